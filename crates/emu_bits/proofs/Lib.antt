@@ -1,0 +1,7 @@
+pub mod Computed
+pub mod Signs
+pub mod Search
+pub mod Elements
+pub mod AllBelow
+pub mod Places
+pub mod Encoding

@@ -1,0 +1,42 @@
+-- Element sizes, and conditions on the flags.
+use Rattle.std.specs.Prelude.{ℕ, [], ◌∷◌, get_or, Bool, true, false, not, ◌&&◌}
+use Rattle.emu_bits.specs.declared.flags.Esize.{Esize}
+use Rattle.emu_bits.specs.declared.flags.Esize.TheVariants.{B, H, S, D}
+use Rattle.emu_bits.specs.declared.flags.Flags.{Flags}
+use Rattle.emu_bits.specs.declared.flags.Cond.{Cond}
+use Rattle.emu_bits.specs.declared.flags.Cond.TheVariants.{Eq, Ne, Cs, Cc, Mi, Pl, Vs, Vc, Hi, Ls, Ge, Lt, Gt, Le, Al, Nv}
+
+-- the bits of an element
+abbrev pub size_of : Esize → ℕ
+size_of B = 8
+size_of H = 16
+size_of S = 32
+size_of D = 64
+
+-- the condition of a number below 16
+abbrev pub cond_of : ℕ → Cond
+cond_of k = get_or (Eq ∷ Ne ∷ Cs ∷ Cc ∷ Mi ∷ Pl ∷ Vs ∷ Vc ∷ Hi ∷ Ls ∷ Ge ∷ Lt ∷ Gt ∷ Le ∷ Al ∷ Nv ∷ []) k Nv
+
+-- two flags are the same
+abbrev pub same_flag : Bool → Bool → Bool
+same_flag true b = b
+same_flag false b = not b
+
+-- A condition holds of the flags.
+abbrev pub cond_holds : Cond → Flags → Bool
+cond_holds Eq f = f.z
+cond_holds Ne f = not f.z
+cond_holds Cs f = f.c
+cond_holds Cc f = not f.c
+cond_holds Mi f = f.n
+cond_holds Pl f = not f.n
+cond_holds Vs f = f.v
+cond_holds Vc f = not f.v
+cond_holds Hi f = f.c && not f.z
+cond_holds Ls f = not (f.c && not f.z)
+cond_holds Ge f = same_flag f.n f.v
+cond_holds Lt f = not (same_flag f.n f.v)
+cond_holds Gt f = not f.z && same_flag f.n f.v
+cond_holds Le f = not (not f.z && same_flag f.n f.v)
+cond_holds Al f = true
+cond_holds Nv f = true

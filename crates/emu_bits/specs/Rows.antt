@@ -1,0 +1,142 @@
+-- A table of encodings: lines of rows, each row a base word with the places of its fields.
+use Rattle.std.specs.Prelude.{◌≡◌, ℕ, zero, suc, ◌+◌, ◌-◌, ◌*◌, ◌^◌, ◌<◌, ◌==◌, ◌||◌, Bool, true, false, cond, Option, Some, None, List, [], ◌∷◌, length, get_or, bit_and, bit_or, IsTrue}
+use Rattle.emu_bits.specs.Fields.{field}
+
+-- where a field lies: its highest and its lowest bit
+pub record Place : Type 0 where
+  pub high : ℕ
+  pub low : ℕ
+
+infix 50 ◌to◌
+abbrev pub ◌to◌ : ℕ → ℕ → Place
+high to low = record { high = high; low = low }
+
+abbrev pub width : Place → ℕ
+width p = p.high - p.low + 1
+
+-- the word with ones at a place, and that with ones at each of some places, which do not overlap
+abbrev pub ones_at : Place → ℕ
+ones_at p = 2 ^ (p.high + 1) - 2 ^ p.low
+
+abbrev pub ones_in : List Place → ℕ
+ones_in [] = 0
+ones_in (p ∷ ps) = ones_at p + ones_in ps
+
+-- the word with ones outside of all of them
+abbrev pub outside : List Place → ℕ
+outside ps = 2 ^ 32 - 1 - ones_in ps
+
+-- What a word has at each of some places.
+abbrev pub values : List Place → ℕ → List ℕ
+values [] w = []
+values (p ∷ ps) w = field w p.low (width p) ∷ values ps w
+
+-- the value of the field at a place in a list of values, as a number and as a flag
+abbrev pub value_at : List ℕ → ℕ → ℕ
+value_at vs i = get_or vs i 0
+
+abbrev pub flag_at : List ℕ → ℕ → Bool
+flag_at vs i = value_at vs i == 1
+
+-- no condition
+abbrev pub always : ℕ → List ℕ → Bool
+always k vs = true
+
+-- A line of the table: the base word of each of its rows, the places of its fields, its condition, and the form
+-- that it makes. The last two are given the row's number and the fields' values.
+pub record Line (F : Type 0) : Type 0 where
+  pub words : List ℕ
+  pub places : List Place
+  pub holds : ℕ → List ℕ → Bool
+  pub form : ℕ → List ℕ → F
+
+-- An instruction as the table sees it: a line, the number of a row in it, and the values of its fields.
+pub record Row (F : Type 0) : Type 0 where
+  pub line : Line F
+  pub number : ℕ
+  pub values : List ℕ
+
+abbrev pub next : Option ℕ → Option ℕ
+next None = None
+next (Some k) = Some (suc k)
+
+-- the number of the first of some words that is this one
+abbrev pub number_of : ℕ → List ℕ → Option ℕ
+number_of w [] = None
+number_of w (x ∷ xs) = cond (w == x) (Some 0) (next (number_of w xs))
+
+abbrev pub where_it_holds : {F : Type 0} → Line F → ℕ → Option ℕ → Option (Row F)
+where_it_holds l w None = None
+where_it_holds l w (Some k) = cond (l.holds k (values l.places w)) (Some (record { line = l; number = k; values = values l.places w })) None
+
+-- The row of a line that holds a word: outside of the fields the word is the base word, and the condition holds.
+abbrev pub row_in : {F : Type 0} → Line F → ℕ → Option (Row F)
+row_in l w = where_it_holds l w (number_of (bit_and w (outside l.places)) l.words)
+
+abbrev pub or_else : {F : Type 0} → Option (Row F) → Option (Row F) → Option (Row F)
+or_else None y = y
+or_else (Some r) y = Some r
+
+-- the first row of some lines that holds a word
+abbrev pub decode : {F : Type 0} → List (Line F) → ℕ → Option (Row F)
+decode [] w = None
+decode (l ∷ ls) w = or_else (row_in l w) (decode ls w)
+
+-- a row's form
+abbrev pub form_of : {F : Type 0} → Row F → F
+form_of r = r.line.form r.number r.values
+
+abbrev pub formed : {F : Type 0} → Option (Row F) → Option F
+formed None = None
+formed (Some r) = Some (form_of r)
+
+-- The instruction that a word is: the form of the first row that holds it.
+abbrev pub instruction : {F : Type 0} → List (Line F) → ℕ → Option F
+instruction ls w = formed (decode ls w)
+
+-- a word with values put in at places
+abbrev pub fill : List Place → List ℕ → ℕ → ℕ
+fill [] vs w = w
+fill (p ∷ ps) [] w = w
+fill (p ∷ ps) (v ∷ vs) w = fill ps vs (bit_or w (v * 2 ^ p.low))
+
+-- a row's word with its fields put in
+abbrev pub encode : {F : Type 0} → Row F → ℕ
+encode r = fill r.line.places r.values (get_or r.line.words r.number 0)
+
+-- its condition
+abbrev pub meets : {F : Type 0} → Row F → Bool
+meets r = r.line.holds r.number r.values
+
+-- Values that fit their places.
+abbrev pub Fit : List Place → List ℕ → Type 0
+Fit [] [] = Unit {0}
+Fit [] (v ∷ vs) = ⊥
+Fit (p ∷ ps) [] = ⊥
+Fit (p ∷ ps) (v ∷ vs) = (v < 2 ^ width p) × Fit ps vs
+
+-- A row of a line with values that fit and meet the condition.
+pub record IsRow {F : Type 0} (r : Row F) : Type 0 where
+  pub numbered : r.number < length r.line.words
+  pub fits : Fit r.line.places r.values
+  pub met : IsTrue (meets r)
+
+-- the same without the condition
+pub record IsShape {F : Type 0} (r : Row F) : Type 0 where
+  pub numbered : r.number < length r.line.words
+  pub fits : Fit r.line.places r.values
+
+-- a number is one of some
+abbrev pub is_among : ℕ → List ℕ → Bool
+is_among v [] = false
+is_among v (k ∷ ks) = v == k || is_among v ks
+
+-- the line at a place of some lines
+abbrev pub line_at : {F : Type 0} → List (Line F) → ℕ → Option (Line F)
+line_at [] k = None
+line_at (l ∷ ls) zero = Some l
+line_at (l ∷ ls) (suc k) = line_at ls k
+
+-- Each word of a row of a line decodes to that row.
+pub record OneRow {F : Type 0} (ls : List (Line F)) : Type 0 where
+  pub at : (k : ℕ) (l : Line F) (w : ℕ) (r : Row F) → line_at ls k ≡ Some l → row_in l w ≡ Some r → decode ls w ≡ Some r
