@@ -1,0 +1,45 @@
+-- What reading a file by its name gives.
+use Rattle.std.specs.Prelude.{◌≡◌, String, ℕ, List, length, Option, Some, None, Result, Ok, Err, IfSome, MatchResult, nat_le, map, string_bytes, if◌then◌else◌}
+use Rattle.std.specs.Option.{IsSomeAnd}
+use Rattle.std.specs.Ordering.{nat_cmp}
+use Rattle.std.specs.Cmp.Lexicographic.{slice_cmp}
+use Rattle.std.specs.FinMap.{FinMap, get, from_entries}
+use Rattle.std.specs.Global.{Vec, Global}
+use Rattle.io_gate.specs.declared.images.ImagesError.{ImagesError}
+use Rattle.io_gate.specs.declared.images.ImagesError.TheVariants.{Failed, Missing, TooLong, OutOfMemory}
+
+-- the bytes of each file, by the bytes of its name
+abbrev pub NamedFiles : Type 0
+NamedFiles = FinMap (slice_cmp nat_cmp) (List ℕ)
+
+-- a file's name and its bytes
+abbrev pub file_entry : String Global × Vec ℕ → List ℕ × List ℕ
+file_entry file = (string_bytes file.0, file.1.items)
+
+-- the files of a list; of a name that stands twice, the first
+abbrev pub named_files : List (String Global × Vec ℕ) → NamedFiles
+named_files files = from_entries (map file_entry files)
+
+-- the file of a name is read whole, unless there is none or it is longer than the limit
+abbrev pub whole_file : Option (List ℕ) → ℕ → Result (List ℕ) ImagesError
+whole_file None limit = Err Missing
+whole_file (Some bytes) limit = if nat_le (length bytes) limit then Ok bytes else Err TooLong
+
+-- an error is the one that the file itself gives, but for a failure and want of memory
+abbrev pub IsErrorOf : Result (List ℕ) ImagesError → ImagesError → Type 0
+IsErrorOf file Failed = Unit {0}
+IsErrorOf file Missing = file ≡ Err Missing
+IsErrorOf file TooLong = file ≡ Err TooLong
+IsErrorOf file OutOfMemory = Unit {0}
+
+-- the answer is what the file gives, unless reading failed or memory was wanting
+abbrev pub IsAnswerOf : Result (List ℕ) ImagesError → Result (Vec ℕ) ImagesError → Type 0
+IsAnswerOf file result = MatchResult result (λ bytes. file ≡ Ok bytes.items) (λ error. IsErrorOf file error)
+
+-- where the files are told: the answer is what the file of the name gives
+abbrev pub ReadsNamed : Option NamedFiles → List ℕ → ℕ → Result (Vec ℕ) ImagesError → Type 0
+ReadsNamed named name limit result = IfSome named (λ files. IsAnswerOf (whole_file (get files name) limit) result)
+
+-- the files are told, and none has the name
+abbrev pub MissesNamed : Option NamedFiles → List ℕ → Type 0
+MissesNamed named name = IsSomeAnd named (λ files. get files name ≡ None)

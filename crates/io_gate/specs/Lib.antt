@@ -1,0 +1,5 @@
+pub mod Streams
+pub mod Images
+pub mod Calls
+pub mod Memory
+pub mod Pieces

@@ -1,0 +1,52 @@
+-- What a source gives and what a sink is given, and the cause of a failure.
+use Rattle.std.specs.Prelude.{◌≡◌, ◌<◌, ◌≤◌, ℕ, ◌+◌, ◌-◌, ◌^◌, min, List, [], ◌++◌, length, take, drop, Option, Some, Result, IfSome, MatchResult, OnErr, IfOk, if◌then◌else◌, Bool}
+
+-- one fault more, up to the counter's last value
+abbrev pub next_count : ℕ → ℕ
+next_count n = min (n + 1) (2 ^ 64 - 1)
+
+-- a count of faults is greater than before, or stands at its last value
+abbrev pub Rose : ℕ → ℕ → Type 0
+Rose before now = min (before + 1) (2 ^ 64 - 1) ≤ now
+
+-- the count never falls, and a failure comes only where it rose
+pub record HasCause {T E : Type 0} (before now : ℕ) (result : Result T E) : Type 0 where
+  pub later : before ≤ now
+  pub failed : OnErr result (Rose before now)
+
+-- the count never falls, and P comes only where it rose
+pub record Causes (P : Type 0) (before now : ℕ) : Type 0 where
+  pub later : before ≤ now
+  pub rose : P → Rose before now
+
+-- the count of faults rises by one at a failure, and else stays
+abbrev pub counts_if : Bool → ℕ → ℕ
+counts_if failed before = if failed then next_count before else before
+
+-- no more bytes were taken than the buffer has room for
+abbrev pub TakesAtMost : {E : Type 0} → Result ℕ E → List ℕ → Type 0
+TakesAtMost result into = IfOk result (λ n. n ≤ length into)
+
+-- where the source tells what is left: its first bytes are removed and stand first in the buffer, and none is removed by a failure
+abbrev pub TakesFirst : {E : Type 0} → Option (List ℕ) → Option (List ℕ) → List ℕ → Result ℕ E → Type 0
+TakesFirst old new into result = IfSome old (λ left. MatchResult result (λ n. (n ≤ length left) × (new ≡ Some (drop n left)) × (take n into ≡ take n left)) (λ _. new ≡ Some left))
+
+-- where the source tells what is left: no bytes are taken only where none is left
+abbrev pub TakesSome : {E : Type 0} → Option (List ℕ) → Result ℕ E → Type 0
+TakesSome old result = IfSome old (λ left. IfOk result (λ n. n ≡ 0 → left ≡ []))
+
+-- past the bytes that were taken the buffer stays as it was, and after a failure all of it
+abbrev pub KeepsRest : {E : Type 0} → List ℕ → List ℕ → Result ℕ E → Type 0
+KeepsRest before now result = MatchResult result (λ n. drop n now ≡ drop n before) (λ _. now ≡ before)
+
+-- at least one byte of the piece went out, and no more than it has
+abbrev pub PutsSome : {E : Type 0} → Result ℕ E → List ℕ → Type 0
+PutsSome result piece = IfOk result (λ n. (0 < n) × (n ≤ length piece))
+
+-- where the sink tells what it holds: the first bytes of the piece are appended, and none by a failure
+abbrev pub PutsPrefix : {E : Type 0} → Option (List ℕ) → Option (List ℕ) → List ℕ → Result ℕ E → Type 0
+PutsPrefix old new piece result = IfSome old (λ held. MatchResult result (λ n. new ≡ Some (held ++ take n piece)) (λ _. new ≡ Some held))
+
+-- all of the piece is appended, or by a failure some of its first bytes
+abbrev pub PutsAll : {T E : Type 0} → Option (List ℕ) → Option (List ℕ) → List ℕ → Result T E → Type 0
+PutsAll old new piece result = IfSome old (λ held. MatchResult result (λ _. new ≡ Some (held ++ piece)) (λ _. (n : ℕ) × (new ≡ Some (held ++ take n piece))))
