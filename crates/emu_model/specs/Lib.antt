@@ -1,0 +1,17 @@
+pub mod Access
+pub mod AccessLaws
+pub mod CommandLine
+pub mod Image
+pub mod ByteMap
+pub mod Lengths
+pub mod Lists
+pub mod Sound
+pub mod SoundImage
+pub mod SoundLists
+pub mod SoundStart
+pub mod Start
+pub mod PageLaws
+pub mod Pages
+pub mod State
+pub mod Traps
+pub mod WithinPage
