@@ -1,0 +1,172 @@
+-- The names of the lines that have several, by their numbers in the line.
+use Rattle.std.specs.Prelude.{ℕ, [], ◌∷◌, get_or}
+use Rattle.a64_insn.specs.declared.ops.AdrOp.{AdrOp}
+use Rattle.a64_insn.specs.declared.ops.AdrOp.TheVariants as adr_names
+use Rattle.a64_insn.specs.declared.ops.AddOp.{AddOp}
+use Rattle.a64_insn.specs.declared.ops.AddOp.TheVariants as add_names
+use Rattle.a64_insn.specs.declared.ops.LogicImmOp.{LogicImmOp}
+use Rattle.a64_insn.specs.declared.ops.LogicImmOp.TheVariants as logic_imm_names
+use Rattle.a64_insn.specs.declared.ops.MoveWideOp.{MoveWideOp}
+use Rattle.a64_insn.specs.declared.ops.MoveWideOp.TheVariants as move_wide_names
+use Rattle.a64_insn.specs.declared.ops.BitfieldOp.{BitfieldOp}
+use Rattle.a64_insn.specs.declared.ops.BitfieldOp.TheVariants as bitfield_names
+use Rattle.a64_insn.specs.declared.ops.LogicRegOp.{LogicRegOp}
+use Rattle.a64_insn.specs.declared.ops.LogicRegOp.TheVariants as logic_reg_names
+use Rattle.a64_insn.specs.declared.ops.AddCarryOp.{AddCarryOp}
+use Rattle.a64_insn.specs.declared.ops.AddCarryOp.TheVariants as add_carry_names
+use Rattle.a64_insn.specs.declared.ops.CondCompareOp.{CondCompareOp}
+use Rattle.a64_insn.specs.declared.ops.CondCompareOp.TheVariants as cond_compare_names
+use Rattle.a64_insn.specs.declared.ops.SelectOp.{SelectOp}
+use Rattle.a64_insn.specs.declared.ops.SelectOp.TheVariants as select_names
+use Rattle.a64_insn.specs.declared.ops.MulAddOp.{MulAddOp}
+use Rattle.a64_insn.specs.declared.ops.MulAddOp.TheVariants as mul_add_names
+use Rattle.a64_insn.specs.declared.ops.MulLongOp.{MulLongOp}
+use Rattle.a64_insn.specs.declared.ops.MulLongOp.TheVariants as mul_long_names
+use Rattle.a64_insn.specs.declared.ops.MulHighOp.{MulHighOp}
+use Rattle.a64_insn.specs.declared.ops.MulHighOp.TheVariants as mul_high_names
+use Rattle.a64_insn.specs.declared.ops.TwoSourceOp.{TwoSourceOp}
+use Rattle.a64_insn.specs.declared.ops.TwoSourceOp.TheVariants as two_source_names
+use Rattle.a64_insn.specs.declared.ops.OneSourceOp.{OneSourceOp}
+use Rattle.a64_insn.specs.declared.ops.OneSourceOp.TheVariants as one_source_names
+use Rattle.a64_insn.specs.declared.ops.RevOp.{RevOp}
+use Rattle.a64_insn.specs.declared.ops.RevOp.TheVariants as rev_names
+use Rattle.a64_insn.specs.declared.ops.ExceptOp.{ExceptOp}
+use Rattle.a64_insn.specs.declared.ops.ExceptOp.TheVariants as except_names
+
+abbrev pub adr_number : AdrOp → ℕ
+adr_number adr_names.Adr = 0
+adr_number adr_names.Adrp = 1
+
+abbrev pub adr_named : ℕ → AdrOp
+adr_named k = get_or (adr_names.Adr ∷ adr_names.Adrp ∷ []) k adr_names.Adr
+
+abbrev pub add_number : AddOp → ℕ
+add_number add_names.Add = 0
+add_number add_names.Adds = 1
+add_number add_names.Sub = 2
+add_number add_names.Subs = 3
+
+abbrev pub add_named : ℕ → AddOp
+add_named k = get_or (add_names.Add ∷ add_names.Adds ∷ add_names.Sub ∷ add_names.Subs ∷ []) k add_names.Add
+
+abbrev pub logic_imm_number : LogicImmOp → ℕ
+logic_imm_number logic_imm_names.And = 0
+logic_imm_number logic_imm_names.Orr = 1
+logic_imm_number logic_imm_names.Eor = 2
+logic_imm_number logic_imm_names.Ands = 3
+
+abbrev pub logic_imm_named : ℕ → LogicImmOp
+logic_imm_named k = get_or (logic_imm_names.And ∷ logic_imm_names.Orr ∷ logic_imm_names.Eor ∷ logic_imm_names.Ands ∷ []) k logic_imm_names.And
+
+abbrev pub move_wide_number : MoveWideOp → ℕ
+move_wide_number move_wide_names.Movn = 0
+move_wide_number move_wide_names.Movz = 1
+move_wide_number move_wide_names.Movk = 2
+
+abbrev pub move_wide_named : ℕ → MoveWideOp
+move_wide_named k = get_or (move_wide_names.Movn ∷ move_wide_names.Movz ∷ move_wide_names.Movk ∷ []) k move_wide_names.Movn
+
+abbrev pub bitfield_number : BitfieldOp → ℕ
+bitfield_number bitfield_names.Sbfm = 0
+bitfield_number bitfield_names.Bfm = 1
+bitfield_number bitfield_names.Ubfm = 2
+
+abbrev pub bitfield_named : ℕ → BitfieldOp
+bitfield_named k = get_or (bitfield_names.Sbfm ∷ bitfield_names.Bfm ∷ bitfield_names.Ubfm ∷ []) k bitfield_names.Sbfm
+
+abbrev pub logic_reg_number : LogicRegOp → ℕ
+logic_reg_number logic_reg_names.And = 0
+logic_reg_number logic_reg_names.Bic = 1
+logic_reg_number logic_reg_names.Orr = 2
+logic_reg_number logic_reg_names.Orn = 3
+logic_reg_number logic_reg_names.Eor = 4
+logic_reg_number logic_reg_names.Eon = 5
+logic_reg_number logic_reg_names.Ands = 6
+logic_reg_number logic_reg_names.Bics = 7
+
+abbrev pub logic_reg_named : ℕ → LogicRegOp
+logic_reg_named k = get_or (logic_reg_names.And ∷ logic_reg_names.Bic ∷ logic_reg_names.Orr ∷ logic_reg_names.Orn ∷ logic_reg_names.Eor ∷ logic_reg_names.Eon ∷ logic_reg_names.Ands ∷ logic_reg_names.Bics ∷ []) k logic_reg_names.And
+
+abbrev pub add_carry_number : AddCarryOp → ℕ
+add_carry_number add_carry_names.Adc = 0
+add_carry_number add_carry_names.Adcs = 1
+add_carry_number add_carry_names.Sbc = 2
+add_carry_number add_carry_names.Sbcs = 3
+
+abbrev pub add_carry_named : ℕ → AddCarryOp
+add_carry_named k = get_or (add_carry_names.Adc ∷ add_carry_names.Adcs ∷ add_carry_names.Sbc ∷ add_carry_names.Sbcs ∷ []) k add_carry_names.Adc
+
+abbrev pub cond_compare_number : CondCompareOp → ℕ
+cond_compare_number cond_compare_names.Ccmn = 0
+cond_compare_number cond_compare_names.Ccmp = 1
+
+abbrev pub cond_compare_named : ℕ → CondCompareOp
+cond_compare_named k = get_or (cond_compare_names.Ccmn ∷ cond_compare_names.Ccmp ∷ []) k cond_compare_names.Ccmn
+
+abbrev pub select_number : SelectOp → ℕ
+select_number select_names.Csel = 0
+select_number select_names.Csinc = 1
+select_number select_names.Csinv = 2
+select_number select_names.Csneg = 3
+
+abbrev pub select_named : ℕ → SelectOp
+select_named k = get_or (select_names.Csel ∷ select_names.Csinc ∷ select_names.Csinv ∷ select_names.Csneg ∷ []) k select_names.Csel
+
+abbrev pub mul_add_number : MulAddOp → ℕ
+mul_add_number mul_add_names.Madd = 0
+mul_add_number mul_add_names.Msub = 1
+
+abbrev pub mul_add_named : ℕ → MulAddOp
+mul_add_named k = get_or (mul_add_names.Madd ∷ mul_add_names.Msub ∷ []) k mul_add_names.Madd
+
+abbrev pub mul_long_number : MulLongOp → ℕ
+mul_long_number mul_long_names.Smaddl = 0
+mul_long_number mul_long_names.Smsubl = 1
+mul_long_number mul_long_names.Umaddl = 2
+mul_long_number mul_long_names.Umsubl = 3
+
+abbrev pub mul_long_named : ℕ → MulLongOp
+mul_long_named k = get_or (mul_long_names.Smaddl ∷ mul_long_names.Smsubl ∷ mul_long_names.Umaddl ∷ mul_long_names.Umsubl ∷ []) k mul_long_names.Smaddl
+
+abbrev pub mul_high_number : MulHighOp → ℕ
+mul_high_number mul_high_names.Smulh = 0
+mul_high_number mul_high_names.Umulh = 1
+
+abbrev pub mul_high_named : ℕ → MulHighOp
+mul_high_named k = get_or (mul_high_names.Smulh ∷ mul_high_names.Umulh ∷ []) k mul_high_names.Smulh
+
+abbrev pub two_source_number : TwoSourceOp → ℕ
+two_source_number two_source_names.Udiv = 0
+two_source_number two_source_names.Sdiv = 1
+two_source_number two_source_names.Lslv = 2
+two_source_number two_source_names.Lsrv = 3
+two_source_number two_source_names.Asrv = 4
+two_source_number two_source_names.Rorv = 5
+
+abbrev pub two_source_named : ℕ → TwoSourceOp
+two_source_named k = get_or (two_source_names.Udiv ∷ two_source_names.Sdiv ∷ two_source_names.Lslv ∷ two_source_names.Lsrv ∷ two_source_names.Asrv ∷ two_source_names.Rorv ∷ []) k two_source_names.Udiv
+
+abbrev pub one_source_number : OneSourceOp → ℕ
+one_source_number one_source_names.Rbit = 0
+one_source_number one_source_names.Rev16 = 1
+one_source_number one_source_names.Clz = 2
+one_source_number one_source_names.Cls = 3
+
+abbrev pub one_source_named : ℕ → OneSourceOp
+one_source_named k = get_or (one_source_names.Rbit ∷ one_source_names.Rev16 ∷ one_source_names.Clz ∷ one_source_names.Cls ∷ []) k one_source_names.Rbit
+
+abbrev pub rev_number : RevOp → ℕ
+rev_number rev_names.RevW = 0
+rev_number rev_names.RevX = 1
+rev_number rev_names.Rev32 = 2
+
+abbrev pub rev_named : ℕ → RevOp
+rev_named k = get_or (rev_names.RevW ∷ rev_names.RevX ∷ rev_names.Rev32 ∷ []) k rev_names.RevW
+
+abbrev pub except_number : ExceptOp → ℕ
+except_number except_names.Svc = 0
+except_number except_names.Brk = 1
+except_number except_names.Hlt = 2
+
+abbrev pub except_named : ℕ → ExceptOp
+except_named k = get_or (except_names.Svc ∷ except_names.Brk ∷ except_names.Hlt ∷ []) k except_names.Svc

@@ -1,0 +1,234 @@
+//! The forms, and instructions that meet their conditions.
+ghost use Rattle.std.specs.Prelude.{◌≡◌, MatchOption, true, false};
+ghost use Rattle.a64_insn.specs.Table.{meets_form};
+
+use crate::conditions::meets;
+use crate::ops::{
+    AddCarryOp, AddOp, AdrOp, BitfieldOp, CondCompareOp, ExceptOp, LogicImmOp, LogicRegOp,
+    MoveWideOp, MulAddOp, MulHighOp, MulLongOp, OneSourceOp, RevOp, SelectOp, TwoSourceOp,
+};
+use emu_bits::{Reg, U};
+use std::marker::Model;
+
+/// An instruction's form: the line of the table and the raw bits of its fields, highest first. `sf` is true at 64 bits.
+#[derive(Clone, Copy, PartialEq, Eq, Debug)]
+pub enum A64Form {
+    /// `adr`, `adrp Xd, target`: an address near PC; immhi:immlo is signed, in bytes or in pages of 4,096 bytes.
+    Adr {
+        op: AdrOp,
+        immlo: U<2>,
+        immhi: U<19>,
+        rd: Reg,
+    },
+    /// `add`, `adds`, `sub`, `subs Rd|SP, Rn|SP, #i{, lsl #12}`: the sum with an immediate, which sh shifts by 12.
+    AddImm {
+        op: AddOp,
+        sf: bool,
+        sh: bool,
+        imm12: U<12>,
+        rn: Reg,
+        rd: Reg,
+    },
+    /// `and`, `orr`, `eor`, `ands Rd|SP, Rn, #m`: with a bitmask immediate.
+    LogicImm {
+        op: LogicImmOp,
+        sf: bool,
+        n: bool,
+        immr: U<6>,
+        imms: U<6>,
+        rn: Reg,
+        rd: Reg,
+    },
+    /// `movn`, `movz`, `movk Rd, #i{, lsl #0}`: a 16-bit immediate at place 16·hw.
+    MoveWide {
+        op: MoveWideOp,
+        sf: bool,
+        hw: U<2>,
+        imm16: U<16>,
+        rd: Reg,
+    },
+    /// `sbfm`, `bfm`, `ubfm Rd, Rn, #r, #s`: bits moved within a register.
+    Bitfield {
+        op: BitfieldOp,
+        sf: bool,
+        n: bool,
+        r: U<6>,
+        s: U<6>,
+        rn: Reg,
+        rd: Reg,
+    },
+    /// `extr Rd, Rn, Rm, #s`: a register's width of bits from place s on of Rn followed by Rm.
+    Extract {
+        sf: bool,
+        n: bool,
+        rm: Reg,
+        s: U<6>,
+        rn: Reg,
+        rd: Reg,
+    },
+    /// `and`, `bic`, `orr`, `orn`, `eor`, `eon`, `ands`, `bics Rd, Rn, Rm{, lsl #0}`: shift is 0 lsl, 1 lsr, 2 asr, 3 ror.
+    LogicReg {
+        op: LogicRegOp,
+        sf: bool,
+        shift: U<2>,
+        rm: Reg,
+        amount: U<6>,
+        rn: Reg,
+        rd: Reg,
+    },
+    /// `add`, `adds`, `sub`, `subs Rd, Rn, Rm{, lsl #0}`: shift is 0 lsl, 1 lsr, 2 asr.
+    AddReg {
+        op: AddOp,
+        sf: bool,
+        shift: U<2>,
+        rm: Reg,
+        amount: U<6>,
+        rn: Reg,
+        rd: Reg,
+    },
+    /// `add`, `adds`, `sub`, `subs Rd|SP, Rn|SP, Rm, ext #a`: ext is 0 uxtb, 1 uxth, 2 uxtw, 3 uxtx, 4 sxtb, 5 sxth, 6 sxtw, 7 sxtx.
+    AddExt {
+        op: AddOp,
+        sf: bool,
+        rm: Reg,
+        ext: U<3>,
+        a: U<3>,
+        rn: Reg,
+        rd: Reg,
+    },
+    /// `adc`, `adcs`, `sbc`, `sbcs Rd, Rn, Rm`: sums with the carry flag.
+    AddCarry {
+        op: AddCarryOp,
+        sf: bool,
+        rm: Reg,
+        rn: Reg,
+        rd: Reg,
+    },
+    /// `ccmn`, `ccmp Rn, Rm, #f, cond`: the flags of a sum where a condition holds, else f.
+    CondReg {
+        op: CondCompareOp,
+        sf: bool,
+        rm: Reg,
+        cond: U<4>,
+        rn: Reg,
+        f: U<4>,
+    },
+    /// `ccmn`, `ccmp Rn, #i, #f, cond`: the same with an immediate.
+    CondImm {
+        op: CondCompareOp,
+        sf: bool,
+        i: U<5>,
+        cond: U<4>,
+        rn: Reg,
+        f: U<4>,
+    },
+    /// `csel`, `csinc`, `csinv`, `csneg Rd, Rn, Rm, cond`: one of two registers.
+    Select {
+        op: SelectOp,
+        sf: bool,
+        rm: Reg,
+        cond: U<4>,
+        rn: Reg,
+        rd: Reg,
+    },
+    /// `madd`, `msub Rd, Rn, Rm, Ra`: Ra and a product.
+    MulAdd {
+        op: MulAddOp,
+        sf: bool,
+        rm: Reg,
+        ra: Reg,
+        rn: Reg,
+        rd: Reg,
+    },
+    /// `smaddl`, `smsubl`, `umaddl`, `umsubl Xd, Wn, Wm, Xa`: Xa and a 64-bit product.
+    MulLong {
+        op: MulLongOp,
+        rm: Reg,
+        ra: Reg,
+        rn: Reg,
+        rd: Reg,
+    },
+    /// `smulh`, `umulh Xd, Xn, Xm`: the upper 64 bits of a product.
+    MulHigh {
+        op: MulHighOp,
+        rm: Reg,
+        rn: Reg,
+        rd: Reg,
+    },
+    /// `udiv`, `sdiv`, `lslv`, `lsrv`, `asrv`, `rorv Rd, Rn, Rm`: quotients, and shifts by a register.
+    TwoSource {
+        op: TwoSourceOp,
+        sf: bool,
+        rm: Reg,
+        rn: Reg,
+        rd: Reg,
+    },
+    /// `rbit`, `rev16`, `clz`, `cls Rd, Rn`.
+    OneSource {
+        op: OneSourceOp,
+        sf: bool,
+        rn: Reg,
+        rd: Reg,
+    },
+    /// `rev Wd, Wn`, `rev Xd, Xn`, `rev32 Xd, Xn`: bytes reversed.
+    Rev {
+        op: RevOp,
+        rn: Reg,
+        rd: Reg,
+    },
+    /// `svc`, `brk`, `hlt #i`: a call of the system, a breakpoint, a halt.
+    Except {
+        op: ExceptOp,
+        imm16: U<16>,
+    },
+    /// `ldr`, `str` and their kinds, at `[Xn|SP{, #0}]`: imm12 counts accesses.
+    LsUnsigned {
+        size: U<2>,
+        v: bool,
+        opc: U<2>,
+        imm12: U<12>,
+        rn: Reg,
+        rt: Reg,
+    },
+}
+
+/// A form that meets its line's condition.
+#[derive(Clone, Copy, PartialEq, Eq, Debug)]
+pub struct A64 {
+    form: A64Form,
+}
+
+impl Model for A64 {
+    ghost use Rattle.std.specs.Prelude.{IsTrue};
+    ghost use Rattle.a64_insn.specs.declared.form.A64Form.{A64Form};
+    ghost use Rattle.a64_insn.specs.Table.{meets_form};
+
+    ghost Value = { A64Form };
+
+    ghost view = { λ i. i.form };
+
+    ghost invariant = { λ i. IsTrue (meets_form i.form) };
+
+    ghost inverse = { λ f. record { form = f } };
+}
+
+impl A64 {
+    /// The instruction of this form, or none where the form doesn't meet its line's condition.
+    pub fn new(form: A64Form) -> Option<Self>
+        ensures { MatchOption result (meets_form form ≡ false) (λ i. (meets_form form ≡ true) × (i ≡ form)) }
+    {
+        if meets(&form) {
+            Some(A64 { form })
+        } else {
+            None
+        }
+    }
+
+    /// Its form.
+    pub fn form(&self) -> &A64Form
+        ensures form { result.now ≡ self.now }
+        ensures meets { meets_form self.now ≡ true }
+    {
+        &self.form
+    }
+}

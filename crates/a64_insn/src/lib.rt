@@ -1,0 +1,24 @@
+//! A64 instructions: one form for each line of the instruction table, made only where the line's condition holds.
+#![tactic(auto)]
+
+mod conditions;
+pub mod data_words;
+pub mod flow_words;
+pub mod form;
+pub mod ops;
+
+ghost use Rattle.std.specs.Prelude.{◌≡◌};
+ghost use Rattle.emu_bits.specs.Rows.{meets};
+ghost use Rattle.a64_insn.specs.declared.form.A64Form.{A64Form};
+ghost use Rattle.a64_insn.specs.Table.{row_of, meets_form};
+
+pub use form::{A64, A64Form};
+pub use ops::{
+    AddCarryOp, AddOp, AdrOp, BitfieldOp, CondCompareOp, ExceptOp, LogicImmOp, LogicRegOp,
+    MoveWideOp, MulAddOp, MulHighOp, MulLongOp, OneSourceOp, RevOp, SelectOp, TwoSourceOp,
+};
+
+/// The condition that a form meets is its line's in the table.
+pub fn conditions_are_the_lines()
+    ensures { (f : A64Form) → meets (row_of f) ≡ meets_form f }
+{}

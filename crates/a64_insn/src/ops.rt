@@ -1,0 +1,139 @@
+//! The names of the lines that have several.
+
+/// PC-relative addresses.
+#[derive(Clone, Copy, PartialEq, Eq, Debug)]
+pub enum AdrOp {
+    Adr,
+    Adrp,
+}
+
+/// Sums and differences, those with an s set the flags.
+#[derive(Clone, Copy, PartialEq, Eq, Debug)]
+pub enum AddOp {
+    Add,
+    Adds,
+    Sub,
+    Subs,
+}
+
+/// Logical operations with an immediate; ands sets the flags.
+#[derive(Clone, Copy, PartialEq, Eq, Debug)]
+pub enum LogicImmOp {
+    And,
+    Orr,
+    Eor,
+    Ands,
+}
+
+/// Moves of a 16-bit immediate: its complement, itself, or into its place alone.
+#[derive(Clone, Copy, PartialEq, Eq, Debug)]
+pub enum MoveWideOp {
+    Movn,
+    Movz,
+    Movk,
+}
+
+/// Bitfield moves: signed, into old bits, unsigned.
+#[derive(Clone, Copy, PartialEq, Eq, Debug)]
+pub enum BitfieldOp {
+    Sbfm,
+    Bfm,
+    Ubfm,
+}
+
+/// Logical operations of registers; the second of each pair takes the complement of its last operand.
+#[derive(Clone, Copy, PartialEq, Eq, Debug)]
+pub enum LogicRegOp {
+    And,
+    Bic,
+    Orr,
+    Orn,
+    Eor,
+    Eon,
+    Ands,
+    Bics,
+}
+
+/// Sums and differences with carry.
+#[derive(Clone, Copy, PartialEq, Eq, Debug)]
+pub enum AddCarryOp {
+    Adc,
+    Adcs,
+    Sbc,
+    Sbcs,
+}
+
+/// Conditional compares: of a sum (ccmn) or a difference (ccmp).
+#[derive(Clone, Copy, PartialEq, Eq, Debug)]
+pub enum CondCompareOp {
+    Ccmn,
+    Ccmp,
+}
+
+/// Conditional selects: the other register, its increment, complement or negation.
+#[derive(Clone, Copy, PartialEq, Eq, Debug)]
+pub enum SelectOp {
+    Csel,
+    Csinc,
+    Csinv,
+    Csneg,
+}
+
+/// Products added or subtracted.
+#[derive(Clone, Copy, PartialEq, Eq, Debug)]
+pub enum MulAddOp {
+    Madd,
+    Msub,
+}
+
+/// Products of two 32-bit registers, signed or unsigned, added or subtracted.
+#[derive(Clone, Copy, PartialEq, Eq, Debug)]
+pub enum MulLongOp {
+    Smaddl,
+    Smsubl,
+    Umaddl,
+    Umsubl,
+}
+
+/// Upper halves of products, signed or unsigned.
+#[derive(Clone, Copy, PartialEq, Eq, Debug)]
+pub enum MulHighOp {
+    Smulh,
+    Umulh,
+}
+
+/// Quotients, unsigned or signed, and shifts by a register.
+#[derive(Clone, Copy, PartialEq, Eq, Debug)]
+pub enum TwoSourceOp {
+    Udiv,
+    Sdiv,
+    Lslv,
+    Lsrv,
+    Asrv,
+    Rorv,
+}
+
+/// Bits reversed, bytes of each 16 bits reversed, leading zeros, leading copies of the sign.
+#[derive(Clone, Copy, PartialEq, Eq, Debug)]
+pub enum OneSourceOp {
+    Rbit,
+    Rev16,
+    Clz,
+    Cls,
+}
+
+/// Bytes reversed: of 32 bits, of 64 bits, in each 32 of 64 bits.
+#[derive(Clone, Copy, PartialEq, Eq, Debug)]
+pub enum RevOp {
+    RevW,
+    RevX,
+    Rev32,
+}
+
+/// Exceptions: supervisor call, breakpoint, halt.
+#[derive(Clone, Copy, PartialEq, Eq, Debug)]
+pub enum ExceptOp {
+    Svc,
+    Brk,
+    Hlt,
+}
