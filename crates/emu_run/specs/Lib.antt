@@ -1,0 +1,15 @@
+pub mod Least
+pub mod LoadStore
+pub mod Outcome
+pub mod Registers
+pub mod Reports
+pub mod Run
+pub mod RunLaws
+pub mod Scalar
+pub mod Sound
+pub mod SoundScalar
+pub mod ScalarBits
+pub mod Statuses
+pub mod Step
+pub mod SystemCall
+pub mod Text

@@ -1,0 +1,178 @@
+-- Each step keeps a state sound.
+use Rattle.std.specs.Prelude.{◌≡◌, ℕ, ◌+◌, ◌-◌, ◌/◌, ◌%◌, min, Bool, true, false, List, length, take, replicate, Option, Some, None, IfSome, nat_eq, if◌then◌else◌}
+use Rattle.std.proofs.Common.{◌∙◌, arith, length-append}
+use Rattle.std.proofs.Math.ListN.{length-replicate}
+use Rattle.std.proofs.lemmas.List.{length-take, length-map}
+use Rattle.a64_insn.specs.declared.form.A64Form.{A64Form}
+use Rattle.a64_insn.specs.declared.form.A64Form.TheVariants.{Except, LsUnsigned}
+use Rattle.emu_model.specs.declared.access.Kind.TheVariants.{Read as ReadKind, Write as WriteKind, Fetch as FetchKind}
+use Rattle.emu_model.specs.declared.trap.TrapKind.{TrapKind}
+use Rattle.emu_model.specs.declared.trap.TrapKind.TheVariants.{Undefined, PcAlign, SpAlign, Read, Write, Fetch}
+use Rattle.emu_model.specs.declared.trap.Effect.{Effect}
+use Rattle.emu_model.specs.declared.trap.Effect.TheVariants.{Next, Branch, Call, Trap as Trapping}
+use Rattle.emu_model.specs.Access.{Memory, address, refused, stored, value}
+use Rattle.emu_model.specs.State.{Core, Vectors, Parts, State, read_x, with_x, IsWord, IsByte, AreBytes, IsRegister, HasLength, IsSoundCore, IsSoundVectors, IsSoundMemory, IsSoundParts, IsSound}
+use Rattle.emu_model.specs.SoundLists.{all_append, all_take, all_replicate, all_map}
+use Rattle.emu_model.specs.Sound.{with_x_sound, with_pc_sound, monitor_sound, stored_sound, address_is_word, bytes_at_are_bytes, refused_is_word}
+use Rattle.emu_run.specs.declared.insn.Insn.{Insn}
+use Rattle.emu_run.specs.declared.insn.Insn.TheVariants.{A64}
+use Rattle.emu_run.specs.Scalar.{scalar}
+use Rattle.emu_run.specs.LoadStore.{Done, went_well, traps, is_misaligned, offset_address, stored_unless, loaded_unless, store_x, load_x, access_x}
+use Rattle.emu_run.specs.SystemCall.{Turn, quiet, went_on, low_bytes, no_bits, after_call, answered_core, returned, error_answer, count_of, bytes_written, Writing, no_file, no_bytes, no_right, to_output, to_errors, writing, write_of, CallKind, exit, write, unknown, kind_of_call, call_of}
+use Rattle.emu_run.specs.Step.{decode, runs, performed, trapped, finished, finish, undefined, executed, fetched, turn, taken_by, step}
+use Rattle.emu_run.specs.SoundScalar.{scalar_sound}
+
+-- ---- what an instruction leaves
+
+abbrev IsSoundEffect : Effect → Type 0
+IsSoundEffect Next = Unit {0}
+IsSoundEffect (Branch a) = IsWord a
+IsSoundEffect Call = Unit {0}
+IsSoundEffect (Trapping t) = IsWord t.address
+
+record IsSoundDone (d : Done) : Type 0 where
+  core : IsSoundCore d.core
+  memory : IsSoundMemory d.memory
+  effect : IsSoundEffect d.effect
+
+well_sound : (c : Core) (m : Memory) → IsSoundCore c → IsSoundMemory m → IsSoundDone (went_well c m)
+well_sound c m s t = record { core = s; memory = t; effect = tt }
+
+traps_sound : (c : Core) (m : Memory) (kind : TrapKind) (a : ℕ) → IsSoundCore c → IsSoundMemory m → IsWord a → IsSoundDone (traps c m kind a)
+traps_sound c m kind a s t w = record { core = s; memory = t; effect = w }
+
+stored_unless_sound : (o : Option ℕ) (c : Core) (m : Memory) (a v : ℕ) → IfSome o IsWord → IsSoundCore c → IsSoundMemory m → IsSoundDone (stored_unless o c m a v)
+stored_unless_sound (Some at) c m a v w s t = traps_sound c m Write at s t w
+stored_unless_sound None c m a v w s t = well_sound c (stored m a 8 v) s (stored_sound m a 8 v t)
+
+loaded_unless_sound : (o : Option ℕ) (c : Core) (m : Memory) (a rt : ℕ) → IfSome o IsWord → IsSoundCore c → IsSoundMemory m → IsSoundDone (loaded_unless o c m a rt)
+loaded_unless_sound (Some at) c m a rt w s t = traps_sound c m Read at s t w
+loaded_unless_sound None c m a rt w s t = well_sound (with_x c rt 64 (value m a 8)) m (with_x_sound c rt 64 (value m a 8) (omega arith) s) t
+
+access_sound : (opc imm rn rt : ℕ) (c : Core) (m : Memory) → IsSoundCore c → IsSoundMemory m → IsSoundDone (access_x opc imm rn rt c m)
+access_sound opc imm rn rt c m s t =
+    let a : ℕ = offset_address c rn imm in
+    elim (is_misaligned c rn) as (λ b. IsSoundDone (if b then traps c m SpAlign c.sp else (if nat_eq opc 0 then store_x a rt c m else load_x a rt c m))) [
+      | true ↦ traps_sound c m SpAlign c.sp s t s.sp
+      | false ↦ elim (nat_eq opc 0) as (λ b. IsSoundDone (if b then store_x a rt c m else load_x a rt c m)) [
+        | true ↦ stored_unless_sound (refused m a 8 WriteKind) c m a (read_x c rt) (refused_is_word m a 8 WriteKind) s t
+        | false ↦ loaded_unless_sound (refused m a 8 ReadKind) c m a rt (refused_is_word m a 8 ReadKind) s t
+      ]
+    ]
+
+performed_sound : (form : A64Form) (c : Core) (m : Memory) → IsSoundCore c → IsSoundMemory m → IsSoundDone (performed form c m)
+performed_sound (Except op imm16) c m s t = record { core = s; memory = t; effect = tt }
+performed_sound (LsUnsigned size v opc imm12 rn rt) c m s t = access_sound opc imm12 rn rt c m s t
+performed_sound form c m s t = well_sound (scalar form c) m (scalar_sound form c s) t
+
+-- ---- what a step makes of the machine
+
+record IsSoundTurn (t : Turn) : Type 0 where
+  parts : IsSoundParts t.parts
+  input : AreBytes t.input
+  output : AreBytes t.output
+  errors : AreBytes t.errors
+
+quiet_sound : (m : Parts) (input : List ℕ) → IsSoundParts m → AreBytes input → IsSoundTurn (quiet m input)
+quiet_sound m input s bytes = record { parts = s; input = bytes; output = tt; errors = tt }
+
+went_on_sound : (m : Parts) (c : Core) (memory : Memory) (a : ℕ) → IsSoundParts m → IsSoundCore c → IsSoundMemory memory → IsWord a → IsSoundParts (went_on m c memory a)
+went_on_sound m c memory a s core mem w = record { core = with_pc_sound c a w core; vectors = s.vectors; memory = mem; brk = s.brk; ended = s.ended }
+
+trapped_sound : (m : Parts) (kind : TrapKind) (a : ℕ) → IsSoundParts m → IsWord a → IsSoundParts (trapped m kind a)
+trapped_sound m kind a s w = record { core = s.core; vectors = s.vectors; memory = s.memory; brk = s.brk; ended = w }
+
+-- ---- calls
+
+low_bytes_sound : (n : ℕ) (bytes : List ℕ) → IsRegister n bytes → IsRegister n (low_bytes bytes)
+low_bytes_sound n bytes s = record {
+  count = let e : length (low_bytes bytes) ≡ min 16 (length bytes) + (length bytes - 16) = simp (length-append, length-take, length-replicate) in let f : length bytes ≡ n = s.count in omega arith;
+  bytes = all_append IsByte (take 16 bytes) (replicate (length bytes - 16) 0) (all_take IsByte 16 bytes s.bytes) (all_replicate IsByte (length bytes - 16) 0 (omega arith));
+}
+
+no_bits_sound : (n : ℕ) (bits : List Bool) → HasLength n bits → HasLength n (no_bits bits)
+no_bits_sound n bits e = length-replicate (length bits) false ∙ e
+
+after_call_sound : (v : Vectors) → IsSoundVectors v → IsSoundVectors (after_call v)
+after_call_sound v s = record {
+  vector_length = s.vector_length;
+  z_count = length-map v.z low_bytes ∙ s.z_count;
+  z = all_map (IsRegister (v.bits / 8)) (IsRegister (v.bits / 8)) low_bytes (low_bytes_sound (v.bits / 8)) v.z s.z;
+  p_count = length-map v.p no_bits ∙ s.p_count;
+  p = all_map (HasLength (v.bits / 8)) (HasLength (v.bits / 8)) no_bits (no_bits_sound (v.bits / 8)) v.p s.p;
+  ffr = no_bits_sound (v.bits / 8) v.ffr s.ffr;
+}
+
+answered_sound : (c : Core) (v : ℕ) → IsSoundCore c → IsSoundCore (answered_core c v)
+answered_sound c v s = monitor_sound (with_x c 0 64 v) None tt (with_x_sound c 0 64 v (omega arith) s)
+
+returned_sound : (m : Parts) (v : ℕ) → IsSoundParts m → IsSoundParts (returned m v)
+returned_sound m v s = record {
+  core = with_pc_sound (answered_core m.core v) (address (m.core.pc + 4)) (address_is_word (m.core.pc + 4)) (answered_sound m.core v s.core);
+  vectors = after_call_sound m.vectors s.vectors;
+  memory = s.memory;
+  brk = s.brk;
+  ended = s.ended;
+}
+
+written_sound : (m : Parts) → IsSoundParts m → AreBytes (bytes_written m)
+written_sound m s = bytes_at_are_bytes m.memory (read_x m.core 1) (count_of m) s.memory
+
+write_sound : (w : Writing) (m : Parts) (input : List ℕ) → IsSoundParts m → AreBytes input → IsSoundTurn (write_of w m input)
+write_sound no_file m input s bytes = quiet_sound (returned m (error_answer 9)) input (returned_sound m (error_answer 9) s) bytes
+write_sound no_bytes m input s bytes = quiet_sound (returned m 0) input (returned_sound m 0 s) bytes
+write_sound no_right m input s bytes = quiet_sound (returned m (error_answer 14)) input (returned_sound m (error_answer 14) s) bytes
+write_sound to_output m input s bytes = record { parts = returned_sound m (count_of m) s; input = bytes; output = written_sound m s; errors = tt }
+write_sound to_errors m input s bytes = record { parts = returned_sound m (count_of m) s; input = bytes; output = tt; errors = written_sound m s }
+
+call_sound : (kind : CallKind) (m : Parts) (input : List ℕ) → IsSoundParts m → AreBytes input → IsSoundTurn (call_of kind m input)
+call_sound exit m input s bytes = record {
+  parts = record { core = s.core; vectors = s.vectors; memory = s.memory; brk = s.brk; ended = omega arith };
+  input = bytes;
+  output = tt;
+  errors = tt;
+}
+call_sound write m input s bytes = write_sound (writing m) m input s bytes
+call_sound unknown m input s bytes = quiet_sound (returned m (error_answer 38)) input (returned_sound m (error_answer 38) s) bytes
+
+-- ---- a step
+
+finished_sound : (m : Parts) (input : List ℕ) (c : Core) (memory : Memory) (e : Effect) → IsSoundParts m → AreBytes input → IsSoundCore c → IsSoundMemory memory → IsSoundEffect e → IsSoundTurn (finished m input c memory e)
+finished_sound m input c memory Next s bytes core mem w = quiet_sound (went_on m c memory (address (c.pc + 4))) input (went_on_sound m c memory (address (c.pc + 4)) s core mem (address_is_word (c.pc + 4))) bytes
+finished_sound m input c memory (Branch a) s bytes core mem w = quiet_sound (went_on m c memory a) input (went_on_sound m c memory a s core mem w) bytes
+finished_sound m input c memory Call s bytes core mem w = call_sound (kind_of_call m) m input s bytes
+finished_sound m input c memory (Trapping t) s bytes core mem w =
+    let n : Parts = record m { core = c; memory = memory } in
+    let sound : IsSoundParts n = record { core = core; vectors = s.vectors; memory = mem; brk = s.brk; ended = s.ended } in
+    quiet_sound (trapped n t.kind t.address) input (trapped_sound n t.kind t.address sound w) bytes
+
+undefined_sound : (m : Parts) (input : List ℕ) → IsSoundParts m → AreBytes input → IsSoundTurn (undefined m input)
+undefined_sound m input s bytes = quiet_sound (trapped m Undefined m.core.pc) input (trapped_sound m Undefined m.core.pc s s.core.pc) bytes
+
+executed_sound : (m : Parts) (input : List ℕ) (i : Option Insn) → IsSoundParts m → AreBytes input → IsSoundTurn (executed m input i)
+executed_sound m input None s bytes = undefined_sound m input s bytes
+executed_sound m input (Some (A64 form)) s bytes =
+    let d : Done = performed form m.core m.memory in
+    let sound : IsSoundDone d = performed_sound form m.core m.memory s.core s.memory in
+    elim (runs form) as (λ b. IsSoundTurn (if b then finish m input d else undefined m input)) [
+      | true ↦ finished_sound m input d.core d.memory d.effect s bytes sound.core sound.memory sound.effect
+      | false ↦ undefined_sound m input s bytes
+    ]
+
+fetched_sound : (m : Parts) (input : List ℕ) (o : Option ℕ) → IfSome o IsWord → IsSoundParts m → AreBytes input → IsSoundTurn (fetched m input o)
+fetched_sound m input (Some a) w s bytes = quiet_sound (trapped m Fetch a) input (trapped_sound m Fetch a s w) bytes
+fetched_sound m input None w s bytes = executed_sound m input (decode (value m.memory m.core.pc 4)) s bytes
+
+turn_sound : (m : Parts) (input : List ℕ) → IsSoundParts m → AreBytes input → IsSoundTurn (turn m input)
+turn_sound m input s bytes =
+    let o : Option ℕ = refused m.memory m.core.pc 4 FetchKind in
+    elim (nat_eq (m.core.pc % 4) 0) as (λ b. IsSoundTurn (if b then fetched m input o else quiet (trapped m PcAlign m.core.pc) input)) [
+      | true ↦ fetched_sound m input o (refused_is_word m.memory m.core.pc 4 FetchKind) s bytes
+      | false ↦ quiet_sound (trapped m PcAlign m.core.pc) input (trapped_sound m PcAlign m.core.pc s s.core.pc) bytes
+    ]
+
+taken_sound : (st : State) (t : Turn) → IsSound st → IsSoundTurn t → IsSound (taken_by st t)
+taken_sound st t s u = record { parts = u.parts; input = u.input; output = all_append IsByte st.output t.output s.output u.output; errors = all_append IsByte st.errors t.errors s.errors u.errors }
+
+pub step_sound : (st : State) → IsSound st → IsSound (step st)
+step_sound st s = taken_sound st (turn st.parts st.input) s (turn_sound st.parts st.input s.parts s.input)

@@ -1,0 +1,79 @@
+-- One step: the word at the program counter is fetched and decoded, and its instruction is done.
+use Rattle.std.specs.Prelude.{ℕ, ◌+◌, ◌%◌, Bool, true, false, not, ◌&&◌, nat_lt, List, ◌++◌, Option, Some, None, nat_eq, if◌then◌else◌}
+use Rattle.emu_bits.specs.Rows.{instruction}
+use Rattle.a64_insn.specs.Table.{a64_table}
+use Rattle.a64_insn.specs.declared.form.A64Form.{A64Form}
+use Rattle.a64_insn.specs.declared.form.A64Form.TheVariants.{Except, LsUnsigned}
+use Rattle.a64_insn.specs.declared.ops.ExceptOp.TheVariants.{Svc}
+use Rattle.emu_model.specs.declared.access.Kind.TheVariants.{Fetch as FetchKind}
+use Rattle.emu_model.specs.declared.trap.TrapKind.{TrapKind}
+use Rattle.emu_model.specs.declared.trap.TrapKind.TheVariants.{Undefined, PcAlign, Fetch}
+use Rattle.emu_model.specs.declared.trap.Effect.{Effect}
+use Rattle.emu_model.specs.declared.trap.Effect.TheVariants.{Next, Branch, Call, Trap as Trapping}
+use Rattle.emu_model.specs.declared.trap.Ended.TheVariants.{Trap as Trapped}
+use Rattle.emu_model.specs.Access.{Memory, address, refused, value}
+use Rattle.emu_model.specs.State.{Core, Parts, State}
+use Rattle.emu_run.specs.Scalar.{is_data, scalar}
+use Rattle.emu_run.specs.LoadStore.{Done, access_x, went_well}
+use Rattle.emu_run.specs.SystemCall.{Turn, quiet, went_on, call}
+use Rattle.emu_run.specs.declared.insn.Insn.{Insn}
+use Rattle.emu_run.specs.declared.insn.Insn.TheVariants.{A64}
+
+-- the instruction of a word, where it is in a row
+abbrev pub a64 : Option A64Form → Option Insn
+a64 None = None
+a64 (Some form) = Some (A64 form)
+
+abbrev pub decode : ℕ → Option Insn
+decode w = a64 (instruction a64_table w)
+
+-- the rows that run so far: the data rows, svc, and the loads and stores of X registers; the words of the others are undefined
+abbrev pub runs : A64Form → Bool
+runs (Except Svc imm16) = true
+runs (Except op imm16) = false
+runs (LsUnsigned size v opc imm12 rn rt) = nat_eq size 3 && (not v && nat_lt opc 2)
+runs form = is_data form
+
+-- the effect of a row that runs
+abbrev pub performed : A64Form → Core → Memory → Done
+performed (Except op imm16) c m = record { core = c; memory = m; effect = Call }
+performed (LsUnsigned size v opc imm12 rn rt) c m = access_x opc imm12 rn rt c m
+performed form c m = went_well (scalar form c) m
+
+-- ends by a trap, with no step counted
+abbrev pub trapped : Parts → TrapKind → ℕ → Parts
+trapped m kind a = record m { ended = Some (Trapped (record { kind = kind; address = a })) }
+
+-- goes on behind the instruction or where it branched, makes its call, or traps
+abbrev pub finished : Parts → List ℕ → Core → Memory → Effect → Turn
+finished m input c memory Next = quiet (went_on m c memory (address (c.pc + 4))) input
+finished m input c memory (Branch a) = quiet (went_on m c memory a) input
+finished m input c memory Call = call m input
+finished m input c memory (Trapping t) = quiet (trapped (record m { core = c; memory = memory }) t.kind t.address) input
+
+abbrev pub finish : Parts → List ℕ → Done → Turn
+finish m input d = finished m input d.core d.memory d.effect
+
+abbrev pub undefined : Parts → List ℕ → Turn
+undefined m input = quiet (trapped m Undefined m.core.pc) input
+
+abbrev pub executed : Parts → List ℕ → Option Insn → Turn
+executed m input None = undefined m input
+executed m input (Some (A64 form)) = if runs form then finish m input (performed form m.core m.memory) else undefined m input
+
+abbrev pub fetched : Parts → List ℕ → Option ℕ → Turn
+fetched m input (Some a) = quiet (trapped m Fetch a) input
+fetched m input None = executed m input (decode (value m.memory m.core.pc 4))
+
+-- what a step of a machine that hasn't ended makes of it and of its input, and what it puts
+abbrev pub turn : Parts → List ℕ → Turn
+turn m input =
+    if nat_eq (m.core.pc % 4) 0 then fetched m input (refused m.memory m.core.pc 4 FetchKind) else quiet (trapped m PcAlign m.core.pc) input
+
+-- what is put comes behind what was written
+abbrev pub taken_by : State → Turn → State
+taken_by st t = record { parts = t.parts; input = t.input; output = st.output ++ t.output; errors = st.errors ++ t.errors }
+
+-- one step of a machine that hasn't ended
+abbrev pub step : State → State
+step st = taken_by st (turn st.parts st.input)

@@ -1,0 +1,52 @@
+//! How a command ends, and the status that the process then has.
+ghost use Rattle.std.specs.Prelude.{◌≡◌};
+ghost use Rattle.emu_run.specs.Statuses.{status_of};
+
+use emu_model::{ElfFault, Trap, WordsFault};
+
+/// How a command ended.
+#[derive(Clone, Copy, Debug, PartialEq, Eq)]
+pub enum Ending {
+    /// The program ended itself with this code.
+    Exit(u8),
+    /// The program trapped at this address of the program counter.
+    Trap(Trap, u64),
+    /// The step budget was spent.
+    Spent,
+    /// The command line was refused.
+    WordsRefused(WordsFault),
+    /// The file isn't an image that can be run.
+    ImageRefused(ElfFault),
+    /// A file is longer than this many bytes.
+    TooLong(u64),
+    /// A file couldn't be read, or there is none of its name.
+    FileFault,
+    /// The input failed.
+    ReadFault,
+    /// The output failed.
+    WriteFault,
+    /// The stream of errors failed.
+    ErrorsFault,
+    /// There was no memory left.
+    OutOfMemory,
+}
+
+impl Ending {
+    /// The status of the process: the program's own, 128 plus the signal of a trap, or 120 to 127.
+    pub fn status(&self) -> u8
+        ensures { result ≡ status_of self.now }
+    {
+        match self {
+            Ending::Exit(code) => *code,
+            Ending::Trap(trap, _) => 128 + trap.signal(),
+            Ending::Spent => 123,
+            Ending::WordsRefused(_) => 121,
+            Ending::ImageRefused(_) => 122,
+            Ending::TooLong(_) => 127,
+            Ending::FileFault => 126,
+            Ending::ReadFault => 124,
+            Ending::WriteFault | Ending::ErrorsFault => 125,
+            Ending::OutOfMemory => 120,
+        }
+    }
+}

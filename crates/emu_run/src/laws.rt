@@ -1,0 +1,17 @@
+//! Laws of the definitions, each the contract of a function that does nothing.
+ghost use Rattle.std.specs.Prelude.{◌≤◌, ℕ};
+ghost use Rattle.emu_model.specs.State.{State, IsSound};
+ghost use Rattle.emu_run.specs.Step.{step};
+ghost use Rattle.emu_run.specs.Run.{run, IsRun};
+
+/// A run of a machine that has counted at most its budget of steps ends where the machine has ended or has counted
+/// the budget, and no sooner.
+#[tactic(auto, using(crate::specs::Least::run_is_least))]
+pub fn runs_stop_at_the_least_step()
+    ensures { (st : State) (budget : ℕ) → st.parts.steps ≤ budget → IsRun budget st (run st budget) }
+{}
+
+/// A step leaves a sound state sound: each number and list keeps its range and its length.
+pub fn steps_keep_soundness()
+    ensures { (st : State) → IsSound st → IsSound (step st) }
+{}

@@ -1,0 +1,9 @@
+//! The definitions of a step, a system call, a run and the result of a command line, and the plain types that they match on.
+#![tactic(auto)]
+
+pub mod ending;
+pub mod insn;
+pub mod laws;
+
+pub use ending::Ending;
+pub use insn::Insn;
