@@ -1,0 +1,44 @@
+//! The instruction that a word is, and the word of an instruction, over all tables of instructions.
+#![tactic(auto)]
+
+ghost use Rattle.std.specs.Prelude.{◌≡◌, IfSome, Some};
+ghost use Rattle.emu_run.specs.Step as model;
+ghost use Rattle.insn_decode.specs.Words.{word_of};
+
+use a64_rows::{decode_a64, encode_a64};
+pub use emu_run::Insn;
+
+/// The instruction that a word is. None exactly where the word is in no row of a table.
+pub fn decode(w: u32) -> Option<Insn>
+    ensures table { result ≡ model.decode w }
+    ensures back { IfSome result (λ i. word_of i ≡ w) }
+{
+    decode_a64(w).map(Insn::A64)
+}
+
+/// The word of an instruction: its row's base word with the fields put in.
+pub fn encode(i: &Insn) -> u32
+    ensures table { result ≡ word_of i.now }
+    ensures back { model.decode result ≡ Some i.now }
+{
+    match i {
+        Insn::A64(i) => encode_a64(i),
+    }
+}
+
+#[cfg(test)]
+mod tests {
+    use super::*;
+
+    #[test]
+    fn words_are_read_and_made(rt: HostRuntime) {
+        // movz x0, #7; movz x8, #93; svc #0
+        for word in [0xD280_00E0, 0xD280_0BA8, 0xD400_0001u32] {
+            let insn = decode(word).expect(&rt, "a word of a row");
+            assert_eq!(rt; encode(&insn), word);
+        }
+        // a floating-point add, and the word 0
+        assert_eq!(rt; decode(0x1E22_2820), None);
+        assert_eq!(rt; decode(0), None);
+    }
+}
