@@ -1,0 +1,110 @@
+//! Conditional compares and selects.
+ghost use Rattle.std.specs.Prelude.{◌≡◌, ◌<◌, ◌^◌, ◌⊎◌};
+ghost use Rattle.a64_insn.specs.declared.form.A64Form.{A64Form};
+ghost use Rattle.emu_run.specs.Scalar as table;
+ghost use Rattle.emu_run.specs.ScalarBits as bits;
+
+use crate::numbers::{complement, difference};
+use crate::registers::{operand, width_of, write};
+use a64_insn::{CondCompareOp, SelectOp};
+use core_regs::Core;
+use emu_bits::{Cond, Flags, Reg, U, add_flags};
+
+/// The flags of the number NZCV, N at the top.
+fn flags_of(f: U<4>) -> Flags
+    ensures { result ≡ bits.flags_of_number f }
+{
+    let f = f.get();
+    Flags {
+        n: f / 8 % 2 == 1,
+        z: f / 4 % 2 == 1,
+        c: f / 2 % 2 == 1,
+        v: f % 2 == 1,
+    }
+}
+
+/// The flags of a + b in ccmn, of a + NOT b + 1 in ccmp.
+fn compared(op: CondCompareOp, w: u32, a: u64, b: u64) -> Flags
+    requires width { (w ≡ 32) ⊎ (w ≡ 64) }
+    requires first { a < 2 ^ w }
+    requires second { b < 2 ^ w }
+    ensures { result ≡ table.compared op w a b }
+{
+    match op {
+        CondCompareOp::Ccmn => add_flags(a, b, false, w).1,
+        CondCompareOp::Ccmp => add_flags(a, complement(w, b), true, w).1,
+    }
+}
+
+/// The flags of a compare where a condition holds, else f.
+fn compare(core: &mut Core, op: CondCompareOp, w: u32, a: u64, b: u64, cond: U<4>, f: U<4>)
+    requires width { (w ≡ 32) ⊎ (w ≡ 64) }
+    requires first { a < 2 ^ w }
+    requires second { b < 2 ^ w }
+    ensures { core.new ≡ table.after_compare op w a b cond f core.old }
+{
+    let flags = if Cond::of_number(cond).holds(core.flags()) {
+        compared(op, w, a, b)
+    } else {
+        flags_of(f)
+    };
+    core.set_flags(flags);
+}
+
+pub(crate) fn cond_reg(
+    core: &mut Core,
+    op: CondCompareOp,
+    sf: bool,
+    rm: Reg,
+    cond: U<4>,
+    rn: Reg,
+    f: U<4>,
+)
+    ensures { core.new ≡ table.scalar (A64Form.CondReg op sf rm cond rn f) core.old }
+{
+    let w = width_of(sf);
+    let (a, b) = (operand(w, core, rn), operand(w, core, rm));
+    compare(core, op, w, a, b, cond, f);
+}
+
+pub(crate) fn cond_imm(
+    core: &mut Core,
+    op: CondCompareOp,
+    sf: bool,
+    i: U<5>,
+    cond: U<4>,
+    rn: Reg,
+    f: U<4>,
+)
+    ensures { core.new ≡ table.scalar (A64Form.CondImm op sf i cond rn f) core.old }
+{
+    let w = width_of(sf);
+    let a = operand(w, core, rn);
+    compare(core, op, w, a, i.get() as u64, cond, f);
+}
+
+/// Rm, Rm + 1, NOT Rm, -Rm.
+fn otherwise(op: SelectOp, w: u32, b: u64) -> u128
+    requires width { (w ≡ 32) ⊎ (w ≡ 64) }
+    requires within { b < 2 ^ w }
+    ensures { result ≡ table.otherwise op w b }
+{
+    match op {
+        SelectOp::Csel => b as u128,
+        SelectOp::Csinc => b as u128 + 1,
+        SelectOp::Csinv => complement(w, b) as u128,
+        SelectOp::Csneg => difference(w, 0, b as u128) as u128,
+    }
+}
+
+pub(crate) fn select(core: &mut Core, op: SelectOp, sf: bool, rm: Reg, cond: U<4>, rn: Reg, rd: Reg)
+    ensures { core.new ≡ table.scalar (A64Form.Select op sf rm cond rn rd) core.old }
+{
+    let w = width_of(sf);
+    let v = if Cond::of_number(cond).holds(core.flags()) {
+        operand(w, core, rn) as u128
+    } else {
+        otherwise(op, w, operand(w, core, rm))
+    };
+    write(core, w, rd, v);
+}

@@ -1,0 +1,97 @@
+//! Logical operations.
+ghost use Rattle.std.specs.Prelude.{◌≡◌, ◌<◌, ◌^◌, ◌⊎◌};
+ghost use Rattle.a64_insn.specs.declared.form.A64Form.{A64Form};
+ghost use Rattle.emu_run.specs.Scalar as table;
+ghost use Rattle.emu_run.specs.ScalarBits.{flags_of_result};
+
+use crate::numbers::complement;
+use crate::registers::{operand, set_flags, width_of};
+use crate::shifts::shifted;
+use a64_insn::{LogicImmOp, LogicRegOp};
+use core_regs::Core;
+use emu_bits::{Flags, Reg, U, bitmask};
+
+/// N and Z of a result of w bits, C and V clear.
+fn flags_of(w: u32, v: u64) -> Flags
+    requires { (w ≡ 32) ⊎ (w ≡ 64) }
+    ensures { result ≡ flags_of_result w v }
+{
+    Flags {
+        n: v >= if w == 32 {
+            0x8000_0000
+        } else {
+            0x8000_0000_0000_0000
+        },
+        z: v == 0,
+        c: false,
+        v: false,
+    }
+}
+
+/// Rd is a value, and N and Z are its, where the flags are set.
+fn logic(core: &mut Core, sets: bool, w: u32, rd: Reg, v: u64)
+    requires { (w ≡ 32) ⊎ (w ≡ 64) }
+    ensures { core.new ≡ table.after_logic sets w rd v core.old }
+{
+    core.set_x(rd, w, v);
+    set_flags(core, sets, flags_of(w, v));
+}
+
+/// The second of each pair takes the complement of b.
+fn logic_of(core: &mut Core, op: LogicRegOp, w: u32, rd: Reg, a: u64, b: u64)
+    requires width { (w ≡ 32) ⊎ (w ≡ 64) }
+    requires second { b < 2 ^ w }
+    ensures { core.new ≡ table.after_logic_reg op w rd a b core.old }
+{
+    match op {
+        LogicRegOp::And => logic(core, false, w, rd, a & b),
+        LogicRegOp::Bic => logic(core, false, w, rd, a & complement(w, b)),
+        LogicRegOp::Orr => logic(core, false, w, rd, a | b),
+        LogicRegOp::Orn => logic(core, false, w, rd, a | complement(w, b)),
+        LogicRegOp::Eor => logic(core, false, w, rd, a ^ b),
+        LogicRegOp::Eon => logic(core, false, w, rd, a ^ complement(w, b)),
+        LogicRegOp::Ands => logic(core, true, w, rd, a & b),
+        LogicRegOp::Bics => logic(core, true, w, rd, a & complement(w, b)),
+    }
+}
+
+pub(crate) fn logic_reg(
+    core: &mut Core,
+    op: LogicRegOp,
+    sf: bool,
+    shift: U<2>,
+    rm: Reg,
+    amount: U<6>,
+    rn: Reg,
+    rd: Reg,
+)
+    ensures { core.new ≡ table.scalar (A64Form.LogicReg op sf shift rm amount rn rd) core.old }
+{
+    let w = width_of(sf);
+    let a = operand(w, core, rn);
+    let b = shifted(w, shift, operand(w, core, rm), amount);
+    logic_of(core, op, w, rd, a, b);
+}
+
+pub(crate) fn logic_imm(
+    core: &mut Core,
+    op: LogicImmOp,
+    sf: bool,
+    n: bool,
+    immr: U<6>,
+    imms: U<6>,
+    rn: Reg,
+    rd: Reg,
+)
+    ensures { core.new ≡ table.scalar (A64Form.LogicImm op sf n immr imms rn rd) core.old }
+{
+    let w = width_of(sf);
+    let a = operand(w, core, rn);
+    let mask = bitmask(n, immr.get(), imms.get(), w).unwrap_or(0);
+    match op {
+        LogicImmOp::And => core.set_x_sp(rd, w, a & mask),
+        LogicImmOp::Orr => core.set_x_sp(rd, w, a | mask),
+        LogicImmOp::Eor => core.set_x_sp(rd, w, a ^ mask),
+        LogicImmOp::Ands => logic(core, true, w, rd, a & mask),
+    }
+}

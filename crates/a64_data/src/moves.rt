@@ -1,0 +1,40 @@
+//! Addresses near PC, and moves of immediates.
+ghost use Rattle.std.specs.Prelude.{◌≡◌};
+ghost use Rattle.a64_insn.specs.declared.form.A64Form.{A64Form};
+ghost use Rattle.emu_run.specs.Scalar as table;
+
+use crate::bitfield::replaced;
+use crate::numbers::{complement, wrapped};
+use crate::registers::{width_of, write};
+use crate::shifts::lsl;
+use a64_insn::{AdrOp, MoveWideOp};
+use core_regs::Core;
+use emu_bits::{Reg, U, sext};
+
+pub(crate) fn adr(core: &mut Core, op: AdrOp, immlo: U<2>, immhi: U<19>, rd: Reg)
+    ensures { core.new ≡ table.scalar (A64Form.Adr op immlo immhi rd) core.old }
+{
+    let i = sext(immhi.get() as u64 * 4 + immlo.get() as u64, 21) as i128;
+    let pc = core.pc();
+    let target = match op {
+        AdrOp::Adr => wrapped(64, pc as i128 + i),
+        AdrOp::Adrp => wrapped(64, (pc / 4096 * 4096) as i128 + 4096 * i),
+    };
+    core.set_x(rd, 64, target);
+}
+
+pub(crate) fn move_wide(core: &mut Core, op: MoveWideOp, sf: bool, hw: U<2>, imm16: U<16>, rd: Reg)
+    ensures { core.new ≡ table.scalar (A64Form.MoveWide op sf hw imm16 rd) core.old }
+{
+    let w = width_of(sf);
+    let place = 16 * hw.get();
+    let imm = imm16.get() as u64;
+    match op {
+        MoveWideOp::Movn => core.set_x(rd, w, complement(w, lsl(w, imm, place))),
+        MoveWideOp::Movz => core.set_x(rd, w, lsl(w, imm, place)),
+        MoveWideOp::Movk => {
+            let old = core.x(rd);
+            write(core, w, rd, replaced(old, place, 16, imm));
+        }
+    }
+}

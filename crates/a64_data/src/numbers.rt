@@ -1,0 +1,102 @@
+//! Numbers of w bits, 32 or 64, and signed readings of them, by exact arithmetic at 128 bits.
+ghost use Rattle.std.specs.Prelude.{◌≡◌, ◌<◌, ◌≤◌, ◌%◌, ◌^◌, ◌*ℤ◌, ◌⊎◌};
+ghost use Rattle.std.specs.Int.{int_shr};
+ghost use Rattle.emu_bits.specs.Numbers.{unsigned_int, quotient};
+ghost use Rattle.emu_run.specs.ScalarBits as bits;
+
+use emu_bits::sext;
+
+/// 2^n
+pub(crate) fn power(n: u32) -> u128
+    requires { n ≤ 64 }
+    ensures value { result ≡ 2 ^ n }
+    ensures small { result ≤ 2 ^ 64 }
+{
+    1 << n
+}
+
+/// A number modulo 2^w.
+pub(crate) fn low(w: u32, v: u128) -> u64
+    requires { (w ≡ 32) ⊎ (w ≡ 64) }
+    ensures value { result ≡ v % 2 ^ w }
+    ensures small { result < 2 ^ w }
+{
+    if w == 32 {
+        (v & 0xFFFF_FFFF) as u64
+    } else {
+        (v & 0xFFFF_FFFF_FFFF_FFFF) as u64
+    }
+}
+
+/// The low n bits of a number.
+#[tactic(auto, using(crate::proofs::Masks::masked))]
+pub(crate) fn low_bits(v: u64, n: u32) -> u64
+    requires { n ≤ 64 }
+    ensures value { result ≡ v % 2 ^ n }
+    ensures small { result < 2 ^ n }
+{
+    (v as u128 & (power(n) - 1)) as u64
+}
+
+/// NOT of w bits.
+pub(crate) fn complement(w: u32, a: u64) -> u64
+    requires width { (w ≡ 32) ⊎ (w ≡ 64) }
+    requires within { a < 2 ^ w }
+    ensures value { result ≡ bits.complement w a }
+    ensures small { result < 2 ^ w }
+{
+    if w == 32 {
+        0xFFFF_FFFF - a
+    } else {
+        0xFFFF_FFFF_FFFF_FFFF - a
+    }
+}
+
+/// a less b, modulo 2^w.
+pub(crate) fn difference(w: u32, a: u64, b: u128) -> u64
+    requires width { (w ≡ 32) ⊎ (w ≡ 64) }
+    ensures { result ≡ bits.difference w a b }
+{
+    low(w, a as u128 + complement(w, low(w, b)) as u128 + 1)
+}
+
+/// A whole number modulo 2^w.
+pub(crate) fn wrapped(w: u32, z: i128) -> u64
+    requires { (w ≡ 32) ⊎ (w ≡ 64) }
+    ensures value { result ≡ unsigned_int z w }
+    ensures small { result < 2 ^ w }
+{
+    low(w, z.cast_unsigned())
+}
+
+pub(crate) fn product(x: i64, y: i64) -> i128
+    ensures { result ≡ x *ℤ y }
+{
+    x as i128 * y as i128
+}
+
+/// Towards zero, and 0 by 0.
+pub(crate) fn quotient(x: i64, y: i64) -> i128
+    ensures { result ≡ quotient x y }
+{
+    if y == 0 { 0 } else { x as i128 / y as i128 }
+}
+
+/// Rounded down.
+pub(crate) fn scaled_down(x: i128, k: u32) -> i128
+    requires { k < 128 }
+    ensures { result ≡ int_shr x k }
+{
+    x >> k
+}
+
+/// The low n bits of a number, extended by their sign to w bits.
+pub(crate) fn sign_extended(w: u32, n: u32, a: u64) -> u64
+    requires width { (w ≡ 32) ⊎ (w ≡ 64) }
+    requires some { 1 ≤ n }
+    requires most { n ≤ 64 }
+    ensures value { result ≡ bits.sign_extended w n a }
+    ensures small { result < 2 ^ w }
+{
+    wrapped(w, sext(a, n) as i128)
+}

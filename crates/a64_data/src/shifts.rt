@@ -1,0 +1,100 @@
+//! Shifts, rotations and extensions of operands of w bits.
+ghost use Rattle.std.specs.Prelude.{◌≡◌, ◌<◌, ◌≤◌, ◌^◌, ◌⊎◌};
+ghost use Rattle.emu_run.specs.ScalarBits as table;
+
+use crate::numbers::{low, low_bits, scaled_down, sign_extended, wrapped};
+use emu_bits::{U, sext};
+
+/// To the left.
+pub(crate) fn lsl(w: u32, a: u64, k: u32) -> u64
+    requires width { (w ≡ 32) ⊎ (w ≡ 64) }
+    requires amount { k < 64 }
+    ensures value { result ≡ table.lsl w a k }
+    ensures small { result < 2 ^ w }
+{
+    low(w, (a as u128) << k)
+}
+
+/// To the right, with zeros above.
+pub(crate) fn lsr(w: u32, a: u64, k: u32) -> u64
+    requires amount { k < 64 }
+    requires within { a < 2 ^ w }
+    ensures value { result ≡ table.lsr a k }
+    ensures small { result < 2 ^ w }
+{
+    a >> k
+}
+
+/// To the right, with copies of the top bit above.
+pub(crate) fn asr(w: u32, a: u64, k: u32) -> u64
+    requires width { (w ≡ 32) ⊎ (w ≡ 64) }
+    requires amount { k < 64 }
+    ensures value { result ≡ table.asr w a k }
+    ensures small { result < 2 ^ w }
+{
+    wrapped(w, scaled_down(sext(a, w) as i128, k))
+}
+
+/// The w bits from place s on of `high` followed by `low`.
+pub(crate) fn extracted(w: u32, upper: u64, lower: u64, s: u32) -> u64
+    requires width { (w ≡ 32) ⊎ (w ≡ 64) }
+    requires place { s < 64 }
+    requires within { lower < 2 ^ w }
+    ensures value { result ≡ table.extracted w upper lower s }
+    ensures small { result < 2 ^ w }
+{
+    low(w, (((upper as u128) << w) + lower as u128) >> s)
+}
+
+/// Rotated to the right.
+pub(crate) fn ror(w: u32, a: u64, k: u32) -> u64
+    requires width { (w ≡ 32) ⊎ (w ≡ 64) }
+    requires within { a < 2 ^ w }
+    ensures value { result ≡ table.ror w a k }
+    ensures small { result < 2 ^ w }
+{
+    extracted(w, a, a, k % w)
+}
+
+/// The shift of a field: 0 lsl, 1 lsr, 2 asr, 3 ror.
+pub(crate) fn shifted(w: u32, shift: U<2>, a: u64, amount: U<6>) -> u64
+    requires width { (w ≡ 32) ⊎ (w ≡ 64) }
+    requires within { a < 2 ^ w }
+    ensures value { result ≡ table.shifted w shift a amount }
+    ensures small { result < 2 ^ w }
+{
+    let k = amount.get();
+    match shift.get() {
+        0 => lsl(w, a, k),
+        1 => lsr(w, a, k),
+        2 => asr(w, a, k),
+        _ => ror(w, a, k),
+    }
+}
+
+/// The bits that an extension takes.
+fn extended_bits(ext: u32) -> u32
+    ensures value { result ≡ table.extended_bits ext }
+    ensures some { 8 ≤ result }
+    ensures most { result ≤ 64 }
+{
+    match ext % 4 {
+        0 => 8,
+        1 => 16,
+        2 => 32,
+        _ => 64,
+    }
+}
+
+/// The low 8, 16, 32 or 64 bits, extended to 64 bits: 0 uxtb, 1 uxth, 2 uxtw, 3 uxtx, 4 sxtb, 5 sxth, 6 sxtw, 7 sxtx.
+pub(crate) fn extended(ext: U<3>, a: u64) -> u64
+    ensures { result ≡ table.extended ext a }
+{
+    let ext = ext.get();
+    let n = extended_bits(ext);
+    if ext < 4 {
+        low_bits(a, n)
+    } else {
+        sign_extended(64, n, a)
+    }
+}
