@@ -1,0 +1,6 @@
+pub mod Faults
+pub mod Maps
+pub mod Ordered
+pub mod Parts
+pub mod Removed
+pub mod Written

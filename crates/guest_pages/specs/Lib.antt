@@ -1,0 +1,2 @@
+pub mod MapFault
+pub mod Slots

@@ -1,0 +1,51 @@
+//! Calls that may want memory, with ample memory.
+use crate::{MapFault, Pages, Rights, Unmapped};
+use std::test::Fail;
+
+const READ: Rights = Rights {
+    r: true,
+    w: false,
+    x: false,
+};
+
+const WRITE: Rights = Rights {
+    r: false,
+    w: true,
+    x: false,
+};
+
+#[test]
+fn map_takes_pages_up_to_the_limit(rt: HostRuntime) -> Result<(), Fail> {
+    let mut pages = Pages::new(rt.alloc(), 3)?;
+    assert_eq!(rt; pages.map(5, 2, READ), Ok(()));
+    assert_eq!(rt; pages.map(4, 4, READ), Err(MapFault::Taken(5)));
+    assert_eq!(rt; pages.map(7, 2, READ), Err(MapFault::Full));
+    assert_eq!(rt; pages.map(1, 1, WRITE), Ok(()));
+    assert_eq!(rt; pages.mapped(), 3);
+    assert_eq!(rt;
+        pages
+            .find(6)
+            .map(|(rights, bytes)| (rights, bytes.len(), bytes[4095])),
+        Some((READ, 4096, 0))
+    );
+    assert_eq!(rt; pages.find(7).is_none(), true);
+    Ok(())
+}
+
+#[test]
+fn protect_changes_all_pages_or_none(rt: HostRuntime) -> Result<(), Fail> {
+    let mut pages = Pages::new(rt.alloc(), 8)?;
+    assert_eq!(rt; pages.map(2, 3, READ), Ok(()));
+    pages.unmap(3, 1);
+    assert_eq!(rt; pages.protect(2, 3, WRITE), Err(Unmapped { page: 3 }));
+    assert_eq!(rt; pages.store(2, 0, &[1]), false);
+    assert_eq!(rt; pages.protect(4, 1, WRITE), Ok(()));
+    assert_eq!(rt; pages.store(4, 7, &[1, 2]), true);
+    assert_eq!(rt;
+        pages
+            .find(4)
+            .map(|(_, bytes)| (bytes[6], bytes[7], bytes[8])),
+        Some((0, 1, 2))
+    );
+    Ok(())
+}
