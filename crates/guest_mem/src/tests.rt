@@ -1,0 +1,41 @@
+//! Accesses across pages.
+use crate::{Denied, Kind, Mem};
+use guest_pages::{Pages, Rights};
+use std::test::Fail;
+
+#[test]
+fn a_load_goes_across_a_page_boundary(rt: HostRuntime) -> Result<(), Fail> {
+    let rights = Rights {
+        r: true,
+        w: true,
+        x: false,
+    };
+    let mut pages = Pages::new(rt.alloc(), 2)?;
+    assert_eq!(rt; pages.map(1, 2, rights), Ok(()));
+    let mut mem = Mem::new(pages);
+    assert_eq!(rt; mem.store(0x1ffc, 8, 0x8877665544332211), Ok(()));
+    assert_eq!(rt; mem.load(0x1ffc, 8, Kind::Read), Ok(0x8877665544332211));
+    assert_eq!(rt; mem.load(0x1ffe, 4, Kind::Read), Ok(0x66554433));
+    assert_eq!(rt; mem.peek(0x2000), Some(0x55));
+    Ok(())
+}
+
+#[test]
+fn a_refused_store_leaves_memory(rt: HostRuntime) -> Result<(), Fail> {
+    let rights = Rights {
+        r: true,
+        w: true,
+        x: false,
+    };
+    let mut pages = Pages::new(rt.alloc(), 2)?;
+    assert_eq!(rt; pages.map(1, 1, rights), Ok(()));
+    let mut mem = Mem::new(pages);
+    let denied = Denied {
+        address: 0x2000,
+        kind: Kind::Write,
+    };
+    assert_eq!(rt; mem.store(0x1fff, 2, 0xffff), Err(denied));
+    assert_eq!(rt; mem.peek(0x1fff), Some(0));
+    assert_eq!(rt; mem.peek(0x2000), None);
+    Ok(())
+}
