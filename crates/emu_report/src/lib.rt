@@ -1,0 +1,16 @@
+//! What a command writes when it ends: one line, and after a run the registers.
+//!
+//! Each call puts a text whole, or answers `Failed` and has put some of its first bytes.
+#![tactic(auto)]
+
+mod endings;
+mod names;
+mod registers;
+#[cfg(test)]
+mod tests;
+mod text;
+
+pub use endings::{
+    put_exit, put_image_refusal, put_spent, put_too_long, put_trap, put_words_refusal,
+};
+pub use registers::{put_registers, put_scalars};

@@ -1,0 +1,76 @@
+//! The names of traps and of refusals as they are printed.
+ghost use Rattle.std.specs.Prelude.{◌≡◌, ◌≤◌, length};
+ghost use Rattle.emu_run.specs.Reports.{trap_name, words_name, fault_name, fault_index};
+
+use emu_model::{ElfFault, TrapKind, WordsWhy};
+
+/// A trap's kind.
+pub fn trap_name(kind: TrapKind) -> &'static str
+    ensures name { result.now ≡ trap_name kind }
+    ensures short { length result.now ≤ 16 }
+{
+    match kind {
+        TrapKind::Undefined => "undefined",
+        TrapKind::Halt => "halt",
+        TrapKind::Break => "break",
+        TrapKind::PcAlign => "pc-align",
+        TrapKind::SpAlign => "sp-align",
+        TrapKind::AccessAlign => "access-align",
+        TrapKind::Fetch => "fetch",
+        TrapKind::Read => "read",
+        TrapKind::Write => "write",
+    }
+}
+
+/// Why a command line is refused.
+pub fn words_name(why: WordsWhy) -> &'static str
+    ensures name { result.now ≡ words_name why }
+    ensures short { length result.now ≤ 16 }
+{
+    match why {
+        WordsWhy::NotYet => "NotYet",
+    }
+}
+
+/// Why an image is refused.
+pub fn fault_name(fault: ElfFault) -> &'static str
+    ensures name { result.now ≡ fault_name fault }
+    ensures short { length result.now ≤ 16 }
+{
+    match fault {
+        ElfFault::TooShort => "TooShort",
+        ElfFault::BadMagic => "BadMagic",
+        ElfFault::BadClass => "BadClass",
+        ElfFault::BadData => "BadData",
+        ElfFault::BadVersion => "BadVersion",
+        ElfFault::BadType => "BadType",
+        ElfFault::BadMachine => "BadMachine",
+        ElfFault::BadHeaderSize => "BadHeaderSize",
+        ElfFault::TooManySegments => "TooManySegments",
+        ElfFault::HeadersOutside => "HeadersOutside",
+        ElfFault::Interpreter(_) => "Interpreter",
+        ElfFault::SegmentOutside(_) => "SegmentOutside",
+        ElfFault::FileOverMemory(_) => "FileOverMemory",
+        ElfFault::AddressOutside(_) => "AddressOutside",
+        ElfFault::NotCongruent(_) => "NotCongruent",
+        ElfFault::Overlap(_) => "Overlap",
+        ElfFault::NoSegments => "NoSegments",
+        ElfFault::TooManyPages => "TooManyPages",
+        ElfFault::NotYet => "NotYet",
+    }
+}
+
+/// The number of the program header that an image is refused for, where one is.
+pub fn fault_index(fault: ElfFault) -> Option<u16>
+    ensures { result ≡ fault_index fault }
+{
+    match fault {
+        ElfFault::Interpreter(index)
+        | ElfFault::SegmentOutside(index)
+        | ElfFault::FileOverMemory(index)
+        | ElfFault::AddressOutside(index)
+        | ElfFault::NotCongruent(index)
+        | ElfFault::Overlap(index) => Some(index),
+        _ => None,
+    }
+}
