@@ -1,0 +1,5 @@
+pub mod Turns
+pub mod Runs
+pub mod CallLaws
+pub mod Bytes
+pub mod Loading

@@ -1,0 +1,80 @@
+use Rattle.std.proofs.Common.{◌≡◌, ◌<◌, ◌+◌, ap, sym, subst, arith, false}
+use Rattle.emu_model.specs.State.{Parts}
+use Rattle.emu_run.specs.Step.{step}
+use Rattle.emu_machine.specs.Ends.{is_undone}
+use Rattle.emu_machine.specs.Machines.{MachineState, MakesWrite}
+use Rattle.emu_machine.proofs.Runs.{Ran, leads_start, leads_on, leads_end, leads_spent, not_going, goes, goes_on_after, ran_as, ran_when, end_as, failed_as, last_step, causes_from}
+use Rattle.emu_machine.proofs.machine.Machine.run.Goals as goal
+
+pub loop-self-init : goal.loop-self-init
+loop-self-init g c = record {
+  going = c.requires.going;
+  within = c.requires.within;
+  leads = leads_start _ _ _ _ _;
+  read = omega arith;
+  write = omega arith;
+  errors = omega arith;
+}
+
+pub loop-self-preserved : goal.loop-self-preserved
+loop-self-preserved g c =
+    let p = c.loop-self.self.parts in
+    let steps = ap (λ (s : MachineState). s.parts.steps) c.self.view_is in
+    let below : p.steps < c.args.budget = omega (arith, steps) in
+    let counted : c.step.new.self.parts.steps ≡ p.steps + 1 = c.step.ensures.counted c.in-Going.is in
+    let q = c.step.new.self.parts in
+    let stepped : Ran step p q (g.I.Source.left c.loop-self.input) (g.I.Source.left c.step.new.input) (g.O.Sink.held c.loop-self.output) (g.O.Sink.held c.step.new.output) (g.E.Sink.held c.loop-self.errors) (g.E.Sink.held c.step.new.errors) (is_undone c.step.result)
+    = record { state = c.step.ensures.state; input = c.step.ensures.input; output = c.step.ensures.output; errors = c.step.ensures.errors } in
+    record {
+      going = goes_on_after c.step.new.self c.step.result c.in-Going.is (c.step.ensures.end (ap is_undone c.in-Going.is)) c.step.ensures.failed;
+      within = omega (arith, counted, below);
+      leads = leads_on c.args.budget _ p q _ _ _ _ _ _ _ _ _ c.loop-self.invariant.leads
+          (ran_when _ _ _ _ _ _ _ _ _ _ _ (ap is_undone c.in-Going.is) stepped) (goes p.ended c.loop-self.self.failed c.loop-self.invariant.going) below counted;
+      read = omega (arith, c.step.ensures.read_cause.later, c.loop-self.invariant.read);
+      write = omega (arith, c.step.ensures.write_cause.later, c.loop-self.invariant.write);
+      errors = omega (arith, c.step.ensures.errors_cause.later, c.loop-self.invariant.errors);
+    }
+
+pub returns-in_default : goal.returns-in_default
+returns-in_default g c =
+    let p = c.loop-self.self.parts in
+    let q = c.step.new.self.parts in
+    let steps = ap (λ (s : MachineState). s.parts.steps) c.self.view_is in
+    let below : p.steps < c.args.budget = omega (arith, steps) in
+    let stepped : Ran step p q (g.I.Source.left c.loop-self.input) (g.I.Source.left c.step.new.input) (g.O.Sink.held c.loop-self.output) (g.O.Sink.held c.step.new.output) (g.E.Sink.held c.loop-self.errors) (g.E.Sink.held c.step.new.errors) (is_undone c.step.result)
+    = record { state = c.step.ensures.state; input = c.step.ensures.input; output = c.step.ensures.output; errors = c.step.ensures.errors } in
+    let r = ran_as _ _ _ _ _ _ _ _ _ c.step.result c.run_end_of.result c.run_end_of.ensures
+    (leads_end c.args.budget c.args.self.now.parts p q _ _ _ _ _ _ _ _ _ (is_undone c.step.result) c.loop-self.invariant.leads
+    stepped (goes p.ended c.loop-self.self.failed c.loop-self.invariant.going) below
+    (λ (fine : is_undone c.step.result ≡ false). not_going q.ended c.step.result (c.step.ensures.end fine) c.in_default.not-Going)) in
+    record {
+      state = r.state;
+      input = r.input;
+      output = r.output;
+      errors = r.errors;
+      end = end_as c.step.result c.run_end_of.result q.ended c.run_end_of.ensures c.step.ensures.end;
+      spent = λ h. absurd (c.in_default.not-Going (last_step c.step.result c.run_end_of.result _ c.run_end_of.ensures h));
+      failed = failed_as c.step.result c.run_end_of.result c.step.new.self.failed c.run_end_of.ensures c.step.ensures.failed;
+      read_cause = causes_from _ _ _ _ _ c.loop-self.invariant.read c.step.ensures.read_cause (last_step c.step.result c.run_end_of.result _ c.run_end_of.ensures);
+      write_cause = causes_from _ _ _ _ _ c.loop-self.invariant.write c.step.ensures.write_cause (last_step c.step.result c.run_end_of.result _ c.run_end_of.ensures);
+      errors_cause = causes_from _ _ _ _ _ c.loop-self.invariant.errors c.step.ensures.errors_cause (last_step c.step.result c.run_end_of.result _ c.run_end_of.ensures);
+      write_named = λ h. let r = last_step c.step.result c.run_end_of.result _ c.run_end_of.ensures h in
+          subst (λ (m : Parts). MakesWrite m 1) (sym (c.step.ensures.kept (ap is_undone r))) (c.step.ensures.write_named r);
+      errors_named = λ h. let r = last_step c.step.result c.run_end_of.result _ c.run_end_of.ensures h in
+          subst (λ (m : Parts). MakesWrite m 2) (sym (c.step.ensures.kept (ap is_undone r))) (c.step.ensures.errors_named r);
+    }
+
+pub returns-clause-state : goal.returns-clause-state
+returns-clause-state g c =
+    let steps = ap (λ (s : MachineState). s.parts.steps) c.self.view_is in
+    (leads_spent c.args.budget c.args.self.now.parts c.loop-self.self.parts _ _ _ _ _ _ c.loop-self.invariant.leads (omega (arith, steps))).state
+
+pub returns-clause-output : goal.returns-clause-output
+returns-clause-output g c =
+    let steps = ap (λ (s : MachineState). s.parts.steps) c.self.view_is in
+    (leads_spent c.args.budget c.args.self.now.parts c.loop-self.self.parts _ _ _ _ _ _ c.loop-self.invariant.leads (omega (arith, steps))).output
+
+pub returns-clause-errors : goal.returns-clause-errors
+returns-clause-errors g c =
+    let steps = ap (λ (s : MachineState). s.parts.steps) c.self.view_is in
+    (leads_spent c.args.budget c.args.self.now.parts c.loop-self.self.parts _ _ _ _ _ _ c.loop-self.invariant.leads (omega (arith, steps))).errors

@@ -1,0 +1,28 @@
+use Rattle.std.proofs.Common.{◌+◌, ◌<◌, length, arith, ap, sym, ◌∙◌, is_none}
+use Rattle.emu_model.specs.declared.access.Kind.TheVariants.{Read}
+use Rattle.emu_model.specs.Access.{Memory, address, allowed, refused-to}
+use Rattle.emu_machine.proofs.Bytes.{piece_is, range_goes_on, range_stops}
+use Rattle.emu_machine.proofs.ranges.is_readable.Goals as goal
+
+pub returns-in-None-clause-answer : goal.returns-in-None-clause-answer
+returns-in-None-clause-answer c =
+    let refused_here = ap (λ (m : Memory). allowed m Read (address (c.args.address + c.loop-at.at))) (sym c.loop-at.invariant.unchanged) ∙ c.in-None.ensures.bytes in
+    sym (range_stops c.args.memory.now c.args.address c.args.count c.loop-at.at Read (omega arith) refused_here) ∙ ap is_none c.loop-at.invariant.rest
+
+pub loop-at-preserved : goal.loop-at-preserved
+loop-at-preserved c =
+    let p = piece_is c.args.memory.now c.loop-at.memory c.args.address c.args.count c.loop-at.at c.in-Some.piece.now (omega arith) c.loop-at.invariant.unchanged c.in-Some.ensures.bytes c.in-Some.ensures.allowed in
+    record {
+      within = p.within;
+      rest = range_goes_on c.args.memory.now c.args.address c.args.count c.loop-at.at (length c.in-Some.piece.now) Read p.within p.readable ∙ c.loop-at.invariant.rest;
+      unchanged = c.slice_at.follows.holds-at-none ∙ c.loop-at.invariant.unchanged;
+    }
+
+pub loop-at-smaller : goal.loop-at-smaller
+loop-at-smaller c =
+    let p = piece_is c.args.memory.now c.loop-at.memory c.args.address c.args.count c.loop-at.at c.in-Some.piece.now (omega arith) c.loop-at.invariant.unchanged c.in-Some.ensures.bytes c.in-Some.ensures.allowed in
+    let some : 0 < length c.in-Some.piece.now = p.some in
+    omega arith
+
+pub returns-clause-answer : goal.returns-clause-answer
+returns-clause-answer c = ap is_none (sym (refused-to c.args.memory.now c.args.address c.args.count c.loop-at.at Read (omega arith)) ∙ c.loop-at.invariant.rest)

@@ -1,0 +1,5 @@
+pub mod Arguments
+pub mod Ends
+pub mod Errors
+pub mod Loads
+pub mod Machines

@@ -1,0 +1,48 @@
+-- A machine: its parts, and whether a stream has failed.
+use Rattle.std.specs.Prelude.{◌≡◌, ℕ, Bool, true, false, ◌||◌, is_some, Option, Some}
+use Rattle.std.specs.Coded.{Coded, code_by, coded×, coded_bool}
+use Rattle.std.proofs.Common.{refl}
+use Rattle.a64_insn.specs.declared.form.A64Form.TheVariants.{Except}
+use Rattle.a64_insn.specs.declared.ops.ExceptOp.TheVariants.{Svc}
+use Rattle.emu_model.specs.Access.{value}
+use Rattle.emu_model.specs.State.{Parts, State, coded_parts}
+use Rattle.emu_run.specs.declared.insn.Insn.{Insn}
+use Rattle.emu_run.specs.declared.insn.Insn.TheVariants.{A64}
+use Rattle.emu_run.specs.Step.{decode, taken_by}
+use Rattle.emu_run.specs.SystemCall.{call, kind_of_call, file_of, write}
+
+-- `failed` says that a stream failed in a step, which ends the machine
+pub record MachineState : Type 0 where
+  pub parts : Parts
+  pub failed : Bool
+
+abbrev pub coded_machine : Coded MachineState
+coded_machine = code_by (Parts × Bool) (coded× coded_parts coded_bool) (λ m. (m.parts, m.failed)) (λ t. record { parts = t.0; failed = t.1 }) (λ _. refl)
+
+-- by an exit, a trap or a fault of a stream
+abbrev pub has_ended : MachineState → Bool
+has_ended m = is_some m.parts.ended || m.failed
+
+-- what the call of a machine makes of it and of its streams
+abbrev pub call_made : State → State
+call_made st = taken_by st (call st.parts st.input)
+
+-- ---- the call that a machine is about to make
+
+abbrev pub is_svc : Option Insn → Bool
+is_svc (Some (A64 (Except Svc imm16))) = true
+is_svc insn = false
+
+-- the word at the program counter is svc
+abbrev pub is_at_call : Parts → Bool
+is_at_call m = is_svc (decode (value m.memory m.core.pc 4))
+
+-- x8 and x0 name a write to this file
+pub record NamesWrite (m : Parts) (number : ℕ) : Type 0 where
+  pub call : kind_of_call m ≡ write
+  pub file : file_of m ≡ number
+
+-- and the next instruction makes it
+pub record MakesWrite (m : Parts) (number : ℕ) : Type 0 where
+  pub svc : is_at_call m ≡ true
+  pub names : NamesWrite m number

@@ -1,0 +1,20 @@
+//! A machine: it is opened from an image, takes steps and runs.
+//!
+//! Contracts see a machine as its parts and whether a stream has failed. What a step and a run make of it are the
+//! definitions of `emu_run`, over streams that tell their bytes.
+#![tactic(auto)]
+
+mod calls;
+mod ends;
+mod exec;
+mod load;
+mod machine;
+mod open;
+mod ranges;
+
+pub use emu_model::{Ended, Length, Trap, TrapKind};
+pub use ends::{RunEnd, StepEnd};
+pub use machine::Machine;
+
+#[cfg(test)]
+mod tests;

@@ -1,0 +1,88 @@
+//! The segments of a file as pages of memory.
+ghost use Rattle.std.specs.Prelude.{◌≡◌, ◌+◌, ◌≤◌, ◌<◌, ◌^◌, IfOk, length};
+ghost use Rattle.std.specs.FinMap as map;
+ghost use Rattle.std.specs.List.{All};
+ghost use Rattle.emu_model.specs.Image.{end_page};
+ghost use Rattle.emu_model.specs.Pages.{with_bytes};
+ghost use Rattle.emu_model.specs.Start.{highest_page, pages_at_start};
+ghost use Rattle.elf_image.specs.Loadable.{IsLoadableSegment};
+ghost use Rattle.emu_machine.specs.Loads.{HasSegment, IsBelowLimit};
+
+use elf_image::Segment;
+use guest_pages::{OutOfMemory, Pages};
+use std::alloc::AllocError;
+
+#[cfg(test)]
+mod tests;
+
+/// The number of bytes of a page.
+const PAGE_BYTES: u64 = 4096;
+
+/// Maps the pages of the segments, with the file's bytes in their place and 0 elsewhere.
+pub fn load_segments(
+    pages: &mut Pages,
+    file: &[u8],
+    segments: &[Segment],
+) -> Result<(), OutOfMemory>
+    requires loadable { All (IsLoadableSegment file.now) segments.now }
+    requires empty { pages.old.pages ≡ map.empty }
+    ensures pages { IfOk result (λ _. pages.new ≡ record pages.old { pages = pages_at_start file.now segments.now }) }
+{
+    for segment in segments {
+        load_segment(pages, file, segment)?;
+    }
+    Ok(())
+}
+
+/// Maps the pages of a segment, none of which is mapped, with the file's bytes in their place and 0 elsewhere.
+fn load_segment(pages: &mut Pages, file: &[u8], segment: &Segment) -> Result<(), OutOfMemory>
+    requires { IsLoadableSegment file.now segment.now }
+    ensures { IfOk result (λ _. HasSegment file.now segment.now pages.old pages.new) }
+{
+    let first = segment.address / PAGE_BYTES;
+    let end = end_page(segment);
+    if let Err(_) = pages.map(first, end - first, segment.rights) {
+        return Err(AllocError);
+    }
+    let from = segment.offset as usize;
+    let to = from + segment.file_size as usize;
+    copy(pages, segment.address, &file[from..to]);
+    Ok(())
+}
+
+/// Writes bytes from an address on, page by page. What falls on pages that aren't mapped is left out.
+fn copy(pages: &mut Pages, address: u64, bytes: &[u8])
+    requires { address + length bytes.now ≤ 2 ^ 47 }
+    ensures { pages.new ≡ with_bytes pages.old address bytes.now }
+{
+    let mut at = 0;
+    while at < bytes.len() {
+        let to = address + at as u64;
+        let place = (to % PAGE_BYTES) as usize;
+        let end = bytes.len().min(at + (PAGE_BYTES as usize - place));
+        pages.write(to / PAGE_BYTES, place, &bytes[at..end]);
+        at = end;
+    }
+}
+
+/// The page behind the last one of a segment.
+fn end_page(segment: &Segment) -> u64
+    requires { IsBelowLimit segment.now }
+    ensures value { result ≡ end_page segment.now }
+    ensures limit { result ≤ 0x7F0000000 }
+{
+    (segment.address + segment.memory_size + (PAGE_BYTES - 1)) / PAGE_BYTES
+}
+
+/// The page behind the highest segment.
+pub fn highest_page(segments: &[Segment]) -> u64
+    requires { All IsBelowLimit segments.now }
+    ensures value { result ≡ highest_page segments.now }
+    ensures limit { result ≤ 0x7F0000000 }
+{
+    let mut highest = 0;
+    for segment in segments {
+        highest = end_page(segment).max(highest);
+    }
+    highest
+}

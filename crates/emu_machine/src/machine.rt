@@ -1,0 +1,261 @@
+//! The machine, its step and its run.
+ghost use Rattle.std.specs.Prelude.{◌≡◌, ◌<◌, ◌≤◌, ◌+◌, ◌-◌, ◌^◌, List, ℕ, IfSome, MatchOption, Option, Some, None, true, false};
+ghost use Rattle.io_gate.specs.Streams.{Causes};
+ghost use Rattle.emu_model.specs.State.{zero_vectors};
+ghost use Rattle.emu_run.specs.Run as runs;
+ghost use Rattle.emu_run.specs.Step as model;
+ghost use Rattle.emu_run.specs.SystemCall.{call, quiet, went_on};
+ghost use Rattle.emu_machine.specs.Ends.{step_end, run_end, run_end_of, step_failed, run_failed, is_undone, is_broken_off, Becomes, TakesWithin, Puts};
+ghost use Rattle.emu_machine.specs.Machines.{has_ended, is_at_call, is_svc, MakesWrite};
+
+use crate::ends::{RunEnd, StepEnd};
+use crate::exec::{perform, runs};
+use core_regs::{Core, Effect};
+use emu_model::{Break, Ended, Kind, Length, Trap, TrapKind};
+use guest_mem::Mem;
+use insn_decode::{Insn, decode};
+use io_gate::{Sink, Source};
+use std::marker::Model;
+
+/// A machine. Contracts see its parts, and whether a stream has failed in one of its steps.
+#[derive(Drop)]
+pub struct Machine {
+    pub(crate) core: Core,
+    vector_length: Length,
+    pub(crate) memory: Mem,
+    brk: Break,
+    pub(crate) steps: u64,
+    pub(crate) ended: Option<Ended>,
+    pub(crate) failed: bool,
+}
+
+impl Model for Machine {
+    ghost use Rattle.emu_model.specs.Lengths.{IsVectorLength};
+    ghost use Rattle.emu_model.specs.State.{zero_vectors};
+    ghost use Rattle.emu_machine.specs.Machines.{MachineState, coded_machine};
+
+    ghost Value = { MachineState };
+
+    ghost coded = { coded_machine };
+
+    ghost view = { λ a. record {
+      parts = record { core = a.core; vectors = zero_vectors a.vector_length; memory = a.memory; brk = a.brk; steps = a.steps; ended = a.ended };
+      failed = a.failed;
+    } };
+
+    ghost invariant = { λ a. IsVectorLength a.vector_length };
+}
+
+impl Machine {
+    /// A machine before its first step.
+    pub(crate) fn at_start(core: Core, vector_length: Length, memory: Mem, brk: Break) -> Machine
+        ensures { result ≡ record { parts = record { core = core; vectors = zero_vectors vector_length; memory = memory; brk = brk; steps = 0; ended = None }; failed = false } }
+    {
+        prove!(vector_length.bits() >= 128);
+        Machine {
+            core,
+            vector_length,
+            memory,
+            brk,
+            steps: 0,
+            ended: None,
+            failed: false,
+        }
+    }
+
+    /// Whether the machine has ended: by an exit, a trap or a fault of a stream.
+    pub fn ended(&self) -> bool
+        ensures { result ≡ has_ended self.now }
+    {
+        self.ended.is_some() || self.failed
+    }
+
+    /// How the machine ended. None exactly where neither an exit nor a trap ended it.
+    pub fn ending(&self) -> Option<Ended>
+        ensures { result ≡ self.now.parts.ended }
+    {
+        self.ended
+    }
+
+    /// The number of steps that were counted: each but those that trapped or failed.
+    pub fn steps(&self) -> u64
+        ensures { result ≡ self.now.parts.steps }
+    {
+        self.steps
+    }
+
+    /// The scalar registers.
+    pub fn core(&self) -> &Core
+        ensures { result.now ≡ self.now.parts.core }
+    {
+        &self.core
+    }
+
+    /// The memory.
+    pub fn mem(&self) -> &Mem
+        ensures { result.now ≡ self.now.parts.memory }
+    {
+        &self.memory
+    }
+
+    /// The vector length in bits.
+    pub fn length(&self) -> Length
+        ensures bits { result ≡ self.now.parts.vectors.bits }
+        ensures vectors { self.now.parts.vectors ≡ zero_vectors result }
+    {
+        self.vector_length
+    }
+
+    /// Ends by a trap, with no step counted.
+    fn trap(&mut self, kind: TrapKind, address: u64) -> StepEnd
+        ensures parts { self.new.parts ≡ model.trapped self.old.parts kind address }
+        ensures failed { self.new.failed ≡ self.old.failed }
+        ensures end { result ≡ StepEnd.Trap (record { kind = kind; address = address }) }
+    {
+        let trap = Trap { kind, address };
+        self.ended = Some(Ended::Trap(trap));
+        StepEnd::Trap(trap)
+    }
+
+    /// Goes on at an address, and counts the step.
+    pub(crate) fn go_on(&mut self, address: u64)
+        requires { self.old.parts.steps < 2 ^ 64 - 1 }
+        ensures parts { self.new.parts ≡ went_on self.old.parts self.old.parts.core self.old.parts.memory address }
+        ensures failed { self.new.failed ≡ self.old.failed }
+    {
+        self.core.set_pc(address);
+        self.steps += 1;
+    }
+
+    /// A step that isn't a call. None asks for the call, with nothing changed.
+    fn plain(&mut self) -> Option<StepEnd>
+        requires going { has_ended self.old ≡ false }
+        requires room { self.old.parts.steps < 2 ^ 64 - 1 }
+        ensures turn { MatchOption result ((input : List ℕ) → model.turn self.old.parts input ≡ call self.old.parts input) (λ _. (input : List ℕ) → model.turn self.old.parts input ≡ quiet self.new.parts input) }
+        ensures kept { MatchOption result (self.new ≡ self.old) (λ _. self.new.failed ≡ false) }
+        ensures svc { MatchOption result (is_at_call self.old.parts ≡ true) (λ end. end ≡ step_end self.new.parts.ended) }
+        ensures counted { IfSome result (λ end. end ≡ StepEnd.Going → self.new.parts.steps ≡ self.old.parts.steps + 1) }
+    {
+        let pc = self.core.pc();
+        if pc % 4 != 0 {
+            return Some(self.trap(TrapKind::PcAlign, pc));
+        }
+        let word = match self.memory.load(pc, 4, Kind::Fetch) {
+            Err(denied) => return Some(self.trap(TrapKind::Fetch, denied.address)),
+            Ok(word) => word as u32,
+        };
+        match decode(word) {
+            None => Some(self.trap(TrapKind::Undefined, pc)),
+            Some(insn) => self.execute(&insn),
+        }
+    }
+
+    /// Does an instruction that isn't a call. None asks for the call, with nothing changed.
+    fn execute(&mut self, insn: &Insn) -> Option<StepEnd>
+        requires going { has_ended self.old ≡ false }
+        requires room { self.old.parts.steps < 2 ^ 64 - 1 }
+        ensures turn { MatchOption result ((input : List ℕ) → model.executed self.old.parts input (Some insn.now) ≡ call self.old.parts input) (λ _. (input : List ℕ) → model.executed self.old.parts input (Some insn.now) ≡ quiet self.new.parts input) }
+        ensures kept { MatchOption result (self.new ≡ self.old) (λ _. self.new.failed ≡ false) }
+        ensures svc { MatchOption result (is_svc (Some insn.now) ≡ true) (λ end. end ≡ step_end self.new.parts.ended) }
+        ensures counted { IfSome result (λ end. end ≡ StepEnd.Going → self.new.parts.steps ≡ self.old.parts.steps + 1) }
+    {
+        let Insn::A64(insn) = insn;
+        let pc = self.core.pc();
+        if !runs(insn) {
+            return Some(self.trap(TrapKind::Undefined, pc));
+        }
+        match perform(&mut self.core, &mut self.memory, insn) {
+            Effect::Next => {
+                self.go_on(pc.wrapping_add(4));
+                Some(StepEnd::Going)
+            }
+            Effect::Branch(target) => {
+                self.go_on(target);
+                Some(StepEnd::Going)
+            }
+            Effect::Trap(trap) => Some(self.trap(trap.kind, trap.address)),
+            Effect::Call => None,
+        }
+    }
+
+    /// Takes one step: the word at the program counter is fetched and decoded, and its instruction is done.
+    ///
+    /// `Going` and `Exit` count the step, and `Trap` doesn't. After a fault of a stream the machine has ended with the step
+    /// not done, and `OutOfMemory` leaves the machine as it was.
+    pub fn step<I: Source, O: Sink, E: Sink>(
+        &mut self,
+        input: &mut I,
+        output: &mut O,
+        errors: &mut E,
+    ) -> StepEnd
+        requires going { has_ended self.old ≡ false }
+        requires room { self.old.parts.steps < 2 ^ 64 - 1 }
+        ensures state { Becomes model.step self.old.parts self.new.parts (I.left input.old) (I.left input.new) (is_undone result) }
+        ensures input { TakesWithin model.step self.old.parts (I.left input.old) (I.left input.new) (is_undone result) }
+        ensures output { Puts (λ st. (model.step st).output) self.old.parts (I.left input.old) (O.held output.old) (O.held output.new) (is_undone result) }
+        ensures errors { Puts (λ st. (model.step st).errors) self.old.parts (I.left input.old) (E.held errors.old) (E.held errors.new) (is_undone result) }
+        ensures end { is_undone result ≡ false → result ≡ step_end self.new.parts.ended }
+        ensures counted { result ≡ StepEnd.Going → self.new.parts.steps ≡ self.old.parts.steps + 1 }
+        ensures kept { is_undone result ≡ true → self.new.parts ≡ self.old.parts }
+        ensures failed { self.new.failed ≡ step_failed result }
+        ensures read_cause { Causes (result ≡ StepEnd.ReadFault) (I.faults input.old) (I.faults input.new) }
+        ensures write_cause { Causes (result ≡ StepEnd.WriteFault) (O.faults output.old) (O.faults output.new) }
+        ensures errors_cause { Causes (result ≡ StepEnd.ErrorsFault) (E.faults errors.old) (E.faults errors.new) }
+        ensures write_named { result ≡ StepEnd.WriteFault → MakesWrite self.old.parts 1 }
+        ensures errors_named { result ≡ StepEnd.ErrorsFault → MakesWrite self.old.parts 2 }
+    {
+        match self.plain() {
+            Some(end) => end,
+            None => self.call(input, output, errors),
+        }
+    }
+
+    /// Takes steps until the machine has ended or has counted `budget` steps in all, which is `Spent`.
+    ///
+    /// After a fault of a stream the machine has ended. `OutOfMemory` leaves it as it was before the step that wanted memory.
+    pub fn run<I: Source, O: Sink, E: Sink>(
+        &mut self,
+        budget: u64,
+        input: &mut I,
+        output: &mut O,
+        errors: &mut E,
+    ) -> RunEnd
+        requires going { has_ended self.old ≡ false }
+        requires within { self.old.parts.steps ≤ budget }
+        ensures state { Becomes (λ st. runs.run st budget) self.old.parts self.new.parts (I.left input.old) (I.left input.new) (is_broken_off result) }
+        ensures input { TakesWithin (λ st. runs.run st budget) self.old.parts (I.left input.old) (I.left input.new) (is_broken_off result) }
+        ensures output { Puts (λ st. (runs.run st budget).output) self.old.parts (I.left input.old) (O.held output.old) (O.held output.new) (is_broken_off result) }
+        ensures errors { Puts (λ st. (runs.run st budget).errors) self.old.parts (I.left input.old) (E.held errors.old) (E.held errors.new) (is_broken_off result) }
+        ensures end { is_broken_off result ≡ false → result ≡ run_end self.new.parts.ended }
+        ensures spent { result ≡ RunEnd.Spent → self.new.parts.steps ≡ budget }
+        ensures failed { self.new.failed ≡ run_failed result }
+        ensures read_cause { Causes (result ≡ RunEnd.ReadFault) (I.faults input.old) (I.faults input.new) }
+        ensures write_cause { Causes (result ≡ RunEnd.WriteFault) (O.faults output.old) (O.faults output.new) }
+        ensures errors_cause { Causes (result ≡ RunEnd.ErrorsFault) (E.faults errors.old) (E.faults errors.new) }
+        ensures write_named { result ≡ RunEnd.WriteFault → MakesWrite self.new.parts 1 }
+        ensures errors_named { result ≡ RunEnd.ErrorsFault → MakesWrite self.new.parts 2 }
+    {
+        while self.steps < budget {
+            match self.step(input, output, errors) {
+                StepEnd::Going => {}
+                end => return run_end_of(end),
+            }
+        }
+        RunEnd::Spent
+    }
+}
+
+/// The answer of a run by that of its last step.
+fn run_end_of(end: StepEnd) -> RunEnd
+    ensures { result ≡ run_end_of end }
+{
+    match end {
+        StepEnd::Going => RunEnd::Spent,
+        StepEnd::Exit(code) => RunEnd::Exit(code),
+        StepEnd::Trap(trap) => RunEnd::Trap(trap),
+        StepEnd::ReadFault => RunEnd::ReadFault,
+        StepEnd::WriteFault => RunEnd::WriteFault,
+        StepEnd::ErrorsFault => RunEnd::ErrorsFault,
+        StepEnd::OutOfMemory => RunEnd::OutOfMemory,
+    }
+}

@@ -1,0 +1,188 @@
+//! Small programs, opened, stepped and run.
+ghost use Rattle.std.specs.Prelude.{◌≡◌, ◌≤◌, IfOk, false};
+ghost use Rattle.emu_machine.specs.Machines.{has_ended};
+
+use super::*;
+use elf_image::read;
+use emu_bits::Reg;
+use io_gate::{MemSink, NoFaultSource};
+use std::alloc::{AllocError, Global};
+
+/// movz x0, #7; movz x8, #93; svc #0
+const EXIT: [u32; 3] = [0xD280_00E0, 0xD280_0BA8, 0xD400_0001];
+
+/// Puts `hi` into the data at 0x401000, writes the two bytes to file 1, and ends with the count of the write.
+const WRITE: [u32; 10] = [
+    0xD2A0_0801,
+    0x9140_0421,
+    0xD28D_2D00,
+    0xF900_0020,
+    0xD280_0020,
+    0xD280_0042,
+    0xD280_0808,
+    0xD400_0001,
+    0xD280_0BA8,
+    0xD400_0001,
+];
+
+/// Writes the low `size` bytes of a number at an offset, lowest first.
+fn put(file: &mut [u8], offset: usize, size: usize, value: u64) {
+    for (k, byte) in value.to_le_bytes().iter().take(size).enumerate() {
+        let at = offset.saturating_add(k);
+        if at < file.len() {
+            file[at] = *byte;
+        }
+    }
+}
+
+/// A file with the words at 0x400000, readable and executable, and eight bytes of data at 0x401000 with these flags.
+fn file_of(alloc: Global, words: &[u32], flags: u64) -> Result<Vec<u8>, AllocError> {
+    let mut file = vec![in alloc; 0u8; 8200]?;
+    let code = (words.len() as u64).saturating_mul(4);
+    let fields = [
+        (0, 4, 0x464C_457F),
+        (4, 3, 0x01_0102),
+        (16, 2, 2),
+        (18, 2, 183),
+        (20, 4, 1),
+        (24, 8, 0x40_0000),
+        (32, 8, 64),
+        (52, 4, 0x0038_0040),
+        (56, 2, 2),
+        (64, 8, 0x5_0000_0001),
+        (72, 8, 4096),
+        (80, 8, 0x40_0000),
+        (96, 8, code),
+        (104, 8, code),
+        (120, 4, 1),
+        (124, 4, flags),
+        (128, 8, 8192),
+        (136, 8, 0x40_1000),
+        (152, 8, 8),
+        (160, 8, 8),
+    ];
+    for (offset, size, value) in fields {
+        put(&mut file, offset, size, value);
+    }
+    for (k, word) in words.iter().enumerate() {
+        put(
+            &mut file,
+            k.saturating_mul(4).saturating_add(4096),
+            4,
+            u64::from(*word),
+        );
+    }
+    Ok(file)
+}
+
+/// The machine of that file at 128 bits.
+fn opened(alloc: Global, words: &[u32], flags: u64) -> Result<Machine, AllocError>
+    ensures going { IfOk result (λ m. has_ended m ≡ false) }
+    ensures fresh { IfOk result (λ m. m.parts.steps ≡ 0) }
+{
+    let file = file_of(alloc, words, flags)?;
+    let args = Vec::new(alloc);
+    match (read(&file, 16_384), Length::of_bits(128)) {
+        (Ok(image), Some(length)) => Machine::open(alloc, &file, &image, &args, length, 16_384),
+        _ => Err(AllocError),
+    }
+}
+
+/// Nothing to read.
+fn empty(alloc: Global) -> NoFaultSource {
+    NoFaultSource::new(Vec::new(alloc), 1)
+}
+
+/// A sink that takes so many bytes at once, and fails at its first call where it is to fail.
+fn sink(alloc: Global, most: usize, fails: bool) -> Result<MemSink, AllocError>
+    requires { 1 ≤ most }
+{
+    let mut failing = Vec::new(alloc);
+    if fails {
+        failing.push(0u64)?;
+    }
+    Ok(MemSink::new(alloc, most, failing))
+}
+
+#[test]
+fn a_program_exits(rt: HostRuntime) -> Result<(), AllocError> {
+    let alloc = rt.alloc();
+    let mut machine = opened(alloc, &EXIT, 6)?;
+    let mut output = sink(alloc, 8, false)?;
+    let mut errors = sink(alloc, 8, false)?;
+    let end = machine.run(10, &mut empty(alloc), &mut output, &mut errors);
+    assert_eq!(rt; end, RunEnd::Exit(7));
+    assert_eq!(rt;
+        (machine.ended(), machine.ending()),
+        (true, Some(Ended::Exit(7)))
+    );
+    assert_eq!(rt; (machine.steps(), machine.core().pc()), (3, 0x40_0008));
+    let number = Reg::new(8).expect(&rt, "a register");
+    assert_eq!(rt; machine.core().x(number), 93);
+    assert_eq!(rt; machine.length().bits(), 128);
+    assert_eq!(rt; machine.mem().peek(0x40_0003), Some(0xD2));
+    assert_eq!(rt; machine.mem().peek(0x40_2000), None);
+    Ok(())
+}
+
+#[test]
+fn a_budget_is_spent(rt: HostRuntime) -> Result<(), AllocError> {
+    let alloc = rt.alloc();
+    let mut machine = opened(alloc, &EXIT, 6)?;
+    let mut output = sink(alloc, 8, false)?;
+    let mut errors = sink(alloc, 8, false)?;
+    let end = machine.step(&mut empty(alloc), &mut output, &mut errors);
+    assert_eq!(rt; (end, machine.steps()), (StepEnd::Going, 1));
+    assert_eq!(rt; (machine.ended(), machine.ending()), (false, None));
+    if !machine.ended() && machine.steps() <= 2 {
+        let end = machine.run(2, &mut empty(alloc), &mut output, &mut errors);
+        assert_eq!(rt; (end, machine.steps()), (RunEnd::Spent, 2));
+    }
+    Ok(())
+}
+
+#[test]
+fn a_program_writes(rt: HostRuntime) -> Result<(), AllocError> {
+    let alloc = rt.alloc();
+    let mut machine = opened(alloc, &WRITE, 6)?;
+    let mut output = sink(alloc, 1, false)?;
+    let mut errors = sink(alloc, 8, false)?;
+    let end = machine.run(20, &mut empty(alloc), &mut output, &mut errors);
+    assert_eq!(rt; (end, machine.steps()), (RunEnd::Exit(2), 10));
+    assert_eq!(rt;
+        (output.kept(), errors.kept()),
+        (b"hi".as_slice(), b"".as_slice())
+    );
+    Ok(())
+}
+
+#[test]
+fn a_write_without_the_right_traps(rt: HostRuntime) -> Result<(), AllocError> {
+    let alloc = rt.alloc();
+    let mut machine = opened(alloc, &WRITE, 4)?;
+    let mut output = sink(alloc, 1, false)?;
+    let mut errors = sink(alloc, 8, false)?;
+    let trap = Trap {
+        kind: TrapKind::Write,
+        address: 0x40_1000,
+    };
+    let end = machine.run(20, &mut empty(alloc), &mut output, &mut errors);
+    assert_eq!(rt; (end, machine.steps()), (RunEnd::Trap(trap), 3));
+    assert_eq!(rt;
+        (machine.core().pc(), machine.ending()),
+        (0x40_000C, Some(Ended::Trap(trap)))
+    );
+    Ok(())
+}
+
+#[test]
+fn an_output_that_fails_ends_the_machine(rt: HostRuntime) -> Result<(), AllocError> {
+    let alloc = rt.alloc();
+    let mut machine = opened(alloc, &WRITE, 6)?;
+    let mut output = sink(alloc, 1, true)?;
+    let mut errors = sink(alloc, 8, false)?;
+    let end = machine.run(20, &mut empty(alloc), &mut output, &mut errors);
+    assert_eq!(rt; (end, machine.steps()), (RunEnd::WriteFault, 7));
+    assert_eq!(rt; (machine.ended(), machine.ending()), (true, None));
+    Ok(())
+}
