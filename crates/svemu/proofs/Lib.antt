@@ -1,0 +1,4 @@
+pub mod Causes
+pub mod Commands
+pub mod Meetings
+pub mod Words

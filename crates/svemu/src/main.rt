@@ -1,0 +1,56 @@
+//! svemu: runs a static AArch64 program with the Scalable Vector Extension at a chosen vector length.
+#![tactic(auto)]
+
+use io_gate::{FileImages, StdSink, StdSource};
+use std::alloc::{AllocError, Global};
+use std::process::ExitCode;
+use std::{env, io};
+
+mod command_line;
+#[cfg(test)]
+mod tests;
+mod top;
+
+pub use command_line::line_of_words;
+pub use top::svemu;
+
+/// The status where a word of the command line isn't text, or where the words can't be had.
+const WORDS_UNREADABLE: u8 = 118;
+
+/// The status where there is no memory.
+const OUT_OF_MEMORY: u8 = 120;
+
+/// The words after the program's name.
+fn words_after_name(alloc: Global, all: env::Args) -> Result<Vec<String>, AllocError> {
+    let mut words = Vec::new(alloc);
+    for word in all.skip(1) {
+        words.push(word)?;
+    }
+    Ok(words)
+}
+
+fn main(rt: HostRuntime) -> ExitCode {
+    let all = match env::args(&rt) {
+        Ok(all) => all,
+        Err(error) if error.kind() == io::ErrorKind::OutOfMemory => {
+            return ExitCode::from(OUT_OF_MEMORY);
+        }
+        Err(_) => return ExitCode::from(WORDS_UNREADABLE),
+    };
+    let Ok(words) = words_after_name(rt.alloc(), all) else {
+        return ExitCode::from(OUT_OF_MEMORY);
+    };
+    let mut files = FileImages::new(&rt);
+    let mut input = StdSource::new(rt.stdin());
+    let mut output = StdSink::new(rt.stdout());
+    let mut errors = StdSink::new(rt.stderr());
+    let ending = svemu(
+        rt.alloc(),
+        &words,
+        &mut files,
+        &mut input,
+        &mut output,
+        &mut errors,
+    );
+    ExitCode::from(ending.status())
+}

@@ -1,0 +1,394 @@
+//! Whole commands over files and streams in memory: what they end with, and what they write.
+use crate::svemu;
+use emu_model::{ElfFault, Trap, TrapKind, WordsFault, WordsWhy};
+use emu_run::Ending;
+use io_gate::{MemImages, MemSink, MemSource, NoFaultImages, NoFaultSource};
+use std::alloc::{AllocError, Global};
+use std::str;
+use std::test::Fail;
+
+/// movz x0, #7; movz x8, #93; svc #0
+const EXIT_SEVEN: [u32; 3] = [0xD280_00E0, 0xD280_0BA8, 0xD400_0001];
+
+/// Writes `hi`: movz x1, #64, lsl #16; add x1, x1, #1, lsl #12; movz x0, #26984; str x0, [x1]; movz x0, #1;
+/// movz x2, #2; movz x8, #64; svc #0; movz x8, #93; svc #0
+const WRITE_HI: [u32; 10] = [
+    0xD2A0_0801,
+    0x9140_0421,
+    0xD28D_2D00,
+    0xF900_0020,
+    0xD280_0020,
+    0xD280_0042,
+    0xD280_0808,
+    0xD400_0001,
+    0xD280_0BA8,
+    0xD400_0001,
+];
+
+/// A program header of a PT_LOAD segment.
+#[derive(Drop)]
+struct Header {
+    flags: u32,
+    offset: u64,
+    address: u64,
+    file_size: u64,
+    memory_size: u64,
+}
+
+fn push_header(file: &mut Vec<u8>, h: &Header) -> Result<(), AllocError> {
+    file.extend_from_slice(&1u32.to_le_bytes())?;
+    file.extend_from_slice(&h.flags.to_le_bytes())?;
+    for field in [
+        h.offset,
+        h.address,
+        h.address,
+        h.file_size,
+        h.memory_size,
+        4096,
+    ] {
+        file.extend_from_slice(&field.to_le_bytes())?;
+    }
+    Ok(())
+}
+
+/// The first 64 bytes of a file with so many program headers.
+fn push_start(file: &mut Vec<u8>, count: u16) -> Result<(), AllocError> {
+    file.extend_from_slice(&[0x7F, 0x45, 0x4C, 0x46, 2, 1, 1, 0, 0, 0, 0, 0, 0, 0, 0, 0])?;
+    file.extend_from_slice(&2u16.to_le_bytes())?;
+    file.extend_from_slice(&183u16.to_le_bytes())?;
+    file.extend_from_slice(&1u32.to_le_bytes())?;
+    for field in [0x40_0000u64, 64, 0] {
+        file.extend_from_slice(&field.to_le_bytes())?;
+    }
+    file.extend_from_slice(&0u32.to_le_bytes())?;
+    for field in [64u16, 56, count, 0, 0, 0] {
+        file.extend_from_slice(&field.to_le_bytes())?;
+    }
+    Ok(())
+}
+
+fn push_zeros_to(file: &mut Vec<u8>, end: usize) -> Result<(), AllocError> {
+    for _ in file.len()..end {
+        file.push(0)?;
+    }
+    Ok(())
+}
+
+/// The file of a listing of these words, with eight zero bytes of data where the data's flags are given.
+fn file_of(alloc: Global, words: &[u32], data_flags: Option<u32>) -> Result<Vec<u8>, AllocError> {
+    let mut code = Vec::new(alloc);
+    for word in words {
+        code.extend_from_slice(&word.to_le_bytes())?;
+    }
+    let size = code.len() as u64;
+    let mut file = Vec::new(alloc);
+    push_start(&mut file, if data_flags.is_some() { 2 } else { 1 })?;
+    push_header(
+        &mut file,
+        &Header {
+            flags: 5,
+            offset: 4096,
+            address: 0x40_0000,
+            file_size: size,
+            memory_size: size,
+        },
+    )?;
+    if let Some(flags) = data_flags {
+        push_header(
+            &mut file,
+            &Header {
+                flags,
+                offset: 8192,
+                address: 0x40_1000,
+                file_size: 8,
+                memory_size: 8,
+            },
+        )?;
+    }
+    push_zeros_to(&mut file, 4096)?;
+    file.extend_from_slice(&code)?;
+    if data_flags.is_some() {
+        push_zeros_to(&mut file, 8200)?;
+    }
+    Ok(file)
+}
+
+fn words_of(alloc: Global, texts: &[&str]) -> Result<Vec<String>, AllocError> {
+    let mut words = Vec::new(alloc);
+    for text in texts {
+        words.push(String::from_str(alloc, text)?)?;
+    }
+    Ok(words)
+}
+
+fn one_file(alloc: Global, bytes: Vec<u8>) -> Result<Vec<(String, Vec<u8>)>, AllocError> {
+    let mut files = Vec::new(alloc);
+    files.push((String::from_str(alloc, "a.elf")?, bytes))?;
+    Ok(files)
+}
+
+/// A command's ending, and what it wrote.
+#[derive(Drop)]
+struct Done {
+    ending: Ending,
+    output: MemSink,
+    errors: MemSink,
+}
+
+/// Does the words over one file `a.elf` and a sink that fails at no call.
+fn command_done(alloc: Global, texts: &[&str], file: Vec<u8>) -> Result<Done, AllocError> {
+    let words = words_of(alloc, texts)?;
+    let mut files = NoFaultImages::new(one_file(alloc, file)?);
+    let mut input = NoFaultSource::new(Vec::new(alloc), 1);
+    let mut output = MemSink::new(alloc, 4096, Vec::new(alloc));
+    let mut errors = MemSink::new(alloc, 4096, Vec::new(alloc));
+    let ending = svemu(
+        alloc,
+        &words,
+        &mut files,
+        &mut input,
+        &mut output,
+        &mut errors,
+    );
+    Ok(Done {
+        ending,
+        output,
+        errors,
+    })
+}
+
+const RUN_TEN: [&str; 6] = ["run", "a.elf", "--vl", "128", "--budget", "10"];
+
+/// Whether some line of a text is this one.
+fn has_line(text: &[u8], line: &str) -> bool {
+    match str::from_utf8(text) {
+        Ok(text) => text.lines().any(|found| found == line),
+        Err(_) => false,
+    }
+}
+
+fn is_first(text: &[u8], line: &str) -> bool {
+    text.starts_with(line.as_bytes())
+}
+
+#[test]
+fn exit_7_after_3_steps(rt: HostRuntime) -> Result<(), Fail> {
+    let alloc = rt.alloc();
+    let run = command_done(alloc, &RUN_TEN, file_of(alloc, &EXIT_SEVEN, None)?)?;
+    assert_eq!(rt; run.ending, Ending::Exit(7));
+    assert_eq!(rt; run.ending.status(), 7);
+    assert!(rt; run.output.kept().is_empty());
+    let text = run.errors.kept();
+    assert!(rt;
+        is_first(
+            text,
+            "exit 7 after 3 steps\nx0 0000000000000007\nx1 0000000000000000\n"
+        )
+    );
+    let lines = [
+        "x8 000000000000005d",
+        "x30 0000000000000000",
+        "sp 0000000000000000",
+        "pc 0000000000400008",
+        "nzcv 0000",
+        "tpidr 0000000000000000",
+        "vl 128",
+        "z0 00000000000000000000000000000000",
+        "z31 00000000000000000000000000000000",
+        "p0 0000",
+        "p15 0000",
+        "ffr 0000",
+    ];
+    for line in lines {
+        assert!(rt; has_line(text, line), "{line}");
+    }
+    // 37 lines of scalars, 32 of vectors, 16 of predicates, and ffr
+    assert_eq!(rt; text.iter().filter(|byte| **byte == b'\n').count(), 86);
+    Ok(())
+}
+
+#[test]
+fn a_budget_is_spent_at_its_last_step(rt: HostRuntime) -> Result<(), Fail> {
+    let alloc = rt.alloc();
+    let cases = [
+        ("0", "spent after 0 steps\n", 123),
+        ("2", "spent after 2 steps\n", 123),
+        ("3", "exit 7 after 3 steps\n", 7),
+    ];
+    for (budget, line, status) in cases {
+        let words = ["run", "a.elf", "--vl", "128", "--budget", budget];
+        let run = command_done(alloc, &words, file_of(alloc, &EXIT_SEVEN, None)?)?;
+        assert_eq!(rt; run.ending.status(), status, "{budget}");
+        assert!(rt; is_first(run.errors.kept(), line), "{budget}");
+        if budget == "2" {
+            assert!(rt; has_line(run.errors.kept(), "pc 0000000000400008"));
+        }
+    }
+    Ok(())
+}
+
+#[test]
+fn a_floating_point_word_is_undefined(rt: HostRuntime) -> Result<(), Fail> {
+    let alloc = rt.alloc();
+    let run = command_done(alloc, &RUN_TEN, file_of(alloc, &[0x1E22_2820], None)?)?;
+    let trap = Trap {
+        kind: TrapKind::Undefined,
+        address: 0x40_0000,
+    };
+    assert_eq!(rt; run.ending, Ending::Trap(trap, 0x40_0000));
+    assert_eq!(rt; run.ending.status(), 132);
+    assert!(rt;
+        is_first(
+            run.errors.kept(),
+            "trap undefined 0x0000000000400000 at 0x0000000000400000 after 0 steps\n"
+        )
+    );
+    Ok(())
+}
+
+#[test]
+fn lines_and_images_are_refused_by_name(rt: HostRuntime) -> Result<(), Fail> {
+    let alloc = rt.alloc();
+    let mut short = file_of(alloc, &EXIT_SEVEN, None)?;
+    short.truncate(63);
+    let run = command_done(alloc, &RUN_TEN, short)?;
+    assert_eq!(rt; run.ending, Ending::ImageRefused(ElfFault::TooShort));
+    assert_eq!(rt; run.ending.status(), 122);
+    assert_eq!(rt; run.errors.kept(), b"refused image TooShort\n".as_slice());
+
+    let lines: [&[&str]; 6] = [
+        &[],
+        &["--help"],
+        &["run", "a.elf", "--vl", "192", "--budget", "1"],
+        &["run", "a.elf", "--vl", "128", "--budget", "01"],
+        &["run", "--x", "--vl", "128", "--budget", "1"],
+        &[
+            "run",
+            "a.elf",
+            "--vl",
+            "128",
+            "--budget",
+            "18446744073709551616",
+        ],
+    ];
+    for line in lines {
+        let run = command_done(alloc, line, file_of(alloc, &EXIT_SEVEN, None)?)?;
+        let fault = WordsFault {
+            why: WordsWhy::NotYet,
+            place: 0,
+        };
+        assert_eq!(rt; run.ending, Ending::WordsRefused(fault));
+        assert_eq!(rt; run.ending.status(), 121);
+        assert_eq!(rt;
+            run.errors.kept(),
+            b"refused words NotYet at 0\n".as_slice()
+        );
+    }
+    Ok(())
+}
+
+#[test]
+fn a_file_is_missing_or_too_long(rt: HostRuntime) -> Result<(), Fail> {
+    let alloc = rt.alloc();
+    let words = ["run", "b.elf", "--vl", "128", "--budget", "10"];
+    let run = command_done(alloc, &words, Vec::new(alloc))?;
+    assert_eq!(rt; run.ending, Ending::FileFault);
+    assert_eq!(rt; run.ending.status(), 126);
+    assert!(rt; run.errors.kept().is_empty());
+
+    let run = command_done(alloc, &RUN_TEN, vec![in alloc; 0; 67_108_865]?)?;
+    assert_eq!(rt; run.ending, Ending::TooLong(67_108_864));
+    assert_eq!(rt; run.ending.status(), 127);
+    assert_eq!(rt; run.errors.kept(), b"too long 67108864\n".as_slice());
+    Ok(())
+}
+
+#[test]
+fn files_and_sinks_that_fail_have_their_endings(rt: HostRuntime) -> Result<(), Fail> {
+    let alloc = rt.alloc();
+    let words = words_of(alloc, &RUN_TEN)?;
+    let file = file_of(alloc, &EXIT_SEVEN, None)?;
+    let mut files = MemImages::new(one_file(alloc, file)?, vec![in alloc; 0]?);
+    let mut input = MemSource::new(Vec::new(alloc), 1, Vec::new(alloc));
+    let mut output = MemSink::new(alloc, 1, Vec::new(alloc));
+    // accepts three bytes a call, and fails at its third
+    let mut errors = MemSink::new(alloc, 3, vec![in alloc; 2]?);
+    let ending = svemu(
+        alloc,
+        &words,
+        &mut files,
+        &mut input,
+        &mut output,
+        &mut errors,
+    );
+    assert_eq!(rt; ending, Ending::FileFault);
+    assert!(rt; errors.kept().is_empty());
+
+    let ending = svemu(
+        alloc,
+        &words,
+        &mut files,
+        &mut input,
+        &mut output,
+        &mut errors,
+    );
+    assert_eq!(rt; ending, Ending::ErrorsFault);
+    assert_eq!(rt; ending.status(), 125);
+    assert_eq!(rt; errors.kept(), b"exit 7".as_slice());
+    Ok(())
+}
+
+const RUN_TWENTY: [&str; 6] = ["run", "a.elf", "--vl", "128", "--budget", "20"];
+
+#[test]
+fn a_program_prints_hi(rt: HostRuntime) -> Result<(), Fail> {
+    let alloc = rt.alloc();
+    let run = command_done(alloc, &RUN_TWENTY, file_of(alloc, &WRITE_HI, Some(6))?)?;
+    assert_eq!(rt; run.ending, Ending::Exit(2));
+    assert_eq!(rt; run.output.kept(), b"hi".as_slice());
+    assert!(rt; is_first(run.errors.kept(), "exit 2 after 10 steps\n"));
+    Ok(())
+}
+
+#[test]
+fn a_store_to_read_only_data_traps(rt: HostRuntime) -> Result<(), Fail> {
+    let alloc = rt.alloc();
+    let run = command_done(alloc, &RUN_TWENTY, file_of(alloc, &WRITE_HI, Some(4))?)?;
+    assert_eq!(rt; run.ending.status(), 139);
+    assert!(rt; run.output.kept().is_empty());
+    assert!(rt;
+        is_first(
+            run.errors.kept(),
+            "trap write 0x0000000000401000 at 0x000000000040000c after 3 steps\n"
+        )
+    );
+    Ok(())
+}
+
+#[test]
+fn a_write_that_fails_half_way_leaves_what_went_out(rt: HostRuntime) -> Result<(), Fail> {
+    let alloc = rt.alloc();
+    let words = words_of(alloc, &RUN_TWENTY)?;
+    // six bytes in place of two: movz x2, #6
+    let mut program = WRITE_HI;
+    program[5] = 0xD280_00C2;
+    let file = file_of(alloc, &program, Some(6))?;
+    let mut files = NoFaultImages::new(one_file(alloc, file)?);
+    let mut input = NoFaultSource::new(Vec::new(alloc), 1);
+    // accepts four bytes a call, and fails at its second
+    let mut output = MemSink::new(alloc, 4, vec![in alloc; 1]?);
+    let mut errors = MemSink::new(alloc, 4096, Vec::new(alloc));
+    let ending = svemu(
+        alloc,
+        &words,
+        &mut files,
+        &mut input,
+        &mut output,
+        &mut errors,
+    );
+    assert_eq!(rt; ending, Ending::WriteFault);
+    assert_eq!(rt; ending.status(), 125);
+    assert_eq!(rt; output.kept(), b"hi\0\0".as_slice());
+    assert!(rt; errors.kept().is_empty());
+    Ok(())
+}
