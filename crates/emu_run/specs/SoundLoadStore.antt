@@ -1,0 +1,101 @@
+-- Loads and stores keep the registers and the memory sound.
+use Rattle.std.specs.Prelude.{ℕ, ◌%◌, ◌^◌, Bool, true, false, not, List, [], ◌∷◌, Option, Some, None, IfSome, nat_eq, if◌then◌else◌}
+use Rattle.std.proofs.Common.{arith}
+use Rattle.a64_insn.specs.declared.form.A64Form.{A64Form}
+use Rattle.a64_insn.specs.declared.form.A64Form.TheVariants.{LsPost, LsPre, Pair, StoreEx, LoadEx, Ordered}
+use Rattle.emu_bits.specs.Fields.{bit}
+use Rattle.emu_model.specs.declared.access.Kind.{Kind}
+use Rattle.emu_model.specs.declared.access.Kind.TheVariants.{Read as ReadKind, Write as WriteKind}
+use Rattle.emu_model.specs.declared.trap.TrapKind.TheVariants.{SpAlign, AccessAlign}
+use Rattle.emu_model.specs.Access.{Memory, refused, stored, value}
+use Rattle.emu_model.specs.Sound.{with_x_sound, with_x_sp_sound, monitor_sound, stored_sound, refused_is_word}
+use Rattle.emu_model.specs.State.{Core, read_x, read_x_sp, with_x, with_x_sp, IsWord, IsSoundCore, IsSoundMemory}
+use Rattle.emu_run.specs.Done.{Done, traps}
+use Rattle.emu_run.specs.Elements.{Element, Reach, reach_from, reach, with_stored}
+use Rattle.emu_run.specs.LoadStore.{Transfer, stores, loads, loads_signed, loads_signed_32, prefetches, transfer_of, near, pair_near, pair_bytes, writes_back, is_kept, elements, has_sp_base, is_misaligned, unless_multiple, misaligned, loaded_value, with_loaded, based, after_exclusive, behind, store_as_far, load_as_far, transferred, unless_misaligned, access}
+use Rattle.emu_run.specs.SoundDone.{IsSoundDone, traps_sound}
+use Rattle.emu_run.specs.SoundFlow.{read_x_sp_is_word}
+
+-- ---- how far the elements get
+
+stop_from : (o : Option ℕ) (e : Element) (rest : Reach) → IfSome o IsWord → IfSome rest.stop IsWord → IfSome (reach_from o e rest).stop IsWord
+stop_from (Some a) e rest here later = here
+stop_from None e rest here later = later
+
+stop_is_word : (m : Memory) (kind : Kind) (es : List Element) → IfSome (reach m kind es).stop IsWord
+stop_is_word m kind [] = tt
+stop_is_word m kind (e ∷ es) = stop_from (refused m e.address e.bytes kind) e (reach m kind es) (refused_is_word m e.address e.bytes kind) (stop_is_word m kind es)
+
+pub with_stored_sound : (v : Element → ℕ) (es : List Element) (m : Memory) → IsSoundMemory m → IsSoundMemory (with_stored v es m)
+with_stored_sound v [] m t = t
+with_stored_sound v (e ∷ es) m t = with_stored_sound v es (stored m e.address e.bytes (v e)) (stored_sound m e.address e.bytes (v e) t)
+
+with_loaded_sound : (transfer : Transfer) (m : Memory) (es : List Element) (c : Core) → IsSoundCore c → IsSoundCore (with_loaded transfer m es c)
+with_loaded_sound transfer m [] c s = s
+with_loaded_sound transfer m (e ∷ es) c s =
+    let v : ℕ = loaded_value transfer e.bytes (value m e.address e.bytes) in
+    with_loaded_sound transfer m es (with_x c e.register 64 v) (with_x_sound c e.register 64 v (omega arith) s)
+
+-- ---- what stands behind an access
+
+based_sound : (writes : Bool) (c : Core) (rn a : ℕ) → IsSoundCore c → IsSoundCore (based writes c rn a)
+based_sound writes c rn a s = elim writes as (λ b. IsSoundCore (if b then with_x_sp c rn 64 a else c)) [
+  | true ↦ with_x_sp_sound c rn 64 a (omega arith) s
+  | false ↦ s
+]
+
+behind_sound : (form : A64Form) (c d : Core) → IsSoundCore c → IsSoundCore d → IsSoundCore (behind form c d)
+behind_sound (LsPost size v opc imm9 rn rt) c d s u = with_x_sp_sound d rn 64 (near c rn imm9) (omega arith) u
+behind_sound (LsPre size v opc imm9 rn rt) c d s u = with_x_sp_sound d rn 64 (near c rn imm9) (omega arith) u
+behind_sound (Pair opc v mode l imm7 rt2 rn rt) c d s u = based_sound (writes_back mode) d rn (pair_near c rn (pair_bytes opc) imm7) u
+behind_sound (StoreEx op size rs rn rt) c d s u =
+    let v : ℕ = bit (not (is_kept c.monitor (read_x_sp c rn) (2 ^ size))) in
+    monitor_sound (with_x d rs 32 v) None tt (with_x_sound d rs 32 v (omega arith) u)
+behind_sound (LoadEx op size rn rt) c d s u = monitor_sound d (Some (read_x_sp c rn, 2 ^ size)) (read_x_sp_is_word c rn s) u
+behind_sound form c d s u = u
+
+-- ---- the rows
+
+module _ (form : A64Form) (c : Core) (m : Memory) (s : IsSoundCore c) (t : IsSoundMemory m) where
+  store_sound : (stop : Option ℕ) (es : List Element) → IfSome stop IsWord → IsSoundDone (store_as_far stop es form c m)
+  store_sound None es w = record { core = behind_sound form c c s s; memory = with_stored_sound (λ e. read_x c e.register) es m t; effect = tt }
+  store_sound (Some a) es w = record { core = s; memory = with_stored_sound (λ e. read_x c e.register) es m t; effect = w }
+
+  load_sound : (stop : Option ℕ) (es : List Element) → IfSome stop IsWord → IsSoundDone (load_as_far stop es form c m)
+  load_sound None es w = record { core = behind_sound form c (with_loaded (transfer_of form) m es c) s (with_loaded_sound (transfer_of form) m es c s); memory = t; effect = tt }
+  load_sound (Some a) es w = record { core = s; memory = t; effect = w }
+
+  stored_far : IsSoundDone (transferred stores form c m)
+  stored_far = store_sound (reach m WriteKind (elements form c)).stop (reach m WriteKind (elements form c)).done (stop_is_word m WriteKind (elements form c))
+
+  loaded_far : (r : Reach) → IfSome r.stop IsWord → IsSoundDone (load_as_far r.stop r.done form c m)
+  loaded_far r w = load_sound r.stop r.done w
+
+  transferred_sound : (transfer : Transfer) → IsSoundDone (transferred transfer form c m)
+  transferred_sound stores = stored_far
+  transferred_sound loads = loaded_far (reach m ReadKind (elements form c)) (stop_is_word m ReadKind (elements form c))
+  transferred_sound loads_signed = loaded_far (reach m ReadKind (elements form c)) (stop_is_word m ReadKind (elements form c))
+  transferred_sound loads_signed_32 = loaded_far (reach m ReadKind (elements form c)) (stop_is_word m ReadKind (elements form c))
+  transferred_sound prefetches = loaded_far (reach m ReadKind (elements form c)) (stop_is_word m ReadKind (elements form c))
+
+  unless_sound : (o : Option ℕ) → IfSome o IsWord → IsSoundDone (unless_misaligned o form c m)
+  unless_sound (Some a) w = traps_sound c m AccessAlign a s t w
+  unless_sound None w = transferred_sound (transfer_of form)
+
+  multiple_is_word : (a n : ℕ) → IsWord a → IfSome (unless_multiple a n) IsWord
+  multiple_is_word a n w = elim (nat_eq (a % n) 0) as (λ b. IfSome (if b then None else Some a) IsWord) [
+    | true ↦ tt
+    | false ↦ w
+  ]
+
+  misaligned_is_word : (f : A64Form) → IfSome (misaligned f c) IsWord
+  misaligned_is_word (StoreEx op size rs rn rt) = multiple_is_word (read_x_sp c rn) (2 ^ size) (read_x_sp_is_word c rn s)
+  misaligned_is_word (LoadEx op size rn rt) = multiple_is_word (read_x_sp c rn) (2 ^ size) (read_x_sp_is_word c rn s)
+  misaligned_is_word (Ordered op size rn rt) = multiple_is_word (read_x_sp c rn) (2 ^ size) (read_x_sp_is_word c rn s)
+  misaligned_is_word f = tt
+
+  pub access_sound : IsSoundDone (access form c m)
+  access_sound = elim (is_misaligned (has_sp_base form) c) as (λ b. IsSoundDone (if b then traps c m SpAlign c.sp else unless_misaligned (misaligned form c) form c m)) [
+    | true ↦ traps_sound c m SpAlign c.sp s t s.sp
+    | false ↦ unless_sound (misaligned form c) (misaligned_is_word form)
+  ]
