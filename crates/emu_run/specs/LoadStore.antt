@@ -11,6 +11,8 @@ use Rattle.emu_model.specs.declared.trap.TrapKind.TheVariants.{SpAlign, AccessAl
 use Rattle.emu_model.specs.declared.trap.Effect.TheVariants.{Next, Trap}
 use Rattle.emu_model.specs.Access.{Memory, address, value}
 use Rattle.emu_model.specs.State.{Core, read_x, read_x_sp, with_x, with_x_sp}
+use Rattle.emu_run.specs.declared.transfer.Transfer.{Transfer}
+use Rattle.emu_run.specs.declared.transfer.Transfer.TheVariants.{Store, Load, LoadSigned, LoadSigned32, Prefetch}
 use Rattle.emu_run.specs.Done.{Done, traps}
 use Rattle.emu_run.specs.Elements.{Element, Reach, reach, with_stored, accesses_of}
 use Rattle.emu_run.specs.Flow.{offset, target}
@@ -18,36 +20,31 @@ use Rattle.emu_run.specs.ScalarBits.{extended, sign_extended}
 
 -- ---- what is moved
 
--- A register is stored; or it is loaded with zeros above, or with copies of the top bit up to 64 or to 32 bits; a
--- prefetch moves nothing.
-pub data Transfer : Type 0 where
-  stores loads loads_signed loads_signed_32 prefetches : Transfer
-
--- by the fields size and opc
+-- by the fields size and opc: stores, loads with zeros above, loads with the sign to 64 bits (at size 3 a prefetch), and to 32 bits
 abbrev pub transfer : ℕ → ℕ → Transfer
 transfer size opc =
-    if nat_eq opc 0 then stores
-    else (if nat_eq opc 1 then loads
-    else (if nat_eq opc 3 then loads_signed_32
-    else (if nat_eq size 3 then prefetches else loads_signed)))
+    if nat_eq opc 0 then Store
+    else (if nat_eq opc 1 then Load
+    else (if nat_eq opc 3 then LoadSigned32
+    else (if nat_eq size 3 then Prefetch else LoadSigned)))
 
 -- of a literal by opc: ldr W, ldr X, ldrsw, prfm
 abbrev pub literal_transfer : ℕ → Transfer
-literal_transfer opc = if nat_eq opc 2 then loads_signed else (if nat_eq opc 3 then prefetches else loads)
+literal_transfer opc = if nat_eq opc 2 then LoadSigned else (if nat_eq opc 3 then Prefetch else Load)
 
 abbrev pub literal_bytes : ℕ → ℕ
 literal_bytes opc = if nat_eq opc 1 then 8 else 4
 
 -- of a pair by opc and L: W registers, ldpsw, X registers
 abbrev pub pair_transfer : ℕ → Bool → Transfer
-pair_transfer opc l = if l then (if nat_eq opc 1 then loads_signed else loads) else stores
+pair_transfer opc l = if l then (if nat_eq opc 1 then LoadSigned else Load) else Store
 
 abbrev pub pair_bytes : ℕ → ℕ
 pair_bytes opc = if nat_eq opc 2 then 8 else 4
 
 abbrev pub ordered_transfer : OrderedOp → Transfer
-ordered_transfer Stlr = stores
-ordered_transfer Ldar = loads
+ordered_transfer Stlr = Store
+ordered_transfer Ldar = Load
 
 abbrev pub transfer_of : A64Form → Transfer
 transfer_of (LsUnsigned size v opc imm12 rn rt) = transfer size opc
@@ -57,10 +54,10 @@ transfer_of (LsPre size v opc imm9 rn rt) = transfer size opc
 transfer_of (LsReg size v opc rm ext s rn rt) = transfer size opc
 transfer_of (LsLiteral opc v imm19 rt) = literal_transfer opc
 transfer_of (Pair opc v mode l imm7 rt2 rn rt) = pair_transfer opc l
-transfer_of (StoreEx op size rs rn rt) = stores
-transfer_of (LoadEx op size rn rt) = loads
+transfer_of (StoreEx op size rs rn rt) = Store
+transfer_of (LoadEx op size rn rt) = Load
 transfer_of (Ordered op size rn rt) = ordered_transfer op
-transfer_of form = prefetches
+transfer_of form = Prefetch
 
 -- ---- addresses
 
@@ -88,7 +85,7 @@ writes_back mode = nat_eq mode 1 || nat_eq mode 3
 
 -- one element, and none of a prefetch
 abbrev pub single : Transfer → ℕ → ℕ → ℕ → List Element
-single prefetches rt a n = []
+single Prefetch rt a n = []
 single t rt a n = record { lane = 0; register = rt; address = a; bytes = n } ∷ []
 
 -- the first register at an address, the second behind it
@@ -102,7 +99,7 @@ is_kept (Some k) a n = nat_eq k.0 a && nat_eq k.1 n
 
 -- an exclusive store whose monitor keeps another address or size has none
 abbrev pub exclusive : Core → ℕ → ℕ → ℕ → List Element
-exclusive c rt a n = if is_kept c.monitor a n then single stores rt a n else []
+exclusive c rt a n = if is_kept c.monitor a n then single Store rt a n else []
 
 abbrev pub elements : A64Form → Core → List Element
 elements (LsUnsigned size v opc imm12 rn rt) c = single (transfer size opc) rt (address (read_x_sp c rn + 2 ^ size * imm12)) (2 ^ size)
@@ -113,7 +110,7 @@ elements (LsReg size v opc rm ext s rn rt) c = single (transfer size opc) rt (in
 elements (LsLiteral opc v imm19 rt) c = single (literal_transfer opc) rt (target c 19 imm19) (literal_bytes opc)
 elements (Pair opc v mode l imm7 rt2 rn rt) c = couple rt rt2 (pair_address c mode rn (pair_bytes opc) imm7) (pair_bytes opc)
 elements (StoreEx op size rs rn rt) c = exclusive c rt (read_x_sp c rn) (2 ^ size)
-elements (LoadEx op size rn rt) c = single loads rt (read_x_sp c rn) (2 ^ size)
+elements (LoadEx op size rn rt) c = single Load rt (read_x_sp c rn) (2 ^ size)
 elements (Ordered op size rn rt) c = single (ordered_transfer op) rt (read_x_sp c rn) (2 ^ size)
 elements form c = []
 
@@ -121,7 +118,7 @@ elements form c = []
 
 -- the base is SP, which a prefetch doesn't test
 abbrev pub has_sp : Transfer → ℕ → Bool
-has_sp prefetches rn = false
+has_sp Prefetch rn = false
 has_sp t rn = nat_eq rn 31
 
 abbrev pub has_sp_base : A64Form → Bool
@@ -155,8 +152,8 @@ misaligned form c = None
 
 -- what a load of n bytes puts into its register
 abbrev pub loaded_value : Transfer → ℕ → ℕ → ℕ
-loaded_value loads_signed n v = sign_extended 64 (8 * n) v
-loaded_value loads_signed_32 n v = sign_extended 32 (8 * n) v
+loaded_value LoadSigned n v = sign_extended 64 (8 * n) v
+loaded_value LoadSigned32 n v = sign_extended 32 (8 * n) v
 loaded_value t n v = v
 
 -- the registers after elements were loaded in order
@@ -198,7 +195,7 @@ abbrev pub loaded_to : Reach → A64Form → Core → Memory → Done
 loaded_to r form c m = load_as_far r.stop r.done form c m
 
 abbrev pub transferred : Transfer → A64Form → Core → Memory → Done
-transferred stores form c m = stored_to (reach m WriteKind (elements form c)) form c m
+transferred Store form c m = stored_to (reach m WriteKind (elements form c)) form c m
 transferred t form c m = loaded_to (reach m ReadKind (elements form c)) form c m
 
 abbrev pub unless_misaligned : Option ℕ → A64Form → Core → Memory → Done

@@ -1,5 +1,5 @@
 -- What an instruction leaves is sound where its registers, its memory and the address of its effect are.
-use Rattle.std.specs.Prelude.{ℕ, Unit}
+use Rattle.std.specs.Prelude.{ℕ}
 use Rattle.emu_model.specs.declared.trap.TrapKind.{TrapKind}
 use Rattle.emu_model.specs.declared.trap.Effect.{Effect}
 use Rattle.emu_model.specs.declared.trap.Effect.TheVariants.{Next, Branch, Call, Trap}

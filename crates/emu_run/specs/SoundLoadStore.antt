@@ -12,7 +12,9 @@ use Rattle.emu_model.specs.Sound.{with_x_sound, with_x_sp_sound, monitor_sound, 
 use Rattle.emu_model.specs.State.{Core, read_x, read_x_sp, with_x, with_x_sp, IsWord, IsSoundCore, IsSoundMemory}
 use Rattle.emu_run.specs.Done.{Done, traps}
 use Rattle.emu_run.specs.Elements.{Element, Reach, reach_from, reach, with_stored}
-use Rattle.emu_run.specs.LoadStore.{Transfer, stores, loads, loads_signed, loads_signed_32, prefetches, transfer_of, near, pair_near, pair_bytes, writes_back, is_kept, elements, has_sp_base, is_misaligned, unless_multiple, misaligned, loaded_value, with_loaded, based, after_exclusive, behind, store_as_far, load_as_far, transferred, unless_misaligned, access}
+use Rattle.emu_run.specs.declared.transfer.Transfer.{Transfer}
+use Rattle.emu_run.specs.declared.transfer.Transfer.TheVariants.{Store, Load, LoadSigned, LoadSigned32, Prefetch}
+use Rattle.emu_run.specs.LoadStore.{transfer_of, near, pair_near, pair_bytes, writes_back, is_kept, elements, has_sp_base, is_misaligned, unless_multiple, misaligned, loaded_value, with_loaded, based, after_exclusive, behind, store_as_far, load_as_far, transferred, unless_misaligned, access}
 use Rattle.emu_run.specs.SoundDone.{IsSoundDone, traps_sound}
 use Rattle.emu_run.specs.SoundFlow.{read_x_sp_is_word}
 
@@ -65,18 +67,18 @@ module _ (form : A64Form) (c : Core) (m : Memory) (s : IsSoundCore c) (t : IsSou
   load_sound None es w = record { core = behind_sound form c (with_loaded (transfer_of form) m es c) s (with_loaded_sound (transfer_of form) m es c s); memory = t; effect = tt }
   load_sound (Some a) es w = record { core = s; memory = t; effect = w }
 
-  stored_far : IsSoundDone (transferred stores form c m)
+  stored_far : IsSoundDone (transferred Store form c m)
   stored_far = store_sound (reach m WriteKind (elements form c)).stop (reach m WriteKind (elements form c)).done (stop_is_word m WriteKind (elements form c))
 
   loaded_far : (r : Reach) → IfSome r.stop IsWord → IsSoundDone (load_as_far r.stop r.done form c m)
   loaded_far r w = load_sound r.stop r.done w
 
   transferred_sound : (transfer : Transfer) → IsSoundDone (transferred transfer form c m)
-  transferred_sound stores = stored_far
-  transferred_sound loads = loaded_far (reach m ReadKind (elements form c)) (stop_is_word m ReadKind (elements form c))
-  transferred_sound loads_signed = loaded_far (reach m ReadKind (elements form c)) (stop_is_word m ReadKind (elements form c))
-  transferred_sound loads_signed_32 = loaded_far (reach m ReadKind (elements form c)) (stop_is_word m ReadKind (elements form c))
-  transferred_sound prefetches = loaded_far (reach m ReadKind (elements form c)) (stop_is_word m ReadKind (elements form c))
+  transferred_sound Store = stored_far
+  transferred_sound Load = loaded_far (reach m ReadKind (elements form c)) (stop_is_word m ReadKind (elements form c))
+  transferred_sound LoadSigned = loaded_far (reach m ReadKind (elements form c)) (stop_is_word m ReadKind (elements form c))
+  transferred_sound LoadSigned32 = loaded_far (reach m ReadKind (elements form c)) (stop_is_word m ReadKind (elements form c))
+  transferred_sound Prefetch = loaded_far (reach m ReadKind (elements form c)) (stop_is_word m ReadKind (elements form c))
 
   unless_sound : (o : Option ℕ) → IfSome o IsWord → IsSoundDone (unless_misaligned o form c m)
   unless_sound (Some a) w = traps_sound c m AccessAlign a s t w
