@@ -1,0 +1,86 @@
+//! Runs whole programs that a compiler made: writes what they write, and then how they ended.
+//!
+//! A line of standard input has the name of a file, a vector length in bits and a greatest number of steps, with a space
+//! between them.
+#![tactic(auto)]
+
+use elf_image::read;
+use emu_machine::{Machine, RunEnd};
+use emu_model::Length;
+use io_gate::{FileImages, Images, NoFaultSource, Sink, StdSink};
+use std::alloc::Global;
+use std::io;
+
+/// Files are read up to so many bytes.
+const FILE_LIMIT: usize = 67_108_864;
+
+/// So many pages of the guest may be mapped.
+const PAGES: u32 = 16_384;
+
+/// A program to run.
+#[derive(Clone, Copy)]
+struct Run<'a> {
+    file: &'a str,
+    length: Length,
+    budget: u64,
+}
+
+/// What a line asks for. None where it isn't of that form.
+fn run_of(line: &str) -> Option<Run<'_>> {
+    let mut words = line.split(' ');
+    let file = words.next()?;
+    let length = Length::of_bits(words.next()?.parse::<u32>().ok()?)?;
+    let budget = words.next()?.parse::<u64>().ok()?;
+    Some(Run {
+        file,
+        length,
+        budget,
+    })
+}
+
+/// How the program of a file's bytes ended, and the steps that it counted. None where the bytes are no image that can be run,
+/// or memory was wanting.
+fn run_program<O: Sink, E: Sink>(
+    alloc: Global,
+    bytes: &[u8],
+    length: Length,
+    budget: u64,
+    output: &mut O,
+    errors: &mut E,
+) -> Option<(RunEnd, u64)> {
+    let image = read(bytes, PAGES).ok()?;
+    let no_args: [String; 0] = [];
+    let mut machine = Machine::open(alloc, bytes, &image, &no_args, length, PAGES).ok()?;
+    let mut input = NoFaultSource::new(Vec::new(alloc), 1);
+    let end = machine.run(budget, &mut input, output, errors);
+    Some((end, machine.steps()))
+}
+
+fn main(rt: HostRuntime) -> io::Result<()> {
+    let mut files = FileImages::new(&rt);
+    for line in rt.lines(rt.alloc()) {
+        let line = line?;
+        let Some(run) = run_of(line.as_str()) else {
+            println!(rt; "no run: {line}")?;
+            continue;
+        };
+        let Ok(bytes) = files.read_whole(rt.alloc(), run.file, FILE_LIMIT) else {
+            println!(rt; "no file: {line}")?;
+            continue;
+        };
+        let mut output = StdSink::new(rt.stdout());
+        let mut errors = StdSink::new(rt.stderr());
+        let ended = run_program(rt.alloc(), &bytes, run.length, run.budget, &mut output, &mut errors);
+        match ended {
+            Some((RunEnd::Exit(code), steps)) => {
+                println!(rt; "{line}: exit {code} after {steps} steps")?;
+            }
+            Some((RunEnd::Trap(trap), steps)) => {
+                println!(rt; "{line}: {trap:?} after {steps} steps")?;
+            }
+            Some((RunEnd::Spent, steps)) => println!(rt; "{line}: spent after {steps} steps")?,
+            _ => println!(rt; "{line}: not run")?,
+        }
+    }
+    Ok(())
+}
