@@ -2,6 +2,7 @@
 use arrayvec::ArrayVec;
 use core_regs::{Core, Trap, TrapKind};
 use emu_bits::{Flags, Reg};
+use guest_mem::Mem;
 use guest_pages::{Pages, Rights};
 use std::alloc::Global;
 
@@ -14,7 +15,7 @@ const PAGE_NUMBERS: u64 = 1 << 35;
 #[derive(Drop)]
 pub struct State {
     pub core: Core,
-    pub pages: Pages,
+    pub memory: Mem,
     /// The numbers of the mapped pages.
     mapped: ArrayVec<u64, MOST_PAGES>,
     /// The trap of the step, after one that trapped.
@@ -27,7 +28,7 @@ impl State {
     pub fn read(alloc: Global, word: u32, items: &str) -> Option<State> {
         let mut state = State {
             core: Core::new(),
-            pages: Pages::new(alloc, MOST_PAGES as u32).ok()?,
+            memory: Mem::new(Pages::new(alloc, MOST_PAGES as u32).ok()?),
             mapped: ArrayVec::new(),
             trap: None,
         };
@@ -105,7 +106,10 @@ impl State {
         if page == 0 || page >= PAGE_NUMBERS {
             return None;
         }
-        self.pages.map(page, 1, rights_of(rights)?).ok()?;
+        self.memory
+            .pages_mut()
+            .map(page, 1, rights_of(rights)?)
+            .ok()?;
         self.mapped.try_push(page).ok()
     }
 
@@ -124,8 +128,10 @@ impl State {
     /// Puts a byte of a page, whatever the page's rights are.
     fn put_byte(&mut self, address: u64, byte: u8) -> Option<()> {
         let page = address / 4096;
-        self.pages.find(page)?;
-        self.pages.write(page, (address % 4096) as usize, &[byte]);
+        self.memory.pages().find(page)?;
+        self.memory
+            .pages_mut()
+            .write(page, (address % 4096) as usize, &[byte]);
         Some(())
     }
 
@@ -134,11 +140,16 @@ impl State {
     pub fn is_same(&self, other: &State) -> bool {
         self.trap == other.trap
             && are_same(&self.core, &other.core)
-            && self.pages.mapped() == other.pages.mapped()
+            && self.mapped == other.mapped
             && self
                 .mapped
                 .iter()
-                .all(|page| self.pages.find(*page) == other.pages.find(*page))
+                .all(|page| self.has_page_of(other, *page))
+    }
+
+    /// Whether a page has the rights and the bytes that it has in the other state.
+    fn has_page_of(&self, other: &State, page: u64) -> bool {
+        self.memory.pages().find(page) == other.memory.pages().find(page)
     }
 }
 
