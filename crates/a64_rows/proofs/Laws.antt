@@ -1,5 +1,5 @@
 -- What is computed over the table, and the laws.
-use Rattle.std.proofs.Common.{◌≡◌, ℕ, true, refl, Option, Some, None, IfSome, ◌<◌, ◌^◌, ◌∙◌, ap, sym}
+use Rattle.std.proofs.Common.{◌≡◌, ℕ, true, refl, Option, Some, None, IfSome, ◌<◌, ◌^◌, ◌∙◌, ap, sym, arith}
 use Rattle.emu_bits.specs.Rows.{decode, encode, formed, instruction, line_at, IsShape, OneRow}
 use Rattle.emu_bits.proofs.Computed.{are_sound, are_alone}
 use Rattle.emu_bits.proofs.Encoding.{Alone, alone_of, decode_encoded, encode_decoded, one_row_of}

@@ -3,10 +3,10 @@
 ghost use Rattle.std.specs.Prelude.{◌≡◌, [], ◌∷◌};
 ghost use Rattle.emu_bits.specs.Rows.{decode};
 ghost use Rattle.a64_insn.specs.Table.{a64_table};
-ghost use Rattle.a64_insn.specs.Data.{adr, add_imm, logic_imm, move_wide, bitfield, extract, logic_reg, add_reg, add_ext, add_carry, cond_reg, cond_imm, select, mul_add, mul_long, mul_high, two_source, one_source, rev};
-ghost use Rattle.a64_insn.specs.Flow.{branch, branch_cond, compare, test, branch_reg, except, hint, barrier, read_sys, write_sys};
-ghost use Rattle.a64_insn.specs.Memory.{ls_unsigned, ls_unscaled, ls_post, ls_pre, ls_reg, ls_literal, pair, store_ex, load_ex, ordered};
-ghost use Rattle.a64_insn.specs.BitMoves.{f_move, move_imm};
+ghost use Rattle.a64_insn.specs.Data.{logic_imm, move_wide, bitfield, extract, add_reg, add_ext, cond_reg, cond_imm, mul_add, mul_long, mul_high, two_source, one_source, rev};
+ghost use Rattle.a64_insn.specs.Flow.{branch_cond, compare, test, except, hint, barrier, read_sys, write_sys};
+ghost use Rattle.a64_insn.specs.Memory.{ls_unscaled, ls_post, ls_pre, ls_reg, ls_literal, pair, store_ex, load_ex, ordered};
+ghost use Rattle.a64_rows.specs.Left.{lines_01, lines_01_1, lines_10, immediates, branches, branches_10, lines_11, lines_11_10};
 ghost use Rattle.a64_rows.specs.Seen.{seen};
 
 use crate::bit_moves::{f_move, move_imm};
@@ -37,7 +37,7 @@ pub fn find(w: u32) -> Option<A64>
 
 /// Registers with a shift or an extension, pairs, exclusive accesses and the move of a vector immediate, by bit 25.
 fn words_01(w: u32) -> Option<A64>
-    ensures { seen result ≡ decode (logic_reg ∷ add_reg ∷ add_ext ∷ pair ∷ store_ex ∷ load_ex ∷ ordered ∷ move_imm ∷ []) w }
+    ensures { seen result ≡ decode lines_01 w }
 {
     match bits(w, 25, 25) {
         0b0 => words_of_pairs_and_exclusives(w),
@@ -62,7 +62,7 @@ fn words_of_pairs_and_exclusives(w: u32) -> Option<A64>
 
 /// Registers with a shift or an extension, and the move of a vector immediate, by bits 26 to 24.
 fn words_01_1(w: u32) -> Option<A64>
-    ensures { seen result ≡ decode (logic_reg ∷ add_reg ∷ add_ext ∷ move_imm ∷ []) w }
+    ensures { seen result ≡ decode lines_01_1 w }
 {
     match bits(w, 26, 24) {
         0b010 => logic_reg(w),
@@ -83,7 +83,7 @@ fn words_of_register_sums(w: u32) -> Option<A64>
 
 /// Immediates and branches, by bit 26.
 fn words_10(w: u32) -> Option<A64>
-    ensures { seen result ≡ decode (adr ∷ add_imm ∷ logic_imm ∷ move_wide ∷ bitfield ∷ extract ∷ branch ∷ branch_cond ∷ compare ∷ test ∷ branch_reg ∷ except ∷ hint ∷ barrier ∷ read_sys ∷ write_sys ∷ []) w }
+    ensures { seen result ≡ decode lines_10 w }
 {
     match bits(w, 26, 26) {
         0b0 => words_of_immediates(w),
@@ -93,7 +93,7 @@ fn words_10(w: u32) -> Option<A64>
 
 /// By bits 25 to 24.
 fn words_of_immediates(w: u32) -> Option<A64>
-    ensures { seen result ≡ decode (adr ∷ add_imm ∷ logic_imm ∷ move_wide ∷ bitfield ∷ extract ∷ []) w }
+    ensures { seen result ≡ decode immediates w }
 {
     match bits(w, 25, 24) {
         0b00 => adr(w),
@@ -123,7 +123,7 @@ fn words_of_bitfields(w: u32) -> Option<A64>
 
 /// Branches, exceptions and system, by bits 30 to 29.
 fn words_of_branches(w: u32) -> Option<A64>
-    ensures { seen result ≡ decode (branch ∷ branch_cond ∷ compare ∷ test ∷ branch_reg ∷ except ∷ hint ∷ barrier ∷ read_sys ∷ write_sys ∷ []) w }
+    ensures { seen result ≡ decode branches w }
 {
     match bits(w, 30, 29) {
         0b00 => branch(w),
@@ -144,7 +144,7 @@ fn words_of_compares(w: u32) -> Option<A64>
 
 /// Branches on a condition or to a register, exceptions and system, by bits 25 to 24.
 fn words_of_branches_10(w: u32) -> Option<A64>
-    ensures { seen result ≡ decode (branch_cond ∷ branch_reg ∷ except ∷ hint ∷ barrier ∷ read_sys ∷ write_sys ∷ []) w }
+    ensures { seen result ≡ decode branches_10 w }
 {
     match bits(w, 25, 24) {
         0b00 => words_of_exceptions(w),
@@ -180,7 +180,7 @@ fn words_of_system(w: u32) -> Option<A64>
 
 /// Single accesses and the other registers, by bits 25 to 24.
 fn words_11(w: u32) -> Option<A64>
-    ensures { seen result ≡ decode (add_carry ∷ cond_reg ∷ cond_imm ∷ select ∷ mul_add ∷ mul_long ∷ mul_high ∷ two_source ∷ one_source ∷ rev ∷ ls_unsigned ∷ ls_unscaled ∷ ls_post ∷ ls_pre ∷ ls_reg ∷ ls_literal ∷ f_move ∷ []) w }
+    ensures { seen result ≡ decode lines_11 w }
 {
     match bits(w, 25, 24) {
         0b00 => words_of_accesses(w),
@@ -210,7 +210,7 @@ fn words_of_accesses(w: u32) -> Option<A64>
 
 /// Carries, conditions, one and two sources, and moves between register files, by bits 23 to 21.
 fn words_11_10(w: u32) -> Option<A64>
-    ensures { seen result ≡ decode (add_carry ∷ cond_reg ∷ cond_imm ∷ select ∷ two_source ∷ one_source ∷ rev ∷ f_move ∷ []) w }
+    ensures { seen result ≡ decode lines_11_10 w }
 {
     match bits(w, 23, 21) {
         0b000 => add_carry(w),
