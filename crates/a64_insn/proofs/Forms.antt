@@ -3,12 +3,13 @@ use Rattle.std.proofs.Common.{◌≡◌, Bool, true, false, refl, ap, ◌∙◌,
 use Rattle.emu_bits.specs.Fields.{bit}
 use Rattle.emu_bits.specs.Rows.{meets, form_of}
 use Rattle.a64_insn.specs.declared.form.A64Form.{A64Form}
-use Rattle.a64_insn.specs.declared.form.A64Form.TheVariants.{Adr, AddImm, LogicImm, MoveWide, Bitfield, Extract, LogicReg, AddReg, AddExt, AddCarry, CondReg, CondImm, Select, MulAdd, MulLong, MulHigh, TwoSource, OneSource, Rev, Except, LsUnsigned}
+use Rattle.a64_insn.specs.declared.form.A64Form.TheVariants.{Adr, AddImm, LogicImm, MoveWide, Bitfield, Extract, LogicReg, AddReg, AddExt, AddCarry, CondReg, CondImm, Select, MulAdd, MulLong, MulHigh, TwoSource, OneSource, Rev, Branch, BranchCond, Compare, Test, BranchReg, Except, Hint, Barrier, ReadSys, WriteSys, LsUnsigned, LsUnscaled, LsPost, LsPre, LsReg, LsLiteral, Pair, StoreEx, LoadEx, Ordered, FMove, MoveImm}
 use Rattle.a64_insn.specs.Table.{row_of, meets_form}
-use Rattle.a64_insn.specs.Names.{add_carry_named, add_carry_number, add_named, add_number, adr_named, adr_number, bitfield_named, bitfield_number, cond_compare_named, cond_compare_number, except_named, except_number, logic_imm_named, logic_imm_number, logic_reg_named, logic_reg_number, move_wide_named, move_wide_number, mul_add_named, mul_add_number, mul_high_named, mul_high_number, mul_long_named, mul_long_number, one_source_named, one_source_number, rev_named, rev_number, select_named, select_number, two_source_named, two_source_number}
+use Rattle.a64_insn.specs.Names.{add_carry_named, add_carry_number, add_named, add_number, adr_named, adr_number, barrier_named, barrier_number, bitfield_named, bitfield_number, branch_named, branch_number, branch_reg_named, branch_reg_number, compare_named, compare_number, cond_compare_named, cond_compare_number, except_named, except_number, f_move_named, f_move_number, load_ex_named, load_ex_number, logic_imm_named, logic_imm_number, logic_reg_named, logic_reg_number, move_wide_named, move_wide_number, mul_add_named, mul_add_number, mul_high_named, mul_high_number, mul_long_named, mul_long_number, one_source_named, one_source_number, ordered_named, ordered_number, read_sys_named, read_sys_number, rev_named, rev_number, select_named, select_number, store_ex_named, store_ex_number, test_named, test_number, two_source_named, two_source_number, write_sys_named, write_sys_number}
 use Rattle.a64_insn.specs.Data.{adr, add_imm, logic_imm, move_wide, bitfield, extract, logic_reg, add_reg, add_ext, add_carry, cond_reg, cond_imm, select, mul_add, mul_long, mul_high, two_source, one_source, rev}
-use Rattle.a64_insn.specs.Flow.{except}
-use Rattle.a64_insn.specs.Memory.{ls_unsigned}
+use Rattle.a64_insn.specs.Flow.{branch, branch_cond, compare, test, branch_reg, except, hint, barrier, read_sys, write_sys}
+use Rattle.a64_insn.specs.Memory.{ls_unsigned, ls_unscaled, ls_post, ls_pre, ls_reg, ls_literal, pair, store_ex, load_ex, ordered}
+use Rattle.a64_insn.specs.BitMoves.{f_move, move_imm}
 use Rattle.a64_insn.specs.declared.ops.AdrOp.{AdrOp}
 use Rattle.a64_insn.specs.declared.ops.AdrOp.TheVariants as adr_names
 use Rattle.a64_insn.specs.declared.ops.AddOp.{AddOp}
@@ -39,11 +40,33 @@ use Rattle.a64_insn.specs.declared.ops.OneSourceOp.{OneSourceOp}
 use Rattle.a64_insn.specs.declared.ops.OneSourceOp.TheVariants as one_source_names
 use Rattle.a64_insn.specs.declared.ops.RevOp.{RevOp}
 use Rattle.a64_insn.specs.declared.ops.RevOp.TheVariants as rev_names
+use Rattle.a64_insn.specs.declared.ops.BranchOp.{BranchOp}
+use Rattle.a64_insn.specs.declared.ops.BranchOp.TheVariants as branch_names
+use Rattle.a64_insn.specs.declared.ops.CompareOp.{CompareOp}
+use Rattle.a64_insn.specs.declared.ops.CompareOp.TheVariants as compare_names
+use Rattle.a64_insn.specs.declared.ops.TestOp.{TestOp}
+use Rattle.a64_insn.specs.declared.ops.TestOp.TheVariants as test_names
+use Rattle.a64_insn.specs.declared.ops.BranchRegOp.{BranchRegOp}
+use Rattle.a64_insn.specs.declared.ops.BranchRegOp.TheVariants as branch_reg_names
 use Rattle.a64_insn.specs.declared.ops.ExceptOp.{ExceptOp}
 use Rattle.a64_insn.specs.declared.ops.ExceptOp.TheVariants as except_names
+use Rattle.a64_insn.specs.declared.ops.BarrierOp.{BarrierOp}
+use Rattle.a64_insn.specs.declared.ops.BarrierOp.TheVariants as barrier_names
+use Rattle.a64_insn.specs.declared.ops.ReadSysOp.{ReadSysOp}
+use Rattle.a64_insn.specs.declared.ops.ReadSysOp.TheVariants as read_sys_names
+use Rattle.a64_insn.specs.declared.ops.WriteSysOp.{WriteSysOp}
+use Rattle.a64_insn.specs.declared.ops.WriteSysOp.TheVariants as write_sys_names
+use Rattle.a64_insn.specs.declared.ops.StoreExOp.{StoreExOp}
+use Rattle.a64_insn.specs.declared.ops.StoreExOp.TheVariants as store_ex_names
+use Rattle.a64_insn.specs.declared.ops.LoadExOp.{LoadExOp}
+use Rattle.a64_insn.specs.declared.ops.LoadExOp.TheVariants as load_ex_names
+use Rattle.a64_insn.specs.declared.ops.OrderedOp.{OrderedOp}
+use Rattle.a64_insn.specs.declared.ops.OrderedOp.TheVariants as ordered_names
+use Rattle.a64_insn.specs.declared.ops.FMoveOp.{FMoveOp}
+use Rattle.a64_insn.specs.declared.ops.FMoveOp.TheVariants as f_move_names
 
 pub same_condition : (f : A64Form) → meets (row_of f) ≡ meets_form f
-unfolding adr add_imm logic_imm move_wide bitfield extract logic_reg add_reg add_ext add_carry cond_reg cond_imm select mul_add mul_long mul_high two_source one_source rev except ls_unsigned
+unfolding adr add_imm logic_imm move_wide bitfield extract logic_reg add_reg add_ext add_carry cond_reg cond_imm select mul_add mul_long mul_high two_source one_source rev branch branch_cond compare test branch_reg except hint barrier read_sys write_sys ls_unsigned ls_unscaled ls_post ls_pre ls_reg ls_literal pair store_ex load_ex ordered f_move move_imm
 same_condition (Adr op immlo immhi rd) = refl
 same_condition (AddImm op sf sh imm12 rn rd) = refl
 same_condition (LogicImm op sf n immr imms rn rd) = refl
@@ -63,8 +86,28 @@ same_condition (MulHigh op rm rn rd) = refl
 same_condition (TwoSource op sf rm rn rd) = refl
 same_condition (OneSource op sf rn rd) = refl
 same_condition (Rev op rn rd) = refl
+same_condition (Branch op imm26) = refl
+same_condition (BranchCond imm19 cond) = refl
+same_condition (Compare op sf imm19 rt) = refl
+same_condition (Test op b5 b40 imm14 rt) = refl
+same_condition (BranchReg op rn) = refl
 same_condition (Except op imm16) = refl
+same_condition (Hint n) = refl
+same_condition (Barrier op n) = refl
+same_condition (ReadSys op rt) = refl
+same_condition (WriteSys op rt) = refl
 same_condition (LsUnsigned size v opc imm12 rn rt) = refl
+same_condition (LsUnscaled size v opc imm9 rn rt) = refl
+same_condition (LsPost size v opc imm9 rn rt) = refl
+same_condition (LsPre size v opc imm9 rn rt) = refl
+same_condition (LsReg size v opc rm ext s rn rt) = refl
+same_condition (LsLiteral opc v imm19 rt) = refl
+same_condition (Pair opc v mode l imm7 rt2 rn rt) = refl
+same_condition (StoreEx op size rs rn rt) = refl
+same_condition (LoadEx op size rn rt) = refl
+same_condition (Ordered op size rn rt) = refl
+same_condition (FMove op rn rd) = refl
+same_condition (MoveImm q op abc cmode defgh rd) = refl
 
 flag_again : (b : Bool) → (bit b == 1) ≡ b
 flag_again false = refl
@@ -155,13 +198,63 @@ rev_named_again rev_names.RevW = refl
 rev_named_again rev_names.RevX = refl
 rev_named_again rev_names.Rev32 = refl
 
+branch_named_again : (op : BranchOp) → branch_named (branch_number op) ≡ op
+branch_named_again branch_names.B = refl
+branch_named_again branch_names.Bl = refl
+
+compare_named_again : (op : CompareOp) → compare_named (compare_number op) ≡ op
+compare_named_again compare_names.Cbz = refl
+compare_named_again compare_names.Cbnz = refl
+
+test_named_again : (op : TestOp) → test_named (test_number op) ≡ op
+test_named_again test_names.Tbz = refl
+test_named_again test_names.Tbnz = refl
+
+branch_reg_named_again : (op : BranchRegOp) → branch_reg_named (branch_reg_number op) ≡ op
+branch_reg_named_again branch_reg_names.Br = refl
+branch_reg_named_again branch_reg_names.Blr = refl
+branch_reg_named_again branch_reg_names.Ret = refl
+
 except_named_again : (op : ExceptOp) → except_named (except_number op) ≡ op
 except_named_again except_names.Svc = refl
 except_named_again except_names.Brk = refl
 except_named_again except_names.Hlt = refl
 
+barrier_named_again : (op : BarrierOp) → barrier_named (barrier_number op) ≡ op
+barrier_named_again barrier_names.Clrex = refl
+barrier_named_again barrier_names.Dsb = refl
+barrier_named_again barrier_names.Dmb = refl
+barrier_named_again barrier_names.Isb = refl
+
+read_sys_named_again : (op : ReadSysOp) → read_sys_named (read_sys_number op) ≡ op
+read_sys_named_again read_sys_names.Tpidr = refl
+read_sys_named_again read_sys_names.Nzcv = refl
+read_sys_named_again read_sys_names.Dczid = refl
+
+write_sys_named_again : (op : WriteSysOp) → write_sys_named (write_sys_number op) ≡ op
+write_sys_named_again write_sys_names.Tpidr = refl
+write_sys_named_again write_sys_names.Nzcv = refl
+
+store_ex_named_again : (op : StoreExOp) → store_ex_named (store_ex_number op) ≡ op
+store_ex_named_again store_ex_names.Stxr = refl
+store_ex_named_again store_ex_names.Stlxr = refl
+
+load_ex_named_again : (op : LoadExOp) → load_ex_named (load_ex_number op) ≡ op
+load_ex_named_again load_ex_names.Ldxr = refl
+load_ex_named_again load_ex_names.Ldaxr = refl
+
+ordered_named_again : (op : OrderedOp) → ordered_named (ordered_number op) ≡ op
+ordered_named_again ordered_names.Stlr = refl
+ordered_named_again ordered_names.Ldar = refl
+
+f_move_named_again : (op : FMoveOp) → f_move_named (f_move_number op) ≡ op
+f_move_named_again f_move_names.WdSn = refl
+f_move_named_again f_move_names.SdWn = refl
+f_move_named_again f_move_names.XdDn = refl
+f_move_named_again f_move_names.DdXn = refl
+
 pub form_again : (f : A64Form) → form_of (row_of f) ≡ f
-unfolding adr add_imm logic_imm move_wide bitfield extract logic_reg add_reg add_ext add_carry cond_reg cond_imm select mul_add mul_long mul_high two_source one_source rev except ls_unsigned
+unfolding adr add_imm logic_imm move_wide bitfield extract logic_reg add_reg add_ext add_carry cond_reg cond_imm select mul_add mul_long mul_high two_source one_source rev branch branch_cond compare test branch_reg except hint barrier read_sys write_sys ls_unsigned ls_unscaled ls_post ls_pre ls_reg ls_literal pair store_ex load_ex ordered f_move move_imm
 form_again (Adr op immlo immhi rd) = ap (λ (y : AdrOp). Adr y immlo immhi rd) (adr_named_again op)
 form_again (AddImm op sf sh imm12 rn rd) = ap (λ (y : AddOp). AddImm y (bit sf == 1) (bit sh == 1) imm12 rn rd) (add_named_again op) ∙ ap (λ (y : Bool). AddImm op y (bit sh == 1) imm12 rn rd) (flag_again sf) ∙ ap (λ (y : Bool). AddImm op sf y imm12 rn rd) (flag_again sh)
 form_again (LogicImm op sf n immr imms rn rd) = ap (λ (y : LogicImmOp). LogicImm y (bit sf == 1) (bit n == 1) immr imms rn rd) (logic_imm_named_again op) ∙ ap (λ (y : Bool). LogicImm op y (bit n == 1) immr imms rn rd) (flag_again sf) ∙ ap (λ (y : Bool). LogicImm op sf y immr imms rn rd) (flag_again n)
@@ -181,5 +274,25 @@ form_again (MulHigh op rm rn rd) = ap (λ (y : MulHighOp). MulHigh y rm rn rd) (
 form_again (TwoSource op sf rm rn rd) = ap (λ (y : TwoSourceOp). TwoSource y (bit sf == 1) rm rn rd) (two_source_named_again op) ∙ ap (λ (y : Bool). TwoSource op y rm rn rd) (flag_again sf)
 form_again (OneSource op sf rn rd) = ap (λ (y : OneSourceOp). OneSource y (bit sf == 1) rn rd) (one_source_named_again op) ∙ ap (λ (y : Bool). OneSource op y rn rd) (flag_again sf)
 form_again (Rev op rn rd) = ap (λ (y : RevOp). Rev y rn rd) (rev_named_again op)
+form_again (Branch op imm26) = ap (λ (y : BranchOp). Branch y imm26) (branch_named_again op)
+form_again (BranchCond imm19 cond) = refl
+form_again (Compare op sf imm19 rt) = ap (λ (y : CompareOp). Compare y (bit sf == 1) imm19 rt) (compare_named_again op) ∙ ap (λ (y : Bool). Compare op y imm19 rt) (flag_again sf)
+form_again (Test op b5 b40 imm14 rt) = ap (λ (y : TestOp). Test y (bit b5 == 1) b40 imm14 rt) (test_named_again op) ∙ ap (λ (y : Bool). Test op y b40 imm14 rt) (flag_again b5)
+form_again (BranchReg op rn) = ap (λ (y : BranchRegOp). BranchReg y rn) (branch_reg_named_again op)
 form_again (Except op imm16) = ap (λ (y : ExceptOp). Except y imm16) (except_named_again op)
+form_again (Hint n) = refl
+form_again (Barrier op n) = ap (λ (y : BarrierOp). Barrier y n) (barrier_named_again op)
+form_again (ReadSys op rt) = ap (λ (y : ReadSysOp). ReadSys y rt) (read_sys_named_again op)
+form_again (WriteSys op rt) = ap (λ (y : WriteSysOp). WriteSys y rt) (write_sys_named_again op)
 form_again (LsUnsigned size v opc imm12 rn rt) = ap (λ (y : Bool). LsUnsigned size y opc imm12 rn rt) (flag_again v)
+form_again (LsUnscaled size v opc imm9 rn rt) = ap (λ (y : Bool). LsUnscaled size y opc imm9 rn rt) (flag_again v)
+form_again (LsPost size v opc imm9 rn rt) = ap (λ (y : Bool). LsPost size y opc imm9 rn rt) (flag_again v)
+form_again (LsPre size v opc imm9 rn rt) = ap (λ (y : Bool). LsPre size y opc imm9 rn rt) (flag_again v)
+form_again (LsReg size v opc rm ext s rn rt) = ap (λ (y : Bool). LsReg size y opc rm ext (bit s == 1) rn rt) (flag_again v) ∙ ap (λ (y : Bool). LsReg size v opc rm ext y rn rt) (flag_again s)
+form_again (LsLiteral opc v imm19 rt) = ap (λ (y : Bool). LsLiteral opc y imm19 rt) (flag_again v)
+form_again (Pair opc v mode l imm7 rt2 rn rt) = ap (λ (y : Bool). Pair opc y mode (bit l == 1) imm7 rt2 rn rt) (flag_again v) ∙ ap (λ (y : Bool). Pair opc v mode y imm7 rt2 rn rt) (flag_again l)
+form_again (StoreEx op size rs rn rt) = ap (λ (y : StoreExOp). StoreEx y size rs rn rt) (store_ex_named_again op)
+form_again (LoadEx op size rn rt) = ap (λ (y : LoadExOp). LoadEx y size rn rt) (load_ex_named_again op)
+form_again (Ordered op size rn rt) = ap (λ (y : OrderedOp). Ordered y size rn rt) (ordered_named_again op)
+form_again (FMove op rn rd) = ap (λ (y : FMoveOp). FMove y rn rd) (f_move_named_again op)
+form_again (MoveImm q op abc cmode defgh rd) = ap (λ (y : Bool). MoveImm y (bit op == 1) abc cmode defgh rd) (flag_again q) ∙ ap (λ (y : Bool). MoveImm q y abc cmode defgh rd) (flag_again op)

@@ -2,4 +2,5 @@ pub mod Names
 pub mod Data
 pub mod Flow
 pub mod Memory
+pub mod BitMoves
 pub mod Table

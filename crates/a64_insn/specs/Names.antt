@@ -30,8 +30,30 @@ use Rattle.a64_insn.specs.declared.ops.OneSourceOp.{OneSourceOp}
 use Rattle.a64_insn.specs.declared.ops.OneSourceOp.TheVariants as one_source_names
 use Rattle.a64_insn.specs.declared.ops.RevOp.{RevOp}
 use Rattle.a64_insn.specs.declared.ops.RevOp.TheVariants as rev_names
+use Rattle.a64_insn.specs.declared.ops.BranchOp.{BranchOp}
+use Rattle.a64_insn.specs.declared.ops.BranchOp.TheVariants as branch_names
+use Rattle.a64_insn.specs.declared.ops.CompareOp.{CompareOp}
+use Rattle.a64_insn.specs.declared.ops.CompareOp.TheVariants as compare_names
+use Rattle.a64_insn.specs.declared.ops.TestOp.{TestOp}
+use Rattle.a64_insn.specs.declared.ops.TestOp.TheVariants as test_names
+use Rattle.a64_insn.specs.declared.ops.BranchRegOp.{BranchRegOp}
+use Rattle.a64_insn.specs.declared.ops.BranchRegOp.TheVariants as branch_reg_names
 use Rattle.a64_insn.specs.declared.ops.ExceptOp.{ExceptOp}
 use Rattle.a64_insn.specs.declared.ops.ExceptOp.TheVariants as except_names
+use Rattle.a64_insn.specs.declared.ops.BarrierOp.{BarrierOp}
+use Rattle.a64_insn.specs.declared.ops.BarrierOp.TheVariants as barrier_names
+use Rattle.a64_insn.specs.declared.ops.ReadSysOp.{ReadSysOp}
+use Rattle.a64_insn.specs.declared.ops.ReadSysOp.TheVariants as read_sys_names
+use Rattle.a64_insn.specs.declared.ops.WriteSysOp.{WriteSysOp}
+use Rattle.a64_insn.specs.declared.ops.WriteSysOp.TheVariants as write_sys_names
+use Rattle.a64_insn.specs.declared.ops.StoreExOp.{StoreExOp}
+use Rattle.a64_insn.specs.declared.ops.StoreExOp.TheVariants as store_ex_names
+use Rattle.a64_insn.specs.declared.ops.LoadExOp.{LoadExOp}
+use Rattle.a64_insn.specs.declared.ops.LoadExOp.TheVariants as load_ex_names
+use Rattle.a64_insn.specs.declared.ops.OrderedOp.{OrderedOp}
+use Rattle.a64_insn.specs.declared.ops.OrderedOp.TheVariants as ordered_names
+use Rattle.a64_insn.specs.declared.ops.FMoveOp.{FMoveOp}
+use Rattle.a64_insn.specs.declared.ops.FMoveOp.TheVariants as f_move_names
 
 abbrev pub adr_number : AdrOp → ℕ
 adr_number adr_names.Adr = 0
@@ -163,6 +185,35 @@ rev_number rev_names.Rev32 = 2
 abbrev pub rev_named : ℕ → RevOp
 rev_named k = get_or (rev_names.RevW ∷ rev_names.RevX ∷ rev_names.Rev32 ∷ []) k rev_names.RevW
 
+abbrev pub branch_number : BranchOp → ℕ
+branch_number branch_names.B = 0
+branch_number branch_names.Bl = 1
+
+abbrev pub branch_named : ℕ → BranchOp
+branch_named k = get_or (branch_names.B ∷ branch_names.Bl ∷ []) k branch_names.B
+
+abbrev pub compare_number : CompareOp → ℕ
+compare_number compare_names.Cbz = 0
+compare_number compare_names.Cbnz = 1
+
+abbrev pub compare_named : ℕ → CompareOp
+compare_named k = get_or (compare_names.Cbz ∷ compare_names.Cbnz ∷ []) k compare_names.Cbz
+
+abbrev pub test_number : TestOp → ℕ
+test_number test_names.Tbz = 0
+test_number test_names.Tbnz = 1
+
+abbrev pub test_named : ℕ → TestOp
+test_named k = get_or (test_names.Tbz ∷ test_names.Tbnz ∷ []) k test_names.Tbz
+
+abbrev pub branch_reg_number : BranchRegOp → ℕ
+branch_reg_number branch_reg_names.Br = 0
+branch_reg_number branch_reg_names.Blr = 1
+branch_reg_number branch_reg_names.Ret = 2
+
+abbrev pub branch_reg_named : ℕ → BranchRegOp
+branch_reg_named k = get_or (branch_reg_names.Br ∷ branch_reg_names.Blr ∷ branch_reg_names.Ret ∷ []) k branch_reg_names.Br
+
 abbrev pub except_number : ExceptOp → ℕ
 except_number except_names.Svc = 0
 except_number except_names.Brk = 1
@@ -170,3 +221,57 @@ except_number except_names.Hlt = 2
 
 abbrev pub except_named : ℕ → ExceptOp
 except_named k = get_or (except_names.Svc ∷ except_names.Brk ∷ except_names.Hlt ∷ []) k except_names.Svc
+
+abbrev pub barrier_number : BarrierOp → ℕ
+barrier_number barrier_names.Clrex = 0
+barrier_number barrier_names.Dsb = 1
+barrier_number barrier_names.Dmb = 2
+barrier_number barrier_names.Isb = 3
+
+abbrev pub barrier_named : ℕ → BarrierOp
+barrier_named k = get_or (barrier_names.Clrex ∷ barrier_names.Dsb ∷ barrier_names.Dmb ∷ barrier_names.Isb ∷ []) k barrier_names.Clrex
+
+abbrev pub read_sys_number : ReadSysOp → ℕ
+read_sys_number read_sys_names.Tpidr = 0
+read_sys_number read_sys_names.Nzcv = 1
+read_sys_number read_sys_names.Dczid = 2
+
+abbrev pub read_sys_named : ℕ → ReadSysOp
+read_sys_named k = get_or (read_sys_names.Tpidr ∷ read_sys_names.Nzcv ∷ read_sys_names.Dczid ∷ []) k read_sys_names.Tpidr
+
+abbrev pub write_sys_number : WriteSysOp → ℕ
+write_sys_number write_sys_names.Tpidr = 0
+write_sys_number write_sys_names.Nzcv = 1
+
+abbrev pub write_sys_named : ℕ → WriteSysOp
+write_sys_named k = get_or (write_sys_names.Tpidr ∷ write_sys_names.Nzcv ∷ []) k write_sys_names.Tpidr
+
+abbrev pub store_ex_number : StoreExOp → ℕ
+store_ex_number store_ex_names.Stxr = 0
+store_ex_number store_ex_names.Stlxr = 1
+
+abbrev pub store_ex_named : ℕ → StoreExOp
+store_ex_named k = get_or (store_ex_names.Stxr ∷ store_ex_names.Stlxr ∷ []) k store_ex_names.Stxr
+
+abbrev pub load_ex_number : LoadExOp → ℕ
+load_ex_number load_ex_names.Ldxr = 0
+load_ex_number load_ex_names.Ldaxr = 1
+
+abbrev pub load_ex_named : ℕ → LoadExOp
+load_ex_named k = get_or (load_ex_names.Ldxr ∷ load_ex_names.Ldaxr ∷ []) k load_ex_names.Ldxr
+
+abbrev pub ordered_number : OrderedOp → ℕ
+ordered_number ordered_names.Stlr = 0
+ordered_number ordered_names.Ldar = 1
+
+abbrev pub ordered_named : ℕ → OrderedOp
+ordered_named k = get_or (ordered_names.Stlr ∷ ordered_names.Ldar ∷ []) k ordered_names.Stlr
+
+abbrev pub f_move_number : FMoveOp → ℕ
+f_move_number f_move_names.WdSn = 0
+f_move_number f_move_names.SdWn = 1
+f_move_number f_move_names.XdDn = 2
+f_move_number f_move_names.DdXn = 3
+
+abbrev pub f_move_named : ℕ → FMoveOp
+f_move_named k = get_or (f_move_names.WdSn ∷ f_move_names.SdWn ∷ f_move_names.XdDn ∷ f_move_names.DdXn ∷ []) k f_move_names.WdSn

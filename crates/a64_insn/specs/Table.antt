@@ -3,14 +3,15 @@ use Rattle.std.specs.Prelude.{Bool, true, List, [], ◌∷◌}
 use Rattle.emu_bits.specs.Fields.{bit}
 use Rattle.emu_bits.specs.Rows.{Line, Row}
 use Rattle.a64_insn.specs.declared.form.A64Form.{A64Form}
-use Rattle.a64_insn.specs.declared.form.A64Form.TheVariants.{Adr, AddImm, LogicImm, MoveWide, Bitfield, Extract, LogicReg, AddReg, AddExt, AddCarry, CondReg, CondImm, Select, MulAdd, MulLong, MulHigh, TwoSource, OneSource, Rev, Except, LsUnsigned}
-use Rattle.a64_insn.specs.Names.{add_carry_number, add_number, adr_number, bitfield_number, cond_compare_number, except_number, logic_imm_number, logic_reg_number, move_wide_number, mul_add_number, mul_high_number, mul_long_number, one_source_number, rev_number, select_number, two_source_number}
+use Rattle.a64_insn.specs.declared.form.A64Form.TheVariants.{Adr, AddImm, LogicImm, MoveWide, Bitfield, Extract, LogicReg, AddReg, AddExt, AddCarry, CondReg, CondImm, Select, MulAdd, MulLong, MulHigh, TwoSource, OneSource, Rev, Branch, BranchCond, Compare, Test, BranchReg, Except, Hint, Barrier, ReadSys, WriteSys, LsUnsigned, LsUnscaled, LsPost, LsPre, LsReg, LsLiteral, Pair, StoreEx, LoadEx, Ordered, FMove, MoveImm}
+use Rattle.a64_insn.specs.Names.{add_carry_number, add_number, adr_number, barrier_number, bitfield_number, branch_number, branch_reg_number, compare_number, cond_compare_number, except_number, f_move_number, load_ex_number, logic_imm_number, logic_reg_number, move_wide_number, mul_add_number, mul_high_number, mul_long_number, one_source_number, ordered_number, read_sys_number, rev_number, select_number, store_ex_number, test_number, two_source_number, write_sys_number}
 use Rattle.a64_insn.specs.Data.{adr, add_imm, logic_imm, move_wide, bitfield, extract, logic_reg, add_reg, add_ext, add_carry, cond_reg, cond_imm, select, mul_add, mul_long, mul_high, two_source, one_source, rev, has_bitmask, move_wide_holds_for, bitfield_holds_for, extract_holds_for, is_below_width, add_reg_holds_for, add_ext_holds_for}
-use Rattle.a64_insn.specs.Flow.{except}
-use Rattle.a64_insn.specs.Memory.{ls_unsigned, is_access}
+use Rattle.a64_insn.specs.Flow.{branch, branch_cond, compare, test, branch_reg, except, hint, barrier, read_sys, write_sys}
+use Rattle.a64_insn.specs.Memory.{ls_unsigned, ls_unscaled, ls_post, ls_pre, ls_reg, ls_literal, pair, store_ex, load_ex, ordered, is_access, writeback_holds_for, ls_reg_holds_for, ls_literal_holds_for, pair_holds_for, store_ex_holds_for}
+use Rattle.a64_insn.specs.BitMoves.{f_move, move_imm, move_imm_holds_for}
 
 unfoldable pub a64_table : List (Line A64Form)
-a64_table = adr ∷ add_imm ∷ logic_imm ∷ move_wide ∷ bitfield ∷ extract ∷ logic_reg ∷ add_reg ∷ add_ext ∷ add_carry ∷ cond_reg ∷ cond_imm ∷ select ∷ mul_add ∷ mul_long ∷ mul_high ∷ two_source ∷ one_source ∷ rev ∷ except ∷ ls_unsigned ∷ []
+a64_table = adr ∷ add_imm ∷ logic_imm ∷ move_wide ∷ bitfield ∷ extract ∷ logic_reg ∷ add_reg ∷ add_ext ∷ add_carry ∷ cond_reg ∷ cond_imm ∷ select ∷ mul_add ∷ mul_long ∷ mul_high ∷ two_source ∷ one_source ∷ rev ∷ branch ∷ branch_cond ∷ compare ∷ test ∷ branch_reg ∷ except ∷ hint ∷ barrier ∷ read_sys ∷ write_sys ∷ ls_unsigned ∷ ls_unscaled ∷ ls_post ∷ ls_pre ∷ ls_reg ∷ ls_literal ∷ pair ∷ store_ex ∷ load_ex ∷ ordered ∷ f_move ∷ move_imm ∷ []
 
 -- the row of a form
 abbrev pub row_of : A64Form → Row A64Form
@@ -33,8 +34,28 @@ row_of (MulHigh op rm rn rd) = record { line = mul_high; number = mul_high_numbe
 row_of (TwoSource op sf rm rn rd) = record { line = two_source; number = two_source_number op; values = bit sf ∷ rm ∷ rn ∷ rd ∷ [] }
 row_of (OneSource op sf rn rd) = record { line = one_source; number = one_source_number op; values = bit sf ∷ rn ∷ rd ∷ [] }
 row_of (Rev op rn rd) = record { line = rev; number = rev_number op; values = rn ∷ rd ∷ [] }
+row_of (Branch op imm26) = record { line = branch; number = branch_number op; values = imm26 ∷ [] }
+row_of (BranchCond imm19 cond) = record { line = branch_cond; number = 0; values = imm19 ∷ cond ∷ [] }
+row_of (Compare op sf imm19 rt) = record { line = compare; number = compare_number op; values = bit sf ∷ imm19 ∷ rt ∷ [] }
+row_of (Test op b5 b40 imm14 rt) = record { line = test; number = test_number op; values = bit b5 ∷ b40 ∷ imm14 ∷ rt ∷ [] }
+row_of (BranchReg op rn) = record { line = branch_reg; number = branch_reg_number op; values = rn ∷ [] }
 row_of (Except op imm16) = record { line = except; number = except_number op; values = imm16 ∷ [] }
+row_of (Hint n) = record { line = hint; number = 0; values = n ∷ [] }
+row_of (Barrier op n) = record { line = barrier; number = barrier_number op; values = n ∷ [] }
+row_of (ReadSys op rt) = record { line = read_sys; number = read_sys_number op; values = rt ∷ [] }
+row_of (WriteSys op rt) = record { line = write_sys; number = write_sys_number op; values = rt ∷ [] }
 row_of (LsUnsigned size v opc imm12 rn rt) = record { line = ls_unsigned; number = 0; values = size ∷ bit v ∷ opc ∷ imm12 ∷ rn ∷ rt ∷ [] }
+row_of (LsUnscaled size v opc imm9 rn rt) = record { line = ls_unscaled; number = 0; values = size ∷ bit v ∷ opc ∷ imm9 ∷ rn ∷ rt ∷ [] }
+row_of (LsPost size v opc imm9 rn rt) = record { line = ls_post; number = 0; values = size ∷ bit v ∷ opc ∷ imm9 ∷ rn ∷ rt ∷ [] }
+row_of (LsPre size v opc imm9 rn rt) = record { line = ls_pre; number = 0; values = size ∷ bit v ∷ opc ∷ imm9 ∷ rn ∷ rt ∷ [] }
+row_of (LsReg size v opc rm ext s rn rt) = record { line = ls_reg; number = 0; values = size ∷ bit v ∷ opc ∷ rm ∷ ext ∷ bit s ∷ rn ∷ rt ∷ [] }
+row_of (LsLiteral opc v imm19 rt) = record { line = ls_literal; number = 0; values = opc ∷ bit v ∷ imm19 ∷ rt ∷ [] }
+row_of (Pair opc v mode l imm7 rt2 rn rt) = record { line = pair; number = 0; values = opc ∷ bit v ∷ mode ∷ bit l ∷ imm7 ∷ rt2 ∷ rn ∷ rt ∷ [] }
+row_of (StoreEx op size rs rn rt) = record { line = store_ex; number = store_ex_number op; values = size ∷ rs ∷ rn ∷ rt ∷ [] }
+row_of (LoadEx op size rn rt) = record { line = load_ex; number = load_ex_number op; values = size ∷ rn ∷ rt ∷ [] }
+row_of (Ordered op size rn rt) = record { line = ordered; number = ordered_number op; values = size ∷ rn ∷ rt ∷ [] }
+row_of (FMove op rn rd) = record { line = f_move; number = f_move_number op; values = rn ∷ rd ∷ [] }
+row_of (MoveImm q op abc cmode defgh rd) = record { line = move_imm; number = 0; values = bit q ∷ bit op ∷ abc ∷ cmode ∷ defgh ∷ rd ∷ [] }
 
 -- the condition of its line
 abbrev pub meets_form : A64Form → Bool
@@ -57,5 +78,25 @@ meets_form (MulHigh op rm rn rd) = true
 meets_form (TwoSource op sf rm rn rd) = true
 meets_form (OneSource op sf rn rd) = true
 meets_form (Rev op rn rd) = true
+meets_form (Branch op imm26) = true
+meets_form (BranchCond imm19 cond) = true
+meets_form (Compare op sf imm19 rt) = true
+meets_form (Test op b5 b40 imm14 rt) = true
+meets_form (BranchReg op rn) = true
 meets_form (Except op imm16) = true
+meets_form (Hint n) = true
+meets_form (Barrier op n) = true
+meets_form (ReadSys op rt) = true
+meets_form (WriteSys op rt) = true
 meets_form (LsUnsigned size v opc imm12 rn rt) = is_access size (bit v) opc
+meets_form (LsUnscaled size v opc imm9 rn rt) = is_access size (bit v) opc
+meets_form (LsPost size v opc imm9 rn rt) = writeback_holds_for size (bit v) opc rn rt
+meets_form (LsPre size v opc imm9 rn rt) = writeback_holds_for size (bit v) opc rn rt
+meets_form (LsReg size v opc rm ext s rn rt) = ls_reg_holds_for size (bit v) opc ext
+meets_form (LsLiteral opc v imm19 rt) = ls_literal_holds_for opc (bit v)
+meets_form (Pair opc v mode l imm7 rt2 rn rt) = pair_holds_for opc (bit v) mode (bit l) rt2 rn rt
+meets_form (StoreEx op size rs rn rt) = store_ex_holds_for rs rn rt
+meets_form (LoadEx op size rn rt) = true
+meets_form (Ordered op size rn rt) = true
+meets_form (FMove op rn rd) = true
+meets_form (MoveImm q op abc cmode defgh rd) = move_imm_holds_for cmode

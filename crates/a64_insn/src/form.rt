@@ -4,8 +4,10 @@ ghost use Rattle.a64_insn.specs.Table.{meets_form};
 
 use crate::conditions::meets;
 use crate::ops::{
-    AddCarryOp, AddOp, AdrOp, BitfieldOp, CondCompareOp, ExceptOp, LogicImmOp, LogicRegOp,
-    MoveWideOp, MulAddOp, MulHighOp, MulLongOp, OneSourceOp, RevOp, SelectOp, TwoSourceOp,
+    AddCarryOp, AddOp, AdrOp, BarrierOp, BitfieldOp, BranchOp, BranchRegOp, CompareOp,
+    CondCompareOp, ExceptOp, FMoveOp, LoadExOp, LogicImmOp, LogicRegOp, MoveWideOp, MulAddOp,
+    MulHighOp, MulLongOp, OneSourceOp, OrderedOp, ReadSysOp, RevOp, SelectOp, StoreExOp, TestOp,
+    TwoSourceOp, WriteSysOp,
 };
 use emu_bits::{Reg, U};
 use std::marker::Model;
@@ -176,10 +178,59 @@ pub enum A64Form {
         rn: Reg,
         rd: Reg,
     },
+    /// `b`, `bl target`: to PC plus four times imm26, which is signed; bl links.
+    Branch {
+        op: BranchOp,
+        imm26: U<26>,
+    },
+    /// `b.cond target`: where a condition holds; imm19 is signed and counts words.
+    BranchCond {
+        imm19: U<19>,
+        cond: U<4>,
+    },
+    /// `cbz`, `cbnz Rt, target`: where a register is 0, or is not.
+    Compare {
+        op: CompareOp,
+        sf: bool,
+        imm19: U<19>,
+        rt: Reg,
+    },
+    /// `tbz`, `tbnz Rt, #b, target`: where bit b5:b40 of a register is 0, or is 1; imm14 is signed and counts words.
+    Test {
+        op: TestOp,
+        b5: bool,
+        b40: U<5>,
+        imm14: U<14>,
+        rt: Reg,
+    },
+    /// `br`, `blr`, `ret Xn`: to the address in a register; blr links.
+    BranchReg {
+        op: BranchRegOp,
+        rn: Reg,
+    },
     /// `svc`, `brk`, `hlt #i`: a call of the system, a breakpoint, a halt.
     Except {
         op: ExceptOp,
         imm16: U<16>,
+    },
+    /// `hint #n`: does nothing.
+    Hint {
+        n: U<7>,
+    },
+    /// `clrex`, `dsb`, `dmb`, `isb #n`: clrex empties the monitor, the barriers do nothing.
+    Barrier {
+        op: BarrierOp,
+        n: U<4>,
+    },
+    /// `mrs Xt, tpidr_el0`, `nzcv`, `dczid_el0`: reads a system register.
+    ReadSys {
+        op: ReadSysOp,
+        rt: Reg,
+    },
+    /// `msr tpidr_el0, Xt`, `nzcv, Xt`: writes a system register.
+    WriteSys {
+        op: WriteSysOp,
+        rt: Reg,
     },
     /// `ldr`, `str` and their kinds, at `[Xn|SP{, #0}]`: imm12 counts accesses.
     LsUnsigned {
@@ -189,6 +240,99 @@ pub enum A64Form {
         imm12: U<12>,
         rn: Reg,
         rt: Reg,
+    },
+    /// `ldur`, `stur` and their kinds, at `[Xn|SP{, #0}]`: imm9 is signed, in bytes.
+    LsUnscaled {
+        size: U<2>,
+        v: bool,
+        opc: U<2>,
+        imm9: U<9>,
+        rn: Reg,
+        rt: Reg,
+    },
+    /// `ldr`, `str` and their kinds, at `[Xn|SP], #i`: imm9 is signed, in bytes, and added to the base after the access.
+    LsPost {
+        size: U<2>,
+        v: bool,
+        opc: U<2>,
+        imm9: U<9>,
+        rn: Reg,
+        rt: Reg,
+    },
+    /// `ldr`, `str` and their kinds, at `[Xn|SP, #i]!`: imm9 is signed, in bytes, and added to the base before the access.
+    LsPre {
+        size: U<2>,
+        v: bool,
+        opc: U<2>,
+        imm9: U<9>,
+        rn: Reg,
+        rt: Reg,
+    },
+    /// `ldr`, `str` and their kinds, at `[Xn|SP, Rm, ext #a]`: ext is 2 uxtw, 3 lsl, 6 sxtw, 7 sxtx, and s scales by the size of the access.
+    LsReg {
+        size: U<2>,
+        v: bool,
+        opc: U<2>,
+        rm: Reg,
+        ext: U<3>,
+        s: bool,
+        rn: Reg,
+        rt: Reg,
+    },
+    /// `ldr`, `ldrsw`, `prfm Rt, target`: imm19 is signed and counts words from PC on.
+    LsLiteral {
+        opc: U<2>,
+        v: bool,
+        imm19: U<19>,
+        rt: Reg,
+    },
+    /// `ldp`, `stp`, `ldpsw`, `ldnp`, `stnp Rt, Rt2, place`: mode is 0 without temporal hint, 1 post, 2 offset, 3 pre; l is true for loads; imm7 is signed and counts registers.
+    Pair {
+        opc: U<2>,
+        v: bool,
+        mode: U<2>,
+        l: bool,
+        imm7: U<7>,
+        rt2: Reg,
+        rn: Reg,
+        rt: Reg,
+    },
+    /// `stxr`, `stlxr Ws, Rt, [Xn|SP]`: a store where the exclusive monitor stands, with the outcome in rs; size counts bytes as a power of two.
+    StoreEx {
+        op: StoreExOp,
+        size: U<2>,
+        rs: Reg,
+        rn: Reg,
+        rt: Reg,
+    },
+    /// `ldxr`, `ldaxr Rt, [Xn|SP]`: a load that sets the exclusive monitor.
+    LoadEx {
+        op: LoadExOp,
+        size: U<2>,
+        rn: Reg,
+        rt: Reg,
+    },
+    /// `stlr`, `ldar Rt, [Xn|SP]`: a store that releases, a load that acquires.
+    Ordered {
+        op: OrderedOp,
+        size: U<2>,
+        rn: Reg,
+        rt: Reg,
+    },
+    /// `fmov Wd, Sn`, `Sd, Wn`, `Xd, Dn`, `Dd, Xn`: bits copied between a general and a vector register.
+    FMove {
+        op: FMoveOp,
+        rn: Reg,
+        rd: Reg,
+    },
+    /// `movi`, `mvni`: an immediate, the byte abc:defgh placed or spread as cmode says, in each part of a vector register of 128 bits, or of 64 where q is false.
+    MoveImm {
+        q: bool,
+        op: bool,
+        abc: U<3>,
+        cmode: U<4>,
+        defgh: U<5>,
+        rd: Reg,
     },
 }
 

@@ -1,10 +1,12 @@
 //! A64 instructions: one form for each line of the instruction table, made only where the line's condition holds.
 #![tactic(auto)]
 
+pub mod bit_move_words;
 mod conditions;
 pub mod data_words;
 pub mod flow_words;
 pub mod form;
+pub mod memory_words;
 pub mod ops;
 
 ghost use Rattle.std.specs.Prelude.{◌≡◌};
@@ -14,8 +16,10 @@ ghost use Rattle.a64_insn.specs.Table.{row_of, meets_form};
 
 pub use form::{A64, A64Form};
 pub use ops::{
-    AddCarryOp, AddOp, AdrOp, BitfieldOp, CondCompareOp, ExceptOp, LogicImmOp, LogicRegOp,
-    MoveWideOp, MulAddOp, MulHighOp, MulLongOp, OneSourceOp, RevOp, SelectOp, TwoSourceOp,
+    AddCarryOp, AddOp, AdrOp, BarrierOp, BitfieldOp, BranchOp, BranchRegOp, CompareOp,
+    CondCompareOp, ExceptOp, FMoveOp, LoadExOp, LogicImmOp, LogicRegOp, MoveWideOp, MulAddOp,
+    MulHighOp, MulLongOp, OneSourceOp, OrderedOp, ReadSysOp, RevOp, SelectOp, StoreExOp, TestOp,
+    TwoSourceOp, WriteSysOp,
 };
 
 /// The condition that a form meets is its line's in the table.

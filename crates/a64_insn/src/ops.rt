@@ -130,10 +130,93 @@ pub enum RevOp {
     Rev32,
 }
 
+/// Branches; bl writes the address behind it to x30.
+#[derive(Clone, Copy, PartialEq, Eq, Debug)]
+pub enum BranchOp {
+    B,
+    Bl,
+}
+
+/// Branches where a register is 0, or is not.
+#[derive(Clone, Copy, PartialEq, Eq, Debug)]
+pub enum CompareOp {
+    Cbz,
+    Cbnz,
+}
+
+/// Branches where a bit of a register is 0, or is 1.
+#[derive(Clone, Copy, PartialEq, Eq, Debug)]
+pub enum TestOp {
+    Tbz,
+    Tbnz,
+}
+
+/// Branches to a register: plain, with a link in x30, as a return.
+#[derive(Clone, Copy, PartialEq, Eq, Debug)]
+pub enum BranchRegOp {
+    Br,
+    Blr,
+    Ret,
+}
+
 /// Exceptions: supervisor call, breakpoint, halt.
 #[derive(Clone, Copy, PartialEq, Eq, Debug)]
 pub enum ExceptOp {
     Svc,
     Brk,
     Hlt,
+}
+
+/// The exclusive monitor emptied, and barriers of data and instructions.
+#[derive(Clone, Copy, PartialEq, Eq, Debug)]
+pub enum BarrierOp {
+    Clrex,
+    Dsb,
+    Dmb,
+    Isb,
+}
+
+/// System registers that are read: the thread pointer, the flags, the block size of `dc zva`.
+#[derive(Clone, Copy, PartialEq, Eq, Debug)]
+pub enum ReadSysOp {
+    Tpidr,
+    Nzcv,
+    Dczid,
+}
+
+/// System registers that are written: the thread pointer, the flags.
+#[derive(Clone, Copy, PartialEq, Eq, Debug)]
+pub enum WriteSysOp {
+    Tpidr,
+    Nzcv,
+}
+
+/// Exclusive stores; stlxr releases.
+#[derive(Clone, Copy, PartialEq, Eq, Debug)]
+pub enum StoreExOp {
+    Stxr,
+    Stlxr,
+}
+
+/// Exclusive loads; ldaxr acquires.
+#[derive(Clone, Copy, PartialEq, Eq, Debug)]
+pub enum LoadExOp {
+    Ldxr,
+    Ldaxr,
+}
+
+/// A store that releases, and a load that acquires.
+#[derive(Clone, Copy, PartialEq, Eq, Debug)]
+pub enum OrderedOp {
+    Stlr,
+    Ldar,
+}
+
+/// Bits copied between general and vector registers: their destination and source.
+#[derive(Clone, Copy, PartialEq, Eq, Debug)]
+pub enum FMoveOp {
+    WdSn,
+    SdWn,
+    XdDn,
+    DdXn,
 }
