@@ -1,5 +1,5 @@
 -- Loads and stores of the general registers: their elements, their tests, and what they leave.
-use Rattle.std.specs.Prelude.{ℕ, ◌+◌, ◌*◌, ◌%◌, ◌^◌, Bool, true, false, not, ◌&&◌, ◌||◌, List, [], ◌∷◌, Option, Some, None, nat_eq, if◌then◌else◌, ℤ, pos, ◌*ℤ◌}
+use Rattle.std.specs.Prelude.{ℕ, ◌+◌, ◌*◌, ◌%◌, ◌^◌, Bool, true, false, not, ◌&&◌, ◌||◌, List, [], ◌∷◌, Option, Some, None, nat_eq, if◌then◌else◌, pos, ◌*ℤ◌}
 use Rattle.a64_insn.specs.declared.form.A64Form.{A64Form}
 use Rattle.a64_insn.specs.declared.form.A64Form.TheVariants.{LsUnsigned, LsUnscaled, LsPost, LsPre, LsReg, LsLiteral, Pair, StoreEx, LoadEx, Ordered}
 use Rattle.a64_insn.specs.declared.ops.OrderedOp.{OrderedOp}
@@ -179,32 +179,36 @@ behind (LoadEx op size rn rt) c d = record d { monitor = Some (read_x_sp c rn, 2
 behind form c d = d
 
 -- a store that is refused has stored the elements before
-abbrev pub store_as_far : Option ℕ → List Element → A64Form → Core → Memory → Done
-store_as_far None es form c m = record { core = behind form c c; memory = with_stored (λ e. read_x c e.register) es m; accesses = accesses_of true es; effect = Next }
-store_as_far (Some a) es form c m = record { core = c; memory = with_stored (λ e. read_x c e.register) es m; accesses = accesses_of true es; effect = Trap (record { kind = Write; address = a }) }
+abbrev pub store_as_far : Option ℕ → List Element → (Core → Core) → Core → Memory → Done
+store_as_far None es after c m = record { core = after c; memory = with_stored (λ e. read_x c e.register) es m; accesses = accesses_of true es; effect = Next }
+store_as_far (Some a) es after c m = record { core = c; memory = with_stored (λ e. read_x c e.register) es m; accesses = accesses_of true es; effect = Trap (record { kind = Write; address = a }) }
 
 -- a load that is refused changes no register
-abbrev pub load_as_far : Option ℕ → List Element → A64Form → Core → Memory → Done
-load_as_far None es form c m = record { core = behind form c (with_loaded (transfer_of form) m es c); memory = m; accesses = accesses_of false es; effect = Next }
-load_as_far (Some a) es form c m = record { core = c; memory = m; accesses = accesses_of false es; effect = Trap (record { kind = Read; address = a }) }
+abbrev pub load_as_far : Transfer → Option ℕ → List Element → (Core → Core) → Core → Memory → Done
+load_as_far t None es after c m = record { core = after (with_loaded t m es c); memory = m; accesses = accesses_of false es; effect = Next }
+load_as_far t (Some a) es after c m = record { core = c; memory = m; accesses = accesses_of false es; effect = Trap (record { kind = Read; address = a }) }
 
-abbrev pub stored_to : Reach → A64Form → Core → Memory → Done
-stored_to r form c m = store_as_far r.stop r.done form c m
+abbrev pub stored_to : Reach → (Core → Core) → Core → Memory → Done
+stored_to r after c m = store_as_far r.stop r.done after c m
 
-abbrev pub loaded_to : Reach → A64Form → Core → Memory → Done
-loaded_to r form c m = load_as_far r.stop r.done form c m
+abbrev pub loaded_to : Transfer → Reach → (Core → Core) → Core → Memory → Done
+loaded_to t r after c m = load_as_far t r.stop r.done after c m
 
-abbrev pub transferred : Transfer → A64Form → Core → Memory → Done
-transferred Store form c m = stored_to (reach m WriteKind (elements form c)) form c m
-transferred t form c m = loaded_to (reach m ReadKind (elements form c)) form c m
+-- elements stored or loaded one after the other, and what comes after them
+abbrev pub transferred : Transfer → List Element → (Core → Core) → Core → Memory → Done
+transferred Store es after c m = stored_to (reach m WriteKind es) after c m
+transferred t es after c m = loaded_to t (reach m ReadKind es) after c m
 
-abbrev pub unless_misaligned : Option ℕ → A64Form → Core → Memory → Done
-unless_misaligned (Some a) form c m = traps c m AccessAlign a
-unless_misaligned None form c m = transferred (transfer_of form) form c m
+abbrev pub unless_misaligned : Option ℕ → Core → Memory → Done → Done
+unless_misaligned (Some a) c m d = traps c m AccessAlign a
+unless_misaligned None c m d = d
 
--- the tests in their order: the alignment of SP, that of the address, and then the elements, one after the other
+-- the tests in their order: the alignment of SP where it is the base, and that of the address
+abbrev pub tested : Bool → Option ℕ → Core → Memory → Done → Done
+tested has at c m d = if is_misaligned has c then traps c m SpAlign c.sp else unless_misaligned at c m d
+
 abbrev pub access : A64Form → Core → Memory → Done
-access form c m = if is_misaligned (has_sp_base form) c then traps c m SpAlign c.sp else unless_misaligned (misaligned form c) form c m
+access form c m = tested (has_sp_base form) (misaligned form c) c m (transferred (transfer_of form) (elements form c) (behind form c) c m)
 
 -- the rows of this page: those of the general registers
 abbrev pub is_load_store : A64Form → Bool

@@ -9,10 +9,10 @@ use Rattle.emu_model.specs.declared.trap.TrapKind.{TrapKind}
 use Rattle.emu_model.specs.declared.trap.TrapKind.TheVariants.{Undefined, PcAlign, Fetch}
 use Rattle.emu_model.specs.declared.trap.Effect.{Effect}
 use Rattle.emu_model.specs.declared.trap.Effect.TheVariants.{Next, Branch, Call, Trap as Trapping}
-use Rattle.emu_model.specs.Access.{Memory, address, refused, stored, value}
+use Rattle.emu_model.specs.Access.{Memory, address, refused, value}
 use Rattle.emu_model.specs.State.{Core, Vectors, Parts, State, read_x, with_x, IsWord, IsByte, AreBytes, IsRegister, HasLength, IsSoundCore, IsSoundVectors, IsSoundMemory, IsSoundParts, IsSound}
 use Rattle.emu_model.specs.SoundLists.{all_append, all_take, all_replicate, all_map}
-use Rattle.emu_model.specs.Sound.{with_x_sound, with_pc_sound, monitor_sound, stored_sound, address_is_word, bytes_at_are_bytes, refused_is_word}
+use Rattle.emu_model.specs.Sound.{with_x_sound, with_pc_sound, monitor_sound, address_is_word, bytes_at_are_bytes, refused_is_word}
 use Rattle.emu_run.specs.declared.insn.Insn.{Insn}
 use Rattle.emu_run.specs.declared.insn.Insn.TheVariants.{A64}
 use Rattle.emu_run.specs.Done.{Done, went_well}
@@ -33,7 +33,7 @@ performed_sound form c m s t = elim (is_data form) as (λ b. IsSoundDone (if b t
   | true ↦ well_sound (scalar form c) m (scalar_sound form c s) t
   | false ↦ elim (is_flow form) as (λ b. IsSoundDone (if b then flow form c m else access form c m)) [
     | true ↦ flow_sound c m s t form
-    | false ↦ access_sound form c m s t
+    | false ↦ access_sound c m s t form
   ]
 ]
 

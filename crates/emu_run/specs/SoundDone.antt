@@ -5,7 +5,7 @@ use Rattle.emu_model.specs.declared.trap.Effect.{Effect}
 use Rattle.emu_model.specs.declared.trap.Effect.TheVariants.{Next, Branch, Call, Trap}
 use Rattle.emu_model.specs.Access.{Memory}
 use Rattle.emu_model.specs.State.{Core, IsWord, IsSoundCore, IsSoundMemory}
-use Rattle.emu_run.specs.Done.{Done, quietly, went_well, branches, traps}
+use Rattle.emu_run.specs.Done.{Done, went_well, branches, traps}
 
 abbrev pub IsSoundEffect : Effect → Type 0
 IsSoundEffect Next = Unit {0}

@@ -1,5 +1,5 @@
 -- Branches, exceptions and the system's rows keep the registers sound.
-use Rattle.std.specs.Prelude.{ℕ, ◌+◌, ◌*◌, ◌/◌, ◌%◌, ◌^◌, Bool, true, false, None, nat_eq, get_or, if◌then◌else◌, ℤ, pos, negsuc, ◌+ℤ◌, ◌*ℤ◌}
+use Rattle.std.specs.Prelude.{ℕ, ◌/◌, ◌%◌, ◌^◌, Bool, true, false, None, nat_eq, get_or, if◌then◌else◌, ℤ, pos, negsuc, ◌+ℤ◌, ◌*ℤ◌}
 use Rattle.std.proofs.Common.{arith}
 use Rattle.a64_insn.specs.declared.form.A64Form.{A64Form}
 use Rattle.a64_insn.specs.declared.form.A64Form.TheVariants.{Branch, BranchCond, Compare, Test, BranchReg, Except, Hint, Barrier, ReadSys, WriteSys}
@@ -16,7 +16,7 @@ use Rattle.a64_insn.specs.declared.ops.WriteSysOp.TheVariants.{Tpidr, Nzcv}
 use Rattle.emu_bits.specs.Flags.{cond_of, cond_holds}
 use Rattle.emu_bits.specs.Numbers.{signed, unsigned_int}
 use Rattle.emu_model.specs.declared.trap.TrapKind.TheVariants.{Break, Halt}
-use Rattle.emu_model.specs.Access.{Memory, address}
+use Rattle.emu_model.specs.Access.{Memory}
 use Rattle.emu_model.specs.Sound.{with_x_sound, flags_sound, monitor_sound, low_is_word}
 use Rattle.emu_model.specs.SoundLists.{all_read}
 use Rattle.emu_model.specs.State.{Core, read_x, read_x_sp, IsWord, IsSoundCore, IsSoundMemory}

@@ -14,7 +14,7 @@ use Rattle.emu_run.specs.Done.{Done, traps}
 use Rattle.emu_run.specs.Elements.{Element, Reach, reach_from, reach, with_stored}
 use Rattle.emu_run.specs.declared.transfer.Transfer.{Transfer}
 use Rattle.emu_run.specs.declared.transfer.Transfer.TheVariants.{Store, Load, LoadSigned, LoadSigned32, Prefetch}
-use Rattle.emu_run.specs.LoadStore.{transfer_of, near, pair_near, pair_bytes, writes_back, is_kept, elements, has_sp_base, is_misaligned, unless_multiple, misaligned, loaded_value, with_loaded, based, after_exclusive, behind, store_as_far, load_as_far, transferred, unless_misaligned, access}
+use Rattle.emu_run.specs.LoadStore.{transfer_of, near, pair_near, pair_bytes, writes_back, is_kept, elements, has_sp_base, is_misaligned, unless_multiple, misaligned, loaded_value, with_loaded, based, behind, store_as_far, load_as_far, loaded_to, transferred, unless_misaligned, tested, access}
 use Rattle.emu_run.specs.SoundDone.{IsSoundDone, traps_sound}
 use Rattle.emu_run.specs.SoundFlow.{read_x_sp_is_word}
 
@@ -58,31 +58,32 @@ behind_sound form c d s u = u
 
 -- ---- the rows
 
-module _ (form : A64Form) (c : Core) (m : Memory) (s : IsSoundCore c) (t : IsSoundMemory m) where
-  store_sound : (stop : Option ℕ) (es : List Element) → IfSome stop IsWord → IsSoundDone (store_as_far stop es form c m)
-  store_sound None es w = record { core = behind_sound form c c s s; memory = with_stored_sound (λ e. read_x c e.register) es m t; effect = tt }
-  store_sound (Some a) es w = record { core = s; memory = with_stored_sound (λ e. read_x c e.register) es m t; effect = w }
+module _ (c : Core) (m : Memory) (s : IsSoundCore c) (t : IsSoundMemory m) where
+  module _ (after : Core → Core) (keeps : (d : Core) → IsSoundCore d → IsSoundCore (after d)) where
+    store_sound : (stop : Option ℕ) (es : List Element) → IfSome stop IsWord → IsSoundDone (store_as_far stop es after c m)
+    store_sound None es w = record { core = keeps c s; memory = with_stored_sound (λ e. read_x c e.register) es m t; effect = tt }
+    store_sound (Some a) es w = record { core = s; memory = with_stored_sound (λ e. read_x c e.register) es m t; effect = w }
 
-  load_sound : (stop : Option ℕ) (es : List Element) → IfSome stop IsWord → IsSoundDone (load_as_far stop es form c m)
-  load_sound None es w = record { core = behind_sound form c (with_loaded (transfer_of form) m es c) s (with_loaded_sound (transfer_of form) m es c s); memory = t; effect = tt }
-  load_sound (Some a) es w = record { core = s; memory = t; effect = w }
+    load_sound : (transfer : Transfer) (stop : Option ℕ) (es : List Element) → IfSome stop IsWord → IsSoundDone (load_as_far transfer stop es after c m)
+    load_sound transfer None es w = record { core = keeps (with_loaded transfer m es c) (with_loaded_sound transfer m es c s); memory = t; effect = tt }
+    load_sound transfer (Some a) es w = record { core = s; memory = t; effect = w }
 
-  stored_far : IsSoundDone (transferred Store form c m)
-  stored_far = store_sound (reach m WriteKind (elements form c)).stop (reach m WriteKind (elements form c)).done (stop_is_word m WriteKind (elements form c))
+    stored_far : (es : List Element) → IsSoundDone (transferred Store es after c m)
+    stored_far es = store_sound (reach m WriteKind es).stop (reach m WriteKind es).done (stop_is_word m WriteKind es)
 
-  loaded_far : (r : Reach) → IfSome r.stop IsWord → IsSoundDone (load_as_far r.stop r.done form c m)
-  loaded_far r w = load_sound r.stop r.done w
+    loaded_far : (transfer : Transfer) (es : List Element) → IsSoundDone (loaded_to transfer (reach m ReadKind es) after c m)
+    loaded_far transfer es = load_sound transfer (reach m ReadKind es).stop (reach m ReadKind es).done (stop_is_word m ReadKind es)
 
-  transferred_sound : (transfer : Transfer) → IsSoundDone (transferred transfer form c m)
-  transferred_sound Store = stored_far
-  transferred_sound Load = loaded_far (reach m ReadKind (elements form c)) (stop_is_word m ReadKind (elements form c))
-  transferred_sound LoadSigned = loaded_far (reach m ReadKind (elements form c)) (stop_is_word m ReadKind (elements form c))
-  transferred_sound LoadSigned32 = loaded_far (reach m ReadKind (elements form c)) (stop_is_word m ReadKind (elements form c))
-  transferred_sound Prefetch = loaded_far (reach m ReadKind (elements form c)) (stop_is_word m ReadKind (elements form c))
+    transferred_sound : (transfer : Transfer) (es : List Element) → IsSoundDone (transferred transfer es after c m)
+    transferred_sound Store es = stored_far es
+    transferred_sound Load es = loaded_far Load es
+    transferred_sound LoadSigned es = loaded_far LoadSigned es
+    transferred_sound LoadSigned32 es = loaded_far LoadSigned32 es
+    transferred_sound Prefetch es = loaded_far Prefetch es
 
-  unless_sound : (o : Option ℕ) → IfSome o IsWord → IsSoundDone (unless_misaligned o form c m)
-  unless_sound (Some a) w = traps_sound c m AccessAlign a s t w
-  unless_sound None w = transferred_sound (transfer_of form)
+  unless_sound : (o : Option ℕ) (d : Done) → IfSome o IsWord → IsSoundDone d → IsSoundDone (unless_misaligned o c m d)
+  unless_sound (Some a) d w h = traps_sound c m AccessAlign a s t w
+  unless_sound None d w h = h
 
   multiple_is_word : (a n : ℕ) → IsWord a → IfSome (unless_multiple a n) IsWord
   multiple_is_word a n w = elim (nat_eq (a % n) 0) as (λ b. IfSome (if b then None else Some a) IsWord) [
@@ -90,14 +91,19 @@ module _ (form : A64Form) (c : Core) (m : Memory) (s : IsSoundCore c) (t : IsSou
     | false ↦ w
   ]
 
-  misaligned_is_word : (f : A64Form) → IfSome (misaligned f c) IsWord
+  misaligned_is_word : (form : A64Form) → IfSome (misaligned form c) IsWord
   misaligned_is_word (StoreEx op size rs rn rt) = multiple_is_word (read_x_sp c rn) (2 ^ size) (read_x_sp_is_word c rn s)
   misaligned_is_word (LoadEx op size rn rt) = multiple_is_word (read_x_sp c rn) (2 ^ size) (read_x_sp_is_word c rn s)
   misaligned_is_word (Ordered op size rn rt) = multiple_is_word (read_x_sp c rn) (2 ^ size) (read_x_sp_is_word c rn s)
-  misaligned_is_word f = tt
+  misaligned_is_word form = tt
 
-  pub access_sound : IsSoundDone (access form c m)
-  access_sound = elim (is_misaligned (has_sp_base form) c) as (λ b. IsSoundDone (if b then traps c m SpAlign c.sp else unless_misaligned (misaligned form c) form c m)) [
+  tested_sound : (has : Bool) (o : Option ℕ) (d : Done) → IfSome o IsWord → IsSoundDone d → IsSoundDone (tested has o c m d)
+  tested_sound has o d w h = elim (is_misaligned has c) as (λ b. IsSoundDone (if b then traps c m SpAlign c.sp else unless_misaligned o c m d)) [
     | true ↦ traps_sound c m SpAlign c.sp s t s.sp
-    | false ↦ unless_sound (misaligned form c) (misaligned_is_word form)
+    | false ↦ unless_sound o d w h
   ]
+
+  pub access_sound : (form : A64Form) → IsSoundDone (access form c m)
+  access_sound form =
+      tested_sound (has_sp_base form) (misaligned form c) (transferred (transfer_of form) (elements form c) (behind form c) c m) (misaligned_is_word form)
+      (transferred_sound (behind form c) (λ d u. behind_sound form c d s u) (transfer_of form) (elements form c))
