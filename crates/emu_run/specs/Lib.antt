@@ -1,3 +1,6 @@
+pub mod Done
+pub mod Elements
+pub mod Flow
 pub mod Least
 pub mod LoadStore
 pub mod Outcome
@@ -7,6 +10,9 @@ pub mod Run
 pub mod RunLaws
 pub mod Scalar
 pub mod Sound
+pub mod SoundDone
+pub mod SoundFlow
+pub mod SoundLoadStore
 pub mod SoundScalar
 pub mod ScalarBits
 pub mod Statuses

@@ -1,51 +1,225 @@
--- Loads and stores of the X registers, with an unsigned offset from a base register or SP.
-use Rattle.std.specs.Prelude.{ℕ, ◌+◌, ◌*◌, ◌%◌, Bool, not, ◌&&◌, Option, Some, None, nat_eq, if◌then◌else◌}
+-- Loads and stores of the general registers: their elements, their tests, and what they leave.
+use Rattle.std.specs.Prelude.{ℕ, ◌+◌, ◌*◌, ◌%◌, ◌^◌, Bool, true, false, not, ◌&&◌, ◌||◌, List, [], ◌∷◌, Option, Some, None, nat_eq, if◌then◌else◌, pos, ◌*ℤ◌}
+use Rattle.a64_insn.specs.declared.form.A64Form.{A64Form}
+use Rattle.a64_insn.specs.declared.form.A64Form.TheVariants.{LsUnsigned, LsUnscaled, LsPost, LsPre, LsReg, LsLiteral, Pair, StoreEx, LoadEx, Ordered}
+use Rattle.a64_insn.specs.declared.ops.OrderedOp.{OrderedOp}
+use Rattle.a64_insn.specs.declared.ops.OrderedOp.TheVariants.{Stlr, Ldar}
+use Rattle.emu_bits.specs.Fields.{bit}
+use Rattle.emu_bits.specs.Numbers.{signed}
 use Rattle.emu_model.specs.declared.access.Kind.TheVariants.{Read as ReadKind, Write as WriteKind}
-use Rattle.emu_model.specs.declared.trap.TrapKind.{TrapKind}
-use Rattle.emu_model.specs.declared.trap.TrapKind.TheVariants.{SpAlign, Read, Write}
-use Rattle.emu_model.specs.declared.trap.Effect.{Effect}
+use Rattle.emu_model.specs.declared.trap.TrapKind.TheVariants.{SpAlign, AccessAlign, Read, Write}
 use Rattle.emu_model.specs.declared.trap.Effect.TheVariants.{Next, Trap}
-use Rattle.emu_model.specs.Access.{Memory, address, refused, stored, value}
-use Rattle.emu_model.specs.State.{Core, read_x, read_x_sp, with_x}
+use Rattle.emu_model.specs.Access.{Memory, address, value}
+use Rattle.emu_model.specs.State.{Core, read_x, read_x_sp, with_x, with_x_sp}
+use Rattle.emu_run.specs.declared.transfer.Transfer.{Transfer}
+use Rattle.emu_run.specs.declared.transfer.Transfer.TheVariants.{Store, Load, LoadSigned, LoadSigned32, Prefetch}
+use Rattle.emu_run.specs.Done.{Done, traps}
+use Rattle.emu_run.specs.Elements.{Element, Reach, reach, with_stored, accesses_of}
+use Rattle.emu_run.specs.Flow.{offset, target}
+use Rattle.emu_run.specs.ScalarBits.{extended, sign_extended}
 
--- What an instruction leaves: registers and memory, and how the step goes on.
-pub record Done : Type 0 where
-  pub core : Core
-  pub memory : Memory
-  pub effect : Effect
+-- ---- what is moved
 
--- goes on behind the instruction
-abbrev pub went_well : Core → Memory → Done
-went_well c m = record { core = c; memory = m; effect = Next }
+-- by the fields size and opc: stores, loads with zeros above, loads with the sign to 64 bits (at size 3 a prefetch), and to 32 bits
+abbrev pub transfer : ℕ → ℕ → Transfer
+transfer size opc =
+    if nat_eq opc 0 then Store
+    else (if nat_eq opc 1 then Load
+    else (if nat_eq opc 3 then LoadSigned32
+    else (if nat_eq size 3 then Prefetch else LoadSigned)))
 
--- traps, with the registers as they were
-abbrev pub traps : Core → Memory → TrapKind → ℕ → Done
-traps c m kind a = record { core = c; memory = m; effect = Trap (record { kind = kind; address = a }) }
+-- of a literal by opc: ldr W, ldr X, ldrsw, prfm
+abbrev pub literal_transfer : ℕ → Transfer
+literal_transfer opc = if nat_eq opc 2 then LoadSigned else (if nat_eq opc 3 then Prefetch else Load)
 
--- the base is SP, and SP isn't a multiple of 16
-abbrev pub is_misaligned : Core → ℕ → Bool
-is_misaligned c rn = nat_eq rn 31 && not (nat_eq (c.sp % 16) 0)
+abbrev pub literal_bytes : ℕ → ℕ
+literal_bytes opc = if nat_eq opc 1 then 8 else 4
 
--- an X register has 8 bytes: the offset counts in these
-abbrev pub offset_address : Core → ℕ → ℕ → ℕ
-offset_address c rn imm = address (read_x_sp c rn + 8 * imm)
+-- of a pair by opc and L: W registers, ldpsw, X registers
+abbrev pub pair_transfer : ℕ → Bool → Transfer
+pair_transfer opc l = if l then (if nat_eq opc 1 then LoadSigned else Load) else Store
 
-abbrev pub stored_unless : Option ℕ → Core → Memory → ℕ → ℕ → Done
-stored_unless (Some at) c m a v = traps c m Write at
-stored_unless None c m a v = went_well c (stored m a 8 v)
+abbrev pub pair_bytes : ℕ → ℕ
+pair_bytes opc = if nat_eq opc 2 then 8 else 4
 
-abbrev pub loaded_unless : Option ℕ → Core → Memory → ℕ → ℕ → Done
-loaded_unless (Some at) c m a rt = traps c m Read at
-loaded_unless None c m a rt = went_well (with_x c rt 64 (value m a 8)) m
+abbrev pub ordered_transfer : OrderedOp → Transfer
+ordered_transfer Stlr = Store
+ordered_transfer Ldar = Load
 
-abbrev pub store_x : ℕ → ℕ → Core → Memory → Done
-store_x a rt c m = stored_unless (refused m a 8 WriteKind) c m a (read_x c rt)
+abbrev pub transfer_of : A64Form → Transfer
+transfer_of (LsUnsigned size v opc imm12 rn rt) = transfer size opc
+transfer_of (LsUnscaled size v opc imm9 rn rt) = transfer size opc
+transfer_of (LsPost size v opc imm9 rn rt) = transfer size opc
+transfer_of (LsPre size v opc imm9 rn rt) = transfer size opc
+transfer_of (LsReg size v opc rm ext s rn rt) = transfer size opc
+transfer_of (LsLiteral opc v imm19 rt) = literal_transfer opc
+transfer_of (Pair opc v mode l imm7 rt2 rn rt) = pair_transfer opc l
+transfer_of (StoreEx op size rs rn rt) = Store
+transfer_of (LoadEx op size rn rt) = Load
+transfer_of (Ordered op size rn rt) = ordered_transfer op
+transfer_of form = Prefetch
 
-abbrev pub load_x : ℕ → ℕ → Core → Memory → Done
-load_x a rt c m = loaded_unless (refused m a 8 ReadKind) c m a rt
+-- ---- addresses
 
--- str where opc is 0, ldr where it is 1: first the alignment of SP, then the access
-abbrev pub access_x : ℕ → ℕ → ℕ → ℕ → Core → Memory → Done
-access_x opc imm rn rt c m =
-    if is_misaligned c rn then traps c m SpAlign c.sp
-    else (if nat_eq opc 0 then store_x (offset_address c rn imm) rt c m else load_x (offset_address c rn imm) rt c m)
+-- a base register, which is SP where its number is 31, and a signed 9-bit offset
+abbrev pub near : Core → ℕ → ℕ → ℕ
+near c rn imm9 = offset (read_x_sp c rn) (signed imm9 9)
+
+-- an extended register, times n where S is 1
+abbrev pub indexed : Core → ℕ → ℕ → ℕ → Bool → ℕ → ℕ
+indexed c rn rm ext s n = address (read_x_sp c rn + extended ext (read_x c rm) * (if s then n else 1))
+
+-- a signed 7-bit offset that counts in accesses
+abbrev pub pair_near : Core → ℕ → ℕ → ℕ → ℕ
+pair_near c rn n imm7 = offset (read_x_sp c rn) (pos n *ℤ signed imm7 7)
+
+-- mode 1 is post-indexed: the base itself; 0 and 2 are offset, and 3 is pre-indexed
+abbrev pub pair_address : Core → ℕ → ℕ → ℕ → ℕ → ℕ
+pair_address c mode rn n imm7 = if nat_eq mode 1 then read_x_sp c rn else pair_near c rn n imm7
+
+-- modes 1 and 3 write the base back
+abbrev pub writes_back : ℕ → Bool
+writes_back mode = nat_eq mode 1 || nat_eq mode 3
+
+-- ---- the elements
+
+-- one element, and none of a prefetch
+abbrev pub single : Transfer → ℕ → ℕ → ℕ → List Element
+single Prefetch rt a n = []
+single t rt a n = record { lane = 0; register = rt; address = a; bytes = n } ∷ []
+
+-- the first register at an address, the second behind it
+abbrev pub couple : ℕ → ℕ → ℕ → ℕ → List Element
+couple rt rt2 a n = record { lane = 0; register = rt; address = a; bytes = n } ∷ record { lane = 0; register = rt2; address = address (a + n); bytes = n } ∷ []
+
+-- the exclusive monitor keeps this address and this size
+abbrev pub is_kept : Option (ℕ × ℕ) → ℕ → ℕ → Bool
+is_kept None a n = false
+is_kept (Some k) a n = nat_eq k.0 a && nat_eq k.1 n
+
+-- an exclusive store whose monitor keeps another address or size has none
+abbrev pub exclusive : Core → ℕ → ℕ → ℕ → List Element
+exclusive c rt a n = if is_kept c.monitor a n then single Store rt a n else []
+
+abbrev pub elements : A64Form → Core → List Element
+elements (LsUnsigned size v opc imm12 rn rt) c = single (transfer size opc) rt (address (read_x_sp c rn + 2 ^ size * imm12)) (2 ^ size)
+elements (LsUnscaled size v opc imm9 rn rt) c = single (transfer size opc) rt (near c rn imm9) (2 ^ size)
+elements (LsPost size v opc imm9 rn rt) c = single (transfer size opc) rt (read_x_sp c rn) (2 ^ size)
+elements (LsPre size v opc imm9 rn rt) c = single (transfer size opc) rt (near c rn imm9) (2 ^ size)
+elements (LsReg size v opc rm ext s rn rt) c = single (transfer size opc) rt (indexed c rn rm ext s (2 ^ size)) (2 ^ size)
+elements (LsLiteral opc v imm19 rt) c = single (literal_transfer opc) rt (target c 19 imm19) (literal_bytes opc)
+elements (Pair opc v mode l imm7 rt2 rn rt) c = couple rt rt2 (pair_address c mode rn (pair_bytes opc) imm7) (pair_bytes opc)
+elements (StoreEx op size rs rn rt) c = exclusive c rt (read_x_sp c rn) (2 ^ size)
+elements (LoadEx op size rn rt) c = single Load rt (read_x_sp c rn) (2 ^ size)
+elements (Ordered op size rn rt) c = single (ordered_transfer op) rt (read_x_sp c rn) (2 ^ size)
+elements form c = []
+
+-- ---- the tests before the access
+
+-- the base is SP, which a prefetch doesn't test
+abbrev pub has_sp : Transfer → ℕ → Bool
+has_sp Prefetch rn = false
+has_sp t rn = nat_eq rn 31
+
+abbrev pub has_sp_base : A64Form → Bool
+has_sp_base (LsUnsigned size v opc imm12 rn rt) = has_sp (transfer size opc) rn
+has_sp_base (LsUnscaled size v opc imm9 rn rt) = has_sp (transfer size opc) rn
+has_sp_base (LsPost size v opc imm9 rn rt) = has_sp (transfer size opc) rn
+has_sp_base (LsPre size v opc imm9 rn rt) = has_sp (transfer size opc) rn
+has_sp_base (LsReg size v opc rm ext s rn rt) = has_sp (transfer size opc) rn
+has_sp_base (Pair opc v mode l imm7 rt2 rn rt) = nat_eq rn 31
+has_sp_base (StoreEx op size rs rn rt) = nat_eq rn 31
+has_sp_base (LoadEx op size rn rt) = nat_eq rn 31
+has_sp_base (Ordered op size rn rt) = nat_eq rn 31
+has_sp_base form = false
+
+-- and SP isn't a multiple of 16
+abbrev pub is_misaligned : Bool → Core → Bool
+is_misaligned has c = has && not (nat_eq (c.sp % 16) 0)
+
+-- an address, where it isn't a multiple of n
+abbrev pub unless_multiple : ℕ → ℕ → Option ℕ
+unless_multiple a n = if nat_eq (a % n) 0 then None else Some a
+
+-- exclusive and ordered accesses stand at multiples of their size; the others stand anywhere
+abbrev pub misaligned : A64Form → Core → Option ℕ
+misaligned (StoreEx op size rs rn rt) c = unless_multiple (read_x_sp c rn) (2 ^ size)
+misaligned (LoadEx op size rn rt) c = unless_multiple (read_x_sp c rn) (2 ^ size)
+misaligned (Ordered op size rn rt) c = unless_multiple (read_x_sp c rn) (2 ^ size)
+misaligned form c = None
+
+-- ---- what is left
+
+-- what a load of n bytes puts into its register
+abbrev pub loaded_value : Transfer → ℕ → ℕ → ℕ
+loaded_value LoadSigned n v = sign_extended 64 (8 * n) v
+loaded_value LoadSigned32 n v = sign_extended 32 (8 * n) v
+loaded_value t n v = v
+
+-- the registers after elements were loaded in order
+abbrev pub with_loaded : Transfer → Memory → List Element → Core → Core
+with_loaded t m [] c = c
+with_loaded t m (e ∷ es) c = with_loaded t m es (with_x c e.register 64 (loaded_value t e.bytes (value m e.address e.bytes)))
+
+-- behind an access that was done: the base is written back, with an address made of the old one
+abbrev pub based : Bool → Core → ℕ → ℕ → Core
+based writes c rn a = if writes then with_x_sp c rn 64 a else c
+
+-- Ws is 0 where the exclusive store was done, else 1, and the monitor is empty
+abbrev pub after_exclusive : Core → ℕ → Bool → Core
+after_exclusive c rs done = record (with_x c rs 32 (bit (not done))) { monitor = None }
+
+-- from the registers before the access, and those with what it loaded
+abbrev pub behind : A64Form → Core → Core → Core
+behind (LsPost size v opc imm9 rn rt) c d = with_x_sp d rn 64 (near c rn imm9)
+behind (LsPre size v opc imm9 rn rt) c d = with_x_sp d rn 64 (near c rn imm9)
+behind (Pair opc v mode l imm7 rt2 rn rt) c d = based (writes_back mode) d rn (pair_near c rn (pair_bytes opc) imm7)
+behind (StoreEx op size rs rn rt) c d = after_exclusive d rs (is_kept c.monitor (read_x_sp c rn) (2 ^ size))
+behind (LoadEx op size rn rt) c d = record d { monitor = Some (read_x_sp c rn, 2 ^ size) }
+behind form c d = d
+
+-- a store that is refused has stored the elements before
+abbrev pub store_as_far : Option ℕ → List Element → (Core → Core) → Core → Memory → Done
+store_as_far None es after c m = record { core = after c; memory = with_stored (λ e. read_x c e.register) es m; accesses = accesses_of true es; effect = Next }
+store_as_far (Some a) es after c m = record { core = c; memory = with_stored (λ e. read_x c e.register) es m; accesses = accesses_of true es; effect = Trap (record { kind = Write; address = a }) }
+
+-- a load that is refused changes no register
+abbrev pub load_as_far : Transfer → Option ℕ → List Element → (Core → Core) → Core → Memory → Done
+load_as_far t None es after c m = record { core = after (with_loaded t m es c); memory = m; accesses = accesses_of false es; effect = Next }
+load_as_far t (Some a) es after c m = record { core = c; memory = m; accesses = accesses_of false es; effect = Trap (record { kind = Read; address = a }) }
+
+abbrev pub stored_to : Reach → (Core → Core) → Core → Memory → Done
+stored_to r after c m = store_as_far r.stop r.done after c m
+
+abbrev pub loaded_to : Transfer → Reach → (Core → Core) → Core → Memory → Done
+loaded_to t r after c m = load_as_far t r.stop r.done after c m
+
+-- elements stored or loaded one after the other, and what comes after them
+abbrev pub transferred : Transfer → List Element → (Core → Core) → Core → Memory → Done
+transferred Store es after c m = stored_to (reach m WriteKind es) after c m
+transferred t es after c m = loaded_to t (reach m ReadKind es) after c m
+
+abbrev pub unless_misaligned : Option ℕ → Core → Memory → Done → Done
+unless_misaligned (Some a) c m d = traps c m AccessAlign a
+unless_misaligned None c m d = d
+
+-- the tests in their order: the alignment of SP where it is the base, and that of the address
+abbrev pub tested : Bool → Option ℕ → Core → Memory → Done → Done
+tested has at c m d = if is_misaligned has c then traps c m SpAlign c.sp else unless_misaligned at c m d
+
+abbrev pub access : A64Form → Core → Memory → Done
+access form c m = tested (has_sp_base form) (misaligned form c) c m (transferred (transfer_of form) (elements form c) (behind form c) c m)
+
+-- the rows of this page: those of the general registers
+abbrev pub is_load_store : A64Form → Bool
+is_load_store (LsUnsigned size v opc imm12 rn rt) = not v
+is_load_store (LsUnscaled size v opc imm9 rn rt) = not v
+is_load_store (LsPost size v opc imm9 rn rt) = not v
+is_load_store (LsPre size v opc imm9 rn rt) = not v
+is_load_store (LsReg size v opc rm ext s rn rt) = not v
+is_load_store (LsLiteral opc v imm19 rt) = not v
+is_load_store (Pair opc v mode l imm7 rt2 rn rt) = not v
+is_load_store (StoreEx op size rs rn rt) = true
+is_load_store (LoadEx op size rn rt) = true
+is_load_store (Ordered op size rn rt) = true
+is_load_store form = false

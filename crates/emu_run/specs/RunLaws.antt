@@ -12,7 +12,7 @@ use Rattle.emu_model.specs.Start.{with_input}
 use Rattle.emu_run.specs.declared.insn.Insn.{Insn}
 use Rattle.emu_run.specs.declared.insn.Insn.TheVariants.{A64}
 use Rattle.emu_run.specs.SystemCall.{Turn, quiet, call_of, kind_of_call, CallKind, write_of, writing, Writing, exit, write, unknown, no_file, no_bytes, no_right, to_output, to_errors}
-use Rattle.emu_run.specs.LoadStore.{Done}
+use Rattle.emu_run.specs.Done.{Done}
 use Rattle.emu_run.specs.Step.{decode, runs, performed, trapped, finished, finish, undefined, executed, fetched, turn, taken_by, step}
 use Rattle.emu_run.specs.Run.{goes_on, until_end, run}
 

@@ -1,7 +1,7 @@
 -- What each instruction on the scalar registers does to them.
 use Rattle.std.specs.Prelude.{ℕ, ◌+◌, ◌*◌, ◌/◌, ◌%◌, ◌^◌, Bool, true, false, bit_and, bit_or, bit_xor, if◌then◌else◌, Option, Some, None, ℤ, pos, ◌+ℤ◌, ◌*ℤ◌}
 use Rattle.a64_insn.specs.declared.form.A64Form.{A64Form}
-use Rattle.a64_insn.specs.declared.form.A64Form.TheVariants.{Adr, AddImm, LogicImm, MoveWide, Bitfield, Extract, LogicReg, AddReg, AddExt, AddCarry, CondReg, CondImm, Select, MulAdd, MulLong, MulHigh, TwoSource, OneSource, Rev, Except, LsUnsigned}
+use Rattle.a64_insn.specs.declared.form.A64Form.TheVariants.{Adr, AddImm, LogicImm, MoveWide, Bitfield, Extract, LogicReg, AddReg, AddExt, AddCarry, CondReg, CondImm, Select, MulAdd, MulLong, MulHigh, TwoSource, OneSource, Rev}
 use Rattle.a64_insn.specs.declared.ops.AdrOp.{AdrOp}
 use Rattle.a64_insn.specs.declared.ops.AdrOp.TheVariants.{Adr as AdrByte, Adrp}
 use Rattle.a64_insn.specs.declared.ops.AddOp.{AddOp}
@@ -236,9 +236,26 @@ byte_reversed Rev32 a = reversed_bytes 4 8 a
 
 -- the rows that work on the scalar registers and the flags alone
 abbrev pub is_data : A64Form → Bool
-is_data (Except op imm16) = false
-is_data (LsUnsigned size v opc imm12 rn rt) = false
-is_data form = true
+is_data (Adr op immlo immhi rd) = true
+is_data (AddImm op sf sh imm rn rd) = true
+is_data (LogicImm op sf n immr imms rn rd) = true
+is_data (MoveWide op sf hw imm rd) = true
+is_data (Bitfield op sf n r s rn rd) = true
+is_data (Extract sf n rm s rn rd) = true
+is_data (LogicReg op sf shift rm amount rn rd) = true
+is_data (AddReg op sf shift rm amount rn rd) = true
+is_data (AddExt op sf rm ext a rn rd) = true
+is_data (AddCarry op sf rm rn rd) = true
+is_data (CondReg op sf rm cond rn f) = true
+is_data (CondImm op sf i cond rn f) = true
+is_data (Select op sf rm cond rn rd) = true
+is_data (MulAdd op sf rm ra rn rd) = true
+is_data (MulLong op rm ra rn rd) = true
+is_data (MulHigh op rm rn rd) = true
+is_data (TwoSource op sf rm rn rd) = true
+is_data (OneSource op sf rn rd) = true
+is_data (Rev op rn rd) = true
+is_data form = false
 
 -- The registers after an instruction of the data rows, which goes on behind it.
 abbrev pub scalar : A64Form → Core → Core

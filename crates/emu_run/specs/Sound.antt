@@ -4,66 +4,38 @@ use Rattle.std.proofs.Common.{◌∙◌, arith, length-append}
 use Rattle.std.proofs.Math.ListN.{length-replicate}
 use Rattle.std.proofs.lemmas.List.{length-take, length-map}
 use Rattle.a64_insn.specs.declared.form.A64Form.{A64Form}
-use Rattle.a64_insn.specs.declared.form.A64Form.TheVariants.{Except, LsUnsigned}
-use Rattle.emu_model.specs.declared.access.Kind.TheVariants.{Read as ReadKind, Write as WriteKind, Fetch as FetchKind}
+use Rattle.emu_model.specs.declared.access.Kind.TheVariants.{Fetch as FetchKind}
 use Rattle.emu_model.specs.declared.trap.TrapKind.{TrapKind}
-use Rattle.emu_model.specs.declared.trap.TrapKind.TheVariants.{Undefined, PcAlign, SpAlign, Read, Write, Fetch}
+use Rattle.emu_model.specs.declared.trap.TrapKind.TheVariants.{Undefined, PcAlign, Fetch}
 use Rattle.emu_model.specs.declared.trap.Effect.{Effect}
 use Rattle.emu_model.specs.declared.trap.Effect.TheVariants.{Next, Branch, Call, Trap as Trapping}
-use Rattle.emu_model.specs.Access.{Memory, address, refused, stored, value}
+use Rattle.emu_model.specs.Access.{Memory, address, refused, value}
 use Rattle.emu_model.specs.State.{Core, Vectors, Parts, State, read_x, with_x, IsWord, IsByte, AreBytes, IsRegister, HasLength, IsSoundCore, IsSoundVectors, IsSoundMemory, IsSoundParts, IsSound}
 use Rattle.emu_model.specs.SoundLists.{all_append, all_take, all_replicate, all_map}
-use Rattle.emu_model.specs.Sound.{with_x_sound, with_pc_sound, monitor_sound, stored_sound, address_is_word, bytes_at_are_bytes, refused_is_word}
+use Rattle.emu_model.specs.Sound.{with_x_sound, with_pc_sound, monitor_sound, address_is_word, bytes_at_are_bytes, refused_is_word}
 use Rattle.emu_run.specs.declared.insn.Insn.{Insn}
 use Rattle.emu_run.specs.declared.insn.Insn.TheVariants.{A64}
-use Rattle.emu_run.specs.Scalar.{scalar}
-use Rattle.emu_run.specs.LoadStore.{Done, went_well, traps, is_misaligned, offset_address, stored_unless, loaded_unless, store_x, load_x, access_x}
+use Rattle.emu_run.specs.Done.{Done, went_well}
+use Rattle.emu_run.specs.Flow.{is_flow, flow}
+use Rattle.emu_run.specs.LoadStore.{access}
+use Rattle.emu_run.specs.Scalar.{is_data, scalar}
+use Rattle.emu_run.specs.SoundDone.{IsSoundEffect, IsSoundDone, well_sound}
+use Rattle.emu_run.specs.SoundFlow.{flow_sound}
+use Rattle.emu_run.specs.SoundLoadStore.{access_sound}
 use Rattle.emu_run.specs.SystemCall.{Turn, quiet, went_on, low_bytes, no_bits, after_call, answered_core, returned, error_answer, count_of, bytes_written, Writing, no_file, no_bytes, no_right, to_output, to_errors, writing, write_of, CallKind, exit, write, unknown, kind_of_call, call_of}
 use Rattle.emu_run.specs.Step.{decode, runs, performed, trapped, finished, finish, undefined, executed, fetched, turn, taken_by, step}
 use Rattle.emu_run.specs.SoundScalar.{scalar_sound}
 
 -- ---- what an instruction leaves
 
-abbrev IsSoundEffect : Effect → Type 0
-IsSoundEffect Next = Unit {0}
-IsSoundEffect (Branch a) = IsWord a
-IsSoundEffect Call = Unit {0}
-IsSoundEffect (Trapping t) = IsWord t.address
-
-record IsSoundDone (d : Done) : Type 0 where
-  core : IsSoundCore d.core
-  memory : IsSoundMemory d.memory
-  effect : IsSoundEffect d.effect
-
-well_sound : (c : Core) (m : Memory) → IsSoundCore c → IsSoundMemory m → IsSoundDone (went_well c m)
-well_sound c m s t = record { core = s; memory = t; effect = tt }
-
-traps_sound : (c : Core) (m : Memory) (kind : TrapKind) (a : ℕ) → IsSoundCore c → IsSoundMemory m → IsWord a → IsSoundDone (traps c m kind a)
-traps_sound c m kind a s t w = record { core = s; memory = t; effect = w }
-
-stored_unless_sound : (o : Option ℕ) (c : Core) (m : Memory) (a v : ℕ) → IfSome o IsWord → IsSoundCore c → IsSoundMemory m → IsSoundDone (stored_unless o c m a v)
-stored_unless_sound (Some at) c m a v w s t = traps_sound c m Write at s t w
-stored_unless_sound None c m a v w s t = well_sound c (stored m a 8 v) s (stored_sound m a 8 v t)
-
-loaded_unless_sound : (o : Option ℕ) (c : Core) (m : Memory) (a rt : ℕ) → IfSome o IsWord → IsSoundCore c → IsSoundMemory m → IsSoundDone (loaded_unless o c m a rt)
-loaded_unless_sound (Some at) c m a rt w s t = traps_sound c m Read at s t w
-loaded_unless_sound None c m a rt w s t = well_sound (with_x c rt 64 (value m a 8)) m (with_x_sound c rt 64 (value m a 8) (omega arith) s) t
-
-access_sound : (opc imm rn rt : ℕ) (c : Core) (m : Memory) → IsSoundCore c → IsSoundMemory m → IsSoundDone (access_x opc imm rn rt c m)
-access_sound opc imm rn rt c m s t =
-    let a : ℕ = offset_address c rn imm in
-    elim (is_misaligned c rn) as (λ b. IsSoundDone (if b then traps c m SpAlign c.sp else (if nat_eq opc 0 then store_x a rt c m else load_x a rt c m))) [
-      | true ↦ traps_sound c m SpAlign c.sp s t s.sp
-      | false ↦ elim (nat_eq opc 0) as (λ b. IsSoundDone (if b then store_x a rt c m else load_x a rt c m)) [
-        | true ↦ stored_unless_sound (refused m a 8 WriteKind) c m a (read_x c rt) (refused_is_word m a 8 WriteKind) s t
-        | false ↦ loaded_unless_sound (refused m a 8 ReadKind) c m a rt (refused_is_word m a 8 ReadKind) s t
-      ]
-    ]
-
 performed_sound : (form : A64Form) (c : Core) (m : Memory) → IsSoundCore c → IsSoundMemory m → IsSoundDone (performed form c m)
-performed_sound (Except op imm16) c m s t = record { core = s; memory = t; effect = tt }
-performed_sound (LsUnsigned size v opc imm12 rn rt) c m s t = access_sound opc imm12 rn rt c m s t
-performed_sound form c m s t = well_sound (scalar form c) m (scalar_sound form c s) t
+performed_sound form c m s t = elim (is_data form) as (λ b. IsSoundDone (if b then went_well (scalar form c) m else (if is_flow form then flow form c m else access form c m))) [
+  | true ↦ well_sound (scalar form c) m (scalar_sound form c s) t
+  | false ↦ elim (is_flow form) as (λ b. IsSoundDone (if b then flow form c m else access form c m)) [
+    | true ↦ flow_sound c m s t form
+    | false ↦ access_sound c m s t form
+  ]
+]
 
 -- ---- what a step makes of the machine
 

@@ -1,10 +1,9 @@
 -- One step: the word at the program counter is fetched and decoded, and its instruction is done.
-use Rattle.std.specs.Prelude.{ℕ, ◌+◌, ◌%◌, Bool, true, false, not, ◌&&◌, nat_lt, List, ◌++◌, Option, Some, None, nat_eq, if◌then◌else◌}
+use Rattle.std.specs.Prelude.{ℕ, ◌+◌, ◌%◌, Bool, ◌||◌, List, [], ◌++◌, Option, Some, None, nat_eq, if◌then◌else◌}
 use Rattle.emu_bits.specs.Rows.{instruction}
 use Rattle.a64_insn.specs.Table.{a64_table}
 use Rattle.a64_insn.specs.declared.form.A64Form.{A64Form}
-use Rattle.a64_insn.specs.declared.form.A64Form.TheVariants.{Except, LsUnsigned}
-use Rattle.a64_insn.specs.declared.ops.ExceptOp.TheVariants.{Svc}
+use Rattle.emu_model.specs.declared.access.Access.{Access}
 use Rattle.emu_model.specs.declared.access.Kind.TheVariants.{Fetch as FetchKind}
 use Rattle.emu_model.specs.declared.trap.TrapKind.{TrapKind}
 use Rattle.emu_model.specs.declared.trap.TrapKind.TheVariants.{Undefined, PcAlign, Fetch}
@@ -14,7 +13,9 @@ use Rattle.emu_model.specs.declared.trap.Ended.TheVariants.{Trap as Trapped}
 use Rattle.emu_model.specs.Access.{Memory, address, refused, value}
 use Rattle.emu_model.specs.State.{Core, Parts, State}
 use Rattle.emu_run.specs.Scalar.{is_data, scalar}
-use Rattle.emu_run.specs.LoadStore.{Done, access_x, went_well}
+use Rattle.emu_run.specs.Done.{Done, went_well}
+use Rattle.emu_run.specs.Flow.{is_flow, flow}
+use Rattle.emu_run.specs.LoadStore.{is_load_store, access}
 use Rattle.emu_run.specs.SystemCall.{Turn, quiet, went_on, call}
 use Rattle.emu_run.specs.declared.insn.Insn.{Insn}
 use Rattle.emu_run.specs.declared.insn.Insn.TheVariants.{A64}
@@ -27,18 +28,14 @@ a64 (Some form) = Some (A64 form)
 abbrev pub decode : ℕ → Option Insn
 decode w = a64 (instruction a64_table w)
 
--- the rows that run so far: the data rows, svc, and the loads and stores of X registers; the words of the others are undefined
+-- the rows that run so far: the data rows, branches and system rows, and the loads and stores of general registers; the
+-- words of the others are undefined
 abbrev pub runs : A64Form → Bool
-runs (Except Svc imm16) = true
-runs (Except op imm16) = false
-runs (LsUnsigned size v opc imm12 rn rt) = nat_eq size 3 && (not v && nat_lt opc 2)
-runs form = is_data form
+runs form = is_data form || (is_flow form || is_load_store form)
 
 -- the effect of a row that runs
 abbrev pub performed : A64Form → Core → Memory → Done
-performed (Except op imm16) c m = record { core = c; memory = m; effect = Call }
-performed (LsUnsigned size v opc imm12 rn rt) c m = access_x opc imm12 rn rt c m
-performed form c m = went_well (scalar form c) m
+performed form c m = if is_data form then went_well (scalar form c) m else (if is_flow form then flow form c m else access form c m)
 
 -- ends by a trap, with no step counted
 abbrev pub trapped : Parts → TrapKind → ℕ → Parts
@@ -69,6 +66,19 @@ fetched m input None = executed m input (decode (value m.memory m.core.pc 4))
 abbrev pub turn : Parts → List ℕ → Turn
 turn m input =
     if nat_eq (m.core.pc % 4) 0 then fetched m input (refused m.memory m.core.pc 4 FetchKind) else quiet (trapped m PcAlign m.core.pc) input
+
+-- The accesses that a step makes to the elements of its instruction, in order. The fetch isn't one of them, nor is what a
+-- call reads or writes, and a refused element isn't.
+abbrev pub executed_accesses : Parts → Option Insn → List Access
+executed_accesses m None = []
+executed_accesses m (Some (A64 form)) = if runs form then (performed form m.core m.memory).accesses else []
+
+abbrev pub fetched_accesses : Parts → Option ℕ → List Access
+fetched_accesses m (Some a) = []
+fetched_accesses m None = executed_accesses m (decode (value m.memory m.core.pc 4))
+
+abbrev pub accesses : Parts → List Access
+accesses m = if nat_eq (m.core.pc % 4) 0 then fetched_accesses m (refused m.memory m.core.pc 4 FetchKind) else []
 
 -- what is put comes behind what was written
 abbrev pub taken_by : State → Turn → State

@@ -4,6 +4,8 @@
 pub mod ending;
 pub mod insn;
 pub mod laws;
+pub mod transfer;
 
 pub use ending::Ending;
 pub use insn::Insn;
+pub use transfer::Transfer;

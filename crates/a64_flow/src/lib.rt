@@ -1,0 +1,81 @@
+//! Branches, the system's rows, and the loads and stores of general registers.
+#![tactic(auto)]
+
+mod branches;
+mod elements;
+mod fields;
+mod numbers;
+mod rows;
+
+ghost use Rattle.std.specs.Prelude.{◌≡◌, ◌||◌, [], true};
+ghost use Rattle.emu_run.specs.Flow.{is_flow};
+ghost use Rattle.emu_run.specs.LoadStore.{is_load_store};
+ghost use Rattle.emu_run.specs.Step.{performed};
+
+use a64_insn::{A64, A64Form};
+use core_regs::{Core, Effect};
+use guest_mem::{AccessLog, Mem};
+
+/// Whether an instruction is in a row of this crate: a branch or system row, or a load or store of general registers.
+pub fn is_own(i: &A64) -> bool
+    ensures { result ≡ (is_flow i.now || is_load_store i.now) }
+{
+    match *i.form() {
+        A64Form::Branch { .. }
+        | A64Form::BranchCond { .. }
+        | A64Form::Compare { .. }
+        | A64Form::Test { .. }
+        | A64Form::BranchReg { .. }
+        | A64Form::Except { .. }
+        | A64Form::Hint { .. }
+        | A64Form::Barrier { .. }
+        | A64Form::ReadSys { .. }
+        | A64Form::WriteSys { .. }
+        | A64Form::StoreEx { .. }
+        | A64Form::LoadEx { .. }
+        | A64Form::Ordered { .. } => true,
+        A64Form::LsUnsigned { v, .. }
+        | A64Form::LsUnscaled { v, .. }
+        | A64Form::LsPost { v, .. }
+        | A64Form::LsPre { v, .. }
+        | A64Form::LsReg { v, .. }
+        | A64Form::LsLiteral { v, .. }
+        | A64Form::Pair { v, .. } => !v,
+        _ => false,
+    }
+}
+
+/// Does an instruction of the branch and system rows, or a load or store of general registers, and says how the step goes
+/// on. The elements that were loaded or stored are logged in order. A trap changes no register; a store that traps has
+/// stored and logged the elements before the one that was refused.
+pub fn exec(core: &mut Core, mem: &mut Mem, log: &mut AccessLog, i: &A64) -> Effect
+    requires own { (is_flow i.now || is_load_store i.now) ≡ true }
+    requires empty { log.old.items ≡ [] }
+    ensures registers { core.new ≡ (performed i.now core.old mem.old).core }
+    ensures memory { mem.new ≡ (performed i.now core.old mem.old).memory }
+    ensures accesses { log.new.items ≡ (performed i.now core.old mem.old).accesses }
+    ensures effect { result ≡ (performed i.now core.old mem.old).effect }
+{
+    match *i.form() {
+        A64Form::Branch { op, imm26 } => branches::branch(core, op, imm26),
+        A64Form::BranchCond { imm19, cond } => branches::branch_cond(core, imm19, cond),
+        A64Form::Compare { op, sf, imm19, rt } => branches::compare(core, op, sf, imm19, rt),
+        A64Form::Test {
+            op,
+            b5,
+            b40,
+            imm14,
+            rt,
+        } => branches::test(core, op, b5, b40, imm14, rt),
+        A64Form::BranchReg { op, rn } => branches::branch_reg(core, op, rn),
+        A64Form::Except { op, imm16 } => branches::except(core, op, imm16),
+        A64Form::Hint { .. } => Effect::Next,
+        A64Form::Barrier { op, .. } => branches::barrier(core, op),
+        A64Form::ReadSys { op, rt } => branches::read_sys(core, op, rt),
+        A64Form::WriteSys { op, rt } => branches::write_sys(core, op, rt),
+        _ => match rows::access(core, mem, log, i) {
+            Ok(()) => Effect::Next,
+            Err(trap) => Effect::Trap(trap),
+        },
+    }
+}

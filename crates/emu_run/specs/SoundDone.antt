@@ -1,0 +1,28 @@
+-- What an instruction leaves is sound where its registers, its memory and the address of its effect are.
+use Rattle.std.specs.Prelude.{ℕ}
+use Rattle.emu_model.specs.declared.trap.TrapKind.{TrapKind}
+use Rattle.emu_model.specs.declared.trap.Effect.{Effect}
+use Rattle.emu_model.specs.declared.trap.Effect.TheVariants.{Next, Branch, Call, Trap}
+use Rattle.emu_model.specs.Access.{Memory}
+use Rattle.emu_model.specs.State.{Core, IsWord, IsSoundCore, IsSoundMemory}
+use Rattle.emu_run.specs.Done.{Done, went_well, branches, traps}
+
+abbrev pub IsSoundEffect : Effect → Type 0
+IsSoundEffect Next = Unit {0}
+IsSoundEffect (Branch a) = IsWord a
+IsSoundEffect Call = Unit {0}
+IsSoundEffect (Trap t) = IsWord t.address
+
+pub record IsSoundDone (d : Done) : Type 0 where
+  pub core : IsSoundCore d.core
+  pub memory : IsSoundMemory d.memory
+  pub effect : IsSoundEffect d.effect
+
+pub well_sound : (c : Core) (m : Memory) → IsSoundCore c → IsSoundMemory m → IsSoundDone (went_well c m)
+well_sound c m s t = record { core = s; memory = t; effect = tt }
+
+pub branches_sound : (c : Core) (m : Memory) (a : ℕ) → IsSoundCore c → IsSoundMemory m → IsWord a → IsSoundDone (branches c m a)
+branches_sound c m a s t w = record { core = s; memory = t; effect = w }
+
+pub traps_sound : (c : Core) (m : Memory) (kind : TrapKind) (a : ℕ) → IsSoundCore c → IsSoundMemory m → IsWord a → IsSoundDone (traps c m kind a)
+traps_sound c m kind a s t w = record { core = s; memory = t; effect = w }

@@ -1,0 +1,109 @@
+-- Loads and stores keep the registers and the memory sound.
+use Rattle.std.specs.Prelude.{ℕ, ◌%◌, ◌^◌, Bool, true, false, not, List, [], ◌∷◌, Option, Some, None, IfSome, nat_eq, if◌then◌else◌}
+use Rattle.std.proofs.Common.{arith}
+use Rattle.a64_insn.specs.declared.form.A64Form.{A64Form}
+use Rattle.a64_insn.specs.declared.form.A64Form.TheVariants.{LsPost, LsPre, Pair, StoreEx, LoadEx, Ordered}
+use Rattle.emu_bits.specs.Fields.{bit}
+use Rattle.emu_model.specs.declared.access.Kind.{Kind}
+use Rattle.emu_model.specs.declared.access.Kind.TheVariants.{Read as ReadKind, Write as WriteKind}
+use Rattle.emu_model.specs.declared.trap.TrapKind.TheVariants.{SpAlign, AccessAlign}
+use Rattle.emu_model.specs.Access.{Memory, refused, stored, value}
+use Rattle.emu_model.specs.Sound.{with_x_sound, with_x_sp_sound, monitor_sound, stored_sound, refused_is_word}
+use Rattle.emu_model.specs.State.{Core, read_x, read_x_sp, with_x, with_x_sp, IsWord, IsSoundCore, IsSoundMemory}
+use Rattle.emu_run.specs.Done.{Done, traps}
+use Rattle.emu_run.specs.Elements.{Element, Reach, reach_from, reach, with_stored}
+use Rattle.emu_run.specs.declared.transfer.Transfer.{Transfer}
+use Rattle.emu_run.specs.declared.transfer.Transfer.TheVariants.{Store, Load, LoadSigned, LoadSigned32, Prefetch}
+use Rattle.emu_run.specs.LoadStore.{transfer_of, near, pair_near, pair_bytes, writes_back, is_kept, elements, has_sp_base, is_misaligned, unless_multiple, misaligned, loaded_value, with_loaded, based, behind, store_as_far, load_as_far, loaded_to, transferred, unless_misaligned, tested, access}
+use Rattle.emu_run.specs.SoundDone.{IsSoundDone, traps_sound}
+use Rattle.emu_run.specs.SoundFlow.{read_x_sp_is_word}
+
+-- ---- how far the elements get
+
+stop_from : (o : Option ℕ) (e : Element) (rest : Reach) → IfSome o IsWord → IfSome rest.stop IsWord → IfSome (reach_from o e rest).stop IsWord
+stop_from (Some a) e rest here later = here
+stop_from None e rest here later = later
+
+stop_is_word : (m : Memory) (kind : Kind) (es : List Element) → IfSome (reach m kind es).stop IsWord
+stop_is_word m kind [] = tt
+stop_is_word m kind (e ∷ es) = stop_from (refused m e.address e.bytes kind) e (reach m kind es) (refused_is_word m e.address e.bytes kind) (stop_is_word m kind es)
+
+pub with_stored_sound : (v : Element → ℕ) (es : List Element) (m : Memory) → IsSoundMemory m → IsSoundMemory (with_stored v es m)
+with_stored_sound v [] m t = t
+with_stored_sound v (e ∷ es) m t = with_stored_sound v es (stored m e.address e.bytes (v e)) (stored_sound m e.address e.bytes (v e) t)
+
+with_loaded_sound : (transfer : Transfer) (m : Memory) (es : List Element) (c : Core) → IsSoundCore c → IsSoundCore (with_loaded transfer m es c)
+with_loaded_sound transfer m [] c s = s
+with_loaded_sound transfer m (e ∷ es) c s =
+    let v : ℕ = loaded_value transfer e.bytes (value m e.address e.bytes) in
+    with_loaded_sound transfer m es (with_x c e.register 64 v) (with_x_sound c e.register 64 v (omega arith) s)
+
+-- ---- what stands behind an access
+
+based_sound : (writes : Bool) (c : Core) (rn a : ℕ) → IsSoundCore c → IsSoundCore (based writes c rn a)
+based_sound writes c rn a s = elim writes as (λ b. IsSoundCore (if b then with_x_sp c rn 64 a else c)) [
+  | true ↦ with_x_sp_sound c rn 64 a (omega arith) s
+  | false ↦ s
+]
+
+behind_sound : (form : A64Form) (c d : Core) → IsSoundCore c → IsSoundCore d → IsSoundCore (behind form c d)
+behind_sound (LsPost size v opc imm9 rn rt) c d s u = with_x_sp_sound d rn 64 (near c rn imm9) (omega arith) u
+behind_sound (LsPre size v opc imm9 rn rt) c d s u = with_x_sp_sound d rn 64 (near c rn imm9) (omega arith) u
+behind_sound (Pair opc v mode l imm7 rt2 rn rt) c d s u = based_sound (writes_back mode) d rn (pair_near c rn (pair_bytes opc) imm7) u
+behind_sound (StoreEx op size rs rn rt) c d s u =
+    let v : ℕ = bit (not (is_kept c.monitor (read_x_sp c rn) (2 ^ size))) in
+    monitor_sound (with_x d rs 32 v) None tt (with_x_sound d rs 32 v (omega arith) u)
+behind_sound (LoadEx op size rn rt) c d s u = monitor_sound d (Some (read_x_sp c rn, 2 ^ size)) (read_x_sp_is_word c rn s) u
+behind_sound form c d s u = u
+
+-- ---- the rows
+
+module _ (c : Core) (m : Memory) (s : IsSoundCore c) (t : IsSoundMemory m) where
+  module _ (after : Core → Core) (keeps : (d : Core) → IsSoundCore d → IsSoundCore (after d)) where
+    store_sound : (stop : Option ℕ) (es : List Element) → IfSome stop IsWord → IsSoundDone (store_as_far stop es after c m)
+    store_sound None es w = record { core = keeps c s; memory = with_stored_sound (λ e. read_x c e.register) es m t; effect = tt }
+    store_sound (Some a) es w = record { core = s; memory = with_stored_sound (λ e. read_x c e.register) es m t; effect = w }
+
+    load_sound : (transfer : Transfer) (stop : Option ℕ) (es : List Element) → IfSome stop IsWord → IsSoundDone (load_as_far transfer stop es after c m)
+    load_sound transfer None es w = record { core = keeps (with_loaded transfer m es c) (with_loaded_sound transfer m es c s); memory = t; effect = tt }
+    load_sound transfer (Some a) es w = record { core = s; memory = t; effect = w }
+
+    stored_far : (es : List Element) → IsSoundDone (transferred Store es after c m)
+    stored_far es = store_sound (reach m WriteKind es).stop (reach m WriteKind es).done (stop_is_word m WriteKind es)
+
+    loaded_far : (transfer : Transfer) (es : List Element) → IsSoundDone (loaded_to transfer (reach m ReadKind es) after c m)
+    loaded_far transfer es = load_sound transfer (reach m ReadKind es).stop (reach m ReadKind es).done (stop_is_word m ReadKind es)
+
+    transferred_sound : (transfer : Transfer) (es : List Element) → IsSoundDone (transferred transfer es after c m)
+    transferred_sound Store es = stored_far es
+    transferred_sound Load es = loaded_far Load es
+    transferred_sound LoadSigned es = loaded_far LoadSigned es
+    transferred_sound LoadSigned32 es = loaded_far LoadSigned32 es
+    transferred_sound Prefetch es = loaded_far Prefetch es
+
+  unless_sound : (o : Option ℕ) (d : Done) → IfSome o IsWord → IsSoundDone d → IsSoundDone (unless_misaligned o c m d)
+  unless_sound (Some a) d w h = traps_sound c m AccessAlign a s t w
+  unless_sound None d w h = h
+
+  multiple_is_word : (a n : ℕ) → IsWord a → IfSome (unless_multiple a n) IsWord
+  multiple_is_word a n w = elim (nat_eq (a % n) 0) as (λ b. IfSome (if b then None else Some a) IsWord) [
+    | true ↦ tt
+    | false ↦ w
+  ]
+
+  misaligned_is_word : (form : A64Form) → IfSome (misaligned form c) IsWord
+  misaligned_is_word (StoreEx op size rs rn rt) = multiple_is_word (read_x_sp c rn) (2 ^ size) (read_x_sp_is_word c rn s)
+  misaligned_is_word (LoadEx op size rn rt) = multiple_is_word (read_x_sp c rn) (2 ^ size) (read_x_sp_is_word c rn s)
+  misaligned_is_word (Ordered op size rn rt) = multiple_is_word (read_x_sp c rn) (2 ^ size) (read_x_sp_is_word c rn s)
+  misaligned_is_word form = tt
+
+  tested_sound : (has : Bool) (o : Option ℕ) (d : Done) → IfSome o IsWord → IsSoundDone d → IsSoundDone (tested has o c m d)
+  tested_sound has o d w h = elim (is_misaligned has c) as (λ b. IsSoundDone (if b then traps c m SpAlign c.sp else unless_misaligned o c m d)) [
+    | true ↦ traps_sound c m SpAlign c.sp s t s.sp
+    | false ↦ unless_sound o d w h
+  ]
+
+  pub access_sound : (form : A64Form) → IsSoundDone (access form c m)
+  access_sound form =
+      tested_sound (has_sp_base form) (misaligned form c) (transferred (transfer_of form) (elements form c) (behind form c) c m) (misaligned_is_word form)
+      (transferred_sound (behind form c) (λ d u. behind_sound form c d s u) (transfer_of form) (elements form c))
