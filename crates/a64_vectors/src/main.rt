@@ -12,20 +12,29 @@
 mod state;
 
 use crate::state::State;
-use a64_data::{exec, is_data};
 use a64_insn::A64;
 use a64_rows::decode_a64;
 use core_regs::Effect;
+use guest_mem::AccessLog;
 use std::alloc::Global;
 use std::io;
 
-/// Does an instruction, and goes on as its effect says. None where it is a call.
-fn step(state: &mut State, insn: &A64) -> Option<()> {
-    if !is_data(insn) {
-        return None;
+/// Does an instruction of the data rows or of the branch, system, load and store rows. None where it is in neither.
+fn effect_of(state: &mut State, insn: &A64) -> Option<Effect> {
+    if a64_data::is_data(insn) {
+        return Some(a64_data::exec(&mut state.core, insn));
     }
+    if a64_flow::is_own(insn) {
+        let mut log = AccessLog::new();
+        return Some(a64_flow::exec(&mut state.core, &mut state.memory, &mut log, insn));
+    }
+    None
+}
+
+/// Does an instruction, and goes on as its effect says. None where its row doesn't run, or it is a call.
+fn step(state: &mut State, insn: &A64) -> Option<()> {
     let pc = state.core.pc();
-    match exec(&mut state.core, insn) {
+    match effect_of(state, insn)? {
         Effect::Next => state.core.set_pc(pc.wrapping_add(4)),
         Effect::Branch(target) => state.core.set_pc(target),
         Effect::Trap(trap) => state.trap = Some(trap),
