@@ -25,9 +25,27 @@ use core_regs::{Core, Effect};
 pub fn is_data(i: &A64) -> bool
     ensures { result ≡ is_data i.now }
 {
-    !matches!(
+    matches!(
         *i.form(),
-        A64Form::Except { .. } | A64Form::LsUnsigned { .. }
+        A64Form::Adr { .. }
+            | A64Form::AddImm { .. }
+            | A64Form::LogicImm { .. }
+            | A64Form::MoveWide { .. }
+            | A64Form::Bitfield { .. }
+            | A64Form::Extract { .. }
+            | A64Form::LogicReg { .. }
+            | A64Form::AddReg { .. }
+            | A64Form::AddExt { .. }
+            | A64Form::AddCarry { .. }
+            | A64Form::CondReg { .. }
+            | A64Form::CondImm { .. }
+            | A64Form::Select { .. }
+            | A64Form::MulAdd { .. }
+            | A64Form::MulLong { .. }
+            | A64Form::MulHigh { .. }
+            | A64Form::TwoSource { .. }
+            | A64Form::OneSource { .. }
+            | A64Form::Rev { .. }
     )
 }
 
@@ -153,7 +171,7 @@ pub fn exec(core: &mut Core, i: &A64) -> Effect
         }
         A64Form::OneSource { op, sf, rn, rd } => bits::one_source(core, op, sf, rn, rd),
         A64Form::Rev { op, rn, rd } => bits::rev(core, op, rn, rd),
-        A64Form::Except { .. } | A64Form::LsUnsigned { .. } => {}
+        _ => {}
     }
     Effect::Next
 }

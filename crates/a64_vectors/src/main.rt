@@ -1,75 +1,72 @@
-//! Runs cases of single A64 data instructions, as another emulator answered them, and writes those that differ.
+//! Runs cases of single A64 instructions, as another emulator answered them, and writes those that differ.
 //!
-//! A case is a line of four columns with a tab between them: the word, a vector length, the registers before the step
-//! and those that differ after it, as `name=value` in hexadecimal with a space between them. Registers that aren't
-//! given are 0 before, and as before after. `nzcv` has four binary digits.
+//! A case is a line of four columns with a tab between them: the word, a vector length, the state before the step and what
+//! differs after it, as items `name=value` with a space between them. Numbers are hexadecimal:
+//!
+//! - `x0` to `x30`, `sp`, `pc`, `tpidr`, and `nzcv` with four binary digits; registers that aren't given are 0 before;
+//! - before the step `monitor=ADDRESS:BYTES`, `page=ADDRESS:RIGHTS`, a mapped page, and `mem=ADDRESS:DIGITS`, bytes of it;
+//! - after the step `mem=ADDRESS:DIGITS`, bytes that differ, and `trap=KIND:ADDRESS`. Where no `pc` and no trap is given it
+//!   goes on behind the word.
 #![tactic(auto)]
 
-use a64_data::{exec, is_data};
+mod state;
+
+use crate::state::State;
+use a64_insn::A64;
 use a64_rows::decode_a64;
-use core_regs::Core;
-use emu_bits::{Flags, Reg};
+use core_regs::Effect;
+use guest_mem::AccessLog;
+use std::alloc::Global;
 use std::io;
 
-/// Sets the register or the flags that an item names. None where there are none of that name, or no such value.
-fn set(core: &mut Core, item: &str) -> Option<()> {
-    let (name, value) = item.split_once('=')?;
-    let v = u64::from_str_radix(value, 16).ok()?;
-    match name {
-        "nzcv" => core.set_flags(Flags {
-            n: v & 0x1000 != 0,
-            z: v & 0x100 != 0,
-            c: v & 0x10 != 0,
-            v: v & 1 != 0,
-        }),
-        "pc" => core.set_pc(v),
-        "sp" => core.set_x_sp(Reg::new(31)?, 64, v),
-        _ => {
-            let number = name.strip_prefix("x")?.parse::<u32>().ok()?;
-            core.set_x(Reg::new(number)?, 64, v);
-        }
+/// Does an instruction of the data rows or of the branch, system, load and store rows. None where it is in neither.
+fn effect_of(state: &mut State, insn: &A64) -> Option<Effect> {
+    if a64_data::is_data(insn) {
+        return Some(a64_data::exec(&mut state.core, insn));
+    }
+    if a64_flow::is_own(insn) {
+        let mut log = AccessLog::new();
+        return Some(a64_flow::exec(&mut state.core, &mut state.memory, &mut log, insn));
+    }
+    None
+}
+
+/// Does an instruction, and goes on as its effect says. None where its row doesn't run, or it is a call.
+fn step(state: &mut State, insn: &A64) -> Option<()> {
+    let pc = state.core.pc();
+    match effect_of(state, insn)? {
+        Effect::Next => state.core.set_pc(pc.wrapping_add(4)),
+        Effect::Branch(target) => state.core.set_pc(target),
+        Effect::Trap(trap) => state.trap = Some(trap),
+        Effect::Call => return None,
     }
     Some(())
 }
 
-fn set_all(core: &mut Core, items: &str) -> Option<()> {
-    for item in items.split(' ') {
-        if !item.is_empty() {
-            set(core, item)?;
-        }
+/// The state after a step by the case: before it, with what differs.
+fn wanted_after(alloc: Global, word: u32, before: &str, after: &str) -> Option<State> {
+    let mut state = State::read(alloc, word, before)?;
+    let pc = state.core.pc();
+    state.core.set_pc(pc.wrapping_add(4));
+    state.set_all(after)?;
+    if state.trap.is_some() {
+        state.core.set_pc(pc);
     }
-    Some(())
+    Some(state)
 }
 
-/// Whether all registers and the flags are the same.
-fn are_same(a: &Core, b: &Core) -> bool {
-    let mut same = a.flags() == b.flags() && a.pc() == b.pc();
-    for number in 0..32 {
-        if let Some(r) = Reg::new(number) {
-            same = same && a.x(r) == b.x(r) && a.x_sp(r) == b.x_sp(r);
-        }
-    }
-    same
-}
-
-/// Whether an instruction does what a case has. None where the line is no case of a data instruction.
-fn agrees(line: &str) -> Option<bool> {
+/// Whether an instruction does what a case has. None where the line is no case of a row that runs.
+fn agrees(alloc: Global, line: &str) -> Option<bool> {
     let mut columns = line.split('\t');
     let word = u32::from_str_radix(columns.next()?, 16).ok()?;
     let _length = columns.next()?;
     let before = columns.next()?;
     let after = columns.next()?;
     let insn = decode_a64(word)?;
-    if !is_data(&insn) {
-        return None;
-    }
-    let mut core = Core::new();
-    set_all(&mut core, before)?;
-    let mut wanted = Core::new();
-    set_all(&mut wanted, before)?;
-    set_all(&mut wanted, after)?;
-    let _next = exec(&mut core, &insn);
-    Some(are_same(&core, &wanted))
+    let mut state = State::read(alloc, word, before)?;
+    let wanted = wanted_after(alloc, word, before, after)?;
+    step(&mut state, &insn)?;
+    Some(state.is_same(&wanted))
 }
 
 fn main(rt: HostRuntime) -> io::Result<()> {
@@ -78,7 +75,7 @@ fn main(rt: HostRuntime) -> io::Result<()> {
     for line in rt.lines(rt.alloc()) {
         let line = line?;
         cases = cases.saturating_add(1);
-        if agrees(line.as_str()) != Some(true) {
+        if agrees(rt.alloc(), line.as_str()) != Some(true) {
             differ = differ.saturating_add(1);
             println!(rt; "differs: {line}")?;
         }

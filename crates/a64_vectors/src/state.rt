@@ -1,0 +1,208 @@
+//! The state of a case: registers, pages and a trap, read from items `name=value`.
+use arrayvec::ArrayVec;
+use core_regs::{Core, Trap, TrapKind};
+use emu_bits::{Flags, Reg};
+use guest_mem::Mem;
+use guest_pages::{Pages, Rights};
+use std::alloc::Global;
+
+/// The greatest number of pages of a case.
+const MOST_PAGES: usize = 16;
+/// The number of page numbers.
+const PAGE_NUMBERS: u64 = 1 << 35;
+
+/// The state before or after a step.
+#[derive(Drop)]
+pub struct State {
+    pub core: Core,
+    pub memory: Mem,
+    /// The numbers of the mapped pages.
+    mapped: ArrayVec<u64, MOST_PAGES>,
+    /// The trap of the step, after one that trapped.
+    pub trap: Option<Trap>,
+}
+
+impl State {
+    /// The state before a step of this word: its items, with registers that aren't given 0, and the page of the word,
+    /// which may be read and executed. None where an item isn't in the form of a case, or there is no memory for it.
+    pub fn read(alloc: Global, word: u32, items: &str) -> Option<State> {
+        let mut state = State {
+            core: Core::new(),
+            memory: Mem::new(Pages::new(alloc, MOST_PAGES as u32).ok()?),
+            mapped: ArrayVec::new(),
+            trap: None,
+        };
+        state.set_all(items)?;
+        let pc = state.core.pc();
+        state.map(pc, "rx")?;
+        for (k, byte) in (0u64..).zip(word.to_le_bytes()) {
+            state.put_byte(pc.wrapping_add(k), byte)?;
+        }
+        Some(state)
+    }
+
+    /// Sets what the items name.
+    pub fn set_all(&mut self, items: &str) -> Option<()> {
+        for item in items.split(' ') {
+            if !item.is_empty() {
+                let (name, value) = item.split_once('=')?;
+                self.set(name, value)?;
+            }
+        }
+        Some(())
+    }
+
+    fn set(&mut self, name: &str, value: &str) -> Option<()> {
+        match name {
+            "page" => {
+                let (address, rights) = value.split_once(':')?;
+                self.map(number(address)?, rights)
+            }
+            "mem" => {
+                let (address, digits) = value.split_once(':')?;
+                self.put_bytes(number(address)?, digits)
+            }
+            "monitor" => {
+                let (address, size) = value.split_once(':')?;
+                let size = size.parse::<u32>().ok()?;
+                self.core.set_monitor(Some((number(address)?, size)));
+                Some(())
+            }
+            "trap" => {
+                let (kind, address) = value.split_once(':')?;
+                self.trap = Some(Trap {
+                    kind: trap_kind(kind)?,
+                    address: number(address)?,
+                });
+                Some(())
+            }
+            _ => self.set_register(name, number(value)?),
+        }
+    }
+
+    /// Sets the register that is named. Flags are four binary digits, read as hexadecimal ones.
+    fn set_register(&mut self, name: &str, v: u64) -> Option<()> {
+        match name {
+            "nzcv" => self.core.set_flags(Flags {
+                n: v & 0x1000 != 0,
+                z: v & 0x100 != 0,
+                c: v & 0x10 != 0,
+                v: v & 1 != 0,
+            }),
+            "pc" => self.core.set_pc(v),
+            "tpidr" => self.core.set_tpidr(v),
+            "sp" => self.core.set_x_sp(Reg::new(31)?, 64, v),
+            _ => {
+                let number = name.strip_prefix("x")?.parse::<u32>().ok()?;
+                self.core.set_x(Reg::new(number)?, 64, v);
+            }
+        }
+        Some(())
+    }
+
+    /// Maps the page of an address.
+    fn map(&mut self, address: u64, rights: &str) -> Option<()> {
+        let page = address / 4096;
+        if page == 0 || page >= PAGE_NUMBERS {
+            return None;
+        }
+        self.memory
+            .pages_mut()
+            .map(page, 1, rights_of(rights)?)
+            .ok()?;
+        self.mapped.try_push(page).ok()
+    }
+
+    /// Puts the bytes of pairs of hexadecimal digits.
+    fn put_bytes(&mut self, address: u64, digits: &str) -> Option<()> {
+        for (k, pair) in (0u64..).zip(digits.as_bytes().chunks(2)) {
+            let byte = match *pair {
+                [high, low] => digit(high)? << 4 | digit(low)?,
+                _ => return None,
+            };
+            self.put_byte(address.wrapping_add(k), byte)?;
+        }
+        Some(())
+    }
+
+    /// Puts a byte of a page, whatever the page's rights are.
+    fn put_byte(&mut self, address: u64, byte: u8) -> Option<()> {
+        let page = address / 4096;
+        self.memory.pages().find(page)?;
+        self.memory
+            .pages_mut()
+            .write(page, (address % 4096) as usize, &[byte]);
+        Some(())
+    }
+
+    /// Whether all registers but the monitor, the flags, the trap and the pages are the same, these with their rights and
+    /// all of their bytes.
+    pub fn is_same(&self, other: &State) -> bool {
+        self.trap == other.trap
+            && are_same(&self.core, &other.core)
+            && self.mapped == other.mapped
+            && self
+                .mapped
+                .iter()
+                .all(|page| self.has_page_of(other, *page))
+    }
+
+    /// Whether a page has the rights and the bytes that it has in the other state.
+    fn has_page_of(&self, other: &State, page: u64) -> bool {
+        self.memory.pages().find(page) == other.memory.pages().find(page)
+    }
+}
+
+fn number(digits: &str) -> Option<u64> {
+    u64::from_str_radix(digits, 16).ok()
+}
+
+fn digit(c: u8) -> Option<u8> {
+    match c {
+        b'0'..=b'9' => Some(c - b'0'),
+        b'a'..=b'f' => Some(c - b'a' + 10),
+        _ => None,
+    }
+}
+
+fn rights_of(letters: &str) -> Option<Rights> {
+    match letters {
+        "r" => Some(Rights {
+            r: true,
+            w: false,
+            x: false,
+        }),
+        "rw" => Some(Rights {
+            r: true,
+            w: true,
+            x: false,
+        }),
+        "rx" => Some(Rights {
+            r: true,
+            w: false,
+            x: true,
+        }),
+        _ => None,
+    }
+}
+
+fn trap_kind(name: &str) -> Option<TrapKind> {
+    match name {
+        "halt" => Some(TrapKind::Halt),
+        "break" => Some(TrapKind::Break),
+        "access-align" => Some(TrapKind::AccessAlign),
+        "read" => Some(TrapKind::Read),
+        "write" => Some(TrapKind::Write),
+        _ => None,
+    }
+}
+
+fn are_same(a: &Core, b: &Core) -> bool {
+    let mut same = a.flags() == b.flags() && a.pc() == b.pc() && a.tpidr() == b.tpidr();
+    for number in 0..32 {
+        if let Some(r) = Reg::new(number) {
+            same = same && a.x(r) == b.x(r) && a.x_sp(r) == b.x_sp(r);
+        }
+    }
+    same
+}
