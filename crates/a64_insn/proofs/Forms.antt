@@ -7,7 +7,7 @@ use Rattle.a64_insn.specs.declared.form.A64Form.TheVariants.{Adr, AddImm, LogicI
 use Rattle.a64_insn.specs.Table.{row_of, meets_form}
 use Rattle.a64_insn.specs.Names.{add_carry_named, add_carry_number, add_named, add_number, adr_named, adr_number, barrier_named, barrier_number, bitfield_named, bitfield_number, branch_named, branch_number, branch_reg_named, branch_reg_number, compare_named, compare_number, cond_compare_named, cond_compare_number, except_named, except_number, f_move_named, f_move_number, load_ex_named, load_ex_number, logic_imm_named, logic_imm_number, logic_reg_named, logic_reg_number, move_wide_named, move_wide_number, mul_add_named, mul_add_number, mul_high_named, mul_high_number, mul_long_named, mul_long_number, one_source_named, one_source_number, ordered_named, ordered_number, read_sys_named, read_sys_number, rev_named, rev_number, select_named, select_number, store_ex_named, store_ex_number, test_named, test_number, two_source_named, two_source_number, write_sys_named, write_sys_number}
 use Rattle.a64_insn.specs.Data.{adr, add_imm, logic_imm, move_wide, bitfield, extract, logic_reg, add_reg, add_ext, add_carry, cond_reg, cond_imm, select, mul_add, mul_long, mul_high, two_source, one_source, rev}
-use Rattle.a64_insn.specs.Flow.{branch, branch_cond, compare, test, branch_reg, except, hint, barrier, read_sys, write_sys}
+use Rattle.a64_insn.specs.Flow.{branch, branch_cond, compare, test_branch, branch_reg, except, hint, barrier, read_sys, write_sys}
 use Rattle.a64_insn.specs.Memory.{ls_unsigned, ls_unscaled, ls_post, ls_pre, ls_reg, ls_literal, pair, store_ex, load_ex, ordered}
 use Rattle.a64_insn.specs.BitMoves.{f_move, move_imm}
 use Rattle.a64_insn.specs.declared.ops.AdrOp.{AdrOp}
@@ -66,7 +66,7 @@ use Rattle.a64_insn.specs.declared.ops.FMoveOp.{FMoveOp}
 use Rattle.a64_insn.specs.declared.ops.FMoveOp.TheVariants as f_move_names
 
 pub same_condition : (f : A64Form) → meets (row_of f) ≡ meets_form f
-unfolding adr add_imm logic_imm move_wide bitfield extract logic_reg add_reg add_ext add_carry cond_reg cond_imm select mul_add mul_long mul_high two_source one_source rev branch branch_cond compare test branch_reg except hint barrier read_sys write_sys ls_unsigned ls_unscaled ls_post ls_pre ls_reg ls_literal pair store_ex load_ex ordered f_move move_imm
+unfolding adr add_imm logic_imm move_wide bitfield extract logic_reg add_reg add_ext add_carry cond_reg cond_imm select mul_add mul_long mul_high two_source one_source rev branch branch_cond compare test_branch branch_reg except hint barrier read_sys write_sys ls_unsigned ls_unscaled ls_post ls_pre ls_reg ls_literal pair store_ex load_ex ordered f_move move_imm
 same_condition (Adr op immlo immhi rd) = refl
 same_condition (AddImm op sf sh imm12 rn rd) = refl
 same_condition (LogicImm op sf n immr imms rn rd) = refl
@@ -254,7 +254,7 @@ f_move_named_again f_move_names.XdDn = refl
 f_move_named_again f_move_names.DdXn = refl
 
 pub form_again : (f : A64Form) → form_of (row_of f) ≡ f
-unfolding adr add_imm logic_imm move_wide bitfield extract logic_reg add_reg add_ext add_carry cond_reg cond_imm select mul_add mul_long mul_high two_source one_source rev branch branch_cond compare test branch_reg except hint barrier read_sys write_sys ls_unsigned ls_unscaled ls_post ls_pre ls_reg ls_literal pair store_ex load_ex ordered f_move move_imm
+unfolding adr add_imm logic_imm move_wide bitfield extract logic_reg add_reg add_ext add_carry cond_reg cond_imm select mul_add mul_long mul_high two_source one_source rev branch branch_cond compare test_branch branch_reg except hint barrier read_sys write_sys ls_unsigned ls_unscaled ls_post ls_pre ls_reg ls_literal pair store_ex load_ex ordered f_move move_imm
 form_again (Adr op immlo immhi rd) = ap (λ (y : AdrOp). Adr y immlo immhi rd) (adr_named_again op)
 form_again (AddImm op sf sh imm12 rn rd) = ap (λ (y : AddOp). AddImm y (bit sf == 1) (bit sh == 1) imm12 rn rd) (add_named_again op) ∙ ap (λ (y : Bool). AddImm op y (bit sh == 1) imm12 rn rd) (flag_again sf) ∙ ap (λ (y : Bool). AddImm op sf y imm12 rn rd) (flag_again sh)
 form_again (LogicImm op sf n immr imms rn rd) = ap (λ (y : LogicImmOp). LogicImm y (bit sf == 1) (bit n == 1) immr imms rn rd) (logic_imm_named_again op) ∙ ap (λ (y : Bool). LogicImm op y (bit n == 1) immr imms rn rd) (flag_again sf) ∙ ap (λ (y : Bool). LogicImm op sf y immr imms rn rd) (flag_again n)

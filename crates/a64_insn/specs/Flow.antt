@@ -33,8 +33,8 @@ compare = record {
 }
 
 -- `tbz`, `tbnz Rt, #b, target`
-unfoldable pub test : Line A64Form
-test = record {
+unfoldable pub test_branch : Line A64Form
+test_branch = record {
   words = 0x36000000 ∷ 0x37000000 ∷ [];
   places = (31 to 31) ∷ (23 to 19) ∷ (18 to 5) ∷ (4 to 0) ∷ [];
   holds = always;

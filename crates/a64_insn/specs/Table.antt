@@ -6,12 +6,12 @@ use Rattle.a64_insn.specs.declared.form.A64Form.{A64Form}
 use Rattle.a64_insn.specs.declared.form.A64Form.TheVariants.{Adr, AddImm, LogicImm, MoveWide, Bitfield, Extract, LogicReg, AddReg, AddExt, AddCarry, CondReg, CondImm, Select, MulAdd, MulLong, MulHigh, TwoSource, OneSource, Rev, Branch, BranchCond, Compare, Test, BranchReg, Except, Hint, Barrier, ReadSys, WriteSys, LsUnsigned, LsUnscaled, LsPost, LsPre, LsReg, LsLiteral, Pair, StoreEx, LoadEx, Ordered, FMove, MoveImm}
 use Rattle.a64_insn.specs.Names.{add_carry_number, add_number, adr_number, barrier_number, bitfield_number, branch_number, branch_reg_number, compare_number, cond_compare_number, except_number, f_move_number, load_ex_number, logic_imm_number, logic_reg_number, move_wide_number, mul_add_number, mul_high_number, mul_long_number, one_source_number, ordered_number, read_sys_number, rev_number, select_number, store_ex_number, test_number, two_source_number, write_sys_number}
 use Rattle.a64_insn.specs.Data.{adr, add_imm, logic_imm, move_wide, bitfield, extract, logic_reg, add_reg, add_ext, add_carry, cond_reg, cond_imm, select, mul_add, mul_long, mul_high, two_source, one_source, rev, has_bitmask, move_wide_holds_for, bitfield_holds_for, extract_holds_for, is_below_width, add_reg_holds_for, add_ext_holds_for}
-use Rattle.a64_insn.specs.Flow.{branch, branch_cond, compare, test, branch_reg, except, hint, barrier, read_sys, write_sys}
+use Rattle.a64_insn.specs.Flow.{branch, branch_cond, compare, test_branch, branch_reg, except, hint, barrier, read_sys, write_sys}
 use Rattle.a64_insn.specs.Memory.{ls_unsigned, ls_unscaled, ls_post, ls_pre, ls_reg, ls_literal, pair, store_ex, load_ex, ordered, is_access, writeback_holds_for, ls_reg_holds_for, ls_literal_holds_for, pair_holds_for, store_ex_holds_for}
 use Rattle.a64_insn.specs.BitMoves.{f_move, move_imm, move_imm_holds_for}
 
 unfoldable pub a64_table : List (Line A64Form)
-a64_table = adr ∷ add_imm ∷ logic_imm ∷ move_wide ∷ bitfield ∷ extract ∷ logic_reg ∷ add_reg ∷ add_ext ∷ add_carry ∷ cond_reg ∷ cond_imm ∷ select ∷ mul_add ∷ mul_long ∷ mul_high ∷ two_source ∷ one_source ∷ rev ∷ branch ∷ branch_cond ∷ compare ∷ test ∷ branch_reg ∷ except ∷ hint ∷ barrier ∷ read_sys ∷ write_sys ∷ ls_unsigned ∷ ls_unscaled ∷ ls_post ∷ ls_pre ∷ ls_reg ∷ ls_literal ∷ pair ∷ store_ex ∷ load_ex ∷ ordered ∷ f_move ∷ move_imm ∷ []
+a64_table = adr ∷ add_imm ∷ logic_imm ∷ move_wide ∷ bitfield ∷ extract ∷ logic_reg ∷ add_reg ∷ add_ext ∷ add_carry ∷ cond_reg ∷ cond_imm ∷ select ∷ mul_add ∷ mul_long ∷ mul_high ∷ two_source ∷ one_source ∷ rev ∷ branch ∷ branch_cond ∷ compare ∷ test_branch ∷ branch_reg ∷ except ∷ hint ∷ barrier ∷ read_sys ∷ write_sys ∷ ls_unsigned ∷ ls_unscaled ∷ ls_post ∷ ls_pre ∷ ls_reg ∷ ls_literal ∷ pair ∷ store_ex ∷ load_ex ∷ ordered ∷ f_move ∷ move_imm ∷ []
 
 -- the row of a form
 abbrev pub row_of : A64Form → Row A64Form
@@ -37,7 +37,7 @@ row_of (Rev op rn rd) = record { line = rev; number = rev_number op; values = rn
 row_of (Branch op imm26) = record { line = branch; number = branch_number op; values = imm26 ∷ [] }
 row_of (BranchCond imm19 cond) = record { line = branch_cond; number = 0; values = imm19 ∷ cond ∷ [] }
 row_of (Compare op sf imm19 rt) = record { line = compare; number = compare_number op; values = bit sf ∷ imm19 ∷ rt ∷ [] }
-row_of (Test op b5 b40 imm14 rt) = record { line = test; number = test_number op; values = bit b5 ∷ b40 ∷ imm14 ∷ rt ∷ [] }
+row_of (Test op b5 b40 imm14 rt) = record { line = test_branch; number = test_number op; values = bit b5 ∷ b40 ∷ imm14 ∷ rt ∷ [] }
 row_of (BranchReg op rn) = record { line = branch_reg; number = branch_reg_number op; values = rn ∷ [] }
 row_of (Except op imm16) = record { line = except; number = except_number op; values = imm16 ∷ [] }
 row_of (Hint n) = record { line = hint; number = 0; values = n ∷ [] }

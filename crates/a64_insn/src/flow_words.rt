@@ -1,7 +1,7 @@
 //! The names of branches, exceptions and system with their base words, which have all fields 0.
 ghost use Rattle.std.specs.Prelude.{◌≡◌, ◌<◌, Some, None, MatchOption, get_or, length};
 ghost use Rattle.emu_bits.specs.Rows.{number_of};
-ghost use Rattle.a64_insn.specs.Flow.{branch, compare, test, branch_reg, except, barrier, read_sys, write_sys};
+ghost use Rattle.a64_insn.specs.Flow.{branch, compare, test_branch, branch_reg, except, barrier, read_sys, write_sys};
 ghost use Rattle.a64_insn.specs.Names.{barrier_number, branch_number, branch_reg_number, compare_number, except_number, read_sys_number, test_number, write_sys_number};
 
 use crate::ops::{
@@ -60,9 +60,9 @@ pub fn compare_word(op: CompareOp) -> Word
 }
 
 /// The name that has this base word in the line of `Test`.
-#[tactic(auto, unfolding(crate::specs::Flow::test))]
+#[tactic(auto, unfolding(crate::specs::Flow::test_branch))]
 pub fn test_op(word: u32) -> Option<TestOp>
-    ensures { MatchOption result (number_of word test.words ≡ None) (λ op. number_of word test.words ≡ Some (test_number op)) }
+    ensures { MatchOption result (number_of word test_branch.words ≡ None) (λ op. number_of word test_branch.words ≡ Some (test_number op)) }
 {
     match word {
         0x3600_0000 => Some(TestOp::Tbz),
@@ -72,10 +72,10 @@ pub fn test_op(word: u32) -> Option<TestOp>
 }
 
 /// A name's base word in the line of `Test`.
-#[tactic(auto, unfolding(crate::specs::Flow::test))]
+#[tactic(auto, unfolding(crate::specs::Flow::test_branch))]
 pub fn test_word(op: TestOp) -> Word
-    ensures bits { result.bits ≡ get_or test.words (test_number op) 0 }
-    ensures numbered { test_number op < length test.words }
+    ensures bits { result.bits ≡ get_or test_branch.words (test_number op) 0 }
+    ensures numbered { test_number op < length test_branch.words }
 {
     let bits = match op {
         TestOp::Tbz => 0x3600_0000,

@@ -6,25 +6,25 @@ use Rattle.emu_bits.proofs.Computed.{IsNoneOf}
 use Rattle.emu_bits.proofs.Encoding.{narrow_field, narrow_others, or_none}
 use Rattle.a64_insn.specs.Table.{a64_table}
 use Rattle.a64_insn.specs.Data.{adr, add_imm, logic_imm, move_wide, bitfield, extract, logic_reg, add_reg, add_ext, add_carry, cond_reg, cond_imm, select, mul_add, mul_long, mul_high, two_source, one_source, rev}
-use Rattle.a64_insn.specs.Flow.{branch, branch_cond, compare, test, branch_reg, except, hint, barrier, read_sys, write_sys}
+use Rattle.a64_insn.specs.Flow.{branch, branch_cond, compare, test_branch, branch_reg, except, hint, barrier, read_sys, write_sys}
 use Rattle.a64_insn.specs.Memory.{ls_unsigned, ls_unscaled, ls_post, ls_pre, ls_reg, ls_literal, pair, store_ex, load_ex, ordered}
 use Rattle.a64_insn.specs.BitMoves.{f_move, move_imm}
 use Rattle.a64_rows.specs.Left.{lines_01, lines_01_1, lines_10, immediates, branches, branches_10, lines_11, lines_11_10}
 
 pub find_at_1 : (w : ℕ) → field w 27 2 ≡ 1 → decode a64_table w ≡ decode lines_01 w
-unfolding a64_table adr add_imm logic_imm move_wide bitfield extract logic_reg add_reg add_ext add_carry cond_reg cond_imm select mul_add mul_long mul_high two_source one_source rev branch branch_cond compare test branch_reg except hint barrier read_sys write_sys ls_unsigned ls_unscaled ls_post ls_pre ls_reg ls_literal pair store_ex load_ex ordered f_move move_imm
+unfolding a64_table adr add_imm logic_imm move_wide bitfield extract logic_reg add_reg add_ext add_carry cond_reg cond_imm select mul_add mul_long mul_high two_source one_source rev branch branch_cond compare test_branch branch_reg except hint barrier read_sys write_sys ls_unsigned ls_unscaled ls_post ls_pre ls_reg ls_literal pair store_ex load_ex ordered f_move move_imm
 find_at_1 w e = narrow_field (28 to 27) 1 a64_table w refl e
 
 pub find_at_2 : (w : ℕ) → field w 27 2 ≡ 2 → decode a64_table w ≡ decode lines_10 w
-unfolding a64_table adr add_imm logic_imm move_wide bitfield extract logic_reg add_reg add_ext add_carry cond_reg cond_imm select mul_add mul_long mul_high two_source one_source rev branch branch_cond compare test branch_reg except hint barrier read_sys write_sys ls_unsigned ls_unscaled ls_post ls_pre ls_reg ls_literal pair store_ex load_ex ordered f_move move_imm
+unfolding a64_table adr add_imm logic_imm move_wide bitfield extract logic_reg add_reg add_ext add_carry cond_reg cond_imm select mul_add mul_long mul_high two_source one_source rev branch branch_cond compare test_branch branch_reg except hint barrier read_sys write_sys ls_unsigned ls_unscaled ls_post ls_pre ls_reg ls_literal pair store_ex load_ex ordered f_move move_imm
 find_at_2 w e = narrow_field (28 to 27) 2 a64_table w refl e
 
 pub find_at_3 : (w : ℕ) → field w 27 2 ≡ 3 → decode a64_table w ≡ decode lines_11 w
-unfolding a64_table adr add_imm logic_imm move_wide bitfield extract logic_reg add_reg add_ext add_carry cond_reg cond_imm select mul_add mul_long mul_high two_source one_source rev branch branch_cond compare test branch_reg except hint barrier read_sys write_sys ls_unsigned ls_unscaled ls_post ls_pre ls_reg ls_literal pair store_ex load_ex ordered f_move move_imm
+unfolding a64_table adr add_imm logic_imm move_wide bitfield extract logic_reg add_reg add_ext add_carry cond_reg cond_imm select mul_add mul_long mul_high two_source one_source rev branch branch_cond compare test_branch branch_reg except hint barrier read_sys write_sys ls_unsigned ls_unscaled ls_post ls_pre ls_reg ls_literal pair store_ex load_ex ordered f_move move_imm
 find_at_3 w e = narrow_field (28 to 27) 3 a64_table w refl e
 
 pub find_at_others : (w : ℕ) → IsNoneOf (field w 27 2) (1 ∷ 2 ∷ 3 ∷ []) → decode a64_table w ≡ None
-unfolding a64_table adr add_imm logic_imm move_wide bitfield extract logic_reg add_reg add_ext add_carry cond_reg cond_imm select mul_add mul_long mul_high two_source one_source rev branch branch_cond compare test branch_reg except hint barrier read_sys write_sys ls_unsigned ls_unscaled ls_post ls_pre ls_reg ls_literal pair store_ex load_ex ordered f_move move_imm
+unfolding a64_table adr add_imm logic_imm move_wide bitfield extract logic_reg add_reg add_ext add_carry cond_reg cond_imm select mul_add mul_long mul_high two_source one_source rev branch branch_cond compare test_branch branch_reg except hint barrier read_sys write_sys ls_unsigned ls_unscaled ls_post ls_pre ls_reg ls_literal pair store_ex load_ex ordered f_move move_imm
 find_at_others w n = narrow_others (28 to 27) (1 ∷ 2 ∷ 3 ∷ []) a64_table w refl n
 
 pub words_01_at_0 : (w : ℕ) → field w 25 1 ≡ 0 → decode lines_01 w ≡ decode (pair ∷ store_ex ∷ load_ex ∷ ordered ∷ []) w
@@ -52,11 +52,11 @@ unfolding logic_reg add_reg add_ext move_imm
 words_01_1_at_others w n = narrow_others (26 to 24) (2 ∷ 3 ∷ 7 ∷ []) lines_01_1 w refl n
 
 pub words_10_at_0 : (w : ℕ) → field w 26 1 ≡ 0 → decode lines_10 w ≡ decode immediates w
-unfolding adr add_imm logic_imm move_wide bitfield extract branch branch_cond compare test branch_reg except hint barrier read_sys write_sys
+unfolding adr add_imm logic_imm move_wide bitfield extract branch branch_cond compare test_branch branch_reg except hint barrier read_sys write_sys
 words_10_at_0 w e = narrow_field (26 to 26) 0 lines_10 w refl e
 
 pub words_10_at_others : (w : ℕ) → IsNoneOf (field w 26 1) (0 ∷ []) → decode lines_10 w ≡ decode branches w
-unfolding adr add_imm logic_imm move_wide bitfield extract branch branch_cond compare test branch_reg except hint barrier read_sys write_sys
+unfolding adr add_imm logic_imm move_wide bitfield extract branch branch_cond compare test_branch branch_reg except hint barrier read_sys write_sys
 words_10_at_others w n = narrow_others (26 to 26) (0 ∷ []) lines_10 w refl n
 
 pub words_of_immediates_at_0 : (w : ℕ) → field w 24 2 ≡ 0 → decode immediates w ≡ row_in adr w
@@ -76,19 +76,19 @@ unfolding adr add_imm logic_imm move_wide bitfield extract
 words_of_immediates_at_others w n = narrow_others (25 to 24) (0 ∷ 1 ∷ 2 ∷ []) immediates w refl n
 
 pub words_of_branches_at_0 : (w : ℕ) → field w 29 2 ≡ 0 → decode branches w ≡ row_in branch w
-unfolding branch branch_cond compare test branch_reg except hint barrier read_sys write_sys
+unfolding branch branch_cond compare test_branch branch_reg except hint barrier read_sys write_sys
 words_of_branches_at_0 w e = narrow_field (30 to 29) 0 branches w refl e ∙ or_none (row_in branch w)
 
-pub words_of_branches_at_1 : (w : ℕ) → field w 29 2 ≡ 1 → decode branches w ≡ decode (compare ∷ test ∷ []) w
-unfolding branch branch_cond compare test branch_reg except hint barrier read_sys write_sys
+pub words_of_branches_at_1 : (w : ℕ) → field w 29 2 ≡ 1 → decode branches w ≡ decode (compare ∷ test_branch ∷ []) w
+unfolding branch branch_cond compare test_branch branch_reg except hint barrier read_sys write_sys
 words_of_branches_at_1 w e = narrow_field (30 to 29) 1 branches w refl e
 
 pub words_of_branches_at_2 : (w : ℕ) → field w 29 2 ≡ 2 → decode branches w ≡ decode branches_10 w
-unfolding branch branch_cond compare test branch_reg except hint barrier read_sys write_sys
+unfolding branch branch_cond compare test_branch branch_reg except hint barrier read_sys write_sys
 words_of_branches_at_2 w e = narrow_field (30 to 29) 2 branches w refl e
 
 pub words_of_branches_at_others : (w : ℕ) → IsNoneOf (field w 29 2) (0 ∷ 1 ∷ 2 ∷ []) → decode branches w ≡ None
-unfolding branch branch_cond compare test branch_reg except hint barrier read_sys write_sys
+unfolding branch branch_cond compare test_branch branch_reg except hint barrier read_sys write_sys
 words_of_branches_at_others w n = narrow_others (30 to 29) (0 ∷ 1 ∷ 2 ∷ []) branches w refl n
 
 pub words_of_branches_10_at_0 : (w : ℕ) → field w 24 2 ≡ 0 → decode branches_10 w ≡ decode (branch_cond ∷ except ∷ []) w

@@ -4,7 +4,7 @@ ghost use Rattle.std.specs.Prelude.{◌≡◌, [], ◌∷◌};
 ghost use Rattle.emu_bits.specs.Rows.{decode};
 ghost use Rattle.a64_insn.specs.Table.{a64_table};
 ghost use Rattle.a64_insn.specs.Data.{logic_imm, move_wide, bitfield, extract, add_reg, add_ext, cond_reg, cond_imm, mul_add, mul_long, mul_high, two_source, one_source, rev};
-ghost use Rattle.a64_insn.specs.Flow.{branch_cond, compare, test, except, hint, barrier, read_sys, write_sys};
+ghost use Rattle.a64_insn.specs.Flow.{branch_cond, compare, test_branch, except, hint, barrier, read_sys, write_sys};
 ghost use Rattle.a64_insn.specs.Memory.{ls_unscaled, ls_post, ls_pre, ls_reg, ls_literal, pair, store_ex, load_ex, ordered};
 ghost use Rattle.a64_rows.specs.Left.{lines_01, lines_01_1, lines_10, immediates, branches, branches_10, lines_11, lines_11_10};
 ghost use Rattle.a64_rows.specs.Seen.{seen};
@@ -15,7 +15,8 @@ use crate::data::{
     logic_reg, move_wide, mul_add, mul_high, mul_long, one_source, rev, select, two_source,
 };
 use crate::flow::{
-    barrier, branch, branch_cond, branch_reg, compare, except, hint, read_sys, test, write_sys,
+    barrier, branch, branch_cond, branch_reg, compare, except, hint, read_sys, test_branch,
+    write_sys,
 };
 use crate::memory::{
     load_ex, ls_literal, ls_post, ls_pre, ls_reg, ls_unscaled, ls_unsigned, ordered, pair, store_ex,
@@ -134,12 +135,12 @@ fn words_of_branches(w: u32) -> Option<A64>
 }
 
 fn words_of_compares(w: u32) -> Option<A64>
-    ensures { seen result ≡ decode (compare ∷ test ∷ []) w }
+    ensures { seen result ≡ decode (compare ∷ test_branch ∷ []) w }
 {
     if let Some(i) = compare(w) {
         return Some(i);
     }
-    test(w)
+    test_branch(w)
 }
 
 /// Branches on a condition or to a register, exceptions and system, by bits 25 to 24.

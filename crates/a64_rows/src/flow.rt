@@ -2,7 +2,7 @@
 ghost use Rattle.std.specs.Prelude.{◌≡◌};
 ghost use Rattle.emu_bits.specs.Rows.{encode, row_in, IsShape};
 ghost use Rattle.a64_insn.specs.declared.form.A64Form.TheVariants.{Branch, BranchCond, Compare, Test, BranchReg, Except, Hint, Barrier, ReadSys, WriteSys};
-ghost use Rattle.a64_insn.specs.Flow.{branch, branch_cond, compare, test, branch_reg, except, hint, barrier, read_sys, write_sys};
+ghost use Rattle.a64_insn.specs.Flow.{branch, branch_cond, compare, test_branch, branch_reg, except, hint, barrier, read_sys, write_sys};
 ghost use Rattle.a64_insn.specs.Table.{row_of};
 ghost use Rattle.a64_rows.specs.Seen.{seen};
 
@@ -92,9 +92,9 @@ pub fn compare_bits(op: CompareOp, sf: bool, imm19: U<19>, rt: Reg) -> u32
 }
 
 /// The instruction of `Test` that a word is.
-#[tactic(auto, unfolding(a64_insn::specs::Flow::test))]
-pub fn test(w: u32) -> Option<A64>
-    ensures { seen result ≡ row_in test w }
+#[tactic(auto, unfolding(a64_insn::specs::Flow::test_branch))]
+pub fn test_branch(w: u32) -> Option<A64>
+    ensures { seen result ≡ row_in test_branch w }
 {
     let op = test_op(w & 0x7f00_0000)?;
     A64::new(A64Form::Test {
@@ -107,7 +107,7 @@ pub fn test(w: u32) -> Option<A64>
 }
 
 /// The word of `Test` with these fields.
-#[tactic(auto, unfolding(a64_insn::specs::Flow::test))]
+#[tactic(auto, unfolding(a64_insn::specs::Flow::test_branch))]
 pub fn test_bits(op: TestOp, b5: bool, b40: U<5>, imm14: U<14>, rt: Reg) -> u32
     ensures table { result ≡ encode (row_of (Test op b5 b40 imm14 rt)) }
     ensures shape { IsShape (row_of (Test op b5 b40 imm14 rt)) }
