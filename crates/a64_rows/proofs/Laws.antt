@@ -4,7 +4,7 @@ use Rattle.emu_bits.specs.Rows.{decode, encode, formed, instruction, line_at, Is
 use Rattle.emu_bits.proofs.Computed.{are_sound, are_alone}
 use Rattle.emu_bits.proofs.Encoding.{Alone, alone_of, decode_encoded, encode_decoded, one_row_of}
 use Rattle.a64_insn.specs.declared.form.A64Form.{A64Form}
-use Rattle.a64_insn.specs.declared.form.A64Form.TheVariants.{Adr, AddImm, LogicImm, MoveWide, Bitfield, Extract, LogicReg, AddReg, AddExt, AddCarry, CondReg, CondImm, Select, MulAdd, MulLong, MulHigh, TwoSource, OneSource, Rev, Branch, BranchCond, Compare, Test, BranchReg, Except, Hint, Barrier, ReadSys, WriteSys, LsUnsigned, LsUnscaled, LsPost, LsPre, LsReg, LsLiteral, Pair, StoreEx, LoadEx, Ordered, FMove, MoveImm}
+use Rattle.a64_insn.specs.declared.form.A64Form.TheVariants.{Adr}
 use Rattle.a64_insn.specs.Table.{row_of, meets_form, a64_table}
 use Rattle.a64_insn.specs.Data.{adr, add_imm, logic_imm, move_wide, bitfield, extract, logic_reg, add_reg, add_ext, add_carry, cond_reg, cond_imm, select, mul_add, mul_long, mul_high, two_source, one_source, rev}
 use Rattle.a64_insn.specs.Flow.{branch, branch_cond, compare, test_branch, branch_reg, except, hint, barrier, read_sys, write_sys}

@@ -32,7 +32,10 @@ pub fn word_of(i: &A64) -> u32
     if let Some(w) = immediate_word(form) {
         return w;
     }
-    if let Some(w) = shifted_word(form) {
+    if let Some(w) = moved_word(form) {
+        return w;
+    }
+    if let Some(w) = register_word(form) {
         return w;
     }
     if let Some(w) = conditional_word(form) {
@@ -56,9 +59,9 @@ pub fn word_of(i: &A64) -> u32
     w
 }
 
-/// The word of an address, sum, logical operation or move with an immediate.
+/// The word of an address, or a sum or a logical operation with an immediate; none of another form.
 fn immediate_word(form: &A64Form) -> Option<u32>
-    ensures { MatchOption result (IsOutside 0 3 form.now) (λ w. IsWordOf form.now w) }
+    ensures { MatchOption result (IsOutside 0 2 form.now) (λ w. IsWordOf form.now w) }
 {
     match *form {
         A64Form::Adr {
@@ -84,6 +87,15 @@ fn immediate_word(form: &A64Form) -> Option<u32>
             rn,
             rd,
         } => Some(logic_imm_bits(op, sf, n, immr, imms, rn, rd)),
+        _ => None,
+    }
+}
+
+/// The word of a move of an immediate or a bitfield, or an extraction; none of another form.
+fn moved_word(form: &A64Form) -> Option<u32>
+    ensures { MatchOption result (IsOutside 3 5 form.now) (λ w. IsWordOf form.now w) }
+{
+    match *form {
         A64Form::MoveWide {
             op,
             sf,
@@ -91,15 +103,6 @@ fn immediate_word(form: &A64Form) -> Option<u32>
             imm16,
             rd,
         } => Some(move_wide_bits(op, sf, hw, imm16, rd)),
-        _ => None,
-    }
-}
-
-/// The word of a bitfield move, an extraction, or an operation on a shifted register.
-fn shifted_word(form: &A64Form) -> Option<u32>
-    ensures { MatchOption result (IsOutside 4 7 form.now) (λ w. IsWordOf form.now w) }
-{
-    match *form {
         A64Form::Bitfield {
             op,
             sf,
@@ -117,6 +120,15 @@ fn shifted_word(form: &A64Form) -> Option<u32>
             rn,
             rd,
         } => Some(extract_bits(sf, n, rm, s, rn, rd)),
+        _ => None,
+    }
+}
+
+/// The word of a logical operation or a sum of registers; none of another form.
+fn register_word(form: &A64Form) -> Option<u32>
+    ensures { MatchOption result (IsOutside 6 9 form.now) (λ w. IsWordOf form.now w) }
+{
+    match *form {
         A64Form::LogicReg {
             op,
             sf,
@@ -135,15 +147,6 @@ fn shifted_word(form: &A64Form) -> Option<u32>
             rn,
             rd,
         } => Some(add_reg_bits(op, sf, shift, rm, amount, rn, rd)),
-        _ => None,
-    }
-}
-
-/// The word of a sum with an extended register or the carry, or of an operation under a condition.
-fn conditional_word(form: &A64Form) -> Option<u32>
-    ensures { MatchOption result (IsOutside 8 12 form.now) (λ w. IsWordOf form.now w) }
-{
-    match *form {
         A64Form::AddExt {
             op,
             sf,
@@ -154,6 +157,15 @@ fn conditional_word(form: &A64Form) -> Option<u32>
             rd,
         } => Some(add_ext_bits(op, sf, rm, ext, a, rn, rd)),
         A64Form::AddCarry { op, sf, rm, rn, rd } => Some(add_carry_bits(op, sf, rm, rn, rd)),
+        _ => None,
+    }
+}
+
+/// The word of a comparison or a selection under a condition; none of another form.
+fn conditional_word(form: &A64Form) -> Option<u32>
+    ensures { MatchOption result (IsOutside 10 12 form.now) (λ w. IsWordOf form.now w) }
+{
+    match *form {
         A64Form::CondReg {
             op,
             sf,
@@ -182,7 +194,7 @@ fn conditional_word(form: &A64Form) -> Option<u32>
     }
 }
 
-/// The word of a product, or of an operation on one or two registers.
+/// The word of a product, or an operation on two registers or on one; none of another form.
 fn product_word(form: &A64Form) -> Option<u32>
     ensures { MatchOption result (IsOutside 13 18 form.now) (λ w. IsWordOf form.now w) }
 {
@@ -204,7 +216,7 @@ fn product_word(form: &A64Form) -> Option<u32>
     }
 }
 
-/// The word of a branch, an exception or a system instruction.
+/// The word of a branch, an exception or a system instruction; none of another form.
 fn flow_word(form: &A64Form) -> Option<u32>
     ensures { MatchOption result (IsOutside 19 28 form.now) (λ w. IsWordOf form.now w) }
 {
@@ -229,7 +241,7 @@ fn flow_word(form: &A64Form) -> Option<u32>
     }
 }
 
-/// The word of a load or store at an immediate offset from its base.
+/// The word of a load or store at an immediate offset; none of another form.
 fn offset_access_word(form: &A64Form) -> Option<u32>
     ensures { MatchOption result (IsOutside 29 32 form.now) (λ w. IsWordOf form.now w) }
 {
@@ -270,7 +282,7 @@ fn offset_access_word(form: &A64Form) -> Option<u32>
     }
 }
 
-/// The word of a load or store at another place, of a pair, or of an exclusive or ordered access.
+/// The word of a load or store at another place, of a pair, or exclusive or ordered; none of another form.
 fn other_access_word(form: &A64Form) -> Option<u32>
     ensures { MatchOption result (IsOutside 33 38 form.now) (λ w. IsWordOf form.now w) }
 {
@@ -309,7 +321,7 @@ fn other_access_word(form: &A64Form) -> Option<u32>
     }
 }
 
-/// The word of a bit move.
+/// The word of a bit move; none of another form.
 fn bit_move_word(form: &A64Form) -> Option<u32>
     ensures { MatchOption result (IsOutside 39 40 form.now) (λ w. IsWordOf form.now w) }
 {
