@@ -10,14 +10,6 @@ use Rattle.a64_insn.specs.Names.{load_ex_named, ordered_named, store_ex_named}
 unfoldable pub is_access : ℕ → ℕ → ℕ → Bool
 is_access size v opc = cond (v == 1) (nat_lt opc 2 || size == 0) (nat_lt opc 3 || nat_lt size 2)
 
--- `prfm`, the hint that stands among the loads and stores
-unfoldable pub is_prefetch : ℕ → ℕ → ℕ → Bool
-is_prefetch size v opc = size == 3 && (v == 0 && opc == 2)
-
--- A general register isn't the base register, whose number 31 is SP.
-unfoldable pub is_not_base : ℕ → ℕ → Bool
-is_not_base rn r = rn == 31 || not (r == rn)
-
 -- `ldr`, `str` and their kinds, at `[Xn|SP{, #0}]`
 unfoldable pub ls_unsigned : Line A64Form
 ls_unsigned = record {
@@ -36,11 +28,19 @@ ls_unscaled = record {
   form = λ k vs. LsUnscaled (value_at vs 0) (flag_at vs 1) (value_at vs 2) (value_at vs 3) (value_at vs 4) (value_at vs 5);
 }
 
--- a register that is loaded or stored isn't the base that is written back: it is a vector register, or another
+-- `prfm`, the hint that stands among the loads and stores
+unfoldable pub is_prefetch : ℕ → ℕ → ℕ → Bool
+is_prefetch size v opc = size == 3 && (v == 0 && opc == 2)
+
+-- A general register isn't the base register, whose number 31 is SP.
+unfoldable pub is_not_base : ℕ → ℕ → Bool
+is_not_base rn r = rn == 31 || not (r == rn)
+
+-- A register that is loaded or stored isn't the base: it is a vector register, or another general one.
 unfoldable pub keeps_base : ℕ → ℕ → ℕ → Bool
 keeps_base v rn rt = v == 1 || is_not_base rn rt
 
--- There is such a load or store, not `prfm`, and its register isn't the base that is written back.
+-- There is such a load or store, it isn't `prfm`, and its register isn't the base, which is written back.
 unfoldable pub writeback_holds_for : ℕ → ℕ → ℕ → ℕ → ℕ → Bool
 writeback_holds_for size v opc rn rt = is_access size v opc && (not (is_prefetch size v opc) && keeps_base v rn rt)
 
@@ -62,11 +62,11 @@ ls_pre = record {
   form = λ k vs. LsPre (value_at vs 0) (flag_at vs 1) (value_at vs 2) (value_at vs 3) (value_at vs 4) (value_at vs 5);
 }
 
--- uxtw, lsl, sxtw and sxtx: an offset has 32 or 64 bits
+-- an offset has 32 or 64 bits: uxtw, lsl, sxtw or sxtx
 unfoldable pub is_offset_extension : ℕ → Bool
 is_offset_extension ext = is_among ext (2 ∷ 3 ∷ 6 ∷ 7 ∷ [])
 
--- There is such a load or store, and the extension is one of an offset.
+-- There is such a load or store, and the extension is one of offsets.
 unfoldable pub ls_reg_holds_for : ℕ → ℕ → ℕ → ℕ → Bool
 ls_reg_holds_for size v opc ext = is_access size v opc && is_offset_extension ext
 
@@ -92,19 +92,19 @@ ls_literal = record {
   form = λ k vs. LsLiteral (value_at vs 0) (flag_at vs 1) (value_at vs 2) (value_at vs 3);
 }
 
--- There are these pairs: opc is 0, 1 or 2, and 1 of general registers is `ldpsw`, which only loads and has no mode 0.
+-- There are these pairs: opc is 0, 1 or 2, and 1 of general registers is `ldpsw`, which loads and has no mode 0.
 unfoldable pub is_pair : ℕ → ℕ → ℕ → ℕ → Bool
 is_pair opc v mode l = nat_lt opc 3 && (v == 1 || (not (opc == 1) || (l == 1 && not (mode == 0))))
 
--- a load has two registers
+-- a load has two different registers
 unfoldable pub loads_two : ℕ → ℕ → ℕ → Bool
 loads_two l rt2 rt = l == 0 || not (rt == rt2)
 
--- in the modes that write back, 1 and 3, neither register is the base that is written back
+-- in the modes that write the base back, 1 and 3, neither register is the base
 unfoldable pub pair_keeps_base : ℕ → ℕ → ℕ → ℕ → ℕ → Bool
 pair_keeps_base v mode rt2 rn rt = is_among mode (0 ∷ 2 ∷ []) || (keeps_base v rn rt && keeps_base v rn rt2)
 
--- There is such a pair, a load has two registers, and neither is the base that is written back.
+-- There is such a pair, a load has two different registers, and neither is a base that is written back.
 unfoldable pub pair_holds_for : ℕ → ℕ → ℕ → ℕ → ℕ → ℕ → ℕ → Bool
 pair_holds_for opc v mode l rt2 rn rt = is_pair opc v mode l && (loads_two l rt2 rt && pair_keeps_base v mode rt2 rn rt)
 

@@ -57,7 +57,17 @@ row_of (Ordered op size rn rt) = record { line = ordered; number = ordered_numbe
 row_of (FMove op rn rd) = record { line = f_move; number = f_move_number op; values = rn ∷ rd ∷ [] }
 row_of (MoveImm q op abc cmode defgh rd) = record { line = move_imm; number = 0; values = bit q ∷ bit op ∷ abc ∷ cmode ∷ defgh ∷ rd ∷ [] }
 
--- the condition of its line
+-- the condition of a line that plainly loads or stores a single register; other lines have none here
+abbrev pub meets_single : A64Form → Bool
+meets_single (LsUnsigned size v opc imm12 rn rt) = is_access size (bit v) opc
+meets_single (LsUnscaled size v opc imm9 rn rt) = is_access size (bit v) opc
+meets_single (LsPost size v opc imm9 rn rt) = writeback_holds_for size (bit v) opc rn rt
+meets_single (LsPre size v opc imm9 rn rt) = writeback_holds_for size (bit v) opc rn rt
+meets_single (LsReg size v opc rm ext s rn rt) = ls_reg_holds_for size (bit v) opc ext
+meets_single (LsLiteral opc v imm19 rt) = ls_literal_holds_for opc (bit v)
+meets_single f = true
+
+-- the condition of a form's line
 abbrev pub meets_form : A64Form → Bool
 meets_form (Adr op immlo immhi rd) = true
 meets_form (AddImm op sf sh imm12 rn rd) = true
@@ -88,15 +98,10 @@ meets_form (Hint n) = true
 meets_form (Barrier op n) = true
 meets_form (ReadSys op rt) = true
 meets_form (WriteSys op rt) = true
-meets_form (LsUnsigned size v opc imm12 rn rt) = is_access size (bit v) opc
-meets_form (LsUnscaled size v opc imm9 rn rt) = is_access size (bit v) opc
-meets_form (LsPost size v opc imm9 rn rt) = writeback_holds_for size (bit v) opc rn rt
-meets_form (LsPre size v opc imm9 rn rt) = writeback_holds_for size (bit v) opc rn rt
-meets_form (LsReg size v opc rm ext s rn rt) = ls_reg_holds_for size (bit v) opc ext
-meets_form (LsLiteral opc v imm19 rt) = ls_literal_holds_for opc (bit v)
 meets_form (Pair opc v mode l imm7 rt2 rn rt) = pair_holds_for opc (bit v) mode (bit l) rt2 rn rt
 meets_form (StoreEx op size rs rn rt) = store_ex_holds_for rs rn rt
 meets_form (LoadEx op size rn rt) = true
 meets_form (Ordered op size rn rt) = true
 meets_form (FMove op rn rd) = true
 meets_form (MoveImm q op abc cmode defgh rd) = move_imm_holds_for cmode
+meets_form f = meets_single f

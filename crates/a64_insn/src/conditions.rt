@@ -4,7 +4,7 @@ ghost use Rattle.emu_bits.specs.Fields.{bit};
 ghost use Rattle.a64_insn.specs.Data.{has_bitmask, is_below_width, move_wide_holds_for, bitfield_holds_for, extract_holds_for, add_reg_holds_for, add_ext_holds_for};
 ghost use Rattle.a64_insn.specs.Memory.{is_access, is_prefetch, is_not_base, keeps_base, writeback_holds_for, is_offset_extension, ls_reg_holds_for, ls_literal_holds_for, is_pair, loads_two, pair_keeps_base, pair_holds_for, store_ex_holds_for};
 ghost use Rattle.a64_insn.specs.BitMoves.{move_imm_holds_for};
-ghost use Rattle.a64_insn.specs.Table.{meets_form};
+ghost use Rattle.a64_insn.specs.Table.{meets_form, meets_single};
 
 use crate::form::A64Form;
 use emu_bits::{Reg, U, bitmask};
@@ -32,6 +32,27 @@ pub fn meets(form: &A64Form) -> bool
             ..
         } => add_reg_holds(sf, shift, amount),
         A64Form::AddExt { a, .. } => add_ext_holds(a),
+        A64Form::Pair {
+            opc,
+            v,
+            mode,
+            l,
+            rt2,
+            rn,
+            rt,
+            ..
+        } => pair_holds(opc, v, mode, l, rt2, rn, rt),
+        A64Form::StoreEx { rs, rn, rt, .. } => store_ex_holds(rs, rn, rt),
+        A64Form::MoveImm { cmode, .. } => move_imm_holds(cmode),
+        _ => meets_single(form),
+    }
+}
+
+/// Whether a form that plainly loads or stores a single register meets its line's condition; others have none here.
+fn meets_single(form: &A64Form) -> bool
+    ensures { result ≡ meets_single form.now }
+{
+    match *form {
         A64Form::LsUnsigned { size, v, opc, .. } => is_access(size, v, opc),
         A64Form::LsUnscaled { size, v, opc, .. } => is_access(size, v, opc),
         A64Form::LsPost {
@@ -58,43 +79,7 @@ pub fn meets(form: &A64Form) -> bool
             ..
         } => ls_reg_holds(size, v, opc, ext),
         A64Form::LsLiteral { opc, v, .. } => ls_literal_holds(opc, v),
-        A64Form::Pair {
-            opc,
-            v,
-            mode,
-            l,
-            rt2,
-            rn,
-            rt,
-            ..
-        } => pair_holds(opc, v, mode, l, rt2, rn, rt),
-        A64Form::StoreEx { rs, rn, rt, .. } => store_ex_holds(rs, rn, rt),
-        A64Form::MoveImm { cmode, .. } => move_imm_holds(cmode),
-        A64Form::Adr { .. }
-        | A64Form::AddImm { .. }
-        | A64Form::AddCarry { .. }
-        | A64Form::CondReg { .. }
-        | A64Form::CondImm { .. }
-        | A64Form::Select { .. }
-        | A64Form::MulAdd { .. }
-        | A64Form::MulLong { .. }
-        | A64Form::MulHigh { .. }
-        | A64Form::TwoSource { .. }
-        | A64Form::OneSource { .. }
-        | A64Form::Rev { .. }
-        | A64Form::Branch { .. }
-        | A64Form::BranchCond { .. }
-        | A64Form::Compare { .. }
-        | A64Form::Test { .. }
-        | A64Form::BranchReg { .. }
-        | A64Form::Except { .. }
-        | A64Form::Hint { .. }
-        | A64Form::Barrier { .. }
-        | A64Form::ReadSys { .. }
-        | A64Form::WriteSys { .. }
-        | A64Form::LoadEx { .. }
-        | A64Form::Ordered { .. }
-        | A64Form::FMove { .. } => true,
+        _ => true,
     }
 }
 
@@ -177,7 +162,7 @@ fn is_not_base(rn: Reg, r: Reg) -> bool
     rn.get() == 31 || r.get() != rn.get()
 }
 
-/// Whether a register that is loaded or stored isn't the base that is written back.
+/// Whether a register that is loaded or stored isn't the base.
 #[tactic(auto, unfolding(crate::specs::Memory::keeps_base))]
 fn keeps_base(v: bool, rn: Reg, rt: Reg) -> bool
     ensures { result ≡ keeps_base (bit v) rn rt }
@@ -192,7 +177,7 @@ fn writeback_holds(size: U<2>, v: bool, opc: U<2>, rn: Reg, rt: Reg) -> bool
     is_access(size, v, opc) && !is_prefetch(size, v, opc) && keeps_base(v, rn, rt)
 }
 
-/// Whether an extension is one of an offset: uxtw, lsl, sxtw or sxtx.
+/// Whether an extension is one of offsets: uxtw, lsl, sxtw or sxtx.
 #[tactic(auto, unfolding(crate::specs::Memory::is_offset_extension))]
 fn is_offset_extension(ext: U<3>) -> bool
     ensures { result ≡ is_offset_extension ext }
@@ -222,7 +207,7 @@ fn is_pair(opc: U<2>, v: bool, mode: U<2>, l: bool) -> bool
     opc.get() < 3 && (v || opc.get() != 1 || (l && mode.get() != 0))
 }
 
-/// Whether a load has two registers.
+/// Whether a load has two different registers.
 #[tactic(auto, unfolding(crate::specs::Memory::loads_two))]
 fn loads_two(l: bool, rt2: Reg, rt: Reg) -> bool
     ensures { result ≡ loads_two (bit l) rt2 rt }

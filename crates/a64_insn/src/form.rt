@@ -178,24 +178,24 @@ pub enum A64Form {
         rn: Reg,
         rd: Reg,
     },
-    /// `b`, `bl target`: to PC plus four times imm26, which is signed; bl links.
+    /// `b`, `bl target`: a branch to PC plus 4·imm26, imm26 signed; bl writes the address behind it to x30.
     Branch {
         op: BranchOp,
         imm26: U<26>,
     },
-    /// `b.cond target`: where a condition holds; imm19 is signed and counts words.
+    /// `b.cond target`: a branch to PC plus 4·imm19, imm19 signed, where a condition holds.
     BranchCond {
         imm19: U<19>,
         cond: U<4>,
     },
-    /// `cbz`, `cbnz Rt, target`: where a register is 0, or is not.
+    /// `cbz`, `cbnz Rt, target`: a branch to PC plus 4·imm19, imm19 signed, where a register is 0 or isn't.
     Compare {
         op: CompareOp,
         sf: bool,
         imm19: U<19>,
         rt: Reg,
     },
-    /// `tbz`, `tbnz Rt, #b, target`: where bit b5:b40 of a register is 0, or is 1; imm14 is signed and counts words.
+    /// `tbz`, `tbnz Rt, #b, target`: a branch to PC plus 4·imm14, imm14 signed, where bit b5:b40 of a register is 0 or is 1.
     Test {
         op: TestOp,
         b5: bool,
@@ -203,7 +203,7 @@ pub enum A64Form {
         imm14: U<14>,
         rt: Reg,
     },
-    /// `br`, `blr`, `ret Xn`: to the address in a register; blr links.
+    /// `br`, `blr`, `ret Xn`: a branch to the address in a register; blr writes the address behind it to x30.
     BranchReg {
         op: BranchRegOp,
         rn: Reg,
@@ -213,21 +213,21 @@ pub enum A64Form {
         op: ExceptOp,
         imm16: U<16>,
     },
-    /// `hint #n`: does nothing.
+    /// `hint #n`: nothing.
     Hint {
         n: U<7>,
     },
-    /// `clrex`, `dsb`, `dmb`, `isb #n`: clrex empties the monitor, the barriers do nothing.
+    /// `clrex`, `dsb`, `dmb`, `isb #n`: clrex empties the exclusive monitor, the barriers do nothing.
     Barrier {
         op: BarrierOp,
         n: U<4>,
     },
-    /// `mrs Xt, tpidr_el0`, `nzcv`, `dczid_el0`: reads a system register.
+    /// `mrs Xt, tpidr_el0`, `nzcv`, `dczid_el0`: a system register is read.
     ReadSys {
         op: ReadSysOp,
         rt: Reg,
     },
-    /// `msr tpidr_el0, Xt`, `nzcv, Xt`: writes a system register.
+    /// `msr tpidr_el0, Xt`, `nzcv, Xt`: a system register is written.
     WriteSys {
         op: WriteSysOp,
         rt: Reg,
@@ -250,7 +250,7 @@ pub enum A64Form {
         rn: Reg,
         rt: Reg,
     },
-    /// `ldr`, `str` and their kinds, at `[Xn|SP], #i`: imm9 is signed, in bytes, and added to the base after the access.
+    /// `ldr`, `str` and their kinds, at `[Xn|SP], #i`: imm9, signed, in bytes, is added to the base after the access.
     LsPost {
         size: U<2>,
         v: bool,
@@ -259,7 +259,7 @@ pub enum A64Form {
         rn: Reg,
         rt: Reg,
     },
-    /// `ldr`, `str` and their kinds, at `[Xn|SP, #i]!`: imm9 is signed, in bytes, and added to the base before the access.
+    /// `ldr`, `str` and their kinds, at `[Xn|SP, #i]!`: imm9, signed, in bytes, is added to the base before the access.
     LsPre {
         size: U<2>,
         v: bool,
@@ -268,7 +268,7 @@ pub enum A64Form {
         rn: Reg,
         rt: Reg,
     },
-    /// `ldr`, `str` and their kinds, at `[Xn|SP, Rm, ext #a]`: ext is 2 uxtw, 3 lsl, 6 sxtw, 7 sxtx, and s scales by the size of the access.
+    /// `ldr`, `str` and their kinds, at `[Xn|SP, Rm, ext #a]`: ext is 2 uxtw, 3 lsl, 6 sxtw, 7 sxtx; with s the offset counts accesses, else bytes.
     LsReg {
         size: U<2>,
         v: bool,
@@ -279,14 +279,14 @@ pub enum A64Form {
         rn: Reg,
         rt: Reg,
     },
-    /// `ldr`, `ldrsw`, `prfm Rt, target`: imm19 is signed and counts words from PC on.
+    /// `ldr`, `ldrsw`, `prfm Rt, target`: at PC plus 4·imm19, imm19 signed.
     LsLiteral {
         opc: U<2>,
         v: bool,
         imm19: U<19>,
         rt: Reg,
     },
-    /// `ldp`, `stp`, `ldpsw`, `ldnp`, `stnp Rt, Rt2, place`: mode is 0 without temporal hint, 1 post, 2 offset, 3 pre; l is true for loads; imm7 is signed and counts registers.
+    /// `stp`, `ldp`, `ldpsw`, `stnp`, `ldnp Rt, Rt2, place`: mode is 0 stnp and ldnp, 1 post, 2 offset, 3 pre; l is true in loads; imm7, signed, counts accesses of one register.
     Pair {
         opc: U<2>,
         v: bool,
@@ -297,7 +297,7 @@ pub enum A64Form {
         rn: Reg,
         rt: Reg,
     },
-    /// `stxr`, `stlxr Ws, Rt, [Xn|SP]`: a store where the exclusive monitor stands, with the outcome in rs; size counts bytes as a power of two.
+    /// `stxr`, `stlxr Ws, Rt, [Xn|SP]`: a store of 2^size bytes where the exclusive monitor has them; Ws is 0 where it is made, else 1.
     StoreEx {
         op: StoreExOp,
         size: U<2>,
@@ -305,14 +305,14 @@ pub enum A64Form {
         rn: Reg,
         rt: Reg,
     },
-    /// `ldxr`, `ldaxr Rt, [Xn|SP]`: a load that sets the exclusive monitor.
+    /// `ldxr`, `ldaxr Rt, [Xn|SP]`: a load of 2^size bytes that sets the exclusive monitor.
     LoadEx {
         op: LoadExOp,
         size: U<2>,
         rn: Reg,
         rt: Reg,
     },
-    /// `stlr`, `ldar Rt, [Xn|SP]`: a store that releases, a load that acquires.
+    /// `stlr`, `ldar Rt, [Xn|SP]`: a store, a load of 2^size bytes.
     Ordered {
         op: OrderedOp,
         size: U<2>,
@@ -325,7 +325,7 @@ pub enum A64Form {
         rn: Reg,
         rd: Reg,
     },
-    /// `movi`, `mvni`: an immediate, the byte abc:defgh placed or spread as cmode says, in each part of a vector register of 128 bits, or of 64 where q is false.
+    /// `movi`, `mvni`: the byte abc:defgh, placed or spread as cmode says, in each part of a vector register's 128 bits, or 64 where q is false; op says mvni, but where cmode is 14.
     MoveImm {
         q: bool,
         op: bool,

@@ -130,7 +130,7 @@ pub enum RevOp {
     Rev32,
 }
 
-/// Branches; bl writes the address behind it to x30.
+/// Branches: plain, and with a link in x30.
 #[derive(Clone, Copy, PartialEq, Eq, Debug)]
 pub enum BranchOp {
     B,
@@ -167,7 +167,7 @@ pub enum ExceptOp {
     Hlt,
 }
 
-/// The exclusive monitor emptied, and barriers of data and instructions.
+/// The exclusive monitor's clearing, and barriers of data (two kinds) and of instructions.
 #[derive(Clone, Copy, PartialEq, Eq, Debug)]
 pub enum BarrierOp {
     Clrex,
@@ -212,7 +212,7 @@ pub enum OrderedOp {
     Ldar,
 }
 
-/// Bits copied between general and vector registers: their destination and source.
+/// Copies of bits between general and vector registers, by destination and source.
 #[derive(Clone, Copy, PartialEq, Eq, Debug)]
 pub enum FMoveOp {
     WdSn,

@@ -1,7 +1,7 @@
 -- Each arm has the lines that its bits leave.
 use Rattle.std.proofs.Common.{◌∙◌, sym, arith}
 use Rattle.a64_rows.proofs.Narrowed.{find_at_1, find_at_2, find_at_3, find_at_others}
-use Rattle.a64_rows.proofs.find.Goals as goal
+use Rattle.a64_rows.proofs.dispatch.find.Goals as goal
 
 pub returns-in-1 : goal.returns-in-1
 returns-in-1 c = c.words_01.ensures ∙ sym (find_at_1 c.args.w (sym c.bits.ensures ∙ c.in-1.is))

@@ -1,0 +1,257 @@
+//! The instruction of a word: a line is chosen by bits that are outside of the fields of all lines left, and the lines
+//! that these bits leave are tried in turn.
+ghost use Rattle.std.specs.Prelude.{◌≡◌, [], ◌∷◌};
+ghost use Rattle.emu_bits.specs.Rows.{decode};
+ghost use Rattle.a64_insn.specs.Table.{a64_table};
+ghost use Rattle.a64_insn.specs.Data.{logic_imm, move_wide, bitfield, extract, add_reg, add_ext, cond_reg, cond_imm, mul_add, mul_long, mul_high, two_source, one_source, rev};
+ghost use Rattle.a64_insn.specs.Flow.{branch_cond, compare, test, except, hint, barrier, read_sys, write_sys};
+ghost use Rattle.a64_insn.specs.Memory.{ls_unscaled, ls_post, ls_pre, ls_reg, ls_literal, pair, store_ex, load_ex, ordered};
+ghost use Rattle.a64_rows.specs.Left.{lines_01, lines_01_1, lines_10, immediates, branches, branches_10, lines_11, lines_11_10};
+ghost use Rattle.a64_rows.specs.Seen.{seen};
+
+use crate::bit_moves::{f_move, move_imm};
+use crate::data::{
+    add_carry, add_ext, add_imm, add_reg, adr, bitfield, cond_imm, cond_reg, extract, logic_imm,
+    logic_reg, move_wide, mul_add, mul_high, mul_long, one_source, rev, select, two_source,
+};
+use crate::flow::{
+    barrier, branch, branch_cond, branch_reg, compare, except, hint, read_sys, test, write_sys,
+};
+use crate::memory::{
+    load_ex, ls_literal, ls_post, ls_pre, ls_reg, ls_unscaled, ls_unsigned, ordered, pair, store_ex,
+};
+use a64_insn::A64;
+use emu_bits::bits;
+
+/// The instruction of a word, found by bits 28 to 27.
+pub fn find(w: u32) -> Option<A64>
+    ensures { seen result ≡ decode a64_table w }
+{
+    match bits(w, 28, 27) {
+        0b01 => words_01(w),
+        0b10 => words_10(w),
+        0b11 => words_11(w),
+        _ => None,
+    }
+}
+
+/// Registers with a shift or an extension, pairs, exclusive accesses and the move of a vector immediate, by bit 25.
+fn words_01(w: u32) -> Option<A64>
+    ensures { seen result ≡ decode lines_01 w }
+{
+    match bits(w, 25, 25) {
+        0b0 => words_of_pairs_and_exclusives(w),
+        _ => words_01_1(w),
+    }
+}
+
+fn words_of_pairs_and_exclusives(w: u32) -> Option<A64>
+    ensures { seen result ≡ decode (pair ∷ store_ex ∷ load_ex ∷ ordered ∷ []) w }
+{
+    if let Some(i) = pair(w) {
+        return Some(i);
+    }
+    if let Some(i) = store_ex(w) {
+        return Some(i);
+    }
+    if let Some(i) = load_ex(w) {
+        return Some(i);
+    }
+    ordered(w)
+}
+
+/// Registers with a shift or an extension, and the move of a vector immediate, by bits 26 to 24.
+fn words_01_1(w: u32) -> Option<A64>
+    ensures { seen result ≡ decode lines_01_1 w }
+{
+    match bits(w, 26, 24) {
+        0b010 => logic_reg(w),
+        0b011 => words_of_register_sums(w),
+        0b111 => move_imm(w),
+        _ => None,
+    }
+}
+
+fn words_of_register_sums(w: u32) -> Option<A64>
+    ensures { seen result ≡ decode (add_reg ∷ add_ext ∷ []) w }
+{
+    if let Some(i) = add_reg(w) {
+        return Some(i);
+    }
+    add_ext(w)
+}
+
+/// Immediates and branches, by bit 26.
+fn words_10(w: u32) -> Option<A64>
+    ensures { seen result ≡ decode lines_10 w }
+{
+    match bits(w, 26, 26) {
+        0b0 => words_of_immediates(w),
+        _ => words_of_branches(w),
+    }
+}
+
+/// By bits 25 to 24.
+fn words_of_immediates(w: u32) -> Option<A64>
+    ensures { seen result ≡ decode immediates w }
+{
+    match bits(w, 25, 24) {
+        0b00 => adr(w),
+        0b01 => add_imm(w),
+        0b10 => words_of_logic_and_moves(w),
+        _ => words_of_bitfields(w),
+    }
+}
+
+fn words_of_logic_and_moves(w: u32) -> Option<A64>
+    ensures { seen result ≡ decode (logic_imm ∷ move_wide ∷ []) w }
+{
+    if let Some(i) = logic_imm(w) {
+        return Some(i);
+    }
+    move_wide(w)
+}
+
+fn words_of_bitfields(w: u32) -> Option<A64>
+    ensures { seen result ≡ decode (bitfield ∷ extract ∷ []) w }
+{
+    if let Some(i) = bitfield(w) {
+        return Some(i);
+    }
+    extract(w)
+}
+
+/// Branches, exceptions and system, by bits 30 to 29.
+fn words_of_branches(w: u32) -> Option<A64>
+    ensures { seen result ≡ decode branches w }
+{
+    match bits(w, 30, 29) {
+        0b00 => branch(w),
+        0b01 => words_of_compares(w),
+        0b10 => words_of_branches_10(w),
+        _ => None,
+    }
+}
+
+fn words_of_compares(w: u32) -> Option<A64>
+    ensures { seen result ≡ decode (compare ∷ test ∷ []) w }
+{
+    if let Some(i) = compare(w) {
+        return Some(i);
+    }
+    test(w)
+}
+
+/// Branches on a condition or to a register, exceptions and system, by bits 25 to 24.
+fn words_of_branches_10(w: u32) -> Option<A64>
+    ensures { seen result ≡ decode branches_10 w }
+{
+    match bits(w, 25, 24) {
+        0b00 => words_of_exceptions(w),
+        0b01 => words_of_system(w),
+        0b10 => branch_reg(w),
+        _ => None,
+    }
+}
+
+fn words_of_exceptions(w: u32) -> Option<A64>
+    ensures { seen result ≡ decode (branch_cond ∷ except ∷ []) w }
+{
+    if let Some(i) = branch_cond(w) {
+        return Some(i);
+    }
+    except(w)
+}
+
+fn words_of_system(w: u32) -> Option<A64>
+    ensures { seen result ≡ decode (hint ∷ barrier ∷ read_sys ∷ write_sys ∷ []) w }
+{
+    if let Some(i) = hint(w) {
+        return Some(i);
+    }
+    if let Some(i) = barrier(w) {
+        return Some(i);
+    }
+    if let Some(i) = read_sys(w) {
+        return Some(i);
+    }
+    write_sys(w)
+}
+
+/// Single accesses and the other registers, by bits 25 to 24.
+fn words_11(w: u32) -> Option<A64>
+    ensures { seen result ≡ decode lines_11 w }
+{
+    match bits(w, 25, 24) {
+        0b00 => words_of_accesses(w),
+        0b01 => ls_unsigned(w),
+        0b10 => words_11_10(w),
+        _ => words_of_products(w),
+    }
+}
+
+fn words_of_accesses(w: u32) -> Option<A64>
+    ensures { seen result ≡ decode (ls_unscaled ∷ ls_post ∷ ls_pre ∷ ls_reg ∷ ls_literal ∷ []) w }
+{
+    if let Some(i) = ls_unscaled(w) {
+        return Some(i);
+    }
+    if let Some(i) = ls_post(w) {
+        return Some(i);
+    }
+    if let Some(i) = ls_pre(w) {
+        return Some(i);
+    }
+    if let Some(i) = ls_reg(w) {
+        return Some(i);
+    }
+    ls_literal(w)
+}
+
+/// Carries, conditions, one and two sources, and moves between register files, by bits 23 to 21.
+fn words_11_10(w: u32) -> Option<A64>
+    ensures { seen result ≡ decode lines_11_10 w }
+{
+    match bits(w, 23, 21) {
+        0b000 => add_carry(w),
+        0b001 => f_move(w),
+        0b010 => words_of_comparisons(w),
+        0b011 => f_move(w),
+        0b100 => select(w),
+        0b110 => words_of_sources(w),
+        _ => None,
+    }
+}
+
+fn words_of_comparisons(w: u32) -> Option<A64>
+    ensures { seen result ≡ decode (cond_reg ∷ cond_imm ∷ []) w }
+{
+    if let Some(i) = cond_reg(w) {
+        return Some(i);
+    }
+    cond_imm(w)
+}
+
+fn words_of_sources(w: u32) -> Option<A64>
+    ensures { seen result ≡ decode (two_source ∷ one_source ∷ rev ∷ []) w }
+{
+    if let Some(i) = two_source(w) {
+        return Some(i);
+    }
+    if let Some(i) = one_source(w) {
+        return Some(i);
+    }
+    rev(w)
+}
+
+fn words_of_products(w: u32) -> Option<A64>
+    ensures { seen result ≡ decode (mul_add ∷ mul_long ∷ mul_high ∷ []) w }
+{
+    if let Some(i) = mul_add(w) {
+        return Some(i);
+    }
+    if let Some(i) = mul_long(w) {
+        return Some(i);
+    }
+    mul_high(w)
+}
