@@ -1,11 +1,14 @@
 //! Branches, the system's rows, and the loads and stores of general registers.
 #![tactic(auto)]
 
+mod alignment;
 mod branches;
 mod elements;
 mod fields;
 mod numbers;
 mod rows;
+#[cfg(test)]
+mod tests;
 
 ghost use Rattle.std.specs.Prelude.{◌≡◌, ◌||◌, [], true};
 ghost use Rattle.emu_run.specs.Flow.{is_flow};

@@ -1,0 +1,169 @@
+//! Worked examples.
+use crate::{exec, is_own};
+use a64_insn::{A64, A64Form, CompareOp, LoadExOp, MulHighOp, StoreExOp, TestOp};
+use core_regs::{Core, Effect, Trap, TrapKind};
+use emu_bits::{Reg, U};
+use guest_mem::{Access, AccessLog, Kind, Mem};
+use guest_pages::{Pages, Rights};
+use std::alloc::{AllocError, Global};
+use std::test::Fail;
+
+/// Register r, x0 where r is none.
+fn reg(r: u32) -> Reg {
+    Reg::new(r).unwrap_or(Reg::at(0, 0))
+}
+
+/// A memory of the page at 0x402000 alone, which may be read and written.
+fn memory(alloc: Global) -> Result<Mem, AllocError> {
+    let rights = Rights {
+        r: true,
+        w: true,
+        x: false,
+    };
+    let mut pages = Pages::new(alloc, 1)?;
+    let _mapped = pages.map(0x402, 1, rights);
+    Ok(Mem::new(pages))
+}
+
+/// What an instruction of the crate answers and accesses, or none where there is no such instruction.
+fn run(core: &mut Core, mem: &mut Mem, form: A64Form) -> Option<(Effect, AccessLog)> {
+    let insn = A64::new(form)?;
+    if !is_own(&insn) {
+        return None;
+    }
+    let mut log = AccessLog::new();
+    let effect = exec(core, mem, &mut log, &insn);
+    Some((effect, log))
+}
+
+fn trap(kind: TrapKind, address: u64) -> Effect {
+    Effect::Trap(Trap { kind, address })
+}
+
+#[test]
+fn a_store_of_a_pair_stores_the_first_before_it_traps(rt: HostRuntime) -> Result<(), Fail> {
+    let mut mem = memory(rt.alloc())?;
+    let mut core = Core::new();
+    core.set_x(reg(0), 64, 0x1122_3344_5566_7788);
+    core.set_x(reg(2), 64, 0x40_2FF8);
+    // stp x0, x1, [x2, #0]
+    let stp = A64Form::Pair {
+        opc: U::at(2, 0),
+        v: false,
+        mode: U::at(2, 0),
+        l: false,
+        imm7: U::at(0, 0),
+        rt2: reg(1),
+        rn: reg(2),
+        rt: reg(0),
+    };
+    let (effect, log) = run(&mut core, &mut mem, stp).expect(&rt, "a row");
+    assert_eq!(rt; effect, trap(TrapKind::Write, 0x40_3000));
+    let first = Access {
+        address: 0x40_2FF8,
+        bytes: 8,
+        write: true,
+    };
+    assert_eq!(rt; log.as_slice(), [first].as_slice());
+    assert_eq!(rt;
+        mem.load(0x40_2FF8, 8, Kind::Read),
+        Ok(0x1122_3344_5566_7788)
+    );
+    Ok(())
+}
+
+#[test]
+fn an_exclusive_store_asks_for_its_monitor(rt: HostRuntime) -> Result<(), Fail> {
+    let mut mem = memory(rt.alloc())?;
+    let mut core = Core::new();
+    core.set_x(reg(0), 64, 5);
+    core.set_x(reg(2), 64, 0x40_2000);
+    // stxr w3, x0, [x2]
+    let stxr = || A64Form::StoreEx {
+        op: StoreExOp::Stxr,
+        size: U::at(3, 0),
+        rs: reg(3),
+        rn: reg(2),
+        rt: reg(0),
+    };
+    let (effect, log) = run(&mut core, &mut mem, stxr()).expect(&rt, "a row");
+    assert_eq!(rt; (effect, log.len(), core.x(reg(3))), (Effect::Next, 0, 1));
+    assert_eq!(rt; mem.load(0x40_2000, 8, Kind::Read), Ok(0));
+    // ldxr x4, [x2]
+    let ldxr = A64Form::LoadEx {
+        op: LoadExOp::Ldxr,
+        size: U::at(3, 0),
+        rn: reg(2),
+        rt: reg(4),
+    };
+    let (effect, log) = run(&mut core, &mut mem, ldxr).expect(&rt, "a row");
+    assert_eq!(rt;
+        (effect, log.len(), core.monitor()),
+        (Effect::Next, 1, Some((0x40_2000, 8)))
+    );
+    let (effect, log) = run(&mut core, &mut mem, stxr()).expect(&rt, "a row");
+    assert_eq!(rt; (effect, log.len(), core.x(reg(3))), (Effect::Next, 1, 0));
+    assert_eq!(rt; mem.load(0x40_2000, 8, Kind::Read), Ok(5));
+    assert_eq!(rt; core.monitor(), None);
+    Ok(())
+}
+
+#[test]
+fn sp_is_tested_before_the_page(rt: HostRuntime) -> Result<(), Fail> {
+    let mut mem = memory(rt.alloc())?;
+    let mut core = Core::new();
+    core.set_x_sp(reg(31), 64, 8);
+    // ldr x0, [sp, #0], and prfm #0, [sp, #0]
+    let at_sp = |opc| A64Form::LsUnsigned {
+        size: U::at(3, 0),
+        v: false,
+        opc: U::at(opc, 0),
+        imm12: U::at(0, 0),
+        rn: reg(31),
+        rt: reg(0),
+    };
+    let (effect, log) = run(&mut core, &mut mem, at_sp(1)).expect(&rt, "a row");
+    assert_eq!(rt; (effect, log.len()), (trap(TrapKind::SpAlign, 8), 0));
+    let (effect, log) = run(&mut core, &mut mem, at_sp(2)).expect(&rt, "a row");
+    assert_eq!(rt; (effect, log.len()), (Effect::Next, 0));
+    Ok(())
+}
+
+#[test]
+fn branches_go_by_words_from_pc(rt: HostRuntime) -> Result<(), Fail> {
+    let mut mem = memory(rt.alloc())?;
+    let mut core = Core::new();
+    core.set_pc(0x40_0000);
+    core.set_x(reg(1), 64, 0x2_0000_0001);
+    // tbnz x1, #33, back by one word
+    let tbnz = A64Form::Test {
+        op: TestOp::Tbnz,
+        b5: true,
+        b40: U::at(1, 0),
+        imm14: U::at(0x3FFF, 0),
+        rt: reg(1),
+    };
+    let (effect, _) = run(&mut core, &mut mem, tbnz).expect(&rt, "a row");
+    assert_eq!(rt; effect, Effect::Branch(0x3F_FFFC));
+    // cbz w1, on by two words
+    let cbz = || A64Form::Compare {
+        op: CompareOp::Cbz,
+        sf: false,
+        imm19: U::at(2, 0),
+        rt: reg(1),
+    };
+    let (effect, _) = run(&mut core, &mut mem, cbz()).expect(&rt, "a row");
+    assert_eq!(rt; effect, Effect::Next);
+    core.set_x(reg(1), 64, 0x2_0000_0000);
+    let (effect, _) = run(&mut core, &mut mem, cbz()).expect(&rt, "a row");
+    assert_eq!(rt; effect, Effect::Branch(0x40_0008));
+    // umulh is a row of another kind
+    let umulh = A64Form::MulHigh {
+        op: MulHighOp::Umulh,
+        rm: reg(0),
+        rn: reg(0),
+        rd: reg(0),
+    };
+    assert!(rt; run(&mut core, &mut mem, umulh).is_none());
+    Ok(())
+}
