@@ -3,3 +3,5 @@ pub mod Runs
 pub mod CallLaws
 pub mod Bytes
 pub mod Loading
+pub mod Logs
+pub mod Performed

@@ -5,7 +5,7 @@ use Rattle.emu_model.specs.declared.trap.Ended.{Ended}
 use Rattle.emu_model.specs.declared.trap.Ended.TheVariants.{Exit, Trap}
 use Rattle.emu_model.specs.State.{Parts, State, IsPrefix}
 use Rattle.emu_model.specs.Start.{with_input}
-use Rattle.emu_run.specs.SystemCall.{Turn}
+use Rattle.emu_run.specs.SystemCall.{Turn, quiet}
 use Rattle.emu_run.specs.Step.{step, turn}
 use Rattle.emu_run.specs.Run.{run}
 use Rattle.emu_run.specs.RunLaws.{IsRest, rest_all, rest_trans, turn_turns, prefix_trans, step_moves, run_moves, run_ended, run_spent, run_after_turn, behind}
@@ -35,13 +35,29 @@ pub record RanAt (f : State → State) (old new : Parts) (bytes : List ℕ) (lef
   pub output : IfSome held_old (λ had. Gains broken held_new had (f (with_input old bytes)).output)
   pub errors : IfSome errs_old (λ had. Gains broken errs_new had (f (with_input old bytes)).errors)
 
-ran_at : (f : State → State) (old new : Parts) (bytes : List ℕ) (told left ho hn eo en : Option (List ℕ)) (b : Bool) → told ≡ Some bytes → Ran f old new told left ho hn eo en b → RanAt f old new bytes left ho hn eo en b
+pub ran_at : (f : State → State) (old new : Parts) (bytes : List ℕ) (told left ho hn eo en : Option (List ℕ)) (b : Bool) → told ≡ Some bytes → Ran f old new told left ho hn eo en b → RanAt f old new bytes left ho hn eo en b
 ran_at f old new bytes told left ho hn eo en b is r =
     let q : Ran f old new (Some bytes) left ho hn eo en b = subst (λ (t : Option (List ℕ)). Ran f old new t left ho hn eo en b) is r in
     record { state = q.state; input = q.input; output = q.output; errors = q.errors }
 
 ran_of : (f : State → State) (old new : Parts) (bytes : List ℕ) (left ho hn eo en : Option (List ℕ)) (b : Bool) → RanAt f old new bytes left ho hn eo en b → Ran f old new (Some bytes) left ho hn eo en b
 ran_of f old new bytes left ho hn eo en b q = record { state = q.state; input = q.input; output = q.output; errors = q.errors }
+
+-- ---- a step that puts and takes nothing
+
+gains_none : (b : Bool) (held : Option (List ℕ)) → IfSome held (λ had. Gains b held had [])
+gains_none b None = tt
+gains_none false (Some had) = ap (λ (l : List ℕ). Some l) (sym (append-nil had))
+gains_none true (Some had) = record { gained = []; is = ap (λ (l : List ℕ). Some l) (sym (append-nil had)); first = ([], refl) }
+
+pub quietly_ran : (m q : Parts) (told held errs : Option (List ℕ)) (b : Bool) → ((input : List ℕ) → turn m input ≡ quiet q input) → Ran step m q told told held held errs errs b
+quietly_ran m q None held errs b is = record { state = tt; input = tt; output = tt; errors = tt }
+quietly_ran m q (Some bytes) held errs b is = record {
+  state = λ _. (ap (λ (t : Turn). t.parts) (sym (is bytes)), ap (λ (t : Turn). Some t.input) (sym (is bytes)));
+  input = λ _. record { taken = 0; most = omega arith; is = refl };
+  output = rw (ap (λ (t : Turn). t.output) (is bytes)) (gains_none b held);
+  errors = rw (ap (λ (t : Turn). t.errors) (is bytes)) (gains_none b errs);
+}
 
 -- ---- what a run has come to
 
@@ -184,7 +200,7 @@ leads_spent budget old p (Some bytes) left ho hp eo ep led over = ran_of _ _ _ _
 
 -- ---- the answers
 
-broken_as : (r : StepEnd) → is_undone r ≡ is_broken_off (run_end_of r)
+pub broken_as : (r : StepEnd) → is_undone r ≡ is_broken_off (run_end_of r)
 broken_as Going = refl
 broken_as (StepExit code) = refl
 broken_as (StepTrap t) = refl

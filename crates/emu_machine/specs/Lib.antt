@@ -1,3 +1,4 @@
+pub mod Accesses
 pub mod Arguments
 pub mod Ends
 pub mod Errors

@@ -1,9 +1,10 @@
--- A machine: its parts, and whether a stream has failed.
-use Rattle.std.specs.Prelude.{◌≡◌, ℕ, Bool, true, false, ◌||◌, is_some, Option, Some}
-use Rattle.std.specs.Coded.{Coded, code_by, coded×, coded_bool}
+-- A machine: its parts, the accesses of its last step, and whether a stream has failed.
+use Rattle.std.specs.Prelude.{◌≡◌, ℕ, Bool, true, false, ◌||◌, is_some, List, Option, Some}
+use Rattle.std.specs.Coded.{Coded, code_by, coded×, coded_ℕ, coded_list, coded_bool}
 use Rattle.std.proofs.Common.{refl}
 use Rattle.a64_insn.specs.declared.form.A64Form.TheVariants.{Except}
 use Rattle.a64_insn.specs.declared.ops.ExceptOp.TheVariants.{Svc}
+use Rattle.emu_model.specs.declared.access.Access.{Access}
 use Rattle.emu_model.specs.Access.{value}
 use Rattle.emu_model.specs.State.{Parts, State, coded_parts}
 use Rattle.emu_run.specs.declared.insn.Insn.{Insn}
@@ -11,13 +12,20 @@ use Rattle.emu_run.specs.declared.insn.Insn.TheVariants.{A64}
 use Rattle.emu_run.specs.Step.{decode, taken_by}
 use Rattle.emu_run.specs.SystemCall.{call, kind_of_call, file_of, write}
 
--- `failed` says that a stream failed in a step, which ends the machine
+-- `accesses` are those of the last step, and none before the first; `failed` says that a stream failed in a step, which ends
+-- the machine
 pub record MachineState : Type 0 where
   pub parts : Parts
+  pub accesses : List Access
   pub failed : Bool
 
+abbrev pub coded_access : Coded Access
+coded_access = code_by (ℕ × (ℕ × Bool)) (coded× coded_ℕ (coded× coded_ℕ coded_bool)) (λ a. (a.address, (a.bytes, a.write)))
+    (λ t. record { address = t.0; bytes = t.1.0; write = t.1.1 }) (λ _. refl)
+
 abbrev pub coded_machine : Coded MachineState
-coded_machine = code_by (Parts × Bool) (coded× coded_parts coded_bool) (λ m. (m.parts, m.failed)) (λ t. record { parts = t.0; failed = t.1 }) (λ _. refl)
+coded_machine = code_by (Parts × (List Access × Bool)) (coded× coded_parts (coded× (coded_list coded_access) coded_bool)) (λ m. (m.parts, (m.accesses, m.failed)))
+    (λ t. record { parts = t.0; accesses = t.1.0; failed = t.1.1 }) (λ _. refl)
 
 -- by an exit, a trap or a fault of a stream
 abbrev pub has_ended : MachineState → Bool

@@ -56,6 +56,7 @@ impl Machine {
         ensures end { is_undone result ≡ false → result ≡ step_end self.new.parts.ended }
         ensures counted { result ≡ StepEnd.Going → self.new.parts.steps ≡ self.old.parts.steps + 1 }
         ensures kept { is_undone result ≡ true → self.new.parts ≡ self.old.parts }
+        ensures accesses { self.new.accesses ≡ self.old.accesses }
         ensures failed { self.new.failed ≡ step_failed result }
         ensures read_cause { Causes (result ≡ StepEnd.ReadFault) (I.faults _input.old) (I.faults _input.new) }
         ensures write_cause { Causes (result ≡ StepEnd.WriteFault) (O.faults output.old) (O.faults output.new) }
@@ -74,6 +75,7 @@ impl Machine {
     fn exit(&mut self) -> StepEnd
         requires { self.old.parts.steps < 2 ^ 64 - 1 }
         ensures turn { (input : List ℕ) → model.call_of model.exit self.old.parts input ≡ model.quiet self.new.parts input }
+        ensures accesses { self.new.accesses ≡ self.old.accesses }
         ensures failed { self.new.failed ≡ self.old.failed }
         ensures end { result ≡ step_end self.new.parts.ended }
         ensures over { is_none self.new.parts.ended ≡ false }
@@ -95,6 +97,7 @@ impl Machine {
         ensures end { is_undone result ≡ false → result ≡ step_end self.new.parts.ended }
         ensures counted { result ≡ StepEnd.Going → self.new.parts.steps ≡ self.old.parts.steps + 1 }
         ensures kept { is_undone result ≡ true → self.new.parts ≡ self.old.parts }
+        ensures accesses { self.new.accesses ≡ self.old.accesses }
         ensures failed { self.new.failed ≡ step_failed result }
         ensures no_read { result ≢ StepEnd.ReadFault }
         ensures write_cause { Causes (result ≡ StepEnd.WriteFault) (O.faults output.old) (O.faults output.new) }
@@ -132,6 +135,7 @@ impl Machine {
         requires going { has_ended self.old ≡ false }
         requires room { self.old.parts.steps < 2 ^ 64 - 1 }
         ensures parts { self.new.parts ≡ model.returned self.old.parts value }
+        ensures accesses { self.new.accesses ≡ self.old.accesses }
         ensures failed { self.new.failed ≡ false }
         ensures end { result ≡ StepEnd.Going }
     {
@@ -147,6 +151,7 @@ impl Machine {
         requires going { has_ended self.old ≡ false }
         requires room { self.old.parts.steps < 2 ^ 64 - 1 }
         ensures parts { self.new.parts ≡ model.returned self.old.parts (model.error_answer (number_of error)) }
+        ensures accesses { self.new.accesses ≡ self.old.accesses }
         ensures failed { self.new.failed ≡ false }
         ensures end { result ≡ StepEnd.Going }
     {

@@ -1,28 +1,32 @@
 //! The machine, its step and its run.
-ghost use Rattle.std.specs.Prelude.{◌≡◌, ◌<◌, ◌≤◌, ◌+◌, ◌-◌, ◌^◌, List, ℕ, IfSome, MatchOption, Option, Some, None, true, false};
+ghost use Rattle.std.specs.Prelude.{◌≡◌, ◌<◌, ◌≤◌, ◌+◌, ◌-◌, ◌^◌, List, [], ℕ, IfSome, MatchOption, Option, Some, None, true, false};
 ghost use Rattle.io_gate.specs.Streams.{Causes};
 ghost use Rattle.emu_model.specs.State.{zero_vectors};
+ghost use Rattle.emu_run.specs.declared.insn.Insn.{Insn};
 ghost use Rattle.emu_run.specs.Run as runs;
 ghost use Rattle.emu_run.specs.Step as model;
 ghost use Rattle.emu_run.specs.SystemCall.{call, quiet, went_on};
+ghost use Rattle.emu_machine.specs.Accesses.{run_accesses};
 ghost use Rattle.emu_machine.specs.Ends.{step_end, run_end, run_end_of, step_failed, run_failed, is_undone, is_broken_off, Becomes, TakesWithin, Puts};
 ghost use Rattle.emu_machine.specs.Machines.{has_ended, is_at_call, is_svc, MakesWrite};
 
 use crate::ends::{RunEnd, StepEnd};
 use crate::exec::{perform, runs};
+use a64_insn::A64;
 use core_regs::{Core, Effect};
 use emu_model::{Break, Ended, Kind, Length, Trap, TrapKind};
-use guest_mem::Mem;
+use guest_mem::{Access, AccessLog, Mem};
 use insn_decode::{Insn, decode};
 use io_gate::{Sink, Source};
 use std::marker::Model;
 
-/// A machine. Contracts see its parts, and whether a stream has failed in one of its steps.
+/// A machine. Contracts see its parts, the accesses of its last step, and whether a stream has failed in one of its steps.
 #[derive(Drop)]
 pub struct Machine {
     pub(crate) core: Core,
     vector_length: Length,
     pub(crate) memory: Mem,
+    log: AccessLog,
     brk: Break,
     pub(crate) steps: u64,
     pub(crate) ended: Option<Ended>,
@@ -40,6 +44,7 @@ impl Model for Machine {
 
     ghost view = { λ a. record {
       parts = record { core = a.core; vectors = zero_vectors a.vector_length; memory = a.memory; brk = a.brk; steps = a.steps; ended = a.ended };
+      accesses = a.log.items;
       failed = a.failed;
     } };
 
@@ -49,13 +54,14 @@ impl Model for Machine {
 impl Machine {
     /// A machine before its first step.
     pub(crate) fn at_start(core: Core, vector_length: Length, memory: Mem, brk: Break) -> Machine
-        ensures { result ≡ record { parts = record { core = core; vectors = zero_vectors vector_length; memory = memory; brk = brk; steps = 0; ended = None }; failed = false } }
+        ensures { result ≡ record { parts = record { core = core; vectors = zero_vectors vector_length; memory = memory; brk = brk; steps = 0; ended = None }; accesses = []; failed = false } }
     {
         prove!(vector_length.bits() >= 128);
         Machine {
             core,
             vector_length,
             memory,
+            log: AccessLog::new(),
             brk,
             steps: 0,
             ended: None,
@@ -98,6 +104,13 @@ impl Machine {
         &self.memory
     }
 
+    /// The elements that the last step loaded or stored, in order. Empty before the first step, and after a call.
+    pub fn accesses(&self) -> &[Access]
+        ensures { result.now ≡ self.now.accesses }
+    {
+        self.log.as_slice()
+    }
+
     /// The vector length in bits.
     pub fn length(&self) -> Length
         ensures bits { result ≡ self.now.parts.vectors.bits }
@@ -109,6 +122,7 @@ impl Machine {
     /// Ends by a trap, with no step counted.
     fn trap(&mut self, kind: TrapKind, address: u64) -> StepEnd
         ensures parts { self.new.parts ≡ model.trapped self.old.parts kind address }
+        ensures accesses { self.new.accesses ≡ self.old.accesses }
         ensures failed { self.new.failed ≡ self.old.failed }
         ensures end { result ≡ StepEnd.Trap (record { kind = kind; address = address }) }
     {
@@ -121,6 +135,7 @@ impl Machine {
     pub(crate) fn go_on(&mut self, address: u64)
         requires { self.old.parts.steps < 2 ^ 64 - 1 }
         ensures parts { self.new.parts ≡ went_on self.old.parts self.old.parts.core self.old.parts.memory address }
+        ensures accesses { self.new.accesses ≡ self.old.accesses }
         ensures failed { self.new.failed ≡ self.old.failed }
     {
         self.core.set_pc(address);
@@ -131,10 +146,12 @@ impl Machine {
     fn plain(&mut self) -> Option<StepEnd>
         requires going { has_ended self.old ≡ false }
         requires room { self.old.parts.steps < 2 ^ 64 - 1 }
+        requires clear { self.old.accesses ≡ [] }
         ensures turn { MatchOption result ((input : List ℕ) → model.turn self.old.parts input ≡ call self.old.parts input) (λ _. (input : List ℕ) → model.turn self.old.parts input ≡ quiet self.new.parts input) }
         ensures kept { MatchOption result (self.new ≡ self.old) (λ _. self.new.failed ≡ false) }
         ensures svc { MatchOption result (is_at_call self.old.parts ≡ true) (λ end. end ≡ step_end self.new.parts.ended) }
         ensures counted { IfSome result (λ end. end ≡ StepEnd.Going → self.new.parts.steps ≡ self.old.parts.steps + 1) }
+        ensures accesses { self.new.accesses ≡ model.accesses self.old.parts }
     {
         let pc = self.core.pc();
         if pc % 4 != 0 {
@@ -154,19 +171,37 @@ impl Machine {
     fn execute(&mut self, insn: &Insn) -> Option<StepEnd>
         requires going { has_ended self.old ≡ false }
         requires room { self.old.parts.steps < 2 ^ 64 - 1 }
+        requires clear { self.old.accesses ≡ [] }
         ensures turn { MatchOption result ((input : List ℕ) → model.executed self.old.parts input (Some insn.now) ≡ call self.old.parts input) (λ _. (input : List ℕ) → model.executed self.old.parts input (Some insn.now) ≡ quiet self.new.parts input) }
         ensures kept { MatchOption result (self.new ≡ self.old) (λ _. self.new.failed ≡ false) }
         ensures svc { MatchOption result (is_svc (Some insn.now) ≡ true) (λ end. end ≡ step_end self.new.parts.ended) }
         ensures counted { IfSome result (λ end. end ≡ StepEnd.Going → self.new.parts.steps ≡ self.old.parts.steps + 1) }
+        ensures accesses { self.new.accesses ≡ model.executed_accesses self.old.parts (Some insn.now) }
     {
-        let Insn::A64(insn) = insn;
-        let pc = self.core.pc();
+        match insn {
+            Insn::A64(insn) => self.execute_a64(insn),
+        }
+    }
+
+    /// Does an A64 instruction that isn't a call. None asks for the call, with nothing changed.
+    fn execute_a64(&mut self, insn: &A64) -> Option<StepEnd>
+        requires going { has_ended self.old ≡ false }
+        requires room { self.old.parts.steps < 2 ^ 64 - 1 }
+        requires clear { self.old.accesses ≡ [] }
+        ensures turn { MatchOption result ((input : List ℕ) → model.executed self.old.parts input (Some (Insn.A64 insn.now)) ≡ call self.old.parts input) (λ _. (input : List ℕ) → model.executed self.old.parts input (Some (Insn.A64 insn.now)) ≡ quiet self.new.parts input) }
+        ensures kept { MatchOption result (self.new ≡ self.old) (λ _. self.new.failed ≡ false) }
+        ensures svc { MatchOption result (is_svc (Some (Insn.A64 insn.now)) ≡ true) (λ end. end ≡ step_end self.new.parts.ended) }
+        ensures counted { IfSome result (λ end. end ≡ StepEnd.Going → self.new.parts.steps ≡ self.old.parts.steps + 1) }
+        ensures accesses { self.new.accesses ≡ model.executed_accesses self.old.parts (Some (Insn.A64 insn.now)) }
+    {
         if !runs(insn) {
+            let pc = self.core.pc();
             return Some(self.trap(TrapKind::Undefined, pc));
         }
-        match perform(&mut self.core, &mut self.memory, insn) {
+        match perform(&mut self.core, &mut self.memory, &mut self.log, insn) {
             Effect::Next => {
-                self.go_on(pc.wrapping_add(4));
+                let next = self.core.pc().wrapping_add(4);
+                self.go_on(next);
                 Some(StepEnd::Going)
             }
             Effect::Branch(target) => {
@@ -197,6 +232,7 @@ impl Machine {
         ensures end { is_undone result ≡ false → result ≡ step_end self.new.parts.ended }
         ensures counted { result ≡ StepEnd.Going → self.new.parts.steps ≡ self.old.parts.steps + 1 }
         ensures kept { is_undone result ≡ true → self.new.parts ≡ self.old.parts }
+        ensures accesses { self.new.accesses ≡ model.accesses self.old.parts }
         ensures failed { self.new.failed ≡ step_failed result }
         ensures read_cause { Causes (result ≡ StepEnd.ReadFault) (I.faults input.old) (I.faults input.new) }
         ensures write_cause { Causes (result ≡ StepEnd.WriteFault) (O.faults output.old) (O.faults output.new) }
@@ -204,6 +240,7 @@ impl Machine {
         ensures write_named { result ≡ StepEnd.WriteFault → MakesWrite self.old.parts 1 }
         ensures errors_named { result ≡ StepEnd.ErrorsFault → MakesWrite self.old.parts 2 }
     {
+        self.log.clear();
         match self.plain() {
             Some(end) => end,
             None => self.call(input, output, errors),
@@ -213,6 +250,7 @@ impl Machine {
     /// Takes steps until the machine has ended or has counted `budget` steps in all, which is `Spent`.
     ///
     /// After a fault of a stream the machine has ended. `OutOfMemory` leaves it as it was before the step that wanted memory.
+    /// The accesses are those of the last step that was taken, and as before where none was.
     pub fn run<I: Source, O: Sink, E: Sink>(
         &mut self,
         budget: u64,
@@ -228,6 +266,8 @@ impl Machine {
         ensures errors { Puts (λ st. (runs.run st budget).errors) self.old.parts (I.left input.old) (E.held errors.old) (E.held errors.new) (is_broken_off result) }
         ensures end { is_broken_off result ≡ false → result ≡ run_end self.new.parts.ended }
         ensures spent { result ≡ RunEnd.Spent → self.new.parts.steps ≡ budget }
+        ensures accesses { IfSome (I.left input.old) (λ bytes. is_broken_off result ≡ false → self.new.accesses ≡ run_accesses self.old.accesses self.old.parts bytes budget) }
+        ensures undone { is_broken_off result ≡ true → self.new.accesses ≡ model.accesses self.new.parts }
         ensures failed { self.new.failed ≡ run_failed result }
         ensures read_cause { Causes (result ≡ RunEnd.ReadFault) (I.faults input.old) (I.faults input.new) }
         ensures write_cause { Causes (result ≡ RunEnd.WriteFault) (O.faults output.old) (O.faults output.new) }

@@ -1,5 +1,5 @@
 //! The machine of an image before its first step.
-ghost use Rattle.std.specs.Prelude.{◌≡◌, IfOk, map, string_bytes, false};
+ghost use Rattle.std.specs.Prelude.{◌≡◌, IfOk, map, string_bytes, [], false};
 ghost use Rattle.emu_model.specs.Start.{opening};
 ghost use Rattle.elf_image.specs.Images.{seen_image};
 ghost use Rattle.elf_image.specs.Loadable.{IsLoadable};
@@ -30,7 +30,7 @@ impl Machine {
     ) -> Result<Machine, OutOfMemory>
         requires loadable { IsLoadable bytes.now pages (seen_image image.now) }
         requires arguments { AreArguments (map string_bytes args.now) }
-        ensures { IfOk result (λ m. m ≡ record { parts = opening bytes.now (seen_image image.now) length pages; failed = false }) }
+        ensures { IfOk result (λ m. m ≡ record { parts = opening bytes.now (seen_image image.now) length pages; accesses = []; failed = false }) }
     {
         let mut memory = Pages::new(alloc, pages)?;
         load_segments(&mut memory, bytes, &image.segments)?;

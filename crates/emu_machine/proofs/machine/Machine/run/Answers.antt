@@ -1,9 +1,12 @@
-use Rattle.std.proofs.Common.{◌≡◌, ◌<◌, ◌+◌, ap, sym, subst, arith, false}
+use Rattle.std.proofs.Common.{◌≡◌, ◌<◌, ◌+◌, List, IfSome, refl, ap, sym, subst, ◌∙◌, arith, false}
+use Rattle.emu_model.specs.declared.access.Access.{Access}
 use Rattle.emu_model.specs.State.{Parts}
-use Rattle.emu_run.specs.Step.{step}
-use Rattle.emu_machine.specs.Ends.{is_undone}
+use Rattle.emu_run.specs.Step.{accesses, step}
+use Rattle.emu_machine.specs.Accesses.{run_accesses}
+use Rattle.emu_machine.specs.Ends.{is_undone, is_broken_off}
 use Rattle.emu_machine.specs.Machines.{MachineState, MakesWrite}
-use Rattle.emu_machine.proofs.Runs.{Ran, leads_start, leads_on, leads_end, leads_spent, not_going, goes, goes_on_after, ran_as, ran_when, end_as, failed_as, last_step, causes_from}
+use Rattle.emu_machine.proofs.Logs.{Logs, logs_start, logs_on, logs_end, logs_as, logs_spent}
+use Rattle.emu_machine.proofs.Runs.{Ran, broken_as, leads_start, leads_on, leads_end, leads_spent, not_going, goes, goes_on_after, ran_as, ran_when, end_as, failed_as, last_step, causes_from}
 use Rattle.emu_machine.proofs.machine.Machine.run.Goals as goal
 
 pub loop-self-init : goal.loop-self-init
@@ -11,6 +14,7 @@ loop-self-init g c = record {
   going = c.requires.going;
   within = c.requires.within;
   leads = leads_start _ _ _ _ _;
+  logs = logs_start _ _ _ _;
   read = omega arith;
   write = omega arith;
   errors = omega arith;
@@ -30,6 +34,9 @@ loop-self-preserved g c =
       within = omega (arith, counted, below);
       leads = leads_on c.args.budget _ p q _ _ _ _ _ _ _ _ _ c.loop-self.invariant.leads
           (ran_when _ _ _ _ _ _ _ _ _ _ _ (ap is_undone c.in-Going.is) stepped) (goes p.ended c.loop-self.self.failed c.loop-self.invariant.going) below counted;
+      logs = subst (λ (log : List Access). Logs c.args.budget c.args.self.now.accesses c.args.self.now.parts (g.I.Source.left c.args.input.now) log q (g.I.Source.left c.step.new.input)) (sym c.step.ensures.accesses)
+          (logs_on c.args.budget _ _ _ p _ _ _ _ _ q _ _ _ (goes p.ended c.loop-self.self.failed c.loop-self.invariant.going) below _ c.loop-self.invariant.leads
+          (ran_when _ _ _ _ _ _ _ _ _ _ _ (ap is_undone c.in-Going.is) stepped) c.loop-self.invariant.logs counted);
       read = omega (arith, c.step.ensures.read_cause.later, c.loop-self.invariant.read);
       write = omega (arith, c.step.ensures.write_cause.later, c.loop-self.invariant.write);
       errors = omega (arith, c.step.ensures.errors_cause.later, c.loop-self.invariant.errors);
@@ -53,6 +60,11 @@ returns-in_default g c =
       output = r.output;
       errors = r.errors;
       end = end_as c.step.result c.run_end_of.result q.ended c.run_end_of.ensures c.step.ensures.end;
+      accesses = logs_as _ _ _ _ _ _ _ (broken_as c.step.result ∙ ap is_broken_off (sym c.run_end_of.ensures))
+          (λ (fine : is_undone c.step.result ≡ false). subst (λ (log : List Access). IfSome (g.I.Source.left c.args.input.now) (λ bytes. log ≡ run_accesses c.args.self.now.accesses c.args.self.now.parts bytes c.args.budget)) (sym c.step.ensures.accesses)
+          (logs_end c.args.budget _ _ _ p _ _ _ _ _ q _ _ _ (goes p.ended c.loop-self.self.failed c.loop-self.invariant.going) below _ c.loop-self.invariant.leads
+          (ran_when _ _ _ _ _ _ _ _ _ _ _ fine stepped) c.loop-self.invariant.logs (not_going q.ended c.step.result (c.step.ensures.end fine) c.in_default.not-Going)));
+      undone = λ h. c.step.ensures.accesses ∙ ap accesses (sym (c.step.ensures.kept (broken_as c.step.result ∙ ap is_broken_off (sym c.run_end_of.ensures) ∙ h)));
       spent = λ h. absurd (c.in_default.not-Going (last_step c.step.result c.run_end_of.result _ c.run_end_of.ensures h));
       failed = failed_as c.step.result c.run_end_of.result c.step.new.self.failed c.run_end_of.ensures c.step.ensures.failed;
       read_cause = causes_from _ _ _ _ _ c.loop-self.invariant.read c.step.ensures.read_cause (last_step c.step.result c.run_end_of.result _ c.run_end_of.ensures);
@@ -68,6 +80,12 @@ pub returns-clause-state : goal.returns-clause-state
 returns-clause-state g c =
     let steps = ap (λ (s : MachineState). s.parts.steps) c.self.view_is in
     (leads_spent c.args.budget c.args.self.now.parts c.loop-self.self.parts _ _ _ _ _ _ c.loop-self.invariant.leads (omega (arith, steps))).state
+
+pub returns-clause-accesses : goal.returns-clause-accesses
+returns-clause-accesses g c =
+    let steps = ap (λ (s : MachineState). s.parts.steps) c.self.view_is in
+    logs_as _ _ _ _ _ false false refl
+    (λ _. logs_spent c.args.budget c.args.self.now.accesses c.loop-self.self.accesses c.args.self.now.parts c.loop-self.self.parts _ _ _ _ _ _ c.loop-self.invariant.leads c.loop-self.invariant.logs (omega (arith, steps)))
 
 pub returns-clause-output : goal.returns-clause-output
 returns-clause-output g c =
