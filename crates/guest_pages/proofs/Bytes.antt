@@ -5,7 +5,7 @@ use Rattle.std.proofs.Math.Seq.{take-append_seam}
 use Rattle.emu_model.specs.Pages.{zeros, zeros_is}
 use Rattle.emu_model.specs.State.{AreBytes}
 use Rattle.emu_model.specs.WithinPage.{overwritten}
-use Rattle.guest_pages.specs.Slots.{as_bytes}
+use Rattle.guest_pages.specs.Bytes.{as_bytes}
 
 -- a list of values of `u8`
 pub are_bytes : (bytes : List ℕ) → ((k : ℕ) → get_or bytes k 0 < 256) → AreBytes bytes
@@ -15,14 +15,6 @@ are_bytes (b ∷ bytes) h = (h zero, are_bytes bytes (λ k. h (suc k)))
 pub as_bytes-are : (numbers : List ℕ) → AreBytes (as_bytes numbers)
 as_bytes-are [] = tt
 as_bytes-are (b ∷ numbers) = (omega arith, as_bytes-are numbers)
-
-small : (b : ℕ) → b < 256 → b % 256 ≡ b
-small b h = omega arith
-
--- bytes are themselves
-pub as_bytes-same : (bytes : List ℕ) → AreBytes bytes → as_bytes bytes ≡ bytes
-as_bytes-same [] h = refl
-as_bytes-same (b ∷ bytes) h = λ i. small b h.0 i ∷ as_bytes-same bytes h.1 i
 
 as_bytes-replicate : (n : ℕ) → as_bytes (replicate n 0) ≡ replicate n 0
 as_bytes-replicate zero = refl

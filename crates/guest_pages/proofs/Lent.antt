@@ -9,8 +9,9 @@ use Rattle.emu_model.specs.WithinPage.{bytes_are, overwritten, page_with_bytes}
 use Rattle.guest_pages.specs.declared.slots.Slot.{Slot}
 use Rattle.guest_pages.specs.declared.pages.Pages.TheInside.{Inside}
 use Rattle.guest_pages.specs.Lending.{with_part}
-use Rattle.guest_pages.specs.Slots.{AreInOrder, IsAt, IsEntry, IsInOrder, as_bytes, changed, entries_of, entry_of, memory_of, page_in, pages_of}
-use Rattle.guest_pages.proofs.Bytes.{as_bytes-are, as_bytes-overwritten, as_bytes-same, map_take, refilled}
+use Rattle.guest_pages.specs.Bytes.{as_bytes, as_bytes-same}
+use Rattle.guest_pages.specs.Slots.{AreInOrder, IsAt, IsEntry, IsInOrder, changed, entries_of, entry_of, memory_of, page_in, pages_of}
+use Rattle.guest_pages.proofs.Bytes.{as_bytes-are, as_bytes-overwritten, map_take, refilled}
 use Rattle.guest_pages.proofs.Maps.{get_is, set_changed}
 use Rattle.guest_pages.proofs.Ordered.{all_at, find_is, whole_at}
 use Rattle.guest_pages.proofs.Parts.{all_front}

@@ -1,5 +1,5 @@
 -- What a list of slots stands for, and when it is in order.
-use Rattle.std.specs.Prelude.{◌≡◌, ◌<◌, ◌≤◌, if◌then◌else◌, ℕ, zero, suc, ◌+◌, ◌%◌, ◌^◌, List, [], ◌∷◌, map, length, get_or, ⊤}
+use Rattle.std.specs.Prelude.{◌≡◌, ◌<◌, ◌≤◌, if◌then◌else◌, ℕ, zero, suc, ◌+◌, ◌^◌, List, [], ◌∷◌, map, length, get_or, ⊤}
 use Rattle.std.specs.List.{AllByRecursion}
 use Rattle.std.specs.Ordering.{nat_cmp, eq_by_cmp}
 use Rattle.std.specs.FinMap.{FinMap, from_entries}
@@ -7,16 +7,13 @@ use Rattle.emu_model.specs.declared.access.Rights.{Rights}
 use Rattle.emu_model.specs.Access.{Memory, Page}
 use Rattle.emu_model.specs.Pages.{zeroed_page}
 use Rattle.emu_model.specs.State.{IsSoundPage}
+use Rattle.guest_pages.specs.Bytes.{as_bytes}
 use Rattle.guest_pages.specs.declared.slots.Slot.{Slot}
 use Rattle.guest_pages.specs.declared.pages.Pages.TheInside.{Inside}
 
 -- a page's number, and the page
 abbrev pub Entry : Type 0
 Entry = ℕ × Page
-
--- the numbers of a list as bytes; those of a `Vec<u8>` are bytes already
-abbrev pub as_bytes : List ℕ → List ℕ
-as_bytes numbers = map (λ b. b % 256) numbers
 
 abbrev pub page_in : Slot → Page
 page_in s = record { rights = s.rights; bytes = as_bytes s.bytes.items }

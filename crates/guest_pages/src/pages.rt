@@ -78,6 +78,13 @@ impl Pages {
         self.slots.len() as u32
     }
 
+    /// Whether a page is mapped.
+    pub fn is_mapped(&self, page: u64) -> bool
+        ensures { result ≡ map.contains_key self.now.pages page }
+    {
+        is_mapped(&self.slots, page)
+    }
+
     /// The rights and the 4,096 bytes of a page. None exactly where the page isn't mapped.
     pub fn find(&self, page: u64) -> Option<(Rights, &[u8])>
         ensures found { MatchOption result (map.get self.now.pages page ≡ None)
@@ -104,13 +111,6 @@ impl Pages {
         } else {
             None
         }
-    }
-
-    /// Whether a page is mapped.
-    pub fn is_mapped(&self, page: u64) -> bool
-        ensures { result ≡ map.contains_key self.now.pages page }
-    {
-        is_mapped(&self.slots, page)
     }
 
     /// The 4,096 bytes of a page that is mapped, for writing.

@@ -1,7 +1,8 @@
 use Rattle.std.proofs.Common.{get_or, sym, ap}
 use Rattle.std.proofs.lemmas.List.{get_or_default}
 use Rattle.guest_pages.specs.declared.slots.Slot.{Slot}
-use Rattle.guest_pages.specs.Slots.{as_bytes, entries_of, page_with_rights}
+use Rattle.guest_pages.specs.Bytes.{as_bytes}
+use Rattle.guest_pages.specs.Slots.{entries_of, page_with_rights}
 use Rattle.guest_pages.proofs.Maps.{none_changed, set_changed}
 use Rattle.guest_pages.proofs.slots.protect_slot.Goals as goal
 

@@ -3,8 +3,8 @@ use Rattle.std.specs.Vec.{with_items}
 use Rattle.std.proofs.lemmas.List.{with_items_is, get_or_default}
 use Rattle.emu_model.specs.WithinPage.{overwritten, page_with_bytes, length_overwritten}
 use Rattle.guest_pages.specs.declared.slots.Slot.{Slot}
-use Rattle.guest_pages.specs.Slots.{as_bytes}
-use Rattle.guest_pages.proofs.Bytes.{are_bytes, as_bytes-overwritten, as_bytes-same}
+use Rattle.guest_pages.specs.Bytes.{as_bytes, as_bytes-same}
+use Rattle.guest_pages.proofs.Bytes.{are_bytes, as_bytes-overwritten}
 use Rattle.guest_pages.proofs.Ordered.{whole_at}
 use Rattle.guest_pages.proofs.Maps.{set_changed}
 use Rattle.guest_pages.proofs.slots.write_at.Goals as goal

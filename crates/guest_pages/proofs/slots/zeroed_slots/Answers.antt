@@ -1,6 +1,7 @@
 use Rattle.std.proofs.Common.{◌≡◌, ◌+◌, ◌-◌, ◌++◌, suc, ap, subst, ◌∙◌, arith, List}
 use Rattle.guest_pages.specs.declared.slots.Slot.{Slot}
-use Rattle.guest_pages.specs.Slots.{as_bytes, entries_of, zeroed_entries}
+use Rattle.guest_pages.specs.Bytes.{as_bytes}
+use Rattle.guest_pages.specs.Slots.{entries_of, zeroed_entries}
 use Rattle.guest_pages.proofs.Bytes.{as_bytes-zeros}
 use Rattle.guest_pages.proofs.Maps.{zeroed_next}
 use Rattle.guest_pages.proofs.slots.zeroed_slots.Goals as goal

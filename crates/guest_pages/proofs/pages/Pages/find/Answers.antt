@@ -3,8 +3,8 @@ use Rattle.std.specs.FinMap.{get, find}
 use Rattle.std.specs.Ordering.{nat_cmp}
 use Rattle.emu_model.specs.Access.{Memory}
 use Rattle.guest_pages.specs.declared.slots.Slot.{Slot}
-use Rattle.guest_pages.specs.Slots.{as_bytes, page_in, entries_of, IsAt}
-use Rattle.guest_pages.proofs.Bytes.{as_bytes-same}
+use Rattle.guest_pages.specs.Bytes.{as_bytes, as_bytes-same}
+use Rattle.guest_pages.specs.Slots.{page_in, entries_of, IsAt}
 use Rattle.guest_pages.proofs.Maps.{get_is, whole}
 use Rattle.guest_pages.proofs.Ordered.{find_is}
 use Rattle.guest_pages.proofs.pages.Pages.find.Goals as goal
