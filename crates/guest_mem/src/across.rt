@@ -8,7 +8,7 @@ use emu_model::{Denied, Kind};
 use guest_pages::Pages;
 
 /// Whether the page of an address is mapped with the right.
-fn allowed_at(pages: &Pages, at: u64, kind: Kind) -> bool
+pub fn allowed_at(pages: &Pages, at: u64, kind: Kind) -> bool
     ensures { result ≡ allowed pages.now kind at }
 {
     match pages.find(at / 4096) {

@@ -1,14 +1,15 @@
 //! The guest's memory.
-ghost use Rattle.std.specs.Prelude.{◌≡◌, ◌<◌, ◌≤◌, ◌+◌, ◌%◌, ◌^◌, ⊤, false, None, IfOk, IfSome, MatchOption, length};
+ghost use Rattle.std.specs.Prelude.{◌≡◌, ◌<◌, ◌≤◌, ◌+◌, ◌%◌, ◌^◌, ⊤, false, None, IfOk, IfSome, MatchOption, IsTrue, length};
+ghost use Rattle.std.specs.Option.{is_some};
 ghost use mathlib.Core.Option.{none};
-ghost use Rattle.std.specs.Borrow.{sem, follows_so, Lends};
+ghost use Rattle.std.specs.Borrow.{sem, follows_so, Lends, LendsIf, Array, u8 as byte};
 ghost use Rattle.guest_pages.specs.contracts.pages.Pages.{the_row as pages_row};
 ghost use Rattle.emu_model.specs.Access.{allowed, after_store, done_unless, loaded, refused};
 ghost use Rattle.emu_model.specs.Pages.{bytes_at, peeked};
-ghost use Rattle.guest_mem.specs.Slices.{after_write, to_page_end, written_count};
+ghost use Rattle.guest_mem.specs.Slices.{after_write, to_page_end, with_slice, written_count};
 ghost use Rattle.guest_mem.specs.contracts.mem.Mem.{the_row};
 
-use crate::across::{load_across, store_across};
+use crate::across::{allowed_at, load_across, store_across};
 use crate::within::{load_within, slice_within, store_within, write_within};
 use emu_model::{Denied, Kind};
 use guest_pages::Pages;
@@ -100,6 +101,39 @@ impl Mem {
         ensures allowed { IfSome result (λ s. refused self.old address (to_page_end address most) kind ≡ None) }
     {
         slice_within(&self.pages, address, most, kind)
+    }
+
+    /// The bytes from an address to the end of its page, at most `most`, for writing. None exactly where the page of the
+    /// address may not be written.
+    pub fn slice_mut_at(&mut self, address: u64, most: usize) -> Option<&mut [u8]>
+        ensures* writes_back { sem 𝓛 (LendsIf the_row (Array byte 0) self.entry result (with_slice self.old address) self.old) }
+        ensures variant { is_some result ≡ allowed self.old Kind.Write address }
+        ensures bytes { IfSome result (λ s. s.now ≡ bytes_at self.old address (to_page_end address most)) }
+    {
+        if self.may_write(address) {
+            Some(self.writable(address, most))
+        } else {
+            None
+        }
+    }
+
+    /// Whether the page of an address may be written.
+    pub fn may_write(&self, address: u64) -> bool
+        ensures { result ≡ allowed self.now Kind.Write address }
+    {
+        allowed_at(&self.pages, address, Kind::Write)
+    }
+
+    /// The bytes from an address, whose page may be written, to the end of the page, at most `most`, for writing.
+    pub fn writable(&mut self, address: u64, most: usize) -> &mut [u8]
+        requires { IsTrue (allowed self.old Kind.Write address) }
+        ensures* writes_back { sem 𝓛 (Lends the_row (Array byte 0) self.entry result (with_slice self.old address)) }
+        ensures bytes { result.now ≡ bytes_at self.old address (to_page_end address most) }
+        ensures length { length result.now ≡ to_page_end address most }
+    {
+        let place = (address % 4096) as usize;
+        self.pages
+            .part_mut(address / 4096, place, most.min(4096 - place))
     }
 
     /// Replaces the bytes from an address on by the first of these, up to the end of its page, and answers how many. None

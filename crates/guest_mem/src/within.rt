@@ -28,7 +28,14 @@ fn number(bytes: &[u8], n: u32) -> u128
     ensures value { result ≡ little_number n bytes.now }
     ensures small { result < 256 ^ n }
 {
-    LittleEndian::read_uint128(bytes, n as usize)
+    match n {
+        1 => bytes[0] as u128,
+        2 => LittleEndian::read_u16(bytes) as u128,
+        4 => LittleEndian::read_u32(bytes) as u128,
+        8 => LittleEndian::read_u64(bytes) as u128,
+        16 => LittleEndian::read_u128(bytes),
+        _ => LittleEndian::read_uint128(bytes, n as usize),
+    }
 }
 
 /// A load of bytes that lie in one page.

@@ -1,4 +1,7 @@
+pub mod Bytes
 pub mod Faults
+pub mod Found
+pub mod Lent
 pub mod Maps
 pub mod Ordered
 pub mod Parts

@@ -1,20 +1,25 @@
 -- Slots in order: what holds before and after a place, and what is found.
-use Rattle.std.proofs.Common.{◌≡◌, ◌<◌, ◌≤◌, ℕ, zero, suc, true, false, List, [], ◌∷◌, map, length, take, drop, get_or, Some, None, refl, sym, ap, ◌∙◌, subst, cond, arith, ltb}
+use Rattle.std.proofs.Common.{◌≡◌, ◌<◌, ◌≤◌, ◌%◌, ℕ, zero, suc, true, false, List, [], ◌∷◌, map, length, take, drop, get_or, Option, Some, None, is_some, nat_lt, nat_eq, refl, sym, ap, ◌∙◌, subst, cond, arith, ltb}
 use Rattle.std.specs.List.{AllByRecursion}
 use Rattle.std.specs.List.Sorted.{IsPartitionPoint}
 use Rattle.std.specs.Ordering.{nat_cmp, eq_by_cmp}
 use Rattle.std.specs.Cmp.{unsigned_tied}
 use Rattle.std.specs.FinMap.{find}
+use Rattle.std.proofs.lemmas.List.{length-map, get_or_default}
 use Rattle.std.proofs.lemmas.Bool.{eqb-true, eq-eqb}
 use Rattle.std.proofs.lemmas.Bool.Decides.{nat_tests}
 use Rattle.guest_pages.specs.declared.slots.Slot.{Slot}
-use Rattle.guest_pages.specs.Slots.{Entry, IsAscending, IsAbove, IsBelow, IsFrom, IsAt, entries_of, entry_of, page_in}
+use Rattle.guest_pages.specs.Slots.{Entry, IsEntry, IsAscending, IsAbove, IsBelow, IsFrom, IsAt, entries_of, entry_of, page_in}
 
 -- what holds of each element holds at each place
 pub all_at : {X Y : Type 0} (P : Y → Type 0) (f : X → Y) (l : List X) → AllByRecursion P (map f l) → (i : ℕ) (d : X) → i < length l → P (f (get_or l i d))
 all_at P f [] h i d lt = absurd (omega arith)
 all_at P f (s ∷ l) h zero d lt = h.0
 all_at P f (s ∷ l) h (suc i) d lt = all_at P f l h.1 i d (omega arith)
+
+-- a slot has 4,096 bytes
+pub whole_at : (l : List Slot) → AllByRecursion IsEntry (entries_of l) → (i : ℕ) (d : Slot) → i < length l → length (get_or l i d).bytes.items ≡ 4096
+whole_at l h i d lt = sym (length-map (get_or l i d).bytes.items (λ b. b % 256)) ∙ (all_at IsEntry entry_of l h i d lt).count
 
 pub all_take : {X Y : Type 0} (P : Y → Type 0) (f : X → Y) (l : List X) (i : ℕ) → ((k : ℕ) (d : X) → k < i → k < length l → P (f (get_or l k d))) → AllByRecursion P (take i (map f l))
 all_take P f [] zero h = tt
@@ -83,3 +88,22 @@ missing (s ∷ l) h page zero below from ne =
 missing (s ∷ l) h page (suc i) below from ne =
     ap (λ t. cond t (Some (page_in s)) (find nat_cmp page (entries_of l))) (tied_apart page s.number (λ e. omega (arith, below.0)))
     ∙ missing l h.1 page i below.1 from (λ d lt e. ne d (omega arith) e)
+
+absent : {X : Type 0} (o : Option X) → o ≡ None → is_some o ≡ true → ⊥
+absent None e is = cc
+absent (Some x) e is = cc
+
+-- the place of a page that is found is that of its slot
+pub present : (l : List Slot) → IsAscending (entries_of l) → (page i : ℕ) → AllByRecursion (IsBelow page) (take i (entries_of l)) → AllByRecursion (IsFrom page) (drop i (entries_of l)) → is_some (find nat_cmp page (entries_of l)) ≡ true → IsAt l page i
+present l h page i below from is =
+    let there : ((d : Slot) → i < length l → (get_or l i d).number ≡ page → ⊥) → ⊥ = λ ne. absent (find nat_cmp page (entries_of l)) (missing l h page i below from ne) is in
+    record {
+      within = elim (nat_lt i (length l)) as (λ b. nat_lt i (length l) ≡ b → i < length l) [
+        | true ↦ λ e. grind (arith, nat_tests)
+        | false ↦ λ e. absurd (there (λ d lt x. grind (arith, nat_tests)))
+      ] refl;
+      number = λ d. elim (nat_eq (get_or l i d).number page) as (λ b. nat_eq (get_or l i d).number page ≡ b → (get_or l i d).number ≡ page) [
+        | true ↦ λ e. eqb-true (get_or l i d).number page e
+        | false ↦ λ e. absurd (there (λ t lt x. let same = ap (λ (s : Slot). s.number) (get_or_default l i d t lt) ∙ x in grind (arith, nat_tests)))
+      ] refl;
+    }

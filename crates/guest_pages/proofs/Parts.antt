@@ -11,6 +11,7 @@ use Rattle.emu_model.specs.Pages.{zeroed_page, pages_mapped, least_mapped}
 use Rattle.emu_model.specs.PageLaws.{among, before, past, get_mapped, least_mapped_none, least_mapped_is, length_zeros, zeros_are_bytes}
 use Rattle.guest_pages.specs.declared.slots.Slot.{Slot}
 use Rattle.guest_pages.specs.Slots.{pages_of, Entry, IsEntry, IsAscending, IsAbove, IsBelow, IsFrom, AreInOrder, entry_of, entries_of, page_in, zeroed_entries}
+use Rattle.guest_pages.proofs.Bytes.{map_take, map_drop}
 use Rattle.guest_pages.proofs.Ordered.{IsApart, all_map, find_apart, find_at, tied_same, tied_apart}
 use Rattle.guest_pages.proofs.Maps.{get_is, same_pages}
 
@@ -185,22 +186,10 @@ first_taken l at first count d h lt below from near =
     here (s ∷ l) zero d lt from = from.0
     here (s ∷ l) (suc at) d lt from = here l at d (omega arith) from
 
-map_take : (l : List Slot) (i : ℕ) → entries_of (take i l) ≡ take i (entries_of l)
-map_take [] zero = refl
-map_take [] (suc i) = refl
-map_take (s ∷ l) zero = refl
-map_take (s ∷ l) (suc i) = ap (λ es. entry_of s ∷ es) (map_take l i)
-
-map_drop : (l : List Slot) (i : ℕ) → entries_of (drop i l) ≡ drop i (entries_of l)
-map_drop [] zero = refl
-map_drop [] (suc i) = refl
-map_drop (s ∷ l) zero = refl
-map_drop (s ∷ l) (suc i) = map_drop l i
-
 -- the entries of slots that are put in at a place
 pub put_entries : (l fresh : List Slot) (at : ℕ) → entries_of (take at l ++ (fresh ++ drop at l)) ≡ take at (entries_of l) ++ (entries_of fresh ++ drop at (entries_of l))
 put_entries l fresh at =
     map-append entry_of (take at l) (fresh ++ drop at l)
-    ∙ ap (λ es. es ++ entries_of (fresh ++ drop at l)) (map_take l at)
+    ∙ ap (λ es. es ++ entries_of (fresh ++ drop at l)) (map_take entry_of l at)
     ∙ ap (λ es. take at (entries_of l) ++ es) (map-append entry_of fresh (drop at l))
-    ∙ ap (λ es. take at (entries_of l) ++ (entries_of fresh ++ es)) (map_drop l at)
+    ∙ ap (λ es. take at (entries_of l) ++ (entries_of fresh ++ es)) (map_drop entry_of l at)

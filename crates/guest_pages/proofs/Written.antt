@@ -1,5 +1,5 @@
 -- The slots after the bytes of a page were replaced.
-use Rattle.std.proofs.Common.{◌≡◌, ◌<◌, ◌≤◌, ◌+◌, ◌*◌, ◌^◌, ℕ, Bool, true, false, cond, List, [], ◌∷◌, ◌++◌, get_or, zero, suc, take, drop, length, sym, ap, ◌∙◌, refl, arith}
+use Rattle.std.proofs.Common.{◌≡◌, ◌<◌, ◌≤◌, ◌+◌, ◌*◌, ◌^◌, ℕ, Bool, true, false, cond, List, ◌++◌, take, drop, length, sym, ap, ◌∙◌, refl, arith}
 use Rattle.std.proofs.lemmas.List.{length-map, with_items_is}
 use Rattle.std.specs.FinMap.{FinMap, get}
 use Rattle.std.specs.Ordering.{nat_cmp}
@@ -13,11 +13,6 @@ use Rattle.guest_pages.specs.declared.pages.Pages.TheInside.{Inside}
 use Rattle.guest_pages.specs.Slots.{pages_of, Entry, AreInOrder, IsInOrder, entry_of, entries_of, memory_of, changed}
 use Rattle.guest_pages.proofs.Parts.{all_join, all_front, all_back}
 use Rattle.guest_pages.proofs.Maps.{changed_is, order_changed, length_changed, whole}
-
--- a list of values of `u8`
-pub are_bytes : (bytes : List ℕ) → ((k : ℕ) → get_or bytes k 0 < 256) → AreBytes bytes
-are_bytes [] h = tt
-are_bytes (b ∷ bytes) h = (h zero, are_bytes bytes (λ k. h (suc k)))
 
 -- slots that stand for as many entries, written back into their vector
 pub written_back : (a : Inside) (new : List Slot) (es : List Entry) → entries_of new ≡ es → length es ≡ length (entries_of a.slots.items) → entries_of (with_items a.slots new).items ≡ es

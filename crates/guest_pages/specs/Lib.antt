@@ -1,2 +1,4 @@
+pub mod Bytes
+pub mod Lending
 pub mod MapFault
 pub mod Slots

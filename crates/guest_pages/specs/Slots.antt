@@ -7,6 +7,7 @@ use Rattle.emu_model.specs.declared.access.Rights.{Rights}
 use Rattle.emu_model.specs.Access.{Memory, Page}
 use Rattle.emu_model.specs.Pages.{zeroed_page}
 use Rattle.emu_model.specs.State.{IsSoundPage}
+use Rattle.guest_pages.specs.Bytes.{as_bytes}
 use Rattle.guest_pages.specs.declared.slots.Slot.{Slot}
 use Rattle.guest_pages.specs.declared.pages.Pages.TheInside.{Inside}
 
@@ -15,7 +16,7 @@ abbrev pub Entry : Type 0
 Entry = ℕ × Page
 
 abbrev pub page_in : Slot → Page
-page_in s = record { rights = s.rights; bytes = s.bytes.items }
+page_in s = record { rights = s.rights; bytes = as_bytes s.bytes.items }
 
 abbrev pub entry_of : Slot → Entry
 entry_of s = (s.number, page_in s)

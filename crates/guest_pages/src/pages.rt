@@ -1,14 +1,17 @@
 //! The mapped pages, and the calls that map, find and change them.
-ghost use Rattle.std.specs.Prelude.{◌≡◌, ◌≤◌, ◌<◌, ◌+◌, ◌*◌, ◌^◌, length, if◌then◌else◌, MatchOption, IfOk, IfErr, IfSome, OnOk, OnErr, ⊤};
+ghost use Rattle.std.specs.Prelude.{◌≡◌, ◌≤◌, ◌<◌, ◌+◌, ◌*◌, ◌^◌, length, if◌then◌else◌, MatchOption, IfOk, IfErr, IfSome, OnOk, OnErr, IsTrue, option_map, ⊤};
 ghost use Rattle.std.specs.FinMap as map;
 ghost use Rattle.emu_model.specs.Access.{page_gives};
-ghost use Rattle.emu_model.specs.Pages.{least_unmapped, mapped, protected, unmapped, with_bytes};
+ghost use Rattle.std.specs.Borrow.{sem, Lends, LendsIf, Array, u8 as byte};
+ghost use Rattle.guest_pages.specs.contracts.pages.Pages.{the_row};
+ghost use Rattle.guest_pages.specs.Lending.{with_part};
+ghost use Rattle.emu_model.specs.Pages.{bytes_at, least_unmapped, mapped, protected, unmapped, with_bytes};
 ghost use Rattle.emu_model.specs.State.{IsSoundMemory};
 ghost use Rattle.guest_pages.specs.MapFault.{map_fault, protect_answer};
 
 use crate::slots::{
-    Slot, find_slot, insert_slots, place, protect_slots, remove_slots, store_slot, taken,
-    unmapped_page, write_slot, zeroed_slots,
+    PAGE_BYTES, Slot, find_slot, insert_slots, is_mapped, mapped_place, place, protect_slots, remove_slots, store_slot, taken,
+    told_bytes, unmapped_page, write_slot, zeroed_slots,
 };
 use emu_model::{Kind, Rights};
 use std::alloc::{AllocError, Global};
@@ -75,6 +78,13 @@ impl Pages {
         self.slots.len() as u32
     }
 
+    /// Whether a page is mapped.
+    pub fn is_mapped(&self, page: u64) -> bool
+        ensures { result ≡ map.contains_key self.now.pages page }
+    {
+        is_mapped(&self.slots, page)
+    }
+
     /// The rights and the 4,096 bytes of a page. None exactly where the page isn't mapped.
     pub fn find(&self, page: u64) -> Option<(Rights, &[u8])>
         ensures found { MatchOption result (map.get self.now.pages page ≡ None)
@@ -85,9 +95,46 @@ impl Pages {
             None => None,
             Some(at) => {
                 let slot = &self.slots[at];
-                Some((slot.rights, &slot.bytes))
+                Some((slot.rights, told_bytes(&slot.bytes)))
             }
         }
+    }
+
+    /// The 4,096 bytes of a page, for writing. None exactly where the page isn't mapped.
+    pub fn find_mut(&mut self, page: u64) -> Option<&mut [u8]>
+        ensures* writes_back { sem 𝓛 (LendsIf the_row (Array byte 0) self.entry result (with_part self.old page 0) self.old) }
+        ensures found { option_map (λ s. s.now) result ≡ option_map (λ p. p.bytes) (map.get self.old.pages page) }
+        ensures whole { MatchOption result ⊤ (λ s. length s.now ≡ 4096) }
+    {
+        if self.is_mapped(page) {
+            Some(self.page_mut(page))
+        } else {
+            None
+        }
+    }
+
+    /// The 4,096 bytes of a page that is mapped, for writing.
+    pub fn page_mut(&mut self, page: u64) -> &mut [u8]
+        requires { IsTrue (map.contains_key self.old.pages page) }
+        ensures* writes_back { sem 𝓛 (Lends the_row (Array byte 0) self.entry result (with_part self.old page 0)) }
+        ensures found { Some result.now ≡ option_map (λ p. p.bytes) (map.get self.old.pages page) }
+        ensures whole { length result.now ≡ 4096 }
+    {
+        let _ = &self.limit;
+        self.part_mut(page, 0, PAGE_BYTES)
+    }
+
+    /// `count` bytes of a page that is mapped, from place `at` on, for writing.
+    pub fn part_mut(&mut self, page: u64, at: usize, count: usize) -> &mut [u8]
+        requires mapped { IsTrue (map.contains_key self.old.pages page) }
+        requires within { at + count ≤ 4096 }
+        ensures* writes_back { sem 𝓛 (Lends the_row (Array byte 0) self.entry result (with_part self.old page at)) }
+        ensures value { result.now ≡ bytes_at self.old (page * 4096 + at) count }
+        ensures length { length result.now ≡ count }
+    {
+        let i = mapped_place(&self.slots, page);
+        let _bytes = told_bytes(&self.slots[i].bytes);
+        self.slots[i].bytes.slice_mut(at..at + count)
     }
 
     /// Maps `count` pages from page `first` on, with these rights and their bytes 0. `Taken` has the least of them that is

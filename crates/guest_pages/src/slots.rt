@@ -1,10 +1,11 @@
 //! The slots of the mapped pages, in the order of their numbers.
-ghost use Rattle.std.specs.Prelude.{◌≡◌, ◌≤◌, ◌<◌, ◌+◌, ◌^◌, ◌++◌, length, take, drop, if◌then◌else◌, not, ◌&&◌, nat_le, nat_lt, MatchOption, IfNone, IfOk, OnErr, OnOk};
+ghost use Rattle.std.specs.Prelude.{◌≡◌, ◌≤◌, ◌<◌, ◌+◌, ◌^◌, ◌++◌, length, take, drop, if◌then◌else◌, not, ◌&&◌, nat_le, nat_lt, MatchOption, IfNone, IfOk, OnErr, OnOk, IsTrue};
 ghost use Rattle.std.specs.List.{AllByRecursion, filter};
 ghost use Rattle.std.specs.Ordering.{nat_cmp};
 ghost use Rattle.std.specs.FinMap.{contains_key, find};
 ghost use Rattle.emu_model.specs.Access.{page_gives};
 ghost use Rattle.emu_model.specs.Pages.{is_among, least_mapped, least_unmapped, zeros};
+ghost use Rattle.emu_model.specs.State.{AreBytes};
 ghost use Rattle.emu_model.specs.WithinPage.{overwritten, page_with_bytes};
 ghost use Rattle.guest_pages.specs.Slots.{IsAscending, IsBelow, IsFrom, IsAt, IsEntry, all_changed, changed, entries_of, page_with_rights, pages_of, zeroed_entries};
 
@@ -45,6 +46,15 @@ pub fn find_slot(slots: &[Slot], page: u64) -> Option<usize>
     }
 }
 
+/// The place of the slot of a page that is mapped.
+pub fn mapped_place(slots: &[Slot], page: u64) -> usize
+    requires ascending { IsAscending (entries_of slots.now) }
+    requires mapped { IsTrue (contains_key (pages_of (entries_of slots.now)) page) }
+    ensures { IsAt slots.now page result }
+{
+    place(slots, page)
+}
+
 /// The least of `count` pages from page `first` on that is mapped, with the place of `first`.
 pub fn taken(slots: &[Slot], at: usize, first: u64, count: u64) -> Option<u64>
     requires ascending { IsAscending (entries_of slots.now) }
@@ -60,6 +70,14 @@ pub fn taken(slots: &[Slot], at: usize, first: u64, count: u64) -> Option<u64>
     } else {
         None
     }
+}
+
+/// The same slice; its clause says that each of its values is a byte.
+pub fn told_bytes(bytes: &[u8]) -> &[u8]
+    ensures same { result.now ≡ bytes.now }
+    ensures bytes { AreBytes bytes.now }
+{
+    bytes
 }
 
 /// Replaces the bytes from place `at` on.
@@ -170,7 +188,7 @@ pub fn remove_slots(slots: &mut Vec<Slot>, first: u64, count: u64)
 }
 
 /// Whether a page is mapped.
-fn is_mapped(slots: &[Slot], page: u64) -> bool
+pub fn is_mapped(slots: &[Slot], page: u64) -> bool
     requires { IsAscending (entries_of slots.now) }
     ensures { result ≡ contains_key (pages_of (entries_of slots.now)) page }
 {

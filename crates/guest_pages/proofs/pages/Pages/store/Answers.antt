@@ -9,7 +9,8 @@ use Rattle.emu_model.specs.WithinPage.{page_with_bytes}
 use Rattle.guest_pages.specs.declared.slots.Slot.{Slot}
 use Rattle.guest_pages.specs.Slots.{pages_of, AreInOrder, entries_of, changed}
 use Rattle.guest_pages.proofs.Maps.{get_is}
-use Rattle.guest_pages.proofs.Written.{are_bytes, stored_back, order_stored, stored_is}
+use Rattle.guest_pages.proofs.Bytes.{are_bytes}
+use Rattle.guest_pages.proofs.Written.{stored_back, order_stored, stored_is}
 use Rattle.guest_pages.proofs.pages.Pages.store.Goals as goal
 
 -- the entries after the call

@@ -6,7 +6,8 @@ use Rattle.emu_model.specs.WithinPage.{page_with_bytes}
 use Rattle.guest_pages.specs.declared.slots.Slot.{Slot}
 use Rattle.guest_pages.specs.Slots.{pages_of, AreInOrder, entries_of, changed}
 use Rattle.guest_pages.proofs.Maps.{length_changed}
-use Rattle.guest_pages.proofs.Written.{are_bytes, written_back, order_written, written_is}
+use Rattle.guest_pages.proofs.Bytes.{are_bytes}
+use Rattle.guest_pages.proofs.Written.{written_back, order_written, written_is}
 use Rattle.guest_pages.proofs.pages.Pages.write.Goals as goal
 
 -- the entries after the call
