@@ -1,12 +1,13 @@
 //! Sums and differences.
-ghost use Rattle.std.specs.Prelude.{◌≡◌, ◌<◌, ◌^◌, ◌⊎◌};
+ghost use Rattle.std.specs.Prelude.{◌≡◌, ◌<◌, ◌^◌, ◌⊎◌, true};
 ghost use Rattle.a64_insn.specs.declared.form.A64Form.{A64Form};
 ghost use Rattle.emu_run.specs.Scalar as table;
+ghost use Rattle.a64_data.specs.Groups.{is_sum};
 
 use crate::numbers::complement;
 use crate::registers::{operand, operand_sp, set_flags, width_of};
 use crate::shifts::{extended, lsl, shifted};
-use a64_insn::{AddCarryOp, AddOp};
+use a64_insn::{A64, A64Form, AddCarryOp, AddOp};
 use core_regs::Core;
 use emu_bits::{Reg, U, add_flags};
 
@@ -84,15 +85,44 @@ fn shifted_12(sh: bool, imm: U<12>) -> u64
     if sh { imm << 12 } else { imm }
 }
 
-pub(crate) fn add_imm(
-    core: &mut Core,
-    op: AddOp,
-    sf: bool,
-    sh: bool,
-    imm12: U<12>,
-    rn: Reg,
-    rd: Reg,
-)
+/// Does a sum.
+pub(crate) fn exec(core: &mut Core, i: &A64)
+    requires { is_sum i.now ≡ true }
+    ensures { core.new ≡ table.scalar i.now core.old }
+{
+    match *i.form() {
+        A64Form::AddImm {
+            op,
+            sf,
+            sh,
+            imm12,
+            rn,
+            rd,
+        } => add_imm(core, op, sf, sh, imm12, rn, rd),
+        A64Form::AddReg {
+            op,
+            sf,
+            shift,
+            rm,
+            amount,
+            rn,
+            rd,
+        } => add_reg(core, op, sf, shift, rm, amount, rn, rd),
+        A64Form::AddExt {
+            op,
+            sf,
+            rm,
+            ext,
+            a,
+            rn,
+            rd,
+        } => add_ext(core, op, sf, rm, ext, a, rn, rd),
+        A64Form::AddCarry { op, sf, rm, rn, rd } => add_carry(core, op, sf, rm, rn, rd),
+        _ => {}
+    }
+}
+
+fn add_imm(core: &mut Core, op: AddOp, sf: bool, sh: bool, imm12: U<12>, rn: Reg, rd: Reg)
     ensures { core.new ≡ table.scalar (A64Form.AddImm op sf sh imm12 rn rd) core.old }
 {
     let w = width_of(sf);
@@ -100,7 +130,7 @@ pub(crate) fn add_imm(
     add_sp(core, op, w, rd, a, shifted_12(sh, imm12));
 }
 
-pub(crate) fn add_reg(
+fn add_reg(
     core: &mut Core,
     op: AddOp,
     sf: bool,
@@ -118,16 +148,7 @@ pub(crate) fn add_reg(
     add(core, op, w, rd, a, b);
 }
 
-pub(crate) fn add_ext(
-    core: &mut Core,
-    op: AddOp,
-    sf: bool,
-    rm: Reg,
-    ext: U<3>,
-    a: U<3>,
-    rn: Reg,
-    rd: Reg,
-)
+fn add_ext(core: &mut Core, op: AddOp, sf: bool, rm: Reg, ext: U<3>, a: U<3>, rn: Reg, rd: Reg)
     ensures { core.new ≡ table.scalar (A64Form.AddExt op sf rm ext a rn rd) core.old }
 {
     let w = width_of(sf);
@@ -136,7 +157,7 @@ pub(crate) fn add_ext(
     add_sp(core, op, w, rd, first, second);
 }
 
-pub(crate) fn add_carry(core: &mut Core, op: AddCarryOp, sf: bool, rm: Reg, rn: Reg, rd: Reg)
+fn add_carry(core: &mut Core, op: AddCarryOp, sf: bool, rm: Reg, rn: Reg, rd: Reg)
     ensures { core.new ≡ table.scalar (A64Form.AddCarry op sf rm rn rd) core.old }
 {
     let w = width_of(sf);

@@ -5,11 +5,12 @@ ghost use Rattle.a64_insn.specs.Table.{meets_form};
 ghost use Rattle.emu_bits.specs.Fields.{field};
 ghost use Rattle.emu_run.specs.Scalar as table;
 ghost use Rattle.emu_run.specs.ScalarBits as bits;
+ghost use Rattle.a64_data.specs.Groups.{is_field};
 
 use crate::numbers::{low_bits, sign_extended};
 use crate::registers::{operand, width_of, write};
 use crate::shifts::extracted;
-use a64_insn::BitfieldOp;
+use a64_insn::{A64, A64Form, BitfieldOp};
 use core_regs::Core;
 use emu_bits::{Reg, U};
 
@@ -97,17 +98,35 @@ fn places(w: u32, r: u32, s: u32) -> Move
     }
 }
 
+/// Moves a field of a register.
+pub(crate) fn exec(core: &mut Core, i: &A64)
+    requires { is_field i.now ≡ true }
+    ensures { core.new ≡ table.scalar i.now core.old }
+{
+    match *i.form() {
+        A64Form::Bitfield {
+            op,
+            sf,
+            n,
+            r,
+            s,
+            rn,
+            rd,
+        } => bitfield(core, op, sf, n, r, s, rn, rd),
+        A64Form::Extract {
+            sf,
+            n,
+            rm,
+            s,
+            rn,
+            rd,
+        } => extract(core, sf, n, rm, s, rn, rd),
+        _ => {}
+    }
+}
+
 #[tactic(auto, using(crate::proofs::Conditions::bitfield_below))]
-pub(crate) fn bitfield(
-    core: &mut Core,
-    op: BitfieldOp,
-    sf: bool,
-    n: bool,
-    r: U<6>,
-    s: U<6>,
-    rn: Reg,
-    rd: Reg,
-)
+fn bitfield(core: &mut Core, op: BitfieldOp, sf: bool, n: bool, r: U<6>, s: U<6>, rn: Reg, rd: Reg)
     requires { meets_form (A64Form.Bitfield op sf n r s rn rd) ≡ true }
     ensures { core.new ≡ table.scalar (A64Form.Bitfield op sf n r s rn rd) core.old }
 {
@@ -115,7 +134,7 @@ pub(crate) fn bitfield(
     move_field(core, op, w, rn, rd, places(w, r.get(), s.get()));
 }
 
-pub(crate) fn extract(core: &mut Core, sf: bool, n: bool, rm: Reg, s: U<6>, rn: Reg, rd: Reg)
+fn extract(core: &mut Core, sf: bool, n: bool, rm: Reg, s: U<6>, rn: Reg, rd: Reg)
     ensures { core.new ≡ table.scalar (A64Form.Extract sf n rm s rn rd) core.old }
 {
     let w = width_of(sf);

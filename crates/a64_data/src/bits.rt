@@ -1,12 +1,13 @@
 //! Bits and bytes in another order, and counts of leading bits.
-ghost use Rattle.std.specs.Prelude.{◌≡◌, ◌<◌, ◌^◌, ◌⊎◌};
+ghost use Rattle.std.specs.Prelude.{◌≡◌, ◌<◌, ◌^◌, ◌⊎◌, true};
 ghost use Rattle.a64_insn.specs.declared.form.A64Form.{A64Form};
 ghost use Rattle.emu_run.specs.Scalar as table;
 ghost use Rattle.emu_run.specs.ScalarBits as bits;
+ghost use Rattle.a64_data.specs.Groups.{is_reversal};
 
 use crate::numbers::complement;
 use crate::registers::{operand, width_of};
-use a64_insn::{OneSourceOp, RevOp};
+use a64_insn::{A64, A64Form, OneSourceOp, RevOp};
 use core_regs::Core;
 use emu_bits::Reg;
 
@@ -109,7 +110,19 @@ fn of_one(op: OneSourceOp, w: u32, a: u64) -> u64
     }
 }
 
-pub(crate) fn one_source(core: &mut Core, op: OneSourceOp, sf: bool, rn: Reg, rd: Reg)
+/// Counts or reverses bits or bytes.
+pub(crate) fn exec(core: &mut Core, i: &A64)
+    requires { is_reversal i.now ≡ true }
+    ensures { core.new ≡ table.scalar i.now core.old }
+{
+    match *i.form() {
+        A64Form::OneSource { op, sf, rn, rd } => one_source(core, op, sf, rn, rd),
+        A64Form::Rev { op, rn, rd } => rev(core, op, rn, rd),
+        _ => {}
+    }
+}
+
+fn one_source(core: &mut Core, op: OneSourceOp, sf: bool, rn: Reg, rd: Reg)
     ensures { core.new ≡ table.scalar (A64Form.OneSource op sf rn rd) core.old }
 {
     let w = width_of(sf);
@@ -117,7 +130,7 @@ pub(crate) fn one_source(core: &mut Core, op: OneSourceOp, sf: bool, rn: Reg, rd
     core.set_x(rd, w, v);
 }
 
-pub(crate) fn rev(core: &mut Core, op: RevOp, rn: Reg, rd: Reg)
+fn rev(core: &mut Core, op: RevOp, rn: Reg, rd: Reg)
     ensures { core.new ≡ table.scalar (A64Form.Rev op rn rd) core.old }
 {
     match op {

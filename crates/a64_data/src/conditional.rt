@@ -1,12 +1,13 @@
 //! Conditional compares and selects.
-ghost use Rattle.std.specs.Prelude.{◌≡◌, ◌<◌, ◌^◌, ◌⊎◌};
+ghost use Rattle.std.specs.Prelude.{◌≡◌, ◌<◌, ◌^◌, ◌⊎◌, true};
 ghost use Rattle.a64_insn.specs.declared.form.A64Form.{A64Form};
 ghost use Rattle.emu_run.specs.Scalar as table;
 ghost use Rattle.emu_run.specs.ScalarBits as bits;
+ghost use Rattle.a64_data.specs.Groups.{is_conditional};
 
 use crate::numbers::{complement, difference};
 use crate::registers::{operand, width_of, write};
-use a64_insn::{CondCompareOp, SelectOp};
+use a64_insn::{A64, A64Form, CondCompareOp, SelectOp};
 use core_regs::Core;
 use emu_bits::{Cond, Flags, Reg, U, add_flags};
 
@@ -51,15 +52,41 @@ fn compare(core: &mut Core, op: CondCompareOp, w: u32, a: u64, b: u64, cond: U<4
     core.set_flags(flags);
 }
 
-pub(crate) fn cond_reg(
-    core: &mut Core,
-    op: CondCompareOp,
-    sf: bool,
-    rm: Reg,
-    cond: U<4>,
-    rn: Reg,
-    f: U<4>,
-)
+/// Does a conditional compare or a select.
+pub(crate) fn exec(core: &mut Core, i: &A64)
+    requires { is_conditional i.now ≡ true }
+    ensures { core.new ≡ table.scalar i.now core.old }
+{
+    match *i.form() {
+        A64Form::CondReg {
+            op,
+            sf,
+            rm,
+            cond,
+            rn,
+            f,
+        } => cond_reg(core, op, sf, rm, cond, rn, f),
+        A64Form::CondImm {
+            op,
+            sf,
+            i,
+            cond,
+            rn,
+            f,
+        } => cond_imm(core, op, sf, i, cond, rn, f),
+        A64Form::Select {
+            op,
+            sf,
+            rm,
+            cond,
+            rn,
+            rd,
+        } => select(core, op, sf, rm, cond, rn, rd),
+        _ => {}
+    }
+}
+
+fn cond_reg(core: &mut Core, op: CondCompareOp, sf: bool, rm: Reg, cond: U<4>, rn: Reg, f: U<4>)
     ensures { core.new ≡ table.scalar (A64Form.CondReg op sf rm cond rn f) core.old }
 {
     let w = width_of(sf);
@@ -67,15 +94,7 @@ pub(crate) fn cond_reg(
     compare(core, op, w, a, b, cond, f);
 }
 
-pub(crate) fn cond_imm(
-    core: &mut Core,
-    op: CondCompareOp,
-    sf: bool,
-    i: U<5>,
-    cond: U<4>,
-    rn: Reg,
-    f: U<4>,
-)
+fn cond_imm(core: &mut Core, op: CondCompareOp, sf: bool, i: U<5>, cond: U<4>, rn: Reg, f: U<4>)
     ensures { core.new ≡ table.scalar (A64Form.CondImm op sf i cond rn f) core.old }
 {
     let w = width_of(sf);
@@ -97,7 +116,7 @@ fn otherwise(op: SelectOp, w: u32, b: u64) -> u128
     }
 }
 
-pub(crate) fn select(core: &mut Core, op: SelectOp, sf: bool, rm: Reg, cond: U<4>, rn: Reg, rd: Reg)
+fn select(core: &mut Core, op: SelectOp, sf: bool, rm: Reg, cond: U<4>, rn: Reg, rd: Reg)
     ensures { core.new ≡ table.scalar (A64Form.Select op sf rm cond rn rd) core.old }
 {
     let w = width_of(sf);

@@ -1,13 +1,14 @@
 //! Logical operations.
-ghost use Rattle.std.specs.Prelude.{◌≡◌, ◌<◌, ◌^◌, ◌⊎◌};
+ghost use Rattle.std.specs.Prelude.{◌≡◌, ◌<◌, ◌^◌, ◌⊎◌, true};
 ghost use Rattle.a64_insn.specs.declared.form.A64Form.{A64Form};
 ghost use Rattle.emu_run.specs.Scalar as table;
 ghost use Rattle.emu_run.specs.ScalarBits.{flags_of_result};
+ghost use Rattle.a64_data.specs.Groups.{is_logical};
 
 use crate::numbers::complement;
 use crate::registers::{operand, set_flags, width_of};
 use crate::shifts::shifted;
-use a64_insn::{LogicImmOp, LogicRegOp};
+use a64_insn::{A64, A64Form, LogicImmOp, LogicRegOp};
 use core_regs::Core;
 use emu_bits::{Flags, Reg, U, bitmask};
 
@@ -55,7 +56,35 @@ fn logic_of(core: &mut Core, op: LogicRegOp, w: u32, rd: Reg, a: u64, b: u64)
     }
 }
 
-pub(crate) fn logic_reg(
+/// Does a logical operation.
+pub(crate) fn exec(core: &mut Core, i: &A64)
+    requires { is_logical i.now ≡ true }
+    ensures { core.new ≡ table.scalar i.now core.old }
+{
+    match *i.form() {
+        A64Form::LogicImm {
+            op,
+            sf,
+            n,
+            immr,
+            imms,
+            rn,
+            rd,
+        } => logic_imm(core, op, sf, n, immr, imms, rn, rd),
+        A64Form::LogicReg {
+            op,
+            sf,
+            shift,
+            rm,
+            amount,
+            rn,
+            rd,
+        } => logic_reg(core, op, sf, shift, rm, amount, rn, rd),
+        _ => {}
+    }
+}
+
+fn logic_reg(
     core: &mut Core,
     op: LogicRegOp,
     sf: bool,
@@ -73,7 +102,7 @@ pub(crate) fn logic_reg(
     logic_of(core, op, w, rd, a, b);
 }
 
-pub(crate) fn logic_imm(
+fn logic_imm(
     core: &mut Core,
     op: LogicImmOp,
     sf: bool,

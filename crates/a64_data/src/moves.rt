@@ -1,17 +1,41 @@
 //! Addresses near PC, and moves of immediates.
-ghost use Rattle.std.specs.Prelude.{◌≡◌};
+ghost use Rattle.std.specs.Prelude.{◌≡◌, true};
 ghost use Rattle.a64_insn.specs.declared.form.A64Form.{A64Form};
 ghost use Rattle.emu_run.specs.Scalar as table;
+ghost use Rattle.a64_data.specs.Groups.{is_move};
 
 use crate::bitfield::replaced;
 use crate::numbers::{complement, wrapped};
 use crate::registers::{width_of, write};
 use crate::shifts::lsl;
-use a64_insn::{AdrOp, MoveWideOp};
+use a64_insn::{A64, A64Form, AdrOp, MoveWideOp};
 use core_regs::Core;
 use emu_bits::{Reg, U, sext};
 
-pub(crate) fn adr(core: &mut Core, op: AdrOp, immlo: U<2>, immhi: U<19>, rd: Reg)
+/// Makes an address near PC, or moves an immediate.
+pub(crate) fn exec(core: &mut Core, i: &A64)
+    requires { is_move i.now ≡ true }
+    ensures { core.new ≡ table.scalar i.now core.old }
+{
+    match *i.form() {
+        A64Form::Adr {
+            op,
+            immlo,
+            immhi,
+            rd,
+        } => adr(core, op, immlo, immhi, rd),
+        A64Form::MoveWide {
+            op,
+            sf,
+            hw,
+            imm16,
+            rd,
+        } => move_wide(core, op, sf, hw, imm16, rd),
+        _ => {}
+    }
+}
+
+fn adr(core: &mut Core, op: AdrOp, immlo: U<2>, immhi: U<19>, rd: Reg)
     ensures { core.new ≡ table.scalar (A64Form.Adr op immlo immhi rd) core.old }
 {
     let i = sext(immhi.get() as u64 * 4 + immlo.get() as u64, 21) as i128;
@@ -23,7 +47,7 @@ pub(crate) fn adr(core: &mut Core, op: AdrOp, immlo: U<2>, immhi: U<19>, rd: Reg
     core.set_x(rd, 64, target);
 }
 
-pub(crate) fn move_wide(core: &mut Core, op: MoveWideOp, sf: bool, hw: U<2>, imm16: U<16>, rd: Reg)
+fn move_wide(core: &mut Core, op: MoveWideOp, sf: bool, hw: U<2>, imm16: U<16>, rd: Reg)
     ensures { core.new ≡ table.scalar (A64Form.MoveWide op sf hw imm16 rd) core.old }
 {
     let w = width_of(sf);

@@ -1,17 +1,39 @@
 //! Products, quotients, and shifts by a register.
-ghost use Rattle.std.specs.Prelude.{◌≡◌, ◌<◌, ◌^◌, ◌*◌, ◌⊎◌};
+ghost use Rattle.std.specs.Prelude.{◌≡◌, ◌<◌, ◌^◌, ◌*◌, ◌⊎◌, true};
 ghost use Rattle.a64_insn.specs.declared.form.A64Form.{A64Form};
 ghost use Rattle.emu_run.specs.Scalar as table;
 ghost use Rattle.emu_run.specs.ScalarBits as bits;
+ghost use Rattle.a64_data.specs.Groups.{is_product};
 
 use crate::numbers::{difference, product, quotient, scaled_down, wrapped};
 use crate::registers::{operand, width_of, write};
 use crate::shifts::{asr, lsl, lsr, ror};
-use a64_insn::{MulAddOp, MulHighOp, MulLongOp, TwoSourceOp};
+use a64_insn::{A64, A64Form, MulAddOp, MulHighOp, MulLongOp, TwoSourceOp};
 use core_regs::Core;
 use emu_bits::{Reg, sext};
 
-pub(crate) fn mul_add(core: &mut Core, op: MulAddOp, sf: bool, rm: Reg, ra: Reg, rn: Reg, rd: Reg)
+/// Does a product, a quotient or a shift by a register.
+pub(crate) fn exec(core: &mut Core, i: &A64)
+    requires { is_product i.now ≡ true }
+    ensures { core.new ≡ table.scalar i.now core.old }
+{
+    match *i.form() {
+        A64Form::MulAdd {
+            op,
+            sf,
+            rm,
+            ra,
+            rn,
+            rd,
+        } => mul_add(core, op, sf, rm, ra, rn, rd),
+        A64Form::MulLong { op, rm, ra, rn, rd } => mul_long(core, op, rm, ra, rn, rd),
+        A64Form::MulHigh { op, rm, rn, rd } => mul_high(core, op, rm, rn, rd),
+        A64Form::TwoSource { op, sf, rm, rn, rd } => { two_source(core, op, sf, rm, rn, rd) }
+        _ => {}
+    }
+}
+
+fn mul_add(core: &mut Core, op: MulAddOp, sf: bool, rm: Reg, ra: Reg, rn: Reg, rd: Reg)
     ensures { core.new ≡ table.scalar (A64Form.MulAdd op sf rm ra rn rd) core.old }
 {
     let w = width_of(sf);
@@ -30,7 +52,7 @@ fn signed_product(a: u64, b: u64) -> u64
     wrapped(64, product(sext(a, 32), sext(b, 32)))
 }
 
-pub(crate) fn mul_long(core: &mut Core, op: MulLongOp, rm: Reg, ra: Reg, rn: Reg, rd: Reg)
+fn mul_long(core: &mut Core, op: MulLongOp, rm: Reg, ra: Reg, rn: Reg, rd: Reg)
     ensures { core.new ≡ table.scalar (A64Form.MulLong op rm ra rn rd) core.old }
 {
     let x = operand(64, core, ra);
@@ -58,7 +80,7 @@ fn signed_upper_product(a: u64, b: u64) -> u64
     wrapped(64, scaled_down(product(sext(a, 64), sext(b, 64)), 64))
 }
 
-pub(crate) fn mul_high(core: &mut Core, op: MulHighOp, rm: Reg, rn: Reg, rd: Reg)
+fn mul_high(core: &mut Core, op: MulHighOp, rm: Reg, rn: Reg, rd: Reg)
     ensures { core.new ≡ table.scalar (A64Form.MulHigh op rm rn rd) core.old }
 {
     let (a, b) = (operand(64, core, rn), operand(64, core, rm));
@@ -102,7 +124,7 @@ fn of_two(op: TwoSourceOp, w: u32, a: u64, b: u64) -> u64
     }
 }
 
-pub(crate) fn two_source(core: &mut Core, op: TwoSourceOp, sf: bool, rm: Reg, rn: Reg, rd: Reg)
+fn two_source(core: &mut Core, op: TwoSourceOp, sf: bool, rm: Reg, rn: Reg, rd: Reg)
     ensures { core.new ≡ table.scalar (A64Form.TwoSource op sf rm rn rd) core.old }
 {
     let w = width_of(sf);

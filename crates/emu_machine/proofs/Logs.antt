@@ -62,7 +62,7 @@ module _ (budget : ℕ) (before log : List Access) (old p : Parts) (left_p ho hp
         let d = (ran_at step p q led.input left_p left_q hp hq ep eq false led.left r).state refl in
         let steps : p.steps + 1 ≡ t.parts.steps = sym counted ∙ ap (λ (x : Parts). x.steps) d.0 in
         let whole : run_accesses before old bytes budget ≡ run_accesses (accesses p) t.parts t.input budget =
-            logs_at bytes led logs ∙ log_one log p led.input budget going below ∙ ap (λ n. last_accesses (accesses p) t.parts t.input (budget - n)) steps in
+        logs_at bytes led logs ∙ log_one log p led.input budget going below ∙ ap (λ n. last_accesses (accesses p) t.parts t.input (budget - n)) steps in
         let now : run_accesses before old bytes budget ≡ run_accesses (accesses p) q t.input budget = whole ∙ ap (λ (x : Parts). run_accesses (accesses p) x t.input budget) (sym d.0) in
         subst (λ (left : Option (List ℕ)). IfSome left (λ input. run_accesses before old bytes budget ≡ run_accesses (accesses p) q input budget)) (sym d.1) now
 

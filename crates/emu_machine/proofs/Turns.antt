@@ -37,9 +37,9 @@ pub accesses_of_insn : (m : Parts) (word : ℕ) (insn : Insn) → HasFetched m w
 accesses_of_insn m word insn has =
     let is = fetched_insn m word insn has in
     sym (
-      ap (λ (b : Bool). if b then fetched_accesses m (refused m.memory m.core.pc 4 Fetch) else []) (eq-eqb (m.core.pc % 4) 0 has.aligned)
-      ∙ ap (λ (o : Option ℕ). fetched_accesses m o) is.0
-      ∙ ap (λ (i : Option Insn). executed_accesses m i) is.1
+    ap (λ (b : Bool). if b then fetched_accesses m (refused m.memory m.core.pc 4 Fetch) else []) (eq-eqb (m.core.pc % 4) 0 has.aligned)
+    ∙ ap (λ (o : Option ℕ). fetched_accesses m o) is.0
+    ∙ ap (λ (i : Option Insn). executed_accesses m i) is.1
     )
 
 -- a turn that does an instruction leaves what the instruction leaves

@@ -5,6 +5,7 @@ ghost use Rattle.emu_machine.specs.Machines.{has_ended};
 use super::*;
 use elf_image::read;
 use emu_bits::Reg;
+use guest_mem::Access;
 use io_gate::{MemSink, NoFaultSource};
 use std::alloc::{AllocError, Global};
 
@@ -23,6 +24,37 @@ const WRITE: [u32; 10] = [
     0xD400_0001,
     0xD280_0BA8,
     0xD400_0001,
+];
+
+/// Adds 5, 4, 3, 2 and 1 by calls of a function, and ends with the sum.
+/// movz x0, #0; movz x1, #5; again: cbz x1, done; bl add; sub x1, x1, #1; b again; done: movz x8, #93; svc #0;
+/// add: add x0, x0, x1; ret
+const SUM: [u32; 10] = [
+    0xD280_0000,
+    0xD280_00A1,
+    0xB400_0081,
+    0x9400_0005,
+    0xD100_0421,
+    0x17FF_FFFD,
+    0xD280_0BA8,
+    0xD400_0001,
+    0x8B01_0000,
+    0xD65F_03C0,
+];
+
+/// Stores a pair of registers at 0x401FF8, of which the second falls on the page at 0x402000, which isn't mapped.
+/// movz x2, #0x1ff8; movk x2, #0x40, lsl #16; movz x0, #7; stp x0, x1, [x2, #0]
+const PAIR: [u32; 4] = [0xD283_FF02, 0xF2A0_0802, 0xD280_00E0, 0xA900_0440];
+
+/// Stores at 0x401000, makes a call that isn't known, and loads from there.
+/// movz x1, #64, lsl #16; add x1, x1, #1, lsl #12; str x0, [x1, #0]; svc #0; ldr x2, [x1, #0]; hint #0
+const STORE_CALL_LOAD: [u32; 6] = [
+    0xD2A0_0801,
+    0x9140_0421,
+    0xF900_0020,
+    0xD400_0001,
+    0xF940_0022,
+    0xD503_201F,
 ];
 
 /// Writes the low `size` bytes of a number at an offset, lowest first.
@@ -102,6 +134,17 @@ fn sink(alloc: Global, most: usize, fails: bool) -> Result<MemSink, AllocError>
         failing.push(0u64)?;
     }
     Ok(MemSink::new(alloc, most, failing))
+}
+
+/// Runs on to so many steps in all. None where the machine has ended or has taken more.
+fn run_to(alloc: Global, machine: &mut Machine, steps: u64) -> Result<Option<RunEnd>, AllocError> {
+    if machine.ended() || machine.steps() > steps {
+        return Ok(None);
+    }
+    let mut output = sink(alloc, 8, false)?;
+    let mut errors = sink(alloc, 8, false)?;
+    let end = machine.run(steps, &mut empty(alloc), &mut output, &mut errors);
+    Ok(Some(end))
 }
 
 #[test]
@@ -184,5 +227,90 @@ fn an_output_that_fails_ends_the_machine(rt: HostRuntime) -> Result<(), AllocErr
     let end = machine.run(20, &mut empty(alloc), &mut output, &mut errors);
     assert_eq!(rt; (end, machine.steps()), (RunEnd::WriteFault, 7));
     assert_eq!(rt; (machine.ended(), machine.ending()), (true, None));
+    Ok(())
+}
+
+#[test]
+fn a_loop_calls_a_function(rt: HostRuntime) -> Result<(), AllocError> {
+    let alloc = rt.alloc();
+    let mut machine = opened(alloc, &SUM, 6)?;
+    let end = run_to(alloc, &mut machine, 100)?;
+    assert_eq!(rt; (end, machine.steps()), (Some(RunEnd::Exit(15)), 35));
+    let link = Reg::new(30).expect(&rt, "a register");
+    assert_eq!(rt;
+        (machine.core().pc(), machine.core().x(link)),
+        (0x40_001C, 0x40_0010)
+    );
+    Ok(())
+}
+
+#[test]
+fn a_pair_is_stored_as_far_as_its_pages(rt: HostRuntime) -> Result<(), AllocError> {
+    let alloc = rt.alloc();
+    let mut machine = opened(alloc, &PAIR, 6)?;
+    let trap = Trap {
+        kind: TrapKind::Write,
+        address: 0x40_2000,
+    };
+    let end = run_to(alloc, &mut machine, 10)?;
+    assert_eq!(rt; (end, machine.steps()), (Some(RunEnd::Trap(trap)), 3));
+    let stored = Access {
+        address: 0x40_1FF8,
+        bytes: 8,
+        write: true,
+    };
+    assert_eq!(rt; machine.accesses(), [stored].as_slice());
+    assert_eq!(rt; machine.mem().peek(0x40_1FF8), Some(7));
+    assert_eq!(rt; machine.mem().peek(0x40_2000), None);
+    Ok(())
+}
+
+#[test]
+fn accesses_are_those_of_the_last_step(rt: HostRuntime) -> Result<(), AllocError> {
+    let alloc = rt.alloc();
+    let access = |write| Access {
+        address: 0x40_1000,
+        bytes: 8,
+        write,
+    };
+    let mut machine = opened(alloc, &STORE_CALL_LOAD, 6)?;
+    assert_eq!(rt; machine.accesses(), [].as_slice());
+    for (steps, accesses) in [
+        (2, [].as_slice()),
+        (3, [access(true)].as_slice()),
+        (4, [].as_slice()),
+        (5, [access(false)].as_slice()),
+        (6, [].as_slice()),
+    ] {
+        let end = run_to(alloc, &mut machine, steps)?;
+        assert_eq!(rt; end, Some(RunEnd::Spent));
+        assert_eq!(rt; machine.accesses(), accesses, "after {steps} steps");
+    }
+    Ok(())
+}
+
+#[test]
+fn traps_have_their_kinds(rt: HostRuntime) -> Result<(), AllocError> {
+    let alloc = rt.alloc();
+    // add sp, sp, #8; ldr x0, [sp, #0]
+    let sp = [0x9100_23FF, 0xF940_03E0];
+    // movz x2, #0x1001; movk x2, #0x40, lsl #16; ldxr x4, [x2]
+    let exclusive = [0xD282_0022, 0xF2A0_0802, 0xC85F_7C44];
+    // the words, the trap and its signal, and the steps before it
+    for (words, kind, address, signal, steps) in [
+        (sp.as_slice(), TrapKind::SpAlign, 0x8, 7, 1),
+        (exclusive.as_slice(), TrapKind::AccessAlign, 0x40_1001, 7, 2),
+        // brk #0
+        ([0xD420_0000].as_slice(), TrapKind::Break, 0x40_0000, 5, 0),
+        // hlt #0
+        ([0xD440_0000].as_slice(), TrapKind::Halt, 0x40_0000, 4, 0),
+    ] {
+        let mut machine = opened(alloc, words, 6)?;
+        let trap = Trap { kind, address };
+        let end = run_to(alloc, &mut machine, 10)?;
+        assert_eq!(rt; (end, machine.steps()), (Some(RunEnd::Trap(trap)), steps));
+        assert_eq!(rt; trap.signal(), signal);
+        assert_eq!(rt; machine.accesses(), [].as_slice());
+    }
     Ok(())
 }

@@ -25,6 +25,32 @@ const WRITE_HI: [u32; 10] = [
     0xD400_0001,
 ];
 
+/// Writes the digits 3, 2, 1, each by a call of `put`, and ends with their sum:
+/// movz x1, #64, lsl #16; add x1, x1, #1, lsl #12; movz x19, #3; movz x20, #0;
+/// again: add x3, x19, #48; bl put; add x20, x20, x19; sub x19, x19, #1; cbnz x19, again;
+/// orr x0, xzr, x20; movz x8, #93; svc #0;
+/// put: strb w3, [x1]; movz x0, #1; movz x2, #1; movz x8, #64; svc #0; ret
+const COUNT_DOWN: [u32; 18] = [
+    0xD2A0_0801,
+    0x9140_0421,
+    0xD280_0073,
+    0xD280_0014,
+    0x9100_C263,
+    0x9400_0007,
+    0x8B13_0294,
+    0xD100_0673,
+    0xB5FF_FF93,
+    0xAA14_03E0,
+    0xD280_0BA8,
+    0xD400_0001,
+    0x3900_0023,
+    0xD280_0020,
+    0xD280_0022,
+    0xD280_0808,
+    0xD400_0001,
+    0xD65F_03C0,
+];
+
 /// A program header of a PT_LOAD segment.
 #[derive(Drop)]
 struct Header {
@@ -360,6 +386,34 @@ fn a_store_to_read_only_data_traps(rt: HostRuntime) -> Result<(), Fail> {
         is_first(
             run.errors.kept(),
             "trap write 0x0000000000401000 at 0x000000000040000c after 3 steps\n"
+        )
+    );
+    Ok(())
+}
+
+#[test]
+fn a_program_loops_and_calls(rt: HostRuntime) -> Result<(), Fail> {
+    let alloc = rt.alloc();
+    let words = ["run", "a.elf", "--vl", "128", "--budget", "100"];
+    let run = command_done(alloc, &words, file_of(alloc, &COUNT_DOWN, Some(6))?)?;
+    assert_eq!(rt; run.ending, Ending::Exit(6));
+    assert_eq!(rt; run.output.kept(), b"321".as_slice());
+    assert!(rt; is_first(run.errors.kept(), "exit 6 after 40 steps\n"));
+    assert!(rt; has_line(run.errors.kept(), "x30 0000000000400018"));
+    Ok(())
+}
+
+#[test]
+fn a_load_at_a_misaligned_sp_traps(rt: HostRuntime) -> Result<(), Fail> {
+    let alloc = rt.alloc();
+    // add sp, sp, #8; ldr x0, [sp, #0]
+    let file = file_of(alloc, &[0x9100_23FF, 0xF940_03E0], None)?;
+    let run = command_done(alloc, &RUN_TEN, file)?;
+    assert_eq!(rt; run.ending.status(), 135);
+    assert!(rt;
+        is_first(
+            run.errors.kept(),
+            "trap sp-align 0x0000000000000008 at 0x0000000000400004 after 1 steps\n"
         )
     );
     Ok(())
