@@ -95,6 +95,7 @@ impl Mem {
     /// right for `kind`.
     pub fn slice_at(&mut self, address: u64, most: usize, kind: Kind) -> Option<&[u8]>
         ensures* unchanged { sem 𝓛 (follows_so the_row the_row self.entry.ghost_name none (λ _ _. ⊤) (λ m. m ≡ self.old)) }
+        ensures variant { is_some result ≡ allowed self.old kind address }
         ensures bytes { MatchOption result (allowed self.old kind address ≡ false)
             (λ s. s.now ≡ bytes_at self.old address (to_page_end address most)) }
         ensures length { MatchOption result ⊤ (λ s. length s.now ≡ to_page_end address most) }

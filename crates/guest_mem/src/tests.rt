@@ -39,3 +39,43 @@ fn a_refused_store_leaves_memory(rt: HostRuntime) -> Result<(), Fail> {
     assert_eq!(rt; mem.peek(0x2000), None);
     Ok(())
 }
+
+#[test]
+fn the_last_address_is_refused(rt: HostRuntime) -> Result<(), Fail> {
+    let mut mem = Mem::new(Pages::new(rt.alloc(), 2)?);
+    let last = u64::MAX;
+    let denied = |kind| Denied {
+        address: last,
+        kind,
+    };
+    assert_eq!(rt; mem.load(last, 2, Kind::Read), Err(denied(Kind::Read)));
+    assert_eq!(rt; mem.load(last - 15, 16, Kind::Fetch).is_err(), true);
+    assert_eq!(rt; mem.store(last, 16, 1), Err(denied(Kind::Write)));
+    assert_eq!(rt; mem.peek(last), None);
+    assert_eq!(rt; mem.slice_at(last, 2, Kind::Read).is_none(), true);
+    assert_eq!(rt; mem.slice_mut_at(last, 2).is_none(), true);
+    Ok(())
+}
+
+#[test]
+fn a_slice_ends_with_its_page(rt: HostRuntime) -> Result<(), Fail> {
+    let rights = Rights {
+        r: true,
+        w: true,
+        x: false,
+    };
+    let mut pages = Pages::new(rt.alloc(), 2)?;
+    assert_eq!(rt; pages.map(1, 2, rights), Ok(()));
+    let mut mem = Mem::new(pages);
+    if let Some(bytes) = mem.slice_mut_at(0x1ffe, 9) {
+        bytes.fill(7);
+    }
+    assert_eq!(rt; mem.load(0x1ffd, 4, Kind::Read), Ok(0x00070700));
+    assert_eq!(rt;
+        mem.slice_at(0x1ffe, 9, Kind::Read).map(|s| s.len()),
+        Some(2)
+    );
+    assert_eq!(rt; mem.slice_at(0x1000, 9, Kind::Fetch).is_none(), true);
+    assert_eq!(rt; mem.slice_mut_at(0x3000, 9).is_none(), true);
+    Ok(())
+}

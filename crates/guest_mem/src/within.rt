@@ -1,5 +1,6 @@
 //! Accesses of bytes that lie in one page.
 ghost use Rattle.std.specs.Prelude.{◌≡◌, ◌<◌, ◌≤◌, ◌+◌, ◌%◌, ◌^◌, ⊤, false, None, IfOk, IfSome, MatchOption, length};
+ghost use Rattle.std.specs.Option.{is_some};
 ghost use Rattle.emu_model.specs.Pages.{bytes_at};
 ghost use Rattle.guest_mem.specs.Slices.{after_write, to_page_end, written_count};
 ghost use Rattle.byteorder.specs.Endian.{little_number};
@@ -79,6 +80,7 @@ pub fn store_within(pages: &mut Pages, address: u64, n: u32, v: u128) -> Result<
 
 /// The bytes from an address to the end of its page, at most `most`.
 pub fn slice_within(pages: &Pages, address: u64, most: usize, kind: Kind) -> Option<&[u8]>
+    ensures variant { is_some result ≡ allowed pages.now kind address }
     ensures bytes { MatchOption result (allowed pages.now kind address ≡ false)
         (λ s. s.now ≡ bytes_at pages.now address (to_page_end address most)) }
     ensures length { MatchOption result ⊤ (λ s. length s.now ≡ to_page_end address most) }

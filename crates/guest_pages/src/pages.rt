@@ -10,8 +10,8 @@ ghost use Rattle.emu_model.specs.State.{IsSoundMemory};
 ghost use Rattle.guest_pages.specs.MapFault.{map_fault, protect_answer};
 
 use crate::slots::{
-    PAGE_BYTES, Slot, find_slot, insert_slots, is_mapped, mapped_place, place, protect_slots, remove_slots, store_slot, taken,
-    told_bytes, unmapped_page, write_slot, zeroed_slots,
+    PAGE_BYTES, Slot, find_slot, insert_slots, is_mapped, mapped_place, place, protect_slots,
+    remove_slots, store_slot, taken, told_bytes, unmapped_page, write_slot, zeroed_slots,
 };
 use emu_model::{Kind, Rights};
 use std::alloc::{AllocError, Global};

@@ -49,3 +49,22 @@ fn protect_changes_all_pages_or_none(rt: HostRuntime) -> Result<(), Fail> {
     );
     Ok(())
 }
+
+#[test]
+fn bytes_that_are_lent_are_written(rt: HostRuntime) -> Result<(), Fail> {
+    let mut pages = Pages::new(rt.alloc(), 8)?;
+    assert_eq!(rt; pages.map(2, 2, READ), Ok(()));
+    assert_eq!(rt; pages.find_mut(4).is_none(), true);
+    if let Some(bytes) = pages.find_mut(3) {
+        bytes[4095] = 9;
+    }
+    if pages.is_mapped(3) {
+        pages.part_mut(3, 5, 2).copy_from_slice(&[1, 2]);
+    }
+    assert_eq!(rt;
+        pages.find(3).map(|(rights, bytes)| (rights, bytes[5], bytes[6], bytes[7], bytes[4095])),
+        Some((READ, 1, 2, 0, 9))
+    );
+    assert_eq!(rt; pages.find(2).map(|(_, bytes)| bytes[5]), Some(0));
+    Ok(())
+}

@@ -8,9 +8,11 @@ use Rattle.guest_pages.proofs.pages.Pages.page_mut.Goals as goal
 
 pub returns : goal.returns
 returns c =
-    let sound = subst (λ (m : Memory). IsSoundMemory m) c.self.view_is (sound_is c.self.inside.limit (entries_of c.self.inside.slots.items) c.self.invariant) in
-    ((refl, λ w. refl), record {
-      writes_back = tt;
-      found = found_bytes c.args.self.now c.args.page c.part_mut.result.now sound c.requires c.part_mut.ensures.value;
-      whole = c.part_mut.ensures.length;
-    })
+    let sound = subst (λ (m : Memory). IsSoundMemory m) c.self.view_is (sound_is c.self.inside.limit (entries_of c.self.inside.slots.items) c.self.invariant) in (
+      (refl, λ w. refl),
+      record {
+        writes_back = tt;
+        found = found_bytes c.args.self.now c.args.page c.part_mut.result.now sound c.requires c.part_mut.ensures.value;
+        whole = c.part_mut.ensures.length;
+      },
+    )

@@ -31,7 +31,7 @@ returns c =
     let e = c.requires.within in
     let at = here a.slots.items c.deref.result.now c.args.page c.mapped_place-i.result c.deref.ensures.value c.mapped_place-i.ensures in
     let same : c.slice_mut.result.now ≡ take c.args.count (drop c.args.at s.bytes.items) =
-      c.slice_mut.ensures.value ∙ ap (λ n. take n (drop c.args.at s.bytes.items)) (omega arith) in
+    c.slice_mut.ensures.value ∙ ap (λ n. take n (drop c.args.at s.bytes.items)) (omega arith) in
     let small : AreBytes s.bytes.items = subst AreBytes (c.deref-2.ensures.value ∙ same_bytes a.slots.items c.mapped_place-i.result c.index.result.now s at.within c.index.ensures c.index_mut.ensures.value) c.told_bytes-bytes.ensures.bytes in
     let value = same ∙ lent_value a c.self.invariant c.args.page c.mapped_place-i.result s at c.index_mut.ensures.value c.args.at (omega (arith, e)) c.args.count e small ∙ ap (λ (m : Memory). bytes_at m (c.args.page * 4096 + c.args.at) c.args.count) c.self.view_is in (
       (refl, λ w. lent_is a c.self.invariant c.args.page c.mapped_place-i.result s at c.index_mut.ensures.value c.args.at (omega (arith, e)) w ∙ ap (λ (m : Memory). with_part m c.args.page c.args.at w) c.self.view_is),
