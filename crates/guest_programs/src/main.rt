@@ -70,7 +70,14 @@ fn main(rt: HostRuntime) -> io::Result<()> {
         };
         let mut output = StdSink::new(rt.stdout());
         let mut errors = StdSink::new(rt.stderr());
-        let ended = run_program(rt.alloc(), &bytes, run.length, run.budget, &mut output, &mut errors);
+        let ended = run_program(
+            rt.alloc(),
+            &bytes,
+            run.length,
+            run.budget,
+            &mut output,
+            &mut errors,
+        );
         match ended {
             Some((RunEnd::Exit(code), steps)) => {
                 println!(rt; "{line}: exit {code} after {steps} steps")?;
