@@ -4,8 +4,12 @@
 mod alignment;
 mod branches;
 mod elements;
+mod exclusive;
 mod fields;
+mod indexed;
 mod numbers;
+mod offsets;
+mod pairs;
 mod rows;
 #[cfg(test)]
 mod tests;

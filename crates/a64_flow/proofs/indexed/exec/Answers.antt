@@ -1,0 +1,10 @@
+use Rattle.std.proofs.Common.{sym, ap, ◌∙◌}
+use Rattle.a64_insn.specs.declared.form.A64Form.{A64Form}
+use Rattle.emu_run.specs.LoadStore as table
+use Rattle.a64_flow.proofs.indexed.exec.Goals as goal
+
+pub returns-in-LsPost : goal.returns-in-LsPost
+returns-in-LsPost c = ap (λ (f : A64Form). table.access f c.args.core.now c.args.mem.now) (sym c.form.ensures.form ∙ c.in-LsPost.is) ∙ c.ls_post.ensures c.in-LsPost.v
+
+pub returns-in-LsPre : goal.returns-in-LsPre
+returns-in-LsPre c = ap (λ (f : A64Form). table.access f c.args.core.now c.args.mem.now) (sym c.form.ensures.form ∙ c.in-LsPre.is) ∙ c.ls_pre.ensures c.in-LsPre.v

@@ -1,0 +1,84 @@
+//! Post-indexed and pre-indexed accesses of one register, which write the base back.
+ghost use Rattle.std.specs.Prelude.{◌≡◌, [], Bool, true};
+ghost use Rattle.a64_insn.specs.declared.form.A64Form.{A64Form};
+ghost use Rattle.emu_run.specs.LoadStore as table;
+ghost use Rattle.a64_flow.specs.Ends.{ended};
+ghost use Rattle.a64_flow.specs.Groups.{is_indexed};
+
+use crate::fields::transfer;
+use crate::numbers::{bytes_of, near};
+use crate::offsets::from_base;
+use a64_insn::{A64, A64Form};
+use core_regs::{Core, Trap};
+use emu_bits::{Reg, U};
+use guest_mem::{AccessLog, Mem};
+
+/// Loads or stores one register, and writes the base back.
+pub(crate) fn exec(core: &mut Core, mem: &mut Mem, log: &mut AccessLog, i: &A64) -> Result<(), Trap>
+    requires own { is_indexed i.now ≡ true }
+    requires empty { log.old.items ≡ [] }
+    ensures { table.access i.now core.old mem.old ≡ ended result core.new mem.new log.new.items }
+{
+    match *i.form() {
+        A64Form::LsPost {
+            size,
+            opc,
+            imm9,
+            rn,
+            rt,
+            ..
+        } => ls_post(core, mem, log, size, opc, imm9, rn, rt),
+        A64Form::LsPre {
+            size,
+            opc,
+            imm9,
+            rn,
+            rt,
+            ..
+        } => ls_pre(core, mem, log, size, opc, imm9, rn, rt),
+        _ => Ok(()),
+    }
+}
+
+/// At `[Xn|SP], #i`: the base alone, and then imm9 bytes on are written back.
+fn ls_post(
+    core: &mut Core,
+    mem: &mut Mem,
+    log: &mut AccessLog,
+    size: U<2>,
+    opc: U<2>,
+    imm9: U<9>,
+    rn: Reg,
+    rt: Reg,
+) -> Result<(), Trap>
+    requires { log.old.items ≡ [] }
+    ensures { (v : Bool) → table.access (A64Form.LsPost size v opc imm9 rn rt) core.old mem.old ≡ ended result core.new mem.new log.new.items }
+{
+    let (t, n) = (transfer(size, opc), bytes_of(size));
+    let address = core.x_sp(rn);
+    let next = near(core, rn, imm9);
+    from_base(core, mem, log, t, rn, rt, address, n)?;
+    core.set_x_sp(rn, 64, next);
+    Ok(())
+}
+
+/// At `[Xn|SP, #i]!`: imm9 bytes on, which are then written back.
+fn ls_pre(
+    core: &mut Core,
+    mem: &mut Mem,
+    log: &mut AccessLog,
+    size: U<2>,
+    opc: U<2>,
+    imm9: U<9>,
+    rn: Reg,
+    rt: Reg,
+) -> Result<(), Trap>
+    requires { log.old.items ≡ [] }
+    ensures { (v : Bool) → table.access (A64Form.LsPre size v opc imm9 rn rt) core.old mem.old ≡ ended result core.new mem.new log.new.items }
+{
+    let (t, n) = (transfer(size, opc), bytes_of(size));
+    let address = near(core, rn, imm9);
+    from_base(core, mem, log, t, rn, rt, address, n)?;
+    core.set_x_sp(rn, 64, address);
+    Ok(())
+}
