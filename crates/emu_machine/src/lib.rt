@@ -1,7 +1,7 @@
 //! A machine: it is opened from an image, takes steps and runs.
 //!
-//! Contracts see a machine as its parts and whether a stream has failed. What a step and a run make of it are the
-//! definitions of `emu_run`, over streams that tell their bytes.
+//! Contracts see a machine as its parts, the accesses of its last step, and whether a stream has failed. What a step and a
+//! run make of it are the definitions of `emu_run`, over streams that tell their bytes.
 #![tactic(auto)]
 
 mod calls;

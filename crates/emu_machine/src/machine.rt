@@ -104,7 +104,8 @@ impl Machine {
         &self.memory
     }
 
-    /// The elements that the last step loaded or stored, in order. Empty before the first step, and after a call.
+    /// The elements that the last step loaded or stored, in order: their addresses and numbers of bytes. Empty before the
+    /// first step, and after a call.
     pub fn accesses(&self) -> &[Access]
         ensures { result.now ≡ self.now.accesses }
     {
@@ -216,7 +217,8 @@ impl Machine {
     /// Takes one step: the word at the program counter is fetched and decoded, and its instruction is done.
     ///
     /// `Going` and `Exit` count the step, and `Trap` doesn't. After a fault of a stream the machine has ended with the step
-    /// not done, and `OutOfMemory` leaves the machine as it was.
+    /// not done, and `OutOfMemory` leaves the machine as it was. The accesses are those of this step whatever it answers: a
+    /// trap leaves those of the elements before the one that was refused, and a call leaves none.
     pub fn step<I: Source, O: Sink, E: Sink>(
         &mut self,
         input: &mut I,
@@ -250,7 +252,7 @@ impl Machine {
     /// Takes steps until the machine has ended or has counted `budget` steps in all, which is `Spent`.
     ///
     /// After a fault of a stream the machine has ended. `OutOfMemory` leaves it as it was before the step that wanted memory.
-    /// The accesses are those of the last step that was taken, and as before where none was.
+    /// The accesses are those of the last step that was taken, done or not, and as before where none was.
     pub fn run<I: Source, O: Sink, E: Sink>(
         &mut self,
         budget: u64,
