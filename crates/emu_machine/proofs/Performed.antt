@@ -1,28 +1,26 @@
 -- An instruction that asks for a call is svc, and does nothing else.
 use Rattle.std.proofs.Common.{◌≡◌, ℕ, Bool, true, false, List, [], Option, Some, None, if◌then◌else◌, refl, ap, sym, ◌∙◌}
 use Rattle.a64_insn.specs.declared.form.A64Form.{A64Form}
-use Rattle.a64_insn.specs.declared.form.A64Form.TheVariants.{Branch, BranchCond, Compare, Test, BranchReg, Except, Hint, Barrier, ReadSys, WriteSys}
-use Rattle.a64_insn.specs.declared.ops.BranchOp.{BranchOp}
+use Rattle.a64_insn.specs.declared.form.A64Form.TheVariants.{Branch, BranchCond, Compare, Test, BranchReg, Except}
 use Rattle.a64_insn.specs.declared.ops.BranchOp.TheVariants.{B, Bl}
-use Rattle.a64_insn.specs.declared.ops.BranchRegOp.{BranchRegOp}
 use Rattle.a64_insn.specs.declared.ops.BranchRegOp.TheVariants.{Br, Blr, Ret}
 use Rattle.a64_insn.specs.declared.ops.ExceptOp.TheVariants.{Svc, Brk, Hlt}
 use Rattle.emu_bits.specs.Flags.{cond_of, cond_holds}
 use Rattle.emu_model.specs.declared.access.Access.{Access}
 use Rattle.emu_model.specs.declared.access.Kind.TheVariants.{Read as ReadKind, Write as WriteKind}
-use Rattle.emu_model.specs.declared.trap.TrapKind.TheVariants.{SpAlign, AccessAlign}
+use Rattle.emu_model.specs.declared.trap.TrapKind.TheVariants.{SpAlign}
 use Rattle.emu_model.specs.declared.trap.Effect.{Effect}
 use Rattle.emu_model.specs.declared.trap.Effect.TheVariants.{Call}
 use Rattle.emu_model.specs.Access.{Memory}
 use Rattle.emu_model.specs.declared.image.Break.{Break}
 use Rattle.emu_model.specs.declared.trap.Ended.{Ended}
-use Rattle.emu_model.specs.State.{Core, Vectors, Parts, read_x}
+use Rattle.emu_model.specs.State.{Core, Vectors, read_x}
 use Rattle.emu_run.specs.declared.insn.Insn.TheVariants.{A64}
 use Rattle.emu_run.specs.declared.transfer.Transfer.{Transfer}
 use Rattle.emu_run.specs.declared.transfer.Transfer.TheVariants.{Store, Load, LoadSigned, LoadSigned32, Prefetch}
-use Rattle.emu_run.specs.Done.{Done, quietly, went_well, branches, traps}
+use Rattle.emu_run.specs.Done.{Done, quietly, went_well, traps}
 use Rattle.emu_run.specs.Elements.{Element, reach}
-use Rattle.emu_run.specs.Flow.{branches_if, is_flow, is_taken, is_taken_by, digit, tested_bit, target, branched, branched_to, flow}
+use Rattle.emu_run.specs.Flow.{branches_if, is_flow, is_taken, is_taken_by, digit, tested_bit, target, flow}
 use Rattle.emu_run.specs.LoadStore.{access, behind, elements, has_sp_base, is_misaligned, load_as_far, misaligned, store_as_far, tested, transfer_of, transferred, unless_misaligned}
 use Rattle.emu_run.specs.Scalar.{is_data, operand, scalar, width_of}
 use Rattle.emu_run.specs.Step.{performed}

@@ -1,4 +1,4 @@
-use Rattle.std.proofs.Common.{◌≡◌, ap, sym, ◌∙◌}
+use Rattle.std.proofs.Common.{ap, sym, ◌∙◌}
 use Rattle.emu_model.specs.State.{zero_vectors}
 use Rattle.emu_machine.specs.Machines.{MachineState}
 use Rattle.emu_machine.proofs.Performed.{AsksFor, asks_for, same_machine}
