@@ -1,11 +1,7 @@
--- Masks and shifts at places of a register.
-use Rattle.std.proofs.Common.{◌≡◌, ℕ, ◌+◌, ◌-◌, ◌*◌, ◌/◌, ◌%◌, ◌^◌, ◌<◌, ◌≤◌, bit_and, arith, ap, ◌∙◌}
+-- Shifts to places of a register.
+use Rattle.std.proofs.Common.{◌≡◌, ℕ, ◌+◌, ◌*◌, ◌/◌, ◌%◌, ◌^◌, ◌<◌, ◌≤◌, arith}
 use Rattle.std.proofs.Math.Nat.{mod-eq_of_lt, pow-le-pow_right, div-mul-le_self}
-use Rattle.std.proofs.lemmas.Nat.{and_mask, shl_below}
-
--- a power less 1 is a mask
-pub masked : (v p n : ℕ) → p ≡ 2 ^ n → bit_and v (p - 1) ≡ v % 2 ^ n
-masked v p n e = ap (λ x. bit_and v (x - 1)) e ∙ and_mask v n
+use Rattle.std.proofs.lemmas.Nat.{shl_below}
 
 -- a field within 64 bits, shifted to its place at 128 bits
 pub placed : (v place n : ℕ) → v < 2 ^ n → place + n ≤ 64 → v * 2 ^ place % 2 ^ 128 ≡ v * 2 ^ place

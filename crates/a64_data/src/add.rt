@@ -6,10 +6,10 @@ ghost use Rattle.a64_data.specs.Groups.{is_sum};
 
 use crate::numbers::complement;
 use crate::registers::{operand, operand_sp, set_flags, width_of};
-use crate::shifts::{extended, lsl, shifted};
+use crate::shifts::{lsl, shifted};
 use a64_insn::{A64, A64Form, AddCarryOp, AddOp};
 use core_regs::Core;
-use emu_bits::{Reg, U, add_flags};
+use emu_bits::{Reg, U, add_flags, extended};
 
 fn sets_flags(op: AddOp) -> bool
     ensures { result ≡ table.sets_flags op }

@@ -7,12 +7,11 @@ ghost use Rattle.emu_run.specs.Scalar as table;
 ghost use Rattle.emu_run.specs.ScalarBits as bits;
 ghost use Rattle.a64_data.specs.Groups.{is_field};
 
-use crate::numbers::{low_bits, sign_extended};
 use crate::registers::{operand, width_of, write};
 use crate::shifts::extracted;
 use a64_insn::{A64, A64Form, BitfieldOp};
 use core_regs::Core;
-use emu_bits::{Reg, U};
+use emu_bits::{Reg, U, low_bits, sign_extended};
 
 /// The n bits from a place on, replaced.
 pub(crate) fn replaced(a: u64, place: u32, n: u32, v: u64) -> u128
@@ -44,7 +43,7 @@ fn bitfield_moved(op: BitfieldOp, w: u32, place: u32, n: u32, v: u64, old: u64) 
     ensures { result ≡ table.bitfield_moved op w place n v old }
 {
     match op {
-        BitfieldOp::Sbfm => (sign_extended(w, n, v) as u128) << place,
+        BitfieldOp::Sbfm => (sign_extended(v, n, w) as u128) << place,
         BitfieldOp::Bfm => replaced(old, place, n, v),
         BitfieldOp::Ubfm => (v as u128) << place,
     }

@@ -2,7 +2,6 @@
 ghost use Rattle.std.specs.Prelude.{◌≡◌, ◌<◌, ◌^◌, ◌⊎◌, true};
 ghost use Rattle.a64_insn.specs.declared.form.A64Form.{A64Form};
 ghost use Rattle.emu_run.specs.Scalar as table;
-ghost use Rattle.emu_run.specs.ScalarBits as bits;
 ghost use Rattle.a64_data.specs.Groups.{is_conditional};
 
 use crate::numbers::{complement, difference};
@@ -10,19 +9,6 @@ use crate::registers::{operand, width_of, write};
 use a64_insn::{A64, A64Form, CondCompareOp, SelectOp};
 use core_regs::Core;
 use emu_bits::{Cond, Flags, Reg, U, add_flags};
-
-/// The flags of the number NZCV, N at the top.
-fn flags_of(f: U<4>) -> Flags
-    ensures { result ≡ bits.flags_of_number f }
-{
-    let f = f.get();
-    Flags {
-        n: f / 8 % 2 == 1,
-        z: f / 4 % 2 == 1,
-        c: f / 2 % 2 == 1,
-        v: f % 2 == 1,
-    }
-}
 
 /// The flags of a + b in ccmn, of a + NOT b + 1 in ccmp.
 fn compared(op: CondCompareOp, w: u32, a: u64, b: u64) -> Flags
@@ -47,7 +33,7 @@ fn compare(core: &mut Core, op: CondCompareOp, w: u32, a: u64, b: u64, cond: U<4
     let flags = if Cond::of_number(cond).holds(core.flags()) {
         compared(op, w, a, b)
     } else {
-        flags_of(f)
+        Flags::of_number(f)
     };
     core.set_flags(flags);
 }

@@ -1,19 +1,8 @@
 //! Numbers of w bits, 32 or 64, and signed readings of them, by exact arithmetic at 128 bits.
-ghost use Rattle.std.specs.Prelude.{◌≡◌, ◌<◌, ◌≤◌, ◌%◌, ◌^◌, ◌*ℤ◌, ◌⊎◌};
+ghost use Rattle.std.specs.Prelude.{◌≡◌, ◌<◌, ◌%◌, ◌^◌, ◌*ℤ◌, ◌⊎◌};
 ghost use Rattle.std.specs.Int.{int_shr};
 ghost use Rattle.emu_bits.specs.Numbers.{unsigned_int, quotient};
 ghost use Rattle.emu_run.specs.ScalarBits as bits;
-
-use emu_bits::sext;
-
-/// 2^n
-pub(crate) fn power(n: u32) -> u128
-    requires { n ≤ 64 }
-    ensures value { result ≡ 2 ^ n }
-    ensures small { result ≤ 2 ^ 64 }
-{
-    1 << n
-}
 
 /// A number modulo 2^w.
 pub(crate) fn low(w: u32, v: u128) -> u64
@@ -26,16 +15,6 @@ pub(crate) fn low(w: u32, v: u128) -> u64
     } else {
         (v & 0xFFFF_FFFF_FFFF_FFFF) as u64
     }
-}
-
-/// The low n bits of a number.
-#[tactic(auto, using(crate::proofs::Masks::masked))]
-pub(crate) fn low_bits(v: u64, n: u32) -> u64
-    requires { n ≤ 64 }
-    ensures value { result ≡ v % 2 ^ n }
-    ensures small { result < 2 ^ n }
-{
-    (v as u128 & (power(n) - 1)) as u64
 }
 
 /// NOT of w bits.
@@ -88,15 +67,4 @@ pub(crate) fn scaled_down(x: i128, k: u32) -> i128
     ensures { result ≡ int_shr x k }
 {
     x >> k
-}
-
-/// The low n bits of a number, extended by their sign to w bits.
-pub(crate) fn sign_extended(w: u32, n: u32, a: u64) -> u64
-    requires width { (w ≡ 32) ⊎ (w ≡ 64) }
-    requires some { 1 ≤ n }
-    requires most { n ≤ 64 }
-    ensures value { result ≡ bits.sign_extended w n a }
-    ensures small { result < 2 ^ w }
-{
-    wrapped(w, sext(a, n) as i128)
 }

@@ -5,7 +5,7 @@ ghost use Rattle.emu_run.specs.Scalar as scalar;
 
 use crate::numbers::low;
 use core_regs::Core;
-use emu_bits::{Flags, Reg};
+use emu_bits::{Flags, Reg, low_bits};
 
 /// The bits of a register: 64 where sf is set, else 32.
 pub(crate) fn width_of(sf: bool) -> u32
@@ -21,7 +21,7 @@ pub(crate) fn operand(w: u32, core: &Core, r: Reg) -> u64
     ensures value { result ≡ scalar.operand w core.now r }
     ensures small { result < 2 ^ w }
 {
-    low(w, core.x(r) as u128)
+    low_bits(core.x(r), w)
 }
 
 /// The low w bits of a register. Register 31 reads SP.
@@ -30,7 +30,7 @@ pub(crate) fn operand_sp(w: u32, core: &Core, r: Reg) -> u64
     ensures value { result ≡ scalar.operand_sp w core.now r }
     ensures small { result < 2 ^ w }
 {
-    low(w, core.x_sp(r) as u128)
+    low_bits(core.x_sp(r), w)
 }
 
 /// Writes a number modulo 2^w to a register. Register 31 isn't written.

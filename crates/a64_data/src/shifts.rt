@@ -1,8 +1,8 @@
-//! Shifts, rotations and extensions of operands of w bits.
-ghost use Rattle.std.specs.Prelude.{◌≡◌, ◌<◌, ◌≤◌, ◌^◌, ◌⊎◌};
+//! Shifts and rotations of operands of w bits.
+ghost use Rattle.std.specs.Prelude.{◌≡◌, ◌<◌, ◌^◌, ◌⊎◌};
 ghost use Rattle.emu_run.specs.ScalarBits as table;
 
-use crate::numbers::{low, low_bits, scaled_down, sign_extended, wrapped};
+use crate::numbers::{low, scaled_down, wrapped};
 use emu_bits::{U, sext};
 
 /// To the left.
@@ -69,32 +69,5 @@ pub(crate) fn shifted(w: u32, shift: U<2>, a: u64, amount: U<6>) -> u64
         1 => lsr(w, a, k),
         2 => asr(w, a, k),
         _ => ror(w, a, k),
-    }
-}
-
-/// The bits that an extension takes.
-fn extended_bits(ext: u32) -> u32
-    ensures value { result ≡ table.extended_bits ext }
-    ensures some { 8 ≤ result }
-    ensures most { result ≤ 64 }
-{
-    match ext % 4 {
-        0 => 8,
-        1 => 16,
-        2 => 32,
-        _ => 64,
-    }
-}
-
-/// The low 8, 16, 32 or 64 bits, extended to 64 bits: 0 uxtb, 1 uxth, 2 uxtw, 3 uxtx, 4 sxtb, 5 sxth, 6 sxtw, 7 sxtx.
-pub(crate) fn extended(ext: U<3>, a: u64) -> u64
-    ensures { result ≡ table.extended ext a }
-{
-    let ext = ext.get();
-    let n = extended_bits(ext);
-    if ext < 4 {
-        low_bits(a, n)
-    } else {
-        sign_extended(64, n, a)
     }
 }

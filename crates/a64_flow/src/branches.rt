@@ -6,7 +6,6 @@ ghost use Rattle.emu_model.specs.State.{Core as CoreState, read_x, with_x};
 ghost use Rattle.emu_run.specs.Done.{quietly};
 ghost use Rattle.emu_run.specs.Flow as table;
 ghost use Rattle.emu_run.specs.Scalar as scalar;
-ghost use Rattle.emu_run.specs.ScalarBits as bits;
 
 use a64_insn::{
     BarrierOp, BranchOp, BranchRegOp, CompareOp, ExceptOp, ReadSysOp, TestOp, WriteSysOp,
@@ -122,7 +121,7 @@ pub(crate) fn write_sys(core: &mut Core, op: WriteSysOp, rt: Reg) -> Effect
     let v = core.x(rt);
     match op {
         WriteSysOp::Tpidr => core.set_tpidr(v),
-        WriteSysOp::Nzcv => core.set_flags(flags_of_number((v >> 28) % 16)),
+        WriteSysOp::Nzcv => core.set_flags(Flags::of_number(U::at(((v >> 28) % 16) as u32, 0))),
     }
     Effect::Next
 }
@@ -176,16 +175,4 @@ fn number_of_flags(f: Flags) -> u64
 {
     let nzcv = u64::from(f.n) * 8 + u64::from(f.z) * 4 + u64::from(f.c) * 2 + u64::from(f.v);
     nzcv << 28
-}
-
-/// The flags of the number NZCV, N at the top.
-fn flags_of_number(f: u64) -> Flags
-    ensures { result ≡ bits.flags_of_number f }
-{
-    Flags {
-        n: f / 8 % 2 == 1,
-        z: f / 4 % 2 == 1,
-        c: f / 2 % 2 == 1,
-        v: f % 2 == 1,
-    }
 }

@@ -9,9 +9,8 @@ ghost use Rattle.emu_run.specs.Elements.{reach};
 ghost use Rattle.emu_run.specs.LoadStore as table;
 ghost use Rattle.a64_flow.specs.Ends.{followed_by};
 
-use crate::numbers::{sign_extended, sign_extended_32};
 use core_regs::{Core, Trap, TrapKind};
-use emu_bits::Reg;
+use emu_bits::{Reg, sign_extended};
 use emu_run::Transfer;
 use guest_mem::{Access, AccessLog, Kind, Mem};
 
@@ -78,8 +77,8 @@ fn loaded_value(t: Transfer, n: u32, v: u64) -> u64
     ensures { result ≡ table.loaded_value t n v }
 {
     match t {
-        Transfer::LoadSigned => sign_extended(v, 8 * n),
-        Transfer::LoadSigned32 => sign_extended_32(v, 8 * n),
+        Transfer::LoadSigned => sign_extended(v, 8 * n, 64),
+        Transfer::LoadSigned32 => sign_extended(v, 8 * n, 32),
         _ => v,
     }
 }

@@ -1,11 +1,10 @@
-//! Sizes, signs and addresses.
-ghost use Rattle.std.specs.Prelude.{◌≡◌, ◌≤◌, ◌<◌, ◌^◌};
+//! Sizes and addresses.
+ghost use Rattle.std.specs.Prelude.{◌≡◌, ◌≤◌, ◌^◌};
 ghost use Rattle.emu_run.specs.LoadStore as table;
-ghost use Rattle.emu_run.specs.ScalarBits as bits;
 
 use crate::branches::offset;
 use core_regs::Core;
-use emu_bits::{Reg, U, sext};
+use emu_bits::{Reg, U, extended, sext};
 
 /// The bytes of an access: 1, 2, 4 or 8.
 pub(crate) fn bytes_of(size: U<2>) -> u32
@@ -18,40 +17,6 @@ pub(crate) fn bytes_of(size: U<2>) -> u32
         1 => 2,
         2 => 4,
         _ => 8,
-    }
-}
-
-/// The low n bits of a number, extended by their sign to 64 bits.
-pub(crate) fn sign_extended(v: u64, n: u32) -> u64
-    requires some { 1 ≤ n }
-    requires most { n ≤ 64 }
-    ensures { result ≡ bits.sign_extended 64 n v }
-{
-    sext(v, n).cast_unsigned()
-}
-
-/// The low n bits of a number, extended by their sign to 32 bits.
-pub(crate) fn sign_extended_32(v: u64, n: u32) -> u64
-    requires some { 1 ≤ n }
-    requires most { n ≤ 64 }
-    ensures { result ≡ bits.sign_extended 32 n v }
-{
-    sext(v, n).cast_unsigned() % 0x1_0000_0000
-}
-
-/// The low 8, 16, 32 or 64 bits, extended to 64 bits: 0 uxtb, 1 uxth, 2 uxtw, 3 uxtx, 4 sxtb, 5 sxth, 6 sxtw, 7 sxtx.
-pub(crate) fn extended(ext: U<3>, v: u64) -> u64
-    ensures { result ≡ bits.extended ext v }
-{
-    match ext.get() {
-        0 => v % 0x100,
-        1 => v % 0x1_0000,
-        2 => v % 0x1_0000_0000,
-        3 => v,
-        4 => sign_extended(v, 8),
-        5 => sign_extended(v, 16),
-        6 => sign_extended(v, 32),
-        _ => sign_extended(v, 64),
     }
 }
 

@@ -5,7 +5,7 @@ ghost use Rattle.std.specs.Prelude.{◌≡◌, ◌%◌, ◌^◌, ◌⊎◌};
 ghost use Rattle.emu_bits.specs.Flags.{cond_holds};
 ghost use Rattle.emu_model.specs.State.{IsSoundCore, read_x, read_x_sp, with_x, with_x_sp, with_pc, zero_core};
 
-use emu_bits::{Cond, Flags, Reg};
+use emu_bits::{Cond, Flags, Reg, low_bits};
 pub use emu_model::{Effect, Trap, TrapKind};
 use std::marker::Model;
 
@@ -156,14 +156,6 @@ impl Core {
     {
         self.monitor = m;
     }
-}
-
-/// The low 32 or 64 bits of a number.
-fn low_bits(v: u64, width: u32) -> u64
-    requires { (width ≡ 32) ⊎ (width ≡ 64) }
-    ensures { result ≡ v % 2 ^ width }
-{
-    if width == 32 { v & 0xFFFF_FFFF } else { v }
 }
 
 #[cfg(test)]

@@ -1,5 +1,5 @@
--- Element sizes, and conditions on the flags.
-use Rattle.std.specs.Prelude.{ℕ, [], ◌∷◌, get_or, Bool, true, false, not, ◌&&◌}
+-- Element sizes, the number of the flags, and conditions on them.
+use Rattle.std.specs.Prelude.{ℕ, ◌/◌, ◌%◌, nat_eq, [], ◌∷◌, get_or, Bool, true, false, not, ◌&&◌}
 use Rattle.emu_bits.specs.declared.flags.Esize.{Esize}
 use Rattle.emu_bits.specs.declared.flags.Esize.TheVariants.{B, H, S, D}
 use Rattle.emu_bits.specs.declared.flags.Flags.{Flags}
@@ -12,6 +12,10 @@ size_of B = 8
 size_of H = 16
 size_of S = 32
 size_of D = 64
+
+-- the flags of the number NZCV, N at the top
+abbrev pub flags_of_number : ℕ → Flags
+flags_of_number f = record { n = nat_eq (f / 8 % 2) 1; z = nat_eq (f / 4 % 2) 1; c = nat_eq (f / 2 % 2) 1; v = nat_eq (f % 2) 1 }
 
 -- the condition of a number below 16
 abbrev pub cond_of : ℕ → Cond

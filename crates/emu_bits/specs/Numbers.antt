@@ -1,5 +1,5 @@
--- Numbers of b bits: read as unsigned and as signed, quotients, saturation, and sums with flags.
-use Rattle.std.specs.Prelude.{ℕ, ◌+◌, ◌-◌, ◌%◌, ◌^◌, ◌==◌, ◌||◌, Bool, cond, nat_lt, nat_le, ℤ, pos, negsuc, ◌+ℤ◌, ◌-ℤ◌, neg_ℤ, int_lt, int_div, unsigned_abs}
+-- Numbers of b bits: read as unsigned and as signed, extensions, quotients, saturation, and sums with flags.
+use Rattle.std.specs.Prelude.{ℕ, ◌+◌, ◌-◌, ◌*◌, ◌%◌, ◌^◌, ◌==◌, ◌||◌, Bool, cond, if◌then◌else◌, nat_lt, nat_le, ℤ, pos, negsuc, ◌+ℤ◌, ◌-ℤ◌, neg_ℤ, int_lt, int_div, unsigned_abs}
 use Rattle.emu_bits.specs.declared.flags.Flags.{Flags}
 use Rattle.emu_bits.specs.Fields.{bit}
 
@@ -15,6 +15,18 @@ unsigned_int (negsuc n) b = 2 ^ b - 1 - n % 2 ^ b
 -- the same, less 2^b where that is 2^(b-1) or more
 abbrev pub signed : ℕ → ℕ → ℤ
 signed n b = cond (nat_lt (unsigned n b) (2 ^ (b - 1))) (pos (unsigned n b)) (pos (unsigned n b) -ℤ pos (2 ^ b))
+
+-- the low n bits of a number, extended by their sign to w bits
+abbrev pub sign_extended : ℕ → ℕ → ℕ → ℕ
+sign_extended w n a = unsigned_int (signed a n) w
+
+-- the bits that an extension takes, 8, 16, 32 or 64: 0 uxtb, 1 uxth, 2 uxtw, 3 uxtx, 4 sxtb, 5 sxth, 6 sxtw, 7 sxtx
+abbrev pub extended_bits : ℕ → ℕ
+extended_bits ext = 8 * 2 ^ (ext % 4)
+
+-- these low bits of a, extended to 64 bits
+abbrev pub extended : ℕ → ℕ → ℕ
+extended ext a = if nat_lt ext 4 then a % 2 ^ extended_bits ext else sign_extended 64 (extended_bits ext) a
 
 -- the quotient towards zero, and 0 by 0
 abbrev pub quotient : ℤ → ℤ → ℤ

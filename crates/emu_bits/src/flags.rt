@@ -1,6 +1,6 @@
 //! Condition flags, conditions and element sizes.
 ghost use Rattle.std.specs.Prelude.{◌≡◌};
-ghost use Rattle.emu_bits.specs.Flags.{size_of, cond_of, cond_holds};
+ghost use Rattle.emu_bits.specs.Flags.{size_of, flags_of_number, cond_of, cond_holds};
 
 use crate::fields::U;
 
@@ -11,6 +11,21 @@ pub struct Flags {
     pub z: bool,
     pub c: bool,
     pub v: bool,
+}
+
+impl Flags {
+    /// The flags of the number NZCV, N at the top, as a conditional compare's field and bits 31 to 28 of the system register have it.
+    pub fn of_number(number: U<4>) -> Self
+        ensures { result ≡ flags_of_number number }
+    {
+        let f = number.get();
+        Flags {
+            n: f / 8 % 2 == 1,
+            z: f / 4 % 2 == 1,
+            c: f / 2 % 2 == 1,
+            v: f % 2 == 1,
+        }
+    }
 }
 
 /// The sixteen conditions, in the order of their numbers 0 to 15.

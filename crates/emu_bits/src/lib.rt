@@ -10,7 +10,7 @@ pub mod words;
 pub use bitmasks::{bitmask, bitmask_fields};
 pub use fields::{Pred, PredLow, Reg, U};
 pub use flags::{Cond, Esize, Flags};
-pub use numbers::{add_flags, sext};
+pub use numbers::{add_flags, extended, low_bits, sext, sign_extended};
 pub use words::{Word, bits, flag, put};
 
 #[cfg(test)]
@@ -76,6 +76,10 @@ mod tests {
         assert_eq!(rt; sext(0x1ff, 9), -1);
         assert_eq!(rt; sext(0x0ff, 9), 255);
         assert_eq!(rt; sext(u64::MAX - 1, 64), -2);
+        assert_eq!(rt; low_bits(u64::MAX, 0), 0);
+        assert_eq!(rt; low_bits(u64::MAX, 64), u64::MAX);
+        assert_eq!(rt; sign_extended(0x1_8000, 16, 32), 0xffff_8000);
+        assert_eq!(rt; sign_extended(0x180, 8, 64), 0xffff_ffff_ffff_ff80);
         assert!(rt; U::<12>::new(4096).is_none());
         assert_eq!(rt; U::<12>::new(4095).map_or(0, |v| v.get()), 4095);
         assert!(rt; Pred::new(16).is_none());

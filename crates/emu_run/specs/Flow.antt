@@ -19,7 +19,7 @@ use Rattle.a64_insn.specs.declared.ops.ReadSysOp.TheVariants.{Tpidr, Nzcv, Dczid
 use Rattle.a64_insn.specs.declared.ops.WriteSysOp.{WriteSysOp}
 use Rattle.a64_insn.specs.declared.ops.WriteSysOp.TheVariants.{Tpidr as WriteTpidr, Nzcv as WriteNzcv}
 use Rattle.emu_bits.specs.Fields.{bit}
-use Rattle.emu_bits.specs.Flags.{cond_of, cond_holds}
+use Rattle.emu_bits.specs.Flags.{cond_of, cond_holds, flags_of_number}
 use Rattle.emu_bits.specs.Numbers.{signed, unsigned_int}
 use Rattle.emu_bits.specs.declared.flags.Flags.{Flags}
 use Rattle.emu_model.specs.declared.trap.TrapKind.TheVariants.{Break, Halt}
@@ -28,7 +28,6 @@ use Rattle.emu_model.specs.Access.{Memory, address}
 use Rattle.emu_model.specs.State.{Core, read_x, with_x}
 use Rattle.emu_run.specs.Done.{Done, quietly, went_well, branches, traps}
 use Rattle.emu_run.specs.Scalar.{width_of, operand}
-use Rattle.emu_run.specs.ScalarBits.{flags_of_number}
 
 -- ---- targets
 

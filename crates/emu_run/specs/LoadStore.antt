@@ -5,7 +5,7 @@ use Rattle.a64_insn.specs.declared.form.A64Form.TheVariants.{LsUnsigned, LsUnsca
 use Rattle.a64_insn.specs.declared.ops.OrderedOp.{OrderedOp}
 use Rattle.a64_insn.specs.declared.ops.OrderedOp.TheVariants.{Stlr, Ldar}
 use Rattle.emu_bits.specs.Fields.{bit}
-use Rattle.emu_bits.specs.Numbers.{signed}
+use Rattle.emu_bits.specs.Numbers.{signed, sign_extended, extended}
 use Rattle.emu_model.specs.declared.access.Kind.TheVariants.{Read as ReadKind, Write as WriteKind}
 use Rattle.emu_model.specs.declared.trap.TrapKind.TheVariants.{SpAlign, AccessAlign, Read, Write}
 use Rattle.emu_model.specs.declared.trap.Effect.TheVariants.{Next, Trap}
@@ -16,7 +16,6 @@ use Rattle.emu_run.specs.declared.transfer.Transfer.TheVariants.{Store, Load, Lo
 use Rattle.emu_run.specs.Done.{Done, traps}
 use Rattle.emu_run.specs.Elements.{Element, Reach, reach, with_stored, accesses_of}
 use Rattle.emu_run.specs.Flow.{offset, target}
-use Rattle.emu_run.specs.ScalarBits.{extended, sign_extended}
 
 -- ---- what is moved
 

@@ -33,12 +33,12 @@ use Rattle.a64_insn.specs.declared.ops.OneSourceOp.TheVariants.{Rbit, Rev16, Clz
 use Rattle.a64_insn.specs.declared.ops.RevOp.{RevOp}
 use Rattle.a64_insn.specs.declared.ops.RevOp.TheVariants.{RevW, RevX, Rev32}
 use Rattle.emu_bits.specs.Fields.{bit, field}
-use Rattle.emu_bits.specs.Flags.{cond_of, cond_holds}
-use Rattle.emu_bits.specs.Numbers.{signed, unsigned_int, sum_of, flags_of_sum}
+use Rattle.emu_bits.specs.Flags.{cond_of, cond_holds, flags_of_number}
+use Rattle.emu_bits.specs.Numbers.{signed, unsigned_int, sign_extended, extended, sum_of, flags_of_sum}
 use Rattle.emu_bits.specs.Bitmask.{bitmask_of}
 use Rattle.emu_bits.specs.declared.flags.Flags.{Flags}
 use Rattle.emu_model.specs.State.{Core, read_x, read_x_sp, with_x, with_x_sp}
-use Rattle.emu_run.specs.ScalarBits.{complement, difference, flags_of_result, flags_of_number, lsl, lsr, asr, ror, shifted, extracted, sign_extended, extended, replaced, field_from, field_bits, field_to, signed_product, upper_product, signed_upper_product, unsigned_quotient, signed_quotient, reversed_bits, reversed_bytes, leading_zeros, leading_copies}
+use Rattle.emu_run.specs.ScalarBits.{complement, difference, flags_of_result, lsl, lsr, asr, ror, shifted, extracted, replaced, field_from, field_bits, field_to, signed_product, upper_product, signed_upper_product, unsigned_quotient, signed_quotient, reversed_bits, reversed_bytes, leading_zeros, leading_copies}
 
 -- w is 64 where sf is 1, else 32
 abbrev pub width_of : Bool → ℕ

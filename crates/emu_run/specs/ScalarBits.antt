@@ -1,5 +1,5 @@
--- Operations on operands of w bits: complements, shifts, fields, extensions, products, quotients, and bits and bytes in another order.
-use Rattle.std.specs.Prelude.{ℕ, zero, suc, ◌+◌, ◌-◌, ◌*◌, ◌/◌, ◌%◌, ◌^◌, Bool, false, nat_eq, nat_le, nat_lt, if◌then◌else◌, ◌*ℤ◌}
+-- Operations on operands of w bits: complements, shifts, fields, products, quotients, and bits and bytes in another order.
+use Rattle.std.specs.Prelude.{ℕ, zero, suc, ◌+◌, ◌-◌, ◌*◌, ◌/◌, ◌%◌, ◌^◌, Bool, false, nat_eq, nat_le, if◌then◌else◌, ◌*ℤ◌}
 use Rattle.std.specs.Int.{int_shr}
 use Rattle.std.specs.Int.Count.{count_leading_zeros}
 use Rattle.emu_bits.specs.Numbers.{signed, unsigned_int, quotient}
@@ -22,10 +22,6 @@ top_bit w a = nat_le (2 ^ (w - 1)) a
 -- N and Z of a result of w bits, C and V 0
 abbrev pub flags_of_result : ℕ → ℕ → Flags
 flags_of_result w v = record { n = top_bit w v; z = nat_eq v 0; c = false; v = false }
-
--- the flags of the number NZCV, N at the top
-abbrev pub flags_of_number : ℕ → Flags
-flags_of_number f = record { n = nat_eq (f / 8 % 2) 1; z = nat_eq (f / 4 % 2) 1; c = nat_eq (f / 2 % 2) 1; v = nat_eq (f % 2) 1 }
 
 -- ---- shifts
 
@@ -52,20 +48,6 @@ ror w a k = extracted w a a (k % w)
 -- the shift of a field: 0 lsl, 1 lsr, 2 asr, 3 ror
 abbrev pub shifted : ℕ → ℕ → ℕ → ℕ → ℕ
 shifted w shift a k = if nat_eq shift 0 then lsl w a k else (if nat_eq shift 1 then lsr a k else (if nat_eq shift 2 then asr w a k else ror w a k))
-
--- ---- extensions: 0 uxtb, 1 uxth, 2 uxtw, 3 uxtx, 4 sxtb, 5 sxth, 6 sxtw, 7 sxtx
-
--- the low n bits of a number, extended by their sign to w bits
-abbrev pub sign_extended : ℕ → ℕ → ℕ → ℕ
-sign_extended w n a = unsigned_int (signed a n) w
-
--- 8, 16, 32 or 64 bits
-abbrev pub extended_bits : ℕ → ℕ
-extended_bits ext = 8 * 2 ^ (ext % 4)
-
--- the low bits of a, extended to 64 bits
-abbrev pub extended : ℕ → ℕ → ℕ
-extended ext a = if nat_lt ext 4 then a % 2 ^ extended_bits ext else sign_extended 64 (extended_bits ext) a
 
 -- ---- fields
 

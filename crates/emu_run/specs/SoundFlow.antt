@@ -13,7 +13,7 @@ use Rattle.a64_insn.specs.declared.ops.BarrierOp.{BarrierOp}
 use Rattle.a64_insn.specs.declared.ops.BarrierOp.TheVariants.{Clrex, Dsb, Dmb, Isb}
 use Rattle.a64_insn.specs.declared.ops.WriteSysOp.{WriteSysOp}
 use Rattle.a64_insn.specs.declared.ops.WriteSysOp.TheVariants.{Tpidr, Nzcv}
-use Rattle.emu_bits.specs.Flags.{cond_of, cond_holds}
+use Rattle.emu_bits.specs.Flags.{cond_of, cond_holds, flags_of_number}
 use Rattle.emu_bits.specs.Numbers.{signed, unsigned_int}
 use Rattle.emu_model.specs.declared.trap.TrapKind.TheVariants.{Break, Halt}
 use Rattle.emu_model.specs.Access.{Memory}
@@ -22,7 +22,6 @@ use Rattle.emu_model.specs.SoundLists.{all_read}
 use Rattle.emu_model.specs.State.{Core, read_x, read_x_sp, IsWord, IsSoundCore, IsSoundMemory}
 use Rattle.emu_run.specs.Flow.{offset, target, return_address, linked, branches_if, is_taken, tested_bit, digit, is_taken_by, system_value, with_system_value, branched, branched_to, excepted, after_barrier, flow}
 use Rattle.emu_run.specs.Scalar.{width_of, operand}
-use Rattle.emu_run.specs.ScalarBits.{flags_of_number}
 use Rattle.emu_run.specs.Done.{went_well, branches}
 use Rattle.emu_run.specs.SoundDone.{IsSoundDone, well_sound, branches_sound, traps_sound}
 
