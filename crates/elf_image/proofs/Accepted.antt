@@ -1,37 +1,23 @@
 -- The segments of a file without a fault are loadable.
-use Rattle.std.proofs.Common.{◌≡◌, ◌≢◌, ◌<◌, ◌≤◌, inl, inr, ℕ, zero, suc, ◌+◌, ◌-◌, ◌%◌, Bool, true, false, not, ◌&&◌, List, [], ◌∷◌, ◌++◌, length, Option, Some, None, Result, Ok, Err, refl, sym, ap, subst, ◌∙◌, arith, nat_eq, nat_lt, if◌then◌else◌}
+use Rattle.std.proofs.Common.{◌≡◌, ◌≢◌, ◌≤◌, inl, inr, ℕ, zero, suc, ◌+◌, ◌-◌, ◌%◌, Bool, true, false, not, ◌&&◌, List, [], ◌∷◌, ◌++◌, length, None, Ok, refl, sym, subst, ◌∙◌, arith, nat_eq, nat_lt, if◌then◌else◌}
 use Rattle.std.proofs.Math.ListN.{length-append}
 use Rattle.std.specs.List.{All, AllPairs}
-use Rattle.std.proofs.lemmas.Bool.{ltb-false, leb-true, eqb-true, eqb-false, not-false, not-true, or_parts, and_parts, and_cases}
+use Rattle.std.proofs.lemmas.Bool.{ltb-false, eqb-true, eqb-false, not-false, not-true, or_parts, and_parts, and_cases}
 use Rattle.std.proofs.lemmas.List.Elements.{All-nil, All-push, All-from_recursion}
 use Rattle.std.proofs.lemmas.List.Quantifiers.{all_pairs_push}
 use Rattle.std.specs.List.{AllByRecursion}
 use Rattle.emu_model.specs.declared.image.Segment.{Segment}
-use Rattle.emu_model.specs.declared.image.ElfFault.{ElfFault}
-use Rattle.emu_model.specs.declared.image.ElfFault.TheVariants.{TooShort, BadMagic, BadClass, BadData, BadVersion, BadType, BadMachine, BadHeaderSize, TooManySegments, NotYet}
-use Rattle.emu_model.specs.Image.{ProgramHeader, first_page, end_page, overlaps_any, share_a_page, segments_from, segment_fault, segment_of, unless_fault, with_segment, program_header, is_load, is_segment, is_outside, Image, elf, accepted_so_far, is_simple, image_or_fault, image_of, header_fault, has_magic, e_phnum, pages_of}
+use Rattle.emu_model.specs.declared.image.ElfFault.TheVariants.{TooShort, BadMagic, BadClass, BadData, BadVersion, BadType, BadMachine, BadHeaderSize, TooManySegments}
+use Rattle.emu_model.specs.Image.{ProgramHeader, first_page, end_page, overlaps_any, share_a_page, segments_from, segment_fault, segment_of, with_segment, program_header, is_load, is_segment, is_outside, Image, elf, image_or_fault, header_fault, has_magic, e_phnum}
+use Rattle.emu_model.specs.ImageLaws.{no_first, second_false, no_fault, segments_from-zero, segments_from-suc, image_parts, accepted_image}
 use Rattle.elf_image.specs.Loadable.{IsLoadable, AreLoadable, IsLoadableSegment, ShareNoPage}
-use Rattle.elf_image.proofs.Loops.{segments_from-end, segments_from-suc, segments_from-zero}
+use Rattle.elf_image.proofs.Loops.{segments_from-end}
 
 -- what holds of the segments so far, of which there are at most k
 pub record AreLoadableSoFar (file : List ℕ) (k : ℕ) (segments : List Segment) : Type 0 where
   pub few : length segments ≤ k
   pub sound : All (IsLoadableSegment file) segments
   pub apart : AllPairs ShareNoPage segments
-
--- ---- tests that didn't hold
-
-no_first : (b : Bool) (fault : ElfFault) (rest : Option ElfFault) → (if b then Some fault else rest) ≡ None → (b ≡ false) × (rest ≡ None)
-no_first true fault rest h = absurd (cc)
-no_first false fault rest h = (refl, h)
-
-no_fault : (o : Option ElfFault) (r : Result (List Segment) ElfFault) (x : List Segment) → unless_fault o r ≡ Ok x → (o ≡ None) × (r ≡ Ok x)
-no_fault None r x h = (refl, h)
-no_fault (Some fault) r x h = absurd (cc)
-
-second_false : (a b : Bool) → a ≡ true → (a && b) ≡ false → b ≡ false
-second_false true b t h = h
-second_false false b t h = absurd (cc)
 
 -- ---- a segment that shares no page with those before
 
@@ -126,35 +112,11 @@ few_headers file none =
     let f9 = no_first _ TooManySegments _ f8.1 in
     ltb-false 64 (e_phnum file) f9.0
 
-no_image_fault : (o : Option ElfFault) (r : Result Image ElfFault) (x : Image) → unless_fault o r ≡ Ok x → (o ≡ None) × (r ≡ Ok x)
-no_image_fault None r x h = (refl, h)
-no_image_fault (Some fault) r x h = absurd (cc)
-
-image_segments : (file : List ℕ) (r : Result (List Segment) ElfFault) (image : Image) → image_of file r ≡ Ok image → (r ≡ Ok image.segments) × (0 < length image.segments)
-image_segments file (Err fault) image h = absurd (cc)
-image_segments file (Ok []) image h = absurd (cc)
-image_segments file (Ok (s ∷ ss)) image h =
-    let e : s ∷ ss ≡ image.segments = cc in
-    (ap Ok e, subst (λ xs. 0 < length xs) e (omega arith))
-
-accepted_if : (t : Bool) (i image : Image) → (if t then Ok i else Err NotYet) ≡ Ok image → (t ≡ true) × (i ≡ image)
-accepted_if true i image h = (refl, (cc))
-accepted_if false i image h = absurd (cc)
-
-accepted_image : (file : List ℕ) (limit : ℕ) (r : Result Image ElfFault) (image : Image) → accepted_so_far file limit r ≡ Ok image → (r ≡ Ok image) × (pages_of image.segments ≤ limit)
-accepted_image file limit (Ok i) image h =
-    let e = accepted_if (is_simple file limit i) i image h in
-    let parts = and_parts _ _ (and_parts _ _ e.0).1 in
-    (ap Ok e.1, subst (λ (x : Image). pages_of x.segments ≤ limit) e.1 (leb-true _ _ parts.1))
-accepted_image file limit (Err TooShort) image h = absurd (cc)
-accepted_image file limit (Err BadMagic) image h = absurd (cc)
-accepted_image file limit (Err fault) image h = absurd (cc)
-
 -- An image that is accepted is loadable.
 pub loadable_image : (file : List ℕ) (limit : ℕ) (image : Image) → elf file limit ≡ Ok image → IsLoadable file limit image
 loadable_image file limit image h =
     let a = accepted_image file limit (image_or_fault file) image h in
-    let b = no_image_fault (header_fault file) _ image a.0 in
-    let c = image_segments file _ image b.1 in
-    let l = loadable_from file (e_phnum file) 0 0 [] image.segments c.0 (record { few = omega arith; sound = All-nil _; apart = λ x y d p q. absurd (omega arith) }) in
-    record { some = c.1; segments = record { few = omega (arith, l.few, few_headers file b.0); sound = l.sound; apart = l.apart }; within_limit = a.1 }
+    let b = no_fault (header_fault file) _ image a.0 in
+    let c = image_parts file _ image b.1 in
+    let l = loadable_from file (e_phnum file) 0 0 [] image.segments c.segments (record { few = omega arith; sound = All-nil _; apart = λ x y d p q. absurd (omega arith) }) in
+    record { some = c.some; segments = record { few = omega (arith, l.few, few_headers file b.0); sound = l.sound; apart = l.apart }; within_limit = a.1 }

@@ -4,6 +4,7 @@ use Rattle.std.specs.Prelude.{nat_le, nat_lt}
 use Rattle.std.proofs.lemmas.List.{at_drop_more}
 use Rattle.emu_model.specs.declared.image.Segment.{Segment}
 use Rattle.emu_model.specs.Image.{overlaps_any, share_a_page, headers_address, segments_from, segment_fault, unless_fault, with_segment, program_header, are_loads, is_load}
+use Rattle.emu_model.specs.ImageLaws.{segments_from-zero, segments_from-suc}
 
 pub overlaps_any-drop : (s : Segment) (ts : List Segment) (i : ℕ) (d : Segment) → i < length ts → overlaps_any s (drop i ts) ≡ (share_a_page s (get_or ts i d) || overlaps_any s (drop (i + 1) ts))
 overlaps_any-drop s ts i d h = at_drop_more (overlaps_any s) ts i d h
@@ -15,15 +16,6 @@ headers_address-drop phoff ss i d h = at_drop_more (headers_address phoff) ss i 
 -- at header i of n, with n - i left
 step : (n i : ℕ) → i < n → n - i ≡ suc (n - (i + 1))
 step n i h = omega arith
-
-pub segments_from-suc : (file : List ℕ) (i n : ℕ) (before : List Segment) → segments_from file i (suc n) before
-    ≡ unless_fault (segment_fault file before i (program_header file i)) (segments_from file (i + 1) n (with_segment before i (program_header file i)))
-unfolding segments_from
-segments_from-suc file i n before = refl
-
-pub segments_from-zero : (file : List ℕ) (i : ℕ) (before : List Segment) → segments_from file i 0 before ≡ Ok before
-unfolding segments_from
-segments_from-zero file i before = refl
 
 pub segments_from-at : (file : List ℕ) (i n : ℕ) (before : List Segment) → i < n → segments_from file i (n - i) before
     ≡ unless_fault (segment_fault file before i (program_header file i)) (segments_from file (i + 1) (n - (i + 1)) (with_segment before i (program_header file i)))

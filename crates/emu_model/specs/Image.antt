@@ -1,11 +1,9 @@
 -- An ELF64 executable for AArch64: its entry and its segments, or the first fault, in the order of the checks.
-use Rattle.std.specs.Prelude.{◌≡◌, ℕ, zero, suc, ◌+◌, ◌-◌, ◌*◌, ◌/◌, ◌%◌, ◌^◌, Bool, true, false, not, ◌&&◌, ◌||◌, List, [], ◌∷◌, ◌++◌, length, drop, take, Option, Some, None, Result, Ok, Err, nat_eq, nat_lt, nat_le, if◌then◌else◌, sum_by}
+use Rattle.std.specs.Prelude.{ℕ, zero, suc, ◌+◌, ◌-◌, ◌*◌, ◌/◌, ◌%◌, ◌^◌, Bool, true, false, not, ◌&&◌, ◌||◌, List, [], ◌∷◌, ◌++◌, length, drop, Option, Some, None, Result, Ok, Err, nat_eq, nat_lt, nat_le, if◌then◌else◌, sum_by}
 use Rattle.byteorder.specs.Endian.{little_number}
-use Rattle.std.proofs.Common.{refl}
-use Rattle.emu_model.specs.declared.access.Rights.{Rights}
 use Rattle.emu_model.specs.declared.image.Segment.{Segment}
 use Rattle.emu_model.specs.declared.image.ElfFault.{ElfFault}
-use Rattle.emu_model.specs.declared.image.ElfFault.TheVariants.{TooShort, BadMagic, BadClass, BadData, BadVersion, BadType, BadMachine, BadHeaderSize, TooManySegments, HeadersOutside, Interpreter, SegmentOutside, FileOverMemory, AddressOutside, NotCongruent, Overlap, NoSegments, TooManyPages, NotYet}
+use Rattle.emu_model.specs.declared.image.ElfFault.TheVariants.{TooShort, BadMagic, BadClass, BadData, BadVersion, BadType, BadMachine, BadHeaderSize, TooManySegments, HeadersOutside, Interpreter, SegmentOutside, FileOverMemory, AddressOutside, NotCongruent, Overlap, NoSegments, NotYet}
 
 -- e_entry, the address of the program headers in memory or 0, e_phnum, and the segments in the order of the headers
 pub record Image : Type 0 where

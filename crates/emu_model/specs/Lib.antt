@@ -2,6 +2,7 @@ pub mod Access
 pub mod AccessLaws
 pub mod CommandLine
 pub mod Image
+pub mod ImageLaws
 pub mod ByteMap
 pub mod Lengths
 pub mod Lists

@@ -1,15 +1,15 @@
 -- What an accepted image gives its opening state: where its segments lie, and how many pages they have.
-use Rattle.std.specs.Prelude.{◌≡◌, ◌<◌, ◌≤◌, ℕ, zero, suc, ◌+◌, Bool, true, false, ◌&&◌, nat_eq, nat_lt, List, [], ◌∷◌, ◌++◌, length, drop, Option, Some, None, Result, Ok, Err, if◌then◌else◌}
+use Rattle.std.specs.Prelude.{◌≡◌, ◌<◌, ◌≤◌, ℕ, zero, suc, ◌+◌, true, false, ◌&&◌, nat_eq, nat_lt, List, [], ◌∷◌, ◌++◌, length, drop, None, Ok, if◌then◌else◌}
 use Rattle.std.specs.List.{AllByRecursion}
-use Rattle.std.proofs.Common.{refl, ap, sym, subst, ◌∙◌, arith}
-use Rattle.std.proofs.lemmas.Bool.{ltb-false, leb-true, and_parts, or_parts}
+use Rattle.std.proofs.Common.{refl, sym, subst, ◌∙◌, arith}
+use Rattle.std.proofs.lemmas.Bool.{ltb-false, or_parts}
 use Rattle.std.proofs.lemmas.List.Elements.{All-from_recursion, recursion_from_All, All-drop}
 use Rattle.byteorder.specs.Numbers.{little_from-lt}
 use Rattle.emu_model.specs.declared.image.Segment.{Segment}
-use Rattle.emu_model.specs.declared.image.ElfFault.{ElfFault}
-use Rattle.emu_model.specs.declared.image.ElfFault.TheVariants.{TooShort, BadMagic, Interpreter, SegmentOutside, FileOverMemory, AddressOutside, NotYet}
-use Rattle.emu_model.specs.Image.{Image, ProgramHeader, e_entry, e_phnum, header_fault, program_header, segment_fault, segment_of, is_load, is_segment, is_outside, with_segment, unless_fault, segments_from, image_of, image_or_fault, pages_of, is_simple, accepted_so_far, elf}
+use Rattle.emu_model.specs.declared.image.ElfFault.TheVariants.{Interpreter, SegmentOutside, FileOverMemory, AddressOutside}
+use Rattle.emu_model.specs.Image.{Image, ProgramHeader, e_entry, e_phnum, header_fault, program_header, segment_fault, segment_of, is_load, is_segment, is_outside, with_segment, segments_from, image_of, image_or_fault, pages_of, elf}
 use Rattle.emu_model.specs.State.{IsWord, IsByte, AreBytes}
+use Rattle.emu_model.specs.ImageLaws.{no_first, second_false, no_fault, segments_from-zero, segments_from-suc, image_parts, accepted_image}
 use Rattle.emu_model.specs.SoundLists.{all_append, all_read}
 
 -- from 4,096 on and below 0x7F0000000000
@@ -26,14 +26,6 @@ pub record IsOpening (limit : ℕ) (image : Image) : Type 0 where
 
 -- ---- program headers without a fault
 
-no_first : (b : Bool) (fault : ElfFault) (others : Option ElfFault) → (if b then Some fault else others) ≡ None → (b ≡ false) × (others ≡ None)
-no_first true fault others h = absurd (cc)
-no_first false fault others h = (refl, h)
-
-second_false : (a b : Bool) → a ≡ true → (a && b) ≡ false → b ≡ false
-second_false true b t h = h
-second_false false b t h = absurd (cc)
-
 segment_placed : (file : List ℕ) (before : List Segment) (i : ℕ) (h : ProgramHeader) → segment_fault file before i h ≡ None → is_segment h ≡ true → IsPlaced (segment_of i h)
 segment_placed file before i h none is =
     let interpreter = no_first (nat_eq h.kind 3) (Interpreter i) _ none in
@@ -49,19 +41,6 @@ with_segment_placed file before i h none placed =
       | true ↦ λ is. all_append IsPlaced before (segment_of i h ∷ []) placed (segment_placed file before i h none is, tt)
       | false ↦ λ is. placed
     ] refl
-
-no_fault : {A : Type 0} (o : Option ElfFault) (r : Result A ElfFault) (x : A) → unless_fault o r ≡ Ok x → (o ≡ None) × (r ≡ Ok x)
-no_fault None r x h = (refl, h)
-no_fault (Some fault) r x h = absurd (cc)
-
-segments_from-zero : (file : List ℕ) (i : ℕ) (before : List Segment) → segments_from file i 0 before ≡ Ok before
-unfolding segments_from
-segments_from-zero file i before = refl
-
-segments_from-suc : (file : List ℕ) (i n : ℕ) (before : List Segment) → segments_from file i (suc n) before
-    ≡ unless_fault (segment_fault file before i (program_header file i)) (segments_from file (i + 1) n (with_segment before i (program_header file i)))
-unfolding segments_from
-segments_from-suc file i n before = refl
 
 segments_placed : (file : List ℕ) (n i : ℕ) (before segments : List Segment) → segments_from file i n before ≡ Ok segments → AllByRecursion IsPlaced before → AllByRecursion IsPlaced segments
 segments_placed file zero i before segments is placed =
@@ -80,34 +59,14 @@ entry_is_word file bytes =
     let rest : AreBytes (drop 24 file) = recursion_from_All IsByte (drop 24 file) (All-drop IsByte 24 file (All-from_recursion IsByte file bytes)) in
     little_from-lt 0 8 (drop 24 file) (λ k. all_read IsByte (drop 24 file) k 0 (omega arith) rest)
 
-image_placed : (file : List ℕ) (r : Result (List Segment) ElfFault) (image : Image) → image_of file r ≡ Ok image → (r ≡ Ok image.segments) × (0 < length image.segments) × (image.entry ≡ e_entry file)
-image_placed file (Err fault) image h = absurd (cc)
-image_placed file (Ok []) image h = absurd (cc)
-image_placed file (Ok (s ∷ ss)) image h =
-    let e : s ∷ ss ≡ image.segments = cc in
-    (ap Ok e, subst (λ (xs : List Segment). 0 < length xs) e (omega arith), (cc))
-
-accepted_if : (t : Bool) (i image : Image) → (if t then Ok i else Err NotYet) ≡ Ok image → (t ≡ true) × (i ≡ image)
-accepted_if true i image h = (refl, (cc))
-accepted_if false i image h = absurd (cc)
-
-accepted_image : (file : List ℕ) (limit : ℕ) (r : Result Image ElfFault) (image : Image) → accepted_so_far file limit r ≡ Ok image → (r ≡ Ok image) × (pages_of image.segments ≤ limit)
-accepted_image file limit (Ok i) image h =
-    let e = accepted_if (is_simple file limit i) i image h in
-    let parts = and_parts _ _ (and_parts _ _ e.0).1 in
-    (ap Ok e.1, subst (λ (x : Image). pages_of x.segments ≤ limit) e.1 (leb-true _ _ parts.1))
-accepted_image file limit (Err TooShort) image h = absurd (cc)
-accepted_image file limit (Err BadMagic) image h = absurd (cc)
-accepted_image file limit (Err fault) image h = absurd (cc)
-
 pub accepted_is_opening : (file : List ℕ) (limit : ℕ) (image : Image) → AreBytes file → elf file limit ≡ Ok image → IsOpening limit image
 accepted_is_opening file limit image bytes h =
     let a = accepted_image file limit (image_or_fault file) image h in
     let b = no_fault (header_fault file) (image_of file (segments_from file 0 (e_phnum file) [])) image a.0 in
-    let c = image_placed file (segments_from file 0 (e_phnum file) []) image b.1 in
+    let c = image_parts file (segments_from file 0 (e_phnum file) []) image b.1 in
     record {
-      entry = subst IsWord (sym c.2) (entry_is_word file bytes);
-      some = c.1;
-      placed = segments_placed file (e_phnum file) 0 [] image.segments c.0 tt;
+      entry = subst IsWord (sym c.entry) (entry_is_word file bytes);
+      some = c.some;
+      placed = segments_placed file (e_phnum file) 0 [] image.segments c.segments tt;
       within_limit = a.1;
     }

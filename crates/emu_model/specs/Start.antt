@@ -1,11 +1,11 @@
 -- The opening state of a program: its segments in memory, its registers and vectors 0.
-use Rattle.std.specs.Prelude.{ℕ, ◌+◌, ◌-◌, ◌*◌, Bool, ◌&&◌, List, [], ◌∷◌, map, flat_map, get_or, max, None, nat_le, nat_lt, if◌then◌else◌}
+use Rattle.std.specs.Prelude.{ℕ, ◌+◌, ◌-◌, ◌*◌, ◌&&◌, List, [], ◌∷◌, map, flat_map, get_or, max, None, nat_le, nat_lt, if◌then◌else◌}
 use Rattle.std.specs.List.{range_with_len}
 use Rattle.std.specs.Ordering.{nat_cmp}
 use Rattle.std.specs.FinMap.{FinMap, from_entries}
 use Rattle.emu_model.specs.declared.image.Segment.{Segment}
 use Rattle.emu_model.specs.declared.image.Break.{Break}
-use Rattle.emu_model.specs.Access.{Memory, Page}
+use Rattle.emu_model.specs.Access.{Page}
 use Rattle.emu_model.specs.Image.{Image, first_page, end_page, page_count}
 use Rattle.emu_model.specs.Lists.{each}
 use Rattle.emu_model.specs.State.{Parts, State, with_pc, zero_core, zero_vectors}

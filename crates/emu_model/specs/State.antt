@@ -1,5 +1,5 @@
 -- The state of a machine: registers, vectors, memory, the program break, how far it has come, and its streams.
-use Rattle.std.specs.Prelude.{◌≡◌, ◌≢◌, ◌<◌, ◌≤◌, ℕ, ◌/◌, ◌%◌, ◌^◌, Bool, false, List, [], ◌++◌, length, get_or, set, replicate, Option, Some, None, IfSome, IsSome, nat_eq, if◌then◌else◌, ◌⊎◌}
+use Rattle.std.specs.Prelude.{◌≡◌, ◌≢◌, ◌<◌, ◌≤◌, ℕ, ◌/◌, ◌%◌, ◌^◌, Bool, false, List, ◌++◌, length, get_or, set, replicate, Option, Some, None, IfSome, nat_eq, if◌then◌else◌}
 use Rattle.std.specs.List.{AllByRecursion}
 use Rattle.std.specs.FinMap.{get, len}
 use Rattle.std.specs.Coded.{Coded, code_by, coded×, coded_ℕ, coded_list, coded_bool, coded_option}
@@ -8,7 +8,6 @@ use Rattle.emu_bits.specs.declared.flags.Flags.{Flags}
 use Rattle.emu_model.specs.Access.{Memory, Page, coded_memory}
 use Rattle.emu_model.specs.Lengths.{IsVectorLength}
 use Rattle.emu_model.specs.declared.image.Break.{Break}
-use Rattle.emu_model.specs.declared.trap.Trap.{Trap}
 use Rattle.emu_model.specs.declared.trap.Ended.{Ended}
 use Rattle.emu_model.specs.declared.trap.Ended.TheVariants.{Exit, Trap as Trapped}
 use Rattle.emu_model.specs.contracts.trap.Ended as ended
