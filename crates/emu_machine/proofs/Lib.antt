@@ -1,5 +1,6 @@
 pub mod Turns
 pub mod Runs
+pub mod Stands
 pub mod CallLaws
 pub mod Bytes
 pub mod Loading

@@ -1,6 +1,7 @@
 //! The machine, its step and its run.
-ghost use Rattle.std.specs.Prelude.{◌≡◌, ◌<◌, ◌≤◌, ◌+◌, ◌-◌, ◌^◌, List, [], ℕ, IfSome, MatchOption, Option, Some, None, true, false};
+ghost use Rattle.std.specs.Prelude.{◌≡◌, ◌<◌, ◌≤◌, ◌+◌, ◌-◌, ◌^◌, List, [], ℕ, IfSome, MatchOption, Option, Some, None, is_none, true, false};
 ghost use Rattle.io_gate.specs.Streams.{Causes};
+ghost use Rattle.emu_model.specs.Start.{with_input};
 ghost use Rattle.emu_model.specs.State.{zero_vectors};
 ghost use Rattle.emu_run.specs.declared.insn.Insn.{Insn};
 ghost use Rattle.emu_run.specs.Run as runs;
@@ -251,7 +252,8 @@ impl Machine {
 
     /// Takes steps until the machine has ended or has counted `budget` steps in all, which is `Spent`.
     ///
-    /// After a fault of a stream the machine has ended. `OutOfMemory` leaves it as it was before the step that wanted memory.
+    /// After a fault of a stream the machine has ended. It then stands, as after `OutOfMemory`, before the step that wasn't done: it is
+    /// what a run with a budget of the steps counted so far leaves.
     /// The accesses are those of the last step that was taken, done or not, and as before where none was.
     pub fn run<I: Source, O: Sink, E: Sink>(
         &mut self,
@@ -270,6 +272,9 @@ impl Machine {
         ensures spent { result ≡ RunEnd.Spent → self.new.parts.steps ≡ budget }
         ensures accesses { IfSome (I.left input.old) (λ bytes. is_broken_off result ≡ false → self.new.accesses ≡ run_accesses self.old.accesses self.old.parts bytes budget) }
         ensures undone { is_broken_off result ≡ true → self.new.accesses ≡ model.accesses self.new.parts }
+        ensures kept { IfSome (I.left input.old) (λ bytes. is_broken_off result ≡ true → self.new.parts ≡ (runs.run (with_input self.old.parts bytes) self.new.parts.steps).parts) }
+        ensures unspent { is_broken_off result ≡ true → self.new.parts.steps < budget }
+        ensures unended { is_broken_off result ≡ true → is_none self.new.parts.ended ≡ true }
         ensures failed { self.new.failed ≡ run_failed result }
         ensures read_cause { Causes (result ≡ RunEnd.ReadFault) (I.faults input.old) (I.faults input.new) }
         ensures write_cause { Causes (result ≡ RunEnd.WriteFault) (O.faults output.old) (O.faults output.new) }

@@ -1,4 +1,4 @@
-use Rattle.std.proofs.Common.{◌≡◌, ◌<◌, ◌+◌, List, IfSome, refl, ap, sym, subst, ◌∙◌, arith, false}
+use Rattle.std.proofs.Common.{◌≡◌, ◌<◌, ◌+◌, List, IfSome, is_none, refl, ap, sym, subst, ◌∙◌, arith, true, false}
 use Rattle.emu_model.specs.declared.access.Access.{Access}
 use Rattle.emu_model.specs.State.{Parts}
 use Rattle.emu_run.specs.Step.{accesses, step}
@@ -6,6 +6,7 @@ use Rattle.emu_machine.specs.Accesses.{run_accesses}
 use Rattle.emu_machine.specs.Ends.{is_undone, is_broken_off}
 use Rattle.emu_machine.specs.Machines.{MachineState, MakesWrite}
 use Rattle.emu_machine.proofs.Logs.{Logs, logs_start, logs_on, logs_end, logs_as, logs_spent}
+use Rattle.emu_machine.proofs.Stands.{stands_start, stands_on, stands_kept, stands_as}
 use Rattle.emu_machine.proofs.Runs.{Ran, broken_as, leads_start, leads_on, leads_end, leads_spent, not_going, goes, goes_on_after, ran_as, ran_when, end_as, failed_as, last_step, causes_from}
 use Rattle.emu_machine.proofs.machine.Machine.run.Goals as goal
 
@@ -15,6 +16,7 @@ loop-self-init g c = record {
   within = c.requires.within;
   leads = leads_start _ _ _ _ _;
   logs = logs_start _ _ _ _;
+  stands = stands_start _ _;
   read = omega arith;
   write = omega arith;
   errors = omega arith;
@@ -37,6 +39,8 @@ loop-self-preserved g c =
       logs = subst (λ (log : List Access). Logs c.args.budget c.args.self.now.accesses c.args.self.now.parts (g.I.Source.left c.args.input.now) log q (g.I.Source.left c.step.new.input)) (sym c.step.ensures.accesses)
           (logs_on c.args.budget _ _ _ p _ _ _ _ _ q _ _ _ (goes p.ended c.loop-self.self.failed c.loop-self.invariant.going) below _ c.loop-self.invariant.leads
           (ran_when _ _ _ _ _ _ _ _ _ _ _ (ap is_undone c.in-Going.is) stepped) c.loop-self.invariant.logs counted);
+      stands = stands_on c.args.budget _ p _ _ _ _ _ q _ _ _ _ c.loop-self.invariant.leads
+          (ran_when _ _ _ _ _ _ _ _ _ _ _ (ap is_undone c.in-Going.is) stepped) (goes p.ended c.loop-self.self.failed c.loop-self.invariant.going) counted c.loop-self.invariant.stands;
       read = omega (arith, c.step.ensures.read_cause.later, c.loop-self.invariant.read);
       write = omega (arith, c.step.ensures.write_cause.later, c.loop-self.invariant.write);
       errors = omega (arith, c.step.ensures.errors_cause.later, c.loop-self.invariant.errors);
@@ -54,6 +58,7 @@ returns-in_default g c =
     (leads_end c.args.budget c.args.self.now.parts p q _ _ _ _ _ _ _ _ _ (is_undone c.step.result) c.loop-self.invariant.leads
     stepped (goes p.ended c.loop-self.self.failed c.loop-self.invariant.going) below
     (λ (fine : is_undone c.step.result ≡ false). not_going q.ended c.step.result (c.step.ensures.end fine) c.in_default.not-Going)) in
+    let kept : is_broken_off c.run_end_of.result ≡ true → q ≡ p = λ h. c.step.ensures.kept (broken_as c.step.result ∙ ap is_broken_off (sym c.run_end_of.ensures) ∙ h) in
     record {
       state = r.state;
       input = r.input;
@@ -64,7 +69,10 @@ returns-in_default g c =
           (λ (fine : is_undone c.step.result ≡ false). subst (λ (log : List Access). IfSome (g.I.Source.left c.args.input.now) (λ bytes. log ≡ run_accesses c.args.self.now.accesses c.args.self.now.parts bytes c.args.budget)) (sym c.step.ensures.accesses)
           (logs_end c.args.budget _ _ _ p _ _ _ _ _ q _ _ _ (goes p.ended c.loop-self.self.failed c.loop-self.invariant.going) below _ c.loop-self.invariant.leads
           (ran_when _ _ _ _ _ _ _ _ _ _ _ fine stepped) c.loop-self.invariant.logs (not_going q.ended c.step.result (c.step.ensures.end fine) c.in_default.not-Going)));
-      undone = λ h. c.step.ensures.accesses ∙ ap accesses (sym (c.step.ensures.kept (broken_as c.step.result ∙ ap is_broken_off (sym c.run_end_of.ensures) ∙ h)));
+      undone = λ h. c.step.ensures.accesses ∙ ap accesses (sym (kept h));
+      kept = stands_as _ p q _ _ kept (stands_kept c.args.budget _ p _ _ _ _ _ _ c.loop-self.invariant.leads c.loop-self.invariant.stands);
+      unspent = λ h. subst (λ (m : Parts). m.steps < c.args.budget) (sym (kept h)) below;
+      unended = λ h. ap (λ (m : Parts). is_none m.ended) (kept h) ∙ goes p.ended c.loop-self.self.failed c.loop-self.invariant.going;
       spent = λ h. absurd (c.in_default.not-Going (last_step c.step.result c.run_end_of.result _ c.run_end_of.ensures h));
       failed = failed_as c.step.result c.run_end_of.result c.step.new.self.failed c.run_end_of.ensures c.step.ensures.failed;
       read_cause = causes_from _ _ _ _ _ c.loop-self.invariant.read c.step.ensures.read_cause (last_step c.step.result c.run_end_of.result _ c.run_end_of.ensures);

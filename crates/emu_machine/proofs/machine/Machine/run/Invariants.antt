@@ -3,6 +3,7 @@ use Rattle.emu_run.specs.Run.{run}
 use Rattle.emu_machine.specs.Machines.{has_ended}
 use Rattle.emu_machine.proofs.Logs.{Logs}
 use Rattle.emu_machine.proofs.Runs.{Leads}
+use Rattle.emu_machine.proofs.Stands.{Stands}
 use Rattle.emu_machine.proofs.machine.Machine.run.Given as goal
 
 abbrev pub invariant-loop-self : goal.invariant-loop-self
@@ -12,6 +13,7 @@ invariant-loop-self g l = record {
   leads : Leads (λ s. run s l.budget) l.fn.self.parts l.self.parts (g.I.Source.left l.fn.input) (g.I.Source.left l.input)
       (g.O.Sink.held l.fn.output) (g.O.Sink.held l.output) (g.E.Sink.held l.fn.errors) (g.E.Sink.held l.errors);
   logs : Logs l.budget l.fn.self.accesses l.fn.self.parts (g.I.Source.left l.fn.input) l.self.accesses l.self.parts (g.I.Source.left l.input);
+  stands : Stands l.fn.self.parts (g.I.Source.left l.fn.input) l.self.parts (g.I.Source.left l.input);
   read : g.I.Source.faults l.fn.input ≤ g.I.Source.faults l.input;
   write : g.O.Sink.faults l.fn.output ≤ g.O.Sink.faults l.output;
   errors : g.E.Sink.faults l.fn.errors ≤ g.E.Sink.faults l.errors;
