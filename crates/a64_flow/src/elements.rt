@@ -110,8 +110,8 @@ pub(crate) fn single(
     }
 }
 
-#[tactic(auto, using(emu_model::specs::AccessLaws::refused_stored))]
 /// Stores two registers, one behind the other.
+#[tactic(auto, using(emu_model::specs::AccessLaws::refused_stored))]
 fn store_couple(
     core: &Core,
     mem: &mut Mem,

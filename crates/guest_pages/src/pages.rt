@@ -120,6 +120,7 @@ impl Pages {
         ensures found { Some result.now ≡ option_map (λ p. p.bytes) (map.get self.old.pages page) }
         ensures whole { length result.now ≡ 4096 }
     {
+        // a field is looked at, so that the proof may use what the pages keep to
         let _ = &self.limit;
         self.part_mut(page, 0, PAGE_BYTES)
     }
@@ -133,6 +134,7 @@ impl Pages {
         ensures length { length result.now ≡ count }
     {
         let i = mapped_place(&self.slots, page);
+        // for its clause: what the slot has are bytes
         let _bytes = told_bytes(&self.slots[i].bytes);
         self.slots[i].bytes.slice_mut(at..at + count)
     }
