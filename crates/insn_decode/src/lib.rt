@@ -3,17 +3,25 @@
 
 ghost use Rattle.std.specs.Prelude.{◌≡◌, IfSome, Some};
 ghost use Rattle.emu_run.specs.Step as model;
+ghost use Rattle.insn_decode.specs.OneRow.{OneRowOfAll};
 ghost use Rattle.insn_decode.specs.Words.{word_of};
 
 use a64_rows::{decode_a64, encode_a64};
+use emu_bits::bits;
 pub use emu_run::Insn;
+use sve_rows::{decode_sve, encode_sve};
 
 /// The instruction that a word is. None exactly where the word is in no row of a table.
 pub fn decode(w: u32) -> Option<Insn>
     ensures table { result ≡ model.decode w }
     ensures back { IfSome result (λ i. word_of i ≡ w) }
 {
-    decode_a64(w).map(Insn::A64)
+    // In each row of SVE bits 28 and 27 are 0, and in none of A64.
+    if bits(w, 28, 27) == 0 {
+        decode_sve(w).map(Insn::Sve)
+    } else {
+        decode_a64(w).map(Insn::A64)
+    }
 }
 
 /// The word of an instruction: its row's base word with the fields put in.
@@ -23,7 +31,23 @@ pub fn encode(i: &Insn) -> u32
 {
     match i {
         Insn::A64(i) => encode_a64(i),
+        Insn::Sve(i) => encode_sve(i),
     }
+}
+
+/// Over both tables together, no word is in two rows.
+pub fn one_row()
+    ensures { OneRowOfAll }
+{
+    a64_rows::one_row();
+    sve_rows::one_row();
+}
+
+/// An instruction is what its word decodes to.
+pub fn again(i: &Insn) -> Option<Insn>
+    ensures { result ≡ Some i.now }
+{
+    decode(encode(i))
 }
 
 #[cfg(test)]
