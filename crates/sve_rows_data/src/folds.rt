@@ -6,12 +6,12 @@ ghost use Rattle.sve_insn.specs.Folds.{reduce, count_elements, inc_x, inc_z, sat
 ghost use Rattle.sve_insn.specs.Table.{row_of};
 ghost use Rattle.sve_insn.specs.Seen.{seen};
 
+use emu_bits::{PredLow, Reg, U, Word, flag};
 use sve_insn::fold_words::{
     add_length_op, add_length_word, inc_x_op, inc_x_word, inc_z_op, inc_z_word, reduce_op,
     reduce_word, sat_x_op, sat_x_word, sat_z_op, sat_z_word,
 };
 use sve_insn::{AddLengthOp, IncOp, ReduceOp, SatOp, Sve, SveForm};
-use emu_bits::{PredLow, Reg, U, Word, flag};
 
 /// The instruction of `Reduce` that a word is.
 #[tactic(auto, unfolding(sve_insn::specs::Folds::reduce))]

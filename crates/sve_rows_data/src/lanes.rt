@@ -6,6 +6,7 @@ ghost use Rattle.sve_insn.specs.Lanes.{binary, binary_wide, shift_imm, unary, mu
 ghost use Rattle.sve_insn.specs.Table.{row_of};
 ghost use Rattle.sve_insn.specs.Seen.{seen};
 
+use emu_bits::{PredLow, Reg, U, Word, flag};
 use sve_insn::lane_words::{
     binary_op, binary_wide_op, binary_wide_word, binary_word, dot_indexed_op, dot_indexed_word,
     dot_op, dot_word, index_z_op, index_z_word, logic_z_op, logic_z_word, mul_add_d_op,
@@ -16,7 +17,6 @@ use sve_insn::{
     BinaryOp, DotIndexedOp, DotOp, IndexOp, LogicZOp, MulAddDOp, MulAddZOp, PlainOp, ShiftImmOp,
     ShiftOp, Sve, SveForm, UnaryOp,
 };
-use emu_bits::{PredLow, Reg, U, Word, flag};
 
 /// The instruction of `Binary` that a word is.
 #[tactic(auto, unfolding(sve_insn::specs::Lanes::binary))]

@@ -6,8 +6,8 @@ ghost use Rattle.sve_insn.specs.Memory.{gather_sx, gather_sx_scaled, gather_dx, 
 ghost use Rattle.sve_insn.specs.Table.{row_of};
 ghost use Rattle.sve_insn.specs.Seen.{seen};
 
-use sve_insn::{Sve, SveForm};
 use emu_bits::{PredLow, Reg, U, Word, flag};
+use sve_insn::{Sve, SveForm};
 
 /// The instruction of `GatherSx` that a word is.
 #[tactic(auto, unfolding(sve_insn::specs::Memory::gather_sx))]

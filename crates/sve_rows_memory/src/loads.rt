@@ -6,11 +6,11 @@ ghost use Rattle.sve_insn.specs.Memory.{load_z, load_p, load_imm, load_reg, load
 ghost use Rattle.sve_insn.specs.Table.{row_of};
 ghost use Rattle.sve_insn.specs.Seen.{seen};
 
+use emu_bits::{Pred, PredLow, Reg, U, Word};
 use sve_insn::memory_words::{
     load_many_imm_op, load_many_imm_word, load_many_reg_op, load_many_reg_word,
 };
 use sve_insn::{LoadManyOp, Sve, SveForm};
-use emu_bits::{Pred, PredLow, Reg, U, Word};
 
 /// The instruction of `LoadZ` that a word is.
 #[tactic(auto, unfolding(sve_insn::specs::Memory::load_z))]

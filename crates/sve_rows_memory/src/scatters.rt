@@ -6,8 +6,8 @@ ghost use Rattle.sve_insn.specs.Memory.{scatter_sx, scatter_sx_scaled, scatter_d
 ghost use Rattle.sve_insn.specs.Table.{row_of};
 ghost use Rattle.sve_insn.specs.Seen.{seen};
 
-use sve_insn::{Sve, SveForm};
 use emu_bits::{PredLow, Reg, U, Word, flag};
+use sve_insn::{Sve, SveForm};
 
 /// The instruction of `ScatterSx` that a word is.
 #[tactic(auto, unfolding(sve_insn::specs::Memory::scatter_sx))]

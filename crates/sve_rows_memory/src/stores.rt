@@ -6,11 +6,11 @@ ghost use Rattle.sve_insn.specs.Memory.{store_z, store_reg, store_imm, store_nt_
 ghost use Rattle.sve_insn.specs.Table.{row_of};
 ghost use Rattle.sve_insn.specs.Seen.{seen};
 
+use emu_bits::{Pred, PredLow, Reg, U, Word};
 use sve_insn::memory_words::{
     store_many_imm_op, store_many_imm_word, store_many_reg_op, store_many_reg_word,
 };
 use sve_insn::{StoreManyOp, Sve, SveForm};
-use emu_bits::{Pred, PredLow, Reg, U, Word};
 
 /// The instruction of `StoreZ` that a word is.
 #[tactic(auto, unfolding(sve_insn::specs::Memory::store_z))]

@@ -12,8 +12,8 @@ use crate::loads::{
     load_quad_reg_bits, load_reg_bits, load_z_bits,
 };
 use crate::scatters::{
-    scatter_d_bits, scatter_d_scaled_bits, scatter_dv_bits, scatter_dx_bits, scatter_dx_scaled_bits,
-    scatter_sv_bits, scatter_sx_bits, scatter_sx_scaled_bits,
+    scatter_d_bits, scatter_d_scaled_bits, scatter_dv_bits, scatter_dx_bits,
+    scatter_dx_scaled_bits, scatter_sv_bits, scatter_sx_bits, scatter_sx_scaled_bits,
 };
 use crate::stores::{
     store_imm_bits, store_many_imm_bits, store_many_reg_bits, store_nt_imm_bits, store_nt_reg_bits,

@@ -6,9 +6,9 @@ ghost use Rattle.sve_insn.specs.Lanes.{bitmask_z, copy_imm};
 ghost use Rattle.sve_insn.specs.Table.{row_of};
 ghost use Rattle.sve_insn.specs.Seen.{seen};
 
+use emu_bits::{Pred, Reg, U, Word, flag};
 use sve_insn::lane_words::{bitmask_z_op, bitmask_z_word};
 use sve_insn::{BitmaskZOp, Sve, SveForm};
-use emu_bits::{Pred, Reg, U, Word, flag};
 
 /// The instruction of `BitmaskZ` that a word is.
 #[tactic(auto, unfolding(sve_insn::specs::Lanes::bitmask_z))]

@@ -7,6 +7,7 @@ ghost use Rattle.sve_insn.specs.Folds.{dup_reg, dup_lane, insert_scalar, rev_z, 
 ghost use Rattle.sve_insn.specs.Table.{row_of};
 ghost use Rattle.sve_insn.specs.Seen.{seen};
 
+use emu_bits::{Pred, PredLow, Reg, U, Word};
 use sve_insn::fold_words::{
     cond_last_op, cond_last_word, copy_reg_op, copy_reg_word, insert_scalar_op, insert_scalar_word,
     interleave_op, interleave_p_op, interleave_p_word, interleave_word, last_active_op,
@@ -15,7 +16,6 @@ use sve_insn::fold_words::{
 use sve_insn::{
     CondLastOp, CopyRegOp, InsertOp, InterleaveOp, LastOp, Sve, SveForm, UnpackOp, UnpackPOp,
 };
-use emu_bits::{Pred, PredLow, Reg, U, Word};
 
 /// The instruction of `SelectZ` that a word is.
 #[tactic(auto, unfolding(sve_insn::specs::Lanes::select_z))]

@@ -6,12 +6,12 @@ ghost use Rattle.sve_insn.specs.Predicates.{cmp_vec, cmp_wide, cmp_u_imm, cmp_s_
 ghost use Rattle.sve_insn.specs.Table.{row_of};
 ghost use Rattle.sve_insn.specs.Seen.{seen};
 
+use emu_bits::{Pred, PredLow, Reg, U, flag};
 use sve_insn::predicate_words::{
     cmp_s_imm_op, cmp_s_imm_word, cmp_u_imm_op, cmp_u_imm_word, cmp_vec_op, cmp_vec_word,
     cmp_wide_op, cmp_wide_word, cterm_op, cterm_word, while_compare_op, while_compare_word,
 };
 use sve_insn::{CmpSImmOp, CmpUImmOp, CmpVecOp, CmpWideOp, CtermOp, Sve, SveForm, WhileOp};
-use emu_bits::{Pred, PredLow, Reg, U, flag};
 
 /// The instruction of `CmpVec` that a word is.
 #[tactic(auto, unfolding(sve_insn::specs::Predicates::cmp_vec))]

@@ -6,9 +6,9 @@ ghost use Rattle.sve_insn.specs.Lanes.{wide_imm, min_max_imm, dup_imm};
 ghost use Rattle.sve_insn.specs.Table.{row_of};
 ghost use Rattle.sve_insn.specs.Seen.{seen};
 
+use emu_bits::{Reg, U, Word, flag};
 use sve_insn::lane_words::{min_max_imm_op, min_max_imm_word, wide_imm_op, wide_imm_word};
 use sve_insn::{MinMaxImmOp, Sve, SveForm, WideImmOp};
-use emu_bits::{Reg, U, Word, flag};
 
 /// The instruction of `WideImm` that a word is.
 #[tactic(auto, unfolding(sve_insn::specs::Lanes::wide_imm))]
