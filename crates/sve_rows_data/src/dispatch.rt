@@ -31,7 +31,7 @@ pub fn find_data(w: u32) -> Option<Sve>
     }
 }
 
-/// Operations on two vectors, and dot products.
+/// Arithmetic and logic of two vectors, and dot products.
 fn words_of_operations_and_dots(w: u32) -> Option<Sve>
     ensures { seen result ≡ decode (binary ∷ plain ∷ dot ∷ dot_indexed ∷ []) w }
 {
@@ -76,7 +76,7 @@ fn words_of_sums_series_and_lengths(w: u32) -> Option<Sve>
     read_length(w)
 }
 
-/// Shifts, and operations under a predicate. Reversals of parts of a lane have these bits too, but where bits 31 to 24 are 05.
+/// Shifts. Reversals of parts of a lane have these bits too, with 05 in bits 31 to 24.
 fn words_of_shifts(w: u32) -> Option<Sve>
     ensures { seen result ≡ decode (binary ∷ binary_wide ∷ shift_imm ∷ unary ∷ plain_wide ∷ plain_shift ∷ []) w }
 {

@@ -23,7 +23,7 @@ pub fn data_word(form: &SveForm) -> Option<u32>
     if let Some(w) = product_word(form) {
         return Some(w);
     }
-    if let Some(w) = plain_word(form) {
+    if let Some(w) = unpredicated_word(form) {
         return Some(w);
     }
     if let Some(w) = copy_or_dot_word(form) {
@@ -99,7 +99,7 @@ fn product_word(form: &SveForm) -> Option<u32>
 }
 
 /// The word of an operation without a predicate, or of a series; none of another form.
-fn plain_word(form: &SveForm) -> Option<u32>
+fn unpredicated_word(form: &SveForm) -> Option<u32>
     ensures { MatchOption result (IsOutside 43 47 form.now) (λ w. IsWordOf form.now w) }
 {
     match *form {

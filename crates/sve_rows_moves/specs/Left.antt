@@ -6,8 +6,8 @@ use Rattle.sve_insn.specs.Lanes.{select_z}
 use Rattle.sve_insn.specs.Folds.{dup_reg, dup_lane, insert_scalar, rev_z, unpack, table_lookup, interleave, interleave_p, unpack_p, rev_p, compact, splice, ext, copy_reg, last_active, cond_last}
 
 -- bit 21 is 1: permutes and selections
-abbrev pub permutes : List (Line SveForm)
-permutes = select_z ∷ dup_reg ∷ dup_lane ∷ insert_scalar ∷ rev_z ∷ unpack ∷ table_lookup ∷ interleave ∷ interleave_p ∷ unpack_p ∷ rev_p ∷ compact ∷ splice ∷ ext ∷ copy_reg ∷ last_active ∷ cond_last ∷ []
+abbrev pub permutes_and_selections : List (Line SveForm)
+permutes_and_selections = select_z ∷ dup_reg ∷ dup_lane ∷ insert_scalar ∷ rev_z ∷ unpack ∷ table_lookup ∷ interleave ∷ interleave_p ∷ unpack_p ∷ rev_p ∷ compact ∷ splice ∷ ext ∷ copy_reg ∷ last_active ∷ cond_last ∷ []
 
 -- of the permutes, bits 15 to 14 are 00: moves of lanes without a predicate
 abbrev pub lane_moves : List (Line SveForm)

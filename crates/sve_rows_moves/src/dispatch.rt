@@ -5,7 +5,7 @@ ghost use Rattle.emu_bits.specs.Rows.{decode};
 ghost use Rattle.sve_insn.specs.Table.{move_lines};
 ghost use Rattle.sve_insn.specs.Lanes.{bitmask_z, copy_imm};
 ghost use Rattle.sve_insn.specs.Folds.{dup_reg, dup_lane, insert_scalar, rev_z, unpack, table_lookup, interleave, interleave_p, unpack_p, rev_p, compact, splice, copy_reg, last_active, cond_last};
-ghost use Rattle.sve_rows_moves.specs.Left.{permutes, lane_moves};
+ghost use Rattle.sve_rows_moves.specs.Left.{permutes_and_selections, lane_moves};
 ghost use Rattle.sve_insn.specs.Seen.{seen};
 
 use crate::immediates::{bitmask_z, copy_imm};
@@ -37,7 +37,7 @@ fn words_of_immediates(w: u32) -> Option<Sve>
 
 /// Permutes and selections, by bits 15 to 14.
 fn words_of_permutes(w: u32) -> Option<Sve>
-    ensures { seen result ≡ decode permutes w }
+    ensures { seen result ≡ decode permutes_and_selections w }
 {
     match bits(w, 15, 14) {
         0b00 => words_of_lane_moves(w),

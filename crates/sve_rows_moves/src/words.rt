@@ -20,7 +20,7 @@ pub fn move_word(form: &SveForm) -> Option<u32>
     if let Some(w) = lane_move_word(form) {
         return Some(w);
     }
-    if let Some(w) = interleave_word(form) {
+    if let Some(w) = interleaving_word(form) {
         return Some(w);
     }
     active_lane_word(form)
@@ -73,7 +73,7 @@ fn lane_move_word(form: &SveForm) -> Option<u32>
 }
 
 /// The word of an interleaving, or of a move within a predicate; none of another form.
-fn interleave_word(form: &SveForm) -> Option<u32>
+fn interleaving_word(form: &SveForm) -> Option<u32>
     ensures { MatchOption result (IsOutside 69 72 form.now) (λ w. IsWordOf form.now w) }
 {
     match *form {

@@ -10,8 +10,8 @@ abbrev pub predicates_and_immediates : List (Line SveForm)
 predicates_and_immediates = cmp_s_imm ∷ logic_p ∷ select_p ∷ break_first ∷ break_pair ∷ break_next ∷ ptest ∷ first_active ∷ next_active ∷ ptrue ∷ pfalse ∷ read_ffr ∷ read_ffr_all ∷ write_ffr ∷ count_p ∷ inc_p ∷ inc_p_z ∷ while_compare ∷ cterm ∷ wide_imm ∷ min_max_imm ∷ dup_imm ∷ []
 
 -- of these, bit 21 is 0: compares with a signed immediate, and operations on predicates
-abbrev pub predicates : List (Line SveForm)
-predicates = cmp_s_imm ∷ logic_p ∷ select_p ∷ break_first ∷ break_pair ∷ break_next ∷ ptest ∷ first_active ∷ next_active ∷ ptrue ∷ pfalse ∷ read_ffr ∷ read_ffr_all ∷ []
+abbrev pub signed_compares_and_predicates : List (Line SveForm)
+signed_compares_and_predicates = cmp_s_imm ∷ logic_p ∷ select_p ∷ break_first ∷ break_pair ∷ break_next ∷ ptest ∷ first_active ∷ next_active ∷ ptrue ∷ pfalse ∷ read_ffr ∷ read_ffr_all ∷ []
 
 -- of these, bits 15 to 14 are 11: breaks of pairs, and operations on one predicate
 abbrev pub pairs_and_single_predicates : List (Line SveForm)

@@ -5,7 +5,7 @@ ghost use Rattle.emu_bits.specs.Rows.{decode};
 ghost use Rattle.sve_insn.specs.Table.{predicate_lines};
 ghost use Rattle.sve_insn.specs.Lanes.{wide_imm, min_max_imm, dup_imm};
 ghost use Rattle.sve_insn.specs.Predicates.{cmp_vec, cmp_wide, cmp_u_imm, logic_p, select_p, break_first, break_next, first_active, next_active, ptrue, pfalse, read_ffr, read_ffr_all, write_ffr, count_p, inc_p, inc_p_z, while_compare, cterm};
-ghost use Rattle.sve_rows_predicates.specs.Left.{predicates_and_immediates, predicates, pairs_and_single_predicates, single_predicates, counts_and_immediates};
+ghost use Rattle.sve_rows_predicates.specs.Left.{predicates_and_immediates, signed_compares_and_predicates, pairs_and_single_predicates, single_predicates, counts_and_immediates};
 ghost use Rattle.sve_insn.specs.Seen.{seen};
 
 use crate::compares::{cmp_s_imm, cmp_u_imm, cmp_vec, cmp_wide, cterm, while_compare};
@@ -54,7 +54,7 @@ fn words_of_predicates_and_immediates(w: u32) -> Option<Sve>
 
 /// Compares with a signed immediate, and operations on predicates, by bits 15 to 14.
 fn words_of_predicates(w: u32) -> Option<Sve>
-    ensures { seen result ≡ decode predicates w }
+    ensures { seen result ≡ decode signed_compares_and_predicates w }
 {
     match bits(w, 15, 14) {
         0b00 => cmp_s_imm(w),
