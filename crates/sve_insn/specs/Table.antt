@@ -170,7 +170,7 @@ meets_predicates (WriteFfr op pn) = write_ffr_holds_for (write_ffr_number op) pn
 meets_predicates (IncPZ op size pm zdn) = is_no_byte size
 meets_predicates f = meets_memory f
 
--- the condition of a line of folds, counts, permutes, or of those; other lines have none here
+-- the condition of a line of folds, counts, permutes, predicates, or loads and stores; other lines have none here
 abbrev pub meets_folds : SveForm → Bool
 meets_folds (Reduce op size pg zn vd) = reduce_holds_for (reduce_number op) size
 meets_folds (IncZ op size imm4 pattern zdn) = is_no_byte size

@@ -15,10 +15,13 @@ use std::marker::Model;
 
 /// An instruction's form: the line of the table and the raw bits of its fields, highest first.
 ///
-/// Lanes have 8·2^size bits: size is 0 b, 1 h, 2 s, 3 d, and T in the operands is that letter. Fields are named by their
-/// operands: zd, zdn, zda, zt, zn, zm, za number vector registers, pd, pdn, pdm, pt, pn, pm predicates, pg the governing
-/// predicate, rd, rdn, rn, rm general registers. A lane is active where its bit of pg is set. Patterns: 0 pow2, 1 to 8 vl1
-/// to vl8, 9 to 13 vl16 to vl256, 29 mul4, 30 mul3, 31 all, others count no lane.
+/// Lanes have 8·2^size bits: size is 0 b, 1 h, 2 s, 3 d, and T in the operands is that letter. zd, zdn, zda, zt, zn, zm and
+/// za are vector registers, vd the low lane of one, pd, pdn, pdm, pt, pn and pm predicates, rd, rdn, rn and rm general
+/// registers. A lane is active where its bit of the governing predicate pg is set; /m keeps the other lanes, /z makes them 0.
+/// A pattern is 0 pow2, 1 to 8 vl1 to vl8, 9 to 13 vl16 to vl256, 29 mul4, 30 mul3, 31 all; others count no lane.
+///
+/// Elements of memory have 2^msz bytes, #s is msz, and Xn is rn, whose number 31 is SP. In gathers u is true where the sign
+/// isn't extended, and ff in first-faulting ones (`ldff1`).
 #[derive(Clone, Copy)]
 #[rattlefmt::skip]
 pub enum SveForm {
@@ -62,8 +65,8 @@ pub enum SveForm {
     /// added to Zda.
     Dot { op: DotOp, size: U<2>, zm: Reg, zn: Reg, zda: Reg },
     /// `sdot`, `udot Zda.s, Zn.b, Zm.b[i]`, `sdot`, `udot Zda.d, Zn.h, Zm.h[i]`: the same with the quarters of lane i
-    /// in each 128 bits of Zm; i_zm is i above the number of Zm, 2 and 3 bits for lanes of 32 bits, 1 and 4 bits for
-    /// lanes of 64.
+    /// of the same 128 bits of Zm; i_zm is i above the number of Zm, which have 2 and 3 bits for lanes of 32 bits, 1
+    /// and 4 bits for lanes of 64.
     DotIndexed { op: DotIndexedOp, i_zm: U<5>, zn: Reg, zda: Reg },
     /// `add`, `sub`, `subr`, `sqadd`, `uqadd`, `sqsub`, `uqsub Zdn.T, Zdn.T, #i{, lsl #0}`: sums and differences with
     /// the unsigned imm8, which sh shifts by 8; those with sq or uq before them saturate, subr subtracts from the
@@ -74,8 +77,8 @@ pub enum SveForm {
     MinMaxImm { op: MinMaxImmOp, size: U<2>, imm8: U<8>, zdn: Reg },
     /// `dup Zd.T, #i{, lsl #0}`: the signed imm8, which sh shifts by 8, in each lane.
     DupImm { size: U<2>, sh: bool, imm8: U<8>, zd: Reg },
-    /// `orr`, `eor`, `and Zdn.d, Zdn.d, #m`, `dupm Zd.d, #m`: with a bitmask immediate of 64 bits; dupm puts it in
-    /// each lane.
+    /// `orr`, `eor`, `and Zdn.d, Zdn.d, #m`, `dupm Zd.d, #m`: logical operations with a bitmask immediate of 64 bits,
+    /// of the fields n, immr and imms; dupm puts it in each lane.
     BitmaskZ { op: BitmaskZOp, n: bool, immr: U<6>, imms: U<6>, zdn: Reg },
     /// `cpy Zd.T, Pg/m, #i{, lsl #0}`, `cpy Zd.T, Pg/z, #i{, lsl #0}`: the signed imm8, which sh shifts by 8, in
     /// active lanes; the others are kept where m is true (/m), else 0.
@@ -90,8 +93,8 @@ pub enum SveForm {
     /// `saddv`, `uaddv`, `smaxv`, `umaxv`, `sminv`, `uminv`, `orv`, `eorv`, `andv Vd, Pg, Zn.T`: the sum, greatest,
     /// smallest, or, exclusive or, and of the active lanes; sums have 64 bits, and saddv is of lanes below 64 bits.
     Reduce { op: ReduceOp, size: U<2>, pg: PredLow, zn: Reg, vd: Reg },
-    /// `cntb Xd{, all, mul #1}` and with h, w, d by size: the number of lanes that the pattern counts, times imm4 +
-    /// 1.
+    /// `cntb Xd{, all, mul #1}` and with h, w, d by size: imm4 plus 1, times the number of lanes that the pattern
+    /// counts.
     Count { size: U<2>, imm4: U<4>, pattern: U<5>, rd: Reg },
     /// `incb`, `decb Xdn{, all, mul #1}` and with h, w, d by size: that number added to a register, or subtracted.
     IncX { op: IncOp, size: U<2>, imm4: U<4>, pattern: U<5>, rdn: Reg },
@@ -146,18 +149,18 @@ pub enum SveForm {
     /// that one (lastb), to a general or a vector register as op says.
     Last { op: LastOp, size: U<2>, pg: PredLow, zn: Reg, rd: Reg },
     /// `clasta`, `clastb Rdn, Pg, Rdn, Zm.T`, `clasta`, `clastb Vdn, Pg, Vdn, Zm.T`, `clasta`, `clastb Zdn.T, Pg,
-    /// Zdn.T, Zm.T`: the same lane where one is active, else the destination; zdn numbers a general or a vector
-    /// register, or one whose lanes all get it, as op says.
+    /// Zdn.T, Zm.T`: the same lane where one is active, else the destination's low lane; zdn numbers a general or a
+    /// vector register, or a vector register whose lanes all get it and that stays where none is active, as op says.
     CondLast { op: CondLastOp, size: U<2>, pg: PredLow, zm: Reg, zdn: Reg },
-    /// `cmphs`, `cmphi`, `cmpge`, `cmpgt`, `cmpeq`, `cmpne Pd.T, Pg/z, Zn.T, Zm.T`: comparisons of lanes, with flags.
+    /// `cmphs`, `cmphi`, `cmpge`, `cmpgt`, `cmpeq`, `cmpne Pd.T, Pg/z, Zn.T, Zm.T`: comparisons of lanes, which set
+    /// the flags, as all comparisons do.
     CmpVec { op: CmpVecOp, size: U<2>, zm: Reg, pg: PredLow, zn: Reg, pd: Pred },
     /// `cmpeq`, `cmpne`, `cmpge`, `cmpgt`, `cmplt`, `cmple`, `cmphs`, `cmphi`, `cmplo`, `cmpls Pd.T, Pg/z, Zn.T,
-    /// Zm.d`: comparisons of lanes below 64 bits with the 64-bit lane of Zm that covers each, with flags.
+    /// Zm.d`: comparisons of lanes below 64 bits with the 64-bit lane of Zm that covers each.
     CmpWide { op: CmpWideOp, size: U<2>, zm: Reg, pg: PredLow, zn: Reg, pd: Pred },
-    /// `cmphs`, `cmphi`, `cmplo`, `cmpls Pd.T, Pg/z, Zn.T, #i`: comparisons with the unsigned imm7, with flags.
+    /// `cmphs`, `cmphi`, `cmplo`, `cmpls Pd.T, Pg/z, Zn.T, #i`: comparisons with the unsigned imm7.
     CmpUImm { op: CmpUImmOp, size: U<2>, imm7: U<7>, pg: PredLow, zn: Reg, pd: Pred },
-    /// `cmpge`, `cmpgt`, `cmplt`, `cmple`, `cmpeq`, `cmpne Pd.T, Pg/z, Zn.T, #i`: comparisons with the signed imm5,
-    /// with flags.
+    /// `cmpge`, `cmpgt`, `cmplt`, `cmple`, `cmpeq`, `cmpne Pd.T, Pg/z, Zn.T, #i`: comparisons with the signed imm5.
     CmpSImm { op: CmpSImmOp, size: U<2>, imm5: U<5>, pg: PredLow, zn: Reg, pd: Pred },
     /// `and`, `bic`, `eor`, `orr`, `orn`, `nor`, `nand Pd.b, Pg/z, Pn.b, Pm.b`: logical operations of predicates; s
     /// (an s behind the name) sets the flags.
@@ -173,11 +176,11 @@ pub enum SveForm {
     BreakPair { op: BreakPairOp, s: bool, pm: Pred, pg: Pred, pn: Pred, pd: Pred },
     /// `brkn Pdm.b, Pg/z, Pn.b, Pdm.b`: Pdm where Pn is 1 at the last active bit, else 0; s sets the flags.
     BreakNext { s: bool, pg: Pred, pn: Pred, pdm: Pred },
-    /// `ptest Pg, Pn.b`: the flags of a predicate.
+    /// `ptest Pg, Pn.b`: the flags of a predicate's active bits.
     Ptest { pg: Pred, pn: Pred },
-    /// `pfirst Pdn.b, Pg, Pdn.b`: the first active bit is set, with flags.
+    /// `pfirst Pdn.b, Pg, Pdn.b`: the first active bit is set, and the flags too.
     First { pg: Pred, pdn: Pred },
-    /// `pnext Pdn.T, Pg, Pdn.T`: the first active lane after the last set one, alone, with flags.
+    /// `pnext Pdn.T, Pg, Pdn.T`: the first active lane after the last one that is set, alone, and the flags.
     Next { size: U<2>, pg: Pred, pdn: Pred },
     /// `ptrue`, `ptrues Pd.T{, all}`: the lanes that a pattern counts; ptrues sets the flags.
     Ptrue { op: PtrueOp, size: U<2>, pattern: U<5>, pd: Pred },
@@ -191,26 +194,27 @@ pub enum SveForm {
     WriteFfr { op: WriteFfrOp, pn: Pred },
     /// `cntp Xd, Pg, Pn.T`: the number of active lanes that are set.
     CountP { size: U<2>, pg: Pred, pn: Pred, rd: Reg },
-    /// `incp`, `decp Xdn, Pm.T`: the number of set lanes added to a register, or subtracted.
+    /// `incp`, `decp Xdn, Pm.T`: the number of lanes set in Pm, added to a register or subtracted.
     IncP { op: IncPOp, size: U<2>, pm: Pred, rdn: Reg },
-    /// `incp`, `decp Zdn.T, Pm.T`: the number of set lanes added to each lane, or subtracted.
+    /// `incp`, `decp Zdn.T, Pm.T`: the number of lanes set in Pm, added to each lane or subtracted.
     IncPZ { op: IncPOp, size: U<2>, pm: Pred, zdn: Reg },
     /// `whilelt`, `whilele`, `whilelo`, `whilels Pd.T, Rn, Rm`: the lanes below the first k at which Rn + k isn't
-    /// less than Rm, or not less or equal; signed (lt, le) or not (lo, ls), of 64 bits where sf is true; with flags.
+    /// less than Rm, or less or equal; signed (lt, le) or unsigned (lo, ls), of 64 bits where sf is true, else 32;
+    /// and the flags.
     While { op: WhileOp, size: U<2>, rm: Reg, sf: bool, rn: Reg, pd: Pred },
-    /// `ctermeq`, `ctermne Rn, Rm`: N and V tell whether two registers are equal, or different; of 64 bits where sf
-    /// is true.
+    /// `ctermeq`, `ctermne Rn, Rm`: N and V tell whether two registers are equal, or different, at 64 bits where sf
+    /// is true, else 32.
     Cterm { op: CtermOp, sf: bool, rm: Reg, rn: Reg },
-    /// `ld1 {Zt.T}, Pg/z, [Xn|SP{, #0, mul vl}]`: a load; dtype says the sizes of an element in memory and of a lane,
-    /// and whether the sign is extended; imm4 is signed.
+    /// `ld1 {Zt.T}, Pg/z, [Xn|SP{, #0, mul vl}]`: a load; dtype 0 to 15 is b to b, h, s, d; sw to d; h to h, s, d; sh
+    /// to d, s; w to s, d; sb to d, s, h; d to d: from memory to a lane, s with the sign extended. imm4 is signed.
     LoadImm { dtype: U<4>, imm4: U<4>, pg: PredLow, rn: Reg, zt: Reg },
     /// `ld1 {Zt.T}, Pg/z, [Xn|SP, Xm, lsl #s]`: the same, with an offset in a register.
     LoadReg { dtype: U<4>, rm: Reg, pg: PredLow, rn: Reg, zt: Reg },
-    /// `ldff1 {Zt.T}, Pg/z, [Xn|SP, Xm, lsl #s]`: a first-faulting load; rm 31 is zero.
+    /// `ldff1 {Zt.T}, Pg/z, [Xn|SP, Xm, lsl #s]`: the same, first-faulting; an offset register 31 is zero.
     LoadFf { dtype: U<4>, rm: Reg, pg: PredLow, rn: Reg, zt: Reg },
-    /// `ldnf1 {Zt.T}, Pg/z, [Xn|SP{, #0, mul vl}]`: a non-faulting load.
+    /// `ldnf1 {Zt.T}, Pg/z, [Xn|SP{, #0, mul vl}]`: a load as of `LoadImm`, non-faulting.
     LoadNf { dtype: U<4>, imm4: U<4>, pg: PredLow, rn: Reg, zt: Reg },
-    /// `ldnt1 {Zt.T}, Pg/z, [Xn|SP{, #0, mul vl}]`: a load of lanes of 2^msz bytes.
+    /// `ldnt1 {Zt.T}, Pg/z, [Xn|SP{, #0, mul vl}]`: a non-temporal load of lanes of 2^msz bytes; imm4 is signed.
     LoadNtImm { msz: U<2>, imm4: U<4>, pg: PredLow, rn: Reg, zt: Reg },
     /// `ldnt1 {Zt.T}, Pg/z, [Xn|SP, Xm, lsl #s]`: the same, with an offset in a register.
     LoadNtReg { msz: U<2>, rm: Reg, pg: PredLow, rn: Reg, zt: Reg },
@@ -220,12 +224,12 @@ pub enum SveForm {
     /// `ld1rq {Zt.T}, Pg/z, [Xn|SP, Xm, lsl #s]`: the same, with an offset in a register.
     LoadQuadReg { msz: U<2>, rm: Reg, pg: PredLow, rn: Reg, zt: Reg },
     /// `ld2`, `ld3`, `ld4 {Zt.T, ..}, Pg/z, [Xn|SP{, #0, mul vl}]`: lanes of 2^msz bytes of two, three or four
-    /// registers from zt on, their elements in turn.
+    /// registers from zt on, their elements in turn; imm4, signed, counts all of them.
     LoadManyImm { op: LoadManyOp, msz: U<2>, imm4: U<4>, pg: PredLow, rn: Reg, zt: Reg },
     /// `ld2`, `ld3`, `ld4 {Zt.T, ..}, Pg/z, [Xn|SP, Xm, lsl #s]`: the same, with an offset in a register.
     LoadManyReg { op: LoadManyOp, msz: U<2>, rm: Reg, pg: PredLow, rn: Reg, zt: Reg },
-    /// `ld1r {Zt.T}, Pg/z, [Xn|SP{, #0}]`: one element to all active lanes; dtypeh:dtypel says the sizes and the
-    /// extension, imm6 counts elements.
+    /// `ld1r {Zt.T}, Pg/z, [Xn|SP{, #0}]`: one element to all active lanes; dtypeh:dtypel is the dtype of `LoadImm`,
+    /// and imm6 counts elements.
     LoadOne { dtypeh: U<2>, imm6: U<6>, dtypel: U<2>, pg: PredLow, rn: Reg, zt: Reg },
     /// `ldr Zt, [Xn|SP{, #0, mul vl}]`: a load of a whole vector register; imm9h:imm9l is signed.
     LoadZ { imm9h: U<6>, imm9l: U<3>, rn: Reg, zt: Reg },
@@ -236,12 +240,12 @@ pub enum SveForm {
     StoreImm { msz: U<2>, size: U<2>, imm4: U<4>, pg: PredLow, rn: Reg, zt: Reg },
     /// `st1 {Zt.T}, Pg, [Xn|SP, Xm, lsl #s]`: the same, with an offset in a register.
     StoreReg { msz: U<2>, size: U<2>, rm: Reg, pg: PredLow, rn: Reg, zt: Reg },
-    /// `stnt1 {Zt.T}, Pg, [Xn|SP{, #0, mul vl}]`: a store of lanes of 2^msz bytes.
+    /// `stnt1 {Zt.T}, Pg, [Xn|SP{, #0, mul vl}]`: a non-temporal store of lanes of 2^msz bytes; imm4 is signed.
     StoreNtImm { msz: U<2>, imm4: U<4>, pg: PredLow, rn: Reg, zt: Reg },
     /// `stnt1 {Zt.T}, Pg, [Xn|SP, Xm, lsl #s]`: the same, with an offset in a register.
     StoreNtReg { msz: U<2>, rm: Reg, pg: PredLow, rn: Reg, zt: Reg },
     /// `st2`, `st3`, `st4 {Zt.T, ..}, Pg, [Xn|SP{, #0, mul vl}]`: lanes of 2^msz bytes of two, three or four
-    /// registers from zt on, their elements in turn.
+    /// registers from zt on, their elements in turn; imm4, signed, counts all of them.
     StoreManyImm { op: StoreManyOp, msz: U<2>, imm4: U<4>, pg: PredLow, rn: Reg, zt: Reg },
     /// `st2`, `st3`, `st4 {Zt.T, ..}, Pg, [Xn|SP, Xm, lsl #s]`: the same, with an offset in a register.
     StoreManyReg { op: StoreManyOp, msz: U<2>, rm: Reg, pg: PredLow, rn: Reg, zt: Reg },
@@ -249,43 +253,42 @@ pub enum SveForm {
     StoreZ { imm9h: U<6>, imm9l: U<3>, rn: Reg, zt: Reg },
     /// `str Pt, [Xn|SP{, #0, mul vl}]`: a store of a whole predicate register; imm9h:imm9l is signed.
     StoreP { imm9h: U<6>, imm9l: U<3>, rn: Reg, pt: Pred },
-    /// `ld1`, `ldff1 {Zt.s}, Pg/z, [Xn|SP, Zm.s, uxtw]`: elements of 2^msz bytes at Xn and the lanes of Zm, signed
-    /// (sxtw) where xs is true; u says that the sign isn't extended, ff that the load is first-faulting (ldff1).
+    /// `ld1`, `ldff1 {Zt.s}, Pg/z, [Xn|SP, Zm.s, uxtw]`: elements at the sums of Xn and the lanes of Zm, which are
+    /// signed (sxtw) where xs is true.
     GatherSx { msz: U<2>, xs: bool, zm: Reg, u: bool, ff: bool, pg: PredLow, rn: Reg, zt: Reg },
     /// `ld1`, `ldff1 {Zt.s}, Pg/z, [Xn|SP, Zm.s, uxtw #s]`: the same with the lanes times 2^msz.
     GatherSxScaled { msz: U<2>, xs: bool, zm: Reg, u: bool, ff: bool, pg: PredLow, rn: Reg, zt: Reg },
-    /// `ld1`, `ldff1 {Zt.d}, Pg/z, [Xn|SP, Zm.d, uxtw]`: elements of 2^msz bytes at Xn and the low halves of the
-    /// lanes of Zm, signed (sxtw) where xs is true; u and ff are as in `GatherSx`.
+    /// `ld1`, `ldff1 {Zt.d}, Pg/z, [Xn|SP, Zm.d, uxtw]`: elements at the sums of Xn and the low halves of the lanes
+    /// of Zm, which are signed (sxtw) where xs is true.
     GatherDx { msz: U<2>, xs: bool, zm: Reg, u: bool, ff: bool, pg: PredLow, rn: Reg, zt: Reg },
     /// `ld1`, `ldff1 {Zt.d}, Pg/z, [Xn|SP, Zm.d, uxtw #s]`: the same with the low halves times 2^msz.
     GatherDxScaled { msz: U<2>, xs: bool, zm: Reg, u: bool, ff: bool, pg: PredLow, rn: Reg, zt: Reg },
-    /// `ld1`, `ldff1 {Zt.d}, Pg/z, [Xn|SP, Zm.d]`: elements of 2^msz bytes at Xn and the lanes of Zm.
+    /// `ld1`, `ldff1 {Zt.d}, Pg/z, [Xn|SP, Zm.d]`: elements at the sums of Xn and the lanes of Zm.
     GatherD { msz: U<2>, zm: Reg, u: bool, ff: bool, pg: PredLow, rn: Reg, zt: Reg },
     /// `ld1`, `ldff1 {Zt.d}, Pg/z, [Xn|SP, Zm.d, lsl #s]`: the same with the lanes times 2^msz.
     GatherDScaled { msz: U<2>, zm: Reg, u: bool, ff: bool, pg: PredLow, rn: Reg, zt: Reg },
-    /// `ld1`, `ldff1 {Zt.s}, Pg/z, [Zn.s{, #0}]`: elements of 2^msz bytes at the lanes of Zn, unsigned, and imm5
-    /// elements on.
+    /// `ld1`, `ldff1 {Zt.s}, Pg/z, [Zn.s{, #0}]`: elements at the lanes of Zn, which are unsigned, and imm5 elements
+    /// on.
     GatherSv { msz: U<2>, imm5: U<5>, u: bool, ff: bool, pg: PredLow, zn: Reg, zt: Reg },
-    /// `ld1`, `ldff1 {Zt.d}, Pg/z, [Zn.d{, #0}]`: elements of 2^msz bytes at the lanes of Zn and imm5 elements on.
+    /// `ld1`, `ldff1 {Zt.d}, Pg/z, [Zn.d{, #0}]`: elements at the lanes of Zn and imm5 elements on.
     GatherDv { msz: U<2>, imm5: U<5>, u: bool, ff: bool, pg: PredLow, zn: Reg, zt: Reg },
-    /// `st1 {Zt.s}, Pg, [Xn|SP, Zm.s, uxtw]`: the low 2^msz bytes of lanes at Xn and the lanes of Zm, signed (sxtw)
+    /// `st1 {Zt.s}, Pg, [Xn|SP, Zm.s, uxtw]`: elements to the sums of Xn and the lanes of Zm, which are signed (sxtw)
     /// where xs is true.
     ScatterSx { msz: U<2>, zm: Reg, xs: bool, pg: PredLow, rn: Reg, zt: Reg },
     /// `st1 {Zt.s}, Pg, [Xn|SP, Zm.s, uxtw #s]`: the same with the lanes of Zm times 2^msz.
     ScatterSxScaled { msz: U<2>, zm: Reg, xs: bool, pg: PredLow, rn: Reg, zt: Reg },
-    /// `st1 {Zt.d}, Pg, [Xn|SP, Zm.d, uxtw]`: the low 2^msz bytes of lanes at Xn and the low halves of the lanes of
-    /// Zm, signed (sxtw) where xs is true.
+    /// `st1 {Zt.d}, Pg, [Xn|SP, Zm.d, uxtw]`: elements to the sums of Xn and the low halves of the lanes of Zm, which
+    /// are signed (sxtw) where xs is true.
     ScatterDx { msz: U<2>, zm: Reg, xs: bool, pg: PredLow, rn: Reg, zt: Reg },
     /// `st1 {Zt.d}, Pg, [Xn|SP, Zm.d, uxtw #s]`: the same with the low halves times 2^msz.
     ScatterDxScaled { msz: U<2>, zm: Reg, xs: bool, pg: PredLow, rn: Reg, zt: Reg },
-    /// `st1 {Zt.d}, Pg, [Xn|SP, Zm.d]`: the low 2^msz bytes of lanes at Xn and the lanes of Zm.
+    /// `st1 {Zt.d}, Pg, [Xn|SP, Zm.d]`: elements to the sums of Xn and the lanes of Zm.
     ScatterD { msz: U<2>, zm: Reg, pg: PredLow, rn: Reg, zt: Reg },
     /// `st1 {Zt.d}, Pg, [Xn|SP, Zm.d, lsl #s]`: the same with the lanes of Zm times 2^msz.
     ScatterDScaled { msz: U<2>, zm: Reg, pg: PredLow, rn: Reg, zt: Reg },
-    /// `st1 {Zt.s}, Pg, [Zn.s{, #0}]`: the low 2^msz bytes of lanes at the lanes of Zn, unsigned, and imm5 elements
-    /// on.
+    /// `st1 {Zt.s}, Pg, [Zn.s{, #0}]`: elements to the lanes of Zn, which are unsigned, and imm5 elements on.
     ScatterSv { msz: U<2>, imm5: U<5>, pg: PredLow, zn: Reg, zt: Reg },
-    /// `st1 {Zt.d}, Pg, [Zn.d{, #0}]`: the low 2^msz bytes of lanes at the lanes of Zn and imm5 elements on.
+    /// `st1 {Zt.d}, Pg, [Zn.d{, #0}]`: elements to the lanes of Zn and imm5 elements on.
     ScatterDv { msz: U<2>, imm5: U<5>, pg: PredLow, zn: Reg, zt: Reg },
 }
 

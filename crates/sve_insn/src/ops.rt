@@ -247,7 +247,7 @@ pub enum LastOp {
     LastbV,
 }
 
-/// The same where a lane is active, to a general (r) or a vector register (v), or to each lane (z).
+/// The lane after the last active one or that one, where one is active, to a general (r) or a vector register (v), or to each lane (z).
 #[derive(Clone, Copy, PartialEq, Eq, Debug)]
 pub enum CondLastOp {
     ClastaR,
@@ -323,7 +323,7 @@ pub enum BreakOp {
     Brkb,
 }
 
-/// The same, going on from another predicate.
+/// Breaks after (a) and before (b) the first set bit, going on from another predicate.
 #[derive(Clone, Copy, PartialEq, Eq, Debug)]
 pub enum BreakPairOp {
     Brkpa,
