@@ -1,7 +1,7 @@
 -- No word is in two lines. Bits outside of the fields tell all lines apart but five pairs: a load of a whole register stands where an
 -- element would have 64 bits in two gathers, and a store of a Z register where an element would be longer than its lane in a store.
 -- These differ by the lines' conditions.
-use Rattle.std.proofs.Common.{◌≡◌, ℕ, true, refl, IsTrue, [], ◌∷◌, ◌∙◌, ap, sym, not, ◌==◌, ◌||◌, ◌&&◌, ◌/◌, ◌%◌, ◌^◌, nat_le, arith}
+use Rattle.std.proofs.Common.{◌≡◌, ℕ, true, refl, [], ◌∷◌, ◌∙◌, ap, sym, not, ◌==◌, ◌||◌, ◌/◌, ◌%◌, ◌^◌, nat_le, arith}
 use lib.Pow.{shr-shr}
 use Rattle.std.proofs.lemmas.Bool.{false≢true, leb-true}
 use Rattle.emu_bits.specs.Fields.{field}
@@ -9,7 +9,7 @@ use Rattle.emu_bits.specs.Rows.{◌to◌}
 use Rattle.emu_bits.proofs.Computed.{are_sound, are_alone}
 use Rattle.emu_bits.proofs.Encoding.{both, test_apart, and_apart, all_apart, apart_by, fixed_field, Apart, AllApart, one_more, alone_of, Alone}
 use Rattle.sve_insn.specs.Table.{sve_table, memory_lines, data_lines, move_lines, predicate_lines}
-use Rattle.sve_insn.specs.Conditions.{is_no_doubleword, is_halfword_or_word, gather_word_holds_for, gather_scaled_word_holds_for, extends_to_word, fits_lane, is_register, store_reg_holds_for}
+use Rattle.sve_insn.specs.Conditions.{is_no_doubleword, is_halfword_or_word, gather_word_holds_for, gather_scaled_word_holds_for, fits_lane, store_reg_holds_for}
 use Rattle.sve_insn.specs.Lanes.{binary, binary_wide, shift_imm, unary, mul_add_z, mul_add_d, plain, logic_z, plain_wide, plain_shift, index_z, dot, dot_indexed, wide_imm, min_max_imm, dup_imm, bitmask_z, copy_imm, prefix_p, prefix, select_z}
 use Rattle.sve_insn.specs.Folds.{reduce, count_elements, inc_x, inc_z, sat_x, sat_z, add_length, read_length, dup_reg, dup_lane, insert_scalar, rev_z, unpack, table_lookup, interleave, interleave_p, unpack_p, rev_p, compact, splice, ext, copy_reg, last_active, cond_last}
 use Rattle.sve_insn.specs.Predicates.{cmp_vec, cmp_wide, cmp_u_imm, cmp_s_imm, logic_p, select_p, break_first, break_pair, break_next, ptest, first_active, next_active, ptrue, pfalse, read_ffr, read_ffr_all, write_ffr, count_p, inc_p, inc_p_z, while_compare, cterm}
