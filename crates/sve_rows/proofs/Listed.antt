@@ -1,5 +1,5 @@
 -- Each form's line stands in the table at the form's number.
-use Rattle.std.proofs.Common.{◌≡◌, ℕ, refl, Some, ◌<◌, arith}
+use Rattle.std.proofs.Common.{◌≡◌, refl, Some, ◌<◌, arith}
 use Rattle.emu_bits.specs.Rows.{line_at}
 use Rattle.sve_insn.specs.declared.form.SveForm.{SveForm}
 use Rattle.sve_insn.specs.declared.form.SveForm.TheVariants.{LoadZ}

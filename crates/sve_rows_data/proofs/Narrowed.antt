@@ -1,5 +1,5 @@
 -- Which lines are left where some bits of a word are known.
-use Rattle.std.proofs.Common.{◌≡◌, ℕ, refl, None, [], ◌∷◌, ◌∙◌}
+use Rattle.std.proofs.Common.{◌≡◌, ℕ, refl, [], ◌∷◌, ◌∙◌}
 use Rattle.emu_bits.specs.Fields.{field}
 use Rattle.emu_bits.specs.Rows.{◌to◌, decode, row_in}
 use Rattle.emu_bits.proofs.Computed.{IsNoneOf}

@@ -16,6 +16,6 @@ all_stores = store_z ∷ store_reg ∷ store_imm ∷ store_nt_imm ∷ store_nt_r
 abbrev pub scatters_and_immediate_stores : List (Line SveForm)
 scatters_and_immediate_stores = store_imm ∷ store_nt_imm ∷ store_many_imm ∷ scatter_sx ∷ scatter_sx_scaled ∷ scatter_dx ∷ scatter_dx_scaled ∷ scatter_d ∷ scatter_d_scaled ∷ scatter_sv ∷ scatter_dv ∷ []
 
--- of these, bit 13 is 1: scatters at plain addresses and offsets, and stores at an immediate offset
+-- of these, bit 13 is 1: scatters at 64-bit offsets or at the addresses of a vector, and stores at an immediate offset
 abbrev pub plain_scatters_and_immediate_stores : List (Line SveForm)
 plain_scatters_and_immediate_stores = store_imm ∷ store_nt_imm ∷ store_many_imm ∷ scatter_d ∷ scatter_d_scaled ∷ scatter_sv ∷ scatter_dv ∷ []

@@ -174,7 +174,7 @@ fn words_of_extended_scatters(w: u32) -> Option<Sve>
     scatter_dx_scaled(w)
 }
 
-/// Scatters at plain addresses and offsets, and stores at an immediate offset, by bit 14.
+/// Scatters at 64-bit offsets or at the addresses of a vector, and stores at an immediate offset, by bit 14.
 fn words_of_plain_scatters_and_immediate_stores(w: u32) -> Option<Sve>
     ensures { seen result ≡ decode plain_scatters_and_immediate_stores w }
 {
@@ -184,6 +184,7 @@ fn words_of_plain_scatters_and_immediate_stores(w: u32) -> Option<Sve>
     }
 }
 
+/// Scatters at 64-bit offsets, or at the addresses of a vector.
 fn words_of_plain_scatters(w: u32) -> Option<Sve>
     ensures { seen result ≡ decode (scatter_d ∷ scatter_d_scaled ∷ scatter_sv ∷ scatter_dv ∷ []) w }
 {

@@ -26,6 +26,7 @@ pub fn find_moves(w: u32) -> Option<Sve>
     }
 }
 
+/// Bitmask immediates, and immediates that are copied under a predicate.
 fn words_of_immediates(w: u32) -> Option<Sve>
     ensures { seen result ≡ decode (bitmask_z ∷ copy_imm ∷ []) w }
 {

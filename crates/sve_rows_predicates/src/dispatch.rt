@@ -42,7 +42,7 @@ fn words_of_vector_compares(w: u32) -> Option<Sve>
     cmp_u_imm(w)
 }
 
-/// By bit 21.
+/// Operations on predicates, counts of them, and operations with an immediate, by bit 21.
 fn words_of_predicates_and_immediates(w: u32) -> Option<Sve>
     ensures { seen result ≡ decode predicates_and_immediates w }
 {
