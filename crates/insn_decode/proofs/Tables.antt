@@ -1,7 +1,7 @@
 -- Bits 28 to 27 tell the two tables apart.
-use Rattle.std.proofs.Common.{◌≡◌, ℕ, zero, suc, ◌⊎◌, inl, inr, refl, List, [], ◌∷◌, Option, Some, None, sym, ap, ◌∙◌, arith}
+use Rattle.std.proofs.Common.{◌≡◌, ℕ, zero, suc, ◌⊎◌, inl, inr, refl, [], ◌∷◌, Option, Some, None, sym, ap, ◌∙◌, arith}
 use Rattle.emu_bits.specs.Fields.{field}
-use Rattle.emu_bits.specs.Rows.{◌to◌, Line, Row, OneRow, decode as decode_in, formed, instruction, line_at, row_in}
+use Rattle.emu_bits.specs.Rows.{◌to◌, Row, OneRow, decode as decode_in, formed, instruction}
 use Rattle.emu_bits.proofs.Computed.{IsNoneOf}
 use Rattle.emu_bits.proofs.Encoding.{narrow_field, narrow_others}
 use Rattle.a64_insn.specs.declared.form.A64Form.{A64Form}
