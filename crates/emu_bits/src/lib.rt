@@ -118,4 +118,30 @@ mod tests {
             assert_eq!(rt; U::<16>::at(word, 5).get(), 0x1234);
         }
     }
+
+    #[test]
+    fn predicates_are_put_in(rt: HostRuntime) {
+        // orn p11.b, p9/z, p4.b, p5.b
+        if let (Some(pm), Some(pg), Some(pn), Some(pd)) = (
+            Pred::new(5),
+            Pred::new(9),
+            Pred::new(4),
+            Pred::new(11),
+        ) {
+            let word = Word { bits: 0x2580_4010 }
+                .pred(pm, 16)
+                .pred(pg, 10)
+                .pred(pn, 5)
+                .pred(pd, 0)
+                .bits;
+            assert_eq!(rt; word, 0x2585_649b);
+            assert_eq!(rt; Pred::at(word, 10).get(), 9);
+        }
+        // cmpgt p0.d, p5/z, z6.d, z0.d
+        if let (Some(pg), Some(zn)) = (PredLow::new(5), Reg::new(6)) {
+            let word = Word { bits: 0x24c0_8010 }.pred_low(pg, 10).reg(zn, 5).bits;
+            assert_eq!(rt; word, 0x24c0_94d0);
+            assert_eq!(rt; PredLow::at(word, 10).get(), 5);
+        }
+    }
 }

@@ -2,7 +2,7 @@
 ghost use Rattle.std.specs.Prelude.{◌≡◌, ◌+◌, ◌-◌, ◌*◌, ◌^◌, ◌<◌, ◌≤◌, bit_or, nat_eq};
 ghost use Rattle.emu_bits.specs.Fields.{field, bit};
 
-use crate::fields::{Reg, U};
+use crate::fields::{Pred, PredLow, Reg, U};
 
 /// The bits hi down to lo of a word, as a number.
 pub fn bits(w: u32, hi: u32, lo: u32) -> u32
@@ -54,6 +54,28 @@ impl Word {
         requires { lo ≤ 27 }
         ensures bits { result.bits ≡ bit_or self.bits (v * 2 ^ lo) }
         ensures fits { v < 32 }
+    {
+        Word {
+            bits: put(self.bits, v.get(), lo),
+        }
+    }
+
+    /// The word with a predicate register put in at a place.
+    pub fn pred(self, v: Pred, lo: u32) -> Self
+        requires { lo ≤ 28 }
+        ensures bits { result.bits ≡ bit_or self.bits (v * 2 ^ lo) }
+        ensures fits { v < 16 }
+    {
+        Word {
+            bits: put(self.bits, v.get(), lo),
+        }
+    }
+
+    /// The word with a low predicate register put in at a place.
+    pub fn pred_low(self, v: PredLow, lo: u32) -> Self
+        requires { lo ≤ 29 }
+        ensures bits { result.bits ≡ bit_or self.bits (v * 2 ^ lo) }
+        ensures fits { v < 8 }
     {
         Word {
             bits: put(self.bits, v.get(), lo),

@@ -182,6 +182,11 @@ impl Machine {
     {
         match insn {
             Insn::A64(insn) => self.execute_a64(insn),
+            // No row of SVE runs yet.
+            Insn::Sve(_) => {
+                let pc = self.core.pc();
+                Some(self.trap(TrapKind::Undefined, pc))
+            }
         }
     }
 

@@ -10,7 +10,7 @@ use Rattle.emu_model.specs.Access.{Memory, refused, value}
 use Rattle.emu_model.specs.State.{Core, Parts, State, IsPrefix}
 use Rattle.emu_model.specs.Start.{with_input}
 use Rattle.emu_run.specs.declared.insn.Insn.{Insn}
-use Rattle.emu_run.specs.declared.insn.Insn.TheVariants.{A64}
+use Rattle.emu_run.specs.declared.insn.Insn.TheVariants.{A64, Sve}
 use Rattle.emu_run.specs.SystemCall.{Turn, quiet, call_of, kind_of_call, CallKind, write_of, writing, Writing, exit, write, unknown, no_file, no_bytes, no_right, to_output, to_errors}
 use Rattle.emu_run.specs.Done.{Done}
 use Rattle.emu_run.specs.Step.{decode, runs, performed, trapped, finished, finish, undefined, executed, fetched, turn, taken_by, step}
@@ -93,6 +93,7 @@ undefined_turns m input = record { counts = inl refl; takes = rest_all input }
 
 executed_turns : (m : Parts) (input : List ℕ) (i : Option Insn) → IsTurn m input (executed m input i)
 executed_turns m input None = undefined_turns m input
+executed_turns m input (Some (Sve form)) = undefined_turns m input
 executed_turns m input (Some (A64 form)) =
     let d : Done = performed form m.core m.memory in
     elim (runs form) as (λ b. IsTurn m input (if b then finish m input d else undefined m input)) [

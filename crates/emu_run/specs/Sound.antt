@@ -14,7 +14,7 @@ use Rattle.emu_model.specs.State.{Core, Vectors, Parts, State, read_x, with_x, I
 use Rattle.emu_model.specs.SoundLists.{all_append, all_take, all_replicate, all_map}
 use Rattle.emu_model.specs.Sound.{with_x_sound, with_pc_sound, monitor_sound, address_is_word, bytes_at_are_bytes, refused_is_word}
 use Rattle.emu_run.specs.declared.insn.Insn.{Insn}
-use Rattle.emu_run.specs.declared.insn.Insn.TheVariants.{A64}
+use Rattle.emu_run.specs.declared.insn.Insn.TheVariants.{A64, Sve}
 use Rattle.emu_run.specs.Done.{Done, went_well}
 use Rattle.emu_run.specs.Flow.{is_flow, flow}
 use Rattle.emu_run.specs.LoadStore.{access}
@@ -123,6 +123,7 @@ undefined_sound m input s bytes = quiet_sound (trapped m Undefined m.core.pc) in
 
 executed_sound : (m : Parts) (input : List ℕ) (i : Option Insn) → IsSoundParts m → AreBytes input → IsSoundTurn (executed m input i)
 executed_sound m input None s bytes = undefined_sound m input s bytes
+executed_sound m input (Some (Sve form)) s bytes = undefined_sound m input s bytes
 executed_sound m input (Some (A64 form)) s bytes =
     let d : Done = performed form m.core m.memory in
     let sound : IsSoundDone d = performed_sound form m.core m.memory s.core s.memory in

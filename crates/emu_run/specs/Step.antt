@@ -3,6 +3,8 @@ use Rattle.std.specs.Prelude.{ℕ, ◌+◌, ◌%◌, Bool, ◌||◌, List, [], �
 use Rattle.emu_bits.specs.Rows.{instruction}
 use Rattle.a64_insn.specs.Table.{a64_table}
 use Rattle.a64_insn.specs.declared.form.A64Form.{A64Form}
+use Rattle.sve_insn.specs.Table.{sve_table}
+use Rattle.sve_insn.specs.declared.form.SveForm.{SveForm}
 use Rattle.emu_model.specs.declared.access.Access.{Access}
 use Rattle.emu_model.specs.declared.access.Kind.TheVariants.{Fetch as FetchKind}
 use Rattle.emu_model.specs.declared.trap.TrapKind.{TrapKind}
@@ -18,18 +20,28 @@ use Rattle.emu_run.specs.Flow.{is_flow, flow}
 use Rattle.emu_run.specs.LoadStore.{is_load_store, access}
 use Rattle.emu_run.specs.SystemCall.{Turn, quiet, went_on, call}
 use Rattle.emu_run.specs.declared.insn.Insn.{Insn}
-use Rattle.emu_run.specs.declared.insn.Insn.TheVariants.{A64}
+use Rattle.emu_run.specs.declared.insn.Insn.TheVariants.{A64, Sve}
 
 -- the instruction of a word, where it is in a row
 abbrev pub a64 : Option A64Form → Option Insn
 a64 None = None
 a64 (Some form) = Some (A64 form)
 
-abbrev pub decode : ℕ → Option Insn
-decode w = a64 (instruction a64_table w)
+abbrev pub sve : Option SveForm → Option Insn
+sve None = None
+sve (Some form) = Some (Sve form)
 
--- the rows that run so far: the data rows, branches and system rows, and the loads and stores of general registers; the
--- words of the others are undefined
+-- the first of two instructions, where it is there, else the second
+abbrev pub first_of : Option Insn → Option Insn → Option Insn
+first_of None other = other
+first_of (Some insn) other = Some insn
+
+-- No word is in a row of both tables.
+abbrev pub decode : ℕ → Option Insn
+decode w = first_of (a64 (instruction a64_table w)) (sve (instruction sve_table w))
+
+-- the A64 rows that run so far: the data rows, branches and system rows, and the loads and stores of general registers; the
+-- words of the others, and those of SVE rows, are undefined
 abbrev pub runs : A64Form → Bool
 runs form = is_data form || (is_flow form || is_load_store form)
 
@@ -57,6 +69,7 @@ undefined m input = quiet (trapped m Undefined m.core.pc) input
 abbrev pub executed : Parts → List ℕ → Option Insn → Turn
 executed m input None = undefined m input
 executed m input (Some (A64 form)) = if runs form then finish m input (performed form m.core m.memory) else undefined m input
+executed m input (Some (Sve form)) = undefined m input
 
 abbrev pub fetched : Parts → List ℕ → Option ℕ → Turn
 fetched m input (Some a) = quiet (trapped m Fetch a) input
@@ -72,6 +85,7 @@ turn m input =
 abbrev pub executed_accesses : Parts → Option Insn → List Access
 executed_accesses m None = []
 executed_accesses m (Some (A64 form)) = if runs form then (performed form m.core m.memory).accesses else []
+executed_accesses m (Some (Sve form)) = []
 
 abbrev pub fetched_accesses : Parts → Option ℕ → List Access
 fetched_accesses m (Some a) = []

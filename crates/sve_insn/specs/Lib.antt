@@ -1,0 +1,9 @@
+pub mod Names
+pub mod Conditions
+pub mod Lanes
+pub mod Folds
+pub mod Predicates
+pub mod Memory
+pub mod Table
+pub mod Seen
+pub mod Lines

@@ -1,0 +1,4 @@
+pub mod Narrowed
+pub mod Listed
+pub mod Alone
+pub mod Laws

@@ -1,0 +1,16 @@
+-- Each arm has the lines that its bits leave.
+use Rattle.std.proofs.Common.{◌∙◌, sym, arith}
+use Rattle.sve_rows_memory.proofs.Narrowed.{find_memory_at_0, find_memory_at_1, find_memory_at_2, find_memory_at_others}
+use Rattle.sve_rows_memory.proofs.dispatch.find_memory.Goals as goal
+
+pub returns-in-0 : goal.returns-in-0
+returns-in-0 c = c.words_of_whole_loads_and_s_gathers.ensures ∙ sym (find_memory_at_0 c.args.w (sym c.bits.ensures ∙ c.in-0.is))
+
+pub returns-in-1 : goal.returns-in-1
+returns-in-1 c = c.words_of_contiguous_loads.ensures ∙ sym (find_memory_at_1 c.args.w (sym c.bits.ensures ∙ c.in-1.is))
+
+pub returns-in-2 : goal.returns-in-2
+returns-in-2 c = c.words_of_d_gathers.ensures ∙ sym (find_memory_at_2 c.args.w (sym c.bits.ensures ∙ c.in-2.is))
+
+pub returns-in_default : goal.returns-in_default
+returns-in_default c = c.words_of_stores.ensures ∙ sym (find_memory_at_others c.args.w ((λ e. omega (arith, e)), ((λ e. omega (arith, e)), ((λ e. omega (arith, e)), tt))))

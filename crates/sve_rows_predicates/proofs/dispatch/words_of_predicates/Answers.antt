@@ -1,0 +1,16 @@
+-- Each arm has the lines that its bits leave.
+use Rattle.std.proofs.Common.{◌∙◌, sym, arith}
+use Rattle.sve_rows_predicates.proofs.Narrowed.{words_of_predicates_at_0, words_of_predicates_at_1, words_of_predicates_at_2, words_of_predicates_at_others}
+use Rattle.sve_rows_predicates.proofs.dispatch.words_of_predicates.Goals as goal
+
+pub returns-in-0 : goal.returns-in-0
+returns-in-0 c = c.cmp_s_imm.ensures ∙ sym (words_of_predicates_at_0 c.args.w (sym c.bits.ensures ∙ c.in-0.is))
+
+pub returns-in-1 : goal.returns-in-1
+returns-in-1 c = c.words_of_logic_and_breaks.ensures ∙ sym (words_of_predicates_at_1 c.args.w (sym c.bits.ensures ∙ c.in-1.is))
+
+pub returns-in-2 : goal.returns-in-2
+returns-in-2 c = c.cmp_s_imm-in-2.ensures ∙ sym (words_of_predicates_at_2 c.args.w (sym c.bits.ensures ∙ c.in-2.is))
+
+pub returns-in_default : goal.returns-in_default
+returns-in_default c = c.words_of_pairs_and_single_predicates.ensures ∙ sym (words_of_predicates_at_others c.args.w ((λ e. omega (arith, e)), ((λ e. omega (arith, e)), ((λ e. omega (arith, e)), tt))))

@@ -1,0 +1,12 @@
+//! Words of SVE compares, operations on predicates and operations with an immediate to instructions and back.
+#![tactic(auto)]
+
+mod compares;
+mod counts;
+mod dispatch;
+mod immediates;
+mod predicates;
+mod words;
+
+pub use dispatch::find_predicates;
+pub use words::predicate_word;
