@@ -275,9 +275,14 @@ failed_by OutOfMemory = refl
 pub failed_as : (r : StepEnd) (x : RunEnd) (failed : Bool) → x ≡ run_end_of r → failed ≡ step_failed r → failed ≡ run_failed x
 failed_as r x failed is f = f ∙ failed_by r ∙ ap run_failed (sym is)
 
--- a cause in the last step is one in the run
-pub causes_from : (P Q : Type 0) (a b c : ℕ) → a ≤ b → Causes P b c → (Q → P) → Causes Q a c
-causes_from P Q a b c before cause named = record {
+-- a step that goes on has no other answer
+pub going_is_no : (r x : StepEnd) → (Going ≡ x → ⊥) → r ≡ Going → r ≡ x → ⊥
+going_is_no r x other going is = other (sym going ∙ is)
+
+-- a cause in the last step is one in the run, where the count stayed before it
+pub causes_from : (P Q : Type 0) (a b c : ℕ) → b ≡ a → Causes P b c → (Q → P) → (P → Q) → Causes Q a c
+causes_from P Q a b c stayed cause named names = record {
   later = let later = cause.later in omega arith;
   rose = λ q. let rose : Rose b c = cause.rose (named q) in omega arith;
+  kept = λ none. cause.kept (λ p. none (names p)) ∙ stayed;
 }

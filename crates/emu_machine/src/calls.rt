@@ -63,15 +63,16 @@ impl Machine {
         ensures errors_cause { Causes (result ≡ StepEnd.ErrorsFault) (E.faults errors.old) (E.faults errors.new) }
         ensures write_named { result ≡ StepEnd.WriteFault → NamesWrite self.old.parts 1 }
         ensures errors_named { result ≡ StepEnd.ErrorsFault → NamesWrite self.old.parts 2 }
+        ensures no_memory { result ≢ StepEnd.OutOfMemory }
     {
         match (self.core.x(register(8)) % 0x1_0000_0000) as u32 {
-            93 => self.exit(),
+            93 | 94 => self.exit(),
             64 => self.write(output, errors),
             _ => self.refuse(Errno::NoSuchCall),
         }
     }
 
-    /// exit(x0): the machine ends with x0 modulo 256, and each register stays as it was.
+    /// exit(x0) and exit_group(x0): the machine ends with x0 modulo 256, and each register stays as it was.
     fn exit(&mut self) -> StepEnd
         requires { self.old.parts.steps < 2 ^ 64 - 1 }
         ensures turn { (input : List ℕ) → model.call_of model.exit self.old.parts input ≡ model.quiet self.new.parts input }
@@ -104,6 +105,7 @@ impl Machine {
         ensures errors_cause { Causes (result ≡ StepEnd.ErrorsFault) (E.faults errors.old) (E.faults errors.new) }
         ensures write_named { result ≡ StepEnd.WriteFault → model.file_of self.old.parts ≡ 1 }
         ensures errors_named { result ≡ StepEnd.ErrorsFault → model.file_of self.old.parts ≡ 2 }
+        ensures no_memory { result ≢ StepEnd.OutOfMemory }
     {
         let file = (self.core.x(register(0)) % 0x1_0000_0000) as u32;
         if file != 1 && file != 2 {

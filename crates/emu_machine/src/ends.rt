@@ -16,7 +16,7 @@ pub enum StepEnd {
     WriteFault,
     /// The stream of errors failed.
     ErrorsFault,
-    /// There was no memory left.
+    /// There was no memory left. No step wants memory so far, so it never comes.
     OutOfMemory,
 }
 
@@ -35,6 +35,6 @@ pub enum RunEnd {
     WriteFault,
     /// The stream of errors failed.
     ErrorsFault,
-    /// There was no memory left.
+    /// There was no memory left. No run wants memory so far, so it never comes.
     OutOfMemory,
 }

@@ -1,5 +1,5 @@
 //! The machine, its step and its run.
-ghost use Rattle.std.specs.Prelude.{◌≡◌, ◌<◌, ◌≤◌, ◌+◌, ◌-◌, ◌^◌, List, [], ℕ, IfSome, MatchOption, Option, Some, None, is_none, true, false};
+ghost use Rattle.std.specs.Prelude.{◌≡◌, ◌≢◌, ◌<◌, ◌≤◌, ◌+◌, ◌-◌, ◌^◌, List, [], ℕ, IfSome, MatchOption, Option, Some, None, is_none, true, false};
 ghost use Rattle.io_gate.specs.Streams.{Causes};
 ghost use Rattle.emu_model.specs.Start.{with_input};
 ghost use Rattle.emu_model.specs.State.{zero_vectors};
@@ -222,8 +222,8 @@ impl Machine {
 
     /// Takes one step: the word at the program counter is fetched and decoded, and its instruction is done.
     ///
-    /// `Going` and `Exit` count the step, and `Trap` doesn't. After a fault of a stream the machine has ended with the step
-    /// not done, and `OutOfMemory` leaves the machine as it was. The accesses are those of this step whatever it answers: a
+    /// `Going` and `Exit` count the step, and `Trap` doesn't. A fault of a stream is answered exactly where that stream failed, and the
+    /// machine has then ended with the step not done. `OutOfMemory` never comes so far: no step wants memory. The accesses are those of this step whatever it answers: a
     /// trap leaves those of the elements before the one that was refused, and a call leaves none.
     pub fn step<I: Source, O: Sink, E: Sink>(
         &mut self,
@@ -247,6 +247,7 @@ impl Machine {
         ensures errors_cause { Causes (result ≡ StepEnd.ErrorsFault) (E.faults errors.old) (E.faults errors.new) }
         ensures write_named { result ≡ StepEnd.WriteFault → MakesWrite self.old.parts 1 }
         ensures errors_named { result ≡ StepEnd.ErrorsFault → MakesWrite self.old.parts 2 }
+        ensures no_memory { result ≢ StepEnd.OutOfMemory }
     {
         self.log.clear();
         match self.plain() {
@@ -257,8 +258,8 @@ impl Machine {
 
     /// Takes steps until the machine has ended or has counted `budget` steps in all, which is `Spent`.
     ///
-    /// After a fault of a stream the machine has ended. It then stands, as after `OutOfMemory`, before the step that wasn't done: it is
-    /// what a run with a budget of the steps counted so far leaves.
+    /// After a fault of a stream, which is answered exactly where that stream failed, the machine has ended. It then stands before the
+    /// step that wasn't done: it is what a run with a budget of the steps counted so far leaves. `OutOfMemory` never comes so far.
     /// The accesses are those of the last step that was taken, done or not, and as before where none was.
     pub fn run<I: Source, O: Sink, E: Sink>(
         &mut self,
@@ -286,6 +287,7 @@ impl Machine {
         ensures errors_cause { Causes (result ≡ RunEnd.ErrorsFault) (E.faults errors.old) (E.faults errors.new) }
         ensures write_named { result ≡ RunEnd.WriteFault → MakesWrite self.new.parts 1 }
         ensures errors_named { result ≡ RunEnd.ErrorsFault → MakesWrite self.new.parts 2 }
+        ensures no_memory { result ≢ RunEnd.OutOfMemory }
     {
         while self.steps < budget {
             match self.step(input, output, errors) {

@@ -76,13 +76,13 @@ write_of no_right m input = quiet (returned m (error_answer 14)) input
 write_of to_output m input = record (quiet (returned m (count_of m)) input) { output = bytes_written m }
 write_of to_errors m input = record (quiet (returned m (count_of m)) input) { errors = bytes_written m }
 
--- ---- the calls by their numbers
+-- ---- the calls by their numbers; 94 is exit_group, which ends the one thread as exit does
 
 pub data CallKind : Type 0 where
   exit write unknown : CallKind
 
 abbrev pub call_kind : ℕ → CallKind
-call_kind n = if nat_eq n 93 then exit else (if nat_eq n 64 then write else unknown)
+call_kind n = if nat_eq n 93 || nat_eq n 94 then exit else (if nat_eq n 64 then write else unknown)
 
 abbrev pub kind_of_call : Parts → CallKind
 kind_of_call m = call_kind (read_x m.core 8 % 2 ^ 32)

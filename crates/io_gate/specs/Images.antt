@@ -1,5 +1,5 @@
 -- What reading a file by its name gives.
-use Rattle.std.specs.Prelude.{◌≡◌, String, ℕ, List, length, Option, Some, None, Result, Ok, Err, IfSome, MatchResult, nat_le, map, string_bytes, if◌then◌else◌}
+use Rattle.std.specs.Prelude.{◌≡◌, ◌≢◌, String, ℕ, List, length, Option, Some, None, Result, Ok, Err, IfSome, MatchResult, nat_le, map, string_bytes, if◌then◌else◌}
 use Rattle.std.specs.Option.{IsSomeAnd}
 use Rattle.std.specs.Ordering.{nat_cmp}
 use Rattle.std.specs.Cmp.Lexicographic.{slice_cmp}
@@ -25,12 +25,12 @@ abbrev pub whole_file : Option (List ℕ) → ℕ → Result (List ℕ) ImagesEr
 whole_file None limit = Err Missing
 whole_file (Some bytes) limit = if nat_le (length bytes) limit then Ok bytes else Err TooLong
 
--- an error is the one that the file itself gives, but for a failure and want of memory
+-- an error is the one that the file itself gives, but for a failure; memory may be wanting only where there is a file
 abbrev pub IsErrorOf : Result (List ℕ) ImagesError → ImagesError → Type 0
 IsErrorOf file Failed = Unit {0}
 IsErrorOf file Missing = file ≡ Err Missing
 IsErrorOf file TooLong = file ≡ Err TooLong
-IsErrorOf file OutOfMemory = Unit {0}
+IsErrorOf file OutOfMemory = file ≢ Err Missing
 
 -- the answer is what the file gives, unless reading failed or memory was wanting
 abbrev pub IsAnswerOf : Result (List ℕ) ImagesError → Result (Vec ℕ) ImagesError → Type 0

@@ -1,5 +1,5 @@
--- What a source gives and what a sink is given, and the cause of a failure.
-use Rattle.std.specs.Prelude.{◌≡◌, ◌<◌, ◌≤◌, ℕ, ◌+◌, ◌-◌, ◌^◌, min, List, [], ◌++◌, length, take, drop, Option, Some, Result, IfSome, MatchResult, OnErr, IfOk, if◌then◌else◌, Bool}
+-- What a source gives and what a sink is given, and that a failure is counted, and a failure that was counted is answered.
+use Rattle.std.specs.Prelude.{◌≡◌, ◌<◌, ◌≤◌, ℕ, ◌+◌, ◌-◌, ◌^◌, min, List, [], ◌++◌, length, take, drop, Option, Some, Result, IfSome, MatchResult, OnOk, OnErr, IfOk, if◌then◌else◌, Bool}
 
 -- one fault more, up to the counter's last value
 abbrev pub next_count : ℕ → ℕ
@@ -9,15 +9,17 @@ next_count n = min (n + 1) (2 ^ 64 - 1)
 abbrev pub Rose : ℕ → ℕ → Type 0
 Rose before now = min (before + 1) (2 ^ 64 - 1) ≤ now
 
--- the count never falls, and a failure comes only where it rose
+-- the count never falls, a failure comes only where it rose, and any other answer leaves it as it was
 pub record HasCause {T E : Type 0} (before now : ℕ) (result : Result T E) : Type 0 where
   pub later : before ≤ now
   pub failed : OnErr result (Rose before now)
+  pub kept : OnOk result (now ≡ before)
 
--- the count never falls, and P comes only where it rose
+-- the count never falls, P comes only where it rose, and where it isn't P, the count is as it was
 pub record Causes (P : Type 0) (before now : ℕ) : Type 0 where
   pub later : before ≤ now
   pub rose : P → Rose before now
+  pub kept : (P → ⊥) → now ≡ before
 
 -- the count of faults rises by one at a failure, and else stays
 abbrev pub counts_if : Bool → ℕ → ℕ

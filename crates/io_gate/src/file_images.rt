@@ -51,11 +51,9 @@ impl<'a, R: Files> Images for FileImages<'a, R> {
         limit: usize,
     ) -> Result<Vec<u8>, ImagesError>
         ensures limit { IfOk result (λ bytes. vec_len bytes ≤ limit) }
-        ensures uncounted { result ≡ Err ImagesError.Missing → self.new.faults ≡ self.old.faults }
         ensures present { result ≢ Err ImagesError.Missing }
         ensures cause { Causes (result ≡ Err ImagesError.Failed) self.old.faults self.new.faults }
         ensures failed { result ≡ Err ImagesError.Failed → self.new.faults ≡ next_count self.old.faults }
-        ensures unfailed { result ≢ Err ImagesError.Failed → self.new.faults ≡ self.old.faults }
     {
         let faults = self.faults;
         let Ok(mut file) = fs::open(self.rt, name) else {

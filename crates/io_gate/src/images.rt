@@ -26,7 +26,9 @@ pub trait Images {
     /// How often it has failed, up to 2^64 - 1.
     ghost faults: { Self → ℕ };
 
-    /// All bytes of the file, at most `limit` of them.
+    /// All bytes of the file, at most `limit` of them. `Failed` comes only where the count rose, and any other answer leaves the
+    /// count as it was. Where the files are told, `Missing` comes for a name that none has, and memory is wanting for no such
+    /// name.
     fn read_whole(
         &mut self,
         alloc: Global,
@@ -37,6 +39,5 @@ pub trait Images {
         ensures limit { IfOk result (λ bytes. vec_len bytes ≤ limit) }
         ensures content { ReadsNamed (named self.old) name.now limit result }
         ensures missing { result ≡ Err ImagesError.Missing → MissesNamed (named self.old) name.now }
-        ensures uncounted { result ≡ Err ImagesError.Missing → faults self.new ≡ faults self.old }
         ensures cause { Causes (result ≡ Err ImagesError.Failed) (faults self.old) (faults self.new) };
 }

@@ -1,7 +1,7 @@
 //! The outside: where bytes come from and go to, and files by name.
 //!
 //! The traits `Source`, `Sink` and `Images` say what each call gives and leaves, and keep a count of
-//! faults that never falls: `Failed` comes only where it rose.
+//! faults that never falls: `Failed` comes only where it rose, and any other answer leaves it as it was.
 #![tactic(auto)]
 
 mod calls;

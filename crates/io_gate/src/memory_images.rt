@@ -1,8 +1,8 @@
 //! Files in memory.
-ghost use Rattle.std.specs.Prelude.{◌≡◌, ◌≢◌, ◌<◌, ◌≤◌, ◌^◌, ◌↔◌, Some, None, true, IfOk, Ok, Err, IsTrue, vec_len, option_map};
+ghost use Rattle.std.specs.Prelude.{◌≡◌, ◌≢◌, ◌<◌, ◌≤◌, ◌^◌, ◌↔◌, Some, None, true, IfOk, Ok, Err, IsOk, IsTrue, vec_len, option_map};
 ghost use Rattle.std.specs.FinMap.{get};
 ghost use Rattle.io_gate.specs.Streams.{Causes};
-ghost use Rattle.io_gate.specs.Images.{ReadsNamed, MissesNamed, named_files};
+ghost use Rattle.io_gate.specs.Images.{ReadsNamed, MissesNamed, named_files, whole_file};
 ghost use Rattle.io_gate.specs.Calls.{is_due, uncalled, after_call};
 
 use crate::calls::FailingCalls;
@@ -57,8 +57,8 @@ impl Images for MemImages {
         ensures limit { IfOk result (λ bytes. vec_len bytes ≤ limit) }
         ensures content { ReadsNamed (Some self.old.files) name.now limit result }
         ensures missing { result ≡ Err ImagesError.Missing → MissesNamed (Some self.old.files) name.now }
-        ensures uncounted { result ≡ Err ImagesError.Missing → self.new.calls.faults ≡ self.old.calls.faults }
         ensures cause { Causes (result ≡ Err ImagesError.Failed) self.old.calls.faults self.new.calls.faults }
+        ensures wanting { result ≡ Err ImagesError.OutOfMemory → IsOk (whole_file (get self.old.files name.now) limit) }
         ensures fails { result ≡ Err ImagesError.Failed ↔ IsTrue (is_due self.old.calls) }
         ensures calls { self.new.calls ≡ after_call (is_due self.old.calls) self.old.calls }
     {
@@ -79,6 +79,7 @@ pub fn read_named(
     ensures limit { IfOk result (λ bytes. vec_len bytes ≤ limit) }
     ensures content { ReadsNamed (Some (named_files files.now)) name.now limit result }
     ensures missing { result ≡ Err ImagesError.Missing → MissesNamed (Some (named_files files.now)) name.now }
+    ensures wanting { result ≡ Err ImagesError.OutOfMemory → IsOk (whole_file (get (named_files files.now) name.now) limit) }
     ensures unfailing { result ≢ Err ImagesError.Failed }
 {
     let Some(bytes) = file_of(files, name) else {

@@ -1,7 +1,8 @@
 //! A source and files in memory that never fail.
-ghost use Rattle.std.specs.Prelude.{◌≡◌, ◌≢◌, ◌<◌, ◌≤◌, Some, Ok, Err, IfOk, length, vec_len};
+ghost use Rattle.std.specs.Prelude.{◌≡◌, ◌≢◌, ◌<◌, ◌≤◌, Some, Ok, Err, IfOk, IsOk, length, vec_len};
+ghost use Rattle.std.specs.FinMap.{get};
 ghost use Rattle.io_gate.specs.Streams.{HasCause, Causes, TakesAtMost, TakesFirst, TakesSome, KeepsRest};
-ghost use Rattle.io_gate.specs.Images.{ReadsNamed, MissesNamed, named_files};
+ghost use Rattle.io_gate.specs.Images.{ReadsNamed, MissesNamed, named_files, whole_file};
 ghost use Rattle.io_gate.specs.Memory.{portion};
 
 use crate::images::{Images, ImagesError};
@@ -103,6 +104,7 @@ impl Images for NoFaultImages {
         ensures content { ReadsNamed (Some self.old) name.now limit result }
         ensures missing { result ≡ Err ImagesError.Missing → MissesNamed (Some self.old) name.now }
         ensures cause { Causes (result ≡ Err ImagesError.Failed) 0 0 }
+        ensures wanting { result ≡ Err ImagesError.OutOfMemory → IsOk (whole_file (get self.old name.now) limit) }
         ensures unfailing { result ≢ Err ImagesError.Failed }
     {
         read_named(alloc, &self.files, name, limit)

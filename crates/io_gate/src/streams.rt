@@ -15,7 +15,8 @@ pub trait Source {
     ghost faults: { Self → ℕ };
 
     /// Fills the first bytes of `into` and says how many; 0 only where nothing is left. The rest of
-    /// `into` stays, and after `Failed` all of it.
+    /// `into` stays, and after `Failed` all of it. `Failed` comes only where the count rose, and an Ok
+    /// leaves the count as it was.
     fn take(&mut self, into: &mut [u8]) -> Result<usize, Failed>
         requires { 0 < length into.old }
         ensures count { TakesAtMost result into.old }
@@ -33,7 +34,8 @@ pub trait Sink {
     /// How often it has failed, up to 2^64 - 1.
     ghost faults: { Self → ℕ };
 
-    /// Puts the first bytes of `piece`, at least one, and says how many.
+    /// Puts the first bytes of `piece`, at least one, and says how many. `Failed` comes only where the
+    /// count rose, and an Ok leaves the count as it was.
     fn put(&mut self, piece: &[u8]) -> Result<usize, Failed>
         requires { 0 < length piece.now }
         ensures some { PutsSome result piece.now }
@@ -41,8 +43,8 @@ pub trait Sink {
         ensures cause { HasCause (faults self.old) (faults self.new) result };
 }
 
-/// Puts the whole piece, by as many calls as it takes. After `Failed` some of its first bytes went
-/// out. An empty piece needs no call.
+/// Puts the whole piece, by as many calls as it takes. After `Failed`, which ends it at the first call
+/// that fails, some of its first bytes went out. An empty piece needs no call.
 pub fn put_all<S: Sink>(sink: &mut S, piece: &[u8]) -> Result<(), Failed>
     ensures bytes { PutsAll (S.held sink.old) (S.held sink.new) piece.now result }
     ensures cause { HasCause (S.faults sink.old) (S.faults sink.new) result }

@@ -1,5 +1,5 @@
 -- What the parts of a command promise, put together: the report, the image, the file, the line.
-use Rattle.std.proofs.Common.{◌≡◌, ◌⊎◌, inl, inr, ℕ, Bool, true, false, cond, List, ◌++◌, length, Option, Some, None, Result, Ok, Err, IfSome, MatchBool, nat_le, nat_lt, refl, sym, ap, ap₂, subst, ◌∙◌, arith}
+use Rattle.std.proofs.Common.{◌≡◌, ◌⊎◌, inl, inr, ℕ, Bool, true, false, cond, List, [], ◌++◌, length, get_or, Option, Some, None, Result, Ok, Err, IfSome, MatchBool, nat_le, nat_lt, refl, sym, ap, ap₂, subst, ◌∙◌, arith}
 use Rattle.std.specs.FinMap.{get}
 use Rattle.std.proofs.lemmas.Bool.Decides.{nat_tests}
 use Rattle.io_gate.specs.Streams.{PutsAll, Rose}
@@ -143,6 +143,22 @@ module _ (named : Option Files) (name read : List ℕ) (of_name : read ≡ name)
       subst (λ (n : List ℕ). IfSome named (λ files. whole_file (get files n) file_limit ≡ Ok bytes)) of_name
       (subst (λ (xs : List ℕ). IfSome named (λ files. whole_file (get files read) file_limit ≡ Ok xs)) (sym items) (subst (λ (r : Result (Vec ℕ) ImagesError). ReadsNamed named read file_limit r) is reads))
 
+  -- where memory was wanting
+  pub told_wanting : (result : Result (Vec ℕ) ImagesError) (error : ImagesError) → result ≡ Err error → error ≡ images.OutOfMemory → ReadsNamed named read file_limit result
+      → IfSome named (λ files. whole_file (get files name) file_limit ≡ Err images.Missing → ⊥)
+  told_wanting result error is why reads =
+      subst (λ (n : List ℕ). IfSome named (λ files. whole_file (get files n) file_limit ≡ Err images.Missing → ⊥)) of_name
+      (subst (λ (e : ImagesError). ReadsNamed named read file_limit (Err e)) why (subst (λ (r : Result (Vec ℕ) ImagesError). ReadsNamed named read file_limit r) is reads))
+
+-- a file that isn't missing is there
+pub is_there : (named : Option Files) (name : List ℕ) → IfSome named (λ files. whole_file (get files name) file_limit ≡ Err images.Missing → ⊥) → MissesNamed named name → ⊥
+is_there None name told missing = missing
+is_there (Some files) name told missing = told (ap (λ (o : Option (List ℕ)). whole_file o file_limit) missing)
+
+pub found_is_there : (named : Option Files) (name : List ℕ) (r : Result (List ℕ) ImagesError) → (r ≡ Err images.Missing → ⊥) → IfSome named (λ files. whole_file (get files name) file_limit ≡ r) → MissesNamed named name → ⊥
+found_is_there None name r other is missing = missing
+found_is_there (Some files) name r other is missing = other (sym is ∙ ap (λ (o : Option (List ℕ)). whole_file o file_limit) missing)
+
 -- ---- the line
 
 pub names_no_file : (words : List (List ℕ)) (named : Option Files) (l : Line) → Ok l ≡ line words → MissesNamed named (file_named words l) → NamesNoFile words named
@@ -152,6 +168,22 @@ names_no_file words (Some files) (Run file args bits budget pages) is missing = 
   is = refl;
   missing = λ input. ap (λ (r : Result Line WordsFault). outcome_of_line words files input r) (sym is) ∙ ap (λ (o : Option (List ℕ)). outcome_where input bits budget pages o) missing;
 }
+
+none_where : (bits budget pages : ℕ) (o : Option (List ℕ)) → outcome_where [] bits budget pages o ≡ None → o ≡ None
+none_where bits budget pages None e = refl
+none_where bits budget pages (Some file) e = cc
+
+pub misses_named : (words : List (List ℕ)) (named : Option Files) (l : Line) → Ok l ≡ line words → NamesNoFile words named → MissesNamed named (file_named words l)
+misses_named words None l is n = (let e : None ≡ Some n.files = n.is in cc)
+misses_named words (Some files) (Run file args bits budget pages) is n =
+    let same : files ≡ n.files = (let e = n.is in cc) in
+    ap (λ (x : Files). get x (get_or words file [])) same
+    ∙ none_where bits budget pages (get n.files (get_or words file [])) (ap (λ (r : Result Line WordsFault). outcome_of_line words n.files [] r) is ∙ n.missing [])
+
+-- a refused line names no file
+pub refused_names_none : (words : List (List ℕ)) (named : Option Files) (fault : WordsFault) → Err fault ≡ line words → NamesNoFile words named → ⊥
+refused_names_none words named fault is n =
+    let e : Some (refusal (WordsRefused fault) (words_line fault)) ≡ None = ap (λ (r : Result Line WordsFault). outcome_of_line words n.files [] r) is ∙ n.missing [] in cc
 
 module _ (words : List (List ℕ)) (named : Option Files) (i o e : Option (List ℕ)) where
   -- a refused line

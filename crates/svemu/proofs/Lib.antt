@@ -1,4 +1,4 @@
-pub mod Causes
 pub mod Commands
 pub mod Meetings
+pub mod RunEnds
 pub mod Words

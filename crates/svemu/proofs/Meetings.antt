@@ -10,7 +10,7 @@ use Rattle.emu_run.specs.declared.ending.Ending.{Ending}
 use Rattle.emu_machine.specs.Ends.{Becomes, TakesWithin, Puts, run_end, is_broken_off}
 use Rattle.emu_machine.specs.declared.ends.RunEnd.{RunEnd}
 use Rattle.svemu.specs.Endings.{ended_by, ending_by}
-use Rattle.svemu.proofs.Causes.{broken_is, ending_is}
+use Rattle.svemu.proofs.RunEnds.{broken_is, ending_is}
 use Rattle.svemu.specs.Headline.{is_failure, now, Answers, GainedFirst, LostAtMost, Stops, Meets}
 
 fine_so : (ending : Ending) (P Q : Type 0) → is_failure ending ≡ false → Q → MatchBool (is_failure ending) P Q

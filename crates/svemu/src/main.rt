@@ -1,10 +1,13 @@
 //! svemu: runs a static AArch64 program with the Scalable Vector Extension at a chosen vector length.
 #![tactic(auto)]
 
+ghost use Rattle.std.specs.Prelude.{◌≡◌, ◌≢◌};
+
 use io_gate::{FileImages, StdSink, StdSource};
 use std::alloc::{AllocError, Global};
+use std::env;
+use std::io::ErrorKind;
 use std::process::ExitCode;
-use std::{env, io};
 
 mod command_line;
 #[cfg(test)]
@@ -20,6 +23,17 @@ const WORDS_UNREADABLE: u8 = 118;
 /// The status where there is no memory.
 const OUT_OF_MEMORY: u8 = 120;
 
+/// The status where the words of the command line can't be had, by the kind of the error.
+fn status_without_words(kind: ErrorKind) -> u8
+    ensures wanting { kind ≡ ErrorKind.OutOfMemory → result ≡ 120 }
+    ensures unreadable { kind ≢ ErrorKind.OutOfMemory → result ≡ 118 }
+{
+    match kind {
+        ErrorKind::OutOfMemory => OUT_OF_MEMORY,
+        _ => WORDS_UNREADABLE,
+    }
+}
+
 /// The words after the program's name.
 fn words_after_name(alloc: Global, all: env::Args) -> Result<Vec<String>, AllocError> {
     let mut words = Vec::new(alloc);
@@ -32,13 +46,10 @@ fn words_after_name(alloc: Global, all: env::Args) -> Result<Vec<String>, AllocE
 fn main(rt: HostRuntime) -> ExitCode {
     let all = match env::args(&rt) {
         Ok(all) => all,
-        Err(error) if error.kind() == io::ErrorKind::OutOfMemory => {
-            return ExitCode::from(OUT_OF_MEMORY);
-        }
-        Err(_) => return ExitCode::from(WORDS_UNREADABLE),
+        Err(error) => return ExitCode::from(status_without_words(error.kind())),
     };
     let Ok(words) = words_after_name(rt.alloc(), all) else {
-        return ExitCode::from(OUT_OF_MEMORY);
+        return ExitCode::from(status_without_words(ErrorKind::OutOfMemory));
     };
     let mut files = FileImages::new(&rt);
     let mut input = StdSource::new(rt.stdin());

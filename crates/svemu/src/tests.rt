@@ -1,11 +1,12 @@
 //! Whole commands over files and streams in memory: what they end with, and what they write.
-use crate::svemu;
+use crate::{status_without_words, svemu};
 use emu_model::{ElfFault, Trap, TrapKind, WordsFault, WordsWhy};
 use emu_run::Ending;
-use io_gate::{MemImages, MemSink, MemSource, NoFaultImages, NoFaultSource};
+use io_gate::{FileImages, MemImages, MemSink, MemSource, NoFaultImages, NoFaultSource, StdSink};
 use std::alloc::{AllocError, Global};
-use std::str;
+use std::io::{self, ErrorKind, Write};
 use std::test::Fail;
+use std::{fs, str};
 
 /// movz x0, #7; movz x8, #93; svc #0
 const EXIT_SEVEN: [u32; 3] = [0xD280_00E0, 0xD280_0BA8, 0xD400_0001];
@@ -100,15 +101,26 @@ fn push_zeros_to(file: &mut Vec<u8>, end: usize) -> Result<(), AllocError> {
     Ok(())
 }
 
-/// The file of a listing of these words, with eight zero bytes of data where the data's flags are given.
-fn file_of(alloc: Global, words: &[u32], data_flags: Option<u32>) -> Result<Vec<u8>, AllocError> {
+/// Eight bytes of data at 0x401000 with these flags, of which so many zero bytes stand in the file.
+fn data(flags: u32, file_size: u64) -> Header {
+    Header {
+        flags,
+        offset: 8192,
+        address: 0x40_1000,
+        file_size,
+        memory_size: 8,
+    }
+}
+
+/// The file of a listing of these words, with a segment of data where it is given.
+fn file_of(alloc: Global, words: &[u32], data: Option<Header>) -> Result<Vec<u8>, AllocError> {
     let mut code = Vec::new(alloc);
     for word in words {
         code.extend_from_slice(&word.to_le_bytes())?;
     }
     let size = code.len() as u64;
     let mut file = Vec::new(alloc);
-    push_start(&mut file, if data_flags.is_some() { 2 } else { 1 })?;
+    push_start(&mut file, if data.is_some() { 2 } else { 1 })?;
     push_header(
         &mut file,
         &Header {
@@ -119,21 +131,12 @@ fn file_of(alloc: Global, words: &[u32], data_flags: Option<u32>) -> Result<Vec<
             memory_size: size,
         },
     )?;
-    if let Some(flags) = data_flags {
-        push_header(
-            &mut file,
-            &Header {
-                flags,
-                offset: 8192,
-                address: 0x40_1000,
-                file_size: 8,
-                memory_size: 8,
-            },
-        )?;
+    if let Some(data) = &data {
+        push_header(&mut file, data)?;
     }
     push_zeros_to(&mut file, 4096)?;
     file.extend_from_slice(&code)?;
-    if data_flags.is_some() {
+    if data.is_some() {
         push_zeros_to(&mut file, 8200)?;
     }
     Ok(file)
@@ -369,7 +372,11 @@ const RUN_TWENTY: [&str; 6] = ["run", "a.elf", "--vl", "128", "--budget", "20"];
 #[test]
 fn a_program_prints_hi(rt: HostRuntime) -> Result<(), Fail> {
     let alloc = rt.alloc();
-    let run = command_done(alloc, &RUN_TWENTY, file_of(alloc, &WRITE_HI, Some(6))?)?;
+    let run = command_done(
+        alloc,
+        &RUN_TWENTY,
+        file_of(alloc, &WRITE_HI, Some(data(6, 8)))?,
+    )?;
     assert_eq!(rt; run.ending, Ending::Exit(2));
     assert_eq!(rt; run.output.kept(), b"hi".as_slice());
     assert!(rt; is_first(run.errors.kept(), "exit 2 after 10 steps\n"));
@@ -377,9 +384,39 @@ fn a_program_prints_hi(rt: HostRuntime) -> Result<(), Fail> {
 }
 
 #[test]
+fn data_without_file_bytes_is_loaded(rt: HostRuntime) -> Result<(), Fail> {
+    let alloc = rt.alloc();
+    let file = file_of(alloc, &WRITE_HI, Some(data(6, 0)))?;
+    let run = command_done(alloc, &RUN_TWENTY, file)?;
+    assert_eq!(rt; run.ending, Ending::Exit(2));
+    assert_eq!(rt; run.output.kept(), b"hi".as_slice());
+    Ok(())
+}
+
+#[test]
+fn exit_group_ends_a_program(rt: HostRuntime) -> Result<(), Fail> {
+    let alloc = rt.alloc();
+    // movz x0, #263; movz x8, #94; svc #0
+    let file = file_of(alloc, &[0xD280_20E0, 0xD280_0BC8, 0xD400_0001], None)?;
+    let run = command_done(alloc, &RUN_TEN, file)?;
+    assert_eq!(rt; run.ending, Ending::Exit(7));
+    assert!(rt;
+        is_first(
+            run.errors.kept(),
+            "exit 7 after 3 steps\nx0 0000000000000107\n"
+        )
+    );
+    Ok(())
+}
+
+#[test]
 fn a_store_to_read_only_data_traps(rt: HostRuntime) -> Result<(), Fail> {
     let alloc = rt.alloc();
-    let run = command_done(alloc, &RUN_TWENTY, file_of(alloc, &WRITE_HI, Some(4))?)?;
+    let run = command_done(
+        alloc,
+        &RUN_TWENTY,
+        file_of(alloc, &WRITE_HI, Some(data(4, 8)))?,
+    )?;
     assert_eq!(rt; run.ending.status(), 139);
     assert!(rt; run.output.kept().is_empty());
     assert!(rt;
@@ -395,7 +432,11 @@ fn a_store_to_read_only_data_traps(rt: HostRuntime) -> Result<(), Fail> {
 fn a_program_loops_and_calls(rt: HostRuntime) -> Result<(), Fail> {
     let alloc = rt.alloc();
     let words = ["run", "a.elf", "--vl", "128", "--budget", "100"];
-    let run = command_done(alloc, &words, file_of(alloc, &COUNT_DOWN, Some(6))?)?;
+    let run = command_done(
+        alloc,
+        &words,
+        file_of(alloc, &COUNT_DOWN, Some(data(6, 8)))?,
+    )?;
     assert_eq!(rt; run.ending, Ending::Exit(6));
     assert_eq!(rt; run.output.kept(), b"321".as_slice());
     assert!(rt; is_first(run.errors.kept(), "exit 6 after 40 steps\n"));
@@ -426,7 +467,7 @@ fn a_write_that_fails_half_way_leaves_what_went_out(rt: HostRuntime) -> Result<(
     // six bytes in place of two: movz x2, #6
     let mut program = WRITE_HI;
     program[5] = 0xD280_00C2;
-    let file = file_of(alloc, &program, Some(6))?;
+    let file = file_of(alloc, &program, Some(data(6, 8)))?;
     let mut files = NoFaultImages::new(one_file(alloc, file)?);
     let mut input = NoFaultSource::new(Vec::new(alloc), 1);
     // accepts four bytes a call, and fails at its second
@@ -444,5 +485,78 @@ fn a_write_that_fails_half_way_leaves_what_went_out(rt: HostRuntime) -> Result<(
     assert_eq!(rt; ending.status(), 125);
     assert_eq!(rt; output.kept(), b"hi\0\0".as_slice());
     assert!(rt; errors.kept().is_empty());
+    Ok(())
+}
+
+#[test]
+fn a_name_keeps_its_blanks(rt: HostRuntime) -> Result<(), Fail> {
+    let alloc = rt.alloc();
+    let file = file_of(alloc, &EXIT_SEVEN, None)?;
+    fs::write(&rt, " a.elf ", file.as_slice())?;
+    fs::write(&rt, "a.elf", "")?;
+    let words = words_of(alloc, &["run", " a.elf ", "--vl", "128", "--budget", "10"])?;
+    let mut files = FileImages::new(&rt);
+    let mut input = NoFaultSource::new(Vec::new(alloc), 1);
+    let mut output = MemSink::new(alloc, 4096, Vec::new(alloc));
+    let mut errors = MemSink::new(alloc, 4096, Vec::new(alloc));
+    let ending = svemu(
+        alloc,
+        &words,
+        &mut files,
+        &mut input,
+        &mut output,
+        &mut errors,
+    );
+    assert_eq!(rt; ending, Ending::Exit(7));
+    Ok(())
+}
+
+/// A writer that fails at its first call, and takes everything from then on.
+#[derive(Drop)]
+struct FailsOnce {
+    has_failed: bool,
+}
+
+impl Write for FailsOnce {
+    fn write(&mut self, buf: &[u8]) -> io::Result<usize> {
+        if self.has_failed {
+            return Ok(buf.len());
+        }
+        self.has_failed = true;
+        Err(io::Error::from(ErrorKind::BrokenPipe))
+    }
+
+    fn flush(&mut self) -> io::Result<()> {
+        Ok(())
+    }
+}
+
+#[test]
+fn a_writer_that_failed_is_not_tried_again(rt: HostRuntime) -> Result<(), Fail> {
+    let alloc = rt.alloc();
+    let words = words_of(alloc, &RUN_TWENTY)?;
+    let file = file_of(alloc, &WRITE_HI, Some(data(6, 8)))?;
+    let mut files = NoFaultImages::new(one_file(alloc, file)?);
+    let mut input = NoFaultSource::new(Vec::new(alloc), 1);
+    let mut output = StdSink::new(FailsOnce { has_failed: false });
+    let mut errors = MemSink::new(alloc, 4096, Vec::new(alloc));
+    let ending = svemu(
+        alloc,
+        &words,
+        &mut files,
+        &mut input,
+        &mut output,
+        &mut errors,
+    );
+    assert_eq!(rt; ending, Ending::WriteFault);
+    assert!(rt; errors.kept().is_empty());
+    Ok(())
+}
+
+#[test]
+fn words_that_cannot_be_had_have_their_statuses(rt: HostRuntime) -> Result<(), Fail> {
+    assert_eq!(rt; status_without_words(ErrorKind::OutOfMemory), 120);
+    // a word that isn't text
+    assert_eq!(rt; status_without_words(ErrorKind::InvalidData), 118);
     Ok(())
 }

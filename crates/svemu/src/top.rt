@@ -119,6 +119,7 @@ fn run_machine<I: Source, O: Sink, E: Sink>(
     ensures write_cause { Causes (result ≡ Ending.WriteFault) (O.faults output.old) (O.faults output.new) }
     ensures errors_cause { Causes (result ≡ Ending.ErrorsFault) (E.faults errors.old) (E.faults errors.new) }
     ensures no_file { result ≢ Ending.FileFault }
+    ensures no_memory { result ≢ Ending.OutOfMemory }
     ensures no_words { is_words_refusal result ≡ false }
 {
     let end = machine.run(budget, input, output, errors);
@@ -144,6 +145,7 @@ fn run_image<I: Source, O: Sink, E: Sink>(
     ensures write_cause { Causes (result ≡ Ending.WriteFault) (O.faults output.old) (O.faults output.new) }
     ensures errors_cause { Causes (result ≡ Ending.ErrorsFault) (E.faults errors.old) (E.faults errors.new) }
     ensures no_file { result ≢ Ending.FileFault }
+    ensures memory_first { result ≡ Ending.OutOfMemory → (input.new ≡ input.old) × (output.new ≡ output.old) × (errors.new ≡ errors.old) }
     ensures no_words { is_words_refusal result ≡ false }
 {
     match read(bytes, limits.pages) {
@@ -181,8 +183,11 @@ fn run_file<F: Images, I: Source, O: Sink, E: Sink>(
         (now (I.left input.old) (O.held output.old) (E.held errors.old)) (now (I.left input.new) (O.held output.new) (E.held errors.new))) }
     ensures file_cause { result ≡ Ending.FileFault → Rose (F.faults files.old) (F.faults files.new)
         ⊎ MissesNamed (F.named files.old) (get_or (map string_bytes words.now) file []) }
+    ensures file_kept { result ≢ Ending.FileFault → F.faults files.new ≡ F.faults files.old }
+    ensures missing { MissesNamed (F.named files.old) (get_or (map string_bytes words.now) file []) → result ≡ Ending.FileFault }
     ensures file_first { result ≡ Ending.FileFault → (input.new ≡ input.old) × (output.new ≡ output.old) × (errors.new ≡ errors.old) }
     ensures files_later { F.faults files.old ≤ F.faults files.new }
+    ensures memory_first { result ≡ Ending.OutOfMemory → (input.new ≡ input.old) × (output.new ≡ output.old) × (errors.new ≡ errors.old) }
     ensures read_cause { Causes (result ≡ Ending.ReadFault) (I.faults input.old) (I.faults input.new) }
     ensures write_cause { Causes (result ≡ Ending.WriteFault) (O.faults output.old) (O.faults output.new) }
     ensures errors_cause { Causes (result ≡ Ending.ErrorsFault) (E.faults errors.old) (E.faults errors.new) }
@@ -218,8 +223,11 @@ fn run_line<F: Images, I: Source, O: Sink, E: Sink>(
         (now (I.left input.old) (O.held output.old) (E.held errors.old)) (now (I.left input.new) (O.held output.new) (E.held errors.new))) }
     ensures file_cause { result ≡ Ending.FileFault → Rose (F.faults files.old) (F.faults files.new)
         ⊎ MissesNamed (F.named files.old) (file_named (map string_bytes words.now) line.now) }
+    ensures file_kept { result ≢ Ending.FileFault → F.faults files.new ≡ F.faults files.old }
+    ensures missing { MissesNamed (F.named files.old) (file_named (map string_bytes words.now) line.now) → result ≡ Ending.FileFault }
     ensures file_first { result ≡ Ending.FileFault → (input.new ≡ input.old) × (output.new ≡ output.old) × (errors.new ≡ errors.old) }
     ensures files_later { F.faults files.old ≤ F.faults files.new }
+    ensures memory_first { result ≡ Ending.OutOfMemory → (input.new ≡ input.old) × (output.new ≡ output.old) × (errors.new ≡ errors.old) }
     ensures read_cause { Causes (result ≡ Ending.ReadFault) (I.faults input.old) (I.faults input.new) }
     ensures write_cause { Causes (result ≡ Ending.WriteFault) (O.faults output.old) (O.faults output.new) }
     ensures errors_cause { Causes (result ≡ Ending.ErrorsFault) (E.faults errors.old) (E.faults errors.new) }
@@ -253,8 +261,11 @@ fn command<F: Images, I: Source, O: Sink, E: Sink>(
         (now (I.left input.old) (O.held output.old) (E.held errors.old)) (now (I.left input.new) (O.held output.new) (E.held errors.new))) }
     ensures file_cause { result ≡ Ending.FileFault → Rose (F.faults files.old) (F.faults files.new)
         ⊎ NamesNoFile (map string_bytes words.now) (F.named files.old) }
+    ensures file_kept { result ≢ Ending.FileFault → F.faults files.new ≡ F.faults files.old }
+    ensures missing { NamesNoFile (map string_bytes words.now) (F.named files.old) → result ≡ Ending.FileFault }
     ensures file_first { result ≡ Ending.FileFault → (input.new ≡ input.old) × (output.new ≡ output.old) × (errors.new ≡ errors.old) }
     ensures files_later { F.faults files.old ≤ F.faults files.new }
+    ensures memory_first { result ≡ Ending.OutOfMemory → (input.new ≡ input.old) × (output.new ≡ output.old) × (errors.new ≡ errors.old) }
     ensures read_cause { Causes (result ≡ Ending.ReadFault) (I.faults input.old) (I.faults input.new) }
     ensures write_cause { Causes (result ≡ Ending.WriteFault) (O.faults output.old) (O.faults output.new) }
     ensures errors_cause { Causes (result ≡ Ending.ErrorsFault) (E.faults errors.old) (E.faults errors.new) }
@@ -274,7 +285,8 @@ fn command<F: Images, I: Source, O: Sink, E: Sink>(
 /// name, and the guest reads `input` and writes to `output` and `errors`. Where and how a command ended is put on `errors`.
 ///
 /// Where files and streams tell their bytes, the ending and all that is written are those of the definitions' result, unless
-/// a file or a stream failed or memory was wanting, and each fault comes only where its object failed.
+/// a file or a stream failed or memory was wanting. Each fault comes where its object failed, and that of a file where there is
+/// none of its name, and nowhere else.
 pub fn svemu<F: Images, I: Source, O: Sink, E: Sink>(
     alloc: Global,
     words: &[String],
@@ -299,16 +311,22 @@ pub fn svemu<F: Images, I: Source, O: Sink, E: Sink>(
         → IsQuiet (O.faults output.old) (O.faults output.new) → IsQuiet (E.faults errors.old) (E.faults errors.new)
         → Completes (result_of (map string_bytes words.now) named before.input) result)) }
 
-    // A file is at fault only where the count of files rose, or where the words name one that there isn't; nothing was moved then.
+    // A file is at fault where the count of files rose, or where the words name one that there isn't, and only there; nothing was
+    // moved then.
     ensures file_cause { result ≡ Ending.FileFault → Rose (F.faults files.old) (F.faults files.new)
         ⊎ NamesNoFile (map string_bytes words.now) (F.named files.old) }
+    ensures file_kept { result ≢ Ending.FileFault → F.faults files.new ≡ F.faults files.old }
+    ensures missing { NamesNoFile (map string_bytes words.now) (F.named files.old) → result ≡ Ending.FileFault }
     ensures file_first { result ≡ Ending.FileFault → (input.new ≡ input.old) × (output.new ≡ output.old) × (errors.new ≡ errors.old) }
     ensures files_later { F.faults files.old ≤ F.faults files.new }
 
-    // A stream is at fault only where its own count rose.
+    // A stream is at fault where its own count rose, and only there.
     ensures read_cause { Causes (result ≡ Ending.ReadFault) (I.faults input.old) (I.faults input.new) }
     ensures write_cause { Causes (result ≡ Ending.WriteFault) (O.faults output.old) (O.faults output.new) }
     ensures errors_cause { Causes (result ≡ Ending.ErrorsFault) (E.faults errors.old) (E.faults errors.new) }
+
+    // Where memory was wanting, nothing was moved.
+    ensures memory_first { result ≡ Ending.OutOfMemory → (input.new ≡ input.old) × (output.new ≡ output.old) × (errors.new ≡ errors.old) }
 
     // A line is refused exactly where the definitions refuse it.
     ensures refused { RefusesLine (line (map string_bytes words.now)) result }

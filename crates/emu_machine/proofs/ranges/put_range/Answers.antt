@@ -10,7 +10,7 @@ loop-at-init g c = record {
   rest = refused-from c.args.memory.now c.args.address c.args.count Read ∙ c.requires.readable;
   unchanged = refl;
   gained = none_put c.args.memory.now c.args.address _;
-  later = omega arith;
+  kept = refl;
 }
 
 pub returns-in-None-clause-bytes : goal.returns-in-None-clause-bytes
@@ -28,13 +28,12 @@ returns-in_err-put_all-in-Some-clause-bytes g c =
 pub loop-at-preserved : goal.loop-at-preserved
 loop-at-preserved g c =
     let p = piece_is c.args.memory.now c.loop-at.memory c.args.address c.args.count c.loop-at.at c.in-Some.piece.now (omega arith) c.loop-at.invariant.unchanged c.in-Some.ensures.bytes c.in-Some.ensures.allowed in
-    let cause = c.put_all.ensures.cause in
     record {
       within = p.within;
       rest = range_goes_on c.args.memory.now c.args.address c.args.count c.loop-at.at (length c.in-Some.piece.now) Read p.within p.readable ∙ c.loop-at.invariant.rest;
       unchanged = c.slice_at.follows.holds-at-none ∙ c.loop-at.invariant.unchanged;
       gained = gained_all c.args.memory.now c.args.address c.loop-at.at (length c.in-Some.piece.now) _ _ _ c.in-Some.piece.now p.bytes c.loop-at.invariant.gained c.in_ok-put_all-in-Some.ensures.bytes;
-      later = omega (arith, cause.later, c.loop-at.invariant.later);
+      kept = c.in_ok-put_all-in-Some.ensures.cause.kept ∙ c.loop-at.invariant.kept;
     }
 
 pub loop-at-smaller : goal.loop-at-smaller

@@ -10,7 +10,7 @@ invariant-loop-at g l = record {
   rest : refused l.fn.memory (l.address + l.at) (l.count - l.at) Read ≡ None;
   unchanged : l.memory ≡ l.fn.memory;
   gained : IfSome (g.S.Sink.held l.fn.sink) (λ had. g.S.Sink.held l.sink ≡ Some (had ++ bytes_at l.fn.memory l.address l.at));
-  later : g.S.Sink.faults l.fn.sink ≤ g.S.Sink.faults l.sink;
+  kept : g.S.Sink.faults l.sink ≡ g.S.Sink.faults l.fn.sink;
 }
 
 abbrev pub decreases-loop-at : goal.decreases-loop-at

@@ -1,4 +1,4 @@
-use Rattle.std.proofs.Common.{arith}
+use Rattle.std.proofs.Common.{arith, ◌∙◌}
 use Rattle.emu_report.proofs.Lines.{lines_cut, lines_put}
 use Rattle.emu_report.proofs.Puts.{puts_cut}
 use Rattle.emu_report.proofs.Zeros.{zero_line}
@@ -12,5 +12,5 @@ returns-in_err-put_zero_line-clause-bytes g c =
 pub registers-preserved : goal.registers-preserved
 registers-preserved g c = record {
   put = lines_put _ _ _ (zero_line c.args.kind.now c.args.digits) c.registers.k c.registers.invariant.put c.in_ok-put_zero_line.ensures.bytes;
-  later = omega (arith, c.put_zero_line.ensures.cause.later);
+  kept = c.in_ok-put_zero_line.ensures.cause.kept ∙ c.registers.invariant.kept;
 }

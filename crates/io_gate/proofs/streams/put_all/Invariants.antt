@@ -6,7 +6,7 @@ invariant-loop-at g l = record {
   unchanged : l.at ≡ 0 → l.sink ≡ l.fn.sink;
   within : l.at ≤ length l.piece;
   gained : IfSome (g.S.Sink.held l.fn.sink) (λ held. g.S.Sink.held l.sink ≡ Some (held ++ take l.at l.piece));
-  later : g.S.Sink.faults l.fn.sink ≤ g.S.Sink.faults l.sink;
+  kept : g.S.Sink.faults l.sink ≡ g.S.Sink.faults l.fn.sink;
 }
 
 abbrev pub decreases-loop-at : goal.decreases-loop-at

@@ -3,11 +3,12 @@ use Rattle.emu_model.specs.declared.access.Access.{Access}
 use Rattle.emu_model.specs.State.{Parts}
 use Rattle.emu_run.specs.Step.{accesses, step}
 use Rattle.emu_machine.specs.Accesses.{run_accesses}
-use Rattle.emu_machine.specs.Ends.{is_undone, is_broken_off}
+use Rattle.emu_machine.specs.declared.ends.StepEnd.TheVariants.{Going, ReadFault, WriteFault, ErrorsFault}
+use Rattle.emu_machine.specs.Ends.{is_undone, is_broken_off, run_end_of}
 use Rattle.emu_machine.specs.Machines.{MachineState, MakesWrite}
 use Rattle.emu_machine.proofs.Logs.{Logs, logs_start, logs_on, logs_end, logs_as, logs_spent}
 use Rattle.emu_machine.proofs.Stands.{stands_start, stands_on, stands_kept, stands_as}
-use Rattle.emu_machine.proofs.Runs.{Ran, broken_as, leads_start, leads_on, leads_end, leads_spent, not_going, goes, goes_on_after, ran_as, ran_when, end_as, failed_as, last_step, causes_from}
+use Rattle.emu_machine.proofs.Runs.{Ran, broken_as, leads_start, leads_on, leads_end, leads_spent, not_going, goes, goes_on_after, ran_as, ran_when, end_as, failed_as, last_step, going_is_no, causes_from}
 use Rattle.emu_machine.proofs.machine.Machine.run.Goals as goal
 
 pub loop-self-init : goal.loop-self-init
@@ -17,9 +18,9 @@ loop-self-init g c = record {
   leads = leads_start _ _ _ _ _;
   logs = logs_start _ _ _ _;
   stands = stands_start _ _;
-  read = omega arith;
-  write = omega arith;
-  errors = omega arith;
+  read = refl;
+  write = refl;
+  errors = refl;
 }
 
 pub loop-self-preserved : goal.loop-self-preserved
@@ -41,9 +42,9 @@ loop-self-preserved g c =
           (ran_when _ _ _ _ _ _ _ _ _ _ _ (ap is_undone c.in-Going.is) stepped) c.loop-self.invariant.logs counted);
       stands = stands_on c.args.budget _ p _ _ _ _ _ q _ _ _ _ c.loop-self.invariant.leads
           (ran_when _ _ _ _ _ _ _ _ _ _ _ (ap is_undone c.in-Going.is) stepped) (goes p.ended c.loop-self.self.failed c.loop-self.invariant.going) counted c.loop-self.invariant.stands;
-      read = omega (arith, c.step.ensures.read_cause.later, c.loop-self.invariant.read);
-      write = omega (arith, c.step.ensures.write_cause.later, c.loop-self.invariant.write);
-      errors = omega (arith, c.step.ensures.errors_cause.later, c.loop-self.invariant.errors);
+      read = c.step.ensures.read_cause.kept (going_is_no c.step.result ReadFault (λ (e : Going ≡ ReadFault). cc) c.in-Going.is) ∙ c.loop-self.invariant.read;
+      write = c.step.ensures.write_cause.kept (going_is_no c.step.result WriteFault (λ (e : Going ≡ WriteFault). cc) c.in-Going.is) ∙ c.loop-self.invariant.write;
+      errors = c.step.ensures.errors_cause.kept (going_is_no c.step.result ErrorsFault (λ (e : Going ≡ ErrorsFault). cc) c.in-Going.is) ∙ c.loop-self.invariant.errors;
     }
 
 pub returns-in_default : goal.returns-in_default
@@ -75,9 +76,10 @@ returns-in_default g c =
       unended = λ h. ap (λ (m : Parts). is_none m.ended) (kept h) ∙ goes p.ended c.loop-self.self.failed c.loop-self.invariant.going;
       spent = λ h. absurd (c.in_default.not-Going (last_step c.step.result c.run_end_of.result _ c.run_end_of.ensures h));
       failed = failed_as c.step.result c.run_end_of.result c.step.new.self.failed c.run_end_of.ensures c.step.ensures.failed;
-      read_cause = causes_from _ _ _ _ _ c.loop-self.invariant.read c.step.ensures.read_cause (last_step c.step.result c.run_end_of.result _ c.run_end_of.ensures);
-      write_cause = causes_from _ _ _ _ _ c.loop-self.invariant.write c.step.ensures.write_cause (last_step c.step.result c.run_end_of.result _ c.run_end_of.ensures);
-      errors_cause = causes_from _ _ _ _ _ c.loop-self.invariant.errors c.step.ensures.errors_cause (last_step c.step.result c.run_end_of.result _ c.run_end_of.ensures);
+      read_cause = causes_from _ _ _ _ _ c.loop-self.invariant.read c.step.ensures.read_cause (last_step c.step.result c.run_end_of.result _ c.run_end_of.ensures) (λ (e : c.step.result ≡ ReadFault). c.run_end_of.ensures ∙ ap run_end_of e);
+      write_cause = causes_from _ _ _ _ _ c.loop-self.invariant.write c.step.ensures.write_cause (last_step c.step.result c.run_end_of.result _ c.run_end_of.ensures) (λ (e : c.step.result ≡ WriteFault). c.run_end_of.ensures ∙ ap run_end_of e);
+      errors_cause = causes_from _ _ _ _ _ c.loop-self.invariant.errors c.step.ensures.errors_cause (last_step c.step.result c.run_end_of.result _ c.run_end_of.ensures) (λ (e : c.step.result ≡ ErrorsFault). c.run_end_of.ensures ∙ ap run_end_of e);
+      no_memory = λ h. c.step.ensures.no_memory (last_step c.step.result c.run_end_of.result _ c.run_end_of.ensures h);
       write_named = λ h. let r = last_step c.step.result c.run_end_of.result _ c.run_end_of.ensures h in
           subst (λ (m : Parts). MakesWrite m 1) (sym (c.step.ensures.kept (ap is_undone r))) (c.step.ensures.write_named r);
       errors_named = λ h. let r = last_step c.step.result c.run_end_of.result _ c.run_end_of.ensures h in
