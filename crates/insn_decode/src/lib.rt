@@ -25,33 +25,3 @@ pub fn encode(i: &Insn) -> u32
         Insn::A64(i) => encode_a64(i),
     }
 }
-
-#[cfg(test)]
-mod tests {
-    use super::*;
-
-    #[test]
-    fn words_are_read_and_made(rt: HostRuntime) {
-        // movz x0, #7; movz x8, #93; svc #0; bl, 4 bytes back; tbz xzr, #35; mrs x28, dczid_el0; stp d13, d0, [x29, #168]!;
-        // ldxr x0, [x0]; fmov x26, d26; mvni v0.4s, #0xb8, lsl #24
-        for word in [
-            0xD280_00E0,
-            0xD280_0BA8,
-            0xD400_0001,
-            0x97FF_FFFF,
-            0xB618_841F,
-            0xD53B_00FC,
-            0x6D8A_83AD,
-            0xC85F_7C00,
-            0x9E66_035A,
-            0x6F05_6700u32,
-        ] {
-            let insn = decode(word).expect(&rt, "a word of a row");
-            assert_eq!(rt; encode(&insn), word);
-        }
-        // a floating-point add, ldxr with a fixed bit changed, ldp of one register twice, and the word 0
-        for word in [0x1E22_2820, 0xC85F_7800, 0xA940_0020, 0u32] {
-            assert_eq!(rt; decode(word), None);
-        }
-    }
-}
