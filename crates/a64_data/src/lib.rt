@@ -11,8 +11,6 @@ mod multiply;
 mod numbers;
 mod registers;
 mod shifts;
-#[cfg(test)]
-mod tests;
 
 ghost use Rattle.std.specs.Prelude.{◌≡◌, true};
 ghost use Rattle.emu_model.specs.declared.trap.Effect.{Effect};

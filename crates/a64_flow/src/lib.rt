@@ -11,8 +11,6 @@ mod numbers;
 mod offsets;
 mod pairs;
 mod rows;
-#[cfg(test)]
-mod tests;
 
 ghost use Rattle.std.specs.Prelude.{◌≡◌, ◌||◌, [], true};
 ghost use Rattle.emu_run.specs.Flow.{is_flow};

@@ -6,8 +6,6 @@ mod data;
 mod dispatch;
 mod flow;
 mod memory;
-#[cfg(test)]
-mod tests;
 mod words;
 
 ghost use Rattle.std.specs.Prelude.{◌≡◌, Some, IfSome};

@@ -1,6 +1,5 @@
 //! Files that are changed in one field, and what is read of them.
 use super::*;
-use emu_model::Rights;
 use std::alloc::{AllocError, Global};
 
 /// The fields of a file with one PT_LOAD header, of 12 bytes at the offset 4,096: an offset, a size in bytes, a value.
@@ -59,32 +58,6 @@ fn put_header(file: &mut [u8], number: usize, fields: (u64, u64, u64, u64, u64, 
     put(file, at.saturating_add(16), 8, fields.3);
     put(file, at.saturating_add(32), 8, fields.4);
     put(file, at.saturating_add(40), 8, fields.5);
-}
-
-#[test]
-fn a_file_of_one_header_is_accepted(rt: HostRuntime) -> Result<(), AllocError> {
-    let file = file_of(rt.alloc(), 4108)?;
-    let image = read(&file, 1).expect(&rt, "an image");
-    assert_eq!(rt; (image.entry, image.phdr, image.phnum), (0x40_0000, 0, 1));
-    let wanted = Segment {
-        index: 0,
-        address: 0x40_0000,
-        offset: 4096,
-        file_size: 12,
-        memory_size: 12,
-        rights: Rights {
-            r: true,
-            w: false,
-            x: true,
-        },
-    };
-    assert_eq!(rt; image.segments.as_slice(), [wanted].as_slice());
-    assert_eq!(rt;
-        read(&file, 0).err(),
-        Some(ElfFault::NotYet),
-        "no page is allowed"
-    );
-    Ok(())
 }
 
 #[test]
@@ -231,18 +204,5 @@ fn a_linked_program_has_three_segments(rt: HostRuntime) -> Result<(), AllocError
     // a header with no memory maps nothing, so it overlaps nothing
     put_header(&mut file, 2, (1, 6, 0x800, 0x41_0800, 0, 0));
     assert_eq!(rt; image_or_fault(&file).err(), None);
-    Ok(())
-}
-
-#[test]
-fn two_headers_are_accepted(rt: HostRuntime) -> Result<(), AllocError> {
-    let mut file = file_of(rt.alloc(), 4108)?;
-    put(&mut file, 56, 2, 2);
-    put_header(&mut file, 1, (1, 6, 4104, 0x40_1008, 4, 0x1000));
-    let image = read(&file, 3).expect(&rt, "an image");
-    assert_eq!(rt; image.segments.len(), 2);
-    assert_eq!(rt; read(&file, 2).err(), Some(ElfFault::NotYet), "three pages");
-    put(&mut file, 120, 4, 4);
-    assert_eq!(rt; read(&file, 3).err(), Some(ElfFault::NotYet), "a note");
     Ok(())
 }

@@ -15,6 +15,3 @@ mod ranges;
 pub use emu_model::{Ended, Length, Trap, TrapKind};
 pub use ends::{RunEnd, StepEnd};
 pub use machine::Machine;
-
-#[cfg(test)]
-mod tests;

@@ -12,9 +12,6 @@ use elf_image::Segment;
 use guest_pages::{OutOfMemory, Pages};
 use std::alloc::AllocError;
 
-#[cfg(test)]
-mod tests;
-
 /// The number of bytes of a page.
 const PAGE_BYTES: u64 = 4096;
 

@@ -6,8 +6,6 @@
 mod endings;
 mod names;
 mod registers;
-#[cfg(test)]
-mod tests;
 mod text;
 
 pub use endings::{

@@ -10,6 +10,3 @@ pub use access_log::AccessLog;
 pub use emu_model::access::Access;
 pub use emu_model::{Denied, Kind};
 pub use mem::Mem;
-
-#[cfg(test)]
-mod tests;

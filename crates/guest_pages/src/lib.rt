@@ -8,6 +8,3 @@ mod slots;
 
 pub use emu_model::Rights;
 pub use pages::{MapFault, OutOfMemory, Pages, Unmapped};
-
-#[cfg(test)]
-mod tests;

@@ -20,6 +20,3 @@ pub use memory_images::MemImages;
 pub use no_fault::{NoFaultImages, NoFaultSource};
 pub use std_streams::{StdSink, StdSource};
 pub use streams::{Failed, Sink, Source, put_all};
-
-#[cfg(test)]
-mod tests;

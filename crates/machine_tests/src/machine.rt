@@ -1,11 +1,13 @@
-//! Small programs, opened, stepped and run.
+//! Machines: small programs, opened, stepped and run.
 ghost use Rattle.std.specs.Prelude.{◌≡◌, ◌≤◌, IfOk, false};
 ghost use Rattle.emu_machine.specs.Machines.{has_ended};
 
-use super::*;
+use crate::files::{Load, file_of_headers, put, put_load};
 use elf_image::read;
 use emu_bits::Reg;
+use emu_machine::{Ended, Length, Machine, RunEnd, StepEnd, Trap, TrapKind};
 use guest_mem::Access;
+use guest_pages::Rights;
 use io_gate::{MemSink, NoFaultSource};
 use std::alloc::{AllocError, Global};
 
@@ -57,67 +59,52 @@ const STORE_CALL_LOAD: [u32; 6] = [
     0xD503_201F,
 ];
 
-/// Writes the low `size` bytes of a number at an offset, lowest first.
-fn put(file: &mut [u8], offset: usize, size: usize, value: u64) {
-    for (k, byte) in value.to_le_bytes().iter().take(size).enumerate() {
-        let at = offset.saturating_add(k);
-        if at < file.len() {
-            file[at] = *byte;
-        }
-    }
-}
-
 /// A file with the words at 0x400000, readable and executable, and eight bytes of data at 0x401000 with these flags.
 fn file_of(alloc: Global, words: &[u32], flags: u64) -> Result<Vec<u8>, AllocError> {
-    let mut file = vec![in alloc; 0u8; 8200]?;
+    let mut file = file_of_headers(alloc, 8200, 2)?;
     let code = (words.len() as u64).saturating_mul(4);
-    let fields = [
-        (0, 4, 0x464C_457F),
-        (4, 3, 0x01_0102),
-        (16, 2, 2),
-        (18, 2, 183),
-        (20, 4, 1),
-        (24, 8, 0x40_0000),
-        (32, 8, 64),
-        (52, 4, 0x0038_0040),
-        (56, 2, 2),
-        (64, 8, 0x5_0000_0001),
-        (72, 8, 4096),
-        (80, 8, 0x40_0000),
-        (96, 8, code),
-        (104, 8, code),
-        (120, 4, 1),
-        (124, 4, flags),
-        (128, 8, 8192),
-        (136, 8, 0x40_1000),
-        (152, 8, 8),
-        (160, 8, 8),
-    ];
-    for (offset, size, value) in fields {
-        put(&mut file, offset, size, value);
-    }
+    let text = Load {
+        flags: 5,
+        offset: 4096,
+        address: 0x40_0000,
+        file_size: code,
+        memory_size: code,
+    };
+    put_load(&mut file, 0, text);
+    let data = Load {
+        flags,
+        offset: 8192,
+        address: 0x40_1000,
+        file_size: 8,
+        memory_size: 8,
+    };
+    put_load(&mut file, 1, data);
     for (k, word) in words.iter().enumerate() {
-        put(
-            &mut file,
-            k.saturating_mul(4).saturating_add(4096),
-            4,
-            u64::from(*word),
-        );
+        let at = k.saturating_mul(4).saturating_add(4096);
+        put(&mut file, at, 4, u64::from(*word));
     }
     Ok(file)
 }
 
-/// The machine of that file at 128 bits.
+/// The machine of a file at 128 bits.
+fn machine_of(alloc: Global, file: &[u8]) -> Result<Machine, AllocError>
+    ensures going { IfOk result (λ m. has_ended m ≡ false) }
+    ensures fresh { IfOk result (λ m. m.parts.steps ≡ 0) }
+{
+    let args = Vec::new(alloc);
+    match (read(file, 16_384), Length::of_bits(128)) {
+        (Ok(image), Some(length)) => Machine::open(alloc, file, &image, &args, length, 16_384),
+        _ => Err(AllocError),
+    }
+}
+
+/// The machine of the file of these words and flags.
 fn opened(alloc: Global, words: &[u32], flags: u64) -> Result<Machine, AllocError>
     ensures going { IfOk result (λ m. has_ended m ≡ false) }
     ensures fresh { IfOk result (λ m. m.parts.steps ≡ 0) }
 {
     let file = file_of(alloc, words, flags)?;
-    let args = Vec::new(alloc);
-    match (read(&file, 16_384), Length::of_bits(128)) {
-        (Ok(image), Some(length)) => Machine::open(alloc, &file, &image, &args, length, 16_384),
-        _ => Err(AllocError),
-    }
+    machine_of(alloc, &file)
 }
 
 /// Nothing to read.
@@ -148,13 +135,43 @@ fn run_to(alloc: Global, machine: &mut Machine, steps: u64) -> Result<Option<Run
 }
 
 #[test]
+fn a_segment_ends_in_zeros(rt: HostRuntime) -> Result<(), AllocError> {
+    let alloc = rt.alloc();
+    let mut file = file_of(alloc, &EXIT, 6)?;
+    let data = Load {
+        flags: 6,
+        offset: 8192,
+        address: 0x50_0000,
+        file_size: 1,
+        memory_size: 4097,
+    };
+    put_load(&mut file, 1, data);
+    put(&mut file, 8192, 8, 0xAAAA_AAAA_AAAA_AAAA);
+    let machine = machine_of(alloc, &file)?;
+    let pages = machine.mem().pages();
+    // one page of words, and two of data
+    assert_eq!(rt; pages.mapped(), 3);
+    let rights = Rights {
+        r: true,
+        w: true,
+        x: false,
+    };
+    let (first_rights, first) = pages.find(0x500).expect(&rt, "the first page");
+    assert_eq!(rt; (first_rights, first[0]), (rights, 0xAA));
+    assert!(rt; first[1..].iter().all(|byte| *byte == 0));
+    let (second_rights, second) = pages.find(0x501).expect(&rt, "the second page");
+    assert_eq!(rt; second_rights, rights);
+    assert!(rt; second.iter().all(|byte| *byte == 0));
+    assert!(rt; pages.find(0x502).is_none());
+    Ok(())
+}
+
+#[test]
 fn a_program_exits(rt: HostRuntime) -> Result<(), AllocError> {
     let alloc = rt.alloc();
     let mut machine = opened(alloc, &EXIT, 6)?;
-    let mut output = sink(alloc, 8, false)?;
-    let mut errors = sink(alloc, 8, false)?;
-    let end = machine.run(10, &mut empty(alloc), &mut output, &mut errors);
-    assert_eq!(rt; end, RunEnd::Exit(7));
+    let end = run_to(alloc, &mut machine, 10)?;
+    assert_eq!(rt; end, Some(RunEnd::Exit(7)));
     assert_eq!(rt;
         (machine.ended(), machine.ending()),
         (true, Some(Ended::Exit(7)))
@@ -203,14 +220,12 @@ fn a_program_writes(rt: HostRuntime) -> Result<(), AllocError> {
 fn a_write_without_the_right_traps(rt: HostRuntime) -> Result<(), AllocError> {
     let alloc = rt.alloc();
     let mut machine = opened(alloc, &WRITE, 4)?;
-    let mut output = sink(alloc, 1, false)?;
-    let mut errors = sink(alloc, 8, false)?;
     let trap = Trap {
         kind: TrapKind::Write,
         address: 0x40_1000,
     };
-    let end = machine.run(20, &mut empty(alloc), &mut output, &mut errors);
-    assert_eq!(rt; (end, machine.steps()), (RunEnd::Trap(trap), 3));
+    let end = run_to(alloc, &mut machine, 20)?;
+    assert_eq!(rt; (end, machine.steps()), (Some(RunEnd::Trap(trap)), 3));
     assert_eq!(rt;
         (machine.core().pc(), machine.ending()),
         (0x40_000C, Some(Ended::Trap(trap)))

@@ -1,5 +1,5 @@
-//! Calls that may want memory, with ample memory.
-use crate::{MapFault, Pages, Rights, Unmapped};
+//! The guest's pages: calls that may want memory, with ample memory.
+use guest_pages::{MapFault, Pages, Rights, Unmapped};
 use std::test::Fail;
 
 const READ: Rights = Rights {

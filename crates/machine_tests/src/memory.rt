@@ -1,18 +1,24 @@
-//! Accesses across pages.
-use crate::{Denied, Kind, Mem};
+//! The guest's memory: accesses across pages.
+use guest_mem::{Denied, Kind, Mem};
 use guest_pages::{Pages, Rights};
+use std::alloc::{AllocError, Global};
 use std::test::Fail;
 
-#[test]
-fn a_load_goes_across_a_page_boundary(rt: HostRuntime) -> Result<(), Fail> {
+/// A memory of so many pages from address 4,096 on, which may be read and written.
+fn memory(alloc: Global, count: u32) -> Result<Mem, AllocError> {
     let rights = Rights {
         r: true,
         w: true,
         x: false,
     };
-    let mut pages = Pages::new(rt.alloc(), 2)?;
-    assert_eq!(rt; pages.map(1, 2, rights), Ok(()));
-    let mut mem = Mem::new(pages);
+    let mut pages = Pages::new(alloc, 2)?;
+    let _mapped = pages.map(1, u64::from(count), rights);
+    Ok(Mem::new(pages))
+}
+
+#[test]
+fn a_load_goes_across_a_page_boundary(rt: HostRuntime) -> Result<(), Fail> {
+    let mut mem = memory(rt.alloc(), 2)?;
     assert_eq!(rt; mem.store(0x1ffc, 8, 0x8877665544332211), Ok(()));
     assert_eq!(rt; mem.load(0x1ffc, 8, Kind::Read), Ok(0x8877665544332211));
     assert_eq!(rt; mem.load(0x1ffe, 4, Kind::Read), Ok(0x66554433));
@@ -22,14 +28,7 @@ fn a_load_goes_across_a_page_boundary(rt: HostRuntime) -> Result<(), Fail> {
 
 #[test]
 fn a_refused_store_leaves_memory(rt: HostRuntime) -> Result<(), Fail> {
-    let rights = Rights {
-        r: true,
-        w: true,
-        x: false,
-    };
-    let mut pages = Pages::new(rt.alloc(), 2)?;
-    assert_eq!(rt; pages.map(1, 1, rights), Ok(()));
-    let mut mem = Mem::new(pages);
+    let mut mem = memory(rt.alloc(), 1)?;
     let denied = Denied {
         address: 0x2000,
         kind: Kind::Write,
@@ -59,14 +58,7 @@ fn the_last_address_is_refused(rt: HostRuntime) -> Result<(), Fail> {
 
 #[test]
 fn a_slice_ends_with_its_page(rt: HostRuntime) -> Result<(), Fail> {
-    let rights = Rights {
-        r: true,
-        w: true,
-        x: false,
-    };
-    let mut pages = Pages::new(rt.alloc(), 2)?;
-    assert_eq!(rt; pages.map(1, 2, rights), Ok(()));
-    let mut mem = Mem::new(pages);
+    let mut mem = memory(rt.alloc(), 2)?;
     if let Some(bytes) = mem.slice_mut_at(0x1ffe, 9) {
         bytes.fill(7);
     }

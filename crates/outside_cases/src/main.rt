@@ -1,21 +1,28 @@
-//! Runs cases of single A64 instructions, as another emulator answered them, and writes those that differ.
+//! Compares single words with what other programs say of them, and writes the lines that differ.
 //!
-//! A case is a line of four columns with a tab between them: the word, a vector length, the state before the step and what
-//! differs after it, as items `name=value` with a space between them. Numbers are hexadecimal:
+//! A line of four columns, with a tab between them, is a case: one step as another emulator answered it. Its columns are
+//! the word, a vector length, the state before the step and what differs after it, as items `name=value` with a space between
+//! them. Numbers are hexadecimal:
 //!
 //! - `x0` to `x30`, `sp`, `pc`, `tpidr`, and `nzcv` with four binary digits; registers that aren't given are 0 before;
 //! - before the step `monitor=ADDRESS:BYTES`, `page=ADDRESS:RIGHTS`, a mapped page, and `mem=ADDRESS:DIGITS`, bytes of it;
 //! - after the step `mem=ADDRESS:DIGITS`, bytes that differ, and `trap=KIND:ADDRESS`. Where no `pc` and no trap is given it
 //!   goes on behind the word.
+//!
+//! A line of three columns is a word, the name of the form of its row, or `-` where it is in no row, and the text that a
+//! disassembler has for it, which is there for the reader alone.
 #![tactic(auto)]
 
+mod names;
 mod state;
+mod words;
 
 use crate::state::State;
+use crate::words::{Outcome, outcome_of_line};
 use a64_insn::A64;
-use a64_rows::decode_a64;
 use core_regs::Effect;
 use guest_mem::AccessLog;
+use insn_decode::{Insn, decode};
 use std::alloc::Global;
 use std::io;
 
@@ -62,23 +69,59 @@ fn agrees(alloc: Global, line: &str) -> Option<bool> {
     let _length = columns.next()?;
     let before = columns.next()?;
     let after = columns.next()?;
-    let insn = decode_a64(word)?;
+    let insn = decode(word)?;
     let mut state = State::read(alloc, word, before)?;
     let wanted = wanted_after(alloc, word, before, after)?;
-    step(&mut state, &insn)?;
+    match insn {
+        Insn::A64(insn) => step(&mut state, &insn)?,
+    }
     Some(state.is_same(&wanted))
 }
 
+/// How many lines there are of a kind, and how many of them differ.
+#[derive(Clone, Copy)]
+struct Count {
+    lines: u64,
+    differ: u64,
+}
+
+impl Count {
+    /// No lines.
+    fn new() -> Count {
+        Count {
+            lines: 0,
+            differ: 0,
+        }
+    }
+
+    /// Counts a line.
+    fn add(&mut self, differs: bool) {
+        self.lines = self.lines.saturating_add(1);
+        self.differ = self.differ.saturating_add(u64::from(differs));
+    }
+}
+
 fn main(rt: HostRuntime) -> io::Result<()> {
-    let mut cases = 0u64;
-    let mut differ = 0u64;
+    let mut cases = Count::new();
+    let mut words = Count::new();
+    let mut not_built = 0u64;
     for line in rt.lines(rt.alloc()) {
         let line = line?;
-        cases = cases.saturating_add(1);
-        if agrees(rt.alloc(), line.as_str()) != Some(true) {
-            differ = differ.saturating_add(1);
+        let differs = if line.split('\t').count() == 4 {
+            let differs = agrees(rt.alloc(), line.as_str()) != Some(true);
+            cases.add(differs);
+            differs
+        } else {
+            let outcome = outcome_of_line(line.as_str());
+            not_built = not_built.saturating_add(u64::from(outcome == Outcome::NotBuilt));
+            words.add(outcome == Outcome::Differs);
+            outcome == Outcome::Differs
+        };
+        if differs {
             println!(rt; "differs: {line}")?;
         }
     }
-    println!(rt; "{cases} cases, {differ} differ")
+    println!(rt; "{} cases, {} differ", cases.lines, cases.differ)?;
+    println!(rt; "{} words, {} differ", words.lines, words.differ)?;
+    println!(rt; "{not_built} words not built")
 }

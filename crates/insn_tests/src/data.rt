@@ -1,13 +1,9 @@
-//! Worked examples, and each way to call the crate once.
-use crate::{exec, is_data};
+//! The data instructions: worked examples, and each way to call `a64_data` once.
+use crate::registers::{flags_of, reg};
+use a64_data::{exec, is_data};
 use a64_insn::{A64, A64Form, AddOp, CondCompareOp, ExceptOp, LogicImmOp, TwoSourceOp};
 use core_regs::{Core, Effect};
-use emu_bits::{Flags, Reg, U};
-
-/// Register r, x0 where r is none.
-fn reg(r: u32) -> Reg {
-    Reg::new(r).unwrap_or(Reg::at(0, 0))
-}
+use emu_bits::U;
 
 /// x0 after an instruction with 64 bits in x1 and in x2, and SP 256, or none where there is no such instruction.
 fn x0_after(form: A64Form, x1: u64, x2: u64) -> Option<u64> {
@@ -89,19 +85,13 @@ fn compares_where_the_condition_holds(rt: HostRuntime) {
         f: U::at(5, 0),
     };
     let insn = A64::new(form).expect(&rt, "an instruction");
-    let flags = |nzcv: u32| Flags {
-        n: nzcv & 8 != 0,
-        z: nzcv & 4 != 0,
-        c: nzcv & 2 != 0,
-        v: nzcv & 1 != 0,
-    };
     for (before, after) in [(0b0100, 0b0110), (0b0000, 0b0101)] {
         let mut core = Core::new();
-        core.set_flags(flags(before));
+        core.set_flags(flags_of(before));
         let effect = exec(&mut core, &insn);
         assert_eq!(rt;
             (effect, core.flags()),
-            (Effect::Next, flags(after)),
+            (Effect::Next, flags_of(after)),
             "{before:04b}"
         );
     }

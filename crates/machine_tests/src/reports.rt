@@ -1,8 +1,11 @@
 //! The printed texts, against texts written by hand.
-use super::*;
 use core_regs::Core;
 use emu_bits::{Flags, Reg};
 use emu_model::{ElfFault, Length, Trap, TrapKind, WordsFault, WordsWhy};
+use emu_report::{
+    put_exit, put_image_refusal, put_registers, put_scalars, put_spent, put_too_long, put_trap,
+    put_words_refusal,
+};
 use io_gate::{Failed, MemSink, Sink};
 use std::alloc::Global;
 use std::test::Fail;
