@@ -7,7 +7,8 @@ use emu_report::{
     put_words_refusal,
 };
 use io_gate::{Failed, MemSink, Sink};
-use std::alloc::Global;
+use std::alloc::{AllocError, Global};
+use std::ops::Range;
 use std::test::Fail;
 
 /// A sink of memory whose calls don't fail.
@@ -30,18 +31,18 @@ fn endings_are_lines(rt: HostRuntime) -> Result<(), Fail> {
         why: WordsWhy::NotYet,
         place: 0,
     };
-    assert_eq!(rt; put_exit(7, 3, &mut sink), Ok(()));
-    assert_eq!(rt; put_exit(255, u64::MAX, &mut sink), Ok(()));
-    assert_eq!(rt; put_trap(&undefined, 0x40_0000, 0, &mut sink), Ok(()));
-    assert_eq!(rt; put_trap(&read, 0x40_0ABC, 10, &mut sink), Ok(()));
-    assert_eq!(rt; put_spent(2, &mut sink), Ok(()));
-    assert_eq!(rt; put_words_refusal(&no_place, &mut sink), Ok(()));
-    assert_eq!(rt; put_image_refusal(&ElfFault::TooShort, &mut sink), Ok(()));
-    assert_eq!(rt;
+    let put = [
+        put_exit(7, 3, &mut sink),
+        put_exit(255, u64::MAX, &mut sink),
+        put_trap(&undefined, 0x40_0000, 0, &mut sink),
+        put_trap(&read, 0x40_0ABC, 10, &mut sink),
+        put_spent(2, &mut sink),
+        put_words_refusal(&no_place, &mut sink),
+        put_image_refusal(&ElfFault::TooShort, &mut sink),
         put_image_refusal(&ElfFault::Interpreter(12), &mut sink),
-        Ok(())
-    );
-    assert_eq!(rt; put_too_long(67_108_864, &mut sink), Ok(()));
+        put_too_long(67_108_864, &mut sink),
+    ];
+    assert_eq!(rt; put, [Ok(()); 9]);
     let want = "exit 7 after 3 steps
 exit 255 after 18446744073709551615 steps
 trap undefined 0x0000000000400000 at 0x0000000000400000 after 0 steps
@@ -56,61 +57,101 @@ too long 67108864
     Ok(())
 }
 
+/// The names of traps, a line each.
+const TRAPS: &str = "trap undefined 0x0000000000000000 at 0x0000000000000000 after 1 steps
+trap halt 0x0000000000000000 at 0x0000000000000000 after 1 steps
+trap break 0x0000000000000000 at 0x0000000000000000 after 1 steps
+trap pc-align 0x0000000000000000 at 0x0000000000000000 after 1 steps
+trap sp-align 0x0000000000000000 at 0x0000000000000000 after 1 steps
+trap access-align 0x0000000000000000 at 0x0000000000000000 after 1 steps
+trap fetch 0x0000000000000000 at 0x0000000000000000 after 1 steps
+trap read 0x0000000000000000 at 0x0000000000000000 after 1 steps
+trap write 0x0000000000000000 at 0x0000000000000000 after 1 steps
+";
+
 #[test]
 fn traps_have_their_names(rt: HostRuntime) -> Result<(), Fail> {
-    let table = [
-        (TrapKind::Undefined, "undefined"),
-        (TrapKind::Halt, "halt"),
-        (TrapKind::Break, "break"),
-        (TrapKind::PcAlign, "pc-align"),
-        (TrapKind::SpAlign, "sp-align"),
-        (TrapKind::AccessAlign, "access-align"),
-        (TrapKind::Fetch, "fetch"),
-        (TrapKind::Read, "read"),
-        (TrapKind::Write, "write"),
-    ];
-    for (kind, name) in table {
-        let mut sink = sink(rt.alloc());
-        assert_eq!(rt;
-            put_trap(&Trap { kind, address: 0 }, 0, 1, &mut sink),
-            Ok(())
-        );
-        let want = format!(in rt.alloc();
-            "trap {name} 0x0000000000000000 at 0x0000000000000000 after 1 steps\n"
-        )?;
-        assert_eq!(rt; sink.kept(), want.as_bytes());
+    let mut sink = sink(rt.alloc());
+    for kind in [
+        TrapKind::Undefined,
+        TrapKind::Halt,
+        TrapKind::Break,
+        TrapKind::PcAlign,
+        TrapKind::SpAlign,
+        TrapKind::AccessAlign,
+        TrapKind::Fetch,
+        TrapKind::Read,
+        TrapKind::Write,
+    ] {
+        let trap = Trap { kind, address: 0 };
+        assert_eq!(rt; put_trap(&trap, 0, 1, &mut sink), Ok(()));
     }
+    assert_eq!(rt; sink.kept(), TRAPS.as_bytes());
     Ok(())
 }
 
+/// The names of refusals, a line each.
+const REFUSALS: &str = "refused image TooShort
+refused image BadMagic
+refused image BadClass
+refused image BadData
+refused image BadVersion
+refused image BadType
+refused image BadMachine
+refused image BadHeaderSize
+refused image TooManySegments
+refused image HeadersOutside
+refused image Interpreter at 63
+refused image SegmentOutside at 63
+refused image FileOverMemory at 63
+refused image AddressOutside at 63
+refused image NotCongruent at 63
+refused image Overlap at 63
+refused image NoSegments
+refused image TooManyPages
+refused image NotYet
+";
+
 #[test]
 fn refused_images_have_their_names(rt: HostRuntime) -> Result<(), Fail> {
-    let table = [
-        (ElfFault::TooShort, "TooShort"),
-        (ElfFault::BadMagic, "BadMagic"),
-        (ElfFault::BadClass, "BadClass"),
-        (ElfFault::BadData, "BadData"),
-        (ElfFault::BadVersion, "BadVersion"),
-        (ElfFault::BadType, "BadType"),
-        (ElfFault::BadMachine, "BadMachine"),
-        (ElfFault::BadHeaderSize, "BadHeaderSize"),
-        (ElfFault::TooManySegments, "TooManySegments"),
-        (ElfFault::HeadersOutside, "HeadersOutside"),
-        (ElfFault::Interpreter(63), "Interpreter at 63"),
-        (ElfFault::SegmentOutside(63), "SegmentOutside at 63"),
-        (ElfFault::FileOverMemory(63), "FileOverMemory at 63"),
-        (ElfFault::AddressOutside(63), "AddressOutside at 63"),
-        (ElfFault::NotCongruent(63), "NotCongruent at 63"),
-        (ElfFault::Overlap(63), "Overlap at 63"),
-        (ElfFault::NoSegments, "NoSegments"),
-        (ElfFault::TooManyPages, "TooManyPages"),
-        (ElfFault::NotYet, "NotYet"),
-    ];
-    for (fault, text) in table {
-        let mut sink = sink(rt.alloc());
+    let mut sink = sink(rt.alloc());
+    for fault in [
+        ElfFault::TooShort,
+        ElfFault::BadMagic,
+        ElfFault::BadClass,
+        ElfFault::BadData,
+        ElfFault::BadVersion,
+        ElfFault::BadType,
+        ElfFault::BadMachine,
+        ElfFault::BadHeaderSize,
+        ElfFault::TooManySegments,
+        ElfFault::HeadersOutside,
+        ElfFault::Interpreter(63),
+        ElfFault::SegmentOutside(63),
+        ElfFault::FileOverMemory(63),
+        ElfFault::AddressOutside(63),
+        ElfFault::NotCongruent(63),
+        ElfFault::Overlap(63),
+        ElfFault::NoSegments,
+        ElfFault::TooManyPages,
+        ElfFault::NotYet,
+    ] {
         assert_eq!(rt; put_image_refusal(&fault, &mut sink), Ok(()));
-        let want = format!(in rt.alloc(); "refused image {text}\n")?;
-        assert_eq!(rt; sink.kept(), want.as_bytes());
+    }
+    assert_eq!(rt; sink.kept(), REFUSALS.as_bytes());
+    Ok(())
+}
+
+/// Puts lines of registers that are 0: the names are a letter with these numbers.
+fn push_zeros(
+    alloc: Global,
+    text: &mut String,
+    letter: &str,
+    numbers: Range<u32>,
+    zeros: &str,
+) -> Result<(), AllocError> {
+    for k in numbers {
+        text.push_str(format!(in alloc; "{letter}{k} {zeros}\n")?.as_str())?;
     }
     Ok(())
 }
@@ -126,13 +167,9 @@ fn registers_are_lines(rt: HostRuntime) -> Result<(), Fail> {
     let mut sink = sink(rt.alloc());
     assert_eq!(rt; put_registers(&core, length, &mut sink), Ok(()));
     let mut want = String::from_str(rt.alloc(), "x0 0000000000000007\n")?;
-    for k in 1..8u32 {
-        want.push_str(format!(in rt.alloc(); "x{k} 0000000000000000\n")?.as_str())?;
-    }
+    push_zeros(rt.alloc(), &mut want, "x", 1..8, "0000000000000000")?;
     want.push_str("x8 000000000000005d\n")?;
-    for k in 9..31u32 {
-        want.push_str(format!(in rt.alloc(); "x{k} 0000000000000000\n")?.as_str())?;
-    }
+    push_zeros(rt.alloc(), &mut want, "x", 9..31, "0000000000000000")?;
     want.push_str(
         "sp 00007fffffffeef0
 pc 0000000000400008
@@ -141,12 +178,9 @@ tpidr 0000000000000000
 vl 128
 ",
     )?;
-    for k in 0..32u32 {
-        want.push_str(format!(in rt.alloc(); "z{k} 00000000000000000000000000000000\n")?.as_str())?;
-    }
-    for k in 0..16u32 {
-        want.push_str(format!(in rt.alloc(); "p{k} 0000\n")?.as_str())?;
-    }
+    let vector = "00000000000000000000000000000000";
+    push_zeros(rt.alloc(), &mut want, "z", 0..32, vector)?;
+    push_zeros(rt.alloc(), &mut want, "p", 0..16, "0000")?;
     want.push_str("ffr 0000\n")?;
     assert_eq!(rt; sink.kept(), want.as_bytes());
     Ok(())
