@@ -1,4 +1,5 @@
 //! The names of forms, as the lines of words have them.
+use crate::sve_names::sve_name;
 use a64_insn::A64Form;
 use insn_decode::Insn;
 
@@ -6,6 +7,7 @@ use insn_decode::Insn;
 pub fn form_name(insn: &Insn) -> &'static str {
     let name = match insn {
         Insn::A64(insn) => a64_name(insn.form()),
+        Insn::Sve(insn) => sve_name(insn.form()),
     };
     name.unwrap_or("")
 }
