@@ -9,7 +9,8 @@ ghost use Rattle.a64_insn.specs.Table.{meets_form, meets_single};
 use crate::form::A64Form;
 use emu_bits::{Reg, U, bitmask};
 
-/// Whether a form meets its line's condition.
+/// Whether a form meets its line's condition. It is inlined where a form is made, so that just its own line's condition is tested.
+#[inline(always)]
 pub fn meets(form: &A64Form) -> bool
     ensures { result ≡ meets_form form.now }
 {
@@ -49,6 +50,7 @@ pub fn meets(form: &A64Form) -> bool
 }
 
 /// Whether a form that plainly loads or stores a single register meets its line's condition; others have none here.
+#[inline(always)]
 fn meets_single(form: &A64Form) -> bool
     ensures { result ≡ meets_single form.now }
 {

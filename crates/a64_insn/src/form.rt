@@ -358,6 +358,7 @@ impl Model for A64 {
 
 impl A64 {
     /// The instruction of this form, or none where the form doesn't meet its line's condition.
+    #[inline(always)]
     pub fn new(form: A64Form) -> Option<Self>
         ensures { MatchOption result (meets_form form ≡ false) (λ i. (meets_form form ≡ true) × (i ≡ form)) }
     {

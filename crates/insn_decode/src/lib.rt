@@ -18,11 +18,9 @@ pub fn decode(w: u32) -> Option<Insn>
 {
     // In each row of SVE bits 28 and 27 are 0, and in none of A64.
     if bits(w, 28, 27) == 0 {
-        return decode_sve(w).map(Insn::Sve);
-    }
-    match decode_a64(w) {
-        None => None,
-        Some(insn) => Some(Insn::A64(insn)),
+        decode_sve(w).map(Insn::Sve)
+    } else {
+        decode_a64(w).map(Insn::A64)
     }
 }
 

@@ -9,7 +9,8 @@ use crate::form::SveForm;
 use crate::ops::{BinaryOp, ReduceOp, UnaryOp, WriteFfrOp};
 use emu_bits::{Pred, Reg, U, bitmask};
 
-/// Whether a form meets its line's condition.
+/// Whether a form meets its line's condition. It is inlined where a form is made, so that just its own line's condition is tested.
+#[inline(always)]
 pub fn meets(form: &SveForm) -> bool
     ensures { result ≡ meets_form form.now }
 {
@@ -30,6 +31,7 @@ pub fn meets(form: &SveForm) -> bool
 }
 
 /// Whether a form of folds, counts, permutes, predicates, or loads and stores meets its line's condition; others have none here.
+#[inline(always)]
 fn meets_folds(form: &SveForm) -> bool
     ensures { result ≡ meets_folds form.now }
 {
@@ -45,6 +47,7 @@ fn meets_folds(form: &SveForm) -> bool
 }
 
 /// Whether a form of predicates, or of loads and stores, meets its line's condition; others have none here.
+#[inline(always)]
 fn meets_predicates(form: &SveForm) -> bool
     ensures { result ≡ meets_predicates form.now }
 {
@@ -58,6 +61,7 @@ fn meets_predicates(form: &SveForm) -> bool
 }
 
 /// Whether a form of loads and stores meets its line's condition; others have none here.
+#[inline(always)]
 fn meets_memory(form: &SveForm) -> bool
     ensures { result ≡ meets_memory form.now }
 {

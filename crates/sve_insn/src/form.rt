@@ -314,6 +314,7 @@ impl Model for Sve {
 
 impl Sve {
     /// The instruction of this form, or none where the form doesn't meet its line's condition.
+    #[inline(always)]
     pub fn new(form: SveForm) -> Option<Self>
         ensures { MatchOption result (meets_form form ≡ false) (λ i. (meets_form form ≡ true) × (i ≡ form)) }
     {

@@ -8,8 +8,7 @@ returns-then-bits-eq0-clause-table c =
     let mapped : c.map.result ≡ sve c.decode_sve.result = search rules in
     mapped ∙ ap sve c.decode_sve.ensures.form ∙ of_sve c.args.w (sym c.bits.ensures ∙ c.if-bits-eq0.true)
 
-pub returns-in-None-clause-table : goal.returns-in-None-clause-table
-returns-in-None-clause-table c = ap a64 c.in-None.ensures.form ∙ of_a64 c.args.w ((λ e. c.if-bits-eq0.false (c.bits.ensures ∙ e)), tt)
-
-pub returns-in-Some-clause-table : goal.returns-in-Some-clause-table
-returns-in-Some-clause-table c = ap a64 c.in-Some.ensures.form ∙ of_a64 c.args.w ((λ e. c.if-bits-eq0.false (c.bits.ensures ∙ e)), tt)
+pub returns-else-bits-eq0-clause-table : goal.returns-else-bits-eq0-clause-table
+returns-else-bits-eq0-clause-table c =
+    let mapped : c.map-else-bits-eq0.result ≡ a64 c.decode_a64.result = search rules in
+    mapped ∙ ap a64 c.decode_a64.ensures.form ∙ of_a64 c.args.w ((λ e. c.if-bits-eq0.false (c.bits.ensures ∙ e)), tt)
