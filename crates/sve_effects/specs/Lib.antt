@@ -1,0 +1,3 @@
+pub mod Active
+pub mod AfterCall
+pub mod Lanes

@@ -1,0 +1,7 @@
+pub mod Fields
+pub mod Low
+pub mod PackedLanes
+pub mod Parts
+pub mod SetParts
+pub mod Views
+pub mod WordLanes

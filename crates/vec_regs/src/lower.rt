@@ -1,0 +1,35 @@
+//! The lowest 128 bits of Z registers.
+ghost use Rattle.std.specs.Prelude.{◌≡◌, map};
+ghost use Rattle.vec_regs.specs.Packed as model;
+ghost use Rattle.vec_regs.specs.Packed.{number_words};
+ghost use Rattle.vec_regs.specs.Words.{AreZeroFrom};
+
+/// The words of a register that is a number.
+pub fn register_of(v: u128) -> [u64; 32]
+    ensures words { result ≡ number_words v }
+    ensures above { AreZeroFrom 2 result }
+{
+    let mut words = [0; 32];
+    words[0] = (v % 0x1_0000_0000_0000_0000) as u64;
+    words[1] = (v / 0x1_0000_0000_0000_0000) as u64;
+    words
+}
+
+/// The words of a register that keeps its lowest 128 bits, and has zeros above.
+fn low_words(words: &[u64; 32]) -> [u64; 32]
+    ensures { result ≡ model.low_words words.now }
+{
+    let mut kept = [0; 32];
+    kept[0] = words[0];
+    kept[1] = words[1];
+    kept
+}
+
+/// Leaves each register its lowest 128 bits, and zeros above.
+pub fn keep_low(z: &mut [[u64; 32]; 32])
+    ensures { z.new ≡ map model.low_words z.old }
+{
+    for r in 0..32 {
+        z[r] = low_words(&z[r]);
+    }
+}
