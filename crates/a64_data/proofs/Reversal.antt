@@ -4,7 +4,7 @@ use Rattle.std.proofs.Math.Nat.{pow-suc, add-mul, mul_assoc, mul_comm}
 use Rattle.std.proofs.lemmas.Nat.{shr-shr}
 use Rattle.std.proofs.lemmas.Nat.Bits.{bit_at_lowest}
 use Rattle.std.specs.Int.{reverse_bits_onto}
-use Rattle.emu_run.specs.ScalarBits.{number_of_bits, reversed_bits}
+use Rattle.emu_bits.specs.Operations.{number_of_bits, reversed_bits}
 
 -- numbers with the same bits
 same : (k : ℕ) (f g : ℕ → ℕ) → ((j : ℕ) → j < k → f j ≡ g j) → number_of_bits k f ≡ number_of_bits k g

@@ -3,8 +3,8 @@ ghost use Rattle.std.specs.Prelude.{◌≡◌, ◌<◌, ◌≤◌, ◌+◌, ◌^
 ghost use Rattle.a64_insn.specs.declared.form.A64Form.{A64Form};
 ghost use Rattle.a64_insn.specs.Table.{meets_form};
 ghost use Rattle.emu_bits.specs.Fields.{field};
-ghost use Rattle.emu_run.specs.Scalar as table;
-ghost use Rattle.emu_run.specs.ScalarBits as bits;
+ghost use Rattle.a64_effects.specs.Scalar as table;
+ghost use Rattle.emu_bits.specs.Operations as bits;
 ghost use Rattle.a64_data.specs.Groups.{is_field};
 
 use crate::registers::{operand, width_of, write};

@@ -1,8 +1,8 @@
 //! Logical operations.
 ghost use Rattle.std.specs.Prelude.{◌≡◌, ◌<◌, ◌^◌, ◌⊎◌, true};
 ghost use Rattle.a64_insn.specs.declared.form.A64Form.{A64Form};
-ghost use Rattle.emu_run.specs.Scalar as table;
-ghost use Rattle.emu_run.specs.ScalarBits.{flags_of_result};
+ghost use Rattle.a64_effects.specs.Scalar as table;
+ghost use Rattle.emu_bits.specs.Operations.{flags_of_result};
 ghost use Rattle.a64_data.specs.Groups.{is_logical};
 
 use crate::numbers::complement;

@@ -1,8 +1,8 @@
 //! Products, quotients, and shifts by a register.
 ghost use Rattle.std.specs.Prelude.{◌≡◌, ◌<◌, ◌^◌, ◌*◌, ◌⊎◌, true};
 ghost use Rattle.a64_insn.specs.declared.form.A64Form.{A64Form};
-ghost use Rattle.emu_run.specs.Scalar as table;
-ghost use Rattle.emu_run.specs.ScalarBits as bits;
+ghost use Rattle.a64_effects.specs.Scalar as table;
+ghost use Rattle.emu_bits.specs.Operations as bits;
 ghost use Rattle.a64_data.specs.Groups.{is_product};
 
 use crate::numbers::{difference, product, quotient, scaled_down, wrapped};

@@ -2,7 +2,7 @@
 ghost use Rattle.std.specs.Prelude.{◌≡◌, ◌<◌, ◌%◌, ◌^◌, ◌*ℤ◌, ◌⊎◌};
 ghost use Rattle.std.specs.Int.{int_shr};
 ghost use Rattle.emu_bits.specs.Numbers.{unsigned_int, quotient};
-ghost use Rattle.emu_run.specs.ScalarBits as bits;
+ghost use Rattle.emu_bits.specs.Operations as bits;
 
 /// A number modulo 2^w.
 pub(crate) fn low(w: u32, v: u128) -> u64

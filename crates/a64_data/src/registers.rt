@@ -1,7 +1,7 @@
 //! Registers at a width of 32 or 64 bits.
 ghost use Rattle.std.specs.Prelude.{◌≡◌, ◌<◌, ◌^◌, ◌⊎◌};
 ghost use Rattle.emu_model.specs.State.{with_x};
-ghost use Rattle.emu_run.specs.Scalar as scalar;
+ghost use Rattle.a64_effects.specs.Scalar as scalar;
 
 use crate::numbers::low;
 use core_regs::Core;

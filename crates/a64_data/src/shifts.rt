@@ -1,6 +1,6 @@
 //! Shifts and rotations of operands of w bits.
 ghost use Rattle.std.specs.Prelude.{◌≡◌, ◌<◌, ◌^◌, ◌⊎◌};
-ghost use Rattle.emu_run.specs.ScalarBits as table;
+ghost use Rattle.emu_bits.specs.Operations as table;
 
 use crate::numbers::{low, scaled_down, wrapped};
 use emu_bits::{U, sext};

@@ -6,7 +6,7 @@ use Rattle.emu_model.specs.declared.trap.Effect.TheVariants.{Next, Trap as Trapp
 use Rattle.emu_model.specs.declared.trap.Trap.{Trap}
 use Rattle.emu_model.specs.Access.{Memory}
 use Rattle.emu_model.specs.State.{Core}
-use Rattle.emu_run.specs.Done.{Done}
+use Rattle.emu_model.specs.Done.{Done}
 
 -- goes on behind the instruction, or traps
 abbrev pub effect_of : {A : Type 0} → Result A Trap → Effect

@@ -1,7 +1,7 @@
 //! The tests before an access.
 ghost use Rattle.std.specs.Prelude.{◌≡◌, ◌≤◌, MatchResult, None, Some, false, true};
 ghost use Rattle.emu_model.specs.declared.trap.TrapKind.{TrapKind};
-ghost use Rattle.emu_run.specs.LoadStore as table;
+ghost use Rattle.a64_effects.specs.LoadStore as table;
 
 use core_regs::{Core, Trap, TrapKind};
 use emu_bits::Reg;

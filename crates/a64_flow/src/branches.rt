@@ -3,9 +3,9 @@ ghost use Rattle.std.specs.Prelude.{◌≡◌, ◌≤◌};
 ghost use Rattle.a64_insn.specs.declared.form.A64Form.{A64Form};
 ghost use Rattle.emu_model.specs.Access.{Memory};
 ghost use Rattle.emu_model.specs.State.{Core as CoreState, read_x, with_x};
-ghost use Rattle.emu_run.specs.Done.{quietly};
-ghost use Rattle.emu_run.specs.Flow as table;
-ghost use Rattle.emu_run.specs.Scalar as scalar;
+ghost use Rattle.emu_model.specs.Done.{quietly};
+ghost use Rattle.a64_effects.specs.Flow as table;
+ghost use Rattle.a64_effects.specs.Scalar as scalar;
 
 use a64_insn::{
     BarrierOp, BranchOp, BranchRegOp, CompareOp, ExceptOp, ReadSysOp, TestOp, WriteSysOp,

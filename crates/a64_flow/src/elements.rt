@@ -5,13 +5,13 @@ ghost use Rattle.emu_model.specs.Access.{Memory, refused, stored, value};
 ghost use Rattle.emu_model.specs.State.{Core as CoreState, read_x};
 ghost use Rattle.emu_model.specs.declared.access.Kind.{Kind};
 ghost use Rattle.emu_model.specs.declared.trap.TrapKind.{TrapKind};
-ghost use Rattle.emu_run.specs.Elements.{reach};
-ghost use Rattle.emu_run.specs.LoadStore as table;
+ghost use Rattle.emu_model.specs.Elements.{reach};
+ghost use Rattle.a64_effects.specs.LoadStore as table;
 ghost use Rattle.a64_flow.specs.Ends.{followed_by};
 
 use core_regs::{Core, Trap, TrapKind};
 use emu_bits::{Reg, sign_extended};
-use emu_run::Transfer;
+use a64_effects::Transfer;
 use guest_mem::{Access, AccessLog, Kind, Mem};
 
 /// Stores the low n bytes of a number.

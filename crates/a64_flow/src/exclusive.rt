@@ -3,7 +3,7 @@ ghost use Rattle.std.specs.Prelude.{◌≡◌, [], true};
 ghost use Rattle.a64_insn.specs.declared.form.A64Form.{A64Form};
 ghost use Rattle.a64_insn.specs.declared.ops.LoadExOp.{LoadExOp as LoadName};
 ghost use Rattle.a64_insn.specs.declared.ops.StoreExOp.{StoreExOp as StoreName};
-ghost use Rattle.emu_run.specs.LoadStore as table;
+ghost use Rattle.a64_effects.specs.LoadStore as table;
 ghost use Rattle.a64_flow.specs.Ends.{ended};
 ghost use Rattle.a64_flow.specs.Groups.{is_exclusive};
 
@@ -14,7 +14,7 @@ use crate::numbers::bytes_of;
 use a64_insn::{A64, A64Form, OrderedOp};
 use core_regs::{Core, Trap};
 use emu_bits::{Reg, U};
-use emu_run::Transfer;
+use a64_effects::Transfer;
 use guest_mem::{AccessLog, Mem};
 
 /// Loads or stores one register, and sets or empties the exclusive monitor.

@@ -1,10 +1,10 @@
 //! What the fields of a row say of its access.
 ghost use Rattle.std.specs.Prelude.{◌≡◌, ◌≤◌};
-ghost use Rattle.emu_run.specs.LoadStore as table;
+ghost use Rattle.a64_effects.specs.LoadStore as table;
 
 use a64_insn::OrderedOp;
 use emu_bits::{Reg, U};
-use emu_run::Transfer;
+use a64_effects::Transfer;
 
 /// By size and opc: a store, or a load with zeros above or with its sign to 64 or 32 bits; a prefetch at size 3.
 pub(crate) fn transfer(size: U<2>, opc: U<2>) -> Transfer

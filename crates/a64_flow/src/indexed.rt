@@ -1,7 +1,7 @@
 //! Post-indexed and pre-indexed accesses of one register, which write the base back.
 ghost use Rattle.std.specs.Prelude.{◌≡◌, [], Bool, true};
 ghost use Rattle.a64_insn.specs.declared.form.A64Form.{A64Form};
-ghost use Rattle.emu_run.specs.LoadStore as table;
+ghost use Rattle.a64_effects.specs.LoadStore as table;
 ghost use Rattle.a64_flow.specs.Ends.{ended};
 ghost use Rattle.a64_flow.specs.Groups.{is_indexed};
 

@@ -13,9 +13,9 @@ mod pairs;
 mod rows;
 
 ghost use Rattle.std.specs.Prelude.{◌≡◌, ◌||◌, [], true};
-ghost use Rattle.emu_run.specs.Flow.{is_flow};
-ghost use Rattle.emu_run.specs.LoadStore.{is_load_store};
-ghost use Rattle.emu_run.specs.Step.{performed};
+ghost use Rattle.a64_effects.specs.Flow.{is_flow};
+ghost use Rattle.a64_effects.specs.LoadStore.{is_load_store};
+ghost use Rattle.a64_effects.specs.Effects.{performed};
 
 use a64_insn::{A64, A64Form};
 use core_regs::{Core, Effect};

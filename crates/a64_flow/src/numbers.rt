@@ -1,6 +1,6 @@
 //! Sizes and addresses.
 ghost use Rattle.std.specs.Prelude.{◌≡◌, ◌≤◌, ◌^◌};
-ghost use Rattle.emu_run.specs.LoadStore as table;
+ghost use Rattle.a64_effects.specs.LoadStore as table;
 
 use crate::branches::offset;
 use core_regs::Core;

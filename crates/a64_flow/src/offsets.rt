@@ -2,7 +2,7 @@
 ghost use Rattle.std.specs.Prelude.{◌≡◌, ◌≤◌, [], Bool, None, true};
 ghost use Rattle.a64_insn.specs.declared.form.A64Form.{A64Form};
 ghost use Rattle.emu_model.specs.State.{Core as CoreState};
-ghost use Rattle.emu_run.specs.LoadStore as table;
+ghost use Rattle.a64_effects.specs.LoadStore as table;
 ghost use Rattle.a64_flow.specs.Ends.{ended, followed_by};
 ghost use Rattle.a64_flow.specs.Groups.{is_at_offset};
 
@@ -14,7 +14,7 @@ use crate::numbers::{bytes_of, indexed, near};
 use a64_insn::{A64, A64Form};
 use core_regs::{Core, Trap};
 use emu_bits::{Reg, U};
-use emu_run::Transfer;
+use a64_effects::Transfer;
 use guest_mem::{AccessLog, Mem};
 
 /// Loads or stores one register, or prefetches.

@@ -1,7 +1,7 @@
 //! Pairs of registers.
 ghost use Rattle.std.specs.Prelude.{◌≡◌, [], Bool};
 ghost use Rattle.a64_insn.specs.declared.form.A64Form.{A64Form};
-ghost use Rattle.emu_run.specs.LoadStore as table;
+ghost use Rattle.a64_effects.specs.LoadStore as table;
 ghost use Rattle.a64_flow.specs.Ends.{ended};
 
 use crate::alignment::test_sp;

@@ -2,5 +2,6 @@ pub mod Bitmask
 pub mod Fields
 pub mod Flags
 pub mod Numbers
+pub mod Operations
 pub mod Rows
 pub mod Search

@@ -16,13 +16,13 @@ use Rattle.emu_model.specs.declared.image.Break.{Break}
 use Rattle.emu_model.specs.declared.trap.Ended.{Ended}
 use Rattle.emu_model.specs.State.{Core, Vectors, read_x}
 use Rattle.emu_run.specs.declared.insn.Insn.TheVariants.{A64}
-use Rattle.emu_run.specs.declared.transfer.Transfer.{Transfer}
-use Rattle.emu_run.specs.declared.transfer.Transfer.TheVariants.{Store, Load, LoadSigned, LoadSigned32, Prefetch}
-use Rattle.emu_run.specs.Done.{Done, quietly, went_well, traps}
-use Rattle.emu_run.specs.Elements.{Element, reach}
-use Rattle.emu_run.specs.Flow.{branches_if, is_flow, is_taken, is_taken_by, digit, tested_bit, target, flow}
-use Rattle.emu_run.specs.LoadStore.{access, behind, elements, has_sp_base, is_misaligned, load_as_far, misaligned, store_as_far, tested, transfer_of, transferred, unless_misaligned}
-use Rattle.emu_run.specs.Scalar.{is_data, operand, scalar, width_of}
+use Rattle.a64_effects.specs.declared.transfer.Transfer.{Transfer}
+use Rattle.a64_effects.specs.declared.transfer.Transfer.TheVariants.{Store, Load, LoadSigned, LoadSigned32, Prefetch}
+use Rattle.emu_model.specs.Done.{Done, quietly, went_well, traps}
+use Rattle.emu_model.specs.Elements.{Element, reach}
+use Rattle.a64_effects.specs.Flow.{branches_if, is_flow, is_taken, is_taken_by, digit, tested_bit, target, flow}
+use Rattle.a64_effects.specs.LoadStore.{access, behind, elements, has_sp_base, is_misaligned, load_as_far, misaligned, store_as_far, tested, transfer_of, transferred, unless_misaligned}
+use Rattle.a64_effects.specs.Scalar.{is_data, operand, scalar, width_of}
 use Rattle.emu_run.specs.Step.{performed}
 use Rattle.emu_machine.specs.Machines.{MachineState, is_svc}
 

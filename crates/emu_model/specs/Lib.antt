@@ -1,12 +1,15 @@
 pub mod Access
 pub mod AccessLaws
 pub mod CommandLine
+pub mod Done
+pub mod Elements
 pub mod Image
 pub mod ImageLaws
 pub mod ByteMap
 pub mod Lengths
 pub mod Lists
 pub mod Sound
+pub mod SoundDone
 pub mod SoundImage
 pub mod SoundLists
 pub mod SoundStart

@@ -7,12 +7,11 @@ use Rattle.emu_model.specs.declared.trap.TrapKind.TheVariants.{PcAlign}
 use Rattle.emu_model.specs.declared.trap.Effect.{Effect}
 use Rattle.emu_model.specs.declared.trap.Effect.TheVariants.{Next, Branch, Call, Trap as Trapping}
 use Rattle.emu_model.specs.Access.{Memory, refused, value}
-use Rattle.emu_model.specs.State.{Core, Parts, State, IsPrefix}
+use Rattle.emu_model.specs.State.{Core, Vectors, Parts, State, IsPrefix}
 use Rattle.emu_model.specs.Start.{with_input}
 use Rattle.emu_run.specs.declared.insn.Insn.{Insn}
-use Rattle.emu_run.specs.declared.insn.Insn.TheVariants.{A64, Sve}
 use Rattle.emu_run.specs.SystemCall.{Turn, quiet, call_of, kind_of_call, CallKind, write_of, writing, Writing, exit, write, unknown, no_file, no_bytes, no_right, to_output, to_errors}
-use Rattle.emu_run.specs.Done.{Done}
+use Rattle.emu_model.specs.Done.{Done}
 use Rattle.emu_run.specs.Step.{decode, runs, performed, trapped, finished, finish, undefined, executed, fetched, turn, taken_by, step}
 use Rattle.emu_run.specs.Run.{goes_on, until_end, run}
 
@@ -82,22 +81,21 @@ call_turns exit m input = record { counts = inl refl; takes = rest_all input }
 call_turns write m input = write_turns (writing m) m input
 call_turns unknown m input = record { counts = inr refl; takes = rest_all input }
 
-finished_turns : (m : Parts) (input : List ℕ) (c : Core) (memory : Memory) (e : Effect) → IsTurn m input (finished m input c memory e)
-finished_turns m input c memory Next = record { counts = inr refl; takes = rest_all input }
-finished_turns m input c memory (Branch a) = record { counts = inr refl; takes = rest_all input }
-finished_turns m input c memory Call = call_turns (kind_of_call m) m input
-finished_turns m input c memory (Trapping t) = record { counts = inl refl; takes = rest_all input }
+finished_turns : (m : Parts) (input : List ℕ) (c : Core) (v : Vectors) (memory : Memory) (e : Effect) → IsTurn m input (finished m input c v memory e)
+finished_turns m input c v memory Next = record { counts = inr refl; takes = rest_all input }
+finished_turns m input c v memory (Branch a) = record { counts = inr refl; takes = rest_all input }
+finished_turns m input c v memory Call = call_turns (kind_of_call m) m input
+finished_turns m input c v memory (Trapping t) = record { counts = inl refl; takes = rest_all input }
 
 undefined_turns : (m : Parts) (input : List ℕ) → IsTurn m input (undefined m input)
 undefined_turns m input = record { counts = inl refl; takes = rest_all input }
 
 executed_turns : (m : Parts) (input : List ℕ) (i : Option Insn) → IsTurn m input (executed m input i)
 executed_turns m input None = undefined_turns m input
-executed_turns m input (Some (Sve form)) = undefined_turns m input
-executed_turns m input (Some (A64 form)) =
-    let d : Done = performed form m.core m.memory in
-    elim (runs form) as (λ b. IsTurn m input (if b then finish m input d else undefined m input)) [
-      | true ↦ finished_turns m input d.core d.memory d.effect
+executed_turns m input (Some i) =
+    let d : Done = performed i m.core m.vectors m.memory in
+    elim (runs i) as (λ b. IsTurn m input (if b then finish m input d else undefined m input)) [
+      | true ↦ finished_turns m input d.core d.vectors d.memory d.effect
       | false ↦ undefined_turns m input
     ]
 

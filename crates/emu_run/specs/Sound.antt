@@ -1,41 +1,30 @@
 -- Each step keeps a state sound.
-use Rattle.std.specs.Prelude.{◌≡◌, ℕ, ◌+◌, ◌-◌, ◌/◌, ◌%◌, min, Bool, true, false, List, length, take, replicate, Option, Some, None, IfSome, nat_eq, if◌then◌else◌}
-use Rattle.std.proofs.Common.{◌∙◌, arith, length-append}
-use Rattle.std.proofs.Math.ListN.{length-replicate}
-use Rattle.std.proofs.lemmas.List.{length-take, length-map}
-use Rattle.a64_insn.specs.declared.form.A64Form.{A64Form}
+use Rattle.std.specs.Prelude.{ℕ, ◌+◌, ◌%◌, Bool, true, false, List, Option, Some, None, IfSome, nat_eq, if◌then◌else◌}
+use Rattle.std.proofs.Common.{arith}
 use Rattle.emu_model.specs.declared.access.Kind.TheVariants.{Fetch as FetchKind}
 use Rattle.emu_model.specs.declared.trap.TrapKind.{TrapKind}
 use Rattle.emu_model.specs.declared.trap.TrapKind.TheVariants.{Undefined, PcAlign, Fetch}
 use Rattle.emu_model.specs.declared.trap.Effect.{Effect}
 use Rattle.emu_model.specs.declared.trap.Effect.TheVariants.{Next, Branch, Call, Trap as Trapping}
 use Rattle.emu_model.specs.Access.{Memory, address, refused, value}
-use Rattle.emu_model.specs.State.{Core, Vectors, Parts, State, read_x, with_x, IsWord, IsByte, AreBytes, IsRegister, HasLength, IsSoundCore, IsSoundVectors, IsSoundMemory, IsSoundParts, IsSound}
-use Rattle.emu_model.specs.SoundLists.{all_append, all_take, all_replicate, all_map}
+use Rattle.emu_model.specs.State.{Core, Vectors, Parts, State, read_x, with_x, IsWord, IsByte, AreBytes, IsSoundCore, IsSoundVectors, IsSoundMemory, IsSoundParts, IsSound}
+use Rattle.emu_model.specs.SoundLists.{all_append}
 use Rattle.emu_model.specs.Sound.{with_x_sound, with_pc_sound, monitor_sound, address_is_word, bytes_at_are_bytes, refused_is_word}
 use Rattle.emu_run.specs.declared.insn.Insn.{Insn}
 use Rattle.emu_run.specs.declared.insn.Insn.TheVariants.{A64, Sve}
-use Rattle.emu_run.specs.Done.{Done, went_well}
-use Rattle.emu_run.specs.Flow.{is_flow, flow}
-use Rattle.emu_run.specs.LoadStore.{access}
-use Rattle.emu_run.specs.Scalar.{is_data, scalar}
-use Rattle.emu_run.specs.SoundDone.{IsSoundEffect, IsSoundDone, well_sound}
-use Rattle.emu_run.specs.SoundFlow.{flow_sound}
-use Rattle.emu_run.specs.SoundLoadStore.{access_sound}
-use Rattle.emu_run.specs.SystemCall.{Turn, quiet, went_on, low_bytes, no_bits, after_call, answered_core, returned, error_answer, count_of, bytes_written, Writing, no_file, no_bytes, no_right, to_output, to_errors, writing, write_of, CallKind, exit, write, unknown, kind_of_call, call_of}
+use Rattle.emu_model.specs.Done.{Done}
+use Rattle.emu_model.specs.SoundDone.{IsSoundEffect, IsSoundDone}
+use Rattle.a64_effects.specs.SoundEffects.{performed_sound as a64_sound}
+use Rattle.sve_effects.specs.AfterCall.{after_call}
+use Rattle.sve_effects.specs.SoundEffects.{performed_sound as sve_sound, after_call_sound}
+use Rattle.emu_run.specs.SystemCall.{Turn, quiet, went_on, answered_core, returned, error_answer, count_of, bytes_written, Writing, no_file, no_bytes, no_right, to_output, to_errors, writing, write_of, CallKind, exit, write, unknown, kind_of_call, call_of}
 use Rattle.emu_run.specs.Step.{decode, runs, performed, trapped, finished, finish, undefined, executed, fetched, turn, taken_by, step}
-use Rattle.emu_run.specs.SoundScalar.{scalar_sound}
 
 -- ---- what an instruction leaves
 
-performed_sound : (form : A64Form) (c : Core) (m : Memory) → IsSoundCore c → IsSoundMemory m → IsSoundDone (performed form c m)
-performed_sound form c m s t = elim (is_data form) as (λ b. IsSoundDone (if b then went_well (scalar form c) m else (if is_flow form then flow form c m else access form c m))) [
-  | true ↦ well_sound (scalar form c) m (scalar_sound form c s) t
-  | false ↦ elim (is_flow form) as (λ b. IsSoundDone (if b then flow form c m else access form c m)) [
-    | true ↦ flow_sound c m s t form
-    | false ↦ access_sound c m s t form
-  ]
-]
+performed_sound : (i : Insn) (c : Core) (v : Vectors) (m : Memory) → IsSoundCore c → IsSoundVectors v → IsSoundMemory m → IsSoundDone (performed i c v m)
+performed_sound (A64 form) c v m s u t = a64_sound form c v m s u t
+performed_sound (Sve form) c v m s u t = sve_sound form c v m s u t
 
 -- ---- what a step makes of the machine
 
@@ -48,32 +37,13 @@ record IsSoundTurn (t : Turn) : Type 0 where
 quiet_sound : (m : Parts) (input : List ℕ) → IsSoundParts m → AreBytes input → IsSoundTurn (quiet m input)
 quiet_sound m input s bytes = record { parts = s; input = bytes; output = tt; errors = tt }
 
-went_on_sound : (m : Parts) (c : Core) (memory : Memory) (a : ℕ) → IsSoundParts m → IsSoundCore c → IsSoundMemory memory → IsWord a → IsSoundParts (went_on m c memory a)
-went_on_sound m c memory a s core mem w = record { core = with_pc_sound c a w core; vectors = s.vectors; memory = mem; brk = s.brk; ended = s.ended }
+went_on_sound : (m : Parts) (c : Core) (v : Vectors) (memory : Memory) (a : ℕ) → IsSoundParts m → IsSoundCore c → IsSoundVectors v → IsSoundMemory memory → IsWord a → IsSoundParts (went_on m c v memory a)
+went_on_sound m c v memory a s core vectors mem w = record { core = with_pc_sound c a w core; vectors = vectors; memory = mem; brk = s.brk; ended = s.ended }
 
 trapped_sound : (m : Parts) (kind : TrapKind) (a : ℕ) → IsSoundParts m → IsWord a → IsSoundParts (trapped m kind a)
 trapped_sound m kind a s w = record { core = s.core; vectors = s.vectors; memory = s.memory; brk = s.brk; ended = w }
 
 -- ---- calls
-
-low_bytes_sound : (n : ℕ) (bytes : List ℕ) → IsRegister n bytes → IsRegister n (low_bytes bytes)
-low_bytes_sound n bytes s = record {
-  count = let e : length (low_bytes bytes) ≡ min 16 (length bytes) + (length bytes - 16) = simp (length-append, length-take, length-replicate) in let f : length bytes ≡ n = s.count in omega arith;
-  bytes = all_append IsByte (take 16 bytes) (replicate (length bytes - 16) 0) (all_take IsByte 16 bytes s.bytes) (all_replicate IsByte (length bytes - 16) 0 (omega arith));
-}
-
-no_bits_sound : (n : ℕ) (bits : List Bool) → HasLength n bits → HasLength n (no_bits bits)
-no_bits_sound n bits e = length-replicate (length bits) false ∙ e
-
-after_call_sound : (v : Vectors) → IsSoundVectors v → IsSoundVectors (after_call v)
-after_call_sound v s = record {
-  vector_length = s.vector_length;
-  z_count = length-map v.z low_bytes ∙ s.z_count;
-  z = all_map (IsRegister (v.bits / 8)) (IsRegister (v.bits / 8)) low_bytes (low_bytes_sound (v.bits / 8)) v.z s.z;
-  p_count = length-map v.p no_bits ∙ s.p_count;
-  p = all_map (HasLength (v.bits / 8)) (HasLength (v.bits / 8)) no_bits (no_bits_sound (v.bits / 8)) v.p s.p;
-  ffr = no_bits_sound (v.bits / 8) v.ffr s.ffr;
-}
 
 answered_sound : (c : Core) (v : ℕ) → IsSoundCore c → IsSoundCore (answered_core c v)
 answered_sound c v s = monitor_sound (with_x c 0 64 v) None tt (with_x_sound c 0 64 v (omega arith) s)
@@ -109,13 +79,13 @@ call_sound unknown m input s bytes = quiet_sound (returned m (error_answer 38)) 
 
 -- ---- a step
 
-finished_sound : (m : Parts) (input : List ℕ) (c : Core) (memory : Memory) (e : Effect) → IsSoundParts m → AreBytes input → IsSoundCore c → IsSoundMemory memory → IsSoundEffect e → IsSoundTurn (finished m input c memory e)
-finished_sound m input c memory Next s bytes core mem w = quiet_sound (went_on m c memory (address (c.pc + 4))) input (went_on_sound m c memory (address (c.pc + 4)) s core mem (address_is_word (c.pc + 4))) bytes
-finished_sound m input c memory (Branch a) s bytes core mem w = quiet_sound (went_on m c memory a) input (went_on_sound m c memory a s core mem w) bytes
-finished_sound m input c memory Call s bytes core mem w = call_sound (kind_of_call m) m input s bytes
-finished_sound m input c memory (Trapping t) s bytes core mem w =
-    let n : Parts = record m { core = c; memory = memory } in
-    let sound : IsSoundParts n = record { core = core; vectors = s.vectors; memory = mem; brk = s.brk; ended = s.ended } in
+finished_sound : (m : Parts) (input : List ℕ) (c : Core) (v : Vectors) (memory : Memory) (e : Effect) → IsSoundParts m → AreBytes input → IsSoundCore c → IsSoundVectors v → IsSoundMemory memory → IsSoundEffect e → IsSoundTurn (finished m input c v memory e)
+finished_sound m input c v memory Next s bytes core vectors mem w = quiet_sound (went_on m c v memory (address (c.pc + 4))) input (went_on_sound m c v memory (address (c.pc + 4)) s core vectors mem (address_is_word (c.pc + 4))) bytes
+finished_sound m input c v memory (Branch a) s bytes core vectors mem w = quiet_sound (went_on m c v memory a) input (went_on_sound m c v memory a s core vectors mem w) bytes
+finished_sound m input c v memory Call s bytes core vectors mem w = call_sound (kind_of_call m) m input s bytes
+finished_sound m input c v memory (Trapping t) s bytes core vectors mem w =
+    let n : Parts = record m { core = c; vectors = v; memory = memory } in
+    let sound : IsSoundParts n = record { core = core; vectors = vectors; memory = mem; brk = s.brk; ended = s.ended } in
     quiet_sound (trapped n t.kind t.address) input (trapped_sound n t.kind t.address sound w) bytes
 
 undefined_sound : (m : Parts) (input : List ℕ) → IsSoundParts m → AreBytes input → IsSoundTurn (undefined m input)
@@ -123,12 +93,11 @@ undefined_sound m input s bytes = quiet_sound (trapped m Undefined m.core.pc) in
 
 executed_sound : (m : Parts) (input : List ℕ) (i : Option Insn) → IsSoundParts m → AreBytes input → IsSoundTurn (executed m input i)
 executed_sound m input None s bytes = undefined_sound m input s bytes
-executed_sound m input (Some (Sve form)) s bytes = undefined_sound m input s bytes
-executed_sound m input (Some (A64 form)) s bytes =
-    let d : Done = performed form m.core m.memory in
-    let sound : IsSoundDone d = performed_sound form m.core m.memory s.core s.memory in
-    elim (runs form) as (λ b. IsSoundTurn (if b then finish m input d else undefined m input)) [
-      | true ↦ finished_sound m input d.core d.memory d.effect s bytes sound.core sound.memory sound.effect
+executed_sound m input (Some i) s bytes =
+    let d : Done = performed i m.core m.vectors m.memory in
+    let sound : IsSoundDone d = performed_sound i m.core m.vectors m.memory s.core s.vectors s.memory in
+    elim (runs i) as (λ b. IsSoundTurn (if b then finish m input d else undefined m input)) [
+      | true ↦ finished_sound m input d.core d.vectors d.memory d.effect s bytes sound.core sound.vectors sound.memory sound.effect
       | false ↦ undefined_sound m input s bytes
     ]
 

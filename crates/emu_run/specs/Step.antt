@@ -1,5 +1,5 @@
 -- One step: the word at the program counter is fetched and decoded, and its instruction is done.
-use Rattle.std.specs.Prelude.{ℕ, ◌+◌, ◌%◌, Bool, ◌||◌, List, [], ◌++◌, Option, Some, None, nat_eq, if◌then◌else◌}
+use Rattle.std.specs.Prelude.{ℕ, ◌+◌, ◌%◌, Bool, List, [], ◌++◌, Option, Some, None, nat_eq, if◌then◌else◌}
 use Rattle.emu_bits.specs.Rows.{instruction}
 use Rattle.a64_insn.specs.Table.{a64_table}
 use Rattle.a64_insn.specs.declared.form.A64Form.{A64Form}
@@ -13,11 +13,10 @@ use Rattle.emu_model.specs.declared.trap.Effect.{Effect}
 use Rattle.emu_model.specs.declared.trap.Effect.TheVariants.{Next, Branch, Call, Trap as Trapping}
 use Rattle.emu_model.specs.declared.trap.Ended.TheVariants.{Trap as Trapped}
 use Rattle.emu_model.specs.Access.{Memory, address, refused, value}
-use Rattle.emu_model.specs.State.{Core, Parts, State}
-use Rattle.emu_run.specs.Scalar.{is_data, scalar}
-use Rattle.emu_run.specs.Done.{Done, went_well}
-use Rattle.emu_run.specs.Flow.{is_flow, flow}
-use Rattle.emu_run.specs.LoadStore.{is_load_store, access}
+use Rattle.emu_model.specs.State.{Core, Vectors, Parts, State}
+use Rattle.emu_model.specs.Done.{Done}
+use Rattle.a64_effects.specs.Effects as a64_effects
+use Rattle.sve_effects.specs.Effects as sve_effects
 use Rattle.emu_run.specs.SystemCall.{Turn, quiet, went_on, call}
 use Rattle.emu_run.specs.declared.insn.Insn.{Insn}
 use Rattle.emu_run.specs.declared.insn.Insn.TheVariants.{A64, Sve}
@@ -40,36 +39,36 @@ first_of (Some insn) other = Some insn
 abbrev pub decode : ℕ → Option Insn
 decode w = first_of (a64 (instruction a64_table w)) (sve (instruction sve_table w))
 
--- the A64 rows that run so far: the data rows, branches and system rows, and the loads and stores of general registers; the
--- words of the others, and those of SVE rows, are undefined
-abbrev pub runs : A64Form → Bool
-runs form = is_data form || (is_flow form || is_load_store form)
+-- Not every row runs so far: the words of the others are undefined.
+abbrev pub runs : Insn → Bool
+runs (A64 form) = a64_effects.runs form
+runs (Sve form) = sve_effects.runs form
 
 -- the effect of a row that runs
-abbrev pub performed : A64Form → Core → Memory → Done
-performed form c m = if is_data form then went_well (scalar form c) m else (if is_flow form then flow form c m else access form c m)
+abbrev pub performed : Insn → Core → Vectors → Memory → Done
+performed (A64 form) c v m = a64_effects.performed form c v m
+performed (Sve form) c v m = sve_effects.performed form c v m
 
 -- ends by a trap, with no step counted
 abbrev pub trapped : Parts → TrapKind → ℕ → Parts
 trapped m kind a = record m { ended = Some (Trapped (record { kind = kind; address = a })) }
 
 -- goes on behind the instruction or where it branched, makes its call, or traps
-abbrev pub finished : Parts → List ℕ → Core → Memory → Effect → Turn
-finished m input c memory Next = quiet (went_on m c memory (address (c.pc + 4))) input
-finished m input c memory (Branch a) = quiet (went_on m c memory a) input
-finished m input c memory Call = call m input
-finished m input c memory (Trapping t) = quiet (trapped (record m { core = c; memory = memory }) t.kind t.address) input
+abbrev pub finished : Parts → List ℕ → Core → Vectors → Memory → Effect → Turn
+finished m input c v memory Next = quiet (went_on m c v memory (address (c.pc + 4))) input
+finished m input c v memory (Branch a) = quiet (went_on m c v memory a) input
+finished m input c v memory Call = call m input
+finished m input c v memory (Trapping t) = quiet (trapped (record m { core = c; vectors = v; memory = memory }) t.kind t.address) input
 
 abbrev pub finish : Parts → List ℕ → Done → Turn
-finish m input d = finished m input d.core d.memory d.effect
+finish m input d = finished m input d.core d.vectors d.memory d.effect
 
 abbrev pub undefined : Parts → List ℕ → Turn
 undefined m input = quiet (trapped m Undefined m.core.pc) input
 
 abbrev pub executed : Parts → List ℕ → Option Insn → Turn
 executed m input None = undefined m input
-executed m input (Some (A64 form)) = if runs form then finish m input (performed form m.core m.memory) else undefined m input
-executed m input (Some (Sve form)) = undefined m input
+executed m input (Some i) = if runs i then finish m input (performed i m.core m.vectors m.memory) else undefined m input
 
 abbrev pub fetched : Parts → List ℕ → Option ℕ → Turn
 fetched m input (Some a) = quiet (trapped m Fetch a) input
@@ -84,8 +83,7 @@ turn m input =
 -- call reads or writes, and a refused element isn't.
 abbrev pub executed_accesses : Parts → Option Insn → List Access
 executed_accesses m None = []
-executed_accesses m (Some (A64 form)) = if runs form then (performed form m.core m.memory).accesses else []
-executed_accesses m (Some (Sve form)) = []
+executed_accesses m (Some i) = if runs i then (performed i m.core m.vectors m.memory).accesses else []
 
 abbrev pub fetched_accesses : Parts → Option ℕ → List Access
 fetched_accesses m (Some a) = []

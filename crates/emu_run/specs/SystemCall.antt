@@ -1,10 +1,11 @@
 -- A system call: its number is the low 32 bits of x8, its arguments are x0, x1, x2, and its answer goes to x0.
-use Rattle.std.specs.Prelude.{ℕ, ◌+◌, ◌-◌, ◌%◌, ◌^◌, min, Bool, false, not, ◌||◌, List, [], ◌++◌, length, map, take, replicate, Some, None, is_some, nat_eq, if◌then◌else◌}
+use Rattle.std.specs.Prelude.{ℕ, ◌+◌, ◌-◌, ◌%◌, ◌^◌, min, Bool, not, ◌||◌, List, [], Some, None, is_some, nat_eq, if◌then◌else◌}
 use Rattle.emu_model.specs.declared.access.Kind.TheVariants.{Read}
 use Rattle.emu_model.specs.declared.trap.Ended.TheVariants.{Exit}
 use Rattle.emu_model.specs.Access.{Memory, address, refused}
 use Rattle.emu_model.specs.Pages.{bytes_at}
 use Rattle.emu_model.specs.State.{Core, Parts, Vectors, read_x, with_x, with_pc}
+use Rattle.sve_effects.specs.AfterCall.{after_call}
 
 -- What a step makes of the machine and its input, and the bytes that it puts to file 1 and to file 2.
 pub record Turn : Type 0 where
@@ -18,28 +19,17 @@ abbrev pub quiet : Parts → List ℕ → Turn
 quiet m input = record { parts = m; input = input; output = []; errors = [] }
 
 -- goes on at an address with these registers and this memory, and counts the step
-abbrev pub went_on : Parts → Core → Memory → ℕ → Parts
-went_on m c memory a = record m { core = with_pc c a; memory = memory; steps = m.steps + 1 }
+abbrev pub went_on : Parts → Core → Vectors → Memory → ℕ → Parts
+went_on m c v memory a = record m { core = with_pc c a; vectors = v; memory = memory; steps = m.steps + 1 }
 
 -- ---- what a call that returns leaves
-
--- the low 128 bits of a Z register, zeros above
-abbrev pub low_bytes : List ℕ → List ℕ
-low_bytes bytes = take 16 bytes ++ replicate (length bytes - 16) 0
-
-abbrev pub no_bits : List Bool → List Bool
-no_bits bits = replicate (length bits) false
-
--- the bits above 127 of each Z register, the predicates and FFR are 0
-abbrev pub after_call : Vectors → Vectors
-after_call v = record v { z = map low_bytes v.z; p = map no_bits v.p; ffr = no_bits v.ffr }
 
 -- the answer is in x0, the monitor is empty, and the step goes on behind the call
 abbrev pub answered_core : Core → ℕ → Core
 answered_core c v = record (with_x c 0 64 v) { monitor = None }
 
 abbrev pub returned : Parts → ℕ → Parts
-returned m v = went_on (record m { vectors = after_call m.vectors }) (answered_core m.core v) m.memory (address (m.core.pc + 4))
+returned m v = went_on m (answered_core m.core v) (after_call m.vectors) m.memory (address (m.core.pc + 4))
 
 -- an error is answered as 2^64 less its number
 abbrev pub error_answer : ℕ → ℕ

@@ -4,8 +4,6 @@
 pub mod ending;
 pub mod insn;
 pub mod laws;
-pub mod transfer;
 
 pub use ending::Ending;
 pub use insn::Insn;
-pub use transfer::Transfer;

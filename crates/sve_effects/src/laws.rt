@@ -1,7 +1,12 @@
 //! Laws of the definitions, each the contract of a function that does nothing.
 ghost use Rattle.std.specs.Prelude.{◌≡◌, ◌≢◌, ◌<◌, ◌/◌, ◌%◌, ◌^◌, ℕ, Bool, false, get_or};
-ghost use Rattle.emu_model.specs.State.{Vectors, IsSoundVectors};
+ghost use Rattle.sve_insn.specs.declared.form.SveForm.{SveForm};
+ghost use Rattle.emu_model.specs.Access.{Memory};
+ghost use Rattle.emu_model.specs.SoundDone.{IsSoundDone};
+ghost use Rattle.emu_model.specs.State.{Core, Vectors, IsSoundCore, IsSoundVectors, IsSoundMemory};
 ghost use Rattle.sve_effects.specs.Active.{active};
+ghost use Rattle.sve_effects.specs.AfterCall.{after_call};
+ghost use Rattle.sve_effects.specs.Effects.{performed};
 ghost use Rattle.sve_effects.specs.Lanes.{IsLaneSize, lane, read_z, read_p, with_lanes, with_fields, with_ffr_fields, with_low};
 
 /// Sound vectors are sound after a write, whatever is written: lanes or low bits of a Z register, fields of a predicate or of FFR.
@@ -25,4 +30,12 @@ pub fn lanes_read_as_written()
         → active e (with_ffr_fields e f v).ffr k ≡ f k }
     ensures ffr_between { (e : ℕ) (f : ℕ → Bool) (j : ℕ) (v : Vectors) → j < v.bits / 8 → j % (e / 8) ≢ 0
         → get_or (with_ffr_fields e f v).ffr j false ≡ false }
+{}
+
+/// What an SVE instruction leaves of a sound state is sound, and so are vectors after a call: each number and list keeps its range
+/// and its length.
+pub fn effects_keep_soundness()
+    ensures instructions { (form : SveForm) (c : Core) (v : Vectors) (m : Memory) → IsSoundCore c → IsSoundVectors v → IsSoundMemory m
+        → IsSoundDone (performed form c v m) }
+    ensures calls { (v : Vectors) → IsSoundVectors v → IsSoundVectors (after_call v) }
 {}

@@ -1,6 +1,6 @@
 use Rattle.std.proofs.Common.{sym, ap, ◌∙◌}
 use Rattle.a64_insn.specs.declared.form.A64Form.{A64Form}
-use Rattle.emu_run.specs.LoadStore as table
+use Rattle.a64_effects.specs.LoadStore as table
 use Rattle.a64_flow.proofs.indexed.exec.Goals as goal
 
 pub returns-in-LsPost : goal.returns-in-LsPost

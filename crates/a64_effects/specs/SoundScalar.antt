@@ -20,8 +20,8 @@ use Rattle.emu_bits.specs.Bitmask.{bitmask_of}
 use Rattle.emu_bits.specs.declared.flags.Flags.{Flags}
 use Rattle.emu_model.specs.State.{Core, read_x, with_x, IsSoundCore}
 use Rattle.emu_model.specs.Sound.{with_x_sound, with_x_sp_sound, flags_sound}
-use Rattle.emu_run.specs.ScalarBits.{complement, flags_of_result, lsl, shifted, extracted, field_from, field_bits, field_to}
-use Rattle.emu_run.specs.Scalar.{width_of, operand, operand_sp, with_flags, adr_offset, adr_target, sets_flags, is_sub, addend, after_sum, after_add, after_add_sp, shifted_12, after_add_carry, after_logic, after_logic_reg, after_logic_imm, mask_of, moved, bitfield_moved, compared, otherwise, multiplied, multiplied_long, multiplied_high, of_two, of_one, rev_width, byte_reversed, scalar}
+use Rattle.emu_bits.specs.Operations.{complement, flags_of_result, lsl, shifted, extracted, field_from, field_bits, field_to}
+use Rattle.a64_effects.specs.Scalar.{width_of, operand, operand_sp, with_flags, adr_offset, adr_target, sets_flags, is_sub, addend, after_sum, after_add, after_add_sp, shifted_12, after_add_carry, after_logic, after_logic_reg, after_logic_imm, mask_of, moved, bitfield_moved, compared, otherwise, multiplied, multiplied_long, multiplied_high, of_two, of_one, rev_width, byte_reversed, scalar}
 
 -- ---- widths, of which none passes 64 bits
 

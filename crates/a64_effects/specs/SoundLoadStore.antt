@@ -9,14 +9,14 @@ use Rattle.emu_model.specs.declared.access.Kind.TheVariants.{Read as ReadKind, W
 use Rattle.emu_model.specs.declared.trap.TrapKind.TheVariants.{SpAlign, AccessAlign}
 use Rattle.emu_model.specs.Access.{Memory, refused, stored, value}
 use Rattle.emu_model.specs.Sound.{with_x_sound, with_x_sp_sound, monitor_sound, stored_sound, refused_is_word}
-use Rattle.emu_model.specs.State.{Core, read_x, read_x_sp, with_x, with_x_sp, IsWord, IsSoundCore, IsSoundMemory}
-use Rattle.emu_run.specs.Done.{Done, traps}
-use Rattle.emu_run.specs.Elements.{Element, Reach, reach_from, reach, with_stored}
-use Rattle.emu_run.specs.declared.transfer.Transfer.{Transfer}
-use Rattle.emu_run.specs.declared.transfer.Transfer.TheVariants.{Store, Load, LoadSigned, LoadSigned32, Prefetch}
-use Rattle.emu_run.specs.LoadStore.{transfer_of, near, pair_near, pair_bytes, writes_back, is_kept, elements, has_sp_base, is_misaligned, unless_multiple, misaligned, loaded_value, with_loaded, based, behind, store_as_far, load_as_far, loaded_to, transferred, unless_misaligned, tested, access}
-use Rattle.emu_run.specs.SoundDone.{IsSoundDone, traps_sound}
-use Rattle.emu_run.specs.SoundFlow.{read_x_sp_is_word}
+use Rattle.emu_model.specs.State.{Core, Vectors, read_x, read_x_sp, with_x, with_x_sp, IsWord, IsSoundCore, IsSoundVectors, IsSoundMemory}
+use Rattle.emu_model.specs.Done.{Done, traps}
+use Rattle.emu_model.specs.Elements.{Element, Reach, reach_from, reach, with_stored}
+use Rattle.a64_effects.specs.declared.transfer.Transfer.{Transfer}
+use Rattle.a64_effects.specs.declared.transfer.Transfer.TheVariants.{Store, Load, LoadSigned, LoadSigned32, Prefetch}
+use Rattle.a64_effects.specs.LoadStore.{transfer_of, near, pair_near, pair_bytes, writes_back, is_kept, elements, has_sp_base, is_misaligned, unless_multiple, misaligned, loaded_value, with_loaded, based, behind, store_as_far, load_as_far, loaded_to, transferred, unless_misaligned, tested, access}
+use Rattle.emu_model.specs.SoundDone.{IsSoundDone, traps_sound}
+use Rattle.a64_effects.specs.SoundFlow.{read_x_sp_is_word}
 
 -- ---- how far the elements get
 
@@ -58,31 +58,31 @@ behind_sound form c d s u = u
 
 -- ---- the rows
 
-module _ (c : Core) (m : Memory) (s : IsSoundCore c) (t : IsSoundMemory m) where
+module _ (c : Core) (x : Vectors) (m : Memory) (s : IsSoundCore c) (y : IsSoundVectors x) (t : IsSoundMemory m) where
   module _ (after : Core → Core) (keeps : (d : Core) → IsSoundCore d → IsSoundCore (after d)) where
-    store_sound : (stop : Option ℕ) (es : List Element) → IfSome stop IsWord → IsSoundDone (store_as_far stop es after c m)
-    store_sound None es w = record { core = keeps c s; memory = with_stored_sound (λ e. read_x c e.register) es m t; effect = tt }
-    store_sound (Some a) es w = record { core = s; memory = with_stored_sound (λ e. read_x c e.register) es m t; effect = w }
+    store_sound : (stop : Option ℕ) (es : List Element) → IfSome stop IsWord → IsSoundDone (store_as_far stop es after c x m)
+    store_sound None es w = record { core = keeps c s; vectors = y; memory = with_stored_sound (λ e. read_x c e.register) es m t; effect = tt }
+    store_sound (Some a) es w = record { core = s; vectors = y; memory = with_stored_sound (λ e. read_x c e.register) es m t; effect = w }
 
-    load_sound : (transfer : Transfer) (stop : Option ℕ) (es : List Element) → IfSome stop IsWord → IsSoundDone (load_as_far transfer stop es after c m)
-    load_sound transfer None es w = record { core = keeps (with_loaded transfer m es c) (with_loaded_sound transfer m es c s); memory = t; effect = tt }
-    load_sound transfer (Some a) es w = record { core = s; memory = t; effect = w }
+    load_sound : (transfer : Transfer) (stop : Option ℕ) (es : List Element) → IfSome stop IsWord → IsSoundDone (load_as_far transfer stop es after c x m)
+    load_sound transfer None es w = record { core = keeps (with_loaded transfer m es c) (with_loaded_sound transfer m es c s); vectors = y; memory = t; effect = tt }
+    load_sound transfer (Some a) es w = record { core = s; vectors = y; memory = t; effect = w }
 
-    stored_far : (es : List Element) → IsSoundDone (transferred Store es after c m)
+    stored_far : (es : List Element) → IsSoundDone (transferred Store es after c x m)
     stored_far es = store_sound (reach m WriteKind es).stop (reach m WriteKind es).done (stop_is_word m WriteKind es)
 
-    loaded_far : (transfer : Transfer) (es : List Element) → IsSoundDone (loaded_to transfer (reach m ReadKind es) after c m)
+    loaded_far : (transfer : Transfer) (es : List Element) → IsSoundDone (loaded_to transfer (reach m ReadKind es) after c x m)
     loaded_far transfer es = load_sound transfer (reach m ReadKind es).stop (reach m ReadKind es).done (stop_is_word m ReadKind es)
 
-    transferred_sound : (transfer : Transfer) (es : List Element) → IsSoundDone (transferred transfer es after c m)
+    transferred_sound : (transfer : Transfer) (es : List Element) → IsSoundDone (transferred transfer es after c x m)
     transferred_sound Store es = stored_far es
     transferred_sound Load es = loaded_far Load es
     transferred_sound LoadSigned es = loaded_far LoadSigned es
     transferred_sound LoadSigned32 es = loaded_far LoadSigned32 es
     transferred_sound Prefetch es = loaded_far Prefetch es
 
-  unless_sound : (o : Option ℕ) (d : Done) → IfSome o IsWord → IsSoundDone d → IsSoundDone (unless_misaligned o c m d)
-  unless_sound (Some a) d w h = traps_sound c m AccessAlign a s t w
+  unless_sound : (o : Option ℕ) (d : Done) → IfSome o IsWord → IsSoundDone d → IsSoundDone (unless_misaligned o c x m d)
+  unless_sound (Some a) d w h = traps_sound c x m AccessAlign a s y t w
   unless_sound None d w h = h
 
   multiple_is_word : (a n : ℕ) → IsWord a → IfSome (unless_multiple a n) IsWord
@@ -97,13 +97,13 @@ module _ (c : Core) (m : Memory) (s : IsSoundCore c) (t : IsSoundMemory m) where
   misaligned_is_word (Ordered op size rn rt) = multiple_is_word (read_x_sp c rn) (2 ^ size) (read_x_sp_is_word c rn s)
   misaligned_is_word form = tt
 
-  tested_sound : (has : Bool) (o : Option ℕ) (d : Done) → IfSome o IsWord → IsSoundDone d → IsSoundDone (tested has o c m d)
-  tested_sound has o d w h = elim (is_misaligned has c) as (λ b. IsSoundDone (if b then traps c m SpAlign c.sp else unless_misaligned o c m d)) [
-    | true ↦ traps_sound c m SpAlign c.sp s t s.sp
+  tested_sound : (has : Bool) (o : Option ℕ) (d : Done) → IfSome o IsWord → IsSoundDone d → IsSoundDone (tested has o c x m d)
+  tested_sound has o d w h = elim (is_misaligned has c) as (λ b. IsSoundDone (if b then traps c x m SpAlign c.sp else unless_misaligned o c x m d)) [
+    | true ↦ traps_sound c x m SpAlign c.sp s y t s.sp
     | false ↦ unless_sound o d w h
   ]
 
-  pub access_sound : (form : A64Form) → IsSoundDone (access form c m)
+  pub access_sound : (form : A64Form) → IsSoundDone (access form c x m)
   access_sound form =
-      tested_sound (has_sp_base form) (misaligned form c) (transferred (transfer_of form) (elements form c) (behind form c) c m) (misaligned_is_word form)
+      tested_sound (has_sp_base form) (misaligned form c) (transferred (transfer_of form) (elements form c) (behind form c) c x m) (misaligned_is_word form)
       (transferred_sound (behind form c) (λ d u. behind_sound form c d s u) (transfer_of form) (elements form c))

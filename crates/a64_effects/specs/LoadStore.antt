@@ -10,12 +10,12 @@ use Rattle.emu_model.specs.declared.access.Kind.TheVariants.{Read as ReadKind, W
 use Rattle.emu_model.specs.declared.trap.TrapKind.TheVariants.{SpAlign, AccessAlign, Read, Write}
 use Rattle.emu_model.specs.declared.trap.Effect.TheVariants.{Next, Trap}
 use Rattle.emu_model.specs.Access.{Memory, address, value}
-use Rattle.emu_model.specs.State.{Core, read_x, read_x_sp, with_x, with_x_sp}
-use Rattle.emu_run.specs.declared.transfer.Transfer.{Transfer}
-use Rattle.emu_run.specs.declared.transfer.Transfer.TheVariants.{Store, Load, LoadSigned, LoadSigned32, Prefetch}
-use Rattle.emu_run.specs.Done.{Done, traps}
-use Rattle.emu_run.specs.Elements.{Element, Reach, reach, with_stored, accesses_of}
-use Rattle.emu_run.specs.Flow.{offset, target}
+use Rattle.emu_model.specs.State.{Core, Vectors, read_x, read_x_sp, with_x, with_x_sp}
+use Rattle.a64_effects.specs.declared.transfer.Transfer.{Transfer}
+use Rattle.a64_effects.specs.declared.transfer.Transfer.TheVariants.{Store, Load, LoadSigned, LoadSigned32, Prefetch}
+use Rattle.emu_model.specs.Done.{Done, traps}
+use Rattle.emu_model.specs.Elements.{Element, Reach, reach, with_stored, accesses_of}
+use Rattle.a64_effects.specs.Flow.{offset, target}
 
 -- ---- what is moved
 
@@ -178,36 +178,36 @@ behind (LoadEx op size rn rt) c d = record d { monitor = Some (read_x_sp c rn, 2
 behind form c d = d
 
 -- a store that is refused has stored the elements before
-abbrev pub store_as_far : Option ℕ → List Element → (Core → Core) → Core → Memory → Done
-store_as_far None es after c m = record { core = after c; memory = with_stored (λ e. read_x c e.register) es m; accesses = accesses_of true es; effect = Next }
-store_as_far (Some a) es after c m = record { core = c; memory = with_stored (λ e. read_x c e.register) es m; accesses = accesses_of true es; effect = Trap (record { kind = Write; address = a }) }
+abbrev pub store_as_far : Option ℕ → List Element → (Core → Core) → Core → Vectors → Memory → Done
+store_as_far None es after c w m = record { core = after c; vectors = w; memory = with_stored (λ e. read_x c e.register) es m; accesses = accesses_of true es; effect = Next }
+store_as_far (Some a) es after c w m = record { core = c; vectors = w; memory = with_stored (λ e. read_x c e.register) es m; accesses = accesses_of true es; effect = Trap (record { kind = Write; address = a }) }
 
 -- a load that is refused changes no register
-abbrev pub load_as_far : Transfer → Option ℕ → List Element → (Core → Core) → Core → Memory → Done
-load_as_far t None es after c m = record { core = after (with_loaded t m es c); memory = m; accesses = accesses_of false es; effect = Next }
-load_as_far t (Some a) es after c m = record { core = c; memory = m; accesses = accesses_of false es; effect = Trap (record { kind = Read; address = a }) }
+abbrev pub load_as_far : Transfer → Option ℕ → List Element → (Core → Core) → Core → Vectors → Memory → Done
+load_as_far t None es after c w m = record { core = after (with_loaded t m es c); vectors = w; memory = m; accesses = accesses_of false es; effect = Next }
+load_as_far t (Some a) es after c w m = record { core = c; vectors = w; memory = m; accesses = accesses_of false es; effect = Trap (record { kind = Read; address = a }) }
 
-abbrev pub stored_to : Reach → (Core → Core) → Core → Memory → Done
-stored_to r after c m = store_as_far r.stop r.done after c m
+abbrev pub stored_to : Reach → (Core → Core) → Core → Vectors → Memory → Done
+stored_to r after c w m = store_as_far r.stop r.done after c w m
 
-abbrev pub loaded_to : Transfer → Reach → (Core → Core) → Core → Memory → Done
-loaded_to t r after c m = load_as_far t r.stop r.done after c m
+abbrev pub loaded_to : Transfer → Reach → (Core → Core) → Core → Vectors → Memory → Done
+loaded_to t r after c w m = load_as_far t r.stop r.done after c w m
 
 -- elements stored or loaded one after the other, and what comes after them
-abbrev pub transferred : Transfer → List Element → (Core → Core) → Core → Memory → Done
-transferred Store es after c m = stored_to (reach m WriteKind es) after c m
-transferred t es after c m = loaded_to t (reach m ReadKind es) after c m
+abbrev pub transferred : Transfer → List Element → (Core → Core) → Core → Vectors → Memory → Done
+transferred Store es after c w m = stored_to (reach m WriteKind es) after c w m
+transferred t es after c w m = loaded_to t (reach m ReadKind es) after c w m
 
-abbrev pub unless_misaligned : Option ℕ → Core → Memory → Done → Done
-unless_misaligned (Some a) c m d = traps c m AccessAlign a
-unless_misaligned None c m d = d
+abbrev pub unless_misaligned : Option ℕ → Core → Vectors → Memory → Done → Done
+unless_misaligned (Some a) c w m d = traps c w m AccessAlign a
+unless_misaligned None c w m d = d
 
 -- the tests in their order: the alignment of SP where it is the base, and that of the address
-abbrev pub tested : Bool → Option ℕ → Core → Memory → Done → Done
-tested has at c m d = if is_misaligned has c then traps c m SpAlign c.sp else unless_misaligned at c m d
+abbrev pub tested : Bool → Option ℕ → Core → Vectors → Memory → Done → Done
+tested has at c w m d = if is_misaligned has c then traps c w m SpAlign c.sp else unless_misaligned at c w m d
 
-abbrev pub access : A64Form → Core → Memory → Done
-access form c m = tested (has_sp_base form) (misaligned form c) c m (transferred (transfer_of form) (elements form c) (behind form c) c m)
+abbrev pub access : A64Form → Core → Vectors → Memory → Done
+access form c w m = tested (has_sp_base form) (misaligned form c) c w m (transferred (transfer_of form) (elements form c) (behind form c) c w m)
 
 -- the rows of this page: those of the general registers
 abbrev pub is_load_store : A64Form → Bool

@@ -38,7 +38,7 @@ use Rattle.emu_bits.specs.Numbers.{signed, unsigned_int, sign_extended, extended
 use Rattle.emu_bits.specs.Bitmask.{bitmask_of}
 use Rattle.emu_bits.specs.declared.flags.Flags.{Flags}
 use Rattle.emu_model.specs.State.{Core, read_x, read_x_sp, with_x, with_x_sp}
-use Rattle.emu_run.specs.ScalarBits.{complement, difference, flags_of_result, lsl, lsr, asr, ror, shifted, extracted, replaced, field_from, field_bits, field_to, signed_product, upper_product, signed_upper_product, unsigned_quotient, signed_quotient, reversed_bits, reversed_bytes, leading_zeros, leading_copies}
+use Rattle.emu_bits.specs.Operations.{complement, difference, flags_of_result, lsl, lsr, asr, ror, shifted, extracted, replaced, field_from, field_bits, field_to, signed_product, upper_product, signed_upper_product, unsigned_quotient, signed_quotient, reversed_bits, reversed_bytes, leading_zeros, leading_copies}
 
 -- w is 64 where sf is 1, else 32
 abbrev pub width_of : Bool → ℕ

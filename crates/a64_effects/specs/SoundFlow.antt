@@ -19,11 +19,11 @@ use Rattle.emu_model.specs.declared.trap.TrapKind.TheVariants.{Break, Halt}
 use Rattle.emu_model.specs.Access.{Memory}
 use Rattle.emu_model.specs.Sound.{with_x_sound, flags_sound, monitor_sound, low_is_word}
 use Rattle.emu_model.specs.SoundLists.{all_read}
-use Rattle.emu_model.specs.State.{Core, read_x, read_x_sp, IsWord, IsSoundCore, IsSoundMemory}
-use Rattle.emu_run.specs.Flow.{offset, target, return_address, linked, branches_if, is_taken, tested_bit, digit, is_taken_by, system_value, with_system_value, branched, branched_to, excepted, after_barrier, flow}
-use Rattle.emu_run.specs.Scalar.{width_of, operand}
-use Rattle.emu_run.specs.Done.{went_well, branches}
-use Rattle.emu_run.specs.SoundDone.{IsSoundDone, well_sound, branches_sound, traps_sound}
+use Rattle.emu_model.specs.State.{Core, Vectors, read_x, read_x_sp, IsWord, IsSoundCore, IsSoundVectors, IsSoundMemory}
+use Rattle.a64_effects.specs.Flow.{offset, target, return_address, linked, branches_if, is_taken, tested_bit, digit, is_taken_by, system_value, with_system_value, branched, branched_to, excepted, after_barrier, flow}
+use Rattle.a64_effects.specs.Scalar.{width_of, operand}
+use Rattle.emu_model.specs.Done.{went_well, branches}
+use Rattle.emu_model.specs.SoundDone.{IsSoundDone, well_sound, branches_sound, traps_sound}
 
 -- ---- words
 
@@ -63,36 +63,36 @@ system_sound Nzcv v c w s = flags_sound c (flags_of_number (v / 2 ^ 28 % 16)) s
 
 -- ---- the rows
 
-module _ (c : Core) (m : Memory) (s : IsSoundCore c) (t : IsSoundMemory m) where
-  branches_if_sound : (taken : Bool) (a : ℕ) → IsWord a → IsSoundDone (branches_if taken c m a)
-  branches_if_sound taken a w = elim taken as (λ b. IsSoundDone (if b then branches c m a else went_well c m)) [
-    | true ↦ branches_sound c m a s t w
-    | false ↦ well_sound c m s t
+module _ (c : Core) (v : Vectors) (m : Memory) (s : IsSoundCore c) (u : IsSoundVectors v) (t : IsSoundMemory m) where
+  branches_if_sound : (taken : Bool) (a : ℕ) → IsWord a → IsSoundDone (branches_if taken c v m a)
+  branches_if_sound taken a w = elim taken as (λ b. IsSoundDone (if b then branches c v m a else went_well c v m)) [
+    | true ↦ branches_sound c v m a s u t w
+    | false ↦ well_sound c v m s u t
   ]
 
-  branched_sound : (op : BranchOp) (a : ℕ) → IsWord a → IsSoundDone (branched op c m a)
-  branched_sound B a w = branches_sound c m a s t w
-  branched_sound Bl a w = branches_sound (linked c) m a (linked_sound c s) t w
+  branched_sound : (op : BranchOp) (a : ℕ) → IsWord a → IsSoundDone (branched op c v m a)
+  branched_sound B a w = branches_sound c v m a s u t w
+  branched_sound Bl a w = branches_sound (linked c) v m a (linked_sound c s) u t w
 
-  branched_to_sound : (op : BranchRegOp) (a : ℕ) → IsWord a → IsSoundDone (branched_to op c m a)
-  branched_to_sound Br a w = branches_sound c m a s t w
-  branched_to_sound Blr a w = branches_sound (linked c) m a (linked_sound c s) t w
-  branched_to_sound Ret a w = branches_sound c m a s t w
+  branched_to_sound : (op : BranchRegOp) (a : ℕ) → IsWord a → IsSoundDone (branched_to op c v m a)
+  branched_to_sound Br a w = branches_sound c v m a s u t w
+  branched_to_sound Blr a w = branches_sound (linked c) v m a (linked_sound c s) u t w
+  branched_to_sound Ret a w = branches_sound c v m a s u t w
 
-  excepted_sound : (op : ExceptOp) → IsSoundDone (excepted op c m)
-  excepted_sound Svc = record { core = s; memory = t; effect = tt }
-  excepted_sound Brk = traps_sound c m Break c.pc s t s.pc
-  excepted_sound Hlt = traps_sound c m Halt c.pc s t s.pc
+  excepted_sound : (op : ExceptOp) → IsSoundDone (excepted op c v m)
+  excepted_sound Svc = record { core = s; vectors = u; memory = t; effect = tt }
+  excepted_sound Brk = traps_sound c v m Break c.pc s u t s.pc
+  excepted_sound Hlt = traps_sound c v m Halt c.pc s u t s.pc
 
-  pub flow_sound : (form : A64Form) → IsSoundDone (flow form c m)
+  pub flow_sound : (form : A64Form) → IsSoundDone (flow form c v m)
   flow_sound (Branch op imm26) = branched_sound op (target c 26 imm26) (offset_is_word c.pc (pos 4 *ℤ signed imm26 26))
   flow_sound (BranchCond imm19 cond) = branches_if_sound (cond_holds (cond_of cond) c.flags) (target c 19 imm19) (offset_is_word c.pc (pos 4 *ℤ signed imm19 19))
   flow_sound (Compare op sf imm19 rt) = branches_if_sound (is_taken op (operand (width_of sf) c rt)) (target c 19 imm19) (offset_is_word c.pc (pos 4 *ℤ signed imm19 19))
   flow_sound (Test op b5 b40 imm14 rt) = branches_if_sound (is_taken_by op (digit (read_x c rt) (tested_bit b5 b40))) (target c 14 imm14) (offset_is_word c.pc (pos 4 *ℤ signed imm14 14))
   flow_sound (BranchReg op rn) = branched_to_sound op (read_x c rn) (read_x_is_word c rn s)
   flow_sound (Except op imm16) = excepted_sound op
-  flow_sound (Hint n) = well_sound c m s t
-  flow_sound (Barrier op n) = well_sound (after_barrier op c) m (barrier_sound op c s) t
-  flow_sound (ReadSys op rt) = well_sound _ m (with_x_sound c rt 64 (system_value op c) (omega arith) s) t
-  flow_sound (WriteSys op rt) = well_sound _ m (system_sound op (read_x c rt) c (read_x_is_word c rt s) s) t
-  flow_sound form = well_sound c m s t
+  flow_sound (Hint n) = well_sound c v m s u t
+  flow_sound (Barrier op n) = well_sound (after_barrier op c) v m (barrier_sound op c s) u t
+  flow_sound (ReadSys op rt) = well_sound _ v m (with_x_sound c rt 64 (system_value op c) (omega arith) s) u t
+  flow_sound (WriteSys op rt) = well_sound _ v m (system_sound op (read_x c rt) c (read_x_is_word c rt s) s) u t
+  flow_sound form = well_sound c v m s u t

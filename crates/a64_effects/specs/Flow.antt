@@ -25,9 +25,9 @@ use Rattle.emu_bits.specs.declared.flags.Flags.{Flags}
 use Rattle.emu_model.specs.declared.trap.TrapKind.TheVariants.{Break, Halt}
 use Rattle.emu_model.specs.declared.trap.Effect.TheVariants.{Call}
 use Rattle.emu_model.specs.Access.{Memory, address}
-use Rattle.emu_model.specs.State.{Core, read_x, with_x}
-use Rattle.emu_run.specs.Done.{Done, quietly, went_well, branches, traps}
-use Rattle.emu_run.specs.Scalar.{width_of, operand}
+use Rattle.emu_model.specs.State.{Core, Vectors, read_x, with_x}
+use Rattle.emu_model.specs.Done.{Done, quietly, went_well, branches, traps}
+use Rattle.a64_effects.specs.Scalar.{width_of, operand}
 
 -- ---- targets
 
@@ -47,8 +47,8 @@ return_address c = address (c.pc + 4)
 abbrev pub linked : Core → Core
 linked c = with_x c 30 64 (return_address c)
 
-abbrev pub branches_if : Bool → Core → Memory → ℕ → Done
-branches_if taken c m a = if taken then branches c m a else went_well c m
+abbrev pub branches_if : Bool → Core → Vectors → Memory → ℕ → Done
+branches_if taken c v m a = if taken then branches c v m a else went_well c v m
 
 -- ---- the conditions of branches
 
@@ -100,21 +100,21 @@ is_flow (ReadSys op rt) = true
 is_flow (WriteSys op rt) = true
 is_flow form = false
 
-abbrev pub branched : BranchOp → Core → Memory → ℕ → Done
-branched B c m a = branches c m a
-branched Bl c m a = branches (linked c) m a
+abbrev pub branched : BranchOp → Core → Vectors → Memory → ℕ → Done
+branched B c v m a = branches c v m a
+branched Bl c v m a = branches (linked c) v m a
 
 -- blr reads its register before it writes x30
-abbrev pub branched_to : BranchRegOp → Core → Memory → ℕ → Done
-branched_to Br c m a = branches c m a
-branched_to Blr c m a = branches (linked c) m a
-branched_to Ret c m a = branches c m a
+abbrev pub branched_to : BranchRegOp → Core → Vectors → Memory → ℕ → Done
+branched_to Br c v m a = branches c v m a
+branched_to Blr c v m a = branches (linked c) v m a
+branched_to Ret c v m a = branches c v m a
 
 -- svc asks for a system call
-abbrev pub excepted : ExceptOp → Core → Memory → Done
-excepted Svc c m = quietly c m Call
-excepted Brk c m = traps c m Break c.pc
-excepted Hlt c m = traps c m Halt c.pc
+abbrev pub excepted : ExceptOp → Core → Vectors → Memory → Done
+excepted Svc c v m = quietly c v m Call
+excepted Brk c v m = traps c v m Break c.pc
+excepted Hlt c v m = traps c v m Halt c.pc
 
 -- clrex empties the exclusive monitor; accesses are in order anyway, so the barriers do nothing
 abbrev pub after_barrier : BarrierOp → Core → Core
@@ -123,16 +123,16 @@ after_barrier Dsb c = c
 after_barrier Dmb c = c
 after_barrier Isb c = c
 
-abbrev pub flow : A64Form → Core → Memory → Done
-flow (Branch op imm26) c m = branched op c m (target c 26 imm26)
-flow (BranchCond imm19 cond) c m = branches_if (cond_holds (cond_of cond) c.flags) c m (target c 19 imm19)
-flow (Compare op sf imm19 rt) c m = branches_if (is_taken op (operand (width_of sf) c rt)) c m (target c 19 imm19)
-flow (Test op b5 b40 imm14 rt) c m = branches_if (is_taken_by op (digit (read_x c rt) (tested_bit b5 b40))) c m (target c 14 imm14)
-flow (BranchReg op rn) c m = branched_to op c m (read_x c rn)
-flow (Except op imm16) c m = excepted op c m
-flow (Hint n) c m = went_well c m
-flow (Barrier op n) c m = went_well (after_barrier op c) m
-flow (ReadSys op rt) c m = went_well (with_x c rt 64 (system_value op c)) m
-flow (WriteSys op rt) c m = went_well (with_system_value op (read_x c rt) c) m
+abbrev pub flow : A64Form → Core → Vectors → Memory → Done
+flow (Branch op imm26) c v m = branched op c v m (target c 26 imm26)
+flow (BranchCond imm19 cond) c v m = branches_if (cond_holds (cond_of cond) c.flags) c v m (target c 19 imm19)
+flow (Compare op sf imm19 rt) c v m = branches_if (is_taken op (operand (width_of sf) c rt)) c v m (target c 19 imm19)
+flow (Test op b5 b40 imm14 rt) c v m = branches_if (is_taken_by op (digit (read_x c rt) (tested_bit b5 b40))) c v m (target c 14 imm14)
+flow (BranchReg op rn) c v m = branched_to op c v m (read_x c rn)
+flow (Except op imm16) c v m = excepted op c v m
+flow (Hint n) c v m = went_well c v m
+flow (Barrier op n) c v m = went_well (after_barrier op c) v m
+flow (ReadSys op rt) c v m = went_well (with_x c rt 64 (system_value op c)) v m
+flow (WriteSys op rt) c v m = went_well (with_system_value op (read_x c rt) c) v m
 -- the other rows stand elsewhere
-flow form c m = went_well c m
+flow form c v m = went_well c v m

@@ -1,0 +1,12 @@
+//! Laws of the definitions, each the contract of a function that does nothing.
+ghost use Rattle.a64_insn.specs.declared.form.A64Form.{A64Form};
+ghost use Rattle.emu_model.specs.Access.{Memory};
+ghost use Rattle.emu_model.specs.SoundDone.{IsSoundDone};
+ghost use Rattle.emu_model.specs.State.{Core, Vectors, IsSoundCore, IsSoundVectors, IsSoundMemory};
+ghost use Rattle.a64_effects.specs.Effects.{performed};
+
+/// What an A64 instruction leaves of a sound state is sound: each number and list keeps its range and its length.
+pub fn effects_keep_soundness()
+    ensures { (form : A64Form) (c : Core) (v : Vectors) (m : Memory) → IsSoundCore c → IsSoundVectors v → IsSoundMemory m
+        → IsSoundDone (performed form c v m) }
+{}
