@@ -1,8 +1,13 @@
 pub mod Active
 pub mod AfterCall
 pub mod Effects
+pub mod Element
+pub mod ElementLoop
 pub mod FirstLast
 pub mod Lanes
 pub mod Pattern
 pub mod Predicate
 pub mod SoundEffects
+pub mod SoundLanes
+pub mod SoundVectorData
+pub mod VectorData
