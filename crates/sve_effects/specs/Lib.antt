@@ -7,7 +7,9 @@ pub mod FirstLast
 pub mod Lanes
 pub mod Pattern
 pub mod Predicate
+pub mod PredicateRows
 pub mod SoundEffects
 pub mod SoundLanes
+pub mod SoundPredicate
 pub mod SoundVectorData
 pub mod VectorData
