@@ -1,6 +1,12 @@
 pub mod Effects
 pub mod Element
 pub mod ElementLoop
+pub mod FirstLast
+pub mod Pattern
+pub mod Predicate
+pub mod PredicateRows
 pub mod SoundEffects
+pub mod SoundPredicate
 pub mod SoundVectorData
 pub mod VectorData
+pub mod VectorElements

@@ -4,5 +4,7 @@
 
 pub mod elements;
 pub mod laws;
+pub mod predicates;
 
 pub use elements::{ElementOp, ElementTest};
+pub use predicates::{LogicOp, WhileTest};
