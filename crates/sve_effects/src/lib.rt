@@ -5,3 +5,6 @@
 #![tactic(auto)]
 
 pub mod laws;
+pub mod places;
+
+pub use places::Place;
