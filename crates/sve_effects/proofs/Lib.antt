@@ -1,4 +1,5 @@
 pub mod Each
 pub mod FieldBits
+pub mod Found
 pub mod LaneBytes
 pub mod Written

@@ -1,7 +1,17 @@
 pub mod Active
 pub mod AfterCall
+pub mod Counts
 pub mod Effects
+pub mod Element
+pub mod ElementLoop
+pub mod FirstLast
+pub mod Fold
 pub mod Lanes
+pub mod Pattern
 pub mod Permute
 pub mod PermuteRows
+pub mod Predicate
 pub mod SoundEffects
+pub mod SoundLanes
+pub mod SoundVectorData
+pub mod VectorData

@@ -1,5 +1,5 @@
 -- What the permutes of lanes and of predicate fields do, and copies of scalars to lanes and of lanes to scalars.
-use Rattle.std.specs.Prelude.{ℕ, ◌+◌, ◌*◌, ◌/◌, ◌%◌, ◌^◌, Bool, true, false, nat_eq, if◌then◌else◌, List, get_or, Option, is_some}
+use Rattle.std.specs.Prelude.{ℕ, ◌+◌, ◌*◌, ◌/◌, ◌%◌, ◌^◌, Bool, true, false, nat_eq, if◌then◌else◌, List, get_or, is_some}
 use Rattle.sve_insn.specs.declared.form.SveForm.{SveForm}
 use Rattle.sve_insn.specs.declared.form.SveForm.TheVariants.{DupReg, DupLane, Insert, RevZ, Unpack, Table, Interleave, InterleaveP, UnpackP, RevP, Compact, Splice, Ext, CopyReg, Last, CondLast}
 use Rattle.sve_insn.specs.declared.ops.InsertOp.{InsertOp}
@@ -14,7 +14,6 @@ use Rattle.sve_insn.specs.declared.ops.LastOp.{LastOp}
 use Rattle.sve_insn.specs.declared.ops.LastOp.TheVariants.{LastaR, LastbR, LastaV, LastbV}
 use Rattle.sve_insn.specs.declared.ops.CondLastOp.{CondLastOp}
 use Rattle.sve_insn.specs.declared.ops.CondLastOp.TheVariants.{ClastaR, ClastbR, ClastaV, ClastbV, ClastaZ, ClastbZ}
-use Rattle.emu_bits.specs.Numbers.{sign_extended}
 use Rattle.emu_model.specs.Done.{Registers}
 use Rattle.emu_model.specs.State.{Core, Vectors, read_x, read_x_sp, with_x}
 use Rattle.sve_effects.specs.ElementLoop.{lane_bits, lane_of, is_active}
@@ -22,7 +21,7 @@ use Rattle.sve_effects.specs.FirstLast.{last_where}
 use Rattle.sve_effects.specs.Lanes.{read_p, with_lanes, with_low, with_fields}
 use Rattle.sve_effects.specs.declared.places.Place.{Place}
 use Rattle.sve_effects.specs.declared.places.Place.TheVariants.{Scalar}
-use Rattle.sve_effects.specs.Permute.{taken, interleave_place, ext_place, rev_place, insr_place, indexed_place, half_place, copy_place, compact_place, splice_place, last_lane}
+use Rattle.sve_effects.specs.Permute.{taken, interleave_place, ext_place, rev_place, insr_place, indexed_place, half_place, widened, copy_place, compact_place, splice_place, last_lane}
 
 -- ---- lanes and fields by places
 
@@ -63,12 +62,12 @@ is_high Sunpkhi = true
 is_high Uunpklo = false
 is_high Uunpkhi = true
 
--- a number of e / 2 bits, extended to e bits
-abbrev pub unpacked : UnpackOp → ℕ → ℕ → ℕ
-unpacked Sunpklo e x = sign_extended e (e / 2) x
-unpacked Sunpkhi e x = sign_extended e (e / 2) x
-unpacked Uunpklo e x = x
-unpacked Uunpkhi e x = x
+-- the names with s before them
+abbrev pub is_signed : UnpackOp → Bool
+is_signed Sunpklo = true
+is_signed Sunpkhi = true
+is_signed Uunpklo = false
+is_signed Uunpkhi = false
 
 abbrev pub is_high_p : UnpackPOp → Bool
 is_high_p Punpklo = false
@@ -120,6 +119,7 @@ last_value_or other after e pg zn v = if any_active (is_active e v pg) (lanes e 
 abbrev pub leaves : Core → Vectors → Registers
 leaves c v = record { core = c; vectors = v }
 
+-- the permutes, the copies to lanes, and the lanes that a predicate's last active one names
 abbrev pub is_permute : SveForm → Bool
 is_permute (DupReg size rn zd) = true
 is_permute (DupLane imm2 tsz zn zd) = true
@@ -166,7 +166,7 @@ after_cond_last ClastbZ e pg zm zdn c v = cond_last_lanes false e pg zm zdn c v
 
 -- the lanes of half the size, extended
 abbrev pub after_unpack : UnpackOp → ℕ → ℕ → ℕ → Vectors → Vectors
-after_unpack op e zn zd v = with_lanes e (λ k. unpacked op e (taken (lane_of (e / 2) v zn) (lane_of (e / 2) v zn) 0 0 (half_place (is_high op) (lanes e v) k))) zd v
+after_unpack op e zn zd v = with_lanes e (λ k. widened (is_signed op) e (e / 2) (taken (lane_of (e / 2) v zn) (lane_of (e / 2) v zn) 0 0 (half_place (is_high op) (lanes e v) k))) zd v
 
 -- field k of 2 bits has bit k of the half of Pn as its lowest bit, and 0 above
 abbrev pub after_unpack_p : UnpackPOp → ℕ → ℕ → Vectors → Vectors
