@@ -13,5 +13,6 @@ pub mod PermuteRows
 pub mod Predicate
 pub mod SoundEffects
 pub mod SoundLanes
+pub mod SoundPermute
 pub mod SoundVectorData
 pub mod VectorData
