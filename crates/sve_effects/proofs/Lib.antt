@@ -1,3 +1,4 @@
+pub mod ActiveLanes
 pub mod Each
 pub mod FieldBits
 pub mod Found
