@@ -1,6 +1,2 @@
 pub mod ActiveLanes
-pub mod Each
-pub mod FieldBits
 pub mod Found
-pub mod LaneBytes
-pub mod Written

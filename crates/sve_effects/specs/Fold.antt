@@ -10,7 +10,7 @@ use Rattle.emu_model.specs.Done.{Registers}
 use Rattle.emu_model.specs.State.{Core, Vectors}
 use Rattle.sve_effects.specs.Element.{element}
 use Rattle.sve_effects.specs.ElementLoop.{lane_bits, folding}
-use Rattle.sve_effects.specs.Lanes.{with_low}
+use Rattle.vec_model.specs.Lanes.{with_low}
 use Rattle.sve_effects.specs.PermuteRows.{leaves}
 
 -- the next value, of the value so far and a lane of e bits; sums are of the signed or the unsigned lanes, modulo 2^64

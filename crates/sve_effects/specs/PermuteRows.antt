@@ -18,7 +18,7 @@ use Rattle.emu_model.specs.Done.{Registers}
 use Rattle.emu_model.specs.State.{Core, Vectors, read_x, read_x_sp, with_x}
 use Rattle.sve_effects.specs.ElementLoop.{lane_bits, lane_of, is_active}
 use Rattle.sve_effects.specs.FirstLast.{last_where}
-use Rattle.sve_effects.specs.Lanes.{read_p, with_lanes, with_low, with_fields}
+use Rattle.vec_model.specs.Lanes.{read_p, with_lanes, with_low, with_fields}
 use Rattle.sve_effects.specs.declared.places.Place.{Place}
 use Rattle.sve_effects.specs.declared.places.Place.TheVariants.{Scalar}
 use Rattle.sve_effects.specs.Permute.{taken, interleave_place, ext_place, rev_place, insr_place, indexed_place, half_place, widened, copy_place, compact_place, splice_place, last_lane}
