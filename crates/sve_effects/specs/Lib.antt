@@ -1,11 +1,16 @@
+pub mod Counts
 pub mod Effects
 pub mod Element
 pub mod ElementLoop
 pub mod FirstLast
+pub mod Fold
 pub mod Pattern
+pub mod Permute
+pub mod PermuteRows
 pub mod Predicate
 pub mod PredicateRows
 pub mod SoundEffects
+pub mod SoundPermute
 pub mod SoundPredicate
 pub mod SoundVectorData
 pub mod VectorData

@@ -1,5 +1,4 @@
 pub mod Each
 pub mod FieldBits
-pub mod Found
 pub mod LaneBytes
 pub mod Written
