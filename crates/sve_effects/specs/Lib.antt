@@ -2,6 +2,7 @@ pub mod Counts
 pub mod Effects
 pub mod Element
 pub mod ElementLoop
+pub mod FirstFault
 pub mod FirstLast
 pub mod Fold
 pub mod Pattern
@@ -15,3 +16,4 @@ pub mod SoundPredicate
 pub mod SoundVectorData
 pub mod VectorData
 pub mod VectorElements
+pub mod VectorLoadStore
