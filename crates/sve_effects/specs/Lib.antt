@@ -14,6 +14,7 @@ pub mod SoundEffects
 pub mod SoundPermute
 pub mod SoundPredicate
 pub mod SoundVectorData
+pub mod SoundVectorMemory
 pub mod VectorData
 pub mod VectorElements
 pub mod VectorLoadStore
