@@ -175,20 +175,26 @@ loaded_value LoadSigned n v = sign_extended 64 (8 * n) v
 loaded_value LoadSigned32 n v = sign_extended 32 (8 * n) v
 loaded_value t n v = v
 
--- the registers with an element loaded
-abbrev pub with_element : Transfer → Memory → Element → Registers → Registers
-with_element LoadVector m e r = record r { vectors = with_low (8 * e.bytes) (value m e.address e.bytes) e.register r.vectors }
-with_element t m e r = record r { core = with_x r.core e.register 64 (loaded_value t e.bytes (value m e.address e.bytes)) }
+-- the element's register is a vector register
+abbrev pub is_vector : Transfer → Bool
+is_vector StoreVector = true
+is_vector LoadVector = true
+is_vector t = false
+
+-- the registers with n bytes of value x loaded to register rt: the low bytes of a vector register, with zeros above, or a general register
+abbrev pub with_element : Transfer → ℕ → ℕ → ℕ → Registers → Registers
+with_element t rt n x r =
+    if is_vector t then record { core = r.core; vectors = with_low (8 * n) x rt r.vectors }
+    else record { core = with_x r.core rt 64 (loaded_value t n x); vectors = r.vectors }
 
 -- the same of elements in order
 abbrev pub with_loaded : Transfer → Memory → List Element → Registers → Registers
 with_loaded t m [] r = r
-with_loaded t m (e ∷ es) r = with_loaded t m es (with_element t m e r)
+with_loaded t m (e ∷ es) r = with_loaded t m es (with_element t e.register e.bytes (value m e.address e.bytes) r)
 
--- what a store takes an element's bytes from: a general register, or the low 128 bits of a vector register
-abbrev pub stored_value : Transfer → Core → Vectors → Element → ℕ
-stored_value StoreVector c w e = lane 128 (read_z w e.register) 0
-stored_value t c w e = read_x c e.register
+-- what a store takes its bytes from: the low 128 bits of a vector register, or a general register
+abbrev pub stored_value : Transfer → Core → Vectors → ℕ → ℕ
+stored_value t c w rt = if is_vector t then lane 128 (read_z w rt) 0 else read_x c rt
 
 -- behind an access that was done: the base is written back, with an address made of the old one
 abbrev pub based : Bool → Core → ℕ → ℕ → Core
@@ -209,8 +215,8 @@ behind form c d = d
 
 -- a store that is refused has stored the elements before
 abbrev pub store_as_far : Transfer → Option ℕ → List Element → (Core → Core) → Core → Vectors → Memory → Done
-store_as_far t None es after c w m = record { core = after c; vectors = w; memory = with_stored (stored_value t c w) es m; accesses = accesses_of true es; effect = Next }
-store_as_far t (Some a) es after c w m = record { core = c; vectors = w; memory = with_stored (stored_value t c w) es m; accesses = accesses_of true es; effect = Trap (record { kind = Write; address = a }) }
+store_as_far t None es after c w m = record { core = after c; vectors = w; memory = with_stored (λ e. stored_value t c w e.register) es m; accesses = accesses_of true es; effect = Next }
+store_as_far t (Some a) es after c w m = record { core = c; vectors = w; memory = with_stored (λ e. stored_value t c w e.register) es m; accesses = accesses_of true es; effect = Trap (record { kind = Write; address = a }) }
 
 -- a load that is done leaves these registers, and what comes behind
 abbrev pub went_with : Registers → (Core → Core) → List Element → Memory → Done

@@ -10,12 +10,13 @@ use Rattle.emu_model.specs.Access.{Memory, value}
 use Rattle.emu_model.specs.Sound.{with_x_sound, with_x_sp_sound, monitor_sound}
 use Rattle.emu_model.specs.State.{Core, Vectors, read_x, read_x_sp, with_x, with_x_sp, IsWord, IsSoundCore, IsSoundVectors, IsSoundMemory}
 use Rattle.emu_model.specs.Done.{Done, Registers, traps}
+use Rattle.vec_model.specs.Lanes.{with_low}
 use Rattle.vec_model.specs.SoundLanes.{sound_low}
 use Rattle.emu_model.specs.Elements.{Element, reach}
 use Rattle.emu_model.specs.SoundElements.{stop_is_word, with_stored_sound}
 use Rattle.a64_effects.specs.declared.transfer.Transfer.{Transfer}
 use Rattle.a64_effects.specs.declared.transfer.Transfer.TheVariants.{Store, Load, LoadSigned, LoadSigned32, Prefetch, StoreVector, LoadVector}
-use Rattle.a64_effects.specs.LoadStore.{transfer_of, near, pair_near, pair_bytes, writes_back, is_kept, elements, has_sp_base, is_misaligned, unless_multiple, misaligned, loaded_value, with_element, with_loaded, stored_value, based, behind, store_as_far, went_with, load_as_far, stored_to, loaded_to, transferred, unless_misaligned, tested, access}
+use Rattle.a64_effects.specs.LoadStore.{transfer_of, near, pair_near, pair_bytes, writes_back, is_kept, elements, has_sp_base, is_misaligned, unless_multiple, misaligned, loaded_value, is_vector, with_element, with_loaded, stored_value, based, behind, store_as_far, went_with, load_as_far, stored_to, loaded_to, transferred, unless_misaligned, tested, access}
 use Rattle.emu_model.specs.SoundDone.{IsSoundDone, traps_sound}
 use Rattle.a64_effects.specs.SoundFlow.{read_x_sp_is_word}
 
@@ -25,21 +26,17 @@ record AreSound (r : Registers) : Type 0 where
   core : IsSoundCore r.core
   vectors : IsSoundVectors r.vectors
 
-general_sound : (r : Registers) (register v : ℕ) → AreSound r → AreSound (record r { core = with_x r.core register 64 v })
-general_sound r register v s = record { core = with_x_sound r.core register 64 v (omega arith) s.core; vectors = s.vectors }
-
-with_element_sound : (transfer : Transfer) (m : Memory) (e : Element) (r : Registers) → AreSound r → AreSound (with_element transfer m e r)
-with_element_sound Store m e r s = general_sound r e.register (loaded_value Store e.bytes (value m e.address e.bytes)) s
-with_element_sound Load m e r s = general_sound r e.register (loaded_value Load e.bytes (value m e.address e.bytes)) s
-with_element_sound LoadSigned m e r s = general_sound r e.register (loaded_value LoadSigned e.bytes (value m e.address e.bytes)) s
-with_element_sound LoadSigned32 m e r s = general_sound r e.register (loaded_value LoadSigned32 e.bytes (value m e.address e.bytes)) s
-with_element_sound Prefetch m e r s = general_sound r e.register (loaded_value Prefetch e.bytes (value m e.address e.bytes)) s
-with_element_sound StoreVector m e r s = general_sound r e.register (loaded_value StoreVector e.bytes (value m e.address e.bytes)) s
-with_element_sound LoadVector m e r s = record { core = s.core; vectors = sound_low (8 * e.bytes) (value m e.address e.bytes) e.register r.vectors s.vectors }
+with_element_sound : (transfer : Transfer) (rt n v : ℕ) (r : Registers) → AreSound r → AreSound (with_element transfer rt n v r)
+with_element_sound transfer rt n v r s = elim (is_vector transfer) as (λ b. AreSound (if b then record { core = r.core; vectors = with_low (8 * n) v rt r.vectors } else record { core = with_x r.core rt 64 (loaded_value transfer n v); vectors = r.vectors })) [
+  | true ↦ record { core = s.core; vectors = sound_low (8 * n) v rt r.vectors s.vectors }
+  | false ↦ record { core = with_x_sound r.core rt 64 (loaded_value transfer n v) (omega arith) s.core; vectors = s.vectors }
+]
 
 with_loaded_sound : (transfer : Transfer) (m : Memory) (es : List Element) (r : Registers) → AreSound r → AreSound (with_loaded transfer m es r)
 with_loaded_sound transfer m [] r s = s
-with_loaded_sound transfer m (e ∷ es) r s = with_loaded_sound transfer m es (with_element transfer m e r) (with_element_sound transfer m e r s)
+with_loaded_sound transfer m (e ∷ es) r s =
+    let v : ℕ = value m e.address e.bytes in
+    with_loaded_sound transfer m es (with_element transfer e.register e.bytes v r) (with_element_sound transfer e.register e.bytes v r s)
 
 -- ---- what stands behind an access
 
@@ -64,8 +61,8 @@ behind_sound form c d s u = u
 module _ (c : Core) (x : Vectors) (m : Memory) (s : IsSoundCore c) (y : IsSoundVectors x) (t : IsSoundMemory m) where
   module _ (after : Core → Core) (keeps : (d : Core) → IsSoundCore d → IsSoundCore (after d)) where
     store_sound : (transfer : Transfer) (stop : Option ℕ) (es : List Element) → IfSome stop IsWord → IsSoundDone (store_as_far transfer stop es after c x m)
-    store_sound transfer None es w = record { core = keeps c s; vectors = y; memory = with_stored_sound (stored_value transfer c x) es m t; effect = tt }
-    store_sound transfer (Some a) es w = record { core = s; vectors = y; memory = with_stored_sound (stored_value transfer c x) es m t; effect = w }
+    store_sound transfer None es w = record { core = keeps c s; vectors = y; memory = with_stored_sound (λ e. stored_value transfer c x e.register) es m t; effect = tt }
+    store_sound transfer (Some a) es w = record { core = s; vectors = y; memory = with_stored_sound (λ e. stored_value transfer c x e.register) es m t; effect = w }
 
     went_sound : (r : Registers) (es : List Element) → AreSound r → IsSoundDone (went_with r after es m)
     went_sound r es u = record { core = keeps r.core u.core; vectors = u.vectors; memory = t; effect = tt }
