@@ -72,7 +72,7 @@ fn store_one(
         ≡ followed_by after result core.now vec.now mem.new log.new.items }
 {
     let v = stored_value(core, vec, t, rt);
-    store(mem, log, address, n, v)
+    store(mem, log, v, address, n)
 }
 
 /// Loads one register.
@@ -148,8 +148,8 @@ fn store_couple(
 {
     let first = stored_value(core, vec, t, rt);
     let second = stored_value(core, vec, t, rt2);
-    store(mem, log, address, n, first)?;
-    store(mem, log, address.wrapping_add(n as u64), n, second)
+    store(mem, log, first, address, n)?;
+    store(mem, log, second, address.wrapping_add(n as u64), n)
 }
 
 /// Loads two registers, one behind the other, or none.
