@@ -1,4 +1,2 @@
-pub mod Each
-pub mod FieldBits
-pub mod LaneBytes
-pub mod Written
+pub mod ActiveLanes
+pub mod Found

@@ -1,7 +1,7 @@
 //! Comparisons of two lanes.
 ghost use Rattle.std.specs.Prelude.{◌≡◌};
 ghost use Rattle.sve_effects.specs.Element.{element_test};
-ghost use Rattle.sve_effects.specs.Lanes.{IsLaneSize};
+ghost use Rattle.vec_model.specs.Lanes.{IsLaneSize};
 
 use emu_bits::sext;
 use sve_effects::ElementTest;

@@ -1,7 +1,7 @@
 //! Functions of two lanes, by name.
 ghost use Rattle.std.specs.Prelude.{◌≡◌, ◌<◌, ◌^◌};
 ghost use Rattle.sve_effects.specs.Element.{element};
-ghost use Rattle.sve_effects.specs.Lanes.{IsLaneSize};
+ghost use Rattle.vec_model.specs.Lanes.{IsLaneSize};
 
 use crate::logic::{and, bic, eor, orr};
 use crate::products::{mul, sdiv, smulh, udiv, umulh};

@@ -3,7 +3,7 @@ ghost use Rattle.std.specs.Prelude.{◌≡◌, ◌<◌, ◌≤◌, ◌^◌, unsi
 ghost use Rattle.sve_effects.specs.declared.elements.ElementOp.{ElementOp};
 ghost use Rattle.sve_effects.specs.Element as table;
 ghost use Rattle.sve_effects.specs.Element.{element};
-ghost use Rattle.sve_effects.specs.Lanes.{IsLaneSize};
+ghost use Rattle.vec_model.specs.Lanes.{IsLaneSize};
 ghost use Rattle.emu_bits.specs.Numbers.{quotient};
 
 use crate::numbers::{difference, low, product, scaled_down, sum, unsigned, wrapped};

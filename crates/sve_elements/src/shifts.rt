@@ -4,7 +4,7 @@ ghost use Rattle.std.specs.Int.{int_shr};
 ghost use Rattle.emu_bits.specs.Numbers.{quotient};
 ghost use Rattle.sve_effects.specs.declared.elements.ElementOp.{ElementOp};
 ghost use Rattle.sve_effects.specs.Element.{element};
-ghost use Rattle.sve_effects.specs.Lanes.{IsLaneSize};
+ghost use Rattle.vec_model.specs.Lanes.{IsLaneSize};
 
 use crate::numbers::{low, narrowed, unsigned, wrapped};
 use emu_bits::{low_bits, sext};

@@ -2,7 +2,7 @@
 ghost use Rattle.std.specs.Prelude.{◌≡◌, ◌<◌, ◌^◌};
 ghost use Rattle.sve_effects.specs.declared.elements.ElementOp.{ElementOp};
 ghost use Rattle.sve_effects.specs.Element.{element};
-ghost use Rattle.sve_effects.specs.Lanes.{IsLaneSize};
+ghost use Rattle.vec_model.specs.Lanes.{IsLaneSize};
 
 use crate::numbers::{
     difference, low, narrowed, rest, saturated_signed, saturated_unsigned, signed, sum, unsigned,

@@ -1,0 +1,47 @@
+-- Lanes and fields read as what was written.
+use Rattle.std.proofs.Common.{◌≡◌, ◌≢◌, ◌<◌, ◌≤◌, ◌+◌, ◌*◌, ◌/◌, ◌%◌, ◌^◌, ℕ, Bool, false, List, [], length, get_or, ap, ◌∙◌, arith}
+use Rattle.std.proofs.lemmas.List.{get_or-set_same}
+use Rattle.emu_model.specs.Lists.{each}
+use Rattle.emu_model.specs.State.{Vectors, IsSoundVectors}
+use Rattle.vec_model.specs.Active.{active}
+use Rattle.vec_model.specs.Lanes.{IsLaneSize, lane, read_z, read_p, byte_in, field_bit, with_p, with_lanes, with_fields, with_ffr_fields}
+use Rattle.vec_model.proofs.Each.{get_or-each}
+use Rattle.vec_model.proofs.FieldBits.{at_start, between}
+use Rattle.vec_model.proofs.LaneBytes.{lane_of_lanes, some_bytes, within_bytes}
+
+pub lanes_read : (e : ℕ) (f : ℕ → ℕ) (zd k : ℕ) (v : Vectors) → IsSoundVectors v → IsLaneSize e → zd < 32 → k < v.bits / e → lane e (read_z (with_lanes e f zd v) zd) k ≡ f k % 2 ^ e
+lanes_read e f zd k v h size r within =
+    let there : zd < length v.z = omega (arith, h.z_count) in
+    ap (λ (bs : List ℕ). lane e bs k) (get_or-set_same v.z zd (each (v.bits / 8) (byte_in (e / 8) f)) [] there)
+    ∙ lane_of_lanes f (v.bits / 8) e k size (within_bytes e k v.bits size within)
+
+field_read : (e n : ℕ) (f : ℕ → Bool) (k : ℕ) → 0 < e / 8 → k * (e / 8) + e / 8 ≤ n → active e (each n (field_bit (e / 8) f)) k ≡ f k
+field_read e n f k some le =
+    let h : k * (e / 8) < n = omega arith in
+    get_or-each n (field_bit (e / 8) f) (k * (e / 8)) false h ∙ at_start k (e / 8) f some
+
+bit_between : (e n : ℕ) (f : ℕ → Bool) (j : ℕ) → j < n → j % (e / 8) ≢ 0 → get_or (each n (field_bit (e / 8) f)) j false ≡ false
+bit_between e n f j h other =
+    let some : 0 < j % (e / 8) = omega arith in
+    get_or-each n (field_bit (e / 8) f) j false h ∙ between (e / 8) j f some
+
+written_p : (pd : ℕ) (v : Vectors) (bits : List Bool) → IsSoundVectors v → pd < 16 → read_p (with_p v pd bits) pd ≡ bits
+written_p pd v bits h r =
+    let there : pd < length v.p = omega (arith, h.p_count) in
+    get_or-set_same v.p pd bits [] there
+
+pub fields_read : (e : ℕ) (f : ℕ → Bool) (pd k : ℕ) (v : Vectors) → IsSoundVectors v → IsLaneSize e → pd < 16 → k < v.bits / e → active e (read_p (with_fields e f pd v) pd) k ≡ f k
+fields_read e f pd k v h size r within =
+    ap (λ (bs : List Bool). active e bs k) (written_p pd v (each (v.bits / 8) (field_bit (e / 8) f)) h r)
+    ∙ field_read e (v.bits / 8) f k (some_bytes e size) (within_bytes e k v.bits size within)
+
+pub fields_between : (e : ℕ) (f : ℕ → Bool) (pd j : ℕ) (v : Vectors) → IsSoundVectors v → pd < 16 → j < v.bits / 8 → j % (e / 8) ≢ 0 → get_or (read_p (with_fields e f pd v) pd) j false ≡ false
+fields_between e f pd j v h r within other =
+    ap (λ (bs : List Bool). get_or bs j false) (written_p pd v (each (v.bits / 8) (field_bit (e / 8) f)) h r)
+    ∙ bit_between e (v.bits / 8) f j within other
+
+pub ffr_read : (e : ℕ) (f : ℕ → Bool) (k : ℕ) (v : Vectors) → IsLaneSize e → k < v.bits / e → active e (with_ffr_fields e f v).ffr k ≡ f k
+ffr_read e f k v size within = field_read e (v.bits / 8) f k (some_bytes e size) (within_bytes e k v.bits size within)
+
+pub ffr_between : (e : ℕ) (f : ℕ → Bool) (j : ℕ) (v : Vectors) → j < v.bits / 8 → j % (e / 8) ≢ 0 → get_or (with_ffr_fields e f v).ffr j false ≡ false
+ffr_between e f j v within other = bit_between e (v.bits / 8) f j within other

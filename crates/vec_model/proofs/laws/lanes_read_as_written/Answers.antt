@@ -1,0 +1,17 @@
+use Rattle.vec_model.proofs.Written.{lanes_read, fields_read, fields_between, ffr_read, ffr_between}
+use Rattle.vec_model.proofs.laws.lanes_read_as_written.Goals as goal
+
+pub returns-clause-lanes : goal.returns-clause-lanes
+returns-clause-lanes c = lanes_read
+
+pub returns-clause-fields : goal.returns-clause-fields
+returns-clause-fields c = fields_read
+
+pub returns-clause-between : goal.returns-clause-between
+returns-clause-between c = fields_between
+
+pub returns-clause-ffr : goal.returns-clause-ffr
+returns-clause-ffr c = ffr_read
+
+pub returns-clause-ffr_between : goal.returns-clause-ffr_between
+returns-clause-ffr_between c = ffr_between
