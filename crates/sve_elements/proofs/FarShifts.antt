@@ -1,5 +1,5 @@
 -- Shifts by more than a register's bits.
-use Rattle.std.proofs.Common.{◌≡◌, ℕ, suc, ◌+◌, ◌-◌, ◌*◌, ◌/◌, ◌%◌, ◌^◌, ◌<◌, ◌≤◌, min, Bool, cond, ap, refl, sym, ◌∙◌, inl, inr, arith, ℤ, pos, negsuc, neg_ℤ, unsigned_abs, w64, FitsSigned}
+use Rattle.std.proofs.Common.{◌≡◌, ℕ, ◌+◌, ◌-◌, ◌*◌, ◌/◌, ◌%◌, ◌^◌, ◌<◌, ◌≤◌, min, ap, sym, ◌∙◌, inl, inr, arith, ℤ, pos, negsuc, w64, FitsSigned}
 use Rattle.std.proofs.Math.Nat.{lt_of_lt_of_le, pow-le-pow_right, div-eq_of_lt, mul-mod_left, mul_assoc}
 use Rattle.std.proofs.lemmas.Bool.Decides.{leb_tells}
 use Rattle.std.proofs.lemmas.Nat.{pow-add}

@@ -7,7 +7,7 @@
 mod compare;
 mod logic;
 mod names;
-mod numbers;
+pub mod numbers;
 mod products;
 mod shifts;
 mod single;

@@ -84,7 +84,7 @@ pub fn difference(e: u32, a: u64, b: u128) -> u64
 }
 
 /// The sum of two numbers of up to 64 bits and a sign.
-pub fn sum(x: i128, y: i128) -> i128
+pub fn exact_sum(x: i128, y: i128) -> i128
     requires first { unsigned_abs x ≤ 2 ^ 64 }
     requires second { unsigned_abs y ≤ 2 ^ 64 }
     ensures value { result ≡ x +ℤ y }
@@ -94,7 +94,7 @@ pub fn sum(x: i128, y: i128) -> i128
 }
 
 /// The difference of two numbers of up to 64 bits and a sign.
-pub fn rest(x: i128, y: i128) -> i128
+pub fn exact_difference(x: i128, y: i128) -> i128
     requires first { unsigned_abs x ≤ 2 ^ 64 }
     requires second { unsigned_abs y ≤ 2 ^ 64 }
     ensures { result ≡ x -ℤ y }
@@ -104,7 +104,7 @@ pub fn rest(x: i128, y: i128) -> i128
 
 /// The product of two signed numbers of 64 bits.
 #[tactic(auto, using(crate::proofs::Magnitudes::magnitudes))]
-pub fn product(x: i64, y: i64) -> i128
+pub fn exact_product(x: i64, y: i64) -> i128
     ensures value { result ≡ x *ℤ y }
     ensures magnitude { unsigned_abs result ≡ unsigned_abs x * unsigned_abs y }
 {

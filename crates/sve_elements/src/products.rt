@@ -6,7 +6,7 @@ ghost use Rattle.sve_effects.specs.Element.{element};
 ghost use Rattle.vec_model.specs.Lanes.{IsLaneSize};
 ghost use Rattle.emu_bits.specs.Numbers.{quotient};
 
-use crate::numbers::{difference, low, product, scaled_down, sum, unsigned, wrapped};
+use crate::numbers::{difference, exact_product, exact_sum, low, scaled_down, unsigned, wrapped};
 use emu_bits::{low_bits, sext};
 
 /// The product's lower half.
@@ -24,7 +24,7 @@ pub fn smulh(e: u32, a: u64, b: u64) -> u64
     ensures value { result ≡ element ElementOp.Smulh e a b }
     ensures small { result < 2 ^ e }
 {
-    wrapped(e, scaled_down(product(sext(a, e), sext(b, e)), e))
+    wrapped(e, scaled_down(exact_product(sext(a, e), sext(b, e)), e))
 }
 
 /// The unsigned product's upper half.
@@ -109,7 +109,7 @@ fn quarter_product(is_signed: bool, e: u32, a: u64, b: u64, j: u32) -> i128
     ensures value { result ≡ table.quarter_product is_signed e a b j }
     ensures small { unsigned_abs result ≤ 2 ^ 32 }
 {
-    product(quarter(is_signed, e, a, j), quarter(is_signed, e, b, j))
+    exact_product(quarter(is_signed, e, a, j), quarter(is_signed, e, b, j))
 }
 
 /// c plus the sum of the products of the four quarters of a and b, which are signed or unsigned.
@@ -119,8 +119,8 @@ pub fn dot_product(is_signed: bool, e: u32, c: u64, a: u64, b: u64) -> u64
     ensures small { result < 2 ^ e }
 {
     let one = quarter_product(is_signed, e, a, b, 0);
-    let two = sum(one, quarter_product(is_signed, e, a, b, 1));
-    let three = sum(two, quarter_product(is_signed, e, a, b, 2));
-    let four = sum(three, quarter_product(is_signed, e, a, b, 3));
-    wrapped(e, sum(unsigned(c), four))
+    let two = exact_sum(one, quarter_product(is_signed, e, a, b, 1));
+    let three = exact_sum(two, quarter_product(is_signed, e, a, b, 2));
+    let four = exact_sum(three, quarter_product(is_signed, e, a, b, 3));
+    wrapped(e, exact_sum(unsigned(c), four))
 }

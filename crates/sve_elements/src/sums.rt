@@ -5,7 +5,8 @@ ghost use Rattle.sve_effects.specs.Element.{element};
 ghost use Rattle.vec_model.specs.Lanes.{IsLaneSize};
 
 use crate::numbers::{
-    difference, low, narrowed, rest, saturated_signed, saturated_unsigned, signed, sum, unsigned,
+    difference, exact_difference, exact_sum, low, narrowed, saturated_signed, saturated_unsigned,
+    signed, unsigned,
 };
 use emu_bits::{low_bits, sext};
 
@@ -87,7 +88,7 @@ pub fn sqadd(e: u32, a: u64, b: u64) -> u64
     ensures value { result ≡ element ElementOp.Sqadd e a b }
     ensures small { result < 2 ^ e }
 {
-    saturated_signed(e, sum(signed(e, a), signed(e, b)))
+    saturated_signed(e, exact_sum(signed(e, a), signed(e, b)))
 }
 
 /// The unsigned sum, saturated.
@@ -96,7 +97,7 @@ pub fn uqadd(e: u32, a: u64, b: u64) -> u64
     ensures value { result ≡ element ElementOp.Uqadd e a b }
     ensures small { result < 2 ^ e }
 {
-    saturated_unsigned(e, sum(unsigned(a), unsigned(b)))
+    saturated_unsigned(e, exact_sum(unsigned(a), unsigned(b)))
 }
 
 /// The signed difference, saturated.
@@ -105,7 +106,7 @@ pub fn sqsub(e: u32, a: u64, b: u64) -> u64
     ensures value { result ≡ element ElementOp.Sqsub e a b }
     ensures small { result < 2 ^ e }
 {
-    saturated_signed(e, rest(signed(e, a), signed(e, b)))
+    saturated_signed(e, exact_difference(signed(e, a), signed(e, b)))
 }
 
 /// The unsigned difference, saturated.
@@ -114,7 +115,7 @@ pub fn uqsub(e: u32, a: u64, b: u64) -> u64
     ensures value { result ≡ element ElementOp.Uqsub e a b }
     ensures small { result < 2 ^ e }
 {
-    saturated_unsigned(e, rest(unsigned(a), unsigned(b)))
+    saturated_unsigned(e, exact_difference(unsigned(a), unsigned(b)))
 }
 
 /// A signed lane plus an unsigned amount, saturated as a signed number.
@@ -123,7 +124,7 @@ pub fn sqadd_amount(e: u32, a: u64, b: u64) -> u64
     ensures value { result ≡ element ElementOp.SqaddAmount e a b }
     ensures small { result < 2 ^ e }
 {
-    saturated_signed(e, sum(signed(e, a), unsigned(b)))
+    saturated_signed(e, exact_sum(signed(e, a), unsigned(b)))
 }
 
 /// A signed lane less an unsigned amount, saturated as a signed number.
@@ -132,5 +133,5 @@ pub fn sqsub_amount(e: u32, a: u64, b: u64) -> u64
     ensures value { result ≡ element ElementOp.SqsubAmount e a b }
     ensures small { result < 2 ^ e }
 {
-    saturated_signed(e, rest(signed(e, a), unsigned(b)))
+    saturated_signed(e, exact_difference(signed(e, a), unsigned(b)))
 }

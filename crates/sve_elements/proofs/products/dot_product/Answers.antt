@@ -17,11 +17,11 @@ pub returns-clause-value : goal.returns-clause-value
 returns-clause-value c =
     let one = whole _ _ c.quarter_product-one.type_inv c.quarter_product-one.ensures.value in
     let second = whole _ _ c.quarter_product.type_inv c.quarter_product.ensures.value in
-    let two = whole _ _ c.sum-two.type_inv (c.sum-two.ensures.value ∙ plus _ _ _ _ one second) in
+    let two = whole _ _ c.exact_sum-two.type_inv (c.exact_sum-two.ensures.value ∙ plus _ _ _ _ one second) in
     let third = whole _ _ c.quarter_product-2.type_inv c.quarter_product-2.ensures.value in
-    let three = whole _ _ c.sum-three.type_inv (c.sum-three.ensures.value ∙ plus _ _ _ _ two third) in
+    let three = whole _ _ c.exact_sum-three.type_inv (c.exact_sum-three.ensures.value ∙ plus _ _ _ _ two third) in
     let fourth = whole _ _ c.quarter_product-3.type_inv c.quarter_product-3.ensures.value in
-    let four = whole _ _ c.sum-four.type_inv (c.sum-four.ensures.value ∙ plus _ _ _ _ three fourth) in
+    let four = whole _ _ c.exact_sum-four.type_inv (c.exact_sum-four.ensures.value ∙ plus _ _ _ _ three fourth) in
     let start = whole _ _ c.unsigned.type_inv c.unsigned.ensures.value in
-    let all = whole _ _ c.sum.type_inv (c.sum.ensures.value ∙ plus _ _ _ _ start four) in
+    let all = whole _ _ c.exact_sum.type_inv (c.exact_sum.ensures.value ∙ plus _ _ _ _ start four) in
     c.wrapped.ensures.value ∙ ap (λ (z : ℤ). unsigned_int z c.args.e) all
