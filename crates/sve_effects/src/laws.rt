@@ -7,6 +7,7 @@ ghost use Rattle.emu_model.specs.State.{Core, Vectors, IsSoundCore, IsSoundVecto
 ghost use Rattle.sve_effects.specs.Active.{active};
 ghost use Rattle.sve_effects.specs.AfterCall.{after_call};
 ghost use Rattle.sve_effects.specs.Effects.{performed};
+ghost use Rattle.sve_effects.specs.VectorData.{vector_data};
 ghost use Rattle.sve_effects.specs.Lanes.{IsLaneSize, lane, read_z, read_p, with_lanes, with_fields, with_ffr_fields, with_low};
 
 /// Sound vectors are sound after a write, whatever is written: lanes or low bits of a Z register, fields of a predicate or of FFR.
@@ -38,4 +39,9 @@ pub fn effects_keep_soundness()
     ensures instructions { (form : SveForm) (c : Core) (v : Vectors) (m : Memory) → IsSoundCore c → IsSoundVectors v → IsSoundMemory m
         → IsSoundDone (performed form c v m) }
     ensures calls { (v : Vectors) → IsSoundVectors v → IsSoundVectors (after_call v) }
+{}
+
+/// What an instruction that works lane by lane leaves of sound vectors is sound.
+pub fn vector_data_keeps_soundness()
+    ensures { (form : SveForm) (c : Core) (v : Vectors) → IsSoundVectors v → IsSoundVectors (vector_data form c v) }
 {}

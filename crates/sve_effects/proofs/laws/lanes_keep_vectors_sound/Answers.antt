@@ -1,4 +1,4 @@
-use Rattle.sve_effects.proofs.Written.{sound_lanes, sound_fields, sound_ffr, sound_low}
+use Rattle.sve_effects.specs.SoundLanes.{sound_lanes, sound_fields, sound_ffr, sound_low}
 use Rattle.sve_effects.proofs.laws.lanes_keep_vectors_sound.Goals as goal
 
 pub returns-clause-lanes : goal.returns-clause-lanes

@@ -1,0 +1,54 @@
+-- Vectors with lanes, fields or low bits written are sound.
+use Rattle.std.specs.Prelude.{ℕ, ◌*◌, ◌/◌, ◌%◌, ◌^◌, Bool, List, [], ◌∷◌, map}
+use Rattle.std.specs.List.{AllByRecursion, range_with_len}
+use Rattle.std.proofs.Common.{◌∙◌, arith}
+use Rattle.std.proofs.lemmas.List.{length-set}
+use Rattle.emu_model.specs.Lists.{each, length-each}
+use Rattle.emu_model.specs.SoundLists.{all_set}
+use Rattle.emu_model.specs.State.{Vectors, IsSoundVectors, IsRegister, IsByte, HasLength}
+use Rattle.sve_effects.specs.Lanes.{byte_in, field_bit, with_z, with_lanes, with_low, with_fields, with_ffr_fields}
+
+all_given : {X Y : Type 0} (P : Y → Type 0) (f : X → Y) → ((x : X) → P (f x)) → (xs : List X) → AllByRecursion P (map f xs)
+all_given P f h [] = tt
+all_given P f h (x ∷ xs) = (h x, all_given P f h xs)
+
+sound_z : (f : ℕ → ℕ) (zd : ℕ) (v : Vectors) → ((j : ℕ) → IsByte (f j)) → IsSoundVectors v → IsSoundVectors (with_z v zd (each (v.bits / 8) f))
+sound_z f zd v small h = record {
+  vector_length = h.vector_length;
+  z_count = length-set v.z zd (each (v.bits / 8) f) ∙ h.z_count;
+  z = all_set (IsRegister (v.bits / 8)) v.z zd (each (v.bits / 8) f) (record { count = length-each (v.bits / 8) f; bytes = all_given IsByte f small (range_with_len 0 (v.bits / 8)) }) h.z;
+  p_count = h.p_count;
+  p = h.p;
+  ffr = h.ffr;
+}
+
+is_byte : (x : ℕ) → IsByte (x % 256)
+is_byte x = omega arith
+
+pub sound_lanes : (e : ℕ) (f : ℕ → ℕ) (zd : ℕ) (v : Vectors) → IsSoundVectors v → IsSoundVectors (with_lanes e f zd v)
+sound_lanes e f zd v h = sound_z (byte_in (e / 8) f) zd v (λ j. is_byte (f (j / (e / 8)) / 2 ^ (8 * (j % (e / 8))))) h
+
+pub sound_low : (bits x zd : ℕ) (v : Vectors) → IsSoundVectors v → IsSoundVectors (with_low bits x zd v)
+sound_low bits x zd v h = sound_z (λ j. x % 2 ^ bits / 2 ^ (8 * j) % 256) zd v (λ j. is_byte (x % 2 ^ bits / 2 ^ (8 * j))) h
+
+pub sound_fields : (e : ℕ) (f : ℕ → Bool) (pd : ℕ) (v : Vectors) → IsSoundVectors v → IsSoundVectors (with_fields e f pd v)
+sound_fields e f pd v h =
+    let bits : List Bool = each (v.bits / 8) (field_bit (e / 8) f) in
+    record {
+      vector_length = h.vector_length;
+      z_count = h.z_count;
+      z = h.z;
+      p_count = length-set v.p pd bits ∙ h.p_count;
+      p = all_set (HasLength (v.bits / 8)) v.p pd bits (length-each (v.bits / 8) (field_bit (e / 8) f)) h.p;
+      ffr = h.ffr;
+    }
+
+pub sound_ffr : (e : ℕ) (f : ℕ → Bool) (v : Vectors) → IsSoundVectors v → IsSoundVectors (with_ffr_fields e f v)
+sound_ffr e f v h = record {
+  vector_length = h.vector_length;
+  z_count = h.z_count;
+  z = h.z;
+  p_count = h.p_count;
+  p = h.p;
+  ffr = length-each (v.bits / 8) (field_bit (e / 8) f);
+}
