@@ -1,10 +1,6 @@
-pub mod Active
-pub mod AfterCall
 pub mod Effects
 pub mod Element
 pub mod ElementLoop
-pub mod Lanes
 pub mod SoundEffects
-pub mod SoundLanes
 pub mod SoundVectorData
 pub mod VectorData

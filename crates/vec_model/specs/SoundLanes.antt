@@ -1,12 +1,14 @@
--- Vectors with lanes, fields or low bits written are sound.
-use Rattle.std.specs.Prelude.{ℕ, ◌*◌, ◌/◌, ◌%◌, ◌^◌, Bool, List, [], ◌∷◌, map}
+-- Vectors with lanes, fields or low bits written, and those that a call leaves, are sound.
+use Rattle.std.specs.Prelude.{◌≡◌, ℕ, ◌+◌, ◌-◌, ◌*◌, ◌/◌, ◌%◌, ◌^◌, min, Bool, false, List, [], ◌∷◌, length, map, take, replicate}
 use Rattle.std.specs.List.{AllByRecursion, range_with_len}
-use Rattle.std.proofs.Common.{◌∙◌, arith}
-use Rattle.std.proofs.lemmas.List.{length-set}
+use Rattle.std.proofs.Common.{◌∙◌, arith, length-append}
+use Rattle.std.proofs.Math.ListN.{length-replicate}
+use Rattle.std.proofs.lemmas.List.{length-set, length-take, length-map}
 use Rattle.emu_model.specs.Lists.{each, length-each}
-use Rattle.emu_model.specs.SoundLists.{all_set}
+use Rattle.emu_model.specs.SoundLists.{all_append, all_map, all_replicate, all_set, all_take}
 use Rattle.emu_model.specs.State.{Vectors, IsSoundVectors, IsRegister, IsByte, HasLength}
-use Rattle.sve_effects.specs.Lanes.{byte_in, field_bit, with_z, with_lanes, with_low, with_fields, with_ffr_fields}
+use Rattle.vec_model.specs.AfterCall.{low_bytes, no_bits, after_call}
+use Rattle.vec_model.specs.Lanes.{byte_in, field_bit, with_z, with_lanes, with_low, with_fields, with_ffr_fields}
 
 all_given : {X Y : Type 0} (P : Y → Type 0) (f : X → Y) → ((x : X) → P (f x)) → (xs : List X) → AllByRecursion P (map f xs)
 all_given P f h [] = tt
@@ -51,4 +53,25 @@ sound_ffr e f v h = record {
   p_count = h.p_count;
   p = h.p;
   ffr = length-each (v.bits / 8) (field_bit (e / 8) f);
+}
+
+-- ---- a call that returns
+
+low_bytes_sound : (n : ℕ) (bytes : List ℕ) → IsRegister n bytes → IsRegister n (low_bytes bytes)
+low_bytes_sound n bytes s = record {
+  count = let e : length (low_bytes bytes) ≡ min 16 (length bytes) + (length bytes - 16) = simp (length-append, length-take, length-replicate) in let f : length bytes ≡ n = s.count in omega arith;
+  bytes = all_append IsByte (take 16 bytes) (replicate (length bytes - 16) 0) (all_take IsByte 16 bytes s.bytes) (all_replicate IsByte (length bytes - 16) 0 (omega arith));
+}
+
+no_bits_sound : (n : ℕ) (bits : List Bool) → HasLength n bits → HasLength n (no_bits bits)
+no_bits_sound n bits e = length-replicate (length bits) false ∙ e
+
+pub after_call_sound : (v : Vectors) → IsSoundVectors v → IsSoundVectors (after_call v)
+after_call_sound v s = record {
+  vector_length = s.vector_length;
+  z_count = length-map v.z low_bytes ∙ s.z_count;
+  z = all_map (IsRegister (v.bits / 8)) (IsRegister (v.bits / 8)) low_bytes (low_bytes_sound (v.bits / 8)) v.z s.z;
+  p_count = length-map v.p no_bits ∙ s.p_count;
+  p = all_map (HasLength (v.bits / 8)) (HasLength (v.bits / 8)) no_bits (no_bits_sound (v.bits / 8)) v.p s.p;
+  ffr = no_bits_sound (v.bits / 8) v.ffr s.ffr;
 }
