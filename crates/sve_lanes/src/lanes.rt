@@ -2,7 +2,7 @@
 ghost use Rattle.std.specs.Prelude.{◌≡◌, ◌<◌, ◌/◌, ℕ, if◌then◌else◌};
 ghost use Rattle.emu_model.specs.State.{Vectors};
 ghost use Rattle.sve_effects.specs.ElementLoop.{covering_lane, is_active, lane_of};
-ghost use Rattle.sve_effects.specs.Lanes.{IsLaneSize};
+ghost use Rattle.vec_model.specs.Lanes.{IsLaneSize};
 
 use emu_bits::{Pred, Reg};
 use vec_regs::VecRegs;

@@ -1,7 +1,7 @@
 //! The loops over lanes.
 ghost use Rattle.std.specs.Prelude.{◌≡◌};
 ghost use Rattle.sve_effects.specs.ElementLoop as model;
-ghost use Rattle.sve_effects.specs.Lanes.{IsLaneSize};
+ghost use Rattle.vec_model.specs.Lanes.{IsLaneSize};
 ghost use Rattle.sve_effects.specs.VectorData as rows;
 
 use crate::lanes::Lanes;
