@@ -4,5 +4,9 @@
 
 pub mod elements;
 pub mod laws;
+pub mod places;
+pub mod predicates;
 
 pub use elements::{ElementOp, ElementTest};
+pub use places::Place;
+pub use predicates::{LogicOp, WhileTest};

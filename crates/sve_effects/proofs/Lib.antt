@@ -1,0 +1,2 @@
+pub mod ActiveLanes
+pub mod Found
