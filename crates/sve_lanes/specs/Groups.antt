@@ -1,7 +1,7 @@
 -- The rows that work lane by lane, by what they do.
 use Rattle.std.specs.Prelude.{Bool, true, false}
 use Rattle.sve_insn.specs.declared.form.SveForm.{SveForm}
-use Rattle.sve_insn.specs.declared.form.SveForm.TheVariants.{Binary, BinaryWide, ShiftImm, Unary, MulAddZ, MulAddD, Plain, LogicZ, PlainWide, PlainShift, Index, Dot, DotIndexed, WideImm, MinMaxImm, DupImm, BitmaskZ, CopyImm, PrefixP, Prefix, SelectZ}
+use Rattle.sve_insn.specs.declared.form.SveForm.TheVariants.{Binary, BinaryWide, ShiftImm, Unary, MulAddZ, MulAddD, Plain, LogicZ, PlainWide, PlainShift, Dot, DotIndexed, WideImm, MinMaxImm, DupImm, BitmaskZ, CopyImm, PrefixP, Prefix, SelectZ}
 
 -- operations that merge
 abbrev pub is_merging : SveForm → Bool

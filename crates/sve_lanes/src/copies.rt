@@ -54,7 +54,16 @@ fn dup_imm(core: &Core, vec: &mut VecRegs, size: U<2>, sh: bool, imm8: U<8>, zd:
     plain(vec, e, zd, &Number { n });
 }
 
-fn copy_imm(core: &Core, vec: &mut VecRegs, size: U<2>, pg: Pred, m: bool, sh: bool, imm8: U<8>, zd: Reg)
+fn copy_imm(
+    core: &Core,
+    vec: &mut VecRegs,
+    size: U<2>,
+    pg: Pred,
+    m: bool,
+    sh: bool,
+    imm8: U<8>,
+    zd: Reg,
+)
     ensures { vec.new ≡ table.vector_data (SveForm.CopyImm size pg m sh imm8 zd) core.now vec.old }
 {
     let e = lane_bits(size);

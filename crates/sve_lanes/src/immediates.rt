@@ -45,7 +45,15 @@ pub(crate) fn exec(core: &Core, vec: &mut VecRegs, i: &Sve)
     }
 }
 
-fn wide_imm(core: &Core, vec: &mut VecRegs, op: WideImmOp, size: U<2>, sh: bool, imm8: U<8>, zdn: Reg)
+fn wide_imm(
+    core: &Core,
+    vec: &mut VecRegs,
+    op: WideImmOp,
+    size: U<2>,
+    sh: bool,
+    imm8: U<8>,
+    zdn: Reg,
+)
     ensures { vec.new ≡ table.vector_data (SveForm.WideImm op size sh imm8 zdn) core.now vec.old }
 {
     let n = wide_unsigned(sh, imm8);
@@ -72,7 +80,15 @@ fn min_max_imm(core: &Core, vec: &mut VecRegs, op: MinMaxImmOp, size: U<2>, imm8
     plain(vec, e, zdn, &lanes);
 }
 
-fn bitmask(core: &Core, vec: &mut VecRegs, op: BitmaskZOp, n: bool, immr: U<6>, imms: U<6>, zdn: Reg)
+fn bitmask(
+    core: &Core,
+    vec: &mut VecRegs,
+    op: BitmaskZOp,
+    n: bool,
+    immr: U<6>,
+    imms: U<6>,
+    zdn: Reg,
+)
     ensures { vec.new ≡ table.vector_data (SveForm.BitmaskZ op n immr imms zdn) core.now vec.old }
 {
     let n = bitmask_64(n, immr, imms);

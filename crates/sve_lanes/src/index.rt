@@ -82,7 +82,15 @@ fn register(core: &Core, n: U<5>) -> i128
 }
 
 /// Does an index.
-pub(crate) fn index(core: &Core, vec: &mut VecRegs, op: IndexOp, size: U<2>, y: U<5>, x: U<5>, zd: Reg)
+pub(crate) fn index(
+    core: &Core,
+    vec: &mut VecRegs,
+    op: IndexOp,
+    size: U<2>,
+    y: U<5>,
+    x: U<5>,
+    zd: Reg,
+)
     ensures { vec.new ≡ table.vector_data (SveForm.Index op size y x zd) core.now vec.old }
 {
     let lanes = Steps {

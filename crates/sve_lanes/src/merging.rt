@@ -65,7 +65,15 @@ fn binary(core: &Core, vec: &mut VecRegs, op: BinaryOp, size: U<2>, pg: PredLow,
     merging(vec, lane_bits(size), governing(pg), zdn, &lanes);
 }
 
-fn binary_wide(core: &Core, vec: &mut VecRegs, op: ShiftOp, size: U<2>, pg: PredLow, zm: Reg, zdn: Reg)
+fn binary_wide(
+    core: &Core,
+    vec: &mut VecRegs,
+    op: ShiftOp,
+    size: U<2>,
+    pg: PredLow,
+    zm: Reg,
+    zdn: Reg,
+)
     ensures { vec.new ≡ table.vector_data (SveForm.BinaryWide op size pg zm zdn) core.now vec.old }
 {
     let lanes = Operation {

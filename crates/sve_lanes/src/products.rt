@@ -119,15 +119,7 @@ fn dot_indexed(core: &Core, vec: &mut VecRegs, op: DotIndexedOp, i_zm: U<5>, zn:
 }
 
 /// Dot products with lane i of each 128 bits of zm.
-fn dot_with_lane(
-    vec: &mut VecRegs,
-    is_signed: bool,
-    e: u32,
-    i: u32,
-    zm: Reg,
-    zn: Reg,
-    zda: Reg,
-)
+fn dot_with_lane(vec: &mut VecRegs, is_signed: bool, e: u32, i: u32, zm: Reg, zn: Reg, zda: Reg)
     requires size { IsLaneSize e }
     requires within { i < 128 / e }
     ensures { vec.new ≡ table.dot_indexed is_signed e i zm zn zda vec.old }
