@@ -12,4 +12,5 @@ mod flow;
 #[cfg(test)]
 mod registers;
 #[cfg(test)]
+mod vectors;
 mod words;

@@ -1,10 +1,12 @@
 //! The state of a case: registers, pages and a trap, read from items `name=value`.
 use arrayvec::ArrayVec;
 use core_regs::{Core, Trap, TrapKind};
-use emu_bits::{Flags, Reg};
+use emu_bits::{Flags, Pred, Reg};
 use guest_mem::Mem;
 use guest_pages::{Pages, Rights};
 use std::alloc::Global;
+use vec_regs::{Length, VecRegs};
+use vec_regs::{Length, VecRegs};
 
 /// The greatest number of pages of a case.
 const MOST_PAGES: usize = 16;
@@ -15,6 +17,7 @@ const PAGE_NUMBERS: u64 = 1 << 35;
 #[derive(Drop)]
 pub struct State {
     pub core: Core,
+    pub vec: VecRegs,
     pub memory: Mem,
     /// The numbers of the mapped pages.
     mapped: ArrayVec<u64, MOST_PAGES>,
@@ -23,11 +26,13 @@ pub struct State {
 }
 
 impl State {
-    /// The state before a step of this word: its items, with registers that aren't given 0, and the page of the word,
-    /// which may be read and executed. None where an item isn't in the form of a case, or there is no memory for it.
-    pub fn read(alloc: Global, word: u32, items: &str) -> Option<State> {
+    /// The state before a step of this word at a vector length: its items, with registers that aren't given 0, and the page
+    /// of the word, which may be read and executed. None where an item isn't in the form of a case, or there is no memory
+    /// for it.
+    pub fn read(alloc: Global, word: u32, length: Length, items: &str) -> Option<State> {
         let mut state = State {
             core: Core::new(),
+            vec: VecRegs::new(length),
             memory: Mem::new(Pages::new(alloc, MOST_PAGES as u32).ok()?),
             mapped: ArrayVec::new(),
             trap: None,
@@ -76,7 +81,14 @@ impl State {
                 });
                 Some(())
             }
-            _ => self.set_register(name, number(value)?),
+            "ffr" => set_bits(&mut self.vec, value, |vec, k, bit| vec.set_ffr_bit(k, bit)),
+            _ => match name.strip_prefix("z") {
+                Some(r) => self.set_vector(register(r)?, value),
+                None => match name.strip_prefix("p") {
+                    Some(r) if r != "c" => self.set_predicate(predicate(r)?, value),
+                    _ => self.set_register(name, number(value)?),
+                },
+            },
         }
     }
 
@@ -140,6 +152,7 @@ impl State {
     pub fn is_same(&self, other: &State) -> bool {
         self.trap == other.trap
             && are_same(&self.core, &other.core)
+            && are_same_vectors(&self.vec, &other.vec)
             && self.mapped == other.mapped
             && self
                 .mapped
@@ -155,6 +168,11 @@ impl State {
 
 fn number(digits: &str) -> Option<u64> {
     u64::from_str_radix(digits, 16).ok()
+}
+
+/// The number behind a letter.
+fn number_behind(name: &str, letter: &str) -> Option<u32> {
+    name.strip_prefix(letter)?.parse::<u32>().ok()
 }
 
 fn digit(c: u8) -> Option<u8> {
@@ -202,6 +220,19 @@ fn are_same(a: &Core, b: &Core) -> bool {
     for number in 0..32 {
         if let Some(r) = Reg::new(number) {
             same = same && a.x(r) == b.x(r) && a.x_sp(r) == b.x_sp(r);
+        }
+    }
+    same
+}
+
+fn are_same_vectors(a: &VecRegs, b: &VecRegs) -> bool {
+    let mut same = a.ffr_words() == b.ffr_words();
+    for number in 0..32 {
+        if let Some(r) = Reg::new(number) {
+            same = same && a.z_words(r) == b.z_words(r);
+        }
+        if let Some(r) = Pred::new(number) {
+            same = same && a.p_words(r) == b.p_words(r);
         }
     }
     same
