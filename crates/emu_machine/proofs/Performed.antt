@@ -20,11 +20,11 @@ use Rattle.emu_run.specs.declared.insn.Insn.{Insn}
 use Rattle.emu_run.specs.declared.insn.Insn.TheVariants.{A64, Sve}
 use Rattle.a64_effects.specs.Effects as a64
 use Rattle.a64_effects.specs.declared.transfer.Transfer.{Transfer}
-use Rattle.a64_effects.specs.declared.transfer.Transfer.TheVariants.{Store, Load, LoadSigned, LoadSigned32, Prefetch}
+use Rattle.a64_effects.specs.declared.transfer.Transfer.TheVariants.{Store, Load, LoadSigned, LoadSigned32, Prefetch, StoreVector, LoadVector}
 use Rattle.emu_model.specs.Done.{Done, quietly, went_well, traps}
 use Rattle.emu_model.specs.Elements.{Element, reach}
 use Rattle.a64_effects.specs.Flow.{branches_if, is_flow, is_taken, is_taken_by, digit, tested_bit, target, flow}
-use Rattle.a64_effects.specs.LoadStore.{access, behind, elements, has_sp_base, is_misaligned, load_as_far, misaligned, store_as_far, tested, transfer_of, transferred, unless_misaligned}
+use Rattle.a64_effects.specs.LoadStore.{access, behind, elements, has_sp_base, is_misaligned, load_as_far, loaded_to, misaligned, store_as_far, stored_to, tested, transfer_of, transferred, unless_misaligned}
 use Rattle.a64_effects.specs.Scalar.{is_data, operand, scalar, width_of}
 use Rattle.emu_run.specs.Step.{performed}
 use Rattle.emu_machine.specs.Machines.{MachineState, has_ended, is_svc}
@@ -37,20 +37,28 @@ module _ (c : Core) (v : Vectors) (m : Memory) where
   -- ---- loads and stores ask for none
 
   module _ (after : Core → Core) where
-    stored_is_other : (stop : Option ℕ) (es : List Element) → IsOther (store_as_far stop es after c v m).effect
-    stored_is_other None es = λ h. cc
-    stored_is_other (Some a) es = λ h. cc
+    stored_is_other : (t : Transfer) (stop : Option ℕ) (es : List Element) → IsOther (store_as_far t stop es after c v m).effect
+    stored_is_other t None es = λ h. cc
+    stored_is_other t (Some a) es = λ h. cc
 
     loaded_is_other : (t : Transfer) (stop : Option ℕ) (es : List Element) → IsOther (load_as_far t stop es after c v m).effect
     loaded_is_other t None es = λ h. cc
     loaded_is_other t (Some a) es = λ h. cc
 
+    stored_to_is_other : (t : Transfer) (es : List Element) → IsOther (stored_to t (reach m WriteKind es) after c v m).effect
+    stored_to_is_other t es = stored_is_other t (reach m WriteKind es).stop (reach m WriteKind es).done
+
+    loaded_to_is_other : (t : Transfer) (es : List Element) → IsOther (loaded_to t (reach m ReadKind es) after c v m).effect
+    loaded_to_is_other t es = loaded_is_other t (reach m ReadKind es).stop (reach m ReadKind es).done
+
     transferred_is_other : (t : Transfer) (es : List Element) → IsOther (transferred t es after c v m).effect
-    transferred_is_other Store es = stored_is_other (reach m WriteKind es).stop (reach m WriteKind es).done
-    transferred_is_other Load es = loaded_is_other Load (reach m ReadKind es).stop (reach m ReadKind es).done
-    transferred_is_other LoadSigned es = loaded_is_other LoadSigned (reach m ReadKind es).stop (reach m ReadKind es).done
-    transferred_is_other LoadSigned32 es = loaded_is_other LoadSigned32 (reach m ReadKind es).stop (reach m ReadKind es).done
-    transferred_is_other Prefetch es = loaded_is_other Prefetch (reach m ReadKind es).stop (reach m ReadKind es).done
+    transferred_is_other Store es = stored_to_is_other Store es
+    transferred_is_other StoreVector es = stored_to_is_other StoreVector es
+    transferred_is_other Load es = loaded_to_is_other Load es
+    transferred_is_other LoadSigned es = loaded_to_is_other LoadSigned es
+    transferred_is_other LoadSigned32 es = loaded_to_is_other LoadSigned32 es
+    transferred_is_other Prefetch es = loaded_to_is_other Prefetch es
+    transferred_is_other LoadVector es = loaded_to_is_other LoadVector es
 
   unless_is_other : (o : Option ℕ) (d : Done) → IsOther d.effect → IsOther (unless_misaligned o c v m d).effect
   unless_is_other None d other = other

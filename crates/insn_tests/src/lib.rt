@@ -13,4 +13,5 @@ mod flow;
 mod registers;
 #[cfg(test)]
 mod vectors;
+#[cfg(test)]
 mod words;

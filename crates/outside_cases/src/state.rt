@@ -6,7 +6,6 @@ use guest_mem::Mem;
 use guest_pages::{Pages, Rights};
 use std::alloc::Global;
 use vec_regs::{Length, VecRegs};
-use vec_regs::{Length, VecRegs};
 
 /// The greatest number of pages of a case.
 const MOST_PAGES: usize = 16;
@@ -81,15 +80,65 @@ impl State {
                 });
                 Some(())
             }
-            "ffr" => set_bits(&mut self.vec, value, |vec, k, bit| vec.set_ffr_bit(k, bit)),
-            _ => match name.strip_prefix("z") {
-                Some(r) => self.set_vector(register(r)?, value),
-                None => match name.strip_prefix("p") {
-                    Some(r) if r != "c" => self.set_predicate(predicate(r)?, value),
-                    _ => self.set_register(name, number(value)?),
-                },
-            },
+            "ffr" => self.set_ffr(value),
+            _ => self.set_numbered(name, value),
         }
+    }
+
+    /// Sets the register that a letter and a number name, or one that has a name of its own.
+    fn set_numbered(&mut self, name: &str, value: &str) -> Option<()> {
+        if let Some(r) = number_behind(name, "z") {
+            return self.set_vector(Reg::new(r)?, value);
+        }
+        if let Some(r) = number_behind(name, "p") {
+            return self.set_predicate(Pred::new(r)?, value);
+        }
+        self.set_register(name, number(value)?)
+    }
+
+    /// Sets the bytes of a Z register from pairs of hexadecimal digits, the most significant first.
+    fn set_vector(&mut self, r: Reg, digits: &str) -> Option<()> {
+        for (k, pair) in (0u32..).zip(digits.as_bytes().chunks(2).rev()) {
+            let byte = match *pair {
+                [high, low] => digit(high)? << 4 | digit(low)?,
+                _ => return None,
+            };
+            if k >= self.vec.length().bits() / 8 {
+                return None;
+            }
+            self.vec.set_z_byte(r, k, byte);
+        }
+        Some(())
+    }
+
+    /// Sets the bits of a predicate from hexadecimal digits, the most significant first.
+    fn set_predicate(&mut self, r: Pred, digits: &str) -> Option<()> {
+        for (k, c) in (0u32..).zip(digits.as_bytes().iter().rev()) {
+            let four = digit(*c)?;
+            for j in 0..4 {
+                let place = k.checked_mul(4)?.checked_add(j)?;
+                if place >= self.vec.length().bits() / 8 {
+                    return None;
+                }
+                self.vec.set_p_bit(r, place, four >> j & 1 == 1);
+            }
+        }
+        Some(())
+    }
+
+    /// The same of FFR.
+    fn set_ffr(&mut self, digits: &str) -> Option<()> {
+        for (k, c) in (0u32..).zip(digits.as_bytes().iter().rev()) {
+            let four = digit(*c)?;
+            for j in 0..4 {
+                let place = k.checked_mul(4)?.checked_add(j)?;
+                if place >= self.vec.length().bits() / 8 {
+                    return None;
+                }
+                self.vec.set_ffr_bit(place, four >> j & 1 == 1);
+            }
+        }
+        Some(())
     }
 
     /// Sets the register that is named. Flags are four binary digits, read as hexadecimal ones.
