@@ -57,12 +57,9 @@ pub fn is_own(i: &A64) -> bool
 pub fn exec(core: &mut Core, mem: &mut Mem, log: &mut AccessLog, i: &A64) -> Effect
     requires own { (is_flow i.now || is_load_store i.now) ≡ true }
     requires empty { log.old.items ≡ [] }
-    ensures registers { (v : Vectors) → core.new ≡ (performed i.now core.old v mem.old).core }
-    // these rows leave the vector registers as they were
-    ensures vectors { (v : Vectors) → v ≡ (performed i.now core.old v mem.old).vectors }
-    ensures memory { (v : Vectors) → mem.new ≡ (performed i.now core.old v mem.old).memory }
-    ensures accesses { (v : Vectors) → log.new.items ≡ (performed i.now core.old v mem.old).accesses }
-    ensures effect { (v : Vectors) → result ≡ (performed i.now core.old v mem.old).effect }
+    // these rows leave the vector registers as they were, whatever they are
+    ensures { (v : Vectors) → performed i.now core.old v mem.old
+        ≡ record { core = core.new; vectors = v; memory = mem.new; accesses = log.new.items; effect = result } }
 {
     match *i.form() {
         A64Form::Branch { op, imm26 } => branches::branch(core, op, imm26),

@@ -8,7 +8,7 @@ use Rattle.emu_model.specs.Lists.{each, length-each}
 use Rattle.emu_model.specs.SoundLists.{all_append, all_map, all_replicate, all_set, all_take}
 use Rattle.emu_model.specs.State.{Vectors, IsSoundVectors, IsRegister, IsByte, HasLength}
 use Rattle.vec_model.specs.AfterCall.{low_bytes, no_bits, after_call}
-use Rattle.vec_model.specs.Lanes.{byte_in, field_bit, with_z, with_lanes, with_low, with_fields, with_ffr_fields}
+use Rattle.vec_model.specs.Lanes.{byte_in, field_bit, with_z, with_p, with_ffr, with_lanes, with_low, with_fields, with_ffr_fields}
 
 all_given : {X Y : Type 0} (P : Y → Type 0) (f : X → Y) → ((x : X) → P (f x)) → (xs : List X) → AllByRecursion P (map f xs)
 all_given P f h [] = tt
@@ -33,27 +33,24 @@ sound_lanes e f zd v h = sound_z (byte_in (e / 8) f) zd v (λ j. is_byte (f (j /
 pub sound_low : (bits x zd : ℕ) (v : Vectors) → IsSoundVectors v → IsSoundVectors (with_low bits x zd v)
 sound_low bits x zd v h = sound_z (λ j. x % 2 ^ bits / 2 ^ (8 * j) % 256) zd v (λ j. is_byte (x % 2 ^ bits / 2 ^ (8 * j))) h
 
-pub sound_fields : (e : ℕ) (f : ℕ → Bool) (pd : ℕ) (v : Vectors) → IsSoundVectors v → IsSoundVectors (with_fields e f pd v)
-sound_fields e f pd v h =
-    let bits : List Bool = each (v.bits / 8) (field_bit (e / 8) f) in
-    record {
-      vector_length = h.vector_length;
-      z_count = h.z_count;
-      z = h.z;
-      p_count = length-set v.p pd bits ∙ h.p_count;
-      p = all_set (HasLength (v.bits / 8)) v.p pd bits (length-each (v.bits / 8) (field_bit (e / 8) f)) h.p;
-      ffr = h.ffr;
-    }
-
-pub sound_ffr : (e : ℕ) (f : ℕ → Bool) (v : Vectors) → IsSoundVectors v → IsSoundVectors (with_ffr_fields e f v)
-sound_ffr e f v h = record {
+pub sound_p : (bits : List Bool) (pd : ℕ) (v : Vectors) → HasLength (v.bits / 8) bits → IsSoundVectors v → IsSoundVectors (with_p v pd bits)
+sound_p bits pd v count h = record {
   vector_length = h.vector_length;
   z_count = h.z_count;
   z = h.z;
-  p_count = h.p_count;
-  p = h.p;
-  ffr = length-each (v.bits / 8) (field_bit (e / 8) f);
+  p_count = length-set v.p pd bits ∙ h.p_count;
+  p = all_set (HasLength (v.bits / 8)) v.p pd bits count h.p;
+  ffr = h.ffr;
 }
+
+pub sound_fields : (e : ℕ) (f : ℕ → Bool) (pd : ℕ) (v : Vectors) → IsSoundVectors v → IsSoundVectors (with_fields e f pd v)
+sound_fields e f pd v h = sound_p (each (v.bits / 8) (field_bit (e / 8) f)) pd v (length-each (v.bits / 8) (field_bit (e / 8) f)) h
+
+pub sound_ffr_bits : (bits : List Bool) (v : Vectors) → HasLength (v.bits / 8) bits → IsSoundVectors v → IsSoundVectors (with_ffr v bits)
+sound_ffr_bits bits v count h = record { vector_length = h.vector_length; z_count = h.z_count; z = h.z; p_count = h.p_count; p = h.p; ffr = count }
+
+pub sound_ffr : (e : ℕ) (f : ℕ → Bool) (v : Vectors) → IsSoundVectors v → IsSoundVectors (with_ffr_fields e f v)
+sound_ffr e f v h = sound_ffr_bits (each (v.bits / 8) (field_bit (e / 8) f)) v (length-each (v.bits / 8) (field_bit (e / 8) f)) h
 
 -- ---- a call that returns
 

@@ -1,0 +1,246 @@
+-- What each SVE instruction on predicates leaves of the registers: compares, logic, breaks, loops, counts, and FFR.
+use Rattle.std.specs.Prelude.{ℕ, ◌+◌, ◌*◌, ◌/◌, ◌%◌, ◌^◌, Bool, true, false, not, ◌&&◌, nat_eq, if◌then◌else◌, List}
+use Rattle.sve_insn.specs.declared.form.SveForm.{SveForm}
+use Rattle.sve_insn.specs.declared.form.SveForm.TheVariants.{CmpVec, CmpWide, CmpUImm, CmpSImm, LogicP, SelectP, Break, BreakPair, BreakNext, Ptest, First, Next, Ptrue, Pfalse, ReadFfr, ReadFfrAll, WriteFfr, CountP, IncP, IncPZ, While, Cterm}
+use Rattle.sve_insn.specs.declared.ops.BreakOp.{BreakOp}
+use Rattle.sve_insn.specs.declared.ops.BreakOp.TheVariants.{Brka, Brkb}
+use Rattle.sve_insn.specs.declared.ops.BreakPairOp.{BreakPairOp}
+use Rattle.sve_insn.specs.declared.ops.BreakPairOp.TheVariants.{Brkpa, Brkpb}
+use Rattle.sve_insn.specs.declared.ops.CmpSImmOp.{CmpSImmOp}
+use Rattle.sve_insn.specs.declared.ops.CmpSImmOp.TheVariants as signed_names
+use Rattle.sve_insn.specs.declared.ops.CmpUImmOp.{CmpUImmOp}
+use Rattle.sve_insn.specs.declared.ops.CmpUImmOp.TheVariants as unsigned_names
+use Rattle.sve_insn.specs.declared.ops.CmpVecOp.{CmpVecOp}
+use Rattle.sve_insn.specs.declared.ops.CmpVecOp.TheVariants as vector_names
+use Rattle.sve_insn.specs.declared.ops.CmpWideOp.{CmpWideOp}
+use Rattle.sve_insn.specs.declared.ops.CmpWideOp.TheVariants as wide_names
+use Rattle.sve_insn.specs.declared.ops.CtermOp.{CtermOp}
+use Rattle.sve_insn.specs.declared.ops.CtermOp.TheVariants.{Ctermeq, Ctermne}
+use Rattle.sve_insn.specs.declared.ops.IncPOp.{IncPOp}
+use Rattle.sve_insn.specs.declared.ops.IncPOp.TheVariants.{Incp, Decp}
+use Rattle.sve_insn.specs.declared.ops.LogicPOp.{LogicPOp}
+use Rattle.sve_insn.specs.declared.ops.LogicPOp.TheVariants as logic_names
+use Rattle.sve_insn.specs.declared.ops.PtrueOp.{PtrueOp}
+use Rattle.sve_insn.specs.declared.ops.PtrueOp.TheVariants.{Ptrue as Unflagged, Ptrues as Flagged}
+use Rattle.sve_insn.specs.declared.ops.ReadFfrOp.{ReadFfrOp}
+use Rattle.sve_insn.specs.declared.ops.ReadFfrOp.TheVariants.{Rdffr, Rdffrs}
+use Rattle.sve_insn.specs.declared.ops.WhileOp.{WhileOp}
+use Rattle.sve_insn.specs.declared.ops.WhileOp.TheVariants.{Whilelt, Whilele, Whilelo, Whilels}
+use Rattle.sve_insn.specs.declared.ops.WriteFfrOp.{WriteFfrOp}
+use Rattle.sve_insn.specs.declared.ops.WriteFfrOp.TheVariants.{Setffr, Wrffr}
+use Rattle.emu_bits.specs.Numbers.{sign_extended}
+use Rattle.emu_bits.specs.Operations.{difference}
+use Rattle.emu_bits.specs.declared.flags.Flags.{Flags}
+use Rattle.emu_model.specs.Done.{Registers}
+use Rattle.emu_model.specs.Lists.{each}
+use Rattle.emu_model.specs.State.{Core, Vectors, read_x, with_x}
+use Rattle.sve_effects.specs.declared.elements.ElementTest.{ElementTest}
+use Rattle.sve_effects.specs.declared.elements.ElementTest.TheVariants.{Eq, Ne, Ge, Gt, Lt, Le, Hs, Hi, Lo, Ls}
+use Rattle.sve_effects.specs.declared.predicates.LogicOp.{LogicOp}
+use Rattle.sve_effects.specs.declared.predicates.LogicOp.TheVariants.{And, Bic, Eor, Orr, Orn, Nor, Nand, Sel}
+use Rattle.sve_effects.specs.declared.predicates.WhileTest.{WhileTest}
+use Rattle.sve_effects.specs.declared.predicates.WhileTest.TheVariants as conditions
+use Rattle.sve_effects.specs.Element.{element_test}
+use Rattle.sve_effects.specs.ElementLoop.{lane_bits, lane_of, covering_lane, is_active}
+use Rattle.vec_model.specs.Lanes.{read_p, with_p, with_ffr, with_lanes}
+use Rattle.sve_effects.specs.Pattern.{pattern_count}
+use Rattle.sve_effects.specs.Predicate.{is_set, lanes_of, fields, pred_test, logic, broken, broken_pair, broken_next, with_first, only_next, lanes_below, while_lanes, count_lanes}
+
+-- ---- results
+
+-- PL: the bits of a predicate, one for each byte of a Z register
+abbrev pub predicate_bits : Vectors → ℕ
+predicate_bits v = v.bits / 8
+
+-- all ones
+abbrev pub ones : ℕ → List Bool
+ones m = each m (λ k. true)
+
+-- the flags of PredTest(g, result, e), where they are set
+abbrev pub after_test : Bool → ℕ → List Bool → List Bool → Core → Vectors → Core
+after_test sets e g result c v = if sets then record c { flags = pred_test e (predicate_bits v) g result } else c
+
+-- a result in predicate pd, with the flags of PredTest(g, result, e), where they are set
+abbrev pub put : Bool → ℕ → List Bool → ℕ → List Bool → Core → Vectors → Registers
+put sets e g pd result c v = record { core = after_test sets e g result c v; vectors = with_p v pd result }
+
+-- a change of the vector registers, or of the scalar registers, alone
+abbrev pub put_vectors : Core → Vectors → Registers
+put_vectors c v = record { core = c; vectors = v }
+
+-- ---- compares
+
+abbrev pub vector_test : CmpVecOp → ElementTest
+vector_test vector_names.Cmphs = Hs
+vector_test vector_names.Cmphi = Hi
+vector_test vector_names.Cmpge = Ge
+vector_test vector_names.Cmpgt = Gt
+vector_test vector_names.Cmpeq = Eq
+vector_test vector_names.Cmpne = Ne
+
+abbrev pub wide_test : CmpWideOp → ElementTest
+wide_test wide_names.Cmpeq = Eq
+wide_test wide_names.Cmpne = Ne
+wide_test wide_names.Cmpge = Ge
+wide_test wide_names.Cmpgt = Gt
+wide_test wide_names.Cmplt = Lt
+wide_test wide_names.Cmple = Le
+wide_test wide_names.Cmphs = Hs
+wide_test wide_names.Cmphi = Hi
+wide_test wide_names.Cmplo = Lo
+wide_test wide_names.Cmpls = Ls
+
+abbrev pub unsigned_test : CmpUImmOp → ElementTest
+unsigned_test unsigned_names.Cmphs = Hs
+unsigned_test unsigned_names.Cmphi = Hi
+unsigned_test unsigned_names.Cmplo = Lo
+unsigned_test unsigned_names.Cmpls = Ls
+
+abbrev pub signed_test : CmpSImmOp → ElementTest
+signed_test signed_names.Cmpge = Ge
+signed_test signed_names.Cmpgt = Gt
+signed_test signed_names.Cmplt = Lt
+signed_test signed_names.Cmple = Le
+signed_test signed_names.Cmpeq = Eq
+signed_test signed_names.Cmpne = Ne
+
+-- the tests of unsigned numbers
+abbrev pub is_unsigned : ElementTest → Bool
+is_unsigned Hs = true
+is_unsigned Hi = true
+is_unsigned Lo = true
+is_unsigned Ls = true
+is_unsigned test = false
+
+-- a lane of e bits, extended to 64 bits as the test reads it
+abbrev pub widened : ElementTest → ℕ → ℕ → ℕ
+widened test e a = if is_unsigned test then a else sign_extended 64 e a
+
+-- the active lanes of zn whose test at w bits with b k holds; an inactive lane is 0
+abbrev pub compared : ℕ → ℕ → (ℕ → Bool) → Vectors → List Bool
+compared e pg test v = fields e (predicate_bits v) (λ k. if is_active e v pg k then test k else false)
+
+abbrev pub put_compared : ℕ → ℕ → ℕ → (ℕ → Bool) → Core → Vectors → Registers
+put_compared e pg pd test c v = put true e (read_p v pg) pd (compared e pg test v) c v
+
+-- ---- names
+
+abbrev pub logic_of : LogicPOp → LogicOp
+logic_of logic_names.And = And
+logic_of logic_names.Bic = Bic
+logic_of logic_names.Eor = Eor
+logic_of logic_names.Orr = Orr
+logic_of logic_names.Orn = Orn
+logic_of logic_names.Nor = Nor
+logic_of logic_names.Nand = Nand
+
+-- brka counts the first set bit itself
+abbrev pub break_after : BreakOp → Bool
+break_after Brka = true
+break_after Brkb = false
+
+abbrev pub pair_after : BreakPairOp → Bool
+pair_after Brkpa = true
+pair_after Brkpb = false
+
+abbrev pub ptrue_flags : PtrueOp → Bool
+ptrue_flags Unflagged = false
+ptrue_flags Flagged = true
+
+abbrev pub read_ffr_flags : ReadFfrOp → Bool
+read_ffr_flags Rdffr = false
+read_ffr_flags Rdffrs = true
+
+abbrev pub while_of : WhileOp → WhileTest
+while_of Whilelt = conditions.Lt
+while_of Whilele = conditions.Le
+while_of Whilelo = conditions.Lo
+while_of Whilels = conditions.Ls
+
+-- ---- FFR, counts and loops
+
+-- setffr: all ones; wrffr: a predicate
+abbrev pub written_ffr : WriteFfrOp → ℕ → Vectors → List Bool
+written_ffr Setffr pn v = ones (predicate_bits v)
+written_ffr Wrffr pn v = each (predicate_bits v) (is_set (read_p v pn))
+
+-- incp: a number and a count; decp: the number less the count, modulo 2^w
+abbrev pub counted : IncPOp → ℕ → ℕ → ℕ → ℕ
+counted Incp w a count = a + count
+counted Decp w a count = difference w a count
+
+-- the set lanes of a predicate
+abbrev pub set_lanes_of : ℕ → ℕ → Vectors → ℕ
+set_lanes_of e p v = count_lanes e (predicate_bits v) (read_p v p) (read_p v p)
+
+-- w is 64 where sf is 1, else 32
+abbrev pub width_of : Bool → ℕ
+width_of sf = if sf then 64 else 32
+
+abbrev pub while_result : WhileOp → ℕ → Bool → ℕ → ℕ → Core → Vectors → List Bool
+while_result op e sf rn rm c v = while_lanes (while_of op) (width_of sf) (read_x c rn) (read_x c rm) e (predicate_bits v)
+
+-- whether a loop ends: the low w bits are equal, or differ
+abbrev pub terminates : CtermOp → ℕ → ℕ → ℕ → Bool
+terminates Ctermeq w a b = nat_eq (a % 2 ^ w) (b % 2 ^ w)
+terminates Ctermne w a b = not (nat_eq (a % 2 ^ w) (b % 2 ^ w))
+
+-- where it ends N is 1 and V is 0, else N is 0 and V is not C; Z and C stay
+abbrev pub termination_flags : Bool → Flags → Flags
+termination_flags ends f = record { n = ends; z = f.z; c = f.c; v = not ends && not f.c }
+
+-- ---- the rows
+
+-- the rows that compare into predicates, or work on predicates and FFR
+abbrev pub is_predicate : SveForm → Bool
+is_predicate (CmpVec op size zm pg zn pd) = true
+is_predicate (CmpWide op size zm pg zn pd) = true
+is_predicate (CmpUImm op size imm7 pg zn pd) = true
+is_predicate (CmpSImm op size imm5 pg zn pd) = true
+is_predicate (LogicP op s pm pg pn pd) = true
+is_predicate (SelectP pm pg pn pd) = true
+is_predicate (Break op s pg pn m pd) = true
+is_predicate (BreakPair op s pm pg pn pd) = true
+is_predicate (BreakNext s pg pn pdm) = true
+is_predicate (Ptest pg pn) = true
+is_predicate (First pg pdn) = true
+is_predicate (Next size pg pdn) = true
+is_predicate (Ptrue op size pattern pd) = true
+is_predicate (Pfalse pd) = true
+is_predicate (ReadFfr op pg pd) = true
+is_predicate (ReadFfrAll pd) = true
+is_predicate (WriteFfr op pn) = true
+is_predicate (CountP size pg pn rd) = true
+is_predicate (IncP op size pm rdn) = true
+is_predicate (IncPZ op size pm zdn) = true
+is_predicate (While op size rm sf rn pd) = true
+is_predicate (Cterm op sf rm rn) = true
+is_predicate form = false
+
+-- The registers after an instruction of these rows, which goes on behind it.
+abbrev pub predicate : SveForm → Core → Vectors → Registers
+predicate (CmpVec op size zm pg zn pd) c v = put_compared (lane_bits size) pg pd (λ k. element_test (vector_test op) (lane_bits size) (lane_of (lane_bits size) v zn k) (lane_of (lane_bits size) v zm k)) c v
+predicate (CmpWide op size zm pg zn pd) c v = put_compared (lane_bits size) pg pd (λ k. element_test (wide_test op) 64 (widened (wide_test op) (lane_bits size) (lane_of (lane_bits size) v zn k)) (covering_lane (lane_bits size) v zm k)) c v
+predicate (CmpUImm op size imm7 pg zn pd) c v = put_compared (lane_bits size) pg pd (λ k. element_test (unsigned_test op) (lane_bits size) (lane_of (lane_bits size) v zn k) imm7) c v
+predicate (CmpSImm op size imm5 pg zn pd) c v = put_compared (lane_bits size) pg pd (λ k. element_test (signed_test op) (lane_bits size) (lane_of (lane_bits size) v zn k) (sign_extended (lane_bits size) 5 imm5)) c v
+predicate (LogicP op s pm pg pn pd) c v = put s 8 (read_p v pg) pd (logic (logic_of op) (predicate_bits v) (read_p v pg) (read_p v pn) (read_p v pm)) c v
+predicate (SelectP pm pg pn pd) c v = put false 8 (read_p v pg) pd (logic Sel (predicate_bits v) (read_p v pg) (read_p v pn) (read_p v pm)) c v
+predicate (Break op s pg pn m pd) c v = put s 8 (read_p v pg) pd (broken (break_after op) m (predicate_bits v) (read_p v pg) (read_p v pn) (read_p v pd)) c v
+predicate (BreakPair op s pm pg pn pd) c v = put s 8 (read_p v pg) pd (broken_pair (pair_after op) (predicate_bits v) (read_p v pg) (read_p v pn) (read_p v pm)) c v
+-- brkn alone has its flags by the test of all bits
+predicate (BreakNext s pg pn pdm) c v = put s 8 (ones (predicate_bits v)) pdm (broken_next (predicate_bits v) (read_p v pg) (read_p v pn) (read_p v pdm)) c v
+predicate (Ptest pg pn) c v = put_vectors (after_test true 8 (read_p v pg) (read_p v pn) c v) v
+predicate (First pg pdn) c v = put true 8 (read_p v pg) pdn (with_first (predicate_bits v) (read_p v pg) (read_p v pdn)) c v
+predicate (Next size pg pdn) c v = put true (lane_bits size) (read_p v pg) pdn (only_next (lane_bits size) (predicate_bits v) (read_p v pg) (read_p v pdn)) c v
+predicate (Ptrue op size pattern pd) c v = let result = lanes_below (lane_bits size) (predicate_bits v) (pattern_count pattern (v.bits / lane_bits size)) in put (ptrue_flags op) (lane_bits size) result pd result c v
+predicate (Pfalse pd) c v = put_vectors c (with_p v pd (each (predicate_bits v) (λ k. false)))
+predicate (ReadFfr op pg pd) c v = put (read_ffr_flags op) 8 (read_p v pg) pd (logic And (predicate_bits v) (read_p v pg) v.ffr v.ffr) c v
+predicate (ReadFfrAll pd) c v = put_vectors c (with_p v pd v.ffr)
+predicate (WriteFfr op pn) c v = put_vectors c (with_ffr v (written_ffr op pn v))
+predicate (CountP size pg pn rd) c v = put_vectors (with_x c rd 64 (count_lanes (lane_bits size) (predicate_bits v) (read_p v pg) (read_p v pn))) v
+predicate (IncP op size pm rdn) c v = put_vectors (with_x c rdn 64 (counted op 64 (read_x c rdn) (set_lanes_of (lane_bits size) pm v))) v
+predicate (IncPZ op size pm zdn) c v = put_vectors c (with_lanes (lane_bits size) (λ k. counted op (lane_bits size) (lane_of (lane_bits size) v zdn k) (set_lanes_of (lane_bits size) pm v)) zdn v)
+predicate (While op size rm sf rn pd) c v = put true (lane_bits size) (ones (predicate_bits v)) pd (while_result op (lane_bits size) sf rn rm c v) c v
+predicate (Cterm op sf rm rn) c v = put_vectors (record c { flags = termination_flags (terminates op (width_of sf) (read_x c rn) (read_x c rm)) c.flags }) v
+-- the other rows stand elsewhere
+predicate form c v = put_vectors c v
