@@ -1,0 +1,7 @@
+//! What the SVE rows that work across lanes do: permutes, counts and folds.
+//!
+//! A permute reads each lane of a source once and writes its destination once.
+#![tactic(auto)]
+
+mod fields;
+mod moves;
