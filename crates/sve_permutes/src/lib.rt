@@ -3,5 +3,6 @@
 //! A permute reads each lane of a source once and writes its destination once.
 #![tactic(auto)]
 
+mod active;
 mod fields;
 mod moves;
