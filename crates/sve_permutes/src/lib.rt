@@ -4,5 +4,8 @@
 #![tactic(auto)]
 
 mod active;
+mod dup;
 mod fields;
 mod moves;
+mod predicates;
+mod rows;
