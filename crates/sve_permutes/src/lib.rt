@@ -9,3 +9,4 @@ mod fields;
 mod moves;
 mod predicates;
 mod rows;
+mod single;
