@@ -4,33 +4,21 @@ use Rattle.std.proofs.Common.{arith}
 use Rattle.a64_insn.specs.declared.form.A64Form.{A64Form}
 use Rattle.a64_insn.specs.declared.form.A64Form.TheVariants.{LsPost, LsPre, Pair, StoreEx, LoadEx, Ordered}
 use Rattle.emu_bits.specs.Fields.{bit}
-use Rattle.emu_model.specs.declared.access.Kind.{Kind}
 use Rattle.emu_model.specs.declared.access.Kind.TheVariants.{Read as ReadKind, Write as WriteKind}
 use Rattle.emu_model.specs.declared.trap.TrapKind.TheVariants.{SpAlign, AccessAlign}
-use Rattle.emu_model.specs.Access.{Memory, refused, stored, value}
-use Rattle.emu_model.specs.Sound.{with_x_sound, with_x_sp_sound, monitor_sound, stored_sound, refused_is_word}
+use Rattle.emu_model.specs.Access.{Memory, value}
+use Rattle.emu_model.specs.Sound.{with_x_sound, with_x_sp_sound, monitor_sound}
 use Rattle.emu_model.specs.State.{Core, Vectors, read_x, read_x_sp, with_x, with_x_sp, IsWord, IsSoundCore, IsSoundVectors, IsSoundMemory}
 use Rattle.emu_model.specs.Done.{Done, traps}
-use Rattle.emu_model.specs.Elements.{Element, Reach, reach_from, reach, with_stored}
+use Rattle.emu_model.specs.Elements.{Element, reach}
+use Rattle.emu_model.specs.SoundElements.{stop_is_word, with_stored_sound}
 use Rattle.a64_effects.specs.declared.transfer.Transfer.{Transfer}
 use Rattle.a64_effects.specs.declared.transfer.Transfer.TheVariants.{Store, Load, LoadSigned, LoadSigned32, Prefetch}
 use Rattle.a64_effects.specs.LoadStore.{transfer_of, near, pair_near, pair_bytes, writes_back, is_kept, elements, has_sp_base, is_misaligned, unless_multiple, misaligned, loaded_value, with_loaded, based, behind, store_as_far, load_as_far, loaded_to, transferred, unless_misaligned, tested, access}
 use Rattle.emu_model.specs.SoundDone.{IsSoundDone, traps_sound}
 use Rattle.a64_effects.specs.SoundFlow.{read_x_sp_is_word}
 
--- ---- how far the elements get
-
-stop_from : (o : Option ℕ) (e : Element) (rest : Reach) → IfSome o IsWord → IfSome rest.stop IsWord → IfSome (reach_from o e rest).stop IsWord
-stop_from (Some a) e rest here later = here
-stop_from None e rest here later = later
-
-stop_is_word : (m : Memory) (kind : Kind) (es : List Element) → IfSome (reach m kind es).stop IsWord
-stop_is_word m kind [] = tt
-stop_is_word m kind (e ∷ es) = stop_from (refused m e.address e.bytes kind) e (reach m kind es) (refused_is_word m e.address e.bytes kind) (stop_is_word m kind es)
-
-pub with_stored_sound : (v : Element → ℕ) (es : List Element) (m : Memory) → IsSoundMemory m → IsSoundMemory (with_stored v es m)
-with_stored_sound v [] m t = t
-with_stored_sound v (e ∷ es) m t = with_stored_sound v es (stored m e.address e.bytes (v e)) (stored_sound m e.address e.bytes (v e) t)
+-- ---- what is loaded
 
 with_loaded_sound : (transfer : Transfer) (m : Memory) (es : List Element) (c : Core) → IsSoundCore c → IsSoundCore (with_loaded transfer m es c)
 with_loaded_sound transfer m [] c s = s

@@ -2,7 +2,7 @@
 ghost use Rattle.std.specs.Prelude.{◌≡◌, ◌≤◌, ◌<◌, ◌+◌, ◌^◌, ◌++◌, ◌∷◌, [], MatchResult, None, Some, false, true};
 ghost use Rattle.arrayvec.specs.ArrayVec.{array_vec_len};
 ghost use Rattle.emu_model.specs.Access.{Memory, refused, stored, value};
-ghost use Rattle.emu_model.specs.State.{Core as CoreState, read_x};
+ghost use Rattle.emu_model.specs.State.{Core as CoreState, Vectors, read_x};
 ghost use Rattle.emu_model.specs.declared.access.Kind.{Kind};
 ghost use Rattle.emu_model.specs.declared.trap.TrapKind.{TrapKind};
 ghost use Rattle.emu_model.specs.Elements.{reach};
@@ -96,8 +96,8 @@ pub(crate) fn single(
     requires some { 1 ≤ n }
     requires most { n ≤ 8 }
     requires empty { log.old.items ≡ [] }
-    ensures { (after : CoreState → CoreState) → table.transferred t (table.single t rt address n) after core.old mem.old
-        ≡ followed_by after result core.new mem.new log.new.items }
+    ensures { (after : CoreState → CoreState) (w : Vectors) → table.transferred t (table.single t rt address n) after core.old w mem.old
+        ≡ followed_by after result core.new w mem.new log.new.items }
 {
     match t {
         Transfer::Prefetch => Ok(()),
@@ -124,8 +124,8 @@ fn store_couple(
     requires some { 1 ≤ n }
     requires most { n ≤ 8 }
     requires empty { log.old.items ≡ [] }
-    ensures { (after : CoreState → CoreState) → table.transferred Transfer.Store (table.couple rt rt2 address n) after core.now mem.old
-        ≡ followed_by after result core.now mem.new log.new.items }
+    ensures { (after : CoreState → CoreState) (w : Vectors) → table.transferred Transfer.Store (table.couple rt rt2 address n) after core.now w mem.old
+        ≡ followed_by after result core.now w mem.new log.new.items }
 {
     store(mem, log, core.x(rt), address, n)?;
     store(mem, log, core.x(rt2), address.wrapping_add(n as u64), n)
@@ -145,8 +145,8 @@ fn load_couple(
     requires some { 1 ≤ n }
     requires most { n ≤ 8 }
     requires empty { log.old.items ≡ [] }
-    ensures { (after : CoreState → CoreState) → table.loaded_to t (reach mem.old Kind.Read (table.couple rt rt2 address n)) after core.old mem.old
-        ≡ followed_by after result core.new mem.new log.new.items }
+    ensures { (after : CoreState → CoreState) (w : Vectors) → table.loaded_to t (reach mem.old Kind.Read (table.couple rt rt2 address n)) after core.old w mem.old
+        ≡ followed_by after result core.new w mem.new log.new.items }
 {
     let first = load(mem, log, address, n)?;
     let second = load(mem, log, address.wrapping_add(n as u64), n)?;
@@ -170,8 +170,8 @@ pub(crate) fn couple(
     requires some { 1 ≤ n }
     requires most { n ≤ 8 }
     requires empty { log.old.items ≡ [] }
-    ensures { (after : CoreState → CoreState) → table.transferred t (table.couple rt rt2 address n) after core.old mem.old
-        ≡ followed_by after result core.new mem.new log.new.items }
+    ensures { (after : CoreState → CoreState) (w : Vectors) → table.transferred t (table.couple rt rt2 address n) after core.old w mem.old
+        ≡ followed_by after result core.new w mem.new log.new.items }
 {
     match t {
         Transfer::Store => store_couple(core, mem, log, rt, rt2, address, n),

@@ -3,6 +3,7 @@ ghost use Rattle.std.specs.Prelude.{◌≡◌, [], true};
 ghost use Rattle.a64_insn.specs.declared.form.A64Form.{A64Form};
 ghost use Rattle.a64_insn.specs.declared.ops.LoadExOp.{LoadExOp as LoadName};
 ghost use Rattle.a64_insn.specs.declared.ops.StoreExOp.{StoreExOp as StoreName};
+ghost use Rattle.emu_model.specs.State.{Vectors};
 ghost use Rattle.a64_effects.specs.LoadStore as table;
 ghost use Rattle.a64_flow.specs.Ends.{ended};
 ghost use Rattle.a64_flow.specs.Groups.{is_exclusive};
@@ -21,7 +22,7 @@ use guest_mem::{AccessLog, Mem};
 pub(crate) fn exec(core: &mut Core, mem: &mut Mem, log: &mut AccessLog, i: &A64) -> Result<(), Trap>
     requires own { is_exclusive i.now ≡ true }
     requires empty { log.old.items ≡ [] }
-    ensures { table.access i.now core.old mem.old ≡ ended result core.new mem.new log.new.items }
+    ensures { (w : Vectors) → table.access i.now core.old w mem.old ≡ ended result core.new w mem.new log.new.items }
 {
     match *i.form() {
         A64Form::StoreEx {
@@ -49,7 +50,7 @@ fn store_ex(
     rt: Reg,
 ) -> Result<(), Trap>
     requires { log.old.items ≡ [] }
-    ensures { (op : StoreName) → table.access (A64Form.StoreEx op size rs rn rt) core.old mem.old ≡ ended result core.new mem.new log.new.items }
+    ensures { (op : StoreName) (w : Vectors) → table.access (A64Form.StoreEx op size rs rn rt) core.old w mem.old ≡ ended result core.new w mem.new log.new.items }
 {
     test_sp(core, rn.get() == 31)?;
     let (address, n) = (core.x_sp(rn), bytes_of(size));
@@ -73,7 +74,7 @@ fn load_ex(
     rt: Reg,
 ) -> Result<(), Trap>
     requires { log.old.items ≡ [] }
-    ensures { (op : LoadName) → table.access (A64Form.LoadEx op size rn rt) core.old mem.old ≡ ended result core.new mem.new log.new.items }
+    ensures { (op : LoadName) (w : Vectors) → table.access (A64Form.LoadEx op size rn rt) core.old w mem.old ≡ ended result core.new w mem.new log.new.items }
 {
     test_sp(core, rn.get() == 31)?;
     let (address, n) = (core.x_sp(rn), bytes_of(size));
@@ -94,7 +95,7 @@ fn ordered(
     rt: Reg,
 ) -> Result<(), Trap>
     requires { log.old.items ≡ [] }
-    ensures { table.access (A64Form.Ordered op size rn rt) core.old mem.old ≡ ended result core.new mem.new log.new.items }
+    ensures { (w : Vectors) → table.access (A64Form.Ordered op size rn rt) core.old w mem.old ≡ ended result core.new w mem.new log.new.items }
 {
     test_sp(core, rn.get() == 31)?;
     let (address, n) = (core.x_sp(rn), bytes_of(size));

@@ -1,6 +1,7 @@
 //! Post-indexed and pre-indexed accesses of one register, which write the base back.
 ghost use Rattle.std.specs.Prelude.{◌≡◌, [], Bool, true};
 ghost use Rattle.a64_insn.specs.declared.form.A64Form.{A64Form};
+ghost use Rattle.emu_model.specs.State.{Vectors};
 ghost use Rattle.a64_effects.specs.LoadStore as table;
 ghost use Rattle.a64_flow.specs.Ends.{ended};
 ghost use Rattle.a64_flow.specs.Groups.{is_indexed};
@@ -17,7 +18,7 @@ use guest_mem::{AccessLog, Mem};
 pub(crate) fn exec(core: &mut Core, mem: &mut Mem, log: &mut AccessLog, i: &A64) -> Result<(), Trap>
     requires own { is_indexed i.now ≡ true }
     requires empty { log.old.items ≡ [] }
-    ensures { table.access i.now core.old mem.old ≡ ended result core.new mem.new log.new.items }
+    ensures { (w : Vectors) → table.access i.now core.old w mem.old ≡ ended result core.new w mem.new log.new.items }
 {
     match *i.form() {
         A64Form::LsPost {
@@ -52,7 +53,7 @@ fn ls_post(
     rt: Reg,
 ) -> Result<(), Trap>
     requires { log.old.items ≡ [] }
-    ensures { (v : Bool) → table.access (A64Form.LsPost size v opc imm9 rn rt) core.old mem.old ≡ ended result core.new mem.new log.new.items }
+    ensures { (v : Bool) (w : Vectors) → table.access (A64Form.LsPost size v opc imm9 rn rt) core.old w mem.old ≡ ended result core.new w mem.new log.new.items }
 {
     let (t, n) = (transfer(size, opc), bytes_of(size));
     let address = core.x_sp(rn);
@@ -74,7 +75,7 @@ fn ls_pre(
     rt: Reg,
 ) -> Result<(), Trap>
     requires { log.old.items ≡ [] }
-    ensures { (v : Bool) → table.access (A64Form.LsPre size v opc imm9 rn rt) core.old mem.old ≡ ended result core.new mem.new log.new.items }
+    ensures { (v : Bool) (w : Vectors) → table.access (A64Form.LsPre size v opc imm9 rn rt) core.old w mem.old ≡ ended result core.new w mem.new log.new.items }
 {
     let (t, n) = (transfer(size, opc), bytes_of(size));
     let address = near(core, rn, imm9);

@@ -16,6 +16,7 @@ ghost use Rattle.std.specs.Prelude.{◌≡◌, ◌||◌, [], true};
 ghost use Rattle.a64_effects.specs.Flow.{is_flow};
 ghost use Rattle.a64_effects.specs.LoadStore.{is_load_store};
 ghost use Rattle.a64_effects.specs.Effects.{performed};
+ghost use Rattle.emu_model.specs.State.{Vectors};
 
 use a64_insn::{A64, A64Form};
 use core_regs::{Core, Effect};
@@ -56,10 +57,9 @@ pub fn is_own(i: &A64) -> bool
 pub fn exec(core: &mut Core, mem: &mut Mem, log: &mut AccessLog, i: &A64) -> Effect
     requires own { (is_flow i.now || is_load_store i.now) ≡ true }
     requires empty { log.old.items ≡ [] }
-    ensures registers { core.new ≡ (performed i.now core.old mem.old).core }
-    ensures memory { mem.new ≡ (performed i.now core.old mem.old).memory }
-    ensures accesses { log.new.items ≡ (performed i.now core.old mem.old).accesses }
-    ensures effect { result ≡ (performed i.now core.old mem.old).effect }
+    // these rows leave the vector registers as they were, whatever they are
+    ensures { (v : Vectors) → performed i.now core.old v mem.old
+        ≡ record { core = core.new; vectors = v; memory = mem.new; accesses = log.new.items; effect = result } }
 {
     match *i.form() {
         A64Form::Branch { op, imm26 } => branches::branch(core, op, imm26),

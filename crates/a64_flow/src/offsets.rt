@@ -1,7 +1,7 @@
 //! One register at an address that isn't written back: from a base, or near PC.
 ghost use Rattle.std.specs.Prelude.{◌≡◌, ◌≤◌, [], Bool, None, true};
 ghost use Rattle.a64_insn.specs.declared.form.A64Form.{A64Form};
-ghost use Rattle.emu_model.specs.State.{Core as CoreState};
+ghost use Rattle.emu_model.specs.State.{Core as CoreState, Vectors};
 ghost use Rattle.a64_effects.specs.LoadStore as table;
 ghost use Rattle.a64_flow.specs.Ends.{ended, followed_by};
 ghost use Rattle.a64_flow.specs.Groups.{is_at_offset};
@@ -21,7 +21,7 @@ use guest_mem::{AccessLog, Mem};
 pub(crate) fn exec(core: &mut Core, mem: &mut Mem, log: &mut AccessLog, i: &A64) -> Result<(), Trap>
     requires own { is_at_offset i.now ≡ true }
     requires empty { log.old.items ≡ [] }
-    ensures { table.access i.now core.old mem.old ≡ ended result core.new mem.new log.new.items }
+    ensures { (w : Vectors) → table.access i.now core.old w mem.old ≡ ended result core.new w mem.new log.new.items }
 {
     match *i.form() {
         A64Form::LsUnsigned {
@@ -69,9 +69,9 @@ pub(crate) fn from_base(
     requires some { 1 ≤ n }
     requires most { n ≤ 8 }
     requires empty { log.old.items ≡ [] }
-    ensures { (after : CoreState → CoreState)
-        → table.tested (table.has_sp t rn) None core.old mem.old (table.transferred t (table.single t rt address n) after core.old mem.old)
-        ≡ followed_by after result core.new mem.new log.new.items }
+    ensures { (after : CoreState → CoreState) (w : Vectors)
+        → table.tested (table.has_sp t rn) None core.old w mem.old (table.transferred t (table.single t rt address n) after core.old w mem.old)
+        ≡ followed_by after result core.new w mem.new log.new.items }
 {
     test_sp(core, has_sp(t, rn))?;
     single(core, mem, log, t, rt, address, n)
@@ -89,7 +89,7 @@ fn ls_unsigned(
     rt: Reg,
 ) -> Result<(), Trap>
     requires { log.old.items ≡ [] }
-    ensures { (v : Bool) → table.access (A64Form.LsUnsigned size v opc imm12 rn rt) core.old mem.old ≡ ended result core.new mem.new log.new.items }
+    ensures { (v : Bool) (w : Vectors) → table.access (A64Form.LsUnsigned size v opc imm12 rn rt) core.old w mem.old ≡ ended result core.new w mem.new log.new.items }
 {
     let (t, n) = (transfer(size, opc), bytes_of(size));
     let address = core.x_sp(rn).wrapping_add(u64::from(n * imm12.get()));
@@ -108,7 +108,7 @@ fn ls_unscaled(
     rt: Reg,
 ) -> Result<(), Trap>
     requires { log.old.items ≡ [] }
-    ensures { (v : Bool) → table.access (A64Form.LsUnscaled size v opc imm9 rn rt) core.old mem.old ≡ ended result core.new mem.new log.new.items }
+    ensures { (v : Bool) (w : Vectors) → table.access (A64Form.LsUnscaled size v opc imm9 rn rt) core.old w mem.old ≡ ended result core.new w mem.new log.new.items }
 {
     let (t, n) = (transfer(size, opc), bytes_of(size));
     let address = near(core, rn, imm9);
@@ -129,7 +129,7 @@ fn ls_reg(
     rt: Reg,
 ) -> Result<(), Trap>
     requires { log.old.items ≡ [] }
-    ensures { (v : Bool) → table.access (A64Form.LsReg size v opc rm ext s rn rt) core.old mem.old ≡ ended result core.new mem.new log.new.items }
+    ensures { (v : Bool) (w : Vectors) → table.access (A64Form.LsReg size v opc rm ext s rn rt) core.old w mem.old ≡ ended result core.new w mem.new log.new.items }
 {
     let (t, n) = (transfer(size, opc), bytes_of(size));
     let address = indexed(core, rn, rm, ext, s, n);
@@ -146,7 +146,7 @@ fn ls_literal(
     rt: Reg,
 ) -> Result<(), Trap>
     requires { log.old.items ≡ [] }
-    ensures { (v : Bool) → table.access (A64Form.LsLiteral opc v imm19 rt) core.old mem.old ≡ ended result core.new mem.new log.new.items }
+    ensures { (v : Bool) (w : Vectors) → table.access (A64Form.LsLiteral opc v imm19 rt) core.old w mem.old ≡ ended result core.new w mem.new log.new.items }
 {
     let (t, n) = (literal_transfer(opc), literal_bytes(opc));
     let address = target(core, imm19.get(), 19);

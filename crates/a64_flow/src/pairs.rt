@@ -1,6 +1,7 @@
 //! Pairs of registers.
 ghost use Rattle.std.specs.Prelude.{◌≡◌, [], Bool};
 ghost use Rattle.a64_insn.specs.declared.form.A64Form.{A64Form};
+ghost use Rattle.emu_model.specs.State.{Vectors};
 ghost use Rattle.a64_effects.specs.LoadStore as table;
 ghost use Rattle.a64_flow.specs.Ends.{ended};
 
@@ -26,7 +27,7 @@ pub(crate) fn pair(
     rt: Reg,
 ) -> Result<(), Trap>
     requires { log.old.items ≡ [] }
-    ensures { (v : Bool) → table.access (A64Form.Pair opc v mode l imm7 rt2 rn rt) core.old mem.old ≡ ended result core.new mem.new log.new.items }
+    ensures { (v : Bool) (w : Vectors) → table.access (A64Form.Pair opc v mode l imm7 rt2 rn rt) core.old w mem.old ≡ ended result core.new w mem.new log.new.items }
 {
     test_sp(core, rn.get() == 31)?;
     let (t, n) = (pair_transfer(opc, l), pair_bytes(opc));

@@ -13,7 +13,7 @@ use emu_bits::{Reg, U};
 use std::marker::Model;
 
 /// An instruction's form: the line of the table and the raw bits of its fields, highest first. `sf` is true at 64 bits.
-#[derive(Clone, Copy, PartialEq, Eq, Debug)]
+#[derive(Clone, Copy)]
 pub enum A64Form {
     /// `adr`, `adrp Xd, target`: an address near PC; immhi:immlo is signed, in bytes or in pages of 4,096 bytes.
     Adr {
@@ -337,7 +337,7 @@ pub enum A64Form {
 }
 
 /// A form that meets its line's condition.
-#[derive(Clone, Copy, PartialEq, Eq, Debug)]
+#[derive(Clone, Copy)]
 pub struct A64 {
     form: A64Form,
 }

@@ -1,33 +1,10 @@
--- What a call leaves, and what it puts.
-use Rattle.std.proofs.Common.{◌≡◌, ◌≤◌, ℕ, zero, suc, ◌+◌, ◌-◌, ◌/◌, Bool, true, false, List, ◌∷◌, ◌++◌, map, take, drop, replicate, Option, Some, None, IfSome, refl, sym, ap, ◌∙◌, arith}
-use Rattle.std.proofs.lemmas.List.{length-replicate, take-append-drop, take-replicate, replicate-append-replicate}
-use Rattle.emu_model.specs.State.{Parts, zero_vectors}
-use Rattle.emu_run.specs.SystemCall.{Turn, after_call, low_bytes, no_bits, bytes_written, call, call_of, kind_of_call, quiet, write_of, writing, CallKind, write, to_output, to_errors}
+-- What a call leaves and puts.
+use Rattle.std.proofs.Common.{◌≡◌, ℕ, Bool, true, List, ◌++◌, take, drop, Option, Some, None, IfSome, sym, ap, ◌∙◌}
+use Rattle.std.proofs.lemmas.List.{take-append-drop}
+use Rattle.emu_model.specs.State.{Parts}
+use Rattle.emu_run.specs.SystemCall.{Turn, bytes_written, call, call_of, kind_of_call, quiet, write_of, writing, CallKind, write, to_output, to_errors}
 use Rattle.emu_machine.specs.Ends.{Becomes, HoldsFirst, Puts}
 use Rattle.emu_machine.specs.Machines.{call_made}
-
-map_replicate : {A B : Type 0} (f : A → B) (n : ℕ) (a : A) → map f (replicate n a) ≡ replicate n (f a)
-map_replicate f zero a = refl
-map_replicate f (suc n) a = ap (λ l. f a ∷ l) (map_replicate f n a)
-
-low_zeros : (n : ℕ) → 16 ≤ n → low_bytes (replicate n 0) ≡ replicate n 0
-low_zeros n least =
-    let e : 16 + (n - 16) ≡ n = omega arith in
-    rw (take-replicate {X = ℕ} 16 n 0 least, length-replicate {A = ℕ} n 0, replicate-append-replicate {A = ℕ} 16 (n - 16) 0, e) refl
-
-no_zeros : (n : ℕ) → no_bits (replicate n false) ≡ replicate n false
-no_zeros n = ap (λ k. replicate k false) (length-replicate n false)
-
--- a call leaves vector registers of zeros as they are
-pub zeros_after_call : (bits : ℕ) → 128 ≤ bits → after_call (zero_vectors bits) ≡ zero_vectors bits
-zeros_after_call bits least =
-    let n : ℕ = bits / 8 in
-    let some : 16 ≤ n = omega arith in
-    let z : map low_bytes (replicate 32 (replicate n 0)) ≡ replicate 32 (replicate n 0) = map_replicate low_bytes 32 (replicate n 0) ∙ ap (λ l. replicate 32 l) (low_zeros n some) in
-    let p : map no_bits (replicate 16 (replicate n false)) ≡ replicate 16 (replicate n false) = map_replicate no_bits 16 (replicate n false) ∙ ap (λ l. replicate 16 l) (no_zeros n) in
-    rw (z, p, no_zeros n) refl
-
--- ---- the clauses of a call
 
 -- a call that puts nothing
 pub becomes_quietly : (m q : Parts) (kind : CallKind) (told : Option (List ℕ)) (broken : Bool) → kind_of_call m ≡ kind → ((input : List ℕ) → call_of kind m input ≡ quiet q input) → Becomes call_made m q told told broken

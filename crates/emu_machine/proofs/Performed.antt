@@ -1,5 +1,6 @@
 -- An instruction that asks for a call is svc, and does nothing else.
 use Rattle.std.proofs.Common.{◌≡◌, ℕ, Bool, true, false, List, [], Option, Some, None, if◌then◌else◌, refl, ap, sym, ◌∙◌}
+use Rattle.std.specs.Prelude.{◌||◌, is_some}
 use Rattle.a64_insn.specs.declared.form.A64Form.{A64Form}
 use Rattle.a64_insn.specs.declared.form.A64Form.TheVariants.{Branch, BranchCond, Compare, Test, BranchReg, Except}
 use Rattle.a64_insn.specs.declared.ops.BranchOp.TheVariants.{B, Bl}
@@ -15,7 +16,9 @@ use Rattle.emu_model.specs.Access.{Memory}
 use Rattle.emu_model.specs.declared.image.Break.{Break}
 use Rattle.emu_model.specs.declared.trap.Ended.{Ended}
 use Rattle.emu_model.specs.State.{Core, Vectors, read_x}
-use Rattle.emu_run.specs.declared.insn.Insn.TheVariants.{A64}
+use Rattle.emu_run.specs.declared.insn.Insn.{Insn}
+use Rattle.emu_run.specs.declared.insn.Insn.TheVariants.{A64, Sve}
+use Rattle.a64_effects.specs.Effects as a64
 use Rattle.a64_effects.specs.declared.transfer.Transfer.{Transfer}
 use Rattle.a64_effects.specs.declared.transfer.Transfer.TheVariants.{Store, Load, LoadSigned, LoadSigned32, Prefetch}
 use Rattle.emu_model.specs.Done.{Done, quietly, went_well, traps}
@@ -24,56 +27,56 @@ use Rattle.a64_effects.specs.Flow.{branches_if, is_flow, is_taken, is_taken_by, 
 use Rattle.a64_effects.specs.LoadStore.{access, behind, elements, has_sp_base, is_misaligned, load_as_far, misaligned, store_as_far, tested, transfer_of, transferred, unless_misaligned}
 use Rattle.a64_effects.specs.Scalar.{is_data, operand, scalar, width_of}
 use Rattle.emu_run.specs.Step.{performed}
-use Rattle.emu_machine.specs.Machines.{MachineState, is_svc}
+use Rattle.emu_machine.specs.Machines.{MachineState, has_ended, is_svc}
 
 -- this effect is no call
 abbrev IsOther : Effect → Type 0
 IsOther e = e ≡ Call → ⊥
 
-module _ (c : Core) (m : Memory) where
+module _ (c : Core) (v : Vectors) (m : Memory) where
   -- ---- loads and stores ask for none
 
   module _ (after : Core → Core) where
-    stored_is_other : (stop : Option ℕ) (es : List Element) → IsOther (store_as_far stop es after c m).effect
+    stored_is_other : (stop : Option ℕ) (es : List Element) → IsOther (store_as_far stop es after c v m).effect
     stored_is_other None es = λ h. cc
     stored_is_other (Some a) es = λ h. cc
 
-    loaded_is_other : (t : Transfer) (stop : Option ℕ) (es : List Element) → IsOther (load_as_far t stop es after c m).effect
+    loaded_is_other : (t : Transfer) (stop : Option ℕ) (es : List Element) → IsOther (load_as_far t stop es after c v m).effect
     loaded_is_other t None es = λ h. cc
     loaded_is_other t (Some a) es = λ h. cc
 
-    transferred_is_other : (t : Transfer) (es : List Element) → IsOther (transferred t es after c m).effect
+    transferred_is_other : (t : Transfer) (es : List Element) → IsOther (transferred t es after c v m).effect
     transferred_is_other Store es = stored_is_other (reach m WriteKind es).stop (reach m WriteKind es).done
     transferred_is_other Load es = loaded_is_other Load (reach m ReadKind es).stop (reach m ReadKind es).done
     transferred_is_other LoadSigned es = loaded_is_other LoadSigned (reach m ReadKind es).stop (reach m ReadKind es).done
     transferred_is_other LoadSigned32 es = loaded_is_other LoadSigned32 (reach m ReadKind es).stop (reach m ReadKind es).done
     transferred_is_other Prefetch es = loaded_is_other Prefetch (reach m ReadKind es).stop (reach m ReadKind es).done
 
-  unless_is_other : (o : Option ℕ) (d : Done) → IsOther d.effect → IsOther (unless_misaligned o c m d).effect
+  unless_is_other : (o : Option ℕ) (d : Done) → IsOther d.effect → IsOther (unless_misaligned o c v m d).effect
   unless_is_other None d other = other
   unless_is_other (Some a) d other = λ h. cc
 
-  tested_is_other : (has : Bool) (o : Option ℕ) (d : Done) → IsOther d.effect → IsOther (tested has o c m d).effect
-  tested_is_other has o d other = elim (is_misaligned has c) as (λ b. IsOther (if b then traps c m SpAlign c.sp else unless_misaligned o c m d).effect) [
+  tested_is_other : (has : Bool) (o : Option ℕ) (d : Done) → IsOther d.effect → IsOther (tested has o c v m d).effect
+  tested_is_other has o d other = elim (is_misaligned has c) as (λ b. IsOther (if b then traps c v m SpAlign c.sp else unless_misaligned o c v m d).effect) [
     | true ↦ λ h. cc
     | false ↦ unless_is_other o d other
   ]
 
-  access_is_other : (form : A64Form) → IsOther (access form c m).effect
+  access_is_other : (form : A64Form) → IsOther (access form c v m).effect
   access_is_other form =
-      tested_is_other (has_sp_base form) (misaligned form c) (transferred (transfer_of form) (elements form c) (behind form c) c m) (transferred_is_other (behind form c) (transfer_of form) (elements form c))
+      tested_is_other (has_sp_base form) (misaligned form c) (transferred (transfer_of form) (elements form c) (behind form c) c v m) (transferred_is_other (behind form c) (transfer_of form) (elements form c))
 
   -- ---- of the branches and system rows svc alone does
 
   -- where an instruction leaves this, it is svc
-  abbrev AsksAlone : A64Form → Done → Type 0
-  AsksAlone form d = d.effect ≡ Call → (d ≡ quietly c m Call) × (is_svc (Some (A64 form)) ≡ true)
+  abbrev AsksAlone : Insn → Done → Type 0
+  AsksAlone i d = d.effect ≡ Call → (d ≡ quietly c v m Call) × (is_svc (Some i) ≡ true)
 
-  branches_alone : (form : A64Form) (taken : Bool) (a : ℕ) → AsksAlone form (branches_if taken c m a)
+  branches_alone : (form : A64Form) (taken : Bool) (a : ℕ) → AsksAlone (A64 form) (branches_if taken c v m a)
   branches_alone form true a = λ h. absurd (cc)
   branches_alone form false a = λ h. absurd (cc)
 
-  flow_alone : (form : A64Form) → AsksAlone form (flow form c m)
+  flow_alone : (form : A64Form) → AsksAlone (A64 form) (flow form c v m)
   flow_alone (Branch B imm26) = λ h. absurd (cc)
   flow_alone (Branch Bl imm26) = λ h. absurd (cc)
   flow_alone (BranchCond imm19 cond) = branches_alone (BranchCond imm19 cond) (cond_holds (cond_of cond) c.flags) (target c 19 imm19)
@@ -87,31 +90,38 @@ module _ (c : Core) (m : Memory) where
   flow_alone (Except Hlt imm16) = λ h. absurd (cc)
   flow_alone form = λ h. absurd (cc)
 
-  performed_alone : (form : A64Form) → AsksAlone form (performed form c m)
-  performed_alone form = elim (is_data form) as (λ b. AsksAlone form (if b then went_well (scalar form c) m else (if is_flow form then flow form c m else access form c m))) [
+  a64_alone : (form : A64Form) → AsksAlone (A64 form) (a64.performed form c v m)
+  a64_alone form = elim (is_data form) as (λ b. AsksAlone (A64 form) (if b then went_well (scalar form c) v m else (if is_flow form then flow form c v m else access form c v m))) [
     | true ↦ λ h. absurd (cc)
-    | false ↦ elim (is_flow form) as (λ b. AsksAlone form (if b then flow form c m else access form c m)) [
+    | false ↦ elim (is_flow form) as (λ b. AsksAlone (A64 form) (if b then flow form c v m else access form c v m)) [
       | true ↦ flow_alone form
       | false ↦ λ h. absurd (access_is_other form h)
     ]
   ]
 
+  performed_alone : (i : Insn) → AsksAlone i (performed i c v m)
+  performed_alone (A64 form) = a64_alone form
+  performed_alone (Sve form) = λ h. absurd (cc)
+
 -- ---- what such an instruction leaves
 
-pub record AsksFor (form : A64Form) (c d : Core) (m n : Memory) (accesses : List Access) : Type 0 where
-  pub svc : is_svc (Some (A64 form)) ≡ true
+pub record AsksFor (i : Insn) (c d : Core) (v w : Vectors) (m n : Memory) (accesses : List Access) : Type 0 where
+  pub svc : is_svc (Some i) ≡ true
   pub core : d ≡ c
+  pub vectors : w ≡ v
   pub memory : n ≡ m
   pub none : accesses ≡ []
 
-pub asks_for : (form : A64Form) (c d : Core) (m n : Memory) (l : List Access) (e : Effect) → performed form c m ≡ record { core = d; memory = n; accesses = l; effect = e } → e ≡ Call → AsksFor form c d m n l
-asks_for form c d m n l e is call =
-    let left : Done = record { core = d; memory = n; accesses = l; effect = e } in
-    let alone = performed_alone c m form (ap (λ (x : Done). x.effect) is ∙ call) in
-    let same : left ≡ quietly c m Call = sym is ∙ alone.0 in
+pub asks_for : (i : Insn) (c d : Core) (v w : Vectors) (m n : Memory) (l : List Access) (e : Effect)
+    → performed i c v m ≡ record { core = d; vectors = w; memory = n; accesses = l; effect = e } → e ≡ Call → AsksFor i c d v w m n l
+asks_for i c d v w m n l e is call =
+    let left : Done = record { core = d; vectors = w; memory = n; accesses = l; effect = e } in
+    let alone = performed_alone c v m i (ap (λ (x : Done). x.effect) is ∙ call) in
+    let same : left ≡ quietly c v m Call = sym is ∙ alone.0 in
     record {
       svc = alone.1;
       core = ap (λ (x : Done). x.core) same;
+      vectors = ap (λ (x : Done). x.vectors) same;
       memory = ap (λ (x : Done). x.memory) same;
       none = ap (λ (x : Done). x.accesses) same;
     }
@@ -119,6 +129,14 @@ asks_for form c d m n l e is call =
 abbrev pub machine_of : Core → Vectors → Memory → Break → ℕ → Option Ended → List Access → Bool → MachineState
 machine_of c vectors m brk steps ended l failed = record { parts = record { core = c; vectors = vectors; memory = m; brk = brk; steps = steps; ended = ended }; accesses = l; failed = failed }
 
-pub same_machine : (c d : Core) (vectors : Vectors) (m n : Memory) (brk : Break) (steps : ℕ) (ended : Option Ended) (k l : List Access) (failed : Bool) → d ≡ c → n ≡ m → l ≡ k
-    → machine_of d vectors n brk steps ended l failed ≡ machine_of c vectors m brk steps ended k failed
-same_machine c d vectors m n brk steps ended k l failed core memory accesses = cc
+pub same_machine : (c d : Core) (v w : Vectors) (m n : Memory) (brk : Break) (steps : ℕ) (ended : Option Ended) (k l : List Access) (failed : Bool) → d ≡ c → w ≡ v → n ≡ m → l ≡ k
+    → machine_of d w n brk steps ended l failed ≡ machine_of c v m brk steps ended k failed
+same_machine c d v w m n brk steps ended k l failed core vectors memory accesses = cc
+
+-- a machine that hasn't ended hasn't failed
+pub not_failed : (m : MachineState) → has_ended m ≡ false → m.failed ≡ false
+not_failed m going = by_end (is_some m.parts.ended) going
+  where
+    by_end : (b : Bool) → (b || m.failed) ≡ false → m.failed ≡ false
+    by_end true is = cc
+    by_end false is = is

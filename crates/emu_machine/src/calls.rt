@@ -132,7 +132,6 @@ impl Machine {
     }
 
     /// Returns from a call with an answer in x0.
-    #[tactic(auto, using(crate::proofs::CallLaws::zeros_after_call))]
     fn answer(&mut self, value: u64) -> StepEnd
         requires going { has_ended self.old ≡ false }
         requires room { self.old.parts.steps < 2 ^ 64 - 1 }
@@ -144,6 +143,7 @@ impl Machine {
         let pc = self.core.pc();
         self.core.set_x(register(0), 64, value);
         self.core.set_monitor(None);
+        self.vec.after_call();
         self.go_on(pc.wrapping_add(4));
         StepEnd::Going
     }

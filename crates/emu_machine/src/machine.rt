@@ -2,8 +2,6 @@
 ghost use Rattle.std.specs.Prelude.{◌≡◌, ◌≢◌, ◌<◌, ◌≤◌, ◌+◌, ◌-◌, ◌^◌, List, [], ℕ, IfSome, MatchOption, Option, Some, None, is_none, true, false};
 ghost use Rattle.io_gate.specs.Streams.{Causes};
 ghost use Rattle.emu_model.specs.Start.{with_input};
-ghost use Rattle.emu_model.specs.State.{zero_vectors};
-ghost use Rattle.emu_run.specs.declared.insn.Insn.{Insn};
 ghost use Rattle.emu_run.specs.Run as runs;
 ghost use Rattle.emu_run.specs.Step as model;
 ghost use Rattle.emu_run.specs.SystemCall.{call, quiet, went_on};
@@ -13,19 +11,19 @@ ghost use Rattle.emu_machine.specs.Machines.{has_ended, is_at_call, is_svc, Make
 
 use crate::ends::{RunEnd, StepEnd};
 use crate::exec::{perform, runs};
-use a64_insn::A64;
 use core_regs::{Core, Effect};
-use emu_model::{Break, Ended, Kind, Length, Trap, TrapKind};
+use emu_model::{Break, Ended, Kind, Trap, TrapKind};
 use guest_mem::{Access, AccessLog, Mem};
 use insn_decode::{Insn, decode};
 use io_gate::{Sink, Source};
 use std::marker::Model;
+use vec_regs::VecRegs;
 
 /// A machine. Contracts see its parts, the accesses of its last step, and whether a stream has failed in one of its steps.
 #[derive(Drop)]
 pub struct Machine {
     pub(crate) core: Core,
-    vector_length: Length,
+    pub(crate) vec: VecRegs,
     pub(crate) memory: Mem,
     log: AccessLog,
     brk: Break,
@@ -35,8 +33,6 @@ pub struct Machine {
 }
 
 impl Model for Machine {
-    ghost use Rattle.emu_model.specs.Lengths.{IsVectorLength};
-    ghost use Rattle.emu_model.specs.State.{zero_vectors};
     ghost use Rattle.emu_machine.specs.Machines.{MachineState, coded_machine};
 
     ghost Value = { MachineState };
@@ -44,23 +40,20 @@ impl Model for Machine {
     ghost coded = { coded_machine };
 
     ghost view = { λ a. record {
-      parts = record { core = a.core; vectors = zero_vectors a.vector_length; memory = a.memory; brk = a.brk; steps = a.steps; ended = a.ended };
+      parts = record { core = a.core; vectors = a.vec; memory = a.memory; brk = a.brk; steps = a.steps; ended = a.ended };
       accesses = a.log.items;
       failed = a.failed;
     } };
-
-    ghost invariant = { λ a. IsVectorLength a.vector_length };
 }
 
 impl Machine {
     /// A machine before its first step.
-    pub(crate) fn at_start(core: Core, vector_length: Length, memory: Mem, brk: Break) -> Machine
-        ensures { result ≡ record { parts = record { core = core; vectors = zero_vectors vector_length; memory = memory; brk = brk; steps = 0; ended = None }; accesses = []; failed = false } }
+    pub(crate) fn at_start(core: Core, vec: VecRegs, memory: Mem, brk: Break) -> Machine
+        ensures { result ≡ record { parts = record { core = core; vectors = vec; memory = memory; brk = brk; steps = 0; ended = None }; accesses = []; failed = false } }
     {
-        prove!(vector_length.bits() >= 128);
         Machine {
             core,
-            vector_length,
+            vec,
             memory,
             log: AccessLog::new(),
             brk,
@@ -98,6 +91,13 @@ impl Machine {
         &self.core
     }
 
+    /// The vector registers, of the machine's vector length.
+    pub fn vec(&self) -> &VecRegs
+        ensures { result.now ≡ self.now.parts.vectors }
+    {
+        &self.vec
+    }
+
     /// The memory.
     pub fn mem(&self) -> &Mem
         ensures { result.now ≡ self.now.parts.memory }
@@ -111,14 +111,6 @@ impl Machine {
         ensures { result.now ≡ self.now.accesses }
     {
         self.log.as_slice()
-    }
-
-    /// The vector length in bits.
-    pub fn length(&self) -> Length
-        ensures bits { result ≡ self.now.parts.vectors.bits }
-        ensures vectors { self.now.parts.vectors ≡ zero_vectors result }
-    {
-        self.vector_length
     }
 
     /// Ends by a trap, with no step counted.
@@ -136,7 +128,7 @@ impl Machine {
     /// Goes on at an address, and counts the step.
     pub(crate) fn go_on(&mut self, address: u64)
         requires { self.old.parts.steps < 2 ^ 64 - 1 }
-        ensures parts { self.new.parts ≡ went_on self.old.parts self.old.parts.core self.old.parts.memory address }
+        ensures parts { self.new.parts ≡ went_on self.old.parts self.old.parts.core self.old.parts.vectors self.old.parts.memory address }
         ensures accesses { self.new.accesses ≡ self.old.accesses }
         ensures failed { self.new.failed ≡ self.old.failed }
     {
@@ -180,32 +172,11 @@ impl Machine {
         ensures counted { IfSome result (λ end. end ≡ StepEnd.Going → self.new.parts.steps ≡ self.old.parts.steps + 1) }
         ensures accesses { self.new.accesses ≡ model.executed_accesses self.old.parts (Some insn.now) }
     {
-        match insn {
-            Insn::A64(insn) => self.execute_a64(insn),
-            // No row of SVE runs yet.
-            Insn::Sve(_) => {
-                let pc = self.core.pc();
-                Some(self.trap(TrapKind::Undefined, pc))
-            }
-        }
-    }
-
-    /// Does an A64 instruction that isn't a call. None asks for the call, with nothing changed.
-    fn execute_a64(&mut self, insn: &A64) -> Option<StepEnd>
-        requires going { has_ended self.old ≡ false }
-        requires room { self.old.parts.steps < 2 ^ 64 - 1 }
-        requires clear { self.old.accesses ≡ [] }
-        ensures turn { MatchOption result ((input : List ℕ) → model.executed self.old.parts input (Some (Insn.A64 insn.now)) ≡ call self.old.parts input) (λ _. (input : List ℕ) → model.executed self.old.parts input (Some (Insn.A64 insn.now)) ≡ quiet self.new.parts input) }
-        ensures kept { MatchOption result (self.new ≡ self.old) (λ _. self.new.failed ≡ false) }
-        ensures svc { MatchOption result (is_svc (Some (Insn.A64 insn.now)) ≡ true) (λ end. end ≡ step_end self.new.parts.ended) }
-        ensures counted { IfSome result (λ end. end ≡ StepEnd.Going → self.new.parts.steps ≡ self.old.parts.steps + 1) }
-        ensures accesses { self.new.accesses ≡ model.executed_accesses self.old.parts (Some (Insn.A64 insn.now)) }
-    {
         if !runs(insn) {
             let pc = self.core.pc();
             return Some(self.trap(TrapKind::Undefined, pc));
         }
-        match perform(&mut self.core, &mut self.memory, &mut self.log, insn) {
+        match perform(&mut self.core, &mut self.vec, &mut self.memory, &mut self.log, insn) {
             Effect::Next => {
                 let next = self.core.pc().wrapping_add(4);
                 self.go_on(next);

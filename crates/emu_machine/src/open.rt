@@ -13,10 +13,11 @@ use emu_model::{Break, Length};
 use guest_mem::Mem;
 use guest_pages::{OutOfMemory, Pages};
 use std::alloc::Global;
+use vec_regs::VecRegs;
 
 impl Machine {
     /// The machine of an image before its first step: the segments' pages in memory with the file's bytes, all registers
-    /// 0 but the program counter, which is the entry, vectors of `length`, and the break behind the highest segment.
+    /// 0 but the program counter, which is the entry, vectors of `length` whose bits are all 0, and the break behind the highest segment.
     ///
     /// The image was read from these bytes, with `pages` as the greatest number of mapped pages. There are at most 300
     /// arguments, of at most 32,768 bytes together, none of which is 0.
@@ -37,6 +38,11 @@ impl Machine {
         let mut core = Core::new();
         core.set_pc(image.entry);
         let start = 4096 * highest_page(&image.segments);
-        Ok(Machine::at_start(core, length, Mem::new(memory), Break { start, now: start }))
+        Ok(Machine::at_start(
+            core,
+            VecRegs::new(length),
+            Mem::new(memory),
+            Break { start, now: start },
+        ))
     }
 }

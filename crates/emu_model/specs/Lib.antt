@@ -10,6 +10,7 @@ pub mod Lengths
 pub mod Lists
 pub mod Sound
 pub mod SoundDone
+pub mod SoundElements
 pub mod SoundImage
 pub mod SoundLists
 pub mod SoundStart

@@ -15,8 +15,9 @@ use Rattle.emu_run.specs.declared.insn.Insn.TheVariants.{A64, Sve}
 use Rattle.emu_model.specs.Done.{Done}
 use Rattle.emu_model.specs.SoundDone.{IsSoundEffect, IsSoundDone}
 use Rattle.a64_effects.specs.SoundEffects.{performed_sound as a64_sound}
-use Rattle.sve_effects.specs.AfterCall.{after_call}
-use Rattle.sve_effects.specs.SoundEffects.{performed_sound as sve_sound, after_call_sound}
+use Rattle.vec_model.specs.AfterCall.{after_call}
+use Rattle.sve_effects.specs.SoundEffects.{performed_sound as sve_sound}
+use Rattle.vec_model.specs.SoundLanes.{after_call_sound}
 use Rattle.emu_run.specs.SystemCall.{Turn, quiet, went_on, answered_core, returned, error_answer, count_of, bytes_written, Writing, no_file, no_bytes, no_right, to_output, to_errors, writing, write_of, CallKind, exit, write, unknown, kind_of_call, call_of}
 use Rattle.emu_run.specs.Step.{decode, runs, performed, trapped, finished, finish, undefined, executed, fetched, turn, taken_by, step}
 

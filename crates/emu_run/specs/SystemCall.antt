@@ -5,7 +5,7 @@ use Rattle.emu_model.specs.declared.trap.Ended.TheVariants.{Exit}
 use Rattle.emu_model.specs.Access.{Memory, address, refused}
 use Rattle.emu_model.specs.Pages.{bytes_at}
 use Rattle.emu_model.specs.State.{Core, Parts, Vectors, read_x, with_x, with_pc}
-use Rattle.sve_effects.specs.AfterCall.{after_call}
+use Rattle.vec_model.specs.AfterCall.{after_call}
 
 -- What a step makes of the machine and its input, and the bytes that it puts to file 1 and to file 2.
 pub record Turn : Type 0 where

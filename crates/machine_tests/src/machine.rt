@@ -179,7 +179,7 @@ fn a_program_exits(rt: HostRuntime) -> Result<(), AllocError> {
     assert_eq!(rt; (machine.steps(), machine.core().pc()), (3, 0x40_0008));
     let number = Reg::new(8).expect(&rt, "a register");
     assert_eq!(rt; machine.core().x(number), 93);
-    assert_eq!(rt; machine.length().bits(), 128);
+    assert_eq!(rt; machine.vec().length().bits(), 128);
     assert_eq!(rt; machine.mem().peek(0x40_0003), Some(0xD2));
     assert_eq!(rt; machine.mem().peek(0x40_2000), None);
     Ok(())

@@ -1,6 +1,6 @@
 //! The printed texts, against texts written by hand.
 use core_regs::Core;
-use emu_bits::{Flags, Reg};
+use emu_bits::{Flags, Pred, Reg};
 use emu_model::{ElfFault, Length, Trap, TrapKind, WordsFault, WordsWhy};
 use emu_report::{
     put_exit, put_image_refusal, put_registers, put_scalars, put_spent, put_too_long, put_trap,
@@ -10,6 +10,7 @@ use io_gate::{Failed, MemSink, Sink};
 use std::alloc::{AllocError, Global};
 use std::ops::Range;
 use std::test::Fail;
+use vec_regs::VecRegs;
 
 /// A sink of memory whose calls don't fail.
 fn sink(alloc: Global) -> MemSink {
@@ -163,9 +164,14 @@ fn registers_are_lines(rt: HostRuntime) -> Result<(), Fail> {
     core.set_x(Reg::at(8, 0), 64, 93);
     core.set_x_sp(Reg::at(31, 0), 64, 0x7FFF_FFFF_EEF0);
     core.set_pc(0x40_0008);
-    let length = Length::of_bits(128).expect(&rt, "a length");
+    let mut vec = VecRegs::new(Length::of_bits(128).expect(&rt, "a length"));
+    vec.set_low(Reg::at(1, 0), 128, 0x0F0E_0D0C_0B0A_0908_0706_0504_0302_0100);
+    vec.set_z_byte(Reg::at(31, 0), 15, 0xA5);
+    vec.set_p_bit(Pred::at(2, 0), 0, true);
+    vec.set_p_bit(Pred::at(2, 0), 13, true);
+    vec.set_ffr_bit(7, true);
     let mut sink = sink(rt.alloc());
-    assert_eq!(rt; put_registers(&core, length, &mut sink), Ok(()));
+    assert_eq!(rt; put_registers(&core, &vec, &mut sink), Ok(()));
     let mut want = String::from_str(rt.alloc(), "x0 0000000000000007\n")?;
     push_zeros(rt.alloc(), &mut want, "x", 1..8, "0000000000000000")?;
     want.push_str("x8 000000000000005d\n")?;
@@ -179,9 +185,14 @@ vl 128
 ",
     )?;
     let vector = "00000000000000000000000000000000";
-    push_zeros(rt.alloc(), &mut want, "z", 0..32, vector)?;
-    push_zeros(rt.alloc(), &mut want, "p", 0..16, "0000")?;
-    want.push_str("ffr 0000\n")?;
+    push_zeros(rt.alloc(), &mut want, "z", 0..1, vector)?;
+    want.push_str("z1 0f0e0d0c0b0a09080706050403020100\n")?;
+    push_zeros(rt.alloc(), &mut want, "z", 2..31, vector)?;
+    want.push_str("z31 a5000000000000000000000000000000\n")?;
+    push_zeros(rt.alloc(), &mut want, "p", 0..2, "0000")?;
+    want.push_str("p2 2001\n")?;
+    push_zeros(rt.alloc(), &mut want, "p", 3..16, "0000")?;
+    want.push_str("ffr 0080\n")?;
     assert_eq!(rt; sink.kept(), want.as_bytes());
     Ok(())
 }
@@ -197,9 +208,9 @@ fn scalars_end_with_the_vector_length(rt: HostRuntime) -> Result<(), Fail> {
         c: true,
         v: false,
     });
-    let length = Length::of_bits(2048).expect(&rt, "a length");
+    let vec = VecRegs::new(Length::of_bits(2048).expect(&rt, "a length"));
     let mut sink = sink(rt.alloc());
-    assert_eq!(rt; put_scalars(&core, length, &mut sink), Ok(()));
+    assert_eq!(rt; put_scalars(&core, &vec, &mut sink), Ok(()));
     let want = "x30 0123456789abcdef
 sp 0000000000000000
 pc 0000000000000000
@@ -214,12 +225,12 @@ vl 2048
 #[test]
 fn a_failure_leaves_a_prefix(rt: HostRuntime) -> Result<(), Fail> {
     let core = Core::new();
-    let length = Length::of_bits(256).expect(&rt, "a length");
+    let vec = VecRegs::new(Length::of_bits(256).expect(&rt, "a length"));
     let mut whole = sink(rt.alloc());
-    assert_eq!(rt; put_registers(&core, length, &mut whole), Ok(()));
+    assert_eq!(rt; put_registers(&core, &vec, &mut whole), Ok(()));
     // the scalars have 721 bytes and go out by 15 puts, and the first 50 bytes of the line of z0 by the next
     let mut failing = MemSink::new(rt.alloc(), 50, [16].to_vec(rt.alloc())?);
-    assert_eq!(rt; put_registers(&core, length, &mut failing), Err(Failed));
+    assert_eq!(rt; put_registers(&core, &vec, &mut failing), Err(Failed));
     assert_eq!(rt; failing.kept().len(), 771);
     assert!(rt; whole.kept().starts_with(failing.kept()));
     Ok(())

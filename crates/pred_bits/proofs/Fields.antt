@@ -9,9 +9,9 @@ use Rattle.emu_bits.specs.Flags.{size_of}
 use Rattle.emu_bits.specs.declared.flags.Esize.{Esize}
 use Rattle.emu_bits.specs.declared.flags.Esize.TheVariants.{B, H, S, D}
 use Rattle.emu_model.specs.Lists.{each, length-each}
-use Rattle.sve_effects.proofs.Each.{get_or-each, each_same}
-use Rattle.sve_effects.proofs.FieldBits.{at_start, between}
-use Rattle.sve_effects.specs.Lanes.{field_bit}
+use Rattle.vec_model.proofs.Each.{get_or-each, each_same}
+use Rattle.vec_model.proofs.FieldBits.{at_start, between}
+use Rattle.vec_model.specs.Lanes.{field_bit}
 use Rattle.sve_effects.specs.Predicate.{lanes_of, lanes_below}
 
 -- ---- lanes within the bits

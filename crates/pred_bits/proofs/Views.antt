@@ -6,7 +6,7 @@ use Rattle.std.proofs.lemmas.List.{length-set, length-replicate, get_or-replicat
 use Rattle.std.proofs.lemmas.List.FromFn.{fill_by_all}
 use Rattle.std.proofs.lemmas.Nat.{div-add-mod'}
 use Rattle.emu_model.specs.Lists.{length-each}
-use Rattle.sve_effects.proofs.Each.{get_or-each}
+use Rattle.vec_model.proofs.Each.{get_or-each}
 use Rattle.vec_regs.specs.Words.{bit_of, bits_of, AreClearFrom}
 use Rattle.vec_regs.proofs.Views.{zero_bit}
 

@@ -1,7 +1,7 @@
 //! First, last and next lanes, the predicate test, loops and counts: lane by lane.
 ghost use Rattle.std.specs.Prelude.{◌≡◌, ◌<◌, ◌≤◌, ◌+◌, ◌/◌, ◌%◌, ◌⊎◌, ℕ, suc, ◌&&◌, length, IfSome, nat_lt};
 ghost use Rattle.emu_bits.specs.Flags.{size_of};
-ghost use Rattle.sve_effects.specs.Active.{active};
+ghost use Rattle.vec_model.specs.Active.{active};
 ghost use Rattle.sve_effects.specs.FirstLast.{first_where, last_where, all_below};
 ghost use Rattle.sve_effects.specs.Predicate as model;
 ghost use Rattle.sve_effects.specs.Predicate.{lanes_of, only_next, while_holds, while_lanes, count_lanes};

@@ -1,5 +1,2 @@
-pub mod Each
-pub mod FieldBits
+pub mod ActiveLanes
 pub mod Found
-pub mod LaneBytes
-pub mod Written

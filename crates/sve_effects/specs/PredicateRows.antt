@@ -42,7 +42,7 @@ use Rattle.sve_effects.specs.declared.predicates.WhileTest.{WhileTest}
 use Rattle.sve_effects.specs.declared.predicates.WhileTest.TheVariants as conditions
 use Rattle.sve_effects.specs.Element.{element_test}
 use Rattle.sve_effects.specs.ElementLoop.{lane_bits, lane_of, covering_lane, is_active}
-use Rattle.sve_effects.specs.Lanes.{read_p, with_p, with_ffr, with_lanes}
+use Rattle.vec_model.specs.Lanes.{read_p, with_p, with_ffr, with_lanes}
 use Rattle.sve_effects.specs.Pattern.{pattern_count}
 use Rattle.sve_effects.specs.Predicate.{is_set, lanes_of, fields, pred_test, logic, broken, broken_pair, broken_next, with_first, only_next, lanes_below, while_lanes, count_lanes}
 

@@ -13,10 +13,10 @@ use Rattle.emu_model.specs.Sound.{with_x_sound, flags_sound}
 use Rattle.emu_model.specs.SoundLists.{all_set}
 use Rattle.emu_model.specs.State.{Core, Vectors, read_x, HasLength, IsSoundCore, IsSoundVectors}
 use Rattle.sve_effects.specs.ElementLoop.{lane_bits, lane_of}
-use Rattle.sve_effects.specs.Lanes.{read_p, with_p, with_ffr}
+use Rattle.vec_model.specs.Lanes.{read_p, with_p, with_ffr}
 use Rattle.sve_effects.specs.Predicate.{pred_test, count_lanes}
 use Rattle.sve_effects.specs.PredicateRows.{predicate_bits, after_test, put, counted, set_lanes_of, width_of, terminates, termination_flags, written_ffr, predicate}
-use Rattle.sve_effects.specs.SoundLanes.{sound_lanes}
+use Rattle.vec_model.specs.SoundLanes.{sound_lanes}
 
 pub record IsSoundRegisters (r : Registers) : Type 0 where
   pub core : IsSoundCore r.core

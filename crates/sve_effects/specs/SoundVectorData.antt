@@ -8,7 +8,7 @@ use Rattle.emu_bits.specs.Numbers.{unsigned_int}
 use Rattle.emu_model.specs.State.{Core, Vectors, IsSoundVectors}
 use Rattle.sve_effects.specs.Element.{unary, multiply_by, subtracts_z, subtracts_d, dot_product, dot_signed, dot_indexed_signed, binary_element, binary_exchanged, shift_element, shift_imm_element, plain_element, logic_element, wide_imm_element, wide_imm_exchanged, min_max_element, min_max_signed, bitmask_element}
 use Rattle.sve_effects.specs.ElementLoop.{lane_bits, lane_of, covering_lane, is_active, plain, merging, zeroing}
-use Rattle.sve_effects.specs.SoundLanes.{sound_lanes}
+use Rattle.vec_model.specs.SoundLanes.{sound_lanes}
 use Rattle.sve_effects.specs.VectorData.{tsz_of, shift_bits, shifted_by, wide_unsigned, wide_signed, lane_immediate, mask_of, index_start, index_step, dot_indexed_bits, dot_indexed_zm_bits, indexed_lane, dot_indexed, copied, with_second, vector_data}
 
 plain_sound : (e : ℕ) (f : ℕ → ℕ) (zd : ℕ) (v : Vectors) → IsSoundVectors v → IsSoundVectors (plain e f zd v)

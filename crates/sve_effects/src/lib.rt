@@ -1,12 +1,12 @@
-//! The definitions of what SVE instructions read and leave: lanes of registers, fields of predicates, active lanes, functions and
-//! loops over lanes, and what a system call clears; and the plain types that they match on.
-//!
-//! Contracts see the vector registers as `Vectors` of `emu_model`: lists of bytes and of bits, the lowest first.
+//! The definitions of what SVE instructions do: functions of lanes and loops over them, and one equation for each form; and the
+//! plain types that they match on.
 #![tactic(auto)]
 
 pub mod elements;
 pub mod laws;
+pub mod places;
 pub mod predicates;
 
 pub use elements::{ElementOp, ElementTest};
+pub use places::Place;
 pub use predicates::{LogicOp, WhileTest};

@@ -7,7 +7,7 @@ use Rattle.std.specs.Global.{Vec}
 use Rattle.io_gate.specs.Images.{whole_file, MissesNamed, ReadsNamed}
 use Rattle.io_gate.specs.declared.images.ImagesError.{ImagesError}
 use Rattle.io_gate.specs.declared.images.ImagesError.TheVariants as images
-use Rattle.emu_model.specs.State.{Core, Vectors, Parts, zero_vectors}
+use Rattle.emu_model.specs.State.{Core, Vectors, Parts}
 use Rattle.emu_model.specs.Image.{Image, elf}
 use Rattle.emu_model.specs.Start.{opening, with_input}
 use Rattle.emu_model.specs.CommandLine.{line}
@@ -34,8 +34,8 @@ use Rattle.svemu.proofs.Meetings.{nothing_meets, line_meets}
 pub trap_text : (m : Parts) (ended : Option Ended) (t : Trap) (pc steps : ℕ) → ended ≡ Some (Trapped t) → pc ≡ m.core.pc → steps ≡ m.steps → trap_line t pc steps ≡ ending_line m ended
 trap_text m ended t pc steps e p s = ap₂ (λ (a b : ℕ). trap_line t a b) p s ∙ ap (λ (o : Option Ended). ending_line m o) (sym e)
 
-pub registers_text : (m : Parts) (core : Core) (bits : ℕ) → core ≡ m.core → m.vectors ≡ zero_vectors bits → scalar_lines core bits ++ vector_lines (zero_vectors bits) ≡ register_lines m
-registers_text m core bits c v = ap₂ (λ (x : Core) (y : Vectors). scalar_lines x y.bits ++ vector_lines y) c (sym v)
+pub registers_text : (m : Parts) (core : Core) (v : Vectors) → core ≡ m.core → v ≡ m.vectors → scalar_lines core v.bits ++ vector_lines v ≡ register_lines m
+registers_text m core v c w = ap₂ (λ (x : Core) (y : Vectors). scalar_lines x y.bits ++ vector_lines y) c w
 
 pub puts_as : {T E : Type 0} (old new : Option (List ℕ)) (xs ys : List ℕ) (put : Result T E) → xs ≡ ys → PutsAll old new xs put → PutsAll old new ys put
 puts_as old new xs ys put e p = subst (λ (text : List ℕ). PutsAll old new text put) e p

@@ -64,7 +64,7 @@ fn put_machine<E: Sink>(machine: &Machine, errors: &mut E) -> Result<(), Failed>
     ensures bytes { PutsAll (E.held errors.old) (E.held errors.new) (register_lines machine.now.parts) result }
     ensures cause { HasCause (E.faults errors.old) (E.faults errors.new) result }
 {
-    put_registers(machine.core(), machine.length(), errors)
+    put_registers(machine.core(), machine.vec(), errors)
 }
 
 /// Puts the line of a machine that has stopped, and its registers.

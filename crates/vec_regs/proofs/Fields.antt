@@ -3,9 +3,9 @@ use Rattle.std.proofs.Common.{◌≡◌, ◌<◌, ◌≤◌, ◌+◌, ◌*◌, �
 use Rattle.std.proofs.Math.Nat.{mul-le-mul_right}
 use Rattle.std.proofs.lemmas.Bool.{cases_eq, cases_lt}
 use Rattle.emu_model.specs.Lists.{each}
-use Rattle.sve_effects.proofs.Each.{get_or-each, each_same}
-use Rattle.sve_effects.proofs.FieldBits.{at_start, inside}
-use Rattle.sve_effects.specs.Lanes.{field_bit, IsLaneSize}
+use Rattle.vec_model.proofs.Each.{get_or-each, each_same}
+use Rattle.vec_model.proofs.FieldBits.{at_start, inside}
+use Rattle.vec_model.specs.Lanes.{field_bit, IsLaneSize}
 use Rattle.vec_regs.specs.Packed.{put}
 use Rattle.vec_regs.specs.Words.{bit_of, bits_of}
 use Rattle.emu_model.specs.Lengths.{IsVectorLength}

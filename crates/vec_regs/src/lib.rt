@@ -13,10 +13,10 @@ ghost use Rattle.std.specs.Prelude.{◌≡◌, ℕ, Bool, ◌<◌, ◌≤◌, �
 ghost use Rattle.emu_model.specs.Lengths.{IsVectorLength};
 ghost use Rattle.emu_model.specs.Lists.{each};
 ghost use Rattle.emu_model.specs.State.{zero_vectors};
-ghost use Rattle.sve_effects.specs.Active.{active};
-ghost use Rattle.sve_effects.specs.AfterCall as model_call;
-ghost use Rattle.sve_effects.specs.Lanes as model;
-ghost use Rattle.sve_effects.specs.Lanes.{read_z, read_p, with_z, with_p, with_ffr, with_lanes, with_fields, with_ffr_fields, with_low, IsLaneSize};
+ghost use Rattle.vec_model.specs.Active.{active};
+ghost use Rattle.vec_model.specs.AfterCall as model_call;
+ghost use Rattle.vec_model.specs.Lanes as model;
+ghost use Rattle.vec_model.specs.Lanes.{read_z, read_p, with_z, with_p, with_ffr, with_lanes, with_fields, with_ffr_fields, with_low, IsLaneSize};
 ghost use Rattle.vec_regs.specs.Packed.{IsLowSize};
 ghost use Rattle.vec_regs.specs.Words.{bytes_of, bits_of, AreZeroFrom, AreClearFrom};
 

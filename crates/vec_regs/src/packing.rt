@@ -1,6 +1,6 @@
 //! Lanes packed into words.
 ghost use Rattle.std.specs.Prelude.{◌≡◌, ℕ, ◌<◌, ◌≤◌, ◌*◌, ◌/◌, length, get_or, false};
-ghost use Rattle.sve_effects.specs.Lanes.{field_bit, IsLaneSize};
+ghost use Rattle.vec_model.specs.Lanes.{field_bit, IsLaneSize};
 ghost use Rattle.vec_regs.specs.Packed as model;
 ghost use Rattle.vec_regs.specs.Packed.{packed};
 ghost use Rattle.vec_regs.specs.Words.{bit_of, AreClearFrom, AreZeroFrom};

@@ -4,7 +4,7 @@ use Rattle.a64_effects.specs.LoadStore as table
 use Rattle.a64_flow.proofs.indexed.exec.Goals as goal
 
 pub returns-in-LsPost : goal.returns-in-LsPost
-returns-in-LsPost c = ap (λ (f : A64Form). table.access f c.args.core.now c.args.mem.now) (sym c.form.ensures.form ∙ c.in-LsPost.is) ∙ c.ls_post.ensures c.in-LsPost.v
+returns-in-LsPost c w = ap (λ (f : A64Form). table.access f c.args.core.now w c.args.mem.now) (sym c.form.ensures.form ∙ c.in-LsPost.is) ∙ c.ls_post.ensures c.in-LsPost.v w
 
 pub returns-in-LsPre : goal.returns-in-LsPre
-returns-in-LsPre c = ap (λ (f : A64Form). table.access f c.args.core.now c.args.mem.now) (sym c.form.ensures.form ∙ c.in-LsPre.is) ∙ c.ls_pre.ensures c.in-LsPre.v
+returns-in-LsPre c w = ap (λ (f : A64Form). table.access f c.args.core.now w c.args.mem.now) (sym c.form.ensures.form ∙ c.in-LsPre.is) ∙ c.ls_pre.ensures c.in-LsPre.v w

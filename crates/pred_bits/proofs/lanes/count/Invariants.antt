@@ -1,6 +1,6 @@
 use Rattle.std.proofs.Common.{◌≡◌, ◌≤◌, ◌&&◌}
 use Rattle.emu_bits.specs.Flags.{size_of}
-use Rattle.sve_effects.specs.Active.{active}
+use Rattle.vec_model.specs.Active.{active}
 use Rattle.sve_effects.specs.FirstLast.{count_where}
 use Rattle.pred_bits.proofs.lanes.count.Given as goal
 

@@ -1,6 +1,6 @@
 use Rattle.std.proofs.Common.{◌≡◌, ◌<◌, ℕ, false, ◌&&◌}
 use Rattle.emu_bits.specs.Flags.{size_of}
-use Rattle.sve_effects.specs.Active.{active}
+use Rattle.vec_model.specs.Active.{active}
 use Rattle.sve_effects.specs.Predicate.{is_behind}
 use Rattle.pred_bits.proofs.lanes.first_behind.Given as goal
 

@@ -2,7 +2,7 @@ use Rattle.std.proofs.Common.{◌≡◌, true, ◌&&◌, length, Some, None, sym
 use Rattle.std.proofs.lemmas.Bool.{and_from}
 use Rattle.emu_bits.specs.Flags.{size_of}
 use Rattle.sve_effects.proofs.Found.{first_is}
-use Rattle.sve_effects.specs.Active.{active}
+use Rattle.vec_model.specs.Active.{active}
 use Rattle.sve_effects.specs.Predicate.{lanes_of}
 use Rattle.pred_bits.proofs.lanes.first_set.Goals as goal
 

@@ -1,7 +1,7 @@
 use Rattle.std.proofs.Common.{length, Some, None, sym, ◌-◌, ◌∙◌, arith}
 use Rattle.emu_bits.specs.Flags.{size_of}
 use Rattle.sve_effects.proofs.Found.{last_is}
-use Rattle.sve_effects.specs.Active.{active}
+use Rattle.vec_model.specs.Active.{active}
 use Rattle.sve_effects.specs.Predicate.{lanes_of}
 use Rattle.pred_bits.proofs.lanes.last_lane.Goals as goal
 

@@ -1,6 +1,6 @@
 use Rattle.std.proofs.Common.{◌≡◌, ◌*◌, ◌/◌, ℕ, ◌&&◌, true, false, List, Bool, Option, Some, None, length, set, replicate, refl, ap, sym, ◌∙◌}
 use Rattle.emu_bits.specs.Flags.{size_of}
-use Rattle.sve_effects.specs.Active.{active}
+use Rattle.vec_model.specs.Active.{active}
 use Rattle.sve_effects.specs.FirstLast.{first_where, last_where}
 use Rattle.sve_effects.specs.Predicate.{lanes_of, fields, is_at, is_behind, next_lane}
 use Rattle.pred_bits.proofs.Fields.{no_fields, one_field}

@@ -3,4 +3,4 @@ use Rattle.svemu.proofs.top.put_machine.Goals as goal
 
 pub returns-clause-bytes : goal.returns-clause-bytes
 returns-clause-bytes g c =
-    puts_as _ _ _ _ c.put_registers.result (registers_text c.args.machine.now.parts c.core.result.now c.length.result c.core.ensures c.length.ensures.vectors) c.put_registers.ensures.bytes
+    puts_as _ _ _ _ c.put_registers.result (registers_text c.args.machine.now.parts c.core.result.now c.vec.result.now c.core.ensures c.vec.ensures) c.put_registers.ensures.bytes

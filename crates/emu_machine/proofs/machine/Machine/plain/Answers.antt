@@ -1,7 +1,7 @@
 use Rattle.std.proofs.Common.{◌≡◌, Some, ap, sym, ◌∙◌, arith}
 use Rattle.emu_model.specs.Access.{Memory, done_unless, refused, value}
 use Rattle.emu_model.specs.declared.access.Kind.TheVariants.{Fetch}
-use Rattle.emu_model.specs.State.{Parts, zero_vectors}
+use Rattle.emu_model.specs.State.{Parts}
 use Rattle.emu_run.specs.Step.{executed_accesses}
 use Rattle.emu_machine.specs.Machines.{MachineState}
 use Rattle.emu_machine.proofs.Performed.{machine_of}
@@ -18,10 +18,10 @@ has_fetched c = let i = c.self.inside in record {
 }
 
 -- the machine that does the instruction is the one that fetched it
-same_parts : (c : After-execute) → (machine_of c.self.inside.core (zero_vectors c.self.inside.vector_length) c.load.new.self c.self.inside.brk c.self.inside.steps c.self.inside.ended c.self.inside.log.items c.self.inside.failed).parts ≡ c.args.self.now.parts
+same_parts : (c : After-execute) → (machine_of c.self.inside.core c.self.inside.vec c.load.new.self c.self.inside.brk c.self.inside.steps c.self.inside.ended c.self.inside.log.items c.self.inside.failed).parts ≡ c.args.self.now.parts
 same_parts c =
     let i = c.self.inside in
-    ap (λ (memory : Memory). record { core = i.core; vectors = zero_vectors i.vector_length; memory = memory; brk = i.brk; steps = i.steps; ended = i.ended }) c.load.ensures.unchanged
+    ap (λ (memory : Memory). record { core = i.core; vectors = i.vec; memory = memory; brk = i.brk; steps = i.steps; ended = i.ended }) c.load.ensures.unchanged
     ∙ ap (λ (s : MachineState). s.parts) c.self.view_is
 
 pub returns-in-Some-clause-turn : goal.returns-in-Some-clause-turn

@@ -1,5 +1,5 @@
-use Rattle.sve_effects.proofs.Written.{lanes_read, fields_read, fields_between, ffr_read, ffr_between}
-use Rattle.sve_effects.proofs.laws.lanes_read_as_written.Goals as goal
+use Rattle.vec_model.proofs.Written.{lanes_read, fields_read, fields_between, ffr_read, ffr_between}
+use Rattle.vec_model.proofs.laws.lanes_read_as_written.Goals as goal
 
 pub returns-clause-lanes : goal.returns-clause-lanes
 returns-clause-lanes c = lanes_read

@@ -3,11 +3,11 @@ use Rattle.std.proofs.Common.{◌≡◌, ◌≢◌, ◌<◌, ◌≤◌, ◌+◌,
 use Rattle.std.proofs.lemmas.List.{get_or-set_same}
 use Rattle.emu_model.specs.Lists.{each}
 use Rattle.emu_model.specs.State.{Vectors, IsSoundVectors}
-use Rattle.sve_effects.specs.Active.{active}
-use Rattle.sve_effects.specs.Lanes.{IsLaneSize, lane, read_z, read_p, byte_in, field_bit, with_p, with_lanes, with_fields, with_ffr_fields}
-use Rattle.sve_effects.proofs.Each.{get_or-each}
-use Rattle.sve_effects.proofs.FieldBits.{at_start, between}
-use Rattle.sve_effects.proofs.LaneBytes.{lane_of_lanes, some_bytes, within_bytes}
+use Rattle.vec_model.specs.Active.{active}
+use Rattle.vec_model.specs.Lanes.{IsLaneSize, lane, read_z, read_p, byte_in, field_bit, with_p, with_lanes, with_fields, with_ffr_fields}
+use Rattle.vec_model.proofs.Each.{get_or-each}
+use Rattle.vec_model.proofs.FieldBits.{at_start, between}
+use Rattle.vec_model.proofs.LaneBytes.{lane_of_lanes, some_bytes, within_bytes}
 
 pub lanes_read : (e : ℕ) (f : ℕ → ℕ) (zd k : ℕ) (v : Vectors) → IsSoundVectors v → IsLaneSize e → zd < 32 → k < v.bits / e → lane e (read_z (with_lanes e f zd v) zd) k ≡ f k % 2 ^ e
 lanes_read e f zd k v h size r within =

@@ -1,5 +1,5 @@
-use Rattle.sve_effects.specs.SoundLanes.{sound_lanes, sound_fields, sound_ffr, sound_low}
-use Rattle.sve_effects.proofs.laws.lanes_keep_vectors_sound.Goals as goal
+use Rattle.vec_model.specs.SoundLanes.{sound_lanes, sound_fields, sound_ffr, sound_low, after_call_sound}
+use Rattle.vec_model.proofs.laws.lanes_keep_vectors_sound.Goals as goal
 
 pub returns-clause-lanes : goal.returns-clause-lanes
 returns-clause-lanes c = sound_lanes
@@ -12,3 +12,6 @@ returns-clause-ffr c = sound_ffr
 
 pub returns-clause-low : goal.returns-clause-low
 returns-clause-low c = sound_low
+
+pub returns-clause-call : goal.returns-clause-call
+returns-clause-call c = after_call_sound

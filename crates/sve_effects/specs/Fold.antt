@@ -1,0 +1,58 @@
+-- Folds over the active lanes of a register, in the order of lanes.
+use Rattle.std.specs.Prelude.{ℕ, ◌+◌, ◌-◌, ◌^◌, Bool, true, false}
+use Rattle.sve_insn.specs.declared.form.SveForm.{SveForm}
+use Rattle.sve_insn.specs.declared.form.SveForm.TheVariants.{Reduce}
+use Rattle.sve_insn.specs.declared.ops.ReduceOp.{ReduceOp}
+use Rattle.sve_insn.specs.declared.ops.ReduceOp.TheVariants.{Saddv, Uaddv, Smaxv, Umaxv, Sminv, Uminv, Orv, Eorv, Andv}
+use Rattle.sve_effects.specs.declared.elements.ElementOp.TheVariants.{Add, Smax, Umax, Smin, Umin, Orr, Eor, And}
+use Rattle.emu_bits.specs.Numbers.{sign_extended}
+use Rattle.emu_model.specs.Done.{Registers}
+use Rattle.emu_model.specs.State.{Core, Vectors}
+use Rattle.sve_effects.specs.Element.{element}
+use Rattle.sve_effects.specs.ElementLoop.{lane_bits, folding}
+use Rattle.vec_model.specs.Lanes.{with_low}
+use Rattle.sve_effects.specs.PermuteRows.{leaves}
+
+-- the next value, of the value so far and a lane of e bits; sums are of the signed or the unsigned lanes, modulo 2^64
+abbrev pub reduce_step : ReduceOp → ℕ → ℕ → ℕ → ℕ
+reduce_step Saddv e so_far a = element Add 64 so_far (sign_extended 64 e a)
+reduce_step Uaddv e so_far a = element Add 64 so_far a
+reduce_step Smaxv e so_far a = element Smax e so_far a
+reduce_step Umaxv e so_far a = element Umax e so_far a
+reduce_step Sminv e so_far a = element Smin e so_far a
+reduce_step Uminv e so_far a = element Umin e so_far a
+reduce_step Orv e so_far a = element Orr e so_far a
+reduce_step Eorv e so_far a = element Eor e so_far a
+reduce_step Andv e so_far a = element And e so_far a
+
+-- the value where no lane is active: 0, the least and the greatest signed number, or all ones
+abbrev pub reduce_start : ReduceOp → ℕ → ℕ
+reduce_start Saddv e = 0
+reduce_start Uaddv e = 0
+reduce_start Smaxv e = 2 ^ (e - 1)
+reduce_start Umaxv e = 0
+reduce_start Sminv e = 2 ^ (e - 1) - 1
+reduce_start Uminv e = 2 ^ e - 1
+reduce_start Orv e = 0
+reduce_start Eorv e = 0
+reduce_start Andv e = 2 ^ e - 1
+
+-- the bits of the result: 64 of a sum, else those of a lane
+abbrev pub reduce_bits : ReduceOp → ℕ → ℕ
+reduce_bits Saddv e = 64
+reduce_bits Uaddv e = 64
+reduce_bits op e = e
+
+abbrev pub is_fold : SveForm → Bool
+is_fold (Reduce op size pg zn vd) = true
+is_fold form = false
+
+-- the low bits of Vd are the result
+abbrev pub reduced : ReduceOp → ℕ → ℕ → ℕ → ℕ → Vectors → Vectors
+reduced op e pg zn vd v = with_low (reduce_bits op e) (folding e pg (reduce_step op e) (reduce_start op e) zn v) vd v
+
+-- The registers after an instruction of this row, which goes on behind it.
+abbrev pub reduction : SveForm → Core → Vectors → Registers
+reduction (Reduce op size pg zn vd) c v = leaves c (reduced op (lane_bits size) pg zn vd v)
+-- the other rows stand elsewhere
+reduction form c v = leaves c v

@@ -1,0 +1,194 @@
+-- What the permutes of lanes and of predicate fields do, and copies of scalars to lanes and of lanes to scalars.
+use Rattle.std.specs.Prelude.{ℕ, ◌+◌, ◌*◌, ◌/◌, ◌%◌, ◌^◌, Bool, true, false, nat_eq, if◌then◌else◌, List, get_or, is_some}
+use Rattle.sve_insn.specs.declared.form.SveForm.{SveForm}
+use Rattle.sve_insn.specs.declared.form.SveForm.TheVariants.{DupReg, DupLane, Insert, RevZ, Unpack, Table, Interleave, InterleaveP, UnpackP, RevP, Compact, Splice, Ext, CopyReg, Last, CondLast}
+use Rattle.sve_insn.specs.declared.ops.InsertOp.{InsertOp}
+use Rattle.sve_insn.specs.declared.ops.InsertOp.TheVariants.{InsrR, InsrV}
+use Rattle.sve_insn.specs.declared.ops.UnpackOp.{UnpackOp}
+use Rattle.sve_insn.specs.declared.ops.UnpackOp.TheVariants.{Sunpklo, Sunpkhi, Uunpklo, Uunpkhi}
+use Rattle.sve_insn.specs.declared.ops.UnpackPOp.{UnpackPOp}
+use Rattle.sve_insn.specs.declared.ops.UnpackPOp.TheVariants.{Punpklo, Punpkhi}
+use Rattle.sve_insn.specs.declared.ops.CopyRegOp.{CopyRegOp}
+use Rattle.sve_insn.specs.declared.ops.CopyRegOp.TheVariants.{CpyR, CpyV}
+use Rattle.sve_insn.specs.declared.ops.LastOp.{LastOp}
+use Rattle.sve_insn.specs.declared.ops.LastOp.TheVariants.{LastaR, LastbR, LastaV, LastbV}
+use Rattle.sve_insn.specs.declared.ops.CondLastOp.{CondLastOp}
+use Rattle.sve_insn.specs.declared.ops.CondLastOp.TheVariants.{ClastaR, ClastbR, ClastaV, ClastbV, ClastaZ, ClastbZ}
+use Rattle.emu_model.specs.Done.{Registers}
+use Rattle.emu_model.specs.State.{Core, Vectors, read_x, read_x_sp, with_x}
+use Rattle.sve_effects.specs.ElementLoop.{lane_bits, lane_of, is_active}
+use Rattle.sve_effects.specs.FirstLast.{last_where}
+use Rattle.vec_model.specs.Lanes.{read_p, with_lanes, with_low, with_fields}
+use Rattle.sve_effects.specs.declared.places.Place.{Place}
+use Rattle.sve_effects.specs.declared.places.Place.TheVariants.{Scalar}
+use Rattle.sve_effects.specs.Permute.{taken, interleave_place, ext_place, rev_place, insr_place, indexed_place, half_place, widened, copy_place, compact_place, splice_place, last_lane}
+
+-- ---- lanes and fields by places
+
+-- how many lanes of e bits a Z register has
+abbrev pub lanes : ℕ → Vectors → ℕ
+lanes e v = v.bits / e
+
+-- lane k of e bits of Zd is what place k names, of Zn, Zm and a scalar
+abbrev pub moved : ℕ → (ℕ → Place) → ℕ → ℕ → ℕ → ℕ → Vectors → Vectors
+moved e place zn zm scalar zd v = with_lanes e (λ k. taken (lane_of e v zn) (lane_of e v zm) scalar 0 (place k)) zd v
+
+-- bit i of field k of w bits
+abbrev pub bit_of_field : ℕ → ℕ → List Bool → ℕ → Bool
+bit_of_field w i bits k = get_or bits (k * w + i) false
+
+-- field k of e / 8 bits of Pd is the whole field that place k names, of Pn and Pm
+abbrev pub moved_fields : ℕ → (ℕ → Place) → ℕ → ℕ → ℕ → Vectors → Vectors
+moved_fields e place pn pm pd v =
+    let w : ℕ = e / 8 in
+    with_fields 8 (λ j. taken (bit_of_field w (j % w) (read_p v pn)) (bit_of_field w (j % w) (read_p v pm)) false false (place (j / w))) pd v
+
+-- ---- names
+
+-- the scalar of insr: a general register, where 31 is 0, or the low lane of a vector register
+abbrev pub insert_scalar : InsertOp → ℕ → ℕ → Core → Vectors → ℕ
+insert_scalar InsrR e src c v = read_x c src
+insert_scalar InsrV e src c v = lane_of e v src 0
+
+-- the scalar of cpy: a general register, where 31 is SP, or the low lane of a vector register
+abbrev pub copy_scalar : CopyRegOp → ℕ → ℕ → Core → Vectors → ℕ
+copy_scalar CpyR e rn c v = read_x_sp c rn
+copy_scalar CpyV e rn c v = lane_of e v rn 0
+
+-- the names with hi
+abbrev pub is_high : UnpackOp → Bool
+is_high Sunpklo = false
+is_high Sunpkhi = true
+is_high Uunpklo = false
+is_high Uunpkhi = true
+
+-- the names with s before them
+abbrev pub is_signed : UnpackOp → Bool
+is_signed Sunpklo = true
+is_signed Sunpkhi = true
+is_signed Uunpklo = false
+is_signed Uunpkhi = false
+
+abbrev pub is_high_p : UnpackPOp → Bool
+is_high_p Punpklo = false
+is_high_p Punpkhi = true
+
+-- ---- dup of a lane
+
+-- the place of the lowest set bit of tsz, which isn't 0
+abbrev pub lowest_bit : ℕ → ℕ
+lowest_bit tsz =
+    if nat_eq (tsz % 2) 1 then 0
+    else (if nat_eq (tsz / 2 % 2) 1 then 1
+    else (if nat_eq (tsz / 4 % 2) 1 then 2
+    else (if nat_eq (tsz / 8 % 2) 1 then 3
+    else 4)))
+
+-- the bits of a lane by tsz: 8 b, 16 h, 32 s, 64 d, 128 q
+abbrev pub dup_bits : ℕ → ℕ
+dup_bits tsz = lane_bits (lowest_bit tsz)
+
+-- imm2:tsz above that bit
+abbrev pub dup_index : ℕ → ℕ → ℕ
+dup_index imm2 tsz = (imm2 * 32 + tsz) / 2 ^ (lowest_bit tsz + 1)
+
+-- ---- single lanes
+
+-- the names with a: the lane after the last active one
+abbrev pub is_after : LastOp → Bool
+is_after LastaR = true
+is_after LastbR = false
+is_after LastaV = true
+is_after LastbV = false
+
+-- whether one of n lanes is active
+abbrev pub any_active : (ℕ → Bool) → ℕ → Bool
+any_active active n = is_some (last_where n active)
+
+-- the lane of Zn that lasta or lastb gives
+abbrev pub last_value : Bool → ℕ → ℕ → ℕ → Vectors → ℕ
+last_value after e pg zn v = lane_of e v zn (last_lane after (is_active e v pg) (lanes e v))
+
+-- the same where a lane is active, else another number
+abbrev pub last_value_or : ℕ → Bool → ℕ → ℕ → ℕ → Vectors → ℕ
+last_value_or other after e pg zn v = if any_active (is_active e v pg) (lanes e v) then last_value after e pg zn v else other
+
+-- ---- the rows
+
+-- the core and the vectors
+abbrev pub leaves : Core → Vectors → Registers
+leaves c v = record { core = c; vectors = v }
+
+-- the permutes, the copies to lanes, and the lanes that a predicate's last active one names
+abbrev pub is_permute : SveForm → Bool
+is_permute (DupReg size rn zd) = true
+is_permute (DupLane imm2 tsz zn zd) = true
+is_permute (Insert op size src zdn) = true
+is_permute (RevZ size zn zd) = true
+is_permute (Unpack op size zn zd) = true
+is_permute (Table size zm zn zd) = true
+is_permute (Interleave op size zm zn zd) = true
+is_permute (InterleaveP op size pm pn pd) = true
+is_permute (UnpackP op pn pd) = true
+is_permute (RevP size pn pd) = true
+is_permute (Compact size pg zn zd) = true
+is_permute (Splice size pg zm zdn) = true
+is_permute (Ext imm8h imm8l zm zdn) = true
+is_permute (CopyReg op size pg rn zd) = true
+is_permute (Last op size pg zn rd) = true
+is_permute (CondLast op size pg zm zdn) = true
+is_permute form = false
+
+-- the lane to a general register, with zeros above, or to a vector register
+abbrev pub after_last : LastOp → ℕ → ℕ → ℕ → Core → Vectors → Registers
+after_last LastaR e x rd c v = leaves (with_x c rd 64 x) v
+after_last LastbR e x rd c v = leaves (with_x c rd 64 x) v
+after_last LastaV e x rd c v = leaves c (with_low e x rd v)
+after_last LastbV e x rd c v = leaves c (with_low e x rd v)
+
+-- the same where a lane is active; where none is, a scalar's register gets its own low e bits, and a register of lanes stays
+abbrev pub cond_last_x : Bool → ℕ → ℕ → ℕ → ℕ → Core → Vectors → Registers
+cond_last_x after e pg zm rdn c v = leaves (with_x c rdn 64 (last_value_or (read_x c rdn % 2 ^ e) after e pg zm v)) v
+
+abbrev pub cond_last_low : Bool → ℕ → ℕ → ℕ → ℕ → Core → Vectors → Registers
+cond_last_low after e pg zm vdn c v = leaves c (with_low e (last_value_or (lane_of e v vdn 0) after e pg zm v) vdn v)
+
+abbrev pub cond_last_lanes : Bool → ℕ → ℕ → ℕ → ℕ → Core → Vectors → Registers
+cond_last_lanes after e pg zm zdn c v = leaves c (if any_active (is_active e v pg) (lanes e v) then with_lanes e (λ k. last_value after e pg zm v) zdn v else v)
+
+abbrev pub after_cond_last : CondLastOp → ℕ → ℕ → ℕ → ℕ → Core → Vectors → Registers
+after_cond_last ClastaR e pg zm rdn c v = cond_last_x true e pg zm rdn c v
+after_cond_last ClastbR e pg zm rdn c v = cond_last_x false e pg zm rdn c v
+after_cond_last ClastaV e pg zm vdn c v = cond_last_low true e pg zm vdn c v
+after_cond_last ClastbV e pg zm vdn c v = cond_last_low false e pg zm vdn c v
+after_cond_last ClastaZ e pg zm zdn c v = cond_last_lanes true e pg zm zdn c v
+after_cond_last ClastbZ e pg zm zdn c v = cond_last_lanes false e pg zm zdn c v
+
+-- the lanes of half the size, extended
+abbrev pub after_unpack : UnpackOp → ℕ → ℕ → ℕ → Vectors → Vectors
+after_unpack op e zn zd v = with_lanes e (λ k. widened (is_signed op) e (e / 2) (taken (lane_of (e / 2) v zn) (lane_of (e / 2) v zn) 0 0 (half_place (is_high op) (lanes e v) k))) zd v
+
+-- field k of 2 bits has bit k of the half of Pn as its lowest bit, and 0 above
+abbrev pub after_unpack_p : UnpackPOp → ℕ → ℕ → Vectors → Vectors
+after_unpack_p op pn pd v = with_fields 16 (λ k. taken (is_active 8 v pn) (is_active 8 v pn) false false (half_place (is_high_p op) (lanes 16 v) k)) pd v
+
+-- The registers after an instruction of these rows, which goes on behind it.
+abbrev pub permuted : SveForm → Core → Vectors → Registers
+permuted (DupReg size rn zd) c v = leaves c (moved (lane_bits size) (λ k. Scalar) zd zd (read_x_sp c rn) zd v)
+permuted (DupLane imm2 tsz zn zd) c v = leaves c (moved (dup_bits tsz) (λ k. indexed_place (dup_index imm2 tsz) (lanes (dup_bits tsz) v)) zn zn 0 zd v)
+permuted (Insert op size src zdn) c v = leaves c (moved (lane_bits size) insr_place zdn zdn (insert_scalar op (lane_bits size) src c v) zdn v)
+permuted (RevZ size zn zd) c v = leaves c (moved (lane_bits size) (rev_place (lanes (lane_bits size) v)) zn zn 0 zd v)
+permuted (Unpack op size zn zd) c v = leaves c (after_unpack op (lane_bits size) zn zd v)
+permuted (Table size zm zn zd) c v = leaves c (moved (lane_bits size) (λ k. indexed_place (lane_of (lane_bits size) v zm k) (lanes (lane_bits size) v)) zn zn 0 zd v)
+permuted (Interleave op size zm zn zd) c v = leaves c (moved (lane_bits size) (interleave_place op (lanes (lane_bits size) v)) zn zm 0 zd v)
+permuted (InterleaveP op size pm pn pd) c v = leaves c (moved_fields (lane_bits size) (interleave_place op (lanes (lane_bits size) v)) pn pm pd v)
+permuted (UnpackP op pn pd) c v = leaves c (after_unpack_p op pn pd v)
+permuted (RevP size pn pd) c v = leaves c (moved_fields (lane_bits size) (rev_place (lanes (lane_bits size) v)) pn pn pd v)
+permuted (Compact size pg zn zd) c v = leaves c (moved (lane_bits size) (compact_place (is_active (lane_bits size) v pg) (lanes (lane_bits size) v)) zn zn 0 zd v)
+permuted (Splice size pg zm zdn) c v = leaves c (moved (lane_bits size) (splice_place (is_active (lane_bits size) v pg) (lanes (lane_bits size) v)) zdn zm 0 zdn v)
+permuted (Ext imm8h imm8l zm zdn) c v = leaves c (moved 8 (ext_place (imm8h * 8 + imm8l) (lanes 8 v)) zdn zm 0 zdn v)
+permuted (CopyReg op size pg rn zd) c v = leaves c (moved (lane_bits size) (copy_place (is_active (lane_bits size) v pg)) zd zd (copy_scalar op (lane_bits size) rn c v) zd v)
+permuted (Last op size pg zn rd) c v = after_last op (lane_bits size) (last_value (is_after op) (lane_bits size) pg zn v) rd c v
+permuted (CondLast op size pg zm zdn) c v = after_cond_last op (lane_bits size) pg zm zdn c v
+-- the other rows stand elsewhere
+permuted form c v = leaves c v

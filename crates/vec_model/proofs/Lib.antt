@@ -1,0 +1,4 @@
+pub mod Each
+pub mod FieldBits
+pub mod LaneBytes
+pub mod Written

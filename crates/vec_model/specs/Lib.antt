@@ -1,0 +1,4 @@
+pub mod Active
+pub mod AfterCall
+pub mod Lanes
+pub mod SoundLanes

@@ -1,0 +1,74 @@
+-- Vectors with lanes, fields or low bits written, and those that a call leaves, are sound.
+use Rattle.std.specs.Prelude.{◌≡◌, ℕ, ◌+◌, ◌-◌, ◌*◌, ◌/◌, ◌%◌, ◌^◌, min, Bool, false, List, [], ◌∷◌, length, map, take, replicate}
+use Rattle.std.specs.List.{AllByRecursion, range_with_len}
+use Rattle.std.proofs.Common.{◌∙◌, arith, length-append}
+use Rattle.std.proofs.Math.ListN.{length-replicate}
+use Rattle.std.proofs.lemmas.List.{length-set, length-take, length-map}
+use Rattle.emu_model.specs.Lists.{each, length-each}
+use Rattle.emu_model.specs.SoundLists.{all_append, all_map, all_replicate, all_set, all_take}
+use Rattle.emu_model.specs.State.{Vectors, IsSoundVectors, IsRegister, IsByte, HasLength}
+use Rattle.vec_model.specs.AfterCall.{low_bytes, no_bits, after_call}
+use Rattle.vec_model.specs.Lanes.{byte_in, field_bit, with_z, with_p, with_ffr, with_lanes, with_low, with_fields, with_ffr_fields}
+
+all_given : {X Y : Type 0} (P : Y → Type 0) (f : X → Y) → ((x : X) → P (f x)) → (xs : List X) → AllByRecursion P (map f xs)
+all_given P f h [] = tt
+all_given P f h (x ∷ xs) = (h x, all_given P f h xs)
+
+sound_z : (f : ℕ → ℕ) (zd : ℕ) (v : Vectors) → ((j : ℕ) → IsByte (f j)) → IsSoundVectors v → IsSoundVectors (with_z v zd (each (v.bits / 8) f))
+sound_z f zd v small h = record {
+  vector_length = h.vector_length;
+  z_count = length-set v.z zd (each (v.bits / 8) f) ∙ h.z_count;
+  z = all_set (IsRegister (v.bits / 8)) v.z zd (each (v.bits / 8) f) (record { count = length-each (v.bits / 8) f; bytes = all_given IsByte f small (range_with_len 0 (v.bits / 8)) }) h.z;
+  p_count = h.p_count;
+  p = h.p;
+  ffr = h.ffr;
+}
+
+is_byte : (x : ℕ) → IsByte (x % 256)
+is_byte x = omega arith
+
+pub sound_lanes : (e : ℕ) (f : ℕ → ℕ) (zd : ℕ) (v : Vectors) → IsSoundVectors v → IsSoundVectors (with_lanes e f zd v)
+sound_lanes e f zd v h = sound_z (byte_in (e / 8) f) zd v (λ j. is_byte (f (j / (e / 8)) / 2 ^ (8 * (j % (e / 8))))) h
+
+pub sound_low : (bits x zd : ℕ) (v : Vectors) → IsSoundVectors v → IsSoundVectors (with_low bits x zd v)
+sound_low bits x zd v h = sound_z (λ j. x % 2 ^ bits / 2 ^ (8 * j) % 256) zd v (λ j. is_byte (x % 2 ^ bits / 2 ^ (8 * j))) h
+
+pub sound_p : (bits : List Bool) (pd : ℕ) (v : Vectors) → HasLength (v.bits / 8) bits → IsSoundVectors v → IsSoundVectors (with_p v pd bits)
+sound_p bits pd v count h = record {
+  vector_length = h.vector_length;
+  z_count = h.z_count;
+  z = h.z;
+  p_count = length-set v.p pd bits ∙ h.p_count;
+  p = all_set (HasLength (v.bits / 8)) v.p pd bits count h.p;
+  ffr = h.ffr;
+}
+
+pub sound_fields : (e : ℕ) (f : ℕ → Bool) (pd : ℕ) (v : Vectors) → IsSoundVectors v → IsSoundVectors (with_fields e f pd v)
+sound_fields e f pd v h = sound_p (each (v.bits / 8) (field_bit (e / 8) f)) pd v (length-each (v.bits / 8) (field_bit (e / 8) f)) h
+
+pub sound_ffr_bits : (bits : List Bool) (v : Vectors) → HasLength (v.bits / 8) bits → IsSoundVectors v → IsSoundVectors (with_ffr v bits)
+sound_ffr_bits bits v count h = record { vector_length = h.vector_length; z_count = h.z_count; z = h.z; p_count = h.p_count; p = h.p; ffr = count }
+
+pub sound_ffr : (e : ℕ) (f : ℕ → Bool) (v : Vectors) → IsSoundVectors v → IsSoundVectors (with_ffr_fields e f v)
+sound_ffr e f v h = sound_ffr_bits (each (v.bits / 8) (field_bit (e / 8) f)) v (length-each (v.bits / 8) (field_bit (e / 8) f)) h
+
+-- ---- a call that returns
+
+low_bytes_sound : (n : ℕ) (bytes : List ℕ) → IsRegister n bytes → IsRegister n (low_bytes bytes)
+low_bytes_sound n bytes s = record {
+  count = let e : length (low_bytes bytes) ≡ min 16 (length bytes) + (length bytes - 16) = simp (length-append, length-take, length-replicate) in let f : length bytes ≡ n = s.count in omega arith;
+  bytes = all_append IsByte (take 16 bytes) (replicate (length bytes - 16) 0) (all_take IsByte 16 bytes s.bytes) (all_replicate IsByte (length bytes - 16) 0 (omega arith));
+}
+
+no_bits_sound : (n : ℕ) (bits : List Bool) → HasLength n bits → HasLength n (no_bits bits)
+no_bits_sound n bits e = length-replicate (length bits) false ∙ e
+
+pub after_call_sound : (v : Vectors) → IsSoundVectors v → IsSoundVectors (after_call v)
+after_call_sound v s = record {
+  vector_length = s.vector_length;
+  z_count = length-map v.z low_bytes ∙ s.z_count;
+  z = all_map (IsRegister (v.bits / 8)) (IsRegister (v.bits / 8)) low_bytes (low_bytes_sound (v.bits / 8)) v.z s.z;
+  p_count = length-map v.p no_bits ∙ s.p_count;
+  p = all_map (HasLength (v.bits / 8)) (HasLength (v.bits / 8)) no_bits (no_bits_sound (v.bits / 8)) v.p s.p;
+  ffr = no_bits_sound (v.bits / 8) v.ffr s.ffr;
+}

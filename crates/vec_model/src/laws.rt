@@ -1,0 +1,31 @@
+//! Laws of the definitions, each the contract of a function that does nothing.
+ghost use Rattle.std.specs.Prelude.{◌≡◌, ◌≢◌, ◌<◌, ◌/◌, ◌%◌, ◌^◌, ℕ, Bool, false, get_or};
+ghost use Rattle.emu_model.specs.State.{Vectors, IsSoundVectors};
+ghost use Rattle.vec_model.specs.Active.{active};
+ghost use Rattle.vec_model.specs.AfterCall.{after_call};
+ghost use Rattle.vec_model.specs.Lanes.{IsLaneSize, lane, read_z, read_p, with_lanes, with_fields, with_ffr_fields, with_low};
+
+/// Sound vectors are sound after a write, whatever is written: lanes or low bits of a Z register, fields of a predicate or of FFR;
+/// and after a call that returns.
+pub fn lanes_keep_vectors_sound()
+    ensures lanes { (e : ℕ) (f : ℕ → ℕ) (zd : ℕ) (v : Vectors) → IsSoundVectors v → IsSoundVectors (with_lanes e f zd v) }
+    ensures fields { (e : ℕ) (f : ℕ → Bool) (pd : ℕ) (v : Vectors) → IsSoundVectors v → IsSoundVectors (with_fields e f pd v) }
+    ensures ffr { (e : ℕ) (f : ℕ → Bool) (v : Vectors) → IsSoundVectors v → IsSoundVectors (with_ffr_fields e f v) }
+    ensures low { (bits x zd : ℕ) (v : Vectors) → IsSoundVectors v → IsSoundVectors (with_low bits x zd v) }
+    ensures call { (v : Vectors) → IsSoundVectors v → IsSoundVectors (after_call v) }
+{}
+
+/// A lane reads as what was written to it, modulo 2^e. Lane k of a written predicate, or of FFR, is active exactly where f k is
+/// true, and the other bits of its field are 0.
+pub fn lanes_read_as_written()
+    ensures lanes { (e : ℕ) (f : ℕ → ℕ) (zd k : ℕ) (v : Vectors) → IsSoundVectors v → IsLaneSize e → zd < 32 → k < v.bits / e
+        → lane e (read_z (with_lanes e f zd v) zd) k ≡ f k % 2 ^ e }
+    ensures fields { (e : ℕ) (f : ℕ → Bool) (pd k : ℕ) (v : Vectors) → IsSoundVectors v → IsLaneSize e → pd < 16 → k < v.bits / e
+        → active e (read_p (with_fields e f pd v) pd) k ≡ f k }
+    ensures between { (e : ℕ) (f : ℕ → Bool) (pd j : ℕ) (v : Vectors) → IsSoundVectors v → pd < 16 → j < v.bits / 8 → j % (e / 8) ≢ 0
+        → get_or (read_p (with_fields e f pd v) pd) j false ≡ false }
+    ensures ffr { (e : ℕ) (f : ℕ → Bool) (k : ℕ) (v : Vectors) → IsLaneSize e → k < v.bits / e
+        → active e (with_ffr_fields e f v).ffr k ≡ f k }
+    ensures ffr_between { (e : ℕ) (f : ℕ → Bool) (j : ℕ) (v : Vectors) → j < v.bits / 8 → j % (e / 8) ≢ 0
+        → get_or (with_ffr_fields e f v).ffr j false ≡ false }
+{}
