@@ -1,5 +1,5 @@
 -- Active lanes, taken one after the other.
-use Rattle.std.proofs.Common.{◌≡◌, ◌<◌, ◌≤◌, ◌+◌, ℕ, zero, suc, Bool, true, false, if◌then◌else◌, List, [], ◌∷◌, ◌++◌, map, length, get_or, Option, Some, None, refl, sym, ap, ◌∙◌, arith, add-one, length-append}
+use Rattle.std.proofs.Common.{◌≡◌, ◌≤◌, ◌+◌, ℕ, zero, suc, Bool, true, false, if◌then◌else◌, List, [], ◌∷◌, ◌++◌, length, refl, arith, add-one, length-append}
 use Rattle.sve_effects.specs.ElementLoop.{folded}
 use Rattle.sve_effects.specs.FirstLast.{or_else, if_meets, first_where, last_where}
 use Rattle.sve_effects.specs.Permute.{active_lanes}

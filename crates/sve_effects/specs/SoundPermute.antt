@@ -20,7 +20,7 @@ use Rattle.vec_model.specs.Lanes.{read_p, with_lanes, with_low}
 use Rattle.sve_effects.specs.declared.places.Place.{Place}
 use Rattle.sve_effects.specs.declared.places.Place.TheVariants.{Scalar}
 use Rattle.sve_effects.specs.Permute.{taken, interleave_place, ext_place, rev_place, insr_place, indexed_place, half_place, widened, copy_place, compact_place, splice_place}
-use Rattle.sve_effects.specs.PermuteRows.{lanes, moved, bit_of_field, moved_fields, insert_scalar, copy_scalar, is_high, is_signed, is_high_p, dup_bits, dup_index, is_after, any_active, last_value, last_value_or, after_last, after_cond_last, after_unpack, after_unpack_p, permuted}
+use Rattle.sve_effects.specs.PermuteRows.{lanes, moved, bit_of_field, moved_fields, insert_scalar, copy_scalar, is_high, is_signed, is_high_p, dup_bits, dup_index, is_after, any_active, last_value, last_value_or, after_last, after_cond_last, permuted}
 use Rattle.vec_model.specs.SoundLanes.{sound_lanes, sound_low, sound_fields}
 
 -- a sound core and sound vectors
