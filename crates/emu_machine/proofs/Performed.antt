@@ -1,5 +1,6 @@
 -- An instruction that asks for a call is svc, and does nothing else.
 use Rattle.std.proofs.Common.{◌≡◌, ℕ, Bool, true, false, List, [], Option, Some, None, if◌then◌else◌, refl, ap, sym, ◌∙◌}
+use Rattle.std.specs.Prelude.{◌||◌, is_some}
 use Rattle.a64_insn.specs.declared.form.A64Form.{A64Form}
 use Rattle.a64_insn.specs.declared.form.A64Form.TheVariants.{Branch, BranchCond, Compare, Test, BranchReg, Except}
 use Rattle.a64_insn.specs.declared.ops.BranchOp.TheVariants.{B, Bl}
@@ -26,7 +27,7 @@ use Rattle.a64_effects.specs.Flow.{branches_if, is_flow, is_taken, is_taken_by, 
 use Rattle.a64_effects.specs.LoadStore.{access, behind, elements, has_sp_base, is_misaligned, load_as_far, misaligned, store_as_far, tested, transfer_of, transferred, unless_misaligned}
 use Rattle.a64_effects.specs.Scalar.{is_data, operand, scalar, width_of}
 use Rattle.emu_run.specs.Step.{performed}
-use Rattle.emu_machine.specs.Machines.{MachineState, is_svc}
+use Rattle.emu_machine.specs.Machines.{MachineState, has_ended, is_svc}
 
 -- this effect is no call
 abbrev IsOther : Effect → Type 0
@@ -131,3 +132,11 @@ machine_of c vectors m brk steps ended l failed = record { parts = record { core
 pub same_machine : (c d : Core) (v w : Vectors) (m n : Memory) (brk : Break) (steps : ℕ) (ended : Option Ended) (k l : List Access) (failed : Bool) → d ≡ c → w ≡ v → n ≡ m → l ≡ k
     → machine_of d w n brk steps ended l failed ≡ machine_of c v m brk steps ended k failed
 same_machine c d v w m n brk steps ended k l failed core vectors memory accesses = cc
+
+-- a machine that hasn't ended hasn't failed
+pub not_failed : (m : MachineState) → has_ended m ≡ false → m.failed ≡ false
+not_failed m going = by_end (is_some m.parts.ended) going
+  where
+    by_end : (b : Bool) → (b || m.failed) ≡ false → m.failed ≡ false
+    by_end true is = cc
+    by_end false is = is
