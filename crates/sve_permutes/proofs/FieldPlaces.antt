@@ -21,3 +21,10 @@ even_lanes e bits (inl s) l = let m : bits % 128 ≡ 0 = l.multiple in rw s (ome
 even_lanes e bits (inr (inl s)) l = let m : bits % 128 ≡ 0 = l.multiple in rw s (omega arith)
 even_lanes e bits (inr (inr (inl s))) l = let m : bits % 128 ≡ 0 = l.multiple in rw s (omega arith)
 even_lanes e bits (inr (inr (inr s))) l = let m : bits % 128 ≡ 0 = l.multiple in rw s (omega arith)
+
+-- and some
+pub some_lanes : (e bits : ℕ) → IsLaneSize e → IsVectorLength bits → 1 ≤ bits / e
+some_lanes e bits (inl s) l = let m : 128 ≤ bits = l.least in rw s (omega arith)
+some_lanes e bits (inr (inl s)) l = let m : 128 ≤ bits = l.least in rw s (omega arith)
+some_lanes e bits (inr (inr (inl s))) l = let m : 128 ≤ bits = l.least in rw s (omega arith)
+some_lanes e bits (inr (inr (inr s))) l = let m : 128 ≤ bits = l.least in rw s (omega arith)

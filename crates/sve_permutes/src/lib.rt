@@ -4,6 +4,7 @@
 #![tactic(auto)]
 
 mod active;
+mod counts;
 mod dup;
 mod fields;
 mod moves;
