@@ -1,3 +1,4 @@
+pub mod Across
 pub mod Counts
 pub mod Effects
 pub mod Element

@@ -12,7 +12,8 @@ use Rattle.emu_bits.specs.Numbers.{unsigned_int}
 use Rattle.emu_model.specs.Done.{Registers}
 use Rattle.emu_model.specs.Sound.{with_x_sound, with_x_sp_sound}
 use Rattle.emu_model.specs.State.{Core, Vectors, read_x, read_x_sp, with_x, IsSoundCore, IsSoundVectors}
-use Rattle.sve_effects.specs.Counts.{count_of, inc_element, sat_element, sat_bits, sat_counted, length_of, multiple, counted}
+use Rattle.sve_effects.specs.Across.{across}
+use Rattle.sve_effects.specs.Counts.{is_count, count_of, inc_element, sat_element, sat_bits, sat_counted, length_of, multiple, counted}
 use Rattle.sve_effects.specs.Element.{element}
 use Rattle.sve_effects.specs.ElementLoop.{lane_bits, lane_of, is_active, folding}
 use Rattle.sve_effects.specs.Fold.{reduce_step, reduce_start, reduce_bits, reduction}
@@ -20,7 +21,7 @@ use Rattle.vec_model.specs.Lanes.{read_p, with_lanes, with_low}
 use Rattle.sve_effects.specs.declared.places.Place.{Place}
 use Rattle.sve_effects.specs.declared.places.Place.TheVariants.{Scalar}
 use Rattle.sve_effects.specs.Permute.{taken, interleave_place, ext_place, rev_place, insr_place, indexed_place, half_place, widened, copy_place, compact_place, splice_place}
-use Rattle.sve_effects.specs.PermuteRows.{lanes, moved, bit_of_field, moved_fields, insert_scalar, copy_scalar, is_high, is_signed, is_high_p, dup_bits, dup_index, is_after, any_active, last_value, last_value_or, after_last, after_cond_last, after_unpack, after_unpack_p, permuted}
+use Rattle.sve_effects.specs.PermuteRows.{lanes, moved, bit_of_field, moved_fields, insert_scalar, copy_scalar, is_high, is_signed, is_high_p, dup_bits, dup_index, is_after, any_active, last_value, last_value_or, after_last, after_cond_last, is_permute, permuted}
 use Rattle.vec_model.specs.SoundLanes.{sound_lanes, sound_low, sound_fields}
 
 -- a sound core and sound vectors
@@ -99,3 +100,12 @@ module _ (c : Core) (v : Vectors) (s : IsSoundCore c) (u : IsSoundVectors v) whe
       let e : ℕ = lane_bits size in
       low_sound (reduce_bits op e) (folding e pg (reduce_step op e) (reduce_start op e) zn v) vd
   fold_sound form = (s, u)
+
+  pub across_sound : (form : SveForm) → AreSound (across form c v)
+  across_sound form = elim (is_permute form) as (λ b. AreSound (if b then permuted form c v else (if is_count form then counted form c v else reduction form c v))) [
+    | true ↦ permute_sound form
+    | false ↦ elim (is_count form) as (λ b. AreSound (if b then counted form c v else reduction form c v)) [
+      | true ↦ count_sound form
+      | false ↦ fold_sound form
+    ]
+  ]

@@ -1,21 +1,21 @@
 -- Instructions on predicates keep the registers sound.
-use Rattle.std.specs.Prelude.{◌≡◌, ℕ, ◌/◌, Bool, true, false, if◌then◌else◌, List, length}
+use Rattle.std.specs.Prelude.{ℕ, Bool, true, false, List}
 use Rattle.std.proofs.Common.{◌∙◌, arith}
 use Rattle.std.proofs.lemmas.List.{length-set}
 use Rattle.sve_insn.specs.declared.form.SveForm.{SveForm}
 use Rattle.sve_insn.specs.declared.form.SveForm.TheVariants.{CmpVec, CmpWide, CmpUImm, CmpSImm, LogicP, SelectP, Break, BreakPair, BreakNext, Ptest, First, Next, Ptrue, Pfalse, ReadFfr, ReadFfrAll, WriteFfr, CountP, IncP, IncPZ, While, Cterm}
 use Rattle.sve_insn.specs.declared.ops.WriteFfrOp.{WriteFfrOp}
 use Rattle.sve_insn.specs.declared.ops.WriteFfrOp.TheVariants.{Setffr, Wrffr}
-use Rattle.emu_bits.specs.declared.flags.Flags.{Flags}
 use Rattle.emu_model.specs.Done.{Registers}
 use Rattle.emu_model.specs.Lists.{each, length-each}
 use Rattle.emu_model.specs.Sound.{with_x_sound, flags_sound}
 use Rattle.emu_model.specs.SoundLists.{all_set}
 use Rattle.emu_model.specs.State.{Core, Vectors, read_x, HasLength, IsSoundCore, IsSoundVectors}
+use Rattle.sve_effects.specs.Element.{element}
 use Rattle.sve_effects.specs.ElementLoop.{lane_bits, lane_of}
 use Rattle.vec_model.specs.Lanes.{read_p, with_p, with_ffr}
 use Rattle.sve_effects.specs.Predicate.{pred_test, count_lanes}
-use Rattle.sve_effects.specs.PredicateRows.{predicate_bits, after_test, put, counted, set_lanes_of, width_of, terminates, termination_flags, written_ffr, predicate}
+use Rattle.sve_effects.specs.PredicateRows.{predicate_bits, after_test, put, counted_by, set_lanes_of, width_of, terminates, termination_flags, written_ffr, predicate}
 use Rattle.vec_model.specs.SoundLanes.{sound_lanes}
 
 pub record IsSoundRegisters (r : Registers) : Type 0 where
@@ -70,8 +70,8 @@ module _ (c : Core) (v : Vectors) (s : IsSoundCore c) (u : IsSoundVectors v) whe
   predicate_sound (ReadFfrAll pd) = record { core = s; vectors = with_p_sound v pd v.ffr u.ffr u }
   predicate_sound (WriteFfr op pn) = record { core = s; vectors = with_ffr_sound v (written_ffr op pn v) (written_ffr_length op pn v) u }
   predicate_sound (CountP size pg pn rd) = record { core = with_x_sound c rd 64 (count_lanes (lane_bits size) (predicate_bits v) (read_p v pg) (read_p v pn)) (omega arith) s; vectors = u }
-  predicate_sound (IncP op size pm rdn) = record { core = with_x_sound c rdn 64 (counted op 64 (read_x c rdn) (set_lanes_of (lane_bits size) pm v)) (omega arith) s; vectors = u }
-  predicate_sound (IncPZ op size pm zdn) = record { core = s; vectors = sound_lanes (lane_bits size) (λ k. counted op (lane_bits size) (lane_of (lane_bits size) v zdn k) (set_lanes_of (lane_bits size) pm v)) zdn v u }
+  predicate_sound (IncP op size pm rdn) = record { core = with_x_sound c rdn 64 (element (counted_by op) 64 (read_x c rdn) (set_lanes_of (lane_bits size) pm v)) (omega arith) s; vectors = u }
+  predicate_sound (IncPZ op size pm zdn) = record { core = s; vectors = sound_lanes (lane_bits size) (λ k. element (counted_by op) (lane_bits size) (lane_of (lane_bits size) v zdn k) (set_lanes_of (lane_bits size) pm v)) zdn v u }
   predicate_sound (While op size rm sf rn pd) = put_sound true (lane_bits size) (each (predicate_bits v) (λ k. true)) pd _
   predicate_sound (Cterm op sf rm rn) = record { core = flags_sound c (termination_flags (terminates op (width_of sf) (read_x c rn) (read_x c rm)) c.flags) s; vectors = u }
   predicate_sound form = record { core = s; vectors = u }
