@@ -21,7 +21,7 @@ pub use lanes::{count, lanes_below, next, pred_test, while_bits};
 pub use patterns::pattern_count;
 use std::marker::Model;
 pub use sve_effects::predicates::{LogicOp, WhileTest};
-pub use whole::{brk, brkn, brkp, first, logic};
+pub use whole::{brk, brkn, brkp, first, logic, ones};
 
 /// A predicate: up to 256 bits. Contracts see the list of its bits.
 #[derive(Drop)]

@@ -1,5 +1,5 @@
 //! Logical operations and breaks, a word at a time.
-ghost use Rattle.std.specs.Prelude.{◌≡◌, ◌≤◌, ◌<◌, ℕ, nat_lt, length, IfSome};
+ghost use Rattle.std.specs.Prelude.{◌≡◌, ◌≤◌, ◌<◌, ℕ, true, nat_lt, length, IfSome};
 ghost use Rattle.emu_model.specs.Lists.{each};
 ghost use Rattle.sve_effects.specs.Predicate as model;
 ghost use Rattle.sve_effects.specs.Predicate.{is_upto, broken, broken_pair, broken_next, with_first};
@@ -42,6 +42,14 @@ fn upto(inclusive: bool, place: Option<u32>, bits: u32) -> PredBits
     ensures { result ≡ each bits (is_upto inclusive place) }
 {
     lanes_below(limit(inclusive, place, bits), Esize::B, bits)
+}
+
+/// So many bits, at most 256, all true.
+pub fn ones(bits: u32) -> PredBits
+    requires { bits ≤ 256 }
+    ensures { result ≡ each bits (λ k. true) }
+{
+    upto(false, None, bits)
 }
 
 /// The active bits up to the first of them that is 1 in `a`, which itself counts where `after` (brka), and does not else (brkb).

@@ -1,5 +1,5 @@
 -- What each SVE instruction on predicates leaves of the registers: compares, logic, breaks, loops, counts, and FFR.
-use Rattle.std.specs.Prelude.{ℕ, ◌/◌, ◌%◌, ◌^◌, Bool, true, false, not, ◌&&◌, nat_eq, if◌then◌else◌, List}
+use Rattle.std.specs.Prelude.{ℕ, ◌/◌, ◌%◌, ◌^◌, Bool, true, false, not, ◌&&◌, nat_eq, if◌then◌else◌, List, replicate}
 use Rattle.sve_insn.specs.declared.form.SveForm.{SveForm}
 use Rattle.sve_insn.specs.declared.form.SveForm.TheVariants.{CmpVec, CmpWide, CmpUImm, CmpSImm, LogicP, SelectP, Break, BreakPair, BreakNext, Ptest, First, Next, Ptrue, Pfalse, ReadFfr, ReadFfrAll, WriteFfr, CountP, IncP, IncPZ, While, Cterm}
 use Rattle.sve_insn.specs.declared.ops.BreakOp.{BreakOp}
@@ -58,12 +58,12 @@ abbrev pub ones : ℕ → List Bool
 ones m = each m (λ k. true)
 
 -- the flags of PredTest(g, result, e), where they are set
-abbrev pub after_test : Bool → ℕ → List Bool → List Bool → Core → Vectors → Core
-after_test sets e g result c v = if sets then record c { flags = pred_test e (predicate_bits v) g result } else c
+abbrev pub after_test : Bool → ℕ → ℕ → List Bool → List Bool → Core → Core
+after_test sets e m g result c = if sets then record c { flags = pred_test e m g result } else c
 
 -- a result in predicate pd, with the flags of PredTest(g, result, e), where they are set
 abbrev pub put : Bool → ℕ → List Bool → ℕ → List Bool → Core → Vectors → Registers
-put sets e g pd result c v = record { core = after_test sets e g result c v; vectors = with_p v pd result }
+put sets e g pd result c v = record { core = after_test sets e (predicate_bits v) g result c; vectors = with_p v pd result }
 
 -- a change of the vector registers, or of the scalar registers, alone
 abbrev pub put_vectors : Core → Vectors → Registers
@@ -230,11 +230,11 @@ predicate (Break op s pg pn m pd) c v = put s 8 (read_p v pg) pd (broken (break_
 predicate (BreakPair op s pm pg pn pd) c v = put s 8 (read_p v pg) pd (broken_pair (pair_after op) (predicate_bits v) (read_p v pg) (read_p v pn) (read_p v pm)) c v
 -- brkn alone has its flags by the test of all bits
 predicate (BreakNext s pg pn pdm) c v = put s 8 (ones (predicate_bits v)) pdm (broken_next (predicate_bits v) (read_p v pg) (read_p v pn) (read_p v pdm)) c v
-predicate (Ptest pg pn) c v = put_vectors (after_test true 8 (read_p v pg) (read_p v pn) c v) v
+predicate (Ptest pg pn) c v = put_vectors (after_test true 8 (predicate_bits v) (read_p v pg) (read_p v pn) c) v
 predicate (First pg pdn) c v = put true 8 (read_p v pg) pdn (with_first (predicate_bits v) (read_p v pg) (read_p v pdn)) c v
 predicate (Next size pg pdn) c v = put true (lane_bits size) (read_p v pg) pdn (only_next (lane_bits size) (predicate_bits v) (read_p v pg) (read_p v pdn)) c v
 predicate (Ptrue op size pattern pd) c v = let result = lanes_below (lane_bits size) (predicate_bits v) (pattern_count pattern (v.bits / lane_bits size)) in put (ptrue_flags op) (lane_bits size) result pd result c v
-predicate (Pfalse pd) c v = put_vectors c (with_p v pd (each (predicate_bits v) (λ k. false)))
+predicate (Pfalse pd) c v = put_vectors c (with_p v pd (replicate (predicate_bits v) false))
 predicate (ReadFfr op pg pd) c v = put (read_ffr_flags op) 8 (read_p v pg) pd (logic And (predicate_bits v) (read_p v pg) v.ffr v.ffr) c v
 predicate (ReadFfrAll pd) c v = put_vectors c (with_p v pd v.ffr)
 predicate (WriteFfr op pn) c v = put_vectors c (with_ffr v (written_ffr op pn v))

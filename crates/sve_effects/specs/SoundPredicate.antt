@@ -1,7 +1,7 @@
 -- Instructions on predicates keep the registers sound.
-use Rattle.std.specs.Prelude.{ℕ, Bool, true, false, List}
+use Rattle.std.specs.Prelude.{ℕ, Bool, true, false, List, replicate}
 use Rattle.std.proofs.Common.{◌∙◌, arith}
-use Rattle.std.proofs.lemmas.List.{length-set}
+use Rattle.std.proofs.lemmas.List.{length-set, length-replicate}
 use Rattle.sve_insn.specs.declared.form.SveForm.{SveForm}
 use Rattle.sve_insn.specs.declared.form.SveForm.TheVariants.{CmpVec, CmpWide, CmpUImm, CmpSImm, LogicP, SelectP, Break, BreakPair, BreakNext, Ptest, First, Next, Ptrue, Pfalse, ReadFfr, ReadFfrAll, WriteFfr, CountP, IncP, IncPZ, While, Cterm}
 use Rattle.sve_insn.specs.declared.ops.WriteFfrOp.{WriteFfrOp}
@@ -44,7 +44,7 @@ written_ffr_length Wrffr pn v = length-each (predicate_bits v) _
 -- ---- the rows
 
 module _ (c : Core) (v : Vectors) (s : IsSoundCore c) (u : IsSoundVectors v) where
-  after_test_sound : (sets : Bool) (e : ℕ) (g result : List Bool) → IsSoundCore (after_test sets e g result c v)
+  after_test_sound : (sets : Bool) (e : ℕ) (g result : List Bool) → IsSoundCore (after_test sets e (predicate_bits v) g result c)
   after_test_sound true e g result = flags_sound c (pred_test e (predicate_bits v) g result) s
   after_test_sound false e g result = s
 
@@ -65,7 +65,7 @@ module _ (c : Core) (v : Vectors) (s : IsSoundCore c) (u : IsSoundVectors v) whe
   predicate_sound (First pg pdn) = put_sound true 8 (read_p v pg) pdn _
   predicate_sound (Next size pg pdn) = put_sound true (lane_bits size) (read_p v pg) pdn _
   predicate_sound (Ptrue op size pattern pd) = put_sound _ (lane_bits size) _ pd _
-  predicate_sound (Pfalse pd) = record { core = s; vectors = with_p_sound v pd _ (length-each (predicate_bits v) (λ k. false)) u }
+  predicate_sound (Pfalse pd) = record { core = s; vectors = with_p_sound v pd (replicate (predicate_bits v) false) (length-replicate (predicate_bits v) false) u }
   predicate_sound (ReadFfr op pg pd) = put_sound _ 8 (read_p v pg) pd _
   predicate_sound (ReadFfrAll pd) = record { core = s; vectors = with_p_sound v pd v.ffr u.ffr u }
   predicate_sound (WriteFfr op pn) = record { core = s; vectors = with_ffr_sound v (written_ffr op pn v) (written_ffr_length op pn v) u }
