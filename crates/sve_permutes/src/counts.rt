@@ -87,7 +87,16 @@ fn inc_z(core: &Core, vec: &mut VecRegs, op: IncOp, size: U<2>, imm4: U<4>, patt
     counted_lanes(vec, inc_element(op), lane_bits(size), count, zdn);
 }
 
-fn sat_x(core: &mut Core, vec: &VecRegs, op: SatOp, size: U<2>, sf: bool, imm4: U<4>, pattern: U<5>, rdn: Reg)
+fn sat_x(
+    core: &mut Core,
+    vec: &VecRegs,
+    op: SatOp,
+    size: U<2>,
+    sf: bool,
+    imm4: U<4>,
+    pattern: U<5>,
+    rdn: Reg,
+)
     ensures core { core.new ≡ (table.counted (SveForm.SatX op size sf imm4 pattern rdn) core.old vec.now).core }
     ensures vectors { vec.now ≡ (table.counted (SveForm.SatX op size sf imm4 pattern rdn) core.old vec.now).vectors }
 {

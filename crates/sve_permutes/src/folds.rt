@@ -13,7 +13,15 @@ use sve_elements::{add, and, eor, orr, smax, smin, umax, umin};
 use sve_insn::ReduceOp;
 use vec_regs::VecRegs;
 
-pub(crate) fn reduce(core: &Core, vec: &mut VecRegs, op: ReduceOp, size: U<2>, pg: PredLow, zn: Reg, vd: Reg)
+pub(crate) fn reduce(
+    core: &Core,
+    vec: &mut VecRegs,
+    op: ReduceOp,
+    size: U<2>,
+    pg: PredLow,
+    zn: Reg,
+    vd: Reg,
+)
     ensures { vec.new ≡ (table.reduction (SveForm.Reduce op size pg zn vd) core.now vec.old).vectors }
 {
     let e = lane_bits(size);
@@ -61,11 +69,7 @@ fn start(op: ReduceOp, e: u32) -> u64
     ensures { result ≡ table.reduce_start op e }
 {
     match op {
-        ReduceOp::Saddv
-        | ReduceOp::Uaddv
-        | ReduceOp::Umaxv
-        | ReduceOp::Orv
-        | ReduceOp::Eorv => 0,
+        ReduceOp::Saddv | ReduceOp::Uaddv | ReduceOp::Umaxv | ReduceOp::Orv | ReduceOp::Eorv => 0,
         ReduceOp::Smaxv => 1 << (e - 1),
         ReduceOp::Sminv => (1 << (e - 1)) - 1,
         ReduceOp::Uminv | ReduceOp::Andv => all_ones(e),

@@ -4,8 +4,7 @@ ghost use Rattle.sve_effects.specs.PermuteRows as table;
 ghost use Rattle.sve_permutes.specs.Groups.{is_of_lanes, is_of_active};
 
 use crate::dup::dup_lane;
-use crate::rows;
-use crate::single;
+use crate::{rows, single};
 use core_regs::Core;
 use sve_insn::{Sve, SveForm};
 use vec_regs::VecRegs;
@@ -40,8 +39,9 @@ pub(crate) fn exec(core: &mut Core, vec: &mut VecRegs, i: &Sve)
             zm,
             zdn,
         } => single::cond_last(core, vec, op, size, pg, zm, zdn),
-        SveForm::Compact { .. } | SveForm::Splice { .. } | SveForm::CopyReg { .. } =>
-            by_active(core, vec, i),
+        SveForm::Compact { .. } | SveForm::Splice { .. } | SveForm::CopyReg { .. } => by_active(
+            core, vec, i,
+        ),
         _ => of_lanes(core, vec, i),
     }
 }
