@@ -32,4 +32,4 @@ pub active_count : (active : ℕ → Bool) (n : ℕ) → length (active_lanes ac
 active_count active zero = omega arith
 active_count active (suc n) = let h : length (active_lanes active n ++ (if active n then n ∷ [] else [])) ≤ n + 1 = count_here (active n) n (active_lanes active n) (active_count active n) in omega arith
 
-pub ruleset active_rules = (active_lanes-more, first_where-more, last_where-more, folded-more)
+pub ruleset active_rules = (active_lanes-more, first_where-more, last_where-more, folded-none, folded-more)

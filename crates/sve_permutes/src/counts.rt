@@ -1,5 +1,5 @@
 //! Counts of lanes, and multiples of the vector length.
-ghost use Rattle.std.specs.Prelude.{◌≡◌, ◌≤◌, ◌⊎◌};
+ghost use Rattle.std.specs.Prelude.{◌≡◌, ◌≤◌, ◌⊎◌, true};
 ghost use Rattle.sve_insn.specs.declared.form.SveForm.{SveForm};
 ghost use Rattle.sve_effects.specs.Counts as table;
 ghost use Rattle.sve_effects.specs.Element.{element};
@@ -14,17 +14,65 @@ use emu_bits::{Reg, U, low_bits, sext, sign_extended};
 use pred_bits::pattern_count;
 use sve_effects::ElementOp;
 use sve_elements::apply;
-use sve_insn::{AddLengthOp, IncOp, SatOp};
+use sve_insn::{AddLengthOp, IncOp, SatOp, Sve, SveForm};
 use vec_regs::VecRegs;
 
-pub(crate) fn count(core: &mut Core, vec: &VecRegs, size: U<2>, imm4: U<4>, pattern: U<5>, rd: Reg)
+/// Does a count, or a multiple of the vector length.
+pub(crate) fn exec(core: &mut Core, vec: &mut VecRegs, i: &Sve)
+    requires { table.is_count i.now ≡ true }
+    ensures core { core.new ≡ (table.counted i.now core.old vec.old).core }
+    ensures vectors { vec.new ≡ (table.counted i.now core.old vec.old).vectors }
+{
+    match *i.form() {
+        SveForm::Count {
+            size,
+            imm4,
+            pattern,
+            rd,
+        } => count(core, vec, size, imm4, pattern, rd),
+        SveForm::IncX {
+            op,
+            size,
+            imm4,
+            pattern,
+            rdn,
+        } => inc_x(core, vec, op, size, imm4, pattern, rdn),
+        SveForm::IncZ {
+            op,
+            size,
+            imm4,
+            pattern,
+            zdn,
+        } => inc_z(core, vec, op, size, imm4, pattern, zdn),
+        SveForm::SatX {
+            op,
+            size,
+            sf,
+            imm4,
+            pattern,
+            rdn,
+        } => sat_x(core, vec, op, size, sf, imm4, pattern, rdn),
+        SveForm::SatZ {
+            op,
+            size,
+            imm4,
+            pattern,
+            zdn,
+        } => sat_z(core, vec, op, size, imm4, pattern, zdn),
+        SveForm::AddLength { op, rn, imm6, rd } => add_length(core, vec, op, rn, imm6, rd),
+        SveForm::ReadLength { imm6, rd } => read_length(core, vec, imm6, rd),
+        _ => {}
+    }
+}
+
+fn count(core: &mut Core, vec: &VecRegs, size: U<2>, imm4: U<4>, pattern: U<5>, rd: Reg)
     ensures core { core.new ≡ (table.counted (SveForm.Count size imm4 pattern rd) core.old vec.now).core }
     ensures vectors { vec.now ≡ (table.counted (SveForm.Count size imm4 pattern rd) core.old vec.now).vectors }
 {
     core.set_x(rd, 64, count_of(vec, size, imm4, pattern));
 }
 
-pub(crate) fn inc_x(core: &mut Core, vec: &VecRegs, op: IncOp, size: U<2>, imm4: U<4>, pattern: U<5>, rdn: Reg)
+fn inc_x(core: &mut Core, vec: &VecRegs, op: IncOp, size: U<2>, imm4: U<4>, pattern: U<5>, rdn: Reg)
     ensures core { core.new ≡ (table.counted (SveForm.IncX op size imm4 pattern rdn) core.old vec.now).core }
     ensures vectors { vec.now ≡ (table.counted (SveForm.IncX op size imm4 pattern rdn) core.old vec.now).vectors }
 {
@@ -32,14 +80,23 @@ pub(crate) fn inc_x(core: &mut Core, vec: &VecRegs, op: IncOp, size: U<2>, imm4:
     core.set_x(rdn, 64, apply(inc_element(op), 64, core.x(rdn), count));
 }
 
-pub(crate) fn inc_z(core: &Core, vec: &mut VecRegs, op: IncOp, size: U<2>, imm4: U<4>, pattern: U<5>, zdn: Reg)
+fn inc_z(core: &Core, vec: &mut VecRegs, op: IncOp, size: U<2>, imm4: U<4>, pattern: U<5>, zdn: Reg)
     ensures { vec.new ≡ (table.counted (SveForm.IncZ op size imm4 pattern zdn) core.now vec.old).vectors }
 {
     let count = count_of(vec, size, imm4, pattern);
     counted_lanes(vec, inc_element(op), lane_bits(size), count, zdn);
 }
 
-pub(crate) fn sat_x(core: &mut Core, vec: &VecRegs, op: SatOp, size: U<2>, sf: bool, imm4: U<4>, pattern: U<5>, rdn: Reg)
+fn sat_x(
+    core: &mut Core,
+    vec: &VecRegs,
+    op: SatOp,
+    size: U<2>,
+    sf: bool,
+    imm4: U<4>,
+    pattern: U<5>,
+    rdn: Reg,
+)
     ensures core { core.new ≡ (table.counted (SveForm.SatX op size sf imm4 pattern rdn) core.old vec.now).core }
     ensures vectors { vec.now ≡ (table.counted (SveForm.SatX op size sf imm4 pattern rdn) core.old vec.now).vectors }
 {
@@ -48,14 +105,14 @@ pub(crate) fn sat_x(core: &mut Core, vec: &VecRegs, op: SatOp, size: U<2>, sf: b
     core.set_x(rdn, 64, sat_counted(op, w, core.x(rdn), count));
 }
 
-pub(crate) fn sat_z(core: &Core, vec: &mut VecRegs, op: SatOp, size: U<2>, imm4: U<4>, pattern: U<5>, zdn: Reg)
+fn sat_z(core: &Core, vec: &mut VecRegs, op: SatOp, size: U<2>, imm4: U<4>, pattern: U<5>, zdn: Reg)
     ensures { vec.new ≡ (table.counted (SveForm.SatZ op size imm4 pattern zdn) core.now vec.old).vectors }
 {
     let count = count_of(vec, size, imm4, pattern);
     counted_lanes(vec, sat_element(op), lane_bits(size), count, zdn);
 }
 
-pub(crate) fn add_length(core: &mut Core, vec: &VecRegs, op: AddLengthOp, rn: Reg, imm6: U<6>, rd: Reg)
+fn add_length(core: &mut Core, vec: &VecRegs, op: AddLengthOp, rn: Reg, imm6: U<6>, rd: Reg)
     ensures core { core.new ≡ (table.counted (SveForm.AddLength op rn imm6 rd) core.old vec.now).core }
     ensures vectors { vec.now ≡ (table.counted (SveForm.AddLength op rn imm6 rd) core.old vec.now).vectors }
 {
@@ -63,7 +120,7 @@ pub(crate) fn add_length(core: &mut Core, vec: &VecRegs, op: AddLengthOp, rn: Re
     core.set_x_sp(rd, 64, core.x_sp(rn).wrapping_add_signed(by));
 }
 
-pub(crate) fn read_length(core: &mut Core, vec: &VecRegs, imm6: U<6>, rd: Reg)
+fn read_length(core: &mut Core, vec: &VecRegs, imm6: U<6>, rd: Reg)
     ensures core { core.new ≡ (table.counted (SveForm.ReadLength imm6 rd) core.old vec.now).core }
     ensures vectors { vec.now ≡ (table.counted (SveForm.ReadLength imm6 rd) core.old vec.now).vectors }
 {

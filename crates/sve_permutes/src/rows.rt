@@ -1,16 +1,15 @@
 //! The permutes that leave the general registers as they are.
-ghost use Rattle.std.specs.Prelude.{◌≡◌, ◌<◌, ◌/◌, ◌%◌, ◌^◌, ℕ};
+ghost use Rattle.std.specs.Prelude.{◌≡◌, ◌<◌, ◌%◌, ◌^◌, ℕ, true};
 ghost use Rattle.sve_insn.specs.declared.form.SveForm.{SveForm};
-ghost use Rattle.sve_effects.specs.ElementLoop.{lane_bits as bits_of_size, lane_of};
+ghost use Rattle.sve_insn.specs.Conditions.{is_no_byte};
+ghost use Rattle.sve_effects.specs.ElementLoop.{lane_of};
 ghost use Rattle.sve_effects.specs.Permute.{interleave_place};
 ghost use Rattle.sve_effects.specs.PermuteRows as table;
 ghost use Rattle.lane_permute.specs.Rules.{rule_place, IsFor};
 ghost use Rattle.vec_model.specs.Lanes.{IsLaneSize};
 
-use crate::active;
 use crate::fields::{governing, lane_bits};
-use crate::moves;
-use crate::predicates;
+use crate::{active, moves, predicates};
 use core_regs::Core;
 use emu_bits::{Pred, PredLow, Reg, U};
 use lane_permute::places::Rule;
@@ -37,11 +36,17 @@ pub(crate) fn rev_z(core: &Core, vec: &mut VecRegs, size: U<2>, zn: Reg, zd: Reg
     moves::moved(vec, lane_bits(size), Rule::Rev, zn, zn, 0, zd);
 }
 
+#[tactic(auto, unfolding(sve_insn::specs::Conditions::is_no_byte))]
 pub(crate) fn unpack(core: &Core, vec: &mut VecRegs, op: UnpackOp, size: U<2>, zn: Reg, zd: Reg)
-    requires { IsLaneSize (bits_of_size size / 2) }
+    requires { is_no_byte size ≡ true }
     ensures { vec.new ≡ (table.permuted (SveForm.Unpack op size zn zd) core.now vec.old).vectors }
 {
-    moves::unpacked(vec, op, lane_bits(size), zn, zd);
+    match size.get() {
+        0 => {}
+        1 => moves::unpacked(vec, op, 16, zn, zd),
+        2 => moves::unpacked(vec, op, 32, zn, zd),
+        _ => moves::unpacked(vec, op, 64, zn, zd),
+    }
 }
 
 pub(crate) fn lookup(core: &Core, vec: &mut VecRegs, size: U<2>, zm: Reg, zn: Reg, zd: Reg)
@@ -51,7 +56,15 @@ pub(crate) fn lookup(core: &Core, vec: &mut VecRegs, size: U<2>, zm: Reg, zn: Re
 }
 
 #[tactic(auto, using(crate::proofs::FieldPlaces::even_lanes))]
-pub(crate) fn interleave(core: &Core, vec: &mut VecRegs, op: InterleaveOp, size: U<2>, zm: Reg, zn: Reg, zd: Reg)
+pub(crate) fn interleave(
+    core: &Core,
+    vec: &mut VecRegs,
+    op: InterleaveOp,
+    size: U<2>,
+    zm: Reg,
+    zn: Reg,
+    zd: Reg,
+)
     ensures { vec.new ≡ (table.permuted (SveForm.Interleave op size zm zn zd) core.now vec.old).vectors }
 {
     let e = lane_bits(size);
@@ -60,7 +73,15 @@ pub(crate) fn interleave(core: &Core, vec: &mut VecRegs, op: InterleaveOp, size:
 }
 
 #[tactic(auto, using(crate::proofs::FieldPlaces::even_lanes))]
-pub(crate) fn interleave_p(core: &Core, vec: &mut VecRegs, op: InterleaveOp, size: U<2>, pm: Pred, pn: Pred, pd: Pred)
+pub(crate) fn interleave_p(
+    core: &Core,
+    vec: &mut VecRegs,
+    op: InterleaveOp,
+    size: U<2>,
+    pm: Pred,
+    pn: Pred,
+    pd: Pred,
+)
     ensures { vec.new ≡ (table.permuted (SveForm.InterleaveP op size pm pn pd) core.now vec.old).vectors }
 {
     let e = lane_bits(size);
@@ -99,7 +120,15 @@ pub(crate) fn ext(core: &Core, vec: &mut VecRegs, imm8h: U<5>, imm8l: U<3>, zm: 
     moves::moved(vec, 8, Rule::Ext(from as usize), zdn, zm, 0, zdn);
 }
 
-pub(crate) fn copy_reg(core: &Core, vec: &mut VecRegs, op: CopyRegOp, size: U<2>, pg: PredLow, rn: Reg, zd: Reg)
+pub(crate) fn copy_reg(
+    core: &Core,
+    vec: &mut VecRegs,
+    op: CopyRegOp,
+    size: U<2>,
+    pg: PredLow,
+    rn: Reg,
+    zd: Reg,
+)
     ensures { vec.new ≡ (table.permuted (SveForm.CopyReg op size pg rn zd) core.now vec.old).vectors }
 {
     let e = lane_bits(size);

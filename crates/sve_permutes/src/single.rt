@@ -13,7 +13,15 @@ use emu_bits::{Pred, PredLow, Reg, U, low_bits};
 use sve_insn::{CondLastOp, LastOp};
 use vec_regs::VecRegs;
 
-pub(crate) fn last(core: &mut Core, vec: &mut VecRegs, op: LastOp, size: U<2>, pg: PredLow, zn: Reg, rd: Reg)
+pub(crate) fn last(
+    core: &mut Core,
+    vec: &mut VecRegs,
+    op: LastOp,
+    size: U<2>,
+    pg: PredLow,
+    zn: Reg,
+    rd: Reg,
+)
     ensures core { core.new ≡ (table.permuted (SveForm.Last op size pg zn rd) core.old vec.old).core }
     ensures vectors { vec.new ≡ (table.permuted (SveForm.Last op size pg zn rd) core.old vec.old).vectors }
 {
@@ -25,7 +33,15 @@ pub(crate) fn last(core: &mut Core, vec: &mut VecRegs, op: LastOp, size: U<2>, p
     }
 }
 
-pub(crate) fn cond_last(core: &mut Core, vec: &mut VecRegs, op: CondLastOp, size: U<2>, pg: PredLow, zm: Reg, zdn: Reg)
+pub(crate) fn cond_last(
+    core: &mut Core,
+    vec: &mut VecRegs,
+    op: CondLastOp,
+    size: U<2>,
+    pg: PredLow,
+    zm: Reg,
+    zdn: Reg,
+)
     ensures core { core.new ≡ (table.permuted (SveForm.CondLast op size pg zm zdn) core.old vec.old).core }
     ensures vectors { vec.new ≡ (table.permuted (SveForm.CondLast op size pg zm zdn) core.old vec.old).vectors }
 {

@@ -1,4 +1,4 @@
-use Rattle.std.proofs.Common.{length, ◌∙◌, arith}
+use Rattle.std.proofs.Common.{◌∙◌, arith}
 use Rattle.sve_permutes.proofs.Compacted.{zeros_count, zeros_more}
 use Rattle.sve_permutes.proofs.active.pad.Goals as goal
 

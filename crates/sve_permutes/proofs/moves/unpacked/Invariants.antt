@@ -1,7 +1,7 @@
 use Rattle.std.proofs.Common.{◌≡◌, ◌/◌}
 use Rattle.emu_model.specs.Lists.{each}
-use Rattle.sve_effects.specs.ElementLoop.{lane_of, is_active}
-use Rattle.sve_effects.specs.Permute.{taken, indexed_place, copy_place, half_place, widened}
+use Rattle.sve_effects.specs.ElementLoop.{lane_of}
+use Rattle.sve_effects.specs.Permute.{taken, half_place, widened}
 use Rattle.sve_effects.specs.PermuteRows.{is_high, is_signed}
 use Rattle.sve_permutes.proofs.moves.unpacked.Given as goal
 
