@@ -1,74 +1,19 @@
 //! The elements of an access: each is loaded or stored as a whole, or refused, and what was done is logged.
-ghost use Rattle.std.specs.Prelude.{◌≡◌, ◌≤◌, ◌<◌, ◌+◌, ◌^◌, ◌++◌, ◌∷◌, [], MatchResult, None, Some, false, true};
-ghost use Rattle.arrayvec.specs.ArrayVec.{array_vec_len};
-ghost use Rattle.emu_model.specs.Access.{Memory, refused, stored, value};
-ghost use Rattle.emu_model.specs.State.{Core as CoreState, Vectors, read_x};
+ghost use Rattle.std.specs.Prelude.{◌≡◌, ◌≤◌, ◌<◌, ◌*◌, ◌^◌, ◌∷◌, []};
+ghost use Rattle.emu_model.specs.State.{Core as CoreState};
 ghost use Rattle.emu_model.specs.declared.access.Kind.{Kind};
-ghost use Rattle.emu_model.specs.declared.trap.TrapKind.{TrapKind};
 ghost use Rattle.emu_model.specs.Elements.{reach};
 ghost use Rattle.a64_effects.specs.LoadStore as table;
-ghost use Rattle.a64_flow.specs.Ends.{followed_by};
+ghost use Rattle.a64_flow.specs.Ends.{followed_by, greatest_of};
+ghost use Rattle.vec_regs.specs.Packed.{IsLowSize};
 
-use core_regs::{Core, Trap, TrapKind};
-use emu_bits::{Reg, sign_extended};
+use crate::fields::is_vector;
 use a64_effects::Transfer;
-use guest_mem::{Access, AccessLog, Kind, Mem};
-
-/// Stores the low n bytes of a number.
-fn store(mem: &mut Mem, log: &mut AccessLog, v: u64, address: u64, n: u32) -> Result<(), Trap>
-    requires some { 1 ≤ n }
-    requires most { n ≤ 8 }
-    requires room { array_vec_len log.old < 1024 }
-    ensures result { MatchResult result (λ x. refused mem.old address n Kind.Write ≡ None)
-        (λ trap. (trap.kind ≡ TrapKind.Write) × (refused mem.old address n Kind.Write ≡ Some trap.address)) }
-    ensures memory { MatchResult result (λ x. mem.new ≡ stored mem.old address n v) (λ trap. mem.new ≡ mem.old) }
-    ensures log { MatchResult result
-        (λ x. log.new.items ≡ log.old.items ++ record { address = address; bytes = n; write = true } ∷ [])
-        (λ trap. log.new.items ≡ log.old.items) }
-{
-    match mem.store(address, n, v as u128) {
-        Ok(()) => {
-            log.push(Access {
-                address,
-                bytes: n,
-                write: true,
-            });
-            Ok(())
-        }
-        Err(denied) => Err(Trap {
-            kind: TrapKind::Write,
-            address: denied.address,
-        }),
-    }
-}
-
-/// The little-endian number of n bytes.
-fn load(mem: &mut Mem, log: &mut AccessLog, address: u64, n: u32) -> Result<u64, Trap>
-    requires some { 1 ≤ n }
-    requires most { n ≤ 8 }
-    requires room { array_vec_len log.old < 1024 }
-    ensures result { MatchResult result (λ v. (refused mem.old address n Kind.Read ≡ None) × (v ≡ value mem.old address n))
-        (λ trap. (trap.kind ≡ TrapKind.Read) × (refused mem.old address n Kind.Read ≡ Some trap.address)) }
-    ensures memory { mem.new ≡ mem.old }
-    ensures log { MatchResult result
-        (λ v. log.new.items ≡ log.old.items ++ record { address = address; bytes = n; write = false } ∷ [])
-        (λ trap. log.new.items ≡ log.old.items) }
-{
-    match mem.load(address, n, Kind::Read) {
-        Ok(v) => {
-            log.push(Access {
-                address,
-                bytes: n,
-                write: false,
-            });
-            Ok(v as u64)
-        }
-        Err(denied) => Err(Trap {
-            kind: TrapKind::Read,
-            address: denied.address,
-        }),
-    }
-}
+use core_regs::{Core, Trap};
+use element_access::{load, store};
+use emu_bits::{Reg, sign_extended};
+use guest_mem::{AccessLog, Mem};
+use vec_regs::VecRegs;
 
 /// What a load of n bytes puts into its register.
 fn loaded_value(t: Transfer, n: u32, v: u64) -> u64
@@ -83,9 +28,36 @@ fn loaded_value(t: Transfer, n: u32, v: u64) -> u64
     }
 }
 
-/// Stores or loads one register, or none for a prefetch.
-pub(crate) fn single(
-    core: &mut Core,
+/// What a store takes an element's bytes from: a general register, or the low 128 bits of a vector register.
+fn stored_value(core: &Core, vec: &VecRegs, t: Transfer, rt: Reg) -> u128
+    ensures { result ≡ table.stored_value t core.now vec.now rt }
+{
+    if is_vector(t) {
+        vec.low(rt)
+    } else {
+        core.x(rt) as u128
+    }
+}
+
+/// Puts an element's bytes into its register: the low bytes of a vector register, or a general register, extended.
+fn put_loaded(core: &mut Core, vec: &mut VecRegs, t: Transfer, rt: Reg, n: u32, v: u128)
+    requires some { 1 ≤ n }
+    requires most { n ≤ greatest_of t }
+    requires size { IsLowSize (8 * n) }
+    requires small { v < 256 ^ n }
+    ensures { table.with_element t rt n v (record { core = core.old; vectors = vec.old }) ≡ record { core = core.new; vectors = vec.new } }
+{
+    if is_vector(t) {
+        vec.set_low(rt, 8 * n, v);
+    } else {
+        core.set_x(rt, 64, loaded_value(t, n, v as u64));
+    }
+}
+
+/// Stores one register.
+fn store_one(
+    core: &Core,
+    vec: &VecRegs,
     mem: &mut Mem,
     log: &mut AccessLog,
     t: Transfer,
@@ -94,19 +66,64 @@ pub(crate) fn single(
     n: u32,
 ) -> Result<(), Trap>
     requires some { 1 ≤ n }
-    requires most { n ≤ 8 }
+    requires most { n ≤ 16 }
     requires empty { log.old.items ≡ [] }
-    ensures { (after : CoreState → CoreState) (w : Vectors) → table.transferred t (table.single t rt address n) after core.old w mem.old
-        ≡ followed_by after result core.new w mem.new log.new.items }
+    ensures { (after : CoreState → CoreState) → table.stored_to t (reach mem.old Kind.Write (record { lane = 0; register = rt; address = address; bytes = n } ∷ [])) after core.now vec.now mem.old
+        ≡ followed_by after result core.now vec.now mem.new log.new.items }
+{
+    let v = stored_value(core, vec, t, rt);
+    store(mem, log, v, address, n)
+}
+
+/// Loads one register.
+fn load_one(
+    core: &mut Core,
+    vec: &mut VecRegs,
+    mem: &mut Mem,
+    log: &mut AccessLog,
+    t: Transfer,
+    rt: Reg,
+    address: u64,
+    n: u32,
+) -> Result<(), Trap>
+    requires some { 1 ≤ n }
+    requires most { n ≤ greatest_of t }
+    requires size { IsLowSize (8 * n) }
+    requires empty { log.old.items ≡ [] }
+    ensures { (after : CoreState → CoreState) → table.loaded_to t (reach mem.old Kind.Read (record { lane = 0; register = rt; address = address; bytes = n } ∷ [])) after core.old vec.old mem.old
+        ≡ followed_by after result core.new vec.new mem.new log.new.items }
+{
+    let v = load(mem, log, address, n)?;
+    put_loaded(core, vec, t, rt, n, v);
+    Ok(())
+}
+
+/// Stores or loads one register, or none for a prefetch.
+pub(crate) fn single(
+    core: &mut Core,
+    vec: &mut VecRegs,
+    mem: &mut Mem,
+    log: &mut AccessLog,
+    t: Transfer,
+    rt: Reg,
+    address: u64,
+    n: u32,
+) -> Result<(), Trap>
+    requires some { 1 ≤ n }
+    requires most { n ≤ greatest_of t }
+    requires size { IsLowSize (8 * n) }
+    requires empty { log.old.items ≡ [] }
+    ensures { (after : CoreState → CoreState) → table.transferred t (table.single t rt address n) after core.old vec.old mem.old
+        ≡ followed_by after result core.new vec.new mem.new log.new.items }
 {
     match t {
         Transfer::Prefetch => Ok(()),
-        Transfer::Store => store(mem, log, core.x(rt), address, n),
-        Transfer::Load | Transfer::LoadSigned | Transfer::LoadSigned32 => {
-            let v = load(mem, log, address, n)?;
-            core.set_x(rt, 64, loaded_value(t, n, v));
-            Ok(())
-        }
+        Transfer::Store | Transfer::StoreVector =>
+            store_one(core, vec, mem, log, t, rt, address, n),
+        Transfer::Load
+        | Transfer::LoadSigned
+        | Transfer::LoadSigned32
+        | Transfer::LoadVector => load_one(core, vec, mem, log, t, rt, address, n),
     }
 }
 
@@ -114,26 +131,7 @@ pub(crate) fn single(
 #[tactic(auto, using(emu_model::specs::AccessLaws::refused_stored))]
 fn store_couple(
     core: &Core,
-    mem: &mut Mem,
-    log: &mut AccessLog,
-    rt: Reg,
-    rt2: Reg,
-    address: u64,
-    n: u32,
-) -> Result<(), Trap>
-    requires some { 1 ≤ n }
-    requires most { n ≤ 8 }
-    requires empty { log.old.items ≡ [] }
-    ensures { (after : CoreState → CoreState) (w : Vectors) → table.transferred Transfer.Store (table.couple rt rt2 address n) after core.now w mem.old
-        ≡ followed_by after result core.now w mem.new log.new.items }
-{
-    store(mem, log, core.x(rt), address, n)?;
-    store(mem, log, core.x(rt2), address.wrapping_add(n as u64), n)
-}
-
-/// Loads two registers, one behind the other, or none.
-fn load_couple(
-    core: &mut Core,
+    vec: &VecRegs,
     mem: &mut Mem,
     log: &mut AccessLog,
     t: Transfer,
@@ -143,15 +141,40 @@ fn load_couple(
     n: u32,
 ) -> Result<(), Trap>
     requires some { 1 ≤ n }
-    requires most { n ≤ 8 }
+    requires most { n ≤ 16 }
     requires empty { log.old.items ≡ [] }
-    ensures { (after : CoreState → CoreState) (w : Vectors) → table.loaded_to t (reach mem.old Kind.Read (table.couple rt rt2 address n)) after core.old w mem.old
-        ≡ followed_by after result core.new w mem.new log.new.items }
+    ensures { (after : CoreState → CoreState) → table.stored_to t (reach mem.old Kind.Write (table.couple rt rt2 address n)) after core.now vec.now mem.old
+        ≡ followed_by after result core.now vec.now mem.new log.new.items }
+{
+    let first = stored_value(core, vec, t, rt);
+    let second = stored_value(core, vec, t, rt2);
+    store(mem, log, first, address, n)?;
+    store(mem, log, second, address.wrapping_add(n as u64), n)
+}
+
+/// Loads two registers, one behind the other, or none.
+fn load_couple(
+    core: &mut Core,
+    vec: &mut VecRegs,
+    mem: &mut Mem,
+    log: &mut AccessLog,
+    t: Transfer,
+    rt: Reg,
+    rt2: Reg,
+    address: u64,
+    n: u32,
+) -> Result<(), Trap>
+    requires some { 1 ≤ n }
+    requires most { n ≤ greatest_of t }
+    requires size { IsLowSize (8 * n) }
+    requires empty { log.old.items ≡ [] }
+    ensures { (after : CoreState → CoreState) → table.loaded_to t (reach mem.old Kind.Read (table.couple rt rt2 address n)) after core.old vec.old mem.old
+        ≡ followed_by after result core.new vec.new mem.new log.new.items }
 {
     let first = load(mem, log, address, n)?;
     let second = load(mem, log, address.wrapping_add(n as u64), n)?;
-    core.set_x(rt, 64, loaded_value(t, n, first));
-    core.set_x(rt2, 64, loaded_value(t, n, second));
+    put_loaded(core, vec, t, rt, n, first);
+    put_loaded(core, vec, t, rt2, n, second);
     Ok(())
 }
 
@@ -159,6 +182,7 @@ fn load_couple(
 /// that is refused changes neither.
 pub(crate) fn couple(
     core: &mut Core,
+    vec: &mut VecRegs,
     mem: &mut Mem,
     log: &mut AccessLog,
     t: Transfer,
@@ -168,13 +192,15 @@ pub(crate) fn couple(
     n: u32,
 ) -> Result<(), Trap>
     requires some { 1 ≤ n }
-    requires most { n ≤ 8 }
+    requires most { n ≤ greatest_of t }
+    requires size { IsLowSize (8 * n) }
     requires empty { log.old.items ≡ [] }
-    ensures { (after : CoreState → CoreState) (w : Vectors) → table.transferred t (table.couple rt rt2 address n) after core.old w mem.old
-        ≡ followed_by after result core.new w mem.new log.new.items }
+    ensures { (after : CoreState → CoreState) → table.transferred t (table.couple rt rt2 address n) after core.old vec.old mem.old
+        ≡ followed_by after result core.new vec.new mem.new log.new.items }
 {
     match t {
-        Transfer::Store => store_couple(core, mem, log, rt, rt2, address, n),
-        _ => load_couple(core, mem, log, t, rt, rt2, address, n),
+        Transfer::Store | Transfer::StoreVector =>
+            store_couple(core, vec, mem, log, t, rt, rt2, address, n),
+        _ => load_couple(core, vec, mem, log, t, rt, rt2, address, n),
     }
 }

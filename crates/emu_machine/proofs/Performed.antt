@@ -1,5 +1,6 @@
 -- An instruction that asks for a call is svc, and does nothing else.
 use Rattle.std.proofs.Common.{◌≡◌, ℕ, Bool, true, false, List, [], Option, Some, None, if◌then◌else◌, refl, ap, sym, ◌∙◌}
+use Rattle.std.specs.Prelude.{◌||◌, is_some}
 use Rattle.a64_insn.specs.declared.form.A64Form.{A64Form}
 use Rattle.a64_insn.specs.declared.form.A64Form.TheVariants.{Branch, BranchCond, Compare, Test, BranchReg, Except}
 use Rattle.a64_insn.specs.declared.ops.BranchOp.TheVariants.{B, Bl}
@@ -19,14 +20,14 @@ use Rattle.emu_run.specs.declared.insn.Insn.{Insn}
 use Rattle.emu_run.specs.declared.insn.Insn.TheVariants.{A64, Sve}
 use Rattle.a64_effects.specs.Effects as a64
 use Rattle.a64_effects.specs.declared.transfer.Transfer.{Transfer}
-use Rattle.a64_effects.specs.declared.transfer.Transfer.TheVariants.{Store, Load, LoadSigned, LoadSigned32, Prefetch}
+use Rattle.a64_effects.specs.declared.transfer.Transfer.TheVariants.{Store, Load, LoadSigned, LoadSigned32, Prefetch, StoreVector, LoadVector}
 use Rattle.emu_model.specs.Done.{Done, quietly, went_well, traps}
 use Rattle.emu_model.specs.Elements.{Element, reach}
 use Rattle.a64_effects.specs.Flow.{branches_if, is_flow, is_taken, is_taken_by, digit, tested_bit, target, flow}
-use Rattle.a64_effects.specs.LoadStore.{access, behind, elements, has_sp_base, is_misaligned, load_as_far, misaligned, store_as_far, tested, transfer_of, transferred, unless_misaligned}
+use Rattle.a64_effects.specs.LoadStore.{access, behind, elements, has_sp_base, is_misaligned, load_as_far, loaded_to, misaligned, store_as_far, stored_to, tested, transfer_of, transferred, unless_misaligned}
 use Rattle.a64_effects.specs.Scalar.{is_data, operand, scalar, width_of}
 use Rattle.emu_run.specs.Step.{performed}
-use Rattle.emu_machine.specs.Machines.{MachineState, is_svc}
+use Rattle.emu_machine.specs.Machines.{MachineState, has_ended, is_svc}
 
 -- this effect is no call
 abbrev IsOther : Effect → Type 0
@@ -36,20 +37,28 @@ module _ (c : Core) (v : Vectors) (m : Memory) where
   -- ---- loads and stores ask for none
 
   module _ (after : Core → Core) where
-    stored_is_other : (stop : Option ℕ) (es : List Element) → IsOther (store_as_far stop es after c v m).effect
-    stored_is_other None es = λ h. cc
-    stored_is_other (Some a) es = λ h. cc
+    stored_is_other : (t : Transfer) (stop : Option ℕ) (es : List Element) → IsOther (store_as_far t stop es after c v m).effect
+    stored_is_other t None es = λ h. cc
+    stored_is_other t (Some a) es = λ h. cc
 
     loaded_is_other : (t : Transfer) (stop : Option ℕ) (es : List Element) → IsOther (load_as_far t stop es after c v m).effect
     loaded_is_other t None es = λ h. cc
     loaded_is_other t (Some a) es = λ h. cc
 
+    stored_to_is_other : (t : Transfer) (es : List Element) → IsOther (stored_to t (reach m WriteKind es) after c v m).effect
+    stored_to_is_other t es = stored_is_other t (reach m WriteKind es).stop (reach m WriteKind es).done
+
+    loaded_to_is_other : (t : Transfer) (es : List Element) → IsOther (loaded_to t (reach m ReadKind es) after c v m).effect
+    loaded_to_is_other t es = loaded_is_other t (reach m ReadKind es).stop (reach m ReadKind es).done
+
     transferred_is_other : (t : Transfer) (es : List Element) → IsOther (transferred t es after c v m).effect
-    transferred_is_other Store es = stored_is_other (reach m WriteKind es).stop (reach m WriteKind es).done
-    transferred_is_other Load es = loaded_is_other Load (reach m ReadKind es).stop (reach m ReadKind es).done
-    transferred_is_other LoadSigned es = loaded_is_other LoadSigned (reach m ReadKind es).stop (reach m ReadKind es).done
-    transferred_is_other LoadSigned32 es = loaded_is_other LoadSigned32 (reach m ReadKind es).stop (reach m ReadKind es).done
-    transferred_is_other Prefetch es = loaded_is_other Prefetch (reach m ReadKind es).stop (reach m ReadKind es).done
+    transferred_is_other Store es = stored_to_is_other Store es
+    transferred_is_other StoreVector es = stored_to_is_other StoreVector es
+    transferred_is_other Load es = loaded_to_is_other Load es
+    transferred_is_other LoadSigned es = loaded_to_is_other LoadSigned es
+    transferred_is_other LoadSigned32 es = loaded_to_is_other LoadSigned32 es
+    transferred_is_other Prefetch es = loaded_to_is_other Prefetch es
+    transferred_is_other LoadVector es = loaded_to_is_other LoadVector es
 
   unless_is_other : (o : Option ℕ) (d : Done) → IsOther d.effect → IsOther (unless_misaligned o c v m d).effect
   unless_is_other None d other = other
@@ -131,3 +140,11 @@ machine_of c vectors m brk steps ended l failed = record { parts = record { core
 pub same_machine : (c d : Core) (v w : Vectors) (m n : Memory) (brk : Break) (steps : ℕ) (ended : Option Ended) (k l : List Access) (failed : Bool) → d ≡ c → w ≡ v → n ≡ m → l ≡ k
     → machine_of d w n brk steps ended l failed ≡ machine_of c v m brk steps ended k failed
 same_machine c d v w m n brk steps ended k l failed core vectors memory accesses = cc
+
+-- a machine that hasn't ended hasn't failed
+pub not_failed : (m : MachineState) → has_ended m ≡ false → m.failed ≡ false
+not_failed m going = by_end (is_some m.parts.ended) going
+  where
+    by_end : (b : Bool) → (b || m.failed) ≡ false → m.failed ≡ false
+    by_end true is = cc
+    by_end false is = is

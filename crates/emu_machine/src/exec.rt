@@ -15,7 +15,7 @@ pub fn runs(insn: &Insn) -> bool
 {
     match insn {
         Insn::A64(insn) => a64_data::is_data(insn) || a64_flow::is_own(insn),
-        Insn::Sve(_) => false,
+        Insn::Sve(insn) => sve_data::is_own(insn),
     }
 }
 
@@ -33,7 +33,7 @@ pub fn perform(
 {
     match insn {
         Insn::A64(insn) => perform_a64(core, vec, memory, log, insn),
-        Insn::Sve(_) => Effect::Next,
+        Insn::Sve(insn) => sve_data::exec(core, vec, insn),
     }
 }
 
@@ -52,6 +52,6 @@ fn perform_a64(
     if a64_data::is_data(insn) {
         a64_data::exec(core, insn)
     } else {
-        a64_flow::exec(core, memory, log, insn)
+        a64_flow::exec(core, vec, memory, log, insn)
     }
 }

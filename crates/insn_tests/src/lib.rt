@@ -12,4 +12,6 @@ mod flow;
 #[cfg(test)]
 mod registers;
 #[cfg(test)]
+mod vectors;
+#[cfg(test)]
 mod words;
