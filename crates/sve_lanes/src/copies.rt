@@ -68,14 +68,14 @@ fn copy_imm(
 {
     let e = lane_bits(size);
     let n = wide_signed(e, sh, imm8);
-    copied(vec, m, e, pg, zd, &Number { n });
+    copied(vec, m, e, pg, zd, Number { n });
 }
 
 fn prefix_p(core: &Core, vec: &mut VecRegs, size: U<2>, m: bool, pg: PredLow, zn: Reg, zd: Reg)
     ensures { vec.new ≡ table.vector_data (SveForm.PrefixP size m pg zn zd) core.now vec.old }
 {
     let lanes = LaneOf { r: zn };
-    copied(vec, m, lane_bits(size), governing(pg), zd, &lanes);
+    copied(vec, m, lane_bits(size), governing(pg), zd, lanes);
 }
 
 fn prefix(core: &Core, vec: &mut VecRegs, zn: Reg, zd: Reg)

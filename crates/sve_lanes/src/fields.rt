@@ -4,7 +4,7 @@ ghost use Rattle.emu_bits.specs.Bitmask.{bitmask_of};
 ghost use Rattle.emu_bits.specs.Fields.{bit};
 ghost use Rattle.sve_effects.specs.ElementLoop as model;
 ghost use Rattle.vec_model.specs.Lanes.{IsLaneSize};
-ghost use Rattle.sve_effects.specs.VectorData as rows;
+ghost use Rattle.sve_effects.specs.VectorData as table;
 
 use emu_bits::{Pred, PredLow, U, bitmask, low_bits, sext, sign_extended};
 use sve_effects::ElementOp;
@@ -31,7 +31,7 @@ pub fn governing(pg: PredLow) -> Pred
 
 /// An immediate, shifted to the left by 8 where sh is set.
 pub fn wide_unsigned(sh: bool, imm: U<8>) -> u64
-    ensures { result ≡ rows.wide_unsigned sh imm }
+    ensures { result ≡ table.wide_unsigned sh imm }
 {
     let imm = u64::from(imm.get());
     if sh { imm * 256 } else { imm }
@@ -40,7 +40,7 @@ pub fn wide_unsigned(sh: bool, imm: U<8>) -> u64
 /// A signed immediate, shifted to the left by 8 where sh is set, in lanes of e bits.
 pub fn wide_signed(e: u32, sh: bool, imm: U<8>) -> u64
     requires { IsLaneSize e }
-    ensures { result ≡ rows.wide_signed e sh imm }
+    ensures { result ≡ table.wide_signed e sh imm }
 {
     let imm = sext(u64::from(imm.get()), 8);
     let number = if sh { imm * 256 } else { imm };
@@ -50,7 +50,7 @@ pub fn wide_signed(e: u32, sh: bool, imm: U<8>) -> u64
 /// An immediate in lanes of e bits, signed or unsigned.
 pub fn lane_immediate(is_signed: bool, e: u32, imm: U<8>) -> u64
     requires { IsLaneSize e }
-    ensures { result ≡ rows.lane_immediate is_signed e imm }
+    ensures { result ≡ table.lane_immediate is_signed e imm }
 {
     let imm = u64::from(imm.get());
     if is_signed {
@@ -62,7 +62,7 @@ pub fn lane_immediate(is_signed: bool, e: u32, imm: U<8>) -> u64
 
 /// The size of lanes and the amount of an immediate shift: tszh:tszl.
 pub fn tsz_of(tszh: U<2>, tszl: U<2>) -> u32
-    ensures value { result ≡ rows.tsz_of tszh tszl }
+    ensures value { result ≡ table.tsz_of tszh tszl }
     ensures small { result < 16 }
 {
     tszh.get() * 4 + tszl.get()
@@ -71,7 +71,7 @@ pub fn tsz_of(tszh: U<2>, tszl: U<2>) -> u32
 /// The bits of the lanes of an immediate shift.
 pub fn shift_bits(tsz: u32) -> u32
     requires { tsz < 16 }
-    ensures value { result ≡ rows.shift_bits tsz }
+    ensures value { result ≡ table.shift_bits tsz }
     ensures size { IsLaneSize result }
 {
     if tsz >= 8 {
@@ -88,7 +88,7 @@ pub fn shift_bits(tsz: u32) -> u32
 /// The amount of an immediate shift.
 pub fn shift_amount(op: ElementOp, tsz: u32, imm3: U<3>) -> u64
     requires { tsz < 16 }
-    ensures { result ≡ rows.shift_amount op tsz imm3 }
+    ensures { result ≡ table.shift_amount op tsz imm3 }
 {
     let e = shift_bits(tsz);
     let number = tsz * 8 + imm3.get();
@@ -101,7 +101,7 @@ pub fn shift_amount(op: ElementOp, tsz: u32, imm3: U<3>) -> u64
 
 /// A bitmask of 64 bits.
 pub fn bitmask_64(n: bool, immr: U<6>, imms: U<6>) -> u64
-    ensures { result ≡ rows.mask_of (bitmask_of 64 (bit n) immr imms) }
+    ensures { result ≡ table.mask_of (bitmask_of 64 (bit n) immr imms) }
 {
     match bitmask(n, immr.get(), imms.get(), 64) {
         Some(m) => m,

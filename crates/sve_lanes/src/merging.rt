@@ -62,7 +62,7 @@ fn binary(core: &Core, vec: &mut VecRegs, op: BinaryOp, size: U<2>, pg: PredLow,
         zn: zdn,
         second: LaneOf { r: zm },
     };
-    merging(vec, lane_bits(size), governing(pg), zdn, &lanes);
+    merging(vec, lane_bits(size), governing(pg), zdn, lanes);
 }
 
 fn binary_wide(
@@ -82,7 +82,7 @@ fn binary_wide(
         zn: zdn,
         second: CoveringLane { r: zm },
     };
-    merging(vec, lane_bits(size), governing(pg), zdn, &lanes);
+    merging(vec, lane_bits(size), governing(pg), zdn, lanes);
 }
 
 fn shift_imm(
@@ -106,12 +106,12 @@ fn shift_imm(
         zn: zdn,
         second: Number { n },
     };
-    merging(vec, shift_bits(tsz), governing(pg), zdn, &lanes);
+    merging(vec, shift_bits(tsz), governing(pg), zdn, lanes);
 }
 
 fn unary(core: &Core, vec: &mut VecRegs, op: UnaryOp, size: U<2>, pg: PredLow, zn: Reg, zd: Reg)
     ensures { vec.new ≡ table.vector_data (SveForm.Unary op size pg zn zd) core.now vec.old }
 {
     let lanes = OneLane { op, zn };
-    merging(vec, lane_bits(size), governing(pg), zd, &lanes);
+    merging(vec, lane_bits(size), governing(pg), zd, lanes);
 }

@@ -67,7 +67,7 @@ fn mul_add_z(
         zn,
         zm,
     };
-    merging(vec, lane_bits(size), governing(pg), zda, &lanes);
+    merging(vec, lane_bits(size), governing(pg), zda, lanes);
 }
 
 fn mul_add_d(
@@ -88,7 +88,7 @@ fn mul_add_d(
         zn: zdn,
         zm,
     };
-    merging(vec, lane_bits(size), governing(pg), zdn, &lanes);
+    merging(vec, lane_bits(size), governing(pg), zdn, lanes);
 }
 
 fn dot(core: &Core, vec: &mut VecRegs, op: DotOp, size: U<2>, zm: Reg, zn: Reg, zda: Reg)
