@@ -62,7 +62,10 @@ fn spread(i: u64) -> u64
     ensures { result ≡ table.spread i }
 {
     let low = whole(i, 0) + whole(i, 1) * 0x100 + whole(i, 2) * 0x1_0000 + whole(i, 3) * 0x100_0000;
-    let high = whole(i, 4) + whole(i, 5) * 0x100 + whole(i, 6) * 0x1_0000 + whole(i, 7) * 0x100_0000;
+    let high = whole(i, 4)
+        + whole(i, 5) * 0x100
+        + whole(i, 6) * 0x1_0000
+        + whole(i, 7) * 0x100_0000;
     low + high * 0x1_0000_0000
 }
 
