@@ -1,7 +1,9 @@
+pub mod BitMoves
 pub mod Effects
 pub mod Flow
 pub mod LoadStore
 pub mod Scalar
+pub mod SoundBitMoves
 pub mod SoundEffects
 pub mod SoundFlow
 pub mod SoundLoadStore

@@ -4,6 +4,7 @@ ghost use Rattle.sve_insn.specs.declared.form.SveForm.{SveForm};
 ghost use Rattle.sve_effects.specs.Counts as table;
 ghost use Rattle.sve_effects.specs.Element.{element};
 ghost use Rattle.sve_effects.specs.ElementLoop.{lane_of, plain};
+ghost use Rattle.sve_permutes.specs.Groups.{is_count_of_lanes};
 ghost use Rattle.vec_model.specs.Lanes.{IsLaneSize};
 
 use crate::fields::lane_bits;
@@ -37,13 +38,6 @@ pub(crate) fn exec(core: &mut Core, vec: &mut VecRegs, i: &Sve)
             pattern,
             rdn,
         } => inc_x(core, vec, op, size, imm4, pattern, rdn),
-        SveForm::IncZ {
-            op,
-            size,
-            imm4,
-            pattern,
-            zdn,
-        } => inc_z(core, vec, op, size, imm4, pattern, zdn),
         SveForm::SatX {
             op,
             size,
@@ -52,6 +46,25 @@ pub(crate) fn exec(core: &mut Core, vec: &mut VecRegs, i: &Sve)
             pattern,
             rdn,
         } => sat_x(core, vec, op, size, sf, imm4, pattern, rdn),
+        SveForm::AddLength { op, rn, imm6, rd } => add_length(core, vec, op, rn, imm6, rd),
+        SveForm::ReadLength { imm6, rd } => read_length(core, vec, imm6, rd),
+        _ => of_lanes(core, vec, i),
+    }
+}
+
+/// Does a count on the lanes of a vector register.
+fn of_lanes(core: &Core, vec: &mut VecRegs, i: &Sve)
+    requires { is_count_of_lanes i.now ≡ true }
+    ensures { vec.new ≡ (table.counted i.now core.now vec.old).vectors }
+{
+    match *i.form() {
+        SveForm::IncZ {
+            op,
+            size,
+            imm4,
+            pattern,
+            zdn,
+        } => inc_z(core, vec, op, size, imm4, pattern, zdn),
         SveForm::SatZ {
             op,
             size,
@@ -59,8 +72,6 @@ pub(crate) fn exec(core: &mut Core, vec: &mut VecRegs, i: &Sve)
             pattern,
             zdn,
         } => sat_z(core, vec, op, size, imm4, pattern, zdn),
-        SveForm::AddLength { op, rn, imm6, rd } => add_length(core, vec, op, rn, imm6, rd),
-        SveForm::ReadLength { imm6, rd } => read_length(core, vec, imm6, rd),
         _ => {}
     }
 }
