@@ -2,11 +2,11 @@
 use Rattle.std.specs.Prelude.{Bool, true, false, if◌then◌else◌}
 use Rattle.sve_insn.specs.declared.form.SveForm.{SveForm}
 use Rattle.emu_model.specs.Access.{Memory}
-use Rattle.emu_model.specs.Done.{Done, Registers}
+use Rattle.emu_model.specs.Done.{Done, Registers, went_on_with}
 use Rattle.emu_model.specs.SoundDone.{IsSoundDone, IsSoundRegisters, well_sound}
 use Rattle.emu_model.specs.State.{Core, Vectors, IsSoundCore, IsSoundVectors, IsSoundMemory}
 use Rattle.sve_effects.specs.Across.{across}
-use Rattle.sve_effects.specs.Effects.{is_data, after_data, went_on_with, performed}
+use Rattle.sve_effects.specs.Effects.{is_data, after_data, performed}
 use Rattle.sve_effects.specs.FirstFault.{first_fault}
 use Rattle.sve_effects.specs.PredicateRows.{is_predicate, predicate}
 use Rattle.sve_effects.specs.SoundPermute.{across_sound}
@@ -20,7 +20,7 @@ module _ (c : Core) (v : Vectors) (m : Memory) (s : IsSoundCore c) (u : IsSoundV
   data_sound : (form : SveForm) → IsSoundRegisters (after_data form c v)
   data_sound form = elim (is_vector_data form) as (λ b. IsSoundRegisters (if b then record { core = c; vectors = vector_data form c v } else across form c v)) [
     | true ↦ record { core = s; vectors = vector_data_sound form c v u }
-    | false ↦ let p = across_sound c v s u form in record { core = p.0; vectors = p.1 }
+    | false ↦ across_sound c v s u form
   ]
 
   went_on_sound : (r : Registers) → IsSoundRegisters r → IsSoundDone (went_on_with r m)
