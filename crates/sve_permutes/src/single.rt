@@ -1,6 +1,8 @@
 //! Single lanes, named by the last active one.
-ghost use Rattle.std.specs.Prelude.{◌≡◌, ◌<◌, ◌%◌, ◌^◌};
+ghost use Rattle.std.specs.Prelude.{◌≡◌, ◌<◌, ◌/◌, IfSome};
 ghost use Rattle.sve_insn.specs.declared.form.SveForm.{SveForm};
+ghost use Rattle.sve_effects.specs.ElementLoop.{lane_of};
+ghost use Rattle.sve_effects.specs.Permute as model;
 ghost use Rattle.sve_effects.specs.PermuteRows as table;
 ghost use Rattle.vec_model.specs.Lanes.{IsLaneSize, with_low};
 
@@ -82,8 +84,9 @@ fn to_all_lanes(core: &Core, vec: &mut VecRegs, after: bool, e: u32, pg: Pred, z
     requires { IsLaneSize e }
     ensures { vec.new ≡ (table.cond_last_lanes after e pg zm zdn core.now vec.old).vectors }
 {
-    if last_active(vec, e, pg).is_some() {
-        let x = last_value(vec, e, after, pg, zm);
+    let found = last_active(vec, e, pg);
+    if found.is_some() {
+        let x = lane_named(vec, e, after, found, zm);
         filled(vec, e, x, zdn);
     }
 }
@@ -91,11 +94,9 @@ fn to_all_lanes(core: &Core, vec: &mut VecRegs, after: bool, e: u32, pg: Pred, z
 /// The lane that the last active one names.
 fn last_value(vec: &VecRegs, e: u32, after: bool, pg: Pred, zn: Reg) -> u64
     requires { IsLaneSize e }
-    ensures value { result ≡ table.last_value after e pg zn vec.now }
-    ensures small { result < 2 ^ e }
+    ensures { result ≡ table.last_value after e pg zn vec.now }
 {
-    let n = vec.length().bits() / e;
-    vec.lane(zn, e, lane_by_last(after, n, last_active(vec, e, pg)))
+    lane_named(vec, e, after, last_active(vec, e, pg), zn)
 }
 
 /// The same where a lane is active, else another number.
@@ -103,11 +104,22 @@ fn last_value_or(vec: &VecRegs, other: u64, after: bool, e: u32, pg: Pred, zn: R
     requires { IsLaneSize e }
     ensures { result ≡ table.last_value_or other after e pg zn vec.now }
 {
-    if last_active(vec, e, pg).is_some() {
-        last_value(vec, e, after, pg, zn)
+    let found = last_active(vec, e, pg);
+    if found.is_some() {
+        lane_named(vec, e, after, found, zn)
     } else {
         other
     }
+}
+
+/// The lane that a last active one names, or the lack of one.
+fn lane_named(vec: &VecRegs, e: u32, after: bool, found: Option<u32>, zn: Reg) -> u64
+    requires size { IsLaneSize e }
+    requires within { IfSome found (λ k. k < vec.now.bits / e) }
+    ensures { result ≡ lane_of e vec.now zn (model.lane_by_last after (vec.now.bits / e) found) }
+{
+    let n = vec.length().bits() / e;
+    vec.lane(zn, e, lane_by_last(after, n, found))
 }
 
 /// Writes the low e bits of a vector register, and zeros above.
