@@ -114,3 +114,10 @@ pub one_field : (e : Esize) (m k : ℕ) → k < lanes_of (size_of e) m → set (
 one_field e m k h =
     ap (λ (p : List Bool). set p (k * (size_of e / 8)) true) (no_fields (size_of e / 8) m (λ j. false) (λ j. refl))
     ∙ field_set (size_of e / 8) m k (λ j. false) (λ j. nat_eq j k) (some_bits e) (lane_within e k m h) (alone k) (not_alone k)
+
+-- no lane more is set
+pub field_kept : (w m k : ℕ) (f g : ℕ → Bool) → f k ≡ g k → ((j : ℕ) → j ≢ k → f j ≡ g j) → each m (field_bit w f) ≡ each m (field_bit w g)
+field_kept w m k f g here others = each_same m (field_bit w f) (field_bit w g) false (λ i h. elim (cases_eq (i / w) k) [
+  | inl same ↦ field_same w f g i (ap f same ∙ here ∙ ap g (sym same))
+  | inr other ↦ field_same w f g i (others (i / w) other)
+])

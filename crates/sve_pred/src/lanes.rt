@@ -1,31 +1,40 @@
 //! Predicates lane by lane: the next lane, patterns, loops and counts.
-ghost use Rattle.std.specs.Prelude.{◌≡◌, ◌⊎◌, ◌≤◌, true};
+ghost use Rattle.std.specs.Prelude.{◌≡◌, ◌⊎◌, ◌≤◌, ◌/◌, true, length};
 ghost use Rattle.emu_model.specs.State.{read_x};
 ghost use Rattle.sve_effects.specs.Element.{element};
 ghost use Rattle.sve_effects.specs.ElementLoop.{lane_bits, lane_of};
-ghost use Rattle.sve_effects.specs.PredicateRows.{predicate, set_lanes_of, ptrue_flags, while_of, width_of, counted_by, terminates, termination_flags};
+ghost use Rattle.sve_effects.specs.PredicateRows.{predicate, predicate_bits, set_lanes_of, ptrue_flags, while_of, while_result, width_of, counted_by, terminates, termination_flags};
+ghost use Rattle.sve_effects.specs.Pattern.{pattern_count};
+ghost use Rattle.sve_effects.specs.Predicate.{only_next, lanes_below};
 ghost use Rattle.sve_insn.specs.declared.form.SveForm.TheVariants as form;
-ghost use Rattle.vec_model.specs.Lanes.{IsLaneSize, with_lanes};
+ghost use Rattle.sve_pred.specs.Groups.{is_by_lanes};
+ghost use Rattle.vec_model.specs.Lanes.{IsLaneSize, read_p, with_lanes};
 
-use crate::registers::{bits, esize, read, test, write};
+use crate::registers::{bits, esize, read, test_lanes, write};
 use arrayvec::ArrayVec;
 use core_regs::Core;
 use emu_bits::{Flags, Pred, Reg, U, low_bits};
-use pred_bits::{WhileTest, lanes_below, next, ones, pattern_count, while_bits};
+use pred_bits::{PredBits, WhileTest, lanes_below, next, ones, pattern_count, while_bits};
 use sve_elements::{ElementOp, apply};
-use sve_insn::{CtermOp, IncPOp, PtrueOp, WhileOp};
+use sve_insn::{CtermOp, IncPOp, PtrueOp, Sve, SveForm, WhileOp};
 use vec_regs::VecRegs;
 
+/// The result of `pnext`.
+#[tactic(auto, using(crate::proofs::Lengths::lengths))]
+fn next_bits(vec: &VecRegs, size: U<2>, pg: Pred, pdn: Pred) -> PredBits
+    ensures value { result ≡ only_next (lane_bits size) (predicate_bits vec.now) (read_p vec.now pg) (read_p vec.now pdn) }
+    ensures length { length result ≡ predicate_bits vec.now }
+{
+    next(&read(vec, pg), &read(vec, pdn), esize(size))
+}
+
 /// `pnext`.
-#[tactic(auto, using(crate::proofs::Lengths::length_given))]
 pub fn next_lane(core: &mut Core, vec: &mut VecRegs, size: U<2>, pg: Pred, pdn: Pred)
     ensures registers { core.new ≡ (predicate (form.Next size pg pdn) core.old vec.old).core }
     ensures vectors { vec.new ≡ (predicate (form.Next size pg pdn) core.old vec.old).vectors }
 {
-    let e = esize(size);
-    let g = read(vec, pg);
-    let bits = next(&g, &read(vec, pdn), e);
-    test(core, true, &g, &bits, e);
+    let bits = next_bits(vec, size, pg, pdn);
+    test_lanes(core, true, &read(vec, pg), &bits, size);
     write(vec, pdn, &bits);
 }
 
@@ -47,15 +56,23 @@ fn ptrue_flags(op: PtrueOp) -> bool
     }
 }
 
+/// The result of `ptrue`.
+#[tactic(auto, using(crate::proofs::Lengths::lengths))]
+fn ptrue_bits(vec: &VecRegs, size: U<2>, pattern: U<5>) -> PredBits
+    ensures value { result ≡ lanes_below (lane_bits size) (predicate_bits vec.now) (pattern_count pattern (vec.now.bits / lane_bits size)) }
+    ensures length { length result ≡ predicate_bits vec.now }
+{
+    let e = esize(size);
+    lanes_below(pattern_count(pattern, vec.length().lanes(e)), e, bits(vec))
+}
+
 /// `ptrue`, `ptrues`.
-#[tactic(auto, using(crate::proofs::Lengths::length_given))]
 pub fn ptrue(core: &mut Core, vec: &mut VecRegs, op: PtrueOp, size: U<2>, pattern: U<5>, pd: Pred)
     ensures registers { core.new ≡ (predicate (form.Ptrue op size pattern pd) core.old vec.old).core }
     ensures vectors { vec.new ≡ (predicate (form.Ptrue op size pattern pd) core.old vec.old).vectors }
 {
-    let e = esize(size);
-    let bits = lanes_below(pattern_count(pattern, vec.length().lanes(e)), e, bits(vec));
-    test(core, ptrue_flags(op), &bits, &bits, e);
+    let bits = ptrue_bits(vec, size, pattern);
+    test_lanes(core, ptrue_flags(op), &bits, &bits, size);
     write(vec, pd, &bits);
 }
 
@@ -128,15 +145,48 @@ fn condition(op: WhileOp) -> WhileTest
     }
 }
 
-/// `whilelt`, `whilele`, `whilelo`, `whilels`.
+/// The result of a loop.
+#[tactic(auto, using(crate::proofs::Lengths::lengths))]
+fn loop_bits(
+    core: &Core,
+    vec: &VecRegs,
+    op: WhileOp,
+    size: U<2>,
+    rm: Reg,
+    sf: bool,
+    rn: Reg,
+) -> PredBits
+    ensures value { result ≡ while_result op (lane_bits size) sf rn rm core.now vec.now }
+    ensures length { length result ≡ predicate_bits vec.now }
+{
+    let _length = vec.length().bits();
+    while_bits(
+        condition(op),
+        core.x(rn),
+        core.x(rm),
+        width(sf),
+        esize(size),
+        bits(vec),
+    )
+}
+
+/// `whilelt`, `whilele`, `whilelo`, `whilels`: the flags are by the test of all bits.
 #[tactic(auto, using(crate::proofs::Lengths::length_given))]
-pub fn while_lanes(core: &mut Core, vec: &mut VecRegs, op: WhileOp, size: U<2>, rm: Reg, sf: bool, rn: Reg, pd: Pred)
+pub fn while_lanes(
+    core: &mut Core,
+    vec: &mut VecRegs,
+    op: WhileOp,
+    size: U<2>,
+    rm: Reg,
+    sf: bool,
+    rn: Reg,
+    pd: Pred,
+)
     ensures registers { core.new ≡ (predicate (form.While op size rm sf rn pd) core.old vec.old).core }
     ensures vectors { vec.new ≡ (predicate (form.While op size rm sf rn pd) core.old vec.old).vectors }
 {
-    let e = esize(size);
-    let set = while_bits(condition(op), core.x(rn), core.x(rm), width(sf), e, bits(vec));
-    test(core, true, &ones(bits(vec)), &set, e);
+    let set = loop_bits(core, vec, op, size, rm, sf, rn);
+    test_lanes(core, true, &ones(bits(vec)), &set, size);
     write(vec, pd, &set);
 }
 
@@ -164,4 +214,34 @@ pub fn cterm(core: &mut Core, op: CtermOp, sf: bool, rm: Reg, rn: Reg)
         c: flags.c,
         v: !ends && !flags.c,
     });
+}
+
+/// Does an instruction of these rows.
+pub fn exec(core: &mut Core, vec: &mut VecRegs, i: &Sve)
+    requires { is_by_lanes i.now ≡ true }
+    ensures registers { core.new ≡ (predicate i.now core.old vec.old).core }
+    ensures vectors { vec.new ≡ (predicate i.now core.old vec.old).vectors }
+{
+    match *i.form() {
+        SveForm::Next { size, pg, pdn } => next_lane(core, vec, size, pg, pdn),
+        SveForm::Ptrue {
+            op,
+            size,
+            pattern,
+            pd,
+        } => ptrue(core, vec, op, size, pattern, pd),
+        SveForm::CountP { size, pg, pn, rd } => count_p(core, vec, size, pg, pn, rd),
+        SveForm::IncP { op, size, pm, rdn } => inc_p(core, vec, op, size, pm, rdn),
+        SveForm::IncPZ { op, size, pm, zdn } => inc_p_z(vec, op, size, pm, zdn),
+        SveForm::While {
+            op,
+            size,
+            rm,
+            sf,
+            rn,
+            pd,
+        } => while_lanes(core, vec, op, size, rm, sf, rn, pd),
+        SveForm::Cterm { op, sf, rm, rn } => cterm(core, op, sf, rm, rn),
+        _ => {}
+    }
 }

@@ -74,6 +74,14 @@ pub fn esize(size: U<2>) -> Esize
     }
 }
 
+/// The same with the size of lanes that a field names.
+pub fn test_lanes(core: &mut Core, sets: bool, g: &PredBits, outcome: &PredBits, size: U<2>)
+    requires { length outcome.now ≡ length g.now }
+    ensures { core.new ≡ after_test sets (lane_bits size) (length g.now) g.now outcome.now core.old }
+{
+    test(core, sets, g, outcome, esize(size));
+}
+
 /// A low predicate register as one of all.
 pub fn governing(pg: PredLow) -> Pred
     ensures { result ≡ pg }
