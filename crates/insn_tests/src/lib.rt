@@ -14,8 +14,6 @@ mod flow;
 #[cfg(test)]
 mod registers;
 #[cfg(test)]
-mod vector_memory;
-#[cfg(test)]
 mod vectors;
 #[cfg(test)]
 mod words;

@@ -46,12 +46,18 @@ fn a64_effect(state: &mut State, insn: &A64) -> Option<Effect> {
         let mut log = AccessLog::new();
         return Some(a64_flow::exec(&mut state.core, &mut state.vec, &mut state.memory, &mut log, insn));
     }
+    if bit_moves::is_own(insn) {
+        return Some(bit_moves::exec(&mut state.core, &mut state.vec, insn));
+    }
     None
 }
 
 fn sve_effect(state: &mut State, insn: &Sve) -> Option<Effect> {
     if sve_data::is_own(insn) {
         return Some(sve_data::exec(&mut state.core, &mut state.vec, insn));
+    }
+    if sve_pred::is_own(insn) {
+        return Some(sve_pred::exec(&mut state.core, &mut state.vec, insn));
     }
     None
 }
