@@ -117,10 +117,11 @@ is_unsigned test = false
 abbrev pub widened : ElementTest → ℕ → ℕ → ℕ
 widened test e a = if is_unsigned test then a else sign_extended 64 e a
 
--- the active lanes of zn whose test at w bits with b k holds; an inactive lane is 0
+-- the active lanes whose test holds; an inactive lane is 0
 abbrev pub compared : ℕ → ℕ → (ℕ → Bool) → Vectors → List Bool
 compared e pg test v = fields e (predicate_bits v) (λ k. if is_active e v pg k then test k else false)
 
+-- they are the result, and the flags are those of PredTest(pg, result, e)
 abbrev pub put_compared : ℕ → ℕ → ℕ → (ℕ → Bool) → Core → Vectors → Registers
 put_compared e pg pd test c v = put true e (read_p v pg) pd (compared e pg test v) c v
 

@@ -1,12 +1,11 @@
 -- Instructions on predicates keep the registers sound.
 use Rattle.std.specs.Prelude.{ℕ, Bool, true, false, List, replicate}
-use Rattle.std.proofs.Common.{◌∙◌, arith}
+use Rattle.std.proofs.Common.{arith}
 use Rattle.std.proofs.lemmas.List.{length-replicate}
 use Rattle.sve_insn.specs.declared.form.SveForm.{SveForm}
 use Rattle.sve_insn.specs.declared.form.SveForm.TheVariants.{CmpVec, CmpWide, CmpUImm, CmpSImm, LogicP, SelectP, Break, BreakPair, BreakNext, Ptest, First, Next, Ptrue, Pfalse, ReadFfr, ReadFfrAll, WriteFfr, CountP, IncP, IncPZ, While, Cterm}
 use Rattle.sve_insn.specs.declared.ops.WriteFfrOp.{WriteFfrOp}
 use Rattle.sve_insn.specs.declared.ops.WriteFfrOp.TheVariants.{Setffr, Wrffr}
-use Rattle.emu_model.specs.Done.{Registers}
 use Rattle.emu_model.specs.Lists.{each, length-each}
 use Rattle.emu_model.specs.Sound.{with_x_sound, flags_sound}
 use Rattle.emu_model.specs.State.{Core, Vectors, read_x, HasLength, IsSoundCore, IsSoundVectors}
