@@ -118,12 +118,11 @@ pub(crate) fn single(
 {
     match t {
         Transfer::Prefetch => Ok(()),
-        Transfer::Store | Transfer::StoreVector =>
-            store_one(core, vec, mem, log, t, rt, address, n),
-        Transfer::Load
-        | Transfer::LoadSigned
-        | Transfer::LoadSigned32
-        | Transfer::LoadVector => load_one(core, vec, mem, log, t, rt, address, n),
+        Transfer::Store | Transfer::StoreVector => store_one(
+            core, vec, mem, log, t, rt, address, n,
+        ),
+        Transfer::Load | Transfer::LoadSigned | Transfer::LoadSigned32 | Transfer::LoadVector =>
+            load_one(core, vec, mem, log, t, rt, address, n),
     }
 }
 
@@ -199,8 +198,9 @@ pub(crate) fn couple(
         ≡ followed_by after result core.new vec.new mem.new log.new.items }
 {
     match t {
-        Transfer::Store | Transfer::StoreVector =>
-            store_couple(core, vec, mem, log, t, rt, rt2, address, n),
+        Transfer::Store | Transfer::StoreVector => store_couple(
+            core, vec, mem, log, t, rt, rt2, address, n,
+        ),
         _ => load_couple(core, vec, mem, log, t, rt, rt2, address, n),
     }
 }

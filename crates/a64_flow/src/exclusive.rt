@@ -11,10 +11,10 @@ use crate::alignment::{test_multiple, test_sp};
 use crate::elements::single;
 use crate::fields::{is_kept, ordered_transfer};
 use crate::numbers::bytes_of;
+use a64_effects::Transfer;
 use a64_insn::{A64, A64Form, OrderedOp};
 use core_regs::{Core, Trap};
 use emu_bits::{Reg, U};
-use a64_effects::Transfer;
 use guest_mem::{AccessLog, Mem};
 use vec_regs::VecRegs;
 

@@ -5,9 +5,9 @@ ghost use Rattle.a64_flow.specs.Ends.{greatest_of};
 ghost use Rattle.vec_regs.specs.Packed.{IsLowSize};
 
 use crate::numbers::bytes_of;
+use a64_effects::Transfer;
 use a64_insn::OrderedOp;
 use emu_bits::{Reg, U};
-use a64_effects::Transfer;
 
 /// By V, size and opc: of a vector register a store or a load; of a general register a store, or a load with zeros above or with its
 /// sign to 64 or 32 bits, and a prefetch at size 3.

@@ -12,10 +12,10 @@ use crate::branches::target;
 use crate::elements::single;
 use crate::fields::{access_bytes, has_sp, literal_bytes, literal_transfer, transfer};
 use crate::numbers::{indexed, near};
+use a64_effects::Transfer;
 use a64_insn::{A64, A64Form};
 use core_regs::{Core, Trap};
 use emu_bits::{Reg, U};
-use a64_effects::Transfer;
 use guest_mem::{AccessLog, Mem};
 use vec_regs::VecRegs;
 
@@ -58,7 +58,9 @@ pub(crate) fn exec(
             rn,
             rt,
         } => ls_reg(core, vec, mem, log, size, v, opc, rm, ext, s, rn, rt),
-        A64Form::LsLiteral { opc, v, imm19, rt } => ls_literal(core, vec, mem, log, opc, v, imm19, rt),
+        A64Form::LsLiteral { opc, v, imm19, rt } => ls_literal(
+            core, vec, mem, log, opc, v, imm19, rt,
+        ),
         _ => Ok(()),
     }
 }

@@ -31,7 +31,12 @@ fn divisions_have_an_answer_for_0_and_for_the_least(rt: HostRuntime) {
 #[test]
 fn a_shift_takes_its_whole_amount(rt: HostRuntime) {
     // lsl z0.s, p0/m, z0.s, z1.s
-    let lanes = words_after(rt.alloc(), 0x0493_8020, [1, 1, 1, 1], [31, 32, 1_048_576, 0]);
+    let lanes = words_after(
+        rt.alloc(),
+        0x0493_8020,
+        [1, 1, 1, 1],
+        [31, 32, 1_048_576, 0],
+    );
     assert_eq!(rt; lanes, Some([0x8000_0000, 0, 0, 1]));
 }
 

@@ -141,7 +141,11 @@ fn sink(alloc: Global, most: usize, fails: bool) -> Result<MemSink, AllocError>
 }
 
 /// Runs on to so many steps in all. None where the machine has ended or has taken more.
-pub(crate) fn run_to(alloc: Global, machine: &mut Machine, steps: u64) -> Result<Option<RunEnd>, AllocError> {
+pub(crate) fn run_to(
+    alloc: Global,
+    machine: &mut Machine,
+    steps: u64,
+) -> Result<Option<RunEnd>, AllocError> {
     if machine.ended() || machine.steps() > steps {
         return Ok(None);
     }

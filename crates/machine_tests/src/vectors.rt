@@ -59,9 +59,8 @@ fn value_of<'a>(text: &'a str, name: &str) -> Option<&'a str> {
 /// Whether a value is so many times these two digits.
 fn is_repeated(value: Option<&str>, digits: &[u8], count: usize) -> bool {
     match value {
-        Some(value) =>
-            value.len() == count.saturating_mul(2)
-                && value.as_bytes().chunks(2).all(|pair| pair == digits),
+        Some(value) => value.len() == count.saturating_mul(2)
+            && value.as_bytes().chunks(2).all(|pair| pair == digits),
         None => false,
     }
 }
@@ -71,10 +70,22 @@ fn an_add_of_all_bytes_has_a_rest(rt: HostRuntime) -> Result<(), AllocError> {
     for (bits, bytes) in [(384u32, 48usize), (1920, 240)] {
         let (end, text) = registers_of(rt.alloc(), &ADD, bits, 100)?;
         assert_eq!(rt; end, Some(RunEnd::Exit(0)), "at {bits}");
-        assert!(rt; is_repeated(value_of(&text, "z0"), b"03", bytes), "z0 at {bits}");
-        assert!(rt; is_repeated(value_of(&text, "z1"), b"02", bytes), "z1 at {bits}");
-        assert!(rt; is_repeated(value_of(&text, "p0"), b"ff", bytes / 8), "p0 at {bits}");
-        assert!(rt; is_repeated(value_of(&text, "z2"), b"00", bytes), "z2 at {bits}");
+        assert!(rt;
+            is_repeated(value_of(&text, "z0"), b"03", bytes),
+            "z0 at {bits}"
+        );
+        assert!(rt;
+            is_repeated(value_of(&text, "z1"), b"02", bytes),
+            "z1 at {bits}"
+        );
+        assert!(rt;
+            is_repeated(value_of(&text, "p0"), b"ff", bytes / 8),
+            "p0 at {bits}"
+        );
+        assert!(rt;
+            is_repeated(value_of(&text, "z2"), b"00", bytes),
+            "z2 at {bits}"
+        );
     }
     Ok(())
 }
@@ -84,7 +95,8 @@ fn an_index_is_printed_most_significant_byte_first(rt: HostRuntime) -> Result<()
     let (end, text) = registers_of(rt.alloc(), &INDEX, 384, 100)?;
     assert_eq!(rt; end, Some(RunEnd::Exit(3)));
     // byte k is 5 times k - 16, and 3 more in the lowest of each four
-    let z0 = "9b96919b87827d87736e69735f5a555f4b46414b37322d37231e19230f0a050ffbf6f1fbe7e2dde7d3cec9d3bfbab5bf";
+    let z0 =
+        "9b96919b87827d87736e69735f5a555f4b46414b37322d37231e19230f0a050ffbf6f1fbe7e2dde7d3cec9d3bfbab5bf";
     assert_eq!(rt; value_of(&text, "z0"), Some(z0));
     Ok(())
 }

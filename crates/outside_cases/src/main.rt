@@ -44,7 +44,13 @@ fn a64_effect(state: &mut State, insn: &A64) -> Option<Effect> {
     }
     if a64_flow::is_own(insn) {
         let mut log = AccessLog::new();
-        return Some(a64_flow::exec(&mut state.core, &mut state.vec, &mut state.memory, &mut log, insn));
+        return Some(a64_flow::exec(
+            &mut state.core,
+            &mut state.vec,
+            &mut state.memory,
+            &mut log,
+            insn,
+        ));
     }
     if bit_moves::is_own(insn) {
         return Some(bit_moves::exec(&mut state.core, &mut state.vec, insn));
