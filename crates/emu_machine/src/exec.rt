@@ -1,25 +1,15 @@
 //! What an instruction does to the registers and to memory, by the crate of its row.
-ghost use Rattle.std.specs.Prelude.{◌≡◌, [], true};
+ghost use Rattle.std.specs.Prelude.{◌≡◌, []};
 ghost use Rattle.a64_effects.specs.Effects as a64;
-ghost use Rattle.emu_run.specs.Step.{performed, runs};
+ghost use Rattle.emu_run.specs.Step.{performed};
 ghost use Rattle.sve_effects.specs.Effects as sve;
 
 use a64_insn::A64;
 use core_regs::{Core, Effect};
-use guest_mem::{AccessLog, Mem};
+use guest_mem::{AccessLog, ElementList, Mem};
 use insn_decode::Insn;
-use sve_insn::Sve;
+use sve_insn::{Sve, SveForm};
 use vec_regs::VecRegs;
-
-/// Whether the row of an instruction runs.
-pub fn runs(insn: &Insn) -> bool
-    ensures { result ≡ runs insn.now }
-{
-    match insn {
-        Insn::A64(_) => true,
-        Insn::Sve(insn) => sve_data::is_own(insn) || sve_pred::is_own(insn),
-    }
-}
 
 /// Does an instruction, logs the elements that it loads or stores, and says what it leaves to the step.
 pub fn perform(
@@ -29,8 +19,7 @@ pub fn perform(
     log: &mut AccessLog,
     insn: &Insn,
 ) -> Effect
-    requires runs { runs insn.now ≡ true }
-    requires empty { log.old.items ≡ [] }
+    requires { log.old.items ≡ [] }
     ensures { performed insn.now core.old vec.old memory.old ≡ record { core = core.new; vectors = vec.new; memory = memory.new; accesses = log.new.items; effect = result } }
 {
     match insn {
@@ -61,6 +50,7 @@ fn perform_a64(
 }
 
 /// Does an SVE instruction.
+#[tactic(auto, using(sve_effects::specs::Pages::others_are_first_fault))]
 fn perform_sve(
     core: &mut Core,
     vec: &mut VecRegs,
@@ -68,13 +58,19 @@ fn perform_sve(
     log: &mut AccessLog,
     insn: &Sve,
 ) -> Effect
-    requires runs { sve.runs insn.now ≡ true }
-    requires empty { log.old.items ≡ [] }
+    requires { log.old.items ≡ [] }
     ensures { sve.performed insn.now core.old vec.old memory.old ≡ record { core = core.new; vectors = vec.new; memory = memory.new; accesses = log.new.items; effect = result } }
 {
     if sve_data::is_own(insn) {
         sve_data::exec(core, vec, insn)
-    } else {
+    } else if sve_pred::is_own(insn) {
         sve_pred::exec(core, vec, insn)
+    } else if sve_loads::is_own(insn) {
+        sve_loads::exec(core, vec, memory, log, insn)
+    } else if sve_gather::is_own(insn) {
+        sve_gather::exec(core, vec, memory, log, insn)
+    } else {
+        let list = elements_of(core, vec, insn);
+        sve_ffr::exec(core, vec, memory, log, insn, &list)
     }
 }

@@ -10,7 +10,7 @@ ghost use Rattle.emu_machine.specs.Ends.{step_end, run_end, run_end_of, step_fai
 ghost use Rattle.emu_machine.specs.Machines.{has_ended, is_at_call, is_svc, MakesWrite};
 
 use crate::ends::{RunEnd, StepEnd};
-use crate::exec::{perform, runs};
+use crate::exec::perform;
 use core_regs::{Core, Effect};
 use emu_model::{Break, Ended, Kind, Trap, TrapKind};
 use guest_mem::{Access, AccessLog, Mem};
@@ -172,10 +172,6 @@ impl Machine {
         ensures counted { IfSome result (λ end. end ≡ StepEnd.Going → self.new.parts.steps ≡ self.old.parts.steps + 1) }
         ensures accesses { self.new.accesses ≡ model.executed_accesses self.old.parts (Some insn.now) }
     {
-        if !runs(insn) {
-            let pc = self.core.pc();
-            return Some(self.trap(TrapKind::Undefined, pc));
-        }
         match perform(
             &mut self.core,
             &mut self.vec,

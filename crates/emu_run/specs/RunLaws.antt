@@ -12,7 +12,7 @@ use Rattle.emu_model.specs.Start.{with_input}
 use Rattle.emu_run.specs.declared.insn.Insn.{Insn}
 use Rattle.emu_run.specs.SystemCall.{Turn, quiet, call_of, kind_of_call, CallKind, write_of, writing, Writing, exit, write, unknown, no_file, no_bytes, no_right, to_output, to_errors}
 use Rattle.emu_model.specs.Done.{Done}
-use Rattle.emu_run.specs.Step.{decode, runs, performed, trapped, finished, finish, undefined, executed, fetched, turn, taken_by, step}
+use Rattle.emu_run.specs.Step.{decode, performed, trapped, finished, finish, undefined, executed, fetched, turn, taken_by, step}
 use Rattle.emu_run.specs.Run.{goes_on, until_end, run}
 
 -- ---- the equations of a run
@@ -94,10 +94,7 @@ executed_turns : (m : Parts) (input : List ℕ) (i : Option Insn) → IsTurn m i
 executed_turns m input None = undefined_turns m input
 executed_turns m input (Some i) =
     let d : Done = performed i m.core m.vectors m.memory in
-    elim (runs i) as (λ b. IsTurn m input (if b then finish m input d else undefined m input)) [
-      | true ↦ finished_turns m input d.core d.vectors d.memory d.effect
-      | false ↦ undefined_turns m input
-    ]
+    finished_turns m input d.core d.vectors d.memory d.effect
 
 fetched_turns : (m : Parts) (input : List ℕ) (o : Option ℕ) → IsTurn m input (fetched m input o)
 fetched_turns m input (Some a) = record { counts = inl refl; takes = rest_all input }

@@ -19,7 +19,7 @@ use Rattle.vec_model.specs.AfterCall.{after_call}
 use Rattle.sve_effects.specs.SoundEffects.{performed_sound as sve_sound}
 use Rattle.vec_model.specs.SoundLanes.{after_call_sound}
 use Rattle.emu_run.specs.SystemCall.{Turn, quiet, went_on, answered_core, returned, error_answer, count_of, bytes_written, Writing, no_file, no_bytes, no_right, to_output, to_errors, writing, write_of, CallKind, exit, write, unknown, kind_of_call, call_of}
-use Rattle.emu_run.specs.Step.{decode, runs, performed, trapped, finished, finish, undefined, executed, fetched, turn, taken_by, step}
+use Rattle.emu_run.specs.Step.{decode, performed, trapped, finished, finish, undefined, executed, fetched, turn, taken_by, step}
 
 -- ---- what an instruction leaves
 
@@ -97,10 +97,7 @@ executed_sound m input None s bytes = undefined_sound m input s bytes
 executed_sound m input (Some i) s bytes =
     let d : Done = performed i m.core m.vectors m.memory in
     let sound : IsSoundDone d = performed_sound i m.core m.vectors m.memory s.core s.vectors s.memory in
-    elim (runs i) as (λ b. IsSoundTurn (if b then finish m input d else undefined m input)) [
-      | true ↦ finished_sound m input d.core d.vectors d.memory d.effect s bytes sound.core sound.vectors sound.memory sound.effect
-      | false ↦ undefined_sound m input s bytes
-    ]
+    finished_sound m input d.core d.vectors d.memory d.effect s bytes sound.core sound.vectors sound.memory sound.effect
 
 fetched_sound : (m : Parts) (input : List ℕ) (o : Option ℕ) → IfSome o IsWord → IsSoundParts m → AreBytes input → IsSoundTurn (fetched m input o)
 fetched_sound m input (Some a) w s bytes = quiet_sound (trapped m Fetch a) input (trapped_sound m Fetch a s w) bytes

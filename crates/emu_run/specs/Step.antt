@@ -1,5 +1,5 @@
 -- One step: the word at the program counter is fetched and decoded, and its instruction is done.
-use Rattle.std.specs.Prelude.{ℕ, ◌+◌, ◌%◌, Bool, true, List, [], ◌++◌, Option, Some, None, nat_eq, if◌then◌else◌}
+use Rattle.std.specs.Prelude.{ℕ, ◌+◌, ◌%◌, List, [], ◌++◌, Option, Some, None, nat_eq, if◌then◌else◌}
 use Rattle.emu_bits.specs.Rows.{instruction}
 use Rattle.a64_insn.specs.Table.{a64_table}
 use Rattle.a64_insn.specs.declared.form.A64Form.{A64Form}
@@ -39,11 +39,6 @@ first_of (Some insn) other = Some insn
 abbrev pub decode : ℕ → Option Insn
 decode w = first_of (a64 (instruction a64_table w)) (sve (instruction sve_table w))
 
--- The loads and stores of SVE don't run so far: their words are undefined.
-abbrev pub runs : Insn → Bool
-runs (A64 form) = true
-runs (Sve form) = sve_effects.runs form
-
 -- what an instruction does
 abbrev pub performed : Insn → Core → Vectors → Memory → Done
 performed (A64 form) c v m = a64_effects.performed form c v m
@@ -68,7 +63,7 @@ undefined m input = quiet (trapped m Undefined m.core.pc) input
 
 abbrev pub executed : Parts → List ℕ → Option Insn → Turn
 executed m input None = undefined m input
-executed m input (Some i) = if runs i then finish m input (performed i m.core m.vectors m.memory) else undefined m input
+executed m input (Some i) = finish m input (performed i m.core m.vectors m.memory)
 
 abbrev pub fetched : Parts → List ℕ → Option ℕ → Turn
 fetched m input (Some a) = quiet (trapped m Fetch a) input
@@ -83,7 +78,7 @@ turn m input =
 -- call reads or writes, and a refused element isn't.
 abbrev pub executed_accesses : Parts → Option Insn → List Access
 executed_accesses m None = []
-executed_accesses m (Some i) = if runs i then (performed i m.core m.vectors m.memory).accesses else []
+executed_accesses m (Some i) = (performed i m.core m.vectors m.memory).accesses
 
 abbrev pub fetched_accesses : Parts → Option ℕ → List Access
 fetched_accesses m (Some a) = []

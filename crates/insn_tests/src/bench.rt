@@ -6,7 +6,7 @@ use emu_bits::Pred;
 use guest_mem::{AccessLog, Mem};
 use guest_pages::{Pages, Rights};
 use std::alloc::Global;
-use sve_insn::Sve;
+use sve_insn::{Sve, SveForm};
 use sve_rows::decode_sve;
 use vec_regs::{Length, VecRegs};
 
@@ -77,6 +77,21 @@ impl Bench {
         }
         if sve_pred::is_own(insn) {
             return Some(sve_pred::exec(core, vec, insn));
+        }
+        let (memory, log) = (&mut self.memory, &mut self.log);
+        if sve_loads::is_own(insn) {
+            return Some(sve_loads::exec(core, vec, memory, log, insn));
+        }
+        if sve_gather::is_own(insn) {
+            return Some(sve_gather::exec(core, vec, memory, log, insn));
+        }
+        if sve_ffr::is_own(insn) {
+            let list = match insn.form() {
+                SveForm::LoadFf { .. } | SveForm::LoadNf { .. } =>
+                    sve_loads::elements(core, vec, insn),
+                _ => sve_gather::elements(core, vec, insn),
+            };
+            return Some(sve_ffr::exec(core, vec, memory, log, insn, &list));
         }
         None
     }

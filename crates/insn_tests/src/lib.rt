@@ -14,6 +14,8 @@ mod flow;
 #[cfg(test)]
 mod registers;
 #[cfg(test)]
+mod vector_memory;
+#[cfg(test)]
 mod vectors;
 #[cfg(test)]
 mod words;

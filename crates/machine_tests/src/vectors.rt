@@ -27,6 +27,35 @@ const INDEX: [u32; 7] = [
     0xD400_0001,
 ];
 
+/// Puts 40 letters before the last byte of the page at 0x401000, behind which nothing is mapped, and ends with their number, which it
+/// counts by first-faulting loads.
+/// movz x0, #0x1fd7; movk x0, #0x40, lsl #16; movz x3, #40; movz w4, #97;
+/// fill: sub x3, x3, #1; strb w4, [x0, x3]; cbnz x3, fill; movz x2, #0;
+/// again: ptrue p0.b; setffr; ldff1b {z0.b}, p0/z, [x0, x2]; rdffr p1.b, p0/z; cmpeq p2.b, p1/z, z0.b, #0;
+/// brkb p3.b, p1/z, p2.b; incp x2, p3.b; ptest p0, p2.b; b.eq again; orr x0, xzr, x2; movz x8, #93; svc #0
+const LENGTH: [u32; 20] = [
+    0xD283_FAE0,
+    0xF2A0_0800,
+    0xD280_0503,
+    0x5280_0C24,
+    0xD100_0463,
+    0x3823_6804,
+    0xB5FF_FFC3,
+    0xD280_0002,
+    0x2518_E3E0,
+    0x252C_9000,
+    0xA402_6000,
+    0x2518_F001,
+    0x2500_8402,
+    0x2590_4443,
+    0x252C_8862,
+    0x2550_C040,
+    0x54FF_FF00,
+    0xAA02_03E0,
+    0xD280_0BA8,
+    0xD400_0001,
+];
+
 /// How a program ends at a vector length, and the text of all its registers.
 fn registers_of(
     alloc: Global,
@@ -98,5 +127,15 @@ fn an_index_is_printed_most_significant_byte_first(rt: HostRuntime) -> Result<()
     let z0 =
         "9b96919b87827d87736e69735f5a555f4b46414b37322d37231e19230f0a050ffbf6f1fbe7e2dde7d3cec9d3bfbab5bf";
     assert_eq!(rt; value_of(&text, "z0"), Some(z0));
+    Ok(())
+}
+
+#[test]
+fn a_string_is_measured_up_to_the_end_of_a_page(rt: HostRuntime) -> Result<(), AllocError> {
+    for bits in [128, 384, 2048] {
+        let (end, text) = registers_of(rt.alloc(), &LENGTH, bits, 1000)?;
+        assert_eq!(rt; end, Some(RunEnd::Exit(40)), "at {bits}");
+        assert_eq!(rt; value_of(&text, "x2"), Some("0000000000000028"), "at {bits}");
+    }
     Ok(())
 }

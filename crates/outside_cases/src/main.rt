@@ -27,7 +27,7 @@ use guest_mem::AccessLog;
 use insn_decode::{Insn, decode};
 use std::alloc::Global;
 use std::io;
-use sve_insn::Sve;
+use sve_insn::{Sve, SveForm};
 use vec_regs::Length;
 
 /// Does an instruction by the crate of its row. None where its row doesn't run.
@@ -64,6 +64,25 @@ fn sve_effect(state: &mut State, insn: &Sve) -> Option<Effect> {
     }
     if sve_pred::is_own(insn) {
         return Some(sve_pred::exec(&mut state.core, &mut state.vec, insn));
+    }
+    memory_effect(state, insn)
+}
+
+fn memory_effect(state: &mut State, insn: &Sve) -> Option<Effect> {
+    let (core, vec, memory) = (&mut state.core, &mut state.vec, &mut state.memory);
+    let mut log = AccessLog::new();
+    if sve_loads::is_own(insn) {
+        return Some(sve_loads::exec(core, vec, memory, &mut log, insn));
+    }
+    if sve_gather::is_own(insn) {
+        return Some(sve_gather::exec(core, vec, memory, &mut log, insn));
+    }
+    if sve_ffr::is_own(insn) {
+        let list = match insn.form() {
+            SveForm::LoadFf { .. } | SveForm::LoadNf { .. } => sve_loads::elements(core, vec, insn),
+            _ => sve_gather::elements(core, vec, insn),
+        };
+        return Some(sve_ffr::exec(core, vec, memory, &mut log, insn, &list));
     }
     None
 }
