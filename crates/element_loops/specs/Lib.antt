@@ -1,0 +1,4 @@
+pub mod Layouts
+pub mod Planned
+pub mod Values
+pub mod SoFar

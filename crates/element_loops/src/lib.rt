@@ -1,0 +1,12 @@
+//! Loads and stores of the elements of vector registers, one after the other, by a plan: how many elements there are, which
+//! lanes have them, where they are in memory, and which registers they belong to.
+#![tactic(auto)]
+
+mod access;
+mod element;
+mod place;
+mod plan;
+mod values;
+
+//pub use access::{load, store};
+pub use plan::{OnLanes, Places, Plan, Target};
