@@ -57,3 +57,6 @@ loaded_value s l m k j x v on is extended =
 
 pub no_value : (s : Bool) (l : Layout) (m : Memory) (k j : ℕ) → l.is_on k ≡ false → loaded_lane s l m j k ≡ 0
 no_value s l m k j off = ap (λ (t : Bool). if t then extended_to s l.bits l.bytes (value m (l.address k j) l.bytes) else 0) off
+
+pub values_begin : (p : Plan) (v : Vectors) (m : Memory) (values : List ℕ) → values ≡ [] → values ≡ values_of p v m (0 * p.registers)
+values_begin p v m values h = let e : 0 ≡ 0 * p.registers = omega arith in h ∙ ap (values_of p v m) e

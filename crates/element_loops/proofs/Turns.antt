@@ -1,12 +1,17 @@
 -- Steps of the loops over lanes and registers.
 use Rattle.std.proofs.Common.{◌≡◌, ◌≤◌, ◌<◌, ℕ, zero, suc, ◌+◌, ◌*◌, ◌-◌, ◌/◌, ◌%◌, Bool, true, false, List, [], ◌∷◌, ◌++◌, length, get_or, if◌then◌else◌, refl, sym, ap, subst, ◌∙◌, add-one, append_assoc, length-append, arith}
+use Rattle.std.proofs.lemmas.List.FromFn.{fill_by_all}
 use Rattle.std.proofs.lemmas.Nat.{div-mul-add, mod-mul-add, mul-add-lt}
+use Rattle.emu_model.specs.Access.{Memory}
 use Rattle.emu_model.specs.Elements.{Element}
 use Rattle.emu_model.specs.Lists.{each, each-more, length-each}
+use Rattle.emu_model.specs.State.{Vectors}
 use Rattle.vec_model.proofs.Each.{get_or-each}
+use Rattle.vec_model.specs.Lanes.{with_lanes}
 use Rattle.sve_effects.specs.VectorElements.{Layout, register_at, elements_below, elements_of}
 use Rattle.element_loops.specs.SoFar.{element_at, elements_within}
-use Rattle.element_loops.specs.Values.{in_turn}
+use Rattle.sve_effects.specs.VectorLoadStore.{with_loaded, loaded_lane}
+use Rattle.element_loops.specs.Values.{in_turn, with_taken}
 
 -- ---- elements
 
@@ -101,3 +106,34 @@ turn_at r n f k j in_lanes in_registers =
     let h : k * r + j < n * r = subst (λ x. k * r + j < x) w (mul-add-lt k r j n in_lanes in_registers) in
     get_or-each (n * r) (λ i. f (i % r) (i / r)) (k * r + j) 0 h
     ∙ ap (λ i. f i ((k * r + j) / r)) (mod-mul-add k r j in_registers) ∙ ap (f j) (div-mul-add k r j in_registers)
+
+-- some values give themselves
+pub given_by_itself : (xs : List ℕ) (n : ℕ) → length xs ≡ n → xs ≡ each n (λ k. get_or xs k 0)
+given_by_itself xs n e = fill_by_all (λ k. get_or xs k 0) xs n 0 e (λ k h. refl)
+
+-- ---- registers
+
+pub none_taken : (e : ℕ) (f : ℕ → ℕ → ℕ) (r : ℕ) (v : Vectors) → v ≡ with_taken e f r 0 v
+unfolding with_taken
+none_taken e f r v = refl
+
+taken_suc : (e : ℕ) (f : ℕ → ℕ → ℕ) (r n : ℕ) (v : Vectors) → with_taken e f r (suc n) v ≡ with_lanes e (f n) ((r + n) % 32) (with_taken e f r n v)
+unfolding with_taken
+taken_suc e f r n v = refl
+
+pub taken_more : (e : ℕ) (f : ℕ → ℕ → ℕ) (r j zd : ℕ) (first v next : Vectors) → v ≡ with_taken e f r j first → zd ≡ (r + j) % 32 → next ≡ with_lanes e (f j) zd v → next ≡ with_taken e f r (j + 1) first
+taken_more e f r j zd first v next so_far at more =
+    more ∙ ap (λ zd. with_lanes e (f j) zd v) at ∙ ap (with_lanes e (f j) ((r + j) % 32)) so_far ∙ sym (taken_suc e f r j first) ∙ ap (λ n. with_taken e f r n first) (sym (add-one j))
+
+loaded_zero : (s : Bool) (l : Layout) (m : Memory) (v : Vectors) → with_loaded s l m 0 v ≡ v
+unfolding with_loaded
+loaded_zero s l m v = refl
+
+loaded_suc : (s : Bool) (l : Layout) (m : Memory) (n : ℕ) (v : Vectors) → with_loaded s l m (suc n) v ≡ with_lanes l.bits (loaded_lane s l m n) (register_at l n) (with_loaded s l m n v)
+unfolding with_loaded
+loaded_suc s l m n v = refl
+
+pub taken_is_loaded : (s : Bool) (l : Layout) (m : Memory) (n : ℕ) (v : Vectors) → with_taken l.bits (loaded_lane s l m) l.register n v ≡ with_loaded s l m n v
+taken_is_loaded s l m zero v = sym (none_taken l.bits (loaded_lane s l m) l.register v) ∙ sym (loaded_zero s l m v)
+taken_is_loaded s l m (suc n) v =
+    taken_suc l.bits (loaded_lane s l m) l.register n v ∙ ap (with_lanes l.bits (loaded_lane s l m n) (register_at l n)) (taken_is_loaded s l m n v) ∙ sym (loaded_suc s l m n v)

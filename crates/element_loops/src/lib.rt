@@ -3,7 +3,8 @@
 #![tactic(auto)]
 
 mod access;
-mod element;
+mod loading;
+mod storing;
 mod place;
 mod plan;
 mod values;

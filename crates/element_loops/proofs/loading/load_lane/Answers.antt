@@ -7,7 +7,7 @@ use Rattle.sve_effects.specs.VectorLoadStore.{loaded_lane}
 use Rattle.element_loops.specs.Layouts.{layout_of}
 use Rattle.element_loops.proofs.Loads.{lane_goes_on, lane_ends, lane_stops, log_count, loaded_value}
 use Rattle.element_loops.proofs.Turns.{turn_more}
-use Rattle.element_loops.proofs.element.load_lane.Goals as goal
+use Rattle.element_loops.proofs.loading.load_lane.Goals as goal
 
 pub load_u64-requires-clause-room : goal.load_u64-requires-clause-room
 load_u64-requires-clause-room c =
