@@ -1,3 +1,5 @@
 pub mod Turns
 pub mod Loads
 pub mod Writes
+pub mod Stores
+pub mod Accesses

@@ -9,5 +9,5 @@ mod place;
 mod plan;
 mod values;
 
-//pub use access::{load, store};
+pub use access::{load, store};
 pub use plan::{OnLanes, Places, Plan, Target};
