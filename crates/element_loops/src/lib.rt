@@ -7,6 +7,7 @@ mod loading;
 mod storing;
 mod place;
 mod plan;
+pub mod sizes;
 mod values;
 
 pub use access::{load, store};

@@ -1,0 +1,4 @@
+//! SVE loads and stores of consecutive elements: contiguous ones, of structures, of whole registers, replicated and repeated.
+#![tactic(auto)]
+
+mod shape;
