@@ -5,6 +5,7 @@ ghost use Rattle.sve_effects.specs.VectorLoadStore.{extended_to};
 ghost use Rattle.element_loops.specs.Layouts.{IsPlan, layout_of};
 
 use crate::plan::{OnLanes, Places, Plan};
+use crate::sizes::scaled;
 use emu_bits::{Reg, low_bits, sign_extended};
 use vec_regs::VecRegs;
 
@@ -44,13 +45,6 @@ fn word(is_signed: bool, x: u64) -> u64
     } else {
         low_bits(x, 32)
     }
-}
-
-/// The sum of a base and an offset of so many times `scale` bytes, modulo 2^64.
-fn scaled(base: u64, offset: u64, scale: u32) -> u64
-    ensures { result ≡ (base + offset * scale) % 0x1_0000_0000_0000_0000 }
-{
-    ((u128::from(base) + u128::from(offset) * u128::from(scale)) % 0x1_0000_0000_0000_0000) as u64
 }
 
 /// The address of the element of a lane and the j-th register.

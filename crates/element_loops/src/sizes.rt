@@ -1,5 +1,5 @@
 //! Sizes of lanes and elements, and addresses, from the fields of a row.
-ghost use Rattle.std.specs.Prelude.{◌≡◌, ◌≤◌, ◌^◌, nat_eq};
+ghost use Rattle.std.specs.Prelude.{◌≡◌, ◌≤◌, ◌+◌, ◌*◌, ◌%◌, ◌^◌, nat_eq};
 ghost use Rattle.vec_model.specs.Lanes.{IsLaneSize};
 ghost use Rattle.sve_effects.specs.ElementLoop as model;
 
@@ -44,4 +44,11 @@ pub fn is_sp(rn: Reg) -> bool
     ensures { result ≡ nat_eq rn 31 }
 {
     rn.get() == 31
+}
+
+/// The sum of a base and an offset of so many times `scale` bytes, modulo 2^64.
+pub fn scaled(base: u64, offset: u64, scale: u32) -> u64
+    ensures { result ≡ (base + offset * scale) % 0x1_0000_0000_0000_0000 }
+{
+    ((u128::from(base) + u128::from(offset) * u128::from(scale)) % 0x1_0000_0000_0000_0000) as u64
 }

@@ -1,9 +1,10 @@
 -- The plans of the rows that load or store consecutive elements.
-use Rattle.std.specs.Prelude.{ℕ, ◌+◌, ◌*◌, ◌/◌, ◌^◌, Bool, false, nat_eq, Option, None, ℤ, pos}
+use Rattle.std.specs.Prelude.{◌≡◌, ◌≤◌, ℕ, ◌+◌, ◌*◌, ◌/◌, ◌^◌, Bool, false, nat_eq, Option, None, ℤ, pos}
 use Rattle.sve_insn.specs.declared.form.SveForm.{SveForm}
 use Rattle.sve_insn.specs.declared.form.SveForm.TheVariants.{LoadImm, LoadReg, LoadFf, LoadNf, LoadNtImm, LoadNtReg, LoadQuadImm, LoadQuadReg, LoadManyImm, LoadManyReg, LoadOne, LoadZ, LoadP, StoreImm, StoreReg, StoreNtImm, StoreNtReg, StoreManyImm, StoreManyReg, StoreZ, StoreP}
 use Rattle.emu_bits.specs.Numbers.{signed}
 use Rattle.emu_model.specs.State.{Core, Vectors}
+use Rattle.vec_model.specs.Lanes.{IsLaneSize}
 use Rattle.sve_effects.specs.ElementLoop.{lane_bits, is_active}
 use Rattle.sve_effects.specs.FirstLast.{first_where}
 use Rattle.sve_effects.specs.VectorElements.{dtype_bits, dtype_bytes, dtype_signed, load_registers, store_registers, base_and_count, base_and_register}
@@ -12,6 +13,13 @@ use Rattle.element_loops.specs.declared.plan.OnLanes.TheVariants.{All, Active, O
 use Rattle.element_loops.specs.declared.plan.Places.TheVariants.{Consecutive, Bytes, Single}
 use Rattle.element_loops.specs.declared.plan.Target.TheVariants.{Registers, Repeated, Replicated, Predicate}
 use Rattle.sve_loads.specs.declared.shape.Shape.{Shape}
+
+pub record IsShape (s : Shape) : Type 0 where
+  pub size : IsLaneSize s.bits
+  pub some : 1 ≤ s.bytes
+  pub most : s.bytes ≤ 8
+  pub registers : 1 ≤ s.registers
+  pub few : s.registers ≤ 4
 
 -- elements from a base on, for the active lanes
 abbrev pub consecutive_plan : Shape → ℕ → ℕ → ℕ → ℕ → Vectors → Plan

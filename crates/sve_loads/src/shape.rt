@@ -2,7 +2,7 @@
 ghost use Rattle.std.specs.Prelude.{◌≡◌, ◌≤◌, ◌<◌};
 ghost use Rattle.vec_model.specs.Lanes.{IsLaneSize};
 ghost use Rattle.sve_effects.specs.VectorElements.{dtype_bits, dtype_bytes, dtype_signed};
-ghost use Rattle.sve_loads.specs.Plans.{dtype_shape, size_shape};
+ghost use Rattle.sve_loads.specs.Plans.{IsShape, dtype_shape, size_shape};
 
 use element_loops::sizes::{element_bytes, lane_bits};
 use emu_bits::U;
@@ -53,5 +53,34 @@ fn is_signed(dtype: u32) -> bool
     match dtype {
         4 | 8 | 9 | 12 | 13 | 14 => true,
         _ => false,
+    }
+}
+
+/// The lanes and elements of a dtype, of one register.
+pub(crate) fn by_dtype(dtype: u32) -> Shape
+    requires { dtype < 16 }
+    ensures value { result ≡ dtype_shape dtype }
+    ensures shape { IsShape result }
+{
+    Shape {
+        bits: bits_of(dtype),
+        bytes: bytes_of(dtype),
+        registers: 1,
+        is_signed: is_signed(dtype),
+    }
+}
+
+/// Lanes of a size, and elements of another, of so many registers.
+pub(crate) fn by_size(size: U<2>, msz: U<2>, registers: u32) -> Shape
+    requires some { 1 ≤ registers }
+    requires few { registers ≤ 4 }
+    ensures value { result ≡ size_shape size msz registers }
+    ensures shape { IsShape result }
+{
+    Shape {
+        bits: lane_bits(size),
+        bytes: element_bytes(msz),
+        registers,
+        is_signed: false,
     }
 }
