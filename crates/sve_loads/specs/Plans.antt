@@ -97,6 +97,12 @@ dtype_shape dtype = record { bits = dtype_bits dtype; bytes = dtype_bytes dtype;
 abbrev pub size_shape : ℕ → ℕ → ℕ → Shape
 size_shape size msz registers = record { bits = lane_bits size; bytes = 2 ^ msz; registers = registers; is_signed = false }
 
+abbrev pub quad_imm_plan : ℕ → ℕ → ℕ → ℕ → ℕ → Core → Vectors → Plan
+quad_imm_plan msz imm4 pg rn zt c v = repeated (consecutive_plan (size_shape msz msz 1) zt pg rn (base_and_count c rn (signed imm4 4) 16) v)
+
+abbrev pub quad_reg_plan : ℕ → ℕ → ℕ → ℕ → ℕ → Core → Vectors → Plan
+quad_reg_plan msz rm pg rn zt c v = repeated (reg_plan (size_shape msz msz 1) zt pg rn rm c v)
+
 -- ---- the rows
 
 abbrev pub load_plan : SveForm → Core → Vectors → Plan
@@ -104,8 +110,8 @@ load_plan (LoadImm dtype imm4 pg rn zt) c v = imm_plan (dtype_shape dtype) zt pg
 load_plan (LoadReg dtype rm pg rn zt) c v = reg_plan (dtype_shape dtype) zt pg rn rm c v
 load_plan (LoadNtImm msz imm4 pg rn zt) c v = imm_plan (size_shape msz msz 1) zt pg rn imm4 c v
 load_plan (LoadNtReg msz rm pg rn zt) c v = reg_plan (size_shape msz msz 1) zt pg rn rm c v
-load_plan (LoadQuadImm msz imm4 pg rn zt) c v = repeated (consecutive_plan (size_shape msz msz 1) zt pg rn (base_and_count c rn (signed imm4 4) 16) v)
-load_plan (LoadQuadReg msz rm pg rn zt) c v = repeated (reg_plan (size_shape msz msz 1) zt pg rn rm c v)
+load_plan (LoadQuadImm msz imm4 pg rn zt) c v = quad_imm_plan msz imm4 pg rn zt c v
+load_plan (LoadQuadReg msz rm pg rn zt) c v = quad_reg_plan msz rm pg rn zt c v
 load_plan (LoadManyImm op msz imm4 pg rn zt) c v = imm_plan (size_shape msz msz (load_registers op)) zt pg rn imm4 c v
 load_plan (LoadManyReg op msz rm pg rn zt) c v = reg_plan (size_shape msz msz (load_registers op)) zt pg rn rm c v
 load_plan (LoadOne dtypeh imm6 dtypel pg rn zt) c v = one_plan (dtype_shape (dtypeh * 4 + dtypel)) zt pg rn imm6 c v

@@ -3,4 +3,5 @@
 
 mod bases;
 mod plans;
+mod rows;
 mod shape;
