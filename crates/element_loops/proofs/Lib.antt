@@ -3,3 +3,4 @@ pub mod Loads
 pub mod Writes
 pub mod Stores
 pub mod Accesses
+pub mod Lists

@@ -3,6 +3,7 @@
 #![tactic(auto)]
 
 mod access;
+mod listing;
 mod loading;
 mod storing;
 mod place;
@@ -11,4 +12,5 @@ pub mod sizes;
 mod values;
 
 pub use access::{load, store};
+pub use listing::elements;
 pub use plan::{OnLanes, Places, Plan, Target};
