@@ -1,5 +1,5 @@
 -- The plans of the rows that load or store consecutive elements.
-use Rattle.std.specs.Prelude.{◌≡◌, ◌≤◌, ℕ, ◌+◌, ◌*◌, ◌/◌, ◌^◌, Bool, false, nat_eq, Option, None, ℤ, pos}
+use Rattle.std.specs.Prelude.{◌≡◌, ◌≤◌, ℕ, ◌+◌, ◌*◌, ◌/◌, ◌^◌, Bool, true, false, nat_eq, Option, None, ℤ, pos}
 use Rattle.sve_insn.specs.declared.form.SveForm.{SveForm}
 use Rattle.sve_insn.specs.declared.form.SveForm.TheVariants.{LoadImm, LoadReg, LoadFf, LoadNf, LoadNtImm, LoadNtReg, LoadQuadImm, LoadQuadReg, LoadManyImm, LoadManyReg, LoadOne, LoadZ, LoadP, StoreImm, StoreReg, StoreNtImm, StoreNtReg, StoreManyImm, StoreManyReg, StoreZ, StoreP}
 use Rattle.emu_bits.specs.Numbers.{signed}
@@ -132,7 +132,12 @@ store_plan (StoreZ imm9h imm9l rn zt) c v = z_plan imm9h imm9l rn zt c v
 -- the other rows store nothing here
 store_plan form c v = z_plan 0 0 0 0 c v
 
--- first-faulting and non-faulting
+-- contiguous first-faulting and non-faulting loads
+abbrev pub is_first_contiguous : SveForm → Bool
+is_first_contiguous (LoadFf dtype rm pg rn zt) = true
+is_first_contiguous (LoadNf dtype imm4 pg rn zt) = true
+is_first_contiguous form = false
+
 abbrev pub first_plan : SveForm → Core → Vectors → Plan
 first_plan (LoadFf dtype rm pg rn zt) c v = reg_plan (dtype_shape dtype) zt pg rn rm c v
 first_plan (LoadNf dtype imm4 pg rn zt) c v = imm_plan (dtype_shape dtype) zt pg rn imm4 c v

@@ -280,3 +280,29 @@ pub(crate) fn store_plan(core: &Core, vec: &VecRegs, i: &Sve) -> Plan
         _ => unreachable!(),
     }
 }
+
+/// The plan of a contiguous first-faulting or non-faulting load.
+pub(crate) fn first_plan(core: &Core, vec: &VecRegs, i: &Sve) -> Plan
+    requires { table.is_first_contiguous i.now ≡ true }
+    ensures plan { IsPlan result vec.now }
+    ensures value { result ≡ table.first_plan i.now core.now vec.now }
+    ensures one { result.registers ≡ 1 }
+{
+    match *i.form() {
+        SveForm::LoadFf {
+            dtype,
+            rm,
+            pg,
+            rn,
+            zt,
+        } => by_register(core, vec, by_dtype(dtype.get()), pg, rn, rm, zt),
+        SveForm::LoadNf {
+            dtype,
+            imm4,
+            pg,
+            rn,
+            zt,
+        } => by_imm(core, vec, by_dtype(dtype.get()), pg, rn, imm4, zt),
+        _ => unreachable!(),
+    }
+}
