@@ -1,8 +1,9 @@
 //! What an instruction does to the registers and to memory, by the crate of its row.
-ghost use Rattle.std.specs.Prelude.{◌≡◌, [], true};
+ghost use Rattle.std.specs.Prelude.{◌≡◌, ◌||◌, [], true};
 ghost use Rattle.a64_effects.specs.Effects as a64;
 ghost use Rattle.emu_run.specs.Step.{performed, runs};
 ghost use Rattle.sve_effects.specs.Effects as sve;
+ghost use Rattle.sve_effects.specs.PredicateRows.{is_predicate};
 
 use a64_insn::A64;
 use core_regs::{Core, Effect};
@@ -68,7 +69,7 @@ fn perform_sve(
     log: &mut AccessLog,
     insn: &Sve,
 ) -> Effect
-    requires runs { sve.runs insn.now ≡ true }
+    requires runs { (sve.is_data insn.now || is_predicate insn.now) ≡ true }
     requires empty { log.old.items ≡ [] }
     ensures { sve.performed insn.now core.old vec.old memory.old ≡ record { core = core.new; vectors = vec.new; memory = memory.new; accesses = log.new.items; effect = result } }
 {

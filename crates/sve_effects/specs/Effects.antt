@@ -17,10 +17,6 @@ is_data form = is_vector_data form || is_across form
 abbrev pub after_data : SveForm → Core → Vectors → Registers
 after_data form c v = if is_vector_data form then record { core = c; vectors = vector_data form c v } else across form c v
 
--- the rows that run so far: the loads and stores don't
-abbrev pub runs : SveForm → Bool
-runs form = is_data form || is_predicate form
-
 -- the rows that are on no other page are the first-faulting and non-faulting loads
 abbrev pub performed : SveForm → Core → Vectors → Memory → Done
 performed form c v m =
