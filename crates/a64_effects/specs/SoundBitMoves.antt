@@ -1,12 +1,11 @@
 -- Bit moves leave sound registers.
-use Rattle.std.specs.Prelude.{ℕ, ◌%◌, ◌^◌, Bool, if◌then◌else◌}
+use Rattle.std.specs.Prelude.{ℕ, if◌then◌else◌}
 use Rattle.std.proofs.Common.{arith}
 use Rattle.a64_insn.specs.declared.form.A64Form.{A64Form}
 use Rattle.a64_insn.specs.declared.form.A64Form.TheVariants.{FMove, MoveImm}
 use Rattle.a64_insn.specs.declared.ops.FMoveOp.{FMoveOp}
 use Rattle.a64_insn.specs.declared.ops.FMoveOp.TheVariants.{WdSn, SdWn, XdDn, DdXn}
 use Rattle.emu_bits.specs.Bitmask.{repeated}
-use Rattle.emu_model.specs.Done.{Registers}
 use Rattle.emu_model.specs.Sound.{with_x_sound}
 use Rattle.emu_model.specs.SoundDone.{IsSoundRegisters}
 use Rattle.emu_model.specs.State.{Core, Vectors, read_x, IsSoundCore, IsSoundVectors}

@@ -1,5 +1,5 @@
 -- What an A64 instruction leaves is sound.
-use Rattle.std.specs.Prelude.{Bool, true, false, if◌then◌else◌}
+use Rattle.std.specs.Prelude.{true, false, if◌then◌else◌}
 use Rattle.a64_insn.specs.declared.form.A64Form.{A64Form}
 use Rattle.emu_model.specs.Access.{Memory}
 use Rattle.emu_model.specs.Done.{Registers, went_well, went_on_with}

@@ -9,7 +9,6 @@ use Rattle.sve_insn.specs.declared.ops.CondLastOp.{CondLastOp}
 use Rattle.sve_insn.specs.declared.ops.CondLastOp.TheVariants.{ClastaR, ClastbR, ClastaV, ClastbV, ClastaZ, ClastbZ}
 use Rattle.sve_insn.specs.declared.ops.AddLengthOp.TheVariants.{Addvl}
 use Rattle.emu_bits.specs.Numbers.{unsigned_int}
-use Rattle.emu_model.specs.Done.{Registers}
 use Rattle.emu_model.specs.Sound.{with_x_sound, with_x_sp_sound}
 use Rattle.emu_model.specs.SoundDone.{IsSoundRegisters}
 use Rattle.emu_model.specs.State.{Core, Vectors, read_x, read_x_sp, with_x, IsSoundCore, IsSoundVectors}

@@ -1,0 +1,6 @@
+pub mod Turns
+pub mod Loads
+pub mod Writes
+pub mod Stores
+pub mod Accesses
+pub mod Lists

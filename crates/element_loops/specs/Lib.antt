@@ -1,0 +1,5 @@
+pub mod Layouts
+pub mod Planned
+pub mod Values
+pub mod SoFar
+pub mod Listed

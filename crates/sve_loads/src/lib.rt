@@ -1,0 +1,123 @@
+//! SVE loads and stores of consecutive elements: contiguous ones, of structures, of whole registers, replicated and repeated; and
+//! the elements of contiguous first-faulting and non-faulting loads.
+#![tactic(auto)]
+
+mod bases;
+mod plans;
+mod rows;
+mod shape;
+
+ghost use Rattle.std.specs.Prelude.{◌≡◌, ◌||◌, [], true};
+ghost use Rattle.sve_effects.specs.VectorElements.{layout, vector_elements};
+ghost use Rattle.sve_effects.specs.VectorLoadStore.{vector_load, vector_store, is_contiguous_load, is_contiguous_store, loads_signed};
+ghost use Rattle.element_loops.specs.Listed.{listed};
+ghost use Rattle.sve_loads.specs.Plans.{is_first_contiguous};
+
+use core_regs::{Core, Effect};
+use guest_mem::{AccessLog, ElementList, Mem};
+use sve_insn::{Sve, SveForm};
+use vec_regs::VecRegs;
+
+/// Whether an instruction is a load of this crate.
+fn is_load(i: &Sve) -> bool
+    ensures { result ≡ is_contiguous_load i.now }
+{
+    matches!(
+        i.form(),
+        SveForm::LoadImm { .. }
+            | SveForm::LoadReg { .. }
+            | SveForm::LoadNtImm { .. }
+            | SveForm::LoadNtReg { .. }
+            | SveForm::LoadQuadImm { .. }
+            | SveForm::LoadQuadReg { .. }
+            | SveForm::LoadManyImm { .. }
+            | SveForm::LoadManyReg { .. }
+            | SveForm::LoadOne { .. }
+            | SveForm::LoadZ { .. }
+            | SveForm::LoadP { .. }
+    )
+}
+
+/// Whether an instruction is a store of this crate.
+fn is_store(i: &Sve) -> bool
+    ensures { result ≡ is_contiguous_store i.now }
+{
+    matches!(
+        i.form(),
+        SveForm::StoreImm { .. }
+            | SveForm::StoreReg { .. }
+            | SveForm::StoreNtImm { .. }
+            | SveForm::StoreNtReg { .. }
+            | SveForm::StoreManyImm { .. }
+            | SveForm::StoreManyReg { .. }
+            | SveForm::StoreZ { .. }
+            | SveForm::StoreP { .. }
+    )
+}
+
+/// Whether an instruction is in a row that `exec` does: a load or store of consecutive elements, but no first-faulting or
+/// non-faulting one.
+pub fn is_own(i: &Sve) -> bool
+    ensures { result ≡ (is_contiguous_load i.now || is_contiguous_store i.now) }
+{
+    is_load(i) || is_store(i)
+}
+
+/// Does a load.
+#[tactic(auto, using(crate::specs::PlanLaws::load_planned))]
+fn load(core: &Core, vec: &mut VecRegs, mem: &mut Mem, log: &mut AccessLog, i: &Sve) -> Effect
+    requires own { is_contiguous_load i.now ≡ true }
+    requires empty { log.old.items ≡ [] }
+    ensures { vector_load i.now core.now vec.old mem.old
+        ≡ record { core = core.now; vectors = vec.new; memory = mem.new; accesses = log.new.items; effect = result } }
+{
+    let plan = rows::load_plan(core, vec, i);
+    element_loops::load(&plan, core, vec, mem, log)
+}
+
+/// Does a store.
+#[tactic(auto, using(crate::specs::PlanLaws::store_planned))]
+fn store(core: &Core, vec: &VecRegs, mem: &mut Mem, log: &mut AccessLog, i: &Sve) -> Effect
+    requires own { is_contiguous_store i.now ≡ true }
+    requires empty { log.old.items ≡ [] }
+    ensures { vector_store i.now core.now vec.now mem.old
+        ≡ record { core = core.now; vectors = vec.now; memory = mem.new; accesses = log.new.items; effect = result } }
+{
+    let plan = rows::store_plan(core, vec, i);
+    element_loops::store(&plan, core, vec, mem, log)
+}
+
+/// Does an instruction of this crate's rows, and says how the step goes on. The elements that were loaded or stored are logged in
+/// order. A trap changes no register; a store that traps has stored and logged the elements before the one that was refused.
+#[tactic(auto, using(crate::specs::PlanLaws::no_load_stores))]
+pub fn exec(
+    core: &mut Core,
+    vec: &mut VecRegs,
+    mem: &mut Mem,
+    log: &mut AccessLog,
+    i: &Sve,
+) -> Effect
+    requires own { (is_contiguous_load i.now || is_contiguous_store i.now) ≡ true }
+    requires empty { log.old.items ≡ [] }
+    ensures load { is_contiguous_load i.now ≡ true → vector_load i.now core.old vec.old mem.old
+        ≡ record { core = core.new; vectors = vec.new; memory = mem.new; accesses = log.new.items; effect = result } }
+    ensures store { is_contiguous_store i.now ≡ true → vector_store i.now core.old vec.old mem.old
+        ≡ record { core = core.new; vectors = vec.new; memory = mem.new; accesses = log.new.items; effect = result } }
+{
+    if is_load(i) {
+        load(core, vec, mem, log, i)
+    } else {
+        store(core, vec, mem, log, i)
+    }
+}
+
+/// The elements of a contiguous first-faulting or non-faulting load: the lanes and addresses of its active lanes, in order.
+#[tactic(auto, using(crate::specs::PlanLaws::first_planned, crate::specs::PlanLaws::first_signed, crate::specs::PlanLaws::first_bytes))]
+pub fn elements(core: &Core, vec: &VecRegs, i: &Sve) -> ElementList
+    requires { is_first_contiguous i.now ≡ true }
+    ensures elements { let l = layout i.now core.now vec.now in listed l.register result ≡ vector_elements i.now core.now vec.now }
+    ensures bytes { let l = layout i.now core.now vec.now in result.bytes ≡ l.bytes }
+    ensures is_signed { result.signed ≡ loads_signed i.now }
+{
+    element_loops::elements(&rows::first_plan(core, vec, i), vec)
+}
