@@ -1,8 +1,9 @@
-pub mod Turns
-pub mod Runs
-pub mod Stands
-pub mod CallLaws
 pub mod Bytes
+pub mod CallLaws
+pub mod Gathered
 pub mod Loading
 pub mod Logs
 pub mod Performed
+pub mod Runs
+pub mod Stands
+pub mod Turns

@@ -1,8 +1,12 @@
 //! What an instruction does to the registers and to memory, by the crate of its row.
-ghost use Rattle.std.specs.Prelude.{◌≡◌, []};
+ghost use Rattle.std.specs.Prelude.{◌≡◌, [], true};
 ghost use Rattle.a64_effects.specs.Effects as a64;
 ghost use Rattle.emu_run.specs.Step.{performed};
 ghost use Rattle.sve_effects.specs.Effects as sve;
+ghost use Rattle.sve_effects.specs.VectorElements.{layout, vector_elements};
+ghost use Rattle.sve_effects.specs.VectorLoadStore.{is_first_fault, loads_signed};
+ghost use Rattle.sve_loads.specs.Plans.{is_first_contiguous};
+ghost use Rattle.element_loops.specs.Listed.{listed};
 
 use a64_insn::A64;
 use core_regs::{Core, Effect};
@@ -73,4 +77,26 @@ fn perform_sve(
         let list = elements_of(core, vec, insn);
         sve_ffr::exec(core, vec, memory, log, insn, &list)
     }
+}
+
+/// The elements of a first-faulting or non-faulting load, contiguous or gathered.
+#[tactic(auto, using(crate::proofs::Gathered::others_are_gathered))]
+fn elements_of(core: &Core, vec: &VecRegs, insn: &Sve) -> ElementList
+    requires { is_first_fault insn.now ≡ true }
+    ensures elements { listed (layout insn.now core.now vec.now).register result ≡ vector_elements insn.now core.now vec.now }
+    ensures bytes { result.bytes ≡ (layout insn.now core.now vec.now).bytes }
+    ensures is_signed { result.signed ≡ loads_signed insn.now }
+{
+    if is_contiguous(insn) {
+        sve_loads::elements(core, vec, insn)
+    } else {
+        sve_gather::elements(core, vec, insn)
+    }
+}
+
+/// Whether an instruction is a contiguous first-faulting or non-faulting load.
+fn is_contiguous(insn: &Sve) -> bool
+    ensures { result ≡ is_first_contiguous insn.now }
+{
+    matches!(*insn.form(), SveForm::LoadFf { .. } | SveForm::LoadNf { .. })
 }
