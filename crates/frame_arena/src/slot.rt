@@ -1,0 +1,35 @@
+//! The place of a frame in the table: its page, where the frame is live.
+ghost use Rattle.std.specs.Prelude.{◌≡◌, IsSome, Some, None};
+ghost use Rattle.std.specs.Borrow.{sem};
+ghost use Rattle.frame_arena.specs.Slots.{slot_bytes};
+ghost use Rattle.frame_arena.specs.Lending.{LendsSlot};
+
+use frame_links::Page;
+
+#[derive(Drop)]
+pub(crate) struct Slot {
+    pub(crate) page: Option<Page>,
+}
+
+impl Slot {
+    pub(crate) fn bytes(&self) -> &[u8; 4096]
+        requires { IsSome self.now.page }
+        ensures { slot_bytes self.now ≡ Some result.now }
+    {
+        match &self.page {
+            Some(page) => page.bytes(),
+            None => unreachable!(),
+        }
+    }
+
+    pub(crate) fn bytes_mut(&mut self) -> &mut [u8; 4096]
+        requires { IsSome self.old.page }
+        ensures* writes_back { sem 𝓛 (LendsSlot self.entry result) }
+        ensures bytes { slot_bytes self.old ≡ Some result.now }
+    {
+        match &mut self.page {
+            Some(page) => page.bytes_mut(),
+            None => unreachable!(),
+        }
+    }
+}
