@@ -3,16 +3,28 @@ ghost use Rattle.std.specs.Prelude.{◌≡◌, ℕ, ◌+◌, IfOk, MatchOption, 
 ghost use Rattle.std.specs.FinMap as map;
 
 use crate::OutOfMemory;
-use crate::slot::Slot;
-use frame_links::{FreeList, Lease, Memory, Page};
+use crate::slot::{Slot, zeroed_page};
+use frame_links::{FreeList, Lease, Memory};
 use std::alloc::{AllocError, Global};
 use std::marker::Model;
 use std::mem;
 
 /// A frame that was taken from an arena, and is live there until it is given back.
+/// Contracts see it as its number.
 #[derive(Drop)]
 pub struct Frame {
-    pub(crate) number: u32,
+    number: u32,
+}
+
+impl Model for Frame {
+    ghost use Rattle.std.specs.Prelude.{ℕ};
+    ghost use Rattle.std.specs.Coded.{coded_ℕ};
+
+    ghost Value = { ℕ };
+
+    ghost coded = { coded_ℕ };
+
+    ghost view = { λ f. f.number };
 }
 
 /// One region of frames. Contracts see the bytes of the live frames by their numbers, how many frames are spare, and how
@@ -78,7 +90,7 @@ impl FrameArena {
 
     /// A spare frame becomes live, and its 4,096 bytes are 0. None exactly where no frame is spare.
     pub fn take(&mut self) -> Option<Frame>
-        ensures { MatchOption result ((self.old.spare ≡ 0) × (self.new ≡ self.old)) (λ f. Takes self.old f.number zeroed self.new) }
+        ensures { MatchOption result ((self.old.spare ≡ 0) × (self.new ≡ self.old)) (λ f. Takes self.old f zeroed self.new) }
     {
         if self.given > 0 {
             let free = mem::replace(&mut self.free, FreeList::empty());
@@ -86,7 +98,7 @@ impl FrameArena {
             self.free = free;
             self.given -= 1;
             self.slots[number] = Slot {
-                page: Some(Page::new(frame, [0; 4096])),
+                page: Some(zeroed_page(frame)),
             };
             return Some(Frame {
                 number: number as u32,
@@ -102,15 +114,15 @@ impl FrameArena {
         let (frame, rest) = region.cut();
         self.rest = Some(rest);
         self.slots.push_reserved(Slot {
-            page: Some(Page::new(frame, [0; 4096])),
+            page: Some(zeroed_page(frame)),
         });
         Some(Frame { number })
     }
 
     /// A live frame becomes spare.
     pub fn give(&mut self, f: Frame)
-        requires { IsLive self.old f.number }
-        ensures { Gives self.old f.number self.new }
+        requires { IsLive self.old f }
+        ensures { Gives self.old f self.new }
     {
         let Frame { number } = f;
         let slot = mem::replace(&mut self.slots[number as usize], Slot { page: None });
@@ -127,8 +139,8 @@ impl FrameArena {
 
     /// The 4,096 bytes of a live frame.
     pub fn bytes(&self, f: &Frame) -> &[u8]
-        requires { IsLive self.now f.now.number }
-        ensures bytes { map.get self.now.live f.now.number ≡ Some result.now }
+        requires { IsLive self.now f.now }
+        ensures bytes { map.get self.now.live f.now ≡ Some result.now }
         ensures length { length result.now ≡ 4096 }
     {
         self.slots[f.number as usize].bytes()
@@ -136,9 +148,9 @@ impl FrameArena {
 
     /// The 4,096 bytes of a live frame, for writing. No other frame is changed.
     pub fn bytes_mut(&mut self, f: &Frame) -> &mut [u8]
-        requires { IsLive self.old f.now.number }
-        ensures* writes_back { sem 𝓛 (LendsFrame self.entry f.now.number result) }
-        ensures bytes { map.get self.old.live f.now.number ≡ Some result.now }
+        requires { IsLive self.old f.now }
+        ensures* writes_back { sem 𝓛 (LendsFrame self.entry f.now result) }
+        ensures bytes { map.get self.old.live f.now ≡ Some result.now }
         ensures length { length result.now ≡ 4096 }
     {
         // for its length
@@ -165,7 +177,7 @@ impl Drop for FrameArena {
             let (number, (frame, others)) = free.pop();
             free = others;
             slots[number] = Slot {
-                page: Some(Page::new(frame, [0; 4096])),
+                page: Some(zeroed_page(frame)),
             };
         }
         let Some(mut region) = rest else {

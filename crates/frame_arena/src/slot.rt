@@ -1,14 +1,23 @@
 //! The place of a frame in the table: its page, where the frame is live.
 ghost use Rattle.std.specs.Prelude.{◌≡◌, IsSome, Some, None};
 ghost use Rattle.std.specs.Borrow.{sem};
+ghost use Rattle.frame_arena.specs.Frames.{zeroed};
 ghost use Rattle.frame_arena.specs.Slots.{slot_bytes};
 ghost use Rattle.frame_arena.specs.Lending.{LendsSlot};
 
-use frame_links::Page;
+use frame_links::{Page, Spare};
 
 #[derive(Drop)]
 pub(crate) struct Slot {
     pub(crate) page: Option<Page>,
+}
+
+#[tactic(auto, unfolding(crate::specs::Frames::zeroed))]
+/// A page of zeros in a spare frame.
+pub(crate) fn zeroed_page(frame: Spare) -> Page
+    ensures { (result.block ≡ frame.block) × (result.place ≡ frame.place) × (result.bytes ≡ zeroed) }
+{
+    Page::new(frame, [0; 4096])
 }
 
 impl Slot {

@@ -13,7 +13,7 @@ pub loop-back-preserved : goal.loop-back-preserved
 loop-back-preserved c =
     let i = c.loop-back.invariant in let ss = c.loop-back.slots.items in let p = c.self.inside.lease.ptr in
     let r = c.pop-number.result in let f : Place = (r.1.0.block, r.1.0.place, r.0) in let rest = r.1.1.frames in
-    let s : Slot = record { page = Some c.new.result } in
+    let s : Slot = record { page = Some c.zeroed_page.result } in
     let listed : f ∷ rest ≡ c.loop-back.free.frames = c.pop-number.ensures in
     let v : AreVacant ss (f ∷ rest) = subst (AreVacant ss) (sym listed) i.2 in
     let w : IsWhole ss (f ∷ rest) = subst (IsWhole ss) (sym listed) i.3 in
@@ -22,8 +22,8 @@ loop-back-preserved c =
       omega (arith, count, i.0),
       length-set ss f.2 s ∙ i.1,
       vacant-set ss rest f.2 s v.0 v.2 v.3,
-      whole-taken ss f rest s c.new.result.bytes v refl w,
-      seated-set p ss f.2 s v.0 (seat_as p f.2 _ _ c.new.result.block c.new.result.place c.new.ensures.0 c.new.ensures.1 k.0) i.4,
+      whole-taken ss f rest s c.zeroed_page.result.bytes v refl w,
+      seated-set p ss f.2 s v.0 (seat_as p f.2 _ _ c.zeroed_page.result.block c.zeroed_page.result.place c.zeroed_page.ensures.0 c.zeroed_page.ensures.1 k.0) i.4,
       k.1,
     )
 
