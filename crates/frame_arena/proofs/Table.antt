@@ -283,6 +283,9 @@ module _ (n : ℕ) (ss : List Slot) (fs : List Place) (a : Frames) (is : seen n 
     pub slot_page : is_some x.page ≡ true
     slot_page = page_some x.page (ap (λ s. is_some (slot_bytes s)) same ∙ ap is_some (sym (get-slots ss q)) ∙ here)
 
+    pub slot_is : slot_bytes x ≡ get a.live q
+    slot_is = ap slot_bytes same ∙ sym (get-slots ss q) ∙ ap (λ (f : Frames). get f.live q) is
+
     pub slot_read : (z : List ℕ) → slot_bytes x ≡ Some z → get a.live q ≡ Some z
     slot_read z e = read n ss fs a is q z (ap slot_bytes (sym same) ∙ e)
 

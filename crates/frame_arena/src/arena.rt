@@ -1,5 +1,5 @@
 //! Frames that are taken and given back.
-ghost use Rattle.std.specs.Prelude.{◌≡◌, ℕ, ◌+◌, IfOk, MatchOption, Some, length};
+ghost use Rattle.std.specs.Prelude.{◌≡◌, ℕ, ◌≤◌, ◌+◌, take, drop, IfOk, MatchOption, Some, length};
 ghost use Rattle.std.specs.FinMap as map;
 
 use crate::OutOfMemory;
@@ -58,7 +58,7 @@ impl Model for FrameArena {
 impl FrameArena {
     ghost use Rattle.std.specs.Borrow.{sem};
     ghost use Rattle.frame_arena.specs.Frames.{IsLive, fresh, zeroed, Takes, Gives};
-    ghost use Rattle.frame_arena.specs.LendingFrames.{LendsFrame};
+    ghost use Rattle.frame_arena.specs.LendingFrames.{LendsFrame, LendsPart, bytes_of};
 
     /// An arena of that many frames, all spare. No byte of the region is read or written.
     pub fn new(alloc: Global, frames: u32) -> Result<FrameArena, OutOfMemory>
@@ -157,6 +157,17 @@ impl FrameArena {
         let _bytes = self.bytes(f);
         let bytes = self.slots[f.number as usize].bytes_mut();
         bytes.as_mut_slice()
+    }
+
+    /// `count` bytes of a live frame from place `at` on, for writing.
+    pub fn part_mut(&mut self, f: &Frame, at: usize, count: usize) -> &mut [u8]
+        requires live { IsLive self.old f.now }
+        requires within { at + count ≤ 4096 }
+        ensures* writes_back { sem 𝓛 (LendsPart self.entry f.now at count result) }
+        ensures bytes { result.now ≡ take count (drop at (bytes_of self.old f.now)) }
+        ensures length { length result.now ≡ count }
+    {
+        self.slots[f.number as usize].part_mut(at, count)
     }
 }
 

@@ -1,9 +1,9 @@
 //! The place of a frame in the table: its page, where the frame is live.
-ghost use Rattle.std.specs.Prelude.{◌≡◌, IsSome, Some, None};
+ghost use Rattle.std.specs.Prelude.{◌≡◌, ◌≤◌, ◌+◌, IsSome, Some, None, [], length, take, drop, unwrap_or};
 ghost use Rattle.std.specs.Borrow.{sem};
 ghost use Rattle.frame_arena.specs.Frames.{zeroed};
 ghost use Rattle.frame_arena.specs.Slots.{slot_bytes};
-ghost use Rattle.frame_arena.specs.Lending.{LendsSlot};
+ghost use Rattle.frame_arena.specs.Lending.{LendsSlot, LendsSlotPart};
 
 use frame_links::{Page, Spare};
 
@@ -38,6 +38,19 @@ impl Slot {
     {
         match &mut self.page {
             Some(page) => page.bytes_mut(),
+            None => unreachable!(),
+        }
+    }
+
+    pub(crate) fn part_mut(&mut self, at: usize, count: usize) -> &mut [u8]
+        requires live { IsSome self.old.page }
+        requires within { at + count ≤ 4096 }
+        ensures* writes_back { sem 𝓛 (LendsSlotPart self.entry at count result) }
+        ensures bytes { result.now ≡ take count (drop at (unwrap_or (slot_bytes self.old) [])) }
+        ensures length { length result.now ≡ count }
+    {
+        match &mut self.page {
+            Some(page) => page.part_mut(at, count),
             None => unreachable!(),
         }
     }
