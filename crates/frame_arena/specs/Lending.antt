@@ -14,9 +14,9 @@ with_slot s w = record { page = option_map (λ (p : Page). with_bytes p w) s.pag
 abbrev pub LendsSlot : MutBor Slot → MutBor (List ℕ) → Fml
 LendsSlot s r = Lends the_row Frame s r (with_slot s.now)
 
--- the slot with w in `count` of its bytes from place `at` on
-abbrev pub with_slot_part : Slot → ℕ → ℕ → List ℕ → Slot
-with_slot_part s at count w = with_slot s (with_part (unwrap_or (slot_bytes s) []) at count w)
+-- the slot with its bytes from place `at` on replaced
+abbrev pub with_slot_part : Slot → ℕ → List ℕ → Slot
+with_slot_part s at w = with_slot s (with_part (unwrap_or (slot_bytes s) []) at w)
 
-abbrev pub LendsSlotPart : MutBor Slot → ℕ → ℕ → MutBor (List ℕ) → Fml
-LendsSlotPart s at count r = Lends the_row (Array u8 0) s r (with_slot_part s.now at count)
+abbrev pub LendsSlotPart : MutBor Slot → ℕ → MutBor (List ℕ) → Fml
+LendsSlotPart s at r = Lends the_row (Array u8 0) s r (with_slot_part s.now at)

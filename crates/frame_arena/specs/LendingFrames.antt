@@ -14,9 +14,9 @@ LendsFrame s n r = Lends the_row (Array u8 0) s r (with_bytes s.now n)
 abbrev pub bytes_of : Frames → ℕ → List ℕ
 bytes_of a n = unwrap_or (get a.live n) []
 
--- the arena with w in `count` bytes of the frame n from place `at` on
-abbrev pub with_frame_part : Frames → ℕ → ℕ → ℕ → List ℕ → Frames
-with_frame_part a n at count w = with_bytes a n (with_part (bytes_of a n) at count w)
+-- the arena with the bytes of the frame n from place `at` on replaced
+abbrev pub with_frame_part : Frames → ℕ → ℕ → List ℕ → Frames
+with_frame_part a n at w = with_bytes a n (with_part (bytes_of a n) at w)
 
-abbrev pub LendsPart : MutBor Frames → ℕ → ℕ → ℕ → MutBor (List ℕ) → Fml
-LendsPart s n at count r = Lends the_row (Array u8 0) s r (with_frame_part s.now n at count)
+abbrev pub LendsPart : MutBor Frames → ℕ → ℕ → MutBor (List ℕ) → Fml
+LendsPart s n at r = Lends the_row (Array u8 0) s r (with_frame_part s.now n at)

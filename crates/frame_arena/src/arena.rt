@@ -163,7 +163,7 @@ impl FrameArena {
     pub fn part_mut(&mut self, f: &Frame, at: usize, count: usize) -> &mut [u8]
         requires live { IsLive self.old f.now }
         requires within { at + count ≤ 4096 }
-        ensures* writes_back { sem 𝓛 (LendsPart self.entry f.now at count result) }
+        ensures* writes_back { sem 𝓛 (LendsPart self.entry f.now at result) }
         ensures bytes { result.now ≡ take count (drop at (bytes_of self.old f.now)) }
         ensures length { length result.now ≡ count }
     {

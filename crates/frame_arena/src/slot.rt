@@ -45,7 +45,7 @@ impl Slot {
     pub(crate) fn part_mut(&mut self, at: usize, count: usize) -> &mut [u8]
         requires live { IsSome self.old.page }
         requires within { at + count ≤ 4096 }
-        ensures* writes_back { sem 𝓛 (LendsSlotPart self.entry at count result) }
+        ensures* writes_back { sem 𝓛 (LendsSlotPart self.entry at result) }
         ensures bytes { result.now ≡ take count (drop at (unwrap_or (slot_bytes self.old) [])) }
         ensures length { length result.now ≡ count }
     {

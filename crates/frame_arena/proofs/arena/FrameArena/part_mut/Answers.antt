@@ -20,7 +20,7 @@ part_mut-requires-clause-live c = slot_page c.self.inside.total c.self.inside.sl
 pub invariant_of-self-lent : goal.invariant_of-self-lent
 invariant_of-self-lent c = λ v.
     let a = c.self.inside in let i = c.self.invariant in let ss = a.slots.items in let p = a.lease.ptr in let q = c.f.inside.number in let x = c.index_mut.result.now in
-    let w : List ℕ = with_part (unwrap_or (slot_bytes x) []) c.args.at c.args.count v in
+    let w : List ℕ = with_part (unwrap_or (slot_bytes x) []) c.args.at v in
     let live = subst (IsLive c.args.self.now) (sym c.f.view_is) c.requires.live in
     let l = slot_in a.total ss a.free.frames c.args.self.now c.self.view_is q live in
     let k = slot_keeps a.total ss a.free.frames c.args.self.now c.self.view_is q live x c.index_mut.ensures.value w i.vacant i.whole in
@@ -46,8 +46,8 @@ returns c =
     let same : unwrap_or (slot_bytes x) [] ≡ bytes_of c.args.self.now c.args.f.now =
     ap (λ (o : Option (List ℕ)). unwrap_or o []) (slot_is a.total a.slots.items a.free.frames c.args.self.now c.self.view_is q live x c.index_mut.ensures.value) ∙ ap (bytes_of c.args.self.now) c.f.view_is in (
       (refl, λ v.
-      slot_written a.total a.slots.items a.free.frames c.args.self.now c.self.view_is q live x c.index_mut.ensures.value (with_part (unwrap_or (slot_bytes x) []) at count v)
-      ∙ ap (λ k. with_bytes c.args.self.now k (with_part (unwrap_or (slot_bytes x) []) at count v)) c.f.view_is ∙ ap (λ (z : List ℕ). with_bytes c.args.self.now c.args.f.now (with_part z at count v)) same),
+      slot_written a.total a.slots.items a.free.frames c.args.self.now c.self.view_is q live x c.index_mut.ensures.value (with_part (unwrap_or (slot_bytes x) []) at v)
+      ∙ ap (λ k. with_bytes c.args.self.now k (with_part (unwrap_or (slot_bytes x) []) at v)) c.f.view_is ∙ ap (λ (z : List ℕ). with_bytes c.args.self.now c.args.f.now (with_part z at v)) same),
       record {
         writes_back = tt;
         bytes = c.part_mut.ensures.bytes ∙ ap (λ (z : List ℕ). take count (drop at z)) same;

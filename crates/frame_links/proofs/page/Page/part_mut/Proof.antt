@@ -1,5 +1,5 @@
 -- `part_mut` lends a part of the bytes behind the pointer, and the page follows it. Assumes `Logic`.
-use Rattle.std.proofs.Common.{◌≡◌, ℕ, ◌+◌, ◌-◌, ◌≤◌, ◌<◌, ◌^◌, List, [], ◌∷◌, ◌++◌, length, length-append, take, drop as drop_list, take-append-drop, length-drop, refl, sym, ap, ◌∙◌, arith, MutBor, w64}
+use Rattle.std.proofs.Common.{◌≡◌, ℕ, ◌+◌, ◌-◌, ◌≤◌, ◌<◌, ◌^◌, List, [], ◌∷◌, ◌++◌, length, length-append, take, drop as drop_list, take-append-drop, take_all, length-drop, refl, sym, ap, ◌∙◌, arith, MutBor, w64}
 use mir.Syntax.{named}
 use mir.Val.{Val, vint, vptr}
 use base.Fraction.{full_share}
@@ -40,6 +40,12 @@ use Rattle.frame_links.specs.contracts.page.Page.{the_row as R}
 use Rattle.frame_links.specs.contracts.page.Page.part_mut as f
 use Rattle.frame_links.proofs.page.Page.part_mut.Statement.{statement}
 use Rattle.frame_links.proofs.page.Page.part_mut.Code as code
+
+-- what is written is all of the part
+replaced : (xs : List ℕ) (m : ℕ) (w : List ℕ) (n : ℕ) → m + length w ≤ 4096 → length w ≡ n → take m xs ++ (w ++ drop_list n (drop_list m xs)) ≡ with_part xs m w
+replaced xs m w n fits e =
+    let whole : w ≡ take (4096 - m) w = sym (take_all (4096 - m) w (omega (arith, fits))) in
+    ap (λ (k : ℕ). take m xs ++ (w ++ drop_list k (drop_list m xs))) (sym e) ∙ ap (λ (z : List ℕ). take m xs ++ (z ++ drop_list (length z) (drop_list m xs))) whole
 
 abbrev stayed : Stays f.ended.signature.params f.ended.kept
 stayed = (stay_dropped (mut_ref_to (0 ∷ []) tt (plain (λ _. R))) no, (stay_dropped (plain (λ _. usize)) yes, (stay_dropped (plain (λ _. usize)) yes, tt)))
@@ -88,8 +94,9 @@ part_mut_spec 𝓤 𝓛 𝓜 𝓡 wired =
     rewrite ! 0 (λ (k : ℕ). ‵ (cells (mem u8) (mid ++ back) b k)) on refl $
     use1 𝓛 (‵ (cells (mem u8) mid b p) ⊛ ‵ (cells (mem u8) back b (place_at p (mem u8).size (length mid)))) (cut_app 𝓛 (mem u8) mid back b p) $ split ! $
     let Rest : Fml = fsep (cells (mem u8) front b o) (fsep (cells (mem u8) back b (place_at p (mem u8).size (length mid))) (fsep (around (block_ptr b o)) (fsep (list_own h.at us) (cell_at full_share R.mir us rb ro)))) in
-    let given_back : (w : List ℕ) → length w ≡ length mid → ent 𝓤 (sep 𝓤 (sem 𝓛 (cells (mem u8) w b p)) (sem 𝓛 Rest)) (sem 𝓛 ((mem R).own_at (with_bytes h (with_part xs m n w)) rb ro)) = λ w e.
-    (let now : List ℕ = with_part xs m n w in
+    let given_back : (w : List ℕ) → length w ≡ length mid → ent 𝓤 (sep 𝓤 (sem 𝓛 (cells (mem u8) w b p)) (sem 𝓛 Rest)) (sem 𝓛 ((mem R).own_at (with_bytes h (with_part xs m w)) rb ro)) = λ w e.
+    (let now : List ℕ = front ++ (w ++ back) in
+    let is_part : now ≡ with_part xs m w = replaced xs m w n (omega (arith, e, long, le)) (e ∙ long) in
     let sum : length xs ≡ length front + length (mid ++ back) = ap length cut ∙ length-append front (mid ++ back) in
     let inner : length (mid ++ back) ≡ length mid + length back = length-append mid back in
     let now_sum : length now ≡ length front + length (w ++ back) = length-append front (w ++ back) in
@@ -102,14 +109,15 @@ part_mut_spec 𝓤 𝓛 𝓜 𝓡 wired =
     use1 𝓛 (‵ (row u8 full_share now b o)) (whole_out 𝓛 u8 now b o) $ feq_i ! ℕ (length now) 4096 (omega (arith, e, sum, inner, now_sum, now_inner, all)) $ fjoin ! $
     use1 𝓛 (‵ (part_at Frame full_share now b o)) (Array-whole 𝓛 u8 full_share 4096 now b o) $ move ! (1 ∷ []) $ fsplit ! $ move ! (1 ∷ []) $ fsplit ! $ move ! (3 ∷ 2 ∷ []) $ fjoin ! $
     rewrite ! 0 (λ (p : Ptr). ‵ (page_at p now)) (sym h.placed) refl $ move ! (1 ∷ 0 ∷ []) $ fjoin ! $ move ! (1 ∷ 0 ∷ []) $ fjoin ! $
-    fpack ! (List Val) (λ ws. fsep (cell_at full_share R.mir ws rb ro) (R.own_val (with_bytes h now) ws)) us $ done !) in
+    fpack ! (List Val) (λ ws. fsep (cell_at full_share R.mir ws rb ro) (R.own_val (with_bytes h now) ws)) us $
+    rewrite ! 0 (λ (z : List ℕ). ‵ ((mem R).own_at (with_bytes h z) rb ro)) is_part refl $ done !) in
     -- [the part; the bytes after it; those before it; the way back; what the field owns; the struct's cell; the open borrow]
     move ! (4 ∷ 5 ∷ []) $ fjoin ! $ move ! (4 ∷ 0 ∷ []) $ fjoin ! $ move ! (2 ∷ 0 ∷ []) $ fjoin ! $ move ! (2 ∷ 0 ∷ []) $ fjoin ! $ move ! (2 ∷ 3 ∷ 4 ∷ 1 ∷ 0 ∷ []) $ group ! 5 $
-    use1 𝓛 (later (some (λ (γ' : GName). raw (Elements 𝓛 R u8 (λ w. with_bytes h (with_part xs m n w)) (named 0) κ q rb ro b p γ mid (omega (arith, long, fn), omega (arith, long, le)) (sem 𝓛 Rest) given_back γ'))))
-    (lends_Elements 𝓛 R u8 (λ w. with_bytes h (with_part xs m n w)) (named 0) κ q rb ro b p γ mid (omega (arith, long, fn), omega (arith, long, le)) (sem 𝓛 Rest) given_back (R.coded.code h) (R.coded.code h)) $ await ! tt $ pick ! (λ γ'.
+    use1 𝓛 (later (some (λ (γ' : GName). raw (Elements 𝓛 R u8 (λ w. with_bytes h (with_part xs m w)) (named 0) κ q rb ro b p γ mid (omega (arith, long, fn), omega (arith, long, le)) (sem 𝓛 Rest) given_back γ'))))
+    (lends_Elements 𝓛 R u8 (λ w. with_bytes h (with_part xs m w)) (named 0) κ q rb ro b p γ mid (omega (arith, long, fn), omega (arith, long, le)) (sem 𝓛 Rest) given_back (R.coded.code h) (R.coded.code h)) $ await ! tt $ pick ! (λ γ'.
     returns ! (look_at ! 0 refl) $ free_all ! refl $ keep ! (0 ∷ []) $
     let lent : MutBor (List ℕ) = record { ref_ptr = (b, p); ghost_name = γ'; now = mid } in
-    use1 𝓛 (‵ ((MutSlice (named 0) κ u8).own_val lent (slice_val (b, p) (length mid) ∷ [])) ⊛ (‵ (flft κ q) ⊛ (‵ (follows R (Array u8 0) γ γ' (λ w. with_bytes h (with_part xs m n w)))))) (id⊢ 𝓤 _) $
+    use1 𝓛 (‵ ((MutSlice (named 0) κ u8).own_val lent (slice_val (b, p) (length mid) ∷ [])) ⊛ (‵ (flft κ q) ⊛ (‵ (follows R (Array u8 0) γ γ' (λ w. with_bytes h (with_part xs m w)))))) (id⊢ 𝓤 _) $
     split ! $ rewrite ! 0 (λ (k : ℕ). ‵ ((MutSlice (named 0) κ u8).own_val lent (slice_val (b, p) k ∷ []))) long refl $ move ! (1 ∷ []) $ split ! $ move ! (2 ∷ []) $
     suffices ! _ (ends_at 𝓛 f.ended stayed c y (slice_val (b, p) n) lent (tt, (tt, (tt, tt))) (tt, (tt, (tt, tt)))) $
     nothing ! $ nothing ! $ fjoin ! $ nothing ! $ fjoin ! $ nothing ! $ fjoin ! $ join ! $ nothing ! $ move ! (2 ∷ 0 ∷ []) $ join ! $ join ! $ frame ! $ says ! (refl, long) $ done !)))))))
