@@ -12,7 +12,7 @@ use Rattle.frame_links.specs.Lending.{with_bytes as with_page}
 use Rattle.frame_arena.specs.Lending.{with_slot}
 use Rattle.frame_arena.specs.declared.slot.Slot.{Slot}
 use denote.RawPtr.{Ptr}
-use Rattle.frame_arena.specs.Slots.{slot_bytes, no_page, bytes_at, entry, entries_of, live_slots, seen, lists, AreVacant, IsWhole, IsSeat, IsSeated, AreSeated}
+use Rattle.frame_arena.specs.Slots.{slot_bytes, no_page, bytes_at, entry, entries_of, live_slots, seen, lists, AreVacant, IsWhole, IsSeated, AreSeated}
 
 by_bool : {P : Type 0} (b : Bool) → (b ≡ true → P) → (b ≡ false → P) → P
 by_bool true y n = y refl

@@ -1,7 +1,6 @@
 -- Numbers as bytes.
-use Rattle.std.proofs.Common.{◌≡◌, ◌<◌, ◌≤◌, ◌-◌, ◌%◌, ℕ, zero, suc, List, [], ◌∷◌, ◌++◌, map, take, drop, length, get_or, replicate, refl, ap, ◌∙◌, sym, arith}
+use Rattle.std.proofs.Common.{◌≡◌, ◌<◌, ◌%◌, ℕ, zero, suc, List, [], ◌∷◌, ◌++◌, map, take, drop, length, get_or, replicate, refl, ap, ◌∙◌, sym, arith}
 use Rattle.std.proofs.lemmas.List.{map-append, length-map}
-use Rattle.std.proofs.Math.Seq.{take-append_seam}
 use Rattle.emu_model.specs.Pages.{zeros, zeros_is}
 use Rattle.emu_model.specs.State.{AreBytes}
 use Rattle.emu_model.specs.WithinPage.{overwritten}

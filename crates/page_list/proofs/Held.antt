@@ -1,13 +1,13 @@
 -- The frames that slots hold, and what a change of the arena or of the slots does to the entries.
-use Rattle.std.proofs.Common.{◌≡◌, ◌<◌, ◌≤◌, ◌+◌, ◌==◌, ℕ, zero, suc, Bool, true, false, cond, List, [], ◌∷◌, ◌++◌, map, set, take, drop, length, get_or, unwrap_or, Option, Some, None, is_some, refl, sym, ap, ◌∙◌, subst, arith}
-use Rattle.std.proofs.lemmas.Bool.{eqb-true, eqb-false, eq-eqb, false≢true}
+use Rattle.std.proofs.Common.{◌≡◌, ◌<◌, ◌≤◌, ◌+◌, ◌==◌, ℕ, zero, suc, Bool, true, false, cond, List, [], ◌∷◌, ◌++◌, set, take, drop, length, get_or, unwrap_or, Option, None, is_some, refl, sym, ap, ◌∙◌, subst, arith}
+use Rattle.std.proofs.lemmas.Bool.{eqb-true, eqb-false, eq-eqb}
 use Rattle.std.proofs.lemmas.List.{map-append, take-append-drop}
 use Rattle.std.specs.FinMap.{get, insert, remove, contains_key}
 use Rattle.emu_model.specs.Access.{Page}
-use Rattle.frame_arena.proofs.Callers.{get-insert_same, get-insert_other, get-remove_other, live-insert, live-insert_same, live-remove_other}
+use Rattle.frame_arena.proofs.Callers.{get-insert_same, get-insert_other, get-remove_other, live-insert, live-insert_same}
 use Rattle.page_list.specs.declared.slots.Slot.{Slot}
 use Rattle.page_list.specs.Bytes.{as_bytes}
-use Rattle.page_list.specs.Entries.{Entry, changed_at, entry_at, no_entry}
+use Rattle.page_list.specs.Entries.{changed_at, entry_at}
 use Rattle.page_list.specs.Slots.{Live, entry_in, entries_in, holders, AreHeld}
 
 by_bool : {P : Type 0} (b : Bool) → (b ≡ true → P) → (b ≡ false → P) → P

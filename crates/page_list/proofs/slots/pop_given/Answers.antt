@@ -1,6 +1,5 @@
 use Rattle.std.proofs.Common.{◌≡◌, ◌++◌, ◌∷◌, [], List, ap, subst, ◌∙◌, sym, length, take}
 use Rattle.std.proofs.lemmas.List.{length-map, map-append}
-use Rattle.std.specs.FinMap.{remove}
 use Rattle.page_list.specs.declared.slots.Slot.{Slot}
 use Rattle.page_list.specs.Slots.{Live, AreHeld, entry_in, entries_in}
 use Rattle.page_list.proofs.Held.{last_live, entries-popped, held-popped}

@@ -1,4 +1,4 @@
-use Rattle.std.proofs.Common.{◌≡◌, ◌+◌, ◌-◌, ◌<◌, ◌≤◌, ◌++◌, suc, List, ap, subst, ◌∙◌, sym, arith}
+use Rattle.std.proofs.Common.{◌≡◌, ◌+◌, ◌-◌, ◌++◌, suc, List, ap, subst, ◌∙◌, arith}
 use Rattle.page_list.specs.Entries.{Entry, zeroed_entries}
 use Rattle.page_list.specs.Slots.{entries_in}
 use Rattle.page_list.proofs.Lists.{zeroed_next}
@@ -12,7 +12,7 @@ loop-number-preserved c =
     let es = entries_in c.loop-number.arena.live c.loop-number.slots.items in
     let e = c.push_zeroed.ensures in (
       ap (λ (l : List Entry). l ++ zeroed_entries (k + 1) (end - (k + 1)) c.args.rights) e.entries
-      ∙ zeroed_next es k (end - (k + 1)) c.args.rights all (subst (λ n. es ++ zeroed_entries k n c.args.rights ≡ all) left i.0),
+          ∙ zeroed_next es k (end - (k + 1)) c.args.rights all (subst (λ n. es ++ zeroed_entries k n c.args.rights ≡ all) left i.0),
       e.held,
       omega (arith, e.spare, i.2),
       omega (arith, e.length, i.3),

@@ -1,4 +1,4 @@
-use Rattle.std.proofs.Common.{◌≡◌, ◌++◌, ◌∷◌, [], List, ℕ, ap, subst, ◌∙◌, sym, replicate}
+use Rattle.std.proofs.Common.{◌≡◌, ◌++◌, ◌∷◌, [], List, ℕ, ap, subst, ◌∙◌, sym}
 use Rattle.std.specs.FinMap.{insert}
 use Rattle.emu_model.specs.Pages.{zeros, zeros_is}
 use Rattle.frame_arena.specs.Frames.{zeroed}

@@ -1,4 +1,4 @@
-use Rattle.std.proofs.Common.{◌≡◌, ◌<◌, Some, arith, sym, subst}
+use Rattle.std.proofs.Common.{◌≡◌, Some, arith, sym, subst}
 use Rattle.std.specs.FinMap.{get}
 use Rattle.frame_arena.specs.Frames.{IsLive}
 use Rattle.frame_arena.proofs.Table.{slot_in, slot_page, slot_read}

@@ -1,9 +1,7 @@
-use Rattle.std.proofs.Common.{◌≡◌, ℕ, ◌-◌, ◌<◌, List, [], length, set, Option, Some, unwrap_or, arith, refl, sym, ap, ◌∙◌, subst, length-set}
-use Rattle.std.proofs.lemmas.List.{get_or_read}
+use Rattle.std.proofs.Common.{◌≡◌, ℕ, ◌-◌, List, [], length, set, Option, Some, unwrap_or, arith, refl, sym, ap, ◌∙◌, subst, length-set}
 use Rattle.std.specs.FinMap.{get}
 use Rattle.frame_arena.specs.Frames.{Frames, IsLive, with_bytes}
 use Rattle.frame_arena.specs.Lending.{with_slot}
-use Rattle.frame_arena.specs.Slots.{no_page, IsSeated}
 use Rattle.frame_arena.proofs.Kept.{rest_at, seat_with}
 use Rattle.frame_arena.proofs.Table.{slot_in, slot_page, slot_read, slot_written, slot_keeps, seated-set}
 use Rattle.frame_arena.proofs.arena.FrameArena.bytes_mut.Goals as goal

@@ -1,10 +1,10 @@
-use Rattle.std.proofs.Common.{◌≡◌, ◌+◌, ◌*◌, List, [], ◌∷◌, ◌++◌, length, length-set, is_some, option_map, Option, Some, arith, refl, sym, ap, ◌∙◌, subst}
+use Rattle.std.proofs.Common.{◌≡◌, List, [], ◌∷◌, ◌++◌, length, length-set, is_some, option_map, Option, Some, arith, refl, sym, ap, ◌∙◌, subst}
 use Rattle.std.proofs.lemmas.Bool.{false≢true}
-use denote.RawPtr.{block_ptr, block_of, count_of}
+use denote.RawPtr.{block_ptr}
 use Rattle.frame_links.specs.Links.{Place}
 use Rattle.frame_links.specs.declared.page.Page.{Page}
 use Rattle.frame_arena.specs.declared.slot.Slot.{Slot}
-use Rattle.frame_arena.specs.Slots.{slot_bytes, AreVacant, IsWhole, IsSeated, AreSeated, AreSpareSeated}
+use Rattle.frame_arena.specs.Slots.{AreVacant, IsWhole, IsSeated, AreSeated, AreSpareSeated}
 use Rattle.frame_arena.proofs.Kept.{seat_as}
 use Rattle.frame_arena.proofs.Table.{vacant-set, whole-taken, seated-set, length-push, last_page, whole_before, seated_last, seated_before}
 use Rattle.frame_arena.proofs.arena.FrameArena.drop.Goals as goal

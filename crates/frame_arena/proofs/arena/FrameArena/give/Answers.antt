@@ -1,4 +1,4 @@
-use Rattle.std.proofs.Common.{◌≡◌, ◌+◌, ◌-◌, ◌<◌, List, ◌∷◌, length, arith, sym, ap, ◌∙◌, subst, length-set, set, is_some, None}
+use Rattle.std.proofs.Common.{◌≡◌, ◌+◌, ◌-◌, List, ◌∷◌, length, arith, sym, ap, ◌∙◌, subst, length-set, set, is_some, None}
 use Rattle.std.proofs.lemmas.Bool.{false≢true}
 use Rattle.frame_arena.specs.Frames.{Gives, IsLive}
 use Rattle.frame_links.specs.Links.{Place}

@@ -1,9 +1,8 @@
-use Rattle.std.proofs.Common.{◌≡◌, ℕ, ◌-◌, ◌<◌, List, [], length, set, take, drop, Option, Some, unwrap_or, arith, refl, sym, ap, ◌∙◌, subst, length-set}
-use Rattle.std.specs.FinMap.{get}
+use Rattle.std.proofs.Common.{◌≡◌, ℕ, ◌-◌, List, [], length, set, take, drop, Option, unwrap_or, arith, refl, sym, ap, ◌∙◌, subst, length-set}
 use Rattle.frame_links.specs.Lending.{with_part}
-use Rattle.frame_arena.specs.Frames.{Frames, IsLive, with_bytes}
-use Rattle.frame_arena.specs.Lending.{with_slot, with_slot_part}
-use Rattle.frame_arena.specs.LendingFrames.{bytes_of, with_frame_part}
+use Rattle.frame_arena.specs.Frames.{IsLive, with_bytes}
+use Rattle.frame_arena.specs.Lending.{with_slot}
+use Rattle.frame_arena.specs.LendingFrames.{bytes_of}
 use Rattle.frame_arena.specs.Slots.{slot_bytes}
 use Rattle.frame_arena.proofs.Kept.{rest_at, seat_with}
 use Rattle.frame_arena.proofs.Table.{slot_in, slot_page, slot_is, slot_written, slot_keeps, seated-set}
@@ -45,9 +44,12 @@ returns c =
     let live = subst (IsLive c.args.self.now) (sym c.f.view_is) c.requires.live in
     let same : unwrap_or (slot_bytes x) [] ≡ bytes_of c.args.self.now c.args.f.now =
     ap (λ (o : Option (List ℕ)). unwrap_or o []) (slot_is a.total a.slots.items a.free.frames c.args.self.now c.self.view_is q live x c.index_mut.ensures.value) ∙ ap (bytes_of c.args.self.now) c.f.view_is in (
-      (refl, λ v.
-      slot_written a.total a.slots.items a.free.frames c.args.self.now c.self.view_is q live x c.index_mut.ensures.value (with_part (unwrap_or (slot_bytes x) []) at v)
-      ∙ ap (λ k. with_bytes c.args.self.now k (with_part (unwrap_or (slot_bytes x) []) at v)) c.f.view_is ∙ ap (λ (z : List ℕ). with_bytes c.args.self.now c.args.f.now (with_part z at v)) same),
+      (
+        refl,
+        λ v.
+            slot_written a.total a.slots.items a.free.frames c.args.self.now c.self.view_is q live x c.index_mut.ensures.value (with_part (unwrap_or (slot_bytes x) []) at v)
+            ∙ ap (λ k. with_bytes c.args.self.now k (with_part (unwrap_or (slot_bytes x) []) at v)) c.f.view_is ∙ ap (λ (z : List ℕ). with_bytes c.args.self.now c.args.f.now (with_part z at v)) same,
+      ),
       record {
         writes_back = tt;
         bytes = c.part_mut.ensures.bytes ∙ ap (λ (z : List ℕ). take count (drop at z)) same;

@@ -1,6 +1,5 @@
-use Rattle.std.proofs.Common.{◌≡◌, ℕ, ◌+◌, ◌-◌, ◌*◌, ◌<◌, List, [], ◌∷◌, ◌++◌, length, set, arith, refl, sym, ap, ◌∙◌, subst, length-set, Some, Option}
+use Rattle.std.proofs.Common.{◌≡◌, ℕ, ◌+◌, ◌-◌, ◌<◌, List, [], ◌∷◌, ◌++◌, length, set, arith, refl, sym, ap, ◌∙◌, subst, length-set, Some}
 use Rattle.frame_links.specs.Links.{Place}
-use Rattle.frame_links.specs.declared.memory.Memory.{Memory}
 use Rattle.frame_arena.specs.Frames.{Takes, zeroed}
 use Rattle.frame_arena.specs.declared.slot.Slot.{Slot}
 use Rattle.frame_arena.specs.Slots.{AreVacant, IsWhole, AreSeated, AreSpareSeated, IsRest, seen}
@@ -64,7 +63,7 @@ invariant_of-self-2 c =
       seated = subst (AreSeated p) (sym more) (seated-pushed p ss s (seat_as p n b o c.zeroed_page-2.result.block c.zeroed_page-2.result.place c.zeroed_page-2.ensures.0 c.zeroed_page-2.ensures.1 (cut_seat p n b o region.ptr here.0 cut.first)) i.seated);
       spare_seated = i.spare_seated;
       rest = rest_at p (n + 1) (a.total - (n + 1)) (length c.push_reserved.new.self.items) (a.total - length c.push_reserved.new.self.items) (Some c.cut-frame.result.1) left (ap (λ k. a.total - k) left)
-      (cut_rest p n b o region.ptr here.0 cut.first c.cut-frame.result.1.ptr cut.rest, omega (arith, z, cut.size, l));
+          (cut_rest p n b o region.ptr here.0 cut.first c.cut-frame.result.1.ptr cut.rest, omega (arith, z, cut.size, l));
       start = i.start;
       leased = i.leased;
     }

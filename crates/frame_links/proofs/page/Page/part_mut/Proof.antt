@@ -1,5 +1,5 @@
 -- `part_mut` lends a part of the bytes behind the pointer, and the page follows it. Assumes `Logic`.
-use Rattle.std.proofs.Common.{◌≡◌, ℕ, ◌+◌, ◌-◌, ◌≤◌, ◌<◌, ◌^◌, List, [], ◌∷◌, ◌++◌, length, length-append, take, drop as drop_list, take-append-drop, take_all, length-drop, refl, sym, ap, ◌∙◌, arith, MutBor, w64}
+use Rattle.std.proofs.Common.{◌≡◌, ℕ, ◌+◌, ◌-◌, ◌≤◌, List, [], ◌∷◌, ◌++◌, length, length-append, take, drop as drop_list, take-append-drop, take_all, length-drop, refl, sym, ap, ◌∙◌, arith, MutBor, w64}
 use mir.Syntax.{named}
 use mir.Val.{Val, vint, vptr}
 use base.Fraction.{full_share}
@@ -8,7 +8,7 @@ use base.Fml.{GName, Fml, ftrue, fsep, feq, flft}
 use contract.Monad.{fact}
 use contract.Running.{tables}
 use types.Logic.{sem}
-use types.Kit.{‵, raw, ◌⊛◌, some, later, at_ret, ◌$◌, ◌∵◌, !, qed, move, keep, use1, use2, split, split3, join, pick, fsplit, fsplit3, fjoin, fpack, feq_l, feq_i, await, rewrite, group, suffices, frame, done}
+use types.Kit.{‵, raw, ◌⊛◌, some, later, at_ret, ◌$◌, ◌∵◌, !, qed, move, keep, use1, use2, split, join, pick, fsplit, fsplit3, fjoin, fpack, feq_l, feq_i, await, rewrite, group, suffices, frame, done}
 use types.Part.{whole, sub, look_in, agg}
 use types.Run.{stop, fld, load, bin, of_opd, and_then, no_more, first, blocks, exec, returns, enter}
 use types.ByLocal.{alloc_all, pass_all, free_all, look_at, get, through, is, sets, sets_last, env}

@@ -1,4 +1,4 @@
-use Rattle.std.proofs.Common.{◌≡◌, ◌<◌, List, [], length, unwrap_or, Option, ℕ, ap, ◌∙◌, sym, arith}
+use Rattle.std.proofs.Common.{◌<◌, List, [], length, unwrap_or, Option, ℕ, ap, ◌∙◌, sym, arith}
 use Rattle.std.proofs.lemmas.List.{length-map}
 use Rattle.page_list.specs.Bytes.{as_bytes, as_bytes-same}
 use Rattle.page_list.specs.Entries.{Entry, Listed, entry_at}

@@ -42,10 +42,13 @@ returns c =
     let whole : as_bytes old ≡ old = ap as_bytes read ∙ as_bytes-same r c.told_bytes-bytes.ensures.bytes ∙ sym read in
     let entry : (entry_at c.args.self.now.pages i).1.bytes ≡ old =
     ap (λ (l : Listed). (entry_at l.pages i).1.bytes) (sym c.self.view_is) ∙ ap (λ (e : Entry). e.1.bytes) (entry_is live ss i x l c.index-2.ensures) ∙ whole in (
-      (refl, λ w.
-      let z = overwritten at (take (4096 - at) w) old in let g : Page → Page = page_with_bytes at (take (4096 - at) (as_bytes w)) in
-      ap (λ (es : List Entry). record { pages = es; limit = a.limit }) (written live (insert live k z) k (λ f ne. get-insert_other live k z f ne) g ss i x l c.index-2.ensures refl (held_once live ss k c.self.invariant.held) (page_after live x at w))
-      ∙ ap (λ (l : Listed). with_part l i at w) c.self.view_is),
+      (
+        refl,
+        λ w.
+            let z = overwritten at (take (4096 - at) w) old in let g : Page → Page = page_with_bytes at (take (4096 - at) (as_bytes w)) in
+            ap (λ (es : List Entry). record { pages = es; limit = a.limit }) (written live (insert live k z) k (λ f ne. get-insert_other live k z f ne) g ss i x l c.index-2.ensures refl (held_once live ss k c.self.invariant.held) (page_after live x at w))
+            ∙ ap (λ (l : Listed). with_part l i at w) c.self.view_is,
+      ),
       record {
         writes_back = tt;
         bytes = c.part_mut.ensures.bytes ∙ ap (λ (z : List ℕ). take c.args.count (drop at z)) (sym entry);

@@ -1,7 +1,7 @@
 use Rattle.std.proofs.Common.{◌≡◌, ◌≤◌, ◌+◌, ◌++◌, List, length, take, drop, ap, ◌∙◌, sym, subst, arith}
 use Rattle.std.proofs.lemmas.List.{length-map}
 use Rattle.page_list.specs.declared.slots.Slot.{Slot}
-use Rattle.page_list.specs.Entries.{Entry, Listed}
+use Rattle.page_list.specs.Entries.{Listed}
 use Rattle.page_list.specs.Slots.{AreHeld, entry_in, entries_in}
 use Rattle.page_list.proofs.Held.{held-moved}
 use Rattle.page_list.proofs.Lists.{cut_off, length_turned}
