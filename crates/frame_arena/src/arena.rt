@@ -138,6 +138,7 @@ impl FrameArena {
     }
 
     /// The 4,096 bytes of a live frame.
+    #[inline(always)]
     pub fn bytes(&self, f: &Frame) -> &[u8]
         requires { IsLive self.now f.now }
         ensures bytes { map.get self.now.live f.now ≡ Some result.now }
@@ -147,6 +148,7 @@ impl FrameArena {
     }
 
     /// The 4,096 bytes of a live frame, for writing. No other frame is changed.
+    #[inline(always)]
     pub fn bytes_mut(&mut self, f: &Frame) -> &mut [u8]
         requires { IsLive self.old f.now }
         ensures* writes_back { sem 𝓛 (LendsFrame self.entry f.now result) }
@@ -160,6 +162,7 @@ impl FrameArena {
     }
 
     /// `count` bytes of a live frame from place `at` on, for writing.
+    #[inline(always)]
     pub fn part_mut(&mut self, f: &Frame, at: usize, count: usize) -> &mut [u8]
         requires live { IsLive self.old f.now }
         requires within { at + count ≤ 4096 }

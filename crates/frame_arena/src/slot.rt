@@ -21,6 +21,7 @@ pub(crate) fn zeroed_page(frame: Spare) -> Page
 }
 
 impl Slot {
+    #[inline(always)]
     pub(crate) fn bytes(&self) -> &[u8; 4096]
         requires { IsSome self.now.page }
         ensures { slot_bytes self.now ≡ Some result.now }
@@ -31,6 +32,7 @@ impl Slot {
         }
     }
 
+    #[inline(always)]
     pub(crate) fn bytes_mut(&mut self) -> &mut [u8; 4096]
         requires { IsSome self.old.page }
         ensures* writes_back { sem 𝓛 (LendsSlot self.entry result) }
@@ -42,6 +44,7 @@ impl Slot {
         }
     }
 
+    #[inline(always)]
     pub(crate) fn part_mut(&mut self, at: usize, count: usize) -> &mut [u8]
         requires live { IsSome self.old.page }
         requires within { at + count ≤ 4096 }

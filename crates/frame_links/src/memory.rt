@@ -1,4 +1,4 @@
-// The region as its allocator sees it.
+//! The region, as its allocator sees it and as frames are cut off it.
 ghost use Rattle.std.specs.Prelude.{◌≡◌, ℕ, ◌+◌, ◌≤◌, ◌<◌, ◌^◌, IfSome};
 ghost use denote.RawPtr.{Ptr, block_ptr, block_of, count_of};
 ghost use Rattle.linked_list_allocator.specs.Ownership.{bytes_at, units_of};
@@ -8,7 +8,7 @@ use crate::list::Spare;
 use std::alloc::Allocator;
 use std::marker::{Model, PhantomData};
 
-// `size` bytes in which nothing lies.
+/// `size` bytes in which nothing lies.
 #[derive(Drop)]
 pub struct Memory {
     ptr: *mut u8,
@@ -20,7 +20,7 @@ impl Model for Memory {
     ghost also_owns = { λ m. bytes_at m.ptr m.size };
 }
 
-// The right to give them back.
+/// The right to give the region back to its allocator.
 #[derive(Drop)]
 pub struct Lease<A: Allocator> {
     marker: PhantomData<A>,
@@ -34,6 +34,7 @@ impl<A: Allocator> Model for Lease<A> {
 }
 
 impl Memory {
+    /// A region of `size` bytes. None where the allocator has none.
     pub fn new<A: Allocator>(alloc: &A, size: usize) -> Option<(Memory, Lease<A>)>
         requires { IsRegionSize size }
         ensures { IfSome result (λ m. (m.0.size ≡ size) × (m.1.alloc ≡ alloc.now) × (m.1.ptr ≡ m.0.ptr) × (m.1.size ≡ size) × (m.0.ptr ≡ block_ptr (block_of m.0.ptr) (count_of m.0.ptr))) }
@@ -47,7 +48,7 @@ impl Memory {
         }
     }
 
-    // The first frame, and the rest.
+    /// The first frame, and the rest.
     pub fn cut(self) -> (Spare, Memory)
         requires { 4096 ≤ self.size }
         ensures size { result.1.size + 4096 ≡ self.size }
@@ -60,7 +61,7 @@ impl Memory {
         (Spare { at: ptr }, Memory { ptr: rest, size })
     }
 
-    // The same the other way round: a frame that lies just before these bytes joins them.
+    /// The frame that lies just before these bytes joins them.
     pub fn glue(self, frame: Spare) -> Memory
         requires { (self.ptr ≡ block_ptr frame.block (frame.place + 4096)) × (self.size + 4096 < 2 ^ 63) }
         ensures { (result.ptr ≡ block_ptr frame.block frame.place) × (result.size ≡ self.size + 4096) }
@@ -71,7 +72,7 @@ impl Memory {
         Memory { ptr: at, size }
     }
 
-    // Gives the bytes back to the allocator.
+    /// Gives the region back to its allocator.
     pub fn free<A: Allocator>(self, lease: Lease<A>, alloc: &A)
         requires { (lease.alloc ≡ alloc.now) × (lease.ptr ≡ self.ptr) × (lease.size ≡ self.size) }
     {
