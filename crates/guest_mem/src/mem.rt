@@ -60,7 +60,7 @@ impl Mem {
         ensures unchanged { self.new ≡ self.old }
     {
         if address % 4096 + n as u64 <= 4096 {
-            load_within(&self.pages, address, n, kind)
+            load_within(&mut self.pages, address, n, kind)
         } else {
             load_across(&self.pages, address, n, kind)
         }
@@ -101,7 +101,7 @@ impl Mem {
         ensures length { MatchOption result ⊤ (λ s. length s.now ≡ to_page_end address most) }
         ensures allowed { IfSome result (λ s. refused self.old address (to_page_end address most) kind ≡ None) }
     {
-        slice_within(&self.pages, address, most, kind)
+        slice_within(&mut self.pages, address, most, kind)
     }
 
     /// The bytes from an address to the end of its page, at most `most`, for writing. None exactly where the page of the

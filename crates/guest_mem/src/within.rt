@@ -1,6 +1,9 @@
 //! Accesses of bytes that lie in one page.
 ghost use Rattle.std.specs.Prelude.{◌≡◌, ◌<◌, ◌≤◌, ◌+◌, ◌%◌, ◌^◌, ⊤, false, None, IfOk, IfSome, MatchOption, length};
 ghost use Rattle.std.specs.Option.{is_some};
+ghost use mathlib.Core.Option.{none};
+ghost use Rattle.std.specs.Borrow.{sem, follows_so};
+ghost use Rattle.guest_pages.specs.contracts.pages.Pages.{the_row as pages_row};
 ghost use Rattle.emu_model.specs.Pages.{bytes_at};
 ghost use Rattle.guest_mem.specs.Slices.{after_write, to_page_end, written_count};
 ghost use Rattle.byteorder.specs.Endian.{little_number};
@@ -40,14 +43,15 @@ fn number(bytes: &[u8], n: u32) -> u128
 }
 
 /// A load of bytes that lie in one page.
-pub fn load_within(pages: &Pages, address: u64, n: u32, kind: Kind) -> Result<u128, Denied>
+pub fn load_within(pages: &mut Pages, address: u64, n: u32, kind: Kind) -> Result<u128, Denied>
     requires some { 1 ≤ n }
     requires most { n ≤ 16 }
     requires within { address % 4096 + n ≤ 4096 }
-    ensures value { result ≡ loaded pages.now address n kind }
+    ensures value { result ≡ loaded pages.old address n kind }
     ensures small { IfOk result (λ v. v < 256 ^ n) }
+    ensures unchanged { pages.new ≡ pages.old }
 {
-    match pages.find(address / 4096) {
+    match pages.seek(address / 4096) {
         None => Err(Denied { address, kind }),
         Some((rights, bytes)) => {
             if allows(rights, kind) {
@@ -79,14 +83,15 @@ pub fn store_within(pages: &mut Pages, address: u64, n: u32, v: u128) -> Result<
 }
 
 /// The bytes from an address to the end of its page, at most `most`.
-pub fn slice_within(pages: &Pages, address: u64, most: usize, kind: Kind) -> Option<&[u8]>
-    ensures variant { is_some result ≡ allowed pages.now kind address }
-    ensures bytes { MatchOption result (allowed pages.now kind address ≡ false)
-        (λ s. s.now ≡ bytes_at pages.now address (to_page_end address most)) }
+pub fn slice_within(pages: &mut Pages, address: u64, most: usize, kind: Kind) -> Option<&[u8]>
+    ensures* unchanged { sem 𝓛 (follows_so pages_row pages_row pages.entry.ghost_name none (λ _ _. ⊤) (λ m. m ≡ pages.old)) }
+    ensures variant { is_some result ≡ allowed pages.old kind address }
+    ensures bytes { MatchOption result (allowed pages.old kind address ≡ false)
+        (λ s. s.now ≡ bytes_at pages.old address (to_page_end address most)) }
     ensures length { MatchOption result ⊤ (λ s. length s.now ≡ to_page_end address most) }
-    ensures allowed { IfSome result (λ s. refused pages.now address (to_page_end address most) kind ≡ None) }
+    ensures allowed { IfSome result (λ s. refused pages.old address (to_page_end address most) kind ≡ None) }
 {
-    match pages.find(address / 4096) {
+    match pages.seek(address / 4096) {
         None => None,
         Some((rights, bytes)) => {
             if allows(rights, kind) {

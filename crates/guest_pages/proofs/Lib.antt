@@ -1,4 +1,3 @@
-pub mod Bytes
 pub mod Faults
 pub mod Found
 pub mod Lent
@@ -6,4 +5,5 @@ pub mod Maps
 pub mod Ordered
 pub mod Parts
 pub mod Removed
+pub mod Right
 pub mod Written

@@ -1,18 +1,14 @@
 -- The map that a list of entries stands for.
-use Rattle.std.proofs.Common.{◌≡◌, ◌<◌, ◌+◌, ℕ, zero, suc, Bool, true, false, List, [], ◌∷◌, ◌++◌, length, get_or, set, Option, Some, None, refl, sym, ap, ◌∙◌, subst, cond, arith, is_some, append_assoc}
-use Rattle.std.proofs.lemmas.List.{map-append}
+use Rattle.std.proofs.Common.{◌≡◌, ◌<◌, ◌+◌, ℕ, zero, suc, Bool, true, false, List, [], ◌∷◌, length, Option, Some, None, refl, sym, ap, ◌∙◌, subst, cond, arith, is_some}
 use Rattle.std.specs.List.{AllByRecursion}
 use Rattle.std.specs.Ordering.{nat_cmp, eq_by_cmp}
 use Rattle.std.specs.Cmp.{nat_cmp_total, unsigned_tied}
 use Rattle.std.specs.FinMap.{FinMap, find, get, len, get-from_entries, get-insert, len-insert, len-empty, same_map, nat_cmp-IsAntisymmetric}
 use Rattle.std.proofs.lemmas.Bool.{eqb-true}
 use Rattle.emu_model.specs.Access.{Page}
-use Rattle.emu_model.specs.declared.access.Rights.{Rights}
-use Rattle.emu_model.specs.Pages.{zeroed_page}
 use Rattle.emu_model.specs.State.{AreBytes, IsSoundPage, IsSoundMemory}
 use Rattle.emu_model.specs.WithinPage.{pages_changed}
-use Rattle.guest_pages.specs.declared.slots.Slot.{Slot}
-use Rattle.guest_pages.specs.Slots.{Entry, IsEntry, IsAscending, IsAbove, IsAt, AreInOrder, entry_of, entries_of, page_in, pages_of, changed, zeroed_entries}
+use Rattle.guest_pages.specs.Places.{Entry, IsEntry, IsAscending, IsAbove, IsAt, AreInOrder, entry_at, pages_of, changed, changed_at}
 use Rattle.guest_pages.proofs.Ordered.{IsApart, all_at, all_map, find_apart, tied_same, tied_apart}
 
 pub get_is : (es : List Entry) (q : ℕ) → get (pages_of es) q ≡ find nat_cmp q es
@@ -106,7 +102,7 @@ order_changed limit f page es keeps h = record {
   narrow = h.narrow;
 }
 
--- ---- what is found among slots
+-- ---- what is found among entries
 
 found_sound : (es : List Entry) (q : ℕ) (p : Page) → AllByRecursion IsEntry es → find nat_cmp q es ≡ Some p → IsSoundPage q p
 found_sound [] q p h is = cc
@@ -127,23 +123,26 @@ sound_is limit es h = record {
   pages = λ number p is. found_sound es number p h.each (sym (get_is es number) ∙ is);
 }
 
--- the slot of a page, replaced by one with the page changed
-pub set_changed : (l : List Slot) (f : Page → Page) (page i : ℕ) (s : Slot) → IsAt l page i → IsAscending (entries_of l) → s.number ≡ page → page_in s ≡ f (page_in (get_or l i s)) → entries_of (set l i s) ≡ changed f page (entries_of l)
-set_changed [] f page i s at h number is = absurd (omega (arith, at.within))
-set_changed (t ∷ l) f page zero s at h number is =
-    (λ k. (number k, is k) ∷ entries_of l)
-    ∙ ap (λ n. (n, f (page_in t)) ∷ entries_of l) (sym (at.number s))
-    ∙ ap (λ b. cond b ((t.number, f (page_in t)) ∷ entries_of l) (entry_of t ∷ changed f page (entries_of l))) (sym (tied_same page t.number (sym (at.number s))))
-set_changed (t ∷ l) f page (suc i) s at h number is =
-    let above : t.number < (get_or l i s).number = all_at (IsAbove t.number) entry_of l h.0 i s (omega (arith, at.within)) in
-    let apart : page ≡ t.number → ⊥ = λ e. omega (arith, at.number s) in
-    ap (λ r. entry_of t ∷ r) (set_changed l f page i s (record { within = omega (arith, at.within); number = λ d. at.number d }) h.1 number is)
-    ∙ ap (λ b. cond b ((t.number, f (page_in t)) ∷ entries_of l) (entry_of t ∷ changed f page (entries_of l))) (sym (tied_apart page t.number apart))
+-- the page at the place of its entry, changed
+pub changed_there : (l : List Entry) (f : Page → Page) (page i : ℕ) → IsAt l page i → IsAscending l → changed_at f i l ≡ changed f page l
+changed_there [] f page i at h = absurd (omega (arith, at.within))
+changed_there (t ∷ l) f page zero at h = ap (λ b. cond b ((t.0, f t.1) ∷ l) (t ∷ changed f page l)) (sym (tied_same page t.0 (sym at.number)))
+changed_there (t ∷ l) f page (suc i) at h =
+    let above : t.0 < (entry_at l i).0 = all_at (IsAbove t.0) l h.0 i (omega (arith, at.within)) in
+    let apart : page ≡ t.0 → ⊥ = λ e. omega (arith, at.number) in
+    ap (λ r. t ∷ r) (changed_there l f page i (record { within = omega (arith, at.within); number = at.number }) h.1)
+    ∙ ap (λ b. cond b ((t.0, f t.1) ∷ l) (t ∷ changed f page l)) (sym (tied_apart page t.0 apart))
 
--- one more zeroed slot
-pub zeroed_next : (l : List Slot) (s : Slot) (number left : ℕ) (rights : Rights) (all : List Entry) → entry_of s ≡ (number, zeroed_page rights) → entries_of l ++ zeroed_entries number (suc left) rights ≡ all → entries_of (l ++ s ∷ []) ++ zeroed_entries (number + 1) left rights ≡ all
-zeroed_next l s number left rights all is h =
-    ap (λ es. es ++ zeroed_entries (number + 1) left rights) (map-append entry_of l (s ∷ []))
-    ∙ append_assoc (entries_of l) (entry_of s ∷ []) (zeroed_entries (number + 1) left rights)
-    ∙ ap (λ (e : Entry). entries_of l ++ e ∷ zeroed_entries (number + 1) left rights) is
-    ∙ h
+-- the numbers stay where they are
+pub number_changed : (f : Page → Page) (page : ℕ) (l : List Entry) (k : ℕ) → (entry_at (changed f page l) k).0 ≡ (entry_at l k).0
+number_changed f page [] k = refl
+number_changed f page (e ∷ l) zero =
+    elim (eq_by_cmp nat_cmp page e.0) as (λ t. (entry_at (cond t ((e.0, f e.1) ∷ l) (e ∷ changed f page l)) 0).0 ≡ e.0) [
+      | true ↦ refl
+      | false ↦ refl
+    ]
+number_changed f page (e ∷ l) (suc k) =
+    elim (eq_by_cmp nat_cmp page e.0) as (λ t. (entry_at (cond t ((e.0, f e.1) ∷ l) (e ∷ changed f page l)) (suc k)).0 ≡ (entry_at l k).0) [
+      | true ↦ refl
+      | false ↦ number_changed f page l k
+    ]

@@ -3,8 +3,9 @@
 //! The number of a page is its address divided by 4,096.
 #![tactic(auto)]
 
+mod cache;
 pub mod pages;
-mod slots;
+mod places;
 
 pub use emu_model::Rights;
 pub use pages::{MapFault, OutOfMemory, Pages, Unmapped};

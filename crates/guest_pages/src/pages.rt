@@ -1,24 +1,29 @@
 //! The mapped pages, and the calls that map, find and change them.
-ghost use Rattle.std.specs.Prelude.{◌≡◌, ◌≤◌, ◌<◌, ◌+◌, ◌*◌, ◌^◌, length, if◌then◌else◌, MatchOption, IfOk, IfErr, IfSome, OnOk, OnErr, IsTrue, option_map, ⊤};
+ghost use Rattle.std.specs.Prelude.{◌≡◌, ◌≤◌, ◌<◌, ◌+◌, ◌*◌, ◌^◌, length, if◌then◌else◌, MatchOption, IfOk, IfSome, OnOk, OnErr, IsTrue, option_map, ⊤};
 ghost use Rattle.std.specs.FinMap as map;
+ghost use mathlib.Core.Option.{none};
 ghost use Rattle.emu_model.specs.Access.{page_gives};
-ghost use Rattle.std.specs.Borrow.{sem, Lends, LendsIf, Array, u8 as byte};
+ghost use Rattle.std.specs.Borrow.{sem, follows_so, Lends, LendsIf, Array, u8 as byte};
 ghost use Rattle.guest_pages.specs.contracts.pages.Pages.{the_row};
 ghost use Rattle.guest_pages.specs.Lending.{with_part};
 ghost use Rattle.emu_model.specs.Pages.{bytes_at, least_unmapped, mapped, protected, unmapped, with_bytes};
 ghost use Rattle.emu_model.specs.State.{IsSoundMemory};
 ghost use Rattle.guest_pages.specs.MapFault.{map_fault, protect_answer};
 
-use crate::slots::{
-    PAGE_BYTES, Slot, find_slot, insert_slots, is_mapped, mapped_place, place, protect_slots,
-    remove_slots, store_slot, taken, told_bytes, unmapped_page, write_slot, zeroed_slots,
+use crate::cache::Cache;
+use crate::places::{
+    cached_place, is_mapped, look_up, mapped_place, protect_pages, remove_pages, store_page, taken,
+    unmapped_page, write_page,
 };
 use emu_model::{Kind, Rights};
-use std::alloc::{AllocError, Global};
+use page_list::PageList;
+use std::alloc::Global;
 use std::marker::Model;
 
-/// Want of memory.
-pub type OutOfMemory = AllocError;
+/// The number of bytes of a page.
+const PAGE_BYTES: usize = 4096;
+
+pub use page_list::OutOfMemory;
 
 /// Why pages can't be mapped.
 #[derive(Clone, Copy, Debug, PartialEq, Eq)]
@@ -27,7 +32,6 @@ pub enum MapFault {
     Taken(u64),
     /// There would be more pages than the limit allows.
     Full,
-    OutOfMemory,
 }
 
 /// A page that isn't mapped.
@@ -39,9 +43,8 @@ pub struct Unmapped {
 /// The mapped pages. Contracts see them as a finite map from page to rights and bytes, and the greatest number of pages.
 #[derive(Drop)]
 pub struct Pages {
-    alloc: Global,
-    slots: Vec<Slot>,
-    limit: u32,
+    list: PageList,
+    cache: Cache,
 }
 
 impl Model for Pages {
@@ -51,7 +54,7 @@ impl Model for Pages {
 
     ghost coded = { coded_memory };
 
-    ghost use Rattle.guest_pages.specs.Slots.{memory_of, IsInOrder};
+    ghost use Rattle.guest_pages.specs.Places.{memory_of, IsInOrder};
 
     ghost view = { memory_of };
 
@@ -59,14 +62,14 @@ impl Model for Pages {
 }
 
 impl Pages {
-    /// No pages, of which at most `limit` may be mapped.
+    /// No pages, of which at most `limit` may be mapped. No later call takes memory.
     pub fn new(alloc: Global, limit: u32) -> Result<Pages, OutOfMemory>
         ensures { IfOk result (λ p. p ≡ record { pages = map.empty; limit = limit }) }
     {
+        let list = PageList::new(alloc, limit)?;
         Ok(Pages {
-            alloc,
-            slots: Vec::new(alloc),
-            limit,
+            list,
+            cache: Cache::empty(),
         })
     }
 
@@ -75,14 +78,14 @@ impl Pages {
         ensures count { result ≡ map.len self.now.pages }
         ensures sound { IsSoundMemory self.now }
     {
-        self.slots.len() as u32
+        self.list.len() as u32
     }
 
     /// Whether a page is mapped.
     pub fn is_mapped(&self, page: u64) -> bool
         ensures { result ≡ map.contains_key self.now.pages page }
     {
-        is_mapped(&self.slots, page)
+        is_mapped(&self.list, &self.cache, page)
     }
 
     /// The rights and the 4,096 bytes of a page. None exactly where the page isn't mapped.
@@ -91,12 +94,23 @@ impl Pages {
             (λ f. map.get self.now.pages page ≡ Some (record { rights = f.0; bytes = f.1.now })) }
         ensures whole { MatchOption result ⊤ (λ f. length f.1.now ≡ 4096) }
     {
-        match find_slot(&self.slots, page) {
+        match cached_place(&self.list, &self.cache, page) {
             None => None,
-            Some(at) => {
-                let slot = &self.slots[at];
-                Some((slot.rights, told_bytes(&slot.bytes)))
-            }
+            Some(i) => Some((self.list.rights(i), self.list.bytes(i))),
+        }
+    }
+
+    /// The same, and the look-up cache has the page from then on.
+    #[inline(always)]
+    pub fn seek(&mut self, page: u64) -> Option<(Rights, &[u8])>
+        ensures* unchanged { sem 𝓛 (follows_so the_row the_row self.entry.ghost_name none (λ _ _. ⊤) (λ m. m ≡ self.old)) }
+        ensures found { MatchOption result (map.get self.old.pages page ≡ None)
+            (λ f. map.get self.old.pages page ≡ Some (record { rights = f.0; bytes = f.1.now })) }
+        ensures whole { MatchOption result ⊤ (λ f. length f.1.now ≡ 4096) }
+    {
+        match look_up(&self.list, &mut self.cache, page) {
+            None => None,
+            Some(i) => Some((self.list.rights(i), self.list.bytes(i))),
         }
     }
 
@@ -121,7 +135,7 @@ impl Pages {
         ensures whole { length result.now ≡ 4096 }
     {
         // a field is looked at, so that the proof may use what the pages keep to
-        let _ = &self.limit;
+        let _ = &self.cache;
         self.part_mut(page, 0, PAGE_BYTES)
     }
 
@@ -133,10 +147,8 @@ impl Pages {
         ensures value { result.now ≡ bytes_at self.old (page * 4096 + at) count }
         ensures length { length result.now ≡ count }
     {
-        let i = mapped_place(&self.slots, page);
-        // for its clause: what the slot has are bytes
-        let _bytes = told_bytes(&self.slots[i].bytes);
-        self.slots[i].bytes.slice_mut(at..at + count)
+        let i = mapped_place(&self.list, &mut self.cache, page);
+        self.list.part_mut(i, at, count)
     }
 
     /// Maps `count` pages from page `first` on, with these rights and their bytes 0. `Taken` has the least of them that is
@@ -146,24 +158,20 @@ impl Pages {
         requires begins { 1 ≤ first }
         requires ends { first + count ≤ 2 ^ 35 }
         ensures refused { IfSome (map_fault self.old first count) (λ fault. result ≡ Err fault) }
-        ensures wanting { map_fault self.old first count ≡ None → IfErr result (λ fault. fault ≡ MapFault.OutOfMemory) }
+        ensures granted { map_fault self.old first count ≡ None → result ≡ Ok (record {}) }
         ensures mapped { OnOk result (self.new ≡ mapped self.old first count rights) }
         ensures unchanged { OnErr result (self.new ≡ self.old) }
     {
-        let at = place(&self.slots, first);
-        if let Some(page) = taken(&self.slots, at, first, count) {
+        let at = self.list.place(first);
+        if let Some(page) = taken(&self.list, at, first, count) {
             return Err(MapFault::Taken(page));
         }
-        if self.limit as u64 - (self.slots.len() as u64) < count {
+        if self.list.limit() as u64 - (self.list.len() as u64) < count {
             return Err(MapFault::Full);
         }
-        let Ok(fresh) = zeroed_slots(self.alloc, first, count, rights) else {
-            return Err(MapFault::OutOfMemory);
-        };
-        match insert_slots(&mut self.slots, at, fresh) {
-            Ok(()) => Ok(()),
-            Err(_) => Err(MapFault::OutOfMemory),
-        }
+        self.cache = Cache::empty();
+        self.list.insert(at, first, count, rights);
+        Ok(())
     }
 
     /// Takes away those of `count` pages from page `first` on that are mapped.
@@ -171,7 +179,8 @@ impl Pages {
         requires { first + count ≤ 2 ^ 35 }
         ensures { self.new ≡ unmapped self.old first count }
     {
-        remove_slots(&mut self.slots, first, count);
+        self.cache = Cache::empty();
+        remove_pages(&mut self.list, first, count);
     }
 
     /// Gives `count` pages from page `first` on these rights. `Unmapped` has the least of them that isn't mapped, and then no
@@ -182,10 +191,10 @@ impl Pages {
         ensures protected { OnOk result (self.new ≡ protected self.old first count rights) }
         ensures unchanged { OnErr result (self.new ≡ self.old) }
     {
-        if let Some(page) = unmapped_page(&self.slots, first, count) {
+        if let Some(page) = unmapped_page(&self.list, &self.cache, first, count) {
             return Err(Unmapped { page });
         }
-        protect_slots(&mut self.slots, first, count, rights);
+        protect_pages(&mut self.list, first, count, rights);
         Ok(())
     }
 
@@ -195,7 +204,7 @@ impl Pages {
         requires within { at + length bytes.now ≤ 4096 }
         ensures { self.new ≡ with_bytes self.old (page * 4096 + at) bytes.now }
     {
-        write_slot(&mut self.slots, page, at, bytes);
+        write_page(&mut self.list, &mut self.cache, page, at, bytes);
     }
 
     /// Replaces the bytes of a page from place `at` on where it may be written, and answers whether it may.
@@ -205,6 +214,6 @@ impl Pages {
         ensures allowed { result ≡ page_gives (map.get self.old.pages page) Kind.Write }
         ensures bytes { self.new ≡ (if result then with_bytes self.old (page * 4096 + at) bytes.now else self.old) }
     {
-        store_slot(&mut self.slots, page, at, bytes)
+        store_page(&mut self.list, &mut self.cache, page, at, bytes)
     }
 }

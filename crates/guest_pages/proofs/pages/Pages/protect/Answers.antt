@@ -1,27 +1,24 @@
-use Rattle.std.proofs.Common.{◌≡◌, List, sym, ap, ◌∙◌, subst}
+use Rattle.std.proofs.Common.{sym, ap, ◌∙◌, subst}
 use Rattle.std.specs.FinMap.{FinMap}
 use Rattle.std.specs.Ordering.{nat_cmp}
-use Rattle.std.specs.Vec.{with_items}
 use Rattle.emu_model.specs.Access.{Memory, Page}
 use Rattle.emu_model.specs.Pages.{protected}
-use Rattle.guest_pages.specs.declared.slots.Slot.{Slot}
-use Rattle.guest_pages.specs.Slots.{pages_of, AreInOrder, entries_of, all_changed, page_with_rights}
-use Rattle.guest_pages.proofs.Removed.{protected_is, order_protected, length_all_changed}
-use Rattle.guest_pages.proofs.Written.{written_back}
+use Rattle.guest_pages.specs.Places.{pages_of, AreInOrder, IsRight, page_with_rights}
+use Rattle.guest_pages.proofs.Removed.{protected_is, order_protected}
+use Rattle.guest_pages.proofs.Right.{right_all_changed}
 use Rattle.guest_pages.proofs.pages.Pages.protect.Goals as goal
 
--- the entries after the call
-after : (c : goal.After-self-1) → entries_of (with_items c.self.inside.slots c.protect_slots.new.slots).items ≡ all_changed (page_with_rights c.args.rights) c.args.first c.args.count (entries_of c.self.inside.slots.items)
-after c =
-    written_back c.self.inside c.protect_slots.new.slots _
-    (c.protect_slots.ensures ∙ ap (λ (l : List Slot). all_changed (page_with_rights c.args.rights) c.args.first c.args.count (entries_of l)) c.deref_mut.ensures.value)
-    (length_all_changed (page_with_rights c.args.rights) c.args.count c.args.first (entries_of c.self.inside.slots.items))
-
 pub invariant_of-self : goal.invariant_of-self
-invariant_of-self c = subst (λ es. AreInOrder c.self.inside.limit es) (sym (after c)) (order_protected c.args.count c.args.first c.self.inside.limit c.args.rights (entries_of c.self.inside.slots.items) c.self.invariant)
+invariant_of-self c =
+    let a = c.self.inside in let e = c.protect_pages.ensures in
+    record {
+      order = subst (λ n. AreInOrder n c.protect_pages.new.list.pages) (sym e.limit) (subst (AreInOrder a.list.limit) (sym e.pages) (order_protected c.args.count c.args.first a.list.limit c.args.rights a.list.pages c.self.invariant.order));
+      right = subst (λ es. IsRight es a.cache) (sym e.pages) (right_all_changed (page_with_rights c.args.rights) c.args.count c.args.first a.list.pages a.cache c.self.invariant.right);
+    }
 
 pub returns-clause-protected : goal.returns-clause-protected
 returns-clause-protected c =
-    ap (λ es. record { pages = pages_of es; limit = c.self.inside.limit }) (after c)
-    ∙ ap (λ (p : FinMap nat_cmp Page). record { pages = p; limit = c.self.inside.limit }) (protected_is c.args.count c.args.first c.args.rights (entries_of c.self.inside.slots.items))
+    let a = c.self.inside in let e = c.protect_pages.ensures in
+    (λ i. record { pages = pages_of (e.pages i); limit = e.limit i })
+    ∙ ap (λ (p : FinMap nat_cmp Page). record { pages = p; limit = a.list.limit }) (protected_is c.args.count c.args.first c.args.rights a.list.pages)
     ∙ ap (λ (m : Memory). protected m c.args.first c.args.count c.args.rights) c.self.view_is

@@ -3,15 +3,20 @@ use Rattle.std.specs.FinMap.{FinMap}
 use Rattle.std.specs.Ordering.{nat_cmp}
 use Rattle.emu_model.specs.Access.{Memory, Page}
 use Rattle.emu_model.specs.Pages.{is_among, unmapped}
-use Rattle.guest_pages.specs.Slots.{pages_of, AreInOrder, entries_of}
+use Rattle.guest_pages.specs.Places.{pages_of, AreInOrder}
 use Rattle.guest_pages.proofs.Removed.{removed_is, order_filter}
 use Rattle.guest_pages.proofs.pages.Pages.unmap.Goals as goal
 
 pub invariant_of-self : goal.invariant_of-self
-invariant_of-self c = subst (λ es. AreInOrder c.self.inside.limit es) (sym c.remove_slots.ensures) (order_filter c.self.inside.limit (λ page. not (is_among c.args.first c.args.count page)) (entries_of c.self.inside.slots.items) c.self.invariant)
+invariant_of-self c =
+    let a = c.self.inside in
+    record {
+      order = subst (λ n. AreInOrder n c.remove_pages.new.list.pages) (sym c.remove_pages.ensures.limit) (subst (AreInOrder a.list.limit) (sym c.remove_pages.ensures.pages) (order_filter a.list.limit (λ page. not (is_among c.args.first c.args.count page)) a.list.pages c.self.invariant.order));
+      right = c.empty-self-inside.ensures c.remove_pages.new.list.pages;
+    }
 
 pub returns : goal.returns
 returns c =
-    ap (λ es. record { pages = pages_of es; limit = c.self.inside.limit }) c.remove_slots.ensures
-    ∙ ap (λ (p : FinMap nat_cmp Page). record { pages = p; limit = c.self.inside.limit }) (removed_is c.args.first c.args.count (entries_of c.self.inside.slots.items))
+    (λ i. record { pages = pages_of (c.remove_pages.ensures.pages i); limit = c.remove_pages.ensures.limit i })
+    ∙ ap (λ (p : FinMap nat_cmp Page). record { pages = p; limit = c.self.inside.list.limit }) (removed_is c.args.first c.args.count c.self.inside.list.pages)
     ∙ ap (λ (m : Memory). unmapped m c.args.first c.args.count) c.self.view_is

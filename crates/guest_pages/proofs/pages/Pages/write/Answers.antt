@@ -1,27 +1,22 @@
-use Rattle.std.proofs.Common.{◌≡◌, ◌+◌, ◌*◌, List, sym, ap, ◌∙◌, subst}
-use Rattle.std.specs.Vec.{with_items}
+use Rattle.std.proofs.Common.{◌+◌, ◌*◌, sym, ap, ◌∙◌, subst}
 use Rattle.emu_model.specs.Access.{Memory}
 use Rattle.emu_model.specs.Pages.{with_bytes}
-use Rattle.emu_model.specs.WithinPage.{page_with_bytes}
-use Rattle.guest_pages.specs.declared.slots.Slot.{Slot}
-use Rattle.guest_pages.specs.Slots.{pages_of, AreInOrder, entries_of, changed}
-use Rattle.guest_pages.proofs.Maps.{length_changed}
-use Rattle.guest_pages.proofs.Bytes.{are_bytes}
-use Rattle.guest_pages.proofs.Written.{written_back, order_written, written_is}
+use Rattle.page_list.proofs.Bytes.{are_bytes}
+use Rattle.guest_pages.specs.Places.{pages_of, AreInOrder}
+use Rattle.guest_pages.proofs.Written.{order_written, written_is}
 use Rattle.guest_pages.proofs.pages.Pages.write.Goals as goal
 
--- the entries after the call
-after : (c : goal.After-self-1) → entries_of (with_items c.self.inside.slots c.write_slot.new.slots).items ≡ changed (page_with_bytes c.args.at c.args.bytes.now) c.args.page (entries_of c.self.inside.slots.items)
-after c =
-    written_back c.self.inside c.write_slot.new.slots _
-    (c.write_slot.ensures ∙ ap (λ (l : List Slot). changed (page_with_bytes c.args.at c.args.bytes.now) c.args.page (entries_of l)) c.deref_mut.ensures.value)
-    (length_changed (page_with_bytes c.args.at c.args.bytes.now) c.args.page (entries_of c.self.inside.slots.items))
-
 pub invariant_of-self : goal.invariant_of-self
-invariant_of-self c = subst (λ es. AreInOrder c.self.inside.limit es) (sym (after c)) (order_written c.self.inside c.args.page c.args.at c.args.bytes.now c.requires.number c.requires.within (are_bytes c.args.bytes.now (λ k. (c.type_inv.bytes k).fits)) c.self.invariant)
+invariant_of-self c =
+    let a = c.self.inside in let e = c.write_page.ensures in let small = are_bytes c.args.bytes.now (λ k. (c.type_inv.bytes k).fits) in
+    record {
+      order = subst (λ n. AreInOrder n c.write_page.new.list.pages) (sym e.limit) (subst (AreInOrder a.list.limit) (sym e.pages) (order_written a.list.limit a.list.pages c.args.page c.args.at c.args.bytes.now c.requires.number c.requires.within small c.self.invariant.order));
+      right = e.right;
+    }
 
 pub returns : goal.returns
 returns c =
-    ap (λ es. record { pages = pages_of es; limit = c.self.inside.limit }) (after c)
-    ∙ written_is c.self.inside c.args.page c.args.at c.args.bytes.now c.requires.number c.requires.within (are_bytes c.args.bytes.now (λ k. (c.type_inv.bytes k).fits)) c.self.invariant
+    let a = c.self.inside in let e = c.write_page.ensures in let small = are_bytes c.args.bytes.now (λ k. (c.type_inv.bytes k).fits) in
+    (λ i. record { pages = pages_of (e.pages i); limit = e.limit i })
+    ∙ written_is a.list.limit a.list.pages c.args.page c.args.at c.args.bytes.now c.requires.number c.requires.within small c.self.invariant.order
     ∙ ap (λ (m : Memory). with_bytes m (c.args.page * 4096 + c.args.at) c.args.bytes.now) c.self.view_is

@@ -1,0 +1,162 @@
+//! The list of pages.
+ghost use Rattle.std.specs.Prelude.{◌≡◌, ◌≤◌, ◌<◌, ◌+◌, ◌^◌, ◌++◌, [], length, take, drop, IfOk};
+ghost use Rattle.std.specs.List.{AllByRecursion};
+ghost use Rattle.emu_model.specs.WithinPage.{page_with_bytes};
+ghost use Rattle.page_list.specs.Entries.{IsAscending, IsBelow, IsFrom, changed_at, entry_at, page_with_rights, zeroed_entries};
+
+use crate::slots::{Slot, move_back, move_to_end, pop_all, push_all, told_bytes};
+use emu_model::Rights;
+use frame_arena::{FrameArena, OutOfMemory};
+use std::alloc::Global;
+use std::marker::Model;
+
+/// Pages with their numbers, at most as many as the limit.
+#[derive(Drop)]
+pub struct PageList {
+    slots: Vec<Slot>,
+    arena: FrameArena,
+    limit: u32,
+}
+
+impl Model for PageList {
+    ghost use Rattle.page_list.specs.Entries.{Listed, coded_listed};
+    ghost use Rattle.page_list.specs.Slots.{listed, IsKept};
+
+    ghost Value = { Listed };
+
+    ghost coded = { coded_listed };
+
+    ghost view = { listed };
+
+    ghost invariant = { IsKept };
+}
+
+impl PageList {
+    ghost use Rattle.std.specs.Borrow.{sem};
+    ghost use Rattle.page_list.specs.Lending.{LendsPart};
+
+    /// No pages, with room for `limit` of them. No later call takes memory.
+    pub fn new(alloc: Global, limit: u32) -> Result<PageList, OutOfMemory>
+        ensures { IfOk result (λ l. l ≡ record { pages = []; limit = limit }) }
+    {
+        let slots = Vec::with_capacity(alloc, limit as usize)?;
+        let arena = FrameArena::new(alloc, limit)?;
+        Ok(PageList {
+            slots,
+            arena,
+            limit,
+        })
+    }
+
+    /// The number of pages.
+    #[inline(always)]
+    pub fn len(&self) -> usize
+        ensures length { result ≡ length self.now.pages }
+        ensures most { result ≤ self.now.limit }
+        ensures narrow { self.now.limit < 2 ^ 32 }
+    {
+        self.slots.len()
+    }
+
+    /// The greatest number of pages.
+    pub fn limit(&self) -> u32
+        ensures { result ≡ self.now.limit }
+    {
+        self.limit
+    }
+
+    /// The number of the page at place `i`.
+    #[inline(always)]
+    pub fn number(&self, i: usize) -> u64
+        requires { i < length self.now.pages }
+        ensures { result ≡ (entry_at self.now.pages i).0 }
+    {
+        self.slots[i].number
+    }
+
+    /// The rights of the page at place `i`.
+    #[inline(always)]
+    pub fn rights(&self, i: usize) -> Rights
+        requires { i < length self.now.pages }
+        ensures { result ≡ (entry_at self.now.pages i).1.rights }
+    {
+        self.slots[i].rights
+    }
+
+    /// The 4,096 bytes of the page at place `i`.
+    #[inline(always)]
+    pub fn bytes(&self, i: usize) -> &[u8]
+        requires { i < length self.now.pages }
+        ensures bytes { result.now ≡ (entry_at self.now.pages i).1.bytes }
+        ensures length { length result.now ≡ 4096 }
+    {
+        told_bytes(self.arena.bytes(&self.slots[i].frame))
+    }
+
+    /// Gives the page at place `i` other rights.
+    pub fn set_rights(&mut self, i: usize, rights: Rights)
+        requires { i < length self.old.pages }
+        ensures pages { self.new.pages ≡ changed_at (page_with_rights rights) i self.old.pages }
+        ensures limit { self.new.limit ≡ self.old.limit }
+    {
+        self.slots[i].rights = rights;
+    }
+
+    /// `count` bytes of the page at place `i` from place `at` on, for writing.
+    #[inline(always)]
+    pub fn part_mut(&mut self, i: usize, at: usize, count: usize) -> &mut [u8]
+        requires place { i < length self.old.pages }
+        requires within { at + count ≤ 4096 }
+        ensures* writes_back { sem 𝓛 (LendsPart self.entry i at result) }
+        ensures bytes { result.now ≡ take count (drop at (entry_at self.old.pages i).1.bytes) }
+        ensures length { length result.now ≡ count }
+    {
+        // for its clause: what the frame has are bytes
+        let _bytes = told_bytes(self.arena.bytes(&self.slots[i].frame));
+        self.arena.part_mut(&self.slots[i].frame, at, count)
+    }
+
+    /// Replaces the bytes of the page at place `i` from place `at` on.
+    #[inline(always)]
+    pub fn write(&mut self, i: usize, at: usize, bytes: &[u8])
+        requires place { i < length self.old.pages }
+        requires within { at + length bytes.now ≤ 4096 }
+        ensures pages { self.new.pages ≡ changed_at (page_with_bytes at bytes.now) i self.old.pages }
+        ensures limit { self.new.limit ≡ self.old.limit }
+    {
+        let bytes = told_bytes(bytes);
+        self.part_mut(i, at, bytes.len()).copy_from_slice(bytes);
+    }
+
+    /// The number of pages that come before a page.
+    pub fn place(&self, page: u64) -> usize
+        requires { IsAscending self.now.pages }
+        ensures bound { result ≤ length self.now.pages }
+        ensures below { AllByRecursion (IsBelow page) (take result self.now.pages) }
+        ensures from { AllByRecursion (IsFrom page) (drop result self.now.pages) }
+    {
+        self.slots.partition_point(|slot| slot.number < page)
+    }
+
+    /// Puts `count` zeroed pages from page `first` on in at place `at`.
+    pub fn insert(&mut self, at: usize, first: u64, count: u64, rights: Rights)
+        requires place { at ≤ length self.old.pages }
+        requires ends { first + count ≤ 2 ^ 35 }
+        requires room { length self.old.pages + count ≤ self.old.limit }
+        ensures pages { self.new.pages ≡ take at self.old.pages ++ (zeroed_entries first count rights ++ drop at self.old.pages) }
+        ensures limit { self.new.limit ≡ self.old.limit }
+    {
+        push_all(&mut self.slots, &mut self.arena, first, count, rights);
+        move_back(&mut self.slots, at, count as usize);
+    }
+
+    /// Takes `count` pages from place `at` on away.
+    pub fn remove(&mut self, at: usize, count: usize)
+        requires { at + count ≤ length self.old.pages }
+        ensures pages { self.new.pages ≡ take at self.old.pages ++ drop count (drop at self.old.pages) }
+        ensures limit { self.new.limit ≡ self.old.limit }
+    {
+        move_to_end(&mut self.slots, at, count);
+        pop_all(&mut self.slots, &mut self.arena, count);
+    }
+}
