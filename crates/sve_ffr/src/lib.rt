@@ -1,0 +1,5 @@
+//! SVE first-faulting and non-faulting loads.
+#![tactic(auto)]
+
+mod row;
+mod taking;
