@@ -102,7 +102,7 @@ module _ (r e n : ℕ) (list : ElementList) (m : Memory) (k : ℕ) (t after : Ta
         let kept : unsuppressed m (rest_of r list t.next) ≡ q ∷ unsuppressed m rest = ap (unsuppressed m) more ∙ ap (λ (b : Bool). if b then unsuppressed m rest else q ∷ unsuppressed m rest) fine in
         let first : first_suppressed m (rest_of r list t.next) ≡ first_suppressed m rest = ap (first_suppressed m) more ∙ ap (λ (b : Bool). if b then Some q.lane else first_suppressed m rest) fine in
         let gives : taken_lane r e list m k ≡ x
-            = ap (taken_value list.signed e m) here ∙ ap (λ (b : Bool). if b then 0 else extended_to list.signed e list.bytes (value m q.address list.bytes)) fine ∙ sym is in
+        = ap (taken_value list.signed e m) here ∙ ap (λ (b : Bool). if b then 0 else extended_to list.signed e list.bytes (value m q.address list.bytes)) fine ∙ sym is in
         record {
           values = push_each k (taken_lane r e list m) x t.values.items after.values.items values h.values (sym gives);
           rest = λ j le. later j le ∙ ap (λ i. element_at (rest_of r list i) j) (sym next);
@@ -127,7 +127,7 @@ module _ (r e n : ℕ) (list : ElementList) (m : Memory) (k : ℕ) (t after : Ta
         let kept : unsuppressed m (rest_of r list t.next) ≡ unsuppressed m rest = ap (unsuppressed m) more ∙ ap (λ (b : Bool). if b then unsuppressed m rest else q ∷ unsuppressed m rest) bad in
         let first : first_suppressed m (rest_of r list t.next) ≡ Some k = ap (first_suppressed m) more ∙ ap (λ (b : Bool). if b then Some q.lane else first_suppressed m rest) bad ∙ ap Some same in
         let gives : taken_lane r e list m k ≡ 0
-            = ap (taken_value list.signed e m) here ∙ ap (λ (b : Bool). if b then 0 else extended_to list.signed e list.bytes (value m q.address list.bytes)) bad in
+        = ap (taken_value list.signed e m) here ∙ ap (λ (b : Bool). if b then 0 else extended_to list.signed e list.bytes (value m q.address list.bytes)) bad in
         record {
           values = push_each k (taken_lane r e list m) 0 t.values.items after.values.items values h.values (sym gives);
           rest = λ j le. later j le ∙ ap (λ i. element_at (rest_of r list i) j) (sym next);
