@@ -11,7 +11,7 @@ pub listed_more : (r n : ℕ) (ps : List (ℕ × ℕ)) (p : ℕ × ℕ) → list
 listed_more r n [] p = refl
 listed_more r n (q ∷ ps) p = ap (λ (es : List Element). record { lane = q.0; register = r; address = q.1; bytes = n } ∷ es) (listed_more r n ps p)
 
-one_element : (l : Layout) (k : ℕ) → l.registers ≡ 1 → l.is_on k ≡ true → elements_below l (k + 1) ≡ elements_below l k ++ element_at l k 0 ∷ []
+pub one_element : (l : Layout) (k : ℕ) → l.registers ≡ 1 → l.is_on k ≡ true → elements_below l (k + 1) ≡ elements_below l k ++ element_at l k 0 ∷ []
 one_element l k one on =
     sym (within_all l k on) ∙ ap (elements_within l k) one ∙ within_more l k 0 ∙ ap (λ (es : List Element). es ++ element_at l k 0 ∷ []) (within_none l k)
 

@@ -35,9 +35,9 @@ pub lane_stops : (l : Layout) (m : Memory) (k j : ℕ) (log after : List Access)
     → trap.kind ≡ ReadTrap → refused m (l.address k j) l.bytes Read ≡ Some trap.address → after ≡ log → StopsLoad m (elements_of l) after trap
 lane_stops l m k j log after trap on in_lanes in_registers h is denied kept =
     let here : StopsLoad m (elements_within l k (j + 1)) log trap
-        = subst (λ (es : List Element). StopsLoad m es log trap) (sym (within_more l k j)) (load_stops m (elements_within l k j) (element_at l k j) log trap h is denied) in
+    = subst (λ (es : List Element). StopsLoad m es log trap) (sym (within_more l k j)) (load_stops m (elements_within l k j) (element_at l k j) log trap h is denied) in
     let all : StopsLoad m (elements_of l) log trap
-        = all_stays (λ (es : List Element). StopsLoad m es log trap) (λ es more. load_stays m es more log trap) l k (j + 1) on in_lanes (omega arith) here in
+    = all_stays (λ (es : List Element). StopsLoad m es log trap) (λ es more. load_stays m es more log trap) l k (j + 1) on in_lanes (omega arith) here in
     subst (λ (log : List Access). StopsLoad m (elements_of l) log trap) (sym kept) all
 
 pub lane_skipped : (l : Layout) (m : Memory) (k : ℕ) (log : List Access) → l.is_on k ≡ false → AreLoaded m (elements_below l k) log → AreLoaded m (elements_below l (k + 1)) log

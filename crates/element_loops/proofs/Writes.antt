@@ -7,7 +7,7 @@ use Rattle.emu_model.specs.Lists.{each, each-more}
 use Rattle.emu_model.specs.State.{Vectors}
 use Rattle.vec_model.proofs.Each.{each_same}
 use Rattle.vec_model.specs.Lanes.{IsLaneSize, field_bit}
-use Rattle.sve_effects.proofs.Found.{first_found}
+use Rattle.sve_effects.proofs.Found.{first_found, first_is}
 use Rattle.sve_effects.specs.FirstLast.{first_where, IsFirst, IsFirstWhere, MeetsNowhere}
 use Rattle.sve_effects.specs.VectorElements.{Layout}
 use Rattle.sve_effects.specs.VectorLoadStore.{extended_to, loaded_lane}
@@ -52,6 +52,13 @@ pub found_nowhere : (n : ℕ) (test : ℕ → Bool) (k : ℕ) → first_where n 
 found_nowhere n test k e h on =
     let f : IsFirstWhere n test None = subst (λ (o : Option ℕ). IsFirstWhere n test o) e (first_found n test) in
     let g : MeetsNowhere n test = f in both_ways (test k) (g k h) on
+
+pub found_here : (n k : ℕ) (test : ℕ → Bool) → k < n → first_where k test ≡ None → test k ≡ true → first_where n test ≡ Some k
+found_here n k test within none meets =
+    let f : IsFirstWhere k test None = subst (λ (o : Option ℕ). IsFirstWhere k test o) none (first_found k test) in
+    let before : MeetsNowhere k test = f in
+    let found : IsFirst n test k = record { within = within; meets = meets; before = before } in
+    first_is n test (Some k) found
 
 same_place : (places : Places) (e n r : ℕ) (v : Vectors) (k i : ℕ) → is_single places ≡ true → address_of places e n r v k 0 ≡ address_of places e n r v i 0
 same_place (Single a) e n r v k i h = refl

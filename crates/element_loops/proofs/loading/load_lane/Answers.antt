@@ -12,7 +12,7 @@ use Rattle.element_loops.proofs.loading.load_lane.Goals as goal
 pub load_u64-requires-clause-room : goal.load_u64-requires-clause-room
 load_u64-requires-clause-room c =
     let count : length c.loop-j.log.items ≤ c.args.k * c.args.plan.now.registers + c.loop-j.j
-        = log_count (layout_of c.args.plan.now c.args.vec.now) c.args.mem.now c.args.k c.loop-j.j c.loop-j.log.items c.loop-j.invariant.loaded in
+    = log_count (layout_of c.args.plan.now c.args.vec.now) c.args.mem.now c.args.k c.loop-j.j c.loop-j.log.items c.loop-j.invariant.loaded in
     omega arith
 
 pub push-requires : goal.push-requires

@@ -19,7 +19,7 @@ loop-j-preserved c =
       bits = ap (λ (v : Vectors). v.bits) (c.set_lanes.ensures (λ k. get_or c.deref.result.now k 0) (given_by_itself c.deref.result.now _ count)) ∙ c.loop-j.invariant.bits;
       taken = λ f given.
           let here : c.deref.result.now ≡ each (c.loop-j.vec.bits / c.args.plan.now.bits) (f c.loop-j.j)
-              = c.deref.ensures.0 ∙ c.register_lanes-lanes.ensures.values f given ∙ ap (λ n. each n (f c.loop-j.j)) lanes in
+          = c.deref.ensures.0 ∙ c.register_lanes-lanes.ensures.values f given ∙ ap (λ n. each n (f c.loop-j.j)) lanes in
           taken_more c.args.plan.now.bits f c.args.plan.now.register c.loop-j.j c.register_at.result c.args.vec.now c.loop-j.vec c.set_lanes.new.self
           (c.loop-j.invariant.taken f given) c.register_at.ensures (c.set_lanes.ensures (f c.loop-j.j) here);
     }

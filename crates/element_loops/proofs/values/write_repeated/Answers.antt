@@ -11,8 +11,8 @@ loop-k-preserved c = record {
       let some : 0 < c.args.plan.now.lanes = some_lanes c.args.plan.now.bits c.args.plan.now.lanes c.requires.plan.size c.requires.repeated.lanes in
       let within : c.loop-k.k % c.args.plan.now.lanes < c.args.plan.now.lanes = omega arith in
       let here : get_or c.deref.result.now (c.loop-k.k % c.args.plan.now.lanes) 0 ≡ loaded_lane false (layout_of c.args.plan.now c.args.vec.now) m 0 (c.loop-k.k % c.args.plan.now.lanes)
-          = value_is c.args.plan.now c.args.vec.now m (c.loop-k.k % c.args.plan.now.lanes) c.deref.result.now c.requires.repeated.one (c.deref.ensures.0 ∙ given) within
-            ∙ ap (λ (s : Bool). loaded_lane s (layout_of c.args.plan.now c.args.vec.now) m 0 (c.loop-k.k % c.args.plan.now.lanes)) c.requires.repeated.unsigned in
+      = value_is c.args.plan.now c.args.vec.now m (c.loop-k.k % c.args.plan.now.lanes) c.deref.result.now c.requires.repeated.one (c.deref.ensures.0 ∙ given) within
+      ∙ ap (λ (s : Bool). loaded_lane s (layout_of c.args.plan.now c.args.vec.now) m 0 (c.loop-k.k % c.args.plan.now.lanes)) c.requires.repeated.unsigned in
       push_each c.loop-k.k (λ k. loaded_lane false (layout_of c.args.plan.now c.args.vec.now) m 0 (k % c.args.plan.now.lanes)) (get_or c.deref.result.now (c.loop-k.k % c.args.plan.now.lanes) 0)
       c.loop-k.out.items c.push.new.self.items c.push.ensures.items (c.loop-k.invariant.values m given) here;
 }
