@@ -30,11 +30,11 @@ pub record Suppresses (m : Memory) (es : List Element) (n k : ℕ) : Type 0 wher
 starts_before : (e : Element) (es : List Element) (n k : ℕ) (x : Element) → AreFrom (e.lane + 1) n (lanes_of es) → (if nat_eq e.lane k then Some e else element_at es k) ≡ Some x → e.lane ≤ k
 starts_before e es n k x from h = elim (cases_lt k (e.lane + 1)) [
   | inl early ↦ elim (nat_eq e.lane k) as (λ t. nat_eq e.lane k ≡ t → e.lane ≤ k) [
-      | true ↦ λ same. let q : e.lane ≡ k = eqb-true e.lane k same in omega arith
-      | false ↦ λ other.
-          let none : element_at es k ≡ None = before_none es (e.lane + 1) n k from early in
-          let bad : None ≡ Some x = sym (ap (λ (t : Bool). if t then Some e else element_at es k) other ∙ none) ∙ h in cc
-    ] refl
+    | true ↦ λ same. let q : e.lane ≡ k = eqb-true e.lane k same in omega arith
+    | false ↦ λ other.
+        let none : element_at es k ≡ None = before_none es (e.lane + 1) n k from early in
+        let bad : None ≡ Some x = sym (ap (λ (t : Bool). if t then Some e else element_at es k) other ∙ none) ∙ h in cc
+  ] refl
   | inr late ↦ omega arith
 ]
 
@@ -43,21 +43,21 @@ refused_first [] m s n k x from at refused = let bad : None ≡ Some x = at in c
 refused_first (e ∷ es) m s n k x from at refused =
     elim (is_refused m e) as (λ t. is_refused m e ≡ t → Suppresses m (e ∷ es) n k) [
       | true ↦ λ first. record {
-          at = e.lane;
-          is = ap (λ (t : Bool). if t then Some e.lane else first_suppressed m es) first;
-          before = starts_before e es n k x from.2 at;
-          within = from.1;
-        }
+        at = e.lane;
+        is = ap (λ (t : Bool). if t then Some e.lane else first_suppressed m es) first;
+        before = starts_before e es n k x from.2 at;
+        within = from.1;
+      }
       | false ↦ λ fine. elim (nat_eq e.lane k) as (λ t. nat_eq e.lane k ≡ t → Suppresses m (e ∷ es) n k) [
-          | true ↦ λ same.
-              let here : Some e ≡ Some x = sym (ap (λ (t : Bool). if t then Some e else element_at es k) same) ∙ at in
-              let it : e ≡ x = cc in
-              absurd (both_ways (is_refused m e) fine (ap (is_refused m) it ∙ refused))
-          | false ↦ λ other.
-              let later : element_at es k ≡ Some x = sym (ap (λ (t : Bool). if t then Some e else element_at es k) other) ∙ at in
-              let rest : Suppresses m es n k = refused_first es m (e.lane + 1) n k x from.2 later refused in
-              record { at = rest.at; is = ap (λ (t : Bool). if t then Some e.lane else first_suppressed m es) fine ∙ rest.is; before = rest.before; within = rest.within }
-        ] refl
+        | true ↦ λ same.
+            let here : Some e ≡ Some x = sym (ap (λ (t : Bool). if t then Some e else element_at es k) same) ∙ at in
+            let it : e ≡ x = cc in
+            absurd (both_ways (is_refused m e) fine (ap (is_refused m) it ∙ refused))
+        | false ↦ λ other.
+            let later : element_at es k ≡ Some x = sym (ap (λ (t : Bool). if t then Some e else element_at es k) other) ∙ at in
+            let rest : Suppresses m es n k = refused_first es m (e.lane + 1) n k x from.2 later refused in
+            record { at = rest.at; is = ap (λ (t : Bool). if t then Some e.lane else first_suppressed m es) fine ∙ rest.is; before = rest.before; within = rest.within }
+      ] refl
     ] refl
 
 -- ---- its bit is cleared
@@ -105,14 +105,14 @@ lanes_agree s e n m es ffr k from before =
     elim (element_at es k) as (λ (o : Option Element). element_at es k ≡ o → taken_value s e m o ≡ loaded_from s e m o) [
       | None ↦ λ at. refl
       | Some x ↦ λ at. elim (is_refused m x) as (λ t. is_refused m x ≡ t → (if t then 0 else extended_to s e x.bytes (value m x.address x.bytes)) ≡ extended_to s e x.bytes (value m x.address x.bytes)) [
-          | false ↦ λ fine. refl
-          | true ↦ λ bad.
-              let h : Suppresses m es n k = refused_first es m 0 n k x from at bad in
-              let cleared : active e (cleared_from e (first_suppressed m es) ffr) h.at ≡ false = ap (λ (o : Option ℕ). active e (cleared_from e o ffr) h.at) h.is ∙ bit_cleared e h.at ffr in
-              let behind : is_before (first_cleared e (cleared_from e (first_suppressed m es) ffr) n) k ≡ false
-                  = behind_first n (λ j. not (active e (cleared_from e (first_suppressed m es) ffr) j)) h.at k h.within (ap (λ (b : Bool). not b) cleared) h.before in
-              absurd (both_ways (is_before (first_cleared e (cleared_from e (first_suppressed m es) ffr) n) k) behind before)
-        ] refl
+        | false ↦ λ fine. refl
+        | true ↦ λ bad.
+            let h : Suppresses m es n k = refused_first es m 0 n k x from at bad in
+            let cleared : active e (cleared_from e (first_suppressed m es) ffr) h.at ≡ false = ap (λ (o : Option ℕ). active e (cleared_from e o ffr) h.at) h.is ∙ bit_cleared e h.at ffr in
+            let behind : is_before (first_cleared e (cleared_from e (first_suppressed m es) ffr) n) k ≡ false
+            = behind_first n (λ j. not (active e (cleared_from e (first_suppressed m es) ffr) j)) h.at k h.within (ap (λ (b : Bool). not b) cleared) h.before in
+            absurd (both_ways (is_before (first_cleared e (cleared_from e (first_suppressed m es) ffr) n) k) behind before)
+      ] refl
     ] refl
 
 -- ---- the lanes of a layout are in order
@@ -133,7 +133,7 @@ below_from (suc k) l one =
     let step : AreFrom 0 (k + 1) (lanes_of (elements_below l (k + 1))) = elim (l.is_on k) as (λ t. l.is_on k ≡ t → AreFrom 0 (k + 1) (lanes_of (elements_below l (k + 1)))) [
       | true ↦ λ on.
           let is : lanes_of (elements_below l (k + 1)) ≡ lanes_of (elements_below l k) ++ k ∷ []
-              = ap lanes_of (one_element l k one on) ∙ map-append (λ (e : Element). e.lane) (elements_below l k) (element_of_lane l k 0 ∷ []) in
+          = ap lanes_of (one_element l k one on) ∙ map-append (λ (e : Element). e.lane) (elements_below l k) (element_of_lane l k 0 ∷ []) in
           subst (λ qs. AreFrom 0 (k + 1) qs) (sym is) (from_append (lanes_of (elements_below l k)) 0 k (omega arith) so_far)
       | false ↦ λ off. subst (λ (es : List Element). AreFrom 0 (k + 1) (lanes_of es)) (sym (skipped l k off)) (from_more (lanes_of (elements_below l k)) 0 k so_far)
     ] refl in

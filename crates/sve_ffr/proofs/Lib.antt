@@ -1,2 +1,3 @@
 pub mod Takes
 pub mod Cleared
+pub mod Loaded

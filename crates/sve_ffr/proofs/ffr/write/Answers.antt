@@ -23,4 +23,4 @@ returns c = λ f h given agree.
     let least : c.bits.result / c.args.e ≤ c.loop-k.k = c.loop-k-test.false in
     let all : c.loop-k.k ≡ c.args.vec.now.bits / c.args.e = omega arith in
     c.set_lanes.ensures (λ k. if model.is_before c.args.end k then h k else 0)
-    (c.deref.ensures.0 ∙ c.loop-k.invariant.values f h given agree ∙ ap (λ n. each n (λ k. if model.is_before c.args.end k then h k else 0)) all)
+    (c.deref-2.ensures.0 ∙ c.loop-k.invariant.values f h given agree ∙ ap (λ n. each n (λ k. if model.is_before c.args.end k then h k else 0)) all)
