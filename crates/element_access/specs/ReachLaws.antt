@@ -137,7 +137,7 @@ pub store_stops : (v : Element → ℕ) (m : Memory) (es : List Element) (e : El
     → trap.kind ≡ WriteTrap → refused now e.address e.bytes Write ≡ Some trap.address → next ≡ now → after ≡ log → StopsStore v m (es ++ e ∷ []) next after trap
 store_stops v m es e now next log after trap h is denied same kept =
     let here : refused m e.address e.bytes Write ≡ Some trap.address
-        = sym (refused_with_stored v es m e.address e.bytes Write) ∙ ap (λ (x : Memory). refused x e.address e.bytes Write) (sym h.memory) ∙ denied in
+    = sym (refused_with_stored v es m e.address e.bytes Write) ∙ ap (λ (x : Memory). refused x e.address e.bytes Write) (sym h.memory) ∙ denied in
     let r : reach m Write (es ++ e ∷ []) ≡ record { done = es; stop = Some trap.address } = reach_stop m Write es e trap.address h.reached here in
     record {
       kind = is;
