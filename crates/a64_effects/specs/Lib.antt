@@ -1,7 +1,10 @@
+pub mod BitMoves
 pub mod Effects
 pub mod Flow
 pub mod LoadStore
+pub mod Pages
 pub mod Scalar
+pub mod SoundBitMoves
 pub mod SoundEffects
 pub mod SoundFlow
 pub mod SoundLoadStore

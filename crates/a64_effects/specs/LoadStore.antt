@@ -1,5 +1,5 @@
--- Loads and stores of the general registers: their elements, their tests, and what they leave.
-use Rattle.std.specs.Prelude.{ℕ, ◌+◌, ◌*◌, ◌%◌, ◌^◌, Bool, true, false, not, ◌&&◌, ◌||◌, List, [], ◌∷◌, Option, Some, None, nat_eq, if◌then◌else◌, pos, ◌*ℤ◌}
+-- Loads and stores: their elements, their tests, and what they leave.
+use Rattle.std.specs.Prelude.{ℕ, ◌+◌, ◌*◌, ◌%◌, ◌^◌, Bool, true, false, not, ◌&&◌, ◌||◌, List, [], ◌∷◌, Option, Some, None, nat_eq, nat_le, if◌then◌else◌, pos, ◌*ℤ◌}
 use Rattle.a64_insn.specs.declared.form.A64Form.{A64Form}
 use Rattle.a64_insn.specs.declared.form.A64Form.TheVariants.{LsUnsigned, LsUnscaled, LsPost, LsPre, LsReg, LsLiteral, Pair, StoreEx, LoadEx, Ordered}
 use Rattle.a64_insn.specs.declared.ops.OrderedOp.{OrderedOp}
@@ -10,49 +10,69 @@ use Rattle.emu_model.specs.declared.access.Kind.TheVariants.{Read as ReadKind, W
 use Rattle.emu_model.specs.declared.trap.TrapKind.TheVariants.{SpAlign, AccessAlign, Read, Write}
 use Rattle.emu_model.specs.declared.trap.Effect.TheVariants.{Next, Trap}
 use Rattle.emu_model.specs.Access.{Memory, address, value}
+use Rattle.vec_model.specs.Lanes.{lane, read_z, with_low}
 use Rattle.emu_model.specs.State.{Core, Vectors, read_x, read_x_sp, with_x, with_x_sp}
 use Rattle.a64_effects.specs.declared.transfer.Transfer.{Transfer}
-use Rattle.a64_effects.specs.declared.transfer.Transfer.TheVariants.{Store, Load, LoadSigned, LoadSigned32, Prefetch}
-use Rattle.emu_model.specs.Done.{Done, traps}
+use Rattle.a64_effects.specs.declared.transfer.Transfer.TheVariants.{Store, Load, LoadSigned, LoadSigned32, Prefetch, StoreVector, LoadVector}
+use Rattle.emu_model.specs.Done.{Done, Registers, traps}
 use Rattle.emu_model.specs.Elements.{Element, Reach, reach, with_stored, accesses_of}
 use Rattle.a64_effects.specs.Flow.{offset, target}
 
 -- ---- what is moved
 
--- by the fields size and opc: stores, loads with zeros above, loads with the sign to 64 bits (at size 3 a prefetch), and to 32 bits
-abbrev pub transfer : ℕ → ℕ → Transfer
-transfer size opc =
+-- of a general register by size and opc: stores, loads with zeros above, loads with the sign to 64 bits (at size 3 a prefetch), and to
+-- 32 bits
+abbrev pub general_transfer : ℕ → ℕ → Transfer
+general_transfer size opc =
     if nat_eq opc 0 then Store
     else (if nat_eq opc 1 then Load
     else (if nat_eq opc 3 then LoadSigned32
     else (if nat_eq size 3 then Prefetch else LoadSigned)))
 
--- of a literal by opc: ldr W, ldr X, ldrsw, prfm
-abbrev pub literal_transfer : ℕ → Transfer
-literal_transfer opc = if nat_eq opc 2 then LoadSigned else (if nat_eq opc 3 then Prefetch else Load)
+-- of a vector register: opc 0 and 2 are stores, 1 and 3 loads
+abbrev pub vector_transfer : ℕ → Transfer
+vector_transfer opc = if nat_eq (opc % 2) 0 then StoreVector else LoadVector
 
-abbrev pub literal_bytes : ℕ → ℕ
-literal_bytes opc = if nat_eq opc 1 then 8 else 4
+-- V tells which register it is
+abbrev pub transfer : Bool → ℕ → ℕ → Transfer
+transfer v size opc = if v then vector_transfer opc else general_transfer size opc
 
--- of a pair by opc and L: W registers, ldpsw, X registers
-abbrev pub pair_transfer : ℕ → Bool → Transfer
-pair_transfer opc l = if l then (if nat_eq opc 1 then LoadSigned else Load) else Store
+-- 2^size bytes, and 16 of a vector register where opc is 2 or 3
+abbrev pub access_bytes : Bool → ℕ → ℕ → ℕ
+access_bytes v size opc = if v && nat_le 2 opc then 16 else 2 ^ size
 
-abbrev pub pair_bytes : ℕ → ℕ
-pair_bytes opc = if nat_eq opc 2 then 8 else 4
+-- S, D and Q registers by opc
+abbrev pub vector_bytes : ℕ → ℕ
+vector_bytes opc = if nat_eq opc 0 then 4 else (if nat_eq opc 1 then 8 else 16)
+
+-- of a literal by opc: ldr W, ldr X, ldrsw, prfm, and ldr of vector registers
+abbrev pub literal_transfer : Bool → ℕ → Transfer
+literal_transfer v opc = if v then LoadVector else (if nat_eq opc 2 then LoadSigned else (if nat_eq opc 3 then Prefetch else Load))
+
+abbrev pub literal_bytes : Bool → ℕ → ℕ
+literal_bytes v opc = if v then vector_bytes opc else (if nat_eq opc 1 then 8 else 4)
+
+-- of a pair by opc and L: W registers, ldpsw, X registers, and vector registers
+abbrev pub pair_transfer : Bool → ℕ → Bool → Transfer
+pair_transfer v opc l =
+    if v then (if l then LoadVector else StoreVector)
+    else (if l then (if nat_eq opc 1 then LoadSigned else Load) else Store)
+
+abbrev pub pair_bytes : Bool → ℕ → ℕ
+pair_bytes v opc = if v then vector_bytes opc else (if nat_eq opc 2 then 8 else 4)
 
 abbrev pub ordered_transfer : OrderedOp → Transfer
 ordered_transfer Stlr = Store
 ordered_transfer Ldar = Load
 
 abbrev pub transfer_of : A64Form → Transfer
-transfer_of (LsUnsigned size v opc imm12 rn rt) = transfer size opc
-transfer_of (LsUnscaled size v opc imm9 rn rt) = transfer size opc
-transfer_of (LsPost size v opc imm9 rn rt) = transfer size opc
-transfer_of (LsPre size v opc imm9 rn rt) = transfer size opc
-transfer_of (LsReg size v opc rm ext s rn rt) = transfer size opc
-transfer_of (LsLiteral opc v imm19 rt) = literal_transfer opc
-transfer_of (Pair opc v mode l imm7 rt2 rn rt) = pair_transfer opc l
+transfer_of (LsUnsigned size v opc imm12 rn rt) = transfer v size opc
+transfer_of (LsUnscaled size v opc imm9 rn rt) = transfer v size opc
+transfer_of (LsPost size v opc imm9 rn rt) = transfer v size opc
+transfer_of (LsPre size v opc imm9 rn rt) = transfer v size opc
+transfer_of (LsReg size v opc rm ext s rn rt) = transfer v size opc
+transfer_of (LsLiteral opc v imm19 rt) = literal_transfer v opc
+transfer_of (Pair opc v mode l imm7 rt2 rn rt) = pair_transfer v opc l
 transfer_of (StoreEx op size rs rn rt) = Store
 transfer_of (LoadEx op size rn rt) = Load
 transfer_of (Ordered op size rn rt) = ordered_transfer op
@@ -101,13 +121,13 @@ abbrev pub exclusive : Core → ℕ → ℕ → ℕ → List Element
 exclusive c rt a n = if is_kept c.monitor a n then single Store rt a n else []
 
 abbrev pub elements : A64Form → Core → List Element
-elements (LsUnsigned size v opc imm12 rn rt) c = single (transfer size opc) rt (address (read_x_sp c rn + 2 ^ size * imm12)) (2 ^ size)
-elements (LsUnscaled size v opc imm9 rn rt) c = single (transfer size opc) rt (near c rn imm9) (2 ^ size)
-elements (LsPost size v opc imm9 rn rt) c = single (transfer size opc) rt (read_x_sp c rn) (2 ^ size)
-elements (LsPre size v opc imm9 rn rt) c = single (transfer size opc) rt (near c rn imm9) (2 ^ size)
-elements (LsReg size v opc rm ext s rn rt) c = single (transfer size opc) rt (indexed c rn rm ext s (2 ^ size)) (2 ^ size)
-elements (LsLiteral opc v imm19 rt) c = single (literal_transfer opc) rt (target c 19 imm19) (literal_bytes opc)
-elements (Pair opc v mode l imm7 rt2 rn rt) c = couple rt rt2 (pair_address c mode rn (pair_bytes opc) imm7) (pair_bytes opc)
+elements (LsUnsigned size v opc imm12 rn rt) c = single (transfer v size opc) rt (address (read_x_sp c rn + access_bytes v size opc * imm12)) (access_bytes v size opc)
+elements (LsUnscaled size v opc imm9 rn rt) c = single (transfer v size opc) rt (near c rn imm9) (access_bytes v size opc)
+elements (LsPost size v opc imm9 rn rt) c = single (transfer v size opc) rt (read_x_sp c rn) (access_bytes v size opc)
+elements (LsPre size v opc imm9 rn rt) c = single (transfer v size opc) rt (near c rn imm9) (access_bytes v size opc)
+elements (LsReg size v opc rm ext s rn rt) c = single (transfer v size opc) rt (indexed c rn rm ext s (access_bytes v size opc)) (access_bytes v size opc)
+elements (LsLiteral opc v imm19 rt) c = single (literal_transfer v opc) rt (target c 19 imm19) (literal_bytes v opc)
+elements (Pair opc v mode l imm7 rt2 rn rt) c = couple rt rt2 (pair_address c mode rn (pair_bytes v opc) imm7) (pair_bytes v opc)
 elements (StoreEx op size rs rn rt) c = exclusive c rt (read_x_sp c rn) (2 ^ size)
 elements (LoadEx op size rn rt) c = single Load rt (read_x_sp c rn) (2 ^ size)
 elements (Ordered op size rn rt) c = single (ordered_transfer op) rt (read_x_sp c rn) (2 ^ size)
@@ -121,11 +141,11 @@ has_sp Prefetch rn = false
 has_sp t rn = nat_eq rn 31
 
 abbrev pub has_sp_base : A64Form → Bool
-has_sp_base (LsUnsigned size v opc imm12 rn rt) = has_sp (transfer size opc) rn
-has_sp_base (LsUnscaled size v opc imm9 rn rt) = has_sp (transfer size opc) rn
-has_sp_base (LsPost size v opc imm9 rn rt) = has_sp (transfer size opc) rn
-has_sp_base (LsPre size v opc imm9 rn rt) = has_sp (transfer size opc) rn
-has_sp_base (LsReg size v opc rm ext s rn rt) = has_sp (transfer size opc) rn
+has_sp_base (LsUnsigned size v opc imm12 rn rt) = has_sp (transfer v size opc) rn
+has_sp_base (LsUnscaled size v opc imm9 rn rt) = has_sp (transfer v size opc) rn
+has_sp_base (LsPost size v opc imm9 rn rt) = has_sp (transfer v size opc) rn
+has_sp_base (LsPre size v opc imm9 rn rt) = has_sp (transfer v size opc) rn
+has_sp_base (LsReg size v opc rm ext s rn rt) = has_sp (transfer v size opc) rn
 has_sp_base (Pair opc v mode l imm7 rt2 rn rt) = nat_eq rn 31
 has_sp_base (StoreEx op size rs rn rt) = nat_eq rn 31
 has_sp_base (LoadEx op size rn rt) = nat_eq rn 31
@@ -155,10 +175,26 @@ loaded_value LoadSigned n v = sign_extended 64 (8 * n) v
 loaded_value LoadSigned32 n v = sign_extended 32 (8 * n) v
 loaded_value t n v = v
 
--- the registers after elements were loaded in order
-abbrev pub with_loaded : Transfer → Memory → List Element → Core → Core
-with_loaded t m [] c = c
-with_loaded t m (e ∷ es) c = with_loaded t m es (with_x c e.register 64 (loaded_value t e.bytes (value m e.address e.bytes)))
+-- the element's register is a vector register
+abbrev pub is_vector : Transfer → Bool
+is_vector StoreVector = true
+is_vector LoadVector = true
+is_vector t = false
+
+-- the registers with n bytes of value x loaded to register rt: the low bytes of a vector register, with zeros above, or a general register
+abbrev pub with_element : Transfer → ℕ → ℕ → ℕ → Registers → Registers
+with_element t rt n x r =
+    if is_vector t then record { core = r.core; vectors = with_low (8 * n) x rt r.vectors }
+    else record { core = with_x r.core rt 64 (loaded_value t n x); vectors = r.vectors }
+
+-- the same of elements in order
+abbrev pub with_loaded : Transfer → Memory → List Element → Registers → Registers
+with_loaded t m [] r = r
+with_loaded t m (e ∷ es) r = with_loaded t m es (with_element t e.register e.bytes (value m e.address e.bytes) r)
+
+-- what a store takes its bytes from: the low 128 bits of a vector register, or a general register
+abbrev pub stored_value : Transfer → Core → Vectors → ℕ → ℕ
+stored_value t c w rt = if is_vector t then lane 128 (read_z w rt) 0 else read_x c rt
 
 -- behind an access that was done: the base is written back, with an address made of the old one
 abbrev pub based : Bool → Core → ℕ → ℕ → Core
@@ -172,30 +208,35 @@ after_exclusive c rs done = record (with_x c rs 32 (bit (not done))) { monitor =
 abbrev pub behind : A64Form → Core → Core → Core
 behind (LsPost size v opc imm9 rn rt) c d = with_x_sp d rn 64 (near c rn imm9)
 behind (LsPre size v opc imm9 rn rt) c d = with_x_sp d rn 64 (near c rn imm9)
-behind (Pair opc v mode l imm7 rt2 rn rt) c d = based (writes_back mode) d rn (pair_near c rn (pair_bytes opc) imm7)
+behind (Pair opc v mode l imm7 rt2 rn rt) c d = based (writes_back mode) d rn (pair_near c rn (pair_bytes v opc) imm7)
 behind (StoreEx op size rs rn rt) c d = after_exclusive d rs (is_kept c.monitor (read_x_sp c rn) (2 ^ size))
 behind (LoadEx op size rn rt) c d = record d { monitor = Some (read_x_sp c rn, 2 ^ size) }
 behind form c d = d
 
 -- a store that is refused has stored the elements before
-abbrev pub store_as_far : Option ℕ → List Element → (Core → Core) → Core → Vectors → Memory → Done
-store_as_far None es after c w m = record { core = after c; vectors = w; memory = with_stored (λ e. read_x c e.register) es m; accesses = accesses_of true es; effect = Next }
-store_as_far (Some a) es after c w m = record { core = c; vectors = w; memory = with_stored (λ e. read_x c e.register) es m; accesses = accesses_of true es; effect = Trap (record { kind = Write; address = a }) }
+abbrev pub store_as_far : Transfer → Option ℕ → List Element → (Core → Core) → Core → Vectors → Memory → Done
+store_as_far t None es after c w m = record { core = after c; vectors = w; memory = with_stored (λ e. stored_value t c w e.register) es m; accesses = accesses_of true es; effect = Next }
+store_as_far t (Some a) es after c w m = record { core = c; vectors = w; memory = with_stored (λ e. stored_value t c w e.register) es m; accesses = accesses_of true es; effect = Trap (record { kind = Write; address = a }) }
+
+-- a load that is done leaves these registers, and what comes behind
+abbrev pub went_with : Registers → (Core → Core) → List Element → Memory → Done
+went_with r after es m = record { core = after r.core; vectors = r.vectors; memory = m; accesses = accesses_of false es; effect = Next }
 
 -- a load that is refused changes no register
 abbrev pub load_as_far : Transfer → Option ℕ → List Element → (Core → Core) → Core → Vectors → Memory → Done
-load_as_far t None es after c w m = record { core = after (with_loaded t m es c); vectors = w; memory = m; accesses = accesses_of false es; effect = Next }
+load_as_far t None es after c w m = went_with (with_loaded t m es (record { core = c; vectors = w })) after es m
 load_as_far t (Some a) es after c w m = record { core = c; vectors = w; memory = m; accesses = accesses_of false es; effect = Trap (record { kind = Read; address = a }) }
 
-abbrev pub stored_to : Reach → (Core → Core) → Core → Vectors → Memory → Done
-stored_to r after c w m = store_as_far r.stop r.done after c w m
+abbrev pub stored_to : Transfer → Reach → (Core → Core) → Core → Vectors → Memory → Done
+stored_to t r after c w m = store_as_far t r.stop r.done after c w m
 
 abbrev pub loaded_to : Transfer → Reach → (Core → Core) → Core → Vectors → Memory → Done
 loaded_to t r after c w m = load_as_far t r.stop r.done after c w m
 
 -- elements stored or loaded one after the other, and what comes after them
 abbrev pub transferred : Transfer → List Element → (Core → Core) → Core → Vectors → Memory → Done
-transferred Store es after c w m = stored_to (reach m WriteKind es) after c w m
+transferred Store es after c w m = stored_to Store (reach m WriteKind es) after c w m
+transferred StoreVector es after c w m = stored_to StoreVector (reach m WriteKind es) after c w m
 transferred t es after c w m = loaded_to t (reach m ReadKind es) after c w m
 
 abbrev pub unless_misaligned : Option ℕ → Core → Vectors → Memory → Done → Done
@@ -209,15 +250,15 @@ tested has at c w m d = if is_misaligned has c then traps c w m SpAlign c.sp els
 abbrev pub access : A64Form → Core → Vectors → Memory → Done
 access form c w m = tested (has_sp_base form) (misaligned form c) c w m (transferred (transfer_of form) (elements form c) (behind form c) c w m)
 
--- the rows of this page: those of the general registers
+-- the rows of this page
 abbrev pub is_load_store : A64Form → Bool
-is_load_store (LsUnsigned size v opc imm12 rn rt) = not v
-is_load_store (LsUnscaled size v opc imm9 rn rt) = not v
-is_load_store (LsPost size v opc imm9 rn rt) = not v
-is_load_store (LsPre size v opc imm9 rn rt) = not v
-is_load_store (LsReg size v opc rm ext s rn rt) = not v
-is_load_store (LsLiteral opc v imm19 rt) = not v
-is_load_store (Pair opc v mode l imm7 rt2 rn rt) = not v
+is_load_store (LsUnsigned size v opc imm12 rn rt) = true
+is_load_store (LsUnscaled size v opc imm9 rn rt) = true
+is_load_store (LsPost size v opc imm9 rn rt) = true
+is_load_store (LsPre size v opc imm9 rn rt) = true
+is_load_store (LsReg size v opc rm ext s rn rt) = true
+is_load_store (LsLiteral opc v imm19 rt) = true
+is_load_store (Pair opc v mode l imm7 rt2 rn rt) = true
 is_load_store (StoreEx op size rs rn rt) = true
 is_load_store (LoadEx op size rn rt) = true
 is_load_store (Ordered op size rn rt) = true

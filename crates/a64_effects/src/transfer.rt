@@ -1,4 +1,4 @@
-//! What a load or store of general registers does with the bytes of an element.
+//! What a load or store does with the bytes of an element.
 
 /// What becomes of an element's bytes.
 #[derive(Clone, Copy, Debug, PartialEq, Eq)]
@@ -13,4 +13,8 @@ pub enum Transfer {
     LoadSigned32,
     /// None is moved.
     Prefetch,
+    /// The low bytes of the vector register are stored.
+    StoreVector,
+    /// They are loaded into the low bytes of the vector register, with zeros above.
+    LoadVector,
 }

@@ -1,9 +1,11 @@
 -- What a load or store leaves, by how the function that does it ends.
-use Rattle.std.specs.Prelude.{List, Result, Ok, Err}
+use Rattle.std.specs.Prelude.{ℕ, if◌then◌else◌, List, Result, Ok, Err}
 use Rattle.emu_model.specs.declared.access.Access.{Access}
 use Rattle.emu_model.specs.declared.trap.Effect.{Effect}
 use Rattle.emu_model.specs.declared.trap.Effect.TheVariants.{Next, Trap as Trapping}
 use Rattle.emu_model.specs.declared.trap.Trap.{Trap}
+use Rattle.a64_effects.specs.declared.transfer.Transfer.{Transfer}
+use Rattle.a64_effects.specs.LoadStore.{is_vector}
 use Rattle.emu_model.specs.Access.{Memory}
 use Rattle.emu_model.specs.State.{Core, Vectors}
 use Rattle.emu_model.specs.Done.{Done}
@@ -17,6 +19,10 @@ effect_of (Err trap) = Trapping trap
 abbrev pub followed : {A : Type 0} → Result A Trap → (Core → Core) → Core → Core
 followed (Ok x) after c = after c
 followed (Err trap) after c = c
+
+-- the most bytes of an access: 16 of a vector register, 8 of a general register
+abbrev pub greatest_of : Transfer → ℕ
+greatest_of t = if is_vector t then 16 else 8
 
 -- an access that ended so, with what comes after it
 abbrev pub followed_by : {A : Type 0} → (Core → Core) → Result A Trap → Core → Vectors → Memory → List Access → Done

@@ -1,16 +1,19 @@
 //! The elements of an access: each is loaded or stored as a whole, or refused, and what was done is logged.
-ghost use Rattle.std.specs.Prelude.{◌≡◌, ◌≤◌, []};
-ghost use Rattle.emu_model.specs.State.{Core as CoreState, Vectors};
+ghost use Rattle.std.specs.Prelude.{◌≡◌, ◌≤◌, ◌<◌, ◌*◌, ◌^◌, ◌∷◌, []};
+ghost use Rattle.emu_model.specs.State.{Core as CoreState};
 ghost use Rattle.emu_model.specs.declared.access.Kind.{Kind};
 ghost use Rattle.emu_model.specs.Elements.{reach};
 ghost use Rattle.a64_effects.specs.LoadStore as table;
-ghost use Rattle.a64_flow.specs.Ends.{followed_by};
+ghost use Rattle.a64_flow.specs.Ends.{followed_by, greatest_of};
+ghost use Rattle.vec_regs.specs.Packed.{IsLowSize};
 
+use crate::fields::is_vector;
 use a64_effects::Transfer;
 use core_regs::{Core, Trap};
+use element_access::{load, store};
 use emu_bits::{Reg, sign_extended};
-use element_access::{load_u64, store};
 use guest_mem::{AccessLog, Mem};
+use vec_regs::VecRegs;
 
 /// What a load of n bytes puts into its register.
 fn loaded_value(t: Transfer, n: u32, v: u64) -> u64
@@ -25,9 +28,36 @@ fn loaded_value(t: Transfer, n: u32, v: u64) -> u64
     }
 }
 
-/// Stores or loads one register, or none for a prefetch.
-pub(crate) fn single(
-    core: &mut Core,
+/// What a store takes an element's bytes from: a general register, or the low 128 bits of a vector register.
+fn stored_value(core: &Core, vec: &VecRegs, t: Transfer, rt: Reg) -> u128
+    ensures { result ≡ table.stored_value t core.now vec.now rt }
+{
+    if is_vector(t) {
+        vec.low(rt)
+    } else {
+        core.x(rt) as u128
+    }
+}
+
+/// Puts an element's bytes into its register: the low bytes of a vector register, or a general register, extended.
+fn put_loaded(core: &mut Core, vec: &mut VecRegs, t: Transfer, rt: Reg, n: u32, v: u128)
+    requires some { 1 ≤ n }
+    requires most { n ≤ greatest_of t }
+    requires size { IsLowSize (8 * n) }
+    requires small { v < 256 ^ n }
+    ensures { table.with_element t rt n v (record { core = core.old; vectors = vec.old }) ≡ record { core = core.new; vectors = vec.new } }
+{
+    if is_vector(t) {
+        vec.set_low(rt, 8 * n, v);
+    } else {
+        core.set_x(rt, 64, loaded_value(t, n, v as u64));
+    }
+}
+
+/// Stores one register.
+fn store_one(
+    core: &Core,
+    vec: &VecRegs,
     mem: &mut Mem,
     log: &mut AccessLog,
     t: Transfer,
@@ -36,19 +66,63 @@ pub(crate) fn single(
     n: u32,
 ) -> Result<(), Trap>
     requires some { 1 ≤ n }
-    requires most { n ≤ 8 }
+    requires most { n ≤ 16 }
     requires empty { log.old.items ≡ [] }
-    ensures { (after : CoreState → CoreState) (w : Vectors) → table.transferred t (table.single t rt address n) after core.old w mem.old
-        ≡ followed_by after result core.new w mem.new log.new.items }
+    ensures { (after : CoreState → CoreState) → table.stored_to t (reach mem.old Kind.Write (record { lane = 0; register = rt; address = address; bytes = n } ∷ [])) after core.now vec.now mem.old
+        ≡ followed_by after result core.now vec.now mem.new log.new.items }
+{
+    let v = stored_value(core, vec, t, rt);
+    store(mem, log, v, address, n)
+}
+
+/// Loads one register.
+fn load_one(
+    core: &mut Core,
+    vec: &mut VecRegs,
+    mem: &mut Mem,
+    log: &mut AccessLog,
+    t: Transfer,
+    rt: Reg,
+    address: u64,
+    n: u32,
+) -> Result<(), Trap>
+    requires some { 1 ≤ n }
+    requires most { n ≤ greatest_of t }
+    requires size { IsLowSize (8 * n) }
+    requires empty { log.old.items ≡ [] }
+    ensures { (after : CoreState → CoreState) → table.loaded_to t (reach mem.old Kind.Read (record { lane = 0; register = rt; address = address; bytes = n } ∷ [])) after core.old vec.old mem.old
+        ≡ followed_by after result core.new vec.new mem.new log.new.items }
+{
+    let v = load(mem, log, address, n)?;
+    put_loaded(core, vec, t, rt, n, v);
+    Ok(())
+}
+
+/// Stores or loads one register, or none for a prefetch.
+pub(crate) fn single(
+    core: &mut Core,
+    vec: &mut VecRegs,
+    mem: &mut Mem,
+    log: &mut AccessLog,
+    t: Transfer,
+    rt: Reg,
+    address: u64,
+    n: u32,
+) -> Result<(), Trap>
+    requires some { 1 ≤ n }
+    requires most { n ≤ greatest_of t }
+    requires size { IsLowSize (8 * n) }
+    requires empty { log.old.items ≡ [] }
+    ensures { (after : CoreState → CoreState) → table.transferred t (table.single t rt address n) after core.old vec.old mem.old
+        ≡ followed_by after result core.new vec.new mem.new log.new.items }
 {
     match t {
         Transfer::Prefetch => Ok(()),
-        Transfer::Store => store(mem, log, u128::from(core.x(rt)), address, n),
-        Transfer::Load | Transfer::LoadSigned | Transfer::LoadSigned32 => {
-            let v = load_u64(mem, log, address, n)?;
-            core.set_x(rt, 64, loaded_value(t, n, v));
-            Ok(())
-        }
+        Transfer::Store | Transfer::StoreVector => store_one(
+            core, vec, mem, log, t, rt, address, n,
+        ),
+        Transfer::Load | Transfer::LoadSigned | Transfer::LoadSigned32 | Transfer::LoadVector =>
+            load_one(core, vec, mem, log, t, rt, address, n),
     }
 }
 
@@ -56,28 +130,7 @@ pub(crate) fn single(
 #[tactic(auto, using(emu_model::specs::AccessLaws::refused_stored))]
 fn store_couple(
     core: &Core,
-    mem: &mut Mem,
-    log: &mut AccessLog,
-    rt: Reg,
-    rt2: Reg,
-    address: u64,
-    n: u32,
-) -> Result<(), Trap>
-    requires some { 1 ≤ n }
-    requires most { n ≤ 8 }
-    requires empty { log.old.items ≡ [] }
-    ensures { (after : CoreState → CoreState) (w : Vectors) → table.transferred Transfer.Store (table.couple rt rt2 address n) after core.now w mem.old
-        ≡ followed_by after result core.now w mem.new log.new.items }
-{
-    let first = core.x(rt).into();
-    store(mem, log, first, address, n)?;
-    let second = core.x(rt2).into();
-    store(mem, log, second, address.wrapping_add(n as u64), n)
-}
-
-/// Loads two registers, one behind the other, or none.
-fn load_couple(
-    core: &mut Core,
+    vec: &VecRegs,
     mem: &mut Mem,
     log: &mut AccessLog,
     t: Transfer,
@@ -87,15 +140,40 @@ fn load_couple(
     n: u32,
 ) -> Result<(), Trap>
     requires some { 1 ≤ n }
-    requires most { n ≤ 8 }
+    requires most { n ≤ 16 }
     requires empty { log.old.items ≡ [] }
-    ensures { (after : CoreState → CoreState) (w : Vectors) → table.loaded_to t (reach mem.old Kind.Read (table.couple rt rt2 address n)) after core.old w mem.old
-        ≡ followed_by after result core.new w mem.new log.new.items }
+    ensures { (after : CoreState → CoreState) → table.stored_to t (reach mem.old Kind.Write (table.couple rt rt2 address n)) after core.now vec.now mem.old
+        ≡ followed_by after result core.now vec.now mem.new log.new.items }
 {
-    let first = load_u64(mem, log, address, n)?;
-    let second = load_u64(mem, log, address.wrapping_add(n as u64), n)?;
-    core.set_x(rt, 64, loaded_value(t, n, first));
-    core.set_x(rt2, 64, loaded_value(t, n, second));
+    let first = stored_value(core, vec, t, rt);
+    let second = stored_value(core, vec, t, rt2);
+    store(mem, log, first, address, n)?;
+    store(mem, log, second, address.wrapping_add(n as u64), n)
+}
+
+/// Loads two registers, one behind the other, or none.
+fn load_couple(
+    core: &mut Core,
+    vec: &mut VecRegs,
+    mem: &mut Mem,
+    log: &mut AccessLog,
+    t: Transfer,
+    rt: Reg,
+    rt2: Reg,
+    address: u64,
+    n: u32,
+) -> Result<(), Trap>
+    requires some { 1 ≤ n }
+    requires most { n ≤ greatest_of t }
+    requires size { IsLowSize (8 * n) }
+    requires empty { log.old.items ≡ [] }
+    ensures { (after : CoreState → CoreState) → table.loaded_to t (reach mem.old Kind.Read (table.couple rt rt2 address n)) after core.old vec.old mem.old
+        ≡ followed_by after result core.new vec.new mem.new log.new.items }
+{
+    let first = load(mem, log, address, n)?;
+    let second = load(mem, log, address.wrapping_add(n as u64), n)?;
+    put_loaded(core, vec, t, rt, n, first);
+    put_loaded(core, vec, t, rt2, n, second);
     Ok(())
 }
 
@@ -103,6 +181,7 @@ fn load_couple(
 /// that is refused changes neither.
 pub(crate) fn couple(
     core: &mut Core,
+    vec: &mut VecRegs,
     mem: &mut Mem,
     log: &mut AccessLog,
     t: Transfer,
@@ -112,13 +191,16 @@ pub(crate) fn couple(
     n: u32,
 ) -> Result<(), Trap>
     requires some { 1 ≤ n }
-    requires most { n ≤ 8 }
+    requires most { n ≤ greatest_of t }
+    requires size { IsLowSize (8 * n) }
     requires empty { log.old.items ≡ [] }
-    ensures { (after : CoreState → CoreState) (w : Vectors) → table.transferred t (table.couple rt rt2 address n) after core.old w mem.old
-        ≡ followed_by after result core.new w mem.new log.new.items }
+    ensures { (after : CoreState → CoreState) → table.transferred t (table.couple rt rt2 address n) after core.old vec.old mem.old
+        ≡ followed_by after result core.new vec.new mem.new log.new.items }
 {
     match t {
-        Transfer::Store => store_couple(core, mem, log, rt, rt2, address, n),
-        _ => load_couple(core, mem, log, t, rt, rt2, address, n),
+        Transfer::Store | Transfer::StoreVector => store_couple(
+            core, vec, mem, log, t, rt, rt2, address, n,
+        ),
+        _ => load_couple(core, vec, mem, log, t, rt, rt2, address, n),
     }
 }

@@ -3,7 +3,6 @@ ghost use Rattle.std.specs.Prelude.{◌≡◌, [], true};
 ghost use Rattle.a64_insn.specs.declared.form.A64Form.{A64Form};
 ghost use Rattle.a64_insn.specs.declared.ops.LoadExOp.{LoadExOp as LoadName};
 ghost use Rattle.a64_insn.specs.declared.ops.StoreExOp.{StoreExOp as StoreName};
-ghost use Rattle.emu_model.specs.State.{Vectors};
 ghost use Rattle.a64_effects.specs.LoadStore as table;
 ghost use Rattle.a64_flow.specs.Ends.{ended};
 ghost use Rattle.a64_flow.specs.Groups.{is_exclusive};
@@ -12,17 +11,24 @@ use crate::alignment::{test_multiple, test_sp};
 use crate::elements::single;
 use crate::fields::{is_kept, ordered_transfer};
 use crate::numbers::bytes_of;
+use a64_effects::Transfer;
 use a64_insn::{A64, A64Form, OrderedOp};
 use core_regs::{Core, Trap};
 use emu_bits::{Reg, U};
-use a64_effects::Transfer;
 use guest_mem::{AccessLog, Mem};
+use vec_regs::VecRegs;
 
 /// Loads or stores one register, and sets or empties the exclusive monitor.
-pub(crate) fn exec(core: &mut Core, mem: &mut Mem, log: &mut AccessLog, i: &A64) -> Result<(), Trap>
+pub(crate) fn exec(
+    core: &mut Core,
+    vec: &mut VecRegs,
+    mem: &mut Mem,
+    log: &mut AccessLog,
+    i: &A64,
+) -> Result<(), Trap>
     requires own { is_exclusive i.now ≡ true }
     requires empty { log.old.items ≡ [] }
-    ensures { (w : Vectors) → table.access i.now core.old w mem.old ≡ ended result core.new w mem.new log.new.items }
+    ensures { table.access i.now core.old vec.old mem.old ≡ ended result core.new vec.new mem.new log.new.items }
 {
     match *i.form() {
         A64Form::StoreEx {
@@ -31,9 +37,9 @@ pub(crate) fn exec(core: &mut Core, mem: &mut Mem, log: &mut AccessLog, i: &A64)
             rn,
             rt,
             ..
-        } => store_ex(core, mem, log, size, rs, rn, rt),
-        A64Form::LoadEx { size, rn, rt, .. } => load_ex(core, mem, log, size, rn, rt),
-        A64Form::Ordered { op, size, rn, rt } => ordered(core, mem, log, op, size, rn, rt),
+        } => store_ex(core, vec, mem, log, size, rs, rn, rt),
+        A64Form::LoadEx { size, rn, rt, .. } => load_ex(core, vec, mem, log, size, rn, rt),
+        A64Form::Ordered { op, size, rn, rt } => ordered(core, vec, mem, log, op, size, rn, rt),
         _ => Ok(()),
     }
 }
@@ -42,6 +48,7 @@ pub(crate) fn exec(core: &mut Core, mem: &mut Mem, log: &mut AccessLog, i: &A64)
 /// empty then.
 fn store_ex(
     core: &mut Core,
+    vec: &mut VecRegs,
     mem: &mut Mem,
     log: &mut AccessLog,
     size: U<2>,
@@ -50,14 +57,14 @@ fn store_ex(
     rt: Reg,
 ) -> Result<(), Trap>
     requires { log.old.items ≡ [] }
-    ensures { (op : StoreName) (w : Vectors) → table.access (A64Form.StoreEx op size rs rn rt) core.old w mem.old ≡ ended result core.new w mem.new log.new.items }
+    ensures { (op : StoreName) → table.access (A64Form.StoreEx op size rs rn rt) core.old vec.old mem.old ≡ ended result core.new vec.new mem.new log.new.items }
 {
     test_sp(core, rn.get() == 31)?;
     let (address, n) = (core.x_sp(rn), bytes_of(size));
     test_multiple(address, n)?;
     let kept = is_kept(core.monitor(), address, n);
     if kept {
-        single(core, mem, log, Transfer::Store, rt, address, n)?;
+        single(core, vec, mem, log, Transfer::Store, rt, address, n)?;
     }
     core.set_x(rs, 32, u64::from(!kept));
     core.set_monitor(None);
@@ -67,6 +74,7 @@ fn store_ex(
 /// `ldxr`, `ldaxr`: loads, and sets the exclusive monitor.
 fn load_ex(
     core: &mut Core,
+    vec: &mut VecRegs,
     mem: &mut Mem,
     log: &mut AccessLog,
     size: U<2>,
@@ -74,12 +82,12 @@ fn load_ex(
     rt: Reg,
 ) -> Result<(), Trap>
     requires { log.old.items ≡ [] }
-    ensures { (op : LoadName) (w : Vectors) → table.access (A64Form.LoadEx op size rn rt) core.old w mem.old ≡ ended result core.new w mem.new log.new.items }
+    ensures { (op : LoadName) → table.access (A64Form.LoadEx op size rn rt) core.old vec.old mem.old ≡ ended result core.new vec.new mem.new log.new.items }
 {
     test_sp(core, rn.get() == 31)?;
     let (address, n) = (core.x_sp(rn), bytes_of(size));
     test_multiple(address, n)?;
-    single(core, mem, log, Transfer::Load, rt, address, n)?;
+    single(core, vec, mem, log, Transfer::Load, rt, address, n)?;
     core.set_monitor(Some((address, n)));
     Ok(())
 }
@@ -87,6 +95,7 @@ fn load_ex(
 /// `stlr`, `ldar`
 fn ordered(
     core: &mut Core,
+    vec: &mut VecRegs,
     mem: &mut Mem,
     log: &mut AccessLog,
     op: OrderedOp,
@@ -95,10 +104,10 @@ fn ordered(
     rt: Reg,
 ) -> Result<(), Trap>
     requires { log.old.items ≡ [] }
-    ensures { (w : Vectors) → table.access (A64Form.Ordered op size rn rt) core.old w mem.old ≡ ended result core.new w mem.new log.new.items }
+    ensures { table.access (A64Form.Ordered op size rn rt) core.old vec.old mem.old ≡ ended result core.new vec.new mem.new log.new.items }
 {
     test_sp(core, rn.get() == 31)?;
     let (address, n) = (core.x_sp(rn), bytes_of(size));
     test_multiple(address, n)?;
-    single(core, mem, log, ordered_transfer(op), rt, address, n)
+    single(core, vec, mem, log, ordered_transfer(op), rt, address, n)
 }

@@ -1,15 +1,26 @@
 //! What the fields of a row say of its access.
-ghost use Rattle.std.specs.Prelude.{◌≡◌, ◌≤◌};
+ghost use Rattle.std.specs.Prelude.{◌≡◌, ◌≤◌, ◌*◌};
 ghost use Rattle.a64_effects.specs.LoadStore as table;
+ghost use Rattle.a64_flow.specs.Ends.{greatest_of};
+ghost use Rattle.vec_regs.specs.Packed.{IsLowSize};
 
+use crate::numbers::bytes_of;
+use a64_effects::Transfer;
 use a64_insn::OrderedOp;
 use emu_bits::{Reg, U};
-use a64_effects::Transfer;
 
-/// By size and opc: a store, or a load with zeros above or with its sign to 64 or 32 bits; a prefetch at size 3.
-pub(crate) fn transfer(size: U<2>, opc: U<2>) -> Transfer
-    ensures { result ≡ table.transfer size opc }
+/// By V, size and opc: of a vector register a store or a load; of a general register a store, or a load with zeros above or with its
+/// sign to 64 or 32 bits, and a prefetch at size 3.
+pub(crate) fn transfer(v: bool, size: U<2>, opc: U<2>) -> Transfer
+    ensures { result ≡ table.transfer v size opc }
 {
+    if v {
+        return if opc.get() % 2 == 0 {
+            Transfer::StoreVector
+        } else {
+            Transfer::LoadVector
+        };
+    }
     match opc.get() {
         0 => Transfer::Store,
         1 => Transfer::Load,
@@ -24,10 +35,41 @@ pub(crate) fn transfer(size: U<2>, opc: U<2>) -> Transfer
     }
 }
 
-/// Of a literal: `ldr` of W and X, `ldrsw`, `prfm`.
-pub(crate) fn literal_transfer(opc: U<2>) -> Transfer
-    ensures { result ≡ table.literal_transfer opc }
+/// The bytes of an access of one register.
+pub(crate) fn access_bytes(v: bool, size: U<2>, opc: U<2>) -> u32
+    ensures value { result ≡ table.access_bytes v size opc }
+    ensures some { 1 ≤ result }
+    ensures most { result ≤ greatest_of (table.transfer v size opc) }
+    ensures size { IsLowSize (8 * result) }
 {
+    if v && opc.get() >= 2 {
+        16
+    } else {
+        bytes_of(size)
+    }
+}
+
+/// `S`, `D` and `Q` registers by opc.
+fn vector_bytes(opc: U<2>) -> u32
+    ensures value { result ≡ table.vector_bytes opc }
+    ensures some { 1 ≤ result }
+    ensures most { result ≤ 16 }
+    ensures size { IsLowSize (8 * result) }
+{
+    match opc.get() {
+        0 => 4,
+        1 => 8,
+        _ => 16,
+    }
+}
+
+/// Of a literal: `ldr` of W and X, `ldrsw`, `prfm`, and `ldr` of vector registers.
+pub(crate) fn literal_transfer(v: bool, opc: U<2>) -> Transfer
+    ensures { result ≡ table.literal_transfer v opc }
+{
+    if v {
+        return Transfer::LoadVector;
+    }
     match opc.get() {
         2 => Transfer::LoadSigned,
         3 => Transfer::Prefetch,
@@ -36,18 +78,29 @@ pub(crate) fn literal_transfer(opc: U<2>) -> Transfer
 }
 
 /// The bytes of a literal.
-pub(crate) fn literal_bytes(opc: U<2>) -> u32
-    ensures value { result ≡ table.literal_bytes opc }
+pub(crate) fn literal_bytes(v: bool, opc: U<2>) -> u32
+    ensures value { result ≡ table.literal_bytes v opc }
     ensures some { 1 ≤ result }
-    ensures most { result ≤ 8 }
+    ensures most { result ≤ greatest_of (table.literal_transfer v opc) }
+    ensures size { IsLowSize (8 * result) }
 {
+    if v {
+        return vector_bytes(opc);
+    }
     if opc.get() == 1 { 8 } else { 4 }
 }
 
-/// Of a pair: `stp`, `ldpsw`, `ldp`.
-pub(crate) fn pair_transfer(opc: U<2>, l: bool) -> Transfer
-    ensures { result ≡ table.pair_transfer opc l }
+/// Of a pair: `stp`, `ldpsw`, `ldp`, and those of vector registers.
+pub(crate) fn pair_transfer(v: bool, opc: U<2>, l: bool) -> Transfer
+    ensures { result ≡ table.pair_transfer v opc l }
 {
+    if v {
+        return if l {
+            Transfer::LoadVector
+        } else {
+            Transfer::StoreVector
+        };
+    }
     if !l {
         Transfer::Store
     } else if opc.get() == 1 {
@@ -58,11 +111,15 @@ pub(crate) fn pair_transfer(opc: U<2>, l: bool) -> Transfer
 }
 
 /// The bytes of each register of a pair.
-pub(crate) fn pair_bytes(opc: U<2>) -> u32
-    ensures value { result ≡ table.pair_bytes opc }
+pub(crate) fn pair_bytes(v: bool, opc: U<2>, l: bool) -> u32
+    ensures value { result ≡ table.pair_bytes v opc }
     ensures some { 1 ≤ result }
-    ensures most { result ≤ 8 }
+    ensures most { result ≤ greatest_of (table.pair_transfer v opc l) }
+    ensures size { IsLowSize (8 * result) }
 {
+    if v {
+        return vector_bytes(opc);
+    }
     if opc.get() == 2 { 8 } else { 4 }
 }
 
@@ -73,6 +130,16 @@ pub(crate) fn ordered_transfer(op: OrderedOp) -> Transfer
     match op {
         OrderedOp::Stlr => Transfer::Store,
         OrderedOp::Ldar => Transfer::Load,
+    }
+}
+
+/// Whether it is a vector register that is stored or loaded.
+pub(crate) fn is_vector(t: Transfer) -> bool
+    ensures { result ≡ table.is_vector t }
+{
+    match t {
+        Transfer::StoreVector | Transfer::LoadVector => true,
+        _ => false,
     }
 }
 

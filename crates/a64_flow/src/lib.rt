@@ -1,4 +1,4 @@
-//! Branches, the system's rows, and the loads and stores of general registers.
+//! Branches, the system's rows, and loads and stores.
 #![tactic(auto)]
 
 mod alignment;
@@ -16,50 +16,55 @@ ghost use Rattle.std.specs.Prelude.{◌≡◌, ◌||◌, [], true};
 ghost use Rattle.a64_effects.specs.Flow.{is_flow};
 ghost use Rattle.a64_effects.specs.LoadStore.{is_load_store};
 ghost use Rattle.a64_effects.specs.Effects.{performed};
-ghost use Rattle.emu_model.specs.State.{Vectors};
 
 use a64_insn::{A64, A64Form};
 use core_regs::{Core, Effect};
 use guest_mem::{AccessLog, Mem};
+use vec_regs::VecRegs;
 
-/// Whether an instruction is in a row of this crate: a branch or system row, or a load or store of general registers.
+/// Whether an instruction is in a row of this crate: a branch or system row, or a load or store.
 pub fn is_own(i: &A64) -> bool
     ensures { result ≡ (is_flow i.now || is_load_store i.now) }
 {
-    match *i.form() {
+    matches!(
+        *i.form(),
         A64Form::Branch { .. }
-        | A64Form::BranchCond { .. }
-        | A64Form::Compare { .. }
-        | A64Form::Test { .. }
-        | A64Form::BranchReg { .. }
-        | A64Form::Except { .. }
-        | A64Form::Hint { .. }
-        | A64Form::Barrier { .. }
-        | A64Form::ReadSys { .. }
-        | A64Form::WriteSys { .. }
-        | A64Form::StoreEx { .. }
-        | A64Form::LoadEx { .. }
-        | A64Form::Ordered { .. } => true,
-        A64Form::LsUnsigned { v, .. }
-        | A64Form::LsUnscaled { v, .. }
-        | A64Form::LsPost { v, .. }
-        | A64Form::LsPre { v, .. }
-        | A64Form::LsReg { v, .. }
-        | A64Form::LsLiteral { v, .. }
-        | A64Form::Pair { v, .. } => !v,
-        _ => false,
-    }
+            | A64Form::BranchCond { .. }
+            | A64Form::Compare { .. }
+            | A64Form::Test { .. }
+            | A64Form::BranchReg { .. }
+            | A64Form::Except { .. }
+            | A64Form::Hint { .. }
+            | A64Form::Barrier { .. }
+            | A64Form::ReadSys { .. }
+            | A64Form::WriteSys { .. }
+            | A64Form::LsUnsigned { .. }
+            | A64Form::LsUnscaled { .. }
+            | A64Form::LsPost { .. }
+            | A64Form::LsPre { .. }
+            | A64Form::LsReg { .. }
+            | A64Form::LsLiteral { .. }
+            | A64Form::Pair { .. }
+            | A64Form::StoreEx { .. }
+            | A64Form::LoadEx { .. }
+            | A64Form::Ordered { .. }
+    )
 }
 
-/// Does an instruction of the branch and system rows, or a load or store of general registers, and says how the step goes
+/// Does an instruction of the branch and system rows, or a load or store of general or vector registers, and says how the step goes
 /// on. The elements that were loaded or stored are logged in order. A trap changes no register; a store that traps has
 /// stored and logged the elements before the one that was refused.
-pub fn exec(core: &mut Core, mem: &mut Mem, log: &mut AccessLog, i: &A64) -> Effect
+pub fn exec(
+    core: &mut Core,
+    vec: &mut VecRegs,
+    mem: &mut Mem,
+    log: &mut AccessLog,
+    i: &A64,
+) -> Effect
     requires own { (is_flow i.now || is_load_store i.now) ≡ true }
     requires empty { log.old.items ≡ [] }
-    // these rows leave the vector registers as they were, whatever they are
-    ensures { (v : Vectors) → performed i.now core.old v mem.old
-        ≡ record { core = core.new; vectors = v; memory = mem.new; accesses = log.new.items; effect = result } }
+    ensures { performed i.now core.old vec.old mem.old
+        ≡ record { core = core.new; vectors = vec.new; memory = mem.new; accesses = log.new.items; effect = result } }
 {
     match *i.form() {
         A64Form::Branch { op, imm26 } => branches::branch(core, op, imm26),
@@ -78,7 +83,7 @@ pub fn exec(core: &mut Core, mem: &mut Mem, log: &mut AccessLog, i: &A64) -> Eff
         A64Form::Barrier { op, .. } => branches::barrier(core, op),
         A64Form::ReadSys { op, rt } => branches::read_sys(core, op, rt),
         A64Form::WriteSys { op, rt } => branches::write_sys(core, op, rt),
-        _ => match rows::access(core, mem, log, i) {
+        _ => match rows::access(core, vec, mem, log, i) {
             Ok(()) => Effect::Next,
             Err(trap) => Effect::Trap(trap),
         },

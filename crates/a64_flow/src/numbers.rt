@@ -1,6 +1,7 @@
 //! Sizes and addresses.
-ghost use Rattle.std.specs.Prelude.{◌≡◌, ◌≤◌, ◌^◌};
+ghost use Rattle.std.specs.Prelude.{◌≡◌, ◌≤◌, ◌*◌, ◌^◌};
 ghost use Rattle.a64_effects.specs.LoadStore as table;
+ghost use Rattle.vec_regs.specs.Packed.{IsLowSize};
 
 use crate::branches::offset;
 use core_regs::Core;
@@ -11,6 +12,7 @@ pub(crate) fn bytes_of(size: U<2>) -> u32
     ensures value { result ≡ 2 ^ size }
     ensures some { 1 ≤ result }
     ensures most { result ≤ 8 }
+    ensures size { IsLowSize (8 * result) }
 {
     match size.get() {
         0 => 1,
@@ -29,7 +31,7 @@ pub(crate) fn near(core: &Core, rn: Reg, imm9: U<9>) -> u64
 
 /// A base register and an extended register, times the bytes of the access where `scaled`.
 pub(crate) fn indexed(core: &Core, rn: Reg, rm: Reg, ext: U<3>, scaled: bool, n: u32) -> u64
-    requires { n ≤ 8 }
+    requires { n ≤ 16 }
     ensures { result ≡ table.indexed core.now rn rm ext scaled n }
 {
     let times = if scaled { n } else { 1 };
@@ -39,7 +41,7 @@ pub(crate) fn indexed(core: &Core, rn: Reg, rm: Reg, ext: U<3>, scaled: bool, n:
 
 /// A base register and an offset in accesses, signed.
 pub(crate) fn pair_near(core: &Core, rn: Reg, n: u32, imm7: U<7>) -> u64
-    requires { n ≤ 8 }
+    requires { n ≤ 16 }
     ensures { result ≡ table.pair_near core.now rn n imm7 }
 {
     offset(core.x_sp(rn), n as i64 * sext(imm7.get() as u64, 7))

@@ -1,56 +1,66 @@
 //! One register at an address that isn't written back: from a base, or near PC.
-ghost use Rattle.std.specs.Prelude.{◌≡◌, ◌≤◌, [], Bool, None, true};
+ghost use Rattle.std.specs.Prelude.{◌≡◌, ◌≤◌, ◌*◌, [], None, true};
 ghost use Rattle.a64_insn.specs.declared.form.A64Form.{A64Form};
-ghost use Rattle.emu_model.specs.State.{Core as CoreState, Vectors};
+ghost use Rattle.emu_model.specs.State.{Core as CoreState};
 ghost use Rattle.a64_effects.specs.LoadStore as table;
-ghost use Rattle.a64_flow.specs.Ends.{ended, followed_by};
+ghost use Rattle.a64_flow.specs.Ends.{ended, followed_by, greatest_of};
 ghost use Rattle.a64_flow.specs.Groups.{is_at_offset};
+ghost use Rattle.vec_regs.specs.Packed.{IsLowSize};
 
 use crate::alignment::test_sp;
 use crate::branches::target;
 use crate::elements::single;
-use crate::fields::{has_sp, literal_bytes, literal_transfer, transfer};
-use crate::numbers::{bytes_of, indexed, near};
+use crate::fields::{access_bytes, has_sp, literal_bytes, literal_transfer, transfer};
+use crate::numbers::{indexed, near};
+use a64_effects::Transfer;
 use a64_insn::{A64, A64Form};
 use core_regs::{Core, Trap};
 use emu_bits::{Reg, U};
-use a64_effects::Transfer;
 use guest_mem::{AccessLog, Mem};
+use vec_regs::VecRegs;
 
 /// Loads or stores one register, or prefetches.
-pub(crate) fn exec(core: &mut Core, mem: &mut Mem, log: &mut AccessLog, i: &A64) -> Result<(), Trap>
+pub(crate) fn exec(
+    core: &mut Core,
+    vec: &mut VecRegs,
+    mem: &mut Mem,
+    log: &mut AccessLog,
+    i: &A64,
+) -> Result<(), Trap>
     requires own { is_at_offset i.now ≡ true }
     requires empty { log.old.items ≡ [] }
-    ensures { (w : Vectors) → table.access i.now core.old w mem.old ≡ ended result core.new w mem.new log.new.items }
+    ensures { table.access i.now core.old vec.old mem.old ≡ ended result core.new vec.new mem.new log.new.items }
 {
     match *i.form() {
         A64Form::LsUnsigned {
             size,
+            v,
             opc,
             imm12,
             rn,
             rt,
-            ..
-        } => ls_unsigned(core, mem, log, size, opc, imm12, rn, rt),
+        } => ls_unsigned(core, vec, mem, log, size, v, opc, imm12, rn, rt),
         A64Form::LsUnscaled {
             size,
+            v,
             opc,
             imm9,
             rn,
             rt,
-            ..
-        } => ls_unscaled(core, mem, log, size, opc, imm9, rn, rt),
+        } => ls_unscaled(core, vec, mem, log, size, v, opc, imm9, rn, rt),
         A64Form::LsReg {
             size,
+            v,
             opc,
             rm,
             ext,
             s,
             rn,
             rt,
-            ..
-        } => ls_reg(core, mem, log, size, opc, rm, ext, s, rn, rt),
-        A64Form::LsLiteral { opc, imm19, rt, .. } => ls_literal(core, mem, log, opc, imm19, rt),
+        } => ls_reg(core, vec, mem, log, size, v, opc, rm, ext, s, rn, rt),
+        A64Form::LsLiteral { opc, v, imm19, rt } => ls_literal(
+            core, vec, mem, log, opc, v, imm19, rt,
+        ),
         _ => Ok(()),
     }
 }
@@ -58,6 +68,7 @@ pub(crate) fn exec(core: &mut Core, mem: &mut Mem, log: &mut AccessLog, i: &A64)
 /// One register, or none for a prefetch, at an address from a base.
 pub(crate) fn from_base(
     core: &mut Core,
+    vec: &mut VecRegs,
     mem: &mut Mem,
     log: &mut AccessLog,
     t: Transfer,
@@ -67,60 +78,67 @@ pub(crate) fn from_base(
     n: u32,
 ) -> Result<(), Trap>
     requires some { 1 ≤ n }
-    requires most { n ≤ 8 }
+    requires most { n ≤ greatest_of t }
+    requires size { IsLowSize (8 * n) }
     requires empty { log.old.items ≡ [] }
-    ensures { (after : CoreState → CoreState) (w : Vectors)
-        → table.tested (table.has_sp t rn) None core.old w mem.old (table.transferred t (table.single t rt address n) after core.old w mem.old)
-        ≡ followed_by after result core.new w mem.new log.new.items }
+    ensures { (after : CoreState → CoreState)
+        → table.tested (table.has_sp t rn) None core.old vec.old mem.old (table.transferred t (table.single t rt address n) after core.old vec.old mem.old)
+        ≡ followed_by after result core.new vec.new mem.new log.new.items }
 {
     test_sp(core, has_sp(t, rn))?;
-    single(core, mem, log, t, rt, address, n)
+    single(core, vec, mem, log, t, rt, address, n)
 }
 
 /// At `[Xn|SP{, #0}]`: imm12 counts accesses.
 fn ls_unsigned(
     core: &mut Core,
+    vec: &mut VecRegs,
     mem: &mut Mem,
     log: &mut AccessLog,
     size: U<2>,
+    v: bool,
     opc: U<2>,
     imm12: U<12>,
     rn: Reg,
     rt: Reg,
 ) -> Result<(), Trap>
     requires { log.old.items ≡ [] }
-    ensures { (v : Bool) (w : Vectors) → table.access (A64Form.LsUnsigned size v opc imm12 rn rt) core.old w mem.old ≡ ended result core.new w mem.new log.new.items }
+    ensures { table.access (A64Form.LsUnsigned size v opc imm12 rn rt) core.old vec.old mem.old ≡ ended result core.new vec.new mem.new log.new.items }
 {
-    let (t, n) = (transfer(size, opc), bytes_of(size));
+    let (t, n) = (transfer(v, size, opc), access_bytes(v, size, opc));
     let address = core.x_sp(rn).wrapping_add(u64::from(n * imm12.get()));
-    from_base(core, mem, log, t, rn, rt, address, n)
+    from_base(core, vec, mem, log, t, rn, rt, address, n)
 }
 
 /// At `[Xn|SP{, #0}]`: imm9 is signed, in bytes.
 fn ls_unscaled(
     core: &mut Core,
+    vec: &mut VecRegs,
     mem: &mut Mem,
     log: &mut AccessLog,
     size: U<2>,
+    v: bool,
     opc: U<2>,
     imm9: U<9>,
     rn: Reg,
     rt: Reg,
 ) -> Result<(), Trap>
     requires { log.old.items ≡ [] }
-    ensures { (v : Bool) (w : Vectors) → table.access (A64Form.LsUnscaled size v opc imm9 rn rt) core.old w mem.old ≡ ended result core.new w mem.new log.new.items }
+    ensures { table.access (A64Form.LsUnscaled size v opc imm9 rn rt) core.old vec.old mem.old ≡ ended result core.new vec.new mem.new log.new.items }
 {
-    let (t, n) = (transfer(size, opc), bytes_of(size));
+    let (t, n) = (transfer(v, size, opc), access_bytes(v, size, opc));
     let address = near(core, rn, imm9);
-    from_base(core, mem, log, t, rn, rt, address, n)
+    from_base(core, vec, mem, log, t, rn, rt, address, n)
 }
 
 /// At `[Xn|SP, Rm, ext #a]`: the extended register counts accesses where s is set, else bytes.
 fn ls_reg(
     core: &mut Core,
+    vec: &mut VecRegs,
     mem: &mut Mem,
     log: &mut AccessLog,
     size: U<2>,
+    v: bool,
     opc: U<2>,
     rm: Reg,
     ext: U<3>,
@@ -129,26 +147,28 @@ fn ls_reg(
     rt: Reg,
 ) -> Result<(), Trap>
     requires { log.old.items ≡ [] }
-    ensures { (v : Bool) (w : Vectors) → table.access (A64Form.LsReg size v opc rm ext s rn rt) core.old w mem.old ≡ ended result core.new w mem.new log.new.items }
+    ensures { table.access (A64Form.LsReg size v opc rm ext s rn rt) core.old vec.old mem.old ≡ ended result core.new vec.new mem.new log.new.items }
 {
-    let (t, n) = (transfer(size, opc), bytes_of(size));
+    let (t, n) = (transfer(v, size, opc), access_bytes(v, size, opc));
     let address = indexed(core, rn, rm, ext, s, n);
-    from_base(core, mem, log, t, rn, rt, address, n)
+    from_base(core, vec, mem, log, t, rn, rt, address, n)
 }
 
 /// At `target`: imm19 is signed and counts words from PC on.
 fn ls_literal(
     core: &mut Core,
+    vec: &mut VecRegs,
     mem: &mut Mem,
     log: &mut AccessLog,
     opc: U<2>,
+    v: bool,
     imm19: U<19>,
     rt: Reg,
 ) -> Result<(), Trap>
     requires { log.old.items ≡ [] }
-    ensures { (v : Bool) (w : Vectors) → table.access (A64Form.LsLiteral opc v imm19 rt) core.old w mem.old ≡ ended result core.new w mem.new log.new.items }
+    ensures { table.access (A64Form.LsLiteral opc v imm19 rt) core.old vec.old mem.old ≡ ended result core.new vec.new mem.new log.new.items }
 {
-    let (t, n) = (literal_transfer(opc), literal_bytes(opc));
+    let (t, n) = (literal_transfer(v, opc), literal_bytes(v, opc));
     let address = target(core, imm19.get(), 19);
-    single(core, mem, log, t, rt, address, n)
+    single(core, vec, mem, log, t, rt, address, n)
 }

@@ -1,7 +1,6 @@
 //! Pairs of registers.
 ghost use Rattle.std.specs.Prelude.{◌≡◌, [], Bool};
 ghost use Rattle.a64_insn.specs.declared.form.A64Form.{A64Form};
-ghost use Rattle.emu_model.specs.State.{Vectors};
 ghost use Rattle.a64_effects.specs.LoadStore as table;
 ghost use Rattle.a64_flow.specs.Ends.{ended};
 
@@ -12,13 +11,16 @@ use crate::numbers::pair_near;
 use core_regs::{Core, Trap};
 use emu_bits::{Reg, U};
 use guest_mem::{AccessLog, Mem};
+use vec_regs::VecRegs;
 
 /// Two registers, at imm7 accesses from the base, or post-indexed at the base itself.
 pub(crate) fn pair(
     core: &mut Core,
+    vec: &mut VecRegs,
     mem: &mut Mem,
     log: &mut AccessLog,
     opc: U<2>,
+    v: bool,
     mode: U<2>,
     l: bool,
     imm7: U<7>,
@@ -27,13 +29,13 @@ pub(crate) fn pair(
     rt: Reg,
 ) -> Result<(), Trap>
     requires { log.old.items ≡ [] }
-    ensures { (v : Bool) (w : Vectors) → table.access (A64Form.Pair opc v mode l imm7 rt2 rn rt) core.old w mem.old ≡ ended result core.new w mem.new log.new.items }
+    ensures { table.access (A64Form.Pair opc v mode l imm7 rt2 rn rt) core.old vec.old mem.old ≡ ended result core.new vec.new mem.new log.new.items }
 {
     test_sp(core, rn.get() == 31)?;
-    let (t, n) = (pair_transfer(opc, l), pair_bytes(opc));
+    let (t, n) = (pair_transfer(v, opc, l), pair_bytes(v, opc, l));
     let next = pair_near(core, rn, n, imm7);
     let address = if mode.get() == 1 { core.x_sp(rn) } else { next };
-    couple(core, mem, log, t, rt, rt2, address, n)?;
+    couple(core, vec, mem, log, t, rt, rt2, address, n)?;
     if writes_back(mode) {
         core.set_x_sp(rn, 64, next);
     }

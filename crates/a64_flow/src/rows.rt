@@ -1,7 +1,6 @@
 //! The rows that load or store general registers. Each tests SP where it is the base, then the address where the row asks
 //! for alignment, and then its elements one after the other. What comes behind is done where none was refused.
 ghost use Rattle.std.specs.Prelude.{◌≡◌, []};
-ghost use Rattle.emu_model.specs.State.{Vectors};
 ghost use Rattle.a64_effects.specs.LoadStore as table;
 ghost use Rattle.a64_flow.specs.Ends.{ended};
 
@@ -10,35 +9,37 @@ use crate::{exclusive, indexed, offsets};
 use a64_insn::{A64, A64Form};
 use core_regs::{Core, Trap};
 use guest_mem::{AccessLog, Mem};
+use vec_regs::VecRegs;
 
 /// A row that loads or stores general registers; another row does nothing here.
 pub(crate) fn access(
     core: &mut Core,
+    vec: &mut VecRegs,
     mem: &mut Mem,
     log: &mut AccessLog,
     i: &A64,
 ) -> Result<(), Trap>
     requires { log.old.items ≡ [] }
-    ensures { (w : Vectors) → table.access i.now core.old w mem.old ≡ ended result core.new w mem.new log.new.items }
+    ensures { table.access i.now core.old vec.old mem.old ≡ ended result core.new vec.new mem.new log.new.items }
 {
     match *i.form() {
         A64Form::LsUnsigned { .. }
         | A64Form::LsUnscaled { .. }
         | A64Form::LsReg { .. }
-        | A64Form::LsLiteral { .. } => offsets::exec(core, mem, log, i),
-        A64Form::LsPost { .. } | A64Form::LsPre { .. } => indexed::exec(core, mem, log, i),
+        | A64Form::LsLiteral { .. } => offsets::exec(core, vec, mem, log, i),
+        A64Form::LsPost { .. } | A64Form::LsPre { .. } => indexed::exec(core, vec, mem, log, i),
         A64Form::Pair {
             opc,
+            v,
             mode,
             l,
             imm7,
             rt2,
             rn,
             rt,
-            ..
-        } => pair(core, mem, log, opc, mode, l, imm7, rt2, rn, rt),
+        } => pair(core, vec, mem, log, opc, v, mode, l, imm7, rt2, rn, rt),
         A64Form::StoreEx { .. } | A64Form::LoadEx { .. } | A64Form::Ordered { .. } =>
-            exclusive::exec(core, mem, log, i),
+            exclusive::exec(core, vec, mem, log, i),
         _ => Ok(()),
     }
 }

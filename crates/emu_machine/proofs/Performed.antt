@@ -1,5 +1,6 @@
 -- An instruction that asks for a call is svc, and does nothing else.
 use Rattle.std.proofs.Common.{◌≡◌, ℕ, Bool, true, false, List, [], Option, Some, None, if◌then◌else◌, refl, ap, sym, ◌∙◌}
+use Rattle.std.specs.Prelude.{◌||◌, is_some}
 use Rattle.a64_insn.specs.declared.form.A64Form.{A64Form}
 use Rattle.a64_insn.specs.declared.form.A64Form.TheVariants.{Branch, BranchCond, Compare, Test, BranchReg, Except}
 use Rattle.a64_insn.specs.declared.ops.BranchOp.TheVariants.{B, Bl}
@@ -17,16 +18,23 @@ use Rattle.emu_model.specs.declared.trap.Ended.{Ended}
 use Rattle.emu_model.specs.State.{Core, Vectors, read_x}
 use Rattle.emu_run.specs.declared.insn.Insn.{Insn}
 use Rattle.emu_run.specs.declared.insn.Insn.TheVariants.{A64, Sve}
+use Rattle.a64_effects.specs.BitMoves.{bit_move}
 use Rattle.a64_effects.specs.Effects as a64
+use Rattle.sve_insn.specs.declared.form.SveForm.{SveForm}
+use Rattle.sve_effects.specs.Effects as sve
+use Rattle.sve_effects.specs.FirstFault.{first_fault, first_fault_loaded, first_refused, is_non_fault, loaded_unless}
+use Rattle.sve_effects.specs.PredicateRows.{is_predicate, predicate}
+use Rattle.sve_effects.specs.VectorElements.{layout, elements_of}
+use Rattle.sve_effects.specs.VectorLoadStore as memory_rows
 use Rattle.a64_effects.specs.declared.transfer.Transfer.{Transfer}
-use Rattle.a64_effects.specs.declared.transfer.Transfer.TheVariants.{Store, Load, LoadSigned, LoadSigned32, Prefetch}
-use Rattle.emu_model.specs.Done.{Done, quietly, went_well, traps}
+use Rattle.a64_effects.specs.declared.transfer.Transfer.TheVariants.{Store, Load, LoadSigned, LoadSigned32, Prefetch, StoreVector, LoadVector}
+use Rattle.emu_model.specs.Done.{Done, Registers, quietly, went_well, went_on_with, traps}
 use Rattle.emu_model.specs.Elements.{Element, reach}
 use Rattle.a64_effects.specs.Flow.{branches_if, is_flow, is_taken, is_taken_by, digit, tested_bit, target, flow}
-use Rattle.a64_effects.specs.LoadStore.{access, behind, elements, has_sp_base, is_misaligned, load_as_far, misaligned, store_as_far, tested, transfer_of, transferred, unless_misaligned}
+use Rattle.a64_effects.specs.LoadStore.{access, behind, elements, has_sp_base, is_load_store, is_misaligned, load_as_far, loaded_to, misaligned, store_as_far, stored_to, tested, transfer_of, transferred, unless_misaligned}
 use Rattle.a64_effects.specs.Scalar.{is_data, operand, scalar, width_of}
 use Rattle.emu_run.specs.Step.{performed}
-use Rattle.emu_machine.specs.Machines.{MachineState, is_svc}
+use Rattle.emu_machine.specs.Machines.{MachineState, has_ended, is_svc}
 
 -- this effect is no call
 abbrev IsOther : Effect → Type 0
@@ -36,20 +44,28 @@ module _ (c : Core) (v : Vectors) (m : Memory) where
   -- ---- loads and stores ask for none
 
   module _ (after : Core → Core) where
-    stored_is_other : (stop : Option ℕ) (es : List Element) → IsOther (store_as_far stop es after c v m).effect
-    stored_is_other None es = λ h. cc
-    stored_is_other (Some a) es = λ h. cc
+    stored_is_other : (t : Transfer) (stop : Option ℕ) (es : List Element) → IsOther (store_as_far t stop es after c v m).effect
+    stored_is_other t None es = λ h. cc
+    stored_is_other t (Some a) es = λ h. cc
 
     loaded_is_other : (t : Transfer) (stop : Option ℕ) (es : List Element) → IsOther (load_as_far t stop es after c v m).effect
     loaded_is_other t None es = λ h. cc
     loaded_is_other t (Some a) es = λ h. cc
 
+    stored_to_is_other : (t : Transfer) (es : List Element) → IsOther (stored_to t (reach m WriteKind es) after c v m).effect
+    stored_to_is_other t es = stored_is_other t (reach m WriteKind es).stop (reach m WriteKind es).done
+
+    loaded_to_is_other : (t : Transfer) (es : List Element) → IsOther (loaded_to t (reach m ReadKind es) after c v m).effect
+    loaded_to_is_other t es = loaded_is_other t (reach m ReadKind es).stop (reach m ReadKind es).done
+
     transferred_is_other : (t : Transfer) (es : List Element) → IsOther (transferred t es after c v m).effect
-    transferred_is_other Store es = stored_is_other (reach m WriteKind es).stop (reach m WriteKind es).done
-    transferred_is_other Load es = loaded_is_other Load (reach m ReadKind es).stop (reach m ReadKind es).done
-    transferred_is_other LoadSigned es = loaded_is_other LoadSigned (reach m ReadKind es).stop (reach m ReadKind es).done
-    transferred_is_other LoadSigned32 es = loaded_is_other LoadSigned32 (reach m ReadKind es).stop (reach m ReadKind es).done
-    transferred_is_other Prefetch es = loaded_is_other Prefetch (reach m ReadKind es).stop (reach m ReadKind es).done
+    transferred_is_other Store es = stored_to_is_other Store es
+    transferred_is_other StoreVector es = stored_to_is_other StoreVector es
+    transferred_is_other Load es = loaded_to_is_other Load es
+    transferred_is_other LoadSigned es = loaded_to_is_other LoadSigned es
+    transferred_is_other LoadSigned32 es = loaded_to_is_other LoadSigned32 es
+    transferred_is_other Prefetch es = loaded_to_is_other Prefetch es
+    transferred_is_other LoadVector es = loaded_to_is_other LoadVector es
 
   unless_is_other : (o : Option ℕ) (d : Done) → IsOther d.effect → IsOther (unless_misaligned o c v m d).effect
   unless_is_other None d other = other
@@ -90,17 +106,73 @@ module _ (c : Core) (v : Vectors) (m : Memory) where
   flow_alone form = λ h. absurd (cc)
 
   a64_alone : (form : A64Form) → AsksAlone (A64 form) (a64.performed form c v m)
-  a64_alone form = elim (is_data form) as (λ b. AsksAlone (A64 form) (if b then went_well (scalar form c) v m else (if is_flow form then flow form c v m else access form c v m))) [
+  a64_alone form = elim (is_data form) as (λ b. AsksAlone (A64 form) (if b then went_well (scalar form c) v m else (if is_flow form then flow form c v m else (if is_load_store form then access form c v m else went_on_with (bit_move form c v) m)))) [
     | true ↦ λ h. absurd (cc)
-    | false ↦ elim (is_flow form) as (λ b. AsksAlone (A64 form) (if b then flow form c v m else access form c v m)) [
+    | false ↦ elim (is_flow form) as (λ b. AsksAlone (A64 form) (if b then flow form c v m else (if is_load_store form then access form c v m else went_on_with (bit_move form c v) m))) [
       | true ↦ flow_alone form
-      | false ↦ λ h. absurd (access_is_other form h)
+      | false ↦ elim (is_load_store form) as (λ b. AsksAlone (A64 form) (if b then access form c v m else went_on_with (bit_move form c v) m)) [
+        | true ↦ λ h. absurd (access_is_other form h)
+        | false ↦ λ h. absurd (cc)
+      ]
     ]
   ]
 
+  -- ---- no SVE row does
+
+  vector_loaded_is_other : (stop : Option ℕ) (es : List Element) (after : Vectors) → IsOther (memory_rows.load_as_far stop es after c v m).effect
+  vector_loaded_is_other None es after = λ h. cc
+  vector_loaded_is_other (Some a) es after = λ h. cc
+
+  vector_stored_is_other : (stop : Option ℕ) (es : List Element) (stores : Element → ℕ) → IsOther (memory_rows.store_as_far stop es stores c v m).effect
+  vector_stored_is_other None es stores = λ h. cc
+  vector_stored_is_other (Some a) es stores = λ h. cc
+
+  unless_sp_is_other : (has_base : Bool) (es : List Element) (d : Done) → IsOther d.effect → IsOther (memory_rows.unless_misaligned has_base es c v m d).effect
+  unless_sp_is_other has_base es d other = elim (memory_rows.is_misaligned has_base es c) as (λ b. IsOther (if b then traps c v m SpAlign c.sp else d).effect) [
+    | true ↦ λ h. cc
+    | false ↦ other
+  ]
+
+  by_direction_is_other : (loads : Bool) (form : SveForm) → IsOther (if loads then memory_rows.vector_load form c v m else memory_rows.vector_store form c v m).effect
+  by_direction_is_other true form =
+      let l = layout form c v in
+      let r = reach m ReadKind (elements_of l) in
+      unless_sp_is_other (memory_rows.has_sp_base form) (elements_of l) (memory_rows.loaded_to r (memory_rows.after_load form l m v) c v m)
+      (vector_loaded_is_other r.stop r.done (memory_rows.after_load form l m v))
+  by_direction_is_other false form =
+      let l = layout form c v in
+      let r = reach m WriteKind (elements_of l) in
+      unless_sp_is_other (memory_rows.has_sp_base form) (elements_of l) (memory_rows.stored_to r (memory_rows.element_stored form l v) c v m)
+      (vector_stored_is_other r.stop r.done (memory_rows.element_stored form l v))
+
+  loaded_unless_is_other : (o : Option ℕ) (d : Done) → IsOther d.effect → IsOther (loaded_unless o d c v m).effect
+  loaded_unless_is_other None d other = other
+  loaded_unless_is_other (Some a) d other = λ h. cc
+
+  first_fault_is_other : (form : SveForm) → IsOther (first_fault form c v m).effect
+  first_fault_is_other form =
+      let l = layout form c v in
+      let d = first_fault_loaded (memory_rows.loads_signed form) l.bits l.register (elements_of l) c v m in
+      let o : Option ℕ = if is_non_fault form then None else first_refused m (elements_of l) in
+      unless_sp_is_other (memory_rows.has_sp_base form) (elements_of l) (loaded_unless o d c v m) (loaded_unless_is_other o d (λ h. cc))
+
+  by_page_is_other : (p₁ p₂ p₃ p₄ : Bool) (a b : Registers) (x y z : Done) → IsOther x.effect → IsOther y.effect → IsOther z.effect
+      → IsOther (if p₁ then went_on_with a m else (if p₂ then went_on_with b m else (if p₃ then x else (if p₄ then y else z)))).effect
+  by_page_is_other true p₂ p₃ p₄ a b x y z f g h = λ e. cc
+  by_page_is_other false true p₃ p₄ a b x y z f g h = λ e. cc
+  by_page_is_other false false true p₄ a b x y z f g h = f
+  by_page_is_other false false false true a b x y z f g h = g
+  by_page_is_other false false false false a b x y z f g h = h
+
+  sve_is_other : (form : SveForm) → IsOther (sve.performed form c v m).effect
+  sve_is_other form =
+      by_page_is_other (sve.is_data form) (is_predicate form) (memory_rows.is_contiguous form) (memory_rows.is_gather_scatter form)
+      (sve.after_data form c v) (predicate form c v) (memory_rows.contiguous form c v m) (memory_rows.gather_scatter form c v m) (first_fault form c v m)
+      (by_direction_is_other (memory_rows.is_contiguous_load form) form) (by_direction_is_other (memory_rows.is_gather form) form) (first_fault_is_other form)
+
   performed_alone : (i : Insn) → AsksAlone i (performed i c v m)
   performed_alone (A64 form) = a64_alone form
-  performed_alone (Sve form) = λ h. absurd (cc)
+  performed_alone (Sve form) = λ h. absurd (sve_is_other form h)
 
 -- ---- what such an instruction leaves
 
@@ -131,3 +203,11 @@ machine_of c vectors m brk steps ended l failed = record { parts = record { core
 pub same_machine : (c d : Core) (v w : Vectors) (m n : Memory) (brk : Break) (steps : ℕ) (ended : Option Ended) (k l : List Access) (failed : Bool) → d ≡ c → w ≡ v → n ≡ m → l ≡ k
     → machine_of d w n brk steps ended l failed ≡ machine_of c v m brk steps ended k failed
 same_machine c d v w m n brk steps ended k l failed core vectors memory accesses = cc
+
+-- a machine that hasn't ended hasn't failed
+pub not_failed : (m : MachineState) → has_ended m ≡ false → m.failed ≡ false
+not_failed m going = by_end (is_some m.parts.ended) going
+  where
+    by_end : (b : Bool) → (b || m.failed) ≡ false → m.failed ≡ false
+    by_end true is = cc
+    by_end false is = is

@@ -176,7 +176,13 @@ impl Machine {
             let pc = self.core.pc();
             return Some(self.trap(TrapKind::Undefined, pc));
         }
-        match perform(&mut self.core, &mut self.vec, &mut self.memory, &mut self.log, insn) {
+        match perform(
+            &mut self.core,
+            &mut self.vec,
+            &mut self.memory,
+            &mut self.log,
+            insn,
+        ) {
             Effect::Next => {
                 let next = self.core.pc().wrapping_add(4);
                 self.go_on(next);

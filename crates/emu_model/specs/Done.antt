@@ -27,6 +27,10 @@ quietly c v m effect = record { core = c; vectors = v; memory = m; accesses = []
 abbrev pub went_well : Core → Vectors → Memory → Done
 went_well c v m = quietly c v m Next
 
+-- the same of an instruction that works on registers alone
+abbrev pub went_on_with : Registers → Memory → Done
+went_on_with r m = went_well r.core r.vectors m
+
 -- goes on at an address
 abbrev pub branches : Core → Vectors → Memory → ℕ → Done
 branches c v m target = quietly c v m (Branch target)

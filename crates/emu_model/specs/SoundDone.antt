@@ -5,7 +5,7 @@ use Rattle.emu_model.specs.declared.trap.Effect.{Effect}
 use Rattle.emu_model.specs.declared.trap.Effect.TheVariants.{Next, Branch, Call, Trap}
 use Rattle.emu_model.specs.Access.{Memory}
 use Rattle.emu_model.specs.State.{Core, Vectors, IsWord, IsSoundCore, IsSoundVectors, IsSoundMemory}
-use Rattle.emu_model.specs.Done.{Done, went_well, branches, traps}
+use Rattle.emu_model.specs.Done.{Done, Registers, went_well, branches, traps}
 
 abbrev pub IsSoundEffect : Effect → Type 0
 IsSoundEffect Next = Unit {0}
@@ -18,6 +18,10 @@ pub record IsSoundDone (d : Done) : Type 0 where
   pub vectors : IsSoundVectors d.vectors
   pub memory : IsSoundMemory d.memory
   pub effect : IsSoundEffect d.effect
+
+pub record IsSoundRegisters (r : Registers) : Type 0 where
+  pub core : IsSoundCore r.core
+  pub vectors : IsSoundVectors r.vectors
 
 pub well_sound : (c : Core) (v : Vectors) (m : Memory) → IsSoundCore c → IsSoundVectors v → IsSoundMemory m → IsSoundDone (went_well c v m)
 well_sound c v m s u t = record { core = s; vectors = u; memory = t; effect = tt }

@@ -16,9 +16,14 @@ nibble_place (suc m) =
 abbrev pub digit_at : ℕ → ℕ → ℕ → ℕ
 digit_at n v k = hex_digit (v / 16 ^ (n - 1 - k) % 16)
 
+-- one more of characters that are given one by one
+pub character_more : (text before : List ℕ) (f : ℕ → ℕ) (k character : ℕ) → text ≡ before ++ each k f → character ≡ f k → text ++ (character ∷ []) ≡ before ++ each (k + 1) f
+character_more text before f k character e d =
+    ap (λ (xs : List ℕ). xs ++ (character ∷ [])) e
+    ∙ append_assoc before (each k f) (character ∷ [])
+    ∙ ap (λ (x : ℕ). before ++ (each k f ++ (x ∷ []))) d
+    ∙ ap (λ (xs : List ℕ). before ++ xs) (sym (each-more k f))
+
 pub digits_more : (text before : List ℕ) (n v k character : ℕ) → text ≡ before ++ each k (digit_at n v) → character ≡ hex_digit (v / 2 ^ (4 * (n - 1 - k)) % 16) → text ++ (character ∷ []) ≡ before ++ each (k + 1) (digit_at n v)
 digits_more text before n v k character e d =
-    ap (λ (xs : List ℕ). xs ++ (character ∷ [])) e
-    ∙ append_assoc before (each k (digit_at n v)) (character ∷ [])
-    ∙ ap (λ (x : ℕ). before ++ (each k (digit_at n v) ++ (x ∷ []))) (d ∙ ap (λ (p : ℕ). hex_digit (v / p % 16)) (nibble_place (n - 1 - k)))
-    ∙ ap (λ (xs : List ℕ). before ++ xs) (sym (each-more k (digit_at n v)))
+    character_more text before (digit_at n v) k character e (d ∙ ap (λ (p : ℕ). hex_digit (v / p % 16)) (nibble_place (n - 1 - k)))

@@ -1,6 +1,6 @@
 pub mod Decimals
 pub mod Digits
-pub mod Zeros
+pub mod VectorDigits
 pub mod Puts
 pub mod Pieces
 pub mod Lines

@@ -1,31 +1,41 @@
 //! The lines of the registers.
-ghost use Rattle.std.specs.Prelude.{◌≡◌, ◌≤◌, ◌+◌, ◌*◌, ◌%◌, ◌++◌, length, codes, get_or, replicate};
+ghost use Rattle.std.specs.Prelude.{◌≡◌, ◌<◌, ◌≤◌, ◌+◌, ◌*◌, ◌++◌, length, codes, get_or};
 ghost use Rattle.std.specs.Fmt.{decimal};
 ghost use Rattle.emu_bits.specs.Fields.{bit};
-ghost use Rattle.emu_model.specs.State.{zero_vectors};
 ghost use Rattle.emu_run.specs.Text.{hex, space, newline};
-ghost use Rattle.emu_run.specs.Registers.{flag_digits, lines_of, numbered, register_line, scalar_lines, vector_lines, word_line};
+ghost use Rattle.emu_run.specs.Registers.{bit_digits, flag_digits, lines_of, numbered, register_line, scalar_lines, vector_lines, word_line};
 ghost use Rattle.io_gate.specs.Streams.{HasCause, PutsAll};
+ghost use Rattle.emu_report.specs.VectorLines.{count_of, line_of};
+ghost use Rattle.emu_report.specs.WordDigits.{word_digits};
 
 use crate::text::Text;
 use core_regs::Core;
-use emu_bits::{Flags, Reg};
-use emu_model::Length;
+use emu_bits::{Flags, Pred, Reg};
 use io_gate::{Failed, Sink};
+use vec_regs::VecRegs;
 
-/// Puts the lines of all registers at a vector length: `x0` to `x30`, `sp`, `pc`, `nzcv`, `tpidr`, `vl`,
-/// `z0` to `z31`, `p0` to `p15` and `ffr`. All bits of the vector registers are 0.
-pub fn put_registers<S: Sink>(core: &Core, length: Length, sink: &mut S) -> Result<(), Failed>
-    ensures bytes { PutsAll (S.held sink.old) (S.held sink.new) (scalar_lines core.now length ++ vector_lines (zero_vectors length)) result }
+/// A kind of numbered vector registers.
+#[derive(Clone, Copy)]
+enum Kind {
+    Z,
+    P,
+}
+
+/// Puts the lines of all registers: `x0` to `x30`, `sp`, `pc`, `nzcv`, `tpidr`, `vl`, `z0` to `z31`, `p0` to `p15` and `ffr`.
+///
+/// A vector register has two hexadecimal digits a byte, and a predicate and FFR one for each four bits, the most significant
+/// first.
+pub fn put_registers<S: Sink>(core: &Core, vec: &VecRegs, sink: &mut S) -> Result<(), Failed>
+    ensures bytes { PutsAll (S.held sink.old) (S.held sink.new) (scalar_lines core.now vec.now.bits ++ vector_lines vec.now) result }
     ensures cause { HasCause (S.faults sink.old) (S.faults sink.new) result }
 {
-    put_scalars(core, length, sink)?;
-    put_zero_vectors(length, sink)
+    put_scalars(core, vec, sink)?;
+    put_vectors(vec, sink)
 }
 
 /// Puts the lines of the scalar registers: `x0` to `x30`, `sp`, `pc`, `nzcv`, `tpidr`, and of the vector length in bits, `vl`.
-pub fn put_scalars<S: Sink>(core: &Core, length: Length, sink: &mut S) -> Result<(), Failed>
-    ensures bytes { PutsAll (S.held sink.old) (S.held sink.new) (scalar_lines core.now length) result }
+pub fn put_scalars<S: Sink>(core: &Core, vec: &VecRegs, sink: &mut S) -> Result<(), Failed>
+    ensures bytes { PutsAll (S.held sink.old) (S.held sink.new) (scalar_lines core.now vec.now.bits) result }
     ensures cause { HasCause (S.faults sink.old) (S.faults sink.new) result }
 {
     let mut text = Text::new();
@@ -34,47 +44,71 @@ pub fn put_scalars<S: Sink>(core: &Core, length: Length, sink: &mut S) -> Result
     push_word_line(&mut text, b"pc", core.pc());
     push_flags_line(&mut text, core.flags());
     push_word_line(&mut text, b"tpidr", core.tpidr());
-    push_length_line(&mut text, length.bits());
+    push_length_line(&mut text, vec.length().bits());
     text.put(sink)
 }
 
-/// Puts the lines of `z0` to `z31`, `p0` to `p15` and `ffr` with all bits 0, a line at a time.
-fn put_zero_vectors<S: Sink>(length: Length, sink: &mut S) -> Result<(), Failed>
-    ensures bytes { PutsAll (S.held sink.old) (S.held sink.new) (vector_lines (zero_vectors length)) result }
+/// Puts the lines of `z0` to `z31`, `p0` to `p15` and `ffr`, a line at a time.
+fn put_vectors<S: Sink>(vec: &VecRegs, sink: &mut S) -> Result<(), Failed>
+    ensures bytes { PutsAll (S.held sink.old) (S.held sink.new) (vector_lines vec.now) result }
     ensures cause { HasCause (S.faults sink.old) (S.faults sink.new) result }
 {
-    let bits = length.bits();
-    put_zero_lines(b"z", 32, bits / 4, sink)?;
-    put_zero_lines(b"p", 16, bits / 32, sink)?;
-    let mut text = Text::new();
-    text.push(b"ffr");
-    push_zero_value(&mut text, bits / 32);
-    text.put(sink)
+    put_lines(Kind::Z, 32, vec, sink)?;
+    put_lines(Kind::P, 16, vec, sink)?;
+    put_ffr(vec, sink)
 }
 
-/// Puts the lines of registers 0 to `count` - 1 of a kind, each with so many digits 0.
-fn put_zero_lines<S: Sink>(kind: &[u8], count: u32, digits: u32, sink: &mut S) -> Result<(), Failed>
-    requires short { length kind.now ≤ 8 }
-    requires digits { digits ≤ 512 }
-    ensures bytes { PutsAll (S.held sink.old) (S.held sink.new) (lines_of count (λ k. register_line (numbered kind.now k) (replicate digits 48))) result }
+/// Puts the lines of registers 0 to `count` - 1 of a kind.
+fn put_lines<S: Sink>(kind: Kind, count: u32, vec: &VecRegs, sink: &mut S) -> Result<(), Failed>
+    requires { count ≤ count_of kind }
+    ensures bytes { PutsAll (S.held sink.old) (S.held sink.new) (lines_of count (line_of vec.now kind)) result }
     ensures cause { HasCause (S.faults sink.old) (S.faults sink.new) result }
 {
     'registers: for k in 0..count {
-        put_zero_line(kind, k, digits, sink)?;
+        put_line(kind, k, vec, sink)?;
     }
     Ok(())
 }
 
-/// Puts the line of register `k` of a kind with so many digits 0.
-fn put_zero_line<S: Sink>(kind: &[u8], k: u32, digits: u32, sink: &mut S) -> Result<(), Failed>
-    requires short { length kind.now ≤ 8 }
-    requires digits { digits ≤ 512 }
-    ensures bytes { PutsAll (S.held sink.old) (S.held sink.new) (register_line (numbered kind.now k) (replicate digits 48)) result }
+/// Puts the line of register `k` of a kind.
+fn put_line<S: Sink>(kind: Kind, k: u32, vec: &VecRegs, sink: &mut S) -> Result<(), Failed>
+    requires { k < count_of kind }
+    ensures bytes { PutsAll (S.held sink.old) (S.held sink.new) (line_of vec.now kind k) result }
     ensures cause { HasCause (S.faults sink.old) (S.faults sink.new) result }
 {
     let mut text = Text::new();
-    push_name(&mut text, kind, k);
-    push_zero_value(&mut text, digits);
+    push_line(&mut text, kind, k, vec);
+    text.put(sink)
+}
+
+/// Appends the line of register `k` of a kind.
+fn push_line(text: &mut Text, kind: Kind, k: u32, vec: &VecRegs)
+    requires which { k < count_of kind }
+    requires room { length text.old + 600 ≤ 2048 }
+    ensures { text.new ≡ text.old ++ line_of vec.now kind k }
+{
+    let bits = vec.length().bits();
+    match kind {
+        Kind::Z => {
+            push_name(text, b"z", k);
+            push_value(text, vec.z_words(Reg::at(k, 0)), bits / 4);
+        }
+        Kind::P => {
+            push_name(text, b"p", k);
+            push_value(text, vec.p_words(Pred::at(k, 0)), bits / 32);
+        }
+    }
+}
+
+/// Puts the line of FFR.
+fn put_ffr<S: Sink>(vec: &VecRegs, sink: &mut S) -> Result<(), Failed>
+    ensures bytes { PutsAll (S.held sink.old) (S.held sink.new) (register_line (codes "ffr") (bit_digits vec.now.ffr)) result }
+    ensures cause { HasCause (S.faults sink.old) (S.faults sink.new) result }
+{
+    let bits = vec.length().bits();
+    let mut text = Text::new();
+    text.push(b"ffr");
+    push_value(&mut text, vec.ffr_words(), bits / 32);
     text.put(sink)
 }
 
@@ -147,13 +181,14 @@ fn push_word(text: &mut Text, v: u64)
     text.push(b"\n");
 }
 
-/// Appends a value of so many digits 0, which ends its line.
-fn push_zero_value(text: &mut Text, digits: u32)
-    requires { length text.old + digits + 2 ≤ 2048 }
-    ensures { text.new ≡ text.old ++ (space ++ replicate digits 48 ++ newline) }
+/// Appends a value of so many digits, given by its words, the lowest first. It ends its line.
+fn push_value(text: &mut Text, words: &[u64], digits: u32)
+    requires within { digits ≤ 16 * length words.now }
+    requires room { length text.old + digits + 2 ≤ 2048 }
+    ensures { text.new ≡ text.old ++ (space ++ word_digits digits words.now ++ newline) }
 {
     text.push(b" ");
-    text.push_zeros(digits as usize);
+    text.push_words(words, digits);
     text.push(b"\n");
 }
 

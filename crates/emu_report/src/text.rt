@@ -1,8 +1,9 @@
 //! A text that is put together in memory and put to a sink at once.
-ghost use Rattle.std.specs.Prelude.{◌≡◌, ◌<◌, ◌≤◌, ◌+◌, [], ◌∷◌, ◌++◌, length, replicate};
+ghost use Rattle.std.specs.Prelude.{◌≡◌, ◌<◌, ◌≤◌, ◌+◌, ◌*◌, [], ◌∷◌, ◌++◌, length};
 ghost use Rattle.std.specs.Fmt.{decimal};
 ghost use Rattle.io_gate.specs.Streams.{HasCause, PutsAll};
 ghost use Rattle.emu_run.specs.Text.{hex, hex_digit};
+ghost use Rattle.emu_report.specs.WordDigits.{word_digits};
 
 use arrayvec::ArrayVec;
 use io_gate::{Failed, Sink, put_all};
@@ -78,14 +79,19 @@ impl Text {
         }
     }
 
-    /// Appends so many characters `0`.
-    pub fn push_zeros(&mut self, count: usize)
-        requires { length self.old + count ≤ 2048 }
-        ensures text { self.new ≡ self.old ++ replicate count 48 }
-        ensures len { length self.new ≡ length self.old + count }
+    /// Appends so many hexadecimal digits of a number that is given by words, the lowest first: its lowest digits, the most
+    /// significant of them first.
+    pub fn push_words(&mut self, words: &[u64], digits: u32)
+        requires within { digits ≤ 16 * length words.now }
+        requires room { length self.old + digits ≤ 2048 }
+        ensures text { self.new ≡ self.old ++ word_digits digits words.now }
+        ensures len { length self.new ≡ length self.old + digits }
     {
-        'zeros: for _k in 0..count {
-            self.bytes.push(b'0');
+        'digits: for k in 0..digits {
+            let place = digits - 1 - k;
+            let word = words[place as usize / 16];
+            let digit = (word >> (4 * (place % 16))) % 16;
+            self.bytes.push(hex_digit(digit as u8));
         }
     }
 

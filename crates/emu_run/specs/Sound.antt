@@ -1,5 +1,5 @@
 -- Each step keeps a state sound.
-use Rattle.std.specs.Prelude.{ℕ, ◌+◌, ◌%◌, Bool, true, false, List, Option, Some, None, IfSome, nat_eq, if◌then◌else◌}
+use Rattle.std.specs.Prelude.{ℕ, ◌+◌, ◌%◌, true, false, List, Option, Some, None, IfSome, nat_eq, if◌then◌else◌}
 use Rattle.std.proofs.Common.{arith}
 use Rattle.emu_model.specs.declared.access.Kind.TheVariants.{Fetch as FetchKind}
 use Rattle.emu_model.specs.declared.trap.TrapKind.{TrapKind}
@@ -15,7 +15,6 @@ use Rattle.emu_run.specs.declared.insn.Insn.TheVariants.{A64, Sve}
 use Rattle.emu_model.specs.Done.{Done}
 use Rattle.emu_model.specs.SoundDone.{IsSoundEffect, IsSoundDone}
 use Rattle.a64_effects.specs.SoundEffects.{performed_sound as a64_sound}
-use Rattle.vec_model.specs.AfterCall.{after_call}
 use Rattle.sve_effects.specs.SoundEffects.{performed_sound as sve_sound}
 use Rattle.vec_model.specs.SoundLanes.{after_call_sound}
 use Rattle.emu_run.specs.SystemCall.{Turn, quiet, went_on, answered_core, returned, error_answer, count_of, bytes_written, Writing, no_file, no_bytes, no_right, to_output, to_errors, writing, write_of, CallKind, exit, write, unknown, kind_of_call, call_of}

@@ -1,5 +1,5 @@
 -- One step: the word at the program counter is fetched and decoded, and its instruction is done.
-use Rattle.std.specs.Prelude.{ℕ, ◌+◌, ◌%◌, Bool, List, [], ◌++◌, Option, Some, None, nat_eq, if◌then◌else◌}
+use Rattle.std.specs.Prelude.{ℕ, ◌+◌, ◌%◌, Bool, true, ◌||◌, List, [], ◌++◌, Option, Some, None, nat_eq, if◌then◌else◌}
 use Rattle.emu_bits.specs.Rows.{instruction}
 use Rattle.a64_insn.specs.Table.{a64_table}
 use Rattle.a64_insn.specs.declared.form.A64Form.{A64Form}
@@ -17,6 +17,7 @@ use Rattle.emu_model.specs.State.{Core, Vectors, Parts, State}
 use Rattle.emu_model.specs.Done.{Done}
 use Rattle.a64_effects.specs.Effects as a64_effects
 use Rattle.sve_effects.specs.Effects as sve_effects
+use Rattle.sve_effects.specs.PredicateRows.{is_predicate}
 use Rattle.emu_run.specs.SystemCall.{Turn, quiet, went_on, call}
 use Rattle.emu_run.specs.declared.insn.Insn.{Insn}
 use Rattle.emu_run.specs.declared.insn.Insn.TheVariants.{A64, Sve}
@@ -39,12 +40,12 @@ first_of (Some insn) other = Some insn
 abbrev pub decode : ℕ → Option Insn
 decode w = first_of (a64 (instruction a64_table w)) (sve (instruction sve_table w))
 
--- Not every row runs so far: the words of the others are undefined.
+-- The loads and stores of SVE don't run so far: their words are undefined.
 abbrev pub runs : Insn → Bool
-runs (A64 form) = a64_effects.runs form
-runs (Sve form) = sve_effects.runs form
+runs (A64 form) = true
+runs (Sve form) = sve_effects.is_data form || is_predicate form
 
--- the effect of a row that runs
+-- what an instruction does
 abbrev pub performed : Insn → Core → Vectors → Memory → Done
 performed (A64 form) c v m = a64_effects.performed form c v m
 performed (Sve form) c v m = sve_effects.performed form c v m

@@ -1,5 +1,5 @@
 -- A system call: its number is the low 32 bits of x8, its arguments are x0, x1, x2, and its answer goes to x0.
-use Rattle.std.specs.Prelude.{ℕ, ◌+◌, ◌-◌, ◌%◌, ◌^◌, min, Bool, not, ◌||◌, List, [], Some, None, is_some, nat_eq, if◌then◌else◌}
+use Rattle.std.specs.Prelude.{ℕ, ◌+◌, ◌-◌, ◌%◌, ◌^◌, min, not, ◌||◌, List, [], Some, None, is_some, nat_eq, if◌then◌else◌}
 use Rattle.emu_model.specs.declared.access.Kind.TheVariants.{Read}
 use Rattle.emu_model.specs.declared.trap.Ended.TheVariants.{Exit}
 use Rattle.emu_model.specs.Access.{Memory, address, refused}

@@ -8,6 +8,7 @@ use guest_mem::{Access, AccessLog, Kind, Mem};
 use guest_pages::{Pages, Rights};
 use std::alloc::{AllocError, Global};
 use std::test::Fail;
+use vec_regs::{Length, VecRegs};
 
 /// A memory of the page at 0x402000 alone, which may be read and written.
 fn memory(alloc: Global) -> Result<Mem, AllocError> {
@@ -27,8 +28,9 @@ fn run(core: &mut Core, mem: &mut Mem, form: A64Form) -> Option<(Effect, AccessL
     if !is_own(&insn) {
         return None;
     }
+    let mut vec = VecRegs::new(Length::of_bits(128)?);
     let mut log = AccessLog::new();
-    let effect = exec(core, mem, &mut log, &insn);
+    let effect = exec(core, &mut vec, mem, &mut log, &insn);
     Some((effect, log))
 }
 

@@ -4,6 +4,8 @@
 #![tactic(auto)]
 
 #[cfg(test)]
+mod bench;
+#[cfg(test)]
 mod bits;
 #[cfg(test)]
 mod data;
@@ -11,5 +13,7 @@ mod data;
 mod flow;
 #[cfg(test)]
 mod registers;
+#[cfg(test)]
+mod vectors;
 #[cfg(test)]
 mod words;

@@ -9,7 +9,10 @@ fn words_are_known(rt: HostRuntime) {
     // movk x0, #0x20ef, lsl #48
     let insn = decode_a64(0xf2e4_1de0).expect(&rt, "a word of a row");
     assert_eq!(rt;
-        (encode_a64(&insn), again(&insn).map(|again| encode_a64(&again))),
+        (
+            encode_a64(&insn),
+            again(&insn).map(|again| encode_a64(&again))
+        ),
         (0xf2e4_1de0, Some(0xf2e4_1de0))
     );
 }

@@ -1,5 +1,5 @@
 -- Lanes of slices that are written one after the other.
-use Rattle.std.proofs.Common.{◌≡◌, ◌≢◌, ◌<◌, ◌+◌, ◌%◌, ◌^◌, ℕ, List, map, length, set, get_or, sym, subst, ◌∙◌, ap, arith, below_more}
+use Rattle.std.proofs.Common.{◌≡◌, ◌≢◌, ◌<◌, ◌≤◌, ◌+◌, ◌%◌, ◌^◌, ℕ, List, map, length, set, get_or, sym, subst, ◌∙◌, ap, arith, below_more}
 use Rattle.std.proofs.lemmas.List.{map-set, length-map, get_or-map, get_or-set_same, get_or-set_other}
 use Rattle.sve_effects.specs.declared.places.Place.{Place}
 use Rattle.sve_effects.specs.declared.places.Place.TheVariants.{FirstLane, SecondLane}
@@ -37,11 +37,21 @@ module _ {T : Type 0} (f : T → ℕ) where
       (λ i b. let ne : i ≢ k = omega arith in number_other xs k i x ne ∙ below i b)
       (number_same xs k x h ∙ here)
 
+  -- one lane more, from some lane on
+  pub written_from : (F : ℕ → ℕ) (xs : List T) (from k : ℕ) (x : T) → k < length xs → ((i : ℕ) → from ≤ i → i < k → number_at f xs i ≡ F i) → f x ≡ F k → (i : ℕ) → from ≤ i → i < k + 1 → number_at f (set xs k x) i ≡ F i
+  written_from F xs from k x h below here i b u =
+      below_more (λ i. from ≤ i → number_at f (set xs k x) i ≡ F i) k
+      (λ i v w. let ne : i ≢ k = omega arith in number_other xs k i x ne ∙ below i w v)
+      (λ w. number_same xs k x h ∙ here) i u b
+
   -- the same of what a place names
   pub placed_more : (named : Place → ℕ) (place : ℕ → Place) (at : Place) (xs : List T) (k : ℕ) (x : T) → k < length xs → ((i : ℕ) → i < k → number_at f xs i ≡ named (place i)) → f x ≡ named at → at ≡ place k
       → (i : ℕ) → i < k + 1 → number_at f (set xs k x) i ≡ named (place i)
   placed_more named place at xs k x h below is e = written_more (λ i. named (place i)) xs k x h below (is ∙ ap named e)
 
+  -- a place that names no scalar, by a scalar 0
+  pub named_zero : (a b : List T) (scalar : ℕ) (at : Place) (x : T) → scalar ≡ 0 → f x ≡ taken (number_at f a) (number_at f b) scalar 0 at → f x ≡ taken (number_at f a) (number_at f b) 0 0 at
+  named_zero a b scalar at x e is = is ∙ ap (λ s. taken (number_at f a) (number_at f b) s 0 at) e
+
 pub zero_lane : (b : ℕ) → 0 % 2 ^ b ≡ 0
 zero_lane b = omega arith
-

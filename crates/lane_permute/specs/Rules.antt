@@ -1,5 +1,5 @@
 -- The permutes whose places are known from the number of lanes alone.
-use Rattle.std.specs.Prelude.{◌≡◌, ◌≤◌, ◌<◌, ℕ, ◌+◌, ◌%◌, Bool}
+use Rattle.std.specs.Prelude.{◌≡◌, ◌≤◌, ◌<◌, ℕ, ◌+◌, ◌%◌}
 use Rattle.sve_effects.specs.declared.places.Place.{Place}
 use Rattle.sve_effects.specs.declared.places.Place.TheVariants.{FirstLane, SecondLane, Scalar, Zero}
 use Rattle.sve_effects.specs.Permute.{zip_place, uzp_place, trn_place, ext_place, rev_place, insr_place, spliced}

@@ -14,3 +14,7 @@ IsPermuted number a b scalar place result = (k : ℕ) → k < length result → 
 -- whether lane k is active by a mask
 abbrev pub active_by : List Bool → ℕ → Bool
 active_by mask k = get_or mask k false
+
+-- the lanes of a list that others number stand in a result, from lane 0 on
+abbrev pub HasLanes : {T : Type 0} → (T → ℕ) → List T → List ℕ → List T → Type 0
+HasLanes number a numbers result = (i : ℕ) → i < length numbers → number_at number result i ≡ number_at number a (get_or numbers i 0)

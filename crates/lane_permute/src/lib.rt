@@ -3,6 +3,8 @@
 //! Lanes stand in the order of their places, the lowest first; contracts speak of their numbers.
 #![tactic(auto)]
 
+mod by_active;
+mod by_number;
 pub mod places;
 
 ghost use Rattle.std.specs.Prelude.{◌≡◌, ◌%◌, length};
@@ -11,6 +13,8 @@ ghost use Rattle.lane_permute.specs.Rules.{rule_place, IsFor, IsWithin};
 ghost use Rattle.lane_permute.specs.Slices.{IsPermuted, number_at};
 
 use crate::places::{Rule, place};
+pub use by_active::{compact, last, splice};
+pub use by_number::{tbl, widen};
 use lane_pack::Lane;
 use sve_effects::Place;
 
@@ -70,7 +74,7 @@ pub fn insr<T: Lane>(a: &[T], low: T, out: &mut [T])
 
 /// Lanes by a rule of places.
 #[inline(always)]
-fn permute<T: Lane>(rule: Rule, a: &[T], b: &[T], scalar: T, out: &mut [T])
+pub(crate) fn permute<T: Lane>(rule: Rule, a: &[T], b: &[T], scalar: T, out: &mut [T])
     requires lanes { IsFor rule (length out.old) }
     requires first { length a.now ≡ length out.old }
     requires second { length b.now ≡ length out.old }
@@ -85,7 +89,7 @@ fn permute<T: Lane>(rule: Rule, a: &[T], b: &[T], scalar: T, out: &mut [T])
 /// What a place names.
 #[inline(always)]
 #[tactic(auto, using(crate::proofs::Written::zero_lane))]
-fn named<T: Lane>(a: &[T], b: &[T], scalar: T, at: Place) -> T
+pub(crate) fn named<T: Lane>(a: &[T], b: &[T], scalar: T, at: Place) -> T
     requires first { IsWithin (length a.now) at }
     requires second { IsWithin (length b.now) at }
     ensures { T.number result ≡ taken (number_at T.number a.now) (number_at T.number b.now) (T.number scalar) 0 at }

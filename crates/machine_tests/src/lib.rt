@@ -17,3 +17,5 @@ mod pages;
 mod reports;
 #[cfg(test)]
 mod streams;
+#[cfg(test)]
+mod vectors;

@@ -86,16 +86,33 @@ fn file_of(alloc: Global, words: &[u32], flags: u64) -> Result<Vec<u8>, AllocErr
     Ok(file)
 }
 
+/// The machine of a file at a vector length.
+fn machine_at(alloc: Global, file: &[u8], bits: u32) -> Result<Machine, AllocError>
+    ensures going { IfOk result (λ m. has_ended m ≡ false) }
+    ensures fresh { IfOk result (λ m. m.parts.steps ≡ 0) }
+{
+    let args = Vec::new(alloc);
+    match (read(file, 16_384), Length::of_bits(bits)) {
+        (Ok(image), Some(length)) => Machine::open(alloc, file, &image, &args, length, 16_384),
+        _ => Err(AllocError),
+    }
+}
+
 /// The machine of a file at 128 bits.
 fn machine_of(alloc: Global, file: &[u8]) -> Result<Machine, AllocError>
     ensures going { IfOk result (λ m. has_ended m ≡ false) }
     ensures fresh { IfOk result (λ m. m.parts.steps ≡ 0) }
 {
-    let args = Vec::new(alloc);
-    match (read(file, 16_384), Length::of_bits(128)) {
-        (Ok(image), Some(length)) => Machine::open(alloc, file, &image, &args, length, 16_384),
-        _ => Err(AllocError),
-    }
+    machine_at(alloc, file, 128)
+}
+
+/// The machine of the file of these words at a vector length, with data that may be read and written.
+pub(crate) fn opened_at(alloc: Global, words: &[u32], bits: u32) -> Result<Machine, AllocError>
+    ensures going { IfOk result (λ m. has_ended m ≡ false) }
+    ensures fresh { IfOk result (λ m. m.parts.steps ≡ 0) }
+{
+    let file = file_of(alloc, words, 6)?;
+    machine_at(alloc, &file, bits)
 }
 
 /// The machine of the file of these words and flags.
@@ -124,7 +141,11 @@ fn sink(alloc: Global, most: usize, fails: bool) -> Result<MemSink, AllocError>
 }
 
 /// Runs on to so many steps in all. None where the machine has ended or has taken more.
-fn run_to(alloc: Global, machine: &mut Machine, steps: u64) -> Result<Option<RunEnd>, AllocError> {
+pub(crate) fn run_to(
+    alloc: Global,
+    machine: &mut Machine,
+    steps: u64,
+) -> Result<Option<RunEnd>, AllocError> {
     if machine.ended() || machine.steps() > steps {
         return Ok(None);
     }

@@ -165,7 +165,11 @@ fn registers_are_lines(rt: HostRuntime) -> Result<(), Fail> {
     core.set_x_sp(Reg::at(31, 0), 64, 0x7FFF_FFFF_EEF0);
     core.set_pc(0x40_0008);
     let mut vec = VecRegs::new(Length::of_bits(128).expect(&rt, "a length"));
-    vec.set_low(Reg::at(1, 0), 128, 0x0F0E_0D0C_0B0A_0908_0706_0504_0302_0100);
+    vec.set_low(
+        Reg::at(1, 0),
+        128,
+        0x0F0E_0D0C_0B0A_0908_0706_0504_0302_0100,
+    );
     vec.set_z_byte(Reg::at(31, 0), 15, 0xA5);
     vec.set_p_bit(Pred::at(2, 0), 0, true);
     vec.set_p_bit(Pred::at(2, 0), 13, true);

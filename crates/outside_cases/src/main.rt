@@ -4,7 +4,8 @@
 //! the word, a vector length, the state before the step and what differs after it, as items `name=value` with a space between
 //! them. Numbers are hexadecimal:
 //!
-//! - `x0` to `x30`, `sp`, `pc`, `tpidr`, and `nzcv` with four binary digits; registers that aren't given are 0 before;
+//! - `x0` to `x30`, `sp`, `pc`, `tpidr`, `nzcv` with four binary digits, and `z0` to `z31`, `p0` to `p15` and `ffr` with all
+//!   their digits, the most significant first; registers that aren't given are 0 before;
 //! - before the step `monitor=ADDRESS:BYTES`, `page=ADDRESS:RIGHTS`, a mapped page, and `mem=ADDRESS:DIGITS`, bytes of it;
 //! - after the step `mem=ADDRESS:DIGITS`, bytes that differ, and `trap=KIND:ADDRESS`. Where no `pc` and no trap is given it
 //!   goes on behind the word.
@@ -26,21 +27,49 @@ use guest_mem::AccessLog;
 use insn_decode::{Insn, decode};
 use std::alloc::Global;
 use std::io;
+use sve_insn::Sve;
+use vec_regs::Length;
 
-/// Does an instruction of the data rows or of the branch, system, load and store rows. None where it is in neither.
-fn effect_of(state: &mut State, insn: &A64) -> Option<Effect> {
+/// Does an instruction by the crate of its row. None where its row doesn't run.
+fn effect_of(state: &mut State, insn: &Insn) -> Option<Effect> {
+    match insn {
+        Insn::A64(insn) => a64_effect(state, insn),
+        Insn::Sve(insn) => sve_effect(state, insn),
+    }
+}
+
+fn a64_effect(state: &mut State, insn: &A64) -> Option<Effect> {
     if a64_data::is_data(insn) {
         return Some(a64_data::exec(&mut state.core, insn));
     }
     if a64_flow::is_own(insn) {
         let mut log = AccessLog::new();
-        return Some(a64_flow::exec(&mut state.core, &mut state.memory, &mut log, insn));
+        return Some(a64_flow::exec(
+            &mut state.core,
+            &mut state.vec,
+            &mut state.memory,
+            &mut log,
+            insn,
+        ));
+    }
+    if bit_moves::is_own(insn) {
+        return Some(bit_moves::exec(&mut state.core, &mut state.vec, insn));
+    }
+    None
+}
+
+fn sve_effect(state: &mut State, insn: &Sve) -> Option<Effect> {
+    if sve_data::is_own(insn) {
+        return Some(sve_data::exec(&mut state.core, &mut state.vec, insn));
+    }
+    if sve_pred::is_own(insn) {
+        return Some(sve_pred::exec(&mut state.core, &mut state.vec, insn));
     }
     None
 }
 
 /// Does an instruction, and goes on as its effect says. None where its row doesn't run, or it is a call.
-fn step(state: &mut State, insn: &A64) -> Option<()> {
+fn step(state: &mut State, insn: &Insn) -> Option<()> {
     let pc = state.core.pc();
     match effect_of(state, insn)? {
         Effect::Next => state.core.set_pc(pc.wrapping_add(4)),
@@ -52,8 +81,14 @@ fn step(state: &mut State, insn: &A64) -> Option<()> {
 }
 
 /// The state after a step by the case: before it, with what differs.
-fn wanted_after(alloc: Global, word: u32, before: &str, after: &str) -> Option<State> {
-    let mut state = State::read(alloc, word, before)?;
+fn wanted_after(
+    alloc: Global,
+    word: u32,
+    length: Length,
+    before: &str,
+    after: &str,
+) -> Option<State> {
+    let mut state = State::read(alloc, word, length, before)?;
     let pc = state.core.pc();
     state.core.set_pc(pc.wrapping_add(4));
     state.set_all(after)?;
@@ -67,16 +102,13 @@ fn wanted_after(alloc: Global, word: u32, before: &str, after: &str) -> Option<S
 fn agrees(alloc: Global, line: &str) -> Option<bool> {
     let mut columns = line.split('\t');
     let word = u32::from_str_radix(columns.next()?, 16).ok()?;
-    let _length = columns.next()?;
+    let length = Length::of_bits(columns.next()?.parse::<u32>().ok()?)?;
     let before = columns.next()?;
     let after = columns.next()?;
     let insn = decode(word)?;
-    let mut state = State::read(alloc, word, before)?;
-    let wanted = wanted_after(alloc, word, before, after)?;
-    match insn {
-        Insn::A64(insn) => step(&mut state, &insn)?,
-        Insn::Sve(_) => return None,
-    }
+    let mut state = State::read(alloc, word, length, before)?;
+    let wanted = wanted_after(alloc, word, length, before, after)?;
+    step(&mut state, &insn)?;
     Some(state.is_same(&wanted))
 }
 

@@ -1,10 +1,11 @@
 //! The state of a case: registers, pages and a trap, read from items `name=value`.
 use arrayvec::ArrayVec;
 use core_regs::{Core, Trap, TrapKind};
-use emu_bits::{Flags, Reg};
+use emu_bits::{Flags, Pred, Reg};
 use guest_mem::Mem;
 use guest_pages::{Pages, Rights};
 use std::alloc::Global;
+use vec_regs::{Length, VecRegs};
 
 /// The greatest number of pages of a case.
 const MOST_PAGES: usize = 16;
@@ -15,6 +16,7 @@ const PAGE_NUMBERS: u64 = 1 << 35;
 #[derive(Drop)]
 pub struct State {
     pub core: Core,
+    pub vec: VecRegs,
     pub memory: Mem,
     /// The numbers of the mapped pages.
     mapped: ArrayVec<u64, MOST_PAGES>,
@@ -23,11 +25,13 @@ pub struct State {
 }
 
 impl State {
-    /// The state before a step of this word: its items, with registers that aren't given 0, and the page of the word,
-    /// which may be read and executed. None where an item isn't in the form of a case, or there is no memory for it.
-    pub fn read(alloc: Global, word: u32, items: &str) -> Option<State> {
+    /// The state before a step of this word at a vector length: its items, with registers that aren't given 0, and the page
+    /// of the word, which may be read and executed. None where an item isn't in the form of a case, or there is no memory
+    /// for it.
+    pub fn read(alloc: Global, word: u32, length: Length, items: &str) -> Option<State> {
         let mut state = State {
             core: Core::new(),
+            vec: VecRegs::new(length),
             memory: Mem::new(Pages::new(alloc, MOST_PAGES as u32).ok()?),
             mapped: ArrayVec::new(),
             trap: None,
@@ -76,8 +80,65 @@ impl State {
                 });
                 Some(())
             }
-            _ => self.set_register(name, number(value)?),
+            "ffr" => self.set_ffr(value),
+            _ => self.set_numbered(name, value),
         }
+    }
+
+    /// Sets the register that a letter and a number name, or one that has a name of its own.
+    fn set_numbered(&mut self, name: &str, value: &str) -> Option<()> {
+        if let Some(r) = number_behind(name, "z") {
+            return self.set_vector(Reg::new(r)?, value);
+        }
+        if let Some(r) = number_behind(name, "p") {
+            return self.set_predicate(Pred::new(r)?, value);
+        }
+        self.set_register(name, number(value)?)
+    }
+
+    /// Sets the bytes of a Z register from pairs of hexadecimal digits, the most significant first.
+    fn set_vector(&mut self, r: Reg, digits: &str) -> Option<()> {
+        for (k, pair) in (0u32..).zip(digits.as_bytes().chunks(2).rev()) {
+            let byte = match *pair {
+                [high, low] => digit(high)? << 4 | digit(low)?,
+                _ => return None,
+            };
+            if k >= self.vec.length().bits() / 8 {
+                return None;
+            }
+            self.vec.set_z_byte(r, k, byte);
+        }
+        Some(())
+    }
+
+    /// Sets the bits of a predicate from hexadecimal digits, the most significant first.
+    fn set_predicate(&mut self, r: Pred, digits: &str) -> Option<()> {
+        for (k, c) in (0u32..).zip(digits.as_bytes().iter().rev()) {
+            let four = digit(*c)?;
+            for j in 0..4 {
+                let place = k.checked_mul(4)?.checked_add(j)?;
+                if place >= self.vec.length().bits() / 8 {
+                    return None;
+                }
+                self.vec.set_p_bit(r, place, four >> j & 1 == 1);
+            }
+        }
+        Some(())
+    }
+
+    /// The same of FFR.
+    fn set_ffr(&mut self, digits: &str) -> Option<()> {
+        for (k, c) in (0u32..).zip(digits.as_bytes().iter().rev()) {
+            let four = digit(*c)?;
+            for j in 0..4 {
+                let place = k.checked_mul(4)?.checked_add(j)?;
+                if place >= self.vec.length().bits() / 8 {
+                    return None;
+                }
+                self.vec.set_ffr_bit(place, four >> j & 1 == 1);
+            }
+        }
+        Some(())
     }
 
     /// Sets the register that is named. Flags are four binary digits, read as hexadecimal ones.
@@ -140,6 +201,7 @@ impl State {
     pub fn is_same(&self, other: &State) -> bool {
         self.trap == other.trap
             && are_same(&self.core, &other.core)
+            && are_same_vectors(&self.vec, &other.vec)
             && self.mapped == other.mapped
             && self
                 .mapped
@@ -155,6 +217,11 @@ impl State {
 
 fn number(digits: &str) -> Option<u64> {
     u64::from_str_radix(digits, 16).ok()
+}
+
+/// The number behind a letter.
+fn number_behind(name: &str, letter: &str) -> Option<u32> {
+    name.strip_prefix(letter)?.parse::<u32>().ok()
 }
 
 fn digit(c: u8) -> Option<u8> {
@@ -202,6 +269,19 @@ fn are_same(a: &Core, b: &Core) -> bool {
     for number in 0..32 {
         if let Some(r) = Reg::new(number) {
             same = same && a.x(r) == b.x(r) && a.x_sp(r) == b.x_sp(r);
+        }
+    }
+    same
+}
+
+fn are_same_vectors(a: &VecRegs, b: &VecRegs) -> bool {
+    let mut same = a.ffr_words() == b.ffr_words();
+    for number in 0..32 {
+        if let Some(r) = Reg::new(number) {
+            same = same && a.z_words(r) == b.z_words(r);
+        }
+        if let Some(r) = Pred::new(number) {
+            same = same && a.p_words(r) == b.p_words(r);
         }
     }
     same

@@ -1,12 +1,12 @@
 -- What the words of a predicate show.
-use Rattle.std.proofs.Common.{◌≡◌, ◌≢◌, ◌<◌, ◌≤◌, ◌/◌, ◌%◌, ◌*◌, ◌+◌, ℕ, Bool, true, false, List, length, get_or, set, replicate, nat_eq, refl, sym, ap, subst, ◌∙◌, inl, inr, arith}
+use Rattle.std.proofs.Common.{◌≡◌, ◌≢◌, ◌<◌, ◌/◌, ◌%◌, ◌*◌, ◌+◌, ℕ, Bool, false, List, length, get_or, set, replicate, nat_eq, sym, ap, subst, ◌∙◌, inl, inr, arith}
 use Rattle.std.specs.Int.{bit_at}
 use Rattle.std.proofs.lemmas.Bool.{cases_eq}
 use Rattle.std.proofs.lemmas.List.{length-set, length-replicate, get_or-replicate, get_or-set_same, get_or-set_other}
 use Rattle.std.proofs.lemmas.List.FromFn.{fill_by_all}
 use Rattle.std.proofs.lemmas.Nat.{div-add-mod'}
-use Rattle.emu_model.specs.Lists.{each, length-each}
-use Rattle.vec_model.proofs.Each.{get_or-each, each_same}
+use Rattle.emu_model.specs.Lists.{length-each}
+use Rattle.vec_model.proofs.Each.{get_or-each}
 use Rattle.vec_regs.specs.Words.{bit_of, bits_of, AreClearFrom}
 use Rattle.vec_regs.proofs.Views.{zero_bit}
 
@@ -42,17 +42,16 @@ other_place j k other same rest =
 
 module _ (words : List ℕ) (k w : ℕ) (v : Bool) (place : k / 64 < length words) (written : nat_eq (bit_at w (k % 64)) 1 ≡ v)
     (others : (i : ℕ) → i < 64 → i ≢ k % 64 → bit_at w i ≡ bit_at (get_or words (k / 64) 0) i) where
-
   pub bit_written : bit_of (set words (k / 64) w) k ≡ v
   bit_written = ap (λ x. nat_eq (bit_at x (k % 64)) 1) (get_or-set_same words (k / 64) w 0 place) ∙ written
 
   pub bit_kept : (j : ℕ) → j ≢ k → bit_of (set words (k / 64) w) j ≡ bit_of words j
   bit_kept j other = elim (cases_eq (j / 64) (k / 64)) [
     | inl same ↦
-      ap (λ i. nat_eq (bit_at (get_or (set words (k / 64) w) i 0) (j % 64)) 1) same
-      ∙ ap (λ x. nat_eq (bit_at x (j % 64)) 1) (get_or-set_same words (k / 64) w 0 place)
-      ∙ ap (λ x. nat_eq x 1) (others (j % 64) (omega arith) (other_place j k other same))
-      ∙ ap (λ i. nat_eq (bit_at (get_or words i 0) (j % 64)) 1) (sym same)
+        ap (λ i. nat_eq (bit_at (get_or (set words (k / 64) w) i 0) (j % 64)) 1) same
+        ∙ ap (λ x. nat_eq (bit_at x (j % 64)) 1) (get_or-set_same words (k / 64) w 0 place)
+        ∙ ap (λ x. nat_eq x 1) (others (j % 64) (omega arith) (other_place j k other same))
+        ∙ ap (λ i. nat_eq (bit_at (get_or words i 0) (j % 64)) 1) (sym same)
     | inr apart ↦ ap (λ x. nat_eq (bit_at x (j % 64)) 1) (get_or-set_other words (k / 64) (j / 64) w 0 apart)
   ]
 
@@ -65,7 +64,7 @@ module _ (words : List ℕ) (k w : ℕ) (v : Bool) (place : k / 64 < length word
         at : (j : ℕ) → j < n → get_or (set (bits_of n words) k v) j false ≡ bit_of (set words (k / 64) w) j
         at j within = elim (cases_eq j k) [
           | inl same ↦
-            let there : k < length (bits_of n words) = omega (arith, length-each n (bit_of words)) in
-            ap (λ i. get_or (set (bits_of n words) k v) i false) same ∙ get_or-set_same (bits_of n words) k v false there ∙ sym bit_written ∙ ap (bit_of (set words (k / 64) w)) (sym same)
+              let there : k < length (bits_of n words) = omega (arith, length-each n (bit_of words)) in
+              ap (λ i. get_or (set (bits_of n words) k v) i false) same ∙ get_or-set_same (bits_of n words) k v false there ∙ sym bit_written ∙ ap (bit_of (set words (k / 64) w)) (sym same)
           | inr other ↦ get_or-set_other (bits_of n words) k j v false other ∙ get_or-each n (bit_of words) j false within ∙ sym (bit_kept j other)
         ]

@@ -6,14 +6,22 @@
 #![tactic(auto)]
 
 mod lanes;
+mod patterns;
 mod whole;
 mod words;
 
-ghost use Rattle.std.specs.Prelude.{◌≡◌, ◌<◌, ◌≤◌, false, length, get_or, set, replicate};
+ghost use Rattle.std.specs.Prelude.{◌≡◌, ◌<◌, ◌≤◌, ◌*◌, ◌/◌, true, false, length, get_or, set, replicate};
+ghost use Rattle.emu_bits.specs.Flags.{size_of};
+ghost use Rattle.vec_model.specs.Active.{active};
+ghost use Rattle.sve_effects.specs.Predicate.{lanes_of};
 ghost use Rattle.vec_regs.specs.Words.{bits_of, AreClearFrom};
 
-pub use sve_effects::predicates::{LogicOp, WhileTest};
+use emu_bits::Esize;
+pub use lanes::{count, lanes_below, next, pred_test, while_bits};
+pub use patterns::pattern_count;
 use std::marker::Model;
+pub use sve_effects::predicates::{LogicOp, WhileTest};
+pub use whole::{brk, brkn, brkp, first, logic, ones};
 
 /// A predicate: up to 256 bits. Contracts see the list of its bits.
 #[derive(Drop)]
@@ -94,5 +102,31 @@ impl PredBits {
     {
         let word = self.words[k as usize / 64];
         self.words[k as usize / 64] = words::with_bit(word, k % 64, v);
+    }
+
+    /// The number of lanes of a size, whose fields lie within the bits.
+    pub fn lanes(&self, e: Esize) -> u32
+        ensures value { result ≡ lanes_of (size_of e) (length self.now) }
+        ensures few { result ≤ 256 }
+    {
+        self.bits() / (e.bits() / 8)
+    }
+
+    /// Whether lane k is active, or set.
+    pub fn lane(&self, e: Esize, k: u32) -> bool
+        requires { k < lanes_of (size_of e) (length self.now) }
+        ensures { result ≡ active (size_of e) self.now k }
+    {
+        let _bits = self.bits();
+        self.get(k * (e.bits() / 8))
+    }
+
+    /// Sets lane k.
+    pub fn set_lane(&mut self, e: Esize, k: u32)
+        requires { k < lanes_of (size_of e) (length self.old) }
+        ensures { self.new ≡ set self.old (k * (size_of e / 8)) true }
+    {
+        let _bits = self.bits();
+        self.set(k * (e.bits() / 8), true);
     }
 }

@@ -1,12 +1,11 @@
 //! Logical operations and breaks, a word at a time.
-ghost use Rattle.std.specs.Prelude.{◌≡◌, ◌≤◌, length, OnSome};
+ghost use Rattle.std.specs.Prelude.{◌≡◌, ◌≤◌, ◌<◌, ℕ, true, nat_lt, length, IfSome};
 ghost use Rattle.emu_model.specs.Lists.{each};
 ghost use Rattle.sve_effects.specs.Predicate as model;
 ghost use Rattle.sve_effects.specs.Predicate.{is_upto, broken, broken_pair, broken_next, with_first};
 
 use crate::lanes::{first_lane, first_set, lanes_below, last_is_set};
-use crate::words;
-use crate::{LogicOp, PredBits};
+use crate::{LogicOp, PredBits, words};
 use emu_bits::Esize;
 
 /// A logical operation on each bit; but for sel, an inactive bit is 0.
@@ -25,17 +24,32 @@ pub fn logic(op: LogicOp, g: &PredBits, a: &PredBits, b: &PredBits) -> PredBits
     }
 }
 
+/// The number of bits up to a place, which itself counts where `inclusive`; all where there is none.
+fn limit(inclusive: bool, place: Option<u32>, bits: u32) -> u32
+    requires { IfSome place (λ k. k < bits) }
+    ensures { (k : ℕ) → k < bits → nat_lt k result ≡ is_upto inclusive place k }
+{
+    match place {
+        Some(k) => if inclusive { k + 1 } else { k },
+        None => bits,
+    }
+}
+
 /// The bits up to a place, which itself counts where `inclusive`; all where there is none.
 fn upto(inclusive: bool, place: Option<u32>, bits: u32) -> PredBits
-    requires { bits ≤ 256 }
-    requires within { OnSome place (λ k. k < bits) }
+    requires few { bits ≤ 256 }
+    requires within { IfSome place (λ k. k < bits) }
     ensures { result ≡ each bits (is_upto inclusive place) }
 {
-    let limit = match place {
-        Some(k) => k + u32::from(inclusive),
-        None => bits,
-    };
-    lanes_below(limit, Esize::B, bits)
+    lanes_below(limit(inclusive, place, bits), Esize::B, bits)
+}
+
+/// So many bits, at most 256, all true.
+pub fn ones(bits: u32) -> PredBits
+    requires { bits ≤ 256 }
+    ensures { result ≡ each bits (λ k. true) }
+{
+    upto(false, None, bits)
 }
 
 /// The active bits up to the first of them that is 1 in `a`, which itself counts where `after` (brka), and does not else (brkb).

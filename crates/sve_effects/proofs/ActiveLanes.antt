@@ -1,5 +1,5 @@
 -- Active lanes, taken one after the other.
-use Rattle.std.proofs.Common.{◌≡◌, ◌<◌, ◌≤◌, ◌+◌, ℕ, zero, suc, Bool, true, false, if◌then◌else◌, List, [], ◌∷◌, ◌++◌, map, length, get_or, Option, Some, None, refl, sym, ap, ◌∙◌, arith, add-one, length-append}
+use Rattle.std.proofs.Common.{◌≡◌, ◌≤◌, ◌+◌, ℕ, zero, suc, Bool, true, false, if◌then◌else◌, List, [], ◌∷◌, ◌++◌, length, refl, arith, add-one, length-append}
 use Rattle.sve_effects.specs.ElementLoop.{folded}
 use Rattle.sve_effects.specs.FirstLast.{or_else, if_meets, first_where, last_where}
 use Rattle.sve_effects.specs.Permute.{active_lanes}
@@ -31,3 +31,5 @@ count_here false n xs h = let none : List ℕ = [] in omega (arith, length-appen
 pub active_count : (active : ℕ → Bool) (n : ℕ) → length (active_lanes active n) ≤ n
 active_count active zero = omega arith
 active_count active (suc n) = let h : length (active_lanes active n ++ (if active n then n ∷ [] else [])) ≤ n + 1 = count_here (active n) n (active_lanes active n) (active_count active n) in omega arith
+
+pub ruleset active_rules = (active_lanes-more, first_where-more, last_where-more, folded-none, folded-more)

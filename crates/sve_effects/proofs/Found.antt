@@ -2,7 +2,7 @@
 use Rattle.std.proofs.Common.{◌≡◌, ◌<◌, ◌≤◌, ◌+◌, ℕ, zero, suc, Bool, true, false, ◌&&◌, Option, Some, None, IfSome, if◌then◌else◌, inl, inr, refl, ap, subst, ◌∙◌, add-one, arith}
 use Rattle.std.proofs.lemmas.Bool.{both_ways, cases_lt, cases_order, and_from, and_parts}
 use Rattle.emu_bits.specs.Fields.{bit}
-use Rattle.sve_effects.specs.FirstLast.{or_else, if_meets, first_where, last_where, all_below, count_where, answer_at, IsFirst, IsLast, IsFirstWhere, IsLastWhere}
+use Rattle.sve_effects.specs.FirstLast.{or_else, if_meets, first_where, last_where, all_below, count_where, answer_at, IsFirstWhere, IsLastWhere}
 
 -- what holds below n and at n holds below n + 1
 below_suc : (P : ℕ → Type 0) (n : ℕ) → ((j : ℕ) → j < n → P j) → P n → (j : ℕ) → j < suc n → P j

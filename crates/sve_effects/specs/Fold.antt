@@ -1,5 +1,5 @@
 -- Folds over the active lanes of a register, in the order of lanes.
-use Rattle.std.specs.Prelude.{ℕ, ◌+◌, ◌-◌, ◌^◌, Bool, true, false}
+use Rattle.std.specs.Prelude.{ℕ, ◌-◌, ◌^◌, Bool, true, false}
 use Rattle.sve_insn.specs.declared.form.SveForm.{SveForm}
 use Rattle.sve_insn.specs.declared.form.SveForm.TheVariants.{Reduce}
 use Rattle.sve_insn.specs.declared.ops.ReduceOp.{ReduceOp}

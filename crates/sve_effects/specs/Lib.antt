@@ -1,3 +1,4 @@
+pub mod Across
 pub mod Counts
 pub mod Effects
 pub mod Element
@@ -5,6 +6,7 @@ pub mod ElementLoop
 pub mod FirstFault
 pub mod FirstLast
 pub mod Fold
+pub mod Pages
 pub mod Pattern
 pub mod Permute
 pub mod PermuteRows

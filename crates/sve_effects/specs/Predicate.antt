@@ -49,7 +49,11 @@ is_upto inclusive (Some j) k = if inclusive then nat_le k j else nat_lt k j
 abbrev pub first_set : ℕ → (ℕ → Bool) → (ℕ → Bool) → Option ℕ
 first_set n g a = first_where n (λ k. g k && a k)
 
--- whether the last active of n lanes is set: LastActive(g, a)
+-- whether the first active of n lanes is set: FirstActive(g, a)
+abbrev pub first_is_set : ℕ → (ℕ → Bool) → (ℕ → Bool) → Bool
+first_is_set n g a = answer_at (first_where n g) a
+
+-- whether the last one is: LastActive(g, a)
 abbrev pub last_is_set : ℕ → (ℕ → Bool) → (ℕ → Bool) → Bool
 last_is_set n g a = answer_at (last_where n g) a
 
@@ -58,7 +62,7 @@ last_is_set n g a = answer_at (last_where n g) a
 -- PredTest of n lanes: N is whether the first active lane is set, Z whether no active lane is, C whether the last active lane
 -- isn't, and V is 0
 abbrev pub test_flags : ℕ → (ℕ → Bool) → (ℕ → Bool) → Flags
-test_flags n g a = record { n = answer_at (first_where n g) a; z = is_none (first_set n g a); c = not (last_is_set n g a); v = false }
+test_flags n g a = record { n = first_is_set n g a; z = is_none (first_set n g a); c = not (last_is_set n g a); v = false }
 
 -- PredTest(g, a, e)
 abbrev pub pred_test : ℕ → ℕ → List Bool → List Bool → Flags

@@ -1,5 +1,5 @@
 -- What each SVE instruction on predicates leaves of the registers: compares, logic, breaks, loops, counts, and FFR.
-use Rattle.std.specs.Prelude.{ℕ, ◌+◌, ◌*◌, ◌/◌, ◌%◌, ◌^◌, Bool, true, false, not, ◌&&◌, nat_eq, if◌then◌else◌, List}
+use Rattle.std.specs.Prelude.{ℕ, ◌/◌, ◌%◌, ◌^◌, Bool, true, false, not, ◌&&◌, nat_eq, if◌then◌else◌, List, replicate}
 use Rattle.sve_insn.specs.declared.form.SveForm.{SveForm}
 use Rattle.sve_insn.specs.declared.form.SveForm.TheVariants.{CmpVec, CmpWide, CmpUImm, CmpSImm, LogicP, SelectP, Break, BreakPair, BreakNext, Ptest, First, Next, Ptrue, Pfalse, ReadFfr, ReadFfrAll, WriteFfr, CountP, IncP, IncPZ, While, Cterm}
 use Rattle.sve_insn.specs.declared.ops.BreakOp.{BreakOp}
@@ -29,22 +29,23 @@ use Rattle.sve_insn.specs.declared.ops.WhileOp.TheVariants.{Whilelt, Whilele, Wh
 use Rattle.sve_insn.specs.declared.ops.WriteFfrOp.{WriteFfrOp}
 use Rattle.sve_insn.specs.declared.ops.WriteFfrOp.TheVariants.{Setffr, Wrffr}
 use Rattle.emu_bits.specs.Numbers.{sign_extended}
-use Rattle.emu_bits.specs.Operations.{difference}
 use Rattle.emu_bits.specs.declared.flags.Flags.{Flags}
 use Rattle.emu_model.specs.Done.{Registers}
 use Rattle.emu_model.specs.Lists.{each}
 use Rattle.emu_model.specs.State.{Core, Vectors, read_x, with_x}
+use Rattle.sve_effects.specs.declared.elements.ElementOp.{ElementOp}
+use Rattle.sve_effects.specs.declared.elements.ElementOp.TheVariants.{Add, Sub}
 use Rattle.sve_effects.specs.declared.elements.ElementTest.{ElementTest}
 use Rattle.sve_effects.specs.declared.elements.ElementTest.TheVariants.{Eq, Ne, Ge, Gt, Lt, Le, Hs, Hi, Lo, Ls}
 use Rattle.sve_effects.specs.declared.predicates.LogicOp.{LogicOp}
 use Rattle.sve_effects.specs.declared.predicates.LogicOp.TheVariants.{And, Bic, Eor, Orr, Orn, Nor, Nand, Sel}
 use Rattle.sve_effects.specs.declared.predicates.WhileTest.{WhileTest}
 use Rattle.sve_effects.specs.declared.predicates.WhileTest.TheVariants as conditions
-use Rattle.sve_effects.specs.Element.{element_test}
+use Rattle.sve_effects.specs.Element.{element, element_test}
 use Rattle.sve_effects.specs.ElementLoop.{lane_bits, lane_of, covering_lane, is_active}
 use Rattle.vec_model.specs.Lanes.{read_p, with_p, with_ffr, with_lanes}
 use Rattle.sve_effects.specs.Pattern.{pattern_count}
-use Rattle.sve_effects.specs.Predicate.{is_set, lanes_of, fields, pred_test, logic, broken, broken_pair, broken_next, with_first, only_next, lanes_below, while_lanes, count_lanes}
+use Rattle.sve_effects.specs.Predicate.{is_set, fields, pred_test, logic, broken, broken_pair, broken_next, with_first, only_next, lanes_below, while_lanes, count_lanes}
 
 -- ---- results
 
@@ -57,12 +58,12 @@ abbrev pub ones : ℕ → List Bool
 ones m = each m (λ k. true)
 
 -- the flags of PredTest(g, result, e), where they are set
-abbrev pub after_test : Bool → ℕ → List Bool → List Bool → Core → Vectors → Core
-after_test sets e g result c v = if sets then record c { flags = pred_test e (predicate_bits v) g result } else c
+abbrev pub after_test : Bool → ℕ → ℕ → List Bool → List Bool → Core → Core
+after_test sets e m g result c = if sets then record c { flags = pred_test e m g result } else c
 
 -- a result in predicate pd, with the flags of PredTest(g, result, e), where they are set
 abbrev pub put : Bool → ℕ → List Bool → ℕ → List Bool → Core → Vectors → Registers
-put sets e g pd result c v = record { core = after_test sets e g result c v; vectors = with_p v pd result }
+put sets e g pd result c v = record { core = after_test sets e (predicate_bits v) g result c; vectors = with_p v pd result }
 
 -- a change of the vector registers, or of the scalar registers, alone
 abbrev pub put_vectors : Core → Vectors → Registers
@@ -116,10 +117,11 @@ is_unsigned test = false
 abbrev pub widened : ElementTest → ℕ → ℕ → ℕ
 widened test e a = if is_unsigned test then a else sign_extended 64 e a
 
--- the active lanes of zn whose test at w bits with b k holds; an inactive lane is 0
+-- the active lanes whose test holds; an inactive lane is 0
 abbrev pub compared : ℕ → ℕ → (ℕ → Bool) → Vectors → List Bool
 compared e pg test v = fields e (predicate_bits v) (λ k. if is_active e v pg k then test k else false)
 
+-- they are the result, and the flags are those of PredTest(pg, result, e)
 abbrev pub put_compared : ℕ → ℕ → ℕ → (ℕ → Bool) → Core → Vectors → Registers
 put_compared e pg pd test c v = put true e (read_p v pg) pd (compared e pg test v) c v
 
@@ -164,10 +166,10 @@ abbrev pub written_ffr : WriteFfrOp → ℕ → Vectors → List Bool
 written_ffr Setffr pn v = ones (predicate_bits v)
 written_ffr Wrffr pn v = each (predicate_bits v) (is_set (read_p v pn))
 
--- incp: a number and a count; decp: the number less the count, modulo 2^w
-abbrev pub counted : IncPOp → ℕ → ℕ → ℕ → ℕ
-counted Incp w a count = a + count
-counted Decp w a count = difference w a count
+-- incp: a number and a count; decp: the number less the count
+abbrev pub counted_by : IncPOp → ElementOp
+counted_by Incp = Add
+counted_by Decp = Sub
 
 -- the set lanes of a predicate
 abbrev pub set_lanes_of : ℕ → ℕ → Vectors → ℕ
@@ -229,17 +231,17 @@ predicate (Break op s pg pn m pd) c v = put s 8 (read_p v pg) pd (broken (break_
 predicate (BreakPair op s pm pg pn pd) c v = put s 8 (read_p v pg) pd (broken_pair (pair_after op) (predicate_bits v) (read_p v pg) (read_p v pn) (read_p v pm)) c v
 -- brkn alone has its flags by the test of all bits
 predicate (BreakNext s pg pn pdm) c v = put s 8 (ones (predicate_bits v)) pdm (broken_next (predicate_bits v) (read_p v pg) (read_p v pn) (read_p v pdm)) c v
-predicate (Ptest pg pn) c v = put_vectors (after_test true 8 (read_p v pg) (read_p v pn) c v) v
+predicate (Ptest pg pn) c v = put_vectors (after_test true 8 (predicate_bits v) (read_p v pg) (read_p v pn) c) v
 predicate (First pg pdn) c v = put true 8 (read_p v pg) pdn (with_first (predicate_bits v) (read_p v pg) (read_p v pdn)) c v
 predicate (Next size pg pdn) c v = put true (lane_bits size) (read_p v pg) pdn (only_next (lane_bits size) (predicate_bits v) (read_p v pg) (read_p v pdn)) c v
 predicate (Ptrue op size pattern pd) c v = let result = lanes_below (lane_bits size) (predicate_bits v) (pattern_count pattern (v.bits / lane_bits size)) in put (ptrue_flags op) (lane_bits size) result pd result c v
-predicate (Pfalse pd) c v = put_vectors c (with_p v pd (each (predicate_bits v) (λ k. false)))
+predicate (Pfalse pd) c v = put_vectors c (with_p v pd (replicate (predicate_bits v) false))
 predicate (ReadFfr op pg pd) c v = put (read_ffr_flags op) 8 (read_p v pg) pd (logic And (predicate_bits v) (read_p v pg) v.ffr v.ffr) c v
 predicate (ReadFfrAll pd) c v = put_vectors c (with_p v pd v.ffr)
 predicate (WriteFfr op pn) c v = put_vectors c (with_ffr v (written_ffr op pn v))
 predicate (CountP size pg pn rd) c v = put_vectors (with_x c rd 64 (count_lanes (lane_bits size) (predicate_bits v) (read_p v pg) (read_p v pn))) v
-predicate (IncP op size pm rdn) c v = put_vectors (with_x c rdn 64 (counted op 64 (read_x c rdn) (set_lanes_of (lane_bits size) pm v))) v
-predicate (IncPZ op size pm zdn) c v = put_vectors c (with_lanes (lane_bits size) (λ k. counted op (lane_bits size) (lane_of (lane_bits size) v zdn k) (set_lanes_of (lane_bits size) pm v)) zdn v)
+predicate (IncP op size pm rdn) c v = put_vectors (with_x c rdn 64 (element (counted_by op) 64 (read_x c rdn) (set_lanes_of (lane_bits size) pm v))) v
+predicate (IncPZ op size pm zdn) c v = put_vectors c (with_lanes (lane_bits size) (λ k. element (counted_by op) (lane_bits size) (lane_of (lane_bits size) v zdn k) (set_lanes_of (lane_bits size) pm v)) zdn v)
 predicate (While op size rm sf rn pd) c v = put true (lane_bits size) (ones (predicate_bits v)) pd (while_result op (lane_bits size) sf rn rm c v) c v
 predicate (Cterm op sf rm rn) c v = put_vectors (record c { flags = termination_flags (terminates op (width_of sf) (read_x c rn) (read_x c rm)) c.flags }) v
 -- the other rows stand elsewhere

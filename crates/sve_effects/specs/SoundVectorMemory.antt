@@ -1,5 +1,5 @@
 -- SVE loads and stores keep the registers and the memory sound.
-use Rattle.std.specs.Prelude.{ℕ, zero, suc, ◌+◌, ◌*◌, ◌/◌, ◌%◌, Bool, true, false, List, [], ◌∷◌, length, Option, Some, None, IfSome, nat_eq, if◌then◌else◌}
+use Rattle.std.specs.Prelude.{ℕ, zero, suc, ◌+◌, ◌*◌, ◌/◌, ◌%◌, Bool, true, false, List, [], ◌∷◌, length, Option, Some, None, IfSome, if◌then◌else◌}
 use Rattle.std.proofs.Common.{◌∙◌}
 use Rattle.sve_insn.specs.declared.form.SveForm.{SveForm}
 use Rattle.sve_insn.specs.declared.form.SveForm.TheVariants.{LoadQuadImm, LoadQuadReg, LoadOne, LoadP}
@@ -15,7 +15,7 @@ use Rattle.emu_model.specs.SoundElements.{stop_is_word, with_stored_sound}
 use Rattle.emu_model.specs.State.{Core, Vectors, IsWord, HasLength, IsSoundCore, IsSoundVectors, IsSoundMemory}
 use Rattle.vec_model.specs.SoundLanes.{sound_lanes, sound_p, sound_ffr_bits}
 use Rattle.vec_model.specs.Lanes.{with_lanes}
-use Rattle.sve_effects.specs.FirstFault.{cleared_from, first_suppressed, first_fault_lane, with_first_fault, is_non_fault, first_refused, loaded_unless, first_fault_loaded, first_fault_of, first_fault}
+use Rattle.sve_effects.specs.FirstFault.{cleared_from, first_suppressed, first_fault_lane, with_first_fault, is_non_fault, first_refused, loaded_unless, first_fault_loaded, first_fault}
 use Rattle.sve_effects.specs.ElementLoop.{is_active}
 use Rattle.sve_effects.specs.VectorElements.{Layout, register_at, dtype_signed, layout, elements_of}
 use Rattle.sve_effects.specs.VectorLoadStore.{loads_signed, extended_to, loaded_lane, with_loaded, after_load, has_sp_base, is_misaligned, element_stored, load_as_far, store_as_far, unless_misaligned, loaded_to, stored_to, vector_load, vector_store}

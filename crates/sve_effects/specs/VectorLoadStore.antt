@@ -1,5 +1,5 @@
 -- What SVE loads and stores leave, but for the first-faulting and non-faulting ones.
-use Rattle.std.specs.Prelude.{ℕ, zero, suc, ◌+◌, ◌*◌, ◌/◌, ◌%◌, ◌^◌, Bool, true, false, not, ◌&&◌, List, [], ◌∷◌, get_or, Option, Some, None, nat_eq, if◌then◌else◌}
+use Rattle.std.specs.Prelude.{ℕ, zero, suc, ◌+◌, ◌*◌, ◌/◌, ◌%◌, ◌^◌, Bool, true, false, not, ◌&&◌, ◌||◌, List, [], ◌∷◌, get_or, Option, Some, None, nat_eq, if◌then◌else◌}
 use Rattle.sve_insn.specs.declared.form.SveForm.{SveForm}
 use Rattle.sve_insn.specs.declared.form.SveForm.TheVariants.{LoadImm, LoadReg, LoadFf, LoadNf, LoadNtImm, LoadNtReg, LoadQuadImm, LoadQuadReg, LoadManyImm, LoadManyReg, LoadOne, LoadZ, LoadP, StoreImm, StoreReg, StoreNtImm, StoreNtReg, StoreManyImm, StoreManyReg, StoreZ, StoreP, GatherSx, GatherSxScaled, GatherDx, GatherDxScaled, GatherD, GatherDScaled, GatherSv, GatherDv, ScatterSx, ScatterSxScaled, ScatterDx, ScatterDxScaled, ScatterD, ScatterDScaled, ScatterSv, ScatterDv}
 use Rattle.emu_bits.specs.Fields.{bit}
@@ -225,3 +225,17 @@ is_scatter (ScatterDScaled msz zm pg rn zt) = true
 is_scatter (ScatterSv msz imm5 pg zn zt) = true
 is_scatter (ScatterDv msz imm5 pg zn zt) = true
 is_scatter form = false
+
+-- ---- by groups
+
+abbrev pub is_contiguous : SveForm → Bool
+is_contiguous form = is_contiguous_load form || is_contiguous_store form
+
+abbrev pub contiguous : SveForm → Core → Vectors → Memory → Done
+contiguous form c v m = if is_contiguous_load form then vector_load form c v m else vector_store form c v m
+
+abbrev pub is_gather_scatter : SveForm → Bool
+is_gather_scatter form = is_gather form || is_scatter form
+
+abbrev pub gather_scatter : SveForm → Core → Vectors → Memory → Done
+gather_scatter form c v m = if is_gather form then vector_load form c v m else vector_store form c v m

@@ -1,4 +1,4 @@
-use Rattle.std.proofs.Common.{◌<◌, length, ℕ, arith}
+use Rattle.std.proofs.Common.{◌<◌, length, arith}
 use Rattle.sve_effects.specs.Permute.{taken}
 use Rattle.lane_permute.specs.Rules.{rule_place}
 use Rattle.lane_permute.specs.Slices.{number_at}

@@ -4,7 +4,7 @@ use Rattle.a64_effects.specs.LoadStore as table
 use Rattle.a64_flow.proofs.exclusive.exec.Goals as goal
 
 pub returns-in-StoreEx : goal.returns-in-StoreEx
-returns-in-StoreEx c w = ap (λ (f : A64Form). table.access f c.args.core.now w c.args.mem.now) (sym c.form.ensures.form ∙ c.in-StoreEx.is) ∙ c.store_ex.ensures c.in-StoreEx.op w
+returns-in-StoreEx c = ap (λ (f : A64Form). table.access f c.args.core.now c.args.vec.now c.args.mem.now) (sym c.form.ensures.form ∙ c.in-StoreEx.is) ∙ c.store_ex.ensures c.in-StoreEx.op
 
 pub returns-in-LoadEx : goal.returns-in-LoadEx
-returns-in-LoadEx c w = ap (λ (f : A64Form). table.access f c.args.core.now w c.args.mem.now) (sym c.form.ensures.form ∙ c.in-LoadEx.is) ∙ c.load_ex.ensures c.in-LoadEx.op w
+returns-in-LoadEx c = ap (λ (f : A64Form). table.access f c.args.core.now c.args.vec.now c.args.mem.now) (sym c.form.ensures.form ∙ c.in-LoadEx.is) ∙ c.load_ex.ensures c.in-LoadEx.op

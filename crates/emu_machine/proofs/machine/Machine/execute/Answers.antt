@@ -1,6 +1,6 @@
 use Rattle.std.proofs.Common.{ap, sym, ◌∙◌}
 use Rattle.emu_machine.specs.Machines.{MachineState}
-use Rattle.emu_machine.proofs.Performed.{AsksFor, asks_for, same_machine}
+use Rattle.emu_machine.proofs.Performed.{AsksFor, asks_for, not_failed, same_machine}
 use Rattle.emu_machine.proofs.machine.Machine.execute.Goals as goal
 
 asks : (c : goal.In-Call) → AsksFor c.args.insn.now c.self-2.inside.core c.perform.new.core c.self-2.inside.vec c.perform.new.vec c.self-2.inside.memory c.perform.new.memory c.perform.new.log.items
@@ -16,3 +16,9 @@ returns-in-Call-clause-kept c =
 
 pub returns-in-Call-clause-svc : goal.returns-in-Call-clause-svc
 returns-in-Call-clause-svc c = (asks c).svc
+
+pub returns-in-Branch-clause-kept : goal.returns-in-Branch-clause-kept
+returns-in-Branch-clause-kept c = c.go_on-in-Branch.ensures.failed ∙ ap (λ (s : MachineState). s.failed) c.self-2.view_is ∙ not_failed c.args.self.now c.requires.going
+
+pub returns-in-Trap-clause-kept : goal.returns-in-Trap-clause-kept
+returns-in-Trap-clause-kept c = c.trap-in-Trap.ensures.failed ∙ ap (λ (s : MachineState). s.failed) c.self-2.view_is ∙ not_failed c.args.self.now c.requires.going

@@ -1,0 +1,2 @@
+pub mod VectorLines
+pub mod WordDigits

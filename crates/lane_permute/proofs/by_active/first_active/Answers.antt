@@ -1,0 +1,7 @@
+use Rattle.lane_permute.specs.Slices.{active_by}
+use Rattle.std.proofs.Common.{length, arith}
+use Rattle.lane_permute.proofs.Spliced.{found_first}
+use Rattle.lane_permute.proofs.by_active.first_active.Goals as goal
+
+pub returns-clause-found : goal.returns-clause-found
+returns-clause-found c = found_first (length c.args.mask.now) c.loop-k.k (active_by c.args.mask.now) c.loop-k.found c.loop-k.invariant (omega arith)

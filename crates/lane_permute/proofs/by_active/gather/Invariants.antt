@@ -1,0 +1,10 @@
+use Rattle.std.proofs.Common.{◌≡◌, length}
+use Rattle.sve_effects.specs.Permute.{active_lanes}
+use Rattle.lane_permute.specs.Slices.{HasLanes, active_by}
+use Rattle.lane_permute.proofs.by_active.gather.Given as goal
+
+abbrev pub invariant-loop-k : goal.invariant-loop-k
+invariant-loop-k g l = record {
+  count : l.count ≡ length (active_lanes (active_by l.mask) l.k);
+  lanes : HasLanes g.T.Lane.number l.a (active_lanes (active_by l.mask) l.k) l.out;
+}

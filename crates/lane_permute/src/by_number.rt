@@ -1,0 +1,91 @@
+//! Lanes that another lane's number names, and lanes of half the size.
+ghost use Rattle.std.specs.Prelude.{◌≡◌, ◌<◌, ◌*◌, ◌^◌, ℕ, length};
+ghost use Rattle.emu_bits.specs.Fields.{bit};
+ghost use Rattle.sve_effects.specs.Permute.{taken, indexed_place, half_place, widened};
+ghost use Rattle.lane_permute.specs.Rules.{IsWithin};
+ghost use Rattle.lane_permute.specs.Slices.{IsPermuted, number_at};
+
+use crate::named;
+use emu_bits::sign_extended;
+use lane_pack::Lane;
+use sve_effects::Place;
+
+/// The lanes of `a` that the lanes of `at` number, and 0 where there is none (tbl).
+pub fn tbl<T: Lane>(a: &[T], at: &[T], out: &mut [T])
+    requires first { length a.now ≡ length out.old }
+    requires places { length at.now ≡ length out.old }
+    ensures { IsPermuted T.number a.now a.now 0 (λ k. indexed_place (number_at T.number at.now k) (length out.old)) out.new }
+{
+    let n = out.len();
+    let zero = zero();
+    for k in 0..n {
+        out[k] = named(a, a, zero, indexed(number_of(at, k), n));
+    }
+}
+
+/// Lanes of half the size, of the low half of `a`, or of its high half where `high` is true, extended by their sign or by zeros
+/// (sunpklo, sunpkhi, uunpklo, uunpkhi).
+pub fn widen<T: Lane, H: Lane>(a: &[H], high: bool, signed: bool, out: &mut [T])
+    requires lanes { length a.now ≡ 2 * length out.old }
+    requires bits { T.BITS ≡ 2 * H.BITS }
+    ensures { (k : ℕ) → k < length out.old → number_at T.number out.new k ≡ widened signed T.BITS H.BITS (taken (number_at H.number a.now) (number_at H.number a.now) 0 0 (half_place high (length out.old) k)) }
+{
+    let n = out.len();
+    let first = first_of_half(high, n);
+    for k in 0..n {
+        out[k] = wide::<T, H>(number_of(a, first + k), signed);
+    }
+}
+
+/// The number of lane k.
+#[inline(always)]
+fn number_of<T: Lane>(lanes: &[T], k: usize) -> u64
+    requires { k < length lanes.now }
+    ensures value { result ≡ number_at T.number lanes.now k }
+    ensures small { result < 2 ^ T.BITS }
+{
+    lanes[k].to_u64()
+}
+
+/// The first lane of a half of n lanes.
+#[inline(always)]
+fn first_of_half(high: bool, n: usize) -> usize
+    ensures { result ≡ bit high * n }
+{
+    if high { n } else { 0 }
+}
+
+/// The lane 0.
+#[inline(always)]
+pub(crate) fn zero<T: Lane>() -> T
+    ensures { T.number result ≡ 0 }
+{
+    T::from_u64(0)
+}
+
+/// Lane i of n, or 0.
+#[inline(always)]
+fn indexed(i: u64, n: usize) -> Place
+    ensures place { result ≡ indexed_place i n }
+    ensures within { IsWithin n result }
+{
+    if i < n as u64 {
+        Place::FirstLane(i as usize)
+    } else {
+        Place::Zero
+    }
+}
+
+/// A number of half the bits, extended.
+#[inline(always)]
+fn wide<T: Lane, H: Lane>(x: u64, signed: bool) -> T
+    requires small { x < 2 ^ H.BITS }
+    requires bits { T.BITS ≡ 2 * H.BITS }
+    ensures { T.number result ≡ widened signed T.BITS H.BITS x }
+{
+    T::from_u64(if signed {
+        sign_extended(x, H::BITS, T::BITS)
+    } else {
+        x
+    })
+}

@@ -1,0 +1,18 @@
+use Rattle.std.proofs.Common.{◌≡◌, true, ◌&&◌, length, Some, None, sym, ◌∙◌, arith}
+use Rattle.std.proofs.lemmas.Bool.{and_from}
+use Rattle.emu_bits.specs.Flags.{size_of}
+use Rattle.sve_effects.proofs.Found.{first_is}
+use Rattle.vec_model.specs.Active.{active}
+use Rattle.sve_effects.specs.Predicate.{lanes_of}
+use Rattle.pred_bits.proofs.lanes.first_set.Goals as goal
+
+pub returns-then-lane-2-clause-value : goal.returns-then-lane-2-clause-value
+returns-then-lane-2-clause-value c =
+    let g : active (size_of c.args.e) c.args.g.now c.loop-k.k ≡ true = sym c.lane.ensures ∙ c.if-lane.true in
+    let a : active (size_of c.args.e) c.args.a.now c.loop-k.k ≡ true = sym c.lane-then-lane.ensures ∙ c.if-lane-2.true in
+    sym (first_is (lanes_of (size_of c.args.e) (length c.args.g.now)) (λ k. active (size_of c.args.e) c.args.g.now k && active (size_of c.args.e) c.args.a.now k) (Some c.loop-k.k)
+    (record { within = omega arith; meets = and_from (active (size_of c.args.e) c.args.g.now c.loop-k.k) (active (size_of c.args.e) c.args.a.now c.loop-k.k) g a; before = c.loop-k.invariant }))
+
+pub returns-clause-value : goal.returns-clause-value
+returns-clause-value c =
+    sym (first_is (lanes_of (size_of c.args.e) (length c.args.g.now)) (λ k. active (size_of c.args.e) c.args.g.now k && active (size_of c.args.e) c.args.a.now k) None (λ j h. c.loop-k.invariant j (omega arith)))

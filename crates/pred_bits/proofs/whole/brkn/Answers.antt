@@ -1,0 +1,13 @@
+use Rattle.std.proofs.Common.{◌≡◌, false, length, replicate, ap, sym, ◌∙◌}
+use Rattle.pred_bits.proofs.Breaks.{next_goes_on, next_stops}
+use Rattle.pred_bits.proofs.Views.{length_shown}
+use Rattle.pred_bits.proofs.whole.brkn.Goals as goal
+
+pub returns-then-last_is_set : goal.returns-then-last_is_set
+returns-then-last_is_set c =
+    c.of_words.ensures ∙ c.before-2.view_is ∙ next_goes_on (length c.args.g.now) c.args.g.now c.args.a.now c.last_is_set.result c.last_is_set.ensures c.args.before.now c.requires.second c.if-last_is_set.true
+
+pub returns-else-last_is_set : goal.returns-else-last_is_set
+returns-else-last_is_set c =
+    let same : length c.args.g.now ≡ c.g.inside.bits = length_shown c.g.inside.bits c.g.inside.words c.args.g.now c.g.view_is in
+    c.new.ensures ∙ ap (λ m. replicate m false) (sym same) ∙ next_stops (length c.args.g.now) c.args.g.now c.args.a.now c.last_is_set.result c.last_is_set.ensures c.args.before.now c.if-last_is_set.false

@@ -1,0 +1,48 @@
+//! How many lanes a pattern names.
+ghost use Rattle.std.specs.Prelude.{◌≡◌, ◌≤◌};
+ghost use Rattle.sve_effects.specs.Pattern as model;
+
+use emu_bits::U;
+
+/// The greatest power of two up to a number.
+fn greatest_power(n: u32) -> u32
+    requires { 1 ≤ n }
+    ensures value { result ≡ model.greatest_power n }
+    ensures within { result ≤ n }
+{
+    for k in (0..32u32).rev() {
+        if n >> k != 0 {
+            return 1u32 << k;
+        }
+    }
+    0
+}
+
+/// That many, or none where there are fewer.
+fn so_many(count: u32, n: u32) -> u32
+    ensures value { result ≡ model.so_many count n }
+    ensures within { result ≤ n }
+{
+    if count <= n { count } else { 0 }
+}
+
+/// How many of at least one lane a pattern names: pow2, vl1 to vl256, mul4, mul3 and all; the others name none.
+pub fn pattern_count(pattern: U<5>, lanes: u32) -> u32
+    requires { 1 ≤ lanes }
+    ensures value { result ≡ model.pattern_count pattern lanes }
+    ensures within { result ≤ lanes }
+{
+    match pattern.get() {
+        0 => greatest_power(lanes),
+        1..=8 => so_many(pattern.get(), lanes),
+        9 => so_many(16, lanes),
+        10 => so_many(32, lanes),
+        11 => so_many(64, lanes),
+        12 => so_many(128, lanes),
+        13 => so_many(256, lanes),
+        29 => lanes / 4 * 4,
+        30 => lanes / 3 * 3,
+        31 => lanes,
+        _ => 0,
+    }
+}

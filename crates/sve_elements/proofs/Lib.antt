@@ -1,0 +1,4 @@
+pub mod Differences
+pub mod FarShifts
+pub mod Magnitudes
+pub mod Reversal

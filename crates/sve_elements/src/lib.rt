@@ -1,0 +1,27 @@
+//! Element functions: what SVE instructions make of lanes.
+//!
+//! A lane is a number of e bits, 8, 16, 32 or 64 (the manual's esize), in the low bits of a word; a result has zeros above. Each
+//! function is one for all widths, and is the definition of its name; `apply`, `test` and `unary` take the name as a value.
+#![tactic(auto)]
+
+mod compare;
+mod logic;
+mod names;
+pub mod numbers;
+mod products;
+mod shifts;
+mod single;
+mod sums;
+
+pub use compare::test;
+pub use logic::{and, bic, eor, orr};
+pub use names::apply;
+pub use numbers::wrapped;
+pub use products::{dot_product, mul, multiply_add, multiply_subtract, sdiv, smulh, udiv, umulh};
+pub use shifts::{asr, asrd, lsl, lsr};
+pub use single::unary;
+pub use sums::{
+    add, sabd, smax, smin, sqadd, sqadd_amount, sqsub, sqsub_amount, sub, uabd, umax, umin, uqadd,
+    uqsub,
+};
+pub use sve_effects::{ElementOp, ElementTest};

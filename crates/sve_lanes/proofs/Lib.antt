@@ -1,0 +1,2 @@
+pub mod RegisterWords
+pub mod SameRows

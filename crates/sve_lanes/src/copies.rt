@@ -1,0 +1,92 @@
+//! Copies of lanes and of immediates.
+ghost use Rattle.std.specs.Prelude.{◌≡◌, true};
+ghost use Rattle.sve_insn.specs.declared.form.SveForm.{SveForm};
+ghost use Rattle.sve_effects.specs.VectorData as table;
+ghost use Rattle.sve_lanes.specs.Groups.{is_copy};
+
+use crate::fields::{governing, lane_bits, wide_signed};
+use crate::lanes::{LaneOf, Number, Select};
+use crate::loops::{copied, plain};
+use core_regs::Core;
+use emu_bits::{Pred, PredLow, Reg, U};
+use sve_insn::{Sve, SveForm};
+use vec_regs::VecRegs;
+
+/// Does a copy.
+pub(crate) fn exec(core: &Core, vec: &mut VecRegs, i: &Sve)
+    requires { is_copy i.now ≡ true }
+    ensures { vec.new ≡ table.vector_data i.now core.now vec.old }
+{
+    match *i.form() {
+        SveForm::DupImm { size, sh, imm8, zd } => dup_imm(core, vec, size, sh, imm8, zd),
+        SveForm::CopyImm {
+            size,
+            pg,
+            m,
+            sh,
+            imm8,
+            zd,
+        } => copy_imm(core, vec, size, pg, m, sh, imm8, zd),
+        SveForm::PrefixP {
+            size,
+            m,
+            pg,
+            zn,
+            zd,
+        } => prefix_p(core, vec, size, m, pg, zn, zd),
+        SveForm::Prefix { zn, zd } => prefix(core, vec, zn, zd),
+        SveForm::SelectZ {
+            size,
+            zm,
+            pg,
+            zn,
+            zd,
+        } => select(core, vec, size, zm, pg, zn, zd),
+        _ => {}
+    }
+}
+
+fn dup_imm(core: &Core, vec: &mut VecRegs, size: U<2>, sh: bool, imm8: U<8>, zd: Reg)
+    ensures { vec.new ≡ table.vector_data (SveForm.DupImm size sh imm8 zd) core.now vec.old }
+{
+    let e = lane_bits(size);
+    let n = wide_signed(e, sh, imm8);
+    plain(vec, e, zd, &Number { n });
+}
+
+fn copy_imm(
+    core: &Core,
+    vec: &mut VecRegs,
+    size: U<2>,
+    pg: Pred,
+    m: bool,
+    sh: bool,
+    imm8: U<8>,
+    zd: Reg,
+)
+    ensures { vec.new ≡ table.vector_data (SveForm.CopyImm size pg m sh imm8 zd) core.now vec.old }
+{
+    let e = lane_bits(size);
+    let n = wide_signed(e, sh, imm8);
+    copied(vec, m, e, pg, zd, Number { n });
+}
+
+fn prefix_p(core: &Core, vec: &mut VecRegs, size: U<2>, m: bool, pg: PredLow, zn: Reg, zd: Reg)
+    ensures { vec.new ≡ table.vector_data (SveForm.PrefixP size m pg zn zd) core.now vec.old }
+{
+    let lanes = LaneOf { r: zn };
+    copied(vec, m, lane_bits(size), governing(pg), zd, lanes);
+}
+
+fn prefix(core: &Core, vec: &mut VecRegs, zn: Reg, zd: Reg)
+    ensures { vec.new ≡ table.vector_data (SveForm.Prefix zn zd) core.now vec.old }
+{
+    plain(vec, 64, zd, &LaneOf { r: zn });
+}
+
+fn select(core: &Core, vec: &mut VecRegs, size: U<2>, zm: Reg, pg: Pred, zn: Reg, zd: Reg)
+    ensures { vec.new ≡ table.vector_data (SveForm.SelectZ size zm pg zn zd) core.now vec.old }
+{
+    let lanes = Select { pg, zn, zm };
+    plain(vec, lane_bits(size), zd, &lanes);
+}

@@ -1,0 +1,85 @@
+//! What the SVE rows that work lane by lane do to the vector registers.
+//!
+//! A row reads the lanes of its operands, works each out by its element function, and writes its destination once; how it goes
+//! over the lanes stands in one place for all rows.
+#![tactic(auto)]
+
+mod copies;
+mod fields;
+mod immediates;
+mod index;
+mod lanes;
+mod loops;
+mod merging;
+mod names;
+mod operations;
+mod products;
+mod unpredicated;
+
+ghost use Rattle.std.specs.Prelude.{◌≡◌, true};
+ghost use Rattle.sve_effects.specs.VectorData.{is_vector_data, vector_data};
+
+use core_regs::Core;
+use sve_insn::{Sve, SveForm};
+use vec_regs::VecRegs;
+
+/// Whether an instruction is in a row that works lane by lane.
+pub fn is_own(i: &Sve) -> bool
+    ensures { result ≡ is_vector_data i.now }
+{
+    matches!(
+        *i.form(),
+        SveForm::Binary { .. }
+            | SveForm::BinaryWide { .. }
+            | SveForm::ShiftImm { .. }
+            | SveForm::Unary { .. }
+            | SveForm::MulAddZ { .. }
+            | SveForm::MulAddD { .. }
+            | SveForm::Plain { .. }
+            | SveForm::LogicZ { .. }
+            | SveForm::PlainWide { .. }
+            | SveForm::PlainShift { .. }
+            | SveForm::Index { .. }
+            | SveForm::Dot { .. }
+            | SveForm::DotIndexed { .. }
+            | SveForm::WideImm { .. }
+            | SveForm::MinMaxImm { .. }
+            | SveForm::DupImm { .. }
+            | SveForm::BitmaskZ { .. }
+            | SveForm::CopyImm { .. }
+            | SveForm::PrefixP { .. }
+            | SveForm::Prefix { .. }
+            | SveForm::SelectZ { .. }
+    )
+}
+
+/// Does an instruction of the rows that work lane by lane: its destination has the lanes that the instruction makes of its
+/// operands, and in the merging rows the inactive lanes keep their value. Lanes have 8, 16, 32 or 64 bits (the manual's esize).
+pub fn exec(core: &Core, vec: &mut VecRegs, i: &Sve)
+    requires { is_vector_data i.now ≡ true }
+    ensures { vec.new ≡ vector_data i.now core.now vec.old }
+{
+    match *i.form() {
+        SveForm::Binary { .. }
+        | SveForm::BinaryWide { .. }
+        | SveForm::ShiftImm { .. }
+        | SveForm::Unary { .. } => merging::exec(core, vec, i),
+        SveForm::MulAddZ { .. }
+        | SveForm::MulAddD { .. }
+        | SveForm::Dot { .. }
+        | SveForm::DotIndexed { .. } => products::exec(core, vec, i),
+        SveForm::Plain { .. }
+        | SveForm::LogicZ { .. }
+        | SveForm::PlainWide { .. }
+        | SveForm::PlainShift { .. } => unpredicated::exec(core, vec, i),
+        SveForm::WideImm { .. } | SveForm::MinMaxImm { .. } | SveForm::BitmaskZ { .. } =>
+            immediates::exec(core, vec, i),
+        SveForm::DupImm { .. }
+        | SveForm::CopyImm { .. }
+        | SveForm::PrefixP { .. }
+        | SveForm::Prefix { .. }
+        | SveForm::SelectZ { .. } => copies::exec(core, vec, i),
+        SveForm::Index { op, size, y, x, zd } => index::index(core, vec, op, size, y, x, zd),
+        _ => {}
+    }
+}

@@ -1,0 +1,3 @@
+pub mod Compacted
+pub mod FieldPlaces
+pub mod Quads

@@ -1,0 +1,220 @@
+//! Counts of lanes, and multiples of the vector length.
+ghost use Rattle.std.specs.Prelude.{◌≡◌, ◌≤◌, ◌⊎◌, true};
+ghost use Rattle.sve_insn.specs.declared.form.SveForm.{SveForm};
+ghost use Rattle.sve_effects.specs.Counts as table;
+ghost use Rattle.sve_effects.specs.Element.{element};
+ghost use Rattle.sve_effects.specs.ElementLoop.{lane_of, plain};
+ghost use Rattle.sve_permutes.specs.Groups.{is_count_of_lanes};
+ghost use Rattle.vec_model.specs.Lanes.{IsLaneSize};
+
+use crate::fields::lane_bits;
+use crate::moves::MOST_LANES;
+use arrayvec::ArrayVec;
+use core_regs::Core;
+use emu_bits::{Reg, U, low_bits, sext, sign_extended};
+use pred_bits::pattern_count;
+use sve_effects::ElementOp;
+use sve_elements::apply;
+use sve_insn::{AddLengthOp, IncOp, SatOp, Sve, SveForm};
+use vec_regs::VecRegs;
+
+/// Does a count, or a multiple of the vector length.
+pub(crate) fn exec(core: &mut Core, vec: &mut VecRegs, i: &Sve)
+    requires { table.is_count i.now ≡ true }
+    ensures core { core.new ≡ (table.counted i.now core.old vec.old).core }
+    ensures vectors { vec.new ≡ (table.counted i.now core.old vec.old).vectors }
+{
+    match *i.form() {
+        SveForm::Count {
+            size,
+            imm4,
+            pattern,
+            rd,
+        } => count(core, vec, size, imm4, pattern, rd),
+        SveForm::IncX {
+            op,
+            size,
+            imm4,
+            pattern,
+            rdn,
+        } => inc_x(core, vec, op, size, imm4, pattern, rdn),
+        SveForm::SatX {
+            op,
+            size,
+            sf,
+            imm4,
+            pattern,
+            rdn,
+        } => sat_x(core, vec, op, size, sf, imm4, pattern, rdn),
+        SveForm::AddLength { op, rn, imm6, rd } => add_length(core, vec, op, rn, imm6, rd),
+        SveForm::ReadLength { imm6, rd } => read_length(core, vec, imm6, rd),
+        _ => of_lanes(core, vec, i),
+    }
+}
+
+/// Does a count on the lanes of a vector register.
+fn of_lanes(core: &Core, vec: &mut VecRegs, i: &Sve)
+    requires { is_count_of_lanes i.now ≡ true }
+    ensures { vec.new ≡ (table.counted i.now core.now vec.old).vectors }
+{
+    match *i.form() {
+        SveForm::IncZ {
+            op,
+            size,
+            imm4,
+            pattern,
+            zdn,
+        } => inc_z(core, vec, op, size, imm4, pattern, zdn),
+        SveForm::SatZ {
+            op,
+            size,
+            imm4,
+            pattern,
+            zdn,
+        } => sat_z(core, vec, op, size, imm4, pattern, zdn),
+        _ => {}
+    }
+}
+
+fn count(core: &mut Core, vec: &VecRegs, size: U<2>, imm4: U<4>, pattern: U<5>, rd: Reg)
+    ensures core { core.new ≡ (table.counted (SveForm.Count size imm4 pattern rd) core.old vec.now).core }
+    ensures vectors { vec.now ≡ (table.counted (SveForm.Count size imm4 pattern rd) core.old vec.now).vectors }
+{
+    core.set_x(rd, 64, count_of(vec, size, imm4, pattern));
+}
+
+fn inc_x(core: &mut Core, vec: &VecRegs, op: IncOp, size: U<2>, imm4: U<4>, pattern: U<5>, rdn: Reg)
+    ensures core { core.new ≡ (table.counted (SveForm.IncX op size imm4 pattern rdn) core.old vec.now).core }
+    ensures vectors { vec.now ≡ (table.counted (SveForm.IncX op size imm4 pattern rdn) core.old vec.now).vectors }
+{
+    let count = count_of(vec, size, imm4, pattern);
+    core.set_x(rdn, 64, apply(inc_element(op), 64, core.x(rdn), count));
+}
+
+fn inc_z(core: &Core, vec: &mut VecRegs, op: IncOp, size: U<2>, imm4: U<4>, pattern: U<5>, zdn: Reg)
+    ensures { vec.new ≡ (table.counted (SveForm.IncZ op size imm4 pattern zdn) core.now vec.old).vectors }
+{
+    let count = count_of(vec, size, imm4, pattern);
+    counted_lanes(vec, inc_element(op), lane_bits(size), count, zdn);
+}
+
+fn sat_x(
+    core: &mut Core,
+    vec: &VecRegs,
+    op: SatOp,
+    size: U<2>,
+    sf: bool,
+    imm4: U<4>,
+    pattern: U<5>,
+    rdn: Reg,
+)
+    ensures core { core.new ≡ (table.counted (SveForm.SatX op size sf imm4 pattern rdn) core.old vec.now).core }
+    ensures vectors { vec.now ≡ (table.counted (SveForm.SatX op size sf imm4 pattern rdn) core.old vec.now).vectors }
+{
+    let count = count_of(vec, size, imm4, pattern);
+    let w = if sf { 64 } else { 32 };
+    core.set_x(rdn, 64, sat_counted(op, w, core.x(rdn), count));
+}
+
+fn sat_z(core: &Core, vec: &mut VecRegs, op: SatOp, size: U<2>, imm4: U<4>, pattern: U<5>, zdn: Reg)
+    ensures { vec.new ≡ (table.counted (SveForm.SatZ op size imm4 pattern zdn) core.now vec.old).vectors }
+{
+    let count = count_of(vec, size, imm4, pattern);
+    counted_lanes(vec, sat_element(op), lane_bits(size), count, zdn);
+}
+
+fn add_length(core: &mut Core, vec: &VecRegs, op: AddLengthOp, rn: Reg, imm6: U<6>, rd: Reg)
+    ensures core { core.new ≡ (table.counted (SveForm.AddLength op rn imm6 rd) core.old vec.now).core }
+    ensures vectors { vec.now ≡ (table.counted (SveForm.AddLength op rn imm6 rd) core.old vec.now).vectors }
+{
+    let by = multiple(imm6, length_of(vec, op));
+    core.set_x_sp(rd, 64, core.x_sp(rn).wrapping_add_signed(by));
+}
+
+fn read_length(core: &mut Core, vec: &VecRegs, imm6: U<6>, rd: Reg)
+    ensures core { core.new ≡ (table.counted (SveForm.ReadLength imm6 rd) core.old vec.now).core }
+    ensures vectors { vec.now ≡ (table.counted (SveForm.ReadLength imm6 rd) core.old vec.now).vectors }
+{
+    let by = multiple(imm6, length_of(vec, AddLengthOp::Addvl));
+    core.set_x(rd, 64, low_bits(by.cast_unsigned(), 64));
+}
+
+/// The lanes that a pattern names, imm4 + 1 times.
+#[tactic(auto, using(crate::proofs::FieldPlaces::some_lanes))]
+fn count_of(vec: &VecRegs, size: U<2>, imm4: U<4>, pattern: U<5>) -> u64
+    ensures { result ≡ table.count_of size imm4 pattern vec.now }
+{
+    let n = vec.length().bits() / lane_bits(size);
+    u64::from(pattern_count(pattern, n)) * u64::from(imm4.get() + 1)
+}
+
+/// Writes a function of each lane of zdn and a count to it.
+#[tactic(auto, using(emu_model::specs::Lists::each_rules))]
+fn counted_lanes(vec: &mut VecRegs, op: ElementOp, e: u32, count: u64, zdn: Reg)
+    requires { IsLaneSize e }
+    ensures { vec.new ≡ plain e (λ k. element op e (lane_of e vec.old zdn k) count) zdn vec.old }
+{
+    let mut out: ArrayVec<u64, MOST_LANES> = ArrayVec::new();
+    for k in 0..vec.length().bits() / e {
+        out.push(apply(op, e, vec.lane(zdn, e, k), count));
+    }
+    vec.set_lanes(e, zdn, &out);
+}
+
+/// The low w bits of a number and a count, saturating, and extended to 64 bits.
+fn sat_counted(op: SatOp, w: u32, x: u64, count: u64) -> u64
+    requires { (w ≡ 32) ⊎ (w ≡ 64) }
+    ensures { result ≡ table.sat_counted op w x count }
+{
+    let result = apply(sat_element(op), w, low_bits(x, w), count);
+    if saturates_signed(op) {
+        sign_extended(result, w, 64)
+    } else {
+        result
+    }
+}
+
+/// The signed imm6 times a number of bytes.
+fn multiple(imm6: U<6>, bytes: u32) -> i64
+    requires { bytes ≤ 256 }
+    ensures { result ≡ table.multiple imm6 bytes }
+{
+    sext(u64::from(imm6.get()), 6) * bytes as i64
+}
+
+/// The bytes of a Z register, or of a predicate.
+fn length_of(vec: &VecRegs, op: AddLengthOp) -> u32
+    ensures value { result ≡ table.length_of op vec.now }
+    ensures small { result ≤ 256 }
+{
+    match op {
+        AddLengthOp::Addvl => vec.length().bits() / 8,
+        AddLengthOp::Addpl => vec.length().bits() / 64,
+    }
+}
+
+fn inc_element(op: IncOp) -> ElementOp
+    ensures { result ≡ table.inc_element op }
+{
+    match op {
+        IncOp::Inc => ElementOp::Add,
+        IncOp::Dec => ElementOp::Sub,
+    }
+}
+
+fn sat_element(op: SatOp) -> ElementOp
+    ensures { result ≡ table.sat_element op }
+{
+    match op {
+        SatOp::Sqinc => ElementOp::SqaddAmount,
+        SatOp::Uqinc => ElementOp::Uqadd,
+        SatOp::Sqdec => ElementOp::SqsubAmount,
+        SatOp::Uqdec => ElementOp::Uqsub,
+    }
+}
+
+fn saturates_signed(op: SatOp) -> bool
+    ensures { result ≡ table.saturates_signed op }
+{
+    matches!(op, SatOp::Sqinc | SatOp::Sqdec)
+}

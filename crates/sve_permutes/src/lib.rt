@@ -1,0 +1,81 @@
+//! What the SVE rows that work across lanes do: permutes, counts of lanes, and folds over active lanes.
+//!
+//! A permute reads each lane of a source once and writes its destination once; where a lane comes from is one formula of places.
+#![tactic(auto)]
+
+mod active;
+mod counts;
+mod dup;
+mod fields;
+mod folds;
+mod moves;
+mod permutes;
+mod predicates;
+mod rows;
+mod single;
+
+ghost use Rattle.std.specs.Prelude.{◌≡◌, true};
+ghost use Rattle.sve_effects.specs.Across.{is_across, across};
+
+use core_regs::Core;
+use sve_insn::{Sve, SveForm};
+use vec_regs::VecRegs;
+
+/// Whether an instruction is in a row that works across lanes: a permute, a count of lanes, or a fold.
+pub fn is_own(i: &Sve) -> bool
+    ensures { result ≡ is_across i.now }
+{
+    matches!(
+        *i.form(),
+        SveForm::Reduce { .. }
+            | SveForm::Count { .. }
+            | SveForm::IncX { .. }
+            | SveForm::IncZ { .. }
+            | SveForm::SatX { .. }
+            | SveForm::SatZ { .. }
+            | SveForm::AddLength { .. }
+            | SveForm::ReadLength { .. }
+            | SveForm::DupReg { .. }
+            | SveForm::DupLane { .. }
+            | SveForm::Insert { .. }
+            | SveForm::RevZ { .. }
+            | SveForm::Unpack { .. }
+            | SveForm::Table { .. }
+            | SveForm::Interleave { .. }
+            | SveForm::InterleaveP { .. }
+            | SveForm::UnpackP { .. }
+            | SveForm::RevP { .. }
+            | SveForm::Compact { .. }
+            | SveForm::Splice { .. }
+            | SveForm::Ext { .. }
+            | SveForm::CopyReg { .. }
+            | SveForm::Last { .. }
+            | SveForm::CondLast { .. }
+    )
+}
+
+/// Does an instruction of the rows that work across lanes. It writes its destination, a vector register, a predicate or a general
+/// register, and nothing else; lanes have 8, 16, 32 or 64 bits (the manual's esize), and those of a dup up to 128.
+pub fn exec(core: &mut Core, vec: &mut VecRegs, i: &Sve)
+    requires { is_across i.now ≡ true }
+    ensures core { core.new ≡ (across i.now core.old vec.old).core }
+    ensures vectors { vec.new ≡ (across i.now core.old vec.old).vectors }
+{
+    match *i.form() {
+        SveForm::Reduce {
+            op,
+            size,
+            pg,
+            zn,
+            vd,
+        } => folds::reduce(core, vec, op, size, pg, zn, vd),
+        SveForm::Count { .. }
+        | SveForm::IncX { .. }
+        | SveForm::IncZ { .. }
+        | SveForm::SatX { .. }
+        | SveForm::SatZ { .. }
+        | SveForm::AddLength { .. }
+        | SveForm::ReadLength { .. } => counts::exec(core, vec, i),
+        _ => permutes::exec(core, vec, i),
+    }
+}

@@ -1,0 +1,170 @@
+//! Logical operations and breaks of predicates.
+ghost use Rattle.std.specs.Prelude.{◌≡◌, true};
+ghost use Rattle.sve_effects.specs.declared.predicates.LogicOp.{LogicOp};
+ghost use Rattle.sve_effects.specs.Predicate as model;
+ghost use Rattle.sve_effects.specs.PredicateRows.{predicate, predicate_bits, logic_of, break_after, pair_after};
+ghost use Rattle.sve_insn.specs.declared.form.SveForm.TheVariants as form;
+ghost use Rattle.sve_pred.specs.Groups.{is_by_bits};
+ghost use Rattle.vec_model.specs.Lanes.{read_p, with_p};
+
+use crate::registers::{bits, read, test, write};
+use core_regs::Core;
+use emu_bits::{Esize, Pred};
+use pred_bits::{LogicOp, brk, brkn, brkp, ones};
+use sve_insn::{BreakOp, BreakPairOp, LogicPOp, Sve, SveForm};
+use vec_regs::VecRegs;
+
+/// The operation of a name.
+fn operation(op: LogicPOp) -> LogicOp
+    ensures { result ≡ logic_of op }
+{
+    match op {
+        LogicPOp::And => LogicOp::And,
+        LogicPOp::Bic => LogicOp::Bic,
+        LogicPOp::Eor => LogicOp::Eor,
+        LogicPOp::Orr => LogicOp::Orr,
+        LogicPOp::Orn => LogicOp::Orn,
+        LogicPOp::Nor => LogicOp::Nor,
+        LogicPOp::Nand => LogicOp::Nand,
+    }
+}
+
+/// `and`, `bic`, `eor`, `orr`, `orn`, `nor`, `nand` under a predicate.
+#[tactic(auto, using(crate::proofs::Lengths::length_given))]
+pub fn logic(
+    core: &mut Core,
+    vec: &mut VecRegs,
+    op: LogicPOp,
+    s: bool,
+    pm: Pred,
+    pg: Pred,
+    pn: Pred,
+    pd: Pred,
+)
+    ensures registers { core.new ≡ (predicate (form.LogicP op s pm pg pn pd) core.old vec.old).core }
+    ensures vectors { vec.new ≡ (predicate (form.LogicP op s pm pg pn pd) core.old vec.old).vectors }
+{
+    let g = read(vec, pg);
+    let bits = pred_bits::logic(operation(op), &g, &read(vec, pn), &read(vec, pm));
+    test(core, s, &g, &bits, Esize::B);
+    write(vec, pd, &bits);
+}
+
+/// `sel`.
+#[tactic(auto, using(crate::proofs::Lengths::length_given))]
+pub fn select(vec: &mut VecRegs, pm: Pred, pg: Pred, pn: Pred, pd: Pred)
+    ensures { vec.new ≡ with_p vec.old pd (model.logic LogicOp.Sel (predicate_bits vec.old) (read_p vec.old pg) (read_p vec.old pn) (read_p vec.old pm)) }
+{
+    let bits = pred_bits::logic(LogicOp::Sel, &read(vec, pg), &read(vec, pn), &read(vec, pm));
+    write(vec, pd, &bits);
+}
+
+/// Whether the break counts the first set bit itself.
+fn break_after(op: BreakOp) -> bool
+    ensures { result ≡ break_after op }
+{
+    match op {
+        BreakOp::Brka => true,
+        BreakOp::Brkb => false,
+    }
+}
+
+/// `brka`, `brkb`.
+#[tactic(auto, using(crate::proofs::Lengths::length_given))]
+pub fn break_first(
+    core: &mut Core,
+    vec: &mut VecRegs,
+    op: BreakOp,
+    s: bool,
+    pg: Pred,
+    pn: Pred,
+    m: bool,
+    pd: Pred,
+)
+    ensures registers { core.new ≡ (predicate (form.Break op s pg pn m pd) core.old vec.old).core }
+    ensures vectors { vec.new ≡ (predicate (form.Break op s pg pn m pd) core.old vec.old).vectors }
+{
+    let g = read(vec, pg);
+    let bits = brk(break_after(op), m, &g, &read(vec, pn), &read(vec, pd));
+    test(core, s, &g, &bits, Esize::B);
+    write(vec, pd, &bits);
+}
+
+/// Whether the break of a pair counts the first set bit itself.
+fn pair_after(op: BreakPairOp) -> bool
+    ensures { result ≡ pair_after op }
+{
+    match op {
+        BreakPairOp::Brkpa => true,
+        BreakPairOp::Brkpb => false,
+    }
+}
+
+/// `brkpa`, `brkpb`.
+#[tactic(auto, using(crate::proofs::Lengths::length_given))]
+pub fn break_pair(
+    core: &mut Core,
+    vec: &mut VecRegs,
+    op: BreakPairOp,
+    s: bool,
+    pm: Pred,
+    pg: Pred,
+    pn: Pred,
+    pd: Pred,
+)
+    ensures registers { core.new ≡ (predicate (form.BreakPair op s pm pg pn pd) core.old vec.old).core }
+    ensures vectors { vec.new ≡ (predicate (form.BreakPair op s pm pg pn pd) core.old vec.old).vectors }
+{
+    let g = read(vec, pg);
+    let bits = brkp(pair_after(op), &g, &read(vec, pn), &read(vec, pm));
+    test(core, s, &g, &bits, Esize::B);
+    write(vec, pd, &bits);
+}
+
+/// `brkn`: its flags are by the test of all bits.
+#[tactic(auto, using(crate::proofs::Lengths::length_given))]
+pub fn break_next(core: &mut Core, vec: &mut VecRegs, s: bool, pg: Pred, pn: Pred, pdm: Pred)
+    ensures registers { core.new ≡ (predicate (form.BreakNext s pg pn pdm) core.old vec.old).core }
+    ensures vectors { vec.new ≡ (predicate (form.BreakNext s pg pn pdm) core.old vec.old).vectors }
+{
+    let result = brkn(&read(vec, pg), &read(vec, pn), &read(vec, pdm));
+    test(core, s, &ones(bits(vec)), &result, Esize::B);
+    write(vec, pdm, &result);
+}
+
+/// Does an instruction of these rows.
+pub fn exec(core: &mut Core, vec: &mut VecRegs, i: &Sve)
+    requires { is_by_bits i.now ≡ true }
+    ensures registers { core.new ≡ (predicate i.now core.old vec.old).core }
+    ensures vectors { vec.new ≡ (predicate i.now core.old vec.old).vectors }
+{
+    match *i.form() {
+        SveForm::LogicP {
+            op,
+            s,
+            pm,
+            pg,
+            pn,
+            pd,
+        } => logic(core, vec, op, s, pm, pg, pn, pd),
+        SveForm::SelectP { pm, pg, pn, pd } => select(vec, pm, pg, pn, pd),
+        SveForm::Break {
+            op,
+            s,
+            pg,
+            pn,
+            m,
+            pd,
+        } => break_first(core, vec, op, s, pg, pn, m, pd),
+        SveForm::BreakPair {
+            op,
+            s,
+            pm,
+            pg,
+            pn,
+            pd,
+        } => break_pair(core, vec, op, s, pm, pg, pn, pd),
+        SveForm::BreakNext { s, pg, pn, pdm } => break_next(core, vec, s, pg, pn, pdm),
+        _ => {}
+    }
+}

@@ -1,0 +1,247 @@
+//! Predicates lane by lane: the next lane, patterns, loops and counts.
+ghost use Rattle.std.specs.Prelude.{◌≡◌, ◌⊎◌, ◌≤◌, ◌/◌, true, length};
+ghost use Rattle.emu_model.specs.State.{read_x};
+ghost use Rattle.sve_effects.specs.Element.{element};
+ghost use Rattle.sve_effects.specs.ElementLoop.{lane_bits, lane_of};
+ghost use Rattle.sve_effects.specs.PredicateRows.{predicate, predicate_bits, set_lanes_of, ptrue_flags, while_of, while_result, width_of, counted_by, terminates, termination_flags};
+ghost use Rattle.sve_effects.specs.Pattern.{pattern_count};
+ghost use Rattle.sve_effects.specs.Predicate.{only_next, lanes_below};
+ghost use Rattle.sve_insn.specs.declared.form.SveForm.TheVariants as form;
+ghost use Rattle.sve_pred.specs.Groups.{is_by_lanes};
+ghost use Rattle.vec_model.specs.Lanes.{IsLaneSize, read_p, with_lanes};
+
+use crate::registers::{bits, esize, read, test_lanes, write};
+use arrayvec::ArrayVec;
+use core_regs::Core;
+use emu_bits::{Flags, Pred, Reg, U, low_bits};
+use pred_bits::{PredBits, WhileTest, lanes_below, next, ones, pattern_count, while_bits};
+use sve_elements::{ElementOp, apply};
+use sve_insn::{CtermOp, IncPOp, PtrueOp, Sve, SveForm, WhileOp};
+use vec_regs::VecRegs;
+
+/// The result of `pnext`.
+#[tactic(auto, using(crate::proofs::Lengths::lengths))]
+fn next_bits(vec: &VecRegs, size: U<2>, pg: Pred, pdn: Pred) -> PredBits
+    ensures value { result ≡ only_next (lane_bits size) (predicate_bits vec.now) (read_p vec.now pg) (read_p vec.now pdn) }
+    ensures length { length result ≡ predicate_bits vec.now }
+{
+    next(&read(vec, pg), &read(vec, pdn), esize(size))
+}
+
+/// `pnext`.
+pub fn next_lane(core: &mut Core, vec: &mut VecRegs, size: U<2>, pg: Pred, pdn: Pred)
+    ensures registers { core.new ≡ (predicate (form.Next size pg pdn) core.old vec.old).core }
+    ensures vectors { vec.new ≡ (predicate (form.Next size pg pdn) core.old vec.old).vectors }
+{
+    let bits = next_bits(vec, size, pg, pdn);
+    test_lanes(core, true, &read(vec, pg), &bits, size);
+    write(vec, pdn, &bits);
+}
+
+/// `cntp`.
+pub fn count_p(core: &mut Core, vec: &VecRegs, size: U<2>, pg: Pred, pn: Pred, rd: Reg)
+    ensures { core.new ≡ (predicate (form.CountP size pg pn rd) core.old vec.now).core }
+{
+    let n = pred_bits::count(&read(vec, pg), &read(vec, pn), esize(size));
+    core.set_x(rd, 64, n as u64);
+}
+
+/// Whether the flags are set.
+fn ptrue_flags(op: PtrueOp) -> bool
+    ensures { result ≡ ptrue_flags op }
+{
+    match op {
+        PtrueOp::Ptrue => false,
+        PtrueOp::Ptrues => true,
+    }
+}
+
+/// The result of `ptrue`.
+#[tactic(auto, using(crate::proofs::Lengths::lengths))]
+fn ptrue_bits(vec: &VecRegs, size: U<2>, pattern: U<5>) -> PredBits
+    ensures value { result ≡ lanes_below (lane_bits size) (predicate_bits vec.now) (pattern_count pattern (vec.now.bits / lane_bits size)) }
+    ensures length { length result ≡ predicate_bits vec.now }
+{
+    let e = esize(size);
+    lanes_below(pattern_count(pattern, vec.length().lanes(e)), e, bits(vec))
+}
+
+/// `ptrue`, `ptrues`.
+pub fn ptrue(core: &mut Core, vec: &mut VecRegs, op: PtrueOp, size: U<2>, pattern: U<5>, pd: Pred)
+    ensures registers { core.new ≡ (predicate (form.Ptrue op size pattern pd) core.old vec.old).core }
+    ensures vectors { vec.new ≡ (predicate (form.Ptrue op size pattern pd) core.old vec.old).vectors }
+{
+    let bits = ptrue_bits(vec, size, pattern);
+    test_lanes(core, ptrue_flags(op), &bits, &bits, size);
+    write(vec, pd, &bits);
+}
+
+/// How many lanes of a predicate are set.
+fn set_lanes(vec: &VecRegs, size: U<2>, pm: Pred) -> u64
+    ensures { result ≡ set_lanes_of (lane_bits size) pm vec.now }
+{
+    let bits = read(vec, pm);
+    pred_bits::count(&bits, &bits, esize(size)) as u64
+}
+
+/// Whether a count is added or subtracted.
+fn counted_by(op: IncPOp) -> ElementOp
+    ensures { result ≡ counted_by op }
+{
+    match op {
+        IncPOp::Incp => ElementOp::Add,
+        IncPOp::Decp => ElementOp::Sub,
+    }
+}
+
+/// `incp`, `decp` of a general register.
+pub fn inc_p(core: &mut Core, vec: &VecRegs, op: IncPOp, size: U<2>, pm: Pred, rdn: Reg)
+    ensures { core.new ≡ (predicate (form.IncP op size pm rdn) core.old vec.now).core }
+{
+    let n = set_lanes(vec, size, pm);
+    let sum = apply(counted_by(op), 64, core.x(rdn), n);
+    core.set_x(rdn, 64, sum);
+}
+
+/// `incp`, `decp` of each lane of a Z register.
+#[tactic(auto, using(emu_model::specs::Lists::each_rules))]
+pub fn inc_z(vec: &mut VecRegs, op: ElementOp, e: u32, n: u64, zdn: Reg)
+    requires { IsLaneSize e }
+    ensures { vec.new ≡ with_lanes e (λ k. element op e (lane_of e vec.old zdn k) n) zdn vec.old }
+{
+    let lanes = vec.length().bits() / e;
+    let mut sums: ArrayVec<u64, 256> = ArrayVec::new();
+    for k in 0..lanes {
+        sums.push(apply(op, e, vec.lane(zdn, e, k), n));
+    }
+    vec.set_lanes(e, zdn, &sums);
+}
+
+/// `incp`, `decp` of a Z register.
+pub fn inc_p_z(vec: &mut VecRegs, op: IncPOp, size: U<2>, pm: Pred, zdn: Reg)
+    ensures { vec.new ≡ with_lanes (lane_bits size) (λ k. element (counted_by op) (lane_bits size) (lane_of (lane_bits size) vec.old zdn k) (set_lanes_of (lane_bits size) pm vec.old)) zdn vec.old }
+{
+    let n = set_lanes(vec, size, pm);
+    inc_z(vec, counted_by(op), esize(size).bits(), n, zdn);
+}
+
+/// The width of the registers: 64 bits where sf is 1, else 32.
+fn width(sf: bool) -> u32
+    ensures value { result ≡ width_of sf }
+    ensures either { (result ≡ 32) ⊎ (result ≡ 64) }
+{
+    if sf { 64 } else { 32 }
+}
+
+/// The condition of a name.
+fn condition(op: WhileOp) -> WhileTest
+    ensures { result ≡ while_of op }
+{
+    match op {
+        WhileOp::Whilelt => WhileTest::Lt,
+        WhileOp::Whilele => WhileTest::Le,
+        WhileOp::Whilelo => WhileTest::Lo,
+        WhileOp::Whilels => WhileTest::Ls,
+    }
+}
+
+/// The result of a loop.
+#[tactic(auto, using(crate::proofs::Lengths::lengths))]
+fn loop_bits(
+    core: &Core,
+    vec: &VecRegs,
+    op: WhileOp,
+    size: U<2>,
+    rm: Reg,
+    sf: bool,
+    rn: Reg,
+) -> PredBits
+    ensures value { result ≡ while_result op (lane_bits size) sf rn rm core.now vec.now }
+    ensures length { length result ≡ predicate_bits vec.now }
+{
+    let _length = vec.length().bits();
+    while_bits(
+        condition(op),
+        core.x(rn),
+        core.x(rm),
+        width(sf),
+        esize(size),
+        bits(vec),
+    )
+}
+
+/// `whilelt`, `whilele`, `whilelo`, `whilels`: the flags are by the test of all bits.
+#[tactic(auto, using(crate::proofs::Lengths::length_given))]
+pub fn while_lanes(
+    core: &mut Core,
+    vec: &mut VecRegs,
+    op: WhileOp,
+    size: U<2>,
+    rm: Reg,
+    sf: bool,
+    rn: Reg,
+    pd: Pred,
+)
+    ensures registers { core.new ≡ (predicate (form.While op size rm sf rn pd) core.old vec.old).core }
+    ensures vectors { vec.new ≡ (predicate (form.While op size rm sf rn pd) core.old vec.old).vectors }
+{
+    let set = loop_bits(core, vec, op, size, rm, sf, rn);
+    test_lanes(core, true, &ones(bits(vec)), &set, size);
+    write(vec, pd, &set);
+}
+
+/// Whether a loop ends.
+fn terminates(op: CtermOp, width: u32, a: u64, b: u64) -> bool
+    requires { width ≤ 64 }
+    ensures { result ≡ terminates op width a b }
+{
+    let same = low_bits(a, width) == low_bits(b, width);
+    match op {
+        CtermOp::Ctermeq => same,
+        CtermOp::Ctermne => !same,
+    }
+}
+
+/// `ctermeq`, `ctermne`.
+pub fn cterm(core: &mut Core, op: CtermOp, sf: bool, rm: Reg, rn: Reg)
+    ensures { core.new ≡ record core.old { flags = termination_flags (terminates op (width_of sf) (read_x core.old rn) (read_x core.old rm)) core.old.flags } }
+{
+    let ends = terminates(op, width(sf), core.x(rn), core.x(rm));
+    let flags = core.flags();
+    core.set_flags(Flags {
+        n: ends,
+        z: flags.z,
+        c: flags.c,
+        v: !ends && !flags.c,
+    });
+}
+
+/// Does an instruction of these rows.
+pub fn exec(core: &mut Core, vec: &mut VecRegs, i: &Sve)
+    requires { is_by_lanes i.now ≡ true }
+    ensures registers { core.new ≡ (predicate i.now core.old vec.old).core }
+    ensures vectors { vec.new ≡ (predicate i.now core.old vec.old).vectors }
+{
+    match *i.form() {
+        SveForm::Next { size, pg, pdn } => next_lane(core, vec, size, pg, pdn),
+        SveForm::Ptrue {
+            op,
+            size,
+            pattern,
+            pd,
+        } => ptrue(core, vec, op, size, pattern, pd),
+        SveForm::CountP { size, pg, pn, rd } => count_p(core, vec, size, pg, pn, rd),
+        SveForm::IncP { op, size, pm, rdn } => inc_p(core, vec, op, size, pm, rdn),
+        SveForm::IncPZ { op, size, pm, zdn } => inc_p_z(vec, op, size, pm, zdn),
+        SveForm::While {
+            op,
+            size,
+            rm,
+            sf,
+            rn,
+            pd,
+        } => while_lanes(core, vec, op, size, rm, sf, rn, pd),
+        SveForm::Cterm { op, sf, rm, rn } => cterm(core, op, sf, rm, rn),
+        _ => {}
+    }
+}

@@ -1,0 +1,83 @@
+//! The instructions on predicates: compares, logical operations, breaks, first and next lanes, loops, counts, and FFR.
+#![tactic(auto)]
+
+mod breaks;
+mod compares;
+mod lanes;
+mod registers;
+mod single;
+
+ghost use Rattle.std.specs.Prelude.{◌≡◌, true};
+ghost use Rattle.emu_model.specs.declared.trap.Effect.{Effect};
+ghost use Rattle.sve_effects.specs.PredicateRows.{is_predicate, predicate};
+
+use core_regs::{Core, Effect};
+use sve_insn::{Sve, SveForm};
+use vec_regs::VecRegs;
+
+/// Whether an instruction is in a row of this crate: one that compares into a predicate, or works on predicates and FFR.
+pub fn is_own(i: &Sve) -> bool
+    ensures { result ≡ is_predicate i.now }
+{
+    matches!(
+        *i.form(),
+        SveForm::CmpVec { .. }
+            | SveForm::CmpWide { .. }
+            | SveForm::CmpUImm { .. }
+            | SveForm::CmpSImm { .. }
+            | SveForm::LogicP { .. }
+            | SveForm::SelectP { .. }
+            | SveForm::Break { .. }
+            | SveForm::BreakPair { .. }
+            | SveForm::BreakNext { .. }
+            | SveForm::Ptest { .. }
+            | SveForm::First { .. }
+            | SveForm::Next { .. }
+            | SveForm::Ptrue { .. }
+            | SveForm::Pfalse { .. }
+            | SveForm::ReadFfr { .. }
+            | SveForm::ReadFfrAll { .. }
+            | SveForm::WriteFfr { .. }
+            | SveForm::CountP { .. }
+            | SveForm::IncP { .. }
+            | SveForm::IncPZ { .. }
+            | SveForm::While { .. }
+            | SveForm::Cterm { .. }
+    )
+}
+
+/// Does an instruction of the rows on predicates: a predicate, FFR, a general register, the lanes of a Z register or the flags
+/// change; the step goes on behind the instruction.
+pub fn exec(core: &mut Core, vec: &mut VecRegs, i: &Sve) -> Effect
+    requires { is_predicate i.now ≡ true }
+    ensures registers { core.new ≡ (predicate i.now core.old vec.old).core }
+    ensures vectors { vec.new ≡ (predicate i.now core.old vec.old).vectors }
+    ensures effect { result ≡ Effect.Next }
+{
+    match *i.form() {
+        SveForm::CmpVec { .. }
+        | SveForm::CmpWide { .. }
+        | SveForm::CmpUImm { .. }
+        | SveForm::CmpSImm { .. } => compares::exec(core, vec, i),
+        SveForm::LogicP { .. }
+        | SveForm::SelectP { .. }
+        | SveForm::Break { .. }
+        | SveForm::BreakPair { .. }
+        | SveForm::BreakNext { .. } => breaks::exec(core, vec, i),
+        SveForm::Ptest { .. }
+        | SveForm::First { .. }
+        | SveForm::Pfalse { .. }
+        | SveForm::ReadFfr { .. }
+        | SveForm::ReadFfrAll { .. }
+        | SveForm::WriteFfr { .. } => single::exec(core, vec, i),
+        SveForm::Next { .. }
+        | SveForm::Ptrue { .. }
+        | SveForm::CountP { .. }
+        | SveForm::IncP { .. }
+        | SveForm::IncPZ { .. }
+        | SveForm::While { .. }
+        | SveForm::Cterm { .. } => lanes::exec(core, vec, i),
+        _ => {}
+    }
+    Effect::Next
+}

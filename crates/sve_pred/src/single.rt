@@ -1,0 +1,108 @@
+//! Single predicates: tests, the first active bit, no bit, and FFR.
+ghost use Rattle.std.specs.Prelude.{◌≡◌, replicate, true, false, length};
+ghost use Rattle.sve_effects.specs.PredicateRows.{predicate, predicate_bits, after_test, read_ffr_flags, written_ffr};
+ghost use Rattle.sve_insn.specs.declared.form.SveForm.TheVariants as form;
+ghost use Rattle.sve_pred.specs.Groups.{is_single};
+ghost use Rattle.vec_model.specs.Lanes.{read_p, with_p, with_ffr};
+
+use crate::registers::{bits, read, read_ffr, test, write, write_ffr};
+use core_regs::Core;
+use emu_bits::{Esize, Pred};
+use pred_bits::{LogicOp, PredBits, ones};
+use sve_insn::{ReadFfrOp, Sve, SveForm, WriteFfrOp};
+use vec_regs::VecRegs;
+
+/// `ptest`.
+pub fn ptest(core: &mut Core, vec: &VecRegs, pg: Pred, pn: Pred)
+    ensures { core.new ≡ after_test true 8 (predicate_bits vec.now) (read_p vec.now pg) (read_p vec.now pn) core.old }
+{
+    test(core, true, &read(vec, pg), &read(vec, pn), Esize::B);
+}
+
+/// `pfirst`.
+#[tactic(auto, using(crate::proofs::Lengths::length_given))]
+pub fn first(core: &mut Core, vec: &mut VecRegs, pg: Pred, pdn: Pred)
+    ensures registers { core.new ≡ (predicate (form.First pg pdn) core.old vec.old).core }
+    ensures vectors { vec.new ≡ (predicate (form.First pg pdn) core.old vec.old).vectors }
+{
+    let g = read(vec, pg);
+    let bits = pred_bits::first(&g, &read(vec, pdn));
+    test(core, true, &g, &bits, Esize::B);
+    write(vec, pdn, &bits);
+}
+
+/// `pfalse`.
+pub fn pfalse(vec: &mut VecRegs, pd: Pred)
+    ensures { vec.new ≡ with_p vec.old pd (replicate (predicate_bits vec.old) false) }
+{
+    let none = PredBits::new(bits(vec));
+    write(vec, pd, &none);
+}
+
+/// Whether the flags are set.
+fn read_ffr_flags(op: ReadFfrOp) -> bool
+    ensures { result ≡ read_ffr_flags op }
+{
+    match op {
+        ReadFfrOp::Rdffr => false,
+        ReadFfrOp::Rdffrs => true,
+    }
+}
+
+/// `rdffr`, `rdffrs` under a predicate.
+#[tactic(auto, using(crate::proofs::Lengths::length_given))]
+pub fn ffr_under(core: &mut Core, vec: &mut VecRegs, op: ReadFfrOp, pg: Pred, pd: Pred)
+    ensures registers { core.new ≡ (predicate (form.ReadFfr op pg pd) core.old vec.old).core }
+    ensures vectors { vec.new ≡ (predicate (form.ReadFfr op pg pd) core.old vec.old).vectors }
+{
+    let g = read(vec, pg);
+    let ffr = read_ffr(vec);
+    let bits = pred_bits::logic(LogicOp::And, &g, &ffr, &ffr);
+    test(core, read_ffr_flags(op), &g, &bits, Esize::B);
+    write(vec, pd, &bits);
+}
+
+/// `rdffr`.
+pub fn ffr_all(vec: &mut VecRegs, pd: Pred)
+    ensures { vec.new ≡ with_p vec.old pd vec.old.ffr }
+{
+    let bits = read_ffr(vec);
+    write(vec, pd, &bits);
+}
+
+/// What is written to FFR.
+#[tactic(auto, using(crate::proofs::Lengths::length_given, pred_bits::proofs::Bytes::each_again))]
+fn written_ffr(vec: &VecRegs, op: WriteFfrOp, pn: Pred) -> PredBits
+    ensures value { result ≡ written_ffr op pn vec.now }
+    ensures length { length result ≡ predicate_bits vec.now }
+{
+    match op {
+        WriteFfrOp::Setffr => ones(bits(vec)),
+        WriteFfrOp::Wrffr => read(vec, pn),
+    }
+}
+
+/// `setffr`, `wrffr`.
+pub fn ffr_written(vec: &mut VecRegs, op: WriteFfrOp, pn: Pred)
+    ensures { vec.new ≡ with_ffr vec.old (written_ffr op pn vec.old) }
+{
+    let bits = written_ffr(vec, op, pn);
+    write_ffr(vec, &bits);
+}
+
+/// Does an instruction of these rows.
+pub fn exec(core: &mut Core, vec: &mut VecRegs, i: &Sve)
+    requires { is_single i.now ≡ true }
+    ensures registers { core.new ≡ (predicate i.now core.old vec.old).core }
+    ensures vectors { vec.new ≡ (predicate i.now core.old vec.old).vectors }
+{
+    match *i.form() {
+        SveForm::Ptest { pg, pn } => ptest(core, vec, pg, pn),
+        SveForm::First { pg, pdn } => first(core, vec, pg, pdn),
+        SveForm::Pfalse { pd } => pfalse(vec, pd),
+        SveForm::ReadFfr { op, pg, pd } => ffr_under(core, vec, op, pg, pd),
+        SveForm::ReadFfrAll { pd } => ffr_all(vec, pd),
+        SveForm::WriteFfr { op, pn } => ffr_written(vec, op, pn),
+        _ => {}
+    }
+}
