@@ -1,11 +1,10 @@
 -- Steps of the loop that lists elements.
-use Rattle.std.proofs.Common.{◌≡◌, ◌≤◌, ◌<◌, ℕ, ◌+◌, ◌%◌, Bool, true, false, List, [], ◌∷◌, ◌++◌, refl, sym, ap, ◌∙◌, arith}
+use Rattle.std.proofs.Common.{◌≡◌, ◌<◌, ℕ, ◌+◌, ◌%◌, true, List, [], ◌∷◌, ◌++◌, refl, sym, ap, ◌∙◌, arith}
 use Rattle.emu_model.specs.Elements.{Element}
-use Rattle.emu_model.specs.Lists.{each}
-use Rattle.sve_effects.specs.VectorElements.{Layout, elements_below, elements_of, register_at}
+use Rattle.sve_effects.specs.VectorElements.{Layout, elements_below}
 use Rattle.element_loops.specs.Listed.{listed_at}
 use Rattle.element_loops.specs.SoFar.{element_at, elements_within}
-use Rattle.element_loops.proofs.Turns.{within_none, within_more, within_all, skipped, below_none}
+use Rattle.element_loops.proofs.Turns.{within_none, within_more, within_all}
 
 pub listed_more : (r n : ℕ) (ps : List (ℕ × ℕ)) (p : ℕ × ℕ) → listed_at r n (ps ++ p ∷ []) ≡ listed_at r n ps ++ record { lane = p.0; register = r; address = p.1; bytes = n } ∷ []
 listed_more r n [] p = refl

@@ -1,6 +1,6 @@
 -- The lanes that are written aren't refused.
-use Rattle.std.proofs.Common.{◌≡◌, ◌≤◌, ◌<◌, ℕ, zero, suc, ◌+◌, ◌*◌, ◌/◌, Bool, true, false, not, ◌&&◌, List, [], ◌∷◌, ◌++◌, length, get_or, Option, Some, None, is_some, nat_eq, nat_lt, inl, inr, if◌then◌else◌, refl, sym, ap, subst, ◌∙◌, arith}
-use Rattle.std.proofs.lemmas.Bool.{both_ways, cases_lt, eqb-true, eq-eqb}
+use Rattle.std.proofs.Common.{◌≡◌, ◌≤◌, ◌<◌, ℕ, zero, suc, ◌+◌, ◌*◌, ◌/◌, Bool, true, false, not, ◌&&◌, List, [], ◌∷◌, ◌++◌, length, get_or, Option, Some, None, nat_eq, nat_lt, inl, inr, if◌then◌else◌, refl, sym, ap, subst, ◌∙◌, arith}
+use Rattle.std.proofs.lemmas.Bool.{both_ways, cases_lt, eqb-true}
 use Rattle.std.proofs.lemmas.Bool.Decides.{nat_tests}
 use Rattle.std.proofs.lemmas.List.{get_or_past, map-append}
 use Rattle.emu_model.specs.Access.{Memory, value}
@@ -11,7 +11,7 @@ use Rattle.vec_model.specs.Active.{active}
 use Rattle.sve_effects.proofs.Found.{first_found}
 use Rattle.sve_effects.specs.FirstFault.{element_at, first_suppressed, is_refused, cleared_from, first_cleared, is_before, loaded_from}
 use Rattle.sve_effects.specs.FirstLast.{first_where, IsFirst, IsFirstWhere, MeetsNowhere}
-use Rattle.sve_effects.specs.VectorElements.{Layout, elements_below, elements_of}
+use Rattle.sve_effects.specs.VectorElements.{Layout, elements_below}
 use Rattle.sve_effects.specs.VectorLoadStore.{extended_to}
 use Rattle.element_loops.specs.SoFar.{element_at as element_of_lane}
 use Rattle.element_loops.proofs.Lists.{one_element}

@@ -1,6 +1,5 @@
 -- What a load of the elements of a list leaves.
-use Rattle.std.proofs.Common.{◌≡◌, ◌≤◌, ◌<◌, ℕ, zero, suc, ◌+◌, ◌/◌, Bool, true, false, not, ◌&&◌, List, [], ◌∷◌, ◌++◌, length, get_or, Option, Some, None, nat_lt, if◌then◌else◌, refl, sym, ap, subst, ◌∙◌, arith}
-use Rattle.std.proofs.lemmas.Bool.{both_ways}
+use Rattle.std.proofs.Common.{◌≡◌, ◌≤◌, ◌<◌, ℕ, suc, ◌/◌, Bool, true, false, List, [], ◌∷◌, ◌++◌, length, get_or, Option, Some, None, nat_lt, if◌then◌else◌, refl, sym, ap, ◌∙◌, arith}
 use Rattle.std.proofs.lemmas.Bool.Decides.{nat_tests}
 use Rattle.guest_mem.specs.declared.access_log.ElementList.{ElementList}
 use Rattle.emu_model.specs.declared.access.Access.{Access}
@@ -22,17 +21,13 @@ use Rattle.sve_ffr.specs.declared.taking.Taken.{Taken}
 use Rattle.sve_ffr.specs.Rows.{first_fault_by}
 use Rattle.sve_ffr.specs.Taking.{AreFrom, AreTaken, lanes_of, rest_of, taken_lane}
 use Rattle.sve_ffr.proofs.Cleared.{lanes_agree}
-use Rattle.sve_ffr.proofs.Takes.{rest_more, element_of}
+use Rattle.sve_ffr.proofs.Takes.{rest_more}
 
 -- ---- the first element
 
 pub some_listed : (r n : ℕ) (ps : List (ℕ × ℕ)) → nat_lt 0 (length ps) ≡ tests_sp true (listed_at r n ps)
 some_listed r n [] = refl
 some_listed r n (p ∷ ps) = let some : 0 < suc (length ps) = omega arith in grind (arith, nat_tests)
-
-pub none_first : (es : List Element) (m : Memory) → tests_sp true es ≡ false → first_refused m es ≡ None
-none_first [] m h = refl
-none_first (e ∷ es) m h = let bad : true ≡ false = h in cc
 
 pub first_is : (r : ℕ) (list : ElementList) (m : Memory) → 0 < length list.lanes.items → first_refused m (listed r list) ≡ refused m (get_or list.lanes.items 0 (0, 0)).1 list.bytes Read
 first_is r list m h = ap (first_refused m) (rest_more r list 0 h)

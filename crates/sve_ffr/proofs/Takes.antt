@@ -1,15 +1,13 @@
 -- Steps of the loop over lanes that takes the elements of a list.
-use Rattle.std.proofs.Common.{◌≡◌, ◌≢◌, ◌≤◌, ◌<◌, ℕ, zero, suc, ◌+◌, Bool, true, false, List, [], ◌∷◌, ◌++◌, length, drop, get_or, Option, Some, None, is_some, nat_eq, if◌then◌else◌, refl, sym, ap, subst, ◌∙◌, add-one, append_assoc, length-append, arith}
+use Rattle.std.proofs.Common.{◌≡◌, ◌≤◌, ◌<◌, ℕ, ◌+◌, Bool, true, false, List, [], ◌∷◌, ◌++◌, length, get_or, Option, Some, None, is_some, nat_eq, if◌then◌else◌, refl, sym, ap, subst, ◌∙◌, add-one, append_assoc, length-append, arith}
 use Rattle.std.proofs.Math.Seq.{drop-cons}
-use Rattle.std.proofs.lemmas.Bool.{both_ways, eqb-true, eqb-false, eq-eqb}
-use Rattle.std.proofs.lemmas.Grind.{common_steps}
+use Rattle.std.proofs.lemmas.Bool.{eqb-true, eqb-false, eq-eqb}
 use Rattle.std.proofs.lemmas.Bool.Decides.{nat_tests}
 use Rattle.guest_mem.specs.declared.access_log.ElementList.{ElementList}
 use Rattle.emu_model.specs.declared.access.Access.{Access}
 use Rattle.emu_model.specs.declared.access.Kind.TheVariants.{Read}
 use Rattle.emu_model.specs.Access.{Memory, refused, value}
 use Rattle.emu_model.specs.Elements.{Element, accesses_of}
-use Rattle.emu_model.specs.Lists.{each}
 use Rattle.sve_effects.specs.FirstFault.{element_at, first_suppressed, is_refused, unsuppressed}
 use Rattle.sve_effects.specs.FirstLast.{or_else}
 use Rattle.sve_effects.specs.VectorLoadStore.{extended_to}

@@ -25,19 +25,6 @@ row_means (GatherSv msz imm5 u ff pg zn zt) es c v m h = refl
 row_means (GatherDv msz imm5 u ff pg zn zt) es c v m h = refl
 row_means form es c v m h = absurd (both_ways false refl h)
 
-pub row_bytes : (form : SveForm) (c : Core) (v : Vectors) → is_first_fault form ≡ true → (layout form c v).bytes ≡ (row_of form).bytes
-row_bytes (LoadFf dtype rm pg rn zt) c v h = refl
-row_bytes (LoadNf dtype imm4 pg rn zt) c v h = refl
-row_bytes (GatherSx msz xs zm u ff pg rn zt) c v h = refl
-row_bytes (GatherSxScaled msz xs zm u ff pg rn zt) c v h = refl
-row_bytes (GatherDx msz xs zm u ff pg rn zt) c v h = refl
-row_bytes (GatherDxScaled msz xs zm u ff pg rn zt) c v h = refl
-row_bytes (GatherD msz zm u ff pg rn zt) c v h = refl
-row_bytes (GatherDScaled msz zm u ff pg rn zt) c v h = refl
-row_bytes (GatherSv msz imm5 u ff pg zn zt) c v h = refl
-row_bytes (GatherDv msz imm5 u ff pg zn zt) c v h = refl
-row_bytes form c v h = absurd (both_ways false refl h)
-
 pub row_register : (form : SveForm) (c : Core) (v : Vectors) → is_first_fault form ≡ true → (layout form c v).register ≡ (row_of form).register
 row_register (LoadFf dtype rm pg rn zt) c v h = refl
 row_register (LoadNf dtype imm4 pg rn zt) c v h = refl

@@ -1,5 +1,5 @@
 -- What the rows of first-faulting and non-faulting loads say of their loads.
-use Rattle.std.specs.Prelude.{ℕ, ◌^◌, Bool, true, false, None, nat_eq, if◌then◌else◌, List}
+use Rattle.std.specs.Prelude.{◌^◌, Bool, true, false, None, nat_eq, if◌then◌else◌, List}
 use Rattle.sve_insn.specs.declared.form.SveForm.{SveForm}
 use Rattle.sve_insn.specs.declared.form.SveForm.TheVariants.{LoadFf, LoadNf, GatherSx, GatherSxScaled, GatherDx, GatherDxScaled, GatherD, GatherDScaled, GatherSv, GatherDv}
 use Rattle.emu_model.specs.Access.{Memory}

@@ -1,8 +1,5 @@
 use Rattle.std.proofs.Common.{◌≡◌, ◌/◌, ℕ, Bool, List, ap, sym, subst, ◌∙◌}
-use Rattle.emu_model.specs.Elements.{Element}
-use Rattle.sve_effects.specs.FirstFault.{first_fault_of}
-use Rattle.sve_effects.specs.VectorElements.{Layout, layout, elements_of}
-use Rattle.sve_effects.specs.VectorLoadStore.{loads_signed}
+use Rattle.sve_effects.specs.VectorElements.{Layout, layout}
 use Rattle.element_loops.specs.Listed.{listed}
 use Rattle.sve_ffr.specs.declared.row.Row.{Row}
 use Rattle.sve_ffr.specs.Rows.{row_of, first_fault_by}

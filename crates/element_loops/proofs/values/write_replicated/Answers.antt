@@ -1,4 +1,4 @@
-use Rattle.std.proofs.Common.{◌≡◌, ℕ, if◌then◌else◌, ◌∙◌, arith}
+use Rattle.std.proofs.Common.{ℕ, if◌then◌else◌, ◌∙◌, arith}
 use Rattle.emu_model.specs.Access.{value}
 use Rattle.sve_effects.specs.ElementLoop.{is_active}
 use Rattle.sve_effects.specs.VectorLoadStore.{extended_to}

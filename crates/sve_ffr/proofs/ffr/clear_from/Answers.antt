@@ -1,4 +1,4 @@
-use Rattle.std.proofs.Common.{◌≡◌, ◌*◌, ◌/◌, ◌&&◌, ℕ, Bool, false, get_or, nat_lt, ap, ◌∙◌, arith}
+use Rattle.std.proofs.Common.{◌*◌, ◌/◌, ◌&&◌, ℕ, Bool, false, get_or, nat_lt, ap, ◌∙◌, arith}
 use Rattle.element_loops.proofs.Writes.{push_each}
 use Rattle.sve_ffr.proofs.ffr.clear_from.Goals as goal
 

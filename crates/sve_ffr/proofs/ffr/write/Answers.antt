@@ -1,4 +1,4 @@
-use Rattle.std.proofs.Common.{◌≡◌, ◌<◌, ◌≤◌, ◌/◌, ℕ, List, get_or, if◌then◌else◌, sym, ap, subst, ◌∙◌, arith}
+use Rattle.std.proofs.Common.{◌≡◌, ◌<◌, ◌≤◌, ◌/◌, ℕ, List, get_or, if◌then◌else◌, ap, subst, ◌∙◌, arith}
 use Rattle.emu_model.specs.Lists.{each}
 use Rattle.vec_model.proofs.Each.{get_or-each}
 use Rattle.sve_effects.specs.FirstFault as model

@@ -1,4 +1,4 @@
-use Rattle.std.proofs.Common.{◌≡◌, ◌/◌, ℕ, subst, sym, ap, ◌∙◌}
+use Rattle.std.proofs.Common.{◌≡◌, ◌/◌, subst, sym, ap, ◌∙◌}
 use Rattle.sve_ffr.specs.Taking.{AreFrom, AreTaken, lanes_of}
 use Rattle.element_loops.specs.Listed.{listed}
 use Rattle.sve_ffr.proofs.Loaded.{loaded_is}

@@ -1,4 +1,4 @@
-use Rattle.std.proofs.Common.{◌<◌, ℕ, List, length, ap, sym, subst}
+use Rattle.std.proofs.Common.{◌<◌, ℕ, List, length, sym, subst}
 use Rattle.sve_ffr.proofs.load.test_first.Goals as goal
 
 pub bounds-deref-0 : goal.bounds-deref-0

@@ -1,4 +1,4 @@
-use Rattle.std.proofs.Common.{◌≡◌, ◌<◌, ◌+◌, ◌*◌, ◌++◌, ◌∷◌, [], ℕ, List, Some, None, false, get_or, length, refl, sym, ap, ◌∙◌, arith}
+use Rattle.std.proofs.Common.{◌≡◌, ◌<◌, ◌+◌, ◌++◌, ◌∷◌, [], ℕ, List, Some, None, false, get_or, length, refl, sym, ap, ◌∙◌, arith}
 use Rattle.emu_model.specs.declared.access.Kind.TheVariants.{Read}
 use Rattle.emu_model.specs.Access.{refused, value}
 use Rattle.sve_effects.specs.VectorLoadStore.{extended_to}
