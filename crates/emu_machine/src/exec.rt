@@ -144,5 +144,8 @@ fn elements_of(core: &Core, vec: &VecRegs, insn: &Sve) -> ElementList
 fn is_contiguous(insn: &Sve) -> bool
     ensures { result ≡ is_first_contiguous insn.now }
 {
-    matches!(*insn.form(), SveForm::LoadFf { .. } | SveForm::LoadNf { .. })
+    matches!(
+        *insn.form(),
+        SveForm::LoadFf { .. } | SveForm::LoadNf { .. }
+    )
 }
