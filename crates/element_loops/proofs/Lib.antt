@@ -2,5 +2,5 @@ pub mod Turns
 pub mod Loads
 pub mod Writes
 pub mod Stores
-pub mod Accesses
+pub mod Nonempty
 pub mod Lists

@@ -1,17 +1,16 @@
 -- Steps of the loop that lists elements.
-use Rattle.std.proofs.Common.{◌≡◌, ◌≤◌, ◌<◌, ℕ, ◌+◌, ◌%◌, Bool, true, false, List, [], ◌∷◌, ◌++◌, refl, sym, ap, ◌∙◌, arith}
+use Rattle.std.proofs.Common.{◌≡◌, ◌<◌, ℕ, ◌+◌, ◌%◌, true, List, [], ◌∷◌, ◌++◌, refl, sym, ap, ◌∙◌, arith}
 use Rattle.emu_model.specs.Elements.{Element}
-use Rattle.emu_model.specs.Lists.{each}
-use Rattle.sve_effects.specs.VectorElements.{Layout, elements_below, elements_of, register_at}
+use Rattle.sve_effects.specs.VectorElements.{Layout, elements_below}
 use Rattle.element_loops.specs.Listed.{listed_at}
 use Rattle.element_loops.specs.SoFar.{element_at, elements_within}
-use Rattle.element_loops.proofs.Turns.{within_none, within_more, within_all, skipped, below_none}
+use Rattle.element_loops.proofs.Turns.{within_none, within_more, within_all}
 
 pub listed_more : (r n : ℕ) (ps : List (ℕ × ℕ)) (p : ℕ × ℕ) → listed_at r n (ps ++ p ∷ []) ≡ listed_at r n ps ++ record { lane = p.0; register = r; address = p.1; bytes = n } ∷ []
 listed_more r n [] p = refl
 listed_more r n (q ∷ ps) p = ap (λ (es : List Element). record { lane = q.0; register = r; address = q.1; bytes = n } ∷ es) (listed_more r n ps p)
 
-one_element : (l : Layout) (k : ℕ) → l.registers ≡ 1 → l.is_on k ≡ true → elements_below l (k + 1) ≡ elements_below l k ++ element_at l k 0 ∷ []
+pub one_element : (l : Layout) (k : ℕ) → l.registers ≡ 1 → l.is_on k ≡ true → elements_below l (k + 1) ≡ elements_below l k ++ element_at l k 0 ∷ []
 one_element l k one on =
     sym (within_all l k on) ∙ ap (elements_within l k) one ∙ within_more l k 0 ∙ ap (λ (es : List Element). es ++ element_at l k 0 ∷ []) (within_none l k)
 

@@ -1,5 +1,5 @@
 -- Steps of the loop of a load.
-use Rattle.std.proofs.Common.{◌≡◌, ◌≤◌, ◌<◌, ℕ, ◌+◌, ◌*◌, ◌-◌, Bool, true, false, List, [], ◌∷◌, ◌++◌, length, Option, Some, None, if◌then◌else◌, refl, sym, ap, subst, ◌∙◌, arith}
+use Rattle.std.proofs.Common.{◌≡◌, ◌≤◌, ◌<◌, ℕ, ◌+◌, ◌*◌, Bool, true, false, List, [], ◌∷◌, ◌++◌, length, Some, None, if◌then◌else◌, sym, ap, subst, ◌∙◌, arith}
 use Rattle.emu_model.specs.declared.access.Access.{Access}
 use Rattle.emu_model.specs.declared.access.Kind.TheVariants.{Read}
 use Rattle.emu_model.specs.declared.trap.Trap.{Trap}
@@ -11,16 +11,12 @@ use Rattle.sve_effects.specs.VectorElements.{Layout, elements_below, elements_of
 use Rattle.sve_effects.specs.VectorLoadStore.{extended_to, loaded_lane}
 use Rattle.element_access.specs.ReachLaws.{AreLoaded, StopsLoad, no_loads, one_load, load_stops, load_stays, length_accesses}
 use Rattle.element_loops.specs.declared.plan.Plan.{Plan}
-use Rattle.element_loops.specs.Layouts.{layout_of}
 use Rattle.element_loops.specs.SoFar.{element_at, elements_within}
-use Rattle.element_loops.specs.Values.{values_of, in_turn}
-use Rattle.element_loops.proofs.Turns.{within_none, within_more, within_all, all_stays, skipped, below_none, within_count, turn_more}
+use Rattle.element_loops.specs.Values.{values_of}
+use Rattle.element_loops.proofs.Turns.{within_more, within_all, all_stays, skipped, below_none, within_count}
 
 pub loads_begin : (l : Layout) (m : Memory) (log : List Access) → log ≡ [] → AreLoaded m (elements_below l 0) log
 loads_begin l m log h = subst (λ (es : List Element). AreLoaded m es log) (sym (below_none l)) (no_loads m log h)
-
-pub lane_begins : (l : Layout) (m : Memory) (k : ℕ) (log : List Access) → AreLoaded m (elements_below l k) log → AreLoaded m (elements_within l k 0) log
-lane_begins l m k log h = subst (λ (es : List Element). AreLoaded m es log) (sym (within_none l k)) h
 
 pub lane_goes_on : (l : Layout) (m : Memory) (k j : ℕ) (log after : List Access) → AreLoaded m (elements_within l k j) log → refused m (l.address k j) l.bytes Read ≡ None
     → after ≡ log ++ record { address = l.address k j; bytes = l.bytes; write = false } ∷ [] → AreLoaded m (elements_within l k (j + 1)) after
@@ -35,9 +31,9 @@ pub lane_stops : (l : Layout) (m : Memory) (k j : ℕ) (log after : List Access)
     → trap.kind ≡ ReadTrap → refused m (l.address k j) l.bytes Read ≡ Some trap.address → after ≡ log → StopsLoad m (elements_of l) after trap
 lane_stops l m k j log after trap on in_lanes in_registers h is denied kept =
     let here : StopsLoad m (elements_within l k (j + 1)) log trap
-        = subst (λ (es : List Element). StopsLoad m es log trap) (sym (within_more l k j)) (load_stops m (elements_within l k j) (element_at l k j) log trap h is denied) in
+    = subst (λ (es : List Element). StopsLoad m es log trap) (sym (within_more l k j)) (load_stops m (elements_within l k j) (element_at l k j) log trap h is denied) in
     let all : StopsLoad m (elements_of l) log trap
-        = all_stays (λ (es : List Element). StopsLoad m es log trap) (λ es more. load_stays m es more log trap) l k (j + 1) on in_lanes (omega arith) here in
+    = all_stays (λ (es : List Element). StopsLoad m es log trap) (λ es more. load_stays m es more log trap) l k (j + 1) on in_lanes (omega arith) here in
     subst (λ (log : List Access). StopsLoad m (elements_of l) log trap) (sym kept) all
 
 pub lane_skipped : (l : Layout) (m : Memory) (k : ℕ) (log : List Access) → l.is_on k ≡ false → AreLoaded m (elements_below l k) log → AreLoaded m (elements_below l (k + 1)) log

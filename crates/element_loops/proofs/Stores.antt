@@ -1,7 +1,6 @@
 -- Steps of the loop of a store.
-use Rattle.std.proofs.Common.{◌≡◌, ◌≤◌, ◌<◌, ℕ, zero, suc, ◌+◌, ◌*◌, ◌-◌, ◌%◌, ◌^◌, Bool, true, false, List, [], ◌∷◌, ◌++◌, length, Some, None, refl, sym, ap, subst, ◌∙◌, add-one, arith}
+use Rattle.std.proofs.Common.{◌≡◌, ◌≤◌, ◌<◌, ℕ, suc, ◌+◌, ◌*◌, ◌%◌, ◌^◌, true, false, List, [], ◌∷◌, ◌++◌, length, Some, None, refl, sym, ap, subst, ◌∙◌, add-one, arith}
 use Rattle.std.proofs.Math.Nat.{pow-suc}
-use Rattle.emu_bits.specs.Fields.{bit}
 use Rattle.emu_bits.specs.Operations.{number_of_bits}
 use Rattle.emu_model.specs.declared.access.Access.{Access}
 use Rattle.emu_model.specs.declared.access.Kind.TheVariants.{Write}
@@ -36,7 +35,7 @@ module _ (f : Element → ℕ) (l : Layout) (m : Memory) where
       → trap.kind ≡ WriteTrap → refused now (l.address k j) l.bytes Write ≡ Some trap.address → next ≡ now → after ≡ log → StopsStore f m (elements_of l) next after trap
   lane_stops k j now next log after trap on in_lanes in_registers h is denied same kept =
       let here : StopsStore f m (elements_within l k (j + 1)) next after trap
-          = subst (λ (es : List Element). StopsStore f m es next after trap) (sym (within_more l k j)) (store_stops f m (elements_within l k j) (element_at l k j) now next log after trap h is denied same kept) in
+      = subst (λ (es : List Element). StopsStore f m es next after trap) (sym (within_more l k j)) (store_stops f m (elements_within l k j) (element_at l k j) now next log after trap h is denied same kept) in
       all_stays (λ (es : List Element). StopsStore f m es next after trap) (λ es more. store_stays f m es more next after trap) l k (j + 1) on in_lanes (omega arith) here
 
   pub lane_skipped : (k : ℕ) (now : Memory) (log : List Access) → l.is_on k ≡ false → AreStored f m (elements_below l k) now log → AreStored f m (elements_below l (k + 1)) now log

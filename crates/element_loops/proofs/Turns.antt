@@ -74,7 +74,7 @@ pub below_count : (k : ℕ) (l : Layout) → length (elements_below l k) ≤ k *
 below_count zero l = let e : length (elements_below l 0) ≡ 0 = ap length (below_none l) in omega arith
 below_count (suc k) l =
     let e : length (elements_below l (k + 1)) ≡ length (elements_below l k) + length (if l.is_on k then each l.registers (element_at l k) else [])
-        = ap length (one_lane l k) ∙ length-append (elements_below l k) (if l.is_on k then each l.registers (element_at l k) else []) in
+    = ap length (one_lane l k) ∙ length-append (elements_below l k) (if l.is_on k then each l.registers (element_at l k) else []) in
     let a : length (elements_below l k) ≤ k * l.registers = below_count k l in
     let b : length (if l.is_on k then each l.registers (element_at l k) else []) ≤ l.registers = lane_count l k (l.is_on k) in
     let n : k * l.registers + l.registers ≡ (k + 1) * l.registers = next_product k l.registers in
@@ -94,7 +94,7 @@ pub turn_more : (r : ℕ) (f : ℕ → ℕ → ℕ) (k j x : ℕ) (values : List
 turn_more r f k j x values h is so_far =
     let n : (k * r + j) + 1 ≡ k * r + (j + 1) = omega arith in
     let here : f ((k * r + j) % r) ((k * r + j) / r) ≡ x
-        = ap (λ i. f i ((k * r + j) / r)) (mod-mul-add k r j h) ∙ ap (f j) (div-mul-add k r j h) ∙ sym is in
+    = ap (λ i. f i ((k * r + j) / r)) (mod-mul-add k r j h) ∙ ap (f j) (div-mul-add k r j h) ∙ sym is in
     ap (λ (xs : List ℕ). xs ++ x ∷ []) so_far
     ∙ ap (λ x. in_turn r f (k * r + j) ++ x ∷ []) (sym here)
     ∙ sym (each-more (k * r + j) (λ i. f (i % r) (i / r)))

@@ -1,21 +1,18 @@
 -- What a load writes of the values that it has taken.
-use Rattle.std.proofs.Common.{◌≡◌, ◌≤◌, ◌<◌, ℕ, zero, suc, ◌+◌, ◌*◌, ◌-◌, ◌/◌, ◌%◌, ◌^◌, Bool, true, false, List, [], ◌∷◌, ◌++◌, length, get_or, Option, Some, None, if◌then◌else◌, nat_eq, inl, inr, refl, sym, ap, subst, ◌∙◌, arith}
-use Rattle.std.specs.Prelude.{MatchOption}
+use Rattle.std.proofs.Common.{◌≡◌, ◌<◌, ℕ, ◌+◌, ◌*◌, ◌/◌, Bool, true, false, List, [], ◌∷◌, ◌++◌, get_or, Option, Some, None, if◌then◌else◌, inl, inr, refl, sym, ap, subst, ◌∙◌, arith}
 use Rattle.std.proofs.lemmas.Bool.{both_ways}
 use Rattle.emu_model.specs.Access.{Memory, value}
 use Rattle.emu_model.specs.Lists.{each, each-more}
 use Rattle.emu_model.specs.State.{Vectors}
-use Rattle.vec_model.proofs.Each.{each_same}
-use Rattle.vec_model.specs.Lanes.{IsLaneSize, field_bit}
-use Rattle.sve_effects.proofs.Found.{first_found}
+use Rattle.vec_model.specs.Lanes.{IsLaneSize}
+use Rattle.sve_effects.proofs.Found.{first_found, first_is}
 use Rattle.sve_effects.specs.FirstLast.{first_where, IsFirst, IsFirstWhere, MeetsNowhere}
-use Rattle.sve_effects.specs.VectorElements.{Layout}
 use Rattle.sve_effects.specs.VectorLoadStore.{extended_to, loaded_lane}
 use Rattle.element_loops.specs.declared.plan.Plan.{Plan}
 use Rattle.element_loops.specs.declared.plan.Places.{Places}
 use Rattle.element_loops.specs.declared.plan.Places.TheVariants.{Consecutive, Bytes, Single, Words, Offsets, Vector}
 use Rattle.element_loops.specs.Layouts.{address_of, layout_of, is_single}
-use Rattle.element_loops.specs.Values.{values_of, in_turn}
+use Rattle.element_loops.specs.Values.{values_of}
 use Rattle.element_loops.proofs.Turns.{turn_at}
 
 -- one more value
@@ -53,6 +50,13 @@ found_nowhere n test k e h on =
     let f : IsFirstWhere n test None = subst (λ (o : Option ℕ). IsFirstWhere n test o) e (first_found n test) in
     let g : MeetsNowhere n test = f in both_ways (test k) (g k h) on
 
+pub found_here : (n k : ℕ) (test : ℕ → Bool) → k < n → first_where k test ≡ None → test k ≡ true → first_where n test ≡ Some k
+found_here n k test within none meets =
+    let f : IsFirstWhere k test None = subst (λ (o : Option ℕ). IsFirstWhere k test o) none (first_found k test) in
+    let before : MeetsNowhere k test = f in
+    let found : IsFirst n test k = record { within = within; meets = meets; before = before } in
+    first_is n test (Some k) found
+
 same_place : (places : Places) (e n r : ℕ) (v : Vectors) (k i : ℕ) → is_single places ≡ true → address_of places e n r v k 0 ≡ address_of places e n r v i 0
 same_place (Single a) e n r v k i h = refl
 same_place (Consecutive base) e n r v k i h = absurd (both_ways false refl h)
@@ -70,13 +74,3 @@ single_loaded p v m found k single on =
 pub same_where : (t : Bool) (a b : ℕ) → (t ≡ true → a ≡ b) → (if t then a else 0) ≡ (if t then b else 0)
 same_where true a b h = h refl
 same_where false a b h = refl
-
--- ---- bits
-
-one_bit : (f : ℕ → Bool) (j : ℕ) → field_bit 1 f j ≡ f j
-one_bit f j =
-    let r : j % 1 ≡ 0 = omega arith in let q : j / 1 ≡ j = omega arith in
-    ap (λ r. if nat_eq r 0 then f (j / 1) else false) r ∙ ap f q
-
-pub bits_are_fields : (n : ℕ) (f : ℕ → Bool) → each n (field_bit 1 f) ≡ each n f
-bits_are_fields n f = each_same n (field_bit 1 f) f false (λ j h. one_bit f j)

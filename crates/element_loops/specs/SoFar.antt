@@ -1,5 +1,5 @@
 -- The elements of the lanes and registers so far.
-use Rattle.std.specs.Prelude.{◌≡◌, ◌≤◌, ◌<◌, ℕ, zero, suc, ◌+◌, ◌*◌, ◌-◌, ◌/◌, ◌%◌, Bool, true, false, List, [], ◌∷◌, ◌++◌, length, if◌then◌else◌}
+use Rattle.std.specs.Prelude.{ℕ, List, ◌++◌}
 use Rattle.emu_model.specs.Elements.{Element}
 use Rattle.emu_model.specs.Lists.{each}
 use Rattle.sve_effects.specs.VectorElements.{Layout, register_at, elements_below}

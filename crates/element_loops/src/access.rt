@@ -73,13 +73,7 @@ pub fn load(
 
 /// Stores all elements in order, and says how the step goes on. The elements that were stored are logged in order. A trap has
 /// stored and logged the elements before the one that was refused.
-pub fn store(
-    plan: &Plan,
-    core: &Core,
-    vec: &VecRegs,
-    mem: &mut Mem,
-    log: &mut AccessLog,
-) -> Effect
+pub fn store(plan: &Plan, core: &Core, vec: &VecRegs, mem: &mut Mem, log: &mut AccessLog) -> Effect
     requires plan { IsPlan plan.now vec.now }
     requires empty { log.old.items ≡ [] }
     ensures { store_by plan.now core.now vec.now mem.old

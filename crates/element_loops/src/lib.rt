@@ -5,10 +5,10 @@
 mod access;
 mod listing;
 mod loading;
-mod storing;
 mod place;
 mod plan;
 pub mod sizes;
+mod storing;
 mod values;
 
 pub use access::{load, store};

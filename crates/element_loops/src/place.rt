@@ -68,8 +68,7 @@ pub(crate) fn address(plan: &Plan, vec: &VecRegs, k: u32, j: u32) -> u64
             scale,
         } => scaled(base, word(is_signed, vec.lane(zm, plan.bits, k)), scale),
         Places::Offsets { base, zm, scale } => scaled(base, vec.lane(zm, plan.bits, k), scale),
-        Places::Vector { zn, offset } =>
-            vec.lane(zn, plan.bits, k).wrapping_add(u64::from(offset)),
+        Places::Vector { zn, offset } => vec.lane(zn, plan.bits, k).wrapping_add(u64::from(offset)),
     }
 }
 

@@ -1,7 +1,8 @@
 //! Sizes of lanes and elements, and addresses, from the fields of a row.
-ghost use Rattle.std.specs.Prelude.{◌≡◌, ◌≤◌, ◌+◌, ◌*◌, ◌%◌, ◌^◌, nat_eq};
+ghost use Rattle.std.specs.Prelude.{◌≡◌, ◌≤◌, ◌<◌, ◌+◌, ◌*◌, ◌%◌, ◌^◌, nat_eq};
 ghost use Rattle.vec_model.specs.Lanes.{IsLaneSize};
 ghost use Rattle.sve_effects.specs.ElementLoop as model;
+ghost use Rattle.sve_effects.specs.VectorElements as table;
 
 use emu_bits::{Pred, PredLow, Reg, U};
 
@@ -29,6 +30,46 @@ pub fn element_bytes(msz: U<2>) -> u32
         1 => 2,
         2 => 4,
         _ => 8,
+    }
+}
+
+/// The bits of the lanes of a dtype.
+pub fn dtype_bits(dtype: u32) -> u32
+    requires { dtype < 16 }
+    ensures value { result ≡ table.dtype_bits dtype }
+    ensures size { IsLaneSize result }
+{
+    match dtype {
+        0 => 8,
+        1 | 5 | 14 => 16,
+        2 | 6 | 9 | 10 | 13 => 32,
+        _ => 64,
+    }
+}
+
+/// The bytes of the elements of a dtype.
+pub fn dtype_bytes(dtype: u32) -> u32
+    requires { dtype < 16 }
+    ensures value { result ≡ table.dtype_bytes dtype }
+    ensures some { 1 ≤ result }
+    ensures most { result ≤ 8 }
+{
+    match dtype {
+        5 | 6 | 7 | 8 | 9 => 2,
+        4 | 10 | 11 => 4,
+        15 => 8,
+        _ => 1,
+    }
+}
+
+/// Whether a dtype extends the sign.
+pub fn dtype_signed(dtype: u32) -> bool
+    requires { dtype < 16 }
+    ensures { result ≡ table.dtype_signed dtype }
+{
+    match dtype {
+        4 | 8 | 9 | 12 | 13 | 14 => true,
+        _ => false,
     }
 }
 

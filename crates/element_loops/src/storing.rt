@@ -73,7 +73,7 @@ fn store_lane(
     ensures { (m : Memory) → let l = layout_of plan.now vec.now in
         AreStored (stored_by plan.now.target l vec.now) m (elements_below l k) mem.old log.old.items
         → MatchResult result (λ x. AreStored (stored_by plan.now.target l vec.now) m (elements_below l (k + 1)) mem.new log.new.items)
-            (λ trap. StopsStore (stored_by plan.now.target l vec.now) m (elements_of l) mem.new log.new.items trap) }
+        (λ trap. StopsStore (stored_by plan.now.target l vec.now) m (elements_of l) mem.new log.new.items trap) }
 {
     for j in 0..plan.registers {
         let _room = position(plan, vec, k, j);
@@ -102,7 +102,7 @@ fn put_lane(
     ensures { (m : Memory) → let l = layout_of plan.now vec.now in
         AreStored (stored_by plan.now.target l vec.now) m (elements_below l k) mem.old log.old.items
         → MatchResult result (λ x. AreStored (stored_by plan.now.target l vec.now) m (elements_below l (k + 1)) mem.new log.new.items)
-            (λ trap. StopsStore (stored_by plan.now.target l vec.now) m (elements_of l) mem.new log.new.items trap) }
+        (λ trap. StopsStore (stored_by plan.now.target l vec.now) m (elements_of l) mem.new log.new.items trap) }
 {
     if is_on(plan, vec, k) {
         return store_lane(plan, vec, mem, log, k);

@@ -1,5 +1,5 @@
 -- The first-faulting and non-faulting loads that aren't contiguous are gathers.
-use Rattle.std.specs.Prelude.{◌≡◌, Bool, true, false}
+use Rattle.std.specs.Prelude.{◌≡◌, true, false}
 use Rattle.std.proofs.Common.{refl}
 use Rattle.std.proofs.lemmas.Bool.{both_ways}
 use Rattle.sve_insn.specs.declared.form.SveForm.{SveForm}

@@ -4,7 +4,8 @@ ghost use Rattle.a64_effects.specs.Effects as a64;
 ghost use Rattle.emu_run.specs.Step.{performed};
 ghost use Rattle.sve_effects.specs.Effects as sve;
 ghost use Rattle.sve_effects.specs.VectorElements.{layout, vector_elements};
-ghost use Rattle.sve_effects.specs.VectorLoadStore.{is_first_fault, loads_signed};
+ghost use Rattle.sve_effects.specs.FirstFault.{first_fault};
+ghost use Rattle.sve_effects.specs.VectorLoadStore.{contiguous, gather_scatter, is_contiguous, is_first_fault, is_gather_scatter, loads_signed};
 ghost use Rattle.sve_loads.specs.Plans.{is_first_contiguous};
 ghost use Rattle.element_loops.specs.Listed.{listed};
 
@@ -70,13 +71,58 @@ fn perform_sve(
     } else if sve_pred::is_own(insn) {
         sve_pred::exec(core, vec, insn)
     } else if sve_loads::is_own(insn) {
-        sve_loads::exec(core, vec, memory, log, insn)
+        load_or_store(core, vec, memory, log, insn)
     } else if sve_gather::is_own(insn) {
-        sve_gather::exec(core, vec, memory, log, insn)
+        gather_or_scatter(core, vec, memory, log, insn)
     } else {
-        let list = elements_of(core, vec, insn);
-        sve_ffr::exec(core, vec, memory, log, insn, &list)
+        load_first_fault(core, vec, memory, log, insn)
     }
+}
+
+/// Does a load or store of consecutive elements.
+fn load_or_store(
+    core: &mut Core,
+    vec: &mut VecRegs,
+    memory: &mut Mem,
+    log: &mut AccessLog,
+    insn: &Sve,
+) -> Effect
+    requires own { is_contiguous insn.now ≡ true }
+    requires empty { log.old.items ≡ [] }
+    ensures { contiguous insn.now core.old vec.old memory.old ≡ record { core = core.new; vectors = vec.new; memory = memory.new; accesses = log.new.items; effect = result } }
+{
+    sve_loads::exec(core, vec, memory, log, insn)
+}
+
+/// Does a gather or a scatter.
+fn gather_or_scatter(
+    core: &mut Core,
+    vec: &mut VecRegs,
+    memory: &mut Mem,
+    log: &mut AccessLog,
+    insn: &Sve,
+) -> Effect
+    requires own { is_gather_scatter insn.now ≡ true }
+    requires empty { log.old.items ≡ [] }
+    ensures { gather_scatter insn.now core.old vec.old memory.old ≡ record { core = core.new; vectors = vec.new; memory = memory.new; accesses = log.new.items; effect = result } }
+{
+    sve_gather::exec(core, vec, memory, log, insn)
+}
+
+/// Does a first-faulting or non-faulting load.
+fn load_first_fault(
+    core: &mut Core,
+    vec: &mut VecRegs,
+    memory: &mut Mem,
+    log: &mut AccessLog,
+    insn: &Sve,
+) -> Effect
+    requires own { is_first_fault insn.now ≡ true }
+    requires empty { log.old.items ≡ [] }
+    ensures { first_fault insn.now core.old vec.old memory.old ≡ record { core = core.new; vectors = vec.new; memory = memory.new; accesses = log.new.items; effect = result } }
+{
+    let list = elements_of(core, vec, insn);
+    sve_ffr::exec(core, vec, memory, log, insn, &list)
 }
 
 /// The elements of a first-faulting or non-faulting load, contiguous or gathered.
@@ -98,5 +144,8 @@ fn elements_of(core: &Core, vec: &VecRegs, insn: &Sve) -> ElementList
 fn is_contiguous(insn: &Sve) -> bool
     ensures { result ≡ is_first_contiguous insn.now }
 {
-    matches!(*insn.form(), SveForm::LoadFf { .. } | SveForm::LoadNf { .. })
+    matches!(
+        *insn.form(),
+        SveForm::LoadFf { .. } | SveForm::LoadNf { .. }
+    )
 }

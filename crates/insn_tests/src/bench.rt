@@ -87,8 +87,9 @@ impl Bench {
         }
         if sve_ffr::is_own(insn) {
             let list = match insn.form() {
-                SveForm::LoadFf { .. } | SveForm::LoadNf { .. } =>
-                    sve_loads::elements(core, vec, insn),
+                SveForm::LoadFf { .. } | SveForm::LoadNf { .. } => sve_loads::elements(
+                    core, vec, insn,
+                ),
                 _ => sve_gather::elements(core, vec, insn),
             };
             return Some(sve_ffr::exec(core, vec, memory, log, insn, &list));

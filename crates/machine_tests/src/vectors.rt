@@ -135,7 +135,11 @@ fn a_string_is_measured_up_to_the_end_of_a_page(rt: HostRuntime) -> Result<(), A
     for bits in [128, 384, 2048] {
         let (end, text) = registers_of(rt.alloc(), &LENGTH, bits, 1000)?;
         assert_eq!(rt; end, Some(RunEnd::Exit(40)), "at {bits}");
-        assert_eq!(rt; value_of(&text, "x2"), Some("0000000000000028"), "at {bits}");
+        assert_eq!(rt;
+            value_of(&text, "x2"),
+            Some("0000000000000028"),
+            "at {bits}"
+        );
     }
     Ok(())
 }

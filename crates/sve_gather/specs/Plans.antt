@@ -4,7 +4,7 @@ use Rattle.sve_insn.specs.declared.form.SveForm.{SveForm}
 use Rattle.sve_insn.specs.declared.form.SveForm.TheVariants.{GatherSx, GatherSxScaled, GatherDx, GatherDxScaled, GatherD, GatherDScaled, GatherSv, GatherDv, ScatterSx, ScatterSxScaled, ScatterDx, ScatterDxScaled, ScatterD, ScatterDScaled, ScatterSv, ScatterDv}
 use Rattle.emu_model.specs.State.{Core, Vectors, read_x_sp}
 use Rattle.element_loops.specs.declared.plan.Plan.{Plan}
-use Rattle.element_loops.specs.declared.plan.OnLanes.TheVariants.{All, Active}
+use Rattle.element_loops.specs.declared.plan.OnLanes.TheVariants.{Active}
 use Rattle.element_loops.specs.declared.plan.Places.{Places}
 use Rattle.element_loops.specs.declared.plan.Places.TheVariants.{Bytes, Words, Offsets, Vector}
 use Rattle.element_loops.specs.declared.plan.Target.TheVariants.{Registers}

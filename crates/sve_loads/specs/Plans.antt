@@ -1,5 +1,5 @@
 -- The plans of the rows that load or store consecutive elements.
-use Rattle.std.specs.Prelude.{◌≡◌, ◌≤◌, ℕ, ◌+◌, ◌*◌, ◌/◌, ◌^◌, Bool, true, false, nat_eq, Option, None, ℤ, pos}
+use Rattle.std.specs.Prelude.{◌≤◌, ℕ, ◌+◌, ◌*◌, ◌/◌, ◌^◌, Bool, true, false, nat_eq, pos}
 use Rattle.sve_insn.specs.declared.form.SveForm.{SveForm}
 use Rattle.sve_insn.specs.declared.form.SveForm.TheVariants.{LoadImm, LoadReg, LoadFf, LoadNf, LoadNtImm, LoadNtReg, LoadQuadImm, LoadQuadReg, LoadManyImm, LoadManyReg, LoadOne, LoadZ, LoadP, StoreImm, StoreReg, StoreNtImm, StoreNtReg, StoreManyImm, StoreManyReg, StoreZ, StoreP}
 use Rattle.emu_bits.specs.Numbers.{signed}

@@ -1,10 +1,8 @@
 //! Lanes and elements by the fields of a row.
 ghost use Rattle.std.specs.Prelude.{◌≡◌, ◌≤◌, ◌<◌};
-ghost use Rattle.vec_model.specs.Lanes.{IsLaneSize};
-ghost use Rattle.sve_effects.specs.VectorElements.{dtype_bits, dtype_bytes, dtype_signed};
 ghost use Rattle.sve_loads.specs.Plans.{IsShape, dtype_shape, size_shape};
 
-use element_loops::sizes::{element_bytes, lane_bits};
+use element_loops::sizes::{dtype_bits, dtype_bytes, dtype_signed, element_bytes, lane_bits};
 use emu_bits::U;
 
 /// The bits of lanes, the bytes of elements, for how many registers, and whether a load extends the sign.
@@ -16,46 +14,6 @@ pub struct Shape {
     pub is_signed: bool,
 }
 
-/// The bits of the lanes of a dtype.
-fn bits_of(dtype: u32) -> u32
-    requires { dtype < 16 }
-    ensures value { result ≡ dtype_bits dtype }
-    ensures size { IsLaneSize result }
-{
-    match dtype {
-        0 => 8,
-        1 | 5 | 14 => 16,
-        2 | 6 | 9 | 10 | 13 => 32,
-        _ => 64,
-    }
-}
-
-/// The bytes of the elements of a dtype.
-fn bytes_of(dtype: u32) -> u32
-    requires { dtype < 16 }
-    ensures value { result ≡ dtype_bytes dtype }
-    ensures some { 1 ≤ result }
-    ensures most { result ≤ 8 }
-{
-    match dtype {
-        5 | 6 | 7 | 8 | 9 => 2,
-        4 | 10 | 11 => 4,
-        15 => 8,
-        _ => 1,
-    }
-}
-
-/// Whether a dtype extends the sign.
-fn is_signed(dtype: u32) -> bool
-    requires { dtype < 16 }
-    ensures { result ≡ dtype_signed dtype }
-{
-    match dtype {
-        4 | 8 | 9 | 12 | 13 | 14 => true,
-        _ => false,
-    }
-}
-
 /// The lanes and elements of a dtype, of one register.
 pub(crate) fn by_dtype(dtype: u32) -> Shape
     requires { dtype < 16 }
@@ -63,10 +21,10 @@ pub(crate) fn by_dtype(dtype: u32) -> Shape
     ensures shape { IsShape result }
 {
     Shape {
-        bits: bits_of(dtype),
-        bytes: bytes_of(dtype),
+        bits: dtype_bits(dtype),
+        bytes: dtype_bytes(dtype),
         registers: 1,
-        is_signed: is_signed(dtype),
+        is_signed: dtype_signed(dtype),
     }
 }
 

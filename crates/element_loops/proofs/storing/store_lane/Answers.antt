@@ -1,4 +1,4 @@
-use Rattle.std.proofs.Common.{◌≡◌, ◌≤◌, ◌+◌, ◌*◌, ◌++◌, ◌∷◌, [], ℕ, None, Some, true, length, refl, ap, sym, ◌∙◌, arith}
+use Rattle.std.proofs.Common.{◌≡◌, ◌+◌, ◌++◌, ◌∷◌, [], ℕ, None, Some, true, length, ap, ◌∙◌, arith}
 use Rattle.emu_model.specs.declared.access.Kind.TheVariants.{Write}
 use Rattle.emu_model.specs.Access.{refused, stored}
 use Rattle.emu_model.specs.Elements.{Element}

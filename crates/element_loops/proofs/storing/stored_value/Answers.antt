@@ -1,9 +1,8 @@
-use Rattle.std.proofs.Common.{◌≡◌, ◌+◌, ◌*◌, ◌%◌, ◌<◌, ℕ, Bool, false, get_or, ap, sym, subst, ◌∙◌, arith}
+use Rattle.std.proofs.Common.{◌≡◌, ◌+◌, ◌*◌, ◌%◌, ◌<◌, ℕ, false, get_or, ap, sym, subst, ◌∙◌}
 use Rattle.emu_bits.specs.Fields.{bit}
 use Rattle.emu_bits.specs.Operations.{number_of_bits}
 use Rattle.vec_model.specs.Lanes.{read_p}
 use Rattle.element_loops.specs.declared.plan.Target.{Target}
-use Rattle.element_loops.specs.declared.plan.Target.TheVariants.{Predicate}
 use Rattle.element_loops.specs.Layouts.{IsPredicate, IsTarget, layout_of}
 use Rattle.element_loops.specs.Planned.{stored_by}
 use Rattle.element_loops.specs.SoFar.{element_at}

@@ -1,4 +1,4 @@
-use Rattle.std.proofs.Common.{◌≡◌, ℕ, if◌then◌else◌, ◌∙◌, arith}
+use Rattle.std.proofs.Common.{ℕ, if◌then◌else◌, ◌∙◌, arith}
 use Rattle.emu_model.specs.Access.{value}
 use Rattle.sve_effects.specs.ElementLoop.{is_active}
 use Rattle.sve_effects.specs.VectorLoadStore.{extended_to}
@@ -14,5 +14,5 @@ loop-k-preserved c = record {
       push_each c.loop-k.k (λ k. if is_active c.args.plan.now.bits c.args.vec.now c.args.pg k then x k else 0) c.where_active.result c.loop-k.out.items c.push.new.self.items c.push.ensures.items
       (c.loop-k.invariant.values m given)
       (c.where_active.ensures ∙ same_where (is_active c.args.plan.now.bits c.args.vec.now c.args.pg c.loop-k.k) c.single_value-value.result (x c.loop-k.k)
-          (λ active. c.single_value-value.ensures m c.loop-k.k given c.loop-k-test.true active));
+      (λ active. c.single_value-value.ensures m c.loop-k.k given c.loop-k-test.true active));
 }

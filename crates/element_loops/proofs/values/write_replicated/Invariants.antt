@@ -2,7 +2,6 @@ use Rattle.std.proofs.Common.{◌≡◌, ◌*◌, length, if◌then◌else◌}
 use Rattle.emu_model.specs.Access.{Memory, value}
 use Rattle.emu_model.specs.Lists.{each}
 use Rattle.sve_effects.specs.ElementLoop.{is_active}
-use Rattle.sve_effects.specs.VectorElements.{Layout}
 use Rattle.sve_effects.specs.VectorLoadStore.{extended_to}
 use Rattle.element_loops.specs.Layouts.{layout_of}
 use Rattle.element_loops.specs.Values.{values_of}

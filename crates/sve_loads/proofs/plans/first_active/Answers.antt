@@ -1,6 +1,6 @@
-use Rattle.std.proofs.Common.{◌<◌, ◌/◌, sym, ap, subst, ◌∙◌, arith}
+use Rattle.std.proofs.Common.{◌<◌, ◌/◌, sym, subst, ◌∙◌}
 use Rattle.sve_effects.specs.ElementLoop.{is_active}
-use Rattle.sve_loads.proofs.FirstFound.{found_here}
+use Rattle.element_loops.proofs.Writes.{found_here}
 use Rattle.sve_loads.proofs.plans.first_active.Goals as goal
 
 pub returns-then-is_active : goal.returns-then-is_active

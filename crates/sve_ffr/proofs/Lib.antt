@@ -1,0 +1,3 @@
+pub mod Takes
+pub mod Cleared
+pub mod Loaded

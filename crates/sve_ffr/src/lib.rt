@@ -1,0 +1,61 @@
+//! SVE first-faulting and non-faulting loads.
+#![tactic(auto)]
+
+mod ffr;
+mod load;
+mod row;
+mod taking;
+
+ghost use Rattle.std.specs.Prelude.{◌≡◌, [], true};
+ghost use Rattle.sve_effects.specs.FirstFault.{first_fault_of};
+ghost use Rattle.sve_effects.specs.VectorElements.{layout, vector_elements};
+ghost use Rattle.sve_effects.specs.VectorLoadStore.{is_first_fault, loads_signed};
+ghost use Rattle.element_loops.specs.Listed.{listed};
+ghost use Rattle.sve_ffr.specs.Taking.{lanes_of};
+
+use core_regs::{Core, Effect};
+use guest_mem::{AccessLog, ElementList, Mem};
+use sve_insn::{Sve, SveForm};
+use vec_regs::VecRegs;
+
+/// Whether an instruction is in a row of this crate: a first-faulting or non-faulting load, a gather among them.
+pub fn is_own(i: &Sve) -> bool
+    ensures { result ≡ is_first_fault i.now }
+{
+    match *i.form() {
+        SveForm::LoadFf { .. } | SveForm::LoadNf { .. } => true,
+        SveForm::GatherSx { ff, .. }
+        | SveForm::GatherSxScaled { ff, .. }
+        | SveForm::GatherDx { ff, .. }
+        | SveForm::GatherDxScaled { ff, .. }
+        | SveForm::GatherD { ff, .. }
+        | SveForm::GatherDScaled { ff, .. }
+        | SveForm::GatherSv { ff, .. }
+        | SveForm::GatherDv { ff, .. } => ff,
+        _ => false,
+    }
+}
+
+/// Does a first-faulting or non-faulting load of the elements of a list, and says how the step goes on. The lanes of the list
+/// have to be the active lanes of the row in order, and its bytes and its sign have to be the row's. The elements that were loaded
+/// are logged in order. A trap changes no register, and comes where SP is the base and isn't aligned, or at the element of the
+/// first active lane, but in a non-faulting load.
+pub fn exec(
+    core: &mut Core,
+    vec: &mut VecRegs,
+    mem: &mut Mem,
+    log: &mut AccessLog,
+    i: &Sve,
+    list: &ElementList,
+) -> Effect
+    requires own { is_first_fault i.now ≡ true }
+    requires lanes { let l = layout i.now core.old vec.old in lanes_of (listed l.register list.now) ≡ lanes_of (vector_elements i.now core.old vec.old) }
+    requires bytes { let l = layout i.now core.old vec.old in list.now.bytes ≡ l.bytes }
+    requires is_signed { list.now.signed ≡ loads_signed i.now }
+    requires empty { log.old.items ≡ [] }
+    ensures { let l = layout i.now core.old vec.old in first_fault_of i.now (listed l.register list.now) core.old vec.old mem.old
+        ≡ record { core = core.new; vectors = vec.new; memory = mem.new; accesses = log.new.items; effect = result } }
+{
+    let row = row::row_of(i);
+    load::first_fault(core, vec, mem, log, &row, list)
+}

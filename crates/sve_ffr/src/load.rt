@@ -1,0 +1,108 @@
+//! The load of the elements of a list.
+ghost use Rattle.std.specs.Prelude.{◌≡◌, ◌≤◌, ◌<◌, ◌/◌, ℕ, [], Bool, Option, None, Some, MatchResult, true, false, if◌then◌else◌};
+ghost use Rattle.arrayvec.specs.ArrayVec.{array_vec_len};
+ghost use Rattle.emu_model.specs.declared.trap.Effect.{Effect};
+ghost use Rattle.emu_model.specs.declared.trap.TrapKind.{TrapKind};
+ghost use Rattle.emu_model.specs.State.{Core as CoreState};
+ghost use Rattle.vec_model.specs.Lanes.{IsLaneSize};
+ghost use Rattle.sve_effects.specs.FirstFault.{first_fault_loaded, first_refused};
+ghost use Rattle.sve_effects.specs.VectorLoadStore.{is_misaligned, tests_sp};
+ghost use Rattle.element_loops.specs.Listed.{listed};
+ghost use Rattle.sve_ffr.specs.Rows.{first_fault_by};
+ghost use Rattle.sve_ffr.specs.Taking.{AreFrom, lanes_of};
+
+use crate::ffr::{clear, first_cleared, write};
+use crate::row::Row;
+use crate::taking::take;
+use core_regs::{Core, Effect, Trap, TrapKind};
+use emu_bits::Reg;
+use guest_mem::{AccessLog, ElementList, Kind, Mem};
+use vec_regs::VecRegs;
+
+/// Whether a list has an element.
+fn has_element(list: &ElementList) -> bool
+    // of whatever register the elements are
+    ensures value { (r : ℕ) → result ≡ tests_sp true (listed r list.now) }
+    ensures within { result ≡ true → 0 < array_vec_len list.now.lanes }
+{
+    list.lanes.len() > 0
+}
+
+/// Tests that SP is a multiple of 16 where it is the base and there is an element.
+fn test_sp(core: &Core, row: &Row, list: &ElementList) -> Result<(), Trap>
+    ensures { let misaligned : Bool = is_misaligned row.now.has_sp_base (listed row.now.register list.now) core.now in
+        MatchResult result (λ x. misaligned ≡ false) (λ trap. (misaligned ≡ true) × (trap ≡ record { kind = TrapKind.SpAlign; address = core.now.sp })) }
+{
+    let sp = core.x_sp(Reg::at(31, 0));
+    if row.has_sp_base && sp % 16 != 0 && has_element(list) {
+        return Err(Trap {
+            kind: TrapKind::SpAlign,
+            address: sp,
+        });
+    }
+    Ok(())
+}
+
+/// Tests the element of the first active lane, unless no element traps.
+fn test_first(mem: &mut Mem, row: &Row, list: &ElementList) -> Result<(), Trap>
+    requires some { 1 ≤ list.now.bytes }
+    requires most { list.now.bytes ≤ 8 }
+    ensures result { let denied : Option ℕ = if row.now.is_non_fault then None else first_refused mem.old (listed row.now.register list.now) in
+        MatchResult result (λ x. denied ≡ None) (λ trap. (denied ≡ Some trap.address) × (trap.kind ≡ TrapKind.Read)) }
+    ensures memory { mem.new ≡ mem.old }
+{
+    if row.is_non_fault || !has_element(list) {
+        return Ok(());
+    }
+    match mem.load(list.lanes[0].1, list.bytes, Kind::Read) {
+        Ok(_) => Ok(()),
+        Err(denied) => Err(Trap {
+            kind: TrapKind::Read,
+            address: denied.address,
+        }),
+    }
+}
+
+/// Loads the elements of a list that aren't refused, and writes FFR and the register.
+fn load(vec: &mut VecRegs, mem: &mut Mem, log: &mut AccessLog, row: &Row, list: &ElementList)
+    requires size { IsLaneSize row.now.bits }
+    requires some { 1 ≤ list.now.bytes }
+    requires most { list.now.bytes ≤ 8 }
+    requires lanes { AreFrom 0 (vec.old.bits / row.now.bits) (lanes_of (listed row.now.register list.now)) }
+    requires empty { log.old.items ≡ [] }
+    ensures { (c : CoreState) → first_fault_loaded list.now.signed row.now.bits row.now.register (listed row.now.register list.now) c vec.old mem.old
+        ≡ record { core = c; vectors = vec.new; memory = mem.new; accesses = log.new.items; effect = Effect.Next } }
+{
+    let lanes = vec.length().bits() / row.bits;
+    let taken = take(mem, log, list, row.bits, lanes);
+    clear(vec, row.bits, taken.suppressed);
+    let end = first_cleared(vec, row.bits);
+    write(vec, row.bits, row.register, &taken.values, end);
+}
+
+/// Does a row's load of the elements of a list.
+pub(crate) fn first_fault(
+    core: &Core,
+    vec: &mut VecRegs,
+    mem: &mut Mem,
+    log: &mut AccessLog,
+    row: &Row,
+    list: &ElementList,
+) -> Effect
+    requires size { IsLaneSize row.now.bits }
+    requires some { 1 ≤ list.now.bytes }
+    requires most { list.now.bytes ≤ 8 }
+    requires lanes { AreFrom 0 (vec.old.bits / row.now.bits) (lanes_of (listed row.now.register list.now)) }
+    requires empty { log.old.items ≡ [] }
+    ensures { first_fault_by row.now list.now.signed (listed row.now.register list.now) core.now vec.old mem.old
+        ≡ record { core = core.now; vectors = vec.new; memory = mem.new; accesses = log.new.items; effect = result } }
+{
+    if let Err(trap) = test_sp(core, row, list) {
+        return Effect::Trap(trap);
+    }
+    if let Err(trap) = test_first(mem, row, list) {
+        return Effect::Trap(trap);
+    }
+    load(vec, mem, log, row, list);
+    Effect::Next
+}
