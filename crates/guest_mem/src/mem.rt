@@ -52,6 +52,7 @@ impl Mem {
     }
 
     /// The little-endian number of n bytes. Denied with the first byte whose page lacks the right for `kind`.
+    #[inline(always)]
     pub fn load(&mut self, address: u64, n: u32, kind: Kind) -> Result<u128, Denied>
         requires some { 1 ≤ n }
         requires most { n ≤ 16 }
@@ -68,6 +69,7 @@ impl Mem {
 
     /// Replaces n bytes by the lowest n of a little-endian number. Denied with the first byte whose page may not be
     /// written, and then no byte is replaced.
+    #[inline(always)]
     pub fn store(&mut self, address: u64, n: u32, v: u128) -> Result<(), Denied>
         requires some { 1 ≤ n }
         requires most { n ≤ 16 }

@@ -208,6 +208,7 @@ impl Pages {
     }
 
     /// Replaces the bytes of a page from place `at` on where it may be written, and answers whether it may.
+    #[inline(always)]
     pub fn store(&mut self, page: u64, at: usize, bytes: &[u8]) -> bool
         requires number { page < 2 ^ 52 }
         requires within { at + length bytes.now ≤ 4096 }

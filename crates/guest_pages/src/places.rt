@@ -13,6 +13,7 @@ use emu_model::{Kind, Rights};
 use page_list::PageList;
 
 /// The place of a page. None exactly where the page isn't mapped.
+#[inline(never)]
 pub fn find_place(list: &PageList, page: u64) -> Option<usize>
     requires { IsAscending list.now.pages }
     ensures { MatchOption result (find nat_cmp page list.now.pages ≡ None) (IsAt list.now.pages page) }
