@@ -9,8 +9,8 @@ use std::alloc::{AllocError, Global};
 use std::marker::Model;
 use std::mem;
 
-/// A frame that was taken from an arena, and is live there until it is given back.
-/// Contracts see it as its number.
+/// A frame that was taken from an arena, and is live there until it is given back; one that is dropped stays live. Contracts
+/// see it as its number.
 #[derive(Drop)]
 pub struct Frame {
     number: u32,

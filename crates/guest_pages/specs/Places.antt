@@ -1,5 +1,5 @@
 -- The list of pages in order, the places of pages in it, and what it stands for.
-use Rattle.std.specs.Prelude.{◌≡◌, ◌<◌, ◌≤◌, if◌then◌else◌, ℕ, zero, suc, ◌+◌, ◌%◌, ◌^◌, List, [], ◌∷◌, length, get_or}
+use Rattle.std.specs.Prelude.{◌≡◌, ◌<◌, ◌≤◌, if◌then◌else◌, ℕ, zero, suc, ◌+◌, ◌%◌, ◌^◌, ◌==◌, List, [], ◌∷◌, length, get_or, set, Option, Some, None}
 use Rattle.std.specs.List.{AllByRecursion}
 use Rattle.std.specs.Ordering.{nat_cmp, eq_by_cmp}
 use Rattle.std.specs.FinMap.{FinMap, from_entries}
@@ -29,6 +29,14 @@ pub record AreInOrder (limit : ℕ) (es : List Entry) : Type 0 where
 pub record IsAt (es : List Entry) (page i : ℕ) : Type 0 where
   pub within : i < length es
   pub number : (entry_at es i).0 ≡ page
+
+-- the place of a page, if its line has the page
+abbrev pub cached : Cache → ℕ → Option ℕ
+cached c page = if get_or c.pages (page % 8) 0 == page then Some (get_or c.places (page % 8) 0) else None
+
+-- the cache with a page and its place in its line
+abbrev pub with_line : Cache → ℕ → ℕ → Cache
+with_line c page place = record { pages = set c.pages (page % 8) page; places = set c.places (page % 8) place }
 
 -- each place in the cache is right, but for lines that have a page of another line
 abbrev pub IsRight : List Entry → Cache → Type 0

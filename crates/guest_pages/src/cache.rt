@@ -1,6 +1,6 @@
 //! The places in the list of the pages that were looked up last.
 ghost use Rattle.std.specs.Prelude.{◌≡◌, ◌%◌, IfSome, List};
-ghost use Rattle.guest_pages.specs.Places.{Entry, IsAt, IsRight};
+ghost use Rattle.guest_pages.specs.Places.{Entry, IsAt, IsRight, cached, with_line};
 
 /// The number of lines.
 pub const LINES: usize = 8;
@@ -26,7 +26,8 @@ impl Cache {
     /// The place of a page, if its line has the page.
     #[inline(always)]
     pub fn place(&self, page: u64) -> Option<usize>
-        ensures { IfSome result (λ i. (es : List Entry) → IsRight es self.now → IsAt es page i) }
+        ensures place { result ≡ cached self.now page }
+        ensures right { IfSome result (λ i. (es : List Entry) → IsRight es self.now → IsAt es page i) }
     {
         let line = (page % LINES as u64) as usize;
         if self.pages[line] == page {
@@ -38,7 +39,8 @@ impl Cache {
 
     /// Puts a page and its place into its line.
     pub fn set(&mut self, page: u64, place: usize)
-        ensures { (es : List Entry) → IsRight es self.old → IsAt es page place → IsRight es self.new }
+        ensures line { self.new ≡ with_line self.old page place }
+        ensures right { (es : List Entry) → IsRight es self.old → IsAt es page place → IsRight es self.new }
     {
         let line = (page % LINES as u64) as usize;
         self.pages[line] = page;

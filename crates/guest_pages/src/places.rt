@@ -53,6 +53,7 @@ pub fn look_up(list: &PageList, cache: &mut Cache, page: u64) -> Option<usize>
     }
 }
 
+/// The same where the line of the cache has another page.
 #[inline(never)]
 fn search(list: &PageList, cache: &mut Cache, page: u64) -> Option<usize>
     requires ascending { IsAscending list.now.pages }
