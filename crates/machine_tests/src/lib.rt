@@ -6,6 +6,8 @@
 #[cfg(test)]
 mod files;
 #[cfg(test)]
+mod frames;
+#[cfg(test)]
 mod images;
 #[cfg(test)]
 mod machine;
