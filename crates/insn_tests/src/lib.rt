@@ -1,10 +1,8 @@
-//! Tests of the instruction crates that call nothing but public functions: worked examples and outside values.
+//! Tests of numbers, scalar registers and A64 instructions that call nothing but public functions: worked examples and outside values.
 //!
 //! They stand here, and not beside what they test, since a crate with tests is proved once with them and once without.
 #![tactic(auto)]
 
-#[cfg(test)]
-mod bench;
 #[cfg(test)]
 mod bits;
 #[cfg(test)]
@@ -13,9 +11,5 @@ mod data;
 mod flow;
 #[cfg(test)]
 mod registers;
-#[cfg(test)]
-mod vector_memory;
-#[cfg(test)]
-mod vectors;
 #[cfg(test)]
 mod words;

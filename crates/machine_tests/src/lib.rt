@@ -1,4 +1,4 @@
-//! Tests of the crates of streams, memory, images, reports and machines that call nothing but public functions.
+//! Tests of images and machines that call nothing but public functions.
 //!
 //! They stand here, and not beside what they test, since a crate with tests is proved once with them and once without.
 #![tactic(auto)]
@@ -6,18 +6,8 @@
 #[cfg(test)]
 mod files;
 #[cfg(test)]
-mod frames;
-#[cfg(test)]
 mod images;
 #[cfg(test)]
 mod machine;
-#[cfg(test)]
-mod memory;
-#[cfg(test)]
-mod pages;
-#[cfg(test)]
-mod reports;
-#[cfg(test)]
-mod streams;
 #[cfg(test)]
 mod vectors;

@@ -1,8 +1,7 @@
 //! Registers and a memory of two pages, on which the instructions of words are done by the crates of their rows.
-use crate::registers::reg;
 use a64_rows::decode_a64;
 use core_regs::{Core, Effect};
-use emu_bits::Pred;
+use emu_bits::{Pred, Reg};
 use guest_mem::{AccessLog, Mem};
 use guest_pages::{Pages, Rights};
 use std::alloc::Global;
@@ -112,7 +111,7 @@ impl Bench {
         if k >= self.vec.length().bits() / 8 {
             return None;
         }
-        Some(u32::from(self.vec.z_byte(reg(r), k)))
+        Some(u32::from(self.vec.z_byte(Reg::at(r, 0), k)))
     }
 
     /// Sets the lowest four lanes of 32 bits of a vector register, and zeros above.
@@ -121,13 +120,13 @@ impl Bench {
         for v in lanes.into_iter().rev() {
             number = number << 32 | u128::from(v);
         }
-        self.vec.set_low(reg(r), 128, number);
+        self.vec.set_low(Reg::at(r, 0), 128, number);
         Some(())
     }
 
     /// The lowest four lanes of 32 bits of a vector register.
     pub fn words(&self, r: u32) -> Option<[u64; 4]> {
-        let words = self.vec.z_words(reg(r));
+        let words = self.vec.z_words(Reg::at(r, 0));
         Some([
             words[0] % 0x1_0000_0000,
             words[0] >> 32,

@@ -1,8 +1,7 @@
 //! SVE loads and stores, and those of vector registers: worked examples of `sve_loads`, `sve_gather`, `sve_ffr` and `a64_flow`.
 use crate::bench::Bench;
-use crate::registers::reg;
 use core_regs::{Effect, Trap, TrapKind};
-use emu_bits::Pred;
+use emu_bits::{Pred, Reg};
 use std::alloc::Global;
 
 const PAGE: u64 = 0x40_2000;
@@ -16,7 +15,7 @@ fn trap(kind: TrapKind, address: u64) -> Option<Effect> {
 /// Registers with x0 at an address, and p0 and FFR all ones.
 fn bench_at(alloc: Global, bits: u32, address: u64) -> Option<Bench> {
     let mut bench = Bench::new(alloc, bits)?;
-    bench.core.set_x(reg(0), 64, address);
+    bench.core.set_x(Reg::at(0, 0), 64, address);
     bench.set_all(0)?;
     for k in 0..256 {
         if k < bench.vec.length().bits() / 8 {
@@ -120,7 +119,7 @@ fn a_first_faulting_load_stops_at_the_end_of_a_page(rt: HostRuntime) {
     // ldff1b {z0.b}, p0/z, [x0, xzr]
     assert_eq!(rt; bench.does(0xA41F_6000), Some(Effect::Next));
     assert_eq!(rt; bench.vec.ffr_words()[0], 0x001F);
-    assert_eq!(rt; bench.vec.low(reg(0)), 0x05_0403_0201);
+    assert_eq!(rt; bench.vec.low(Reg::at(0, 0)), 0x05_0403_0201);
     assert_eq!(rt; bench.log.len(), 5);
 }
 
@@ -140,7 +139,7 @@ fn a_first_faulting_load_traps_at_its_first_active_lane(rt: HostRuntime) {
     // no lane is active
     let mut bench = Bench::new(rt.alloc(), 128).expect(&rt, "registers");
     let _before = bench.set_words(0, [1, 2, 3, 4]);
-    bench.core.set_x(reg(0), 64, NEXT);
+    bench.core.set_x(Reg::at(0, 0), 64, NEXT);
     bench.vec.set_ffr_bit(9, true);
     assert_eq!(rt; bench.does(0xA41F_6000), Some(Effect::Next));
     assert_eq!(rt; bench.vec.ffr_words()[0], 0x0200);
@@ -179,7 +178,7 @@ fn old_bits_of_ffr_cut_the_result(rt: HostRuntime) {
     }
     assert_eq!(rt; bench.does(0xA41F_6000), Some(Effect::Next));
     assert_eq!(rt; bench.vec.ffr_words()[0], 0x0003);
-    assert_eq!(rt; bench.vec.low(reg(0)), 0x0201);
+    assert_eq!(rt; bench.vec.low(Reg::at(0, 0)), 0x0201);
 }
 
 #[test]
@@ -190,7 +189,7 @@ fn a_gathered_lane_is_suppressed(rt: HostRuntime) {
     // ldff1d {z0.d}, p0/z, [z1.d, #0]
     assert_eq!(rt; bench.does(0xC5A0_E020), Some(Effect::Next));
     assert_eq!(rt; bench.vec.ffr_words()[0], 0x00FF);
-    assert_eq!(rt; bench.vec.low(reg(0)), 0x0909_0909_0909_0909);
+    assert_eq!(rt; bench.vec.low(Reg::at(0, 0)), 0x0909_0909_0909_0909);
 }
 
 #[test]

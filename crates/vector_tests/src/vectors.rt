@@ -1,8 +1,7 @@
 //! SVE instructions on registers: worked examples of `sve_data`, `sve_pred` and `bit_moves`.
 use crate::bench::Bench;
-use crate::registers::{flags_of, reg};
 use core_regs::Effect;
-use emu_bits::{Esize, Pred};
+use emu_bits::{Esize, Flags, Pred, Reg, U};
 use std::alloc::Global;
 
 #[test]
@@ -65,7 +64,7 @@ fn a_sum_of_bytes_goes_to_a_general_register(rt: HostRuntime) {
     // uaddv d0, p0, z1.b; fmov x0, d0
     assert_eq!(rt; bench.does(0x0401_2020), Some(Effect::Next));
     assert_eq!(rt; bench.does(0x9E66_0000), Some(Effect::Next));
-    assert_eq!(rt; bench.core.x(reg(0)), 0xFF0);
+    assert_eq!(rt; bench.core.x(Reg::at(0, 0)), 0xFF0);
 }
 
 #[test]
@@ -76,9 +75,9 @@ fn counts_saturate_at_32_bits(rt: HostRuntime) {
         (0x0420_FBE0, 0x8000_0000, 0xFFFF_FFFF_8000_0000),
     ] {
         let mut bench = Bench::new(rt.alloc(), 128).expect(&rt, "a length");
-        bench.core.set_x(reg(0), 64, from);
+        bench.core.set_x(Reg::at(0, 0), 64, from);
         assert_eq!(rt; bench.does(word), Some(Effect::Next));
-        assert_eq!(rt; bench.core.x(reg(0)), to, "{word:x}");
+        assert_eq!(rt; bench.core.x(Reg::at(0, 0)), to, "{word:x}");
     }
 }
 
@@ -92,22 +91,26 @@ fn a_while_has_its_predicate_and_its_flags(rt: HostRuntime) {
         (u64::MAX, 0, 0b0110),
     ] {
         let mut bench = Bench::new(rt.alloc(), 128).expect(&rt, "a length");
-        bench.core.set_x(reg(1), 64, to);
+        bench.core.set_x(Reg::at(1, 0), 64, to);
         assert_eq!(rt; bench.does(0x25A1_17E0), Some(Effect::Next));
         assert_eq!(rt; bench.vec.p_words(Pred::at(0, 0))[0], bits, "to {to}");
-        assert_eq!(rt; bench.core.flags(), flags_of(nzcv), "to {to}");
+        assert_eq!(rt;
+            bench.core.flags(),
+            Flags::of_number(U::at(nzcv, 0)),
+            "to {to}"
+        );
     }
 }
 
 #[test]
 fn a_while_counts_modulo_its_width(rt: HostRuntime) {
     let mut bench = Bench::new(rt.alloc(), 256).expect(&rt, "a length");
-    bench.core.set_x(reg(0), 64, 0x7FFF_FFFF_FFFF_FFFD);
-    bench.core.set_x(reg(1), 64, 0x7FFF_FFFF_FFFF_FFFF);
+    bench.core.set_x(Reg::at(0, 0), 64, 0x7FFF_FFFF_FFFF_FFFD);
+    bench.core.set_x(Reg::at(1, 0), 64, 0x7FFF_FFFF_FFFF_FFFF);
     // whilele p0.d, x0, x1: all four lanes, since the operand of the last is the least number
     assert_eq!(rt; bench.does(0x25E1_1410), Some(Effect::Next));
     assert_eq!(rt; bench.vec.p_words(Pred::at(0, 0))[0], 0x0101_0101);
-    assert_eq!(rt; bench.core.flags(), flags_of(0b1000));
+    assert_eq!(rt; bench.core.flags(), Flags::of_number(U::at(0b1000, 0)));
 }
 
 #[test]
