@@ -50,10 +50,10 @@ impl Bench {
 
     /// Does the instruction of a word, and answers its effect. None where the word is in no row of the crates.
     pub fn does(&mut self, word: u32) -> Option<Effect> {
-        self.log = AccessLog::new();
         if let Some(insn) = decode_sve(word) {
             return self.does_sve(&insn);
         }
+        self.log = AccessLog::new();
         let insn = decode_a64(word)?;
         if a64_flow::is_own(&insn) {
             return Some(a64_flow::exec(
@@ -71,6 +71,7 @@ impl Bench {
     }
 
     fn does_sve(&mut self, insn: &Sve) -> Option<Effect> {
+        self.log = AccessLog::new();
         let (core, vec) = (&mut self.core, &mut self.vec);
         if sve_data::is_own(insn) {
             return Some(sve_data::exec(core, vec, insn));

@@ -141,7 +141,9 @@ fn a_first_faulting_load_traps_at_its_first_active_lane(rt: HostRuntime) {
     let mut bench = Bench::new(rt.alloc(), 128).expect(&rt, "registers");
     let _before = bench.set_words(0, [1, 2, 3, 4]);
     bench.core.set_x(reg(0), 64, NEXT);
-    bench.vec.set_ffr_bit(9, true);
+    if 9 < bench.vec.length().bits() / 8 {
+        bench.vec.set_ffr_bit(9, true);
+    }
     assert_eq!(rt; bench.does(0xA41F_6000), Some(Effect::Next));
     assert_eq!(rt; bench.vec.ffr_words()[0], 0x0200);
     assert_eq!(rt; bench.words(0), Some([0; 4]));

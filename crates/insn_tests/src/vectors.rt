@@ -114,7 +114,9 @@ fn a_while_counts_modulo_its_width(rt: HostRuntime) {
 fn a_break_leaves_out_what_it_breaks_at(rt: HostRuntime) {
     let mut bench = Bench::new(rt.alloc(), 128).expect(&rt, "a length");
     let _set = bench.set_all(1);
-    bench.vec.set_p_bit(Pred::at(2, 0), 4, true);
+    if 4 < bench.vec.length().bits() / 8 {
+        bench.vec.set_p_bit(Pred::at(2, 0), 4, true);
+    }
     // brkb p0.b, p1/z, p2.b
     assert_eq!(rt; bench.does(0x2590_4440), Some(Effect::Next));
     assert_eq!(rt; bench.vec.p_words(Pred::at(0, 0))[0], 0x000F);
