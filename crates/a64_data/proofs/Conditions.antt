@@ -3,7 +3,7 @@ use Rattle.std.proofs.Common.{◌≡◌, ℕ, ◌<◌, Bool, true, false, arith}
 use Rattle.std.proofs.lemmas.Bool.Decides.{nat_tests}
 use Rattle.emu_bits.specs.Fields.{bit}
 use Rattle.a64_insn.specs.Data.{is_below_width, bitfield_holds_for}
-use Rattle.a64_effects.specs.Scalar.{width_of}
+use Rattle.emu_bits.specs.Numbers.{width_of}
 
 -- both places lie within the register
 pub bitfield_below : (sf n : Bool) (r s : ℕ) → bitfield_holds_for (bit sf) (bit n) r s ≡ true → (r < width_of sf) × (s < width_of sf)

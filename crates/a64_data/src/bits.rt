@@ -11,7 +11,7 @@ use a64_insn::{A64, A64Form, OneSourceOp, RevOp};
 use core_regs::Core;
 use emu_bits::Reg;
 
-#[tactic(auto, using(crate::proofs::Reversal::reversed))]
+#[tactic(auto, using(emu_bits::specs::Reversal::reversed))]
 fn reversed_bits(w: u32, a: u64) -> u64
     requires width { (w ≡ 32) ⊎ (w ≡ 64) }
     requires within { a < 2 ^ w }

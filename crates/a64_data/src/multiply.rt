@@ -91,14 +91,14 @@ fn mul_high(core: &mut Core, op: MulHighOp, rm: Reg, rn: Reg, rd: Reg)
     core.set_x(rd, 64, v);
 }
 
-/// The quotient, and 0 by 0.
+/// The quotient, and 0 where the second is 0.
 fn unsigned_quotient(a: u64, b: u64) -> u64
     ensures { result ≡ bits.unsigned_quotient a b }
 {
     if b == 0 { 0 } else { a / b }
 }
 
-/// The quotient towards zero, and 0 by 0.
+/// The quotient towards zero, and 0 where the second is 0.
 fn signed_quotient(w: u32, a: u64, b: u64) -> u64
     requires { (w ≡ 32) ⊎ (w ≡ 64) }
     ensures { result ≡ bits.signed_quotient w a b }

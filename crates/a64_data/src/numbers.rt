@@ -54,7 +54,7 @@ pub(crate) fn product(x: i64, y: i64) -> i128
     x as i128 * y as i128
 }
 
-/// Towards zero, and 0 by 0.
+/// The quotient towards zero, and 0 where the second is 0.
 pub(crate) fn quotient(x: i64, y: i64) -> i128
     ensures { result ≡ quotient x y }
 {

@@ -1,5 +1,6 @@
 //! Registers at a width of 32 or 64 bits.
 ghost use Rattle.std.specs.Prelude.{◌≡◌, ◌<◌, ◌^◌, ◌⊎◌};
+ghost use Rattle.emu_bits.specs.Numbers as numbers;
 ghost use Rattle.emu_model.specs.State.{with_x};
 ghost use Rattle.a64_effects.specs.Scalar as scalar;
 
@@ -9,7 +10,7 @@ use emu_bits::{Flags, Reg, low_bits};
 
 /// The bits of a register: 64 where sf is set, else 32.
 pub(crate) fn width_of(sf: bool) -> u32
-    ensures value { result ≡ scalar.width_of sf }
+    ensures value { result ≡ numbers.width_of sf }
     ensures width { (result ≡ 32) ⊎ (result ≡ 64) }
 {
     if sf { 64 } else { 32 }

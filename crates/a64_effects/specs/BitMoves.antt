@@ -6,13 +6,9 @@ use Rattle.a64_insn.specs.declared.ops.FMoveOp.{FMoveOp}
 use Rattle.a64_insn.specs.declared.ops.FMoveOp.TheVariants.{WdSn, SdWn, XdDn, DdXn}
 use Rattle.emu_bits.specs.Bitmask.{repeated}
 use Rattle.emu_bits.specs.Operations.{complement, number_of_bytes}
-use Rattle.emu_model.specs.Done.{Registers}
+use Rattle.emu_model.specs.Done.{Registers, leaves}
 use Rattle.emu_model.specs.State.{Core, Vectors, read_x, with_x}
 use Rattle.vec_model.specs.Lanes.{lane, read_z, with_low}
-
--- the core and the vectors
-abbrev pub leaves : Core → Vectors → Registers
-leaves c v = record { core = c; vectors = v }
 
 -- ---- fmov
 

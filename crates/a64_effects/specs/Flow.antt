@@ -20,14 +20,14 @@ use Rattle.a64_insn.specs.declared.ops.WriteSysOp.{WriteSysOp}
 use Rattle.a64_insn.specs.declared.ops.WriteSysOp.TheVariants.{Tpidr as WriteTpidr, Nzcv as WriteNzcv}
 use Rattle.emu_bits.specs.Fields.{bit}
 use Rattle.emu_bits.specs.Flags.{cond_of, cond_holds, flags_of_number}
-use Rattle.emu_bits.specs.Numbers.{signed, unsigned_int}
+use Rattle.emu_bits.specs.Numbers.{width_of, signed, unsigned_int}
 use Rattle.emu_bits.specs.declared.flags.Flags.{Flags}
 use Rattle.emu_model.specs.declared.trap.TrapKind.TheVariants.{Break, Halt}
 use Rattle.emu_model.specs.declared.trap.Effect.TheVariants.{Call}
 use Rattle.emu_model.specs.Access.{Memory, address}
 use Rattle.emu_model.specs.State.{Core, Vectors, read_x, with_x}
 use Rattle.emu_model.specs.Done.{Done, quietly, went_well, branches, traps}
-use Rattle.a64_effects.specs.Scalar.{width_of, operand}
+use Rattle.a64_effects.specs.Scalar.{operand}
 
 -- ---- targets
 

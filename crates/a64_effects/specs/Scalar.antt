@@ -1,5 +1,5 @@
 -- What each instruction on the scalar registers does to them.
-use Rattle.std.specs.Prelude.{ℕ, ◌+◌, ◌*◌, ◌/◌, ◌%◌, ◌^◌, Bool, true, false, bit_and, bit_or, bit_xor, if◌then◌else◌, Option, Some, None, ℤ, pos, ◌+ℤ◌, ◌*ℤ◌}
+use Rattle.std.specs.Prelude.{ℕ, ◌+◌, ◌*◌, ◌/◌, ◌%◌, ◌^◌, Bool, true, false, bit_and, bit_or, bit_xor, if◌then◌else◌, unwrap_or, ℤ, pos, ◌+ℤ◌, ◌*ℤ◌}
 use Rattle.a64_insn.specs.declared.form.A64Form.{A64Form}
 use Rattle.a64_insn.specs.declared.form.A64Form.TheVariants.{Adr, AddImm, LogicImm, MoveWide, Bitfield, Extract, LogicReg, AddReg, AddExt, AddCarry, CondReg, CondImm, Select, MulAdd, MulLong, MulHigh, TwoSource, OneSource, Rev}
 use Rattle.a64_insn.specs.declared.ops.AdrOp.{AdrOp}
@@ -34,15 +34,11 @@ use Rattle.a64_insn.specs.declared.ops.RevOp.{RevOp}
 use Rattle.a64_insn.specs.declared.ops.RevOp.TheVariants.{RevW, RevX, Rev32}
 use Rattle.emu_bits.specs.Fields.{bit, field}
 use Rattle.emu_bits.specs.Flags.{cond_of, cond_holds, flags_of_number}
-use Rattle.emu_bits.specs.Numbers.{signed, unsigned_int, sign_extended, extended, sum_of, flags_of_sum}
+use Rattle.emu_bits.specs.Numbers.{width_of, signed, unsigned_int, sign_extended, extended, sum_of, flags_of_sum}
 use Rattle.emu_bits.specs.Bitmask.{bitmask_of}
 use Rattle.emu_bits.specs.declared.flags.Flags.{Flags}
 use Rattle.emu_model.specs.State.{Core, read_x, read_x_sp, with_x, with_x_sp}
 use Rattle.emu_bits.specs.Operations.{complement, difference, flags_of_result, lsl, lsr, asr, ror, shifted, extracted, replaced, field_from, field_bits, field_to, signed_product, upper_product, signed_upper_product, unsigned_quotient, signed_quotient, reversed_bits, reversed_bytes, leading_zeros, leading_copies}
-
--- w is 64 where sf is 1, else 32
-abbrev pub width_of : Bool → ℕ
-width_of sf = if sf then 64 else 32
 
 -- the low w bits of a register; register 31 reads 0
 abbrev pub operand : ℕ → Core → ℕ → ℕ
@@ -138,11 +134,6 @@ after_logic_imm AndImm w rd a m c = with_x_sp c rd w (bit_and a m)
 after_logic_imm OrrImm w rd a m c = with_x_sp c rd w (bit_or a m)
 after_logic_imm EorImm w rd a m c = with_x_sp c rd w (bit_xor a m)
 after_logic_imm AndsImm w rd a m c = after_logic true w rd (bit_and a m) c
-
--- each instruction of the row has a bitmask
-abbrev pub mask_of : Option ℕ → ℕ
-mask_of (Some m) = m
-mask_of None = 0
 
 -- ---- moves
 
@@ -261,7 +252,8 @@ is_data form = false
 abbrev pub scalar : A64Form → Core → Core
 scalar (Adr op immlo immhi rd) c = with_x c rd 64 (adr_target op c.pc (adr_offset immlo immhi))
 scalar (AddImm op sf sh imm rn rd) c = after_add_sp op (width_of sf) rd (operand_sp (width_of sf) c rn) (shifted_12 sh imm) c
-scalar (LogicImm op sf n immr imms rn rd) c = after_logic_imm op (width_of sf) rd (operand (width_of sf) c rn) (mask_of (bitmask_of (width_of sf) (bit n) immr imms)) c
+-- each instruction of the row has a bitmask
+scalar (LogicImm op sf n immr imms rn rd) c = after_logic_imm op (width_of sf) rd (operand (width_of sf) c rn) (unwrap_or (bitmask_of (width_of sf) (bit n) immr imms) 0) c
 scalar (MoveWide op sf hw imm rd) c = with_x c rd (width_of sf) (moved op (width_of sf) imm (16 * hw) (read_x c rd))
 scalar (Bitfield op sf n r s rn rd) c = after_bitfield op (width_of sf) r s rn rd c
 scalar (Extract sf n rm s rn rd) c = with_x c rd (width_of sf) (extracted (width_of sf) (operand (width_of sf) c rn) (operand (width_of sf) c rm) s)

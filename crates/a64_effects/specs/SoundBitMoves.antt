@@ -7,7 +7,7 @@ use Rattle.a64_insn.specs.declared.ops.FMoveOp.{FMoveOp}
 use Rattle.a64_insn.specs.declared.ops.FMoveOp.TheVariants.{WdSn, SdWn, XdDn, DdXn}
 use Rattle.emu_bits.specs.Bitmask.{repeated}
 use Rattle.emu_model.specs.Sound.{with_x_sound}
-use Rattle.emu_model.specs.SoundDone.{IsSoundRegisters}
+use Rattle.emu_model.specs.SoundDone.{IsSoundRegisters, leaves_sound}
 use Rattle.emu_model.specs.State.{Core, Vectors, read_x, IsSoundCore, IsSoundVectors}
 use Rattle.vec_model.specs.Lanes.{lane, read_z}
 use Rattle.vec_model.specs.SoundLanes.{sound_low}
@@ -23,4 +23,4 @@ module _ (c : Core) (v : Vectors) (s : IsSoundCore c) (u : IsSoundVectors v) whe
   pub bit_move_sound : (form : A64Form) → IsSoundRegisters (bit_move form c v)
   bit_move_sound (FMove op rn rd) = copied_sound op rn rd
   bit_move_sound (MoveImm q op abc cmode defgh rd) = record { core = s; vectors = sound_low (if q then 128 else 64) (repeated 64 (move_value op cmode (immediate abc defgh)) 2) rd v u }
-  bit_move_sound form = record { core = s; vectors = u }
+  bit_move_sound form = leaves_sound c v s u

@@ -2,8 +2,8 @@
 use Rattle.std.specs.Prelude.{true, false, if◌then◌else◌}
 use Rattle.a64_insn.specs.declared.form.A64Form.{A64Form}
 use Rattle.emu_model.specs.Access.{Memory}
-use Rattle.emu_model.specs.Done.{Registers, went_well, went_on_with}
-use Rattle.emu_model.specs.SoundDone.{IsSoundDone, IsSoundRegisters, well_sound}
+use Rattle.emu_model.specs.Done.{went_well, went_on_with}
+use Rattle.emu_model.specs.SoundDone.{IsSoundDone, well_sound, went_on_sound}
 use Rattle.emu_model.specs.State.{Core, Vectors, IsSoundCore, IsSoundVectors, IsSoundMemory}
 use Rattle.a64_effects.specs.BitMoves.{bit_move}
 use Rattle.a64_effects.specs.Effects.{performed}
@@ -15,9 +15,6 @@ use Rattle.a64_effects.specs.SoundFlow.{flow_sound}
 use Rattle.a64_effects.specs.SoundLoadStore.{access_sound}
 use Rattle.a64_effects.specs.SoundScalar.{scalar_sound}
 
-moves_sound : (r : Registers) (m : Memory) → IsSoundRegisters r → IsSoundMemory m → IsSoundDone (went_on_with r m)
-moves_sound r m q t = well_sound r.core r.vectors m q.core q.vectors t
-
 pub performed_sound : (form : A64Form) (c : Core) (v : Vectors) (m : Memory) → IsSoundCore c → IsSoundVectors v → IsSoundMemory m → IsSoundDone (performed form c v m)
 performed_sound form c v m s u t = elim (is_data form) as (λ b. IsSoundDone (if b then went_well (scalar form c) v m else (if is_flow form then flow form c v m else (if is_load_store form then access form c v m else went_on_with (bit_move form c v) m)))) [
   | true ↦ well_sound (scalar form c) v m (scalar_sound form c s) u t
@@ -25,7 +22,7 @@ performed_sound form c v m s u t = elim (is_data form) as (λ b. IsSoundDone (if
     | true ↦ flow_sound c v m s u t form
     | false ↦ elim (is_load_store form) as (λ b. IsSoundDone (if b then access form c v m else went_on_with (bit_move form c v) m)) [
       | true ↦ access_sound c v m s u t form
-      | false ↦ moves_sound (bit_move form c v) m (bit_move_sound c v s u form) t
+      | false ↦ went_on_sound (bit_move form c v) m (bit_move_sound c v s u form) t
     ]
   ]
 ]

@@ -14,14 +14,14 @@ use Rattle.a64_insn.specs.declared.ops.BarrierOp.TheVariants.{Clrex, Dsb, Dmb, I
 use Rattle.a64_insn.specs.declared.ops.WriteSysOp.{WriteSysOp}
 use Rattle.a64_insn.specs.declared.ops.WriteSysOp.TheVariants.{Tpidr, Nzcv}
 use Rattle.emu_bits.specs.Flags.{cond_of, cond_holds, flags_of_number}
-use Rattle.emu_bits.specs.Numbers.{signed, unsigned_int}
+use Rattle.emu_bits.specs.Numbers.{width_of, signed, unsigned_int}
 use Rattle.emu_model.specs.declared.trap.TrapKind.TheVariants.{Break, Halt}
 use Rattle.emu_model.specs.Access.{Memory}
 use Rattle.emu_model.specs.Sound.{with_x_sound, flags_sound, monitor_sound, low_is_word}
 use Rattle.emu_model.specs.SoundLists.{all_read}
 use Rattle.emu_model.specs.State.{Core, Vectors, read_x, read_x_sp, IsWord, IsSoundCore, IsSoundVectors, IsSoundMemory}
 use Rattle.a64_effects.specs.Flow.{offset, target, return_address, linked, branches_if, is_taken, tested_bit, digit, is_taken_by, system_value, with_system_value, branched, branched_to, excepted, after_barrier, flow}
-use Rattle.a64_effects.specs.Scalar.{width_of, operand}
+use Rattle.a64_effects.specs.Scalar.{operand}
 use Rattle.emu_model.specs.Done.{went_well, branches}
 use Rattle.emu_model.specs.SoundDone.{IsSoundDone, well_sound, branches_sound, traps_sound}
 

@@ -17,22 +17,18 @@ use Rattle.emu_model.specs.SoundElements.{stop_is_word, with_stored_sound}
 use Rattle.a64_effects.specs.declared.transfer.Transfer.{Transfer}
 use Rattle.a64_effects.specs.declared.transfer.Transfer.TheVariants.{Store, Load, LoadSigned, LoadSigned32, Prefetch, StoreVector, LoadVector}
 use Rattle.a64_effects.specs.LoadStore.{transfer_of, near, pair_near, pair_bytes, writes_back, is_kept, elements, has_sp_base, is_misaligned, unless_multiple, misaligned, loaded_value, is_vector, with_element, with_loaded, stored_value, based, behind, store_as_far, went_with, load_as_far, stored_to, loaded_to, transferred, unless_misaligned, tested, access}
-use Rattle.emu_model.specs.SoundDone.{IsSoundDone, traps_sound}
+use Rattle.emu_model.specs.SoundDone.{IsSoundDone, IsSoundRegisters, traps_sound}
 use Rattle.a64_effects.specs.SoundFlow.{read_x_sp_is_word}
 
 -- ---- what is loaded
 
-record AreSound (r : Registers) : Type 0 where
-  core : IsSoundCore r.core
-  vectors : IsSoundVectors r.vectors
-
-with_element_sound : (transfer : Transfer) (rt n v : ℕ) (r : Registers) → AreSound r → AreSound (with_element transfer rt n v r)
-with_element_sound transfer rt n v r s = elim (is_vector transfer) as (λ b. AreSound (if b then record { core = r.core; vectors = with_low (8 * n) v rt r.vectors } else record { core = with_x r.core rt 64 (loaded_value transfer n v); vectors = r.vectors })) [
+with_element_sound : (transfer : Transfer) (rt n v : ℕ) (r : Registers) → IsSoundRegisters r → IsSoundRegisters (with_element transfer rt n v r)
+with_element_sound transfer rt n v r s = elim (is_vector transfer) as (λ b. IsSoundRegisters (if b then record { core = r.core; vectors = with_low (8 * n) v rt r.vectors } else record { core = with_x r.core rt 64 (loaded_value transfer n v); vectors = r.vectors })) [
   | true ↦ record { core = s.core; vectors = sound_low (8 * n) v rt r.vectors s.vectors }
   | false ↦ record { core = with_x_sound r.core rt 64 (loaded_value transfer n v) (omega arith) s.core; vectors = s.vectors }
 ]
 
-with_loaded_sound : (transfer : Transfer) (m : Memory) (es : List Element) (r : Registers) → AreSound r → AreSound (with_loaded transfer m es r)
+with_loaded_sound : (transfer : Transfer) (m : Memory) (es : List Element) (r : Registers) → IsSoundRegisters r → IsSoundRegisters (with_loaded transfer m es r)
 with_loaded_sound transfer m [] r s = s
 with_loaded_sound transfer m (e ∷ es) r s =
     let v : ℕ = value m e.address e.bytes in
@@ -64,7 +60,7 @@ module _ (c : Core) (x : Vectors) (m : Memory) (s : IsSoundCore c) (y : IsSoundV
     store_sound transfer None es w = record { core = keeps c s; vectors = y; memory = with_stored_sound (λ e. stored_value transfer c x e.register) es m t; effect = tt }
     store_sound transfer (Some a) es w = record { core = s; vectors = y; memory = with_stored_sound (λ e. stored_value transfer c x e.register) es m t; effect = w }
 
-    went_sound : (r : Registers) (es : List Element) → AreSound r → IsSoundDone (went_with r after es m)
+    went_sound : (r : Registers) (es : List Element) → IsSoundRegisters r → IsSoundDone (went_with r after es m)
     went_sound r es u = record { core = keeps r.core u.core; vectors = u.vectors; memory = t; effect = tt }
 
     load_sound : (transfer : Transfer) (stop : Option ℕ) (es : List Element) → IfSome stop IsWord → IsSoundDone (load_as_far transfer stop es after c x m)

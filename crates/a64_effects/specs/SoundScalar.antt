@@ -1,5 +1,5 @@
 -- Instructions on the scalar registers keep them sound.
-use Rattle.std.specs.Prelude.{◌≤◌, ℕ, ◌*◌, Bool, true, false, bit_and, bit_or, bit_xor, if◌then◌else◌}
+use Rattle.std.specs.Prelude.{◌≤◌, ℕ, ◌*◌, Bool, true, false, bit_and, bit_or, bit_xor, if◌then◌else◌, unwrap_or}
 use Rattle.std.proofs.Common.{arith}
 use Rattle.a64_insn.specs.declared.form.A64Form.{A64Form}
 use Rattle.a64_insn.specs.declared.form.A64Form.TheVariants.{Adr, AddImm, LogicImm, MoveWide, Bitfield, Extract, LogicReg, AddReg, AddExt, AddCarry, CondReg, CondImm, Select, MulAdd, MulLong, MulHigh, TwoSource, OneSource, Rev}
@@ -15,13 +15,13 @@ use Rattle.a64_insn.specs.declared.ops.RevOp.{RevOp}
 use Rattle.a64_insn.specs.declared.ops.RevOp.TheVariants.{RevW, RevX, Rev32}
 use Rattle.emu_bits.specs.Fields.{bit, field}
 use Rattle.emu_bits.specs.Flags.{cond_of, cond_holds, flags_of_number}
-use Rattle.emu_bits.specs.Numbers.{extended, sum_of, flags_of_sum}
+use Rattle.emu_bits.specs.Numbers.{width_of, extended, sum_of, flags_of_sum}
 use Rattle.emu_bits.specs.Bitmask.{bitmask_of}
 use Rattle.emu_bits.specs.declared.flags.Flags.{Flags}
 use Rattle.emu_model.specs.State.{Core, read_x, with_x, IsSoundCore}
 use Rattle.emu_model.specs.Sound.{with_x_sound, with_x_sp_sound, flags_sound}
 use Rattle.emu_bits.specs.Operations.{complement, flags_of_result, lsl, shifted, extracted, field_from, field_bits, field_to}
-use Rattle.a64_effects.specs.Scalar.{width_of, operand, operand_sp, with_flags, adr_offset, adr_target, sets_flags, is_sub, addend, after_sum, after_add, after_add_sp, shifted_12, after_add_carry, after_logic, after_logic_reg, after_logic_imm, mask_of, moved, bitfield_moved, compared, otherwise, multiplied, multiplied_long, multiplied_high, of_two, of_one, rev_width, byte_reversed, scalar}
+use Rattle.a64_effects.specs.Scalar.{operand, operand_sp, with_flags, adr_offset, adr_target, sets_flags, is_sub, addend, after_sum, after_add, after_add_sp, shifted_12, after_add_carry, after_logic, after_logic_reg, after_logic_imm, moved, bitfield_moved, compared, otherwise, multiplied, multiplied_long, multiplied_high, of_two, of_one, rev_width, byte_reversed, scalar}
 
 -- ---- widths, of which none passes 64 bits
 
@@ -83,7 +83,7 @@ module _ (w rd : ℕ) (within : w ≤ 64) (c : Core) (s : IsSoundCore c) where
 pub scalar_sound : (form : A64Form) (c : Core) → IsSoundCore c → IsSoundCore (scalar form c)
 scalar_sound (Adr op immlo immhi rd) c s = with_x_sound c rd 64 (adr_target op c.pc (adr_offset immlo immhi)) (omega arith) s
 scalar_sound (AddImm op sf sh imm rn rd) c s = add_sp_sound (width_of sf) rd (width_in_word sf) c s op (operand_sp (width_of sf) c rn) (shifted_12 sh imm)
-scalar_sound (LogicImm op sf n immr imms rn rd) c s = logic_imm_sound (width_of sf) rd (width_in_word sf) c s op (operand (width_of sf) c rn) (mask_of (bitmask_of (width_of sf) (bit n) immr imms))
+scalar_sound (LogicImm op sf n immr imms rn rd) c s = logic_imm_sound (width_of sf) rd (width_in_word sf) c s op (operand (width_of sf) c rn) (unwrap_or (bitmask_of (width_of sf) (bit n) immr imms) 0)
 scalar_sound (MoveWide op sf hw imm rd) c s = with_x_sound c rd (width_of sf) (moved op (width_of sf) imm (16 * hw) (read_x c rd)) (width_in_word sf) s
 scalar_sound (Bitfield op sf n r s rn rd) c t = with_x_sound c rd (width_of sf) (bitfield_moved op (width_of sf) (field_to (width_of sf) r s) (field_bits r s) (field (operand (width_of sf) c rn) (field_from r s) (field_bits r s)) (operand (width_of sf) c rd)) (width_in_word sf) t
 scalar_sound (Extract sf n rm s rn rd) c t = with_x_sound c rd (width_of sf) (extracted (width_of sf) (operand (width_of sf) c rn) (operand (width_of sf) c rm) s) (width_in_word sf) t

@@ -1,6 +1,7 @@
 //! Branches, exceptions, and the system's rows, none of which accesses memory.
 ghost use Rattle.std.specs.Prelude.{◌≡◌, ◌≤◌};
 ghost use Rattle.a64_insn.specs.declared.form.A64Form.{A64Form};
+ghost use Rattle.emu_bits.specs.Numbers.{width_of};
 ghost use Rattle.emu_model.specs.Access.{Memory};
 ghost use Rattle.emu_model.specs.State.{Core as CoreState, Vectors, read_x, with_x};
 ghost use Rattle.emu_model.specs.Done.{quietly};
@@ -163,7 +164,7 @@ fn branch_if(taken: bool, to: u64) -> Effect
 
 /// The low 64 bits of a register where sf is set, else its low 32.
 fn operand(core: &Core, sf: bool, r: Reg) -> u64
-    ensures { result ≡ scalar.operand (scalar.width_of sf) core.now r }
+    ensures { result ≡ scalar.operand (width_of sf) core.now r }
 {
     let v = core.x(r);
     if sf { v } else { v % 0x1_0000_0000 }

@@ -7,13 +7,14 @@ ghost use Rattle.a64_effects.specs.LoadStore as table;
 ghost use Rattle.a64_flow.specs.Ends.{ended};
 ghost use Rattle.a64_flow.specs.Groups.{is_exclusive};
 
-use crate::alignment::{test_multiple, test_sp};
+use crate::alignment::test_multiple;
 use crate::elements::single;
 use crate::fields::{is_kept, ordered_transfer};
 use crate::numbers::bytes_of;
 use a64_effects::Transfer;
 use a64_insn::{A64, A64Form, OrderedOp};
 use core_regs::{Core, Trap};
+use element_access::test_sp;
 use emu_bits::{Reg, U};
 use guest_mem::{AccessLog, Mem};
 use vec_regs::VecRegs;

@@ -7,7 +7,6 @@ ghost use Rattle.a64_flow.specs.Ends.{ended, followed_by, greatest_of};
 ghost use Rattle.a64_flow.specs.Groups.{is_at_offset};
 ghost use Rattle.vec_regs.specs.Packed.{IsLowSize};
 
-use crate::alignment::test_sp;
 use crate::branches::target;
 use crate::elements::single;
 use crate::fields::{access_bytes, has_sp, literal_bytes, literal_transfer, transfer};
@@ -15,6 +14,7 @@ use crate::numbers::{indexed, near};
 use a64_effects::Transfer;
 use a64_insn::{A64, A64Form};
 use core_regs::{Core, Trap};
+use element_access::test_sp;
 use emu_bits::{Reg, U};
 use guest_mem::{AccessLog, Mem};
 use vec_regs::VecRegs;

@@ -4,11 +4,11 @@ ghost use Rattle.a64_insn.specs.declared.form.A64Form.{A64Form};
 ghost use Rattle.a64_effects.specs.LoadStore as table;
 ghost use Rattle.a64_flow.specs.Ends.{ended};
 
-use crate::alignment::test_sp;
 use crate::elements::couple;
 use crate::fields::{pair_bytes, pair_transfer, writes_back};
 use crate::numbers::pair_near;
 use core_regs::{Core, Trap};
+use element_access::test_sp;
 use emu_bits::{Reg, U};
 use guest_mem::{AccessLog, Mem};
 use vec_regs::VecRegs;

@@ -1,6 +1,7 @@
 -- Laws of elements that are accessed one after the other.
 use Rattle.std.specs.Prelude.{◌≡◌, ℕ, suc, Bool, true, false, List, [], ◌∷◌, ◌++◌, length, Option, Some, None}
 use Rattle.std.proofs.Common.{refl, ap, sym, subst, ◌∙◌}
+use Rattle.std.proofs.lemmas.List.{append-nil}
 use Rattle.emu_model.specs.declared.access.Access.{Access}
 use Rattle.emu_model.specs.declared.access.Kind.{Kind}
 use Rattle.emu_model.specs.declared.access.Kind.TheVariants.{Read, Write}
@@ -87,15 +88,11 @@ reach_more : (m : Memory) (kind : Kind) (es : List Element) (e : Element) → re
     → reach m kind (es ++ e ∷ []) ≡ all_of (es ++ e ∷ [])
 reach_more m kind es e h allowed = reach_one m kind es e h ∙ ap (λ (o : Option ℕ). goes_on None es (reach_from o e (all_of []))) allowed
 
-append_nothing : {A : Type 0} (xs : List A) → xs ++ [] ≡ xs
-append_nothing [] = refl
-append_nothing (x ∷ xs) = ap (λ rest. x ∷ rest) (append_nothing xs)
-
 reach_stop : (m : Memory) (kind : Kind) (es : List Element) (e : Element) (a : ℕ) → reach m kind es ≡ all_of es → refused m e.address e.bytes kind ≡ Some a
     → reach m kind (es ++ e ∷ []) ≡ record { done = es; stop = Some a }
 reach_stop m kind es e a h denied =
     reach_one m kind es e h ∙ ap (λ (o : Option ℕ). goes_on None es (reach_from o e (all_of []))) denied
-    ∙ ap (λ (d : List Element). record { done = d; stop = Some a }) (append_nothing es)
+    ∙ ap (λ (d : List Element). record { done = d; stop = Some a }) (append-nil es)
 
 pub no_loads : (m : Memory) (log : List Access) → log ≡ [] → AreLoaded m [] log
 no_loads m log h = record { reached = refl; logged = h }

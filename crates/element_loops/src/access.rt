@@ -1,8 +1,7 @@
 //! Loads and stores by a plan: the test of SP, the elements one after the other, and what a load leaves.
-ghost use Rattle.std.specs.Prelude.{◌≡◌, [], MatchResult, Bool, true, false};
-ghost use Rattle.emu_model.specs.declared.trap.TrapKind.{TrapKind};
+ghost use Rattle.std.specs.Prelude.{◌≡◌, [], true};
 ghost use Rattle.sve_effects.specs.VectorElements.{elements_of};
-ghost use Rattle.sve_effects.specs.VectorLoadStore.{tests_sp, is_misaligned};
+ghost use Rattle.sve_effects.specs.VectorLoadStore.{tests_sp};
 ghost use Rattle.element_loops.specs.Layouts.{IsPlan, layout_of};
 ghost use Rattle.element_loops.specs.Planned.{load_by, store_by};
 
@@ -11,8 +10,8 @@ use crate::place::is_on;
 use crate::plan::Plan;
 use crate::storing::store_values;
 use crate::values::write;
-use core_regs::{Core, Effect, Trap, TrapKind};
-use emu_bits::Reg;
+use core_regs::{Core, Effect};
+use element_access::test_sp;
 use guest_mem::{AccessLog, Mem};
 use vec_regs::VecRegs;
 
@@ -29,20 +28,12 @@ fn has_element(plan: &Plan, vec: &VecRegs) -> bool
     false
 }
 
-/// Tests that SP is a multiple of 16 where it is the base and a lane has an element.
-fn test_sp(plan: &Plan, core: &Core, vec: &VecRegs) -> Result<(), Trap>
+/// Whether SP is tested: it is the base, and a lane has an element.
+fn tests_sp(plan: &Plan, vec: &VecRegs) -> bool
     requires { IsPlan plan.now vec.now }
-    ensures { let misaligned : Bool = is_misaligned plan.now.has_sp_base (elements_of (layout_of plan.now vec.now)) core.now in
-        MatchResult result (λ x. misaligned ≡ false) (λ trap. (misaligned ≡ true) × (trap ≡ record { kind = TrapKind.SpAlign; address = core.now.sp })) }
+    ensures { result ≡ tests_sp plan.now.has_sp_base (elements_of (layout_of plan.now vec.now)) }
 {
-    let sp = core.x_sp(Reg::at(31, 0));
-    if plan.has_sp_base && sp % 16 != 0 && has_element(plan, vec) {
-        return Err(Trap {
-            kind: TrapKind::SpAlign,
-            address: sp,
-        });
-    }
-    Ok(())
+    plan.has_sp_base && has_element(plan, vec)
 }
 
 /// Loads all elements and then writes the registers, and says how the step goes on. The elements that were loaded are logged in
@@ -59,7 +50,7 @@ pub fn load(
     ensures { load_by plan.now core.now vec.old mem.old
         ≡ record { core = core.now; vectors = vec.new; memory = mem.new; accesses = log.new.items; effect = result } }
 {
-    if let Err(trap) = test_sp(plan, core, vec) {
+    if let Err(trap) = test_sp(core, tests_sp(plan, vec)) {
         return Effect::Trap(trap);
     }
     match load_values(plan, vec, mem, log) {
@@ -79,7 +70,7 @@ pub fn store(plan: &Plan, core: &Core, vec: &VecRegs, mem: &mut Mem, log: &mut A
     ensures { store_by plan.now core.now vec.now mem.old
         ≡ record { core = core.now; vectors = vec.now; memory = mem.new; accesses = log.new.items; effect = result } }
 {
-    if let Err(trap) = test_sp(plan, core, vec) {
+    if let Err(trap) = test_sp(core, tests_sp(plan, vec)) {
         return Effect::Trap(trap);
     }
     match store_values(plan, vec, mem, log) {

@@ -9,7 +9,7 @@ ghost use Rattle.sve_effects.specs.VectorElements.{elements_below, elements_of};
 ghost use Rattle.element_access.specs.ReachLaws.{AreStored, StopsStore};
 ghost use Rattle.element_loops.specs.Layouts.{IsPlan, layout_of};
 ghost use Rattle.element_loops.specs.Planned.{stored_by};
-ghost use Rattle.element_loops.specs.SoFar.{element_at};
+ghost use Rattle.element_loops.specs.SoFar.{element_of_lane};
 
 use crate::place::{address, is_on, position, register_at};
 use crate::plan::{Plan, Target};
@@ -46,7 +46,7 @@ fn stored_value(plan: &Plan, vec: &VecRegs, k: u32, j: u32) -> u64
     requires plan { IsPlan plan.now vec.now }
     requires lane { k < plan.now.lanes }
     requires register { j < plan.now.registers }
-    ensures { let l = layout_of plan.now vec.now in result ≡ stored_by plan.now.target l vec.now (element_at l k j) }
+    ensures { let l = layout_of plan.now vec.now in result ≡ stored_by plan.now.target l vec.now (element_of_lane l k j) }
 {
     match plan.target {
         Target::Predicate(pt) => {

@@ -6,10 +6,10 @@ use Rattle.std.proofs.lemmas.Bool.{ltb-false, eqb-true, eqb-false, not-false, no
 use Rattle.std.proofs.lemmas.List.Elements.{All-nil, All-push, All-from_recursion}
 use Rattle.std.proofs.lemmas.List.Quantifiers.{all_pairs_push}
 use Rattle.std.specs.List.{AllByRecursion}
-use Rattle.emu_model.specs.declared.image.Segment.{Segment}
-use Rattle.emu_model.specs.declared.image.ElfFault.TheVariants.{TooShort, BadMagic, BadClass, BadData, BadVersion, BadType, BadMachine, BadHeaderSize, TooManySegments}
-use Rattle.emu_model.specs.Image.{ProgramHeader, first_page, end_page, overlaps_any, share_a_page, segments_from, segment_fault, segment_of, with_segment, program_header, is_load, is_segment, is_outside, Image, elf, image_or_fault, header_fault, has_magic, e_phnum}
-use Rattle.emu_model.specs.ImageLaws.{no_first, second_false, no_fault, segments_from-zero, segments_from-suc, image_parts, accepted_image}
+use Rattle.emu_system.specs.declared.image.Segment.{Segment}
+use Rattle.emu_system.specs.declared.image.ElfFault.TheVariants.{TooShort, BadMagic, BadClass, BadData, BadVersion, BadType, BadMachine, BadHeaderSize, TooManySegments}
+use Rattle.emu_system.specs.Image.{ProgramHeader, first_page, end_page, overlaps_any, share_a_page, segments_from, segment_fault, segment_of, with_segment, program_header, is_load, is_segment, is_outside, Image, elf, header_fault, has_magic, e_phnum}
+use Rattle.emu_system.specs.ImageLaws.{no_first, second_false, no_fault, segments_from-zero, segments_from-suc, image_parts}
 use Rattle.elf_image.specs.Loadable.{IsLoadable, AreLoadable, IsLoadableSegment, ShareNoPage}
 use Rattle.elf_image.proofs.Loops.{segments_from-end}
 
@@ -115,8 +115,7 @@ few_headers file none =
 -- An image that is accepted is loadable.
 pub loadable_image : (file : List ℕ) (limit : ℕ) (image : Image) → elf file limit ≡ Ok image → IsLoadable file limit image
 loadable_image file limit image h =
-    let a = accepted_image file limit (image_or_fault file) image h in
-    let b = no_fault (header_fault file) _ image a.0 in
-    let c = image_parts file _ image b.1 in
+    let b = no_fault (header_fault file) _ image h in
+    let c = image_parts file limit _ image b.1 in
     let l = loadable_from file (e_phnum file) 0 0 [] image.segments c.segments (record { few = omega arith; sound = All-nil _; apart = λ x y d p q. absurd (omega arith) }) in
-    record { some = c.some; segments = record { few = omega (arith, l.few, few_headers file b.0); sound = l.sound; apart = l.apart }; within_limit = a.1 }
+    record { some = c.some; segments = record { few = omega (arith, l.few, few_headers file b.0); sound = l.sound; apart = l.apart }; within_limit = c.within_limit }

@@ -1,10 +1,10 @@
 -- The recursions of the definitions, as loops go: at an element of a list, and at a header of some.
-use Rattle.std.proofs.Common.{◌≡◌, ◌<◌, ◌≤◌, ℕ, suc, ◌+◌, ◌-◌, true, ◌&&◌, ◌||◌, List, length, drop, get_or, Ok, refl, arith, if◌then◌else◌}
+use Rattle.std.proofs.Common.{◌≡◌, ◌<◌, ◌≤◌, ℕ, suc, ◌+◌, ◌-◌, ◌&&◌, ◌||◌, List, length, drop, get_or, Ok, arith, if◌then◌else◌}
 use Rattle.std.specs.Prelude.{nat_le, nat_lt}
 use Rattle.std.proofs.lemmas.List.{at_drop_more}
-use Rattle.emu_model.specs.declared.image.Segment.{Segment}
-use Rattle.emu_model.specs.Image.{overlaps_any, share_a_page, headers_address, segments_from, segment_fault, unless_fault, with_segment, program_header, are_loads, is_load}
-use Rattle.emu_model.specs.ImageLaws.{segments_from-zero, segments_from-suc}
+use Rattle.emu_system.specs.declared.image.Segment.{Segment}
+use Rattle.emu_system.specs.Image.{overlaps_any, share_a_page, headers_address, segments_from, segment_fault, unless_fault, with_segment, program_header}
+use Rattle.emu_system.specs.ImageLaws.{segments_from-zero, segments_from-suc}
 
 pub overlaps_any-drop : (s : Segment) (ts : List Segment) (i : ℕ) (d : Segment) → i < length ts → overlaps_any s (drop i ts) ≡ (share_a_page s (get_or ts i d) || overlaps_any s (drop (i + 1) ts))
 overlaps_any-drop s ts i d h = at_drop_more (overlaps_any s) ts i d h
@@ -24,20 +24,6 @@ segments_from-at file i n before h = rw (step n i h) (segments_from-suc file i (
 pub segments_from-end : (file : List ℕ) (i n : ℕ) (before : List Segment) → n ≤ i → segments_from file i (n - i) before ≡ Ok before
 segments_from-end file i n before h = let e : n - i ≡ 0 = omega arith in rw e (segments_from-zero file i before)
 
-are_loads-suc : (file : List ℕ) (i n : ℕ) → are_loads file i (suc n) ≡ (is_load (program_header file i) && are_loads file (i + 1) n)
-unfolding are_loads
-are_loads-suc file i n = refl
-
-are_loads-zero : (file : List ℕ) (i : ℕ) → are_loads file i 0 ≡ true
-unfolding are_loads
-are_loads-zero file i = refl
-
-pub are_loads-at : (file : List ℕ) (i n : ℕ) → i < n → are_loads file i (n - i) ≡ (is_load (program_header file i) && are_loads file (i + 1) (n - (i + 1)))
-are_loads-at file i n h = rw (step n i h) (are_loads-suc file i (n - (i + 1)))
-
-pub are_loads-end : (file : List ℕ) (i n : ℕ) → n ≤ i → are_loads file i (n - i) ≡ true
-are_loads-end file i n h = let e : n - i ≡ 0 = omega arith in rw e (are_loads-zero file i)
-
 pub ruleset segment_loops = (overlaps_any-drop, headers_address-drop)
 
-pub ruleset header_loops = (segments_from-at, segments_from-end, are_loads-at, are_loads-end)
+pub ruleset header_loops = (segments_from-at, segments_from-end)

@@ -1,9 +1,9 @@
 -- What is read of a file, as the definitions see it.
 use Rattle.std.specs.Prelude.{◌≡◌, ◌≤◌, ℕ, ◌+◌, ◌*◌, List, length, Result, Ok, Err, None}
 use Rattle.arrayvec.specs.ArrayVec.{ArrayVec}
-use Rattle.emu_model.specs.declared.image.Segment.{Segment}
-use Rattle.emu_model.specs.declared.image.ElfFault.{ElfFault}
-use Rattle.emu_model.specs.Image.{Image, ProgramHeader, header_fault, e_entry, e_phoff, e_phnum}
+use Rattle.emu_system.specs.declared.image.Segment.{Segment}
+use Rattle.emu_system.specs.declared.image.ElfFault.{ElfFault}
+use Rattle.emu_system.specs.Image.{Image, ProgramHeader, header_fault, e_entry, e_phoff, e_phnum}
 use Rattle.elf_image.specs.declared.Image.{Image as ReadImage}
 use Rattle.elf_image.specs.declared.header.Header.{Header as ReadHeader}
 use Rattle.elf_image.specs.declared.segments.ProgramHeader.{ProgramHeader as ReadProgramHeader}

@@ -1,8 +1,8 @@
 -- What the segments of an accepted image keep to.
 use Rattle.std.specs.Prelude.{◌≡◌, ◌≢◌, ℕ, ◌+◌, ◌%◌, ◌<◌, ◌≤◌, ◌⊎◌, List, length}
 use Rattle.std.specs.List.{All, AllPairs}
-use Rattle.emu_model.specs.declared.image.Segment.{Segment}
-use Rattle.emu_model.specs.Image.{Image, first_page, end_page, pages_of}
+use Rattle.emu_system.specs.declared.image.Segment.{Segment}
+use Rattle.emu_system.specs.Image.{Image, first_page, end_page, pages_of, stack_page_count}
 
 -- some bytes of memory, from 4,096 on and below 0x7F0000000000, whose first ones are file bytes at congruent offsets;
 -- so its pages are some, from page 1 on
@@ -27,8 +27,8 @@ pub record AreLoadable (file : List ℕ) (segments : List Segment) : Type 0 wher
   pub sound : All (IsLoadableSegment file) segments
   pub apart : AllPairs ShareNoPage segments
 
--- some segments, which are loadable, of no more pages than the limit
+-- some segments, which are loadable, of no more pages than the limit, with those of the stack
 pub record IsLoadable (file : List ℕ) (limit : ℕ) (image : Image) : Type 0 where
   pub some : 0 < length image.segments
   pub segments : AreLoadable file image.segments
-  pub within_limit : pages_of image.segments ≤ limit
+  pub within_limit : pages_of image.segments + stack_page_count ≤ limit

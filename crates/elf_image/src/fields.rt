@@ -1,6 +1,6 @@
 //! Little-endian numbers at offsets in a file.
 ghost use Rattle.std.specs.Prelude.{◌≡◌, ◌+◌, ◌<◌, ◌≤◌, length};
-ghost use Rattle.emu_model.specs.Image.{field_at};
+ghost use Rattle.emu_system.specs.Image.{field_at};
 
 use byteorder::{ByteOrder, LittleEndian};
 

@@ -1,10 +1,10 @@
 //! The ELF header.
 ghost use Rattle.std.specs.Prelude.{◌≡◌, Some, MatchResult, IfOk, IfNone};
-ghost use Rattle.emu_model.specs.Image.{header_fault, e_phoff, e_phnum};
+ghost use Rattle.emu_system.specs.Image.{header_fault, e_phoff, e_phnum};
 ghost use Rattle.elf_image.specs.Images.{IsHeader, HasHeaders};
 
 use crate::fields::{byte, doubleword, halfword, word};
-use emu_model::ElfFault;
+use emu_system::ElfFault;
 
 /// What an image takes from the ELF header.
 #[derive(Clone, Copy, Debug)]

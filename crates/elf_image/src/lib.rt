@@ -5,16 +5,18 @@ mod fields;
 mod header;
 mod segments;
 
-ghost use Rattle.std.specs.Prelude.{◌≡◌, ◌≤◌, length, IfOk};
-ghost use Rattle.emu_model.specs.Image.{elf, image_or_fault, e_phoff, is_simple};
-ghost use Rattle.elf_image.specs.Images.{seen, seen_image, HasHeaders};
+ghost use Rattle.std.specs.Prelude.{◌≡◌, IfOk};
+ghost use Rattle.emu_system.specs.Image.{elf};
+ghost use Rattle.elf_image.specs.Images.{seen};
 ghost use Rattle.elf_image.specs.Loadable.{IsLoadable};
 
-use crate::fields::doubleword;
 use crate::header::read_header;
-use crate::segments::{are_loads, headers_address, page_count, read_segments};
+use crate::segments::{headers_address, page_count, read_segments};
 use arrayvec::ArrayVec;
-pub use emu_model::{ElfFault, Segment};
+pub use emu_system::{ElfFault, Segment};
+
+/// The number of the stack's pages.
+const STACK_PAGES: u128 = 256;
 
 /// An executable: where it starts, and what of its file is mapped.
 #[derive(Debug, Drop)]
@@ -29,37 +31,20 @@ pub struct Image {
     pub segments: ArrayVec<Segment, 64>,
 }
 
-/// The image of a file of which at most `limit` pages may be mapped, or its refusal: `TooShort` where it has fewer than
-/// 64 bytes, else `BadMagic` where it isn't ELF, else `NotYet` where it is no image of one or two program headers, each of
-/// them PT_LOAD, or has more pages.
+/// The image of a file where at most `limit` pages may be mapped, the stack's 256 among them, or the first fault of the file
+/// in the order of the checks: first those of the header, then of each program header in order, last `NoSegments` and
+/// `TooManyPages`.
 pub fn read(bytes: &[u8], limit: u32) -> Result<Image, ElfFault>
     ensures image { seen result ≡ elf bytes.now limit }
     ensures loadable { IfOk (seen result) (IsLoadable bytes.now limit) }
-{
-    match image_or_fault(bytes) {
-        Ok(image) => {
-            if is_simple(bytes, limit, &image) {
-                Ok(image)
-            } else {
-                Err(ElfFault::NotYet)
-            }
-        }
-        Err(ElfFault::TooShort) => Err(ElfFault::TooShort),
-        Err(ElfFault::BadMagic) => Err(ElfFault::BadMagic),
-        Err(_) => Err(ElfFault::NotYet),
-    }
-}
-
-/// The image of a file, or the first fault in it. The limit of pages isn't tested here.
-fn image_or_fault(bytes: &[u8]) -> Result<Image, ElfFault>
-    ensures image { seen result ≡ image_or_fault bytes.now }
-    ensures headers { IfOk result (λ image. HasHeaders bytes.now (e_phoff bytes.now) image.phnum) }
-    ensures few { IfOk result (λ image. length image.segments.items ≤ 64) }
 {
     let header = read_header(bytes)?;
     let segments = read_segments(bytes, &header)?;
     if segments.is_empty() {
         return Err(ElfFault::NoSegments);
+    }
+    if page_count(&segments) + STACK_PAGES > u128::from(limit) {
+        return Err(ElfFault::TooManyPages);
     }
     Ok(Image {
         entry: header.entry,
@@ -68,17 +53,3 @@ fn image_or_fault(bytes: &[u8]) -> Result<Image, ElfFault>
         segments,
     })
 }
-
-/// Whether an image has one or two program headers, each of them PT_LOAD, and no more pages than the limit.
-fn is_simple(bytes: &[u8], limit: u32, image: &Image) -> bool
-    requires headers { HasHeaders bytes.now (e_phoff bytes.now) image.now.phnum }
-    requires few { length image.now.segments.items ≤ 64 }
-    ensures { result ≡ is_simple bytes.now limit (seen_image image.now) }
-{
-    (image.phnum == 1 || image.phnum == 2)
-        && are_loads(bytes, doubleword(bytes, 32), image.phnum)
-        && page_count(&image.segments) <= u128::from(limit)
-}
-
-#[cfg(test)]
-mod tests;

@@ -1,7 +1,7 @@
 //! The segments of the program headers.
 ghost use Rattle.std.specs.Prelude.{◌≡◌, ◌+◌, ◌<◌, ◌≤◌, ◌^◌, length, [], IfOk};
 ghost use Rattle.std.specs.List.{All};
-ghost use Rattle.emu_model.specs.Image.{header_at, is_load, is_segment, segment_of, segment_fault, segments_from, are_loads, overlaps_any, share_a_page, first_page, end_page, headers_address, pages_of, e_phoff};
+ghost use Rattle.emu_system.specs.Image.{header_at, is_load, is_segment, segment_of, segment_fault, segments_from, overlaps_any, share_a_page, first_page, end_page, headers_address, pages_of, e_phoff};
 ghost use Rattle.elf_image.specs.Images.{seen_header, seen_segments, HasHeaders};
 ghost use Rattle.elf_image.specs.Loadable.{AreLoadable};
 
@@ -9,7 +9,8 @@ use crate::fields::{doubleword, word};
 use crate::header::Header;
 use arrayvec::ArrayVec;
 use emu_bits::flag;
-use emu_model::{ElfFault, Rights, Segment};
+use emu_model::Rights;
+use emu_system::{ElfFault, Segment};
 
 /// A program header.
 #[derive(Clone, Copy, Debug)]
@@ -198,27 +199,12 @@ pub fn headers_address(phoff: u64, segments: &[Segment]) -> u64
 /// How many pages the segments have.
 pub fn page_count(segments: &[Segment]) -> u128
     requires { length segments.now ≤ 64 }
-    ensures { result ≡ pages_of segments.now }
+    ensures value { result ≡ pages_of segments.now }
+    ensures small { result < 2 ^ 72 }
 {
     let mut count: u128 = 0;
     for s in segments {
         count += end_page(s) - first_page(s);
     }
     count
-}
-
-/// Whether each of the `phnum` program headers from the offset `phoff` on is a PT_LOAD header.
-#[tactic(auto, using(crate::proofs::Loops::header_loops))]
-pub fn are_loads(bytes: &[u8], phoff: u64, phnum: u16) -> bool
-    requires phoff { phoff ≡ e_phoff bytes.now }
-    requires headers { HasHeaders bytes.now phoff phnum }
-    ensures { result ≡ are_loads bytes.now 0 phnum }
-{
-    for index in 0..phnum {
-        let h = ProgramHeader::at(bytes, phoff as usize + 56 * index as usize);
-        if !h.is_load() {
-            return false;
-        }
-    }
-    true
 }

@@ -3,5 +3,6 @@ pub mod Fields
 pub mod Flags
 pub mod Numbers
 pub mod Operations
+pub mod Reversal
 pub mod Rows
 pub mod Search

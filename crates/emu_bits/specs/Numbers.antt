@@ -7,6 +7,10 @@ use Rattle.emu_bits.specs.Fields.{bit}
 abbrev pub unsigned : ℕ → ℕ → ℕ
 unsigned n b = n % 2 ^ b
 
+-- the bits of a general register by sf: 64 of x registers, 32 of w registers
+abbrev pub width_of : Bool → ℕ
+width_of sf = if sf then 64 else 32
+
 -- any whole number modulo 2^b
 abbrev pub unsigned_int : ℤ → ℕ → ℕ
 unsigned_int (pos n) b = n % 2 ^ b
@@ -28,7 +32,7 @@ extended_bits ext = 8 * 2 ^ (ext % 4)
 abbrev pub extended : ℕ → ℕ → ℕ
 extended ext a = if nat_lt ext 4 then a % 2 ^ extended_bits ext else sign_extended 64 (extended_bits ext) a
 
--- the quotient towards zero, and 0 by 0
+-- the quotient towards zero, and 0 where the divisor is 0
 abbrev pub quotient : ℤ → ℤ → ℤ
 quotient a b = cond (unsigned_abs b == 0) (pos 0) (int_div a b)
 

@@ -81,7 +81,7 @@ upper_product a b = a * b / 2 ^ 64
 abbrev pub signed_upper_product : ℕ → ℕ → ℕ
 signed_upper_product a b = unsigned_int (int_shr (signed a 64 *ℤ signed b 64) 64) 64
 
--- quotients towards zero, and 0 by 0
+-- quotients towards zero, and 0 where the divisor is 0
 abbrev pub unsigned_quotient : ℕ → ℕ → ℕ
 unsigned_quotient a b = if nat_eq b 0 then 0 else a / b
 

@@ -143,6 +143,15 @@ impl PredLow {
         }
     }
 
+    /// The same register as one of all sixteen.
+    pub fn register(self) -> Pred
+        ensures { result ≡ self }
+    {
+        Pred {
+            number: self.number,
+        }
+    }
+
     /// Its number.
     pub fn get(self) -> u32
         ensures value { result ≡ self }

@@ -1,9 +1,13 @@
-pub mod Bytes
+pub mod Breaks
 pub mod CallLaws
 pub mod Gathered
+pub mod Laid
 pub mod Loading
 pub mod Logs
 pub mod Performed
+pub mod Plain
+pub mod Room
 pub mod Runs
 pub mod Stands
 pub mod Turns
+pub mod Written

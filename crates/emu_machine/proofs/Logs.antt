@@ -2,7 +2,7 @@
 use Rattle.std.proofs.Common.{◌≡◌, ◌<◌, ◌≤◌, ℕ, zero, suc, ◌+◌, ◌-◌, Bool, true, false, List, Option, Some, None, is_none, IfSome, if◌then◌else◌, refl, sym, ap, subst, ◌∙◌, arith}
 use Rattle.emu_model.specs.declared.access.Access.{Access}
 use Rattle.emu_model.specs.State.{Parts}
-use Rattle.emu_run.specs.SystemCall.{Turn}
+use Rattle.emu_system.specs.SystemCall.{Turn}
 use Rattle.emu_run.specs.Step.{accesses, step, turn}
 use Rattle.emu_run.specs.Run.{run}
 use Rattle.emu_machine.specs.Accesses.{last_accesses, run_accesses}

@@ -7,13 +7,14 @@ use Rattle.a64_insn.specs.declared.ops.BranchOp.TheVariants.{B, Bl}
 use Rattle.a64_insn.specs.declared.ops.BranchRegOp.TheVariants.{Br, Blr, Ret}
 use Rattle.a64_insn.specs.declared.ops.ExceptOp.TheVariants.{Svc, Brk, Hlt}
 use Rattle.emu_bits.specs.Flags.{cond_of, cond_holds}
+use Rattle.emu_bits.specs.Numbers.{width_of}
 use Rattle.emu_model.specs.declared.access.Access.{Access}
 use Rattle.emu_model.specs.declared.access.Kind.TheVariants.{Read as ReadKind, Write as WriteKind}
 use Rattle.emu_model.specs.declared.trap.TrapKind.TheVariants.{SpAlign}
 use Rattle.emu_model.specs.declared.trap.Effect.{Effect}
 use Rattle.emu_model.specs.declared.trap.Effect.TheVariants.{Call}
 use Rattle.emu_model.specs.Access.{Memory}
-use Rattle.emu_model.specs.declared.image.Break.{Break}
+use Rattle.emu_model.specs.declared.program_break.Break.{Break}
 use Rattle.emu_model.specs.declared.trap.Ended.{Ended}
 use Rattle.emu_model.specs.State.{Core, Vectors, read_x}
 use Rattle.emu_run.specs.declared.insn.Insn.{Insn}
@@ -32,7 +33,7 @@ use Rattle.emu_model.specs.Done.{Done, Registers, quietly, went_well, went_on_wi
 use Rattle.emu_model.specs.Elements.{Element, reach}
 use Rattle.a64_effects.specs.Flow.{branches_if, is_flow, is_taken, is_taken_by, digit, tested_bit, target, flow}
 use Rattle.a64_effects.specs.LoadStore.{access, behind, elements, has_sp_base, is_load_store, is_misaligned, load_as_far, loaded_to, misaligned, store_as_far, stored_to, tested, transfer_of, transferred, unless_misaligned}
-use Rattle.a64_effects.specs.Scalar.{is_data, operand, scalar, width_of}
+use Rattle.a64_effects.specs.Scalar.{is_data, operand, scalar}
 use Rattle.emu_run.specs.Step.{performed}
 use Rattle.emu_machine.specs.Machines.{MachineState, has_ended, is_svc}
 

@@ -4,17 +4,18 @@ use Rattle.std.proofs.lemmas.List.{drop-drop}
 use Rattle.emu_model.specs.declared.trap.Ended.{Ended}
 use Rattle.emu_model.specs.declared.trap.Ended.TheVariants.{Exit, Trap}
 use Rattle.emu_model.specs.State.{Parts, State, IsPrefix}
-use Rattle.emu_model.specs.Start.{with_input}
-use Rattle.emu_run.specs.SystemCall.{Turn, quiet}
+use Rattle.emu_system.specs.Start.{with_input}
+use Rattle.emu_system.specs.SystemCall.{Turn, quiet}
 use Rattle.emu_run.specs.Step.{step, turn}
 use Rattle.emu_run.specs.Run.{run}
 use Rattle.emu_run.specs.RunLaws.{IsRest, rest_all, rest_trans, turn_turns, prefix_trans, step_moves, run_moves, run_ended, run_spent, run_after_turn, behind}
 use Rattle.emu_machine.specs.declared.ends.StepEnd.{StepEnd}
-use Rattle.emu_machine.specs.declared.ends.StepEnd.TheVariants.{Going, Exit as StepExit, Trap as StepTrap, ReadFault, WriteFault, ErrorsFault, OutOfMemory}
+use Rattle.emu_machine.specs.declared.ends.StepEnd.TheVariants.{Going, Exit as StepExit, Trap as StepTrap, ReadFault, WriteFault, ErrorsFault}
 use Rattle.emu_machine.specs.declared.ends.RunEnd.{RunEnd}
-use Rattle.emu_machine.specs.declared.ends.RunEnd.TheVariants.{Exit as RunExit, Trap as RunTrap, Spent, ReadFault as RunReadFault, WriteFault as RunWriteFault, ErrorsFault as RunErrorsFault, OutOfMemory as RunOutOfMemory}
+use Rattle.emu_machine.specs.declared.ends.RunEnd.TheVariants.{Exit as RunExit, Trap as RunTrap, Spent, ReadFault as RunReadFault, WriteFault as RunWriteFault, ErrorsFault as RunErrorsFault}
 use Rattle.io_gate.specs.Streams.{Causes, Rose}
-use Rattle.emu_machine.specs.Ends.{Becomes, TakesWithin, Puts, Gains, LeftOf, step_end, run_end, run_end_of, is_undone, step_failed, run_failed, is_broken_off}
+use Rattle.linux_calls.specs.Puts.{Gains}
+use Rattle.emu_machine.specs.Ends.{Becomes, TakesWithin, Puts, LeftOf, step_end, run_end, run_end_of, is_undone, is_broken_off}
 use Rattle.emu_machine.specs.Machines.{MachineState, has_ended}
 
 -- ---- the clauses of a step and a run, together
@@ -207,11 +208,15 @@ broken_as (StepTrap t) = refl
 broken_as ReadFault = refl
 broken_as WriteFault = refl
 broken_as ErrorsFault = refl
-broken_as OutOfMemory = refl
 
 -- the same of the answer of the run
 pub ran_as : (f : State → State) (old new : Parts) (told left ho hn eo en : Option (List ℕ)) (step : StepEnd) (end : RunEnd) → end ≡ run_end_of step → Ran f old new told left ho hn eo en (is_undone step) → Ran f old new told left ho hn eo en (is_broken_off end)
 ran_as f old new told left ho hn eo en step end is r = ran_when f old new told left ho hn eo en _ _ (broken_as step ∙ ap is_broken_off (sym is)) r
+
+pub done_by_end : (e : Option Ended) → is_undone (step_end e) ≡ false
+done_by_end None = refl
+done_by_end (Some (Exit code)) = refl
+done_by_end (Some (Trap t)) = refl
 
 pub not_going : (e : Option Ended) (r : StepEnd) → r ≡ step_end e → (r ≡ Going → ⊥) → is_none e ≡ false
 not_going None r is other = absurd (other is)
@@ -223,10 +228,10 @@ is_going None is = refl
 is_going (Some (Exit code)) is = cc
 is_going (Some (Trap t)) is = cc
 
-pub goes_on_after : (s : MachineState) (r : StepEnd) → r ≡ Going → r ≡ step_end s.parts.ended → s.failed ≡ step_failed r → has_ended s ≡ false
+pub goes_on_after : (s : MachineState) (r : StepEnd) → r ≡ Going → r ≡ step_end s.parts.ended → s.failed ≡ is_undone r → has_ended s ≡ false
 goes_on_after s r going end failed =
     let e : is_some s.parts.ended ≡ false = is_going s.parts.ended (sym going ∙ end) in
-    let f : s.failed ≡ false = failed ∙ ap step_failed going in
+    let f : s.failed ≡ false = failed ∙ ap is_undone going in
     rw (e, f) refl
 
 pub goes : (e : Option Ended) (failed : Bool) → (is_some e || failed) ≡ false → is_none e ≡ true
@@ -240,7 +245,6 @@ step_of Spent = Going
 step_of RunReadFault = ReadFault
 step_of RunWriteFault = WriteFault
 step_of RunErrorsFault = ErrorsFault
-step_of RunOutOfMemory = OutOfMemory
 
 step_of_run : (r : StepEnd) → step_of (run_end_of r) ≡ r
 step_of_run Going = refl
@@ -249,7 +253,6 @@ step_of_run (StepTrap t) = refl
 step_of_run ReadFault = refl
 step_of_run WriteFault = refl
 step_of_run ErrorsFault = refl
-step_of_run OutOfMemory = refl
 
 -- the last step's answer by the run's
 pub last_step : (r : StepEnd) (x y : RunEnd) → x ≡ run_end_of r → x ≡ y → r ≡ step_of y
@@ -263,17 +266,8 @@ end_by (Some (Trap t)) = refl
 pub end_as : (r : StepEnd) (x : RunEnd) (e : Option Ended) → x ≡ run_end_of r → (is_undone r ≡ false → r ≡ step_end e) → is_broken_off x ≡ false → x ≡ run_end e
 end_as r x e is end fine = is ∙ ap run_end_of (end (broken_as r ∙ ap is_broken_off (sym is) ∙ fine)) ∙ end_by e
 
-failed_by : (r : StepEnd) → step_failed r ≡ run_failed (run_end_of r)
-failed_by Going = refl
-failed_by (StepExit code) = refl
-failed_by (StepTrap t) = refl
-failed_by ReadFault = refl
-failed_by WriteFault = refl
-failed_by ErrorsFault = refl
-failed_by OutOfMemory = refl
-
-pub failed_as : (r : StepEnd) (x : RunEnd) (failed : Bool) → x ≡ run_end_of r → failed ≡ step_failed r → failed ≡ run_failed x
-failed_as r x failed is f = f ∙ failed_by r ∙ ap run_failed (sym is)
+pub failed_as : (r : StepEnd) (x : RunEnd) (failed : Bool) → x ≡ run_end_of r → failed ≡ is_undone r → failed ≡ is_broken_off x
+failed_as r x failed is f = f ∙ broken_as r ∙ ap is_broken_off (sym is)
 
 -- a step that goes on has no other answer
 pub going_is_no : (r x : StepEnd) → (Going ≡ x → ⊥) → r ≡ Going → r ≡ x → ⊥

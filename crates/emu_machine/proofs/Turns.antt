@@ -7,7 +7,7 @@ use Rattle.emu_model.specs.Access.{done_unless, refused, value}
 use Rattle.emu_model.specs.State.{Parts}
 use Rattle.emu_run.specs.declared.insn.Insn.{Insn}
 use Rattle.emu_run.specs.Step.{accesses, decode, executed, executed_accesses, fetched, fetched_accesses, trapped, turn}
-use Rattle.emu_run.specs.SystemCall.{call, quiet}
+use Rattle.emu_system.specs.SystemCall.{call, quiet}
 use Rattle.emu_machine.specs.declared.ends.StepEnd.{StepEnd}
 
 -- an access that was done

@@ -1,13 +1,19 @@
 -- How a step and a run end, and what they make of the machine and of its streams.
-use Rattle.std.specs.Prelude.{◌≡◌, ◌≤◌, ℕ, ◌-◌, Bool, true, false, List, ◌++◌, length, drop, Option, Some, None, IfSome}
+use Rattle.std.specs.Prelude.{◌≡◌, ◌≤◌, ℕ, ◌+◌, ◌-◌, Bool, true, false, List, length, drop, Option, Some, None, IfSome}
 use Rattle.emu_model.specs.declared.trap.Ended.{Ended}
 use Rattle.emu_model.specs.declared.trap.Ended.TheVariants.{Exit, Trap}
-use Rattle.emu_model.specs.State.{Parts, State, IsPrefix}
-use Rattle.emu_model.specs.Start.{with_input}
+use Rattle.emu_model.specs.Access.{address}
+use Rattle.emu_model.specs.State.{Parts, State}
+use Rattle.emu_system.specs.Start.{with_input}
+use Rattle.emu_system.specs.SystemCall.{action, went_on}
+use Rattle.linux_calls.specs.declared.end.CallEnd.{CallEnd}
+use Rattle.linux_calls.specs.declared.end.CallEnd.TheVariants.{Returned, Exit as CallExit, ReadFault as CallReadFault, WriteFault as CallWriteFault, ErrorsFault as CallErrorsFault}
+use Rattle.linux_calls.specs.Ends.{Stores}
+use Rattle.linux_calls.specs.Puts.{Gains}
 use Rattle.emu_machine.specs.declared.ends.StepEnd.{StepEnd}
-use Rattle.emu_machine.specs.declared.ends.StepEnd.TheVariants.{Going, Exit as StepExit, Trap as StepTrap, ReadFault as StepReadFault, WriteFault as StepWriteFault, ErrorsFault as StepErrorsFault, OutOfMemory as StepOutOfMemory}
+use Rattle.emu_machine.specs.declared.ends.StepEnd.TheVariants.{Going, Exit as StepExit, Trap as StepTrap, ReadFault as StepReadFault, WriteFault as StepWriteFault, ErrorsFault as StepErrorsFault}
 use Rattle.emu_machine.specs.declared.ends.RunEnd.{RunEnd}
-use Rattle.emu_machine.specs.declared.ends.RunEnd.TheVariants.{Exit as RunExit, Trap as RunTrap, Spent, ReadFault, WriteFault, ErrorsFault, OutOfMemory}
+use Rattle.emu_machine.specs.declared.ends.RunEnd.TheVariants.{Exit as RunExit, Trap as RunTrap, Spent, ReadFault, WriteFault, ErrorsFault}
 
 -- ---- the answers
 
@@ -31,28 +37,8 @@ run_end_of (StepTrap t) = RunTrap t
 run_end_of StepReadFault = ReadFault
 run_end_of StepWriteFault = WriteFault
 run_end_of StepErrorsFault = ErrorsFault
-run_end_of StepOutOfMemory = OutOfMemory
 
--- a stream failed
-abbrev pub step_failed : StepEnd → Bool
-step_failed Going = false
-step_failed (StepExit _) = false
-step_failed (StepTrap _) = false
-step_failed StepReadFault = true
-step_failed StepWriteFault = true
-step_failed StepErrorsFault = true
-step_failed StepOutOfMemory = false
-
-abbrev pub run_failed : RunEnd → Bool
-run_failed (RunExit _) = false
-run_failed (RunTrap _) = false
-run_failed Spent = false
-run_failed ReadFault = true
-run_failed WriteFault = true
-run_failed ErrorsFault = true
-run_failed OutOfMemory = false
-
--- a stream failed or memory was wanting, so the step wasn't done
+-- a stream failed, so the step wasn't done
 abbrev pub is_undone : StepEnd → Bool
 is_undone Going = false
 is_undone (StepExit _) = false
@@ -60,7 +46,15 @@ is_undone (StepTrap _) = false
 is_undone StepReadFault = true
 is_undone StepWriteFault = true
 is_undone StepErrorsFault = true
-is_undone StepOutOfMemory = true
+
+-- and it was a sink
+abbrev pub is_unput : StepEnd → Bool
+is_unput Going = false
+is_unput (StepExit _) = false
+is_unput (StepTrap _) = false
+is_unput StepReadFault = false
+is_unput StepWriteFault = true
+is_unput StepErrorsFault = true
 
 -- the last step wasn't done
 abbrev pub is_broken_off : RunEnd → Bool
@@ -70,7 +64,28 @@ is_broken_off Spent = false
 is_broken_off ReadFault = true
 is_broken_off WriteFault = true
 is_broken_off ErrorsFault = true
-is_broken_off OutOfMemory = true
+
+-- ---- a step that makes a call, by how the call ended
+
+abbrev pub step_by : CallEnd → StepEnd
+step_by Returned = Going
+step_by (CallExit code) = StepExit code
+step_by CallReadFault = StepReadFault
+step_by CallWriteFault = StepWriteFault
+step_by CallErrorsFault = StepErrorsFault
+
+-- the machine goes on behind a call that returned, and a call that wasn't done leaves it as it is
+abbrev pub left_by : CallEnd → Parts → Parts
+left_by Returned m = went_on m m.core m.vectors m.memory (address (m.core.pc + 4))
+left_by (CallExit code) m = record m { steps = m.steps + 1; ended = Some (Exit code) }
+left_by CallReadFault m = m
+left_by CallWriteFault m = m
+left_by CallErrorsFault m = m
+
+-- a machine whose last step wasn't done stands before the call that it made, and the bytes that were taken are stored
+pub record IsKept (old new : Parts) (told left : Option (List ℕ)) : Type 0 where
+  pub is : new ≡ record old { memory = new.memory }
+  pub stored : Stores (action old) old.memory new.memory told left
 
 -- ---- what f makes of a machine and of its streams. A call is broken off where a step of it wasn't done.
 
@@ -87,17 +102,6 @@ pub record LeftOf (bytes : List ℕ) (least : ℕ) (left : Option (List ℕ)) : 
 -- where the input told its bytes, and the call was broken off: no more was taken than f takes
 abbrev pub TakesWithin : (State → State) → Parts → Option (List ℕ) → Option (List ℕ) → Bool → Type 0
 TakesWithin f old told left broken = IfSome told (λ bytes. broken ≡ true → LeftOf bytes (length (f (with_input old bytes)).input) left)
-
--- the first of these bytes came behind those that were held
-pub record HoldsFirst (held : Option (List ℕ)) (had bytes : List ℕ) : Type 0 where
-  pub gained : List ℕ
-  pub is : held ≡ Some (had ++ gained)
-  pub first : IsPrefix gained bytes
-
--- these bytes came behind those that were held, or where the call was broken off the first of them
-abbrev pub Gains : Bool → Option (List ℕ) → List ℕ → List ℕ → Type 0
-Gains false held had bytes = held ≡ Some (had ++ bytes)
-Gains true held had bytes = HoldsFirst held had bytes
 
 -- where the input told its bytes, and the sink what it held: the sink gained the bytes that f puts to it
 abbrev pub Puts : (State → List ℕ) → Parts → Option (List ℕ) → Option (List ℕ) → Option (List ℕ) → Bool → Type 0

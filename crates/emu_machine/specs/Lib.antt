@@ -1,6 +1,5 @@
 pub mod Accesses
-pub mod Arguments
 pub mod Ends
-pub mod Errors
+pub mod Layouts
 pub mod Loads
 pub mod Machines

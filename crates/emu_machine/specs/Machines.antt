@@ -10,7 +10,8 @@ use Rattle.emu_model.specs.State.{Parts, State, coded_parts}
 use Rattle.emu_run.specs.declared.insn.Insn.{Insn}
 use Rattle.emu_run.specs.declared.insn.Insn.TheVariants.{A64}
 use Rattle.emu_run.specs.Step.{decode, taken_by}
-use Rattle.emu_run.specs.SystemCall.{call, kind_of_call, file_of, write}
+use Rattle.emu_system.specs.SystemCall.{call}
+use Rattle.linux_calls.specs.Names.{NamesRead, NamesWrite}
 
 -- `accesses` are those of the last step, and none before the first; `failed` says that a stream failed in a step, which ends
 -- the machine
@@ -45,12 +46,12 @@ is_svc insn = false
 abbrev pub is_at_call : Parts → Bool
 is_at_call m = is_svc (decode (value m.memory m.core.pc 4))
 
--- x8 and x0 name a write to this file
-pub record NamesWrite (m : Parts) (number : ℕ) : Type 0 where
-  pub call : kind_of_call m ≡ write
-  pub file : file_of m ≡ number
-
--- and the next instruction makes it
-pub record MakesWrite (m : Parts) (number : ℕ) : Type 0 where
+-- the next instruction is a call that reads the input
+pub record MakesRead (m : Parts) : Type 0 where
   pub svc : is_at_call m ≡ true
-  pub names : NamesWrite m number
+  pub names : NamesRead m.core
+
+-- the next instruction is a call that writes to this file
+pub record MakesWrite (m : Parts) (file : ℕ) : Type 0 where
+  pub svc : is_at_call m ≡ true
+  pub names : NamesWrite m.core file

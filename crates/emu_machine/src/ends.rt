@@ -1,7 +1,7 @@
 //! How a step and a run end.
 use emu_model::Trap;
 
-/// How a step ended. After a fault of a stream and where memory was wanting, the step wasn't done.
+/// How a step ended. After a fault of a stream the step wasn't done.
 #[derive(Clone, Copy, Debug, PartialEq, Eq)]
 pub enum StepEnd {
     /// The machine goes on.
@@ -16,11 +16,9 @@ pub enum StepEnd {
     WriteFault,
     /// The stream of errors failed.
     ErrorsFault,
-    /// There was no memory left. No step wants memory so far, so it never comes.
-    OutOfMemory,
 }
 
-/// How a run ended. After a fault of a stream and where memory was wanting, its last step wasn't done.
+/// How a run ended. After a fault of a stream its last step wasn't done.
 #[derive(Clone, Copy, Debug, PartialEq, Eq)]
 pub enum RunEnd {
     /// The program ended itself with this code.
@@ -35,6 +33,4 @@ pub enum RunEnd {
     WriteFault,
     /// The stream of errors failed.
     ErrorsFault,
-    /// There was no memory left. No run wants memory so far, so it never comes.
-    OutOfMemory,
 }

@@ -17,6 +17,7 @@ use sve_insn::{Sve, SveForm};
 use vec_regs::VecRegs;
 
 /// Does an instruction, logs the elements that it loads or stores, and says what it leaves to the step.
+#[inline(always)]
 pub fn perform(
     core: &mut Core,
     vec: &mut VecRegs,
@@ -34,6 +35,7 @@ pub fn perform(
 }
 
 /// Does an A64 instruction.
+#[inline(always)]
 #[tactic(auto, using(a64_effects::specs::Pages::others_are_bit_moves))]
 fn perform_a64(
     core: &mut Core,
@@ -54,7 +56,8 @@ fn perform_a64(
     }
 }
 
-/// Does an SVE instruction.
+/// Does an SVE instruction. It isn't inlined into the step, which then keeps the form of an A64 instruction in registers.
+#[inline(never)]
 #[tactic(auto, using(sve_effects::specs::Pages::others_are_first_fault))]
 fn perform_sve(
     core: &mut Core,
@@ -133,7 +136,7 @@ fn elements_of(core: &Core, vec: &VecRegs, insn: &Sve) -> ElementList
     ensures bytes { result.bytes ≡ (layout insn.now core.now vec.now).bytes }
     ensures is_signed { result.signed ≡ loads_signed insn.now }
 {
-    if is_contiguous(insn) {
+    if is_first_contiguous(insn) {
         sve_loads::elements(core, vec, insn)
     } else {
         sve_gather::elements(core, vec, insn)
@@ -141,7 +144,7 @@ fn elements_of(core: &Core, vec: &VecRegs, insn: &Sve) -> ElementList
 }
 
 /// Whether an instruction is a contiguous first-faulting or non-faulting load.
-fn is_contiguous(insn: &Sve) -> bool
+fn is_first_contiguous(insn: &Sve) -> bool
     ensures { result ≡ is_first_contiguous insn.now }
 {
     matches!(

@@ -4,14 +4,17 @@
 //! run make of it are the definitions of `emu_run`, over streams that tell their bytes.
 #![tactic(auto)]
 
+mod arguments;
 mod calls;
 mod ends;
 mod exec;
 mod load;
 mod machine;
 mod open;
-mod ranges;
+mod program;
+mod stack;
 
+pub use arguments::are_arguments;
 pub use emu_model::{Ended, Length, Trap, TrapKind};
 pub use ends::{RunEnd, StepEnd};
 pub use machine::Machine;

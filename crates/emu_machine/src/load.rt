@@ -1,54 +1,49 @@
 //! The segments of a file as pages of memory.
-ghost use Rattle.std.specs.Prelude.{◌≡◌, ◌+◌, ◌≤◌, ◌<◌, ◌^◌, IfOk, length};
+ghost use Rattle.std.specs.Prelude.{◌≡◌, ◌+◌, ◌≤◌, ◌<◌, ◌^◌, length};
 ghost use Rattle.std.specs.FinMap as map;
-ghost use Rattle.std.specs.List.{All};
-ghost use Rattle.emu_model.specs.Image.{end_page};
+ghost use Rattle.std.specs.List.{All, flat_map};
+ghost use Rattle.emu_system.specs.Image.{first_page, end_page, page_count, pages_of};
 ghost use Rattle.emu_model.specs.Pages.{with_bytes};
-ghost use Rattle.emu_model.specs.Start.{highest_page, pages_at_start};
-ghost use Rattle.elf_image.specs.Loadable.{IsLoadableSegment};
-ghost use Rattle.emu_machine.specs.Loads.{HasSegment, IsBelowLimit};
+ghost use Rattle.emu_system.specs.Start.{highest_page, segment_page, segment_pages};
+ghost use Rattle.elf_image.specs.Loadable.{AreLoadable, IsLoadableSegment};
+ghost use Rattle.guest_pages.specs.MapFault.{map_fault};
+ghost use Rattle.emu_machine.specs.Loads.{HasPages, IsBelowLimit};
 
 use elf_image::Segment;
-use guest_pages::{OutOfMemory, Pages};
-use std::alloc::AllocError;
+use guest_pages::Pages;
 
 /// The number of bytes of a page.
 const PAGE_BYTES: u64 = 4096;
 
 /// Maps the pages of the segments, with the file's bytes in their place and 0 elsewhere.
-pub fn load_segments(
-    pages: &mut Pages,
-    file: &[u8],
-    segments: &[Segment],
-) -> Result<(), OutOfMemory>
-    requires loadable { All (IsLoadableSegment file.now) segments.now }
+pub fn load_segments(pages: &mut Pages, file: &[u8], segments: &[Segment])
+    requires loadable { AreLoadable file.now segments.now }
     requires empty { pages.old.pages ≡ map.empty }
-    ensures pages { IfOk result (λ _. pages.new ≡ record pages.old { pages = pages_at_start file.now segments.now }) }
+    requires within_limit { pages_of segments.now ≤ pages.old.limit }
+    ensures { pages.new ≡ record pages.old { pages = map.from_entries (flat_map (segment_pages file.now) segments.now) } }
 {
     for segment in segments {
-        load_segment(pages, file, segment)?;
+        load_segment(pages, file, segment);
     }
-    Ok(())
 }
 
-/// Maps the pages of a segment, none of which is mapped, with the file's bytes in their place and 0 elsewhere.
-fn load_segment(pages: &mut Pages, file: &[u8], segment: &Segment) -> Result<(), OutOfMemory>
-    requires { IsLoadableSegment file.now segment.now }
-    ensures { IfOk result (λ _. HasSegment file.now segment.now pages.old pages.new) }
+/// Maps the pages of a segment, which are free, with the file's bytes in their place and 0 elsewhere.
+fn load_segment(pages: &mut Pages, file: &[u8], segment: &Segment)
+    requires loadable { IsLoadableSegment file.now segment.now }
+    requires free { map_fault pages.old (first_page segment.now) (page_count segment.now) ≡ None }
+    ensures { HasPages (first_page segment.now) (page_count segment.now) (segment_page file.now segment.now) pages.old pages.new }
 {
     let first = segment.address / PAGE_BYTES;
     let end = end_page(segment);
-    if let Err(_) = pages.map(first, end - first, segment.rights) {
-        return Err(AllocError);
-    }
+    // nothing refuses it
+    let _ = pages.map(first, end - first, segment.rights);
     let from = segment.offset as usize;
     let to = from + segment.file_size as usize;
     copy(pages, segment.address, &file[from..to]);
-    Ok(())
 }
 
 /// Writes bytes from an address on, page by page. What falls on pages that aren't mapped is left out.
-fn copy(pages: &mut Pages, address: u64, bytes: &[u8])
+pub fn copy(pages: &mut Pages, address: u64, bytes: &[u8])
     requires { address + length bytes.now ≤ 2 ^ 47 }
     ensures { pages.new ≡ with_bytes pages.old address bytes.now }
 {

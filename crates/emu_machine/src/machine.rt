@@ -1,13 +1,15 @@
 //! The machine, its step and its run.
-ghost use Rattle.std.specs.Prelude.{◌≡◌, ◌≢◌, ◌<◌, ◌≤◌, ◌+◌, ◌-◌, ◌^◌, List, [], ℕ, IfSome, MatchOption, Option, Some, None, is_none, true, false};
+ghost use Rattle.std.specs.Prelude.{◌≡◌, ◌<◌, ◌≤◌, ◌+◌, ◌-◌, ◌^◌, List, [], ℕ, IfSome, MatchOption, Some, None, is_none, true, false};
 ghost use Rattle.io_gate.specs.Streams.{Causes};
-ghost use Rattle.emu_model.specs.Start.{with_input};
+ghost use Rattle.emu_model.specs.State.{IsSoundBreak};
+ghost use Rattle.emu_system.specs.Start.{with_input};
 ghost use Rattle.emu_run.specs.Run as runs;
 ghost use Rattle.emu_run.specs.Step as model;
-ghost use Rattle.emu_run.specs.SystemCall.{call, quiet, went_on};
+ghost use Rattle.emu_system.specs.SystemCall.{call, quiet, went_on};
 ghost use Rattle.emu_machine.specs.Accesses.{run_accesses};
-ghost use Rattle.emu_machine.specs.Ends.{step_end, run_end, run_end_of, step_failed, run_failed, is_undone, is_broken_off, Becomes, TakesWithin, Puts};
-ghost use Rattle.emu_machine.specs.Machines.{has_ended, is_at_call, is_svc, MakesWrite};
+ghost use Rattle.linux_calls.specs.Names.{NamesRead};
+ghost use Rattle.emu_machine.specs.Ends.{step_end, run_end, run_end_of, is_undone, is_unput, is_broken_off, Becomes, TakesWithin, Puts, IsKept};
+ghost use Rattle.emu_machine.specs.Machines.{has_ended, is_at_call, is_svc, MakesRead, MakesWrite};
 
 use crate::ends::{RunEnd, StepEnd};
 use crate::exec::perform;
@@ -26,7 +28,7 @@ pub struct Machine {
     pub(crate) vec: VecRegs,
     pub(crate) memory: Mem,
     log: AccessLog,
-    brk: Break,
+    pub(crate) brk: Break,
     pub(crate) steps: u64,
     pub(crate) ended: Option<Ended>,
     pub(crate) failed: bool,
@@ -44,11 +46,16 @@ impl Model for Machine {
       accesses = a.log.items;
       failed = a.failed;
     } };
+
+    ghost use Rattle.emu_model.specs.State.{IsSoundBreak};
+
+    ghost invariant = { λ a. IsSoundBreak a.brk };
 }
 
 impl Machine {
     /// A machine before its first step.
     pub(crate) fn at_start(core: Core, vec: VecRegs, memory: Mem, brk: Break) -> Machine
+        requires { IsSoundBreak brk }
         ensures { result ≡ record { parts = record { core = core; vectors = vec; memory = memory; brk = brk; steps = 0; ended = None }; accesses = []; failed = false } }
     {
         Machine {
@@ -196,8 +203,9 @@ impl Machine {
     /// Takes one step: the word at the program counter is fetched and decoded, and its instruction is done.
     ///
     /// `Going` and `Exit` count the step, and `Trap` doesn't. A fault of a stream is answered exactly where that stream failed, and the
-    /// machine has then ended with the step not done. `OutOfMemory` never comes so far: no step wants memory. The accesses are those of this step whatever it answers: a
-    /// trap leaves those of the elements before the one that was refused, and a call leaves none.
+    /// machine has then ended with the step not done: it is as before, but that bytes which the call took are stored. No step wants
+    /// memory. The accesses are those of this step whatever it answers: a trap leaves those of the elements before the one that was
+    /// refused, and a call leaves none.
     pub fn step<I: Source, O: Sink, E: Sink>(
         &mut self,
         input: &mut I,
@@ -212,15 +220,17 @@ impl Machine {
         ensures errors { Puts (λ st. (model.step st).errors) self.old.parts (I.left input.old) (E.held errors.old) (E.held errors.new) (is_undone result) }
         ensures end { is_undone result ≡ false → result ≡ step_end self.new.parts.ended }
         ensures counted { result ≡ StepEnd.Going → self.new.parts.steps ≡ self.old.parts.steps + 1 }
-        ensures kept { is_undone result ≡ true → self.new.parts ≡ self.old.parts }
+        ensures kept { is_undone result ≡ true → IsKept self.old.parts self.new.parts (I.left input.old) (I.left input.new) }
+        ensures unstored { is_unput result ≡ true → self.new.parts ≡ self.old.parts }
         ensures accesses { self.new.accesses ≡ model.accesses self.old.parts }
-        ensures failed { self.new.failed ≡ step_failed result }
+        ensures undone { is_undone result ≡ true → self.new.accesses ≡ [] }
+        ensures failed { self.new.failed ≡ is_undone result }
         ensures read_cause { Causes (result ≡ StepEnd.ReadFault) (I.faults input.old) (I.faults input.new) }
         ensures write_cause { Causes (result ≡ StepEnd.WriteFault) (O.faults output.old) (O.faults output.new) }
         ensures errors_cause { Causes (result ≡ StepEnd.ErrorsFault) (E.faults errors.old) (E.faults errors.new) }
+        ensures read_named { result ≡ StepEnd.ReadFault → MakesRead self.old.parts }
         ensures write_named { result ≡ StepEnd.WriteFault → MakesWrite self.old.parts 1 }
         ensures errors_named { result ≡ StepEnd.ErrorsFault → MakesWrite self.old.parts 2 }
-        ensures no_memory { result ≢ StepEnd.OutOfMemory }
     {
         self.log.clear();
         match self.plain() {
@@ -232,8 +242,8 @@ impl Machine {
     /// Takes steps until the machine has ended or has counted `budget` steps in all, which is `Spent`.
     ///
     /// After a fault of a stream, which is answered exactly where that stream failed, the machine has ended. It then stands before the
-    /// step that wasn't done: it is what a run with a budget of the steps counted so far leaves. `OutOfMemory` never comes so far.
-    /// The accesses are those of the last step that was taken, done or not, and as before where none was.
+    /// step that wasn't done: it is what a run with a budget of the steps counted so far leaves, but that bytes which the call took are
+    /// stored. No run wants memory. The accesses are those of the last step that was taken, done or not, and as before where none was.
     pub fn run<I: Source, O: Sink, E: Sink>(
         &mut self,
         budget: u64,
@@ -250,17 +260,17 @@ impl Machine {
         ensures end { is_broken_off result ≡ false → result ≡ run_end self.new.parts.ended }
         ensures spent { result ≡ RunEnd.Spent → self.new.parts.steps ≡ budget }
         ensures accesses { IfSome (I.left input.old) (λ bytes. is_broken_off result ≡ false → self.new.accesses ≡ run_accesses self.old.accesses self.old.parts bytes budget) }
-        ensures undone { is_broken_off result ≡ true → self.new.accesses ≡ model.accesses self.new.parts }
-        ensures kept { IfSome (I.left input.old) (λ bytes. is_broken_off result ≡ true → self.new.parts ≡ (runs.run (with_input self.old.parts bytes) self.new.parts.steps).parts) }
+        ensures undone { is_broken_off result ≡ true → self.new.accesses ≡ [] }
+        ensures kept { IfSome (I.left input.old) (λ bytes. is_broken_off result ≡ true → IsKept (runs.run (with_input self.old.parts bytes) self.new.parts.steps).parts self.new.parts (Some (runs.run (with_input self.old.parts bytes) self.new.parts.steps).input) (I.left input.new)) }
         ensures unspent { is_broken_off result ≡ true → self.new.parts.steps < budget }
         ensures unended { is_broken_off result ≡ true → is_none self.new.parts.ended ≡ true }
-        ensures failed { self.new.failed ≡ run_failed result }
+        ensures failed { self.new.failed ≡ is_broken_off result }
         ensures read_cause { Causes (result ≡ RunEnd.ReadFault) (I.faults input.old) (I.faults input.new) }
         ensures write_cause { Causes (result ≡ RunEnd.WriteFault) (O.faults output.old) (O.faults output.new) }
         ensures errors_cause { Causes (result ≡ RunEnd.ErrorsFault) (E.faults errors.old) (E.faults errors.new) }
+        ensures read_named { result ≡ RunEnd.ReadFault → NamesRead self.new.parts.core }
         ensures write_named { result ≡ RunEnd.WriteFault → MakesWrite self.new.parts 1 }
         ensures errors_named { result ≡ RunEnd.ErrorsFault → MakesWrite self.new.parts 2 }
-        ensures no_memory { result ≢ RunEnd.OutOfMemory }
     {
         while self.steps < budget {
             match self.step(input, output, errors) {
@@ -283,6 +293,5 @@ fn run_end_of(end: StepEnd) -> RunEnd
         StepEnd::ReadFault => RunEnd::ReadFault,
         StepEnd::WriteFault => RunEnd::WriteFault,
         StepEnd::ErrorsFault => RunEnd::ErrorsFault,
-        StepEnd::OutOfMemory => RunEnd::OutOfMemory,
     }
 }

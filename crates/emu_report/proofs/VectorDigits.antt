@@ -6,7 +6,7 @@ use Rattle.std.proofs.lemmas.List.{reverse-append}
 use Rattle.std.proofs.lemmas.List.FromFn.{get_or-map-range_with_len}
 use Rattle.std.proofs.lemmas.Nat.{shr-shr}
 use Rattle.emu_bits.specs.Fields.{bit}
-use Rattle.emu_model.specs.Lists.{each, each-more, length-each}
+use Rattle.emu_model.specs.Lists.{each, each-more, each_same, length-each}
 use Rattle.emu_run.specs.Text.{hex, hex_digit}
 use Rattle.emu_run.specs.Registers.{byte_digits, bit_digits, nibble}
 use Rattle.vec_regs.specs.Words.{byte_of, bit_of, bytes_of, bits_of}
@@ -22,9 +22,6 @@ same_ranges f g a b (suc n) h =
     λ k lt. let p : a + 1 + k ≡ a + (k + 1) = omega arith in let q : b + (k + 1) ≡ b + 1 + k = omega arith in ap f p ∙ h (k + 1) (omega arith) ∙ ap g q in
     let rest : map f (range_with_len (a + 1) n) ≡ map g (range_with_len (b + 1) n) = same_ranges f g (a + 1) (b + 1) n later in
     cc
-
-each_same : {A : Type 0} (f g : ℕ → A) (n : ℕ) → ((k : ℕ) → k < n → f k ≡ g k) → each n f ≡ each n g
-each_same f g n h = same_ranges f g 0 0 n (λ k lt. let p : 0 + k ≡ k = omega arith in ap f p ∙ h k lt ∙ ap g (sym p))
 
 -- from the last down, the last first
 last_first : (f : ℕ → ℕ) (n : ℕ) → each (suc n) (λ k. f (suc n - 1 - k)) ≡ f n ∷ each n (λ k. f (n - 1 - k))
@@ -128,7 +125,7 @@ pub p_digits : (words : List ℕ) (p : List Bool) (bits : ℕ) → bits % 128 �
 p_digits words p bits h e =
     let quarter : length (bits_of (bits / 8) words) / 4 ≡ bits / 32 = ap (λ (n : ℕ). n / 4) (length-each (bits / 8) (bit_of words)) ∙ omega arith in
     let digits = λ (n : ℕ). each n (λ k. hex_digit (nibble (bits_of (bits / 8) words) (n - 1 - k))) in
-    each_same (λ k. hex_digit (digit_of words (bits / 32 - 1 - k))) (λ k. hex_digit (nibble (bits_of (bits / 8) words) (bits / 32 - 1 - k))) (bits / 32)
+    each_same (bits / 32) (λ k. hex_digit (digit_of words (bits / 32 - 1 - k))) (λ k. hex_digit (nibble (bits_of (bits / 8) words) (bits / 32 - 1 - k))) 0
     (λ k lt. ap hex_digit (sym (nibble_is words (bits / 8) (bits / 32 - 1 - k) (omega arith))))
     ∙ ap digits (sym quarter)
     ∙ ap bit_digits (sym e)

@@ -5,7 +5,9 @@ ghost use Rattle.emu_run.specs.Reports.{address_text, after_steps, at_place, at_
 
 use crate::names::{fault_index, fault_name, trap_name, words_name};
 use crate::text::Text;
-use emu_model::{ElfFault, Trap, WordsFault};
+use emu_model::Trap;
+use emu_run::WordsFault;
+use emu_system::ElfFault;
 use io_gate::{Failed, Sink};
 
 /// Puts the line of a program that ended by a call, as `exit 7 after 3 steps`.
@@ -48,7 +50,7 @@ pub fn put_spent<S: Sink>(steps: u64, sink: &mut S) -> Result<(), Failed>
     text.put(sink)
 }
 
-/// Puts the line of a refused command line, as `refused words NotYet at 0`.
+/// Puts the line of a refused command line, as `refused words BadLength at 3`.
 pub fn put_words_refusal<S: Sink>(f: &WordsFault, sink: &mut S) -> Result<(), Failed>
     ensures bytes { PutsAll (S.held sink.old) (S.held sink.new) (words_line f.now) result }
     ensures cause { HasCause (S.faults sink.old) (S.faults sink.new) result }

@@ -2,7 +2,9 @@
 ghost use Rattle.std.specs.Prelude.{◌≡◌, ◌≤◌, length};
 ghost use Rattle.emu_run.specs.Reports.{trap_name, words_name, fault_name, fault_index};
 
-use emu_model::{ElfFault, TrapKind, WordsWhy};
+use emu_model::TrapKind;
+use emu_run::WordsWhy;
+use emu_system::ElfFault;
 
 /// A trap's kind.
 pub fn trap_name(kind: TrapKind) -> &'static str
@@ -28,7 +30,21 @@ pub fn words_name(why: WordsWhy) -> &'static str
     ensures short { length result.now ≤ 16 }
 {
     match why {
-        WordsWhy::NotYet => "NotYet",
+        WordsWhy::TooManyWords => "TooManyWords",
+        WordsWhy::WordsTooLong => "WordsTooLong",
+        WordsWhy::ZeroByte => "ZeroByte",
+        WordsWhy::NoCommand => "NoCommand",
+        WordsWhy::UnknownCommand => "UnknownCommand",
+        WordsWhy::UnknownOption => "UnknownOption",
+        WordsWhy::Repeated => "Repeated",
+        WordsWhy::MissingValue => "MissingValue",
+        WordsWhy::BadNumber => "BadNumber",
+        WordsWhy::BadLength => "BadLength",
+        WordsWhy::OutOfRange => "OutOfRange",
+        WordsWhy::ExtraWord => "ExtraWord",
+        WordsWhy::MissingWord => "MissingWord",
+        WordsWhy::MissingLength => "MissingLength",
+        WordsWhy::MissingBudget => "MissingBudget",
     }
 }
 
@@ -56,7 +72,6 @@ pub fn fault_name(fault: ElfFault) -> &'static str
         ElfFault::Overlap(_) => "Overlap",
         ElfFault::NoSegments => "NoSegments",
         ElfFault::TooManyPages => "TooManyPages",
-        ElfFault::NotYet => "NotYet",
     }
 }
 

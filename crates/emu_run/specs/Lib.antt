@@ -1,3 +1,4 @@
+pub mod CommandLine
 pub mod Least
 pub mod Outcome
 pub mod Registers
@@ -7,5 +8,4 @@ pub mod RunLaws
 pub mod Sound
 pub mod Statuses
 pub mod Step
-pub mod SystemCall
 pub mod Text

@@ -4,11 +4,11 @@ use Rattle.std.specs.Fmt.{decimal}
 use Rattle.emu_model.specs.declared.trap.Trap.{Trap}
 use Rattle.emu_model.specs.declared.trap.TrapKind.{TrapKind}
 use Rattle.emu_model.specs.declared.trap.TrapKind.TheVariants.{Undefined, Halt, Break, PcAlign, SpAlign, AccessAlign, Fetch, Read, Write}
-use Rattle.emu_model.specs.declared.command_line.WordsFault.{WordsFault}
-use Rattle.emu_model.specs.declared.command_line.WordsWhy.{WordsWhy}
-use Rattle.emu_model.specs.declared.command_line.WordsWhy.TheVariants.{NotYet as WordsNotYet}
-use Rattle.emu_model.specs.declared.image.ElfFault.{ElfFault}
-use Rattle.emu_model.specs.declared.image.ElfFault.TheVariants.{TooShort, BadMagic, BadClass, BadData, BadVersion, BadType, BadMachine, BadHeaderSize, TooManySegments, HeadersOutside, Interpreter, SegmentOutside, FileOverMemory, AddressOutside, NotCongruent, Overlap, NoSegments, TooManyPages, NotYet}
+use Rattle.emu_run.specs.declared.command_line.WordsFault.{WordsFault}
+use Rattle.emu_run.specs.declared.command_line.WordsWhy.{WordsWhy}
+use Rattle.emu_run.specs.declared.command_line.WordsWhy.TheVariants.{TooManyWords, WordsTooLong, ZeroByte, NoCommand, UnknownCommand, UnknownOption, Repeated, MissingValue, BadNumber, BadLength, OutOfRange, ExtraWord, MissingWord, MissingLength, MissingBudget}
+use Rattle.emu_system.specs.declared.image.ElfFault.{ElfFault}
+use Rattle.emu_system.specs.declared.image.ElfFault.TheVariants.{TooShort, BadMagic, BadClass, BadData, BadVersion, BadType, BadMachine, BadHeaderSize, TooManySegments, HeadersOutside, Interpreter, SegmentOutside, FileOverMemory, AddressOutside, NotCongruent, Overlap, NoSegments, TooManyPages}
 use Rattle.emu_run.specs.Text.{hex, newline}
 
 -- a trap's kind as it is printed
@@ -40,7 +40,21 @@ spent_line steps = codes "spent" ++ after_steps steps
 
 -- the name of a cause, and the number that stands behind it
 abbrev pub words_name : WordsWhy → List ℕ
-words_name WordsNotYet = codes "NotYet"
+words_name TooManyWords = codes "TooManyWords"
+words_name WordsTooLong = codes "WordsTooLong"
+words_name ZeroByte = codes "ZeroByte"
+words_name NoCommand = codes "NoCommand"
+words_name UnknownCommand = codes "UnknownCommand"
+words_name UnknownOption = codes "UnknownOption"
+words_name Repeated = codes "Repeated"
+words_name MissingValue = codes "MissingValue"
+words_name BadNumber = codes "BadNumber"
+words_name BadLength = codes "BadLength"
+words_name OutOfRange = codes "OutOfRange"
+words_name ExtraWord = codes "ExtraWord"
+words_name MissingWord = codes "MissingWord"
+words_name MissingLength = codes "MissingLength"
+words_name MissingBudget = codes "MissingBudget"
 
 abbrev pub fault_name : ElfFault → List ℕ
 fault_name TooShort = codes "TooShort"
@@ -61,7 +75,6 @@ fault_name (NotCongruent i) = codes "NotCongruent"
 fault_name (Overlap i) = codes "Overlap"
 fault_name NoSegments = codes "NoSegments"
 fault_name TooManyPages = codes "TooManyPages"
-fault_name NotYet = codes "NotYet"
 
 abbrev pub fault_index : ElfFault → Option ℕ
 fault_index TooShort = None
@@ -82,7 +95,6 @@ fault_index (NotCongruent i) = Some i
 fault_index (Overlap i) = Some i
 fault_index NoSegments = None
 fault_index TooManyPages = None
-fault_index NotYet = None
 
 abbrev pub at_place : ℕ → List ℕ
 at_place place = codes " at " ++ decimal place

@@ -1,18 +1,18 @@
 -- How a run goes on from step to step: what each step counts, what it appends and what it takes.
-use Rattle.std.specs.Prelude.{◌≡◌, ◌<◌, ◌≤◌, ◌⊎◌, ℕ, zero, suc, ◌+◌, ◌-◌, ◌%◌, Bool, true, false, List, [], ◌++◌, length, drop, Option, Some, None, is_none, nat_eq, if◌then◌else◌}
+use Rattle.std.specs.Prelude.{◌≡◌, ◌<◌, ◌≤◌, ◌⊎◌, ℕ, zero, suc, ◌+◌, ◌-◌, ◌%◌, Bool, true, false, List, [], ◌++◌, length, drop, min, Option, Some, None, is_none, nat_eq, if◌then◌else◌}
 use Rattle.std.proofs.Common.{inl, inr, refl, ap, sym, ◌∙◌, append_assoc, append-nil, arith, length-drop}
-use Rattle.std.proofs.lemmas.List.{drop-drop}
+use Rattle.std.proofs.lemmas.List.{drop-drop, drop_min}
 use Rattle.emu_model.specs.declared.access.Kind.TheVariants.{Fetch as FetchKind}
 use Rattle.emu_model.specs.declared.trap.TrapKind.TheVariants.{PcAlign}
 use Rattle.emu_model.specs.declared.trap.Effect.{Effect}
 use Rattle.emu_model.specs.declared.trap.Effect.TheVariants.{Next, Branch, Call, Trap as Trapping}
 use Rattle.emu_model.specs.Access.{Memory, refused, value}
 use Rattle.emu_model.specs.State.{Core, Vectors, Parts, State, IsPrefix}
-use Rattle.emu_model.specs.Start.{with_input}
+use Rattle.emu_system.specs.Start.{with_input}
 use Rattle.emu_run.specs.declared.insn.Insn.{Insn}
-use Rattle.emu_run.specs.SystemCall.{Turn, quiet, call_of, kind_of_call, CallKind, write_of, writing, Writing, exit, write, unknown, no_file, no_bytes, no_right, to_output, to_errors}
+use Rattle.emu_system.specs.SystemCall.{Action, fails, answers, maps, moves_break, takes, puts, exits, Turn, quiet, total, done_by, action}
 use Rattle.emu_model.specs.Done.{Done}
-use Rattle.emu_run.specs.Step.{decode, performed, trapped, finished, finish, undefined, executed, fetched, turn, taken_by, step}
+use Rattle.emu_run.specs.Step.{decode, performed, trapped, finished, undefined, executed, fetched, turn, taken_by, step}
 use Rattle.emu_run.specs.Run.{goes_on, until_end, run}
 
 -- ---- the equations of a run
@@ -69,22 +69,19 @@ pub record IsTurn (m : Parts) (input : List ℕ) (t : Turn) : Type 0 where
   pub counts : CountsOrEnds m t.parts
   pub takes : IsRest input t.input
 
-write_turns : (w : Writing) (m : Parts) (input : List ℕ) → IsTurn m input (write_of w m input)
-write_turns no_file m input = record { counts = inr refl; takes = rest_all input }
-write_turns no_bytes m input = record { counts = inr refl; takes = rest_all input }
-write_turns no_right m input = record { counts = inr refl; takes = rest_all input }
-write_turns to_output m input = record { counts = inr refl; takes = rest_all input }
-write_turns to_errors m input = record { counts = inr refl; takes = rest_all input }
-
-call_turns : (kind : CallKind) (m : Parts) (input : List ℕ) → IsTurn m input (call_of kind m input)
-call_turns exit m input = record { counts = inl refl; takes = rest_all input }
-call_turns write m input = write_turns (writing m) m input
-call_turns unknown m input = record { counts = inr refl; takes = rest_all input }
+done_turns : (a : Action) (m : Parts) (input : List ℕ) → IsTurn m input (done_by a m input)
+done_turns (fails e) m input = record { counts = inr refl; takes = rest_all input }
+done_turns (answers v) m input = record { counts = inr refl; takes = rest_all input }
+done_turns (maps memory v) m input = record { counts = inr refl; takes = rest_all input }
+done_turns (moves_break memory to) m input = record { counts = inr refl; takes = rest_all input }
+done_turns (takes ranges) m input = record { counts = inr refl; takes = record { taken = min (total ranges) (length input); within = omega arith; is = sym (drop_min (total ranges) input) } }
+done_turns (puts file ranges) m input = record { counts = inr refl; takes = rest_all input }
+done_turns (exits code) m input = record { counts = inl refl; takes = rest_all input }
 
 finished_turns : (m : Parts) (input : List ℕ) (c : Core) (v : Vectors) (memory : Memory) (e : Effect) → IsTurn m input (finished m input c v memory e)
 finished_turns m input c v memory Next = record { counts = inr refl; takes = rest_all input }
 finished_turns m input c v memory (Branch a) = record { counts = inr refl; takes = rest_all input }
-finished_turns m input c v memory Call = call_turns (kind_of_call m) m input
+finished_turns m input c v memory Call = done_turns (action m) m input
 finished_turns m input c v memory (Trapping t) = record { counts = inl refl; takes = rest_all input }
 
 undefined_turns : (m : Parts) (input : List ℕ) → IsTurn m input (undefined m input)

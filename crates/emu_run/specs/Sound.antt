@@ -1,24 +1,23 @@
 -- Each step keeps a state sound.
 use Rattle.std.specs.Prelude.{ℕ, ◌+◌, ◌%◌, true, false, List, Option, Some, None, IfSome, nat_eq, if◌then◌else◌}
-use Rattle.std.proofs.Common.{arith}
 use Rattle.emu_model.specs.declared.access.Kind.TheVariants.{Fetch as FetchKind}
 use Rattle.emu_model.specs.declared.trap.TrapKind.{TrapKind}
 use Rattle.emu_model.specs.declared.trap.TrapKind.TheVariants.{Undefined, PcAlign, Fetch}
 use Rattle.emu_model.specs.declared.trap.Effect.{Effect}
 use Rattle.emu_model.specs.declared.trap.Effect.TheVariants.{Next, Branch, Call, Trap as Trapping}
 use Rattle.emu_model.specs.Access.{Memory, address, refused, value}
-use Rattle.emu_model.specs.State.{Core, Vectors, Parts, State, read_x, with_x, IsWord, IsByte, AreBytes, IsSoundCore, IsSoundVectors, IsSoundMemory, IsSoundParts, IsSound}
+use Rattle.emu_model.specs.State.{Core, Vectors, Parts, State, IsWord, IsByte, AreBytes, IsSoundCore, IsSoundVectors, IsSoundMemory, IsSoundParts, IsSound}
 use Rattle.emu_model.specs.SoundLists.{all_append}
-use Rattle.emu_model.specs.Sound.{with_x_sound, with_pc_sound, monitor_sound, address_is_word, bytes_at_are_bytes, refused_is_word}
+use Rattle.emu_model.specs.Sound.{address_is_word, refused_is_word}
 use Rattle.emu_run.specs.declared.insn.Insn.{Insn}
 use Rattle.emu_run.specs.declared.insn.Insn.TheVariants.{A64, Sve}
 use Rattle.emu_model.specs.Done.{Done}
 use Rattle.emu_model.specs.SoundDone.{IsSoundEffect, IsSoundDone}
 use Rattle.a64_effects.specs.SoundEffects.{performed_sound as a64_sound}
 use Rattle.sve_effects.specs.SoundEffects.{performed_sound as sve_sound}
-use Rattle.vec_model.specs.SoundLanes.{after_call_sound}
-use Rattle.emu_run.specs.SystemCall.{Turn, quiet, went_on, answered_core, returned, error_answer, count_of, bytes_written, Writing, no_file, no_bytes, no_right, to_output, to_errors, writing, write_of, CallKind, exit, write, unknown, kind_of_call, call_of}
-use Rattle.emu_run.specs.Step.{decode, performed, trapped, finished, finish, undefined, executed, fetched, turn, taken_by, step}
+use Rattle.emu_system.specs.SoundCall.{IsSoundTurn, quiet_sound, went_on_sound, call_sound}
+use Rattle.emu_system.specs.SystemCall.{Turn, quiet, went_on}
+use Rattle.emu_run.specs.Step.{decode, performed, trapped, finished, undefined, executed, fetched, turn, taken_by, step}
 
 -- ---- what an instruction leaves
 
@@ -28,61 +27,15 @@ performed_sound (Sve form) c v m s u t = sve_sound form c v m s u t
 
 -- ---- what a step makes of the machine
 
-record IsSoundTurn (t : Turn) : Type 0 where
-  parts : IsSoundParts t.parts
-  input : AreBytes t.input
-  output : AreBytes t.output
-  errors : AreBytes t.errors
-
-quiet_sound : (m : Parts) (input : List ℕ) → IsSoundParts m → AreBytes input → IsSoundTurn (quiet m input)
-quiet_sound m input s bytes = record { parts = s; input = bytes; output = tt; errors = tt }
-
-went_on_sound : (m : Parts) (c : Core) (v : Vectors) (memory : Memory) (a : ℕ) → IsSoundParts m → IsSoundCore c → IsSoundVectors v → IsSoundMemory memory → IsWord a → IsSoundParts (went_on m c v memory a)
-went_on_sound m c v memory a s core vectors mem w = record { core = with_pc_sound c a w core; vectors = vectors; memory = mem; brk = s.brk; ended = s.ended }
-
 trapped_sound : (m : Parts) (kind : TrapKind) (a : ℕ) → IsSoundParts m → IsWord a → IsSoundParts (trapped m kind a)
 trapped_sound m kind a s w = record { core = s.core; vectors = s.vectors; memory = s.memory; brk = s.brk; ended = w }
-
--- ---- calls
-
-answered_sound : (c : Core) (v : ℕ) → IsSoundCore c → IsSoundCore (answered_core c v)
-answered_sound c v s = monitor_sound (with_x c 0 64 v) None tt (with_x_sound c 0 64 v (omega arith) s)
-
-returned_sound : (m : Parts) (v : ℕ) → IsSoundParts m → IsSoundParts (returned m v)
-returned_sound m v s = record {
-  core = with_pc_sound (answered_core m.core v) (address (m.core.pc + 4)) (address_is_word (m.core.pc + 4)) (answered_sound m.core v s.core);
-  vectors = after_call_sound m.vectors s.vectors;
-  memory = s.memory;
-  brk = s.brk;
-  ended = s.ended;
-}
-
-written_sound : (m : Parts) → IsSoundParts m → AreBytes (bytes_written m)
-written_sound m s = bytes_at_are_bytes m.memory (read_x m.core 1) (count_of m) s.memory
-
-write_sound : (w : Writing) (m : Parts) (input : List ℕ) → IsSoundParts m → AreBytes input → IsSoundTurn (write_of w m input)
-write_sound no_file m input s bytes = quiet_sound (returned m (error_answer 9)) input (returned_sound m (error_answer 9) s) bytes
-write_sound no_bytes m input s bytes = quiet_sound (returned m 0) input (returned_sound m 0 s) bytes
-write_sound no_right m input s bytes = quiet_sound (returned m (error_answer 14)) input (returned_sound m (error_answer 14) s) bytes
-write_sound to_output m input s bytes = record { parts = returned_sound m (count_of m) s; input = bytes; output = written_sound m s; errors = tt }
-write_sound to_errors m input s bytes = record { parts = returned_sound m (count_of m) s; input = bytes; output = tt; errors = written_sound m s }
-
-call_sound : (kind : CallKind) (m : Parts) (input : List ℕ) → IsSoundParts m → AreBytes input → IsSoundTurn (call_of kind m input)
-call_sound exit m input s bytes = record {
-  parts = record { core = s.core; vectors = s.vectors; memory = s.memory; brk = s.brk; ended = omega arith };
-  input = bytes;
-  output = tt;
-  errors = tt;
-}
-call_sound write m input s bytes = write_sound (writing m) m input s bytes
-call_sound unknown m input s bytes = quiet_sound (returned m (error_answer 38)) input (returned_sound m (error_answer 38) s) bytes
 
 -- ---- a step
 
 finished_sound : (m : Parts) (input : List ℕ) (c : Core) (v : Vectors) (memory : Memory) (e : Effect) → IsSoundParts m → AreBytes input → IsSoundCore c → IsSoundVectors v → IsSoundMemory memory → IsSoundEffect e → IsSoundTurn (finished m input c v memory e)
 finished_sound m input c v memory Next s bytes core vectors mem w = quiet_sound (went_on m c v memory (address (c.pc + 4))) input (went_on_sound m c v memory (address (c.pc + 4)) s core vectors mem (address_is_word (c.pc + 4))) bytes
 finished_sound m input c v memory (Branch a) s bytes core vectors mem w = quiet_sound (went_on m c v memory a) input (went_on_sound m c v memory a s core vectors mem w) bytes
-finished_sound m input c v memory Call s bytes core vectors mem w = call_sound (kind_of_call m) m input s bytes
+finished_sound m input c v memory Call s bytes core vectors mem w = call_sound m input s bytes
 finished_sound m input c v memory (Trapping t) s bytes core vectors mem w =
     let n : Parts = record m { core = c; vectors = v; memory = memory } in
     let sound : IsSoundParts n = record { core = core; vectors = vectors; memory = mem; brk = s.brk; ended = s.ended } in

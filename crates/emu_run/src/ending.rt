@@ -2,7 +2,9 @@
 ghost use Rattle.std.specs.Prelude.{◌≡◌};
 ghost use Rattle.emu_run.specs.Statuses.{status_of};
 
-use emu_model::{ElfFault, Trap, WordsFault};
+use crate::command_line::WordsFault;
+use emu_model::Trap;
+use emu_system::ElfFault;
 
 /// How a command ended.
 #[derive(Clone, Copy, Debug, PartialEq, Eq)]

@@ -2,10 +2,11 @@
 use Rattle.std.proofs.Common.{◌≡◌, ℕ, zero, suc, ◌+◌, ◌-◌, ◌<◌, ◌≤◌, ◌==◌, Bool, true, false, cond, ◌||◌, List, [], ◌∷◌, ◌++◌, length, set, get_or, refl, sym, ap, subst, ◌∙◌, arith, length-set, None, Some, Option, is_some, option_map, eqb}
 use Rattle.std.specs.Ordering.{nat_cmp}
 use Rattle.std.specs.Cmp.{nat_cmp_total, unsigned_tied}
-use Rattle.std.specs.FinMap.{FinMap, get, insert, remove, len, empty, find, contains_key, same_map, nat_cmp-IsAntisymmetric, get-from_entries, get-insert, get-remove, get-empty, from_entries, len-insert, len-remove, len-empty, empty_of_len}
-use Rattle.std.proofs.lemmas.Bool.{eqb-true, eqb-false, ne_eqb, eq-eqb, false≢true}
-use Rattle.std.proofs.lemmas.List.{get_or-set_same, get_or-set_other, get_or_read}
-use Rattle.frame_arena.specs.Frames.{Frames, IsLive, Takes, Gives, with_bytes, fresh}
+use Rattle.std.specs.FinMap.{get, insert, remove, len, find, contains_key, same_map, nat_cmp-IsAntisymmetric, get-from_entries, get-insert, get-remove, get-empty, from_entries, len-insert, len-remove, len-empty, empty_of_len}
+use Rattle.std.proofs.lemmas.Bool.{eqb-true, eqb-false, ne_eqb, eq-eqb, false≢true, or_parts}
+use Rattle.std.proofs.lemmas.List.{get_or-set_same, get_or-set_other, get_or_read, get_or_push, get_or_past, length_push}
+use Rattle.frame_arena.proofs.Callers.{by_bool}
+use Rattle.frame_arena.specs.Frames.{Frames, Live, IsLive, Takes, Gives, with_bytes}
 use Rattle.frame_links.specs.Links.{Place}
 use Rattle.frame_links.specs.declared.page.Page.{Page}
 use Rattle.frame_links.specs.Lending.{with_bytes as with_page}
@@ -13,10 +14,6 @@ use Rattle.frame_arena.specs.Lending.{with_slot}
 use Rattle.frame_arena.specs.declared.slot.Slot.{Slot}
 use denote.RawPtr.{Ptr}
 use Rattle.frame_arena.specs.Slots.{slot_bytes, no_page, bytes_at, entry, entries_of, live_slots, seen, lists, AreVacant, IsWhole, IsSeated, AreSeated}
-
-by_bool : {P : Type 0} (b : Bool) → (b ≡ true → P) → (b ≡ false → P) → P
-by_bool true y n = y refl
-by_bool false y n = n refl
 
 find-entry_same : (q n : ℕ) (o : Option (List ℕ)) (es : List (ℕ × List ℕ)) → q ≡ n → find nat_cmp q es ≡ None → find nat_cmp q (entry n o es) ≡ o
 find-entry_same q n None es e none = none
@@ -61,34 +58,21 @@ live-emptied ss i s l e =
     ∙ sym (get-remove nat_cmp_total (live_slots ss) i q))
 
 -- ---- a slot at the end
-pub length-push : (ss : List Slot) (s : Slot) → length (ss ++ s ∷ []) ≡ length ss + 1
-length-push [] s = refl
-length-push (t ∷ ts) s = let e = length-push ts s in omega (arith, e)
-
-pub push_same : (ss : List Slot) (s : Slot) → get_or (ss ++ s ∷ []) (length ss) no_page ≡ s
-push_same [] s = refl
-push_same (t ∷ ts) s = push_same ts s
-
 pub push_other : (ss : List Slot) (s : Slot) (q : ℕ) → (q ≡ length ss → ⊥) → get_or (ss ++ s ∷ []) q no_page ≡ get_or ss q no_page
 push_other [] s zero ne = absurd (ne refl)
 push_other [] s (suc q) ne = refl
 push_other (t ∷ ts) s zero ne = refl
 push_other (t ∷ ts) s (suc q) ne = push_other ts s q (λ e. ne (omega (arith, e)))
 
-slot_past : (ss : List Slot) (q : ℕ) → length ss ≤ q → get_or ss q no_page ≡ no_page
-slot_past [] q l = refl
-slot_past (s ∷ ss) zero l = absurd (omega (arith, l))
-slot_past (s ∷ ss) (suc q) l = slot_past ss q (omega (arith, l))
-
 bytes_past : (ss : List Slot) (q : ℕ) → length ss ≤ q → bytes_at ss q ≡ None
-bytes_past ss q l = ap slot_bytes (slot_past ss q l)
+bytes_past ss q l = ap slot_bytes (get_or_past ss q no_page l)
 
 pub live-pushed : (ss : List Slot) (s : Slot) (z : List ℕ) → slot_bytes s ≡ Some z → live_slots (ss ++ s ∷ []) ≡ insert (live_slots ss) (length ss) z
 live-pushed ss s z e =
     same_map nat_cmp_total nat_cmp-IsAntisymmetric _ _ (λ q.
     get-slots (ss ++ s ∷ []) q
     ∙ by_bool (q == length ss)
-    (λ t. ap (bytes_at (ss ++ s ∷ [])) (eqb-true q (length ss) t) ∙ ap slot_bytes (push_same ss s) ∙ e ∙ ap (λ b. cond b (Some z) (get (live_slots ss) q)) (sym t))
+    (λ t. ap (bytes_at (ss ++ s ∷ [])) (eqb-true q (length ss) t) ∙ ap slot_bytes (get_or_push ss s no_page (length ss) refl) ∙ e ∙ ap (λ b. cond b (Some z) (get (live_slots ss) q)) (sym t))
     (λ t. ap slot_bytes (push_other ss s q (eqb-false q (length ss) t)) ∙ sym (get-slots ss q) ∙ ap (λ b. cond b (Some z) (get (live_slots ss) q)) (sym t))
     ∙ ap (λ b. cond b (Some z) (get (live_slots ss) q)) (sym (unsigned_tied q (length ss)))
     ∙ sym (get-insert nat_cmp_total (live_slots ss) (length ss) z q))
@@ -98,7 +82,7 @@ live-same ss s e =
     same_map nat_cmp_total nat_cmp-IsAntisymmetric _ _ (λ q.
     get-slots (ss ++ s ∷ []) q
     ∙ by_bool (q == length ss)
-    (λ t. ap (bytes_at (ss ++ s ∷ [])) (eqb-true q (length ss) t) ∙ ap slot_bytes (push_same ss s) ∙ e ∙ sym (ap (bytes_at ss) (eqb-true q (length ss) t) ∙ bytes_past ss (length ss) (omega arith)))
+    (λ t. ap (bytes_at (ss ++ s ∷ [])) (eqb-true q (length ss) t) ∙ ap slot_bytes (get_or_push ss s no_page (length ss) refl) ∙ e ∙ sym (ap (bytes_at ss) (eqb-true q (length ss) t) ∙ bytes_past ss (length ss) (omega arith)))
     (λ t. ap slot_bytes (push_other ss s q (eqb-false q (length ss) t)))
     ∙ sym (get-slots ss q))
 
@@ -108,12 +92,12 @@ len-pushed ss s z e =
     ∙ ap (λ o. cond (is_some o) (len (live_slots ss)) (len (live_slots ss) + 1)) (get-slots ss (length ss) ∙ bytes_past ss (length ss) (omega arith))
 
 pub whole-pushed : (ss : List Slot) (fs : List Place) (s : Slot) (z : List ℕ) → slot_bytes s ≡ Some z → IsWhole ss fs → IsWhole (ss ++ s ∷ []) fs
-whole-pushed ss fs s z e w = let more = len-pushed ss s z e in omega (arith, more, w, length-push ss s)
+whole-pushed ss fs s z e w = let more = len-pushed ss s z e in omega (arith, more, w, length_push ss s)
 
 pub vacant-pushed : (ss : List Slot) (fs : List Place) (s : Slot) → AreVacant ss fs → AreVacant (ss ++ s ∷ []) fs
 vacant-pushed ss [] s v = tt
 vacant-pushed ss (f ∷ fs) s v =
-    (omega (arith, length-push ss s, v.0), ap slot_bytes (push_other ss s f.2 (λ e. omega (arith, e, v.0))) ∙ v.1, v.2, vacant-pushed ss fs s v.3)
+    (omega (arith, length_push ss s, v.0), ap slot_bytes (push_other ss s f.2 (λ e. omega (arith, e, v.0))) ∙ v.1, v.2, vacant-pushed ss fs s v.3)
 
 -- where no frame is in the list each has a page, the last one too
 small_cond : (b : Bool) (n m : ℕ) → n ≤ m → cond b n (n + 1) ≤ m + 1
@@ -139,8 +123,8 @@ len_most ss = let l = len_entries (entries_of 0 ss) in let k = length-entries 0 
 
 module _ (ss : List Slot) (s : Slot) (w : IsWhole (ss ++ s ∷ []) []) where
   last_of : (o : Option (List ℕ)) → slot_bytes s ≡ o → (is_some o ≡ true) × IsWhole ss []
-  last_of None e = let l = len_most ss in let k = ap len (live-same ss s e) in absurd (omega (arith, w, l, k, length-push ss s))
-  last_of (Some z) e = let k = len-pushed ss s z e in (refl, omega (arith, w, k, length-push ss s))
+  last_of None e = let l = len_most ss in let k = ap len (live-same ss s e) in absurd (omega (arith, w, l, k, length_push ss s))
+  last_of (Some z) e = let k = len-pushed ss s z e in (refl, omega (arith, w, k, length_push ss s))
 
   pub last_page : is_some (slot_bytes s) ≡ true
   last_page = (last_of (slot_bytes s) refl).0
@@ -158,33 +142,25 @@ seated-set p ss i s l at h n =
 pub seated-pushed : (p : Ptr) (ss : List Slot) (s : Slot) → IsSeated p (length ss) s.page → AreSeated p ss → AreSeated p (ss ++ s ∷ [])
 seated-pushed p ss s at h n =
     by_bool (n == length ss)
-    (λ t. subst (λ (k : ℕ). IsSeated p k (get_or (ss ++ s ∷ []) k no_page).page) (sym (eqb-true n (length ss) t)) (subst (λ (x : Slot). IsSeated p (length ss) x.page) (sym (push_same ss s)) at))
+    (λ t. subst (λ (k : ℕ). IsSeated p k (get_or (ss ++ s ∷ []) k no_page).page) (sym (eqb-true n (length ss) t)) (subst (λ (x : Slot). IsSeated p (length ss) x.page) (sym (get_or_push ss s no_page (length ss) refl)) at))
     (λ t. subst (λ (x : Slot). IsSeated p n x.page) (sym (push_other ss s n (eqb-false n (length ss) t))) (h n))
 
 module _ (p : Ptr) (ss : List Slot) (s : Slot) (h : AreSeated p (ss ++ s ∷ [])) where
   pub seated_last : IsSeated p (length ss) s.page
-  seated_last = subst (λ (x : Slot). IsSeated p (length ss) x.page) (push_same ss s) (h (length ss))
+  seated_last = subst (λ (x : Slot). IsSeated p (length ss) x.page) (get_or_push ss s no_page (length ss) refl) (h (length ss))
 
   pub seated_before : AreSeated p ss
   seated_before n =
       by_bool (n == length ss)
-      (λ t. subst (λ (x : Slot). IsSeated p n x.page) (sym (slot_past ss n (omega (arith, eqb-true n (length ss) t)))) tt)
+      (λ t. subst (λ (x : Slot). IsSeated p n x.page) (sym (get_or_past ss n no_page (omega (arith, eqb-true n (length ss) t)))) tt)
       (λ t. subst (λ (x : Slot). IsSeated p n x.page) (push_other ss s n (eqb-false n (length ss) t)) (h n))
-
-or_first : (a b : Bool) → (a || b) ≡ false → a ≡ false
-or_first true b e = cc
-or_first false b e = refl
-
-or_second : (a b : Bool) → (a || b) ≡ false → b ≡ false
-or_second true b e = cc
-or_second false b e = e
 
 -- a change of a frame that is not in the list leaves it as it was
 pub vacant-set : (ss : List Slot) (fs : List Place) (i : ℕ) (s : Slot) → i < length ss → lists i fs ≡ false → AreVacant ss fs → AreVacant (set ss i s) fs
 vacant-set ss [] i s l n v = tt
 vacant-set ss (f ∷ fs) i s l n v =
-    let ne : f.2 ≡ i → ⊥ = λ e. eqb-false i f.2 (or_first (i == f.2) _ n) (sym e) in
-    (omega (arith, length-set ss i s, v.0), ap slot_bytes (get_or-set_other ss i f.2 s no_page ne) ∙ v.1, v.2, vacant-set ss fs i s l (or_second (i == f.2) _ n) v.3)
+    let ne : f.2 ≡ i → ⊥ = λ e. eqb-false i f.2 ((or_parts (i == f.2) _ n).0) (sym e) in
+    (omega (arith, length-set ss i s, v.0), ap slot_bytes (get_or-set_other ss i f.2 s no_page ne) ∙ v.1, v.2, vacant-set ss fs i s l ((or_parts (i == f.2) _ n).1) v.3)
 
 -- a live frame is in the table, and not in the list
 pub live-in : (ss : List Slot) (q : ℕ) → contains_key (live_slots ss) q ≡ true → q < length ss
@@ -219,7 +195,7 @@ module _ (n : ℕ) (ss : List Slot) (fs : List Place) (a : Frames) (is : seen n 
   pub takes_next : (s : Slot) (z : List ℕ) → length ss < n → slot_bytes s ≡ Some z → Takes a (length ss) z (seen n (ss ++ s ∷ []) fs)
   takes_next s z l e =
       subst (λ (x : Frames). Takes x (length ss) z (seen n (ss ++ s ∷ []) fs)) is
-      (get-slots ss (length ss) ∙ bytes_past ss (length ss) (omega arith), omega (arith, l, length-push ss s), live-pushed ss s z e, refl)
+      (get-slots ss (length ss) ∙ bytes_past ss (length ss) (omega arith), omega (arith, l, length_push ss s), live-pushed ss s z e, refl)
 
 -- a frame that was given back
 pub takes : (n : ℕ) (ss : List Slot) (f : Place) (fs : List Place) (a : Frames) → seen n ss (f ∷ fs) ≡ a → (s : Slot) (z : List ℕ) → AreVacant ss (f ∷ fs) → slot_bytes s ≡ Some z → Takes a f.2 z (seen n (set ss f.2 s) fs)
@@ -256,7 +232,7 @@ pub rewritten : (o : Option Page) (w : List ℕ) → is_some o ≡ true → opti
 rewritten None w e = absurd (false≢true e)
 rewritten (Some p) w e = refl
 
-len-with : (m : FinMap nat_cmp (List ℕ)) (q : ℕ) → contains_key m q ≡ true → 0 < len m
+len-with : (m : Live) (q : ℕ) → contains_key m q ≡ true → 0 < len m
 len-with m q e =
     by_bool (eqb (len m) 0)
     (λ t. absurd (false≢true (sym (ap is_some (ap (λ k. get k q) (empty_of_len m (eqb-true (len m) 0 t)) ∙ get-empty nat_cmp q)) ∙ e)))
@@ -304,6 +280,3 @@ module _ (n : ℕ) (ss : List Slot) (fs : List Place) (a : Frames) (is : seen n 
 -- a new arena
 pub fresh_whole : IsWhole [] []
 fresh_whole = let e = len-empty nat_cmp (List ℕ) in omega (arith, e)
-
-pub fresh_seen : (n : ℕ) → seen n [] [] ≡ fresh n
-fresh_seen n = let e : n - 0 + 0 ≡ n = omega arith in λ i. record { live = empty; spare = e i; total = n }

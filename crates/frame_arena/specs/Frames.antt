@@ -4,15 +4,19 @@ use Rattle.std.specs.Coded.{Coded, code_by, coded×, coded_ℕ, coded_list}
 use Rattle.std.specs.FinMap.{FinMap, code, empty, get, insert, remove, contains_key}
 use Rattle.std.specs.Ordering.{nat_cmp}
 
--- the bytes of each live frame by its number, how many frames are spare, and how many there are
+-- the bytes of the live frames by their numbers
+abbrev pub Live : Type 0
+Live = FinMap nat_cmp (List ℕ)
+
+-- the live frames, how many are spare, and how many there are
 pub record Frames : Type 0 where
-  pub live : FinMap nat_cmp (List ℕ)
+  pub live : Live
   pub spare : ℕ
   pub total : ℕ
 
 abbrev pub frames_code : Coded Frames
 frames_code =
-    code_by (FinMap nat_cmp (List ℕ) × (ℕ × ℕ)) (coded× (code {R = nat_cmp} coded_ℕ (coded_list coded_ℕ)) (coded× coded_ℕ coded_ℕ)) (λ f. (f.live, (f.spare, f.total))) (λ p. record { live = p.0; spare = p.1.0; total = p.1.1 }) (λ _. refl)
+    code_by (Live × (ℕ × ℕ)) (coded× (code {R = nat_cmp} coded_ℕ (coded_list coded_ℕ)) (coded× coded_ℕ coded_ℕ)) (λ f. (f.live, (f.spare, f.total))) (λ p. record { live = p.0; spare = p.1.0; total = p.1.1 }) (λ _. refl)
 
 -- 4,096 bytes, all 0
 unfoldable pub zeroed : List ℕ

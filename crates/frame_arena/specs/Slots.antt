@@ -1,8 +1,7 @@
 -- What the table of frames has, and what it is beside the list of the spare ones.
 use Rattle.std.specs.Prelude.{◌≡◌, ℕ, ◌+◌, ◌-◌, ◌*◌, ◌<◌, ◌≤◌, ◌^◌, ◌==◌, Bool, false, ◌||◌, List, [], ◌∷◌, length, slice_index_or, Option, Some, None, option_map}
-use Rattle.std.specs.FinMap.{FinMap, from_entries, len}
-use Rattle.std.specs.Ordering.{nat_cmp}
-use Rattle.frame_arena.specs.Frames.{Frames}
+use Rattle.std.specs.FinMap.{from_entries, len}
+use Rattle.frame_arena.specs.Frames.{Frames, Live}
 use Rattle.frame_links.specs.Links.{Place}
 use Rattle.std.specs.Vec.{vec_capacity}
 use denote.RawPtr.{Ptr, block_ptr, block_of, count_of}
@@ -31,7 +30,7 @@ abbrev pub entries_of : ℕ → List Slot → List (ℕ × List ℕ)
 entries_of n [] = []
 entries_of n (s ∷ ss) = entry n (slot_bytes s) (entries_of (n + 1) ss)
 
-abbrev pub live_slots : List Slot → FinMap nat_cmp (List ℕ)
+abbrev pub live_slots : List Slot → Live
 live_slots ss = from_entries (entries_of 0 ss)
 
 -- of n frames those of the table were cut off the region, and those of the list were given back

@@ -119,7 +119,7 @@ impl FrameArena {
         Some(Frame { number })
     }
 
-    /// A live frame becomes spare.
+    /// A live frame becomes spare. A frame counts as live by its number alone: give it to the arena that it was taken from.
     pub fn give(&mut self, f: Frame)
         requires { IsLive self.old f }
         ensures { Gives self.old f self.new }
@@ -190,6 +190,7 @@ impl Drop for FrameArena {
         for _back in 0..given {
             let (number, (frame, others)) = free.pop();
             free = others;
+            // a page has bytes: the zeros are read by nobody
             slots[number] = Slot {
                 page: Some(zeroed_page(frame)),
             };

@@ -72,7 +72,7 @@ impl Memory {
         Memory { ptr: at, size }
     }
 
-    /// Gives the region back to its allocator.
+    /// Gives the region back to its allocator. No clause says so: contracts don't see what an allocator has.
     pub fn free<A: Allocator>(self, lease: Lease<A>, alloc: &A)
         requires { (lease.alloc ≡ alloc.now) × (lease.ptr ≡ self.ptr) × (lease.size ≡ self.size) }
     {

@@ -2,7 +2,7 @@
 use arrayvec::ArrayVec;
 use emu_model::access::Access;
 
-/// The accesses of one step, in order, lower first. 1,024 is more than any instruction makes.
+/// The accesses of one step, in order, lower first. 1,024 is the most that an instruction makes (`ld4b` at 2,048 bits).
 pub type AccessLog = ArrayVec<Access, 1024>;
 
 /// The elements of a first-faulting or non-faulting load, of one vector register.

@@ -1,5 +1,6 @@
 pub mod Faults
 pub mod Found
+pub mod FreeRuns
 pub mod Lent
 pub mod Maps
 pub mod Ordered

@@ -1,5 +1,5 @@
 //! The places in the list of the pages that were looked up last.
-ghost use Rattle.std.specs.Prelude.{◌≡◌, ◌%◌, IfSome, List};
+ghost use Rattle.std.specs.Prelude.{◌≡◌, ◌%◌, IfSome, List, Some};
 ghost use Rattle.guest_pages.specs.Places.{Entry, IsAt, IsRight, cached, with_line};
 
 /// The number of lines.
@@ -40,6 +40,7 @@ impl Cache {
     /// Puts a page and its place into its line.
     pub fn set(&mut self, page: u64, place: usize)
         ensures line { self.new ≡ with_line self.old page place }
+        ensures held { cached self.new page ≡ Some place }
         ensures right { (es : List Entry) → IsRight es self.old → IsAt es page place → IsRight es self.new }
     {
         let line = (page % LINES as u64) as usize;

@@ -6,11 +6,12 @@ ghost use Rattle.emu_model.specs.Access.{page_gives};
 ghost use Rattle.std.specs.Borrow.{sem, follows_so, Lends, LendsIf, Array, u8 as byte};
 ghost use Rattle.guest_pages.specs.contracts.pages.Pages.{the_row};
 ghost use Rattle.guest_pages.specs.Lending.{with_part};
-ghost use Rattle.emu_model.specs.Pages.{bytes_at, least_unmapped, mapped, protected, unmapped, with_bytes};
+ghost use Rattle.emu_model.specs.Pages.{bytes_at, free_run, least_unmapped, mapped, protected, unmapped, with_bytes};
 ghost use Rattle.emu_model.specs.State.{IsSoundMemory};
 ghost use Rattle.guest_pages.specs.MapFault.{map_fault, protect_answer};
 
 use crate::cache::Cache;
+use crate::gaps::free_run;
 use crate::places::{
     cached_place, is_mapped, look_up, mapped_place, protect_pages, remove_pages, store_page, taken,
     unmapped_page, write_page,
@@ -100,7 +101,7 @@ impl Pages {
         }
     }
 
-    /// The same, and the look-up cache has the page from then on.
+    /// The same, and puts a page that it finds into the look-up cache, of which no contract speaks.
     #[inline(always)]
     pub fn seek(&mut self, page: u64) -> Option<(Rights, &[u8])>
         ensures* unchanged { sem 𝓛 (follows_so the_row the_row self.entry.ghost_name none (λ _ _. ⊤) (λ m. m ≡ self.old)) }
@@ -196,6 +197,14 @@ impl Pages {
         }
         protect_pages(&mut self.list, first, count, rights);
         Ok(())
+    }
+
+    /// The greatest page, from page 1 on, from which `count` pages are unmapped that end at or below page `below`. None exactly
+    /// where there is no such page.
+    pub fn free_run(&self, count: u64, below: u64) -> Option<u64>
+        ensures { result ≡ free_run self.now.pages count below }
+    {
+        free_run(&self.list, count, below)
     }
 
     /// Replaces the bytes of a page from place `at` on; a page that isn't mapped stays so.

@@ -1,12 +1,12 @@
 //! The places of pages in the list, which has them in the order of their numbers.
-ghost use Rattle.std.specs.Prelude.{◌≡◌, ◌≤◌, ◌<◌, ◌+◌, ◌^◌, length, take, drop, if◌then◌else◌, not, MatchOption, IfNone, IsTrue};
+ghost use Rattle.std.specs.Prelude.{◌≡◌, ◌≤◌, ◌<◌, ◌+◌, ◌^◌, length, take, drop, if◌then◌else◌, not, MatchOption, IfNone, IfSome, IsTrue, Some};
 ghost use Rattle.std.specs.List.{AllByRecursion, filter};
 ghost use Rattle.std.specs.Ordering.{nat_cmp};
 ghost use Rattle.std.specs.FinMap.{contains_key, find};
 ghost use Rattle.emu_model.specs.Access.{page_gives};
 ghost use Rattle.emu_model.specs.Pages.{is_among, least_mapped, least_unmapped};
 ghost use Rattle.emu_model.specs.WithinPage.{page_with_bytes};
-ghost use Rattle.guest_pages.specs.Places.{IsAscending, IsBelow, IsFrom, IsAt, IsRight, all_changed, changed, page_with_rights, pages_of};
+ghost use Rattle.guest_pages.specs.Places.{IsAscending, IsBelow, IsFrom, IsAt, IsRight, all_changed, cached, changed, page_with_rights, pages_of};
 
 use crate::cache::Cache;
 use emu_model::{Kind, Rights};
@@ -39,12 +39,13 @@ pub fn cached_place(list: &PageList, cache: &Cache, page: u64) -> Option<usize>
     }
 }
 
-/// The same, and the cache has the place from then on.
+/// The same, and the cache holds a place that was found.
 #[inline(always)]
 pub fn look_up(list: &PageList, cache: &mut Cache, page: u64) -> Option<usize>
     requires ascending { IsAscending list.now.pages }
     requires right { IsRight list.now.pages cache.old }
     ensures place { MatchOption result (find nat_cmp page list.now.pages ≡ None) (IsAt list.now.pages page) }
+    ensures held { IfSome result (λ i. cached cache.new page ≡ Some i) }
     ensures right { IsRight list.now.pages cache.new }
 {
     match cache.place(page) {
@@ -59,6 +60,7 @@ fn search(list: &PageList, cache: &mut Cache, page: u64) -> Option<usize>
     requires ascending { IsAscending list.now.pages }
     requires right { IsRight list.now.pages cache.old }
     ensures place { MatchOption result (find nat_cmp page list.now.pages ≡ None) (IsAt list.now.pages page) }
+    ensures held { IfSome result (λ i. cached cache.new page ≡ Some i) }
     ensures right { IsRight list.now.pages cache.new }
 {
     match find_place(list, page) {

@@ -1,14 +1,14 @@
 //! Runs whole programs that a compiler made: writes what they write, and then how they ended.
 //!
-//! A line of standard input has the name of a file, a vector length in bits and a greatest number of steps, with a space
-//! between them.
+//! A line of standard input has the name of a file, a vector length in bits, a greatest number of steps, the name of a file that
+//! the program reads as its input, or `-` for none, and the program's arguments, with a space between them.
 #![tactic(auto)]
 
 use elf_image::read;
-use emu_machine::{Machine, RunEnd};
+use emu_machine::{Machine, RunEnd, are_arguments};
 use emu_model::Length;
 use io_gate::{FileImages, Images, NoFaultSource, Sink, StdSink};
-use std::alloc::Global;
+use std::alloc::{AllocError, Global};
 use std::io;
 
 /// Files are read up to so many bytes.
@@ -23,6 +23,7 @@ struct Run<'a> {
     file: &'a str,
     length: Length,
     budget: u64,
+    input: &'a str,
 }
 
 /// What a line asks for. None where it isn't of that form.
@@ -31,28 +32,52 @@ fn run_of(line: &str) -> Option<Run<'_>> {
     let file = words.next()?;
     let length = Length::of_bits(words.next()?.parse::<u32>().ok()?)?;
     let budget = words.next()?.parse::<u64>().ok()?;
+    let input = words.next()?;
     Some(Run {
         file,
         length,
         budget,
+        input,
     })
 }
 
+/// The arguments of a line's program: its file's name, and the words behind the fourth.
+fn args_of(alloc: Global, line: &str) -> Result<Vec<String>, AllocError> {
+    let mut args = Vec::new(alloc);
+    for (place, word) in line.split(' ').enumerate() {
+        if place == 0 || place > 3 {
+            args.push(String::from_str(alloc, word)?)?;
+        }
+    }
+    Ok(args)
+}
+
+/// The bytes that a line's program reads. None where their file can't be read.
+fn input_of<F: Images>(alloc: Global, files: &mut F, name: &str) -> Option<Vec<u8>> {
+    if name == "-" {
+        return Some(Vec::new(alloc));
+    }
+    files.read_whole(alloc, name, FILE_LIMIT).ok()
+}
+
 /// How the program of a file's bytes ended, and the steps that it counted. None where the bytes are no image that can be run,
-/// or memory was wanting.
+/// the arguments are too many or too long, or memory was wanting.
 fn run_program<O: Sink, E: Sink>(
     alloc: Global,
     bytes: &[u8],
-    length: Length,
-    budget: u64,
+    args: &[String],
+    run: Run,
+    input: Vec<u8>,
     output: &mut O,
     errors: &mut E,
 ) -> Option<(RunEnd, u64)> {
     let image = read(bytes, PAGES).ok()?;
-    let no_args: [String; 0] = [];
-    let mut machine = Machine::open(alloc, bytes, &image, &no_args, length, PAGES).ok()?;
-    let mut input = NoFaultSource::new(Vec::new(alloc), 1);
-    let end = machine.run(budget, &mut input, output, errors);
+    if !are_arguments(args) {
+        return None;
+    }
+    let mut machine = Machine::open(alloc, bytes, &image, args, run.length, PAGES).ok()?;
+    let mut input = NoFaultSource::new(input, 1);
+    let end = machine.run(run.budget, &mut input, output, errors);
     Some((end, machine.steps()))
 }
 
@@ -64,6 +89,14 @@ fn main(rt: HostRuntime) -> io::Result<()> {
             println!(rt; "no run: {line}")?;
             continue;
         };
+        let Ok(args) = args_of(rt.alloc(), line.as_str()) else {
+            println!(rt; "no memory: {line}")?;
+            continue;
+        };
+        let Some(input) = input_of(rt.alloc(), &mut files, run.input) else {
+            println!(rt; "no input: {line}")?;
+            continue;
+        };
         let Ok(bytes) = files.read_whole(rt.alloc(), run.file, FILE_LIMIT) else {
             println!(rt; "no file: {line}")?;
             continue;
@@ -73,8 +106,9 @@ fn main(rt: HostRuntime) -> io::Result<()> {
         let ended = run_program(
             rt.alloc(),
             &bytes,
-            run.length,
-            run.budget,
+            &args,
+            run,
+            input,
             &mut output,
             &mut errors,
         );

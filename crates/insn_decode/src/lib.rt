@@ -12,6 +12,7 @@ pub use emu_run::Insn;
 use sve_rows::{decode_sve, encode_sve};
 
 /// The instruction that a word is. None exactly where the word is in no row of a table.
+#[inline(always)]
 pub fn decode(w: u32) -> Option<Insn>
     ensures table { result ≡ model.decode w }
     ensures back { IfSome result (λ i. word_of i ≡ w) }

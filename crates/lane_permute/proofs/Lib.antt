@@ -1,3 +1,3 @@
 pub mod Gathered
-pub mod Spliced
+pub mod FirstLast
 pub mod Written

@@ -1,4 +1,4 @@
--- The permutes whose places are known from the number of lanes alone.
+-- The permutes whose places come from numbers alone: those of lanes, and those that a rule has with it.
 use Rattle.std.specs.Prelude.{◌≡◌, ◌≤◌, ◌<◌, ℕ, ◌+◌, ◌%◌}
 use Rattle.sve_effects.specs.declared.places.Place.{Place}
 use Rattle.sve_effects.specs.declared.places.Place.TheVariants.{FirstLane, SecondLane, Scalar, Zero}

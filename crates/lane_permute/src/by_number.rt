@@ -1,7 +1,8 @@
 //! Lanes that another lane's number names, and lanes of half the size.
 ghost use Rattle.std.specs.Prelude.{◌≡◌, ◌<◌, ◌*◌, ◌^◌, ℕ, length};
 ghost use Rattle.emu_bits.specs.Fields.{bit};
-ghost use Rattle.sve_effects.specs.Permute.{taken, indexed_place, half_place, widened};
+ghost use Rattle.sve_effects.specs.Element.{extended_by};
+ghost use Rattle.sve_effects.specs.Permute.{taken, indexed_place, half_place};
 ghost use Rattle.lane_permute.specs.Rules.{IsWithin};
 ghost use Rattle.lane_permute.specs.Slices.{IsPermuted, number_at};
 
@@ -28,7 +29,7 @@ pub fn tbl<T: Lane>(a: &[T], at: &[T], out: &mut [T])
 pub fn widen<T: Lane, H: Lane>(a: &[H], high: bool, signed: bool, out: &mut [T])
     requires lanes { length a.now ≡ 2 * length out.old }
     requires bits { T.BITS ≡ 2 * H.BITS }
-    ensures { (k : ℕ) → k < length out.old → number_at T.number out.new k ≡ widened signed T.BITS H.BITS (taken (number_at H.number a.now) (number_at H.number a.now) 0 0 (half_place high (length out.old) k)) }
+    ensures { (k : ℕ) → k < length out.old → number_at T.number out.new k ≡ extended_by signed T.BITS H.BITS (taken (number_at H.number a.now) (number_at H.number a.now) 0 0 (half_place high (length out.old) k)) }
 {
     let n = out.len();
     let first = first_of_half(high, n);
@@ -81,7 +82,7 @@ fn indexed(i: u64, n: usize) -> Place
 fn wide<T: Lane, H: Lane>(x: u64, signed: bool) -> T
     requires small { x < 2 ^ H.BITS }
     requires bits { T.BITS ≡ 2 * H.BITS }
-    ensures { T.number result ≡ widened signed T.BITS H.BITS x }
+    ensures { T.number result ≡ extended_by signed T.BITS H.BITS x }
 {
     T::from_u64(if signed {
         sign_extended(x, H::BITS, T::BITS)

@@ -1,4 +1,4 @@
-//! The permutes whose places are known from the number of lanes alone.
+//! The permutes whose places come from numbers alone: those of lanes, and those that a rule has with it.
 ghost use Rattle.std.specs.Prelude.{◌≡◌, ◌+◌, ◌<◌, ◌≤◌};
 ghost use Rattle.sve_effects.specs.Permute as model;
 ghost use Rattle.lane_permute.specs.Rules.{rule_place, IsFor, IsWithin};

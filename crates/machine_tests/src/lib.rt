@@ -6,8 +6,6 @@
 #[cfg(test)]
 mod files;
 #[cfg(test)]
-mod images;
-#[cfg(test)]
 mod machine;
 #[cfg(test)]
 mod vectors;

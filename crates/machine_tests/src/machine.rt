@@ -170,8 +170,8 @@ fn a_segment_ends_in_zeros(rt: HostRuntime) -> Result<(), AllocError> {
     put(&mut file, 8192, 8, 0xAAAA_AAAA_AAAA_AAAA);
     let machine = machine_of(alloc, &file)?;
     let pages = machine.mem().pages();
-    // one page of words, and two of data
-    assert_eq!(rt; pages.mapped(), 3);
+    // one page of words, two of data, and the stack
+    assert_eq!(rt; pages.mapped(), 259);
     let rights = Rights {
         r: true,
         w: true,
@@ -328,13 +328,13 @@ fn accesses_are_those_of_the_last_step(rt: HostRuntime) -> Result<(), AllocError
 #[test]
 fn traps_have_their_kinds(rt: HostRuntime) -> Result<(), AllocError> {
     let alloc = rt.alloc();
-    // add sp, sp, #8; ldr x0, [sp, #0]
+    // add sp, sp, #8; ldr x0, [sp, #0], where SP opens at 0x7FFF_FFFF_EF00: below the stack's top stand 16 bytes and 29 words
     let sp = [0x9100_23FF, 0xF940_03E0];
     // movz x2, #0x1001; movk x2, #0x40, lsl #16; ldxr x4, [x2]
     let exclusive = [0xD282_0022, 0xF2A0_0802, 0xC85F_7C44];
     // the words, the trap and its signal, and the steps before it
     for (words, kind, address, signal, steps) in [
-        (sp.as_slice(), TrapKind::SpAlign, 0x8, 7, 1),
+        (sp.as_slice(), TrapKind::SpAlign, 0x7FFF_FFFF_EF08, 7, 1),
         (exclusive.as_slice(), TrapKind::AccessAlign, 0x40_1001, 7, 2),
         // brk #0
         ([0xD420_0000].as_slice(), TrapKind::Break, 0x40_0000, 5, 0),

@@ -1,11 +1,13 @@
 //! The printed texts, against texts written by hand.
 use core_regs::Core;
 use emu_bits::{Flags, Pred, Reg};
-use emu_model::{ElfFault, Length, Trap, TrapKind, WordsFault, WordsWhy};
+use emu_model::{Length, Trap, TrapKind};
 use emu_report::{
     put_exit, put_image_refusal, put_registers, put_scalars, put_spent, put_too_long, put_trap,
     put_words_refusal,
 };
+use emu_run::{WordsFault, WordsWhy};
+use emu_system::ElfFault;
 use io_gate::{Failed, MemSink, Sink};
 use std::alloc::{AllocError, Global};
 use std::ops::Range;
@@ -28,9 +30,9 @@ fn endings_are_lines(rt: HostRuntime) -> Result<(), Fail> {
         kind: TrapKind::Read,
         address: 0xFEDC_BA98_7654_3210,
     };
-    let no_place = WordsFault {
-        why: WordsWhy::NotYet,
-        place: 0,
+    let no_length = WordsFault {
+        why: WordsWhy::BadLength,
+        place: 3,
     };
     let put = [
         put_exit(7, 3, &mut sink),
@@ -38,7 +40,7 @@ fn endings_are_lines(rt: HostRuntime) -> Result<(), Fail> {
         put_trap(&undefined, 0x40_0000, 0, &mut sink),
         put_trap(&read, 0x40_0ABC, 10, &mut sink),
         put_spent(2, &mut sink),
-        put_words_refusal(&no_place, &mut sink),
+        put_words_refusal(&no_length, &mut sink),
         put_image_refusal(&ElfFault::TooShort, &mut sink),
         put_image_refusal(&ElfFault::Interpreter(12), &mut sink),
         put_too_long(67_108_864, &mut sink),
@@ -49,7 +51,7 @@ exit 255 after 18446744073709551615 steps
 trap undefined 0x0000000000400000 at 0x0000000000400000 after 0 steps
 trap read 0xfedcba9876543210 at 0x0000000000400abc after 10 steps
 spent after 2 steps
-refused words NotYet at 0
+refused words BadLength at 3
 refused image TooShort
 refused image Interpreter at 12
 too long 67108864
@@ -91,7 +93,52 @@ fn traps_have_their_names(rt: HostRuntime) -> Result<(), Fail> {
     Ok(())
 }
 
-/// The names of refusals, a line each.
+/// The names of refused lines, a line each.
+const REFUSED_LINES: &str = "refused words TooManyWords at 300
+refused words WordsTooLong at 300
+refused words ZeroByte at 300
+refused words NoCommand at 300
+refused words UnknownCommand at 300
+refused words UnknownOption at 300
+refused words Repeated at 300
+refused words MissingValue at 300
+refused words BadNumber at 300
+refused words BadLength at 300
+refused words OutOfRange at 300
+refused words ExtraWord at 300
+refused words MissingWord at 300
+refused words MissingLength at 300
+refused words MissingBudget at 300
+";
+
+#[test]
+fn refused_lines_have_their_names(rt: HostRuntime) -> Result<(), Fail> {
+    let mut sink = sink(rt.alloc());
+    for why in [
+        WordsWhy::TooManyWords,
+        WordsWhy::WordsTooLong,
+        WordsWhy::ZeroByte,
+        WordsWhy::NoCommand,
+        WordsWhy::UnknownCommand,
+        WordsWhy::UnknownOption,
+        WordsWhy::Repeated,
+        WordsWhy::MissingValue,
+        WordsWhy::BadNumber,
+        WordsWhy::BadLength,
+        WordsWhy::OutOfRange,
+        WordsWhy::ExtraWord,
+        WordsWhy::MissingWord,
+        WordsWhy::MissingLength,
+        WordsWhy::MissingBudget,
+    ] {
+        let fault = WordsFault { why, place: 300 };
+        assert_eq!(rt; put_words_refusal(&fault, &mut sink), Ok(()));
+    }
+    assert_eq!(rt; sink.kept(), REFUSED_LINES.as_bytes());
+    Ok(())
+}
+
+/// The names of refused images, a line each.
 const REFUSALS: &str = "refused image TooShort
 refused image BadMagic
 refused image BadClass
@@ -110,7 +157,6 @@ refused image NotCongruent at 63
 refused image Overlap at 63
 refused image NoSegments
 refused image TooManyPages
-refused image NotYet
 ";
 
 #[test]
@@ -135,7 +181,6 @@ fn refused_images_have_their_names(rt: HostRuntime) -> Result<(), Fail> {
         ElfFault::Overlap(63),
         ElfFault::NoSegments,
         ElfFault::TooManyPages,
-        ElfFault::NotYet,
     ] {
         assert_eq!(rt; put_image_refusal(&fault, &mut sink), Ok(()));
     }

@@ -4,15 +4,12 @@ use Rattle.std.proofs.lemmas.Bool.{eqb-true, eqb-false, eq-eqb}
 use Rattle.std.proofs.lemmas.List.{map-append, take-append-drop}
 use Rattle.std.specs.FinMap.{get, insert, remove, contains_key}
 use Rattle.emu_model.specs.Access.{Page}
-use Rattle.frame_arena.proofs.Callers.{get-insert_same, get-insert_other, get-remove_other, live-insert, live-insert_same}
+use Rattle.frame_arena.proofs.Callers.{by_bool, get-insert_same, get-insert_other, get-remove_other, live-insert, live-insert_same}
+use Rattle.frame_arena.specs.Frames.{Live}
 use Rattle.page_list.specs.declared.slots.Slot.{Slot}
 use Rattle.page_list.specs.Bytes.{as_bytes}
 use Rattle.page_list.specs.Entries.{changed_at, entry_at}
-use Rattle.page_list.specs.Slots.{Live, entry_in, entries_in, holders, AreHeld}
-
-by_bool : {P : Type 0} (b : Bool) → (b ≡ true → P) → (b ≡ false → P) → P
-by_bool true y n = y refl
-by_bool false y n = n refl
+use Rattle.page_list.specs.Slots.{entry_in, entries_in, holders, AreHeld}
 
 abbrev one : Bool → ℕ
 one b = cond b 1 0

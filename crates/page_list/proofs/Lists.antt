@@ -1,9 +1,8 @@
 -- Lists that grow and shrink at the end.
 use Rattle.std.proofs.Common.{◌≡◌, ◌≤◌, ◌+◌, ◌-◌, ℕ, zero, suc, List, [], ◌∷◌, ◌++◌, map, length, take, drop, refl, sym, ap, ◌∙◌, arith, append_assoc}
-use Rattle.std.proofs.lemmas.List.{map-append, length-map, length-append, length-drop, length-take-le, take-append-drop, take-append-le, drop-append-le}
+use Rattle.std.proofs.lemmas.List.{map-append, length-map, length-append, length-drop, length-take-le, take-append-drop, take-append-le, drop-append-le, take-map, drop-map}
 use Rattle.emu_model.specs.declared.access.Rights.{Rights}
 use Rattle.emu_model.specs.Pages.{zeroed_page}
-use Rattle.page_list.proofs.Bytes.{map_take, map_drop}
 use Rattle.page_list.specs.Entries.{Entry, zeroed_entries}
 
 -- one more zeroed page
@@ -24,10 +23,10 @@ module _ {X Y : Type 0} (f : X → Y) (l : List X) (at k : ℕ) where
   turned : map f (take at l ++ (drop k (drop at l) ++ take k (drop at l))) ≡ take at (map f l) ++ (drop k (drop at (map f l)) ++ take k (drop at (map f l)))
   turned =
       map-append f (take at l) (drop k (drop at l) ++ take k (drop at l))
-      ∙ ap (λ es. es ++ map f (drop k (drop at l) ++ take k (drop at l))) (map_take f l at)
+      ∙ ap (λ es. es ++ map f (drop k (drop at l) ++ take k (drop at l))) (sym (take-map f at l))
       ∙ ap (λ es. take at (map f l) ++ es) (map-append f (drop k (drop at l)) (take k (drop at l)))
-      ∙ ap (λ es. take at (map f l) ++ (es ++ map f (take k (drop at l)))) (map_drop f (drop at l) k ∙ ap (λ es. drop k es) (map_drop f l at))
-      ∙ ap (λ es. take at (map f l) ++ (drop k (drop at (map f l)) ++ es)) (map_take f (drop at l) k ∙ ap (λ es. take k es) (map_drop f l at))
+      ∙ ap (λ es. take at (map f l) ++ (es ++ map f (take k (drop at l)))) (sym (drop-map f k (drop at l)) ∙ ap (λ es. drop k es) (sym (drop-map f at l)))
+      ∙ ap (λ es. take at (map f l) ++ (drop k (drop at (map f l)) ++ es)) (sym (take-map f k (drop at l)) ∙ ap (λ es. take k es) (sym (drop-map f at l)))
 
   -- the last of them moved to a place
   pub moved_back : (es zs : List Y) → map f l ≡ es ++ zs → at ≤ length es → k ≡ length es - at → map f (take at l ++ (drop k (drop at l) ++ take k (drop at l))) ≡ take at es ++ (zs ++ drop at es)

@@ -1,16 +1,12 @@
 -- What a list of slots stands for, by the bytes of the live frames.
 use Rattle.std.specs.Prelude.{◌≡◌, ◌≤◌, ◌<◌, ◌^◌, if◌then◌else◌, ℕ, ◌+◌, ◌==◌, List, [], ◌∷◌, map, length, unwrap_or}
-use Rattle.std.specs.Ordering.{nat_cmp}
-use Rattle.std.specs.FinMap.{FinMap, get, contains_key}
+use Rattle.std.specs.FinMap.{get, contains_key}
 use Rattle.std.specs.Vec.{vec_capacity}
+use Rattle.frame_arena.specs.Frames.{Live}
 use Rattle.page_list.specs.Bytes.{as_bytes}
 use Rattle.page_list.specs.Entries.{Entry, Listed}
 use Rattle.page_list.specs.declared.slots.Slot.{Slot}
 use Rattle.page_list.specs.declared.list.PageList.TheInside.{Inside}
-
--- the bytes of the live frames by their numbers
-abbrev pub Live : Type 0
-Live = FinMap nat_cmp (List ℕ)
 
 abbrev pub entry_in : Live → Slot → Entry
 entry_in live s = (s.number, record { rights = s.rights; bytes = as_bytes (unwrap_or (get live s.frame) []) })

@@ -8,8 +8,7 @@ use Rattle.std.proofs.lemmas.Nat.{div-add-mod'}
 use Rattle.emu_bits.specs.Flags.{size_of}
 use Rattle.emu_bits.specs.declared.flags.Esize.{Esize}
 use Rattle.emu_bits.specs.declared.flags.Esize.TheVariants.{B, H, S, D}
-use Rattle.emu_model.specs.Lists.{each, length-each}
-use Rattle.vec_model.proofs.Each.{get_or-each, each_same}
+use Rattle.emu_model.specs.Lists.{each, length-each, get_or-each, each_same}
 use Rattle.vec_model.proofs.FieldBits.{at_start, between}
 use Rattle.vec_model.specs.Lanes.{field_bit}
 use Rattle.sve_effects.specs.Predicate.{lanes_of, lanes_below}

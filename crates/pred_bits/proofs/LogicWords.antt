@@ -3,8 +3,7 @@ use Rattle.std.proofs.Common.{◌≡◌, ◌≢◌, ◌<◌, ◌≤◌, ◌+◌,
 use Rattle.std.specs.Int.{bit_at}
 use Rattle.std.proofs.lemmas.Bool.{cases_lt}
 use Rattle.std.proofs.lemmas.List.{get_or_past, get_or-set_same, get_or-set_other}
-use Rattle.emu_model.specs.Lists.{each}
-use Rattle.vec_model.proofs.Each.{each_same}
+use Rattle.emu_model.specs.Lists.{each, each_same}
 use Rattle.sve_effects.specs.declared.predicates.LogicOp.{LogicOp}
 use Rattle.sve_effects.specs.declared.predicates.LogicOp.TheVariants.{And, Bic, Eor, Orr, Orn, Nor, Nand, Sel}
 use Rattle.sve_effects.specs.Predicate.{is_set, logic_bit, logic}

@@ -56,7 +56,7 @@ impl PredBits {
     }
 
     /// The first so many bits of words, at most 256, the lowest first. The others have to be 0.
-    pub fn of_words(words: &[u64; 4], bits: u32) -> PredBits
+    pub fn of_words(bits: u32, words: &[u64; 4]) -> PredBits
         requires few { bits ≤ 256 }
         requires above { AreClearFrom bits words.now }
         ensures { result ≡ bits_of bits words.now }

@@ -1,4 +1,4 @@
-//! Logical operations and breaks, a word at a time.
+//! Logical operations, a word at a time, and breaks.
 ghost use Rattle.std.specs.Prelude.{◌≡◌, ◌≤◌, ◌<◌, ℕ, true, nat_lt, length, IfSome};
 ghost use Rattle.emu_model.specs.Lists.{each};
 ghost use Rattle.sve_effects.specs.Predicate as model;
@@ -88,7 +88,7 @@ pub fn brkn(g: &PredBits, a: &PredBits, before: &PredBits) -> PredBits
     ensures { result ≡ broken_next (length g.now) g.now a.now before.now }
 {
     if last_is_set(g, a, Esize::B) {
-        PredBits::of_words(&before.words, before.bits)
+        PredBits::of_words(before.bits, &before.words)
     } else {
         PredBits::new(g.bits)
     }
@@ -99,7 +99,7 @@ pub fn first(g: &PredBits, before: &PredBits) -> PredBits
     requires { length before.now ≡ length g.now }
     ensures { result ≡ with_first (length g.now) g.now before.now }
 {
-    let mut bits = PredBits::of_words(&before.words, before.bits);
+    let mut bits = PredBits::of_words(before.bits, &before.words);
     if let Some(k) = first_lane(g, Esize::B) {
         bits.set(k, true);
     }

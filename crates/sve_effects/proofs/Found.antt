@@ -1,8 +1,7 @@
 -- First and last places meet their tests.
-use Rattle.std.proofs.Common.{◌≡◌, ◌<◌, ◌≤◌, ◌+◌, ℕ, zero, suc, Bool, true, false, ◌&&◌, Option, Some, None, IfSome, if◌then◌else◌, inl, inr, refl, ap, subst, ◌∙◌, add-one, arith}
+use Rattle.std.proofs.Common.{◌≡◌, ◌<◌, ℕ, zero, suc, Bool, true, false, Option, Some, None, IfSome, if◌then◌else◌, inl, inr, refl, ap, subst, ◌∙◌, arith}
 use Rattle.std.proofs.lemmas.Bool.{both_ways, cases_lt, cases_order, and_from, and_parts}
-use Rattle.emu_bits.specs.Fields.{bit}
-use Rattle.sve_effects.specs.FirstLast.{or_else, if_meets, first_where, last_where, all_below, count_where, answer_at, IsFirstWhere, IsLastWhere}
+use Rattle.sve_effects.specs.FirstLast.{or_else, if_meets, first_where, last_where, all_below, answer_at, IsFirstWhere, IsLastWhere}
 
 -- what holds below n and at n holds below n + 1
 below_suc : (P : ℕ → Type 0) (n : ℕ) → ((j : ℕ) → j < n → P j) → P n → (j : ℕ) → j < suc n → P j
@@ -81,36 +80,13 @@ pub answer_same : (n : ℕ) (found : Option ℕ) (s t : ℕ → Bool) → IfSome
 answer_same n None s t within h = refl
 answer_same n (Some k) s t within h = h k within
 
-pub first_within : (n : ℕ) (test : ℕ → Bool) → IfSome (first_where n test) (λ k. k < n)
-first_within n test = of_found (first_where n test) (first_found n test) where
-  of_found : (found : Option ℕ) → IsFirstWhere n test found → IfSome found (λ k. k < n)
-  of_found None h = tt
-  of_found (Some k) h = h.within
-
 pub last_within : (n : ℕ) (test : ℕ → Bool) → IfSome (last_where n test) (λ k. k < n)
 last_within n test = of_found (last_where n test) (last_found n test) where
   of_found : (found : Option ℕ) → IsLastWhere n test found → IfSome found (λ k. k < n)
   of_found None h = tt
   of_found (Some k) h = h.within
 
--- ---- one place more
-
-pub count_more : (n : ℕ) (test : ℕ → Bool) → count_where (n + 1) test ≡ count_where n test + bit (test n)
-count_more n test = rw add-one refl
-
-pub all_more : (n : ℕ) (test : ℕ → Bool) → all_below (n + 1) test ≡ (all_below n test && test n)
-all_more n test = rw add-one refl
-
-pub count_within : (n : ℕ) (test : ℕ → Bool) → count_where n test ≤ n
-count_within zero test = omega arith
-count_within (suc n) test = let h : count_where n test ≤ n = count_within n test in let b : bit (test n) ≤ 1 = bit_small (test n) in omega arith where
-  bit_small : (b : Bool) → bit b ≤ 1
-  bit_small false = omega arith
-  bit_small true = omega arith
-
-pub count_same : (n : ℕ) (s t : ℕ → Bool) → ((k : ℕ) → k < n → s k ≡ t k) → count_where n s ≡ count_where n t
-count_same zero s t h = refl
-count_same (suc n) s t h = let e : count_where n s ≡ count_where n t = count_same n s t (λ k q. h k (omega arith)) in ap (λ x. x + bit (s n)) e ∙ ap (λ b. count_where n t + bit b) (h n (omega arith))
+-- ---- all places
 
 pub all_true : (n : ℕ) (test : ℕ → Bool) → ((k : ℕ) → k < n → test k ≡ true) → all_below n test ≡ true
 all_true zero test h = refl

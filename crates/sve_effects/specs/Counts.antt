@@ -1,5 +1,5 @@
 -- Counts of lanes by a pattern, added to registers and lanes or subtracted, and multiples of the vector length.
-use Rattle.std.specs.Prelude.{ℕ, ◌+◌, ◌*◌, ◌/◌, ◌%◌, ◌^◌, Bool, true, false, if◌then◌else◌, ℤ, pos, ◌+ℤ◌, ◌*ℤ◌}
+use Rattle.std.specs.Prelude.{ℕ, ◌+◌, ◌*◌, ◌/◌, ◌%◌, ◌^◌, Bool, true, false, ℤ, pos, ◌+ℤ◌, ◌*ℤ◌}
 use Rattle.sve_insn.specs.declared.form.SveForm.{SveForm}
 use Rattle.sve_insn.specs.declared.form.SveForm.TheVariants.{Count, IncX, IncZ, SatX, SatZ, AddLength, ReadLength}
 use Rattle.sve_insn.specs.declared.ops.IncOp.{IncOp}
@@ -10,13 +10,13 @@ use Rattle.sve_insn.specs.declared.ops.AddLengthOp.{AddLengthOp}
 use Rattle.sve_insn.specs.declared.ops.AddLengthOp.TheVariants.{Addvl, Addpl}
 use Rattle.sve_effects.specs.declared.elements.ElementOp.{ElementOp}
 use Rattle.sve_effects.specs.declared.elements.ElementOp.TheVariants.{Add, Sub, Uqadd, Uqsub, SqaddAmount, SqsubAmount}
-use Rattle.emu_bits.specs.Numbers.{signed, unsigned_int, sign_extended}
-use Rattle.emu_model.specs.Done.{Registers}
+use Rattle.emu_bits.specs.Numbers.{width_of, signed, unsigned_int}
+use Rattle.emu_model.specs.Done.{Registers, leaves}
 use Rattle.emu_model.specs.State.{Core, Vectors, read_x, read_x_sp, with_x, with_x_sp}
-use Rattle.sve_effects.specs.Element.{element}
+use Rattle.sve_effects.specs.Element.{element, extended_by}
 use Rattle.sve_effects.specs.ElementLoop.{lane_bits, lane_of, plain}
 use Rattle.sve_effects.specs.Pattern.{pattern_count}
-use Rattle.sve_effects.specs.PermuteRows.{lanes, leaves}
+use Rattle.sve_effects.specs.PermuteRows.{lanes}
 
 -- ---- counts
 
@@ -43,15 +43,9 @@ saturates_signed Uqinc = false
 saturates_signed Sqdec = true
 saturates_signed Uqdec = false
 
--- the bits of a register that a saturating count works on
-abbrev pub sat_bits : Bool → ℕ
-sat_bits sf = if sf then 64 else 32
-
 -- the low w bits of a register and a count, saturating at w bits; the result is extended to 64 bits, by its sign for sq
 abbrev pub sat_counted : SatOp → ℕ → ℕ → ℕ → ℕ
-sat_counted op w x count =
-    let result : ℕ = element (sat_element op) w (x % 2 ^ w) count in
-    if saturates_signed op then sign_extended 64 w result else result
+sat_counted op w x count = extended_by (saturates_signed op) 64 w (element (sat_element op) w (x % 2 ^ w) count)
 
 -- ---- multiples of the vector length
 
@@ -81,7 +75,7 @@ abbrev pub counted : SveForm → Core → Vectors → Registers
 counted (Count size imm4 pattern rd) c v = leaves (with_x c rd 64 (count_of size imm4 pattern v)) v
 counted (IncX op size imm4 pattern rdn) c v = leaves (with_x c rdn 64 (element (inc_element op) 64 (read_x c rdn) (count_of size imm4 pattern v))) v
 counted (IncZ op size imm4 pattern zdn) c v = leaves c (plain (lane_bits size) (λ k. element (inc_element op) (lane_bits size) (lane_of (lane_bits size) v zdn k) (count_of size imm4 pattern v)) zdn v)
-counted (SatX op size sf imm4 pattern rdn) c v = leaves (with_x c rdn 64 (sat_counted op (sat_bits sf) (read_x c rdn) (count_of size imm4 pattern v))) v
+counted (SatX op size sf imm4 pattern rdn) c v = leaves (with_x c rdn 64 (sat_counted op (width_of sf) (read_x c rdn) (count_of size imm4 pattern v))) v
 counted (SatZ op size imm4 pattern zdn) c v = leaves c (plain (lane_bits size) (λ k. element (sat_element op) (lane_bits size) (lane_of (lane_bits size) v zdn k) (count_of size imm4 pattern v)) zdn v)
 counted (AddLength op rn imm6 rd) c v = leaves (with_x_sp c rd 64 (unsigned_int (pos (read_x_sp c rn) +ℤ multiple imm6 (length_of op v)) 64)) v
 counted (ReadLength imm6 rd) c v = leaves (with_x c rd 64 (unsigned_int (multiple imm6 (length_of Addvl v)) 64)) v

@@ -2,7 +2,7 @@
 use Rattle.std.specs.Prelude.{Bool, ◌||◌, if◌then◌else◌}
 use Rattle.sve_insn.specs.declared.form.SveForm.{SveForm}
 use Rattle.emu_model.specs.Access.{Memory}
-use Rattle.emu_model.specs.Done.{Done, Registers, went_on_with}
+use Rattle.emu_model.specs.Done.{Done, Registers, leaves, went_on_with}
 use Rattle.emu_model.specs.State.{Core, Vectors}
 use Rattle.sve_effects.specs.Across.{is_across, across}
 use Rattle.sve_effects.specs.FirstFault.{first_fault}
@@ -15,7 +15,7 @@ abbrev pub is_data : SveForm → Bool
 is_data form = is_vector_data form || is_across form
 
 abbrev pub after_data : SveForm → Core → Vectors → Registers
-after_data form c v = if is_vector_data form then record { core = c; vectors = vector_data form c v } else across form c v
+after_data form c v = if is_vector_data form then leaves c (vector_data form c v) else across form c v
 
 -- the rows that are on no other page are the first-faulting and non-faulting loads
 abbrev pub performed : SveForm → Core → Vectors → Memory → Done

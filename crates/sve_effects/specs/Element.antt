@@ -101,6 +101,10 @@ element_test Ls e a b = nat_le a b
 
 -- ---- functions of one operand
 
+-- a number of n bits, extended to e bits by its sign or by zeros
+abbrev pub extended_by : Bool → ℕ → ℕ → ℕ → ℕ
+extended_by is_signed e n a = if is_signed then sign_extended e n a else a
+
 -- the low n bits, with zeros above
 abbrev pub zero_extended : ℕ → ℕ → ℕ → ℕ
 zero_extended e n a = unsigned (unsigned a n) e

@@ -1,8 +1,8 @@
 -- The loops over lanes: lane k of what they write is given by k alone.
-use Rattle.std.specs.Prelude.{ℕ, zero, suc, ◌*◌, ◌/◌, ◌^◌, Bool, false, if◌then◌else◌}
+use Rattle.std.specs.Prelude.{ℕ, zero, suc, ◌*◌, ◌/◌, ◌^◌, Bool, if◌then◌else◌}
 use Rattle.emu_model.specs.State.{Vectors}
 use Rattle.vec_model.specs.Active.{active}
-use Rattle.vec_model.specs.Lanes.{lane, read_z, read_p, with_lanes, with_fields}
+use Rattle.vec_model.specs.Lanes.{lane, read_z, read_p, with_lanes}
 
 -- the bits of the lanes of a size: 0 b, 1 h, 2 s, 3 d
 abbrev pub lane_bits : ℕ → ℕ
@@ -35,11 +35,6 @@ merging e pg f zd v = with_lanes e (λ k. if is_active e v pg k then f k else la
 -- zeroing: an inactive lane is 0
 abbrev pub zeroing : ℕ → ℕ → (ℕ → ℕ) → ℕ → Vectors → Vectors
 zeroing e pg f zd v = with_lanes e (λ k. if is_active e v pg k then f k else 0) zd v
-
--- compare: the lowest bit of field k of predicate pd is the test's answer where lane k is active, and its other bits are 0; the
--- field of an inactive lane is 0
-abbrev pub comparing : ℕ → ℕ → (ℕ → Bool) → ℕ → Vectors → Vectors
-comparing e pg test pd v = with_fields e (λ k. if is_active e v pg k then test k else false) pd v
 
 -- fold: what the active ones of the first n lanes make of a start, in the order of lanes; f takes the value so far and the lane
 unfoldable pub folded : (ℕ → Bool) → (ℕ → ℕ → ℕ) → ℕ → (ℕ → ℕ) → ℕ → ℕ

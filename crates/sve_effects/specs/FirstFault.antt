@@ -12,9 +12,11 @@ use Rattle.emu_model.specs.Lists.{each}
 use Rattle.emu_model.specs.State.{Core, Vectors}
 use Rattle.vec_model.specs.Active.{active}
 use Rattle.vec_model.specs.Lanes.{with_ffr, with_lanes}
+use Rattle.sve_effects.specs.Element.{extended_by}
 use Rattle.sve_effects.specs.FirstLast.{first_where}
+use Rattle.sve_effects.specs.Predicate.{is_upto}
 use Rattle.sve_effects.specs.VectorElements.{layout, elements_of}
-use Rattle.sve_effects.specs.VectorLoadStore.{loads_signed, extended_to, has_sp_base, unless_misaligned}
+use Rattle.sve_effects.specs.VectorLoadStore.{loads_signed, has_sp_base, unless_misaligned}
 
 -- The active lanes are those that have an element, of which each has one; the elements stand in order of lanes.
 
@@ -54,14 +56,14 @@ cleared_from e (Some q) ffr = each (length ffr) (λ j. get_or ffr j false && nat
 abbrev pub first_cleared : ℕ → List Bool → ℕ → Option ℕ
 first_cleared e ffr n = first_where n (λ k. not (active e ffr k))
 
+-- k is before the place, or there is none
 abbrev pub is_before : Option ℕ → ℕ → Bool
-is_before None k = true
-is_before (Some g) k = nat_lt k g
+is_before found k = is_upto false found k
 
 -- what was loaded, extended, and 0 where a lane has no element
 abbrev pub loaded_from : Bool → ℕ → Memory → Option Element → ℕ
 loaded_from is_signed e m None = 0
-loaded_from is_signed e m (Some x) = extended_to is_signed e x.bytes (value m x.address x.bytes)
+loaded_from is_signed e m (Some x) = extended_by is_signed e (8 * x.bytes) (value m x.address x.bytes)
 
 -- lane k of the result, by the new FFR: 0 from the first lane on whose bit is 0
 abbrev pub first_fault_lane : Bool → ℕ → Memory → List Element → List Bool → ℕ → ℕ → ℕ

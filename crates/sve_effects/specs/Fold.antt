@@ -6,12 +6,11 @@ use Rattle.sve_insn.specs.declared.ops.ReduceOp.{ReduceOp}
 use Rattle.sve_insn.specs.declared.ops.ReduceOp.TheVariants.{Saddv, Uaddv, Smaxv, Umaxv, Sminv, Uminv, Orv, Eorv, Andv}
 use Rattle.sve_effects.specs.declared.elements.ElementOp.TheVariants.{Add, Smax, Umax, Smin, Umin, Orr, Eor, And}
 use Rattle.emu_bits.specs.Numbers.{sign_extended}
-use Rattle.emu_model.specs.Done.{Registers}
+use Rattle.emu_model.specs.Done.{Registers, leaves}
 use Rattle.emu_model.specs.State.{Core, Vectors}
 use Rattle.sve_effects.specs.Element.{element}
 use Rattle.sve_effects.specs.ElementLoop.{lane_bits, folding}
 use Rattle.vec_model.specs.Lanes.{with_low}
-use Rattle.sve_effects.specs.PermuteRows.{leaves}
 
 -- the next value, of the value so far and a lane of e bits; sums are of the signed or the unsigned lanes, modulo 2^64
 abbrev pub reduce_step : ReduceOp → ℕ → ℕ → ℕ → ℕ

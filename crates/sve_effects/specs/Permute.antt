@@ -2,7 +2,6 @@
 -- of a list.
 use Rattle.std.specs.Prelude.{ℕ, zero, suc, ◌+◌, ◌-◌, ◌*◌, ◌/◌, ◌%◌, Bool, true, false, nat_eq, nat_lt, if◌then◌else◌, List, [], ◌∷◌, ◌++◌, length, get_or, Option, Some, None}
 use Rattle.emu_bits.specs.Fields.{bit}
-use Rattle.emu_bits.specs.Numbers.{sign_extended}
 use Rattle.sve_insn.specs.declared.ops.InterleaveOp.{InterleaveOp}
 use Rattle.sve_insn.specs.declared.ops.InterleaveOp.TheVariants.{Zip1, Zip2, Uzp1, Uzp2, Trn1, Trn2}
 use Rattle.sve_effects.specs.FirstLast.{first_where, last_where}
@@ -67,10 +66,6 @@ indexed_place i n = if nat_lt i n then FirstLane i else Zero
 -- a source of 2n lanes of half the size: its low half, or its high half
 abbrev pub half_place : Bool → ℕ → ℕ → Place
 half_place high n k = FirstLane (bit high * n + k)
-
--- a number of half bits, extended to e bits by its sign or by zeros
-abbrev pub widened : Bool → ℕ → ℕ → ℕ → ℕ
-widened is_signed e half x = if is_signed then sign_extended e half x else x
 
 -- ---- by active lanes, where `active k` tells whether lane k is active
 

@@ -1,5 +1,5 @@
 -- What the permutes of lanes and of predicate fields do, and copies of scalars to lanes and of lanes to scalars.
-use Rattle.std.specs.Prelude.{ℕ, ◌+◌, ◌*◌, ◌/◌, ◌%◌, ◌^◌, Bool, true, false, nat_eq, if◌then◌else◌, List, get_or, is_some}
+use Rattle.std.specs.Prelude.{ℕ, ◌+◌, ◌*◌, ◌/◌, ◌%◌, ◌^◌, Bool, true, false, nat_eq, if◌then◌else◌, List, get_or, is_some, unwrap_or}
 use Rattle.sve_insn.specs.declared.form.SveForm.{SveForm}
 use Rattle.sve_insn.specs.declared.form.SveForm.TheVariants.{DupReg, DupLane, Insert, RevZ, Unpack, Table, Interleave, InterleaveP, UnpackP, RevP, Compact, Splice, Ext, CopyReg, Last, CondLast}
 use Rattle.sve_insn.specs.declared.ops.InsertOp.{InsertOp}
@@ -14,14 +14,15 @@ use Rattle.sve_insn.specs.declared.ops.LastOp.{LastOp}
 use Rattle.sve_insn.specs.declared.ops.LastOp.TheVariants.{LastaR, LastbR, LastaV, LastbV}
 use Rattle.sve_insn.specs.declared.ops.CondLastOp.{CondLastOp}
 use Rattle.sve_insn.specs.declared.ops.CondLastOp.TheVariants.{ClastaR, ClastbR, ClastaV, ClastbV, ClastaZ, ClastbZ}
-use Rattle.emu_model.specs.Done.{Registers}
+use Rattle.emu_model.specs.Done.{Registers, leaves}
 use Rattle.emu_model.specs.State.{Core, Vectors, read_x, read_x_sp, with_x}
+use Rattle.sve_effects.specs.Element.{extended_by}
 use Rattle.sve_effects.specs.ElementLoop.{lane_bits, lane_of, is_active}
-use Rattle.sve_effects.specs.FirstLast.{last_where}
+use Rattle.sve_effects.specs.FirstLast.{first_where, last_where}
 use Rattle.vec_model.specs.Lanes.{read_p, with_lanes, with_low, with_fields}
 use Rattle.sve_effects.specs.declared.places.Place.{Place}
 use Rattle.sve_effects.specs.declared.places.Place.TheVariants.{Scalar}
-use Rattle.sve_effects.specs.Permute.{taken, interleave_place, ext_place, rev_place, insr_place, indexed_place, half_place, widened, copy_place, compact_place, splice_place, last_lane}
+use Rattle.sve_effects.specs.Permute.{taken, interleave_place, ext_place, rev_place, insr_place, indexed_place, half_place, copy_place, compact_place, splice_place, last_lane}
 
 -- ---- lanes and fields by places
 
@@ -75,14 +76,9 @@ is_high_p Punpkhi = true
 
 -- ---- dup of a lane
 
--- the place of the lowest set bit of tsz, which isn't 0
+-- the first k of 0 to 4 whose bit of tsz is 1, else 4
 abbrev pub lowest_bit : ℕ → ℕ
-lowest_bit tsz =
-    if nat_eq (tsz % 2) 1 then 0
-    else (if nat_eq (tsz / 2 % 2) 1 then 1
-    else (if nat_eq (tsz / 4 % 2) 1 then 2
-    else (if nat_eq (tsz / 8 % 2) 1 then 3
-    else 4)))
+lowest_bit tsz = unwrap_or (first_where 5 (λ k. nat_eq (tsz / 2 ^ k % 2) 1)) 4
 
 -- the bits of a lane by tsz: 8 b, 16 h, 32 s, 64 d, 128 q
 abbrev pub dup_bits : ℕ → ℕ
@@ -114,10 +110,6 @@ abbrev pub last_value_or : ℕ → Bool → ℕ → ℕ → ℕ → Vectors → 
 last_value_or other after e pg zn v = if any_active (is_active e v pg) (lanes e v) then last_value after e pg zn v else other
 
 -- ---- the rows
-
--- the core and the vectors
-abbrev pub leaves : Core → Vectors → Registers
-leaves c v = record { core = c; vectors = v }
 
 -- the permutes, the copies to lanes, and the lanes that a predicate's last active one names
 abbrev pub is_permute : SveForm → Bool
@@ -166,7 +158,7 @@ after_cond_last ClastbZ e pg zm zdn c v = cond_last_lanes false e pg zm zdn c v
 
 -- the lanes of half the size, extended
 abbrev pub after_unpack : UnpackOp → ℕ → ℕ → ℕ → Vectors → Vectors
-after_unpack op e zn zd v = with_lanes e (λ k. widened (is_signed op) e (e / 2) (taken (lane_of (e / 2) v zn) (lane_of (e / 2) v zn) 0 0 (half_place (is_high op) (lanes e v) k))) zd v
+after_unpack op e zn zd v = with_lanes e (λ k. extended_by (is_signed op) e (e / 2) (taken (lane_of (e / 2) v zn) (lane_of (e / 2) v zn) 0 0 (half_place (is_high op) (lanes e v) k))) zd v
 
 -- field k of 2 bits has bit k of the half of Pn as its lowest bit, and 0 above
 abbrev pub after_unpack_p : UnpackPOp → ℕ → ℕ → Vectors → Vectors

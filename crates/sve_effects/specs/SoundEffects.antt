@@ -2,8 +2,8 @@
 use Rattle.std.specs.Prelude.{Bool, true, false, if◌then◌else◌}
 use Rattle.sve_insn.specs.declared.form.SveForm.{SveForm}
 use Rattle.emu_model.specs.Access.{Memory}
-use Rattle.emu_model.specs.Done.{Done, Registers, went_on_with}
-use Rattle.emu_model.specs.SoundDone.{IsSoundDone, IsSoundRegisters, well_sound}
+use Rattle.emu_model.specs.Done.{Done, Registers, leaves, went_on_with}
+use Rattle.emu_model.specs.SoundDone.{IsSoundDone, IsSoundRegisters, leaves_sound, went_on_sound}
 use Rattle.emu_model.specs.State.{Core, Vectors, IsSoundCore, IsSoundVectors, IsSoundMemory}
 use Rattle.sve_effects.specs.Across.{across}
 use Rattle.sve_effects.specs.Effects.{is_data, after_data, performed}
@@ -18,13 +18,10 @@ use Rattle.sve_effects.specs.VectorLoadStore.{is_contiguous_load, is_contiguous,
 
 module _ (c : Core) (v : Vectors) (m : Memory) (s : IsSoundCore c) (u : IsSoundVectors v) (t : IsSoundMemory m) where
   data_sound : (form : SveForm) → IsSoundRegisters (after_data form c v)
-  data_sound form = elim (is_vector_data form) as (λ b. IsSoundRegisters (if b then record { core = c; vectors = vector_data form c v } else across form c v)) [
-    | true ↦ record { core = s; vectors = vector_data_sound form c v u }
+  data_sound form = elim (is_vector_data form) as (λ b. IsSoundRegisters (if b then leaves c (vector_data form c v) else across form c v)) [
+    | true ↦ leaves_sound c (vector_data form c v) s (vector_data_sound form c v u)
     | false ↦ across_sound c v s u form
   ]
-
-  went_on_sound : (r : Registers) → IsSoundRegisters r → IsSoundDone (went_on_with r m)
-  went_on_sound r q = well_sound r.core r.vectors m q.core q.vectors t
 
   by_direction : (loads : Bool) (form : SveForm) → IsSoundDone (if loads then vector_load form c v m else vector_store form c v m)
   by_direction true form = vector_load_sound c v m s u t form
@@ -32,8 +29,8 @@ module _ (c : Core) (v : Vectors) (m : Memory) (s : IsSoundCore c) (u : IsSoundV
 
   by_page : (p₁ p₂ p₃ p₄ : Bool) (a b : Registers) (x y z : Done) → IsSoundRegisters a → IsSoundRegisters b → IsSoundDone x → IsSoundDone y → IsSoundDone z
       → IsSoundDone (if p₁ then went_on_with a m else (if p₂ then went_on_with b m else (if p₃ then x else (if p₄ then y else z))))
-  by_page true p₂ p₃ p₄ a b x y z p q f g h = went_on_sound a p
-  by_page false true p₃ p₄ a b x y z p q f g h = went_on_sound b q
+  by_page true p₂ p₃ p₄ a b x y z p q f g h = went_on_sound a m p t
+  by_page false true p₃ p₄ a b x y z p q f g h = went_on_sound b m q t
   by_page false false true p₄ a b x y z p q f g h = f
   by_page false false false true a b x y z p q f g h = g
   by_page false false false false a b x y z p q f g h = h

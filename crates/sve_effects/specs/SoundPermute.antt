@@ -8,19 +8,19 @@ use Rattle.sve_insn.specs.declared.ops.LastOp.TheVariants.{LastaR, LastbR, Lasta
 use Rattle.sve_insn.specs.declared.ops.CondLastOp.{CondLastOp}
 use Rattle.sve_insn.specs.declared.ops.CondLastOp.TheVariants.{ClastaR, ClastbR, ClastaV, ClastbV, ClastaZ, ClastbZ}
 use Rattle.sve_insn.specs.declared.ops.AddLengthOp.TheVariants.{Addvl}
-use Rattle.emu_bits.specs.Numbers.{unsigned_int}
+use Rattle.emu_bits.specs.Numbers.{width_of, unsigned_int}
 use Rattle.emu_model.specs.Sound.{with_x_sound, with_x_sp_sound}
 use Rattle.emu_model.specs.SoundDone.{IsSoundRegisters}
 use Rattle.emu_model.specs.State.{Core, Vectors, read_x, read_x_sp, with_x, IsSoundCore, IsSoundVectors}
 use Rattle.sve_effects.specs.Across.{across}
-use Rattle.sve_effects.specs.Counts.{is_count, count_of, inc_element, sat_element, sat_bits, sat_counted, length_of, multiple, counted}
-use Rattle.sve_effects.specs.Element.{element}
+use Rattle.sve_effects.specs.Counts.{is_count, count_of, inc_element, sat_element, sat_counted, length_of, multiple, counted}
+use Rattle.sve_effects.specs.Element.{element, extended_by}
 use Rattle.sve_effects.specs.ElementLoop.{lane_bits, lane_of, is_active, folding}
 use Rattle.sve_effects.specs.Fold.{reduce_step, reduce_start, reduce_bits, reduction}
 use Rattle.vec_model.specs.Lanes.{read_p, with_lanes, with_low}
 use Rattle.sve_effects.specs.declared.places.Place.{Place}
 use Rattle.sve_effects.specs.declared.places.Place.TheVariants.{Scalar}
-use Rattle.sve_effects.specs.Permute.{taken, interleave_place, ext_place, rev_place, insr_place, indexed_place, half_place, widened, copy_place, compact_place, splice_place}
+use Rattle.sve_effects.specs.Permute.{taken, interleave_place, ext_place, rev_place, insr_place, indexed_place, half_place, copy_place, compact_place, splice_place}
 use Rattle.sve_effects.specs.PermuteRows.{lanes, moved, bit_of_field, moved_fields, insert_scalar, copy_scalar, is_high, is_signed, is_high_p, dup_bits, dup_index, is_after, any_active, last_value, last_value_or, after_last, after_cond_last, is_permute, permuted}
 use Rattle.vec_model.specs.SoundLanes.{sound_lanes, sound_low, sound_fields}
 
@@ -67,7 +67,7 @@ module _ (c : Core) (v : Vectors) (s : IsSoundCore c) (u : IsSoundVectors v) whe
   permute_sound (RevZ size zn zd) = moved_sound (lane_bits size) (rev_place (lanes (lane_bits size) v)) zn zn 0 zd
   permute_sound (Unpack op size zn zd) =
       let e : ℕ = lane_bits size in
-      lanes_sound e (λ k. widened (is_signed op) e (e / 2) (taken (lane_of (e / 2) v zn) (lane_of (e / 2) v zn) 0 0 (half_place (is_high op) (lanes e v) k))) zd
+      lanes_sound e (λ k. extended_by (is_signed op) e (e / 2) (taken (lane_of (e / 2) v zn) (lane_of (e / 2) v zn) 0 0 (half_place (is_high op) (lanes e v) k))) zd
   permute_sound (Table size zm zn zd) = moved_sound (lane_bits size) (λ k. indexed_place (lane_of (lane_bits size) v zm k) (lanes (lane_bits size) v)) zn zn 0 zd
   permute_sound (Interleave op size zm zn zd) = moved_sound (lane_bits size) (interleave_place op (lanes (lane_bits size) v)) zn zm 0 zd
   permute_sound (InterleaveP op size pm pn pd) = moved_fields_sound (lane_bits size) (interleave_place op (lanes (lane_bits size) v)) pn pm pd
@@ -85,7 +85,7 @@ module _ (c : Core) (v : Vectors) (s : IsSoundCore c) (u : IsSoundVectors v) whe
   count_sound (Count size imm4 pattern rd) = x_sound rd (count_of size imm4 pattern v)
   count_sound (IncX op size imm4 pattern rdn) = x_sound rdn (element (inc_element op) 64 (read_x c rdn) (count_of size imm4 pattern v))
   count_sound (IncZ op size imm4 pattern zdn) = lanes_sound (lane_bits size) (λ k. element (inc_element op) (lane_bits size) (lane_of (lane_bits size) v zdn k) (count_of size imm4 pattern v)) zdn
-  count_sound (SatX op size sf imm4 pattern rdn) = x_sound rdn (sat_counted op (sat_bits sf) (read_x c rdn) (count_of size imm4 pattern v))
+  count_sound (SatX op size sf imm4 pattern rdn) = x_sound rdn (sat_counted op (width_of sf) (read_x c rdn) (count_of size imm4 pattern v))
   count_sound (SatZ op size imm4 pattern zdn) = lanes_sound (lane_bits size) (λ k. element (sat_element op) (lane_bits size) (lane_of (lane_bits size) v zdn k) (count_of size imm4 pattern v)) zdn
   count_sound (AddLength op rn imm6 rd) = record { core = with_x_sp_sound c rd 64 (unsigned_int (pos (read_x_sp c rn) +ℤ multiple imm6 (length_of op v)) 64) (omega arith) s; vectors = u }
   count_sound (ReadLength imm6 rd) = x_sound rd (unsigned_int (multiple imm6 (length_of Addvl v)) 64)

@@ -6,6 +6,7 @@ use Rattle.sve_insn.specs.declared.form.SveForm.{SveForm}
 use Rattle.sve_insn.specs.declared.form.SveForm.TheVariants.{CmpVec, CmpWide, CmpUImm, CmpSImm, LogicP, SelectP, Break, BreakPair, BreakNext, Ptest, First, Next, Ptrue, Pfalse, ReadFfr, ReadFfrAll, WriteFfr, CountP, IncP, IncPZ, While, Cterm}
 use Rattle.sve_insn.specs.declared.ops.WriteFfrOp.{WriteFfrOp}
 use Rattle.sve_insn.specs.declared.ops.WriteFfrOp.TheVariants.{Setffr, Wrffr}
+use Rattle.emu_bits.specs.Numbers.{width_of}
 use Rattle.emu_model.specs.Lists.{each, length-each}
 use Rattle.emu_model.specs.Sound.{with_x_sound, flags_sound}
 use Rattle.emu_model.specs.State.{Core, Vectors, read_x, HasLength, IsSoundCore, IsSoundVectors}
@@ -13,7 +14,7 @@ use Rattle.sve_effects.specs.Element.{element}
 use Rattle.sve_effects.specs.ElementLoop.{lane_bits, lane_of}
 use Rattle.vec_model.specs.Lanes.{read_p}
 use Rattle.sve_effects.specs.Predicate.{pred_test, count_lanes}
-use Rattle.sve_effects.specs.PredicateRows.{predicate_bits, after_test, put, counted_by, set_lanes_of, width_of, terminates, termination_flags, written_ffr, predicate}
+use Rattle.sve_effects.specs.PredicateRows.{predicate_bits, after_test, put, counted_by, set_lanes_of, terminates, termination_flags, written_ffr, predicate}
 use Rattle.vec_model.specs.SoundLanes.{sound_lanes, sound_p, sound_ffr_bits}
 use Rattle.emu_model.specs.SoundDone.{IsSoundRegisters}
 

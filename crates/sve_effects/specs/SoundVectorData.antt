@@ -1,15 +1,15 @@
 -- Instructions that work lane by lane keep the vector registers sound.
-use Rattle.std.specs.Prelude.{ℕ, ◌/◌, ◌%◌, ◌^◌, Bool, true, false, if◌then◌else◌, pos, ◌+ℤ◌, ◌*ℤ◌}
+use Rattle.std.specs.Prelude.{ℕ, ◌/◌, ◌%◌, ◌^◌, Bool, true, false, if◌then◌else◌, unwrap_or, pos, ◌+ℤ◌, ◌*ℤ◌}
 use Rattle.sve_insn.specs.declared.form.SveForm.{SveForm}
 use Rattle.sve_insn.specs.declared.form.SveForm.TheVariants.{Binary, BinaryWide, ShiftImm, Unary, MulAddZ, MulAddD, Plain, LogicZ, PlainWide, PlainShift, Index, Dot, DotIndexed, WideImm, MinMaxImm, DupImm, BitmaskZ, CopyImm, PrefixP, Prefix, SelectZ}
 use Rattle.emu_bits.specs.Bitmask.{bitmask_of}
 use Rattle.emu_bits.specs.Fields.{bit}
 use Rattle.emu_bits.specs.Numbers.{unsigned_int}
 use Rattle.emu_model.specs.State.{Core, Vectors, IsSoundVectors}
-use Rattle.sve_effects.specs.Element.{unary, multiply_by, subtracts_z, subtracts_d, dot_product, dot_signed, dot_indexed_signed, binary_element, binary_exchanged, shift_element, shift_imm_element, plain_element, logic_element, wide_imm_element, wide_imm_exchanged, min_max_element, min_max_signed, bitmask_element}
+use Rattle.sve_effects.specs.Element.{unary, multiply_by, subtracts_z, subtracts_d, dot_product, dot_signed, dot_indexed_signed, binary_element, binary_exchanged, shift_element, shift_imm_element, plain_element, logic_element, wide_imm_element, wide_imm_exchanged, min_max_element, min_max_signed, bitmask_element, extended_by}
 use Rattle.sve_effects.specs.ElementLoop.{lane_bits, lane_of, covering_lane, is_active, plain, merging, zeroing}
 use Rattle.vec_model.specs.SoundLanes.{sound_lanes}
-use Rattle.sve_effects.specs.VectorData.{tsz_of, shift_bits, shifted_by, wide_unsigned, wide_signed, lane_immediate, mask_of, index_start, index_step, dot_indexed_bits, dot_indexed_zm_bits, indexed_lane, dot_indexed, copied, with_second, vector_data}
+use Rattle.sve_effects.specs.VectorData.{tsz_of, shift_bits, shifted_by, wide_unsigned, wide_signed, index_start, index_step, dot_indexed_bits, dot_indexed_zm_bits, indexed_lane, dot_indexed, copied, with_second, vector_data}
 
 plain_sound : (e : ℕ) (f : ℕ → ℕ) (zd : ℕ) (v : Vectors) → IsSoundVectors v → IsSoundVectors (plain e f zd v)
 plain_sound e f zd v s = sound_lanes e f zd v s
@@ -42,9 +42,9 @@ vector_data_sound (Index op size y x zd) c v s = plain_sound (lane_bits size) (�
 vector_data_sound (Dot op size zm zn zda) c v s = plain_sound (lane_bits size) (λ k. dot_product (dot_signed op) (lane_bits size) (lane_of (lane_bits size) v zda k) (lane_of (lane_bits size) v zn k) (lane_of (lane_bits size) v zm k)) zda v s
 vector_data_sound (DotIndexed op i_zm zn zda) c v s = dot_indexed_sound (dot_indexed_signed op) (dot_indexed_bits op) (i_zm / 2 ^ dot_indexed_zm_bits op) (i_zm % 2 ^ dot_indexed_zm_bits op) zn zda v s
 vector_data_sound (WideImm op size sh imm8 zdn) c v s = plain_sound (lane_bits size) (with_second (wide_imm_exchanged op) (wide_imm_element op) (lane_bits size) zdn (λ _. wide_unsigned sh imm8) v) zdn v s
-vector_data_sound (MinMaxImm op size imm8 zdn) c v s = plain_sound (lane_bits size) (with_second false (min_max_element op) (lane_bits size) zdn (λ _. lane_immediate (min_max_signed op) (lane_bits size) imm8) v) zdn v s
+vector_data_sound (MinMaxImm op size imm8 zdn) c v s = plain_sound (lane_bits size) (with_second false (min_max_element op) (lane_bits size) zdn (λ _. extended_by (min_max_signed op) (lane_bits size) 8 imm8) v) zdn v s
 vector_data_sound (DupImm size sh imm8 zd) c v s = plain_sound (lane_bits size) (λ _. wide_signed (lane_bits size) sh imm8) zd v s
-vector_data_sound (BitmaskZ op n immr imms zdn) c v s = plain_sound 64 (λ k. bitmask_element op (lane_of 64 v zdn k) (mask_of (bitmask_of 64 (bit n) immr imms))) zdn v s
+vector_data_sound (BitmaskZ op n immr imms zdn) c v s = plain_sound 64 (λ k. bitmask_element op (lane_of 64 v zdn k) (unwrap_or (bitmask_of 64 (bit n) immr imms) 0)) zdn v s
 vector_data_sound (CopyImm size pg m sh imm8 zd) c v s = copied_sound m (lane_bits size) pg (λ _. wide_signed (lane_bits size) sh imm8) zd v s
 vector_data_sound (PrefixP size m pg zn zd) c v s = copied_sound m (lane_bits size) pg (lane_of (lane_bits size) v zn) zd v s
 vector_data_sound (Prefix zn zd) c v s = plain_sound 64 (lane_of 64 v zn) zd v s

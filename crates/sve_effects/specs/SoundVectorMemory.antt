@@ -15,10 +15,11 @@ use Rattle.emu_model.specs.SoundElements.{stop_is_word, with_stored_sound}
 use Rattle.emu_model.specs.State.{Core, Vectors, IsWord, HasLength, IsSoundCore, IsSoundVectors, IsSoundMemory}
 use Rattle.vec_model.specs.SoundLanes.{sound_lanes, sound_p, sound_ffr_bits}
 use Rattle.vec_model.specs.Lanes.{with_lanes}
+use Rattle.sve_effects.specs.Element.{extended_by}
 use Rattle.sve_effects.specs.FirstFault.{cleared_from, first_suppressed, first_fault_lane, with_first_fault, is_non_fault, first_refused, loaded_unless, first_fault_loaded, first_fault}
 use Rattle.sve_effects.specs.ElementLoop.{is_active}
 use Rattle.sve_effects.specs.VectorElements.{Layout, register_at, dtype_signed, layout, elements_of}
-use Rattle.sve_effects.specs.VectorLoadStore.{loads_signed, extended_to, loaded_lane, with_loaded, after_load, has_sp_base, is_misaligned, element_stored, load_as_far, store_as_far, unless_misaligned, loaded_to, stored_to, vector_load, vector_store}
+use Rattle.sve_effects.specs.VectorLoadStore.{loads_signed, loaded_lane, with_loaded, after_load, has_sp_base, is_misaligned, element_stored, load_as_far, store_as_far, unless_misaligned, loaded_to, stored_to, vector_load, vector_store}
 
 -- ---- what is loaded
 
@@ -30,7 +31,7 @@ with_loaded_sound is_signed l m (suc n) v s = sound_lanes l.bits (loaded_lane is
 after_load_sound : (form : SveForm) (l : Layout) (m : Memory) (v : Vectors) → IsSoundVectors v → IsSoundVectors (after_load form l m v)
 after_load_sound (LoadQuadImm msz imm4 pg rn zt) l m v s = sound_lanes l.bits (λ k. loaded_lane false l m 0 (k % l.lanes)) l.register v s
 after_load_sound (LoadQuadReg msz rm pg rn zt) l m v s = sound_lanes l.bits (λ k. loaded_lane false l m 0 (k % l.lanes)) l.register v s
-after_load_sound (LoadOne dtypeh imm6 dtypel pg rn zt) l m v s = sound_lanes l.bits (λ k. if is_active l.bits v pg k then extended_to (dtype_signed (dtypeh * 4 + dtypel)) l.bits l.bytes (value m (l.address k 0) l.bytes) else 0) l.register v s
+after_load_sound (LoadOne dtypeh imm6 dtypel pg rn zt) l m v s = sound_lanes l.bits (λ k. if is_active l.bits v pg k then extended_by (dtype_signed (dtypeh * 4 + dtypel)) l.bits (8 * l.bytes) (value m (l.address k 0) l.bytes) else 0) l.register v s
 after_load_sound (LoadP imm9h imm9l rn pt) l m v s = sound_p (each (v.bits / 8) _) l.register v (length-each (v.bits / 8) _) s
 after_load_sound form l m v s = with_loaded_sound (loads_signed form) l m l.registers v s
 

@@ -1,5 +1,5 @@
 -- What each SVE instruction that works lane by lane leaves of the vector registers.
-use Rattle.std.specs.Prelude.{ℕ, ◌+◌, ◌-◌, ◌*◌, ◌/◌, ◌%◌, ◌^◌, Bool, true, false, if◌then◌else◌, Option, Some, None, unwrap_or, ℤ, pos, ◌+ℤ◌, ◌*ℤ◌}
+use Rattle.std.specs.Prelude.{ℕ, ◌+◌, ◌-◌, ◌*◌, ◌/◌, ◌%◌, ◌^◌, Bool, true, false, if◌then◌else◌, unwrap_or, ℤ, pos, ◌+ℤ◌, ◌*ℤ◌}
 use Rattle.sve_insn.specs.declared.form.SveForm.{SveForm}
 use Rattle.sve_insn.specs.declared.form.SveForm.TheVariants.{Binary, BinaryWide, ShiftImm, Unary, MulAddZ, MulAddD, Plain, LogicZ, PlainWide, PlainShift, Index, Dot, DotIndexed, WideImm, MinMaxImm, DupImm, BitmaskZ, CopyImm, PrefixP, Prefix, SelectZ}
 use Rattle.sve_insn.specs.declared.ops.IndexOp.{IndexOp}
@@ -10,9 +10,9 @@ use Rattle.sve_effects.specs.declared.elements.ElementOp.{ElementOp}
 use Rattle.sve_effects.specs.declared.elements.ElementOp.TheVariants.{Lsl}
 use Rattle.emu_bits.specs.Bitmask.{highest_set, bitmask_of}
 use Rattle.emu_bits.specs.Fields.{bit}
-use Rattle.emu_bits.specs.Numbers.{signed, unsigned_int, sign_extended}
+use Rattle.emu_bits.specs.Numbers.{signed, unsigned_int}
 use Rattle.emu_model.specs.State.{Core, Vectors, read_x}
-use Rattle.sve_effects.specs.Element.{element, element_by, unary, multiply_by, subtracts_z, subtracts_d, dot_product, dot_signed, dot_indexed_signed, binary_element, binary_exchanged, shift_element, shift_imm_element, plain_element, logic_element, wide_imm_element, wide_imm_exchanged, min_max_element, min_max_signed, bitmask_element}
+use Rattle.sve_effects.specs.Element.{element, element_by, unary, multiply_by, subtracts_z, subtracts_d, dot_product, dot_signed, dot_indexed_signed, binary_element, binary_exchanged, shift_element, shift_imm_element, plain_element, logic_element, wide_imm_element, wide_imm_exchanged, min_max_element, min_max_signed, bitmask_element, extended_by}
 use Rattle.sve_effects.specs.ElementLoop.{lane_bits, lane_of, covering_lane, is_active, plain, merging, zeroing}
 
 -- ---- immediate shifts
@@ -43,15 +43,6 @@ wide_unsigned sh imm = imm * (if sh then 2 ^ 8 else 1)
 -- the same of the signed imm8, in lanes of e bits
 abbrev pub wide_signed : ℕ → Bool → ℕ → ℕ
 wide_signed e sh imm = unsigned_int (signed imm 8 *ℤ pos (if sh then 2 ^ 8 else 1)) e
-
--- imm8, in lanes of e bits, signed or unsigned
-abbrev pub lane_immediate : Bool → ℕ → ℕ → ℕ
-lane_immediate is_signed e imm = if is_signed then sign_extended e 8 imm else imm
-
--- each instruction of the row has a bitmask
-abbrev pub mask_of : Option ℕ → ℕ
-mask_of (Some m) = m
-mask_of None = 0
 
 -- the first number of an index and its step: a register, or a signed immediate of 5 bits
 abbrev pub index_start : IndexOp → Core → ℕ → ℤ
@@ -145,12 +136,13 @@ vector_data (Index op size y x zd) c v = plain (lane_bits size) (λ k. unsigned_
 vector_data (Dot op size zm zn zda) c v = plain (lane_bits size) (λ k. dot_product (dot_signed op) (lane_bits size) (lane_of (lane_bits size) v zda k) (lane_of (lane_bits size) v zn k) (lane_of (lane_bits size) v zm k)) zda v
 vector_data (DotIndexed op i_zm zn zda) c v = dot_indexed (dot_indexed_signed op) (dot_indexed_bits op) (i_zm / 2 ^ dot_indexed_zm_bits op) (i_zm % 2 ^ dot_indexed_zm_bits op) zn zda v
 vector_data (WideImm op size sh imm8 zdn) c v = plain (lane_bits size) (with_second (wide_imm_exchanged op) (wide_imm_element op) (lane_bits size) zdn (λ _. wide_unsigned sh imm8) v) zdn v
-vector_data (MinMaxImm op size imm8 zdn) c v = plain (lane_bits size) (with_second false (min_max_element op) (lane_bits size) zdn (λ _. lane_immediate (min_max_signed op) (lane_bits size) imm8) v) zdn v
+vector_data (MinMaxImm op size imm8 zdn) c v = plain (lane_bits size) (with_second false (min_max_element op) (lane_bits size) zdn (λ _. extended_by (min_max_signed op) (lane_bits size) 8 imm8) v) zdn v
 vector_data (DupImm size sh imm8 zd) c v = plain (lane_bits size) (λ _. wide_signed (lane_bits size) sh imm8) zd v
-vector_data (BitmaskZ op n immr imms zdn) c v = plain 64 (λ k. bitmask_element op (lane_of 64 v zdn k) (mask_of (bitmask_of 64 (bit n) immr imms))) zdn v
+-- each instruction of the row has a bitmask
+vector_data (BitmaskZ op n immr imms zdn) c v = plain 64 (λ k. bitmask_element op (lane_of 64 v zdn k) (unwrap_or (bitmask_of 64 (bit n) immr imms) 0)) zdn v
 vector_data (CopyImm size pg m sh imm8 zd) c v = copied m (lane_bits size) pg (λ _. wide_signed (lane_bits size) sh imm8) zd v
 vector_data (PrefixP size m pg zn zd) c v = copied m (lane_bits size) pg (lane_of (lane_bits size) v zn) zd v
 vector_data (Prefix zn zd) c v = plain 64 (lane_of 64 v zn) zd v
 vector_data (SelectZ size zm pg zn zd) c v = plain (lane_bits size) (λ k. if is_active (lane_bits size) v pg k then lane_of (lane_bits size) v zn k else lane_of (lane_bits size) v zm k) zd v
--- the other rows do more, and stand elsewhere
+-- the other rows stand elsewhere
 vector_data form c v = v

@@ -3,7 +3,6 @@ use Rattle.std.specs.Prelude.{ℕ, zero, suc, ◌+◌, ◌*◌, ◌/◌, ◌%◌
 use Rattle.sve_insn.specs.declared.form.SveForm.{SveForm}
 use Rattle.sve_insn.specs.declared.form.SveForm.TheVariants.{LoadImm, LoadReg, LoadFf, LoadNf, LoadNtImm, LoadNtReg, LoadQuadImm, LoadQuadReg, LoadManyImm, LoadManyReg, LoadOne, LoadZ, LoadP, StoreImm, StoreReg, StoreNtImm, StoreNtReg, StoreManyImm, StoreManyReg, StoreZ, StoreP, GatherSx, GatherSxScaled, GatherDx, GatherDxScaled, GatherD, GatherDScaled, GatherSv, GatherDv, ScatterSx, ScatterSxScaled, ScatterDx, ScatterDxScaled, ScatterD, ScatterDScaled, ScatterSv, ScatterDv}
 use Rattle.emu_bits.specs.Fields.{bit}
-use Rattle.emu_bits.specs.Numbers.{sign_extended}
 use Rattle.emu_bits.specs.Operations.{number_of_bits}
 use Rattle.emu_model.specs.declared.access.Kind.TheVariants.{Read as ReadKind, Write as WriteKind}
 use Rattle.emu_model.specs.declared.trap.Effect.TheVariants.{Next, Trap}
@@ -14,6 +13,7 @@ use Rattle.emu_model.specs.Elements.{Element, Reach, reach, with_stored, accesse
 use Rattle.emu_model.specs.Lists.{each}
 use Rattle.emu_model.specs.State.{Core, Vectors}
 use Rattle.vec_model.specs.Lanes.{lane, read_z, read_p, with_lanes, with_p}
+use Rattle.sve_effects.specs.Element.{extended_by}
 use Rattle.sve_effects.specs.ElementLoop.{is_active}
 use Rattle.sve_effects.specs.VectorElements.{Layout, register_at, dtype_signed, layout, elements_of}
 
@@ -36,13 +36,9 @@ loads_signed (GatherSv msz imm5 u ff pg zn zt) = not u
 loads_signed (GatherDv msz imm5 u ff pg zn zt) = not u
 loads_signed form = false
 
--- an element of n bytes, extended to a lane of e bits
-abbrev pub extended_to : Bool → ℕ → ℕ → ℕ → ℕ
-extended_to is_signed e n x = if is_signed then sign_extended e (8 * n) x else x
-
 -- what lane k of the j-th register gets: its element, extended, and 0 where it has none
 abbrev pub loaded_lane : Bool → Layout → Memory → ℕ → ℕ → ℕ
-loaded_lane is_signed l m j k = if l.is_on k then extended_to is_signed l.bits l.bytes (value m (l.address k j) l.bytes) else 0
+loaded_lane is_signed l m j k = if l.is_on k then extended_by is_signed l.bits (8 * l.bytes) (value m (l.address k j) l.bytes) else 0
 
 -- the first n registers of a layout with their lanes loaded
 unfoldable pub with_loaded : Bool → Layout → Memory → ℕ → Vectors → Vectors
@@ -55,7 +51,7 @@ with_repeated l m v = with_lanes l.bits (λ k. loaded_lane false l m 0 (k % l.la
 
 -- ld1r: the one element in each active lane
 abbrev pub with_replicated : Bool → ℕ → Layout → Memory → Vectors → Vectors
-with_replicated is_signed pg l m v = with_lanes l.bits (λ k. if is_active l.bits v pg k then extended_to is_signed l.bits l.bytes (value m (l.address k 0) l.bytes) else 0) l.register v
+with_replicated is_signed pg l m v = with_lanes l.bits (λ k. if is_active l.bits v pg k then extended_by is_signed l.bits (8 * l.bytes) (value m (l.address k 0) l.bytes) else 0) l.register v
 
 -- ldr of a predicate: bit j is bit j % 8 of its byte j / 8
 abbrev pub with_loaded_bits : Layout → Memory → Vectors → Vectors

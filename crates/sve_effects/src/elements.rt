@@ -25,9 +25,9 @@ pub enum ElementOp {
     Smulh,
     /// The unsigned product's upper half.
     Umulh,
-    /// The signed quotient, towards zero; 0 by 0.
+    /// The signed quotient, towards zero, and 0 where the second is 0.
     Sdiv,
-    /// The unsigned quotient; 0 by 0.
+    /// The unsigned quotient, and 0 where the second is 0.
     Udiv,
     /// OR of the bits.
     Orr,

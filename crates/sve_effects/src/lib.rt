@@ -6,7 +6,9 @@ pub mod elements;
 pub mod laws;
 pub mod places;
 pub mod predicates;
+pub mod sizes;
 
 pub use elements::{ElementOp, ElementTest};
 pub use places::Place;
 pub use predicates::{LogicOp, WhileTest};
+pub use sizes::lane_bits;

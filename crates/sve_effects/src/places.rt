@@ -9,6 +9,6 @@ pub enum Place {
     SecondLane(usize),
     /// The scalar source.
     Scalar,
-    /// The number 0.
+    /// The number 0, or a bit that is 0.
     Zero,
 }

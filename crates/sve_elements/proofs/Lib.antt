@@ -1,4 +1,3 @@
 pub mod Differences
 pub mod FarShifts
 pub mod Magnitudes
-pub mod Reversal

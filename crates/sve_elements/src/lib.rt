@@ -14,14 +14,10 @@ mod single;
 mod sums;
 
 pub use compare::test;
-pub use logic::{and, bic, eor, orr};
+pub use logic::{and, eor, orr};
 pub use names::apply;
 pub use numbers::wrapped;
-pub use products::{dot_product, mul, multiply_add, multiply_subtract, sdiv, smulh, udiv, umulh};
-pub use shifts::{asr, asrd, lsl, lsr};
+pub use products::{dot_product, multiply_add, multiply_subtract};
 pub use single::unary;
-pub use sums::{
-    add, sabd, smax, smin, sqadd, sqadd_amount, sqsub, sqsub_amount, sub, uabd, umax, umin, uqadd,
-    uqsub,
-};
+pub use sums::{add, smax, smin, umax, umin};
 pub use sve_effects::{ElementOp, ElementTest};

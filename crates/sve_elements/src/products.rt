@@ -36,7 +36,7 @@ pub fn umulh(e: u32, a: u64, b: u64) -> u64
     low(e, a as u128 * b as u128 >> e)
 }
 
-/// The quotient of two signed numbers, towards zero; 0 by 0.
+/// The quotient of two signed numbers, towards zero, and 0 where the second is 0.
 fn quotient(x: i64, y: i64) -> i128
     ensures { result ≡ quotient x y }
 {
@@ -49,7 +49,7 @@ fn quotient(x: i64, y: i64) -> i128
     }
 }
 
-/// The signed quotient, towards zero; 0 by 0, and the least number by -1 is itself.
+/// The signed quotient, towards zero, and 0 where the second is 0; the least number by -1 is itself.
 pub fn sdiv(e: u32, a: u64, b: u64) -> u64
     requires { IsLaneSize e }
     ensures value { result ≡ element ElementOp.Sdiv e a b }
@@ -58,7 +58,7 @@ pub fn sdiv(e: u32, a: u64, b: u64) -> u64
     wrapped(e, quotient(sext(a, e), sext(b, e)))
 }
 
-/// The unsigned quotient; 0 by 0.
+/// The unsigned quotient, and 0 where the second is 0.
 pub fn udiv(e: u32, a: u64, b: u64) -> u64
     requires { IsLaneSize e }
     ensures value { result ≡ element ElementOp.Udiv e a b }

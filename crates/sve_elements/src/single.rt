@@ -98,7 +98,7 @@ fn reversed_words(e: u32, a: u64) -> u64
 }
 
 /// The bits in reverse order.
-#[tactic(auto, using(crate::proofs::Reversal::reversed))]
+#[tactic(auto, using(emu_bits::specs::Reversal::reversed))]
 fn reversed_bits(e: u32, a: u64) -> u64
     requires size { IsLaneSize e }
     requires within { a < 2 ^ e }

@@ -5,15 +5,14 @@ use Rattle.std.proofs.lemmas.Bool.Decides.{nat_tests}
 use Rattle.std.proofs.lemmas.List.{get_or_past, map-append}
 use Rattle.emu_model.specs.Access.{Memory, value}
 use Rattle.emu_model.specs.Elements.{Element}
-use Rattle.emu_model.specs.Lists.{each, length-each}
-use Rattle.vec_model.proofs.Each.{get_or-each}
+use Rattle.emu_model.specs.Lists.{each, length-each, get_or-each}
 use Rattle.vec_model.specs.Active.{active}
 use Rattle.sve_effects.proofs.Found.{first_found}
+use Rattle.sve_effects.specs.Element.{extended_by}
 use Rattle.sve_effects.specs.FirstFault.{element_at, first_suppressed, is_refused, cleared_from, first_cleared, is_before, loaded_from}
 use Rattle.sve_effects.specs.FirstLast.{first_where, IsFirst, IsFirstWhere, MeetsNowhere}
 use Rattle.sve_effects.specs.VectorElements.{Layout, elements_below}
-use Rattle.sve_effects.specs.VectorLoadStore.{extended_to}
-use Rattle.element_loops.specs.SoFar.{element_at as element_of_lane}
+use Rattle.element_loops.specs.SoFar.{element_of_lane}
 use Rattle.element_loops.proofs.Lists.{one_element}
 use Rattle.element_loops.proofs.Turns.{skipped, below_none}
 use Rattle.sve_ffr.specs.Taking.{AreFrom, lanes_of, taken_value}
@@ -104,7 +103,7 @@ pub lanes_agree : (s : Bool) (e n : ℕ) (m : Memory) (es : List Element) (ffr :
 lanes_agree s e n m es ffr k from before =
     elim (element_at es k) as (λ (o : Option Element). element_at es k ≡ o → taken_value s e m o ≡ loaded_from s e m o) [
       | None ↦ λ at. refl
-      | Some x ↦ λ at. elim (is_refused m x) as (λ t. is_refused m x ≡ t → (if t then 0 else extended_to s e x.bytes (value m x.address x.bytes)) ≡ extended_to s e x.bytes (value m x.address x.bytes)) [
+      | Some x ↦ λ at. elim (is_refused m x) as (λ t. is_refused m x ≡ t → (if t then 0 else extended_by s e (8 * x.bytes) (value m x.address x.bytes)) ≡ extended_by s e (8 * x.bytes) (value m x.address x.bytes)) [
         | false ↦ λ fine. refl
         | true ↦ λ bad.
             let h : Suppresses m es n k = refused_first es m 0 n k x from at bad in

@@ -1,6 +1,7 @@
 -- What a load of the elements of a list leaves.
 use Rattle.std.proofs.Common.{◌≡◌, ◌≤◌, ◌<◌, ℕ, suc, ◌/◌, Bool, true, false, List, [], ◌∷◌, ◌++◌, length, get_or, Option, Some, None, nat_lt, if◌then◌else◌, refl, sym, ap, ◌∙◌, arith}
 use Rattle.std.proofs.lemmas.Bool.Decides.{nat_tests}
+use Rattle.std.proofs.lemmas.List.{append-nil}
 use Rattle.guest_mem.specs.declared.access_log.ElementList.{ElementList}
 use Rattle.emu_model.specs.declared.access.Access.{Access}
 use Rattle.emu_model.specs.declared.access.Kind.TheVariants.{Read}
@@ -34,10 +35,6 @@ first_is r list m h = ap (first_refused m) (rest_more r list 0 h)
 
 -- ---- all lanes
 
-append_none : {A : Type 0} (xs : List A) → xs ++ [] ≡ xs
-append_none [] = refl
-append_none (x ∷ xs) = ap (λ rest. x ∷ rest) (append_none xs)
-
 or_else_none : (o : Option ℕ) → or_else o None ≡ o
 or_else_none None = refl
 or_else_none (Some k) = refl
@@ -57,7 +54,7 @@ module _ (r e : ℕ) (list : ElementList) (v w next : Vectors) (m now : Memory) 
       let suppressed : t.suppressed ≡ first_suppressed m (listed r list)
       = sym (or_else_none t.suppressed) ∙ ap (λ (es : List Element). or_else t.suppressed (first_suppressed m es)) (sym left) ∙ taken.suppressed in
       let logged : log ≡ accesses_of false (unsuppressed m (listed r list))
-      = sym (append_none log) ∙ ap (λ (es : List Element). log ++ accesses_of false (unsuppressed m es)) (sym left) ∙ taken.logged in
+      = sym (append-nil log) ∙ ap (λ (es : List Element). log ++ accesses_of false (unsuppressed m es)) (sym left) ∙ taken.logged in
       let is : w ≡ with_ffr v (cleared_from e (first_suppressed m (listed r list)) v.ffr) = cleared ∙ ap (λ (o : Option ℕ). with_ffr v (cleared_from e o v.ffr)) suppressed in
       let stop : end ≡ first_cleared e (cleared_from e (first_suppressed m (listed r list)) v.ffr) (v.bits / e) = ends ∙ ap (λ (w : Vectors). first_cleared e w.ffr (w.bits / e)) is in
       let h : ℕ → ℕ = λ k. loaded_from list.signed e m (element_at (listed r list) k) in

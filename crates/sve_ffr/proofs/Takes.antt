@@ -1,5 +1,5 @@
 -- Steps of the loop over lanes that takes the elements of a list.
-use Rattle.std.proofs.Common.{◌≡◌, ◌≤◌, ◌<◌, ℕ, ◌+◌, Bool, true, false, List, [], ◌∷◌, ◌++◌, length, get_or, Option, Some, None, is_some, nat_eq, if◌then◌else◌, refl, sym, ap, subst, ◌∙◌, add-one, append_assoc, length-append, arith}
+use Rattle.std.proofs.Common.{◌*◌, ◌≡◌, ◌≤◌, ◌<◌, ℕ, ◌+◌, Bool, true, false, List, [], ◌∷◌, ◌++◌, length, get_or, Option, Some, None, is_some, nat_eq, if◌then◌else◌, refl, sym, ap, subst, ◌∙◌, add-one, append_assoc, length-append, arith}
 use Rattle.std.proofs.Math.Seq.{drop-cons}
 use Rattle.std.proofs.lemmas.Bool.{eqb-true, eqb-false, eq-eqb}
 use Rattle.std.proofs.lemmas.Bool.Decides.{nat_tests}
@@ -8,9 +8,9 @@ use Rattle.emu_model.specs.declared.access.Access.{Access}
 use Rattle.emu_model.specs.declared.access.Kind.TheVariants.{Read}
 use Rattle.emu_model.specs.Access.{Memory, refused, value}
 use Rattle.emu_model.specs.Elements.{Element, accesses_of}
+use Rattle.sve_effects.specs.Element.{extended_by}
 use Rattle.sve_effects.specs.FirstFault.{element_at, first_suppressed, is_refused, unsuppressed}
 use Rattle.sve_effects.specs.FirstLast.{or_else}
-use Rattle.sve_effects.specs.VectorLoadStore.{extended_to}
 use Rattle.element_loops.proofs.Writes.{push_each}
 use Rattle.element_loops.specs.Listed.{listed, listed_at}
 use Rattle.sve_ffr.specs.declared.taking.Taken.{Taken}
@@ -90,7 +90,7 @@ module _ (r e n : ℕ) (list : ElementList) (m : Memory) (k : ℕ) (t after : Ta
         ∙ ap (λ (b : Bool). if b then Some (element_of r list t.next) else element_at (rest_of r list (t.next + 1)) j) x
 
     pub take_loaded : (after_log : List Access) (x : ℕ) → refused m (element_of r list t.next).address list.bytes Read ≡ None
-        → x ≡ extended_to list.signed e list.bytes (value m (element_of r list t.next).address list.bytes)
+        → x ≡ extended_by list.signed e (8 * list.bytes) (value m (element_of r list t.next).address list.bytes)
         → after.next ≡ t.next + 1 → after.suppressed ≡ t.suppressed → after.values.items ≡ t.values.items ++ x ∷ []
         → after_log ≡ log ++ record { address = (element_of r list t.next).address; bytes = list.bytes; write = false } ∷ [] → AreTaken r e n list m (k + 1) after after_log
     take_loaded after_log x allowed is next suppressed values logged =
@@ -100,7 +100,7 @@ module _ (r e n : ℕ) (list : ElementList) (m : Memory) (k : ℕ) (t after : Ta
         let kept : unsuppressed m (rest_of r list t.next) ≡ q ∷ unsuppressed m rest = ap (unsuppressed m) more ∙ ap (λ (b : Bool). if b then unsuppressed m rest else q ∷ unsuppressed m rest) fine in
         let first : first_suppressed m (rest_of r list t.next) ≡ first_suppressed m rest = ap (first_suppressed m) more ∙ ap (λ (b : Bool). if b then Some q.lane else first_suppressed m rest) fine in
         let gives : taken_lane r e list m k ≡ x
-        = ap (taken_value list.signed e m) here ∙ ap (λ (b : Bool). if b then 0 else extended_to list.signed e list.bytes (value m q.address list.bytes)) fine ∙ sym is in
+        = ap (taken_value list.signed e m) here ∙ ap (λ (b : Bool). if b then 0 else extended_by list.signed e (8 * list.bytes) (value m q.address list.bytes)) fine ∙ sym is in
         record {
           values = push_each k (taken_lane r e list m) x t.values.items after.values.items values h.values (sym gives);
           rest = λ j le. later j le ∙ ap (λ i. element_at (rest_of r list i) j) (sym next);
@@ -125,7 +125,7 @@ module _ (r e n : ℕ) (list : ElementList) (m : Memory) (k : ℕ) (t after : Ta
         let kept : unsuppressed m (rest_of r list t.next) ≡ unsuppressed m rest = ap (unsuppressed m) more ∙ ap (λ (b : Bool). if b then unsuppressed m rest else q ∷ unsuppressed m rest) bad in
         let first : first_suppressed m (rest_of r list t.next) ≡ Some k = ap (first_suppressed m) more ∙ ap (λ (b : Bool). if b then Some q.lane else first_suppressed m rest) bad ∙ ap Some same in
         let gives : taken_lane r e list m k ≡ 0
-        = ap (taken_value list.signed e m) here ∙ ap (λ (b : Bool). if b then 0 else extended_to list.signed e list.bytes (value m q.address list.bytes)) bad in
+        = ap (taken_value list.signed e m) here ∙ ap (λ (b : Bool). if b then 0 else extended_by list.signed e (8 * list.bytes) (value m q.address list.bytes)) bad in
         record {
           values = push_each k (taken_lane r e list m) 0 t.values.items after.values.items values h.values (sym gives);
           rest = λ j le. later j le ∙ ap (λ i. element_at (rest_of r list i) j) (sym next);

@@ -1,13 +1,13 @@
 -- How far a load that goes over the lanes in order has taken the elements of a list.
-use Rattle.std.specs.Prelude.{◌≡◌, ◌≤◌, ◌<◌, ℕ, ◌+◌, Bool, false, ⊤, List, [], ◌∷◌, ◌++◌, length, drop, map, Option, None, Some, nat_eq, if◌then◌else◌}
+use Rattle.std.specs.Prelude.{◌*◌, ◌≡◌, ◌≤◌, ◌<◌, ℕ, ◌+◌, Bool, false, ⊤, List, [], ◌∷◌, ◌++◌, length, drop, map, Option, None, Some, nat_eq, if◌then◌else◌}
 use Rattle.guest_mem.specs.declared.access_log.ElementList.{ElementList}
 use Rattle.emu_model.specs.declared.access.Access.{Access}
 use Rattle.emu_model.specs.Access.{Memory, value}
 use Rattle.emu_model.specs.Elements.{Element, accesses_of}
 use Rattle.emu_model.specs.Lists.{each}
+use Rattle.sve_effects.specs.Element.{extended_by}
 use Rattle.sve_effects.specs.FirstFault.{element_at, first_suppressed, is_refused, unsuppressed}
 use Rattle.sve_effects.specs.FirstLast.{or_else}
-use Rattle.sve_effects.specs.VectorLoadStore.{extended_to}
 use Rattle.element_loops.specs.Listed.{listed, listed_at}
 use Rattle.sve_ffr.specs.declared.taking.Taken.{Taken}
 
@@ -32,7 +32,7 @@ rest_of r list i = listed_at r list.bytes (drop i list.lanes.items)
 -- what lane k of e bits gets: its element, extended, and 0 where it is refused or there is none
 abbrev pub taken_value : Bool → ℕ → Memory → Option Element → ℕ
 taken_value is_signed e m None = 0
-taken_value is_signed e m (Some x) = if is_refused m x then 0 else extended_to is_signed e x.bytes (value m x.address x.bytes)
+taken_value is_signed e m (Some x) = if is_refused m x then 0 else extended_by is_signed e (8 * x.bytes) (value m x.address x.bytes)
 
 abbrev pub taken_lane : ℕ → ℕ → ElementList → Memory → ℕ → ℕ
 taken_lane r e list m k = taken_value list.signed e m (element_at (listed r list) k)

@@ -38,8 +38,8 @@ pub fn is_own(i: &Sve) -> bool
 
 /// Does a first-faulting or non-faulting load of the elements of a list, and says how the step goes on. The lanes of the list
 /// have to be the active lanes of the row in order, and its bytes and its sign have to be the row's. The elements that were loaded
-/// are logged in order. A trap changes no register, and comes where SP is the base and isn't aligned, or at the element of the
-/// first active lane, but in a non-faulting load.
+/// are logged in order. A trap changes no register. It comes where SP is the base, isn't a multiple of 16 and a lane is active;
+/// else where the element of the first active lane is refused, unless the load is non-faulting.
 pub fn exec(
     core: &mut Core,
     vec: &mut VecRegs,

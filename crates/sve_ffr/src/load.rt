@@ -6,7 +6,7 @@ ghost use Rattle.emu_model.specs.declared.trap.TrapKind.{TrapKind};
 ghost use Rattle.emu_model.specs.State.{Core as CoreState};
 ghost use Rattle.vec_model.specs.Lanes.{IsLaneSize};
 ghost use Rattle.sve_effects.specs.FirstFault.{first_fault_loaded, first_refused};
-ghost use Rattle.sve_effects.specs.VectorLoadStore.{is_misaligned, tests_sp};
+ghost use Rattle.sve_effects.specs.VectorLoadStore.{tests_sp};
 ghost use Rattle.element_loops.specs.Listed.{listed};
 ghost use Rattle.sve_ffr.specs.Rows.{first_fault_by};
 ghost use Rattle.sve_ffr.specs.Taking.{AreFrom, lanes_of};
@@ -15,7 +15,7 @@ use crate::ffr::{clear, first_cleared, write};
 use crate::row::Row;
 use crate::taking::take;
 use core_regs::{Core, Effect, Trap, TrapKind};
-use emu_bits::Reg;
+use element_access::test_sp;
 use guest_mem::{AccessLog, ElementList, Kind, Mem};
 use vec_regs::VecRegs;
 
@@ -28,19 +28,11 @@ fn has_element(list: &ElementList) -> bool
     list.lanes.len() > 0
 }
 
-/// Tests that SP is a multiple of 16 where it is the base and there is an element.
-fn test_sp(core: &Core, row: &Row, list: &ElementList) -> Result<(), Trap>
-    ensures { let misaligned : Bool = is_misaligned row.now.has_sp_base (listed row.now.register list.now) core.now in
-        MatchResult result (λ x. misaligned ≡ false) (λ trap. (misaligned ≡ true) × (trap ≡ record { kind = TrapKind.SpAlign; address = core.now.sp })) }
+/// Whether SP is tested: it is the base, and there is an element.
+fn tests_sp(row: &Row, list: &ElementList) -> bool
+    ensures { result ≡ tests_sp row.now.has_sp_base (listed row.now.register list.now) }
 {
-    let sp = core.x_sp(Reg::at(31, 0));
-    if row.has_sp_base && sp % 16 != 0 && has_element(list) {
-        return Err(Trap {
-            kind: TrapKind::SpAlign,
-            address: sp,
-        });
-    }
-    Ok(())
+    row.has_sp_base && has_element(list)
 }
 
 /// Tests the element of the first active lane, unless no element traps.
@@ -97,7 +89,7 @@ pub(crate) fn first_fault(
     ensures { first_fault_by row.now list.now.signed (listed row.now.register list.now) core.now vec.old mem.old
         ≡ record { core = core.now; vectors = vec.new; memory = mem.new; accesses = log.new.items; effect = result } }
 {
-    if let Err(trap) = test_sp(core, row, list) {
+    if let Err(trap) = test_sp(core, tests_sp(row, list)) {
         return Effect::Trap(trap);
     }
     if let Err(trap) = test_first(mem, row, list) {

@@ -9,7 +9,8 @@ use element_loops::sizes::{dtype_bits, dtype_bytes, element_bytes, is_sp};
 use emu_bits::{Reg, U};
 use sve_insn::{Sve, SveForm};
 
-/// The bits of lanes, the bytes of elements, the register that is loaded, whether the base is SP, and whether no element traps.
+/// The bits of lanes, the bytes of elements, which bound those of a list, the register that is loaded, whether the base is SP, and
+/// whether no element traps.
 #[derive(Clone, Copy)]
 pub struct Row {
     pub bits: u32,

@@ -3,13 +3,11 @@ ghost use Rattle.std.specs.Prelude.{◌≡◌, ◌≤◌, ◌<◌, ◌+◌, ℕ,
 ghost use Rattle.arrayvec.specs.ArrayVec.{array_vec_len};
 ghost use Rattle.vec_model.specs.Lanes.{IsLaneSize};
 ghost use Rattle.sve_effects.specs.FirstLast.{or_else};
-ghost use Rattle.sve_effects.specs.VectorLoadStore.{extended_to};
 ghost use Rattle.element_loops.specs.Listed.{listed};
 ghost use Rattle.sve_ffr.specs.Taking.{AreFrom, AreTaken, lanes_of, rest_of, starts_at};
 
 use arrayvec::ArrayVec;
-use element_access::load_u64;
-use emu_bits::sign_extended;
+use element_access::{extended, load_u64};
 use guest_mem::{AccessLog, ElementList, Mem};
 
 /// What has been taken.
@@ -39,20 +37,6 @@ fn first_of(found: Option<u32>, k: u32) -> Option<u32>
     match found {
         Some(before) => Some(before),
         None => Some(k),
-    }
-}
-
-/// An element of n bytes, extended to a lane of e bits.
-fn extended(is_signed: bool, e: u32, n: u32, v: u64) -> u64
-    requires size { IsLaneSize e }
-    requires some { 1 ≤ n }
-    requires most { n ≤ 8 }
-    ensures { result ≡ extended_to is_signed e n v }
-{
-    if is_signed {
-        sign_extended(v, 8 * n, e)
-    } else {
-        v
     }
 }
 

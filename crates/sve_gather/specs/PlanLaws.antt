@@ -10,7 +10,7 @@ use Rattle.sve_effects.specs.VectorElements.{layout}
 use Rattle.sve_effects.specs.VectorLoadStore.{vector_load, vector_store, is_gather, is_scatter, loads_signed}
 use Rattle.element_loops.specs.Layouts.{layout_of}
 use Rattle.element_loops.specs.Planned.{load_by, store_by}
-use Rattle.sve_gather.specs.Plans.{plan_of, is_first_gather, is_gather_or_scatter}
+use Rattle.sve_gather.specs.Plans.{plan_of, is_first_gather, has_gather_plan}
 
 pub gather_planned : (form : SveForm) (c : Core) (v : Vectors) (m : Memory) → is_gather form ≡ true → load_by (plan_of form c v) c v m ≡ vector_load form c v m
 gather_planned (GatherSx msz xs zm u ff pg rn zt) c v m h = refl
@@ -47,7 +47,7 @@ no_gather_scatters (GatherDv msz imm5 u ff pg zn zt) h = refl
 no_gather_scatters form h = absurd (both_ways false refl h)
 
 -- gathers, first-faulting ones and scatters are gathers or scatters
-pub gathers : (form : SveForm) → is_gather form ≡ true → is_gather_or_scatter form ≡ true
+pub gathers : (form : SveForm) → is_gather form ≡ true → has_gather_plan form ≡ true
 gathers (GatherSx msz xs zm u ff pg rn zt) h = refl
 gathers (GatherSxScaled msz xs zm u ff pg rn zt) h = refl
 gathers (GatherDx msz xs zm u ff pg rn zt) h = refl
@@ -58,7 +58,7 @@ gathers (GatherSv msz imm5 u ff pg zn zt) h = refl
 gathers (GatherDv msz imm5 u ff pg zn zt) h = refl
 gathers form h = absurd (both_ways false refl h)
 
-pub scatters : (form : SveForm) → is_scatter form ≡ true → is_gather_or_scatter form ≡ true
+pub scatters : (form : SveForm) → is_scatter form ≡ true → has_gather_plan form ≡ true
 scatters (ScatterSx msz zm xs pg rn zt) h = refl
 scatters (ScatterSxScaled msz zm xs pg rn zt) h = refl
 scatters (ScatterDx msz zm xs pg rn zt) h = refl
@@ -69,7 +69,7 @@ scatters (ScatterSv msz imm5 pg zn zt) h = refl
 scatters (ScatterDv msz imm5 pg zn zt) h = refl
 scatters form h = absurd (both_ways false refl h)
 
-pub first_gathers : (form : SveForm) → is_first_gather form ≡ true → is_gather_or_scatter form ≡ true
+pub first_gathers : (form : SveForm) → is_first_gather form ≡ true → has_gather_plan form ≡ true
 first_gathers (GatherSx msz xs zm u ff pg rn zt) h = refl
 first_gathers (GatherSxScaled msz xs zm u ff pg rn zt) h = refl
 first_gathers (GatherDx msz xs zm u ff pg rn zt) h = refl

@@ -26,24 +26,24 @@ scattered_plan e n zt pg places is_signed has_sp_base v = record {
 
 -- ---- the rows
 
-abbrev pub is_gather_or_scatter : SveForm → Bool
-is_gather_or_scatter (GatherSx msz xs zm u ff pg rn zt) = true
-is_gather_or_scatter (GatherSxScaled msz xs zm u ff pg rn zt) = true
-is_gather_or_scatter (GatherDx msz xs zm u ff pg rn zt) = true
-is_gather_or_scatter (GatherDxScaled msz xs zm u ff pg rn zt) = true
-is_gather_or_scatter (GatherD msz zm u ff pg rn zt) = true
-is_gather_or_scatter (GatherDScaled msz zm u ff pg rn zt) = true
-is_gather_or_scatter (GatherSv msz imm5 u ff pg zn zt) = true
-is_gather_or_scatter (GatherDv msz imm5 u ff pg zn zt) = true
-is_gather_or_scatter (ScatterSx msz zm xs pg rn zt) = true
-is_gather_or_scatter (ScatterSxScaled msz zm xs pg rn zt) = true
-is_gather_or_scatter (ScatterDx msz zm xs pg rn zt) = true
-is_gather_or_scatter (ScatterDxScaled msz zm xs pg rn zt) = true
-is_gather_or_scatter (ScatterD msz zm pg rn zt) = true
-is_gather_or_scatter (ScatterDScaled msz zm pg rn zt) = true
-is_gather_or_scatter (ScatterSv msz imm5 pg zn zt) = true
-is_gather_or_scatter (ScatterDv msz imm5 pg zn zt) = true
-is_gather_or_scatter form = false
+abbrev pub has_gather_plan : SveForm → Bool
+has_gather_plan (GatherSx msz xs zm u ff pg rn zt) = true
+has_gather_plan (GatherSxScaled msz xs zm u ff pg rn zt) = true
+has_gather_plan (GatherDx msz xs zm u ff pg rn zt) = true
+has_gather_plan (GatherDxScaled msz xs zm u ff pg rn zt) = true
+has_gather_plan (GatherD msz zm u ff pg rn zt) = true
+has_gather_plan (GatherDScaled msz zm u ff pg rn zt) = true
+has_gather_plan (GatherSv msz imm5 u ff pg zn zt) = true
+has_gather_plan (GatherDv msz imm5 u ff pg zn zt) = true
+has_gather_plan (ScatterSx msz zm xs pg rn zt) = true
+has_gather_plan (ScatterSxScaled msz zm xs pg rn zt) = true
+has_gather_plan (ScatterDx msz zm xs pg rn zt) = true
+has_gather_plan (ScatterDxScaled msz zm xs pg rn zt) = true
+has_gather_plan (ScatterD msz zm pg rn zt) = true
+has_gather_plan (ScatterDScaled msz zm pg rn zt) = true
+has_gather_plan (ScatterSv msz imm5 pg zn zt) = true
+has_gather_plan (ScatterDv msz imm5 pg zn zt) = true
+has_gather_plan form = false
 
 abbrev pub plan_of : SveForm → Core → Vectors → Plan
 plan_of (GatherSx msz xs zm u ff pg rn zt) c v = scattered_plan 32 (2 ^ msz) zt pg (Words (read_x_sp c rn) xs zm 1) (not u) (nat_eq rn 31) v

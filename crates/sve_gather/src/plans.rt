@@ -7,7 +7,7 @@ ghost use Rattle.element_loops.specs.Layouts.{IsPlan};
 ghost use Rattle.sve_gather.specs.Plans as table;
 
 use core_regs::Core;
-use element_loops::sizes::{element_bytes, governing, is_sp};
+use element_loops::sizes::{element_bytes, is_sp};
 use element_loops::{OnLanes, Places, Plan, Target};
 use emu_bits::{PredLow, Reg, U};
 use sve_insn::{Sve, SveForm};
@@ -34,7 +34,7 @@ fn scattered(
         lanes: vec.length().bits() / bits,
         registers: 1,
         register: zt,
-        on: OnLanes::Active(governing(pg)),
+        on: OnLanes::Active(pg.register()),
         places,
         target: Target::Registers,
         is_signed,
@@ -78,7 +78,7 @@ fn vector(zn: Reg, imm5: U<5>, msz: U<2>) -> Places
 /// The plan of a gather or a scatter.
 #[rattlefmt::skip]
 pub(crate) fn plan(core: &Core, vec: &VecRegs, i: &Sve) -> Plan
-    requires { table.is_gather_or_scatter i.now ≡ true }
+    requires { table.has_gather_plan i.now ≡ true }
     ensures plan { IsPlan result vec.now }
     ensures value { result ≡ table.plan_of i.now core.now vec.now }
 {

@@ -4,11 +4,12 @@ ghost use Rattle.sve_insn.specs.declared.form.SveForm.{SveForm};
 ghost use Rattle.sve_effects.specs.VectorData as table;
 ghost use Rattle.sve_lanes.specs.Groups.{is_copy};
 
-use crate::fields::{governing, lane_bits, wide_signed};
+use crate::fields::wide_signed;
 use crate::lanes::{LaneOf, Number, Select};
 use crate::loops::{copied, plain};
 use core_regs::Core;
 use emu_bits::{Pred, PredLow, Reg, U};
+use sve_effects::lane_bits;
 use sve_insn::{Sve, SveForm};
 use vec_regs::VecRegs;
 
@@ -75,7 +76,7 @@ fn prefix_p(core: &Core, vec: &mut VecRegs, size: U<2>, m: bool, pg: PredLow, zn
     ensures { vec.new ≡ table.vector_data (SveForm.PrefixP size m pg zn zd) core.now vec.old }
 {
     let lanes = LaneOf { r: zn };
-    copied(vec, m, lane_bits(size), governing(pg), zd, lanes);
+    copied(vec, m, lane_bits(size), pg.register(), zd, lanes);
 }
 
 fn prefix(core: &Core, vec: &mut VecRegs, zn: Reg, zd: Reg)

@@ -4,13 +4,14 @@ ghost use Rattle.sve_insn.specs.declared.form.SveForm.{SveForm};
 ghost use Rattle.sve_effects.specs.VectorData as table;
 ghost use Rattle.sve_lanes.specs.Groups.{is_merging};
 
-use crate::fields::{governing, lane_bits, shift_amount, shift_bits, tsz_of};
+use crate::fields::{shift_amount, shift_bits, tsz_of};
 use crate::lanes::{CoveringLane, LaneOf, Number};
 use crate::loops::merging;
 use crate::names::{binary_element, binary_exchanged, shift_element, shift_imm_element};
 use crate::operations::{OneLane, Operation};
 use core_regs::Core;
 use emu_bits::{PredLow, Reg, U};
+use sve_effects::lane_bits;
 use sve_insn::{BinaryOp, ShiftImmOp, ShiftOp, Sve, SveForm, UnaryOp};
 use vec_regs::VecRegs;
 
@@ -62,7 +63,7 @@ fn binary(core: &Core, vec: &mut VecRegs, op: BinaryOp, size: U<2>, pg: PredLow,
         zn: zdn,
         second: LaneOf { r: zm },
     };
-    merging(vec, lane_bits(size), governing(pg), zdn, lanes);
+    merging(vec, lane_bits(size), pg.register(), zdn, lanes);
 }
 
 fn binary_wide(
@@ -82,7 +83,7 @@ fn binary_wide(
         zn: zdn,
         second: CoveringLane { r: zm },
     };
-    merging(vec, lane_bits(size), governing(pg), zdn, lanes);
+    merging(vec, lane_bits(size), pg.register(), zdn, lanes);
 }
 
 fn shift_imm(
@@ -106,12 +107,12 @@ fn shift_imm(
         zn: zdn,
         second: Number { n },
     };
-    merging(vec, shift_bits(tsz), governing(pg), zdn, lanes);
+    merging(vec, shift_bits(tsz), pg.register(), zdn, lanes);
 }
 
 fn unary(core: &Core, vec: &mut VecRegs, op: UnaryOp, size: U<2>, pg: PredLow, zn: Reg, zd: Reg)
     ensures { vec.new ≡ table.vector_data (SveForm.Unary op size pg zn zd) core.now vec.old }
 {
     let lanes = OneLane { op, zn };
-    merging(vec, lane_bits(size), governing(pg), zd, lanes);
+    merging(vec, lane_bits(size), pg.register(), zd, lanes);
 }

@@ -5,13 +5,13 @@ ghost use Rattle.vec_model.specs.Lanes.{IsLaneSize};
 ghost use Rattle.sve_effects.specs.VectorData as table;
 ghost use Rattle.sve_lanes.specs.Groups.{is_product};
 
-use crate::fields::{governing, lane_bits};
 use crate::lanes::LaneOf;
 use crate::loops::{merging, plain};
 use crate::names::{dot_indexed_signed, dot_signed, subtracts_d, subtracts_z};
 use crate::operations::{Dot, IndexedLane, MultiplyAdd};
 use core_regs::Core;
 use emu_bits::{PredLow, Reg, U};
+use sve_effects::lane_bits;
 use sve_insn::{DotIndexedOp, DotOp, MulAddDOp, MulAddZOp, Sve, SveForm};
 use vec_regs::VecRegs;
 
@@ -67,7 +67,7 @@ fn mul_add_z(
         zn,
         zm,
     };
-    merging(vec, lane_bits(size), governing(pg), zda, lanes);
+    merging(vec, lane_bits(size), pg.register(), zda, lanes);
 }
 
 fn mul_add_d(
@@ -88,7 +88,7 @@ fn mul_add_d(
         zn: zdn,
         zm,
     };
-    merging(vec, lane_bits(size), governing(pg), zdn, lanes);
+    merging(vec, lane_bits(size), pg.register(), zdn, lanes);
 }
 
 fn dot(core: &Core, vec: &mut VecRegs, op: DotOp, size: U<2>, zm: Reg, zn: Reg, zda: Reg)

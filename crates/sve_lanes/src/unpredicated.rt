@@ -4,13 +4,14 @@ ghost use Rattle.sve_insn.specs.declared.form.SveForm.{SveForm};
 ghost use Rattle.sve_effects.specs.VectorData as table;
 ghost use Rattle.sve_lanes.specs.Groups.{is_plain};
 
-use crate::fields::{lane_bits, shift_amount, shift_bits, tsz_of};
+use crate::fields::{shift_amount, shift_bits, tsz_of};
 use crate::lanes::{CoveringLane, LaneOf, Number};
 use crate::loops::plain;
 use crate::names::{logic_element, plain_element, shift_element};
 use crate::operations::Operation;
 use core_regs::Core;
 use emu_bits::{Reg, U};
+use sve_effects::lane_bits;
 use sve_insn::{LogicZOp, PlainOp, ShiftOp, Sve, SveForm};
 use vec_regs::VecRegs;
 

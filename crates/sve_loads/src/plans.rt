@@ -10,7 +10,7 @@ ghost use Rattle.sve_loads.specs.Plans.{IsShape};
 use crate::bases::{at_register, behind, near, near_whole};
 use crate::shape::Shape;
 use core_regs::Core;
-use element_loops::sizes::{governing, is_sp};
+use element_loops::sizes::is_sp;
 use element_loops::{OnLanes, Places, Plan, Target};
 use emu_bits::{Pred, PredLow, Reg, U};
 use vec_regs::VecRegs;
@@ -34,7 +34,7 @@ pub(crate) fn consecutive(
         lanes: vec.length().bits() / shape.bits,
         registers: shape.registers,
         register: zt,
-        on: OnLanes::Active(governing(pg)),
+        on: OnLanes::Active(pg.register()),
         places: Places::Consecutive(base),
         target: Target::Registers,
         is_signed: shape.is_signed,
@@ -131,7 +131,7 @@ pub(crate) fn replicated(
     ensures plan { IsPlan result vec.now }
     ensures value { result ≡ table.one_plan shape zt pg rn imm6 core.now vec.now }
 {
-    let pg = governing(pg);
+    let pg = pg.register();
     Plan {
         bits: shape.bits,
         bytes: shape.bytes,

@@ -2,8 +2,9 @@
 ghost use Rattle.std.specs.Prelude.{◌≡◌, ◌≤◌, ◌<◌};
 ghost use Rattle.sve_loads.specs.Plans.{IsShape, dtype_shape, size_shape};
 
-use element_loops::sizes::{dtype_bits, dtype_bytes, dtype_signed, element_bytes, lane_bits};
+use element_loops::sizes::{dtype_bits, dtype_bytes, dtype_signed, element_bytes};
 use emu_bits::U;
+use sve_effects::lane_bits;
 
 /// The bits of lanes, the bytes of elements, for how many registers, and whether a load extends the sign.
 #[derive(Clone, Copy)]

@@ -1,11 +1,10 @@
 -- The active lanes of a register, and zeros behind them.
 use Rattle.std.proofs.Common.{◌≡◌, ◌<◌, ◌≤◌, ◌+◌, ◌-◌, ℕ, zero, Bool, true, false, nat_lt, if◌then◌else◌, List, [], ◌∷◌, ◌++◌, map, length, get_or, refl, sym, subst, append_assoc, ap, ◌∙◌, arith, length-append}
 use Rattle.std.proofs.lemmas.Bool.Decides.{nat_tests}
-use Rattle.std.proofs.lemmas.List.{length-map, get_or-map, get_or-append_right, map-append}
+use Rattle.std.proofs.lemmas.List.{append-nil, length-map, get_or-map, get_or-append_right, map-append}
 use Rattle.std.proofs.lemmas.List.FromFn.{fill_by_all}
 use Rattle.std.proofs.Math.ListN.{get_or-append}
-use Rattle.emu_model.specs.Lists.{each, length-each, each-more}
-use Rattle.vec_model.proofs.Each.{get_or-each}
+use Rattle.emu_model.specs.Lists.{each, length-each, each-more, get_or-each}
 use Rattle.sve_effects.specs.declared.places.Place.TheVariants.{FirstLane, Zero}
 use Rattle.sve_effects.specs.Permute.{taken, active_lanes, compact_place}
 use Rattle.sve_effects.proofs.ActiveLanes.{active_lanes-more, active_count}
@@ -20,10 +19,7 @@ module _ (active : ℕ → Bool) (f : ℕ → ℕ) where
 
   with_here : (b : Bool) (xs : List ℕ) (k : ℕ) → map f (xs ++ (if b then k ∷ [] else [])) ≡ (if b then map f xs ++ (f k ∷ []) else map f xs)
   with_here true xs k = map-append f xs (k ∷ [])
-  with_here false xs k = let none : List ℕ = [] in map-append f xs none ∙ append_none (map f xs) where
-    append_none : (ys : List ℕ) → ys ++ [] ≡ ys
-    append_none [] = refl
-    append_none (y ∷ ys) = ap (λ (t : List ℕ). y ∷ t) (append_none ys)
+  with_here false xs k = let none : List ℕ = [] in map-append f xs none ∙ append-nil (map f xs)
 
   pub values-more : (k : ℕ) → values (k + 1) ≡ (if active k then values k ++ (f k ∷ []) else values k)
   values-more k = ap (λ (xs : List ℕ). map f xs) (active_lanes-more active k) ∙ with_here (active k) (active_lanes active k) k

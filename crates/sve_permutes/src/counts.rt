@@ -7,13 +7,12 @@ ghost use Rattle.sve_effects.specs.ElementLoop.{lane_of, plain};
 ghost use Rattle.sve_permutes.specs.Groups.{is_count_of_lanes};
 ghost use Rattle.vec_model.specs.Lanes.{IsLaneSize};
 
-use crate::fields::lane_bits;
 use crate::moves::MOST_LANES;
 use arrayvec::ArrayVec;
 use core_regs::Core;
 use emu_bits::{Reg, U, low_bits, sext, sign_extended};
 use pred_bits::pattern_count;
-use sve_effects::ElementOp;
+use sve_effects::{ElementOp, lane_bits};
 use sve_elements::apply;
 use sve_insn::{AddLengthOp, IncOp, SatOp, Sve, SveForm};
 use vec_regs::VecRegs;

@@ -5,10 +5,11 @@ ghost use Rattle.sve_effects.specs.ElementLoop.{folding};
 ghost use Rattle.sve_effects.specs.Fold as table;
 ghost use Rattle.vec_model.specs.Lanes.{IsLaneSize};
 
-use crate::fields::{governing, lane_bits};
 use crate::single::set_low_lane;
 use core_regs::Core;
 use emu_bits::{Pred, PredLow, Reg, U, sign_extended};
+use sve_effects::lane_bits;
+use sve_elements::numbers::complement;
 use sve_elements::{add, and, eor, orr, smax, smin, umax, umin};
 use sve_insn::ReduceOp;
 use vec_regs::VecRegs;
@@ -25,7 +26,7 @@ pub(crate) fn reduce(
     ensures { vec.new ≡ (table.reduction (SveForm.Reduce op size pg zn vd) core.now vec.old).vectors }
 {
     let e = lane_bits(size);
-    let x = folded(vec, op, e, governing(pg), zn);
+    let x = folded(vec, op, e, pg.register(), zn);
     set_low_lane(vec, bits(op, e), vd, x);
 }
 
@@ -72,20 +73,7 @@ fn start(op: ReduceOp, e: u32) -> u64
         ReduceOp::Saddv | ReduceOp::Uaddv | ReduceOp::Umaxv | ReduceOp::Orv | ReduceOp::Eorv => 0,
         ReduceOp::Smaxv => 1 << (e - 1),
         ReduceOp::Sminv => (1 << (e - 1)) - 1,
-        ReduceOp::Uminv | ReduceOp::Andv => all_ones(e),
-    }
-}
-
-/// e bits of 1.
-fn all_ones(e: u32) -> u64
-    requires { IsLaneSize e }
-    ensures { result ≡ 2 ^ e - 1 }
-{
-    match e {
-        8 => 0xFF,
-        16 => 0xFFFF,
-        32 => 0xFFFF_FFFF,
-        _ => 0xFFFF_FFFF_FFFF_FFFF,
+        ReduceOp::Uminv | ReduceOp::Andv => complement(e, 0),
     }
 }
 

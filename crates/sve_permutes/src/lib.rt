@@ -1,12 +1,11 @@
 //! What the SVE rows that work across lanes do: permutes, counts of lanes, and folds over active lanes.
 //!
-//! A permute reads each lane of a source once and writes its destination once; where a lane comes from is one formula of places.
+//! A permute works out its whole result before it writes it; where a lane comes from is one formula of places.
 #![tactic(auto)]
 
 mod active;
 mod counts;
 mod dup;
-mod fields;
 mod folds;
 mod moves;
 mod permutes;

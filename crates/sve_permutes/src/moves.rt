@@ -1,8 +1,9 @@
 //! Lanes of a register that come from other places.
 ghost use Rattle.std.specs.Prelude.{◌≡◌, ◌*◌, ◌/◌};
 ghost use Rattle.emu_bits.specs.Fields.{bit};
+ghost use Rattle.sve_effects.specs.Element.{extended_by};
 ghost use Rattle.sve_effects.specs.ElementLoop.{lane_of, is_active};
-ghost use Rattle.sve_effects.specs.Permute.{taken, indexed_place, copy_place, widened};
+ghost use Rattle.sve_effects.specs.Permute.{taken, indexed_place, copy_place};
 ghost use Rattle.sve_effects.specs.PermuteRows as model;
 ghost use Rattle.lane_permute.specs.Rules.{rule_place, IsFor, IsWithin};
 ghost use Rattle.vec_model.specs.Lanes.{IsLaneSize, with_lanes};
@@ -130,7 +131,7 @@ pub(crate) fn first_of_half(high: bool, n: u32) -> u32
 /// A number of half the bits, extended to e bits.
 fn widened(signed: bool, e: u32, x: u64) -> u64
     requires { IsLaneSize e }
-    ensures { result ≡ widened signed e (e / 2) x }
+    ensures { result ≡ extended_by signed e (e / 2) x }
 {
     if signed {
         sign_extended(x, e / 2, e)

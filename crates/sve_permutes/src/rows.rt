@@ -8,11 +8,11 @@ ghost use Rattle.sve_effects.specs.PermuteRows as table;
 ghost use Rattle.lane_permute.specs.Rules.{rule_place, IsFor};
 ghost use Rattle.vec_model.specs.Lanes.{IsLaneSize};
 
-use crate::fields::{governing, lane_bits};
 use crate::{active, moves, predicates};
 use core_regs::Core;
 use emu_bits::{Pred, PredLow, Reg, U};
 use lane_permute::places::Rule;
+use sve_effects::lane_bits;
 use sve_insn::{CopyRegOp, InsertOp, InterleaveOp, UnpackOp, UnpackPOp};
 use vec_regs::VecRegs;
 
@@ -104,13 +104,13 @@ pub(crate) fn rev_p(core: &Core, vec: &mut VecRegs, size: U<2>, pn: Pred, pd: Pr
 pub(crate) fn compact(core: &Core, vec: &mut VecRegs, size: U<2>, pg: PredLow, zn: Reg, zd: Reg)
     ensures { vec.new ≡ (table.permuted (SveForm.Compact size pg zn zd) core.now vec.old).vectors }
 {
-    active::compacted(vec, lane_bits(size), governing(pg), zn, zd);
+    active::compacted(vec, lane_bits(size), pg.register(), zn, zd);
 }
 
 pub(crate) fn splice(core: &Core, vec: &mut VecRegs, size: U<2>, pg: PredLow, zm: Reg, zdn: Reg)
     ensures { vec.new ≡ (table.permuted (SveForm.Splice size pg zm zdn) core.now vec.old).vectors }
 {
-    active::spliced(vec, lane_bits(size), governing(pg), zm, zdn);
+    active::spliced(vec, lane_bits(size), pg.register(), zm, zdn);
 }
 
 pub(crate) fn ext(core: &Core, vec: &mut VecRegs, imm8h: U<5>, imm8l: U<3>, zm: Reg, zdn: Reg)
@@ -133,7 +133,7 @@ pub(crate) fn copy_reg(
 {
     let e = lane_bits(size);
     let scalar = copy_scalar(core, vec, op, e, rn);
-    moves::copied(vec, e, governing(pg), scalar, zd);
+    moves::copied(vec, e, pg.register(), scalar, zd);
 }
 
 /// The scalar that is inserted.

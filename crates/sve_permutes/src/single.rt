@@ -7,11 +7,11 @@ ghost use Rattle.sve_effects.specs.PermuteRows as table;
 ghost use Rattle.vec_model.specs.Lanes.{IsLaneSize, with_low};
 
 use crate::active::{lane_by_last, last_active};
-use crate::fields::{governing, lane_bits};
 use crate::moves::filled;
 use crate::rows::low_lane;
 use core_regs::Core;
 use emu_bits::{Pred, PredLow, Reg, U, low_bits};
+use sve_effects::lane_bits;
 use sve_insn::{CondLastOp, LastOp};
 use vec_regs::VecRegs;
 
@@ -28,7 +28,7 @@ pub(crate) fn last(
     ensures vectors { vec.new ≡ (table.permuted (SveForm.Last op size pg zn rd) core.old vec.old).vectors }
 {
     let e = lane_bits(size);
-    let x = last_value(vec, e, is_after(op), governing(pg), zn);
+    let x = last_value(vec, e, is_after(op), pg.register(), zn);
     match op {
         LastOp::LastaR | LastOp::LastbR => core.set_x(rd, 64, x),
         LastOp::LastaV | LastOp::LastbV => set_low_lane(vec, e, rd, x),
@@ -48,7 +48,7 @@ pub(crate) fn cond_last(
     ensures vectors { vec.new ≡ (table.permuted (SveForm.CondLast op size pg zm zdn) core.old vec.old).vectors }
 {
     let e = lane_bits(size);
-    let pg = governing(pg);
+    let pg = pg.register();
     match op {
         CondLastOp::ClastaR => to_general(core, vec, true, e, pg, zm, zdn),
         CondLastOp::ClastbR => to_general(core, vec, false, e, pg, zm, zdn),

@@ -1,16 +1,17 @@
 //! Compares of lanes into predicates.
-ghost use Rattle.std.specs.Prelude.{◌≡◌, ◌<◌, ◌/◌, true, length};
+ghost use Rattle.std.specs.Prelude.{◌≡◌, ◌<◌, ◌/◌, true, not, length};
 ghost use Rattle.emu_bits.specs.Flags.{size_of};
 ghost use Rattle.emu_bits.specs.Numbers.{sign_extended};
+ghost use Rattle.sve_effects.specs.Element.{extended_by};
 ghost use Rattle.sve_effects.specs.ElementLoop.{lane_bits};
 ghost use Rattle.sve_effects.specs.PredicateRows as table;
-ghost use Rattle.sve_effects.specs.PredicateRows.{predicate, predicate_bits, put_compared, vector_test, wide_test, unsigned_test, signed_test, is_unsigned, widened};
+ghost use Rattle.sve_effects.specs.PredicateRows.{predicate, predicate_bits, put_compared, vector_test, wide_test, unsigned_test, signed_test, is_unsigned};
 ghost use Rattle.sve_insn.specs.declared.form.SveForm.TheVariants as form;
 ghost use Rattle.sve_pred.specs.Compares as model;
 ghost use Rattle.sve_pred.specs.Groups.{is_compare};
 ghost use Rattle.vec_model.specs.Lanes.{IsLaneSize, read_p};
 
-use crate::registers::{bits, esize, governing, read, test_lanes, write};
+use crate::registers::{bits, esize, read, test_lanes, write};
 use core_regs::Core;
 use emu_bits::{Esize, Pred, PredLow, Reg, U, sign_extended};
 use pred_bits::PredBits;
@@ -89,7 +90,7 @@ fn is_unsigned(test: ElementTest) -> bool
 /// A lane of e bits, extended to 64 bits as a test reads it.
 fn widened(test: ElementTest, e: u32, a: u64) -> u64
     requires { IsLaneSize e }
-    ensures { result ≡ widened test e a }
+    ensures { result ≡ extended_by (not (is_unsigned test)) 64 e a }
 {
     if is_unsigned(test) {
         a
@@ -221,7 +222,7 @@ pub fn vectors(
         vec,
         vector_test(op),
         size,
-        governing(pg),
+        pg.register(),
         zn,
         &Operand::Lane(zm),
         pd,
@@ -247,7 +248,7 @@ pub fn wide(
         vec,
         wide_test(op),
         size,
-        governing(pg),
+        pg.register(),
         zn,
         &Operand::Covering(zm),
         pd,
@@ -273,7 +274,7 @@ pub fn unsigned(
         vec,
         unsigned_test(op),
         size,
-        governing(pg),
+        pg.register(),
         zn,
         &Operand::Number(imm7.get() as u64),
         pd,
@@ -306,7 +307,7 @@ pub fn signed(
         vec,
         signed_test(op),
         size,
-        governing(pg),
+        pg.register(),
         zn,
         &Operand::Number(immediate(size, imm5)),
         pd,

@@ -1,9 +1,10 @@
 //! Predicates lane by lane: the next lane, patterns, loops and counts.
 ghost use Rattle.std.specs.Prelude.{◌≡◌, ◌⊎◌, ◌≤◌, ◌/◌, true, length};
+ghost use Rattle.emu_bits.specs.Numbers.{width_of};
 ghost use Rattle.emu_model.specs.State.{read_x};
 ghost use Rattle.sve_effects.specs.Element.{element};
 ghost use Rattle.sve_effects.specs.ElementLoop.{lane_bits, lane_of};
-ghost use Rattle.sve_effects.specs.PredicateRows.{predicate, predicate_bits, set_lanes_of, ptrue_flags, while_of, while_result, width_of, counted_by, terminates, termination_flags};
+ghost use Rattle.sve_effects.specs.PredicateRows.{predicate, predicate_bits, set_lanes_of, ptrue_flags, while_of, while_result, counted_by, terminates, termination_flags};
 ghost use Rattle.sve_effects.specs.Pattern.{pattern_count};
 ghost use Rattle.sve_effects.specs.Predicate.{only_next, lanes_below};
 ghost use Rattle.sve_insn.specs.declared.form.SveForm.TheVariants as form;

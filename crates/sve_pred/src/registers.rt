@@ -6,7 +6,7 @@ ghost use Rattle.sve_effects.specs.PredicateRows.{predicate_bits, after_test};
 ghost use Rattle.vec_model.specs.Lanes.{read_p, with_p, with_ffr};
 
 use core_regs::Core;
-use emu_bits::{Esize, Pred, PredLow, U};
+use emu_bits::{Esize, Pred, U};
 use pred_bits::{PredBits, pred_test};
 use vec_regs::VecRegs;
 
@@ -24,7 +24,7 @@ pub fn read(vec: &VecRegs, r: Pred) -> PredBits
     ensures value { result ≡ read_p vec.now r }
     ensures length { length result ≡ predicate_bits vec.now }
 {
-    PredBits::of_words(vec.p_words(r), bits(vec))
+    PredBits::of_words(bits(vec), vec.p_words(r))
 }
 
 /// FFR.
@@ -33,7 +33,7 @@ pub fn read_ffr(vec: &VecRegs) -> PredBits
     ensures value { result ≡ vec.now.ffr }
     ensures length { length result ≡ predicate_bits vec.now }
 {
-    PredBits::of_words(vec.ffr_words(), bits(vec))
+    PredBits::of_words(bits(vec), vec.ffr_words())
 }
 
 /// Writes a predicate register.
@@ -80,11 +80,4 @@ pub fn test_lanes(core: &mut Core, sets: bool, g: &PredBits, outcome: &PredBits,
     ensures { core.new ≡ after_test sets (lane_bits size) (length g.now) g.now outcome.now core.old }
 {
     test(core, sets, g, outcome, esize(size));
-}
-
-/// A low predicate register as one of all.
-pub fn governing(pg: PredLow) -> Pred
-    ensures { result ≡ pg }
-{
-    Pred::at(pg.get(), 0)
 }

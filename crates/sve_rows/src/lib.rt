@@ -14,6 +14,7 @@ use sve_insn::Sve;
 use words::word_of;
 
 /// The instruction that a word is, or none where the word is in no row of the table.
+#[inline(never)]
 pub fn decode_sve(w: u32) -> Option<Sve>
     ensures table { seen result ≡ decode sve_table w }
     ensures form { result ≡ instruction sve_table w }

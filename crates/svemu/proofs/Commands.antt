@@ -8,20 +8,20 @@ use Rattle.io_gate.specs.Images.{whole_file, MissesNamed, ReadsNamed}
 use Rattle.io_gate.specs.declared.images.ImagesError.{ImagesError}
 use Rattle.io_gate.specs.declared.images.ImagesError.TheVariants as images
 use Rattle.emu_model.specs.State.{Core, Vectors, Parts}
-use Rattle.emu_model.specs.Image.{Image, elf}
-use Rattle.emu_model.specs.Start.{opening, with_input}
-use Rattle.emu_model.specs.CommandLine.{line}
-use Rattle.emu_model.specs.declared.command_line.Line.{Line}
-use Rattle.emu_model.specs.declared.command_line.Line.TheVariants.{Run}
-use Rattle.emu_model.specs.declared.command_line.WordsFault.{WordsFault}
-use Rattle.emu_model.specs.declared.image.ElfFault.{ElfFault}
+use Rattle.emu_system.specs.Image.{Image, elf}
+use Rattle.emu_system.specs.Start.{opening, with_input}
+use Rattle.emu_run.specs.CommandLine.{line}
+use Rattle.emu_run.specs.declared.command_line.Line.{Line}
+use Rattle.emu_run.specs.declared.command_line.Line.TheVariants.{Run}
+use Rattle.emu_run.specs.declared.command_line.WordsFault.{WordsFault}
+use Rattle.emu_system.specs.declared.image.ElfFault.{ElfFault}
 use Rattle.emu_model.specs.declared.trap.Trap.{Trap}
 use Rattle.emu_model.specs.declared.trap.Ended.{Ended}
 use Rattle.emu_model.specs.declared.trap.Ended.TheVariants.{Trap as Trapped}
 use Rattle.emu_run.specs.Run.{run}
 use Rattle.emu_run.specs.Registers.{scalar_lines, vector_lines, register_lines}
 use Rattle.emu_run.specs.Reports.{trap_line, image_line, too_long_line, words_line}
-use Rattle.emu_run.specs.Outcome.{Outcome, Files, ending_line, outcome_of_run, outcome_of_image, outcome_of_file, outcome_where, outcome_of_line, result_of, refusal, file_limit}
+use Rattle.emu_run.specs.Outcome.{Outcome, Files, ending_line, outcome_of_run, outcome_of_image, outcome_of_file, outcome_where, outcome_of_line, program_arguments, result_of, refusal, file_limit}
 use Rattle.emu_run.specs.declared.ending.Ending.{Ending}
 use Rattle.emu_run.specs.declared.ending.Ending.TheVariants.{Exit, Trap as TrapEnding, Spent, WordsRefused, ImageRefused, TooLong, FileFault, ReadFault, WriteFault, ErrorsFault, OutOfMemory}
 use Rattle.svemu.specs.Endings.{ended_by}
@@ -42,21 +42,21 @@ puts_as old new xs ys put e p = subst (λ (text : List ℕ). PutsAll old new tex
 
 -- ---- the image
 
-module _ (file : List ℕ) (bits budget pages : ℕ) (r : Result Image ElfFault) (old : Now) where
+module _ (file : List ℕ) (args : List (List ℕ)) (bits budget pages : ℕ) (r : Result Image ElfFault) (old : Now) where
   abbrev pub of_image : List ℕ → Option Outcome
-  of_image i = Some (outcome_of_image file i bits budget pages r)
+  of_image i = Some (outcome_of_image file args i bits budget pages r)
 
   pub refused_image : {T E : Type 0} (fault : ElfFault) (new : Option (List ℕ)) (put : Result T E) (result : Ending) → Err fault ≡ r → result ≡ ended_by put (ImageRefused fault) → PutsAll old.errors new (image_line fault) put
       → Meets of_image result old (now old.input old.output new)
   refused_image fault new put result is by puts =
       subst (λ (x : Ending). Meets of_image x old (now old.input old.output new)) (sym by)
-      (subst (λ (x : Result Image ElfFault). Meets (λ i. Some (outcome_of_image file i bits budget pages x)) (ended_by put (ImageRefused fault)) old (now old.input old.output new)) is
+      (subst (λ (x : Result Image ElfFault). Meets (λ i. Some (outcome_of_image file args i bits budget pages x)) (ended_by put (ImageRefused fault)) old (now old.input old.output new)) is
       (line_meets (ImageRefused fault) (image_line fault) old.input old.output old.errors new put refl puts))
 
-  pub opened_image : (image : Image) (m : Parts) (new : Now) (result : Ending) → Ok image ≡ r → m ≡ opening file image bits pages
+  pub opened_image : (image : Image) (m : Parts) (new : Now) (result : Ending) → Ok image ≡ r → m ≡ opening file image args bits pages
       → Meets (λ i. Some (outcome_of_run i (run (with_input m i) budget))) result old new → Meets of_image result old new
   opened_image image m new result is of meets =
-      subst (λ (x : Result Image ElfFault). Meets (λ i. Some (outcome_of_image file i bits budget pages x)) result old new) is
+      subst (λ (x : Result Image ElfFault). Meets (λ i. Some (outcome_of_image file args i bits budget pages x)) result old new) is
       (subst (λ (x : Parts). Meets (λ i. Some (outcome_of_run i (run (with_input x i) budget))) result old new) of meets)
 
 -- ---- the file
@@ -79,19 +79,19 @@ fits n limit h = grind (arith, nat_tests)
 passes : (n limit : ℕ) → nat_le n limit ≡ false → nat_lt limit n ≡ true
 passes n limit h = grind (arith, nat_tests)
 
-module _ (bits budget pages : ℕ) where
-  where_found : (o : Option (List ℕ)) (bytes : List ℕ) (i : List ℕ) (r : Outcome) → whole_file o file_limit ≡ Ok bytes → outcome_of_file i bits budget pages bytes ≡ r → outcome_where i bits budget pages o ≡ Some r
+module _ (args : List (List ℕ)) (bits budget pages : ℕ) where
+  where_found : (o : Option (List ℕ)) (bytes : List ℕ) (i : List ℕ) (r : Outcome) → whole_file o file_limit ≡ Ok bytes → outcome_of_file args i bits budget pages bytes ≡ r → outcome_where args i bits budget pages o ≡ Some r
   where_found None bytes i r e f = cc
-  where_found (Some found) bytes i r e f = ap (λ (x : List ℕ). Some (outcome_of_file i bits budget pages x)) (none_found (nat_le (length found) file_limit) found bytes e).0 ∙ ap (λ (x : Outcome). Some x) f
+  where_found (Some found) bytes i r e f = ap (λ (x : List ℕ). Some (outcome_of_file args i bits budget pages x)) (none_found (nat_le (length found) file_limit) found bytes e).0 ∙ ap (λ (x : Outcome). Some x) f
 
   file_fits : (o : Option (List ℕ)) (bytes : List ℕ) → whole_file o file_limit ≡ Ok bytes → nat_lt file_limit (length bytes) ≡ false
   file_fits None bytes e = cc
   file_fits (Some found) bytes e = let p = none_found (nat_le (length found) file_limit) found bytes e in ap (λ (x : List ℕ). nat_lt file_limit (length x)) (sym p.0) ∙ fits (length found) file_limit p.1
 
-  where_too_long : (o : Option (List ℕ)) (i : List ℕ) → whole_file o file_limit ≡ Err images.TooLong → outcome_where i bits budget pages o ≡ Some (refusal (TooLong file_limit) (too_long_line file_limit))
+  where_too_long : (o : Option (List ℕ)) (i : List ℕ) → whole_file o file_limit ≡ Err images.TooLong → outcome_where args i bits budget pages o ≡ Some (refusal (TooLong file_limit) (too_long_line file_limit))
   where_too_long None i e = cc
   where_too_long (Some found) i e =
-      ap (λ b. Some (cond b (refusal (TooLong file_limit) (too_long_line file_limit)) (outcome_of_image found i bits budget pages (elf found pages)))) (passes (length found) file_limit (too_long (nat_le (length found) file_limit) found e))
+      ap (λ b. Some (cond b (refusal (TooLong file_limit) (too_long_line file_limit)) (outcome_of_image found args i bits budget pages (elf found pages)))) (passes (length found) file_limit (too_long (nat_le (length found) file_limit) found e))
 
 -- outcomes that are equal for each input
 pub same_outcome : (f g : List ℕ → Option Outcome) (result : Ending) (i o e : Option (List ℕ)) (new : Now) → ((input : List ℕ) → f input ≡ g input) → Meets f result (now i o e) new → Meets g result (now i o e) new
@@ -101,33 +101,33 @@ same_outcome f g result (Some i) (Some o) None new same m = tt
 same_outcome f g result (Some i) (Some o) (Some e) new same m =
     subst (λ (x : Option Outcome). MatchBool (is_failure result) (Stops x (record { input = i; output = o; errors = e }) new) (Answers x result (record { input = i; output = o; errors = e }) new)) (same i) m
 
-module _ (bits budget pages : ℕ) (name : List ℕ) (i o e : Option (List ℕ)) where
+module _ (args : List (List ℕ)) (bits budget pages : ℕ) (name : List ℕ) (i o e : Option (List ℕ)) where
   -- a file that is too long
   pub long_file : {T E : Type 0} (named : Option Files) (e2 : Option (List ℕ)) (put : Result T E) (result : Ending)
       → IfSome named (λ files. whole_file (get files name) file_limit ≡ Err images.TooLong) → result ≡ ended_by put (TooLong file_limit) → PutsAll e e2 (too_long_line file_limit) put
-      → IfSome named (λ files. Meets (λ input. outcome_where input bits budget pages (get files name)) result (now i o e) (now i o e2))
+      → IfSome named (λ files. Meets (λ input. outcome_where args input bits budget pages (get files name)) result (now i o e) (now i o e2))
   long_file None e2 put result is by puts = tt
   long_file (Some files) e2 put result is by puts =
-      subst (λ (x : Ending). Meets (λ input. outcome_where input bits budget pages (get files name)) x (now i o e) (now i o e2)) (sym by)
-      (same_outcome (λ _. Some (refusal (TooLong file_limit) (too_long_line file_limit))) (λ input. outcome_where input bits budget pages (get files name)) (ended_by put (TooLong file_limit)) i o e (now i o e2)
-      (λ input. sym (where_too_long bits budget pages (get files name) input is)) (line_meets (TooLong file_limit) (too_long_line file_limit) i o e e2 put refl puts))
+      subst (λ (x : Ending). Meets (λ input. outcome_where args input bits budget pages (get files name)) x (now i o e) (now i o e2)) (sym by)
+      (same_outcome (λ _. Some (refusal (TooLong file_limit) (too_long_line file_limit))) (λ input. outcome_where args input bits budget pages (get files name)) (ended_by put (TooLong file_limit)) i o e (now i o e2)
+      (λ input. sym (where_too_long args bits budget pages (get files name) input is)) (line_meets (TooLong file_limit) (too_long_line file_limit) i o e e2 put refl puts))
 
   -- the file that was read
   pub read_file : (named : Option Files) (bytes : List ℕ) (new : Now) (result : Ending)
       → IfSome named (λ files. whole_file (get files name) file_limit ≡ Ok bytes)
-      → Meets (λ input. Some (outcome_of_image bytes input bits budget pages (elf bytes pages))) result (now i o e) new
-      → IfSome named (λ files. Meets (λ input. outcome_where input bits budget pages (get files name)) result (now i o e) new)
+      → Meets (λ input. Some (outcome_of_image bytes args input bits budget pages (elf bytes pages))) result (now i o e) new
+      → IfSome named (λ files. Meets (λ input. outcome_where args input bits budget pages (get files name)) result (now i o e) new)
   read_file None bytes new result is meets = tt
   read_file (Some files) bytes new result is meets =
-      same_outcome (λ input. Some (outcome_of_image bytes input bits budget pages (elf bytes pages))) (λ input. outcome_where input bits budget pages (get files name)) result i o e new
-      (λ input. sym (where_found bits budget pages (get files name) bytes input (outcome_of_image bytes input bits budget pages (elf bytes pages)) is
-      (ap (λ b. cond b (refusal (TooLong file_limit) (too_long_line file_limit)) (outcome_of_image bytes input bits budget pages (elf bytes pages))) (file_fits bits budget pages (get files name) bytes is))))
+      same_outcome (λ input. Some (outcome_of_image bytes args input bits budget pages (elf bytes pages))) (λ input. outcome_where args input bits budget pages (get files name)) result i o e new
+      (λ input. sym (where_found args bits budget pages (get files name) bytes input (outcome_of_image bytes args input bits budget pages (elf bytes pages)) is
+      (ap (λ b. cond b (refusal (TooLong file_limit) (too_long_line file_limit)) (outcome_of_image bytes args input bits budget pages (elf bytes pages))) (file_fits args bits budget pages (get files name) bytes is))))
       meets
 
   -- nothing was taken and nothing was written
   pub nothing_read : (named : Option Files) (result : Ending) → is_failure result ≡ true
-      → IfSome named (λ files. Meets (λ input. outcome_where input bits budget pages (get files name)) result (now i o e) (now i o e))
-  nothing_read named result failed = told_so named _ (λ files. nothing_meets (λ input. outcome_where input bits budget pages (get files name)) result i o e failed)
+      → IfSome named (λ files. Meets (λ input. outcome_where args input bits budget pages (get files name)) result (now i o e) (now i o e))
+  nothing_read named result failed = told_so named _ (λ files. nothing_meets (λ input. outcome_where args input bits budget pages (get files name)) result i o e failed)
 
 -- what was read of the file of a name
 module _ (named : Option Files) (name read : List ℕ) (of_name : read ≡ name) where
@@ -166,19 +166,19 @@ names_no_file words None l is missing = absurd missing
 names_no_file words (Some files) (Run file args bits budget pages) is missing = record {
   files = files;
   is = refl;
-  missing = λ input. ap (λ (r : Result Line WordsFault). outcome_of_line words files input r) (sym is) ∙ ap (λ (o : Option (List ℕ)). outcome_where input bits budget pages o) missing;
+  missing = λ input. ap (λ (r : Result Line WordsFault). outcome_of_line words files input r) (sym is) ∙ ap (λ (o : Option (List ℕ)). outcome_where (program_arguments words file args) input bits budget pages o) missing;
 }
 
-none_where : (bits budget pages : ℕ) (o : Option (List ℕ)) → outcome_where [] bits budget pages o ≡ None → o ≡ None
-none_where bits budget pages None e = refl
-none_where bits budget pages (Some file) e = cc
+none_where : (args : List (List ℕ)) (bits budget pages : ℕ) (o : Option (List ℕ)) → outcome_where args [] bits budget pages o ≡ None → o ≡ None
+none_where args bits budget pages None e = refl
+none_where args bits budget pages (Some file) e = cc
 
 pub misses_named : (words : List (List ℕ)) (named : Option Files) (l : Line) → Ok l ≡ line words → NamesNoFile words named → MissesNamed named (file_named words l)
 misses_named words None l is n = (let e : None ≡ Some n.files = n.is in cc)
 misses_named words (Some files) (Run file args bits budget pages) is n =
     let same : files ≡ n.files = (let e = n.is in cc) in
     ap (λ (x : Files). get x (get_or words file [])) same
-    ∙ none_where bits budget pages (get n.files (get_or words file [])) (ap (λ (r : Result Line WordsFault). outcome_of_line words n.files [] r) is ∙ n.missing [])
+    ∙ none_where (program_arguments words file args) bits budget pages (get n.files (get_or words file [])) (ap (λ (r : Result Line WordsFault). outcome_of_line words n.files [] r) is ∙ n.missing [])
 
 -- a refused line names no file
 pub refused_names_none : (words : List (List ℕ)) (named : Option Files) (fault : WordsFault) → Err fault ≡ line words → NamesNoFile words named → ⊥

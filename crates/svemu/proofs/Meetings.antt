@@ -2,7 +2,7 @@
 use Rattle.std.proofs.Common.{◌≡◌, ℕ, ◌-◌, Bool, true, false, List, [], ◌++◌, length, take, drop, Option, Some, None, Result, Ok, Err, MatchBool, refl, sym, ap, subst, ◌∙◌, append-nil, append_assoc, take-append-drop, length-drop, arith}
 use Rattle.io_gate.specs.Streams.{PutsAll}
 use Rattle.emu_model.specs.State.{Parts, State}
-use Rattle.emu_model.specs.Start.{with_input}
+use Rattle.emu_system.specs.Start.{with_input}
 use Rattle.emu_run.specs.Outcome.{Outcome, refusal, outcome_of_run, ending_of, report}
 use Rattle.emu_run.specs.Run.{run}
 use Rattle.emu_run.specs.RunLaws.{IsRest, until_end_moves, prefix_refl, prefix_trans}

@@ -17,7 +17,6 @@ broken_is runs.Spent pc = refl
 broken_is runs.ReadFault pc = refl
 broken_is runs.WriteFault pc = refl
 broken_is runs.ErrorsFault pc = refl
-broken_is runs.OutOfMemory pc = refl
 
 -- the ending of a run whose steps were done is that of its machine
 pub ending_is : (m : Parts) (ended : Option Ended) → ending_by (run_end ended) m.core.pc ≡ ending_of m ended

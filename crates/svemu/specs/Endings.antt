@@ -3,7 +3,7 @@ use Rattle.std.specs.Prelude.{ℕ, Result, Ok, Err}
 use Rattle.emu_machine.specs.declared.ends.RunEnd.{RunEnd}
 use Rattle.emu_machine.specs.declared.ends.RunEnd.TheVariants as runs
 use Rattle.emu_run.specs.declared.ending.Ending.{Ending}
-use Rattle.emu_run.specs.declared.ending.Ending.TheVariants.{Exit, Trap, Spent, ReadFault, WriteFault, ErrorsFault, OutOfMemory}
+use Rattle.emu_run.specs.declared.ending.Ending.TheVariants.{Exit, Trap, Spent, ReadFault, WriteFault, ErrorsFault}
 
 -- a line that isn't put whole turns the ending into a fault of the errors
 abbrev pub ended_by : {T E : Type 0} → Result T E → Ending → Ending
@@ -18,4 +18,3 @@ ending_by runs.Spent pc = Spent
 ending_by runs.ReadFault pc = ReadFault
 ending_by runs.WriteFault pc = WriteFault
 ending_by runs.ErrorsFault pc = ErrorsFault
-ending_by runs.OutOfMemory pc = OutOfMemory

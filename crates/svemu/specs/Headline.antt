@@ -2,8 +2,8 @@
 use Rattle.std.specs.Prelude.{◌≡◌, ◌⊎◌, ◌≤◌, ℕ, Bool, true, false, List, ◌++◌, drop, Option, Some, None, IfSome, MatchBool, Result, MatchResult}
 use Rattle.io_gate.specs.Streams.{Rose}
 use Rattle.emu_model.specs.State.{IsPrefix}
-use Rattle.emu_model.specs.declared.command_line.Line.{Line}
-use Rattle.emu_model.specs.declared.command_line.WordsFault.{WordsFault}
+use Rattle.emu_run.specs.declared.command_line.Line.{Line}
+use Rattle.emu_run.specs.declared.command_line.WordsFault.{WordsFault}
 use Rattle.emu_run.specs.Outcome.{Outcome, Files, result_of}
 use Rattle.emu_run.specs.declared.ending.Ending.{Ending}
 use Rattle.emu_run.specs.declared.ending.Ending.TheVariants.{Exit, Trap, Spent, WordsRefused, ImageRefused, TooLong, FileFault, ReadFault, WriteFault, ErrorsFault, OutOfMemory}

@@ -1,3 +1,4 @@
 pub mod Endings
 pub mod Headline
 pub mod Places
+pub mod Scan

@@ -11,8 +11,13 @@ use std::process::ExitCode;
 
 mod command_line;
 #[cfg(test)]
+mod line_tests;
+mod scan;
+#[cfg(test)]
 mod tests;
 mod top;
+mod values;
+mod words;
 
 pub use command_line::line_of_words;
 pub use top::svemu;

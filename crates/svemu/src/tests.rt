@@ -1,7 +1,8 @@
 //! Whole commands over files and streams in memory: what they end with, and what they write.
 use crate::{status_without_words, svemu};
-use emu_model::{ElfFault, Trap, TrapKind, WordsFault, WordsWhy};
-use emu_run::Ending;
+use emu_model::{Trap, TrapKind};
+use emu_run::{Ending, WordsFault, WordsWhy};
+use emu_system::ElfFault;
 use io_gate::{FileImages, MemImages, MemSink, MemSource, NoFaultImages, NoFaultSource, StdSink};
 use std::alloc::{AllocError, Global};
 use std::io::{self, ErrorKind, Write};
@@ -217,7 +218,7 @@ fn exit_7_after_3_steps(rt: HostRuntime) -> Result<(), Fail> {
     let lines = [
         "x8 000000000000005d",
         "x30 0000000000000000",
-        "sp 0000000000000000",
+        "sp 00007fffffffeef0",
         "pc 0000000000400008",
         "nzcv 0000",
         "tpidr 0000000000000000",
@@ -248,7 +249,7 @@ fn a_budget_is_spent_at_its_last_step(rt: HostRuntime) -> Result<(), Fail> {
         let words = ["run", "a.elf", "--vl", "128", "--budget", budget];
         let run = command_done(alloc, &words, file_of(alloc, &EXIT_SEVEN, None)?)?;
         assert_eq!(rt; run.ending.status(), status, "{budget}");
-        assert!(rt; is_first(run.errors.kept(), line), "{budget}");
+        assert!(rt; is_first(run.errors.kept(), line));
         if budget == "2" {
             assert!(rt; has_line(run.errors.kept(), "pc 0000000000400008"));
         }
@@ -276,7 +277,51 @@ fn a_floating_point_word_is_undefined(rt: HostRuntime) -> Result<(), Fail> {
 }
 
 #[test]
-fn lines_and_images_are_refused_by_name(rt: HostRuntime) -> Result<(), Fail> {
+fn refused_lines_say_why_and_where(rt: HostRuntime) -> Result<(), Fail> {
+    let alloc = rt.alloc();
+    let lines: [(&[&str], WordsWhy, u32, &str); 5] = [
+        (
+            &[],
+            WordsWhy::NoCommand,
+            0,
+            "refused words NoCommand at 0\n",
+        ),
+        (
+            &["run", "a.elf", "--vl", "192", "--budget", "1"],
+            WordsWhy::BadLength,
+            3,
+            "refused words BadLength at 3\n",
+        ),
+        (
+            &["run", "a.elf", "--vl=128"],
+            WordsWhy::UnknownOption,
+            2,
+            "refused words UnknownOption at 2\n",
+        ),
+        (
+            &["run", "a.elf", "--vl", "128"],
+            WordsWhy::MissingBudget,
+            4,
+            "refused words MissingBudget at 4\n",
+        ),
+        (
+            &["run", "a.elf", "--vl", "128", "--budget", "01"],
+            WordsWhy::BadNumber,
+            5,
+            "refused words BadNumber at 5\n",
+        ),
+    ];
+    for (line, why, place, text) in lines {
+        let run = command_done(alloc, line, file_of(alloc, &EXIT_SEVEN, None)?)?;
+        assert_eq!(rt; run.ending, Ending::WordsRefused(WordsFault { why, place }));
+        assert_eq!(rt; run.ending.status(), 121);
+        assert_eq!(rt; run.errors.kept(), text.as_bytes());
+    }
+    Ok(())
+}
+
+#[test]
+fn refused_images_say_why(rt: HostRuntime) -> Result<(), Fail> {
     let alloc = rt.alloc();
     let mut short = file_of(alloc, &EXIT_SEVEN, None)?;
     short.truncate(63);
@@ -285,34 +330,45 @@ fn lines_and_images_are_refused_by_name(rt: HostRuntime) -> Result<(), Fail> {
     assert_eq!(rt; run.ending.status(), 122);
     assert_eq!(rt; run.errors.kept(), b"refused image TooShort\n".as_slice());
 
-    let lines: [&[&str]; 6] = [
-        &[],
-        &["--help"],
-        &["run", "a.elf", "--vl", "192", "--budget", "1"],
-        &["run", "a.elf", "--vl", "128", "--budget", "01"],
-        &["run", "--x", "--vl", "128", "--budget", "1"],
-        &[
-            "run",
-            "a.elf",
-            "--vl",
-            "128",
-            "--budget",
-            "18446744073709551616",
-        ],
-    ];
-    for line in lines {
-        let run = command_done(alloc, line, file_of(alloc, &EXIT_SEVEN, None)?)?;
-        let fault = WordsFault {
-            why: WordsWhy::NotYet,
-            place: 0,
-        };
-        assert_eq!(rt; run.ending, Ending::WordsRefused(fault));
-        assert_eq!(rt; run.ending.status(), 121);
-        assert_eq!(rt;
-            run.errors.kept(),
-            b"refused words NotYet at 0\n".as_slice()
-        );
+    // one page of code and 256 of the stack
+    for (pages, status) in [("256", 122), ("257", 7)] {
+        let words = [
+            "run", "--pages", pages, "a.elf", "--vl", "128", "--budget", "10",
+        ];
+        let run = command_done(alloc, &words, file_of(alloc, &EXIT_SEVEN, None)?)?;
+        assert_eq!(rt; run.ending.status(), status, "{pages}");
+        if pages == "256" {
+            assert_eq!(rt;
+                run.errors.kept(),
+                b"refused image TooManyPages\n".as_slice()
+            );
+        }
     }
+    Ok(())
+}
+
+/// Writes three bytes of its second argument, and ends with the number of arguments:
+/// ldr x1, [sp, #16]; movz x0, #1; movz x2, #3; movz x8, #64; svc #0; ldr x0, [sp]; movz x8, #93; svc #0
+const ECHO: [u32; 8] = [
+    0xF940_0BE1,
+    0xD280_0020,
+    0xD280_0062,
+    0xD280_0808,
+    0xD400_0001,
+    0xF940_03E0,
+    0xD280_0BA8,
+    0xD400_0001,
+];
+
+#[test]
+fn a_program_is_given_its_arguments(rt: HostRuntime) -> Result<(), Fail> {
+    let alloc = rt.alloc();
+    let words = [
+        "run", "a.elf", "--vl", "128", "--budget", "8", "--", "one", "", "--vl",
+    ];
+    let run = command_done(alloc, &words, file_of(alloc, &ECHO, None)?)?;
+    assert_eq!(rt; run.ending, Ending::Exit(4));
+    assert_eq!(rt; run.output.kept(), b"one".as_slice());
     Ok(())
 }
 
@@ -454,7 +510,7 @@ fn a_load_at_a_misaligned_sp_traps(rt: HostRuntime) -> Result<(), Fail> {
     assert!(rt;
         is_first(
             run.errors.kept(),
-            "trap sp-align 0x0000000000000008 at 0x0000000000400004 after 1 steps\n"
+            "trap sp-align 0x00007fffffffeef8 at 0x0000000000400004 after 1 steps\n"
         )
     );
     Ok(())

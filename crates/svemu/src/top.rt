@@ -1,39 +1,49 @@
 //! The top call: from the words of the command line to the ending.
-ghost use Rattle.std.specs.Prelude.{◌≡◌, ◌≢◌, ◌≤◌, ◌<◌, ◌⊎◌, [], map, length, string_bytes, get_or, IfSome, Some, true, false};
+ghost use Rattle.std.specs.Prelude.{◌≡◌, ◌≢◌, ◌≤◌, ◌<◌, ◌⊎◌, [], map, length, string_bytes, get_or, IfOk, IfSome, Some, true, false};
 ghost use Rattle.std.specs.FinMap.{get};
 ghost use Rattle.io_gate.specs.Images.{MissesNamed};
 ghost use Rattle.io_gate.specs.Streams.{Rose, Causes, HasCause, PutsAll};
-ghost use Rattle.emu_model.specs.CommandLine.{line};
-ghost use Rattle.emu_model.specs.Image.{elf};
-ghost use Rattle.emu_model.specs.Start.{opening, with_input};
+ghost use Rattle.emu_run.specs.CommandLine.{line};
+ghost use Rattle.elf_image.specs.Images.{seen_image};
+ghost use Rattle.elf_image.specs.Loadable.{IsLoadable};
+ghost use Rattle.emu_system.specs.Arguments.{AreArguments};
+ghost use Rattle.emu_system.specs.Image.{elf};
+ghost use Rattle.emu_system.specs.Start.{opening, with_input};
 ghost use Rattle.emu_run.specs.Run.{run};
 ghost use Rattle.emu_run.specs.Registers.{register_lines};
-ghost use Rattle.emu_run.specs.Outcome.{result_of, outcome_of_run, outcome_of_image, outcome_of_line, outcome_where, ending_line, report};
+ghost use Rattle.emu_run.specs.Outcome.{result_of, outcome_of_run, outcome_of_image, outcome_of_line, outcome_where, program_arguments, ending_line, report};
 ghost use Rattle.emu_machine.specs.Machines.{has_ended};
 ghost use Rattle.svemu.specs.Endings.{ended_by, ending_by};
-ghost use Rattle.svemu.specs.Places.{HasPlaces, file_named};
+ghost use Rattle.svemu.specs.Places.{HasPlaces, arguments_named, file_named};
 ghost use Rattle.svemu.specs.Headline.{is_failure, is_words_refusal, IsQuiet, now, IfTold, Answers, Stops, Meets, Completes, RefusesLine, NamesNoFile};
 
-use crate::command_line::{line_of_words, word};
-use elf_image::read;
+use crate::command_line::line_of_words;
+use crate::words::{arguments, word};
+use elf_image::{Image, read};
 use emu_machine::{Machine, RunEnd};
-use emu_model::{Ended, Length, Line};
+use emu_model::{Ended, Length};
 use emu_report::{
     put_exit, put_image_refusal, put_registers, put_spent, put_too_long, put_trap,
     put_words_refusal,
 };
-pub use emu_run::Ending;
+pub use emu_run::{Ending, Line};
 use io_gate::{Failed, Images, ImagesError, Sink, Source};
-use std::alloc::Global;
+use std::alloc::{AllocError, Global};
 
 /// Files are read up to so many bytes.
 pub const FILE_LIMIT: u64 = 67_108_864;
 
-/// What the line of a run asks for: a vector length, a greatest number of steps, and a greatest number of pages.
-#[derive(Clone, Copy)]
-struct Limits {
+/// What the line of a run says.
+#[derive(Drop)]
+struct Program {
+    /// The place of the word that names the file.
+    file: usize,
+    /// The place of the first argument behind that word, or the number of words.
+    args: usize,
     length: Length,
+    /// The greatest number of steps.
     budget: u64,
+    /// The greatest number of mapped pages.
     pages: u32,
 }
 
@@ -87,7 +97,6 @@ fn ending_of_run(end: RunEnd, pc: u64) -> Ending
         RunEnd::ReadFault => Ending::ReadFault,
         RunEnd::WriteFault => Ending::WriteFault,
         RunEnd::ErrorsFault => Ending::ErrorsFault,
-        RunEnd::OutOfMemory => Ending::OutOfMemory,
     }
 }
 
@@ -130,16 +139,38 @@ fn run_machine<I: Source, O: Sink, E: Sink>(
     behind_line(put_report(machine, errors), ending)
 }
 
+/// The machine of an image before its first step, with its arguments. Err is want of memory.
+fn open_machine(
+    alloc: Global,
+    bytes: &[u8],
+    image: &Image,
+    words: &[String],
+    program: &Program,
+) -> Result<Machine, AllocError>
+    requires loadable { IsLoadable bytes.now program.now.pages (seen_image image.now) }
+    requires file { program.now.file < program.now.args }
+    requires args { program.now.args ≤ length words.now }
+    requires arguments { AreArguments (program_arguments (map string_bytes words.now) program.now.file program.now.args) }
+    ensures { IfOk result (λ m. m ≡ record { parts = opening bytes.now (seen_image image.now) (program_arguments (map string_bytes words.now) program.now.file program.now.args) program.now.length program.now.pages; accesses = []; failed = false }) }
+{
+    let args = arguments(alloc, words, program.file, program.args)?;
+    Machine::open(alloc, bytes, image, &args, program.length, program.pages)
+}
+
 /// Runs the program of a file's bytes, or refuses it.
 fn run_image<I: Source, O: Sink, E: Sink>(
     alloc: Global,
     bytes: &[u8],
-    limits: Limits,
+    words: &[String],
+    program: &Program,
     input: &mut I,
     output: &mut O,
     errors: &mut E,
 ) -> Ending
-    ensures outcome { Meets (λ i. Some (outcome_of_image bytes.now i limits.length limits.budget limits.pages (elf bytes.now limits.pages))) result
+    requires file { program.now.file < program.now.args }
+    requires args { program.now.args ≤ length words.now }
+    requires arguments { AreArguments (program_arguments (map string_bytes words.now) program.now.file program.now.args) }
+    ensures outcome { Meets (λ i. Some (outcome_of_image bytes.now (program_arguments (map string_bytes words.now) program.now.file program.now.args) i program.now.length program.now.budget program.now.pages (elf bytes.now program.now.pages))) result
         (now (I.left input.old) (O.held output.old) (E.held errors.old)) (now (I.left input.new) (O.held output.new) (E.held errors.new)) }
     ensures read_cause { Causes (result ≡ Ending.ReadFault) (I.faults input.old) (I.faults input.new) }
     ensures write_cause { Causes (result ≡ Ending.WriteFault) (O.faults output.old) (O.faults output.new) }
@@ -148,43 +179,38 @@ fn run_image<I: Source, O: Sink, E: Sink>(
     ensures memory_first { result ≡ Ending.OutOfMemory → (input.new ≡ input.old) × (output.new ≡ output.old) × (errors.new ≡ errors.old) }
     ensures no_words { is_words_refusal result ≡ false }
 {
-    match read(bytes, limits.pages) {
+    match read(bytes, program.pages) {
         Err(fault) => behind_line(
             put_image_refusal(&fault, errors),
             Ending::ImageRefused(fault),
         ),
-        Ok(image) => {
-            // There is no stack yet on which the arguments could stand.
-            let no_args: [String; 0] = [];
-            match Machine::open(alloc, bytes, &image, &no_args, limits.length, limits.pages) {
-                Err(_) => Ending::OutOfMemory,
-                Ok(mut machine) => {
-                    run_machine(&mut machine, limits.budget, input, output, errors)
-                }
-            }
-        }
+        Ok(image) => match open_machine(alloc, bytes, &image, words, program) {
+            Err(_) => Ending::OutOfMemory,
+            Ok(mut machine) => run_machine(&mut machine, program.budget, input, output, errors),
+        },
     }
 }
 
-/// Reads the file that the word at a place names, and runs its program.
+/// Reads the file of a program, and runs it.
 fn run_file<F: Images, I: Source, O: Sink, E: Sink>(
     alloc: Global,
     words: &[String],
-    file: usize,
-    limits: Limits,
+    program: &Program,
     files: &mut F,
     input: &mut I,
     output: &mut O,
     errors: &mut E,
 ) -> Ending
-    requires place { file < length words.now }
+    requires file { program.now.file < program.now.args }
+    requires args { program.now.args ≤ length words.now }
+    requires arguments { AreArguments (program_arguments (map string_bytes words.now) program.now.file program.now.args) }
     ensures outcome { IfSome (F.named files.old) (λ named. Meets
-        (λ i. outcome_where i limits.length limits.budget limits.pages (get named (get_or (map string_bytes words.now) file []))) result
+        (λ i. outcome_where (program_arguments (map string_bytes words.now) program.now.file program.now.args) i program.now.length program.now.budget program.now.pages (get named (get_or (map string_bytes words.now) program.now.file []))) result
         (now (I.left input.old) (O.held output.old) (E.held errors.old)) (now (I.left input.new) (O.held output.new) (E.held errors.new))) }
     ensures file_cause { result ≡ Ending.FileFault → Rose (F.faults files.old) (F.faults files.new)
-        ⊎ MissesNamed (F.named files.old) (get_or (map string_bytes words.now) file []) }
+        ⊎ MissesNamed (F.named files.old) (get_or (map string_bytes words.now) program.now.file []) }
     ensures file_kept { result ≢ Ending.FileFault → F.faults files.new ≡ F.faults files.old }
-    ensures missing { MissesNamed (F.named files.old) (get_or (map string_bytes words.now) file []) → result ≡ Ending.FileFault }
+    ensures missing { MissesNamed (F.named files.old) (get_or (map string_bytes words.now) program.now.file []) → result ≡ Ending.FileFault }
     ensures file_first { result ≡ Ending.FileFault → (input.new ≡ input.old) × (output.new ≡ output.old) × (errors.new ≡ errors.old) }
     ensures files_later { F.faults files.old ≤ F.faults files.new }
     ensures memory_first { result ≡ Ending.OutOfMemory → (input.new ≡ input.old) × (output.new ≡ output.old) × (errors.new ≡ errors.old) }
@@ -193,7 +219,7 @@ fn run_file<F: Images, I: Source, O: Sink, E: Sink>(
     ensures errors_cause { Causes (result ≡ Ending.ErrorsFault) (E.faults errors.old) (E.faults errors.new) }
     ensures no_words { is_words_refusal result ≡ false }
 {
-    let bytes = match files.read_whole(alloc, word(words, file), FILE_LIMIT as usize) {
+    let bytes = match files.read_whole(alloc, word(words, program.file), FILE_LIMIT as usize) {
         Ok(bytes) => bytes,
         Err(ImagesError::Failed) => return Ending::FileFault,
         Err(ImagesError::Missing) => return Ending::FileFault,
@@ -205,7 +231,7 @@ fn run_file<F: Images, I: Source, O: Sink, E: Sink>(
         }
         Err(ImagesError::OutOfMemory) => return Ending::OutOfMemory,
     };
-    run_image(alloc, &bytes, limits, input, output, errors)
+    run_image(alloc, &bytes, words, program, input, output, errors)
 }
 
 /// Does what a line says.
@@ -218,7 +244,8 @@ fn run_line<F: Images, I: Source, O: Sink, E: Sink>(
     output: &mut O,
     errors: &mut E,
 ) -> Ending
-    requires { HasPlaces line.now (length words.now) }
+    requires places { HasPlaces line.now (length words.now) }
+    requires arguments { AreArguments (arguments_named (map string_bytes words.now) line.now) }
     ensures outcome { IfSome (F.named files.old) (λ named. Meets (λ i. outcome_of_line (map string_bytes words.now) named i (Ok line.now)) result
         (now (I.left input.old) (O.held output.old) (E.held errors.old)) (now (I.left input.new) (O.held output.new) (E.held errors.new))) }
     ensures file_cause { result ≡ Ending.FileFault → Rose (F.faults files.old) (F.faults files.new)
@@ -235,17 +262,19 @@ fn run_line<F: Images, I: Source, O: Sink, E: Sink>(
 {
     let Line::Run {
         file,
-        args: _,
+        args,
         length,
         budget,
         pages,
     } = line;
-    let limits = Limits {
+    let program = Program {
+        file: *file,
+        args: *args,
         length: *length,
         budget: *budget,
         pages: *pages,
     };
-    run_file(alloc, words, *file, limits, files, input, output, errors)
+    run_file(alloc, words, &program, files, input, output, errors)
 }
 
 /// Does what the words of the command line say.

@@ -1,4 +1,4 @@
-pub mod Each
+pub mod Cleared
 pub mod FieldBits
 pub mod LaneBytes
 pub mod Written

@@ -1,19 +1,64 @@
 -- Lanes and fields read as what was written.
-use Rattle.std.proofs.Common.{◌≡◌, ◌≢◌, ◌<◌, ◌≤◌, ◌+◌, ◌*◌, ◌/◌, ◌%◌, ◌^◌, ℕ, Bool, false, List, [], length, get_or, ap, ◌∙◌, arith}
-use Rattle.std.proofs.lemmas.List.{get_or-set_same}
-use Rattle.emu_model.specs.Lists.{each}
+use Rattle.std.proofs.Common.{◌≡◌, ◌≢◌, ◌<◌, ◌≤◌, ◌+◌, ◌*◌, ◌/◌, ◌%◌, ◌^◌, ℕ, Bool, false, List, [], length, get_or, ap, sym, ◌∙◌, arith}
+use Rattle.std.proofs.Math.Nat.{zero-mod, mod-eq_of_lt}
+use Rattle.std.proofs.Math.Pow.{pow_mono}
+use Rattle.std.proofs.lemmas.Nat.{pow_pos}
+use Rattle.std.proofs.lemmas.List.{get_or-set_same, get_or-set_other, take_all}
+use Rattle.emu_model.specs.Lists.{each, length-each, get_or-each, each_same}
 use Rattle.emu_model.specs.State.{Vectors, IsSoundVectors}
 use Rattle.vec_model.specs.Active.{active}
-use Rattle.vec_model.specs.Lanes.{IsLaneSize, lane, read_z, read_p, byte_in, field_bit, with_p, with_lanes, with_fields, with_ffr_fields}
-use Rattle.vec_model.proofs.Each.{get_or-each}
+use Rattle.vec_model.specs.Lanes.{IsLaneSize, lane, number, read_z, read_p, byte_in, field_bit, with_z, with_p, with_lanes, with_low, with_fields, with_ffr_fields}
 use Rattle.vec_model.proofs.FieldBits.{at_start, between}
-use Rattle.vec_model.proofs.LaneBytes.{lane_of_lanes, some_bytes, within_bytes}
+use Rattle.vec_model.proofs.LaneBytes.{field_is, lane_of_lanes, some_bytes, within_bytes}
 
 pub lanes_read : (e : ℕ) (f : ℕ → ℕ) (zd k : ℕ) (v : Vectors) → IsSoundVectors v → IsLaneSize e → zd < 32 → k < v.bits / e → lane e (read_z (with_lanes e f zd v) zd) k ≡ f k % 2 ^ e
 lanes_read e f zd k v h size r within =
     let there : zd < length v.z = omega (arith, h.z_count) in
     ap (λ (bs : List ℕ). lane e bs k) (get_or-set_same v.z zd (each (v.bits / 8) (byte_in (e / 8) f)) [] there)
     ∙ lane_of_lanes f (v.bits / 8) e k size (within_bytes e k v.bits size within)
+
+-- ---- low bits
+
+-- a number of n bytes by its bytes
+number_of_bytes : (y n : ℕ) → y < 2 ^ (8 * n) → number (each n (λ j. y / 2 ^ (8 * j) % 256)) ≡ y
+number_of_bytes y n small =
+    let alone : (j : ℕ) → j < n → y / 2 ^ (8 * j) % 256 ≡ byte_in n (λ _. y) j = λ j b. low_byte j b in
+    let long : length (each n (byte_in n (λ _. y))) ≤ n = omega (arith, length-each n (byte_in n (λ _. y))) in
+    let none : 0 % n ≡ 0 = zero-mod n in
+    let fits : 0 % n + n ≤ n = omega arith in
+    ap number (each_same n (λ j. y / 2 ^ (8 * j) % 256) (byte_in n (λ _. y)) 0 alone)
+    ∙ ap number (sym (take_all n (each n (byte_in n (λ _. y))) long))
+    ∙ field_is (λ _. y) n n n 0 fits (omega arith)
+    ∙ ap (λ i. y / 2 ^ (8 * i) % 2 ^ (8 * n)) none
+    ∙ ap (λ z. z % 2 ^ (8 * n)) (unshifted y)
+    ∙ mod-eq_of_lt small where
+      unshifted : (x : ℕ) → x / 2 ^ (8 * 0) ≡ x
+      unshifted x = omega arith
+
+      low_byte : (j : ℕ) → j < n → y / 2 ^ (8 * j) % 256 ≡ byte_in n (λ _. y) j
+      low_byte j b = ap (λ i. y / 2 ^ (8 * i) % 256) (sym (mod-eq_of_lt b))
+
+low_fits : (bits x : ℕ) (v : Vectors) → IsSoundVectors v → bits ≤ v.bits → x % 2 ^ bits < 2 ^ (8 * (v.bits / 8))
+low_fits bits x v h within =
+    let whole : v.bits ≡ 8 * (v.bits / 8) = omega (arith, h.vector_length.multiple) in
+    let most : 2 ^ bits ≤ 2 ^ (8 * (v.bits / 8)) = pow_mono (omega arith) in
+    let some : 0 < 2 ^ bits = pow_pos bits in
+    let below : x % 2 ^ bits < 2 ^ bits = omega arith in
+    omega arith
+
+pub low_read : (bits x zd : ℕ) (v : Vectors) → IsSoundVectors v → zd < 32 → bits ≤ v.bits → number (read_z (with_low bits x zd v) zd) ≡ x % 2 ^ bits
+low_read bits x zd v h r within =
+    let there : zd < length v.z = omega (arith, h.z_count) in
+    ap number (get_or-set_same v.z zd (each (v.bits / 8) (λ j. x % 2 ^ bits / 2 ^ (8 * j) % 256)) [] there)
+    ∙ number_of_bytes (x % 2 ^ bits) (v.bits / 8) (low_fits bits x v h within)
+
+pub other_z : (bytes : List ℕ) (zd r : ℕ) (v : Vectors) → r ≢ zd → read_z (with_z v zd bytes) r ≡ read_z v r
+other_z bytes zd r v apart = get_or-set_other v.z zd r bytes [] apart
+
+pub other_p : (bits : List Bool) (pd r : ℕ) (v : Vectors) → r ≢ pd → read_p (with_p v pd bits) r ≡ read_p v r
+other_p bits pd r v apart = get_or-set_other v.p pd r bits [] apart
+
+-- ---- fields
 
 field_read : (e n : ℕ) (f : ℕ → Bool) (k : ℕ) → 0 < e / 8 → k * (e / 8) + e / 8 ≤ n → active e (each n (field_bit (e / 8) f)) k ≡ f k
 field_read e n f k some le =

@@ -1,9 +1,9 @@
 //! Laws of the definitions, each the contract of a function that does nothing.
-ghost use Rattle.std.specs.Prelude.{◌≡◌, ◌≢◌, ◌<◌, ◌/◌, ◌%◌, ◌^◌, ℕ, Bool, false, get_or};
+ghost use Rattle.std.specs.Prelude.{◌≡◌, ◌≢◌, ◌<◌, ◌≤◌, ◌/◌, ◌%◌, ◌^◌, ℕ, Bool, false, List, get_or, if◌then◌else◌, nat_lt};
 ghost use Rattle.emu_model.specs.State.{Vectors, IsSoundVectors};
 ghost use Rattle.vec_model.specs.Active.{active};
 ghost use Rattle.vec_model.specs.AfterCall.{after_call};
-ghost use Rattle.vec_model.specs.Lanes.{IsLaneSize, lane, read_z, read_p, with_lanes, with_fields, with_ffr_fields, with_low};
+ghost use Rattle.vec_model.specs.Lanes.{IsLaneSize, lane, number, read_z, read_p, with_z, with_p, with_lanes, with_fields, with_ffr_fields, with_low};
 
 /// Sound vectors are sound after a write, whatever is written: lanes or low bits of a Z register, fields of a predicate or of FFR;
 /// and after a call that returns.
@@ -15,17 +15,30 @@ pub fn lanes_keep_vectors_sound()
     ensures call { (v : Vectors) → IsSoundVectors v → IsSoundVectors (after_call v) }
 {}
 
-/// A lane reads as what was written to it, modulo 2^e. Lane k of a written predicate, or of FFR, is active exactly where f k is
-/// true, and the other bits of its field are 0.
+/// A lane reads as what was written to it, modulo 2^e, and a register with x written to its low bits is the number x modulo
+/// 2^bits: all bits above are 0. Lane k of a written predicate, or of FFR, is active exactly where f k is true, and the other bits
+/// of its field are 0. The other Z registers and the other predicates read as before.
 pub fn lanes_read_as_written()
     ensures lanes { (e : ℕ) (f : ℕ → ℕ) (zd k : ℕ) (v : Vectors) → IsSoundVectors v → IsLaneSize e → zd < 32 → k < v.bits / e
         → lane e (read_z (with_lanes e f zd v) zd) k ≡ f k % 2 ^ e }
+    ensures low { (bits x zd : ℕ) (v : Vectors) → IsSoundVectors v → zd < 32 → bits ≤ v.bits
+        → number (read_z (with_low bits x zd v) zd) ≡ x % 2 ^ bits }
+    ensures other_z { (bytes : List ℕ) (zd r : ℕ) (v : Vectors) → r ≢ zd → read_z (with_z v zd bytes) r ≡ read_z v r }
     ensures fields { (e : ℕ) (f : ℕ → Bool) (pd k : ℕ) (v : Vectors) → IsSoundVectors v → IsLaneSize e → pd < 16 → k < v.bits / e
         → active e (read_p (with_fields e f pd v) pd) k ≡ f k }
     ensures between { (e : ℕ) (f : ℕ → Bool) (pd j : ℕ) (v : Vectors) → IsSoundVectors v → pd < 16 → j < v.bits / 8 → j % (e / 8) ≢ 0
         → get_or (read_p (with_fields e f pd v) pd) j false ≡ false }
+    ensures other_p { (bits : List Bool) (pd r : ℕ) (v : Vectors) → r ≢ pd → read_p (with_p v pd bits) r ≡ read_p v r }
     ensures ffr { (e : ℕ) (f : ℕ → Bool) (k : ℕ) (v : Vectors) → IsLaneSize e → k < v.bits / e
         → active e (with_ffr_fields e f v).ffr k ≡ f k }
     ensures ffr_between { (e : ℕ) (f : ℕ → Bool) (j : ℕ) (v : Vectors) → j < v.bits / 8 → j % (e / 8) ≢ 0
         → get_or (with_ffr_fields e f v).ffr j false ≡ false }
+{}
+
+/// After a call that returns, the low 16 bytes of each Z register read as before, and its other bytes, the bits of each predicate
+/// and those of FFR read as 0.
+pub fn calls_clear_vectors()
+    ensures z { (v : Vectors) (r j : ℕ) → get_or (read_z (after_call v) r) j 0 ≡ (if nat_lt j 16 then get_or (read_z v r) j 0 else 0) }
+    ensures p { (v : Vectors) (r j : ℕ) → get_or (read_p (after_call v) r) j false ≡ false }
+    ensures ffr { (v : Vectors) (j : ℕ) → get_or (after_call v).ffr j false ≡ false }
 {}

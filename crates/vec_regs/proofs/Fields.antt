@@ -2,8 +2,7 @@
 use Rattle.std.proofs.Common.{◌≡◌, ◌<◌, ◌≤◌, ◌+◌, ◌*◌, ◌/◌, ◌%◌, ℕ, suc, Bool, false, List, length, get_or, set, nat_eq, if◌then◌else◌, inl, inr, ap, sym, subst, ◌∙◌, arith}
 use Rattle.std.proofs.Math.Nat.{mul-le-mul_right}
 use Rattle.std.proofs.lemmas.Bool.{cases_eq, cases_lt}
-use Rattle.emu_model.specs.Lists.{each}
-use Rattle.vec_model.proofs.Each.{get_or-each, each_same}
+use Rattle.emu_model.specs.Lists.{each, get_or-each, each_same}
 use Rattle.vec_model.proofs.FieldBits.{at_start, inside}
 use Rattle.vec_model.specs.Lanes.{field_bit, IsLaneSize}
 use Rattle.vec_regs.specs.Packed.{put}

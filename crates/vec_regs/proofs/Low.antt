@@ -6,11 +6,10 @@ use Rattle.std.proofs.lemmas.List.{get_or-map, get_or-take, get_or-set_other, ge
 use Rattle.std.proofs.lemmas.List.Edits.{fill_by_more}
 use Rattle.std.proofs.lemmas.List.FromFn.{fill_by_all}
 use Rattle.std.proofs.lemmas.Nat.{shr-shr}
-use Rattle.emu_model.specs.Lists.{each, length-each}
+use Rattle.emu_model.specs.Lists.{each, length-each, get_or-each, each_same}
 use Rattle.emu_model.specs.State.{Vectors}
 use Rattle.vec_model.specs.AfterCall.{low_bytes, no_bits, after_call}
 use Rattle.vec_model.specs.Lanes.{lane, with_z, with_low}
-use Rattle.vec_model.proofs.Each.{get_or-each, each_same}
 use Rattle.vec_regs.specs.Packed.{number_words, low_words}
 use Rattle.vec_regs.specs.Shown.{shown}
 use Rattle.vec_regs.specs.Words.{byte_of, bit_of, bytes_of, bits_of, AreZeroFrom}

@@ -115,25 +115,42 @@ impl Bench {
         Some(u32::from(self.vec.z_byte(Reg::at(r, 0), k)))
     }
 
+    /// Sets each byte of a vector register.
+    pub fn fill(&mut self, r: u32, v: u8) {
+        for k in 0..256 {
+            if k < self.vec.length().bits() / 8 {
+                self.vec.set_z_byte(Reg::at(r, 0), k, v);
+            }
+        }
+    }
+
+    /// Sets the bits of FFR from one on.
+    pub fn set_ffr_from(&mut self, first: u32, v: bool) {
+        for k in first..256 {
+            if k < self.vec.length().bits() / 8 {
+                self.vec.set_ffr_bit(k, v);
+            }
+        }
+    }
+
     /// Sets the lowest four lanes of 32 bits of a vector register, and zeros above.
-    pub fn set_words(&mut self, r: u32, lanes: [u32; 4]) -> Option<()> {
+    pub fn set_words(&mut self, r: u32, lanes: [u32; 4]) {
         let mut number = 0u128;
         for v in lanes.into_iter().rev() {
             number = number << 32 | u128::from(v);
         }
         self.vec.set_low(Reg::at(r, 0), 128, number);
-        Some(())
     }
 
     /// The lowest four lanes of 32 bits of a vector register.
-    pub fn words(&self, r: u32) -> Option<[u64; 4]> {
+    pub fn words(&self, r: u32) -> [u64; 4] {
         let words = self.vec.z_words(Reg::at(r, 0));
-        Some([
+        [
             words[0] % 0x1_0000_0000,
             words[0] >> 32,
             words[1] % 0x1_0000_0000,
             words[1] >> 32,
-        ])
+        ]
     }
 
     /// Puts bytes into memory, whatever the rights of their pages are.
@@ -144,6 +161,14 @@ impl Bench {
             self.memory
                 .pages_mut()
                 .write(at / 4096, (at % 4096) as usize, &[*byte]);
+        }
+        Some(())
+    }
+
+    /// Writes 32 bytes from an address on: a first one, and each by one greater than the one before.
+    pub fn put_counted(&mut self, address: u64, first: u8) -> Option<()> {
+        for k in 0..32u8 {
+            self.put(address.wrapping_add(u64::from(k)), &[first.wrapping_add(k)])?;
         }
         Some(())
     }

@@ -50,17 +50,17 @@ fn an_interleave_takes_the_low_halves_in_turn(rt: HostRuntime) {
 fn words_after(alloc: Global, word: u32, a: [u32; 4], b: [u32; 4]) -> Option<[u64; 4]> {
     let mut bench = Bench::new(alloc, 128)?;
     bench.set_all(0)?;
-    bench.set_words(0, a)?;
-    bench.set_words(1, b)?;
+    bench.set_words(0, a);
+    bench.set_words(1, b);
     bench.does(word)?;
-    bench.words(0)
+    Some(bench.words(0))
 }
 
 #[test]
 fn a_sum_of_bytes_goes_to_a_general_register(rt: HostRuntime) {
     let mut bench = Bench::new(rt.alloc(), 128).expect(&rt, "a length");
-    let _set = bench.set_all(0);
-    let _lanes = bench.set_words(1, [u32::MAX; 4]);
+    bench.set_all(0).expect(&rt, "a predicate");
+    bench.set_words(1, [u32::MAX; 4]);
     // uaddv d0, p0, z1.b; fmov x0, d0
     assert_eq!(rt; bench.does(0x0401_2020), Some(Effect::Next));
     assert_eq!(rt; bench.does(0x9E66_0000), Some(Effect::Next));
@@ -116,7 +116,7 @@ fn a_while_counts_modulo_its_width(rt: HostRuntime) {
 #[test]
 fn a_break_leaves_out_what_it_breaks_at(rt: HostRuntime) {
     let mut bench = Bench::new(rt.alloc(), 128).expect(&rt, "a length");
-    let _set = bench.set_all(1);
+    bench.set_all(1).expect(&rt, "a predicate");
     if 4 < bench.vec.length().bits() / 8 {
         bench.vec.set_p_bit(Pred::at(2, 0), 4, true);
     }

@@ -1,5 +1,5 @@
 use Rattle.std.proofs.Common.{◌≡◌, drop}
-use Rattle.emu_model.specs.Image.{headers_address}
+use Rattle.emu_system.specs.Image.{headers_address}
 use Rattle.elf_image.proofs.segments.headers_address.Given as goal
 
 abbrev pub invariant-loop-s : goal.invariant-loop-s

@@ -1,5 +1,5 @@
 use Rattle.std.proofs.Common.{◌≡◌, drop}
-use Rattle.emu_model.specs.Image.{overlaps_any}
+use Rattle.emu_system.specs.Image.{overlaps_any}
 use Rattle.elf_image.proofs.segments.overlaps_any.Given as goal
 
 abbrev pub invariant-loop-other : goal.invariant-loop-other

@@ -1,6 +1,6 @@
 use Rattle.std.proofs.Common.{◌≡◌, ◌≤◌, ◌*◌, ◌^◌, take}
 use Rattle.std.specs.Prelude.{sum_by}
-use Rattle.emu_model.specs.Image.{page_count}
+use Rattle.emu_system.specs.Image.{page_count}
 use Rattle.elf_image.proofs.segments.page_count.Given as goal
 
 abbrev pub invariant-loop-s : goal.invariant-loop-s

@@ -1,5 +1,5 @@
 use Rattle.std.proofs.Common.{◌≡◌, ◌≤◌, ◌-◌, [], length}
-use Rattle.emu_model.specs.Image.{segments_from}
+use Rattle.emu_system.specs.Image.{segments_from}
 use Rattle.elf_image.proofs.segments.read_segments.Given as goal
 
 abbrev pub invariant-loop-index : goal.invariant-loop-index

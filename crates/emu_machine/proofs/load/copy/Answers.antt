@@ -1,5 +1,5 @@
 use Rattle.std.proofs.Common.{arith, ◌∙◌}
-use Rattle.emu_machine.proofs.Loading.{copied}
+use Rattle.emu_machine.proofs.Written.{copied}
 use Rattle.emu_machine.proofs.load.copy.Goals as goal
 
 pub loop-at-preserved : goal.loop-at-preserved

@@ -1,5 +1,5 @@
 use Rattle.std.proofs.Common.{◌≡◌, ◌≤◌, drop, max}
-use Rattle.emu_model.specs.Start.{highest_page}
+use Rattle.emu_system.specs.Start.{highest_page}
 use Rattle.emu_machine.proofs.load.highest_page.Given as goal
 
 abbrev pub invariant-loop-segment : goal.invariant-loop-segment

@@ -1,6 +1,6 @@
 use Rattle.lane_permute.specs.Slices.{active_by}
 use Rattle.std.proofs.Common.{length, arith}
-use Rattle.lane_permute.proofs.Spliced.{found_last}
+use Rattle.lane_permute.proofs.FirstLast.{found_last}
 use Rattle.lane_permute.proofs.by_active.last_active.Goals as goal
 
 pub returns-clause-found : goal.returns-clause-found

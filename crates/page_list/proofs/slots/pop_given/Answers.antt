@@ -1,7 +1,8 @@
 use Rattle.std.proofs.Common.{◌≡◌, ◌++◌, ◌∷◌, [], List, ap, subst, ◌∙◌, sym, length, take}
 use Rattle.std.proofs.lemmas.List.{length-map, map-append}
+use Rattle.frame_arena.specs.Frames.{Live}
 use Rattle.page_list.specs.declared.slots.Slot.{Slot}
-use Rattle.page_list.specs.Slots.{Live, AreHeld, entry_in, entries_in}
+use Rattle.page_list.specs.Slots.{AreHeld, entry_in, entries_in}
 use Rattle.page_list.proofs.Held.{last_live, entries-popped, held-popped}
 use Rattle.page_list.proofs.Lists.{front_of}
 use Rattle.page_list.proofs.slots.pop_given.Goals as goal

@@ -2,9 +2,10 @@ use Rattle.std.proofs.Common.{◌≡◌, ◌++◌, ◌∷◌, [], List, ℕ, ap,
 use Rattle.std.specs.FinMap.{insert}
 use Rattle.emu_model.specs.Pages.{zeros, zeros_is}
 use Rattle.frame_arena.specs.Frames.{zeroed}
+use Rattle.frame_arena.specs.Frames.{Live}
 use Rattle.page_list.specs.declared.slots.Slot.{Slot}
 use Rattle.page_list.specs.Bytes.{as_bytes}
-use Rattle.page_list.specs.Slots.{Live, AreHeld, entries_in}
+use Rattle.page_list.specs.Slots.{AreHeld, entries_in}
 use Rattle.page_list.proofs.Bytes.{as_bytes-zeros}
 use Rattle.page_list.proofs.Held.{entries-pushed, held-pushed}
 use Rattle.page_list.proofs.slots.push_zeroed.Goals as goal

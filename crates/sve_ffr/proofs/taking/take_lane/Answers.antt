@@ -1,9 +1,9 @@
-use Rattle.std.proofs.Common.{◌≡◌, ◌<◌, ◌+◌, ◌++◌, ◌∷◌, [], ℕ, List, Some, None, false, get_or, length, refl, sym, ap, ◌∙◌, arith}
+use Rattle.std.proofs.Common.{◌*◌, ◌≡◌, ◌<◌, ◌+◌, ◌++◌, ◌∷◌, [], ℕ, List, Some, None, false, get_or, length, refl, sym, ap, ◌∙◌, arith}
 use Rattle.emu_model.specs.declared.access.Kind.TheVariants.{Read}
 use Rattle.emu_model.specs.Access.{refused, value}
-use Rattle.sve_effects.specs.VectorLoadStore.{extended_to}
 use Rattle.sve_ffr.proofs.Takes.{element_of, take_none, take_loaded, take_refused}
 use Rattle.sve_ffr.proofs.taking.take_lane.Goals as goal
+use Rattle.sve_effects.specs.Element.{extended_by}
 
 pub returns-then-not-is_next-clause-lane : goal.returns-then-not-is_next-clause-lane
 returns-then-not-is_next-clause-lane c = λ r n h.
@@ -34,8 +34,8 @@ returns-in-Ok-clause-lane c = λ r n h.
     = ap (λ (ps : List (ℕ × ℕ)). (get_or ps c.args.taken.now.next (0, 0)).1) c.deref.ensures.0 in
     let allowed : refused c.args.mem.now (element_of r c.args.list.now c.args.taken.now.next).address c.args.list.now.bytes Read ≡ None
     = ap (λ a. refused c.args.mem.now a c.args.list.now.bytes Read) (sym at) ∙ c.in-Ok.ensures.result.0 in
-    let is : c.extended.result ≡ extended_to c.args.list.now.signed c.args.e c.args.list.now.bytes (value c.args.mem.now (element_of r c.args.list.now c.args.taken.now.next).address c.args.list.now.bytes)
-    = c.extended.ensures ∙ ap (extended_to c.args.list.now.signed c.args.e c.args.list.now.bytes) (c.in-Ok.ensures.result.1 ∙ ap (λ a. value c.args.mem.now a c.args.list.now.bytes) at) in
+    let is : c.extended.result ≡ extended_by c.args.list.now.signed c.args.e (8 * c.args.list.now.bytes) (value c.args.mem.now (element_of r c.args.list.now c.args.taken.now.next).address c.args.list.now.bytes)
+    = c.extended.ensures ∙ ap (extended_by c.args.list.now.signed c.args.e (8 * c.args.list.now.bytes)) (c.in-Ok.ensures.result.1 ∙ ap (λ a. value c.args.mem.now a c.args.list.now.bytes) at) in
     take_loaded r c.args.e n c.args.list.now c.args.mem.now c.args.k c.args.taken.now
     (record { values = c.push-in-Ok.new.self; next = c.args.taken.now.next + 1; suppressed = c.args.taken.now.suppressed }) c.args.log.now.items h
     (sym (c.is_next.ensures.value r) ∙ c.if-not-is_next.false) (c.is_next.ensures.within c.if-not-is_next.false) c.load_u64.new.log.items c.extended.result allowed is refl refl c.push-in-Ok.ensures.items

@@ -1,6 +1,6 @@
 use Rattle.std.proofs.Common.{◌≡◌, ◌/◌, ap, ◌∙◌, arith}
 use Rattle.sve_effects.specs.ElementLoop.{is_active}
-use Rattle.lane_permute.proofs.Spliced.{found_last}
+use Rattle.lane_permute.proofs.FirstLast.{found_last}
 use Rattle.sve_permutes.proofs.active.last_active.Goals as goal
 
 pub returns-clause-found : goal.returns-clause-found

@@ -9,9 +9,9 @@ use Rattle.sve_pred.proofs.compares.unsigned.Goals as goal
 pub returns-clause-registers : goal.returns-clause-registers
 returns-clause-registers c =
     c.compare.ensures.registers
-    ∙ ap (λ (r : Registers). r.core) (same_compared (lane_bits c.args.size) c.governing.result c.args.pg c.args.pd c.args.zn c.unsigned_test.result (unsigned_test c.args.op) (Number c.get.result) (Number c.args.imm7) c.args.core.now c.args.vec.now c.governing.ensures c.unsigned_test.ensures (ap Number c.get.ensures.value))
+    ∙ ap (λ (r : Registers). r.core) (same_compared (lane_bits c.args.size) c.register.result c.args.pg c.args.pd c.args.zn c.unsigned_test.result (unsigned_test c.args.op) (Number c.get.result) (Number c.args.imm7) c.args.core.now c.args.vec.now c.register.ensures c.unsigned_test.ensures (ap Number c.get.ensures.value))
 
 pub returns-clause-vectors : goal.returns-clause-vectors
 returns-clause-vectors c =
     c.compare.ensures.vectors
-    ∙ ap (λ (r : Registers). r.vectors) (same_compared (lane_bits c.args.size) c.governing.result c.args.pg c.args.pd c.args.zn c.unsigned_test.result (unsigned_test c.args.op) (Number c.get.result) (Number c.args.imm7) c.args.core.now c.args.vec.now c.governing.ensures c.unsigned_test.ensures (ap Number c.get.ensures.value))
+    ∙ ap (λ (r : Registers). r.vectors) (same_compared (lane_bits c.args.size) c.register.result c.args.pg c.args.pd c.args.zn c.unsigned_test.result (unsigned_test c.args.op) (Number c.get.result) (Number c.args.imm7) c.args.core.now c.args.vec.now c.register.ensures c.unsigned_test.ensures (ap Number c.get.ensures.value))

@@ -9,9 +9,9 @@ use Rattle.sve_pred.proofs.compares.vectors.Goals as goal
 pub returns-clause-registers : goal.returns-clause-registers
 returns-clause-registers c =
     c.compare.ensures.registers
-    ∙ ap (λ (r : Registers). r.core) (same_compared (lane_bits c.args.size) c.governing.result c.args.pg c.args.pd c.args.zn c.vector_test.result (vector_test c.args.op) (Lane c.args.zm) (Lane c.args.zm) c.args.core.now c.args.vec.now c.governing.ensures c.vector_test.ensures refl)
+    ∙ ap (λ (r : Registers). r.core) (same_compared (lane_bits c.args.size) c.register.result c.args.pg c.args.pd c.args.zn c.vector_test.result (vector_test c.args.op) (Lane c.args.zm) (Lane c.args.zm) c.args.core.now c.args.vec.now c.register.ensures c.vector_test.ensures refl)
 
 pub returns-clause-vectors : goal.returns-clause-vectors
 returns-clause-vectors c =
     c.compare.ensures.vectors
-    ∙ ap (λ (r : Registers). r.vectors) (same_compared (lane_bits c.args.size) c.governing.result c.args.pg c.args.pd c.args.zn c.vector_test.result (vector_test c.args.op) (Lane c.args.zm) (Lane c.args.zm) c.args.core.now c.args.vec.now c.governing.ensures c.vector_test.ensures refl)
+    ∙ ap (λ (r : Registers). r.vectors) (same_compared (lane_bits c.args.size) c.register.result c.args.pg c.args.pd c.args.zn c.vector_test.result (vector_test c.args.op) (Lane c.args.zm) (Lane c.args.zm) c.args.core.now c.args.vec.now c.register.ensures c.vector_test.ensures refl)

@@ -9,9 +9,9 @@ use Rattle.sve_pred.proofs.compares.wide.Goals as goal
 pub returns-clause-registers : goal.returns-clause-registers
 returns-clause-registers c =
     c.compare.ensures.registers
-    ∙ ap (λ (r : Registers). r.core) (same_compared (lane_bits c.args.size) c.governing.result c.args.pg c.args.pd c.args.zn c.wide_test.result (wide_test c.args.op) (Covering c.args.zm) (Covering c.args.zm) c.args.core.now c.args.vec.now c.governing.ensures c.wide_test.ensures refl)
+    ∙ ap (λ (r : Registers). r.core) (same_compared (lane_bits c.args.size) c.register.result c.args.pg c.args.pd c.args.zn c.wide_test.result (wide_test c.args.op) (Covering c.args.zm) (Covering c.args.zm) c.args.core.now c.args.vec.now c.register.ensures c.wide_test.ensures refl)
 
 pub returns-clause-vectors : goal.returns-clause-vectors
 returns-clause-vectors c =
     c.compare.ensures.vectors
-    ∙ ap (λ (r : Registers). r.vectors) (same_compared (lane_bits c.args.size) c.governing.result c.args.pg c.args.pd c.args.zn c.wide_test.result (wide_test c.args.op) (Covering c.args.zm) (Covering c.args.zm) c.args.core.now c.args.vec.now c.governing.ensures c.wide_test.ensures refl)
+    ∙ ap (λ (r : Registers). r.vectors) (same_compared (lane_bits c.args.size) c.register.result c.args.pg c.args.pd c.args.zn c.wide_test.result (wide_test c.args.op) (Covering c.args.zm) (Covering c.args.zm) c.args.core.now c.args.vec.now c.register.ensures c.wide_test.ensures refl)

@@ -1,20 +1,22 @@
-use Rattle.std.proofs.Common.{List, ℕ, Bool, map, string_bytes, sym, ◌∙◌, ◌&&◌, ap₂}
+use Rattle.std.proofs.Common.{map, length, string_bytes, Result, IfOk, sym, ◌∙◌, subst, arith}
 use Rattle.std.proofs.lemmas.List.{length-map}
-use Rattle.emu_model.specs.CommandLine.{run_line, length_of_word, number_of_word}
-use Rattle.svemu.proofs.Words.{line-others, line-not_run, line-run}
+use Rattle.emu_system.specs.Arguments.{AreArguments}
+use Rattle.emu_run.specs.declared.command_line.Line.{Line}
+use Rattle.emu_run.specs.declared.command_line.WordsFault.{WordsFault}
+use Rattle.emu_run.specs.CommandLine.{line_of_words}
+use Rattle.svemu.specs.Places.{HasPlaces, arguments_named}
+use Rattle.svemu.proofs.AcceptedLines.{arguments_fit, words_places}
 use Rattle.svemu.proofs.command_line.line_of_words.Goals as goal
 
-pub returns-then-words-ne6-clause-line : goal.returns-then-words-ne6-clause-line
-returns-then-words-ne6-clause-line c = sym (line-others (map string_bytes c.args.words.now) (λ e. c.if-words-ne6.true (sym (length-map c.args.words.now string_bytes) ∙ e)))
+pub returns-clause-places : goal.returns-clause-places
+returns-clause-places c =
+    subst (λ (r : Result Line WordsFault). IfOk r (λ line. HasPlaces line (length c.args.words.now))) (sym c.command_of_words.ensures)
+    (rw (← length-map c.args.words.now string_bytes) (words_places (map string_bytes c.args.words.now)))
 
-pub returns-then-not-is_run-clause-line : goal.returns-then-not-is_run-clause-line
-returns-then-not-is_run-clause-line c =
-    line-not_run (map string_bytes c.args.words.now) (length-map c.args.words.now string_bytes ∙ c.if-words-ne6.false)
-    (rw (← c.word.ensures, ← c.word-2.ensures, ← c.word-3.ensures, ← c.word-4.ensures) (sym c.is_run.ensures ∙ c.if-not-is_run.true))
-
-pub returns-clause-line : goal.returns-clause-line
-returns-clause-line c =
-    c.run_line.ensures.line ∙ ap₂ (λ (bits steps : List ℕ). run_line (length_of_word bits) (number_of_word steps)) c.word-5.ensures c.word-6.ensures
-    ∙ line-run (map string_bytes c.args.words.now) (length-map c.args.words.now string_bytes ∙ c.if-words-ne6.false)
-    (rw (← c.word.ensures, ← c.word-2.ensures, ← c.word-3.ensures, ← c.word-4.ensures) (sym c.is_run.ensures ∙ c.if-not-is_run.false))
-    (ap₂ (λ (a b : Bool). a && b) (sym c.are_free_of_zeros.ensures ∙ c.if-not-are_free_of_zeros.false) (sym c.are_short.ensures ∙ c.if-not-are_short.false))
+pub returns-clause-arguments : goal.returns-clause-arguments
+returns-clause-arguments c =
+    let ws = map string_bytes c.args.words.now in
+    subst (λ (r : Result Line WordsFault). IfOk r (λ line. AreArguments (arguments_named ws line))) (sym c.command_of_words.ensures)
+    (arguments_fit ws (omega (arith, length-map c.args.words.now string_bytes))
+    (sym c.in_default.is ∙ c.first_too_long.ensures.place) (sym c.in_default-first_with_zero.is ∙ c.first_with_zero.ensures.place)
+    (line_of_words ws) (words_places ws))

@@ -1,13 +1,14 @@
 use Rattle.std.proofs.Common.{◌≡◌, ◌<◌, ◌+◌, List, IfSome, is_none, refl, ap, sym, subst, ◌∙◌, arith, true, false}
 use Rattle.emu_model.specs.declared.access.Access.{Access}
 use Rattle.emu_model.specs.State.{Parts}
-use Rattle.emu_run.specs.Step.{accesses, step}
+use Rattle.emu_run.specs.Step.{step}
 use Rattle.emu_machine.specs.Accesses.{run_accesses}
 use Rattle.emu_machine.specs.declared.ends.StepEnd.TheVariants.{Going, ReadFault, WriteFault, ErrorsFault}
-use Rattle.emu_machine.specs.Ends.{is_undone, is_broken_off, run_end_of}
+use Rattle.linux_calls.specs.Names.{NamesRead}
+use Rattle.emu_machine.specs.Ends.{IsKept, is_undone, is_unput, is_broken_off, run_end_of}
 use Rattle.emu_machine.specs.Machines.{MachineState, MakesWrite}
 use Rattle.emu_machine.proofs.Logs.{Logs, logs_start, logs_on, logs_end, logs_as, logs_spent}
-use Rattle.emu_machine.proofs.Stands.{stands_start, stands_on, stands_kept, stands_as}
+use Rattle.emu_machine.proofs.Stands.{stands_start, stands_on, stands_there, kept_there}
 use Rattle.emu_machine.proofs.Runs.{Ran, broken_as, leads_start, leads_on, leads_end, leads_spent, not_going, goes, goes_on_after, ran_as, ran_when, end_as, failed_as, last_step, going_is_no, causes_from}
 use Rattle.emu_machine.proofs.machine.Machine.run.Goals as goal
 
@@ -59,7 +60,8 @@ returns-in_default g c =
     (leads_end c.args.budget c.args.self.now.parts p q _ _ _ _ _ _ _ _ _ (is_undone c.step.result) c.loop-self.invariant.leads
     stepped (goes p.ended c.loop-self.self.failed c.loop-self.invariant.going) below
     (λ (fine : is_undone c.step.result ≡ false). not_going q.ended c.step.result (c.step.ensures.end fine) c.in_default.not-Going)) in
-    let kept : is_broken_off c.run_end_of.result ≡ true → q ≡ p = λ h. c.step.ensures.kept (broken_as c.step.result ∙ ap is_broken_off (sym c.run_end_of.ensures) ∙ h) in
+    let undone : is_broken_off c.run_end_of.result ≡ true → is_undone c.step.result ≡ true = λ h. broken_as c.step.result ∙ ap is_broken_off (sym c.run_end_of.ensures) ∙ h in
+    let kept : is_broken_off c.run_end_of.result ≡ true → IsKept p q (g.I.Source.left c.loop-self.input) (g.I.Source.left c.step.new.input) = λ h. c.step.ensures.kept (undone h) in
     record {
       state = r.state;
       input = r.input;
@@ -70,20 +72,21 @@ returns-in_default g c =
           (λ (fine : is_undone c.step.result ≡ false). subst (λ (log : List Access). IfSome (g.I.Source.left c.args.input.now) (λ bytes. log ≡ run_accesses c.args.self.now.accesses c.args.self.now.parts bytes c.args.budget)) (sym c.step.ensures.accesses)
           (logs_end c.args.budget _ _ _ p _ _ _ _ _ q _ _ _ (goes p.ended c.loop-self.self.failed c.loop-self.invariant.going) below _ c.loop-self.invariant.leads
           (ran_when _ _ _ _ _ _ _ _ _ _ _ fine stepped) c.loop-self.invariant.logs (not_going q.ended c.step.result (c.step.ensures.end fine) c.in_default.not-Going)));
-      undone = λ h. c.step.ensures.accesses ∙ ap accesses (sym (kept h));
-      kept = stands_as _ p q _ _ kept (stands_kept c.args.budget _ p _ _ _ _ _ _ c.loop-self.invariant.leads c.loop-self.invariant.stands);
-      unspent = λ h. subst (λ (m : Parts). m.steps < c.args.budget) (sym (kept h)) below;
-      unended = λ h. ap (λ (m : Parts). is_none m.ended) (kept h) ∙ goes p.ended c.loop-self.self.failed c.loop-self.invariant.going;
+      undone = λ h. c.step.ensures.undone (undone h);
+      kept = kept_there _ p q _ _ _ _ kept (stands_there c.args.budget _ p _ _ _ _ _ _ c.loop-self.invariant.leads c.loop-self.invariant.stands);
+      unspent = λ h. let same = ap (λ (m : Parts). m.steps) (kept h).is in omega (arith, same, below);
+      unended = λ h. ap (λ (m : Parts). is_none m.ended) (kept h).is ∙ goes p.ended c.loop-self.self.failed c.loop-self.invariant.going;
       spent = λ h. absurd (c.in_default.not-Going (last_step c.step.result c.run_end_of.result _ c.run_end_of.ensures h));
       failed = failed_as c.step.result c.run_end_of.result c.step.new.self.failed c.run_end_of.ensures c.step.ensures.failed;
       read_cause = causes_from _ _ _ _ _ c.loop-self.invariant.read c.step.ensures.read_cause (last_step c.step.result c.run_end_of.result _ c.run_end_of.ensures) (λ (e : c.step.result ≡ ReadFault). c.run_end_of.ensures ∙ ap run_end_of e);
       write_cause = causes_from _ _ _ _ _ c.loop-self.invariant.write c.step.ensures.write_cause (last_step c.step.result c.run_end_of.result _ c.run_end_of.ensures) (λ (e : c.step.result ≡ WriteFault). c.run_end_of.ensures ∙ ap run_end_of e);
       errors_cause = causes_from _ _ _ _ _ c.loop-self.invariant.errors c.step.ensures.errors_cause (last_step c.step.result c.run_end_of.result _ c.run_end_of.ensures) (λ (e : c.step.result ≡ ErrorsFault). c.run_end_of.ensures ∙ ap run_end_of e);
-      no_memory = λ h. c.step.ensures.no_memory (last_step c.step.result c.run_end_of.result _ c.run_end_of.ensures h);
+      read_named = λ h. let r = last_step c.step.result c.run_end_of.result _ c.run_end_of.ensures h in
+          subst (λ (m : Parts). NamesRead m.core) (sym (c.step.ensures.kept (ap is_undone r)).is) (c.step.ensures.read_named r).names;
       write_named = λ h. let r = last_step c.step.result c.run_end_of.result _ c.run_end_of.ensures h in
-          subst (λ (m : Parts). MakesWrite m 1) (sym (c.step.ensures.kept (ap is_undone r))) (c.step.ensures.write_named r);
+          subst (λ (m : Parts). MakesWrite m 1) (sym (c.step.ensures.unstored (ap is_unput r))) (c.step.ensures.write_named r);
       errors_named = λ h. let r = last_step c.step.result c.run_end_of.result _ c.run_end_of.ensures h in
-          subst (λ (m : Parts). MakesWrite m 2) (sym (c.step.ensures.kept (ap is_undone r))) (c.step.ensures.errors_named r);
+          subst (λ (m : Parts). MakesWrite m 2) (sym (c.step.ensures.unstored (ap is_unput r))) (c.step.ensures.errors_named r);
     }
 
 pub returns-clause-state : goal.returns-clause-state

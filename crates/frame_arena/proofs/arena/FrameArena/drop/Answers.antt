@@ -1,12 +1,13 @@
 use Rattle.std.proofs.Common.{◌≡◌, List, [], ◌∷◌, ◌++◌, length, length-set, is_some, option_map, Option, Some, arith, refl, sym, ap, ◌∙◌, subst}
 use Rattle.std.proofs.lemmas.Bool.{false≢true}
+use Rattle.std.proofs.lemmas.List.{length_push}
 use denote.RawPtr.{block_ptr}
 use Rattle.frame_links.specs.Links.{Place}
 use Rattle.frame_links.specs.declared.page.Page.{Page}
 use Rattle.frame_arena.specs.declared.slot.Slot.{Slot}
 use Rattle.frame_arena.specs.Slots.{AreVacant, IsWhole, IsSeated, AreSeated, AreSpareSeated}
 use Rattle.frame_arena.proofs.Kept.{seat_as}
-use Rattle.frame_arena.proofs.Table.{vacant-set, whole-taken, seated-set, length-push, last_page, whole_before, seated_last, seated_before}
+use Rattle.frame_arena.proofs.Table.{vacant-set, whole-taken, seated-set, last_page, whole_before, seated_last, seated_before}
 use Rattle.frame_arena.proofs.arena.FrameArena.drop.Goals as goal
 
 pub loop-back-preserved : goal.loop-back-preserved
@@ -42,9 +43,9 @@ loop-last-preserved c =
     let h : AreSeated p (ss ++ s ∷ []) = subst (AreSeated p) e i.2 in
     let at = subst (IsSeated p (length ss)) c.in-Some-page.is (seated_last p ss s h) in
     let seat = seat_as p (length ss) _ _ c.into_spare.result.block c.into_spare.result.place c.into_spare.ensures.0 c.into_spare.ensures.1 at in (
-      omega (arith, long, i.0, length-push ss s),
+      omega (arith, long, i.0, length_push ss s),
       whole_before ss s w,
       seated_before p ss s h,
       c.glue-region.ensures.0 ∙ (λ j. block_ptr (seat.0 j) (seat.1 j)),
-      omega (arith, c.glue-region.ensures.1, i.4, long, length-push ss s),
+      omega (arith, c.glue-region.ensures.1, i.4, long, length_push ss s),
     )

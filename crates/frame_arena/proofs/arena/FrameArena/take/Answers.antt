@@ -1,10 +1,11 @@
 use Rattle.std.proofs.Common.{◌≡◌, ℕ, ◌+◌, ◌-◌, ◌<◌, List, [], ◌∷◌, ◌++◌, length, set, arith, refl, sym, ap, ◌∙◌, subst, length-set, Some}
+use Rattle.std.proofs.lemmas.List.{length_push}
 use Rattle.frame_links.specs.Links.{Place}
 use Rattle.frame_arena.specs.Frames.{Takes, zeroed}
 use Rattle.frame_arena.specs.declared.slot.Slot.{Slot}
 use Rattle.frame_arena.specs.Slots.{AreVacant, IsWhole, AreSeated, AreSpareSeated, IsRest, seen}
 use Rattle.frame_arena.proofs.Kept.{seat_as, rest_at, cut_seat, cut_rest}
-use Rattle.frame_arena.proofs.Table.{vacant-set, vacant-pushed, whole-taken, whole-pushed, seated-set, seated-pushed, length-push, takes, takes_next}
+use Rattle.frame_arena.proofs.Table.{vacant-set, vacant-pushed, whole-taken, whole-pushed, seated-set, seated-pushed, takes, takes_next}
 use Rattle.frame_arena.proofs.arena.FrameArena.take.Goals as goal
 
 -- a frame that was given back
@@ -51,7 +52,7 @@ invariant_of-self-2 c =
     let more : c.push_reserved.new.self.items ≡ ss ++ s ∷ [] = c.push_reserved.ensures.items in
     let l : n < a.total = omega (arith, c.if-number-self.false, c.len-number.ensures, a.slots.ok.0, i.most) in
     let here : IsRest p n (a.total - n) (Some region) = subst (IsRest p n (a.total - n)) (sym c.in-Some.ensures.value) i.rest in
-    let left : length c.push_reserved.new.self.items ≡ n + 1 = ap length more ∙ length-push ss s in
+    let left : length c.push_reserved.new.self.items ≡ n + 1 = ap length more ∙ length_push ss s in
     let z = here.1 in
     record {
       given = i.given;

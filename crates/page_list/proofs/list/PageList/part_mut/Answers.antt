@@ -1,15 +1,16 @@
 use Rattle.std.proofs.Common.{◌≡◌, ◌<◌, ◌-◌, ◌%◌, List, [], length, take, drop, unwrap_or, Option, ℕ, ap, ◌∙◌, sym, refl, arith}
-use Rattle.std.proofs.lemmas.List.{length-map, get_or_default}
+use Rattle.std.proofs.lemmas.List.{length-map, get_or_default, take-map}
 use Rattle.std.specs.FinMap.{get, insert}
 use Rattle.emu_model.specs.Access.{Page}
 use Rattle.emu_model.specs.WithinPage.{overwritten, page_with_bytes}
 use Rattle.frame_arena.proofs.Callers.{get-insert_same, get-insert_other}
+use Rattle.frame_arena.specs.Frames.{Live}
 use Rattle.page_list.specs.Bytes.{as_bytes, as_bytes-same}
 use Rattle.page_list.specs.Entries.{Entry, Listed, entry_at}
 use Rattle.page_list.specs.Lending.{with_part}
-use Rattle.page_list.specs.Slots.{Live, entry_in}
+use Rattle.page_list.specs.Slots.{entry_in}
 use Rattle.page_list.specs.declared.slots.Slot.{Slot}
-use Rattle.page_list.proofs.Bytes.{map_take, as_bytes-overwritten}
+use Rattle.page_list.proofs.Bytes.{as_bytes-overwritten}
 use Rattle.page_list.proofs.Held.{held_live, held_once, held-written, entry_is, written}
 use Rattle.page_list.proofs.list.PageList.part_mut.Goals as goal
 
@@ -19,7 +20,7 @@ page_after live x at w =
     let old = unwrap_or (get live x.frame) [] in
     ap (λ (o : Option (List ℕ)). record { rights = x.rights; bytes = as_bytes (unwrap_or o []) }) (get-insert_same live x.frame (overwritten at (take (4096 - at) w) old))
     ∙ ap (λ (z : List ℕ). record { rights = x.rights; bytes = z }) (as_bytes-overwritten at (take (4096 - at) w) old)
-    ∙ ap (λ (z : List ℕ). record { rights = x.rights; bytes = overwritten at z (as_bytes old) }) (map_take (λ b. b % 256) w (4096 - at))
+    ∙ ap (λ (z : List ℕ). record { rights = x.rights; bytes = overwritten at z (as_bytes old) }) (sym (take-map (λ b. b % 256) (4096 - at) w))
 
 pub bytes-requires : goal.bytes-requires
 bytes-requires c =

@@ -1,0 +1,20 @@
+use Rattle.std.proofs.Common.{List, ap, ◌∙◌, map, string_bytes}
+use Rattle.std.specs.List.{flat_map}
+use Rattle.std.specs.FinMap.{from_entries}
+use Rattle.emu_system.specs.declared.image.Segment.{Segment}
+use Rattle.emu_model.specs.Access.{Memory}
+use Rattle.emu_system.specs.Start.{segment_pages}
+use Rattle.elf_image.specs.Images.{seen_image}
+use Rattle.emu_machine.proofs.Loading.{program_loaded}
+use Rattle.emu_machine.proofs.Room.{room_for_stack}
+use Rattle.emu_machine.proofs.program.load_program.Goals as goal
+
+pub load_stack-requires-clause-free : goal.load_stack-requires-clause-free
+load_stack-requires-clause-free c =
+    let loaded = c.load_segments.ensures ∙ ap (λ (ss : List Segment). record c.args.pages.now { pages = from_entries (flat_map (segment_pages c.args.file.now) ss) }) c.deref.ensures.0 in
+    room_for_stack c.args.file.now c.args.pages.now.limit (seen_image c.args.image.now) c.load_segments.new.pages c.requires.loadable (ap (λ (m : Memory). m.pages) loaded) (ap (λ (m : Memory). m.limit) loaded)
+
+pub returns : goal.returns
+returns c =
+    let loaded = c.load_segments.ensures ∙ ap (λ (ss : List Segment). record c.args.pages.now { pages = from_entries (flat_map (segment_pages c.args.file.now) ss) }) c.deref.ensures.0 in
+    program_loaded c.args.file.now (seen_image c.args.image.now) (map string_bytes c.args.args.now) c.args.pages.now c.load_segments.new.pages c.load_stack.new.pages loaded c.load_stack.ensures

@@ -1,0 +1,10 @@
+use Rattle.std.proofs.Common.{◌≡◌, ◌+◌, length, map, drop, string_bytes}
+use Rattle.emu_model.specs.Pages.{with_bytes}
+use Rattle.emu_system.specs.Stack.{argument_bytes}
+use Rattle.emu_machine.proofs.stack.put_arguments.Given as goal
+
+abbrev pub invariant-loop-arg : goal.invariant-loop-arg
+invariant-loop-arg l = record {
+  place : l.at + length (argument_bytes (map string_bytes (drop l.arg-index l.args))) ≡ l.address + length (argument_bytes (map string_bytes l.args));
+  rest : with_bytes l.pages l.at (argument_bytes (map string_bytes (drop l.arg-index l.args))) ≡ with_bytes l.fn.pages l.address (argument_bytes (map string_bytes l.args));
+}

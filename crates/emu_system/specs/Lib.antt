@@ -1,0 +1,13 @@
+pub mod Arguments
+pub mod Image
+pub mod ImageLaws
+pub mod Pieces
+pub mod SoundCall
+pub mod SoundImage
+pub mod SoundStart
+pub mod Stack
+pub mod StackFound
+pub mod StackLaws
+pub mod Start
+pub mod StartPages
+pub mod SystemCall

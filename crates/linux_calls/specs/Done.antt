@@ -1,0 +1,35 @@
+-- What a call makes of all that it sees, once its action is known.
+use Rattle.std.specs.Prelude.{◌≡◌, ℕ, true, false, List, Option, Some, IfSome}
+use Rattle.emu_model.specs.declared.program_break.Break.{Break}
+use Rattle.emu_model.specs.Access.{Memory}
+use Rattle.emu_model.specs.State.{Core, Vectors, Parts, IsSoundBreak}
+use Rattle.emu_system.specs.SystemCall.{Action, done_by}
+use Rattle.linux_calls.specs.declared.end.CallEnd.{CallEnd}
+use Rattle.linux_calls.specs.Ends.{OfInput, Stores, behind, caller, does_put, does_take, end_of, is_fault}
+use Rattle.linux_calls.specs.Puts.{Gains}
+
+-- the parts of a machine, what is left of the input, and what the sinks hold
+pub record Around : Type 0 where
+  pub core : Core
+  pub vectors : Vectors
+  pub memory : Memory
+  pub brk : Break
+  pub left : Option (List ℕ)
+  pub output : Option (List ℕ)
+  pub errors : Option (List ℕ)
+
+abbrev pub caller_of : Around → Parts
+caller_of a = caller a.core a.vectors a.memory a.brk
+
+pub record IsDone (action : Action) (old new : Around) (same_input same_output same_errors : Type 0) (call_end : CallEnd) : Type 0 where
+  pub state : OfInput action old.left (λ bytes. is_fault call_end ≡ false → behind call_end new.core new.vectors new.memory new.brk ≡ (done_by action (caller_of old) bytes).parts)
+  pub input : IfSome old.left (λ bytes. is_fault call_end ≡ false → new.left ≡ Some (done_by action (caller_of old) bytes).input)
+  pub output : (bytes : List ℕ) → IfSome old.output (λ had. Gains (is_fault call_end) new.output had (done_by action (caller_of old) bytes).output)
+  pub errors : (bytes : List ℕ) → IfSome old.errors (λ had. Gains (is_fault call_end) new.errors had (done_by action (caller_of old) bytes).errors)
+  pub end : is_fault call_end ≡ false → call_end ≡ end_of action
+  pub sound : IsSoundBreak new.brk
+  pub kept : is_fault call_end ≡ true → (new.core ≡ old.core) × (new.vectors ≡ old.vectors) × (new.brk ≡ old.brk)
+  pub stored : is_fault call_end ≡ true → Stores action old.memory new.memory old.left new.left
+  pub untaken : does_take action ≡ false → same_input
+  pub output_kept : does_put 1 action ≡ false → same_output
+  pub errors_kept : does_put 2 action ≡ false → same_errors
