@@ -1,0 +1,19 @@
+# Installs the proved program, the runner and the manual page: make install PREFIX=/usr/local
+# ./svemu proves and builds the program first where that isn't done. PROGRAM=FILE installs a built one instead.
+
+PREFIX = /usr/local
+BUILT = crates/svemu/out/svemu
+PROGRAM = $(BUILT)
+TO = $(DESTDIR)$(PREFIX)
+
+install:
+	$(if $(filter $(BUILT),$(PROGRAM)),SVEMU=./svemu tools/svemu-runner crates/svemu/data/exit7.elf || [ $$? -eq 7 ])
+	mkdir -p "$(TO)/bin" "$(TO)/share/man/man1"
+	install -m 755 "$(PROGRAM)" "$(TO)/bin/svemu"
+	install -m 755 tools/svemu-runner "$(TO)/bin/svemu-runner"
+	install -m 644 docs/svemu.1 "$(TO)/share/man/man1/svemu.1"
+
+check:
+	sh tests/tools.sh
+
+.PHONY: install check

@@ -1,0 +1,225 @@
+# shellcheck shell=sh
+# shellcheck disable=SC2016,SC2034,SC2154 # shells that are called expand them; tools.sh reads input, and sets the others
+# Tests of tools/svemu-runner and tools/svemu-lengths; tools.sh reads it.
+
+# Makes a program that stands for svemu of the lines of its input.
+stand_in() {
+    { echo '#!/bin/sh' && cat; } >"$scratch/stand-in"
+    chmod +x "$scratch/stand-in"
+}
+
+# Prints what svemu writes at its end, after this first line.
+report() {
+    awk -v first="$1" -v vl="$2" '
+        function put(name, digits) { printf "%s %0" digits "d\n", name, 0 }
+        BEGIN {
+            print first
+            for (i = 0; i <= 30; i++) put("x" i, 16)
+            put("sp", 16); put("pc", 16); put("nzcv", 4); put("tpidr", 16)
+            print "vl " vl
+            for (i = 0; i <= 31; i++) put("z" i, vl / 4)
+            for (i = 0; i <= 15; i++) put("p" i, vl / 32)
+            put("ffr", vl / 32)
+        }'
+}
+
+runner_passes_on() {
+    run "$runner" "$probe"
+    ended "both files and the status" 3 'to the output\n' 'to the errors\n'
+    run "$runner" --vl 256 "$probe" args 'a b' "it's" '"' '' --vl -- '*'
+    ended "arguments" 0 'args\na b\nit'"'"'s\n"\n\n--vl\n--\n*\n' ''
+    printf 'first\n\377\000last' >"$scratch/input"
+    input=$scratch/input
+    run "$runner" "$probe" cat
+    ended "input" 0 'first\n\377\000last' ''
+    input=$scratch/empty
+    run "$runner" "$probe" bytes
+    awk 'BEGIN { for (i = 0; i < 256; i++) printf "\\%03o", i }' >"$scratch/every-byte"
+    ended "every byte on standard error, and no newline at its end" 0 '' "$(cat "$scratch/every-byte")"
+    run "$runner" --vl 256 "$probe" report
+    ended "errors that look like a report" 0 '' "$(report 'exit 0 after 1 steps' 256)\n"
+    run "$runner" "$probe" trap
+    ended_like "a trap" 132 'beforetrap undefined (0x[0-9a-f]{16}) at \1 after [0-9]+ steps'
+    run "$runner" --budget 5000 "$probe" spin
+    ended "a spent budget" 123 '' 'beforespent after 5000 steps\n'
+    run "$runner" --registers "$scratch/registers" --vl 384 "$probe"
+    ended "registers kept" 3 'to the output\n' 'to the errors\n'
+    holds "the registers' file has the report" awk 'NR == 1 && /^exit 3 after [0-9]+ steps$/ || NR == 37 && $0 == "vl 384" { n++ } END { exit !(n == 2 && NR == 86) }' "$scratch/registers"
+    run "$runner" --registers "$scratch/registers" "$scratch/nosuch"
+    holds "no registers of a run that there wasn't" [ ! -s "$scratch/registers" ]
+    run env SVEMU_VL=640 "$runner" --registers "$scratch/registers" "$probe"
+    holds "the length of SVEMU_VL" grep -qx 'vl 640' "$scratch/registers"
+    run "$runner" --registers "$scratch/registers" "$probe"
+    holds "512 bits where nothing is said" grep -qx 'vl 512' "$scratch/registers"
+    run env SVEMU_BUDGET=7 "$runner" "$probe" spin
+    ended "the budget of SVEMU_BUDGET" 123 '' 'spent after 7 steps\n'
+    run env SVEMU_VL=640 SVEMU_BUDGET=7 "$runner" --vl 128 --budget 9 "$probe" spin
+    ended "options before variables" 123 '' 'spent after 9 steps\n'
+    run env SVEMU_PAGES=10 "$runner" "$probe"
+    ended "the pages of SVEMU_PAGES" 122 '' 'refused image TooManyPages\n'
+    run "$runner" --pages 10000 "$probe"
+    ended "pages that suffice" 3 'to the output\n' 'to the errors\n'
+}
+
+# Words to svemu, and errors that svemu itself can't easily be brought to write.
+runner_and_stand_ins() {
+    echo 'printf "%s|" "$@"; exit 9' | stand_in
+    run env SVEMU="$scratch/stand-in" "$runner" p
+    ended "words" 9 'run|p|--vl|512|--budget|10000000000|' ''
+    run env SVEMU="$scratch/stand-in" "$runner" --pages 7 --budget 5 --vl 128 -- p --x ''
+    ended "words with all options" 9 'run|p|--vl|128|--budget|5|--pages|7|--|--x||' ''
+    run env SVEMU="$scratch/stand-in" "$runner" -- --p
+    ended "a program's name that begins with --" 9 'run|./--p|--vl|512|--budget|10000000000|' ''
+
+    report 'exit 0 after 12 steps' 512 >"$scratch/report"
+    printf 'cat "%s" >&2; exit 4' "$scratch/report" | stand_in
+    run env SVEMU="$scratch/stand-in" "$runner" p
+    ended "a report of another status is the program's own" 4 '' "$(cat "$scratch/report")\n"
+    printf 'head -n 85 "%s" >&2; exit 0' "$scratch/report" | stand_in
+    run env SVEMU="$scratch/stand-in" "$runner" p
+    ended "a report that lacks its last line" 0 '' "$(head -n 85 "$scratch/report")\n"
+    printf 'printf "exit 0 after " >&2; cat "%s" >&2; exit 0' "$scratch/report" | stand_in
+    run env SVEMU="$scratch/stand-in" "$runner" p
+    ended "errors that break off within a first line" 0 '' 'exit 0 after '
+    printf 'cat "%s" "%s" >&2; exit 0' "$scratch/report" "$scratch/report" | stand_in
+    run env SVEMU="$scratch/stand-in" "$runner" p
+    ended "a report behind another" 0 '' "$(cat "$scratch/report")\n"
+    for _ in 1 2 3 4 5 6 7 8 9 10 11 12 13 14 15 16 17 18 19 20 21 22 23 24 25 26 27 28 29 30; do cat "$probe"; done >"$scratch/images"
+    printf 'cat "%s" "%s" >&2; exit 0' "$scratch/images" "$scratch/report" | stand_in
+    run env SVEMU="$scratch/stand-in" "$runner" p
+    holds "thirty images on standard error" cmp "$scratch/errors" "$scratch/images"
+}
+
+# Waits until a command succeeds, for at most ten seconds.
+soon() {
+    for _ in 1 2 3 4 5 6 7 8 9 10 11 12 13 14 15 16 17 18 19 20; do
+        ! "$@" || return 0
+        sleep 0.5
+    done
+    return 1
+}
+
+runner_in_time() {
+    mkfifo "$scratch/answers"
+    timeout 120 "$runner" "$probe" ask <"$scratch/answers" >"$scratch/output" 2>"$scratch/errors" &
+    child=$!
+    exec 4>"$scratch/answers"
+    holds "a question is shown before it is answered" soon grep -qx 'what is it? ' "$scratch/errors"
+    echo yellow >&4
+    exec 4>&-
+    wait "$child"
+    status=$?
+    ended "a question and its answer" 0 'yellow\n' 'what is it? '
+
+    printf 'echo "$$" >"%s"; printf begin >&2; exec sleep 100' "$scratch/id" | stand_in
+    for case in "TERM 143" "HUP 129"; do
+        signal=${case% *}
+        rm -f "$scratch/id"
+        SVEMU=$scratch/stand-in "$runner" p >"$scratch/output" 2>"$scratch/errors" &
+        child=$!
+        soon test -s "$scratch/id"
+        since=$(date +%s)
+        kill -s "$signal" "$child"
+        wait "$child" 2>/dev/null
+        status=$?
+        holds "SIG$signal is passed on at once" [ $(($(date +%s) - since)) -lt 50 ]
+        ended "ended by SIG$signal" "${case#* }" '' begin
+        holds "svemu ends by SIG$signal" sh -c '! kill -s 0 "$(cat "$1")"' sh "$scratch/id"
+    done
+    mkdir "$scratch/tmp"
+    run env TMPDIR="$scratch/tmp" "$runner" "$probe" args
+    holds "nothing is left in TMPDIR" rmdir "$scratch/tmp"
+}
+
+runner_refusals() {
+    run "$runner" "$scratch/nosuch.elf"
+    ended "a missing program" 126 '' "svemu-runner: $scratch/nosuch.elf couldn't be read\n"
+    for vl in 192 0 2176; do
+        run "$runner" --vl "$vl" "$probe"
+        ended "the length $vl" 121 '' 'refused words BadLength at 3\n'
+    done
+    run "$runner" --vl wide "$probe"
+    ended "a length that is no number" 121 '' 'refused words BadNumber at 3\n'
+    run "$runner" --vl '' "$probe"
+    ended "an empty length" 121 '' 'refused words BadNumber at 3\n'
+    run "$runner" --budget -1 "$probe"
+    ended "a negative budget" 121 '' 'refused words BadNumber at 5\n'
+    run "$runner" --pages 0 "$probe"
+    ended "no pages" 121 '' 'refused words OutOfRange at 7\n'
+    run "$runner" README.md
+    ended "a file that is no image" 122 '' 'refused image BadMagic\n'
+    run "$runner"
+    ended "no program" 121 '' 'svemu-runner: no program is named (--help shows how)\n'
+    run "$runner" --vl
+    ended "an option without its value" 121 '' 'svemu-runner: --vl wants a value\n'
+    run "$runner" --length 128 "$probe"
+    ended "an unknown option" 121 '' 'svemu-runner: there is no option --length (--help lists them)\n'
+    run "$runner" --registers "$scratch/no/such" "$probe"
+    ended "registers that can't be written" 125 '' "svemu-runner: $scratch/no/such couldn't be written\n"
+    run env SVEMU="$scratch/nosuch" "$runner" "$probe"
+    ended "no svemu" 126 '' "svemu-runner: there is no program $scratch/nosuch (--help says where it is looked for)\n"
+    run env TMPDIR="$scratch/nosuch" "$runner" "$probe"
+    ended "no folder for the runner's files" 125 '' "svemu-runner: no folder could be made in $scratch/nosuch\n"
+    run sh -c '"$1" "$2" >/dev/full' sh "$runner" "$probe"
+    ended "an output that can't be written" 125 '' "svemu-runner: the output or the errors couldn't be written\n"
+    input=$scratch
+    run "$runner" "$probe" cat
+    input=$scratch/empty
+    ended "an input that can't be read" 124 '' "svemu-runner: the input couldn't be read\n"
+    run "$runner" --help
+    holds "help" grep -q '^usage: svemu-runner' "$scratch/output"
+}
+
+runner_from_elsewhere() {
+    odd="$scratch/it's a \"folder\""
+    mkdir -p "$odd/bin"
+    cp "$probe" "$odd/a program's \"image\""
+    ln -s "$runner" "$odd/bin/first link"
+    ln -s "first link" "$odd/bin/second link"
+    cp "$runner" "$odd/bin/copy"
+    # The script's own folder is looked through only where SVEMU isn't set.
+    printf '#!/bin/sh\nexec "%s" "$@"\n' "$SVEMU" >"$odd/svemu"
+    chmod +x "$odd/svemu"
+    cd "$odd" || exit 1
+    run "./bin/second link" "a program's \"image\"" args x
+    ended "by links, and from a folder with blanks and quotes" 0 'args\nx\n' ''
+    run env -u SVEMU bin/copy "$odd/a program's \"image\"" args y
+    ended "svemu in the folder above" 0 'args\ny\n' ''
+    run env -u SVEMU PATH="$odd/bin:$PATH" sh -c 'mv svemu bin/svemu && copy "$1" args z' sh "a program's \"image\""
+    ended "svemu beside the script, by PATH" 0 'args\nz\n' ''
+    run env -u SVEMU PATH="$odd/bin:$PATH" sh -c 'mv bin/copy . && ./copy "$1" args z' sh "a program's \"image\""
+    ended "svemu in PATH" 0 'args\nz\n' ''
+    run env TMPDIR="$odd" "$runner" "a program's \"image\""
+    ended "a TMPDIR with blanks and quotes" 3 'to the output\n' 'to the errors\n'
+    cd "$top" || exit 1
+}
+
+over_lengths() {
+    run "$lengths" examples/lost_sums.elf
+    awk 'BEGIN {
+        for (vl = 128; vl <= 2048; vl += 128)
+            print vl, vl == 128 || vl == 256 || vl == 640 || vl == 1280 ? "same" : "parts at 4"
+    }' >"$scratch/wanted"
+    sed -E 's/^vl ([0-9]+) exit 0 after [0-9]+ steps out 11 err 0 /\1 /' "$scratch/output" >"$scratch/got"
+    holds "a bug at some lengths" cmp "$scratch/got" "$scratch/wanted"
+    holds "its status is 1" [ "$status" -eq 1 ]
+    printf 12345 >"$scratch/input"
+    input=$scratch/input
+    run "$lengths" "$probe" cat
+    input=$scratch/empty
+    holds "the input at each length" awk '!/^vl [0-9]+ exit 0 after [0-9]+ steps out 5 err 0 same$/ { bad = 1 } END { exit bad || NR != 16 }' "$scratch/output"
+    holds "its status is 0" [ "$status" -eq 0 ]
+    run "$lengths" "$probe" trap
+    holds "traps, and bytes on standard error" awk '!/^vl [0-9]+ trap undefined 0x[0-9a-f]+ at 0x[0-9a-f]+ after [0-9]+ steps out 0 err 6 same$/ { bad = 1 } END { exit bad || NR != 16 }' "$scratch/output"
+    cd "$scratch" || exit 1
+    ln -s "$lengths" "a link"
+    run "./a link" "$probe"
+    cd "$top" || exit 1
+    holds "by a link" awk '!/^vl [0-9]+ exit 3 after [0-9]+ steps out 14 err 14 same$/ { bad = 1 } END { exit bad || NR != 16 }' "$scratch/output"
+    run "$lengths" "$scratch/nosuch"
+    ended "a missing program at all lengths" 126 '' "svemu-runner: $scratch/nosuch couldn't be read\n"
+    run env SVEMU_BUDGET=x "$lengths" "$probe"
+    ended "a budget that is no number" 121 '' 'refused words BadNumber at 5\n'
+    run "$lengths"
+    ended "lengths of no program" 121 '' 'svemu-lengths: no program is named (--help shows how)\n'
+}

@@ -1,0 +1,152 @@
+#!/bin/sh
+# Tests what stands beside the proved program: the examples, the runner, the manual page, the installation and the recipes of
+# docs/TESTING_YOUR_CODE.md. The program is the one that SVEMU names, else ./svemu. The last line is 'N passed, M failed, K skipped'.
+set -u
+
+cd "$(dirname "$0")/.." || exit 1
+top=$(pwd)
+built=${SVEMU:-crates/svemu/out/svemu}
+SVEMU=${SVEMU:-$top/svemu}
+export SVEMU
+unset SVEMU_VL SVEMU_BUDGET SVEMU_PAGES
+runner=$top/tools/svemu-runner
+lengths=$top/tools/svemu-lengths
+probe=$top/tests/probe.elf
+passed=0
+failed=0
+skipped=0
+
+scratch=$(mktemp -d) || exit 1
+trap 'rm -rf "$scratch"' EXIT
+trap 'exit 1' HUP INT TERM
+: >"$scratch/empty"
+input=$scratch/empty
+
+# Runs a command for at most two minutes, with the file "input"; keeps its output, its errors and its status.
+run() {
+    timeout 120 "$@" <"$input" >"$scratch/output" 2>"$scratch/errors"
+    status=$?
+}
+
+pass() {
+    passed=$((passed + 1))
+}
+
+fail() {
+    failed=$((failed + 1))
+    echo "FAILED: $1: $2"
+}
+
+skip() {
+    skipped=$((skipped + 1))
+    echo "skipped: $1: $2"
+}
+
+# Whether a command succeeds.
+holds() {
+    name=$1
+    shift
+    if "$@" >"$scratch/said" 2>&1; then
+        pass
+    else
+        fail "$name" "$* said: $(head -c 500 "$scratch/said")"
+    fi
+}
+
+# Whether the last run ended with this status, this output and these errors (as printf writes them).
+ended() {
+    # shellcheck disable=SC2059 # they are formats
+    printf "$3" >"$scratch/wanted-output"
+    # shellcheck disable=SC2059
+    printf "$4" >"$scratch/wanted-errors"
+    if [ "$status" -ne "$2" ]; then
+        fail "$1" "status $status, not $2; errors: $(head -c 300 "$scratch/errors")"
+    elif ! cmp -s "$scratch/output" "$scratch/wanted-output"; then
+        fail "$1" "output: $(head -c 300 "$scratch/output")"
+    elif ! cmp -s "$scratch/errors" "$scratch/wanted-errors"; then
+        fail "$1" "errors: $(head -c 300 "$scratch/errors")"
+    else
+        pass
+    fi
+}
+
+# Whether the last run ended with this status, and its errors are one line that matches.
+ended_like() {
+    if [ "$status" -eq "$2" ] && [ "$(wc -l <"$scratch/errors")" -eq 1 ] && grep -Eqx -e "$3" "$scratch/errors"; then
+        pass
+    else
+        fail "$1" "status $status, not $2, or errors: $(head -c 300 "$scratch/errors")"
+    fi
+}
+
+# Whether each example writes what stands beside it.
+examples() {
+    for example in memcpy strlen dot_product histogram lost_sums; do
+        for vl in 128 384 2048; do
+            wanted=$top/examples/$example.$vl.out
+            [ -f "$wanted" ] || wanted=$top/examples/$example.out
+            run "$runner" --vl "$vl" "$1/$example.elf"
+            if [ "$status" -eq 0 ] && cmp -s "$scratch/output" "$wanted" && [ ! -s "$scratch/errors" ]; then
+                pass
+            else
+                fail "$2 $example at $vl" "status $status, output: $(head -c 200 "$scratch/output"), errors: $(head -c 200 "$scratch/errors")"
+            fi
+        done
+    done
+}
+
+builds() {
+    for compiler in aarch64-linux-gnu-gcc clang; do
+        if ! command -v "$compiler" >/dev/null || [ "$compiler" = clang ] && ! command -v ld.lld >/dev/null; then
+            skip "examples built by $compiler" "it isn't on this machine"
+            continue
+        fi
+        rm -rf "$scratch/examples"
+        cp -R examples "$scratch/examples"
+        rm "$scratch"/examples/*.elf
+        holds "examples built by $compiler" make -C "$scratch/examples" CC="$compiler"
+        examples "$scratch/examples" "built by $compiler:"
+    done
+}
+
+installation() {
+    prefix="$scratch/a prefix"
+    run make install PREFIX="$prefix" PROGRAM="$built"
+    holds "make install" [ "$status" -eq 0 ]
+    run env -u SVEMU "$prefix/bin/svemu-runner" "$probe"
+    ended "the installed runner runs the installed program" 3 'to the output\n' 'to the errors\n'
+    run "$prefix/bin/svemu" run "$probe" --vl 128 --budget 0
+    holds "the installed program" sh -c "[ $status -eq 123 ] && grep -qx 'spent after 0 steps' '$scratch/errors'"
+    holds "the installed manual page" cmp docs/svemu.1 "$prefix/share/man/man1/svemu.1"
+}
+
+manual_page() {
+    if ! command -v man >/dev/null || ! man --version >/dev/null 2>&1; then
+        skip "the manual page" "man isn't on this machine"
+        return
+    fi
+    run env LC_ALL=C.UTF-8 MANWIDTH=100 man --warnings -l docs/svemu.1
+    holds "the manual page is shown" grep -q 'runs a static AArch64 program' "$scratch/output"
+    holds "without a warning" [ ! -s "$scratch/errors" ]
+}
+
+. tests/runner.sh
+. tests/recipes.sh
+
+run "$SVEMU" run crates/svemu/data/exit7.elf --vl 128 --budget 10
+holds "svemu is there" [ "$status" -eq 7 ]
+if [ "$failed" -eq 0 ]; then
+    examples "$top/examples" "checked in:"
+    builds
+    runner_passes_on
+    runner_and_stand_ins
+    runner_in_time
+    runner_refusals
+    runner_from_elsewhere
+    over_lengths
+    installation
+    manual_page
+    recipes
+fi
+echo "$passed passed, $failed failed, $skipped skipped"
+[ "$failed" -eq 0 ]
