@@ -95,10 +95,20 @@ examples() {
     done
 }
 
+are_there() {
+    for word in "$@"; do
+        command -v "$word" >/dev/null || return 1
+    done
+}
+
 builds() {
     for compiler in aarch64-linux-gnu-gcc clang; do
-        if ! command -v "$compiler" >/dev/null || [ "$compiler" = clang ] && ! command -v ld.lld >/dev/null; then
-            skip "examples built by $compiler" "it isn't on this machine"
+        case $compiler in
+            clang) needed="clang ld.lld" ;;
+            *) needed=$compiler ;;
+        esac
+        if ! are_there $needed; then
+            skip "examples built by $compiler" "$needed: not on this machine"
             continue
         fi
         rm -rf "$scratch/examples"
