@@ -30,7 +30,11 @@ pub fn perform(
 {
     match insn {
         Insn::A64(insn) => perform_a64(core, vec, memory, log, insn),
-        Insn::Sve(insn) => perform_sve(core, vec, memory, log, insn),
+        Insn::Sve(insn) => {
+            // a copy, so that no address of an A64 instruction is taken
+            let insn = *insn;
+            perform_sve(core, vec, memory, log, &insn)
+        }
     }
 }
 

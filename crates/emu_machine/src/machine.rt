@@ -144,6 +144,7 @@ impl Machine {
     }
 
     /// A step that isn't a call. None asks for the call, with nothing changed.
+    #[inline(always)]
     fn plain(&mut self) -> Option<StepEnd>
         requires going { has_ended self.old ≡ false }
         requires room { self.old.parts.steps < 2 ^ 64 - 1 }
