@@ -5,3 +5,4 @@ pub mod Puts
 pub mod Pieces
 pub mod Lines
 pub mod Core
+pub mod Lanes

@@ -89,7 +89,7 @@ pub fn put_too_long<S: Sink>(limit: u64, sink: &mut S) -> Result<(), Failed>
 }
 
 /// Appends an address with 16 hexadecimal digits.
-fn push_address(text: &mut Text, address: u64)
+pub(crate) fn push_address(text: &mut Text, address: u64)
     requires { length text.old + 18 ≤ 2048 }
     ensures text { text.new ≡ text.old ++ address_text address }
     ensures len { length text.new ≡ length text.old + 18 }

@@ -1,14 +1,16 @@
-//! What a command writes when it ends: one line, and after a run the registers.
+//! What a command writes when it ends: one line, and after a run the registers; and the lines of a debugger.
 //!
 //! Each call puts a text whole, or answers `Failed` and has put some of its first bytes.
 #![tactic(auto)]
 
+mod debugger;
 mod endings;
 mod names;
 mod registers;
 mod text;
 
+pub use debugger::{put_break, put_lanes, put_memory, put_preg, put_step, put_watch, put_zreg};
 pub use endings::{
     put_exit, put_image_refusal, put_spent, put_too_long, put_trap, put_words_refusal,
 };
-pub use registers::{put_registers, put_scalars};
+pub use registers::{put_ffr, put_registers, put_scalars};

@@ -16,7 +16,7 @@ use vec_regs::VecRegs;
 
 /// A kind of numbered vector registers.
 #[derive(Clone, Copy)]
-enum Kind {
+pub(crate) enum Kind {
     Z,
     P,
 }
@@ -71,7 +71,12 @@ fn put_lines<S: Sink>(kind: Kind, count: u32, vec: &VecRegs, sink: &mut S) -> Re
 }
 
 /// Puts the line of register `k` of a kind.
-fn put_line<S: Sink>(kind: Kind, k: u32, vec: &VecRegs, sink: &mut S) -> Result<(), Failed>
+pub(crate) fn put_line<S: Sink>(
+    kind: Kind,
+    k: u32,
+    vec: &VecRegs,
+    sink: &mut S,
+) -> Result<(), Failed>
     requires { k < count_of kind }
     ensures bytes { PutsAll (S.held sink.old) (S.held sink.new) (line_of vec.now kind k) result }
     ensures cause { HasCause (S.faults sink.old) (S.faults sink.new) result }
@@ -101,7 +106,7 @@ fn push_line(text: &mut Text, kind: Kind, k: u32, vec: &VecRegs)
 }
 
 /// Puts the line of FFR.
-fn put_ffr<S: Sink>(vec: &VecRegs, sink: &mut S) -> Result<(), Failed>
+pub fn put_ffr<S: Sink>(vec: &VecRegs, sink: &mut S) -> Result<(), Failed>
     ensures bytes { PutsAll (S.held sink.old) (S.held sink.new) (register_line (codes "ffr") (bit_digits vec.now.ffr)) result }
     ensures cause { HasCause (S.faults sink.old) (S.faults sink.new) result }
 {
@@ -161,7 +166,7 @@ fn push_length_line(text: &mut Text, bits: u32)
 }
 
 /// Appends the name of register `k` of a kind.
-fn push_name(text: &mut Text, kind: &[u8], k: u32)
+pub(crate) fn push_name(text: &mut Text, kind: &[u8], k: u32)
     requires { length text.old + length kind.now + 20 ≤ 2048 }
     ensures text { text.new ≡ text.old ++ numbered kind.now k }
     ensures len { length text.new ≤ length text.old + length kind.now + 20 }

@@ -1,0 +1,4 @@
+pub mod Commands
+pub mod Reached
+pub mod Script
+pub mod Session

@@ -1,0 +1,179 @@
+-- A debugger session: what the commands of a script make of a machine. `session`, at the end, is the whole of it.
+--
+-- The machine moves by steps alone, and stands still once it has ended or has counted its budget. What commands print goes to the
+-- output, behind what the program has written there.
+use Rattle.std.proofs.Common.{refl}
+use Rattle.std.specs.Prelude.{◌≡◌, ℕ, zero, suc, ◌+◌, ◌-◌, ◌*◌, ◌/◌, min, Bool, ◌&&◌, List, [], ◌∷◌, ◌++◌, position, codes, Option, Some, None, is_none, nat_eq, nat_lt, if◌then◌else◌}
+use Rattle.std.specs.Fmt.{decimal}
+use Rattle.std.specs.List.{list_any}
+use Rattle.emu_bits.specs.Flags.{size_of}
+use Rattle.emu_bits.specs.declared.flags.Esize.{Esize}
+use Rattle.emu_bits.specs.declared.flags.Esize.TheVariants.{B, H, S, D}
+use Rattle.emu_model.specs.declared.access.Access.{Access}
+use Rattle.emu_model.specs.Access.{Memory}
+use Rattle.emu_model.specs.Pages.{peeked}
+use Rattle.emu_model.specs.State.{Vectors, Parts, State}
+use Rattle.vec_model.specs.Lanes.{lane, read_p, read_z}
+use Rattle.emu_run.specs.Text.{hex, space, newline}
+use Rattle.emu_run.specs.Reports.{address_text}
+use Rattle.emu_run.specs.Registers.{bit_digits, byte_digits, lines_of, numbered, register_line, scalar_lines}
+use Rattle.emu_run.specs.Outcome.{ending_line}
+use Rattle.emu_run.specs.Step.{accesses, step}
+use Rattle.emu_run.specs.Run.{goes_on, run}
+use Rattle.dbg_model.specs.declared.script.Command.{Command}
+use Rattle.dbg_model.specs.declared.script.Command.TheVariants.{Step, Go, Break, Watch, Regs, Zreg, Preg, Ffr, Lanes, Mem}
+use Rattle.dbg_model.specs.declared.script.Watch.{Watch as Watched}
+use Rattle.dbg_model.specs.declared.script.Stop.{Stop}
+use Rattle.dbg_model.specs.declared.script.Stop.TheVariants.{AtWatch, AtBreak}
+
+-- ---- what a command prints of a machine
+
+abbrev pub size_letter : Esize → List ℕ
+size_letter B = codes "b"
+size_letter H = codes "h"
+size_letter S = codes "s"
+size_letter D = codes "d"
+
+abbrev pub z_line : Vectors → ℕ → List ℕ
+z_line v k = register_line (numbered (codes "z") k) (byte_digits (read_z v k))
+
+abbrev pub p_line : Vectors → ℕ → List ℕ
+p_line v k = register_line (numbered (codes "p") k) (bit_digits (read_p v k))
+
+abbrev pub ffr_line : Vectors → List ℕ
+ffr_line v = register_line (codes "ffr") (bit_digits v.ffr)
+
+-- lane k of a Z register, a digit for each four bits
+abbrev pub lane_text : ℕ → List ℕ → ℕ → List ℕ
+lane_text e bytes k = space ++ hex (e / 4) (lane e bytes k)
+
+-- the lanes of a Z register, lane 0 first
+abbrev pub lanes_line : Vectors → ℕ → Esize → List ℕ
+lanes_line v k size =
+    numbered (codes "z") k ++ codes "." ++ size_letter size ++ lines_of (v.bits / size_of size) (lane_text (size_of size) (read_z v k)) ++ newline
+
+-- a byte of memory, where its page is mapped
+abbrev pub byte_text : Option ℕ → List ℕ
+byte_text None = codes " --"
+byte_text (Some byte) = space ++ hex 2 byte
+
+abbrev pub memory_line : Memory → ℕ → ℕ → List ℕ
+memory_line m address count = address_text address ++ codes ":" ++ lines_of count (λ k. byte_text (peeked m (address + k))) ++ newline
+
+-- so many bytes from an address on, 16 in a line
+abbrev pub memory_lines : Memory → ℕ → ℕ → List ℕ
+memory_lines m address count = lines_of ((count + 15) / 16) (λ k. memory_line m (address + 16 * k) (min 16 (count - 16 * k)))
+
+abbrev pub shown : Command → Parts → List ℕ
+shown Regs m = scalar_lines m.core m.vectors.bits
+shown (Zreg k) m = z_line m.vectors k
+shown (Preg k) m = p_line m.vectors k
+shown Ffr m = ffr_line m.vectors
+shown (Lanes k size) m = lanes_line m.vectors k size
+shown (Mem address count) m = memory_lines m.memory address count
+shown command m = []
+
+-- ---- breaks and watches
+
+-- the addresses of the breaks, and the watches, in the order in which they were added
+pub record Marks : Type 0 where
+  pub breaks : List ℕ
+  pub watches : List Watched
+
+abbrev pub no_marks : Marks
+no_marks = record { breaks = []; watches = [] }
+
+abbrev pub marked : Command → Marks → Marks
+marked (Break address) marks = record marks { breaks = marks.breaks ++ address ∷ [] }
+marked (Watch address count) marks = record marks { watches = marks.watches ++ record { address = address; count = count } ∷ [] }
+marked command marks = marks
+
+-- an access shares a byte with a watch
+abbrev pub shares : Watched → Access → Bool
+shares watch access = nat_lt access.address (watch.address + watch.count) && nat_lt watch.address (access.address + access.bytes)
+
+abbrev pub is_touched : List Access → Watched → Bool
+is_touched made watch = list_any (shares watch) made
+
+-- ---- where a machine stops
+
+abbrev pub behind_steps : ℕ → ℕ → List ℕ
+behind_steps steps pc = codes " after " ++ decimal steps ++ codes " steps at " ++ address_text pc ++ newline
+
+abbrev pub step_line : ℕ → ℕ → List ℕ
+step_line steps pc = codes "step" ++ behind_steps steps pc
+
+abbrev pub watch_line : ℕ → ℕ → ℕ → List ℕ
+watch_line k steps pc = codes "watch " ++ decimal k ++ behind_steps steps pc
+
+abbrev pub break_line : ℕ → ℕ → List ℕ
+break_line steps pc = codes "break" ++ behind_steps steps pc
+
+abbrev pub stop_line : Stop → Parts → List ℕ
+stop_line (AtWatch k) m = watch_line k m.steps m.core.pc
+stop_line AtBreak m = break_line m.steps m.core.pc
+
+-- a break, where the program counter stands on one
+abbrev pub break_met : Marks → ℕ → Option Stop
+break_met marks pc = if list_any (λ address. nat_eq address pc) marks.breaks then Some AtBreak else None
+
+-- the least of the watches that the last step touched, else a break
+abbrev pub watch_met : Marks → ℕ → Option ℕ → Option Stop
+watch_met marks pc (Some k) = Some (AtWatch k)
+watch_met marks pc None = break_met marks pc
+
+-- what stops a machine that goes on behind a step that made these accesses
+abbrev pub mark_met : Marks → List Access → Parts → Option Stop
+mark_met marks made m = if is_none m.ended then watch_met marks m.core.pc (position (is_touched made) marks.watches) else None
+
+-- ---- what a command makes of a machine
+
+abbrev pub printed : List ℕ → State → State
+printed text st = record st { output = st.output ++ text }
+
+-- how the machine ended, or that its budget is spent
+abbrev pub ending_printed : State → State
+ending_printed st = printed (ending_line st.parts st.parts.ended) st
+
+-- the step counted `target` steps, and the machine goes on
+abbrev pub stepped_text : ℕ → Parts → List ℕ
+stepped_text target m = if nat_eq m.steps target && is_none m.ended then step_line m.steps m.core.pc else ending_line m m.ended
+
+abbrev pub stepped : ℕ → ℕ → State → State
+stepped target budget st = let end = run st (min target budget) in printed (stepped_text target end.parts) end
+
+-- where a mark was met its line, else what comes of going on
+abbrev pub stopped_or : Option Stop → State → State → State
+stopped_or (Some stop) st rest = printed (stop_line stop st.parts) st
+stopped_or None st rest = rest
+
+-- at most so many steps, up to the end or to the first mark that is met; the tests behind a step are: end, watch, break, budget
+unfoldable pub go : Marks → State → ℕ → State
+go marks st zero = ending_printed st
+go marks st (suc k) =
+    if goes_on st then stopped_or (mark_met marks (accesses st.parts) (step st).parts) (step st) (go marks (step st) k)
+    else ending_printed st
+
+abbrev pub obeyed : Command → Marks → ℕ → State → State
+obeyed (Step n) marks budget st = stepped (st.parts.steps + n) budget st
+obeyed Go marks budget st = go marks st (budget - st.parts.steps)
+obeyed command marks budget st = printed (shown command st.parts) st
+
+-- ---- the commands one after the other
+
+abbrev pub obeyed_all : List Command → Marks → ℕ → State → State
+obeyed_all [] marks budget st = st
+obeyed_all (command ∷ commands) marks budget st = obeyed_all commands (marked command marks) budget (obeyed command marks budget st)
+
+-- a session with a budget of steps, at first without marks
+abbrev pub session : List Command → ℕ → State → State
+session commands budget st = obeyed_all commands no_marks budget st
+
+-- the equations, for proofs
+pub go-zero : (marks : Marks) (st : State) → go marks st 0 ≡ ending_printed st
+unfolding go
+go-zero marks st = refl
+
+pub go-suc : (marks : Marks) (st : State) (k : ℕ) → go marks st (suc k) ≡ (if goes_on st then stopped_or (mark_met marks (accesses st.parts) (step st).parts) (step st) (go marks (step st) k) else ending_printed st)
+unfolding go
+go-suc marks st k = refl

@@ -1,0 +1,17 @@
+-- What is left behind a call that reads a part of a script.
+use Rattle.std.specs.Prelude.{◌≡◌, ℕ, List, map, Result, Ok, Err, MatchResult}
+use Rattle.std.specs.Global.{Global}
+use Rattle.dbg_model.specs.declared.script.Command.{Command}
+use Rattle.dbg_model.specs.declared.script.ScriptFault.{ScriptFault}
+use Rattle.dbg_scripts.specs.declared.reader.ScriptError.{ScriptError}
+use Rattle.dbg_scripts.specs.declared.reader.ScriptError.TheVariants.{Refused, OutOfMemory}
+
+-- the error is that of the definition, or want of memory
+abbrev pub IsErrorOf : {T : Type 0} → Result T ScriptFault → ScriptError → Type 0
+IsErrorOf expected (Refused fault) = expected ≡ Err fault
+IsErrorOf expected OutOfMemory = Unit {0}
+
+-- where the answer is Ok, `left` is what was to come of it, and else the refusal is
+abbrev pub Leaves : {T U : Type 0} → Result T ScriptFault → T → Result U ScriptError → Type 0
+Leaves expected left (Ok done) = expected ≡ Ok left
+Leaves expected left (Err error) = IsErrorOf expected error

@@ -1,0 +1,12 @@
+//! The reader of debugger scripts: a text to its commands, or to its first refusal.
+//!
+//! Contracts cite the definitions of `dbg_model`.
+#![tactic(auto)]
+
+mod arguments;
+mod commands;
+mod numbers;
+mod reader;
+mod texts;
+
+pub use reader::{ScriptError, read_script};
