@@ -1,0 +1,5 @@
+pub mod Plain
+pub mod Leading
+pub mod Stored
+pub mod Aimable
+pub mod Colons

@@ -1,0 +1,5 @@
+pub mod Strings
+pub mod Pieces
+pub mod Cuts
+pub mod Digits
+pub mod Signs

@@ -1,0 +1,13 @@
+pub mod Search
+pub mod Lookup
+pub mod NextItem
+pub mod Bitmasks
+pub mod Named
+pub mod Index
+pub mod Slots
+pub mod Powers
+pub mod Steps
+pub mod Judged
+pub mod Joining
+pub mod Spots
+pub mod Whole

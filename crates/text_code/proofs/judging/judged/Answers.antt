@@ -1,0 +1,26 @@
+use Rattle.std.proofs.Common.{sym, ap, ◌∙◌}
+use Rattle.text_model.specs.declared.classes.Class.{Class}
+use Rattle.text_model.specs.Classes.{same_class}
+use Rattle.text_code.proofs.Steps.{rest_sound}
+use Rattle.text_code.proofs.Judged.{lacks_item, wrong_class, judged_on}
+use Rattle.text_code.proofs.judging.judged.Goals as goal
+
+pub returns-in_default-split_first : goal.returns-in_default-split_first
+returns-in_default-split_first c =
+    lacks_item c.loop-slot.left.now c.in-Some.more.now c.loop-slot.next.now c.in-Some.slot.now c.args.word c.loop-slot.fine _ c.in-Some.ensures.cases.0 c.loop-slot.invariant.0 c.in_default-split_first.ensures.cases
+
+pub returns-then-not-same_class : goal.returns-then-not-same_class
+returns-then-not-same_class c =
+    let i = c.in-Some-split_first.item.now in
+    wrong_class c.loop-slot.left.now c.in-Some.more.now c.loop-slot.next.now c.in-Some-split_first.rest.now c.in-Some.slot.now i c.args.word c.loop-slot.fine _
+    c.in-Some.ensures.cases.0 c.loop-slot.invariant.0 c.in-Some-split_first.ensures.cases.0
+    (ap (λ (k : Class). same_class k i.class) (sym c.class_in.ensures) ∙ sym c.same_class.ensures ∙ c.if-not-same_class.true)
+
+pub loop-slot-preserved : goal.loop-slot-preserved
+loop-slot-preserved c =
+    let i = c.in-Some-split_first.item.now in (
+      judged_on c.loop-slot.left.now c.in-Some.more.now c.loop-slot.next.now c.in-Some-split_first.rest.now c.in-Some.slot.now i c.args.word c.loop-slot.fine _
+          c.in-Some.ensures.cases.0 c.loop-slot.invariant.0 c.still_fine-fine.result c.in-Some-split_first.ensures.cases.0
+          (ap (λ (k : Class). same_class k i.class) (sym c.class_in.ensures) ∙ sym c.same_class.ensures ∙ c.if-not-same_class.false) c.still_fine-fine.ensures,
+      rest_sound c.loop-slot.left.now c.in-Some.more.now c.in-Some.slot.now c.in-Some.ensures.cases.0 c.loop-slot.invariant.1,
+    )

@@ -1,0 +1,28 @@
+-- The program's tables as the definitions'.
+use Rattle.std.specs.Prelude.{List, [], ◌∷◌}
+use Rattle.text_code.specs.declared.dictionary.Family.{Family}
+use Rattle.text_code.specs.declared.dictionary.Word.{Word}
+use Rattle.text_code.specs.declared.bits.Built.{Built}
+use Rattle.text_code.specs.declared.patterns.Pattern.{Pattern}
+use Rattle.text_model.specs.Reading as reading
+use Rattle.text_model.specs.Told as told
+use Rattle.text_model.specs.Words as words
+
+abbrev pub families_of : List Family → List words.Family
+families_of [] = []
+families_of (f ∷ fs) = record { letter = f.letter; suffix = f.suffix.now; class = f.class; count = f.count } ∷ families_of fs
+
+abbrev pub words_of : List Word → List words.Word
+words_of [] = []
+words_of (w ∷ ws) = record { text = w.text.now; class = w.class; value = w.value } ∷ words_of ws
+
+abbrev pub built_of : Built → told.Built
+built_of b = record { mask = b.mask; word = b.word }
+
+-- a pattern of the program
+abbrev pub pattern_of : Pattern → reading.Pattern
+pattern_of p = record { name = p.name.now; base = p.base; slots = p.slots.now }
+
+abbrev pub patterns_of : List Pattern → List reading.Pattern
+patterns_of [] = []
+patterns_of (p ∷ ps) = pattern_of p ∷ patterns_of ps

@@ -1,0 +1,14 @@
+pub mod Building
+pub mod Numerals
+pub mod Spelling
+pub mod Tests
+pub mod KindLaws
+pub mod Own
+pub mod Unlike
+pub mod Again
+pub mod Written
+pub mod Printed
+pub mod Texts
+pub mod Aiming
+pub mod Totals
+pub mod Tables

@@ -1,0 +1,55 @@
+-- Targets: the address that a word's text shows, and a word whose text shows an address.
+use Rattle.std.specs.Prelude.{ℕ, ◌+◌, ◌-◌, ◌*◌, ◌/◌, ◌%◌, ◌^◌, ◌==◌, if◌then◌else◌, Option, Some, None, List, [], ◌∷◌, bit_and}
+use Rattle.emu_bits.specs.Rows.{Place}
+use Rattle.text_model.specs.declared.slots.Kind.{Kind}
+use Rattle.text_model.specs.declared.slots.Kind.TheVariants.{Target}
+use Rattle.text_model.specs.declared.slots.Slot.{Slot}
+use Rattle.text_model.specs.Slots.{places, bits_in, joined, address}
+use Rattle.text_model.specs.Told.{parted, Built, put_all}
+use Rattle.text_model.specs.Text.{ones_of}
+
+-- how a target is shown: the address `by` times the signed number at places, behind the instruction's address, which is rounded
+-- down to a multiple of `page`
+pub record Reach : Type 0 where
+  pub by : ℕ
+  pub page : ℕ
+  pub parts : List Place
+
+abbrev pub reach_or : Kind → List Place → Option Reach → Option Reach
+reach_or (Target n g) ps r = Some (record { by = n; page = g; parts = ps })
+reach_or k ps r = r
+
+-- the target among some slots
+abbrev pub reach_of : List Slot → Option Reach
+reach_of [] = None
+reach_of (s ∷ ss) = reach_or s.codec.kind (places s.codec.parts) (reach_of ss)
+
+abbrev pub reach_bits : Option Reach → ℕ
+reach_bits None = 0
+reach_bits (Some r) = ones_of r.parts
+
+-- a word with the bits of its target 0
+abbrev pub unaimed : List Slot → ℕ → ℕ
+unaimed ss w = bit_and w (2 ^ 32 - 1 - reach_bits (reach_of ss))
+
+abbrev pub reached : Option Reach → ℕ → ℕ → Option ℕ
+reached None w pc = None
+reached (Some r) w pc = Some (address r.by r.page (bits_in r.parts) (joined r.parts w) pc)
+
+-- the address that a word shows where it stands at pc
+abbrev pub target_of : List Slot → ℕ → ℕ → Option ℕ
+target_of ss w pc = reached (reach_of ss) w pc
+
+-- the number of b bits that reaches an address, if one does
+abbrev pub number_to : Reach → ℕ → ℕ → ℕ
+number_to r pc t = (t + (2 ^ 64 - (pc - pc % r.page))) % 2 ^ 64 / r.by % 2 ^ bits_in r.parts
+
+abbrev pub aimed_by : Reach → ℕ → ℕ → ℕ → Option ℕ
+aimed_by r w pc t =
+    let v = number_to r pc t in
+    if address r.by r.page (bits_in r.parts) v pc == t then Some (put_all (record { mask = 0; word = w }) (parted r.parts v)).word else None
+
+-- A word of which the bits of its target are 0, aimed at an address; none where its field can't reach it.
+abbrev pub aimed : Option Reach → ℕ → ℕ → ℕ → Option ℕ
+aimed None w pc t = None
+aimed (Some r) w pc t = aimed_by r w pc t

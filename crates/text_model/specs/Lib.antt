@@ -1,0 +1,10 @@
+pub mod Classes
+pub mod Masks
+pub mod Slots
+pub mod Told
+pub mod Reading
+pub mod Writing
+pub mod Words
+pub mod Text
+pub mod Statement
+pub mod Aim

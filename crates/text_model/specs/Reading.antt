@@ -1,0 +1,155 @@
+-- What the patterns of a table make of a statement's items: a word, or why there is none.
+use Rattle.std.specs.Prelude.{ℕ, ◌+◌, ◌-◌, ◌*◌, ◌/◌, ◌%◌, ◌^◌, ◌==◌, ◌&&◌, ◌||◌, Bool, true, false, not, if◌then◌else◌, Option, Some, None, Result, Ok, Err, List, [], ◌∷◌, ◌++◌, nat_lt, nat_le, unwrap_or, is_some}
+use Rattle.std.specs.Str.{bytes_eq}
+use Rattle.emu_bits.specs.Bitmask.{element_log}
+use Rattle.text_model.specs.declared.classes.Class.{Class}
+use Rattle.text_model.specs.declared.classes.Class.TheVariants.{Number, Comma}
+use Rattle.text_model.specs.declared.slots.Kind.{Kind}
+use Rattle.text_model.specs.declared.slots.Kind.TheVariants.{Target, Bitmask, Inverted}
+use Rattle.text_model.specs.declared.slots.Style.{Style}
+use Rattle.text_model.specs.declared.slots.Style.TheVariants.{Hexadecimal}
+use Rattle.text_model.specs.declared.slots.Need.{Need}
+use Rattle.text_model.specs.declared.slots.Need.TheVariants.{Must, Begins, Inside}
+use Rattle.text_model.specs.declared.slots.Codec.{Codec}
+use Rattle.text_model.specs.declared.slots.Slot.{Slot}
+use Rattle.text_model.specs.declared.slots.Item.{Item}
+use Rattle.text_model.specs.declared.slots.Refusal.{Refusal}
+use Rattle.text_model.specs.declared.slots.Refusal.TheVariants.{UnknownName, BadOperands, OutOfRange}
+use Rattle.text_model.specs.Classes.{same_class}
+use Rattle.text_model.specs.Masks.{bitmask_at}
+use Rattle.text_model.specs.Slots.{places, joined, bits_in, class_in, item_in, items_in, all_fit}
+use Rattle.text_model.specs.Told.{Built, built}
+
+-- A pattern: a name, the word whose bits the name settles, and the slots that show the others.
+pub record Pattern : Type 0 where
+  pub name : List ℕ
+  pub base : ℕ
+  pub slots : List Slot
+
+-- ---- parts that were left out
+
+abbrev pub is_comma : List Item → Bool
+is_comma [] = false
+is_comma (i ∷ is) = same_class i.class Comma
+
+-- Whether a slot's item was left out, where the slot before it was or wasn't and these items are left.
+abbrev pub is_left_out : Need → Bool → List Item → Bool
+is_left_out Must out is = false
+is_left_out Begins out is = not (is_comma is)
+is_left_out (Inside v) out is = out
+
+abbrev pub value_left_out : Need → ℕ
+value_left_out Must = 0
+value_left_out Begins = 0
+value_left_out (Inside v) = v
+
+-- A negative hexadecimal stands for itself plus 2^w, where it isn't below -2^(w-1).
+abbrev pub raised : Style → Item → Item
+raised (Hexadecimal w) i = if i.value % 2 == 1 && nat_le (i.value / 2) (2 ^ (w - 1)) then record i { value = 2 * (2 ^ w - i.value / 2) } else i
+raised s i = i
+
+-- the item of a slot, if there is one
+abbrev pub item_for : Bool → Slot → List Item → List Item
+item_for true s is = record { class = class_in s.shape 0; value = value_left_out s.need } ∷ []
+item_for false s [] = []
+item_for false s (i ∷ is) = raised s.style i ∷ []
+
+abbrev pub items_behind : Bool → List Item → List Item
+items_behind true is = is
+items_behind false [] = []
+items_behind false (i ∷ is) = is
+
+-- the items with those put in that were left out
+abbrev pub filled : Bool → List Slot → List Item → List Item
+filled out [] is = is
+filled out (s ∷ ss) is = let o = is_left_out s.need out is in item_for o s is ++ filled o ss (items_behind o is)
+
+-- ---- one pattern
+
+abbrev pub same_classes : List Item → List Item → Bool
+same_classes [] [] = true
+same_classes [] (j ∷ js) = false
+same_classes (i ∷ is) [] = false
+same_classes (i ∷ is) (j ∷ js) = same_class i.class j.class && same_classes is js
+
+abbrev pub same_values : List Item → List Item → Bool
+same_values [] [] = true
+same_values [] (j ∷ js) = false
+same_values (i ∷ is) [] = false
+same_values (i ∷ is) (j ∷ js) = i.value == j.value && same_values is js
+
+abbrev pub same_name : List ℕ → List ℕ → Bool
+same_name s t = bytes_eq s t
+
+-- bits of the element that a bitmask's fields N and imms repeat
+abbrev pub element_size : ℕ → ℕ
+element_size v = 2 ^ unwrap_or (element_log (v / 4096) (v % 64)) 0
+
+-- The fields of a bitmask give one, and their rotation is below the element's size; and a condition that is inverted isn't one that always
+-- holds.
+abbrev pub is_canonical : Kind → ℕ → Bool
+is_canonical (Bitmask w) v = is_some (bitmask_at w v) && nat_lt (v / 64 % 64) (element_size v)
+is_canonical Inverted v = nat_lt v 14
+is_canonical k v = true
+
+abbrev pub all_canonical : List Slot → ℕ → Bool
+all_canonical [] w = true
+all_canonical (s ∷ ss) w = is_canonical s.codec.kind (joined (places s.codec.parts) w) && all_canonical ss w
+
+-- the word that the items of a statement tell
+abbrev pub word_told : Pattern → List Item → ℕ
+word_told p is = (built (record { mask = 0; word = p.base }) p.slots is).word
+
+-- What a statement is read as: a word, of which the bits of a target are 0, and whether there is a target.
+pub record Read : Type 0 where
+  pub word : ℕ
+  pub aimed : Bool
+
+abbrev pub is_target : Kind → Bool
+is_target (Target n g) = true
+is_target k = false
+
+abbrev pub has_target : List Slot → Bool
+has_target [] = false
+has_target (s ∷ ss) = is_target s.codec.kind || has_target ss
+
+-- The items are those that a pattern shows of a word; then the word is read, if it is in the table.
+abbrev pub judged : (ℕ → Bool) → Pattern → List Item → ℕ → Result Read Refusal
+judged in_table p is w =
+    if same_classes (items_in p.slots w) is
+    then (if same_values (items_in p.slots w) is && (all_fit p.slots w && (all_canonical p.slots w && in_table w)) then Ok (record { word = w; aimed = has_target p.slots }) else Err OutOfRange)
+    else Err BadOperands
+
+-- The items of a statement; and the same with 0 in place of the last one where it may be a target, an address or a label.
+pub record Operands : Type 0 where
+  pub items : List Item
+  pub untargeted : List Item
+
+abbrev pub items_to_read : Pattern → Operands → List Item
+items_to_read p o = filled false p.slots (if has_target p.slots then o.untargeted else o.items)
+
+-- what a pattern makes of a statement
+abbrev pub answer : (ℕ → Bool) → Pattern → List ℕ → Operands → Result Read Refusal
+answer in_table p name o =
+    if same_name name p.name then (let is = items_to_read p o in judged in_table p is (word_told p is)) else Err UnknownName
+
+-- ---- all patterns
+
+abbrev pub rank : Refusal → ℕ
+rank UnknownName = 0
+rank BadOperands = 1
+rank OutOfRange = 2
+
+abbrev pub later : Refusal → Refusal → Refusal
+later a b = if nat_lt (rank a) (rank b) then b else a
+
+-- the first word, or else the refusal that stands later
+abbrev pub best : Result Read Refusal → Result Read Refusal → Result Read Refusal
+best (Ok r) y = Ok r
+best (Err a) (Ok r) = Ok r
+best (Err a) (Err b) = Err (later a b)
+
+-- What the patterns of a table make of a statement.
+abbrev pub reads : (ℕ → Bool) → List Pattern → List ℕ → Operands → Result Read Refusal
+reads in_table [] name o = Err UnknownName
+reads in_table (p ∷ ps) name o = best (answer in_table p name o) (reads in_table ps name o)

@@ -1,0 +1,89 @@
+-- The text of an instruction: its pattern's name and the tokens of its slots, laid out.
+use Rattle.std.specs.Prelude.{ℕ, ◌+◌, ◌-◌, ◌*◌, ◌/◌, ◌%◌, ◌^◌, ◌==◌, ◌&&◌, Bool, true, false, if◌then◌else◌, Option, Some, None, List, [], ◌∷◌, ◌++◌, bit_and, bit_or}
+use Rattle.std.specs.Fmt.{digits}
+use Rattle.emu_bits.specs.Rows.{Place, ones_at}
+use Rattle.text_tokens.specs.Layout.{laid, hash}
+use Rattle.text_tokens.specs.Numbers.{minus}
+use Rattle.text_model.specs.declared.classes.Class.{Class}
+use Rattle.text_model.specs.declared.slots.Shape.{Shape}
+use Rattle.text_model.specs.declared.slots.Shape.TheVariants.{Only, Told, Shown}
+use Rattle.text_model.specs.declared.slots.Kind.{Kind}
+use Rattle.text_model.specs.declared.slots.Kind.TheVariants.{Target}
+use Rattle.text_model.specs.declared.slots.Codec.{Codec}
+use Rattle.text_model.specs.declared.slots.Style.{Style}
+use Rattle.text_model.specs.declared.slots.Style.TheVariants as style
+use Rattle.text_model.specs.declared.slots.Slot.{Slot}
+use Rattle.text_model.specs.declared.slots.Item.{Item}
+use Rattle.text_model.specs.Slots.{place_of, places, bits_in, joined, class_in, shown, number, address, item_in, all_fit}
+use Rattle.text_model.specs.Reading.{Pattern}
+use Rattle.text_model.specs.Words.{spelled}
+
+-- ---- tokens
+
+abbrev pub decimal : ℕ → List ℕ
+decimal n = digits 10 false n
+
+-- `0x` and hexadecimal
+abbrev pub hexadecimal : ℕ → List ℕ
+hexadecimal n = 48 ∷ 120 ∷ digits 16 false n
+
+-- the tokens of an item: of a number its digits, with the signs that its style gives it
+abbrev pub item_tokens : Style → Item → List (List ℕ)
+item_tokens style.Word i = spelled i.class i.value ∷ []
+item_tokens style.Counted i = (hash ∷ []) ∷ (if i.value % 2 == 0 then decimal (i.value / 2) ∷ [] else (minus ∷ []) ∷ decimal (i.value / 2) ∷ [])
+item_tokens style.Bare i = decimal (i.value / 2) ∷ []
+item_tokens (style.Hexadecimal w) i = (hash ∷ []) ∷ hexadecimal (i.value / 2) ∷ []
+item_tokens style.Address i = hexadecimal (i.value / 2) ∷ []
+
+-- the value that is printed: of a target its address, where the instruction stands at pc
+abbrev pub printed : Kind → ℕ → ℕ → ℕ → ℕ
+printed (Target n g) b v pc = number (address n g b v pc)
+printed k b v pc = shown k b v
+
+abbrev pub printed_item : Slot → ℕ → ℕ → Item
+printed_item s w pc = record { class = class_in s.shape w; value = printed s.codec.kind (bits_in (places s.codec.parts)) (joined (places s.codec.parts) w) pc }
+
+abbrev pub slot_tokens : List Slot → ℕ → ℕ → List (List ℕ)
+slot_tokens [] w pc = []
+slot_tokens (s ∷ ss) w pc = item_tokens s.style (printed_item s w pc) ++ slot_tokens ss w pc
+
+-- the text that a pattern gives of a word
+abbrev pub text : Pattern → ℕ → ℕ → List ℕ
+text p w pc = p.name ++ laid p.name (slot_tokens p.slots w pc)
+
+-- ---- the pattern
+
+abbrev pub class_places : Shape → List Place
+class_places (Only c) = []
+class_places (Told b g) = place_of b ∷ []
+class_places (Shown b g) = []
+
+-- the places that a slot tells
+abbrev pub slot_places : Slot → List Place
+slot_places s = class_places s.shape ++ places s.codec.parts
+
+abbrev pub ones_of : List Place → ℕ
+ones_of [] = 0
+ones_of (p ∷ ps) = bit_or (ones_at p) (ones_of ps)
+
+-- the bits that some slots tell
+abbrev pub told_bits : List Slot → ℕ
+told_bits [] = 0
+told_bits (s ∷ ss) = bit_or (ones_of (slot_places s)) (told_bits ss)
+
+-- A pattern shows a word: the other bits are those that its name settles, and each slot can show its own.
+abbrev pub shows : Pattern → ℕ → Bool
+shows p w = bit_and w (2 ^ 32 - 1 - told_bits p.slots) == p.base && all_fit p.slots w
+
+-- the first of some patterns that shows a word
+abbrev pub chosen : List Pattern → ℕ → Option Pattern
+chosen [] w = None
+chosen (p ∷ ps) w = if shows p w then Some p else chosen ps w
+
+abbrev pub text_by : Option Pattern → ℕ → ℕ → List ℕ
+text_by None w pc = []
+text_by (Some p) w pc = text p w pc
+
+-- The text of a word of a line with these patterns, where it stands at pc.
+abbrev pub text_of : List Pattern → ℕ → ℕ → List ℕ
+text_of ps w pc = text_by (chosen ps w) w pc

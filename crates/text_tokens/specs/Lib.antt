@@ -1,0 +1,4 @@
+pub mod Tokens
+pub mod Layout
+pub mod Numbers
+pub mod Places
