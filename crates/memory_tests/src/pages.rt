@@ -68,3 +68,34 @@ fn bytes_that_are_lent_are_written(rt: HostRuntime) -> Result<(), Fail> {
     assert_eq!(rt; pages.find(2).map(|(_, bytes)| bytes[5]), Some(0));
     Ok(())
 }
+
+#[test]
+fn a_free_run_is_the_highest(rt: HostRuntime) -> Result<(), Fail> {
+    let mut pages = Pages::new(rt.alloc(), 8)?;
+    assert_eq!(rt; pages.free_run(10, 10), None);
+    assert_eq!(rt; pages.free_run(9, 10), Some(1));
+    assert_eq!(rt; pages.map(2, 2, READ), Ok(()));
+    assert_eq!(rt; pages.map(6, 1, READ), Ok(()));
+    // 1, 4 and 5, and from 7 on
+    for (count, below, first) in [
+        (1, 10, Some(9)),
+        (3, 10, Some(7)),
+        (4, 10, None),
+        (2, 8, Some(4)),
+        (2, 6, Some(4)),
+        (2, 5, None),
+        (1, 4, Some(1)),
+        (1, 1, None),
+        (1, 0, None),
+        (u64::MAX, u64::MAX, None),
+    ] {
+        assert_eq!(rt;
+            pages.free_run(count, below),
+            first,
+            "{count} below {below}"
+        );
+    }
+    pages.unmap(6, 1);
+    assert_eq!(rt; pages.free_run(6, 10), Some(4));
+    Ok(())
+}
