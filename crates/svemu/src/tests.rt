@@ -53,6 +53,23 @@ const COUNT_DOWN: [u32; 18] = [
     0xD65F_03C0,
 ];
 
+/// Reads ten bytes twice, and ends with the first count and sixteen times the second:
+/// add x1, sp, #0; movz x0, #0; movz x2, #10; movz x8, #63; svc #0; orr x3, xzr, x0; movz x0, #0; svc #0;
+/// add x0, x3, x0, lsl #4; movz x8, #93; svc #0
+const READ_TWICE: [u32; 11] = [
+    0x9100_03E1,
+    0xD280_0000,
+    0xD280_0142,
+    0xD280_07E8,
+    0xD400_0001,
+    0xAA00_03E3,
+    0xD280_0000,
+    0xD400_0001,
+    0x8B00_1060,
+    0xD280_0BA8,
+    0xD400_0001,
+];
+
 /// A program header of a PT_LOAD segment.
 #[derive(Drop)]
 struct Header {
@@ -541,6 +558,38 @@ fn a_write_that_fails_half_way_leaves_what_went_out(rt: HostRuntime) -> Result<(
     assert_eq!(rt; ending.status(), 125);
     assert_eq!(rt; output.kept(), b"hi\0\0".as_slice());
     assert!(rt; errors.kept().is_empty());
+    Ok(())
+}
+
+/// How a program ends that reads ten bytes twice from an input of four, which gives one byte a take, where these takes fail.
+fn read_done(alloc: Global, fails: Vec<u64>) -> Result<Ending, AllocError> {
+    let words = words_of(alloc, &RUN_TWENTY)?;
+    let file = file_of(alloc, &READ_TWICE, None)?;
+    let mut files = NoFaultImages::new(one_file(alloc, file)?);
+    let mut bytes = Vec::new(alloc);
+    for byte in b"abcd" {
+        bytes.push(*byte)?;
+    }
+    let mut input = MemSource::new(bytes, 1, fails);
+    let mut output = MemSink::new(alloc, 4096, Vec::new(alloc));
+    let mut errors = MemSink::new(alloc, 4096, Vec::new(alloc));
+    Ok(svemu(
+        alloc,
+        &words,
+        &mut files,
+        &mut input,
+        &mut output,
+        &mut errors,
+    ))
+}
+
+#[test]
+fn a_read_goes_on_to_the_end_of_the_input_or_a_failure(rt: HostRuntime) -> Result<(), Fail> {
+    let alloc = rt.alloc();
+    assert_eq!(rt; read_done(alloc, Vec::new(alloc))?, Ending::Exit(4));
+    let ending = read_done(alloc, vec![in alloc; 1]?)?;
+    assert_eq!(rt; ending, Ending::ReadFault);
+    assert_eq!(rt; ending.status(), 124);
     Ok(())
 }
 
