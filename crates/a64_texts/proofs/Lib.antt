@@ -1,0 +1,5 @@
+pub mod Legible
+pub mod Examples
+pub mod Totals
+pub mod ReadBack
+pub mod Parts

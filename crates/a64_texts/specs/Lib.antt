@@ -1,0 +1,9 @@
+pub mod Data
+pub mod Flow
+pub mod Memory
+pub mod BitMoves
+pub mod Aliases
+pub mod Table
+pub mod Law
+pub mod Lines
+pub mod Names

@@ -1,0 +1,114 @@
+//! The texts of A64 instructions: patterns by the lines of the instruction table, and behind them those of other names.
+#![tactic(auto)]
+
+mod aliases;
+mod bit_moves;
+mod data;
+mod flow;
+mod memory;
+mod names;
+mod operands;
+
+ghost use Rattle.std.specs.Prelude.{◌≡◌, ℕ, ◌^◌, ◌<◌, true, [], get_or};
+ghost use Rattle.emu_bits.specs.Rows.{IsRow};
+ghost use Rattle.a64_insn.specs.declared.form.A64Form.{A64Form};
+ghost use Rattle.a64_insn.specs.Table.{row_of};
+ghost use Rattle.text_code.specs.Tables.{patterns_of};
+ghost use Rattle.a64_texts.specs.Lines.{lines_of};
+ghost use Rattle.a64_texts.specs.Law.{in_table, is_canonical_form, IsReadBack};
+ghost use Rattle.a64_texts.specs.Table.{a64_lines};
+
+use a64_rows::decode_a64;
+use text_code::{Pattern, Spot, Table};
+
+/// The patterns of each line of the table, in the table's order, those of offsets in registers in six parts, and behind them those of
+/// other names.
+fn all_lines() -> [&'static [Pattern]; 47]
+    ensures { lines_of result ≡ a64_lines }
+{
+    [
+        &data::ADR,
+        &data::ADD_IMM,
+        &data::LOGIC_IMM,
+        &data::MOVE_WIDE,
+        &data::BITFIELD,
+        &data::EXTRACT,
+        &data::LOGIC_REG,
+        &data::ADD_REG,
+        &data::ADD_EXT,
+        &data::ADD_CARRY,
+        &data::COND_REG,
+        &data::COND_IMM,
+        &data::SELECT,
+        &data::MUL_ADD,
+        &data::MUL_LONG,
+        &data::MUL_HIGH,
+        &data::TWO_SOURCE,
+        &data::ONE_SOURCE,
+        &data::REV,
+        &flow::BRANCH,
+        &flow::BRANCH_COND,
+        &flow::COMPARE,
+        &flow::TEST,
+        &flow::BRANCH_REG,
+        &flow::EXCEPT,
+        &flow::HINT,
+        &flow::BARRIER,
+        &flow::READ_SYS,
+        &flow::WRITE_SYS,
+        &memory::LS_UNSIGNED,
+        &memory::LS_UNSCALED,
+        &memory::LS_POST,
+        &memory::LS_PRE,
+        &memory::LS_REG_WORD,
+        &memory::LS_REG_WORD_SCALED,
+        &memory::LS_REG_SHIFT,
+        &memory::LS_REG_SHIFT_SCALED,
+        &memory::LS_REG_SIGNED,
+        &memory::LS_REG_SIGNED_SCALED,
+        &memory::LS_LITERAL,
+        &memory::PAIR,
+        &memory::STORE_EX,
+        &memory::LOAD_EX,
+        &memory::ORDERED,
+        &bit_moves::F_MOVE,
+        &bit_moves::MOVE_IMM,
+        &aliases::ALIASES,
+    ]
+}
+
+/// The patterns of the line of this number; none behind the last.
+fn line_of(lines: &[&'static [Pattern]], number: u8) -> &'static [Pattern]
+    ensures { patterns_of result.now ≡ get_or (lines_of lines.now) number [] }
+{
+    let at = usize::from(number);
+    if at < lines.len() { lines[at] } else { &[] }
+}
+
+/// The texts of A64 instructions.
+#[derive(Clone, Copy)]
+pub struct A64Texts;
+
+impl Table for A64Texts {
+    ghost lines = { λ t. a64_lines };
+
+    ghost in_table = { λ t. in_table };
+
+    fn line(&self, number: u8) -> &'static [Pattern] {
+        line_of(&all_lines(), number)
+    }
+
+    fn spots(&self, name: &str) -> &'static [Spot] {
+        names::spots(name)
+    }
+
+    fn holds(&self, word: u32) -> bool {
+        decode_a64(word).is_some()
+    }
+}
+
+/// The text of each instruction, but for a bitmask whose rotation isn't the least, is read as the instruction: at any address that it
+/// stands at.
+pub fn printed_text_is_read()
+    ensures { (f : A64Form) (pc : ℕ) → IsRow (row_of f) → is_canonical_form f ≡ true → pc < 2 ^ 64 → IsReadBack f pc }
+{}

@@ -1,0 +1,12 @@
+pub mod Operands
+pub mod Places
+pub mod Contiguous
+pub mod Gathers
+pub mod Lanes
+pub mod Folds
+pub mod Permutes
+pub mod Predicates
+pub mod Table
+pub mod Law
+pub mod Names
+pub mod Lines

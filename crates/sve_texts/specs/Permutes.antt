@@ -1,0 +1,76 @@
+-- The texts of lines of permutes.
+use Rattle.std.specs.Prelude.{ℕ, ◌+◌, ◌^◌, List, [], ◌∷◌, ◌++◌, get_or, codes}
+use Rattle.sve_insn.specs.Folds.{dup_reg, dup_lane, insert_scalar, rev_z, unpack, table_lookup, interleave, interleave_p, unpack_p, rev_p, compact, splice, ext, copy_reg, last_active, cond_last}
+use Rattle.text_model.specs.declared.classes.Class.TheVariants.{Zb, Pb, Ph}
+use Rattle.text_model.specs.declared.classes.Group.TheVariants.{HalfLanes}
+use Rattle.text_model.specs.declared.slots.Parts.{Parts}
+use Rattle.text_model.specs.declared.slots.Parts.TheVariants.{Nowhere, At, Two}
+use Rattle.text_model.specs.Reading.{Pattern}
+use Rattle.text_model.specs.Writing.{◌to◌, times, braced, row, rows}
+use Rattle.sve_texts.specs.Operands.{separated, z_class, sized, register, zd, zn, zm, z_by, p_at, pd, r_at, r_sp_at, v_at, pg, pg_merging, number_of, index}
+
+unfoldable pub dup_reg_texts : List Pattern
+dup_reg_texts = row dup_reg 0 0 (codes "dup") (separated (zd ∷ r_sp_at (9 to 5) ∷ [])) ∷ []
+
+-- The lowest set bit of tsz, bits 20 to 16, tells the size, 4 being q; those above it, with imm2, bits 23 to 22, above them, the lane.
+abbrev pub lane_bits : ℕ → Parts
+lane_bits s = get_or (Two (23 to 22) (20 to 17) ∷ Two (23 to 22) (20 to 18) ∷ Two (23 to 22) (20 to 19) ∷ Two (23 to 22) (20 to 20) ∷ At (23 to 22) ∷ []) s Nowhere
+
+unfoldable pub dup_lane_texts : List Pattern
+dup_lane_texts = sized (0 ∷ 1 ∷ 2 ∷ 3 ∷ 4 ∷ []) (λ s.
+    row dup_lane 0 (2 ^ (16 + s)) (codes "dup") (separated (register (z_class s) (4 to 0) ∷ (register (z_class s) (9 to 5) ++ index (times 1 (lane_bits s))) ∷ [])) ∷ [])
+
+unfoldable pub insert_texts : List Pattern
+insert_texts =
+    row insert_scalar 0 0 (codes "insr") (separated (zd ∷ r_at (9 to 5) ∷ []))
+    ∷ row insert_scalar 1 0 (codes "insr") (separated (zd ∷ v_at (9 to 5) ∷ [])) ∷ []
+
+unfoldable pub rev_z_texts : List Pattern
+rev_z_texts = row rev_z 0 0 (codes "rev") (separated (zd ∷ zn ∷ [])) ∷ []
+
+unfoldable pub unpack_texts : List Pattern
+unpack_texts = rows unpack 0 0 (codes "sunpklo" ∷ codes "sunpkhi" ∷ codes "uunpklo" ∷ codes "uunpkhi" ∷ []) (separated (zd ∷ z_by HalfLanes (9 to 5) ∷ []))
+
+unfoldable pub table_texts : List Pattern
+table_texts = row table_lookup 0 0 (codes "tbl") (separated (zd ∷ braced zn ∷ zm ∷ [])) ∷ []
+
+abbrev pub interleavings : List (List ℕ)
+interleavings = codes "zip1" ∷ codes "zip2" ∷ codes "uzp1" ∷ codes "uzp2" ∷ codes "trn1" ∷ codes "trn2" ∷ []
+
+unfoldable pub interleave_texts : List Pattern
+interleave_texts = rows interleave 0 0 interleavings (separated (zd ∷ zn ∷ zm ∷ []))
+
+unfoldable pub interleave_p_texts : List Pattern
+interleave_p_texts = rows interleave_p 0 0 interleavings (separated (pd ∷ p_at (8 to 5) ∷ p_at (19 to 16) ∷ []))
+
+unfoldable pub unpack_p_texts : List Pattern
+unpack_p_texts = rows unpack_p 0 0 (codes "punpklo" ∷ codes "punpkhi" ∷ []) (separated (register Ph (3 to 0) ∷ register Pb (8 to 5) ∷ []))
+
+unfoldable pub rev_p_texts : List Pattern
+rev_p_texts = row rev_p 0 0 (codes "rev") (separated (pd ∷ p_at (8 to 5) ∷ [])) ∷ []
+
+unfoldable pub compact_texts : List Pattern
+compact_texts = row compact 0 0 (codes "compact") (separated (zd ∷ pg ∷ zn ∷ [])) ∷ []
+
+unfoldable pub splice_texts : List Pattern
+splice_texts = row splice 0 0 (codes "splice") (separated (zd ∷ pg ∷ zd ∷ zn ∷ [])) ∷ []
+
+unfoldable pub ext_texts : List Pattern
+ext_texts = row ext 0 0 (codes "ext")
+    (separated (register Zb (4 to 0) ∷ register Zb (4 to 0) ∷ register Zb (9 to 5) ∷ number_of (times 1 (Two (20 to 16) (12 to 10))) ∷ [])) ∷ []
+
+unfoldable pub copy_reg_texts : List Pattern
+copy_reg_texts =
+    row copy_reg 0 0 (codes "cpy") (separated (zd ∷ pg_merging ∷ r_sp_at (9 to 5) ∷ []))
+    ∷ row copy_reg 1 0 (codes "cpy") (separated (zd ∷ pg_merging ∷ v_at (9 to 5) ∷ [])) ∷ []
+
+unfoldable pub last_texts : List Pattern
+last_texts =
+    rows last_active 0 0 (codes "lasta" ∷ codes "lastb" ∷ []) (separated (r_at (4 to 0) ∷ pg ∷ zn ∷ []))
+    ++ rows last_active 2 0 (codes "lasta" ∷ codes "lastb" ∷ []) (separated (v_at (4 to 0) ∷ pg ∷ zn ∷ []))
+
+unfoldable pub cond_last_texts : List Pattern
+cond_last_texts =
+    rows cond_last 0 0 (codes "clasta" ∷ codes "clastb" ∷ []) (separated (r_at (4 to 0) ∷ pg ∷ r_at (4 to 0) ∷ zn ∷ []))
+    ++ (rows cond_last 2 0 (codes "clasta" ∷ codes "clastb" ∷ []) (separated (v_at (4 to 0) ∷ pg ∷ v_at (4 to 0) ∷ zn ∷ []))
+    ++ rows cond_last 4 0 (codes "clasta" ∷ codes "clastb" ∷ []) (separated (zd ∷ pg ∷ zd ∷ zn ∷ [])))
