@@ -1,11 +1,8 @@
 -- Statements read and printed.
-use Rattle.std.proofs.Common.{◌≡◌, ℕ, true, false, refl, Ok, Err, None, Some, [], ◌∷◌, codes, ◌++◌}
-use Rattle.std.specs.Fmt.{digits}
+use Rattle.std.proofs.Common.{◌≡◌, true, refl, Ok, Err, None, Some, codes}
 use Rattle.text_model.specs.declared.slots.Refusal.TheVariants.{UnknownName, BadOperands, OutOfRange}
 use Rattle.text_model.specs.Words.{dictionary}
 use Rattle.text_model.specs.Statement.{reads_text, to_label, to_address}
-use Rattle.text_model.specs.Text.{text_of}
-use Rattle.text_model.proofs.Tests.{all_apart}
 use Rattle.emu_bits.specs.Bitmask.{bitmask_of}
 use Rattle.a64_insn.specs.Data.{adr, add_imm, logic_imm, move_wide, bitfield, extract, logic_reg, add_reg, add_ext, add_carry, cond_reg, cond_imm, select, mul_add, mul_long, mul_high, two_source, one_source, rev}
 use Rattle.a64_insn.specs.Flow.{branch, branch_cond, compare, test_branch, branch_reg, except, hint, barrier, read_sys, write_sys}

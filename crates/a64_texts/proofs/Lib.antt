@@ -3,3 +3,4 @@ pub mod Examples
 pub mod Totals
 pub mod ReadBack
 pub mod Parts
+pub mod Aimed

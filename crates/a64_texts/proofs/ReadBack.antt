@@ -1,12 +1,12 @@
 -- What reading the text of an instruction gives: computed over the table, and by the law of a table.
-use Rattle.std.proofs.Common.{◌≡◌, ℕ, zero, suc, ◌+◌, ◌-◌, ◌*◌, ◌/◌, ◌%◌, ◌^◌, ◌<◌, ◌≤◌, ◌==◌, ◌&&◌, ◌||◌, if◌then◌else◌, cond, Bool, true, false, not, Option, Some, None, Result, Ok, Err, List, [], ◌∷◌, ◌++◌, length, get_or, bit_and, bit_or, nat_lt, nat_le, refl, sym, ap, ap₂, ◌∙◌, subst, arith, inl, inr, append-nil, append_assoc}
-use Rattle.std.proofs.lemmas.Bool.{cases_Bool, and_parts, and_from, eqb-true, eq-eqb, ne_eqb, false≢true, true≢false, leb-true, ltb-true}
+use Rattle.std.proofs.Common.{◌≡◌, ℕ, zero, suc, ◌-◌, ◌*◌, ◌/◌, ◌%◌, ◌^◌, ◌<◌, ◌≤◌, ◌==◌, ◌&&◌, cond, Bool, true, false, Option, Some, None, Ok, List, [], ◌∷◌, ◌++◌, get_or, bit_and, bit_or, nat_lt, nat_le, refl, sym, ap, ap₂, ◌∙◌, arith, inl, inr}
+use Rattle.std.proofs.lemmas.Bool.{cases_Bool, and_parts, and_from, eqb-true, false≢true, true≢false, leb-true, ltb-true}
 use Rattle.std.proofs.lemmas.Nat.{and_mask, and_assoc, or_lt}
 use Rattle.std.proofs.Math.Nat.{mod-eq_of_lt}
 use Rattle.std.specs.Prelude.{is_some, unwrap_or}
 use Rattle.emu_bits.specs.Bitmask.{bitmask_of, element_log}
 use Rattle.emu_bits.specs.Fields.{field, bit}
-use Rattle.emu_bits.specs.Rows.{Place, ◌to◌, width, ones_at, outside, values, fill, Fit, Line, Row, number_of, where_it_holds, row_in, decode, encode, line_at, IsRow}
+use Rattle.emu_bits.specs.Rows.{Place, ◌to◌, width, ones_at, outside, values, fill, Fit, Line, Row, number_of, where_it_holds, row_in, line_at, IsRow}
 use Rattle.emu_bits.proofs.Encoding.{answer_of, fixed_field}
 use Rattle.emu_bits.proofs.Places.{put_fits}
 use Rattle.text_model.specs.declared.slots.Kind.TheVariants.{Bitmask}
@@ -17,8 +17,7 @@ use Rattle.text_model.specs.Text.{chosen, text_by, text, shows, told_bits}
 use Rattle.text_model.specs.Aim.{Reach, reach_of, reach_bits, reached, aimed, unaimed}
 use Rattle.text_model.specs.Writing.{flat}
 use Rattle.text_model.proofs.Again.{pattern_at}
-use Rattle.text_model.proofs.Texts.{AreLegible}
-use Rattle.text_model.proofs.Tables.{IsChosen, chosen_is, in_table_of, all_plain, plain_at, plain_canonical, IsLegible, IsReadAgain, table_law}
+use Rattle.text_model.proofs.Tables.{chosen_is, all_plain, plain_at, plain_canonical, IsLegible, table_law}
 use Rattle.a64_insn.specs.declared.form.A64Form.{A64Form}
 use Rattle.a64_insn.specs.declared.form.A64Form.TheVariants.{Adr, LogicImm, Branch, BranchCond, Compare, Test, LsLiteral}
 use Rattle.a64_insn.specs.Table.{row_of, a64_table}
@@ -33,10 +32,10 @@ use Rattle.a64_texts.specs.BitMoves.{last_lines, f_move_texts, move_imm_texts}
 use Rattle.a64_insn.specs.Memory.{ls_literal_holds_for}
 use Rattle.a64_insn.specs.Data.{has_bitmask}
 use Rattle.a64_rows.specs.Lines.{line_number}
-use Rattle.a64_rows.proofs.Laws.{one_row, is_listed}
+use Rattle.a64_rows.proofs.Laws.{one_row}
 use Rattle.a64_texts.specs.Aliases.{aliases}
 use Rattle.a64_texts.specs.Table.{line_texts, printed_patterns, a64_lines, a64_patterns}
-use Rattle.a64_texts.specs.Law.{in_table, word_of, texts_of, text_of_form, reach_by, reach, unaimed_word, target_at, is_canonical_form, IsReadBack}
+use Rattle.a64_texts.specs.Law.{in_table, word_of, texts_of, reach_by, reach, target_at, is_canonical_form, IsReadBack}
 use Rattle.a64_texts.proofs.Legible.{readable, written, aimed_well, apart, reach_well}
 use Rattle.a64_texts.proofs.Totals.{listed, in_row, held, has_text}
 

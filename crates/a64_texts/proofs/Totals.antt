@@ -1,10 +1,10 @@
 -- Each instruction has a text: computed over the table's lines.
-use Rattle.std.proofs.Common.{◌≡◌, ℕ, zero, suc, ◌+◌, ◌<◌, ◌==◌, ◌&&◌, ◌||◌, Bool, true, false, not, Option, Some, None, List, [], ◌∷◌, length, get_or, subst, refl, sym, ap, ◌∙◌, arith}
+use Rattle.std.proofs.Common.{◌≡◌, ℕ, zero, suc, ◌<◌, ◌==◌, ◌&&◌, Bool, true, false, not, Some, List, [], ◌∷◌, length, get_or, subst, refl, sym, ap, ◌∙◌, arith}
 use Rattle.std.proofs.lemmas.Bool.{and_parts, and_from, false≢true}
 use Rattle.emu_bits.specs.Fields.{field}
-use Rattle.emu_bits.specs.Rows.{Place, ◌to◌, width, values, value_at, always, Line, Row, encode, row_in, line_at, IsRow}
+use Rattle.emu_bits.specs.Rows.{Place, ◌to◌, values, value_at, always, Line, row_in, line_at, IsRow}
 use Rattle.emu_bits.proofs.Computed.{is_sound, are_sound}
-use Rattle.emu_bits.proofs.Encoding.{Answers, answer_of, row_of_encoded}
+use Rattle.emu_bits.proofs.Encoding.{answer_of, row_of_encoded}
 use Rattle.text_model.specs.Reading.{Pattern}
 use Rattle.text_model.specs.Text.{chosen}
 use Rattle.text_model.proofs.Tests.{is_total}

@@ -9,7 +9,7 @@ use Rattle.text_model.specs.Reading.{Pattern}
 use Rattle.text_model.specs.Writing.{◌to◌, coded, times, of, then, counted, row, put_at}
 use Rattle.a64_insn.specs.Data.{add_imm, logic_reg, move_wide, add_reg, bitfield, mul_add, select}
 use Rattle.a64_insn.specs.Flow.{branch_reg, hint}
-use Rattle.a64_texts.specs.Data.{r, x, rd, rn, rm, rd_sp, rn_sp, sf_and_n}
+use Rattle.a64_texts.specs.Data.{r, rd, rn, rm, rd_sp, rn_sp, sf_and_n}
 
 -- the zero register as Rd, Rn, Ra and Rm
 abbrev no_rd : ℕ

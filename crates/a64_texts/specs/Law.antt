@@ -1,14 +1,14 @@
 -- The text of an A64 instruction, and what reading it gives.
-use Rattle.std.specs.Prelude.{◌≡◌, ℕ, ◌-◌, ◌^◌, ◌<◌, ◌==◌, Bool, true, Option, Some, None, Ok, List, [], get_or, bit_and, nat_lt, unwrap_or, is_some}
+use Rattle.std.specs.Prelude.{◌≡◌, ℕ, ◌-◌, ◌^◌, Bool, true, Option, Some, None, Ok, List, [], get_or, bit_and, nat_lt, unwrap_or, is_some}
 use Rattle.emu_bits.specs.Bitmask.{element_log}
 use Rattle.emu_bits.specs.Fields.{bit}
-use Rattle.emu_bits.specs.Rows.{decode, encode, IsRow}
+use Rattle.emu_bits.specs.Rows.{decode, encode}
 use Rattle.a64_insn.specs.declared.form.A64Form.{A64Form}
 use Rattle.a64_insn.specs.declared.form.A64Form.TheVariants.{LogicImm}
 use Rattle.a64_insn.specs.Table.{row_of, a64_table}
 use Rattle.a64_rows.specs.Lines.{line_number}
 use Rattle.text_model.specs.Reading.{Pattern}
-use Rattle.text_model.specs.Statement.{destination_of, Statement, reads_text}
+use Rattle.text_model.specs.Statement.{destination_of, reads_text}
 use Rattle.text_model.specs.Text.{chosen, text_of}
 use Rattle.text_model.specs.Aim.{Reach, reach_of, reach_bits, reached, aimed}
 use Rattle.a64_texts.specs.Table.{line_texts, a64_patterns}

@@ -10,7 +10,7 @@ use Rattle.text_model.specs.declared.slots.Slot.{Slot}
 use Rattle.text_model.specs.Reading.{Pattern}
 use Rattle.text_model.specs.Writing.{◌to◌, plain, times, signed_times, always, of, one, then, counted, amount, perhaps, inside, bracketed, row, put_at, flat}
 use Rattle.a64_insn.specs.Memory.{ls_unsigned, ls_unscaled, ls_post, ls_pre, ls_reg, ls_literal, pair, store_ex, load_ex, ordered}
-use Rattle.a64_texts.specs.Data.{r, w, x, rd, rn_sp, ra, rm}
+use Rattle.a64_texts.specs.Data.{w, x, rd, rn_sp, ra, rm}
 use Rattle.a64_texts.specs.Flow.{jump}
 
 -- ---- the kinds of loads and stores

@@ -1,5 +1,5 @@
 -- The index of names in three parts.
-use Rattle.std.specs.Prelude.{ℕ, ◌&&◌, Bool, true, List, [], ◌∷◌, ◌++◌, length, nat_lt}
+use Rattle.std.specs.Prelude.{◌&&◌, Bool, true, List, [], ◌∷◌, ◌++◌, length, nat_lt}
 use Rattle.text_code.specs.declared.patterns.Spot.{Spot}
 use Rattle.text_code.specs.Names.{Named, names_of}
 use Rattle.a64_texts.specs.declared.names.Names.{Names}

@@ -1,5 +1,5 @@
 -- The texts of all A64 instructions.
-use Rattle.std.specs.Prelude.{ℕ, List, [], ◌∷◌, ◌++◌}
+use Rattle.std.specs.Prelude.{List, [], ◌∷◌, ◌++◌}
 use Rattle.text_model.specs.Reading.{Pattern}
 use Rattle.text_model.specs.Writing.{flat}
 use Rattle.a64_texts.specs.Data.{data_lines, adr_texts, add_imm_texts, logic_imm_texts, move_wide_texts, bitfield_texts, extract_texts, logic_reg_texts, add_reg_texts, add_ext_texts, add_carry_texts, cond_reg_texts, cond_imm_texts, select_texts, mul_add_texts, mul_long_texts, mul_high_texts, two_source_texts, one_source_texts, rev_texts}

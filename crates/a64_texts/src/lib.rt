@@ -9,13 +9,14 @@ mod memory;
 mod names;
 mod operands;
 
-ghost use Rattle.std.specs.Prelude.{◌≡◌, ℕ, ◌^◌, ◌<◌, true, [], get_or};
+ghost use Rattle.std.specs.Prelude.{◌≡◌, ℕ, ◌^◌, ◌<◌, true, [], Some, get_or};
 ghost use Rattle.emu_bits.specs.Rows.{IsRow};
 ghost use Rattle.a64_insn.specs.declared.form.A64Form.{A64Form};
 ghost use Rattle.a64_insn.specs.Table.{row_of};
 ghost use Rattle.text_code.specs.Tables.{patterns_of};
+ghost use Rattle.text_model.specs.Aim.{aimed};
 ghost use Rattle.a64_texts.specs.Lines.{lines_of};
-ghost use Rattle.a64_texts.specs.Law.{in_table, is_canonical_form, IsReadBack};
+ghost use Rattle.a64_texts.specs.Law.{in_table, is_canonical_form, reach, unaimed_word, IsReadBack};
 ghost use Rattle.a64_texts.specs.Table.{a64_lines};
 
 use a64_rows::decode_a64;
@@ -111,4 +112,10 @@ impl Table for A64Texts {
 /// stands at.
 pub fn printed_text_is_read()
     ensures { (f : A64Form) (pc : ℕ) → IsRow (row_of f) → is_canonical_form f ≡ true → pc < 2 ^ 64 → IsReadBack f pc }
+{}
+
+/// A word whose target's bits are 0, aimed at a target that its field can reach, is an instruction's: of the same instruction, but for
+/// where it goes.
+pub fn aimed_words_are_rows()
+    ensures { (f : A64Form) (pc t w : ℕ) → IsRow (row_of f) → aimed (reach f) (unaimed_word f) pc t ≡ Some w → in_table w ≡ true }
 {}

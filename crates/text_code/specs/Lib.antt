@@ -6,3 +6,4 @@ pub mod Places
 pub mod Reads
 pub mod Names
 pub mod Faults
+pub mod Aims

@@ -1,5 +1,6 @@
 -- The program's tables as the definitions'.
-use Rattle.std.specs.Prelude.{List, [], ◌∷◌}
+use Rattle.std.specs.Prelude.{Option, Some, None, List, [], ◌∷◌}
+use denote.Ref.{Bor}
 use Rattle.text_code.specs.declared.dictionary.Family.{Family}
 use Rattle.text_code.specs.declared.dictionary.Word.{Word}
 use Rattle.text_code.specs.declared.bits.Built.{Built}
@@ -26,3 +27,8 @@ pattern_of p = record { name = p.name.now; base = p.base; slots = p.slots.now }
 abbrev pub patterns_of : List Pattern → List reading.Pattern
 patterns_of [] = []
 patterns_of (p ∷ ps) = pattern_of p ∷ patterns_of ps
+
+-- a pattern that was found
+abbrev pub pattern_at : Option (Bor Pattern) → Option reading.Pattern
+pattern_at None = None
+pattern_at (Some p) = Some (pattern_of p.now)

@@ -28,7 +28,7 @@ pub fn number_at(b: Bits, word: u32) -> u32
 }
 
 /// The word with ones at these bits.
-fn ones(b: Bits) -> u32
+pub fn ones(b: Bits) -> u32
     requires { are_in_word b ≡ true }
     ensures { result ≡ ones_at (place_of b) }
 {

@@ -1,7 +1,9 @@
 //! Statements read and instructions printed by patterns of slots, whatever the table.
 #![tactic(auto)]
 
+mod aiming;
 mod bits;
+mod choosing;
 pub mod dictionary;
 mod faults;
 mod filling;
@@ -15,6 +17,8 @@ mod patterns;
 mod reading;
 mod words;
 
+pub use aiming::{Reach, aimed, reach_of, unaimed};
+pub use choosing::{chosen, shows};
 pub use faults::fault;
 pub use filling::MOST;
 pub use judging::{answer, has_target};

@@ -1,7 +1,6 @@
 -- What a pattern shows is read as the word, over any patterns that are readable and apart.
-use Rattle.std.proofs.Common.{◌≡◌, ℕ, zero, suc, ◌+◌, ◌<◌, ◌==◌, ◌&&◌, ◌||◌, if◌then◌else◌, Bool, true, false, not, Option, Some, None, Result, Ok, Err, List, [], ◌∷◌, ◌++◌, refl, sym, ap, ap₂, ◌∙◌, subst, arith, inl, inr, ◌⊎◌}
-use Rattle.std.proofs.lemmas.Bool.{cases_Bool, and_parts, and_left, or_cases, not-true, false≢true}
-use Rattle.text_model.specs.declared.slots.Slot.{Slot}
+use Rattle.std.proofs.Common.{◌≡◌, ℕ, zero, suc, ◌&&◌, ◌||◌, if◌then◌else◌, Bool, true, false, not, Option, Some, None, Result, Ok, Err, List, [], ◌∷◌, sym, ap, ap₂, ◌∙◌, inl, inr, ◌⊎◌}
+use Rattle.std.proofs.lemmas.Bool.{cases_Bool, and_parts}
 use Rattle.text_model.specs.declared.slots.Item.{Item}
 use Rattle.text_model.specs.declared.slots.Refusal.{Refusal}
 use Rattle.text_model.specs.declared.slots.Refusal.TheVariants.{UnknownName, BadOperands, OutOfRange}

@@ -1,11 +1,9 @@
 -- Bindings that are so of a word build the word.
-use Rattle.std.proofs.Common.{◌≡◌, ℕ, zero, suc, ◌+◌, ◌-◌, ◌*◌, ◌/◌, ◌%◌, ◌^◌, ◌<◌, ◌≤◌, ◌==◌, ◌&&◌, eqb, if◌then◌else◌, Bool, true, false, List, [], ◌∷◌, ◌++◌, length, bit_and, bit_or, nat_le, refl, sym, ap, ap₂, ◌∙◌, subst, arith, inl, inr}
+use Rattle.std.proofs.Common.{◌≡◌, ℕ, ◌+◌, ◌-◌, ◌*◌, ◌/◌, ◌%◌, ◌^◌, ◌<◌, ◌≤◌, ◌==◌, ◌&&◌, if◌then◌else◌, Bool, true, List, [], ◌∷◌, ◌++◌, bit_and, bit_or, nat_le, refl, sym, ap, ◌∙◌, subst, arith, inl, inr}
 use Rattle.std.proofs.lemmas.Bool.{cases_Bool, and_parts, leb-true}
 use Rattle.std.proofs.Math.Nat.{mod-eq_of_lt, mul-add-mod_self_right}
 use Rattle.std.proofs.lemmas.Nat.{pow-add, pow_pos, and_mask, div-mul-add}
-use Rattle.std.proofs.lemmas.Nat.Bits.{same_from_bits, bit_at_and, bit_at_or}
 use lib.Bits.{and_zero_r, or_zero_r}
-use Rattle.emu_bits.specs.Fields.{field}
 use Rattle.emu_bits.specs.Rows.{Place, width, ones_at}
 use Rattle.emu_bits.proofs.Encoding.{taken, or_assoc, and_over_or}
 use Rattle.text_model.specs.Slots.{at_place, bits_in, joined}

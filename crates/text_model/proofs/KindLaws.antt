@@ -1,15 +1,14 @@
 -- What a slot shows of a number tells the number, one equation a kind.
-use Rattle.std.proofs.Common.{◌≡◌, ℕ, zero, suc, ◌+◌, ◌-◌, ◌*◌, ◌/◌, ◌%◌, ◌^◌, ◌<◌, ◌≤◌, ◌==◌, ◌&&◌, ◌||◌, eqb, if◌then◌else◌, cond, Bool, true, false, not, List, [], ◌∷◌, length, get_or, nat_le, nat_lt, refl, sym, ap, ◌∙◌, subst, arith, inl, inr, ◌⊎◌}
-use Rattle.std.proofs.lemmas.Bool.{cases_Bool, and_parts, or_cases, eqb-true, eq-eqb, ne_eqb, false≢true, ltb-true, ltb-false, leb-true}
+use Rattle.std.proofs.Common.{◌≡◌, ℕ, ◌+◌, ◌-◌, ◌*◌, ◌/◌, ◌%◌, ◌^◌, ◌<◌, ◌==◌, ◌||◌, if◌then◌else◌, Bool, true, not, nat_lt, refl, sym, ap, ◌∙◌, subst, arith, inl, inr}
+use Rattle.std.proofs.lemmas.Bool.{cases_Bool, and_parts, or_cases, eqb-true, false≢true, ltb-true}
 use Rattle.std.proofs.Math.Nat.{mul-div_cancel}
-use Rattle.std.proofs.lemmas.Nat.{pow_pos}
-use Rattle.std.specs.Prelude.{is_some, unwrap_or}
+use Rattle.std.specs.Prelude.{unwrap_or}
 use Rattle.emu_bits.specs.Bitmask.{bitmask_of}
 use Rattle.emu_bits.proofs.AllBelow.{all_below, each_below}
 use Rattle.text_model.specs.declared.slots.Kind.{Kind}
 use Rattle.text_model.specs.declared.slots.Kind.TheVariants.{Fixed, Plain, Stack, After, NamedCount, UnnamedCount, Scaled, Falling, Signed, Target, Bitmask, Spread, LeftShift, Inverted}
-use Rattle.text_model.specs.Masks.{bitmask_at, bitmask_fields}
-use Rattle.text_model.specs.Slots.{shown, can_show, is_low, inverse, spread}
+use Rattle.text_model.specs.Masks.{bitmask_at}
+use Rattle.text_model.specs.Slots.{shown, is_low, inverse, spread}
 use Rattle.text_model.specs.Told.{told, gathered}
 use Rattle.text_model.specs.Reading.{is_canonical}
 use Rattle.text_model.proofs.Tests.{is_good_kind}

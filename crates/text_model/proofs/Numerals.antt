@@ -1,6 +1,6 @@
 -- Numbers as tokens, and the items that they are read as.
-use Rattle.std.proofs.Common.{◌≡◌, ℕ, zero, suc, ◌+◌, ◌-◌, ◌*◌, ◌/◌, ◌%◌, ◌^◌, ◌<◌, ◌≤◌, ◌==◌, ◌&&◌, ◌||◌, eqb, if◌then◌else◌, Bool, true, false, not, Option, Some, None, List, [], ◌∷◌, ◌++◌, length, drop, min, refl, sym, ap, ◌∙◌, subst, arith, inl, inr, ◌⊎◌}
-use Rattle.std.proofs.lemmas.Bool.{and_parts, and_from, and_right, and_left, eqb-true, eq-eqb, ne_eqb, false≢true, lt-ltb}
+use Rattle.std.proofs.Common.{◌≡◌, ℕ, ◌+◌, ◌-◌, ◌*◌, ◌^◌, ◌<◌, ◌≤◌, ◌==◌, ◌&&◌, if◌then◌else◌, Bool, true, false, not, Option, Some, None, List, [], ◌∷◌, length, drop, min, refl, ap, ◌∙◌, arith}
+use Rattle.std.proofs.lemmas.Bool.{and_parts, and_from, and_right, and_left, ne_eqb, lt-ltb}
 use Rattle.std.proofs.lemmas.Fmt.{digits_is_IsNumeral}
 use Rattle.std.specs.Prelude.{option_map}
 use Rattle.std.specs.Fmt.{digits}
@@ -11,7 +11,6 @@ use Rattle.text_tokens.specs.Tokens.{is_word_byte}
 use Rattle.text_tokens.specs.Layout.{is_sign, is_empty, is_token, hash, is_mark}
 use Rattle.text_tokens.specs.Numbers as numbers
 use Rattle.text_model.specs.declared.classes.Class.TheVariants.{Number}
-use Rattle.text_model.specs.declared.slots.Item.{Item}
 use Rattle.text_model.specs.Words.{item}
 use Rattle.text_model.specs.Statement.{number_value, item_by, more_tokens, items_behind}
 use Rattle.text_model.specs.Text.{decimal, hexadecimal}

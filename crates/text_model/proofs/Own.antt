@@ -1,13 +1,11 @@
 -- A pattern reads what it shows of a word as the word.
-use Rattle.std.proofs.Common.{◌≡◌, ℕ, zero, suc, ◌+◌, ◌-◌, ◌*◌, ◌/◌, ◌%◌, ◌^◌, ◌<◌, ◌==◌, ◌&&◌, if◌then◌else◌, Bool, true, false, not, Result, Ok, Err, List, [], ◌∷◌, ◌++◌, length, bit_and, bit_or, nat_lt, nat_le, refl, sym, ap, ap₂, ◌∙◌, subst, arith, inl, inr}
-use Rattle.std.proofs.lemmas.Bool.{cases_Bool, and_parts, and_from, eqb-true, eq-eqb, false≢true}
+use Rattle.std.proofs.Common.{◌≡◌, ℕ, ◌-◌, ◌*◌, ◌/◌, ◌%◌, ◌^◌, ◌<◌, ◌==◌, ◌&&◌, if◌then◌else◌, Bool, true, false, not, Ok, Err, List, [], ◌∷◌, ◌++◌, length, bit_and, bit_or, nat_le, refl, sym, ap, ap₂, ◌∙◌, subst, arith}
+use Rattle.std.proofs.lemmas.Bool.{and_parts, and_from, eqb-true, eq-eqb, false≢true}
 use Rattle.std.proofs.lemmas.Slice.Eq.{bytes_eq-Decides}
 use Rattle.std.proofs.Math.Nat.{mod-eq_of_lt}
 use Rattle.emu_bits.specs.Rows.{Place, width, ones_at}
 use Rattle.emu_bits.proofs.AllBelow.{each_below}
 use Rattle.text_model.specs.declared.classes.Class.{Class}
-use Rattle.text_model.specs.declared.classes.Class.TheVariants.{Comma}
-use Rattle.text_model.specs.declared.classes.Group.{Group}
 use Rattle.text_model.specs.declared.slots.Shape.{Shape}
 use Rattle.text_model.specs.declared.slots.Shape.TheVariants.{Only, Told, Shown}
 use Rattle.text_model.specs.declared.slots.Kind.{Kind}
@@ -18,16 +16,15 @@ use Rattle.text_model.specs.declared.slots.Need.{Need}
 use Rattle.text_model.specs.declared.slots.Need.TheVariants.{Must, Begins, Inside}
 use Rattle.text_model.specs.declared.slots.Slot.{Slot}
 use Rattle.text_model.specs.declared.slots.Item.{Item}
-use Rattle.text_model.specs.declared.slots.Refusal.{Refusal}
-use Rattle.text_model.specs.declared.slots.Refusal.TheVariants.{UnknownName, BadOperands, OutOfRange}
-use Rattle.text_model.specs.Classes.{class_number, same_class}
-use Rattle.text_model.specs.Slots.{place_of, places, at_place, bits_in, joined, classes_of, class_at, class_in, shown, value_in, item_in, items_in, is_picked, has_class, can_show, fits, all_fit}
-use Rattle.text_model.specs.Told.{Binding, class_tells, index_of, told, parted, codec_tells, slot_tells, Built, put_all, built}
-use Rattle.text_model.specs.Reading.{Pattern, Read, Operands, is_left_out, raised, item_for, items_behind, filled, same_classes, same_values, same_name, is_canonical, all_canonical, word_told, has_target, judged, items_to_read, answer}
+use Rattle.text_model.specs.declared.slots.Refusal.TheVariants.{BadOperands, OutOfRange}
+use Rattle.text_model.specs.Classes.{class_number}
+use Rattle.text_model.specs.Slots.{place_of, places, at_place, bits_in, joined, classes_of, class_at, class_in, shown, value_in, item_in, items_in, has_class, can_show, fits, all_fit}
+use Rattle.text_model.specs.Told.{Binding, class_tells, index_of, told, parted, codec_tells, slot_tells, Built, built}
+use Rattle.text_model.specs.Reading.{Pattern, is_left_out, raised, item_for, items_behind, filled, same_classes, same_values, same_name, is_canonical, all_canonical, word_told, has_target, judged}
 use Rattle.text_model.specs.Text.{class_places, slot_places, told_bits, shows}
-use Rattle.text_model.proofs.Tests.{tells_places, is_good_shape, is_good_kind, is_good_need, is_good_style, is_good, are_good, all_places, is_readable}
+use Rattle.text_model.proofs.Tests.{is_good_shape, is_good_kind, is_good_need, is_good_style, is_good, are_good, all_places, is_readable}
 use Rattle.text_model.proofs.KindLaws.{is_unaimed, kind_law}
-use Rattle.text_model.proofs.Building.{IsSo, AreSo, so_both, are_places, small_at, joined_small, parted_so, masked, places_of, with_bits, all_put, put_both, whole, nothing}
+use Rattle.text_model.proofs.Building.{AreSo, so_both, are_places, small_at, joined_small, parted_so, masked, places_of, with_bits, all_put, whole, nothing}
 
 pub self : (n : ℕ) → (n == n) ≡ true
 self n = eq-eqb n n refl

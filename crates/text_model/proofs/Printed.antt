@@ -1,21 +1,21 @@
 -- The tokens of a pattern's slots are read as the word that they show, with the bits of its target 0, and the target.
-use Rattle.std.proofs.Common.{◌≡◌, ℕ, zero, suc, ◌+◌, ◌-◌, ◌*◌, ◌/◌, ◌%◌, ◌^◌, ◌<◌, ◌≤◌, ◌==◌, ◌&&◌, ◌||◌, if◌then◌else◌, Bool, true, false, not, Option, Some, None, Result, Ok, Err, List, [], ◌∷◌, ◌++◌, length, bit_and, nat_lt, nat_le, refl, sym, ap, ap₂, ◌∙◌, subst, arith, IsTrue, inl, inr, ◌⊎◌}
-use Rattle.std.proofs.lemmas.Bool.{cases_Bool, and_parts, or_parts, and_from, or_cases, not-true, eqb-true, eq-eqb, false≢true, true≢false, leb-true, lt-ltb, or_right}
+use Rattle.std.proofs.Common.{◌≡◌, ℕ, ◌+◌, ◌-◌, ◌*◌, ◌/◌, ◌%◌, ◌^◌, ◌<◌, ◌≤◌, ◌==◌, ◌&&◌, ◌||◌, if◌then◌else◌, Bool, true, false, not, List, [], ◌∷◌, ◌++◌, bit_and, nat_lt, nat_le, refl, sym, ap, ap₂, ◌∙◌, subst, arith, inl, inr, ◌⊎◌}
+use Rattle.std.proofs.lemmas.Bool.{cases_Bool, and_parts, or_parts, and_from, not-true, eqb-true, eq-eqb, false≢true, true≢false, leb-true, lt-ltb, or_right}
 use Rattle.std.proofs.lemmas.Nat.{pow_pos, and_assoc, and_le_l}
 use lib.Bits.{and_zero_r}
-use Rattle.emu_bits.specs.Rows.{Place, width, ones_at}
+use Rattle.emu_bits.specs.Rows.{Place, ones_at}
 use Rattle.emu_bits.proofs.Encoding.{taken, fixed_field}
 use Rattle.text_model.specs.declared.classes.Class.{Class}
 use Rattle.text_model.specs.declared.classes.Class.TheVariants.{Number}
 use Rattle.text_model.specs.declared.slots.Shape.{Shape}
 use Rattle.text_model.specs.declared.slots.Shape.TheVariants.{Only, Told, Shown}
 use Rattle.text_model.specs.declared.slots.Kind.{Kind}
-use Rattle.text_model.specs.declared.slots.Kind.TheVariants.{Target, Bitmask, Inverted}
+use Rattle.text_model.specs.declared.slots.Kind.TheVariants.{Target}
 use Rattle.text_model.specs.declared.slots.Slot.{Slot}
 use Rattle.text_model.specs.declared.slots.Item.{Item}
-use Rattle.text_model.specs.Slots.{place_of, places, at_place, bits_in, joined, class_at, is_picked, class_in, number, shown, address, item_in, items_in, has_class, can_show, fits, all_fit}
+use Rattle.text_model.specs.Slots.{place_of, places, at_place, bits_in, joined, class_at, is_picked, class_in, shown, address, item_in, items_in, has_class, can_show, fits, all_fit}
 use Rattle.text_model.specs.Reading.{Pattern, is_canonical, all_canonical, is_target, has_target}
-use Rattle.text_model.specs.Text.{told_bits, shows, printed, printed_item, item_tokens, slot_tokens}
+use Rattle.text_model.specs.Text.{told_bits, shows, printed, printed_item}
 use Rattle.text_model.specs.Words.{item}
 use Rattle.text_model.specs.Statement.{is_address, untargeted}
 use Rattle.text_model.specs.Aim.{reach_of, reach_bits, unaimed}

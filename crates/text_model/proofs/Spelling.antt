@@ -1,5 +1,5 @@
 -- Each word of a class is spelled by a token that is read as it, computed over all classes.
-use Rattle.std.proofs.Common.{◌≡◌, ℕ, ◌+◌, ◌<◌, ◌==◌, ◌&&◌, ◌||◌, if◌then◌else◌, Bool, true, false, not, Option, Some, None, List, [], ◌∷◌, get_or, refl, sym, ap, ap₂, ◌∙◌, inl, inr, ◌⊎◌}
+use Rattle.std.proofs.Common.{◌≡◌, ℕ, ◌<◌, ◌==◌, ◌&&◌, ◌||◌, if◌then◌else◌, Bool, true, false, not, Option, Some, None, List, [], ◌∷◌, get_or, refl, sym, ap, ap₂, ◌∙◌, inl, inr, ◌⊎◌}
 use Rattle.std.proofs.lemmas.Bool.{and_parts, or_cases, not-true, eqb-true, false≢true}
 use Rattle.std.specs.Prelude.{option_map}
 use Rattle.emu_bits.proofs.AllBelow.{all_below, each_below}

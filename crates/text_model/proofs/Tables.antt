@@ -1,5 +1,5 @@
 -- The law of a table: the text of a word of a line is read as the word, and aimed at its target again.
-use Rattle.std.proofs.Common.{◌≡◌, ℕ, zero, suc, ◌+◌, ◌-◌, ◌^◌, ◌<◌, ◌==◌, ◌&&◌, ◌||◌, if◌then◌else◌, Bool, true, false, not, Option, Some, None, Result, Ok, Err, List, [], ◌∷◌, ◌++◌, length, get_or, bit_and, refl, sym, ap, ap₂, ◌∙◌, subst, arith, inl, inr}
+use Rattle.std.proofs.Common.{◌≡◌, ℕ, zero, suc, ◌^◌, ◌<◌, ◌&&◌, if◌then◌else◌, Bool, true, false, Some, Result, Ok, Err, List, [], ◌∷◌, ◌++◌, get_or, refl, sym, ap, ◌∙◌, inl, inr}
 use Rattle.std.proofs.lemmas.Bool.{cases_Bool, and_parts, and_from, false≢true}
 use Rattle.text_tokens.specs.Tokens.{tokens}
 use Rattle.text_model.specs.declared.slots.Kind.{Kind}
@@ -10,11 +10,10 @@ use Rattle.text_model.specs.Slots.{places, joined}
 use Rattle.text_model.specs.Reading.{Pattern, Read, Operands, answer, best, reads, is_canonical, all_canonical}
 use Rattle.text_model.specs.Statement.{Statement, with_target, reads_first, reads_text, lowered, operands_of, destination_of}
 use Rattle.text_model.specs.Text.{shows, chosen, text}
-use Rattle.text_model.specs.Aim.{Reach, reach_of, reach_bits, reached, aimed, unaimed, target_of}
+use Rattle.text_model.specs.Aim.{reach_of, aimed, unaimed, target_of}
 use Rattle.text_model.specs.Writing.{flat}
 use Rattle.text_model.proofs.Tests.{is_good_reach, all_reach_well}
 use Rattle.text_model.proofs.Again.{pattern_at}
-use Rattle.text_model.proofs.Printed.{IsPrinted}
 use Rattle.text_model.proofs.Texts.{AreLegible, read_of, text_again}
 use Rattle.text_model.proofs.Aiming.{aimed_again}
 

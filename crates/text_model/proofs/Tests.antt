@@ -1,5 +1,5 @@
 -- What is computed over patterns, for the laws of a table.
-use Rattle.std.proofs.Common.{◌≡◌, ℕ, zero, suc, ◌+◌, ◌-◌, ◌*◌, ◌/◌, ◌%◌, ◌^◌, ◌==◌, ◌&&◌, ◌||◌, if◌then◌else◌, Bool, true, false, not, Option, Some, None, List, [], ◌∷◌, ◌++◌, length, bit_and, bit_or, nat_lt, nat_le}
+use Rattle.std.proofs.Common.{ℕ, ◌+◌, ◌-◌, ◌*◌, ◌/◌, ◌%◌, ◌^◌, ◌==◌, ◌&&◌, ◌||◌, if◌then◌else◌, Bool, true, false, not, Option, Some, None, List, [], ◌∷◌, ◌++◌, length, bit_and, bit_or, nat_lt, nat_le}
 use Rattle.emu_bits.specs.Rows.{Place, width, ones_at, ones_in, outside, Line}
 use Rattle.emu_bits.proofs.Computed.{are_apart}
 use Rattle.emu_bits.proofs.AllBelow.{all_below}

@@ -1,10 +1,9 @@
 -- A text is read as the word that it shows: over any patterns that pass the tests.
-use Rattle.std.proofs.Common.{◌≡◌, ℕ, zero, suc, ◌+◌, ◌-◌, ◌*◌, ◌/◌, ◌%◌, ◌^◌, ◌<◌, ◌≤◌, ◌==◌, ◌&&◌, ◌||◌, if◌then◌else◌, Bool, true, false, not, Option, Some, None, Result, Ok, Err, List, [], ◌∷◌, ◌++◌, append_assoc, length, bit_and, refl, sym, ap, ap₂, ◌∙◌, subst, arith, inl, inr, ◌⊎◌}
+use Rattle.std.proofs.Common.{◌≡◌, ℕ, zero, suc, ◌-◌, ◌*◌, ◌/◌, ◌%◌, ◌^◌, ◌<◌, ◌==◌, ◌&&◌, ◌||◌, if◌then◌else◌, Bool, true, false, not, Option, Some, None, Ok, List, [], ◌∷◌, ◌++◌, append_assoc, bit_and, refl, sym, ap, ap₂, ◌∙◌, subst, arith, inl, inr}
 use Rattle.std.proofs.lemmas.Bool.{cases_Bool, and_parts, or_parts, and_from, not-true, eqb-true, false≢true, true≢false}
 use Rattle.std.proofs.lemmas.Slice.Eq.{bytes_eq-Decides}
 use Rattle.std.proofs.lemmas.List.Folds.{list_all-append}
-use Rattle.text_tokens.specs.Tokens.{tokens}
-use Rattle.text_tokens.specs.Layout.{is_token, are_tokens, laid}
+use Rattle.text_tokens.specs.Layout.{is_token, are_tokens}
 use Rattle.text_tokens.proofs.Split.{split_again}
 use Rattle.emu_bits.specs.Rows.{Place}
 use Rattle.text_model.specs.declared.classes.Class.{Class}
@@ -17,12 +16,11 @@ use Rattle.text_model.specs.declared.slots.Style.{Style}
 use Rattle.text_model.specs.declared.slots.Style.TheVariants.{Address}
 use Rattle.text_model.specs.declared.slots.Slot.{Slot}
 use Rattle.text_model.specs.declared.slots.Item.{Item}
-use Rattle.text_model.specs.declared.slots.Refusal.{Refusal}
-use Rattle.text_model.specs.Slots.{class_in, places, joined, bits_in, number, fits, all_fit, address}
-use Rattle.text_model.specs.Reading.{Pattern, Read, Operands, is_target, has_target, reads, all_canonical, same_name}
+use Rattle.text_model.specs.Slots.{class_in, places, joined, bits_in, fits, all_fit, address}
+use Rattle.text_model.specs.Reading.{Pattern, Operands, is_target, has_target, reads, same_name}
 use Rattle.text_model.specs.Words.{item}
-use Rattle.text_model.specs.Text.{hexadecimal, item_tokens, printed, printed_item, slot_tokens, text, shows, told_bits}
-use Rattle.text_model.specs.Statement.{Destination, to_label, to_address, lowered, reads_first, reads_text, items_behind, items_of, is_label, last_of, destination, destination_of, last_target, Statement, with_target, operands_of, ends_in_label, untargeted, reads_tokens}
+use Rattle.text_model.specs.Text.{hexadecimal, item_tokens, printed, printed_item, slot_tokens, text, told_bits}
+use Rattle.text_model.specs.Statement.{Destination, to_label, to_address, lowered, reads_first, reads_text, items_behind, is_label, last_of, destination, destination_of, last_target, Statement, with_target, operands_of, ends_in_label, untargeted}
 use Rattle.text_model.specs.Aim.{Reach, reach_or, reach_of, reached, target_of, unaimed}
 use Rattle.text_model.proofs.Tests.{is_good, are_good, is_readable, all_readable, all_apart, is_written, are_written, all_written, is_aimed_well, all_aimed_well, ends_in_target, is_address_slot, is_number_shape, is_plain_address}
 use Rattle.text_model.proofs.Spelling.{same_number}

@@ -1,9 +1,9 @@
 -- From the test: each word of a line has a pattern.
-use Rattle.std.proofs.Common.{◌≡◌, ℕ, zero, suc, ◌+◌, ◌-◌, ◌*◌, ◌^◌, ◌<◌, ◌≤◌, ◌==◌, ◌&&◌, ◌||◌, if◌then◌else◌, cond, Bool, true, false, not, Option, Some, None, List, [], ◌∷◌, ◌++◌, length, get_or, bit_and, bit_or, nat_lt, nat_le, refl, sym, ap, ap₂, ◌∙◌, subst, arith, inl, inr}
-use Rattle.std.proofs.lemmas.Bool.{cases_Bool, and_parts, or_cases, not-true, eqb-true, eq-eqb, lt-ltb, leb-true, false≢true}
+use Rattle.std.proofs.Common.{◌≡◌, ℕ, suc, ◌+◌, ◌-◌, ◌*◌, ◌^◌, ◌<◌, ◌≤◌, ◌==◌, ◌&&◌, ◌||◌, if◌then◌else◌, cond, Bool, true, not, Option, Some, None, List, [], ◌∷◌, length, bit_and, bit_or, refl, sym, ap, ap₂, ◌∙◌, arith, inl, inr}
+use Rattle.std.proofs.lemmas.Bool.{cases_Bool, and_parts, or_cases, eqb-true, lt-ltb, leb-true, false≢true}
 use Rattle.std.proofs.lemmas.Nat.{and_assoc}
 use Rattle.emu_bits.specs.Rows.{Place, width, ones_in, outside, values, fill, Line, Row, next, number_of, row_in}
-use Rattle.emu_bits.proofs.AllBelow.{all_below, each_below}
+use Rattle.emu_bits.proofs.AllBelow.{each_below}
 use Rattle.emu_bits.proofs.Computed.{are_apart}
 use Rattle.emu_bits.proofs.Encoding.{and_over_or, fill_own, answer_of}
 use Rattle.text_model.specs.declared.slots.Shape.{Shape}
@@ -11,7 +11,7 @@ use Rattle.text_model.specs.declared.slots.Shape.TheVariants.{Only, Told, Shown}
 use Rattle.text_model.specs.declared.slots.Kind.{Kind}
 use Rattle.text_model.specs.declared.slots.Kind.TheVariants.{NamedCount, UnnamedCount}
 use Rattle.text_model.specs.declared.slots.Slot.{Slot}
-use Rattle.text_model.specs.Slots.{place_of, places, at_place, joined, classes_of, is_picked, has_class, can_show, fits, all_fit}
+use Rattle.text_model.specs.Slots.{place_of, places, at_place, joined, classes_of, has_class, can_show, all_fit}
 use Rattle.text_model.specs.Reading.{Pattern}
 use Rattle.text_model.specs.Text.{told_bits, shows, chosen}
 use Rattle.text_model.proofs.Building.{small_at}

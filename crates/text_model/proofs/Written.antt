@@ -1,10 +1,9 @@
 -- The tokens of a slot's item are read as the item.
-use Rattle.std.proofs.Common.{◌≡◌, ℕ, zero, suc, ◌+◌, ◌-◌, ◌*◌, ◌/◌, ◌%◌, ◌^◌, ◌<◌, ◌≤◌, ◌==◌, ◌&&◌, ◌||◌, if◌then◌else◌, Bool, true, false, not, List, [], ◌∷◌, ◌++◌, length, get_or, nat_lt, nat_le, refl, sym, ap, ap₂, ◌∙◌, subst, arith, inl, inr, ◌⊎◌}
-use Rattle.std.proofs.lemmas.Bool.{cases_Bool, and_parts, and_from, not-true, eqb-true, eqb-false, eq-eqb, ne_eqb, false≢true, true≢false, ltb-true, ltb-false, leb-true}
+use Rattle.std.proofs.Common.{◌≡◌, ℕ, zero, suc, ◌+◌, ◌-◌, ◌*◌, ◌/◌, ◌%◌, ◌^◌, ◌<◌, ◌≤◌, ◌==◌, ◌&&◌, ◌||◌, if◌then◌else◌, Bool, true, false, not, List, [], ◌∷◌, ◌++◌, length, get_or, nat_lt, nat_le, refl, sym, ap, ◌∙◌, subst, arith, inl, inr, ◌⊎◌}
+use Rattle.std.proofs.lemmas.Bool.{cases_Bool, and_parts, and_from, not-true, eqb-true, ne_eqb, false≢true, true≢false, ltb-true, leb-true}
 use Rattle.std.proofs.Math.Nat.{mul-lt-mul_of_pos_right}
 use Rattle.std.specs.Prelude.{unwrap_or}
-use Rattle.std.specs.List.{list_all}
-use Rattle.text_tokens.specs.Layout.{is_token, are_tokens, hash}
+use Rattle.text_tokens.specs.Layout.{are_tokens, hash}
 use Rattle.text_tokens.specs.Numbers.{minus}
 use Rattle.text_model.specs.declared.classes.Class.{Class}
 use Rattle.text_model.specs.declared.classes.Class.TheVariants.{Unknown, Number, Count}
@@ -17,7 +16,7 @@ use Rattle.text_model.specs.declared.slots.Style.{Style}
 use Rattle.text_model.specs.declared.slots.Style.TheVariants.{Word, Counted, Bare, Hexadecimal, Address}
 use Rattle.text_model.specs.declared.slots.Slot.{Slot}
 use Rattle.text_model.specs.declared.slots.Item.{Item}
-use Rattle.text_model.specs.Classes.{class_number, same_class}
+use Rattle.text_model.specs.Classes.{class_number}
 use Rattle.text_model.specs.Masks.{bitmask_at}
 use Rattle.text_model.specs.Slots.{place_of, places, at_place, bits_in, joined, classes_of, class_at, class_in, number, is_low, spread, inverse, shown, address, is_named, has_class, can_show, fits}
 use Rattle.text_model.specs.Words.{item, spelled}
@@ -28,7 +27,7 @@ use Rattle.text_model.proofs.Spelling.{size_of, same_number, IsWord, spelled_is,
 use Rattle.text_model.proofs.Building.{joined_small}
 use Rattle.text_model.proofs.KindLaws.{of_bits, bitmask_small, spread_small}
 use Rattle.text_model.proofs.Tests.{is_good_kind, is_good, is_in, classes_in, word_bound, number_bound, is_word, is_counted, has_words, is_count_named, class_list, is_written_word, has_sign, is_number_shape, is_written_number, is_written}
-use Rattle.text_model.proofs.Own.{GoodSlot, good}
+use Rattle.text_model.proofs.Own.{good}
 use Rattle.text_model.proofs.Unlike.{in_classes, some_class}
 
 -- Tokens that are read as an item, whatever stands behind them.

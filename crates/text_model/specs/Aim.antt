@@ -1,11 +1,11 @@
 -- Targets: the address that a word's text shows, and a word whose text shows an address.
-use Rattle.std.specs.Prelude.{ℕ, ◌+◌, ◌-◌, ◌*◌, ◌/◌, ◌%◌, ◌^◌, ◌==◌, if◌then◌else◌, Option, Some, None, List, [], ◌∷◌, bit_and}
+use Rattle.std.specs.Prelude.{ℕ, ◌+◌, ◌-◌, ◌/◌, ◌%◌, ◌^◌, ◌==◌, if◌then◌else◌, Option, Some, None, List, [], ◌∷◌, bit_and}
 use Rattle.emu_bits.specs.Rows.{Place}
 use Rattle.text_model.specs.declared.slots.Kind.{Kind}
 use Rattle.text_model.specs.declared.slots.Kind.TheVariants.{Target}
 use Rattle.text_model.specs.declared.slots.Slot.{Slot}
 use Rattle.text_model.specs.Slots.{places, bits_in, joined, address}
-use Rattle.text_model.specs.Told.{parted, Built, put_all}
+use Rattle.text_model.specs.Told.{parted, put_all}
 use Rattle.text_model.specs.Text.{ones_of}
 
 -- how a target is shown: the address `by` times the signed number at places, behind the instruction's address, which is rounded

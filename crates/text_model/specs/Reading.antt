@@ -1,24 +1,22 @@
 -- What the patterns of a table make of a statement's items: a word, or why there is none.
-use Rattle.std.specs.Prelude.{ℕ, ◌+◌, ◌-◌, ◌*◌, ◌/◌, ◌%◌, ◌^◌, ◌==◌, ◌&&◌, ◌||◌, Bool, true, false, not, if◌then◌else◌, Option, Some, None, Result, Ok, Err, List, [], ◌∷◌, ◌++◌, nat_lt, nat_le, unwrap_or, is_some}
+use Rattle.std.specs.Prelude.{ℕ, ◌-◌, ◌*◌, ◌/◌, ◌%◌, ◌^◌, ◌==◌, ◌&&◌, ◌||◌, Bool, true, false, not, if◌then◌else◌, Result, Ok, Err, List, [], ◌∷◌, ◌++◌, nat_lt, nat_le, unwrap_or, is_some}
 use Rattle.std.specs.Str.{bytes_eq}
 use Rattle.emu_bits.specs.Bitmask.{element_log}
-use Rattle.text_model.specs.declared.classes.Class.{Class}
-use Rattle.text_model.specs.declared.classes.Class.TheVariants.{Number, Comma}
+use Rattle.text_model.specs.declared.classes.Class.TheVariants.{Comma}
 use Rattle.text_model.specs.declared.slots.Kind.{Kind}
 use Rattle.text_model.specs.declared.slots.Kind.TheVariants.{Target, Bitmask, Inverted}
 use Rattle.text_model.specs.declared.slots.Style.{Style}
 use Rattle.text_model.specs.declared.slots.Style.TheVariants.{Hexadecimal}
 use Rattle.text_model.specs.declared.slots.Need.{Need}
 use Rattle.text_model.specs.declared.slots.Need.TheVariants.{Must, Begins, Inside}
-use Rattle.text_model.specs.declared.slots.Codec.{Codec}
 use Rattle.text_model.specs.declared.slots.Slot.{Slot}
 use Rattle.text_model.specs.declared.slots.Item.{Item}
 use Rattle.text_model.specs.declared.slots.Refusal.{Refusal}
 use Rattle.text_model.specs.declared.slots.Refusal.TheVariants.{UnknownName, BadOperands, OutOfRange}
 use Rattle.text_model.specs.Classes.{same_class}
 use Rattle.text_model.specs.Masks.{bitmask_at}
-use Rattle.text_model.specs.Slots.{places, joined, bits_in, class_in, item_in, items_in, all_fit}
-use Rattle.text_model.specs.Told.{Built, built}
+use Rattle.text_model.specs.Slots.{places, joined, class_in, items_in, all_fit}
+use Rattle.text_model.specs.Told.{built}
 
 -- A pattern: a name, the word whose bits the name settles, and the slots that show the others.
 pub record Pattern : Type 0 where

@@ -1,5 +1,5 @@
 -- What a slot shows of a word: an item, which is a class and a value.
-use Rattle.std.specs.Prelude.{ℕ, zero, suc, ◌+◌, ◌-◌, ◌*◌, ◌/◌, ◌%◌, ◌^◌, ◌==◌, ◌&&◌, ◌||◌, Bool, true, false, if◌then◌else◌, List, [], ◌∷◌, length, get_or, nat_lt, nat_le, unwrap_or}
+use Rattle.std.specs.Prelude.{ℕ, zero, suc, ◌+◌, ◌-◌, ◌*◌, ◌/◌, ◌%◌, ◌^◌, ◌==◌, ◌&&◌, ◌||◌, Bool, true, if◌then◌else◌, List, [], ◌∷◌, length, get_or, nat_lt, nat_le, unwrap_or}
 use Rattle.emu_bits.specs.Fields.{field}
 use Rattle.emu_bits.specs.Rows.{Place, ◌to◌, width}
 use Rattle.text_model.specs.declared.classes.Class.{Class}

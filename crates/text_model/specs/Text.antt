@@ -1,20 +1,18 @@
 -- The text of an instruction: its pattern's name and the tokens of its slots, laid out.
-use Rattle.std.specs.Prelude.{ℕ, ◌+◌, ◌-◌, ◌*◌, ◌/◌, ◌%◌, ◌^◌, ◌==◌, ◌&&◌, Bool, true, false, if◌then◌else◌, Option, Some, None, List, [], ◌∷◌, ◌++◌, bit_and, bit_or}
+use Rattle.std.specs.Prelude.{ℕ, ◌-◌, ◌/◌, ◌%◌, ◌^◌, ◌==◌, ◌&&◌, Bool, false, if◌then◌else◌, Option, Some, None, List, [], ◌∷◌, ◌++◌, bit_and, bit_or}
 use Rattle.std.specs.Fmt.{digits}
 use Rattle.emu_bits.specs.Rows.{Place, ones_at}
 use Rattle.text_tokens.specs.Layout.{laid, hash}
 use Rattle.text_tokens.specs.Numbers.{minus}
-use Rattle.text_model.specs.declared.classes.Class.{Class}
 use Rattle.text_model.specs.declared.slots.Shape.{Shape}
 use Rattle.text_model.specs.declared.slots.Shape.TheVariants.{Only, Told, Shown}
 use Rattle.text_model.specs.declared.slots.Kind.{Kind}
 use Rattle.text_model.specs.declared.slots.Kind.TheVariants.{Target}
-use Rattle.text_model.specs.declared.slots.Codec.{Codec}
 use Rattle.text_model.specs.declared.slots.Style.{Style}
 use Rattle.text_model.specs.declared.slots.Style.TheVariants as style
 use Rattle.text_model.specs.declared.slots.Slot.{Slot}
 use Rattle.text_model.specs.declared.slots.Item.{Item}
-use Rattle.text_model.specs.Slots.{place_of, places, bits_in, joined, class_in, shown, number, address, item_in, all_fit}
+use Rattle.text_model.specs.Slots.{place_of, places, bits_in, joined, class_in, shown, number, address, all_fit}
 use Rattle.text_model.specs.Reading.{Pattern}
 use Rattle.text_model.specs.Words.{spelled}
 

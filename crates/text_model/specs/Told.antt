@@ -1,9 +1,8 @@
 -- What an item tells of the bits of a word: those that a slot shows as this item, where there are such. That they are so is tested by
 -- showing them again.
-use Rattle.std.specs.Prelude.{ℕ, zero, suc, ◌+◌, ◌-◌, ◌*◌, ◌/◌, ◌%◌, ◌^◌, ◌==◌, ◌&&◌, Bool, true, false, if◌then◌else◌, List, [], ◌∷◌, ◌++◌, nat_lt, bit_and, bit_or}
+use Rattle.std.specs.Prelude.{ℕ, zero, suc, ◌+◌, ◌-◌, ◌*◌, ◌/◌, ◌%◌, ◌^◌, ◌==◌, if◌then◌else◌, List, [], ◌∷◌, ◌++◌, bit_and, bit_or}
 use Rattle.emu_bits.specs.Rows.{Place, width, ones_at}
 use Rattle.text_model.specs.declared.classes.Class.{Class}
-use Rattle.text_model.specs.declared.classes.Group.{Group}
 use Rattle.text_model.specs.declared.slots.Shape.{Shape}
 use Rattle.text_model.specs.declared.slots.Shape.TheVariants.{Only, Told, Shown}
 use Rattle.text_model.specs.declared.slots.Kind.{Kind}

@@ -1,5 +1,5 @@
 -- How items are spelled: registers by their letter, number and suffix, other words and marks by a dictionary.
-use Rattle.std.specs.Prelude.{ℕ, ◌+◌, ◌*◌, ◌/◌, ◌%◌, ◌==◌, ◌&&◌, Bool, true, false, not, if◌then◌else◌, Option, Some, None, List, [], ◌∷◌, ◌++◌, nat_lt, codes}
+use Rattle.std.specs.Prelude.{ℕ, ◌+◌, ◌*◌, ◌/◌, ◌%◌, ◌==◌, ◌&&◌, not, if◌then◌else◌, Option, Some, None, List, [], ◌∷◌, ◌++◌, nat_lt, codes}
 use Rattle.std.specs.Char.{is_ascii_digit, digit_value}
 use Rattle.text_model.specs.declared.classes.Class.{Class}
 use Rattle.text_model.specs.declared.classes.Class.TheVariants.{Unknown, Comma, Slash, OpenBracket, CloseBracket, OpenBrace, CloseBrace, Exclamation, W, X, B, H, S, D, Q, V8b, V16b, V4h, V8h, V2s, V4s, V2d, Z, Zb, Zh, Zs, Zd, Zq, P, Pb, Ph, Ps, Pd, Shift, ShiftOnes, ExtendByte, ExtendHalfword, ExtendWord, ExtendDoubleword, Condition, Count, Times, VectorLength, Merging, Zeroing, TpidrEl0, Nzcv, DczidEl0}

@@ -2,19 +2,17 @@
 use Rattle.std.specs.Prelude.{ℕ, ◌+◌, ◌*◌, ◌^◌, List, [], ◌∷◌, ◌++◌, get_or, bit_or}
 use Rattle.emu_bits.specs.Rows.{Line}
 use Rattle.text_model.specs.declared.classes.Class.{Class}
-use Rattle.text_model.specs.declared.classes.Class.TheVariants.{Number, Comma, Slash, OpenBracket, CloseBracket, OpenBrace, CloseBrace, Exclamation}
-use Rattle.text_model.specs.declared.classes.Group.{Group}
+use Rattle.text_model.specs.declared.classes.Class.TheVariants.{Number, Comma, OpenBracket, CloseBracket, OpenBrace, CloseBrace}
 use Rattle.text_model.specs.declared.slots.Bits.{Bits}
 use Rattle.text_model.specs.declared.slots.Parts.{Parts}
-use Rattle.text_model.specs.declared.slots.Parts.TheVariants.{Nowhere, At, Two, Three}
+use Rattle.text_model.specs.declared.slots.Parts.TheVariants.{Nowhere, At}
 use Rattle.text_model.specs.declared.slots.Shape.{Shape}
-use Rattle.text_model.specs.declared.slots.Shape.TheVariants.{Only, Told, Shown}
+use Rattle.text_model.specs.declared.slots.Shape.TheVariants.{Only}
 use Rattle.text_model.specs.declared.slots.Kind.{Kind}
-use Rattle.text_model.specs.declared.slots.Kind.TheVariants.{Fixed, Plain, Stack, Scaled, Signed, Target, Bitmask}
+use Rattle.text_model.specs.declared.slots.Kind.TheVariants.{Fixed, Plain, Stack, Scaled, Signed, Target}
 use Rattle.text_model.specs.declared.slots.Codec.{Codec}
 use Rattle.text_model.specs.declared.slots.Style.{Style}
 use Rattle.text_model.specs.declared.slots.Style.TheVariants as style
-use Rattle.text_model.specs.declared.slots.Need.{Need}
 use Rattle.text_model.specs.declared.slots.Need.TheVariants.{Must, Begins, Inside}
 use Rattle.text_model.specs.declared.slots.Slot.{Slot}
 use Rattle.text_model.specs.Reading.{Pattern}

@@ -1,4 +1,4 @@
-use Rattle.std.proofs.Common.{◌≡◌, ℕ, List, [], get_or, ap, ◌∙◌}
+use Rattle.std.proofs.Common.{List, [], get_or, ap, ◌∙◌}
 use Rattle.text_model.specs.Reading.{Pattern}
 use Rattle.a64_texts.proofs.A64TextsTable.line.Goals as goal
 

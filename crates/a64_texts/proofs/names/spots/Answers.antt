@@ -1,9 +1,8 @@
 -- The spots of a name, by the parts of the index.
 use Rattle.std.proofs.Common.{◌≡◌, ℕ, List, ap, ap₂, sym, ◌∙◌}
-use Rattle.text_code.specs.declared.patterns.Spot.{Spot}
 use Rattle.text_model.specs.Statement.{lowered}
 use Rattle.text_code.specs.Names.{names_of, spots_named, IsIndex}
-use Rattle.text_code.specs.Reads.{at_spots, are_spots, all_sound}
+use Rattle.text_code.specs.Reads.{at_spots, are_spots}
 use Rattle.text_code.proofs.Index.{indexed, within}
 use Rattle.text_code.proofs.Whole.{all_sound_at}
 use Rattle.a64_texts.specs.Names.{all_named, or_spots}
