@@ -1,0 +1,145 @@
+-- The commands of a session don't look at what was written before them, and only append to the outputs and take from the input.
+use Rattle.std.proofs.Common.{◌≡◌, ℕ, zero, suc, ◌+◌, ◌-◌, min, Bool, true, false, List, [], ◌∷◌, ◌++◌, Option, Some, None, is_none, if◌then◌else◌, refl, sym, ap, ◌∙◌, append_assoc}
+use Rattle.std.specs.Prelude.{position}
+use Rattle.emu_model.specs.declared.access.Access.{Access}
+use Rattle.emu_model.specs.State.{Parts, State}
+use Rattle.emu_run.specs.Step.{accesses, step}
+use Rattle.emu_run.specs.Run.{goes_on, until_end, run}
+use Rattle.emu_run.specs.Outcome.{ending_line}
+use Rattle.emu_run.specs.RunLaws.{rest_all, Moves, moves_not, moves_trans, prefix_refl, step_moves, until_end_moves, until_end_none, until_end_one, until_end_over, behind, run_behind, step_behind}
+use Rattle.dbg_model.specs.declared.script.Command.{Command}
+use Rattle.dbg_model.specs.declared.script.Command.TheVariants.{Step, Go, Break, Watch, Regs, Zreg, Preg, Ffr, Lanes, Mem}
+use Rattle.dbg_model.specs.declared.script.Stop.{Stop}
+use Rattle.dbg_model.specs.Session.{Marks, no_marks, marked, is_touched, mark_met, watch_met, shown, stop_line, printed, ending_printed, stepped_text, stepped, stopped_or, go, go-zero, go-suc, obeyed, obeyed_all}
+use Rattle.dbg_core.proofs.Composed.{Blind, Moving}
+
+-- ---- a line that is printed
+
+abbrev pub prints : (Parts → List ℕ) → State → State
+prints text st = printed (text st.parts) st
+
+pub prints_blind : (text : Parts → List ℕ) → Blind (prints text)
+prints_blind text o e st = ap (λ (l : List ℕ). record st { output = l; errors = e ++ st.errors }) (append_assoc o st.output (text st.parts))
+
+pub prints_moving : (text : Parts → List ℕ) → Moving (prints text)
+prints_moving text st = record { input = rest_all st.input; output = (text st.parts, refl); errors = prefix_refl st.errors }
+
+abbrev pub ending_text : Parts → List ℕ
+ending_text m = ending_line m m.ended
+
+-- ---- a run
+
+pub run_blind : (budget : ℕ) → Blind (λ st. run st budget)
+run_blind budget o e st = run_behind o e st budget
+
+pub run_moving : (budget : ℕ) → Moving (λ st. run st budget)
+run_moving budget st = until_end_moves st (budget - st.parts.steps)
+
+pub step_moving : Moving step
+step_moving st = step_moves st
+
+stepped_blind : (target budget : ℕ) → Blind (stepped target budget)
+stepped_blind target budget o e st =
+    ap (prints (stepped_text target)) (run_behind o e st (min target budget)) ∙ prints_blind (stepped_text target) o e (run st (min target budget))
+
+stepped_moving : (target budget : ℕ) → Moving (stepped target budget)
+stepped_moving target budget st =
+    let end : State = run st (min target budget) in
+    moves_trans st end (prints (stepped_text target) end) (run_moving (min target budget) st) (prints_moving (stepped_text target) end)
+
+-- ---- go
+
+pub go_one : (marks : Marks) (st : State) (k : ℕ) → goes_on st ≡ true → go marks st (suc k) ≡ stopped_or (mark_met marks (accesses st.parts) (step st).parts) (step st) (go marks (step st) k)
+go_one marks st k h =
+    go-suc marks st k ∙ ap (λ (b : Bool). if b then stopped_or (mark_met marks (accesses st.parts) (step st).parts) (step st) (go marks (step st) k) else ending_printed st) h
+
+pub go_over : (marks : Marks) (st : State) (k : ℕ) → goes_on st ≡ false → go marks st k ≡ ending_printed st
+go_over marks st zero h = go-zero marks st
+go_over marks st (suc k) h =
+    go-suc marks st k ∙ ap (λ (b : Bool). if b then stopped_or (mark_met marks (accesses st.parts) (step st).parts) (step st) (go marks (step st) k) else ending_printed st) h
+
+stopped_blind : (stop : Option Stop) (o e : List ℕ) (s t r u : State) → t ≡ behind o e s → u ≡ behind o e r → stopped_or stop t u ≡ behind o e (stopped_or stop s r)
+stopped_blind None o e s t r u here there = there
+stopped_blind (Some stop) o e s t r u here there = ap (prints (stop_line stop)) here ∙ prints_blind (stop_line stop) o e s
+
+pub go_blind : (marks : Marks) (k : ℕ) (o e : List ℕ) (st : State) → go marks (behind o e st) k ≡ behind o e (go marks st k)
+go_blind marks zero o e st = go-zero marks (behind o e st) ∙ prints_blind ending_text o e st ∙ ap (λ (s : State). behind o e s) (sym (go-zero marks st))
+go_blind marks (suc k) o e st =
+    elim (goes_on st) as (λ b. goes_on st ≡ b → go marks (behind o e st) (suc k) ≡ behind o e (go marks st (suc k))) [
+      | true ↦ λ h.
+          go_one marks (behind o e st) k h
+          ∙ stopped_blind (mark_met marks (accesses st.parts) (step st).parts) o e (step st) (step (behind o e st)) (go marks (step st) k) (go marks (step (behind o e st)) k) (step_behind o e st)
+          (ap (λ (s : State). go marks s k) (step_behind o e st) ∙ go_blind marks k o e (step st))
+          ∙ ap (λ (s : State). behind o e s) (sym (go_one marks st k h))
+      | false ↦ λ h. go_over marks (behind o e st) (suc k) h ∙ prints_blind ending_text o e st ∙ ap (λ (s : State). behind o e s) (sym (go_over marks st (suc k) h))
+    ] refl
+
+pub stopped_moves : (stop : Option Stop) (st s r : State) → Moves st s → Moves st r → Moves st (stopped_or stop s r)
+stopped_moves None st s r here there = there
+stopped_moves (Some stop) st s r here there = moves_trans st s (prints (stop_line stop) s) here (prints_moving (stop_line stop) s)
+
+pub go_moves : (marks : Marks) (k : ℕ) (st : State) → Moves st (go marks st k)
+go_moves marks zero st = rw (go-zero marks st) (prints_moving ending_text st)
+go_moves marks (suc k) st =
+    elim (goes_on st) as (λ b. goes_on st ≡ b → Moves st (go marks st (suc k))) [
+      | true ↦ λ h. rw (go_one marks st k h) (stopped_moves (mark_met marks (accesses st.parts) (step st).parts) st (step st) (go marks (step st) k) (step_moves st)
+          (moves_trans st (step st) (go marks (step st) k) (step_moves st) (go_moves marks k (step st))))
+      | false ↦ λ h. rw (go_over marks st (suc k) h) (prints_moving ending_text st)
+    ] refl
+
+-- without a mark it is a run, and how that ended
+none_when : (b : Bool) (met : Option Stop) → met ≡ None → (if b then met else None) ≡ None
+none_when true met none = none
+none_when false met none = refl
+
+none_met : (made : List Access) (m : Parts) → mark_met no_marks made m ≡ None
+none_met made m = none_when (is_none m.ended) (watch_met no_marks m.core.pc (position (is_touched made) no_marks.watches)) refl
+
+pub go_free : (k : ℕ) (st : State) → go no_marks st k ≡ ending_printed (until_end st k)
+go_free zero st = go-zero no_marks st ∙ ap ending_printed (sym (until_end_none st))
+go_free (suc k) st =
+    elim (goes_on st) as (λ b. goes_on st ≡ b → go no_marks st (suc k) ≡ ending_printed (until_end st (suc k))) [
+      | true ↦ λ h.
+          go_one no_marks st k h
+          ∙ ap (λ (stop : Option Stop). stopped_or stop (step st) (go no_marks (step st) k)) (none_met (accesses st.parts) (step st).parts)
+          ∙ go_free k (step st)
+          ∙ ap ending_printed (sym (until_end_one st k h))
+      | false ↦ λ h. go_over no_marks st (suc k) h ∙ ap ending_printed (sym (until_end_over st (suc k) h))
+    ] refl
+
+-- ---- any command, and all commands
+
+pub obeyed_blind : (command : Command) (marks : Marks) (budget : ℕ) → Blind (obeyed command marks budget)
+obeyed_blind (Step n) marks budget o e st = stepped_blind (st.parts.steps + n) budget o e st
+obeyed_blind Go marks budget o e st = go_blind marks (budget - st.parts.steps) o e st
+obeyed_blind (Break address) marks budget o e st = prints_blind (shown (Break address)) o e st
+obeyed_blind (Watch address count) marks budget o e st = prints_blind (shown (Watch address count)) o e st
+obeyed_blind Regs marks budget o e st = prints_blind (shown Regs) o e st
+obeyed_blind (Zreg k) marks budget o e st = prints_blind (shown (Zreg k)) o e st
+obeyed_blind (Preg k) marks budget o e st = prints_blind (shown (Preg k)) o e st
+obeyed_blind Ffr marks budget o e st = prints_blind (shown Ffr) o e st
+obeyed_blind (Lanes k size) marks budget o e st = prints_blind (shown (Lanes k size)) o e st
+obeyed_blind (Mem address count) marks budget o e st = prints_blind (shown (Mem address count)) o e st
+
+pub obeyed_moving : (command : Command) (marks : Marks) (budget : ℕ) → Moving (obeyed command marks budget)
+obeyed_moving (Step n) marks budget st = stepped_moving (st.parts.steps + n) budget st
+obeyed_moving Go marks budget st = go_moves marks (budget - st.parts.steps) st
+obeyed_moving (Break address) marks budget st = prints_moving (shown (Break address)) st
+obeyed_moving (Watch address count) marks budget st = prints_moving (shown (Watch address count)) st
+obeyed_moving Regs marks budget st = prints_moving (shown Regs) st
+obeyed_moving (Zreg k) marks budget st = prints_moving (shown (Zreg k)) st
+obeyed_moving (Preg k) marks budget st = prints_moving (shown (Preg k)) st
+obeyed_moving Ffr marks budget st = prints_moving (shown Ffr) st
+obeyed_moving (Lanes k size) marks budget st = prints_moving (shown (Lanes k size)) st
+obeyed_moving (Mem address count) marks budget st = prints_moving (shown (Mem address count)) st
+
+pub all_blind : (commands : List Command) (marks : Marks) (budget : ℕ) → Blind (obeyed_all commands marks budget)
+all_blind [] marks budget o e st = refl
+all_blind (command ∷ commands) marks budget o e st =
+    ap (obeyed_all commands (marked command marks) budget) (obeyed_blind command marks budget o e st) ∙ all_blind commands (marked command marks) budget o e (obeyed command marks budget st)
+
+pub all_moving : (commands : List Command) (marks : Marks) (budget : ℕ) → Moving (obeyed_all commands marks budget)
+all_moving [] marks budget st = moves_not st
+all_moving (command ∷ commands) marks budget st =
+    let next : State = obeyed command marks budget st in
+    moves_trans st next (obeyed_all commands (marked command marks) budget next) (obeyed_moving command marks budget st) (all_moving commands (marked command marks) budget next)

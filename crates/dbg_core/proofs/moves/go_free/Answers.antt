@@ -1,0 +1,40 @@
+use Rattle.std.proofs.Common.{◌≡◌, sym, refl}
+use Rattle.emu_system.specs.Start.{with_input}
+use Rattle.emu_run.specs.Run.{run}
+use Rattle.dbg_model.specs.Session.{no_marks}
+use Rattle.dbg_core.specs.declared.ends.SessionEnd.TheVariants.{Done, ReadFault, WriteFault, ErrorsFault}
+use Rattle.dbg_core.specs.Ends.{end_of_put}
+use Rattle.dbg_core.proofs.Sessions.{prints, prints_moving, run_moving, ending_text}
+use Rattle.dbg_core.proofs.Going.{go_at, at_free}
+use Rattle.dbg_core.proofs.Obeying.{obeys_as, obeys_same, obeys_cut, obeys_line, put_read, put_write, put_errs, no_read, no_errs}
+use Rattle.dbg_core.proofs.moves.go_free.Goals as goal
+
+pub returns-in-Done : goal.returns-in-Done
+returns-in-Done g c =
+    let p = c.args.machine.now.parts in
+    let q = c.run_to.new.machine.parts in
+    let budget = c.args.budget in
+    let put = c.put_ending.result in
+    let is = c.end_of_put.ensures in
+    record {
+      obeys = obeys_as p q _ _ _ _ _ _ (go_at no_marks budget) (end_of_put put) c.end_of_put.result is
+          (obeys_same p q _ _ _ _ _ _ (λ st. prints ending_text (run st budget)) (go_at no_marks budget) (end_of_put put) (λ input. sym (at_free budget (with_input p input)))
+          (obeys_line p q (g.I.Source.left c.args.input.now) (g.I.Source.left c.run_to.new.input) (g.O.Sink.held c.args.output.now) (g.O.Sink.held c.run_to.new.output)
+          (g.E.Sink.held c.args.errors.now) (g.E.Sink.held c.run_to.new.errors) (λ st. run st budget) ending_text (g.O.Sink.held c.put_ending.new.sink) Done put
+          (run_moving budget) refl c.in-Done.ensures.obeys c.put_ending.ensures.bytes));
+      done = λ _. c.in-Done.ensures.failed;
+      read_cause = put_read put c.end_of_put.result is _ _ (c.in-Done.ensures.read_cause.kept (λ (h : Done ≡ ReadFault). cc));
+      write_cause = put_write put c.end_of_put.result is _ _ _ (c.in-Done.ensures.write_cause.kept (λ (h : Done ≡ WriteFault). cc)) c.put_ending.ensures.cause;
+      errors_cause = put_errs put c.end_of_put.result is _ _ (c.in-Done.ensures.errors_cause.kept (λ (h : Done ≡ ErrorsFault). cc));
+      read_named = λ h. no_read put c.end_of_put.result is _ h;
+      errors_named = λ h. no_errs put c.end_of_put.result is _ h;
+    }
+
+pub returns-in_default-clause-obeys : goal.returns-in_default-clause-obeys
+returns-in_default-clause-obeys g c =
+    let p = c.args.machine.now.parts in
+    let q = c.run_to.new.machine.parts in
+    let budget = c.args.budget in
+    obeys_same p q _ _ _ _ _ _ (λ st. prints ending_text (run st budget)) (go_at no_marks budget) c.run_to.result (λ input. sym (at_free budget (with_input p input)))
+    (obeys_cut p q (g.I.Source.left c.args.input.now) (g.I.Source.left c.run_to.new.input) (g.O.Sink.held c.args.output.now) (g.O.Sink.held c.run_to.new.output)
+    (g.E.Sink.held c.args.errors.now) (g.E.Sink.held c.run_to.new.errors) (λ st. run st budget) (prints ending_text) c.run_to.result (prints_moving ending_text) c.in_default.not-Done c.run_to.ensures.obeys)

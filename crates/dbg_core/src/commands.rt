@@ -1,0 +1,90 @@
+//! The commands of a script, one after the other.
+ghost use Rattle.std.specs.Prelude.{◌≡◌, ◌<◌, false, length, slice_get, IsTrue, Some};
+ghost use Rattle.io_gate.specs.Streams.{Causes};
+ghost use Rattle.linux_calls.specs.Names.{NamesRead};
+ghost use Rattle.emu_machine.specs.Machines.{MakesWrite};
+ghost use Rattle.emu_machine.specs.Ends.{Becomes, TakesWithin, Puts};
+ghost use Rattle.dbg_model.specs.Commands.{is_within};
+ghost use Rattle.dbg_model.specs.Session as model;
+ghost use Rattle.dbg_core.specs.Ends.{Obeys, is_fault};
+
+use crate::ends::{SessionEnd, end_of_put};
+use crate::lines::put_shown;
+use crate::marks::Marks;
+use crate::moves::{go, step};
+use dbg_model::{Command, Script};
+use emu_machine::Machine;
+use io_gate::{Sink, Source};
+
+/// The command at a place.
+fn command_at(commands: &[Command], k: usize) -> &Command
+    requires { k < length commands.now }
+    ensures { slice_get commands.now k ≡ Some result.now }
+{
+    &commands[k]
+}
+
+/// Obeys one command.
+fn obey<I: Source, O: Sink, E: Sink>(
+    command: &Command,
+    marks: &Marks,
+    machine: &mut Machine,
+    budget: u64,
+    input: &mut I,
+    output: &mut O,
+    errors: &mut E,
+) -> SessionEnd
+    requires failed { machine.old.failed ≡ false }
+    requires within { IsTrue (is_within command.now) }
+    ensures obeys { Obeys (model.obeyed command.now marks.now budget) machine.old.parts machine.new.parts (I.left input.old) (I.left input.new) (O.held output.old) (O.held output.new) (E.held errors.old) (E.held errors.new) result }
+    ensures done { result ≡ SessionEnd.Done → machine.new.failed ≡ false }
+    ensures read_cause { Causes (result ≡ SessionEnd.ReadFault) (I.faults input.old) (I.faults input.new) }
+    ensures write_cause { Causes (result ≡ SessionEnd.WriteFault) (O.faults output.old) (O.faults output.new) }
+    ensures errors_cause { Causes (result ≡ SessionEnd.ErrorsFault) (E.faults errors.old) (E.faults errors.new) }
+    ensures read_named { result ≡ SessionEnd.ReadFault → NamesRead machine.new.parts.core }
+    ensures errors_named { result ≡ SessionEnd.ErrorsFault → MakesWrite machine.new.parts 2 }
+{
+    match command {
+        Command::Step(n) => step(machine, *n, budget, input, output, errors),
+        Command::Go => go(machine, marks, budget, input, output, errors),
+        shown => end_of_put(put_shown(shown, machine, output)),
+    }
+}
+
+/// Obeys the commands of a script, by a machine with a budget of steps. What the commands print goes to `output`, between the bytes that the
+/// program writes there.
+///
+/// A fault is answered only where that stream failed, and then the session is broken off: what was put are first bytes of what the whole
+/// session puts, and no more was taken. `WriteFault` also stands for the session's own lines. It takes no memory.
+pub fn session<I: Source, O: Sink, E: Sink>(
+    machine: &mut Machine,
+    script: &Script,
+    budget: u64,
+    input: &mut I,
+    output: &mut O,
+    errors: &mut E,
+) -> SessionEnd
+    requires { machine.old.failed ≡ false }
+    ensures state { Becomes (model.session script.now budget) machine.old.parts machine.new.parts (I.left input.old) (I.left input.new) (is_fault result) }
+    ensures input { TakesWithin (model.session script.now budget) machine.old.parts (I.left input.old) (I.left input.new) (is_fault result) }
+    ensures output { Puts (λ st. (model.session script.now budget st).output) machine.old.parts (I.left input.old) (O.held output.old) (O.held output.new) (is_fault result) }
+    ensures errors { Puts (λ st. (model.session script.now budget st).errors) machine.old.parts (I.left input.old) (E.held errors.old) (E.held errors.new) (is_fault result) }
+    ensures done { result ≡ SessionEnd.Done → machine.new.failed ≡ false }
+    ensures read_cause { Causes (result ≡ SessionEnd.ReadFault) (I.faults input.old) (I.faults input.new) }
+    ensures write_cause { Causes (result ≡ SessionEnd.WriteFault) (O.faults output.old) (O.faults output.new) }
+    ensures errors_cause { Causes (result ≡ SessionEnd.ErrorsFault) (E.faults errors.old) (E.faults errors.new) }
+    ensures read_named { result ≡ SessionEnd.ReadFault → NamesRead machine.new.parts.core }
+    ensures errors_named { result ≡ SessionEnd.ErrorsFault → MakesWrite machine.new.parts 2 }
+{
+    let commands = script.commands();
+    let mut marks = Marks::new();
+    'walk: for k in 0..commands.len() {
+        let command = command_at(commands, k);
+        match obey(command, &marks, machine, budget, input, output, errors) {
+            SessionEnd::Done => {}
+            end => return end,
+        }
+        marks.add(command);
+    }
+    SessionEnd::Done
+}

@@ -1,0 +1,95 @@
+//! The lines that a session puts to the output.
+ghost use Rattle.std.specs.Prelude.{◌≡◌, ◌+◌, IsTrue};
+ghost use Rattle.io_gate.specs.Streams.{HasCause, PutsAll};
+ghost use Rattle.emu_run.specs.Outcome.{ending_line};
+ghost use Rattle.emu_run.specs.Registers.{scalar_lines};
+ghost use Rattle.dbg_model.specs.Commands.{is_within};
+ghost use Rattle.dbg_model.specs.Session.{lanes_line, shown, stepped_text, stop_line};
+
+use dbg_model::{Command, Stop};
+use emu_bits::{Esize, Reg};
+use emu_machine::{Ended, Machine};
+use emu_report::{
+    put_break, put_exit, put_ffr, put_lanes, put_memory, put_preg, put_scalars, put_spent,
+    put_step, put_trap, put_watch, put_zreg,
+};
+use io_gate::{Failed, Sink};
+
+/// Puts how the machine ended, or that its budget is spent.
+pub fn put_ending<S: Sink>(machine: &Machine, sink: &mut S) -> Result<(), Failed>
+    ensures bytes { PutsAll (S.held sink.old) (S.held sink.new) (ending_line machine.now.parts machine.now.parts.ended) result }
+    ensures cause { HasCause (S.faults sink.old) (S.faults sink.new) result }
+{
+    match machine.ending() {
+        None => put_spent(machine.steps(), sink),
+        Some(Ended::Exit(code)) => put_exit(code, machine.steps(), sink),
+        Some(Ended::Trap(trap)) => put_trap(&trap, machine.core().pc(), machine.steps(), sink),
+    }
+}
+
+/// Puts what comes of `n` steps of a machine that had counted `steps`: that they were counted, or how the machine ended.
+pub fn put_stepped<S: Sink>(
+    steps: u64,
+    n: u64,
+    machine: &Machine,
+    sink: &mut S,
+) -> Result<(), Failed>
+    ensures bytes { PutsAll (S.held sink.old) (S.held sink.new) (stepped_text (steps + n) machine.now.parts) result }
+    ensures cause { HasCause (S.faults sink.old) (S.faults sink.new) result }
+{
+    let counted = u128::from(machine.steps()) == u128::from(steps) + u128::from(n);
+    if counted && machine.ending().is_none() {
+        put_step(machine.steps(), machine.core().pc(), sink)
+    } else {
+        put_ending(machine, sink)
+    }
+}
+
+/// Puts where the machine stopped.
+pub fn put_stop<S: Sink>(stop: Stop, machine: &Machine, sink: &mut S) -> Result<(), Failed>
+    ensures bytes { PutsAll (S.held sink.old) (S.held sink.new) (stop_line stop machine.now.parts) result }
+    ensures cause { HasCause (S.faults sink.old) (S.faults sink.new) result }
+{
+    match stop {
+        Stop::AtWatch(number) => put_watch(number, machine.steps(), machine.core().pc(), sink),
+        Stop::AtBreak => put_break(machine.steps(), machine.core().pc(), sink),
+    }
+}
+
+/// Puts the scalar registers and the vector length of a machine.
+fn put_machine_scalars<S: Sink>(machine: &Machine, sink: &mut S) -> Result<(), Failed>
+    ensures bytes { PutsAll (S.held sink.old) (S.held sink.new) (scalar_lines machine.now.parts.core machine.now.parts.vectors.bits) result }
+    ensures cause { HasCause (S.faults sink.old) (S.faults sink.new) result }
+{
+    put_scalars(machine.core(), machine.vec(), sink)
+}
+
+/// Puts the lanes of a Z register of a machine.
+fn put_machine_lanes<S: Sink>(
+    k: Reg,
+    size: Esize,
+    machine: &Machine,
+    sink: &mut S,
+) -> Result<(), Failed>
+    ensures bytes { PutsAll (S.held sink.old) (S.held sink.new) (lanes_line machine.now.parts.vectors k size) result }
+    ensures cause { HasCause (S.faults sink.old) (S.faults sink.new) result }
+{
+    put_lanes(k, size, machine.vec(), sink)
+}
+
+/// Puts what a command shows of a machine that it doesn't move.
+pub fn put_shown<S: Sink>(command: &Command, machine: &Machine, sink: &mut S) -> Result<(), Failed>
+    requires { IsTrue (is_within command.now) }
+    ensures bytes { PutsAll (S.held sink.old) (S.held sink.new) (shown command.now machine.now.parts) result }
+    ensures cause { HasCause (S.faults sink.old) (S.faults sink.new) result }
+{
+    match command {
+        Command::Regs => put_machine_scalars(machine, sink),
+        Command::Zreg(k) => put_zreg(*k, machine.vec(), sink),
+        Command::Preg(k) => put_preg(*k, machine.vec(), sink),
+        Command::Ffr => put_ffr(machine.vec(), sink),
+        Command::Lanes(k, size) => put_machine_lanes(*k, *size, machine, sink),
+        Command::Mem(address, count) => put_memory(*address, *count, machine.mem(), sink),
+        Command::Step(_) | Command::Go | Command::Break(_) | Command::Watch(_, _) => Ok(()),
+    }
+}
