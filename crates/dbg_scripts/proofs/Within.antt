@@ -1,5 +1,5 @@
 -- The numbers of a command that was read are in its ranges.
-use Rattle.std.proofs.Common.{◌≡◌, ℕ, ◌^◌, ◌-◌, ◌<◌, ◌≤◌, Bool, true, false, ◌&&◌, List, [], get_or, Option, Some, None, Result, Ok, Err, nat_le, nat_lt, if◌then◌else◌, refl, sym, ap, subst, ◌∙◌, arith, codes}
+use Rattle.std.proofs.Common.{◌≡◌, ℕ, ◌^◌, ◌-◌, Bool, true, false, ◌&&◌, List, [], get_or, Option, Some, None, Result, Ok, Err, nat_le, nat_lt, if◌then◌else◌, refl, subst, arith, codes}
 use Rattle.std.specs.Prelude.{slice_get, length}
 use Rattle.std.specs.Option.{option_map_or}
 use Rattle.std.specs.Str.{bytes_eq}

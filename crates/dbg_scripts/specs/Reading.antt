@@ -1,7 +1,5 @@
 -- What is left behind a call that reads a part of a script.
-use Rattle.std.specs.Prelude.{◌≡◌, ℕ, List, map, Result, Ok, Err, MatchResult}
-use Rattle.std.specs.Global.{Global}
-use Rattle.dbg_model.specs.declared.script.Command.{Command}
+use Rattle.std.specs.Prelude.{◌≡◌, Result, Ok, Err}
 use Rattle.dbg_model.specs.declared.script.ScriptFault.{ScriptFault}
 use Rattle.dbg_scripts.specs.declared.reader.ScriptError.{ScriptError}
 use Rattle.dbg_scripts.specs.declared.reader.ScriptError.TheVariants.{Refused, OutOfMemory}

@@ -1,27 +1,37 @@
-//! Reads texts of vector instructions as another program writes them, and writes the lines that differ.
+//! Reads texts of instructions as another program writes them, and writes the lines that differ.
 //!
 //! A line has two columns, with a tab between them: a word of eight hexadecimal digits, and the text that GNU's `objdump` has for
-//! it with `-M no-aliases`. The lines are all of its vector instructions of the table whose text is in the syntax of listings, with
-//! ranges of registers written out; the others are shifted immediates that it writes as one number, bitmasks that it writes at a
-//! lane's size, and counts behind which it leaves `mul #1` out.
+//! it with `-M no-aliases`. The lines are its instructions of the table whose text is in the syntax of listings, with ranges of
+//! registers written out. The others are: targets, which are aimed at later; extensions without an amount; barriers and prefetches by
+//! name; bitmasks whose rotation isn't the least, or at a lane's size; shifted immediates of lanes as one number; and counts behind
+//! which `mul #1` is left out.
 #![tactic(auto)]
 
+use a64_rows::encode_a64;
+use asm_a64::read_a64;
 use asm_sve::read_sve;
+use std::alloc::Global;
 use std::io;
 use sve_rows::encode_sve;
 
-/// The word of a statement.
-fn word_of(text: &str) -> Option<u32> {
+/// The word of a statement without a target.
+fn word_of(alloc: Global, text: &str) -> Option<u32> {
     let (name, rest) = text.split_once(' ').unwrap_or((text, ""));
-    let insn = read_sve(name, rest).ok()?;
-    Some(encode_sve(&insn))
+    if let Ok(insn) = read_sve(name, rest) {
+        return Some(encode_sve(&insn));
+    }
+    let line = read_a64(alloc, name, rest).ok()?;
+    if line.target.is_some() {
+        return None;
+    }
+    Some(encode_a64(&line.insn))
 }
 
 /// Whether the text of a line is read as its word.
-fn agrees(line: &str) -> Option<bool> {
+fn agrees(alloc: Global, line: &str) -> Option<bool> {
     let (digits, text) = line.split_once('\t')?;
     let word = u32::from_str_radix(digits, 16).ok()?;
-    Some(word_of(text) == Some(word))
+    Some(word_of(alloc, text) == Some(word))
 }
 
 fn main(rt: HostRuntime) -> io::Result<()> {
@@ -30,7 +40,7 @@ fn main(rt: HostRuntime) -> io::Result<()> {
     for line in rt.lines(rt.alloc()) {
         let line = line?;
         texts = texts.saturating_add(1);
-        if agrees(line.as_str()) != Some(true) {
+        if agrees(rt.alloc(), line.as_str()) != Some(true) {
             differ = differ.saturating_add(1);
             println!(rt; "differs: {line}")?;
         }
