@@ -114,6 +114,10 @@ runner_in_time() {
     printf 'echo "$$" >"%s"; printf begin >&2; exec sleep 100' "$scratch/id" | stand_in
     for case in "TERM 143" "HUP 129"; do
         signal=${case% *}
+        if [ "$(sh -c "kill -s $signal \$\$; echo ignored" 2>/dev/null)" = ignored ]; then
+            skip "ended by SIG$signal" "it is ignored here, as under nohup"
+            continue
+        fi
         rm -f "$scratch/id"
         SVEMU=$scratch/stand-in "$runner" p >"$scratch/output" 2>"$scratch/errors" &
         child=$!
