@@ -1,5 +1,5 @@
 #!/bin/sh
-# Tests what stands beside the proved program: the examples, the runner, the manual page, the installation and the recipes of
+# Tests what stands beside the proved program: the examples, the listings, the runner, the manual page, the installation and the recipes of
 # docs/TESTING_YOUR_CODE.md. The program is the one that SVEMU names, else ./svemu. The last line is 'N passed, M failed, K skipped'.
 set -u
 
@@ -136,18 +136,22 @@ manual_page() {
         return
     fi
     run env LC_ALL=C.UTF-8 MANWIDTH=100 man --warnings -l docs/svemu.1
-    holds "the manual page is shown" grep -q 'runs a static AArch64 program' "$scratch/output"
+    holds "the manual page is shown" grep -q 'runs static AArch64 programs' "$scratch/output"
     holds "without a warning" [ ! -s "$scratch/errors" ]
 }
 
 . tests/runner.sh
 . tests/recipes.sh
+. tests/listings.sh
 
 run "$SVEMU" run crates/svemu/data/exit7.elf --vl 128 --budget 10
 holds "svemu is there" [ "$status" -eq 7 ]
 if [ "$failed" -eq 0 ]; then
     examples "$top/examples" "checked in:"
     builds
+    listings
+    listing_refusals
+    gnu_texts
     runner_passes_on
     runner_and_stand_ins
     runner_in_time

@@ -1,5 +1,8 @@
 //! The instruction of a word: a line is chosen by bits that are outside of the fields of all lines left, and the lines
 //! that these bits leave are tried in turn.
+//!
+//! `Site` names the place of the call. Each place has these functions for itself, so that the compiler can take them into their caller where
+//! it is the only one.
 ghost use Rattle.std.specs.Prelude.{◌≡◌, [], ◌∷◌};
 ghost use Rattle.emu_bits.specs.Rows.{decode};
 ghost use Rattle.a64_insn.specs.Table.{a64_table};
@@ -25,28 +28,28 @@ use a64_insn::A64;
 use emu_bits::bits;
 
 /// The instruction of a word, found by bits 28 to 27.
-pub fn find(w: u32) -> Option<A64>
+pub fn find<Site>(w: u32) -> Option<A64>
     ensures { seen result ≡ decode a64_table w }
 {
     match bits(w, 28, 27) {
-        0b01 => words_01(w),
-        0b10 => words_10(w),
-        0b11 => words_11(w),
+        0b01 => words_01::<Site>(w),
+        0b10 => words_10::<Site>(w),
+        0b11 => words_11::<Site>(w),
         _ => None,
     }
 }
 
 /// Registers with a shift or an extension, pairs, exclusive accesses and the move of a vector immediate, by bit 25.
-fn words_01(w: u32) -> Option<A64>
+fn words_01<Site>(w: u32) -> Option<A64>
     ensures { seen result ≡ decode lines_01 w }
 {
     match bits(w, 25, 25) {
-        0b0 => words_of_pairs_and_exclusives(w),
-        _ => words_01_1(w),
+        0b0 => words_of_pairs_and_exclusives::<Site>(w),
+        _ => words_01_1::<Site>(w),
     }
 }
 
-fn words_of_pairs_and_exclusives(w: u32) -> Option<A64>
+fn words_of_pairs_and_exclusives<Site>(w: u32) -> Option<A64>
     ensures { seen result ≡ decode (pair ∷ store_ex ∷ load_ex ∷ ordered ∷ []) w }
 {
     if let Some(i) = pair(w) {
@@ -62,18 +65,18 @@ fn words_of_pairs_and_exclusives(w: u32) -> Option<A64>
 }
 
 /// Registers with a shift or an extension, and the move of a vector immediate, by bits 26 to 24.
-fn words_01_1(w: u32) -> Option<A64>
+fn words_01_1<Site>(w: u32) -> Option<A64>
     ensures { seen result ≡ decode lines_01_1 w }
 {
     match bits(w, 26, 24) {
         0b010 => logic_reg(w),
-        0b011 => words_of_register_sums(w),
+        0b011 => words_of_register_sums::<Site>(w),
         0b111 => move_imm(w),
         _ => None,
     }
 }
 
-fn words_of_register_sums(w: u32) -> Option<A64>
+fn words_of_register_sums<Site>(w: u32) -> Option<A64>
     ensures { seen result ≡ decode (add_reg ∷ add_ext ∷ []) w }
 {
     if let Some(i) = add_reg(w) {
@@ -83,28 +86,28 @@ fn words_of_register_sums(w: u32) -> Option<A64>
 }
 
 /// Immediates and branches, by bit 26.
-fn words_10(w: u32) -> Option<A64>
+fn words_10<Site>(w: u32) -> Option<A64>
     ensures { seen result ≡ decode lines_10 w }
 {
     match bits(w, 26, 26) {
-        0b0 => words_of_immediates(w),
-        _ => words_of_branches(w),
+        0b0 => words_of_immediates::<Site>(w),
+        _ => words_of_branches::<Site>(w),
     }
 }
 
 /// By bits 25 to 24.
-fn words_of_immediates(w: u32) -> Option<A64>
+fn words_of_immediates<Site>(w: u32) -> Option<A64>
     ensures { seen result ≡ decode immediates w }
 {
     match bits(w, 25, 24) {
         0b00 => adr(w),
         0b01 => add_imm(w),
-        0b10 => words_of_logic_and_moves(w),
-        _ => words_of_bitfields(w),
+        0b10 => words_of_logic_and_moves::<Site>(w),
+        _ => words_of_bitfields::<Site>(w),
     }
 }
 
-fn words_of_logic_and_moves(w: u32) -> Option<A64>
+fn words_of_logic_and_moves<Site>(w: u32) -> Option<A64>
     ensures { seen result ≡ decode (logic_imm ∷ move_wide ∷ []) w }
 {
     if let Some(i) = logic_imm(w) {
@@ -113,7 +116,7 @@ fn words_of_logic_and_moves(w: u32) -> Option<A64>
     move_wide(w)
 }
 
-fn words_of_bitfields(w: u32) -> Option<A64>
+fn words_of_bitfields<Site>(w: u32) -> Option<A64>
     ensures { seen result ≡ decode (bitfield ∷ extract ∷ []) w }
 {
     if let Some(i) = bitfield(w) {
@@ -123,18 +126,18 @@ fn words_of_bitfields(w: u32) -> Option<A64>
 }
 
 /// Branches, exceptions and system, by bits 30 to 29.
-fn words_of_branches(w: u32) -> Option<A64>
+fn words_of_branches<Site>(w: u32) -> Option<A64>
     ensures { seen result ≡ decode branches w }
 {
     match bits(w, 30, 29) {
         0b00 => branch(w),
-        0b01 => words_of_compares(w),
-        0b10 => words_of_branches_10(w),
+        0b01 => words_of_compares::<Site>(w),
+        0b10 => words_of_branches_10::<Site>(w),
         _ => None,
     }
 }
 
-fn words_of_compares(w: u32) -> Option<A64>
+fn words_of_compares<Site>(w: u32) -> Option<A64>
     ensures { seen result ≡ decode (compare ∷ test_branch ∷ []) w }
 {
     if let Some(i) = compare(w) {
@@ -144,18 +147,18 @@ fn words_of_compares(w: u32) -> Option<A64>
 }
 
 /// Branches on a condition or to a register, exceptions and system, by bits 25 to 24.
-fn words_of_branches_10(w: u32) -> Option<A64>
+fn words_of_branches_10<Site>(w: u32) -> Option<A64>
     ensures { seen result ≡ decode branches_10 w }
 {
     match bits(w, 25, 24) {
-        0b00 => words_of_exceptions(w),
-        0b01 => words_of_system(w),
+        0b00 => words_of_exceptions::<Site>(w),
+        0b01 => words_of_system::<Site>(w),
         0b10 => branch_reg(w),
         _ => None,
     }
 }
 
-fn words_of_exceptions(w: u32) -> Option<A64>
+fn words_of_exceptions<Site>(w: u32) -> Option<A64>
     ensures { seen result ≡ decode (branch_cond ∷ except ∷ []) w }
 {
     if let Some(i) = branch_cond(w) {
@@ -164,7 +167,7 @@ fn words_of_exceptions(w: u32) -> Option<A64>
     except(w)
 }
 
-fn words_of_system(w: u32) -> Option<A64>
+fn words_of_system<Site>(w: u32) -> Option<A64>
     ensures { seen result ≡ decode (hint ∷ barrier ∷ read_sys ∷ write_sys ∷ []) w }
 {
     if let Some(i) = hint(w) {
@@ -180,18 +183,18 @@ fn words_of_system(w: u32) -> Option<A64>
 }
 
 /// Single accesses and the other registers, by bits 25 to 24.
-fn words_11(w: u32) -> Option<A64>
+fn words_11<Site>(w: u32) -> Option<A64>
     ensures { seen result ≡ decode lines_11 w }
 {
     match bits(w, 25, 24) {
-        0b00 => words_of_accesses(w),
+        0b00 => words_of_accesses::<Site>(w),
         0b01 => ls_unsigned(w),
-        0b10 => words_11_10(w),
-        _ => words_of_products(w),
+        0b10 => words_11_10::<Site>(w),
+        _ => words_of_products::<Site>(w),
     }
 }
 
-fn words_of_accesses(w: u32) -> Option<A64>
+fn words_of_accesses<Site>(w: u32) -> Option<A64>
     ensures { seen result ≡ decode (ls_unscaled ∷ ls_post ∷ ls_pre ∷ ls_reg ∷ ls_literal ∷ []) w }
 {
     if let Some(i) = ls_unscaled(w) {
@@ -210,21 +213,21 @@ fn words_of_accesses(w: u32) -> Option<A64>
 }
 
 /// Carries, conditions, one and two sources, and moves between register files, by bits 23 to 21.
-fn words_11_10(w: u32) -> Option<A64>
+fn words_11_10<Site>(w: u32) -> Option<A64>
     ensures { seen result ≡ decode lines_11_10 w }
 {
     match bits(w, 23, 21) {
         0b000 => add_carry(w),
         0b001 => f_move(w),
-        0b010 => words_of_comparisons(w),
+        0b010 => words_of_comparisons::<Site>(w),
         0b011 => f_move(w),
         0b100 => select(w),
-        0b110 => words_of_sources(w),
+        0b110 => words_of_sources::<Site>(w),
         _ => None,
     }
 }
 
-fn words_of_comparisons(w: u32) -> Option<A64>
+fn words_of_comparisons<Site>(w: u32) -> Option<A64>
     ensures { seen result ≡ decode (cond_reg ∷ cond_imm ∷ []) w }
 {
     if let Some(i) = cond_reg(w) {
@@ -233,7 +236,7 @@ fn words_of_comparisons(w: u32) -> Option<A64>
     cond_imm(w)
 }
 
-fn words_of_sources(w: u32) -> Option<A64>
+fn words_of_sources<Site>(w: u32) -> Option<A64>
     ensures { seen result ≡ decode (two_source ∷ one_source ∷ rev ∷ []) w }
 {
     if let Some(i) = two_source(w) {
@@ -245,7 +248,7 @@ fn words_of_sources(w: u32) -> Option<A64>
     rev(w)
 }
 
-fn words_of_products(w: u32) -> Option<A64>
+fn words_of_products<Site>(w: u32) -> Option<A64>
     ensures { seen result ≡ decode (mul_add ∷ mul_long ∷ mul_high ∷ []) w }
 {
     if let Some(i) = mul_add(w) {

@@ -1,6 +1,6 @@
 -- A word aimed at another target is the word of a row.
-use Rattle.std.proofs.Common.{◌≡◌, ℕ, zero, suc, ◌+◌, ◌-◌, ◌*◌, ◌/◌, ◌%◌, ◌^◌, ◌<◌, ◌≤◌, ◌==◌, ◌&&◌, if◌then◌else◌, cond, Bool, true, false, Option, Some, None, List, [], ◌∷◌, ◌++◌, get_or, bit_and, bit_or, nat_le, refl, sym, ap, ap₂, ◌∙◌, subst, arith, inl, inr}
-use Rattle.std.proofs.lemmas.Bool.{cases_Bool, and_parts, eqb-true, false≢true}
+use Rattle.std.proofs.Common.{◌≡◌, ℕ, zero, suc, ◌+◌, ◌-◌, ◌*◌, ◌/◌, ◌%◌, ◌^◌, ◌<◌, ◌==◌, ◌&&◌, if◌then◌else◌, cond, Bool, true, false, Option, Some, None, List, [], ◌∷◌, get_or, bit_and, bit_or, nat_le, refl, sym, ap, ap₂, ◌∙◌, subst, arith}
+use Rattle.std.proofs.lemmas.Bool.{and_parts, eqb-true, false≢true}
 use Rattle.std.proofs.lemmas.Nat.{and_comm, and_assoc, pow_pos}
 use Rattle.std.specs.Prelude.{is_some}
 use lib.Bits.{and_zero_r, or_zero_r, and_self}
@@ -10,7 +10,7 @@ use Rattle.emu_bits.proofs.Encoding.{answer_of, fixed_field, and_over_or}
 use Rattle.text_model.specs.Slots.{bits_in, joined, address}
 use Rattle.text_model.specs.Told.{parted, Built, put_all}
 use Rattle.text_model.specs.Reading.{Pattern}
-use Rattle.text_model.specs.Text.{chosen, ones_of}
+use Rattle.text_model.specs.Text.{ones_of}
 use Rattle.text_model.specs.Aim.{Reach, reach_of, reach_bits, number_to, aimed}
 use Rattle.text_model.proofs.Building.{are_places, parted_so, masked, with_bits, all_put, nothing}
 use Rattle.text_model.proofs.Own.{parts_told}
@@ -23,10 +23,10 @@ use Rattle.a64_insn.specs.Data.{adr, add_imm, logic_imm, move_wide, bitfield, ex
 use Rattle.a64_insn.specs.Flow.{branch, branch_cond, compare, test_branch, branch_reg, except, hint, barrier, read_sys, write_sys}
 use Rattle.a64_insn.specs.Memory.{ls_unsigned, ls_unscaled, ls_post, ls_pre, ls_reg, ls_literal, pair, store_ex, load_ex, ordered}
 use Rattle.a64_insn.specs.BitMoves.{f_move, move_imm}
-use Rattle.a64_texts.specs.Data.{data_lines, adr_texts, add_imm_texts, logic_imm_texts, move_wide_texts, bitfield_texts, extract_texts, logic_reg_texts, add_reg_texts, add_ext_texts, add_carry_texts, cond_reg_texts, cond_imm_texts, select_texts, mul_add_texts, mul_long_texts, mul_high_texts, two_source_texts, one_source_texts, rev_texts}
-use Rattle.a64_texts.specs.Flow.{flow_lines, branch_texts, branch_cond_texts, compare_texts, test_texts, branch_reg_texts, except_texts, hint_texts, barrier_texts, read_sys_texts, write_sys_texts}
-use Rattle.a64_texts.specs.Memory.{memory_lines, ls_unsigned_texts, ls_unscaled_texts, ls_post_texts, ls_pre_texts, ls_reg_texts, ls_reg_lines, ls_literal_texts, pair_texts, store_ex_texts, load_ex_texts, ordered_texts}
-use Rattle.a64_texts.specs.BitMoves.{last_lines, f_move_texts, move_imm_texts}
+use Rattle.a64_texts.specs.Data.{adr_texts, add_imm_texts, logic_imm_texts, move_wide_texts, bitfield_texts, extract_texts, logic_reg_texts, add_reg_texts, add_ext_texts, add_carry_texts, cond_reg_texts, cond_imm_texts, select_texts, mul_add_texts, mul_long_texts, mul_high_texts, two_source_texts, one_source_texts, rev_texts}
+use Rattle.a64_texts.specs.Flow.{branch_texts, branch_cond_texts, compare_texts, test_texts, branch_reg_texts, except_texts, hint_texts, barrier_texts, read_sys_texts, write_sys_texts}
+use Rattle.a64_texts.specs.Memory.{ls_unsigned_texts, ls_unscaled_texts, ls_post_texts, ls_pre_texts, ls_reg_texts, ls_reg_lines, ls_literal_texts, pair_texts, store_ex_texts, load_ex_texts, ordered_texts}
+use Rattle.a64_texts.specs.BitMoves.{f_move_texts, move_imm_texts}
 use Rattle.a64_insn.specs.Memory.{ls_literal_holds_for}
 use Rattle.a64_rows.specs.Lines.{line_number}
 use Rattle.a64_rows.proofs.Laws.{one_row}

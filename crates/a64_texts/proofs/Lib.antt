@@ -2,5 +2,5 @@ pub mod Legible
 pub mod Examples
 pub mod Totals
 pub mod ReadBack
-pub mod Parts
 pub mod Aimed
+pub mod Numbered

@@ -5,5 +5,3 @@ pub mod BitMoves
 pub mod Aliases
 pub mod Table
 pub mod Law
-pub mod Lines
-pub mod Names

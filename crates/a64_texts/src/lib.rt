@@ -13,19 +13,21 @@ ghost use Rattle.std.specs.Prelude.{◌≡◌, ℕ, ◌^◌, ◌<◌, true, [], 
 ghost use Rattle.emu_bits.specs.Rows.{IsRow};
 ghost use Rattle.a64_insn.specs.declared.form.A64Form.{A64Form};
 ghost use Rattle.a64_insn.specs.Table.{row_of};
-ghost use Rattle.text_code.specs.Tables.{patterns_of};
+ghost use Rattle.text_code.specs.Tables.{lines_of, patterns_of};
 ghost use Rattle.text_model.specs.Aim.{aimed};
-ghost use Rattle.a64_texts.specs.Lines.{lines_of};
 ghost use Rattle.a64_texts.specs.Law.{in_table, is_canonical_form, reach, unaimed_word, IsReadBack};
+ghost use Rattle.a64_texts.specs.BitMoves.{last_lines};
+ghost use Rattle.a64_texts.specs.Data.{data_lines};
+ghost use Rattle.a64_texts.specs.Flow.{flow_lines};
+ghost use Rattle.a64_texts.specs.Memory.{memory_lines};
 ghost use Rattle.a64_texts.specs.Table.{a64_lines};
 
 use a64_rows::decode_a64;
-use text_code::{Pattern, Spot, Table};
+use text_code::{Pattern, Spot, Table, line_of};
 
-/// The patterns of each line of the table, in the table's order, those of offsets in registers in six parts, and behind them those of
-/// other names.
-fn all_lines() -> [&'static [Pattern]; 47]
-    ensures { lines_of result ≡ a64_lines }
+/// The patterns of the lines of data processing.
+fn data_lines() -> [&'static [Pattern]; 19]
+    ensures { lines_of result ≡ data_lines }
 {
     [
         &data::ADR,
@@ -47,6 +49,14 @@ fn all_lines() -> [&'static [Pattern]; 47]
         &data::TWO_SOURCE,
         &data::ONE_SOURCE,
         &data::REV,
+    ]
+}
+
+/// The patterns of the lines of branches and of system instructions.
+fn flow_lines() -> [&'static [Pattern]; 10]
+    ensures { lines_of result ≡ flow_lines }
+{
+    [
         &flow::BRANCH,
         &flow::BRANCH_COND,
         &flow::COMPARE,
@@ -57,6 +67,14 @@ fn all_lines() -> [&'static [Pattern]; 47]
         &flow::BARRIER,
         &flow::READ_SYS,
         &flow::WRITE_SYS,
+    ]
+}
+
+/// The patterns of the lines of loads and stores; those of offsets in registers stand in six parts.
+fn memory_lines() -> [&'static [Pattern]; 15]
+    ensures { lines_of result ≡ memory_lines }
+{
+    [
         &memory::LS_UNSIGNED,
         &memory::LS_UNSCALED,
         &memory::LS_POST,
@@ -72,18 +90,29 @@ fn all_lines() -> [&'static [Pattern]; 47]
         &memory::STORE_EX,
         &memory::LOAD_EX,
         &memory::ORDERED,
-        &bit_moves::F_MOVE,
-        &bit_moves::MOVE_IMM,
-        &aliases::ALIASES,
     ]
 }
 
-/// The patterns of the line of this number; none behind the last.
-fn line_of(lines: &[&'static [Pattern]], number: u8) -> &'static [Pattern]
-    ensures { patterns_of result.now ≡ get_or (lines_of lines.now) number [] }
+/// The patterns of the moves of bits, and behind them those of other names.
+fn last_lines() -> [&'static [Pattern]; 3]
+    ensures { lines_of result ≡ last_lines }
 {
-    let at = usize::from(number);
-    if at < lines.len() { lines[at] } else { &[] }
+    [&bit_moves::F_MOVE, &bit_moves::MOVE_IMM, &aliases::ALIASES]
+}
+
+/// The patterns of the line of this number, by the parts of the table; none behind the last.
+fn line_numbered(number: u8) -> &'static [Pattern]
+    ensures { patterns_of result.now ≡ get_or a64_lines number [] }
+{
+    if number < 19 {
+        line_of(&data_lines(), number)
+    } else if number < 29 {
+        line_of(&flow_lines(), number - 19)
+    } else if number < 44 {
+        line_of(&memory_lines(), number - 29)
+    } else {
+        line_of(&last_lines(), number - 44)
+    }
 }
 
 /// The texts of A64 instructions.
@@ -96,7 +125,7 @@ impl Table for A64Texts {
     ghost in_table = { λ t. in_table };
 
     fn line(&self, number: u8) -> &'static [Pattern] {
-        line_of(&all_lines(), number)
+        line_numbered(number)
     }
 
     fn spots(&self, name: &str) -> &'static [Spot] {
@@ -114,8 +143,7 @@ pub fn printed_text_is_read()
     ensures { (f : A64Form) (pc : ℕ) → IsRow (row_of f) → is_canonical_form f ≡ true → pc < 2 ^ 64 → IsReadBack f pc }
 {}
 
-/// A word whose target's bits are 0, aimed at a target that its field can reach, is an instruction's: of the same instruction, but for
-/// where it goes.
+/// A word whose target's bits are 0, aimed at a target that its field can reach, is a word of the table.
 pub fn aimed_words_are_rows()
     ensures { (f : A64Form) (pc t w : ℕ) → IsRow (row_of f) → aimed (reach f) (unaimed_word f) pc t ≡ Some w → in_table w ≡ true }
 {}

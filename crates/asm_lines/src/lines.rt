@@ -1,5 +1,5 @@
 //! Whole lines.
-ghost use Rattle.std.specs.Prelude.{◌≡◌, ◌≤◌, [], drop, IfOk, IfSome, MatchOption};
+ghost use Rattle.std.specs.Prelude.{◌≡◌, drop, IfOk, IfSome};
 ghost use Rattle.std.specs.Str.{IsCharBoundary};
 ghost use Rattle.asm_lines.specs.Aimable.{IsAimable};
 ghost use Rattle.asm_lines.specs.Colons.{IsColon};

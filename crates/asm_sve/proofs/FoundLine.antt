@@ -1,14 +1,11 @@
 -- What the reader of statements found, as an SVE instruction.
-use Rattle.std.proofs.Common.{◌≡◌, ℕ, Bool, true, false, Option, Some, None, Ok, Err, List, sym, ap, ◌∙◌}
-use Rattle.std.specs.Prelude.{is_some}
-use Rattle.std.proofs.lemmas.Bool.{false≢true}
-use Rattle.emu_bits.specs.Rows.{decode, instruction}
+use Rattle.std.proofs.Common.{◌≡◌, ℕ, Option, Some, Ok, Err, List, sym, ap, ◌∙◌}
+use Rattle.emu_bits.specs.Rows.{instruction}
 use Rattle.sve_insn.specs.declared.form.SveForm.{SveForm}
 use Rattle.sve_insn.specs.Table.{sve_table}
-use Rattle.sve_insn.specs.Seen.{seen}
 use Rattle.text_tokens.specs.Tokens.{tokens}
 use Rattle.text_model.specs.declared.slots.Refusal.{Refusal}
-use Rattle.text_model.specs.Statement.{Destination, Statement, reads_tokens}
+use Rattle.text_model.specs.Statement.{Destination, reads_tokens}
 use Rattle.text_model.specs.Writing.{flat}
 use Rattle.text_code.specs.declared.reading.Found.{Found}
 use Rattle.asm_tokens.specs.declared.fault.AsmFault.{AsmFault}
@@ -17,7 +14,7 @@ use Rattle.text_code.specs.Reads.{statement_of}
 use Rattle.sve_texts.specs.Law.{in_table}
 use Rattle.sve_texts.specs.Table.{sve_lines, sve_patterns}
 use Rattle.sve_texts.proofs.Untargeted.{sve_target}
-use Rattle.asm_sve.specs.Lines.{sve_reads, IsRead, IsRefused}
+use Rattle.asm_sve.specs.Lines.{IsRead, IsRefused}
 
 pub found_read : (name rest : List ℕ) (f : Found) (i : SveForm) → reads_tokens in_table (flat sve_lines) name (tokens rest) ≡ Ok (statement_of rest f)
     → Some i ≡ instruction sve_table f.word → IsRead name rest i

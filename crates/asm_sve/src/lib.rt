@@ -1,7 +1,7 @@
 //! Statements read as SVE instructions.
 #![tactic(auto)]
 
-ghost use Rattle.std.specs.Prelude.{◌≡◌, IfOk, IfErr};
+ghost use Rattle.std.specs.Prelude.{IfOk, IfErr};
 ghost use Rattle.asm_sve.specs.Lines.{IsRead, IsRefused};
 
 use asm_tokens::AsmFault;

@@ -1,5 +1,5 @@
 -- `go`, step after step.
-use Rattle.std.proofs.Common.{◌≡◌, ◌<◌, ◌≤◌, ℕ, suc, ◌+◌, ◌-◌, Bool, true, false, List, Option, Some, None, is_none, if◌then◌else◌, Result, refl, sym, ap, subst, ◌∙◌, arith}
+use Rattle.std.proofs.Common.{◌≡◌, ◌<◌, ◌≤◌, ℕ, suc, ◌+◌, ◌-◌, Bool, true, false, List, Option, Some, None, is_none, if◌then◌else◌, Result, Ok, sym, ap, ◌∙◌, arith}
 use Rattle.std.specs.Prelude.{position}
 use Rattle.io_gate.specs.declared.streams.Failed.{Failed}
 use Rattle.io_gate.specs.Streams.{PutsAll}
@@ -7,16 +7,19 @@ use Rattle.emu_model.specs.declared.access.Access.{Access}
 use Rattle.emu_model.specs.State.{Parts, State}
 use Rattle.emu_system.specs.Start.{with_input}
 use Rattle.emu_run.specs.Step.{accesses, step}
-use Rattle.emu_run.specs.Run.{goes_on, until_end, run}
+use Rattle.emu_run.specs.Run.{goes_on, run}
 use Rattle.emu_run.specs.RunLaws.{Moves, moves_not}
+use Rattle.emu_machine.specs.Ends.{Becomes}
 use Rattle.dbg_model.specs.declared.script.Stop.{Stop}
 use Rattle.dbg_model.specs.Session.{Marks, no_marks, is_touched, mark_met, watch_met, stop_line, stopped_or, go, go-zero}
 use Rattle.dbg_core.specs.declared.ends.SessionEnd.{SessionEnd}
 use Rattle.dbg_core.specs.declared.ends.SessionEnd.TheVariants.{Done}
 use Rattle.dbg_core.specs.Ends.{Obeys, is_fault, end_of_put}
-use Rattle.dbg_core.proofs.Composed.{Blind, Moving, Comes, Leads, comes_cut, comes_same, leads_on, leads_end}
-use Rattle.dbg_core.proofs.Sessions.{prints, prints_blind, prints_moving, ending_text, go_blind, go_free, go_moves, go_one, go_over, step_moving, stopped_moves}
-use Rattle.dbg_core.proofs.Obeying.{comes_put, comes_when, not_done, obeys_of}
+use Rattle.emu_machine.proofs.Composed.{Blind, Moving, Comes, Leads, comes_cut, comes_same, comes_when, leads_on, leads_end}
+use Rattle.emu_machine.proofs.Runs.{step_moving}
+use Rattle.dbg_core.proofs.Sessions.{prints, prints_blind, prints_moving, ending_text, go_blind, go_free, go_moves, go_one, go_over, stopped_moves}
+use Rattle.dbg_core.proofs.Obeying.{comes_put, not_done, obeys_of}
+use Rattle.dbg_core.proofs.Leaving.{with_all, all_put}
 
 abbrev pub go_at : Marks → ℕ → State → State
 go_at marks budget st = go marks st (budget - st.parts.steps)
@@ -78,6 +81,10 @@ module _ (marks : Marks) (budget : ℕ) (old p q : Parts) (told left_p left_q ho
       (leads_end (go_at marks budget) (go_at marks budget) old p p left_p left_p ho hp hu eo ep ep told (is_fault (end_of_put put)) (at_moving marks budget) led
       (comes_same (prints ending_text) (go_at marks budget) p p left_p left_p hp hu ep ep (is_fault (end_of_put put)) (λ input. sym (at_spent marks budget (with_input p input) spent)) (comes_put ending_text p left_p hp hu ep put puts)))
 
+  -- and the machine is what `go` makes of it, whether the line was put or not
+  pub whole_spent : budget ≤ p.steps → Becomes (go_at marks budget) old p told left_p false
+  whole_spent spent = (go_spent (with_all (ending_text p) hp) (Ok tt) spent (all_put (ending_text p) hp)).state
+
   module _ (going : is_none p.ended ≡ true) (below : p.steps < budget) where
     -- the step counted, and no mark is met
     pub go_goes : q.steps ≡ p.steps + 1 → mark_met marks (accesses p) q ≡ None → Comes step p q left_p left_q hp hq ep eq false
@@ -106,6 +113,13 @@ module _ (marks : Marks) (budget : ℕ) (old p q : Parts) (told left_p left_q ho
         → Obeys (go_at marks budget) old q told left_q ho hu eo eq (end_of_put put)
     go_ends hu put over c puts =
         go_lines ending_text hu put (λ input is. at_ended marks budget (with_input p input) going below (ap (λ (m : Parts). is_none m.ended) (sym is) ∙ over)) c puts
+
+    -- and the machine is what `go` makes of it, whether the line was put or not
+    pub whole_stops : (stop : Stop) → mark_met marks (accesses p) q ≡ Some stop → Comes step p q left_p left_q hp hq ep eq false → Becomes (go_at marks budget) old q told left_q false
+    whole_stops stop met c = (go_stops stop (with_all (stop_line stop q) hq) (Ok tt) met c (all_put (stop_line stop q) hq)).state
+
+    pub whole_ends : is_none q.ended ≡ false → Comes step p q left_p left_q hp hq ep eq false → Becomes (go_at marks budget) old q told left_q false
+    whole_ends over c = (go_ends (with_all (ending_text q) hq) (Ok tt) over c (all_put (ending_text q) hq)).state
 
     -- the step wasn't done
     pub go_breaks : (end : SessionEnd) → (end ≡ Done → ⊥) → Comes step p q left_p left_q hp hq ep eq true → Obeys (go_at marks budget) old q told left_q ho hq eo eq end

@@ -1,5 +1,6 @@
-pub mod Composed
 pub mod Going
+pub mod Leaving
 pub mod Scripts
 pub mod Sessions
+pub mod Standing
 pub mod Obeying

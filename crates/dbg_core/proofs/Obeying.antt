@@ -1,8 +1,8 @@
 -- What the clauses of runs, steps and lines say of the commands of a session.
-use Rattle.std.proofs.Common.{◌≡◌, ◌≤◌, ℕ, Bool, true, false, List, [], ◌++◌, take, drop, length, Option, Some, None, is_none, is_some, ◌||◌, ◌-◌, Result, Ok, Err, IfSome, refl, sym, ap, subst, ◌∙◌, append-nil, arith}
+use Rattle.std.proofs.Common.{◌≡◌, ◌≤◌, ℕ, Bool, true, false, List, take, drop, Option, Some, None, is_none, is_some, ◌||◌, ◌-◌, Result, Ok, Err, IfSome, refl, sym, ap, subst, ◌∙◌, arith}
 use Rattle.std.proofs.lemmas.List.{take-append-drop}
 use Rattle.io_gate.specs.declared.streams.Failed.{Failed}
-use Rattle.io_gate.specs.Streams.{Causes, HasCause, PutsAll, Rose}
+use Rattle.io_gate.specs.Streams.{Causes, HasCause, PutsAll}
 use Rattle.emu_model.specs.declared.trap.Ended.{Ended}
 use Rattle.emu_model.specs.declared.trap.Ended.TheVariants.{Exit, Trap as Trapped}
 use Rattle.emu_model.specs.State.{Parts, State}
@@ -11,7 +11,7 @@ use Rattle.emu_run.specs.Run.{run}
 use Rattle.emu_run.specs.RunLaws.{run_spent, until_end_over}
 use Rattle.linux_calls.specs.Puts.{Gains}
 use Rattle.linux_calls.specs.Names.{NamesRead}
-use Rattle.emu_machine.specs.Ends.{Becomes, TakesWithin, Puts, IsKept, is_broken_off, is_undone, is_unput, step_end}
+use Rattle.emu_machine.specs.Ends.{IsKept, is_broken_off, is_undone, is_unput, step_end}
 use Rattle.emu_machine.specs.Machines.{MachineState, MakesRead, MakesWrite, has_ended}
 use Rattle.emu_machine.specs.declared.ends.RunEnd.{RunEnd}
 use Rattle.emu_machine.specs.declared.ends.RunEnd.TheVariants as runs
@@ -20,16 +20,11 @@ use Rattle.emu_machine.specs.declared.ends.StepEnd.TheVariants as steps
 use Rattle.dbg_core.specs.declared.ends.SessionEnd.{SessionEnd}
 use Rattle.dbg_core.specs.declared.ends.SessionEnd.TheVariants.{Done, ReadFault, WriteFault, ErrorsFault}
 use Rattle.dbg_core.specs.Ends.{Obeys, is_fault, end_of_run, end_of_step, end_of_put}
-use Rattle.dbg_core.proofs.Composed.{Blind, Moving, Came, Comes, comes_cut, comes_then, comes_same, comes_still}
+use Rattle.emu_machine.proofs.Composed.{Moving, Comes, comes_by, comes_cut, comes_then, comes_same, comes_still, comes_when, gains_none}
+use Rattle.emu_machine.proofs.Runs.{goes}
 use Rattle.dbg_core.proofs.Sessions.{prints, prints_blind, prints_moving}
 
 -- ---- the clauses, whether the input tells its bytes or not
-
-pub comes_by : (f : State → State) (p q : Parts) (told left hp hq ep eq : Option (List ℕ)) (b c : Bool) → b ≡ c → Becomes f p q told left b → TakesWithin f p told left b
-    → Puts (λ st. (f st).output) p told hp hq b → Puts (λ st. (f st).errors) p told ep eq b → Comes f p q told left hp hq ep eq c
-comes_by f p q None left hp hq ep eq b c is state input output errors = tt
-comes_by f p q (Some bytes) left hp hq ep eq b c is state input output errors =
-    subst (λ (broken : Bool). Came (f (with_input p bytes)) q bytes left hp hq ep eq broken) is (record { state = state; input = input; output = output; errors = errors })
 
 pub comes_of : (f : State → State) (p q : Parts) (told left hp hq ep eq : Option (List ℕ)) (end : SessionEnd) → Obeys f p q told left hp hq ep eq end → Comes f p q told left hp hq ep eq (is_fault end)
 comes_of f p q told left hp hq ep eq end o = comes_by f p q told left hp hq ep eq (is_fault end) (is_fault end) refl o.state o.input o.output o.errors
@@ -38,16 +33,7 @@ pub obeys_of : (f : State → State) (p q : Parts) (told left hp hq ep eq : Opti
 obeys_of f p q None left hp hq ep eq end c = record { state = tt; input = tt; output = tt; errors = tt }
 obeys_of f p q (Some bytes) left hp hq ep eq end c = record { state = c.state; input = c.input; output = c.output; errors = c.errors }
 
--- where it is known whether it was broken off
-pub comes_when : (f : State → State) (p q : Parts) (told left hp hq ep eq : Option (List ℕ)) (b c : Bool) → b ≡ c → Comes f p q told left hp hq ep eq b → Comes f p q told left hp hq ep eq c
-comes_when f p q told left hp hq ep eq b c is h = subst (λ (broken : Bool). Comes f p q told left hp hq ep eq broken) is h
-
 -- ---- a line
-
-gains_none : (b : Bool) (held : Option (List ℕ)) → IfSome held (λ had. Gains b held had [])
-gains_none b None = tt
-gains_none false (Some had) = ap (λ (l : List ℕ). Some l) (sym (append-nil had))
-gains_none true (Some had) = record { gained = []; is = ap (λ (l : List ℕ). Some l) (sym (append-nil had)); first = ([], refl) }
 
 gains_all : (hp hq : Option (List ℕ)) (text : List ℕ) (done : Unit {0}) → PutsAll {E = Failed} hp hq text (Ok done) → IfSome hp (λ had. Gains false hq had text)
 gains_all None hq text done puts = tt
@@ -204,16 +190,12 @@ over_at : (e : Option Ended) (failed : Bool) → failed ≡ false → (is_some e
 over_at None failed fine ended = let h : true ≡ false = sym ended ∙ fine in cc
 over_at (Some x) failed fine ended = refl
 
-going_at : (e : Option Ended) (failed : Bool) → (is_some e || failed) ≡ false → is_none e ≡ true
-going_at None failed going = refl
-going_at (Some x) failed going = cc
-
 -- the machine has ended, where no stream failed
 pub over_by : (m : MachineState) → m.failed ≡ false → has_ended m ≡ true → is_none m.parts.ended ≡ false
 over_by m fine ended = over_at m.parts.ended m.failed fine ended
 
 pub going_by : (m : MachineState) → has_ended m ≡ false → is_none m.parts.ended ≡ true
-going_by m going = going_at m.parts.ended m.failed going
+going_by m going = goes m.parts.ended m.failed going
 
 -- ---- the calls that faults name
 
@@ -253,15 +235,6 @@ pub still_going : (e : Option Ended) (r : StepEnd) → r ≡ step_end e → r �
 still_going None r end going = refl
 still_going (Some (Exit code)) r end going = let h : steps.Exit code ≡ steps.Going = sym end ∙ going in cc
 still_going (Some (Trapped trap)) r end going = let h : steps.Trap trap ≡ steps.Going = sym end ∙ going in cc
-
-pub has_stopped : (e : Option Ended) (r : StepEnd) → r ≡ step_end e → (r ≡ steps.Going → ⊥) → is_none e ≡ false
-has_stopped None r end other = absurd (other end)
-has_stopped (Some (Exit code)) r end other = refl
-has_stopped (Some (Trapped trap)) r end other = refl
-
--- a step that goes on has no other answer
-pub going_no : (r x : StepEnd) → (steps.Going ≡ x → ⊥) → r ≡ steps.Going → r ≡ x → ⊥
-going_no r x other going is = other (sym going ∙ is)
 
 not_ended_at : (e : Option Ended) (failed : Bool) → is_none e ≡ true → failed ≡ false → (is_some e || failed) ≡ false
 not_ended_at None failed going fine = fine

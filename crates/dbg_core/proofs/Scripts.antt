@@ -1,5 +1,5 @@
 -- The commands that are left of a script.
-use Rattle.std.proofs.Common.{◌≡◌, ◌<◌, ◌≤◌, ℕ, suc, ◌+◌, Bool, true, false, List, [], ◌∷◌, ◌++◌, length, get_or, drop, drop-cons, Option, Some, None, count_by, cond, sym, ap, subst, ◌∙◌, refl, arith, length-append}
+use Rattle.std.proofs.Common.{◌≡◌, ◌<◌, ◌≤◌, ℕ, suc, ◌+◌, true, false, List, [], ◌∷◌, length, drop, drop-cons, Option, Some, count_by, cond, sym, ap, subst, ◌∙◌, refl, arith, length-append}
 use Rattle.std.specs.List.{list_all}
 use Rattle.std.specs.Prelude.{slice_get}
 use Rattle.std.proofs.lemmas.List.{drop_all}
@@ -15,9 +15,9 @@ use Rattle.dbg_model.specs.Session.{Marks, marked, obeyed, obeyed_all, shown}
 use Rattle.dbg_core.specs.declared.ends.SessionEnd.{SessionEnd}
 use Rattle.dbg_core.specs.declared.ends.SessionEnd.TheVariants.{Done}
 use Rattle.dbg_core.specs.Ends.{Obeys, TakesMark, is_fault}
-use Rattle.dbg_core.proofs.Composed.{Moving, Comes, Leads, comes_cut, comes_same, comes_still, leads_on, leads_end}
+use Rattle.emu_machine.proofs.Composed.{Comes, Leads, comes_cut, comes_still, comes_when, leads_on, leads_end}
 use Rattle.dbg_core.proofs.Sessions.{prints, all_blind, all_moving, obeyed_moving}
-use Rattle.dbg_core.proofs.Obeying.{comes_of, comes_when, not_done, obeys_of}
+use Rattle.dbg_core.proofs.Obeying.{comes_of, not_done, obeys_of}
 
 -- the command at a place stands before the rest
 pub next_command : (commands : List Command) (k : ℕ) (command : Command) → slice_get commands k ≡ Some command → k < length commands → drop k commands ≡ command ∷ drop (k + 1) commands

@@ -5,13 +5,14 @@ use Rattle.emu_model.specs.declared.access.Access.{Access}
 use Rattle.emu_model.specs.State.{Parts, State}
 use Rattle.emu_run.specs.Step.{accesses, step}
 use Rattle.emu_run.specs.Run.{goes_on, until_end, run}
-use Rattle.emu_run.specs.Outcome.{ending_line}
-use Rattle.emu_run.specs.RunLaws.{rest_all, Moves, moves_not, moves_trans, prefix_refl, step_moves, until_end_moves, until_end_none, until_end_one, until_end_over, behind, run_behind, step_behind}
+use Rattle.emu_run.specs.Reports.{ending_line}
+use Rattle.emu_run.specs.RunLaws.{rest_all, Moves, moves_not, moves_trans, prefix_refl, step_moves, until_end_none, until_end_one, until_end_over, behind, run_behind, step_behind}
 use Rattle.dbg_model.specs.declared.script.Command.{Command}
 use Rattle.dbg_model.specs.declared.script.Command.TheVariants.{Step, Go, Break, Watch, Regs, Zreg, Preg, Ffr, Lanes, Mem}
 use Rattle.dbg_model.specs.declared.script.Stop.{Stop}
 use Rattle.dbg_model.specs.Session.{Marks, no_marks, marked, is_touched, mark_met, watch_met, shown, stop_line, printed, ending_printed, stepped_text, stepped, stopped_or, go, go-zero, go-suc, obeyed, obeyed_all}
-use Rattle.dbg_core.proofs.Composed.{Blind, Moving}
+use Rattle.emu_machine.proofs.Composed.{Blind, Moving}
+use Rattle.emu_machine.proofs.Runs.{run_moving}
 
 -- ---- a line that is printed
 
@@ -27,16 +28,7 @@ prints_moving text st = record { input = rest_all st.input; output = (text st.pa
 abbrev pub ending_text : Parts → List ℕ
 ending_text m = ending_line m m.ended
 
--- ---- a run
-
-pub run_blind : (budget : ℕ) → Blind (λ st. run st budget)
-run_blind budget o e st = run_behind o e st budget
-
-pub run_moving : (budget : ℕ) → Moving (λ st. run st budget)
-run_moving budget st = until_end_moves st (budget - st.parts.steps)
-
-pub step_moving : Moving step
-step_moving st = step_moves st
+-- ---- `step`
 
 stepped_blind : (target budget : ℕ) → Blind (stepped target budget)
 stepped_blind target budget o e st =

@@ -1,15 +1,18 @@
 -- How a session ends, and what a part of it makes of a machine and of its streams.
-use Rattle.std.specs.Prelude.{◌≡◌, ◌<◌, ◌+◌, ℕ, Bool, true, false, List, length, Option, Some, IfSome, Result, Ok, Err}
+use Rattle.std.specs.Prelude.{◌≡◌, ◌<◌, ℕ, Bool, true, false, List, length, take, is_none, Option, Some, IfSome, Result, Ok, Err}
 use Rattle.emu_model.specs.State.{Parts, State}
 use Rattle.io_gate.specs.declared.streams.Failed.{Failed}
-use Rattle.emu_machine.specs.Ends.{Becomes, TakesWithin, Puts}
+use Rattle.emu_system.specs.Start.{with_input}
+use Rattle.emu_run.specs.Run.{until_end}
+use Rattle.emu_machine.specs.Ends.{Becomes, TakesWithin, Puts, IsKept}
+use Rattle.emu_machine.specs.Machines.{MachineState, MakesWrite}
 use Rattle.emu_machine.specs.declared.ends.RunEnd.{RunEnd}
 use Rattle.emu_machine.specs.declared.ends.RunEnd.TheVariants as runs
 use Rattle.emu_machine.specs.declared.ends.StepEnd.{StepEnd}
 use Rattle.emu_machine.specs.declared.ends.StepEnd.TheVariants as steps
 use Rattle.dbg_model.specs.declared.script.Command.{Command}
 use Rattle.dbg_model.specs.declared.script.Command.TheVariants.{Break, Watch}
-use Rattle.dbg_model.specs.Session.{Marks}
+use Rattle.dbg_model.specs.Session.{Marks, session}
 use Rattle.dbg_core.specs.declared.ends.SessionEnd.{SessionEnd}
 use Rattle.dbg_core.specs.declared.ends.SessionEnd.TheVariants.{Done, ReadFault, WriteFault, ErrorsFault}
 
@@ -49,6 +52,30 @@ pub record Obeys (f : State → State) (old new : Parts) (told left held_old hel
   pub input : TakesWithin f old told left (is_fault end)
   pub output : Puts (λ st. (f st).output) old told held_old held_new (is_fault end)
   pub errors : Puts (λ st. (f st).errors) old told errs_old errs_new (is_fault end)
+
+-- ---- what a session that was broken off leaves of the machine
+
+-- Some steps lead to where one was broken off. The machine stands before that step, except that bytes which its call took are stored.
+pub record Halts (start : State) (now : Parts) (left : Option (List ℕ)) : Type 0 where
+  pub steps : ℕ
+  pub kept : IsKept (until_end start steps).parts now (Some (until_end start steps).input) left
+
+-- What a part of a session leaves of the machine: what f makes of it, unless a step was broken off, also where a line of the part couldn't be put. A
+-- step is broken off only within a budget, of a machine that goes on; where it was to write to the output, its call says so.
+pub record Leaves (f : State → State) (budget : ℕ) (old : Parts) (new : MachineState) (told left : Option (List ℕ)) (end : SessionEnd) : Type 0 where
+  pub whole : Becomes f old new.parts told left new.failed
+  pub halted : IfSome told (λ bytes. new.failed ≡ true → Halts (with_input old bytes) new.parts left)
+  pub line : new.failed ≡ false → is_fault end ≡ true → end ≡ WriteFault
+  pub write_named : new.failed ≡ true → end ≡ WriteFault → MakesWrite new.parts 1
+  pub unspent : new.failed ≡ true → new.parts.steps < budget
+  pub unended : new.failed ≡ true → is_none new.parts.ended ≡ true
+
+-- Where a session of these commands has left the machine and the input: as its first commands leave them, or, where a step was broken off, some steps
+-- behind them and before that step, except that bytes which its call took are stored.
+pub record StandsIn (commands : List Command) (budget : ℕ) (start : State) (now : MachineState) (left : Option (List ℕ)) : Type 0 where
+  pub first : ℕ
+  pub whole : now.failed ≡ false → (now.parts ≡ (session (take first commands) budget start).parts) × (left ≡ Some (session (take first commands) budget start).input)
+  pub halted : now.failed ≡ true → Halts (session (take first commands) budget start) now.parts left
 
 -- one more mark may be added by a command
 abbrev pub TakesMark : Marks → Command → Type 0

@@ -13,3 +13,4 @@ pub use commands::session;
 pub use dbg_model::{Command, Script, ScriptFault, ScriptWhy};
 pub use dbg_scripts::{ScriptError, read_script};
 pub use ends::SessionEnd;
+pub use lines::put_ending;

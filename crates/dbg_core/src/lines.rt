@@ -1,7 +1,7 @@
 //! The lines that a session puts to the output.
-ghost use Rattle.std.specs.Prelude.{◌≡◌, ◌+◌, IsTrue};
+ghost use Rattle.std.specs.Prelude.{◌+◌, IsTrue};
 ghost use Rattle.io_gate.specs.Streams.{HasCause, PutsAll};
-ghost use Rattle.emu_run.specs.Outcome.{ending_line};
+ghost use Rattle.emu_run.specs.Reports.{ending_line};
 ghost use Rattle.emu_run.specs.Registers.{scalar_lines};
 ghost use Rattle.dbg_model.specs.Commands.{is_within};
 ghost use Rattle.dbg_model.specs.Session.{lanes_line, shown, stepped_text, stop_line};
@@ -15,7 +15,7 @@ use emu_report::{
 };
 use io_gate::{Failed, Sink};
 
-/// Puts how the machine ended, or that its budget is spent.
+/// Puts the line that says how the machine ended, or that its budget is spent. Err is that the sink failed, with a first part put.
 pub fn put_ending<S: Sink>(machine: &Machine, sink: &mut S) -> Result<(), Failed>
     ensures bytes { PutsAll (S.held sink.old) (S.held sink.new) (ending_line machine.now.parts machine.now.parts.ended) result }
     ensures cause { HasCause (S.faults sink.old) (S.faults sink.new) result }

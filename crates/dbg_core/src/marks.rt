@@ -2,7 +2,7 @@
 ghost use Rattle.std.specs.Prelude.{◌≡◌, nat_eq, position};
 ghost use Rattle.std.specs.List.{list_any};
 ghost use Rattle.std.specs.Bool.{OnTrue};
-ghost use Rattle.dbg_model.specs.Session.{Marks, break_met, is_touched, mark_met, marked, no_marks, shares, watch_met};
+ghost use Rattle.dbg_model.specs.Session.{Marks, break_met, is_touched, mark_met, marked, no_marks, shares};
 ghost use Rattle.dbg_core.specs.Ends.{TakesMark};
 
 use arrayvec::ArrayVec;

@@ -17,7 +17,7 @@ use Rattle.vec_model.specs.Lanes.{lane, read_p, read_z}
 use Rattle.emu_run.specs.Text.{hex, space, newline}
 use Rattle.emu_run.specs.Reports.{address_text}
 use Rattle.emu_run.specs.Registers.{bit_digits, byte_digits, lines_of, numbered, register_line, scalar_lines}
-use Rattle.emu_run.specs.Outcome.{ending_line}
+use Rattle.emu_run.specs.Reports.{ending_line}
 use Rattle.emu_run.specs.Step.{accesses, step}
 use Rattle.emu_run.specs.Run.{goes_on, run}
 use Rattle.dbg_model.specs.declared.script.Command.{Command}

@@ -1,5 +1,5 @@
 //! A script of the debugger: its commands, and why a script is refused.
-ghost use Rattle.std.specs.Prelude.{◌≡◌, ◌<◌, [], ◌∷◌, ◌++◌, IfOk, IsTrue, OnErr, OnOk};
+ghost use Rattle.std.specs.Prelude.{◌≡◌, ◌<◌, [], ◌∷◌, ◌++◌, IsTrue, OnErr, OnOk};
 ghost use Rattle.dbg_model.specs.Commands.{HasRoom, IsScript, is_within};
 
 use emu_bits::{Esize, Pred, Reg};
@@ -114,7 +114,7 @@ impl Script {
         self.commands.as_slice()
     }
 
-    /// Appends a command. Err is want of memory, and leaves the script as it was.
+    /// Appends a command whose numbers are in their ranges; a Break or Watch is one of fewer than 64 before it. Err is want of memory, and leaves the script as it was.
     pub fn push(&mut self, command: Command) -> Result<(), AllocError>
         requires within { IsTrue (is_within command) }
         requires room { HasRoom self.old command }

@@ -1,5 +1,5 @@
 //! The words of a line as arguments of its command.
-ghost use Rattle.std.specs.Prelude.{◌≡◌, ◌≤◌, map, IfOk};
+ghost use Rattle.std.specs.Prelude.{◌≡◌, map};
 ghost use Rattle.dbg_model.specs.Script.{argument, in_range, number_within, size_argument, size_of_word};
 
 use crate::numbers::number_of_word;

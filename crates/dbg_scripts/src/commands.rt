@@ -1,7 +1,6 @@
 //! The command that the words of a line are.
-ghost use Rattle.std.specs.Prelude.{◌≡◌, ◌<◌, map, length, IfOk, IsTrue, OnOk};
-ghost use Rattle.dbg_model.specs.Commands.{is_within};
-ghost use Rattle.dbg_model.specs.Script.{break_of, command_named, command_of, lanes_of, mem_of, preg_of, step_of, watch_of, whole, zreg_of};
+ghost use Rattle.std.specs.Prelude.{◌≡◌, ◌<◌, map, length, IfOk};
+ghost use Rattle.dbg_model.specs.Script.{break_of, command_of, lanes_of, mem_of, preg_of, step_of, watch_of, whole, zreg_of};
 
 use crate::arguments::{argument, size_argument};
 use dbg_model::{Command, ScriptWhy};

@@ -1,5 +1,5 @@
 //! Words that write numbers.
-ghost use Rattle.std.specs.Prelude.{◌≡◌, ◌≤◌, ◌⊎◌};
+ghost use Rattle.std.specs.Prelude.{◌≡◌, ◌⊎◌};
 ghost use Rattle.std.specs.List.{list_all};
 ghost use Rattle.dbg_model.specs.Script.{is_digit, is_numeral, number_of_digits, number_of_word};
 

@@ -1,7 +1,7 @@
 //! A script line by line.
 ghost use Rattle.std.specs.Prelude.{◌≡◌, ◌<◌, ◌≤◌, [], get_or, length, map, MatchResult};
 ghost use Rattle.dbg_model.specs.Commands.{is_break, is_watch};
-ghost use Rattle.dbg_model.specs.Script.{at_line, is_full, is_skipped, read_line, read_lines, script, words};
+ghost use Rattle.dbg_model.specs.Script.{at_line, is_full, is_skipped, read_line, script, words};
 ghost use Rattle.dbg_scripts.specs.Reading.{IsErrorOf, Leaves};
 
 use crate::commands::command_of;

@@ -1,5 +1,6 @@
 pub mod Breaks
 pub mod CallLaws
+pub mod Composed
 pub mod Gathered
 pub mod Laid
 pub mod Loading

@@ -4,9 +4,8 @@ use Rattle.emu_model.specs.declared.access.Access.{Access}
 use Rattle.emu_model.specs.State.{Parts}
 use Rattle.emu_system.specs.SystemCall.{Turn}
 use Rattle.emu_run.specs.Step.{accesses, step, turn}
-use Rattle.emu_run.specs.Run.{run}
 use Rattle.emu_machine.specs.Accesses.{last_accesses, run_accesses}
-use Rattle.emu_machine.proofs.Runs.{Leads, Led, Ran, ran_at}
+use Rattle.emu_machine.proofs.Runs.{LeadsRun, LedRun, Ran, ran_at}
 
 -- ---- the equations
 
@@ -42,19 +41,19 @@ logs_start budget before old None = tt
 logs_start budget before old (Some bytes) = refl
 
 module _ (budget : ℕ) (before log : List Access) (old p : Parts) (left_p ho hp eo ep : Option (List ℕ)) where
-  logs_at : (bytes : List ℕ) (led : Led (λ s. run s budget) old p bytes left_p ho hp eo ep) → IfSome left_p (λ input. run_accesses before old bytes budget ≡ run_accesses log p input budget)
+  logs_at : (bytes : List ℕ) (led : LedRun budget old p bytes left_p ho hp eo ep) → IfSome left_p (λ input. run_accesses before old bytes budget ≡ run_accesses log p input budget)
       → run_accesses before old bytes budget ≡ run_accesses log p led.input budget
   logs_at bytes led logs = subst (λ (left : Option (List ℕ)). IfSome left (λ input. run_accesses before old bytes budget ≡ run_accesses log p input budget)) led.left logs
 
   -- the budget is spent
-  pub logs_spent : (told : Option (List ℕ)) → Leads (λ s. run s budget) old p told left_p ho hp eo ep → Logs budget before old told log p left_p → budget ≤ p.steps
+  pub logs_spent : (told : Option (List ℕ)) → LeadsRun budget old p told left_p ho hp eo ep → Logs budget before old told log p left_p → budget ≤ p.steps
       → IfSome told (λ bytes. log ≡ run_accesses before old bytes budget)
   logs_spent None led logs over = tt
   logs_spent (Some bytes) led logs over = sym (logs_at bytes led logs ∙ log_spent log p led.input budget over)
 
   module _ (q : Parts) (left_q hq eq : Option (List ℕ)) (going : is_none p.ended ≡ true) (below : p.steps < budget) where
     -- the step counted
-    pub logs_on : (told : Option (List ℕ)) → Leads (λ s. run s budget) old p told left_p ho hp eo ep → Ran step p q left_p left_q hp hq ep eq false
+    pub logs_on : (told : Option (List ℕ)) → LeadsRun budget old p told left_p ho hp eo ep → Ran step p q left_p left_q hp hq ep eq false
         → Logs budget before old told log p left_p → q.steps ≡ p.steps + 1 → Logs budget before old told (accesses p) q left_q
     logs_on None led r logs counted = tt
     logs_on (Some bytes) led r logs counted =
@@ -67,7 +66,7 @@ module _ (budget : ℕ) (before log : List Access) (old p : Parts) (left_p ho hp
         subst (λ (left : Option (List ℕ)). IfSome left (λ input. run_accesses before old bytes budget ≡ run_accesses (accesses p) q input budget)) (sym d.1) now
 
     -- the step ended the machine
-    pub logs_end : (told : Option (List ℕ)) → Leads (λ s. run s budget) old p told left_p ho hp eo ep → Ran step p q left_p left_q hp hq ep eq false
+    pub logs_end : (told : Option (List ℕ)) → LeadsRun budget old p told left_p ho hp eo ep → Ran step p q left_p left_q hp hq ep eq false
         → Logs budget before old told log p left_p → is_none q.ended ≡ false → IfSome told (λ bytes. accesses p ≡ run_accesses before old bytes budget)
     logs_end None led r logs over = tt
     logs_end (Some bytes) led r logs over =

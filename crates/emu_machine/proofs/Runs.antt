@@ -1,22 +1,21 @@
 -- A run, step after step: what has come to the streams so far, and what remains.
-use Rattle.std.proofs.Common.{◌≡◌, ◌<◌, ◌≤◌, ℕ, ◌+◌, ◌-◌, Bool, true, false, List, [], ◌++◌, length, drop, Option, Some, None, is_none, is_some, IfSome, refl, sym, ap, subst, ◌∙◌, append_assoc, append-nil, length-drop, arith, ◌||◌}
-use Rattle.std.proofs.lemmas.List.{drop-drop}
+use Rattle.std.proofs.Common.{◌≡◌, ◌<◌, ◌≤◌, ℕ, ◌+◌, ◌-◌, Bool, true, false, List, Option, Some, None, is_none, is_some, refl, sym, ap, subst, ◌∙◌, arith, ◌||◌}
 use Rattle.emu_model.specs.declared.trap.Ended.{Ended}
 use Rattle.emu_model.specs.declared.trap.Ended.TheVariants.{Exit, Trap}
-use Rattle.emu_model.specs.State.{Parts, State, IsPrefix}
+use Rattle.emu_model.specs.State.{Parts, State}
 use Rattle.emu_system.specs.Start.{with_input}
 use Rattle.emu_system.specs.SystemCall.{Turn, quiet}
 use Rattle.emu_run.specs.Step.{step, turn}
 use Rattle.emu_run.specs.Run.{run}
-use Rattle.emu_run.specs.RunLaws.{IsRest, rest_all, rest_trans, turn_turns, prefix_trans, step_moves, run_moves, run_ended, run_spent, run_after_turn, behind}
+use Rattle.emu_run.specs.RunLaws.{moves_not, step_moves, until_end_moves, run_moves, run_on, run_ended, run_spent, run_behind}
 use Rattle.emu_machine.specs.declared.ends.StepEnd.{StepEnd}
 use Rattle.emu_machine.specs.declared.ends.StepEnd.TheVariants.{Going, Exit as StepExit, Trap as StepTrap, ReadFault, WriteFault, ErrorsFault}
 use Rattle.emu_machine.specs.declared.ends.RunEnd.{RunEnd}
 use Rattle.emu_machine.specs.declared.ends.RunEnd.TheVariants.{Exit as RunExit, Trap as RunTrap, Spent, ReadFault as RunReadFault, WriteFault as RunWriteFault, ErrorsFault as RunErrorsFault}
 use Rattle.io_gate.specs.Streams.{Causes, Rose}
-use Rattle.linux_calls.specs.Puts.{Gains}
-use Rattle.emu_machine.specs.Ends.{Becomes, TakesWithin, Puts, LeftOf, step_end, run_end, run_end_of, is_undone, is_broken_off}
+use Rattle.emu_machine.specs.Ends.{Becomes, TakesWithin, Puts, step_end, run_end, run_end_of, is_undone, is_broken_off}
 use Rattle.emu_machine.specs.Machines.{MachineState, has_ended}
+use Rattle.emu_machine.proofs.Composed.{Blind, Moving, Came, Comes, Led, Leads, came_at, comes_by, comes_cut, comes_same, comes_still, gains_none, leads_on, leads_end}
 
 -- ---- the clauses of a step and a run, together
 
@@ -29,27 +28,19 @@ pub record Ran (f : State → State) (old new : Parts) (told left held_old held_
 pub ran_when : (f : State → State) (old new : Parts) (told left ho hn eo en : Option (List ℕ)) (b c : Bool) → b ≡ c → Ran f old new told left ho hn eo en b → Ran f old new told left ho hn eo en c
 ran_when f old new told left ho hn eo en b c is r = subst (λ (x : Bool). Ran f old new told left ho hn eo en x) is r
 
--- the same where the input told these bytes
-pub record RanAt (f : State → State) (old new : Parts) (bytes : List ℕ) (left held_old held_new errs_old errs_new : Option (List ℕ)) (broken : Bool) : Type 0 where
-  pub state : broken ≡ false → (new ≡ (f (with_input old bytes)).parts) × (left ≡ Some (f (with_input old bytes)).input)
-  pub input : broken ≡ true → LeftOf bytes (length (f (with_input old bytes)).input) left
-  pub output : IfSome held_old (λ had. Gains broken held_new had (f (with_input old bytes)).output)
-  pub errors : IfSome errs_old (λ had. Gains broken errs_new had (f (with_input old bytes)).errors)
+-- the same, of what was made
+pub ran_by : (f : State → State) (old new : Parts) (told left ho hn eo en : Option (List ℕ)) (b : Bool) → Ran f old new told left ho hn eo en b → Comes f old new told left ho hn eo en b
+ran_by f old new told left ho hn eo en b r = comes_by f old new told left ho hn eo en b b refl r.state r.input r.output r.errors
 
-pub ran_at : (f : State → State) (old new : Parts) (bytes : List ℕ) (told left ho hn eo en : Option (List ℕ)) (b : Bool) → told ≡ Some bytes → Ran f old new told left ho hn eo en b → RanAt f old new bytes left ho hn eo en b
-ran_at f old new bytes told left ho hn eo en b is r =
-    let q : Ran f old new (Some bytes) left ho hn eo en b = subst (λ (t : Option (List ℕ)). Ran f old new t left ho hn eo en b) is r in
-    record { state = q.state; input = q.input; output = q.output; errors = q.errors }
+pub ran_of : (f : State → State) (old new : Parts) (told left ho hn eo en : Option (List ℕ)) (b : Bool) → Comes f old new told left ho hn eo en b → Ran f old new told left ho hn eo en b
+ran_of f old new None left ho hn eo en b c = record { state = tt; input = tt; output = tt; errors = tt }
+ran_of f old new (Some bytes) left ho hn eo en b c = record { state = c.state; input = c.input; output = c.output; errors = c.errors }
 
-ran_of : (f : State → State) (old new : Parts) (bytes : List ℕ) (left ho hn eo en : Option (List ℕ)) (b : Bool) → RanAt f old new bytes left ho hn eo en b → Ran f old new (Some bytes) left ho hn eo en b
-ran_of f old new bytes left ho hn eo en b q = record { state = q.state; input = q.input; output = q.output; errors = q.errors }
+-- where the input told these bytes
+pub ran_at : (f : State → State) (old new : Parts) (bytes : List ℕ) (told left ho hn eo en : Option (List ℕ)) (b : Bool) → told ≡ Some bytes → Ran f old new told left ho hn eo en b → Came (f (with_input old bytes)) new bytes left ho hn eo en b
+ran_at f old new bytes told left ho hn eo en b is r = came_at f old new told left ho hn eo en b bytes is (ran_by f old new told left ho hn eo en b r)
 
 -- ---- a step that puts and takes nothing
-
-gains_none : (b : Bool) (held : Option (List ℕ)) → IfSome held (λ had. Gains b held had [])
-gains_none b None = tt
-gains_none false (Some had) = ap (λ (l : List ℕ). Some l) (sym (append-nil had))
-gains_none true (Some had) = record { gained = []; is = ap (λ (l : List ℕ). Some l) (sym (append-nil had)); first = ([], refl) }
 
 pub quietly_ran : (m q : Parts) (told held errs : Option (List ℕ)) (b : Bool) → ((input : List ℕ) → turn m input ≡ quiet q input) → Ran step m q told told held held errs errs b
 quietly_ran m q None held errs b is = record { state = tt; input = tt; output = tt; errors = tt }
@@ -60,144 +51,57 @@ quietly_ran m q (Some bytes) held errs b is = record {
   errors = rw (ap (λ (t : Turn). t.errors) (is bytes)) (gains_none b errs);
 }
 
--- ---- what a run has come to
+-- ---- a run, step after step
 
--- What has come to the streams since these bytes were to come, and that what remains ends as the whole does.
-pub record Led (f : State → State) (old now : Parts) (bytes : List ℕ) (left_now held_old held_now errs_old errs_now : Option (List ℕ)) : Type 0 where
-  pub input : List ℕ
-  pub output : List ℕ
-  pub errors : List ℕ
-  pub left : left_now ≡ Some input
-  pub rest : IsRest bytes input
-  pub same : f (with_input old bytes) ≡ behind output errors (f (with_input now input))
-  pub held : IfSome held_old (λ had. held_now ≡ Some (had ++ output))
-  pub errs : IfSome errs_old (λ had. errs_now ≡ Some (had ++ errors))
+pub step_moving : Moving step
+step_moving st = step_moves st
 
-abbrev pub Leads : (State → State) → Parts → Parts → Option (List ℕ) → Option (List ℕ) → Option (List ℕ) → Option (List ℕ) → Option (List ℕ) → Option (List ℕ) → Type 0
-Leads f old now told left held_old held_now errs_old errs_now = IfSome told (λ bytes. Led f old now bytes left held_old held_now errs_old errs_now)
+pub run_blind : (budget : ℕ) → Blind (λ s. run s budget)
+run_blind budget o e st = run_behind o e st budget
 
-none_came : (held : Option (List ℕ)) → IfSome held (λ had. held ≡ Some (had ++ []))
-none_came None = tt
-none_came (Some had) = ap (λ (l : List ℕ). Some l) (sym (append-nil had))
+pub run_moving : (budget : ℕ) → Moving (λ s. run s budget)
+run_moving budget st = until_end_moves st (budget - st.parts.steps)
 
-pub leads_start : (f : State → State) (old : Parts) (told held errs : Option (List ℕ)) → Leads f old old told told held held errs errs
-leads_start f old None held errs = tt
-leads_start f old (Some bytes) held errs = record { input = bytes; output = []; errors = []; left = refl; rest = rest_all bytes; same = refl; held = none_came held; errs = none_came errs }
+-- what remains of a run ends as the whole does
+abbrev pub LeadsRun : ℕ → Parts → Parts → Option (List ℕ) → Option (List ℕ) → Option (List ℕ) → Option (List ℕ) → Option (List ℕ) → Option (List ℕ) → Type 0
+LeadsRun budget old now told left held_old held_now errs_old errs_now = Leads (λ s. run s budget) (λ s. run s budget) old now told left held_old held_now errs_old errs_now
 
--- ---- what a sink gained, and then gained more
+abbrev pub LedRun : ℕ → Parts → Parts → List ℕ → Option (List ℕ) → Option (List ℕ) → Option (List ℕ) → Option (List ℕ) → Option (List ℕ) → Type 0
+LedRun budget old now bytes left held_old held_now errs_old errs_now = Led (λ s. run s budget) (λ s. run s budget) old now bytes left held_old held_now errs_old errs_now
 
-all_gained : (b : Bool) (held : Option (List ℕ)) (had so_far more whole : List ℕ) → whole ≡ so_far ++ more → Gains b held (had ++ so_far) more → Gains b held had whole
-all_gained false held had so_far more whole is g = g ∙ ap (λ (l : List ℕ). Some l) (append_assoc had so_far more ∙ ap (λ (l : List ℕ). had ++ l) (sym is))
-all_gained true held had so_far more whole is g = record {
-  gained = so_far ++ g.gained;
-  is = g.is ∙ ap (λ (l : List ℕ). Some l) (append_assoc had so_far g.gained);
-  first = (g.first.0, is ∙ ap (λ (l : List ℕ). so_far ++ l) g.first.1 ∙ sym (append_assoc so_far g.gained g.first.0));
-}
-
-gains_more : (b : Bool) (ho hp hq : Option (List ℕ)) (so_far more whole : List ℕ) → whole ≡ so_far ++ more → IfSome ho (λ had. hp ≡ Some (had ++ so_far)) → IfSome hp (λ had. Gains b hq had more) → IfSome ho (λ had. Gains b hq had whole)
-gains_more b None hp hq so_far more whole is before g = tt
-gains_more b (Some had) hp hq so_far more whole is before g =
-    all_gained b hq had so_far more whole is (subst (λ (h : Option (List ℕ)). IfSome h (λ had. Gains b hq had more)) before g)
-
--- the first of some bytes are the first of more
-gains_first : (hp hq : Option (List ℕ)) (some more : List ℕ) → IsPrefix some more → IfSome hp (λ had. Gains true hq had some) → IfSome hp (λ had. Gains true hq had more)
-gains_first None hq some more p g = tt
-gains_first (Some had) hq some more p g = record { gained = g.gained; is = g.is; first = prefix_trans g.gained some more g.first p }
-
-behind_behind : (o e p q : List ℕ) (st : State) → behind o e (behind p q st) ≡ behind (o ++ p) (e ++ q) st
-behind_behind o e p q st = simp append_assoc
-
--- ---- a step of the run
-
-module _ (budget : ℕ) (old p q : Parts) (bytes : List ℕ) (left_p left_q ho hp hq eo ep eq : Option (List ℕ)) (led : Led (λ s. run s budget) old p bytes left_p ho hp eo ep) where
-  -- the step was done, and the machine ended
-  end_done : RanAt step p q led.input left_q hp hq ep eq false → is_none p.ended ≡ true → p.steps < budget → is_none q.ended ≡ false → RanAt (λ s. run s budget) old q bytes left_q ho hq eo eq false
-  end_done r going below over =
-      let d = r.state refl in
-      let one : run (with_input p led.input) budget ≡ step (with_input p led.input) = run_ended (with_input p led.input) budget going below (ap (λ (x : Parts). is_none x.ended) (sym d.0) ∙ over) in
-      let whole : run (with_input old bytes) budget ≡ behind led.output led.errors (step (with_input p led.input)) = led.same ∙ ap (λ (s : State). behind led.output led.errors s) one in
-      record {
-        state = λ _. (d.0 ∙ ap (λ (s : State). s.parts) (sym whole), d.1 ∙ ap (λ (s : State). Some s.input) (sym whole));
-        input = λ (h : false ≡ true). cc;
-        output = gains_more false ho hp hq led.output (step (with_input p led.input)).output _ (ap (λ (s : State). s.output) whole) led.held r.output;
-        errors = gains_more false eo ep eq led.errors (step (with_input p led.input)).errors _ (ap (λ (s : State). s.errors) whole) led.errs r.errors;
-      }
-
-  -- the step wasn't done
-  end_broken : RanAt step p q led.input left_q hp hq ep eq true → is_none p.ended ≡ true → p.steps < budget → RanAt (λ s. run s budget) old q bytes left_q ho hq eo eq true
-  end_broken r going below =
-      let st : State = with_input p led.input in
-      let l = r.input refl in
-      let moved = step_moves st in
-      let more = run_moves st budget going below in
-      let ends : (run (with_input old bytes) budget).input ≡ (run st budget).input = ap (λ (s : State). s.input) led.same in
-      record {
-        state = λ (h : true ≡ false). cc;
-        input = λ _. record {
-          taken = led.rest.taken + l.taken;
-          most =
-              let within = led.rest.within in
-              let most = l.most in
-              let a : length led.input ≡ length bytes - led.rest.taken = ap length led.rest.is ∙ length-drop led.rest.taken bytes in
-              let b : length (step st).input ≡ length led.input - moved.input.taken = ap length moved.input.is ∙ length-drop moved.input.taken led.input in
-              let c : length (run st budget).input ≡ length (step st).input - more.input.taken = ap length more.input.is ∙ length-drop more.input.taken (step st).input in
-              let d : length (run (with_input old bytes) budget).input ≡ length (run st budget).input = ap length ends in
-              omega (arith, within, most, a, b, c, d);
-          is = l.is ∙ ap (λ (x : List ℕ). Some x) (ap (λ (x : List ℕ). drop l.taken x) led.rest.is ∙ drop-drop l.taken led.rest.taken bytes);
-        };
-        output = gains_more true ho hp hq led.output (run st budget).output _ (ap (λ (s : State). s.output) led.same) led.held (gains_first hp hq (step st).output (run st budget).output more.output r.output);
-        errors = gains_more true eo ep eq led.errors (run st budget).errors _ (ap (λ (s : State). s.errors) led.same) led.errs (gains_first ep eq (step st).errors (run st budget).errors more.errors r.errors);
-      }
-
+module _ (budget : ℕ) (old p q : Parts) (told left_p left_q ho hp hq eo ep eq : Option (List ℕ)) (led : LeadsRun budget old p told left_p ho hp eo ep) (going : is_none p.ended ≡ true) (below : p.steps < budget) where
   -- the step counted
-  next_led : RanAt step p q led.input left_q hp hq ep eq false → is_none p.ended ≡ true → p.steps < budget → q.steps ≡ p.steps + 1 → Led (λ s. run s budget) old q bytes left_q ho hq eo eq
-  next_led r going below counted =
-      let t : Turn = turn p led.input in
-      let d = r.state refl in
-      let one = run_after_turn p led.input budget going below (ap (λ (x : Parts). x.steps) (sym d.0) ∙ counted) in
-      let now : with_input t.parts t.input ≡ with_input q t.input = ap (λ (x : Parts). with_input x t.input) (sym d.0) in
-      record {
-        input = t.input;
-        output = led.output ++ t.output;
-        errors = led.errors ++ t.errors;
-        left = d.1;
-        rest = rest_trans bytes led.input t.input led.rest (turn_turns p led.input).takes;
-        same = led.same ∙ ap (λ (s : State). behind led.output led.errors s) (one ∙ ap (λ (s : State). behind t.output t.errors (run s budget)) now) ∙ behind_behind led.output led.errors t.output t.errors (run (with_input q t.input) budget);
-        held = gains_more false ho hp hq led.output t.output _ refl led.held r.output;
-        errs = gains_more false eo ep eq led.errors t.errors _ refl led.errs r.errors;
-      }
+  pub run_counts : q.steps ≡ p.steps + 1 → Ran step p q left_p left_q hp hq ep eq false → LeadsRun budget old q told left_q ho hq eo eq
+  run_counts counted r =
+      leads_on (λ s. run s budget) (λ s. run s budget) old p q left_p left_q ho hp hq eo ep eq told step (λ s. run s budget) (run_blind budget) step_moving
+      (λ input is. run_on (with_input p input) budget going below (ap (λ (m : Parts). m.steps) (sym is) ∙ counted)) led (ran_by step p q left_p left_q hp hq ep eq false r)
 
-  -- the budget is spent
-  end_spent : budget ≤ p.steps → RanAt (λ s. run s budget) old p bytes left_p ho hp eo ep false
-  end_spent over =
-      let none : run (with_input p led.input) budget ≡ with_input p led.input = run_spent (with_input p led.input) budget over in
-      let whole : run (with_input old bytes) budget ≡ behind led.output led.errors (with_input p led.input) = led.same ∙ ap (λ (s : State). behind led.output led.errors s) none in
-      record {
-        state = λ _. (ap (λ (s : State). s.parts) (sym whole), led.left ∙ ap (λ (s : State). Some s.input) (sym whole));
-        input = λ (h : false ≡ true). cc;
-        output = gains_more false ho hp hp led.output [] _ (ap (λ (s : State). s.output) whole) led.held (none_came hp);
-        errors = gains_more false eo ep ep led.errors [] _ (ap (λ (s : State). s.errors) whole) led.errs (none_came ep);
-      }
+  -- it ended the machine
+  run_ends : is_none q.ended ≡ false → Ran step p q left_p left_q hp hq ep eq false → Ran (λ s. run s budget) old q told left_q ho hq eo eq false
+  run_ends over r =
+      ran_of (λ s. run s budget) old q told left_q ho hq eo eq false
+      (leads_end (λ s. run s budget) (λ s. s) old q q left_q left_q ho hq hq eo eq eq told false moves_not
+      (leads_on (λ s. run s budget) (λ s. run s budget) old p q left_p left_q ho hp hq eo ep eq told step (λ s. s) (λ o e st. refl) step_moving
+      (λ input is. run_ended (with_input p input) budget going below (ap (λ (m : Parts). is_none m.ended) (sym is) ∙ over)) led (ran_by step p q left_p left_q hp hq ep eq false r))
+      (comes_still q left_q hq eq))
 
--- ---- the same, whether the input tells its bytes or not
+  -- it wasn't done
+  run_breaks : Ran step p q left_p left_q hp hq ep eq true → Ran (λ s. run s budget) old q told left_q ho hq eo eq true
+  run_breaks r =
+      ran_of (λ s. run s budget) old q told left_q ho hq eo eq true
+      (leads_end (λ s. run s budget) (λ s. run s budget) old p q left_p left_q ho hp hq eo ep eq told true (run_moving budget) led
+      (comes_cut step (λ s. run s budget) p q left_p left_q hp hq ep eq (λ input. run_moves (with_input p input) budget going below) (ran_by step p q left_p left_q hp hq ep eq true r)))
 
-module _ (budget : ℕ) (old p q : Parts) (left_p left_q ho hp hq eo ep eq : Option (List ℕ)) where
-  pub leads_on : (told : Option (List ℕ)) → Leads (λ s. run s budget) old p told left_p ho hp eo ep → Ran step p q left_p left_q hp hq ep eq false
-      → is_none p.ended ≡ true → p.steps < budget → q.steps ≡ p.steps + 1 → Leads (λ s. run s budget) old q told left_q ho hq eo eq
-  leads_on None led r going below counted = tt
-  leads_on (Some bytes) led r going below counted = next_led budget old p q bytes left_p left_q ho hp hq eo ep eq led (ran_at step p q led.input left_p left_q hp hq ep eq false led.left r) going below counted
+  pub run_stops : (b : Bool) → Ran step p q left_p left_q hp hq ep eq b → (b ≡ false → is_none q.ended ≡ false) → Ran (λ s. run s budget) old q told left_q ho hq eo eq b
+  run_stops false r over = run_ends (over refl) r
+  run_stops true r over = run_breaks r
 
-  pub leads_end : (told : Option (List ℕ)) (b : Bool) → Leads (λ s. run s budget) old p told left_p ho hp eo ep → Ran step p q left_p left_q hp hq ep eq b
-      → is_none p.ended ≡ true → p.steps < budget → (b ≡ false → is_none q.ended ≡ false) → Ran (λ s. run s budget) old q told left_q ho hq eo eq b
-  leads_end None b led r going below over = record { state = tt; input = tt; output = tt; errors = tt }
-  leads_end (Some bytes) false led r going below over =
-      ran_of _ _ _ _ _ _ _ _ _ _ (end_done budget old p q bytes left_p left_q ho hp hq eo ep eq led (ran_at step p q led.input left_p left_q hp hq ep eq false led.left r) going below (over refl))
-  leads_end (Some bytes) true led r going below over =
-      ran_of _ _ _ _ _ _ _ _ _ _ (end_broken budget old p q bytes left_p left_q ho hp hq eo ep eq led (ran_at step p q led.input left_p left_q hp hq ep eq true led.left r) going below)
-
-pub leads_spent : (budget : ℕ) (old p : Parts) (told left ho hp eo ep : Option (List ℕ)) → Leads (λ s. run s budget) old p told left ho hp eo ep → budget ≤ p.steps → Ran (λ s. run s budget) old p told left ho hp eo ep false
-leads_spent budget old p None left ho hp eo ep led over = record { state = tt; input = tt; output = tt; errors = tt }
-leads_spent budget old p (Some bytes) left ho hp eo ep led over = ran_of _ _ _ _ _ _ _ _ _ _ (end_spent budget old p p bytes left left ho hp hp eo ep ep led over)
+-- the budget is spent
+pub run_spends : (budget : ℕ) (old p : Parts) (told left ho hp eo ep : Option (List ℕ)) → LeadsRun budget old p told left ho hp eo ep → budget ≤ p.steps → Ran (λ s. run s budget) old p told left ho hp eo ep false
+run_spends budget old p told left ho hp eo ep led over =
+    ran_of (λ s. run s budget) old p told left ho hp eo ep false
+    (leads_end (λ s. run s budget) (λ s. run s budget) old p p left left ho hp hp eo ep ep told false (run_moving budget) led
+    (comes_same (λ s. s) (λ s. run s budget) p p left left hp hp ep ep false (λ input. sym (run_spent (with_input p input) budget over)) (comes_still p left hp ep)))
 
 -- ---- the answers
 

@@ -7,7 +7,7 @@ use Rattle.emu_run.specs.Step.{step, turn}
 use Rattle.emu_run.specs.Run.{run}
 use Rattle.emu_run.specs.RunLaws.{run_after_turn, run_spent}
 use Rattle.emu_machine.specs.Ends.{IsKept}
-use Rattle.emu_machine.proofs.Runs.{Leads, Led, Ran, ran_at}
+use Rattle.emu_machine.proofs.Runs.{LeadsRun, LedRun, Ran, ran_at}
 
 -- a machine and what is left of its input
 abbrev seen : State → Parts × List ℕ
@@ -24,11 +24,11 @@ stands_start old None = tt
 stands_start old (Some bytes) = λ b h. refl
 
 module _ (budget : ℕ) (old p : Parts) (left_p ho hp eo ep : Option (List ℕ)) where
-  stands_at : (bytes : List ℕ) (led : Led (λ s. run s budget) old p bytes left_p ho hp eo ep) → IfSome left_p (λ input. StandsAt old bytes p input) → StandsAt old bytes p led.input
+  stands_at : (bytes : List ℕ) (led : LedRun budget old p bytes left_p ho hp eo ep) → IfSome left_p (λ input. StandsAt old bytes p input) → StandsAt old bytes p led.input
   stands_at bytes led stands = subst (λ (left : Option (List ℕ)). IfSome left (λ input. StandsAt old bytes p input)) led.left stands
 
   -- a step counted
-  pub stands_on : (q : Parts) (left_q hq eq told : Option (List ℕ)) → Leads (λ s. run s budget) old p told left_p ho hp eo ep → Ran step p q left_p left_q hp hq ep eq false
+  pub stands_on : (q : Parts) (left_q hq eq told : Option (List ℕ)) → LeadsRun budget old p told left_p ho hp eo ep → Ran step p q left_p left_q hp hq ep eq false
       → is_none p.ended ≡ true → q.steps ≡ p.steps + 1 → Stands old told p left_p → Stands old told q left_q
   stands_on q left_q hq eq None led r going counted stands = tt
   stands_on q left_q hq eq (Some bytes) led r going counted stands =
@@ -42,7 +42,7 @@ module _ (budget : ℕ) (old p : Parts) (left_p ho hp eo ep : Option (List ℕ))
       subst (λ (left : Option (List ℕ)). IfSome left (λ input. StandsAt old bytes q input)) (sym d.1) now
 
   -- it is what the run with just the steps counted leaves, and so is the input
-  pub stands_there : (told : Option (List ℕ)) → Leads (λ s. run s budget) old p told left_p ho hp eo ep → Stands old told p left_p
+  pub stands_there : (told : Option (List ℕ)) → LeadsRun budget old p told left_p ho hp eo ep → Stands old told p left_p
       → IfSome told (λ bytes. (p ≡ (run (with_input old bytes) p.steps).parts) × (left_p ≡ Some (run (with_input old bytes) p.steps).input))
   stands_there None led stands = tt
   stands_there (Some bytes) led stands =

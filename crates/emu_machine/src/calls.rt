@@ -1,5 +1,5 @@
 //! The step of a call.
-ghost use Rattle.std.specs.Prelude.{◌≡◌, ◌<◌, ◌+◌, ◌-◌, ◌^◌, ℕ, true, false};
+ghost use Rattle.std.specs.Prelude.{◌≡◌, ◌<◌, ◌+◌, ◌-◌, ◌^◌, true, false};
 ghost use Rattle.io_gate.specs.Streams.{Causes};
 ghost use Rattle.linux_calls.specs.Ends.{is_fault};
 ghost use Rattle.linux_calls.specs.Names.{NamesRead, NamesWrite};

@@ -16,7 +16,7 @@ use crate::exec::perform;
 use core_regs::{Core, Effect};
 use emu_model::{Break, Ended, Kind, Trap, TrapKind};
 use guest_mem::{Access, AccessLog, Mem};
-use insn_decode::{Insn, decode};
+use insn_decode::{Insn, decode_at};
 use io_gate::{Sink, Source};
 use std::marker::Model;
 use vec_regs::VecRegs;
@@ -163,7 +163,7 @@ impl Machine {
             Err(denied) => return Some(self.trap(TrapKind::Fetch, denied.address)),
             Ok(word) => word as u32,
         };
-        match decode(word) {
+        match decode_at::<Machine>(word) {
             None => Some(self.trap(TrapKind::Undefined, pc)),
             Some(insn) => self.execute(&insn),
         }

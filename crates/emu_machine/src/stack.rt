@@ -1,5 +1,5 @@
 //! The stack of a program before its first step.
-ghost use Rattle.std.specs.Prelude.{◌≡◌, ◌+◌, ◌*◌, ◌-◌, ◌≤◌, ◌<◌, ◌^◌, length, map, string_bytes};
+ghost use Rattle.std.specs.Prelude.{◌≡◌, ◌+◌, ◌*◌, ◌-◌, ◌≤◌, ◌^◌, length, map, string_bytes};
 ghost use Rattle.emu_model.specs.Pages.{with_bytes};
 ghost use Rattle.emu_system.specs.Arguments.{AreArguments};
 ghost use Rattle.emu_system.specs.Image.{stack_page_count};

@@ -6,11 +6,14 @@
 mod debugger;
 mod endings;
 mod names;
+mod refusals;
 mod registers;
 mod text;
 
 pub use debugger::{put_break, put_lanes, put_memory, put_preg, put_step, put_watch, put_zreg};
-pub use endings::{
-    put_exit, put_image_refusal, put_spent, put_too_long, put_trap, put_words_refusal,
+pub use endings::{put_exit, put_spent, put_trap};
+pub use refusals::{
+    put_image_refusal, put_listing_refusal, put_script_refusal, put_too_long, put_words_refusal,
 };
 pub use registers::{put_ffr, put_registers, put_scalars};
+pub use text::Text;

@@ -1,10 +1,13 @@
 //! The names of traps and of refusals as they are printed.
 ghost use Rattle.std.specs.Prelude.{◌≡◌, ◌≤◌, length};
-ghost use Rattle.emu_run.specs.Reports.{trap_name, words_name, fault_name, fault_index};
+ghost use Rattle.emu_run.specs.Reports.{trap_name};
+ghost use Rattle.command_model.specs.Refusals.{fault_index, fault_name, listing_name, script_name, words_name};
 
+use command_model::WordsWhy;
+use dbg_model::ScriptWhy;
 use emu_model::TrapKind;
-use emu_run::WordsWhy;
 use emu_system::ElfFault;
+use listing_model::ListingWhy;
 
 /// A trap's kind.
 pub fn trap_name(kind: TrapKind) -> &'static str
@@ -87,5 +90,46 @@ pub fn fault_index(fault: ElfFault) -> Option<u16>
         | ElfFault::NotCongruent(index)
         | ElfFault::Overlap(index) => Some(index),
         _ => None,
+    }
+}
+
+/// Why a listing is refused.
+pub fn listing_name(why: ListingWhy) -> &'static str
+    ensures name { result.now ≡ listing_name why }
+    ensures short { length result.now ≤ 17 }
+{
+    match why {
+        ListingWhy::NotUtf8 => "NotUtf8",
+        ListingWhy::TooManyLines => "TooManyLines",
+        ListingWhy::LongLine => "LongLine",
+        ListingWhy::BadLabel => "BadLabel",
+        ListingWhy::UnknownName => "UnknownName",
+        ListingWhy::BadOperands => "BadOperands",
+        ListingWhy::OutOfRange => "OutOfRange",
+        ListingWhy::SecondEntry => "SecondEntry",
+        ListingWhy::LabelTwice => "LabelTwice",
+        ListingWhy::InstructionInData => "InstructionInData",
+        ListingWhy::Misaligned => "Misaligned",
+        ListingWhy::TooLarge => "TooLarge",
+        ListingWhy::UnknownLabel => "UnknownLabel",
+        ListingWhy::TooFar => "TooFar",
+        ListingWhy::NoCode => "NoCode",
+    }
+}
+
+/// Why a script is refused.
+pub fn script_name(why: ScriptWhy) -> &'static str
+    ensures name { result.now ≡ script_name why }
+    ensures short { length result.now ≤ 17 }
+{
+    match why {
+        ScriptWhy::NotUtf8 => "NotUtf8",
+        ScriptWhy::TooManyLines => "TooManyLines",
+        ScriptWhy::UnknownCommand => "UnknownCommand",
+        ScriptWhy::MissingWord => "MissingWord",
+        ScriptWhy::BadNumber => "BadNumber",
+        ScriptWhy::OutOfRange => "OutOfRange",
+        ScriptWhy::ExtraWord => "ExtraWord",
+        ScriptWhy::TooMany => "TooMany",
     }
 }

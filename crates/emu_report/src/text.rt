@@ -1,5 +1,5 @@
 //! A text that is put together in memory and put to a sink at once.
-ghost use Rattle.std.specs.Prelude.{◌≡◌, ◌<◌, ◌≤◌, ◌+◌, ◌*◌, [], ◌∷◌, ◌++◌, length};
+ghost use Rattle.std.specs.Prelude.{◌≡◌, ◌<◌, ◌≤◌, ◌+◌, ◌*◌, [], ◌++◌, length};
 ghost use Rattle.std.specs.Fmt.{decimal};
 ghost use Rattle.io_gate.specs.Streams.{HasCause, PutsAll};
 ghost use Rattle.emu_run.specs.Text.{hex, hex_digit};

@@ -1,11 +1,8 @@
-pub mod CommandLine
 pub mod Least
-pub mod Outcome
 pub mod Registers
 pub mod Reports
 pub mod Run
 pub mod RunLaws
 pub mod Sound
-pub mod Statuses
 pub mod Step
 pub mod Text

@@ -6,14 +6,22 @@ ghost use Rattle.emu_run.specs.Step as model;
 ghost use Rattle.insn_decode.specs.OneRow.{OneRowOfAll};
 ghost use Rattle.insn_decode.specs.Words.{word_of};
 
-use a64_rows::{decode_a64, encode_a64};
+use a64_rows::{decode_a64_at, encode_a64};
 use emu_bits::bits;
 pub use emu_run::Insn;
 use sve_rows::{decode_sve, encode_sve};
 
 /// The instruction that a word is. None exactly where the word is in no row of a table.
-#[inline(always)]
 pub fn decode(w: u32) -> Option<Insn>
+    ensures table { result ≡ model.decode w }
+    ensures back { IfSome result (λ i. word_of i ≡ w) }
+{
+    decode_at::<()>(w)
+}
+
+/// The same for one place of a program, which any type may name (`a64_rows::decode_a64_at`).
+#[inline(always)]
+pub fn decode_at<Site>(w: u32) -> Option<Insn>
     ensures table { result ≡ model.decode w }
     ensures back { IfSome result (λ i. word_of i ≡ w) }
 {
@@ -21,7 +29,7 @@ pub fn decode(w: u32) -> Option<Insn>
     if bits(w, 28, 27) == 0 {
         decode_sve(w).map(Insn::Sve)
     } else {
-        decode_a64(w).map(Insn::A64)
+        decode_a64_at::<Site>(w).map(Insn::A64)
     }
 }
 

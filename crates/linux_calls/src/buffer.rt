@@ -1,5 +1,5 @@
 //! The ranges that a call is given: a buffer, or entries that stand in the guest's memory.
-ghost use Rattle.std.specs.Prelude.{◌≡◌, ◌≤◌, ◌∷◌, [], List, IfOk, IfErr, OnOk, false};
+ghost use Rattle.std.specs.Prelude.{◌≡◌, ◌∷◌, [], List, IfOk, IfErr};
 ghost use Rattle.emu_system.specs.SystemCall as model;
 ghost use Rattle.linux_calls.specs.Granted.{AreGranted};
 ghost use Rattle.linux_calls.specs.Replies.{replied};

@@ -1,4 +1,4 @@
-//! Tests of streams, frames, pages, memory and printed lines that call nothing but public functions.
+//! Tests of streams, frames, pages and memory that call nothing but public functions.
 //!
 //! They stand here, and not beside what they test, since a crate with tests is proved once with them and once without.
 #![tactic(auto)]
@@ -9,7 +9,5 @@ mod frames;
 mod memory;
 #[cfg(test)]
 mod pages;
-#[cfg(test)]
-mod reports;
 #[cfg(test)]
 mod streams;

@@ -1,13 +1,6 @@
--- Lists that grow and shrink at the end.
-use Rattle.std.proofs.Common.{◌≡◌, ◌≤◌, ◌+◌, ◌-◌, ℕ, zero, suc, List, [], ◌∷◌, ◌++◌, map, length, take, drop, refl, sym, ap, ◌∙◌, arith, append_assoc}
+-- Lists that are turned, and cut at the end.
+use Rattle.std.proofs.Common.{◌≡◌, ◌≤◌, ◌+◌, ◌-◌, ℕ, List, [], ◌∷◌, ◌++◌, map, length, take, drop, refl, sym, ap, ◌∙◌, arith, append_assoc}
 use Rattle.std.proofs.lemmas.List.{map-append, length-map, length-append, length-drop, length-take-le, take-append-drop, take-append-le, drop-append-le, take-map, drop-map}
-use Rattle.emu_model.specs.declared.access.Rights.{Rights}
-use Rattle.emu_model.specs.Pages.{zeroed_page}
-use Rattle.page_list.specs.Entries.{Entry, zeroed_entries}
-
--- one more zeroed page
-pub zeroed_next : (es : List Entry) (number left : ℕ) (rights : Rights) (all : List Entry) → es ++ zeroed_entries number (suc left) rights ≡ all → (es ++ (number, zeroed_page rights) ∷ []) ++ zeroed_entries (number + 1) left rights ≡ all
-zeroed_next es number left rights all h = append_assoc es ((number, zeroed_page rights) ∷ []) (zeroed_entries (number + 1) left rights) ∙ h
 
 pub front_of : {X : Type 0} (xs ys : List X) → take (length xs) (xs ++ ys) ≡ xs
 front_of [] [] = refl
@@ -57,7 +50,3 @@ length_turned l at k =
     let c = length-append (take at l) (drop at l) in let d = length-append (take k (drop at l)) (drop k (drop at l)) in
     let e = ap length (take-append-drop at l) in let f = ap length (take-append-drop k (drop at l)) in
     omega (arith, a, b, c, d, e, f)
-
-pub length_zeroed : (first count : ℕ) (rights : Rights) → length (zeroed_entries first count rights) ≡ count
-length_zeroed first zero rights = refl
-length_zeroed first (suc count) rights = ap suc (length_zeroed (first + 1) count rights)

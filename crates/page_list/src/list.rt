@@ -4,7 +4,10 @@ ghost use Rattle.std.specs.List.{AllByRecursion};
 ghost use Rattle.emu_model.specs.WithinPage.{page_with_bytes};
 ghost use Rattle.page_list.specs.Entries.{IsAscending, IsBelow, IsFrom, changed_at, entry_at, page_with_rights, zeroed_entries};
 
-use crate::slots::{Slot, move_back, move_to_end, pop_all, push_all, told_bytes};
+use crate::slots::{
+    Slot, ensure_frame, move_back, move_to_end, own_frame, page_bytes, pop_all, push_all,
+    told_bytes,
+};
 use emu_model::Rights;
 use frame_arena::{FrameArena, OutOfMemory};
 use std::alloc::Global;
@@ -90,7 +93,7 @@ impl PageList {
         ensures bytes { result.now ≡ (entry_at self.now.pages i).1.bytes }
         ensures length { length result.now ≡ 4096 }
     {
-        told_bytes(self.arena.bytes(&self.slots[i].frame))
+        page_bytes(&self.slots[i], &self.arena)
     }
 
     /// Gives the page at place `i` other rights.
@@ -111,9 +114,10 @@ impl PageList {
         ensures bytes { result.now ≡ take count (drop at (entry_at self.old.pages i).1.bytes) }
         ensures length { length result.now ≡ count }
     {
+        ensure_frame(&mut self.slots, &mut self.arena, i);
         // for its clause: what the frame has are bytes
-        let _bytes = told_bytes(self.arena.bytes(&self.slots[i].frame));
-        self.arena.part_mut(&self.slots[i].frame, at, count)
+        let _bytes = told_bytes(self.arena.bytes(own_frame(&self.slots, i)));
+        self.arena.part_mut(own_frame(&self.slots, i), at, count)
     }
 
     /// Replaces the bytes of the page at place `i` from place `at` on.
@@ -146,7 +150,7 @@ impl PageList {
         ensures pages { self.new.pages ≡ take at self.old.pages ++ (zeroed_entries first count rights ++ drop at self.old.pages) }
         ensures limit { self.new.limit ≡ self.old.limit }
     {
-        push_all(&mut self.slots, &mut self.arena, first, count, rights);
+        push_all(&mut self.slots, first, count, rights);
         move_back(&mut self.slots, at, count as usize);
     }
 

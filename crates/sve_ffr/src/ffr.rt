@@ -1,5 +1,5 @@
 //! What a load clears in FFR, and the lanes that it writes by it.
-ghost use Rattle.std.specs.Prelude.{◌≡◌, ◌≤◌, ◌<◌, ◌/◌, ◌*◌, ℕ, Bool, ◌&&◌, Some, true, nat_lt, if◌then◌else◌, length};
+ghost use Rattle.std.specs.Prelude.{◌≡◌, ◌<◌, ◌/◌, ◌*◌, ℕ, ◌&&◌, Some, true, nat_lt, if◌then◌else◌, length};
 ghost use Rattle.arrayvec.specs.ArrayVec.{array_vec_len};
 ghost use Rattle.emu_model.specs.Lists.{each};
 ghost use Rattle.vec_model.specs.Lanes.{IsLaneSize, with_ffr, with_lanes};

@@ -1,5 +1,5 @@
 //! The plans of gathers and scatters.
-ghost use Rattle.std.specs.Prelude.{◌≡◌, ◌≤◌, ◌*◌, ◌^◌, true};
+ghost use Rattle.std.specs.Prelude.{◌≡◌, ◌*◌, ◌^◌, true};
 ghost use Rattle.emu_model.specs.State.{read_x_sp};
 ghost use Rattle.vec_model.specs.Lanes.{IsLaneSize};
 ghost use Rattle.element_loops.specs.declared.plan.Places.{Places};

@@ -1,5 +1,5 @@
 //! Plans by how a row finds its elements.
-ghost use Rattle.std.specs.Prelude.{◌≡◌, ◌≤◌, ◌<◌, ◌/◌, None, false};
+ghost use Rattle.std.specs.Prelude.{◌≡◌, ◌<◌, ◌/◌, None, false};
 ghost use Rattle.vec_model.specs.Lanes.{IsLaneSize};
 ghost use Rattle.sve_effects.specs.ElementLoop.{is_active};
 ghost use Rattle.sve_effects.specs.FirstLast.{first_where};

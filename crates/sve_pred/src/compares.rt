@@ -9,7 +9,7 @@ ghost use Rattle.sve_effects.specs.PredicateRows.{predicate, predicate_bits, put
 ghost use Rattle.sve_insn.specs.declared.form.SveForm.TheVariants as form;
 ghost use Rattle.sve_pred.specs.Compares as model;
 ghost use Rattle.sve_pred.specs.Groups.{is_compare};
-ghost use Rattle.vec_model.specs.Lanes.{IsLaneSize, read_p};
+ghost use Rattle.vec_model.specs.Lanes.{IsLaneSize};
 
 use crate::registers::{bits, esize, read, test_lanes, write};
 use core_regs::Core;

@@ -1,5 +1,5 @@
 -- Statements read, and refused.
-use Rattle.std.proofs.Common.{◌≡◌, ℕ, Result, Ok, Err, None, List, [], ◌∷◌, ◌++◌, map, codes, is_some, refl}
+use Rattle.std.proofs.Common.{◌≡◌, ℕ, Result, Ok, Err, None, List, [], ◌∷◌, map, codes, is_some, refl}
 use Rattle.emu_bits.specs.Bitmask.{bitmask_of}
 use Rattle.emu_bits.specs.Rows.{decode}
 use Rattle.text_model.specs.declared.slots.Refusal.{Refusal}

@@ -8,4 +8,4 @@ pub mod Total
 pub mod Untargeted
 pub mod Examples
 pub mod ReadBack
-pub mod Parts
+pub mod Numbered

@@ -1,5 +1,5 @@
 -- What reading the text of an instruction gives: computed over the table, and by the law of a table.
-use Rattle.std.proofs.Common.{◌≡◌, ℕ, zero, suc, ◌+◌, ◌-◌, ◌*◌, ◌/◌, ◌%◌, ◌^◌, ◌<◌, ◌≤◌, ◌==◌, ◌&&◌, ◌||◌, Bool, true, false, Option, Some, None, Result, Ok, Err, List, [], ◌∷◌, ◌++◌, length, get_or, bit_and, bit_or, nat_lt, nat_le, refl, sym, ap, ap₂, ◌∙◌, subst, arith, inl, inr, append-nil}
+use Rattle.std.proofs.Common.{◌≡◌, ℕ, zero, suc, ◌-◌, ◌*◌, ◌/◌, ◌%◌, ◌^◌, ◌<◌, ◌≤◌, ◌&&◌, Bool, true, false, Option, Some, None, Ok, List, [], ◌∷◌, get_or, bit_and, bit_or, nat_lt, nat_le, refl, sym, ap, ap₂, ◌∙◌, subst, arith, inl, inr, append-nil}
 use Rattle.std.proofs.lemmas.Bool.{cases_Bool, and_parts, and_from, false≢true, true≢false, leb-true, ltb-true}
 use Rattle.std.proofs.lemmas.Nat.{and_mask, or_lt}
 use Rattle.std.proofs.Math.Nat.{mod-eq_of_lt}
@@ -13,12 +13,12 @@ use Rattle.emu_bits.proofs.Places.{put_fits}
 use Rattle.text_model.specs.declared.slots.Kind.TheVariants.{Bitmask}
 use Rattle.text_model.specs.Slots.{joined}
 use Rattle.text_model.specs.Reading.{Pattern, is_canonical, all_canonical}
-use Rattle.text_model.specs.Statement.{Statement, reads_text, destination_of}
+use Rattle.text_model.specs.Statement.{reads_text, destination_of}
 use Rattle.text_model.specs.Text.{chosen, text_by, text}
 use Rattle.text_model.specs.Aim.{Reach, reach_of, reach_bits, reached, unaimed}
 use Rattle.text_model.specs.Writing.{flat}
 use Rattle.text_model.proofs.Again.{pattern_at}
-use Rattle.text_model.proofs.Tables.{IsChosen, chosen_is, in_table_of, all_plain, plain_at, plain_canonical, IsLegible, IsReadAgain, table_law}
+use Rattle.text_model.proofs.Tables.{chosen_is, in_table_of, all_plain, plain_at, plain_canonical, IsLegible, table_law}
 use Rattle.sve_insn.specs.declared.form.SveForm.{SveForm}
 use Rattle.sve_insn.specs.declared.form.SveForm.TheVariants.{BitmaskZ}
 use Rattle.sve_insn.specs.Conditions.{has_bitmask}
@@ -38,7 +38,7 @@ use Rattle.sve_texts.specs.Folds.{reduce_texts, count_texts, inc_x_texts, inc_z_
 use Rattle.sve_texts.specs.Permutes.{dup_reg_texts, dup_lane_texts, insert_texts, rev_z_texts, unpack_texts, table_texts, interleave_texts, interleave_p_texts, unpack_p_texts, rev_p_texts, compact_texts, splice_texts, ext_texts, copy_reg_texts, last_texts, cond_last_texts}
 use Rattle.sve_texts.specs.Predicates.{cmp_vec_texts, cmp_wide_texts, cmp_u_imm_texts, cmp_s_imm_texts, logic_p_texts, select_p_texts, break_first_texts, break_pair_texts, break_next_texts, ptest_texts, first_texts, next_texts, ptrue_texts, pfalse_texts, read_ffr_texts, read_ffr_all_texts, write_ffr_texts, count_p_texts, inc_p_texts, inc_p_z_texts, while_texts, cterm_texts}
 use Rattle.sve_texts.specs.Table.{memory_texts, data_texts, move_texts, predicate_texts, sve_lines, sve_patterns}
-use Rattle.sve_texts.specs.Law.{in_table, word_of, texts_of, text_of_form, is_canonical_form, IsReadBack}
+use Rattle.sve_texts.specs.Law.{in_table, word_of, texts_of, is_canonical_form, IsReadBack}
 use Rattle.sve_texts.proofs.Checked.{readable, written, aimed_well, apart, reach_well}
 use Rattle.sve_texts.proofs.Untargeted.{sve_reach}
 use Rattle.sve_texts.proofs.Shown.{IsShown, AreShown}

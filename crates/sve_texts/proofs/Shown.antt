@@ -1,6 +1,6 @@
 -- Each word of a line has a pattern.
-use Rattle.std.proofs.Common.{◌≡◌, ℕ, Bool, true, Option, Some, None, List, [], ◌∷◌, ◌++◌, refl}
-use Rattle.emu_bits.specs.Rows.{Place, Line, Row, values, row_in, or_else, decode}
+use Rattle.std.proofs.Common.{◌≡◌, ℕ, Bool, true, Some, List, [], ◌∷◌, ◌++◌, refl}
+use Rattle.emu_bits.specs.Rows.{Place, Line, Row, values, row_in}
 use Rattle.emu_bits.proofs.Encoding.{answer_of}
 use Rattle.sve_insn.specs.declared.form.SveForm.{SveForm}
 use Rattle.text_model.specs.Reading.{Pattern}

@@ -1,5 +1,5 @@
 -- The texts of lines of folds and counts.
-use Rattle.std.specs.Prelude.{ℕ, ◌+◌, ◌^◌, List, [], ◌∷◌, ◌++◌, codes}
+use Rattle.std.specs.Prelude.{ℕ, ◌+◌, List, [], ◌∷◌, ◌++◌, codes}
 use Rattle.emu_bits.specs.Rows.{Line}
 use Rattle.sve_insn.specs.Folds.{reduce, count_elements, inc_x, inc_z, sat_x, sat_z, add_length, read_length}
 use Rattle.text_model.specs.declared.classes.Class.TheVariants.{W, X, D}

@@ -1,5 +1,5 @@
 -- The texts of gathers and scatters.
-use Rattle.std.specs.Prelude.{ℕ, ◌+◌, ◌*◌, ◌^◌, List, [], ◌∷◌, ◌++◌, codes}
+use Rattle.std.specs.Prelude.{ℕ, ◌+◌, ◌^◌, List, [], ◌∷◌, ◌++◌, codes}
 use Rattle.emu_bits.specs.Rows.{Line}
 use Rattle.sve_insn.specs.Memory.{gather_sx, gather_sx_scaled, gather_dx, gather_dx_scaled, gather_d, gather_d_scaled, gather_sv, gather_dv, scatter_sx, scatter_sx_scaled, scatter_dx, scatter_dx_scaled, scatter_d, scatter_d_scaled, scatter_sv, scatter_dv}
 use Rattle.text_model.specs.declared.classes.Class.{Class}

@@ -9,7 +9,7 @@ use Rattle.text_model.specs.declared.slots.Kind.TheVariants.{Falling, Bitmask}
 use Rattle.text_model.specs.declared.slots.Slot.{Slot}
 use Rattle.text_model.specs.Reading.{Pattern}
 use Rattle.text_model.specs.Writing.{◌to◌, coded, times, signed_times, counted, hexadecimal, row, rows, put_at}
-use Rattle.sve_texts.specs.Operands.{separated, all_sizes, z_class, sized, register, zd, zn, zm, z_by, r_at, p_either, pg, pg_merging, unsigned_at, signed_at, shifted, index}
+use Rattle.sve_texts.specs.Operands.{separated, all_sizes, z_class, sized, register, zd, zn, zm, z_by, r_at, p_either, pg_merging, unsigned_at, signed_at, shifted, index}
 
 -- Shifts by vectors are written size by size: lanes of 64 bits have the operands of the wide ones.
 abbrev pub binary_vectors : List (List ℕ)

@@ -8,7 +8,7 @@ use Rattle.sve_insn.specs.declared.form.SveForm.TheVariants.{BitmaskZ}
 use Rattle.sve_insn.specs.Lines.{line_number}
 use Rattle.sve_insn.specs.Table.{row_of, sve_table}
 use Rattle.text_model.specs.Reading.{Pattern}
-use Rattle.text_model.specs.Statement.{Statement, reads_text}
+use Rattle.text_model.specs.Statement.{reads_text}
 use Rattle.text_model.specs.Text.{text_of}
 use Rattle.sve_texts.specs.Table.{sve_lines, sve_patterns}
 

@@ -8,5 +8,3 @@ pub mod Permutes
 pub mod Predicates
 pub mod Table
 pub mod Law
-pub mod Names
-pub mod Lines

@@ -1,5 +1,5 @@
 -- Operands of SVE instructions: a list of slots each, by the bits of the word where the table has them.
-use Rattle.std.specs.Prelude.{ℕ, zero, suc, ◌+◌, ◌*◌, ◌^◌, List, [], ◌∷◌, ◌++◌, get_or, map, codes}
+use Rattle.std.specs.Prelude.{ℕ, ◌+◌, List, [], ◌∷◌, ◌++◌, get_or, map, codes}
 use Rattle.text_model.specs.declared.classes.Class.{Class}
 use Rattle.text_model.specs.declared.classes.Class.TheVariants.{Slash, Zb, Zh, Zs, Zd, Zq, P, Pb, Ph, Ps, Pd, Shift, Count, Times, Merging, Zeroing}
 use Rattle.text_model.specs.declared.classes.Group.{Group}
@@ -11,7 +11,7 @@ use Rattle.text_model.specs.declared.slots.Kind.TheVariants.{NamedCount, Unnamed
 use Rattle.text_model.specs.declared.slots.Codec.{Codec}
 use Rattle.text_model.specs.declared.slots.Slot.{Slot}
 use Rattle.text_model.specs.Reading.{Pattern}
-use Rattle.text_model.specs.Writing.{◌to◌, coded, plain, stack, times, signed_times, always, of, one, then, counted, bare, amount, perhaps, inside, bracketed}
+use Rattle.text_model.specs.Writing.{◌to◌, coded, plain, stack, times, signed_times, always, of, one, then, counted, bare, perhaps, inside, bracketed}
 
 -- operands with commas between
 abbrev pub separated : List (List Slot) → List Slot

@@ -1,12 +1,12 @@
 -- What loads and stores have in common: names by what is read or written, operands, places in memory.
-use Rattle.std.specs.Prelude.{ℕ, zero, suc, ◌+◌, ◌^◌, List, [], ◌∷◌, ◌++◌, get_or, codes}
+use Rattle.std.specs.Prelude.{ℕ, zero, suc, ◌+◌, List, [], ◌∷◌}
 use Rattle.text_model.specs.declared.classes.Class.{Class}
 use Rattle.text_model.specs.declared.classes.Class.TheVariants.{X, Shift, Times, VectorLength}
 use Rattle.text_model.specs.declared.slots.Parts.TheVariants.{At}
 use Rattle.text_model.specs.declared.slots.Shape.TheVariants.{Only}
 use Rattle.text_model.specs.declared.slots.Kind.TheVariants.{After}
 use Rattle.text_model.specs.declared.slots.Slot.{Slot}
-use Rattle.text_model.specs.Writing.{◌to◌, coded, plain, stack, times, signed_times, always, of, one, then, counted, amount, perhaps, inside, bracketed, braced}
+use Rattle.text_model.specs.Writing.{◌to◌, coded, plain, stack, signed_times, always, of, one, then, counted, amount, perhaps, inside, bracketed, braced}
 use Rattle.sve_texts.specs.Operands.{separated, register, pg, pg_zeroing}
 
 -- ---- operands

@@ -1,5 +1,5 @@
 -- The texts of lines of predicates.
-use Rattle.std.specs.Prelude.{ℕ, ◌^◌, List, [], ◌∷◌, ◌++◌, codes}
+use Rattle.std.specs.Prelude.{ℕ, List, [], ◌∷◌, ◌++◌, codes}
 use Rattle.sve_insn.specs.Predicates.{cmp_vec, cmp_wide, cmp_u_imm, cmp_s_imm, logic_p, select_p, break_first, break_pair, break_next, ptest, first_active, next_active, ptrue, pfalse, read_ffr, read_ffr_all, write_ffr, count_p, inc_p, inc_p_z, while_compare, cterm}
 use Rattle.text_model.specs.declared.classes.Class.TheVariants.{X, Zd, P, Pb}
 use Rattle.text_model.specs.declared.classes.Group.TheVariants.{General}

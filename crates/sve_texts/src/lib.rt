@@ -46,17 +46,16 @@ ghost use Rattle.std.specs.Prelude.{◌≡◌, [], true, get_or};
 ghost use Rattle.emu_bits.specs.Rows.{IsRow};
 ghost use Rattle.sve_insn.specs.declared.form.SveForm.{SveForm};
 ghost use Rattle.sve_insn.specs.Table.{row_of};
-ghost use Rattle.text_code.specs.Tables.{patterns_of};
-ghost use Rattle.sve_texts.specs.Lines.{lines_of};
+ghost use Rattle.text_code.specs.Tables.{lines_of, patterns_of};
 ghost use Rattle.sve_texts.specs.Law.{in_table, is_canonical_form, IsReadBack};
-ghost use Rattle.sve_texts.specs.Table.{sve_lines};
+ghost use Rattle.sve_texts.specs.Table.{data_texts, memory_texts, move_texts, predicate_texts, sve_lines};
 
 use sve_rows::decode_sve;
-use text_code::{Pattern, Spot, Table};
+use text_code::{Pattern, Spot, Table, line_of};
 
-/// The patterns of each line of the table, in the table's order.
-fn all_lines() -> [&'static [Pattern]; 104]
-    ensures { lines_of result ≡ sve_lines }
+/// The patterns of the lines of loads and stores.
+fn memory_lines() -> [&'static [Pattern]; 37]
+    ensures { lines_of result ≡ memory_texts }
 {
     [
         &contiguous::LOAD_Z_TEXTS,
@@ -96,6 +95,14 @@ fn all_lines() -> [&'static [Pattern]; 104]
         &gathers::SCATTER_D_SCALED_TEXTS,
         &gathers::SCATTER_SV_TEXTS,
         &gathers::SCATTER_DV_TEXTS,
+    ]
+}
+
+/// The patterns of the lines of results lane by lane, folds and counts.
+fn data_lines() -> [&'static [Pattern]; 23]
+    ensures { lines_of result ≡ data_texts }
+{
+    [
         &lanes::BINARY_TEXTS,
         &lanes::BINARY_WIDE_TEXTS,
         &lanes::SHIFT_IMM_TEXTS,
@@ -119,6 +126,14 @@ fn all_lines() -> [&'static [Pattern]; 104]
         &folds::SAT_Z_TEXTS,
         &folds::ADD_LENGTH_TEXTS,
         &folds::READ_LENGTH_TEXTS,
+    ]
+}
+
+/// The patterns of the lines of copies, selections and permutes.
+fn move_lines() -> [&'static [Pattern]; 19]
+    ensures { lines_of result ≡ move_texts }
+{
+    [
         &lanes::BITMASK_Z_TEXTS,
         &lanes::COPY_IMM_TEXTS,
         &lanes::SELECT_Z_TEXTS,
@@ -138,6 +153,14 @@ fn all_lines() -> [&'static [Pattern]; 104]
         &permutes::COPY_REG_TEXTS,
         &permutes::LAST_TEXTS,
         &permutes::COND_LAST_TEXTS,
+    ]
+}
+
+/// The patterns of the lines of comparisons and predicates, and of lanes with an immediate of 8 bits.
+fn predicate_lines() -> [&'static [Pattern]; 25]
+    ensures { lines_of result ≡ predicate_texts }
+{
+    [
         &predicates::CMP_VEC_TEXTS,
         &predicates::CMP_WIDE_TEXTS,
         &predicates::CMP_U_IMM_TEXTS,
@@ -166,12 +189,19 @@ fn all_lines() -> [&'static [Pattern]; 104]
     ]
 }
 
-/// The patterns of the line of this number; none behind the last.
-fn line_of(lines: &[&'static [Pattern]], number: u8) -> &'static [Pattern]
-    ensures { patterns_of result.now ≡ get_or (lines_of lines.now) number [] }
+/// The patterns of the line of this number, by the parts of the table; none behind the last.
+fn line_numbered(number: u8) -> &'static [Pattern]
+    ensures { patterns_of result.now ≡ get_or sve_lines number [] }
 {
-    let at = usize::from(number);
-    if at < lines.len() { lines[at] } else { &[] }
+    if number < 37 {
+        line_of(&memory_lines(), number)
+    } else if number < 60 {
+        line_of(&data_lines(), number - 37)
+    } else if number < 79 {
+        line_of(&move_lines(), number - 60)
+    } else {
+        line_of(&predicate_lines(), number - 79)
+    }
 }
 
 /// The texts of SVE instructions.
@@ -184,7 +214,7 @@ impl Table for SveTexts {
     ghost in_table = { λ t. in_table };
 
     fn line(&self, number: u8) -> &'static [Pattern] {
-        line_of(&all_lines(), number)
+        line_numbered(number)
     }
 
     fn spots(&self, name: &str) -> &'static [Spot] {

@@ -4,25 +4,10 @@ ghost use Rattle.text_model.specs.Statement.{lowered};
 ghost use Rattle.text_model.specs.Writing.{flat};
 ghost use Rattle.text_code.specs.Names.{names_of, is_searchable, given_patterns, own_patterns, all_known, all_spots};
 ghost use Rattle.text_code.specs.Reads.{with_name, at_spots, are_spots, all_sound};
-ghost use Rattle.sve_texts.specs.Names.{all_named, are_found, or_spots};
+ghost use Rattle.text_code.specs.Parts.{all_named, are_found};
 ghost use Rattle.sve_texts.specs.Table.{sve_lines};
 
-use text_code::{Name, Spot, spots_of};
-
-/// Names, each with the places of its patterns: the line's in the table, and the pattern's in the line.
-macro_rules! names {
-    ($($name:literal: $($line:literal $place:literal),*;)*) => {
-        [$(Name { name: $name, spots: &[$(Spot { line: $line, place: $place }),*] }),*]
-    };
-}
-
-/// The names, in three parts.
-#[derive(Clone, Copy)]
-struct Names {
-    first: &'static [Name],
-    second: &'static [Name],
-    third: &'static [Name],
-}
+use text_code::{Name, Names, Spot, names, spots_in};
 
 /// All names, each with the spots of its patterns.
 fn all_names() -> Names
@@ -42,25 +27,13 @@ fn all_names() -> Names
     }
 }
 
-/// Some spots, or else others.
-fn or_spots(spots: &'static [Spot], others: &'static [Spot]) -> &'static [Spot]
-    ensures { result.now ≡ or_spots spots.now others.now }
-{
-    if spots.is_empty() { others } else { spots }
-}
-
 /// Where the patterns of a name stand.
 pub(crate) fn spots(name: &str) -> &'static [Spot]
     ensures patterns { at_spots sve_lines result.now ≡ with_name (lowered name.now) (flat sve_lines) }
     ensures within { are_spots sve_lines result.now ≡ true }
     ensures sound { all_sound (at_spots sve_lines result.now) ≡ true }
 {
-    let names = all_names();
-    let first = spots_of(names.first, name);
-    let second = spots_of(names.second, name);
-    let third = spots_of(names.third, name);
-    let rest = or_spots(second, third);
-    or_spots(first, rest)
+    spots_in(all_names(), name)
 }
 
 static FIRST: [Name; 81] = names![

@@ -1,4 +1,1 @@
-pub mod Endings
 pub mod Headline
-pub mod Places
-pub mod Scan

@@ -1,4 +1,5 @@
-//! svemu: runs a static AArch64 program with the Scalable Vector Extension at a chosen vector length.
+//! svemu: runs a static AArch64 program with the Scalable Vector Extension at a chosen vector length, by itself or in a debugger; makes
+//! executables of listings, and shows the instructions of executables.
 #![tactic(auto)]
 
 ghost use Rattle.std.specs.Prelude.{◌≡◌, ◌≢◌};
@@ -9,17 +10,14 @@ use std::env;
 use std::io::ErrorKind;
 use std::process::ExitCode;
 
-mod command_line;
 #[cfg(test)]
-mod line_tests;
-mod scan;
+mod command_tests;
 #[cfg(test)]
-mod tests;
+mod run_tests;
 mod top;
-mod values;
-mod words;
 
-pub use command_line::line_of_words;
+pub use command_lines::{Line, WordsFault, WordsWhy, line_of_words};
+pub use emu_outcome::Ending;
 pub use top::svemu;
 
 /// The status where a word of the command line isn't text, or where the words can't be had.

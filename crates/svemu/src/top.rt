@@ -1,238 +1,20 @@
 //! The top call: from the words of the command line to the ending.
-ghost use Rattle.std.specs.Prelude.{◌≡◌, ◌≢◌, ◌≤◌, ◌<◌, ◌⊎◌, [], map, length, string_bytes, get_or, IfOk, IfSome, Some, true, false};
-ghost use Rattle.std.specs.FinMap.{get};
+ghost use Rattle.std.specs.Prelude.{◌≡◌, ◌≢◌, ◌≤◌, ◌⊎◌, map, length, string_bytes, IfSome, Ok, true, false};
 ghost use Rattle.io_gate.specs.Images.{MissesNamed};
-ghost use Rattle.io_gate.specs.Streams.{Rose, Causes, HasCause, PutsAll};
-ghost use Rattle.emu_run.specs.CommandLine.{line};
-ghost use Rattle.elf_image.specs.Images.{seen_image};
-ghost use Rattle.elf_image.specs.Loadable.{IsLoadable};
-ghost use Rattle.emu_system.specs.Arguments.{AreArguments};
-ghost use Rattle.emu_system.specs.Image.{elf};
-ghost use Rattle.emu_system.specs.Start.{opening, with_input};
-ghost use Rattle.emu_run.specs.Run.{run};
-ghost use Rattle.emu_run.specs.Registers.{register_lines};
-ghost use Rattle.emu_run.specs.Outcome.{result_of, outcome_of_run, outcome_of_image, outcome_of_line, outcome_where, program_arguments, ending_line, report};
-ghost use Rattle.emu_machine.specs.Machines.{has_ended};
-ghost use Rattle.svemu.specs.Endings.{ended_by, ending_by};
-ghost use Rattle.svemu.specs.Places.{HasPlaces, arguments_named, file_named};
-ghost use Rattle.svemu.specs.Headline.{is_failure, is_words_refusal, IsQuiet, now, IfTold, Answers, Stops, Meets, Completes, RefusesLine, NamesNoFile};
+ghost use Rattle.io_gate.specs.Streams.{Rose, Causes};
+ghost use Rattle.command_model.specs.CommandLine.{line};
+ghost use Rattle.emu_outcome.specs.Outcome.{result_of};
+ghost use Rattle.command_lines.specs.Places.{HasArguments, HasPlaces, file_named};
+ghost use Rattle.commands.specs.Programs.{outcome_over};
+ghost use Rattle.commands.specs.Promises.{is_failure, is_silent, is_words_refusal, now, IfTold, Answers, Stops, Meets, NamesNoFile};
+ghost use Rattle.svemu.specs.Headline.{runs_machine, IsQuiet, Completes, RefusesLine, MissesFirst, EndsMissing};
 
-use crate::command_line::line_of_words;
-use crate::words::{arguments, word};
-use elf_image::{Image, read};
-use emu_machine::{Machine, RunEnd};
-use emu_model::{Ended, Length};
-use emu_report::{
-    put_exit, put_image_refusal, put_registers, put_spent, put_too_long, put_trap,
-    put_words_refusal,
-};
-pub use emu_run::{Ending, Line};
-use io_gate::{Failed, Images, ImagesError, Sink, Source};
-use std::alloc::{AllocError, Global};
-
-/// Files are read up to so many bytes.
-pub const FILE_LIMIT: u64 = 67_108_864;
-
-/// What the line of a run says.
-#[derive(Drop)]
-struct Program {
-    /// The place of the word that names the file.
-    file: usize,
-    /// The place of the first argument behind that word, or the number of words.
-    args: usize,
-    length: Length,
-    /// The greatest number of steps.
-    budget: u64,
-    /// The greatest number of mapped pages.
-    pages: u32,
-}
-
-/// The ending behind a line on the errors: the command's own where all of it was put, else a fault of the errors.
-fn behind_line(put: Result<(), Failed>, ending: Ending) -> Ending
-    ensures { result ≡ ended_by put ending }
-{
-    match put {
-        Ok(()) => ending,
-        Err(_) => Ending::ErrorsFault,
-    }
-}
-
-/// Puts the line that says how a machine has stopped.
-fn put_ending<E: Sink>(machine: &Machine, errors: &mut E) -> Result<(), Failed>
-    ensures bytes { PutsAll (E.held errors.old) (E.held errors.new) (ending_line machine.now.parts machine.now.parts.ended) result }
-    ensures cause { HasCause (E.faults errors.old) (E.faults errors.new) result }
-{
-    match machine.ending() {
-        None => put_spent(machine.steps(), errors),
-        Some(Ended::Exit(code)) => put_exit(code, machine.steps(), errors),
-        Some(Ended::Trap(trap)) => put_trap(&trap, machine.core().pc(), machine.steps(), errors),
-    }
-}
-
-/// Puts the registers of a machine.
-fn put_machine<E: Sink>(machine: &Machine, errors: &mut E) -> Result<(), Failed>
-    ensures bytes { PutsAll (E.held errors.old) (E.held errors.new) (register_lines machine.now.parts) result }
-    ensures cause { HasCause (E.faults errors.old) (E.faults errors.new) result }
-{
-    put_registers(machine.core(), machine.vec(), errors)
-}
-
-/// Puts the line of a machine that has stopped, and its registers.
-fn put_report<E: Sink>(machine: &Machine, errors: &mut E) -> Result<(), Failed>
-    ensures bytes { PutsAll (E.held errors.old) (E.held errors.new) (report machine.now.parts) result }
-    ensures cause { HasCause (E.faults errors.old) (E.faults errors.new) result }
-{
-    put_ending(machine, errors)?;
-    put_machine(machine, errors)
-}
-
-/// The ending of a run that left the program counter at an address.
-fn ending_of_run(end: RunEnd, pc: u64) -> Ending
-    ensures { result ≡ ending_by end pc }
-{
-    match end {
-        RunEnd::Exit(code) => Ending::Exit(code),
-        RunEnd::Trap(trap) => Ending::Trap(trap, pc),
-        RunEnd::Spent => Ending::Spent,
-        RunEnd::ReadFault => Ending::ReadFault,
-        RunEnd::WriteFault => Ending::WriteFault,
-        RunEnd::ErrorsFault => Ending::ErrorsFault,
-    }
-}
-
-/// Whether a file or a stream failed, or memory was wanting.
-fn is_failure(ending: &Ending) -> bool
-    ensures { result ≡ is_failure ending.now }
-{
-    match ending {
-        Ending::Exit(_) | Ending::Trap(..) | Ending::Spent => false,
-        Ending::WordsRefused(_) | Ending::ImageRefused(_) | Ending::TooLong(_) => false,
-        Ending::FileFault | Ending::ReadFault | Ending::WriteFault => true,
-        Ending::ErrorsFault | Ending::OutOfMemory => true,
-    }
-}
-
-/// Runs a machine, and reports how it stopped.
-fn run_machine<I: Source, O: Sink, E: Sink>(
-    machine: &mut Machine,
-    budget: u64,
-    input: &mut I,
-    output: &mut O,
-    errors: &mut E,
-) -> Ending
-    requires going { has_ended machine.old ≡ false }
-    requires within { machine.old.parts.steps ≤ budget }
-    ensures outcome { Meets (λ i. Some (outcome_of_run i (run (with_input machine.old.parts i) budget))) result
-        (now (I.left input.old) (O.held output.old) (E.held errors.old)) (now (I.left input.new) (O.held output.new) (E.held errors.new)) }
-    ensures read_cause { Causes (result ≡ Ending.ReadFault) (I.faults input.old) (I.faults input.new) }
-    ensures write_cause { Causes (result ≡ Ending.WriteFault) (O.faults output.old) (O.faults output.new) }
-    ensures errors_cause { Causes (result ≡ Ending.ErrorsFault) (E.faults errors.old) (E.faults errors.new) }
-    ensures no_file { result ≢ Ending.FileFault }
-    ensures no_memory { result ≢ Ending.OutOfMemory }
-    ensures no_words { is_words_refusal result ≡ false }
-{
-    let end = machine.run(budget, input, output, errors);
-    let ending = ending_of_run(end, machine.core().pc());
-    if is_failure(&ending) {
-        return ending;
-    }
-    behind_line(put_report(machine, errors), ending)
-}
-
-/// The machine of an image before its first step, with its arguments. Err is want of memory.
-fn open_machine(
-    alloc: Global,
-    bytes: &[u8],
-    image: &Image,
-    words: &[String],
-    program: &Program,
-) -> Result<Machine, AllocError>
-    requires loadable { IsLoadable bytes.now program.now.pages (seen_image image.now) }
-    requires file { program.now.file < program.now.args }
-    requires args { program.now.args ≤ length words.now }
-    requires arguments { AreArguments (program_arguments (map string_bytes words.now) program.now.file program.now.args) }
-    ensures { IfOk result (λ m. m ≡ record { parts = opening bytes.now (seen_image image.now) (program_arguments (map string_bytes words.now) program.now.file program.now.args) program.now.length program.now.pages; accesses = []; failed = false }) }
-{
-    let args = arguments(alloc, words, program.file, program.args)?;
-    Machine::open(alloc, bytes, image, &args, program.length, program.pages)
-}
-
-/// Runs the program of a file's bytes, or refuses it.
-fn run_image<I: Source, O: Sink, E: Sink>(
-    alloc: Global,
-    bytes: &[u8],
-    words: &[String],
-    program: &Program,
-    input: &mut I,
-    output: &mut O,
-    errors: &mut E,
-) -> Ending
-    requires file { program.now.file < program.now.args }
-    requires args { program.now.args ≤ length words.now }
-    requires arguments { AreArguments (program_arguments (map string_bytes words.now) program.now.file program.now.args) }
-    ensures outcome { Meets (λ i. Some (outcome_of_image bytes.now (program_arguments (map string_bytes words.now) program.now.file program.now.args) i program.now.length program.now.budget program.now.pages (elf bytes.now program.now.pages))) result
-        (now (I.left input.old) (O.held output.old) (E.held errors.old)) (now (I.left input.new) (O.held output.new) (E.held errors.new)) }
-    ensures read_cause { Causes (result ≡ Ending.ReadFault) (I.faults input.old) (I.faults input.new) }
-    ensures write_cause { Causes (result ≡ Ending.WriteFault) (O.faults output.old) (O.faults output.new) }
-    ensures errors_cause { Causes (result ≡ Ending.ErrorsFault) (E.faults errors.old) (E.faults errors.new) }
-    ensures no_file { result ≢ Ending.FileFault }
-    ensures memory_first { result ≡ Ending.OutOfMemory → (input.new ≡ input.old) × (output.new ≡ output.old) × (errors.new ≡ errors.old) }
-    ensures no_words { is_words_refusal result ≡ false }
-{
-    match read(bytes, program.pages) {
-        Err(fault) => behind_line(
-            put_image_refusal(&fault, errors),
-            Ending::ImageRefused(fault),
-        ),
-        Ok(image) => match open_machine(alloc, bytes, &image, words, program) {
-            Err(_) => Ending::OutOfMemory,
-            Ok(mut machine) => run_machine(&mut machine, program.budget, input, output, errors),
-        },
-    }
-}
-
-/// Reads the file of a program, and runs it.
-fn run_file<F: Images, I: Source, O: Sink, E: Sink>(
-    alloc: Global,
-    words: &[String],
-    program: &Program,
-    files: &mut F,
-    input: &mut I,
-    output: &mut O,
-    errors: &mut E,
-) -> Ending
-    requires file { program.now.file < program.now.args }
-    requires args { program.now.args ≤ length words.now }
-    requires arguments { AreArguments (program_arguments (map string_bytes words.now) program.now.file program.now.args) }
-    ensures outcome { IfSome (F.named files.old) (λ named. Meets
-        (λ i. outcome_where (program_arguments (map string_bytes words.now) program.now.file program.now.args) i program.now.length program.now.budget program.now.pages (get named (get_or (map string_bytes words.now) program.now.file []))) result
-        (now (I.left input.old) (O.held output.old) (E.held errors.old)) (now (I.left input.new) (O.held output.new) (E.held errors.new))) }
-    ensures file_cause { result ≡ Ending.FileFault → Rose (F.faults files.old) (F.faults files.new)
-        ⊎ MissesNamed (F.named files.old) (get_or (map string_bytes words.now) program.now.file []) }
-    ensures file_kept { result ≢ Ending.FileFault → F.faults files.new ≡ F.faults files.old }
-    ensures missing { MissesNamed (F.named files.old) (get_or (map string_bytes words.now) program.now.file []) → result ≡ Ending.FileFault }
-    ensures file_first { result ≡ Ending.FileFault → (input.new ≡ input.old) × (output.new ≡ output.old) × (errors.new ≡ errors.old) }
-    ensures files_later { F.faults files.old ≤ F.faults files.new }
-    ensures memory_first { result ≡ Ending.OutOfMemory → (input.new ≡ input.old) × (output.new ≡ output.old) × (errors.new ≡ errors.old) }
-    ensures read_cause { Causes (result ≡ Ending.ReadFault) (I.faults input.old) (I.faults input.new) }
-    ensures write_cause { Causes (result ≡ Ending.WriteFault) (O.faults output.old) (O.faults output.new) }
-    ensures errors_cause { Causes (result ≡ Ending.ErrorsFault) (E.faults errors.old) (E.faults errors.new) }
-    ensures no_words { is_words_refusal result ≡ false }
-{
-    let bytes = match files.read_whole(alloc, word(words, program.file), FILE_LIMIT as usize) {
-        Ok(bytes) => bytes,
-        Err(ImagesError::Failed) => return Ending::FileFault,
-        Err(ImagesError::Missing) => return Ending::FileFault,
-        Err(ImagesError::TooLong) => {
-            return behind_line(
-                put_too_long(FILE_LIMIT, errors),
-                Ending::TooLong(FILE_LIMIT),
-            );
-        }
-        Err(ImagesError::OutOfMemory) => return Ending::OutOfMemory,
-    };
-    run_image(alloc, &bytes, words, program, input, output, errors)
-}
+use command_lines::{Line, line_of_words};
+use commands::{Program, assemble_file, debug_file, disassemble_file, ending_after_line, run_file};
+use emu_outcome::Ending;
+use emu_report::put_words_refusal;
+use io_gate::{Images, Sink, Source};
+use std::alloc::Global;
 
 /// Does what a line says.
 fn run_line<F: Images, I: Source, O: Sink, E: Sink>(
@@ -245,13 +27,14 @@ fn run_line<F: Images, I: Source, O: Sink, E: Sink>(
     errors: &mut E,
 ) -> Ending
     requires places { HasPlaces line.now (length words.now) }
-    requires arguments { AreArguments (arguments_named (map string_bytes words.now) line.now) }
-    ensures outcome { IfSome (F.named files.old) (λ named. Meets (λ i. outcome_of_line (map string_bytes words.now) named i (Ok line.now)) result
+    requires arguments { HasArguments (map string_bytes words.now) line.now }
+    ensures outcome { IfSome (F.named files.old) (λ named. Meets (outcome_over (map string_bytes words.now) line.now named) result
         (now (I.left input.old) (O.held output.old) (E.held errors.old)) (now (I.left input.new) (O.held output.new) (E.held errors.new))) }
     ensures file_cause { result ≡ Ending.FileFault → Rose (F.faults files.old) (F.faults files.new)
-        ⊎ MissesNamed (F.named files.old) (file_named (map string_bytes words.now) line.now) }
+        ⊎ NamesNoFile (outcome_over (map string_bytes words.now) line.now) (F.named files.old) }
     ensures file_kept { result ≢ Ending.FileFault → F.faults files.new ≡ F.faults files.old }
-    ensures missing { MissesNamed (F.named files.old) (file_named (map string_bytes words.now) line.now) → result ≡ Ending.FileFault }
+    ensures missing { NamesNoFile (outcome_over (map string_bytes words.now) line.now) (F.named files.old) → EndsMissing (Ok line.now) result }
+    ensures missing_first { MissesNamed (F.named files.old) (file_named (map string_bytes words.now) line.now) → result ≡ Ending.FileFault }
     ensures file_first { result ≡ Ending.FileFault → (input.new ≡ input.old) × (output.new ≡ output.old) × (errors.new ≡ errors.old) }
     ensures files_later { F.faults files.old ≤ F.faults files.new }
     ensures memory_first { result ≡ Ending.OutOfMemory → (input.new ≡ input.old) × (output.new ≡ output.old) × (errors.new ≡ errors.old) }
@@ -259,22 +42,46 @@ fn run_line<F: Images, I: Source, O: Sink, E: Sink>(
     ensures write_cause { Causes (result ≡ Ending.WriteFault) (O.faults output.old) (O.faults output.new) }
     ensures errors_cause { Causes (result ≡ Ending.ErrorsFault) (E.faults errors.old) (E.faults errors.new) }
     ensures no_words { is_words_refusal result ≡ false }
+    ensures no_input { runs_machine (Ok line.now) ≡ false → (input.new ≡ input.old) × (result ≢ Ending.ReadFault) }
+    ensures no_errors { runs_machine (Ok line.now) ≡ false → is_silent result ≡ true → errors.new ≡ errors.old }
 {
-    let Line::Run {
-        file,
-        args,
-        length,
-        budget,
-        pages,
-    } = line;
-    let program = Program {
-        file: *file,
-        args: *args,
-        length: *length,
-        budget: *budget,
-        pages: *pages,
-    };
-    run_file(alloc, words, &program, files, input, output, errors)
+    match *line {
+        Line::Run {
+            file,
+            args,
+            length,
+            budget,
+            pages,
+        } => {
+            let program = Program {
+                file,
+                args,
+                length,
+                budget,
+                pages,
+            };
+            run_file(alloc, words, &program, files, input, output, errors)
+        }
+        Line::Asm { listing } => assemble_file(alloc, words, listing, files, output, errors),
+        Line::Dis { file } => disassemble_file(alloc, words, file, files, output, errors),
+        Line::Dbg {
+            file,
+            script,
+            args,
+            length,
+            budget,
+            pages,
+        } => {
+            let program = Program {
+                file,
+                args,
+                length,
+                budget,
+                pages,
+            };
+            debug_file(alloc, words, &program, script, files, input, output, errors)
+        }
+    }
 }
 
 /// Does what the words of the command line say.
@@ -289,20 +96,23 @@ fn command<F: Images, I: Source, O: Sink, E: Sink>(
     ensures outcome { IfSome (F.named files.old) (λ named. Meets (result_of (map string_bytes words.now) named) result
         (now (I.left input.old) (O.held output.old) (E.held errors.old)) (now (I.left input.new) (O.held output.new) (E.held errors.new))) }
     ensures file_cause { result ≡ Ending.FileFault → Rose (F.faults files.old) (F.faults files.new)
-        ⊎ NamesNoFile (map string_bytes words.now) (F.named files.old) }
+        ⊎ NamesNoFile (result_of (map string_bytes words.now)) (F.named files.old) }
     ensures file_kept { result ≢ Ending.FileFault → F.faults files.new ≡ F.faults files.old }
-    ensures missing { NamesNoFile (map string_bytes words.now) (F.named files.old) → result ≡ Ending.FileFault }
+    ensures missing { NamesNoFile (result_of (map string_bytes words.now)) (F.named files.old) → EndsMissing (line (map string_bytes words.now)) result }
+    ensures missing_first { MissesFirst (map string_bytes words.now) (line (map string_bytes words.now)) (F.named files.old) → result ≡ Ending.FileFault }
     ensures file_first { result ≡ Ending.FileFault → (input.new ≡ input.old) × (output.new ≡ output.old) × (errors.new ≡ errors.old) }
     ensures files_later { F.faults files.old ≤ F.faults files.new }
     ensures memory_first { result ≡ Ending.OutOfMemory → (input.new ≡ input.old) × (output.new ≡ output.old) × (errors.new ≡ errors.old) }
     ensures read_cause { Causes (result ≡ Ending.ReadFault) (I.faults input.old) (I.faults input.new) }
     ensures write_cause { Causes (result ≡ Ending.WriteFault) (O.faults output.old) (O.faults output.new) }
     ensures errors_cause { Causes (result ≡ Ending.ErrorsFault) (E.faults errors.old) (E.faults errors.new) }
+    ensures no_input { runs_machine (line (map string_bytes words.now)) ≡ false → (input.new ≡ input.old) × (result ≢ Ending.ReadFault) }
+    ensures no_errors { runs_machine (line (map string_bytes words.now)) ≡ false → is_silent result ≡ true → errors.new ≡ errors.old }
     ensures refused { RefusesLine (line (map string_bytes words.now)) result }
 {
     let line = line_of_words(words);
     match &line {
-        Err(fault) => behind_line(
+        Err(fault) => ending_after_line(
             put_words_refusal(fault, errors),
             Ending::WordsRefused(*fault),
         ),
@@ -311,7 +121,8 @@ fn command<F: Images, I: Source, O: Sink, E: Sink>(
 }
 
 /// Does what the words of the command line say: `words` are those after the program's name, `files` has the files that they
-/// name, and the guest reads `input` and writes to `output` and `errors`. Where and how a command ended is put on `errors`.
+/// name, and the guest reads `input` and writes to `output` and `errors`. A session's lines, the executable of a listing and the text of
+/// instructions go to `output`. How a run ended, with its registers, and why a command was refused is put on `errors`.
 ///
 /// Where files and streams tell their bytes, the ending and all that is written are those of the definitions' result, unless
 /// a file or a stream failed or memory was wanting. Each fault comes where its object failed, and that of a file where there is
@@ -343,9 +154,10 @@ pub fn svemu<F: Images, I: Source, O: Sink, E: Sink>(
     // A file is at fault where the count of files rose, or where the words name one that there isn't, and only there; nothing was
     // moved then.
     ensures file_cause { result ≡ Ending.FileFault → Rose (F.faults files.old) (F.faults files.new)
-        ⊎ NamesNoFile (map string_bytes words.now) (F.named files.old) }
+        ⊎ NamesNoFile (result_of (map string_bytes words.now)) (F.named files.old) }
     ensures file_kept { result ≢ Ending.FileFault → F.faults files.new ≡ F.faults files.old }
-    ensures missing { NamesNoFile (map string_bytes words.now) (F.named files.old) → result ≡ Ending.FileFault }
+    ensures missing { NamesNoFile (result_of (map string_bytes words.now)) (F.named files.old) → EndsMissing (line (map string_bytes words.now)) result }
+    ensures missing_first { MissesFirst (map string_bytes words.now) (line (map string_bytes words.now)) (F.named files.old) → result ≡ Ending.FileFault }
     ensures file_first { result ≡ Ending.FileFault → (input.new ≡ input.old) × (output.new ≡ output.old) × (errors.new ≡ errors.old) }
     ensures files_later { F.faults files.old ≤ F.faults files.new }
 
@@ -356,6 +168,10 @@ pub fn svemu<F: Images, I: Source, O: Sink, E: Sink>(
 
     // Where memory was wanting, nothing was moved.
     ensures memory_first { result ≡ Ending.OutOfMemory → (input.new ≡ input.old) × (output.new ≡ output.old) × (errors.new ≡ errors.old) }
+
+    // A line that runs no machine takes no input, and puts nothing on the errors but the line of a refusal.
+    ensures no_input { runs_machine (line (map string_bytes words.now)) ≡ false → (input.new ≡ input.old) × (result ≢ Ending.ReadFault) }
+    ensures no_errors { runs_machine (line (map string_bytes words.now)) ≡ false → is_silent result ≡ true → errors.new ≡ errors.old }
 
     // A line is refused exactly where the definitions refuse it.
     ensures refused { RefusesLine (line (map string_bytes words.now)) result }

@@ -1,5 +1,5 @@
 -- Two tables whose patterns of one name begin with operands of different classes read no statement both.
-use Rattle.std.proofs.Common.{◌≡◌, ℕ, zero, suc, ◌+◌, ◌<◌, ◌≤◌, ◌==◌, ◌&&◌, ◌||◌, if◌then◌else◌, Bool, true, false, not, Result, Ok, Err, List, [], ◌∷◌, ◌++◌, length, refl, sym, ap, ap₂, ◌∙◌, arith, inl, inr}
+use Rattle.std.proofs.Common.{◌≡◌, ℕ, ◌+◌, ◌≤◌, ◌&&◌, ◌||◌, if◌then◌else◌, Bool, true, false, not, Result, Ok, Err, List, [], ◌∷◌, ◌++◌, length, refl, sym, ap, ◌∙◌, arith, inl, inr}
 use Rattle.std.proofs.lemmas.Bool.{cases_Bool, and_parts, or_cases, not-true, eqb-true, false≢true, true≢false}
 use Rattle.text_model.specs.declared.classes.Class.TheVariants.{Number}
 use Rattle.text_model.specs.declared.slots.Need.{Need}
@@ -10,7 +10,7 @@ use Rattle.text_model.specs.declared.slots.Refusal.{Refusal}
 use Rattle.text_model.specs.declared.slots.Refusal.TheVariants.{UnknownName, BadOperands, OutOfRange}
 use Rattle.text_model.specs.Classes.{class_number, same_class}
 use Rattle.text_model.specs.Slots.{class_in, items_in, all_fit}
-use Rattle.text_model.specs.Reading.{Pattern, Read, Operands, is_left_out, item_for, items_behind, filled, raised, same_classes, same_values, all_canonical, same_name, has_target, word_told, judged, items_to_read, answer, later, best, reads}
+use Rattle.text_model.specs.Reading.{Pattern, Read, Operands, is_left_out, item_for, items_behind, filled, raised, same_classes, same_values, all_canonical, same_name, has_target, word_told, judged, items_to_read, answer, best, reads}
 use Rattle.text_model.specs.Words.{item}
 use Rattle.text_model.specs.Statement.{Statement, is_address, untargeted, lowered, ends_in_label, items_of, operands_of, with_target, reads_tokens}
 use Rattle.text_model.proofs.Tests.{is_in, none_shared, classes_in}

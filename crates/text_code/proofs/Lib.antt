@@ -11,3 +11,5 @@ pub mod Judged
 pub mod Joining
 pub mod Spots
 pub mod Whole
+pub mod Parts
+pub mod LineParts

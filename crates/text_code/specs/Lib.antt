@@ -7,3 +7,4 @@ pub mod Reads
 pub mod Names
 pub mod Faults
 pub mod Aims
+pub mod Parts

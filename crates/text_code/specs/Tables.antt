@@ -32,3 +32,8 @@ patterns_of (p ∷ ps) = pattern_of p ∷ patterns_of ps
 abbrev pub pattern_at : Option (Bor Pattern) → Option reading.Pattern
 pattern_at None = None
 pattern_at (Some p) = Some (pattern_of p.now)
+
+-- the patterns of each line
+abbrev pub lines_of : List (Bor (List Pattern)) → List (List reading.Pattern)
+lines_of [] = []
+lines_of (l ∷ ls) = patterns_of l.now ∷ lines_of ls

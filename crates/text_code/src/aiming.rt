@@ -46,7 +46,7 @@ fn base(page: u16, pc: u64) -> u64
 }
 
 /// The address that the number v of a target reaches.
-fn address(reach: Reach, v: u64, pc: u64) -> u64
+pub fn address(reach: Reach, v: u64, pc: u64) -> u64
     requires sound { is_sound_reach reach ≡ true }
     requires small { v < 2 ^ bits_in (places reach.parts) }
     ensures { result ≡ address reach.by reach.page (bits_in (places reach.parts)) v pc }

@@ -1,5 +1,5 @@
 //! Words for writing the patterns of a table as constants. A macro names what stands in scope where it is called: `Bits`, `Class`,
-//! `Codec`, `Group`, `Kind`, `Need`, `Parts`, `Pattern`, `Shape`, `Slot` and `Style`.
+//! `Codec`, `Group`, `Kind`, `Name`, `Need`, `Parts`, `Pattern`, `Shape`, `Slot`, `Spot` and `Style`.
 
 /// Bits of a word.
 #[macro_export]
@@ -92,5 +92,13 @@ macro_rules! target {
 macro_rules! pattern {
     ($name:literal, $base:literal, $slots:expr) => {
         Pattern { name: $name, base: $base, slots: &$slots }
+    };
+}
+
+/// Names, each with the places of its patterns: the line's in the table, and the pattern's in the line.
+#[macro_export]
+macro_rules! names {
+    ($($name:literal: $($line:literal $place:literal),*;)*) => {
+        [$(Name { name: $name, spots: &[$(Spot { line: $line, place: $place }),*] }),*]
     };
 }

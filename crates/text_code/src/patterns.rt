@@ -22,3 +22,11 @@ pub struct Name {
     pub name: &'static str,
     pub spots: &'static [Spot],
 }
+
+/// The names of a table in the order of their bytes, in three parts.
+#[derive(Clone, Copy)]
+pub struct Names {
+    pub first: &'static [Name],
+    pub second: &'static [Name],
+    pub third: &'static [Name],
+}

@@ -4,13 +4,13 @@ use Rattle.a64_rows.proofs.Narrowed.{words_11_at_0, words_11_at_1, words_11_at_2
 use Rattle.a64_rows.proofs.dispatch.words_11.Goals as goal
 
 pub returns-in-0 : goal.returns-in-0
-returns-in-0 c = c.words_of_accesses.ensures ∙ sym (words_11_at_0 c.args.w (sym c.bits.ensures ∙ c.in-0.is))
+returns-in-0 g c = c.words_of_accesses.ensures ∙ sym (words_11_at_0 c.args.w (sym c.bits.ensures ∙ c.in-0.is))
 
 pub returns-in-1 : goal.returns-in-1
-returns-in-1 c = c.ls_unsigned.ensures ∙ sym (words_11_at_1 c.args.w (sym c.bits.ensures ∙ c.in-1.is))
+returns-in-1 g c = c.ls_unsigned.ensures ∙ sym (words_11_at_1 c.args.w (sym c.bits.ensures ∙ c.in-1.is))
 
 pub returns-in-2 : goal.returns-in-2
-returns-in-2 c = c.words_11_10.ensures ∙ sym (words_11_at_2 c.args.w (sym c.bits.ensures ∙ c.in-2.is))
+returns-in-2 g c = c.words_11_10.ensures ∙ sym (words_11_at_2 c.args.w (sym c.bits.ensures ∙ c.in-2.is))
 
 pub returns-in_default : goal.returns-in_default
-returns-in_default c = c.words_of_products.ensures ∙ sym (words_11_at_others c.args.w ((λ e. omega (arith, e)), ((λ e. omega (arith, e)), ((λ e. omega (arith, e)), tt))))
+returns-in_default g c = c.words_of_products.ensures ∙ sym (words_11_at_others c.args.w ((λ e. omega (arith, e)), ((λ e. omega (arith, e)), ((λ e. omega (arith, e)), tt))))

@@ -4,13 +4,13 @@ use Rattle.a64_rows.proofs.Narrowed.{words_of_branches_at_0, words_of_branches_a
 use Rattle.a64_rows.proofs.dispatch.words_of_branches.Goals as goal
 
 pub returns-in-0 : goal.returns-in-0
-returns-in-0 c = c.branch-w.ensures ∙ sym (words_of_branches_at_0 c.args.w (sym c.bits.ensures ∙ c.in-0.is))
+returns-in-0 g c = c.branch-w.ensures ∙ sym (words_of_branches_at_0 c.args.w (sym c.bits.ensures ∙ c.in-0.is))
 
 pub returns-in-1 : goal.returns-in-1
-returns-in-1 c = c.words_of_compares.ensures ∙ sym (words_of_branches_at_1 c.args.w (sym c.bits.ensures ∙ c.in-1.is))
+returns-in-1 g c = c.words_of_compares.ensures ∙ sym (words_of_branches_at_1 c.args.w (sym c.bits.ensures ∙ c.in-1.is))
 
 pub returns-in-2 : goal.returns-in-2
-returns-in-2 c = c.words_of_branches_10.ensures ∙ sym (words_of_branches_at_2 c.args.w (sym c.bits.ensures ∙ c.in-2.is))
+returns-in-2 g c = c.words_of_branches_10.ensures ∙ sym (words_of_branches_at_2 c.args.w (sym c.bits.ensures ∙ c.in-2.is))
 
 pub returns-in_default : goal.returns-in_default
-returns-in_default c = sym (words_of_branches_at_others c.args.w ((λ e. omega (arith, e)), ((λ e. omega (arith, e)), ((λ e. omega (arith, e)), tt))))
+returns-in_default g c = sym (words_of_branches_at_others c.args.w ((λ e. omega (arith, e)), ((λ e. omega (arith, e)), ((λ e. omega (arith, e)), tt))))

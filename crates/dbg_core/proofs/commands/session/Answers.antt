@@ -1,12 +1,15 @@
-use Rattle.std.proofs.Common.{◌≡◌, ◌<◌, ◌≤◌, ◌+◌, ℕ, List, drop, length, count_by, Some, sym, ap, subst, ◌∙◌, refl, arith}
+use Rattle.std.proofs.Common.{◌≡◌, ◌<◌, ◌≤◌, ◌+◌, true, List, is_none, drop, length, count_by, Some, sym, ap, subst, ◌∙◌, refl, arith}
 use Rattle.std.specs.Prelude.{slice_get}
 use Rattle.dbg_model.specs.declared.script.Command.{Command}
 use Rattle.dbg_model.specs.Commands.{is_break, is_watch}
 use Rattle.dbg_model.specs.Session.{Marks, obeyed_all, session}
 use Rattle.dbg_core.specs.declared.ends.SessionEnd.TheVariants.{Done, ReadFault, WriteFault, ErrorsFault}
-use Rattle.dbg_core.proofs.Composed.{Leads, leads_start}
+use Rattle.dbg_core.specs.Ends.{is_fault}
+use Rattle.emu_machine.proofs.Composed.{Leads, leads_start}
 use Rattle.dbg_core.proofs.Obeying.{causes_later, causes_none}
 use Rattle.dbg_core.proofs.Scripts.{command_in, room_at, breaks_at, watches_at, done_at, broken_at, all_done}
+use Rattle.dbg_core.proofs.Leaving.{never}
+use Rattle.dbg_core.proofs.Standing.{marks_next, stands_start, stands_whole, stands_next, stands_broken}
 use Rattle.dbg_core.proofs.commands.session.Goals as goal
 
 pub walk-init : goal.walk-init
@@ -20,6 +23,8 @@ walk-init g c =
       leads = subst (λ (m : Marks). Leads (session script c.args.budget) (obeyed_all (drop 0 script) m c.args.budget) c.args.machine.now.parts c.args.machine.now.parts (g.I.Source.left c.args.input.now) (g.I.Source.left c.args.input.now)
           (g.O.Sink.held c.args.output.now) (g.O.Sink.held c.args.output.now) (g.E.Sink.held c.args.errors.now) (g.E.Sink.held c.args.errors.now)) none
           (leads_start (session script c.args.budget) c.args.machine.now.parts (g.I.Source.left c.args.input.now) (g.O.Sink.held c.args.output.now) (g.E.Sink.held c.args.errors.now));
+      so_far = c.new-marks.ensures;
+      stood = stands_start c.args.machine.now.parts (g.I.Source.left c.args.input.now);
       breaks = subst (λ (m : Marks). length m.breaks + count_by is_break (drop 0 script) ≤ 64) none (omega (arith, b));
       watches = subst (λ (m : Marks). length m.watches + count_by is_watch (drop 0 script) ≤ 64) none (omega (arith, w));
       read = refl;
@@ -59,6 +64,9 @@ walk-preserved g c =
       leads = done_at script k command here within (session script c.args.budget) c.walk.marks c.args.budget c.args.machine.now.parts p q (g.I.Source.left c.args.input.now) (g.I.Source.left c.walk.input) (g.I.Source.left c.obey.new.input)
           (g.O.Sink.held c.args.output.now) (g.O.Sink.held c.walk.output) (g.O.Sink.held c.obey.new.output) (g.E.Sink.held c.args.errors.now) (g.E.Sink.held c.walk.errors) (g.E.Sink.held c.obey.new.errors)
           c.walk.invariant.leads c.add.new.self c.add.ensures c.in-Done.ensures.obeys;
+      so_far = marks_next script k command here within c.walk.marks c.add.new.self c.add.ensures c.walk.invariant.so_far;
+      stood = stands_next script k command here within c.walk.marks c.walk.invariant.so_far c.args.budget c.args.machine.now.parts p (g.I.Source.left c.args.input.now) (g.I.Source.left c.walk.input) c.walk.invariant.stood
+          q (g.I.Source.left c.obey.new.input) c.in-Done.ensures.obeys.state;
       breaks = breaks_at script k command here within c.walk.marks c.add.new.self c.add.ensures c.walk.invariant.breaks;
       watches = watches_at script k command here within c.walk.marks c.add.new.self c.add.ensures c.walk.invariant.watches;
       read = c.in-Done.ensures.read_cause.kept (λ (h : Done ≡ ReadFault). cc) ∙ c.walk.invariant.read;
@@ -84,11 +92,17 @@ returns-in_default g c =
       input = o.input;
       output = o.output;
       errors = o.errors;
+      stands = stands_broken script k command here within c.walk.marks c.walk.invariant.so_far c.args.budget c.args.machine.now.parts p (g.I.Source.left c.args.input.now) (g.I.Source.left c.walk.input) c.walk.invariant.stood
+          c.obey.new.machine (g.I.Source.left c.obey.new.input) c.obey.result c.obey.ensures.leaves;
       done = λ h. absurd (c.in_default.not-Done h);
+      line = c.obey.ensures.leaves.line;
+      unspent = c.obey.ensures.leaves.unspent;
+      unended = c.obey.ensures.leaves.unended;
       read_cause = causes_later _ _ _ _ c.walk.invariant.read c.obey.ensures.read_cause;
       write_cause = causes_later _ _ _ _ c.walk.invariant.write c.obey.ensures.write_cause;
       errors_cause = causes_later _ _ _ _ c.walk.invariant.errors c.obey.ensures.errors_cause;
       read_named = c.obey.ensures.read_named;
+      write_named = c.obey.ensures.leaves.write_named;
       errors_named = c.obey.ensures.errors_named;
     }
 
@@ -104,10 +118,15 @@ returns g c =
       input = o.input;
       output = o.output;
       errors = o.errors;
+      stands = stands_whole script c.walk.k c.args.budget c.args.machine.now.parts c.walk.machine (g.I.Source.left c.args.input.now) (g.I.Source.left c.walk.input) c.walk.invariant.failed c.walk.invariant.stood;
       done = λ _. c.walk.invariant.failed;
+      line = λ _. λ (h : is_fault Done ≡ true). cc;
+      unspent = λ h. never (c.walk.machine.parts.steps < c.args.budget) c.walk.machine.failed c.walk.invariant.failed h;
+      unended = λ h. never (is_none c.walk.machine.parts.ended ≡ true) c.walk.machine.failed c.walk.invariant.failed h;
       read_cause = causes_none _ _ _ c.walk.invariant.read (λ (h : Done ≡ ReadFault). cc);
       write_cause = causes_none _ _ _ c.walk.invariant.write (λ (h : Done ≡ WriteFault). cc);
       errors_cause = causes_none _ _ _ c.walk.invariant.errors (λ (h : Done ≡ ErrorsFault). cc);
       read_named = λ (h : Done ≡ ReadFault). cc;
+      write_named = λ _. λ (h : Done ≡ WriteFault). cc;
       errors_named = λ (h : Done ≡ ErrorsFault). cc;
     }

@@ -3,7 +3,7 @@ use Rattle.emu_model.specs.declared.trap.Ended.{Ended}
 use Rattle.emu_model.specs.declared.trap.Ended.TheVariants.{Trap as Trapped}
 use Rattle.emu_model.specs.declared.trap.Trap.{Trap}
 use Rattle.emu_model.specs.State.{Core, Parts}
-use Rattle.emu_run.specs.Outcome.{ending_line}
+use Rattle.emu_run.specs.Reports.{ending_line}
 use Rattle.emu_run.specs.Reports.{trap_line}
 use Rattle.emu_report.proofs.Puts.{puts_equal}
 use Rattle.dbg_core.proofs.lines.put_ending.Goals as goal

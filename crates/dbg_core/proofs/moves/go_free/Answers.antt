@@ -1,12 +1,14 @@
-use Rattle.std.proofs.Common.{◌≡◌, sym, refl}
+use Rattle.std.proofs.Common.{◌≡◌, false, sym, refl, arith}
 use Rattle.emu_system.specs.Start.{with_input}
 use Rattle.emu_run.specs.Run.{run}
 use Rattle.dbg_model.specs.Session.{no_marks}
 use Rattle.dbg_core.specs.declared.ends.SessionEnd.TheVariants.{Done, ReadFault, WriteFault, ErrorsFault}
 use Rattle.dbg_core.specs.Ends.{end_of_put}
-use Rattle.dbg_core.proofs.Sessions.{prints, prints_moving, run_moving, ending_text}
+use Rattle.emu_machine.proofs.Runs.{run_moving}
+use Rattle.dbg_core.proofs.Sessions.{prints, prints_moving, ending_text}
 use Rattle.dbg_core.proofs.Going.{go_at, at_free}
 use Rattle.dbg_core.proofs.Obeying.{obeys_as, obeys_same, obeys_cut, obeys_line, put_read, put_write, put_errs, no_read, no_errs}
+use Rattle.dbg_core.proofs.Leaving.{becomes_same, leaves_line, leaves_prints, leaves_same}
 use Rattle.dbg_core.proofs.moves.go_free.Goals as goal
 
 pub returns-in-Done : goal.returns-in-Done
@@ -22,6 +24,9 @@ returns-in-Done g c =
           (obeys_line p q (g.I.Source.left c.args.input.now) (g.I.Source.left c.run_to.new.input) (g.O.Sink.held c.args.output.now) (g.O.Sink.held c.run_to.new.output)
           (g.E.Sink.held c.args.errors.now) (g.E.Sink.held c.run_to.new.errors) (λ st. run st budget) ending_text (g.O.Sink.held c.put_ending.new.sink) Done put
           (run_moving budget) refl c.in-Done.ensures.obeys c.put_ending.ensures.bytes));
+      leaves = leaves_line (go_at no_marks budget) budget p c.run_to.new.machine (g.I.Source.left c.args.input.now) (g.I.Source.left c.run_to.new.input) put c.end_of_put.result is c.in-Done.ensures.failed
+          (becomes_same (λ st. prints ending_text (run st budget)) (go_at no_marks budget) p q (g.I.Source.left c.args.input.now) (g.I.Source.left c.run_to.new.input) false
+          (λ input. sym (at_free budget (with_input p input))) c.in-Done.ensures.obeys.state);
       done = λ _. c.in-Done.ensures.failed;
       read_cause = put_read put c.end_of_put.result is _ _ (c.in-Done.ensures.read_cause.kept (λ (h : Done ≡ ReadFault). cc));
       write_cause = put_write put c.end_of_put.result is _ _ _ (c.in-Done.ensures.write_cause.kept (λ (h : Done ≡ WriteFault). cc)) c.put_ending.ensures.cause;
@@ -38,3 +43,12 @@ returns-in_default-clause-obeys g c =
     obeys_same p q _ _ _ _ _ _ (λ st. prints ending_text (run st budget)) (go_at no_marks budget) c.run_to.result (λ input. sym (at_free budget (with_input p input)))
     (obeys_cut p q (g.I.Source.left c.args.input.now) (g.I.Source.left c.run_to.new.input) (g.O.Sink.held c.args.output.now) (g.O.Sink.held c.run_to.new.output)
     (g.E.Sink.held c.args.errors.now) (g.E.Sink.held c.run_to.new.errors) (λ st. run st budget) (prints ending_text) c.run_to.result (prints_moving ending_text) c.in_default.not-Done c.run_to.ensures.obeys)
+
+pub returns-in_default-clause-leaves : goal.returns-in_default-clause-leaves
+returns-in_default-clause-leaves g c =
+    let p = c.args.machine.now.parts in
+    let m = c.run_to.new.machine in
+    let budget = c.args.budget in
+    leaves_same (λ st. prints ending_text (run st budget)) p m (g.I.Source.left c.args.input.now) (g.I.Source.left c.run_to.new.input) c.run_to.result (go_at no_marks budget) budget budget (omega arith)
+    (λ input. sym (at_free budget (with_input p input)))
+    (leaves_prints (λ st. run st budget) p m (g.I.Source.left c.args.input.now) (g.I.Source.left c.run_to.new.input) c.run_to.result ending_text budget c.run_to.ensures.leaves)

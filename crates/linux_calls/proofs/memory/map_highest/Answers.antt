@@ -5,7 +5,6 @@ use Rattle.emu_model.specs.Pages.{free_run}
 use Rattle.emu_system.specs.SystemCall.{highest}
 use Rattle.linux_calls.proofs.Mapped.{high, low, refused}
 use Rattle.linux_calls.proofs.memory.map_highest.Goals as goal
-use Rattle.linux_calls.proofs.memory.map_highest.Goals.{In-Err, In-Ok, In-Some}
 
 abbrev no_break : Break
 no_break = record { start = 0; now = 0 }

@@ -1,33 +1,64 @@
-use Rattle.std.proofs.Common.{sym, ◌∙◌, map, string_bytes}
-use Rattle.svemu.specs.Headline.{now}
-use Rattle.svemu.proofs.Commands.{refused_line, done_line, named_cause, misses_named, refused_names_none, done_refuses, line_refuses}
+use Rattle.std.proofs.Common.{◌≡◌, ◌⊎◌, Result, true, false, IfSome, map, string_bytes, sym, subst, ◌∙◌}
+use Rattle.io_gate.specs.Streams.{Rose}
+use Rattle.command_model.specs.declared.command_line.Line.{Line}
+use Rattle.command_model.specs.declared.command_line.WordsFault.{WordsFault}
+use Rattle.emu_outcome.specs.Outcome.{outcome_of_line}
+use Rattle.emu_outcome.specs.declared.ending.Ending.TheVariants.{FileFault, ReadFault}
+use Rattle.commands.specs.Promises.{now, Meets, NamesNoFile, is_silent}
+use Rattle.svemu.specs.Headline.{EndsMissing, MissesFirst, runs_machine}
+use Rattle.svemu.proofs.Lines.{refused_line, refused_names_none, refused_puts, done_refuses, line_refuses}
 use Rattle.svemu.proofs.top.command.Goals as goal
+
+-- ---- a refused line
 
 pub returns-in-Err-clause-outcome : goal.returns-in-Err-clause-outcome
 returns-in-Err-clause-outcome g c =
     refused_line (map string_bytes c.args.words.now) (g.F.Images.named c.args.files.now) (g.I.Source.left c.args.input.now) (g.O.Sink.held c.args.output.now) (g.E.Sink.held c.args.errors.now)
-    c.in-Err.fault _ c.put_words_refusal.result c.behind_line.result (sym c.in-Err.is ∙ c.line_of_words-line.ensures.line) c.behind_line.ensures c.put_words_refusal.ensures.bytes
+    c.in-Err.fault _ c.put_words_refusal.result c.ending_after_line.result (sym c.in-Err.is ∙ c.line_of_words-line.ensures.line) c.ending_after_line.ensures c.put_words_refusal.ensures.bytes
 
 pub returns-in-Err-clause-refused : goal.returns-in-Err-clause-refused
 returns-in-Err-clause-refused g c =
-    line_refuses c.in-Err.fault _ c.put_words_refusal.result c.behind_line.result (sym c.in-Err.is ∙ c.line_of_words-line.ensures.line) c.behind_line.ensures
-
-pub returns-in-Ok-clause-outcome : goal.returns-in-Ok-clause-outcome
-returns-in-Ok-clause-outcome g c =
-    done_line (map string_bytes c.args.words.now) (g.F.Images.named c.args.files.now) (g.I.Source.left c.args.input.now) (g.O.Sink.held c.args.output.now) (g.E.Sink.held c.args.errors.now)
-    c.in-Ok.line (now (g.I.Source.left c.run_line.new.input) (g.O.Sink.held c.run_line.new.output) (g.E.Sink.held c.run_line.new.errors)) c.run_line.result
-    (sym c.in-Ok.is ∙ c.line_of_words-line.ensures.line) c.run_line.ensures.outcome
-
-pub returns-in-Ok-clause-file_cause : goal.returns-in-Ok-clause-file_cause
-returns-in-Ok-clause-file_cause g c =
-    named_cause (map string_bytes c.args.words.now) (g.F.Images.named c.args.files.now) c.in-Ok.line c.run_line.result _ _ (sym c.in-Ok.is ∙ c.line_of_words-line.ensures.line) c.run_line.ensures.file_cause
+    line_refuses c.in-Err.fault _ c.put_words_refusal.result c.ending_after_line.result (sym c.in-Err.is ∙ c.line_of_words-line.ensures.line) c.ending_after_line.ensures
 
 pub returns-in-Err-clause-missing : goal.returns-in-Err-clause-missing
 returns-in-Err-clause-missing g c = λ names. absurd (refused_names_none (map string_bytes c.args.words.now) (g.F.Images.named c.args.files.now) c.in-Err.fault (sym c.in-Err.is ∙ c.line_of_words-line.ensures.line) names)
 
+pub returns-in-Err-clause-missing_first : goal.returns-in-Err-clause-missing_first
+returns-in-Err-clause-missing_first g c =
+    subst (λ (r : Result Line WordsFault). MissesFirst (map string_bytes c.args.words.now) r (g.F.Images.named c.args.files.now) → c.ending_after_line.result ≡ FileFault) (sym c.in-Err.is ∙ c.line_of_words-line.ensures.line) (λ none. absurd none)
+
+pub returns-in-Err-clause-no_errors : goal.returns-in-Err-clause-no_errors
+returns-in-Err-clause-no_errors g c = λ _ silent. absurd (refused_puts c.in-Err.fault c.put_words_refusal.result c.ending_after_line.result c.ending_after_line.ensures silent)
+
+-- ---- a line that is done
+
+pub returns-in-Ok-clause-outcome : goal.returns-in-Ok-clause-outcome
+returns-in-Ok-clause-outcome g c =
+    subst (λ (r : Result Line WordsFault). IfSome (g.F.Images.named c.args.files.now) (λ files. Meets (λ input. outcome_of_line (map string_bytes c.args.words.now) files input r) c.run_line.result
+    (now (g.I.Source.left c.args.input.now) (g.O.Sink.held c.args.output.now) (g.E.Sink.held c.args.errors.now)) (now (g.I.Source.left c.run_line.new.input) (g.O.Sink.held c.run_line.new.output) (g.E.Sink.held c.run_line.new.errors))))
+    (sym c.in-Ok.is ∙ c.line_of_words-line.ensures.line) c.run_line.ensures.outcome
+
+pub returns-in-Ok-clause-file_cause : goal.returns-in-Ok-clause-file_cause
+returns-in-Ok-clause-file_cause g c =
+    subst (λ (r : Result Line WordsFault). c.run_line.result ≡ FileFault → Rose (g.F.Images.faults c.args.files.now) (g.F.Images.faults c.run_line.new.files) ⊎ NamesNoFile (λ files input. outcome_of_line (map string_bytes c.args.words.now) files input r) (g.F.Images.named c.args.files.now))
+    (sym c.in-Ok.is ∙ c.line_of_words-line.ensures.line) c.run_line.ensures.file_cause
+
 pub returns-in-Ok-clause-missing : goal.returns-in-Ok-clause-missing
-returns-in-Ok-clause-missing g c = λ names.
-    c.run_line.ensures.missing (misses_named (map string_bytes c.args.words.now) (g.F.Images.named c.args.files.now) c.in-Ok.line (sym c.in-Ok.is ∙ c.line_of_words-line.ensures.line) names)
+returns-in-Ok-clause-missing g c =
+    subst (λ (r : Result Line WordsFault). NamesNoFile (λ files input. outcome_of_line (map string_bytes c.args.words.now) files input r) (g.F.Images.named c.args.files.now) → EndsMissing r c.run_line.result)
+    (sym c.in-Ok.is ∙ c.line_of_words-line.ensures.line) c.run_line.ensures.missing
+
+pub returns-in-Ok-clause-missing_first : goal.returns-in-Ok-clause-missing_first
+returns-in-Ok-clause-missing_first g c =
+    subst (λ (r : Result Line WordsFault). MissesFirst (map string_bytes c.args.words.now) r (g.F.Images.named c.args.files.now) → c.run_line.result ≡ FileFault) (sym c.in-Ok.is ∙ c.line_of_words-line.ensures.line) c.run_line.ensures.missing_first
+
+pub returns-in-Ok-clause-no_input : goal.returns-in-Ok-clause-no_input
+returns-in-Ok-clause-no_input g c =
+    subst (λ (r : Result Line WordsFault). runs_machine r ≡ false → (c.run_line.new.input ≡ c.args.input.now) × (c.run_line.result ≡ ReadFault → ⊥)) (sym c.in-Ok.is ∙ c.line_of_words-line.ensures.line) c.run_line.ensures.no_input
+
+pub returns-in-Ok-clause-no_errors : goal.returns-in-Ok-clause-no_errors
+returns-in-Ok-clause-no_errors g c =
+    subst (λ (r : Result Line WordsFault). runs_machine r ≡ false → is_silent c.run_line.result ≡ true → c.run_line.new.errors ≡ c.args.errors.now) (sym c.in-Ok.is ∙ c.line_of_words-line.ensures.line) c.run_line.ensures.no_errors
 
 pub returns-in-Ok-clause-refused : goal.returns-in-Ok-clause-refused
 returns-in-Ok-clause-refused g c = done_refuses c.in-Ok.line _ c.run_line.result (sym c.in-Ok.is ∙ c.line_of_words-line.ensures.line) c.run_line.ensures.no_words

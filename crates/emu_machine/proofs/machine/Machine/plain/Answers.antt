@@ -14,7 +14,7 @@ has_fetched c = let i = c.self.inside in record {
   aligned = let e = c.self.view_is in let p = c.pc-pc.ensures.value in grind arith;
   done = sym c.in-Ok.is ∙ c.load.ensures.value ∙ ap (λ pc. done_unless (refused i.memory pc 4 Fetch) Fetch (value i.memory pc 4)) c.pc-pc.ensures.value
       ∙ ap (λ (s : MachineState). done_unless (refused s.parts.memory s.parts.core.pc 4 Fetch) Fetch (value s.parts.memory s.parts.core.pc 4)) c.self.view_is;
-  decoded = sym c.in-Some.is ∙ c.decode.ensures.table;
+  decoded = sym c.in-Some.is ∙ c.decode_at.ensures.table;
 }
 
 -- the machine that does the instruction is the one that fetched it

@@ -9,7 +9,8 @@ use Rattle.emu_machine.specs.Ends.{IsKept, is_undone, is_unput, is_broken_off, r
 use Rattle.emu_machine.specs.Machines.{MachineState, MakesWrite}
 use Rattle.emu_machine.proofs.Logs.{Logs, logs_start, logs_on, logs_end, logs_as, logs_spent}
 use Rattle.emu_machine.proofs.Stands.{stands_start, stands_on, stands_there, kept_there}
-use Rattle.emu_machine.proofs.Runs.{Ran, broken_as, leads_start, leads_on, leads_end, leads_spent, not_going, goes, goes_on_after, ran_as, ran_when, end_as, failed_as, last_step, going_is_no, causes_from}
+use Rattle.emu_machine.proofs.Composed.{leads_start}
+use Rattle.emu_machine.proofs.Runs.{Ran, broken_as, run_counts, run_stops, run_spends, not_going, goes, goes_on_after, ran_as, ran_when, end_as, failed_as, last_step, going_is_no, causes_from}
 use Rattle.emu_machine.proofs.machine.Machine.run.Goals as goal
 
 pub loop-self-init : goal.loop-self-init
@@ -36,8 +37,8 @@ loop-self-preserved g c =
     record {
       going = goes_on_after c.step.new.self c.step.result c.in-Going.is (c.step.ensures.end (ap is_undone c.in-Going.is)) c.step.ensures.failed;
       within = omega (arith, counted, below);
-      leads = leads_on c.args.budget _ p q _ _ _ _ _ _ _ _ _ c.loop-self.invariant.leads
-          (ran_when _ _ _ _ _ _ _ _ _ _ _ (ap is_undone c.in-Going.is) stepped) (goes p.ended c.loop-self.self.failed c.loop-self.invariant.going) below counted;
+      leads = run_counts c.args.budget _ p q _ _ _ _ _ _ _ _ _ c.loop-self.invariant.leads (goes p.ended c.loop-self.self.failed c.loop-self.invariant.going) below counted
+          (ran_when _ _ _ _ _ _ _ _ _ _ _ (ap is_undone c.in-Going.is) stepped);
       logs = subst (λ (log : List Access). Logs c.args.budget c.args.self.now.accesses c.args.self.now.parts (g.I.Source.left c.args.input.now) log q (g.I.Source.left c.step.new.input)) (sym c.step.ensures.accesses)
           (logs_on c.args.budget _ _ _ p _ _ _ _ _ q _ _ _ (goes p.ended c.loop-self.self.failed c.loop-self.invariant.going) below _ c.loop-self.invariant.leads
           (ran_when _ _ _ _ _ _ _ _ _ _ _ (ap is_undone c.in-Going.is) stepped) c.loop-self.invariant.logs counted);
@@ -57,8 +58,8 @@ returns-in_default g c =
     let stepped : Ran step p q (g.I.Source.left c.loop-self.input) (g.I.Source.left c.step.new.input) (g.O.Sink.held c.loop-self.output) (g.O.Sink.held c.step.new.output) (g.E.Sink.held c.loop-self.errors) (g.E.Sink.held c.step.new.errors) (is_undone c.step.result)
     = record { state = c.step.ensures.state; input = c.step.ensures.input; output = c.step.ensures.output; errors = c.step.ensures.errors } in
     let r = ran_as _ _ _ _ _ _ _ _ _ c.step.result c.run_end_of.result c.run_end_of.ensures
-    (leads_end c.args.budget c.args.self.now.parts p q _ _ _ _ _ _ _ _ _ (is_undone c.step.result) c.loop-self.invariant.leads
-    stepped (goes p.ended c.loop-self.self.failed c.loop-self.invariant.going) below
+    (run_stops c.args.budget c.args.self.now.parts p q _ _ _ _ _ _ _ _ _ c.loop-self.invariant.leads (goes p.ended c.loop-self.self.failed c.loop-self.invariant.going) below
+    (is_undone c.step.result) stepped
     (λ (fine : is_undone c.step.result ≡ false). not_going q.ended c.step.result (c.step.ensures.end fine) c.in_default.not-Going)) in
     let undone : is_broken_off c.run_end_of.result ≡ true → is_undone c.step.result ≡ true = λ h. broken_as c.step.result ∙ ap is_broken_off (sym c.run_end_of.ensures) ∙ h in
     let kept : is_broken_off c.run_end_of.result ≡ true → IsKept p q (g.I.Source.left c.loop-self.input) (g.I.Source.left c.step.new.input) = λ h. c.step.ensures.kept (undone h) in
@@ -92,7 +93,7 @@ returns-in_default g c =
 pub returns-clause-state : goal.returns-clause-state
 returns-clause-state g c =
     let steps = ap (λ (s : MachineState). s.parts.steps) c.self.view_is in
-    (leads_spent c.args.budget c.args.self.now.parts c.loop-self.self.parts _ _ _ _ _ _ c.loop-self.invariant.leads (omega (arith, steps))).state
+    (run_spends c.args.budget c.args.self.now.parts c.loop-self.self.parts _ _ _ _ _ _ c.loop-self.invariant.leads (omega (arith, steps))).state
 
 pub returns-clause-accesses : goal.returns-clause-accesses
 returns-clause-accesses g c =
@@ -103,9 +104,9 @@ returns-clause-accesses g c =
 pub returns-clause-output : goal.returns-clause-output
 returns-clause-output g c =
     let steps = ap (λ (s : MachineState). s.parts.steps) c.self.view_is in
-    (leads_spent c.args.budget c.args.self.now.parts c.loop-self.self.parts _ _ _ _ _ _ c.loop-self.invariant.leads (omega (arith, steps))).output
+    (run_spends c.args.budget c.args.self.now.parts c.loop-self.self.parts _ _ _ _ _ _ c.loop-self.invariant.leads (omega (arith, steps))).output
 
 pub returns-clause-errors : goal.returns-clause-errors
 returns-clause-errors g c =
     let steps = ap (λ (s : MachineState). s.parts.steps) c.self.view_is in
-    (leads_spent c.args.budget c.args.self.now.parts c.loop-self.self.parts _ _ _ _ _ _ c.loop-self.invariant.leads (omega (arith, steps))).errors
+    (run_spends c.args.budget c.args.self.now.parts c.loop-self.self.parts _ _ _ _ _ _ c.loop-self.invariant.leads (omega (arith, steps))).errors

@@ -1,8 +1,7 @@
 use Rattle.std.proofs.Common.{◌≡◌, ◌≤◌, ◌-◌, false}
-use Rattle.emu_run.specs.Run.{run}
 use Rattle.emu_machine.specs.Machines.{has_ended}
 use Rattle.emu_machine.proofs.Logs.{Logs}
-use Rattle.emu_machine.proofs.Runs.{Leads}
+use Rattle.emu_machine.proofs.Runs.{LeadsRun}
 use Rattle.emu_machine.proofs.Stands.{Stands}
 use Rattle.emu_machine.proofs.machine.Machine.run.Given as goal
 
@@ -10,7 +9,7 @@ abbrev pub invariant-loop-self : goal.invariant-loop-self
 invariant-loop-self g l = record {
   going : has_ended l.self ≡ false;
   within : l.self.parts.steps ≤ l.budget;
-  leads : Leads (λ s. run s l.budget) l.fn.self.parts l.self.parts (g.I.Source.left l.fn.input) (g.I.Source.left l.input)
+  leads : LeadsRun l.budget l.fn.self.parts l.self.parts (g.I.Source.left l.fn.input) (g.I.Source.left l.input)
       (g.O.Sink.held l.fn.output) (g.O.Sink.held l.output) (g.E.Sink.held l.fn.errors) (g.E.Sink.held l.errors);
   logs : Logs l.budget l.fn.self.accesses l.fn.self.parts (g.I.Source.left l.fn.input) l.self.accesses l.self.parts (g.I.Source.left l.input);
   stands : Stands l.fn.self.parts (g.I.Source.left l.fn.input) l.self.parts (g.I.Source.left l.input);

@@ -1,30 +1,34 @@
-use Rattle.std.proofs.Common.{◌≡◌, ◌≤◌, ◌-◌, ◌++◌, List, length, take, drop, ap, ◌∙◌, sym, subst, arith}
+use Rattle.std.proofs.Common.{◌≡◌, ◌≤◌, ◌+◌, ◌-◌, ◌++◌, List, length, take, drop, ap, ◌∙◌, sym, subst, arith}
 use Rattle.std.proofs.lemmas.List.{length-map}
 use Rattle.page_list.specs.declared.slots.Slot.{Slot}
 use Rattle.page_list.specs.Entries.{Listed, zeroed_entries}
-use Rattle.page_list.specs.Slots.{AreHeld, entry_in, entries_in}
-use Rattle.page_list.proofs.Held.{held-moved}
+use Rattle.page_list.specs.Slots.{AreHeld, entry_in, entries_in, framed}
+use Rattle.page_list.proofs.Held.{held-moved, framed-moved, held-pushed, framed-pushed, entries-pushed}
 use Rattle.page_list.proofs.Lists.{moved_back, length_turned}
 use Rattle.page_list.proofs.list.PageList.insert.Goals as goal
 
 pub invariant_of-self : goal.invariant_of-self
 invariant_of-self c =
-    let i = c.self.invariant in let live = c.push_all.new.arena.live in let ss = c.push_all.new.slots.items in let k = length ss - c.args.at - c.args.count in
-    let moved = c.move_back.ensures.slots in
+    let a = c.self.inside in let i = c.self.invariant in let live = a.arena.live in let ss = c.push_all.new.slots.items in let k = length ss - c.args.at - c.args.count in
+    let pushed = c.push_all.ensures.slots in let moved = c.move_back.ensures.slots in
     let long : length c.move_back.new.slots.items ≡ length ss = ap length moved ∙ length_turned ss c.args.at k in
+    let frames : framed c.move_back.new.slots.items ≡ framed a.slots.items =
+    ap (λ (l : List Slot). framed l) moved ∙ framed-moved ss c.args.at k ∙ ap (λ (l : List Slot). framed l) pushed ∙ framed-pushed a.slots.items c.args.first c.args.count c.args.rights in
     record {
-      held = subst (AreHeld live) (sym moved) (held-moved live ss c.args.at k c.push_all.ensures.held);
+      held = subst (AreHeld live) (sym moved) (held-moved live ss c.args.at k (subst (AreHeld live) (sym pushed) (held-pushed a.slots.items c.args.first c.args.count c.args.rights live i.held)));
       room = omega (arith, i.room, c.push_all.ensures.capacity, c.move_back.ensures.capacity);
-      spare = omega (arith, i.spare, c.push_all.ensures.spare, c.push_all.ensures.length, long);
+      spare = ap (λ n. a.arena.spare + n) frames ∙ i.spare;
+      most = omega (arith, c.requires.room, ap (λ (l : Listed). length l.pages) c.self.view_is, ap (λ (l : Listed). l.limit) c.self.view_is, length-map a.slots.items (entry_in live), c.push_all.ensures.length, long);
       narrow = i.narrow;
     }
 
 pub returns-clause-pages : goal.returns-clause-pages
 returns-clause-pages c =
-    let a = c.self.inside in let at = c.args.at in let live = c.push_all.new.arena.live in let ss = c.push_all.new.slots.items in let k = length ss - at - c.args.count in
-    let es = entries_in a.arena.live a.slots.items in let zs = zeroed_entries c.args.first c.args.count c.args.rights in
-    let long : length es ≡ length a.slots.items = length-map a.slots.items (entry_in a.arena.live) in
+    let a = c.self.inside in let at = c.args.at in let live = a.arena.live in let ss = c.push_all.new.slots.items in let k = length ss - at - c.args.count in
+    let es = entries_in live a.slots.items in let zs = zeroed_entries c.args.first c.args.count c.args.rights in
+    let long : length es ≡ length a.slots.items = length-map a.slots.items (entry_in live) in
     let le : at ≤ length es = omega (arith, c.requires.place, ap (λ (l : Listed). length l.pages) c.self.view_is) in
+    let all : entries_in live ss ≡ es ++ zs = ap (λ (l : List Slot). entries_in live l) c.push_all.ensures.slots ∙ entries-pushed a.slots.items c.args.first c.args.count c.args.rights live in
     ap (λ (l : List Slot). entries_in live l) c.move_back.ensures.slots
-    ∙ moved_back (entry_in live) ss at k es zs c.push_all.ensures.entries le (omega (arith, c.push_all.ensures.length, long))
+    ∙ moved_back (entry_in live) ss at k es zs all le (omega (arith, c.push_all.ensures.length, long))
     ∙ ap (λ (l : Listed). take at l.pages ++ (zs ++ drop at l.pages)) c.self.view_is

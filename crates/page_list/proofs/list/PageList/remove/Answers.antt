@@ -2,8 +2,8 @@ use Rattle.std.proofs.Common.{◌≡◌, ◌≤◌, ◌+◌, ◌++◌, List, len
 use Rattle.std.proofs.lemmas.List.{length-map}
 use Rattle.page_list.specs.declared.slots.Slot.{Slot}
 use Rattle.page_list.specs.Entries.{Listed}
-use Rattle.page_list.specs.Slots.{AreHeld, entry_in, entries_in}
-use Rattle.page_list.proofs.Held.{held-moved}
+use Rattle.page_list.specs.Slots.{AreHeld, entry_in, entries_in, framed}
+use Rattle.page_list.proofs.Held.{held-moved, framed-moved}
 use Rattle.page_list.proofs.Lists.{cut_off, length_turned}
 use Rattle.page_list.proofs.list.PageList.remove.Goals as goal
 
@@ -11,6 +11,19 @@ pub pop_all-requires-clause-held : goal.pop_all-requires-clause-held
 pop_all-requires-clause-held c =
     let a = c.self.inside in
     subst (AreHeld a.arena.live) (sym c.move_to_end.ensures.slots) (held-moved a.arena.live a.slots.items c.args.at c.args.count c.self.invariant.held)
+
+pub invariant_of-self : goal.invariant_of-self
+invariant_of-self c =
+    let a = c.self.inside in let i = c.self.invariant in let at = c.args.at in let k = c.args.count in let ss = a.slots.items in let moved = c.move_to_end.ensures.slots in
+    let long : length c.move_to_end.new.slots.items ≡ length ss = ap length moved ∙ length_turned ss at k in
+    let frames : framed c.move_to_end.new.slots.items ≡ framed ss = ap (λ (l : List Slot). framed l) moved ∙ framed-moved ss at k in
+    record {
+      held = c.pop_all.ensures.held;
+      room = omega (arith, i.room, c.move_to_end.ensures.capacity, c.pop_all.ensures.capacity);
+      spare = c.pop_all.ensures.spare ∙ ap (λ n. a.arena.spare + n) frames ∙ i.spare;
+      most = omega (arith, i.most, c.pop_all.ensures.length, long);
+      narrow = i.narrow;
+    }
 
 pub returns-clause-pages : goal.returns-clause-pages
 returns-clause-pages c =

@@ -1,9 +1,9 @@
-use Rattle.std.proofs.Common.{◌≡◌, ◌<◌, length, get_or, ap, ◌∙◌, arith}
+use Rattle.std.proofs.Common.{◌≡◌, ◌<◌, ◌+◌, length, get_or, ap, ◌∙◌, arith}
 use Rattle.std.proofs.lemmas.List.{length-map, length-set, get_or_default}
 use Rattle.page_list.specs.declared.slots.Slot.{Slot}
 use Rattle.page_list.specs.Entries.{Listed, changed_at, page_with_rights}
 use Rattle.page_list.specs.Slots.{entry_in}
-use Rattle.page_list.proofs.Held.{holders-set, entries-set}
+use Rattle.page_list.proofs.Held.{holders-set, framed-set, entries-set}
 use Rattle.page_list.proofs.list.PageList.set_rights.Goals as goal
 
 pub invariant_of-self : goal.invariant_of-self
@@ -13,9 +13,10 @@ invariant_of-self c =
     let l : c.args.i < length ss = omega (arith, c.requires, ap (λ (l : Listed). length l.pages) c.self.view_is, length-map ss (entry_in a.arena.live)) in
     let same : x ≡ get_or ss c.args.i s = c.index_mut.ensures.value ∙ get_or_default ss c.args.i x s l in
     record {
-      held = λ f. let e = holders-set f ss c.args.i s (ap (λ (t : Slot). t.frame) same) in let h = i.held f in omega (arith, e, h);
+      held = λ f. let e = holders-set ss c.args.i s l (ap (λ (t : Slot). t.frame) same) f in let h = i.held f in omega (arith, e, h);
       room = i.room;
-      spare = omega (arith, i.spare, length-set ss c.args.i s);
+      spare = ap (λ n. a.arena.spare + n) (framed-set ss c.args.i s l (ap (λ (t : Slot). t.frame) same)) ∙ i.spare;
+      most = omega (arith, i.most, length-set ss c.args.i s);
       narrow = i.narrow;
     }
 

@@ -1,0 +1,24 @@
+-- A line of the table by its number, in the part in which it stands.
+use Rattle.std.proofs.Common.{◌≡◌, ℕ, ◌-◌, ◌≤◌, ◌<◌, [], get_or, refl}
+use Rattle.text_code.proofs.LineParts.{in_first_part, in_second_part, in_third_part, in_last_part}
+use Rattle.a64_texts.specs.Data.{data_lines}
+use Rattle.a64_texts.specs.Flow.{flow_lines}
+use Rattle.a64_texts.specs.Memory.{memory_lines, ls_reg_lines}
+use Rattle.a64_texts.specs.BitMoves.{last_lines}
+use Rattle.a64_texts.specs.Table.{a64_lines}
+
+pub in_data : (k : ℕ) → k < 19 → get_or data_lines k [] ≡ get_or a64_lines k []
+unfolding a64_lines data_lines flow_lines memory_lines ls_reg_lines
+in_data k h = in_first_part data_lines flow_lines memory_lines last_lines 19 10 15 k refl refl refl h
+
+pub in_flow : (k : ℕ) → 19 ≤ k → k < 29 → get_or flow_lines (k - 19) [] ≡ get_or a64_lines k []
+unfolding a64_lines data_lines flow_lines memory_lines ls_reg_lines
+in_flow k l h = in_second_part data_lines flow_lines memory_lines last_lines 19 10 15 k refl refl refl l h
+
+pub in_memory : (k : ℕ) → 29 ≤ k → k < 44 → get_or memory_lines (k - 29) [] ≡ get_or a64_lines k []
+unfolding a64_lines data_lines flow_lines memory_lines ls_reg_lines
+in_memory k l h = in_third_part data_lines flow_lines memory_lines last_lines 19 10 15 k refl refl refl l h
+
+pub in_last : (k : ℕ) → 44 ≤ k → get_or last_lines (k - 44) [] ≡ get_or a64_lines k []
+unfolding a64_lines data_lines flow_lines memory_lines ls_reg_lines
+in_last k l = in_last_part data_lines flow_lines memory_lines last_lines 19 10 15 k refl refl refl l

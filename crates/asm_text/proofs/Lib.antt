@@ -1,0 +1,13 @@
+pub mod Kept
+pub mod ReadBy
+pub mod Found
+pub mod Settled
+pub mod BaseTests
+pub mod VectorTests
+pub mod Base
+pub mod Vectors
+pub mod Aimed
+pub mod Targeted
+pub mod Statements
+pub mod Lines
+pub mod Steps

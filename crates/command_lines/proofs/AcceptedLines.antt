@@ -1,0 +1,206 @@
+-- An accepted line: the places that it names are those of its words, and the arguments are such as a program may be given.
+use Rattle.std.proofs.Common.{◌≡◌, ◌<◌, ◌≤◌, ℕ, zero, suc, ◌+◌, ◌-◌, Bool, true, false, ◌&&◌, cond, List, [], ◌∷◌, ◌++◌, codes, length, get_or, take, drop, Option, Some, None, is_some, unwrap_or, Result, Ok, Err, IfOk, refl, sym, ap, subst, arith, nat_lt}
+use Rattle.std.specs.List.{All, slice_get}
+use Rattle.std.specs.Option.{option_map_or}
+use Rattle.std.specs.Str.{bytes_eq}
+use Rattle.std.proofs.lemmas.Option.{get_or_from_slice_get, slice_get_within}
+use Rattle.std.proofs.lemmas.List.{get_or-take, length-drop, length-take}
+use Rattle.std.proofs.lemmas.List.Elements.{All-append, All-cons, All-drop}
+use Rattle.std.proofs.lemmas.List.Sums.{list_all-from_AllPass, sum_by-cons, sum_by_more_le, sum_by-take-drop}
+use Rattle.emu_system.specs.Arguments.{AreArguments, is_free_of_zeros}
+use Rattle.command_model.specs.declared.command_line.Command.{Command}
+use Rattle.command_model.specs.declared.command_line.Command.TheVariants.{Run, Asm, Dis, Dbg}
+use Rattle.command_model.specs.declared.command_line.Line.{Line}
+use Rattle.command_model.specs.declared.command_line.Line.TheVariants.{Run as RunLine, Asm as AsmLine, Dis as DisLine, Dbg as DbgLine}
+use Rattle.command_model.specs.declared.command_line.OptionName.{OptionName}
+use Rattle.command_model.specs.declared.command_line.OptionName.TheVariants.{Vl, Budget, Pages}
+use Rattle.command_model.specs.declared.command_line.WordsFault.{WordsFault}
+use Rattle.command_model.specs.declared.command_line.WordsWhy.{WordsWhy}
+use Rattle.command_model.specs.declared.command_line.WordsWhy.TheVariants.{Repeated, MissingValue, ExtraWord, MissingWord}
+use Rattle.command_model.specs.CommandLine.{Seen, and_then, args_of, command_of, end_of, first_too_long, first_with_zero, given, is_option, line_of, line_of_command, line_of_words, nothing_seen, option_of, plain_words_of, read_item, read_option, read_plain, read_value, read_word, read_words, refused, pages_of, takes_arguments, value_of_word, with_machine, with_plain, with_value}
+use Rattle.emu_outcome.specs.Outcome.{program_arguments}
+use Rattle.command_lines.specs.Places.{HasArguments, HasPlaces}
+use Rattle.command_lines.proofs.FirstWords.{none_too_long, none_with_zero}
+
+-- ---- answers
+
+if_either : {T E : Type 0} (P : T → Type 0) (b : Bool) (x y : Result T E) → (b ≡ true → IfOk x P) → (b ≡ false → IfOk y P) → IfOk (cond b x y) P
+if_either P true x y p q = p refl
+if_either P false x y p q = q refl
+
+then_so : {T U : Type 0} (P : T → Type 0) (Q : U → Type 0) (r : Result T WordsFault) (next : T → Result U WordsFault) → IfOk r P → ((t : T) → P t → IfOk (next t) Q) → IfOk (and_then r next) Q
+then_so P Q (Ok t) next p step = step t p
+then_so P Q (Err fault) next p step = tt
+
+-- ---- the places of what was seen
+
+abbrev AllBelow : ℕ → List ℕ → Type 0
+AllBelow n places = All (λ p. p < n) places
+
+below_more : (n m : ℕ) (places : List ℕ) → n ≤ m → AllBelow n places → AllBelow m places
+below_more n m places le all = λ k d h. let below = all k d h in omega arith
+
+below_one : (n place : ℕ) → place < n → AllBelow n (place ∷ [])
+below_one n place lt = λ k d h. elim k as (λ j. j < 1 → get_or (place ∷ []) j d < n) [ zero ↦ λ _. lt | suc j ↦ λ past. absurd (omega arith) ] h
+
+-- where the arguments begin, if `--` was read: behind the plain words, and not behind the words so far
+abbrev AreBehind : Option ℕ → List ℕ → ℕ → Type 0
+AreBehind None places place = AllBelow place places
+AreBehind (Some args) places place = AllBelow args places × (args ≤ place)
+
+abbrev IsWithin : ℕ → Seen → Type 0
+IsWithin place seen = AreBehind seen.args seen.plain place
+
+later : (args : Option ℕ) (places : List ℕ) (place : ℕ) → AreBehind args places place → AreBehind args places (place + 1)
+later None places place all = below_more place (place + 1) places (omega arith) all
+later (Some args) places place (all, le) = (all, omega arith)
+
+value_kept : (option : OptionName) (value place : ℕ) (seen : Seen) → IsWithin place seen → IsWithin (place + 1) (with_value option value seen)
+value_kept Vl value place seen within = later seen.args seen.plain place within
+value_kept Budget value place seen within = later seen.args seen.plain place within
+value_kept Pages value place seen within = later seen.args seen.plain place within
+
+within_value : (seen : Seen) (place : ℕ) (option : OptionName) (value : Result ℕ WordsWhy) → IsWithin place seen → IfOk (read_value seen place option value) (IsWithin (place + 1))
+within_value seen place option (Ok value) within = value_kept option value place seen within
+within_value seen place option (Err why) within = tt
+
+within_option : (seen : Seen) (place : ℕ) (option : Option OptionName) → IsWithin place seen → IfOk (read_option seen place option) (IsWithin (place + 1))
+within_option seen place None within = tt
+within_option seen place (Some option) within =
+    if_either (IsWithin (place + 1)) (is_some (given option seen)) (refused Repeated place) (Ok (record seen { awaited = Some option })) (λ _. tt) (λ _. later seen.args seen.plain place within)
+
+plain_more : (args : Option ℕ) (places : List ℕ) (place : ℕ) → None ≡ args → AreBehind args places place → AreBehind args (places ++ place ∷ []) (place + 1)
+plain_more None places place none all = All-append (λ p. p < place + 1) places (place ∷ []) (below_more place (place + 1) places (omega arith) all) (below_one (place + 1) place (omega arith))
+plain_more (Some args) places place none all = absurd (cc)
+
+arguments_begin : (args : Option ℕ) (places : List ℕ) (place : ℕ) → None ≡ args → AreBehind args places place → AreBehind (Some (place + 1)) places (place + 1)
+arguments_begin None places place none all = (below_more place (place + 1) places (omega arith) all, omega arith)
+arguments_begin (Some args) places place none all = absurd (cc)
+
+within_plain : (command : Command) (seen : Seen) (place : ℕ) → None ≡ seen.args → IsWithin place seen → IfOk (read_plain command seen place) (IsWithin (place + 1))
+within_plain command seen place none within =
+    if_either (IsWithin (place + 1)) (nat_lt (length seen.plain) (plain_words_of command)) (Ok (record seen { plain = seen.plain ++ place ∷ [] })) (refused ExtraWord place)
+    (λ _. plain_more seen.args seen.plain place none within) (λ _. tt)
+
+within_item : (command : Command) (seen : Seen) (place : ℕ) (word : List ℕ) → None ≡ seen.args → IsWithin place seen → IfOk (read_item command seen place word) (IsWithin (place + 1))
+within_item command seen place word none within =
+    let option : Result Seen WordsFault = read_option seen place (option_of command word) in
+    let plain : Result Seen WordsFault = read_plain command seen place in
+    if_either (IsWithin (place + 1)) (takes_arguments command && bytes_eq word (codes "--")) (Ok (record seen { args = Some (place + 1) })) (cond (is_option word) option plain)
+    (λ _. arguments_begin seen.args seen.plain place none within)
+    (λ _. if_either (IsWithin (place + 1)) (is_option word) option plain
+    (λ _. within_option seen place (option_of command word) within)
+    (λ _. within_plain command seen place none within))
+
+within_any : (command : Command) (seen : Seen) (place : ℕ) (word : List ℕ) (awaited : Option OptionName) → None ≡ seen.args → IsWithin place seen
+    → IfOk (option_map_or (λ option. read_value seen place option (value_of_word option word)) awaited (read_item command seen place word)) (IsWithin (place + 1))
+within_any command seen place word None none within = within_item command seen place word none within
+within_any command seen place word (Some option) none within = within_value seen place option (value_of_word option word) within
+
+none_of : (args : Option ℕ) → is_some args ≡ false → None ≡ args
+none_of None e = refl
+none_of (Some args) e = absurd (cc)
+
+within_word : (command : Command) (seen : Seen) (place : ℕ) (word : List ℕ) → IsWithin place seen → IfOk (read_word command seen place word) (IsWithin (place + 1))
+within_word command seen place word within =
+    if_either (IsWithin (place + 1)) (is_some seen.args) (Ok seen)
+    (option_map_or (λ option. read_value seen place option (value_of_word option word)) seen.awaited (read_item command seen place word))
+    (λ _. later seen.args seen.plain place within) (λ e. within_any command seen place word seen.awaited (none_of seen.args e) within)
+
+within_words : (command : Command) (seen : Seen) (place count : ℕ) (words : List (List ℕ)) → place + length words ≡ count → IsWithin place seen → IfOk (read_words command seen place words) (IsWithin count)
+within_words command seen place count [] e within = subst (λ (n : ℕ). IsWithin n seen) (omega arith) within
+within_words command seen place count (word ∷ words) e within =
+    then_so (IsWithin (place + 1)) (IsWithin count) (read_word command seen place word) (λ more. read_words command more (place + 1) words)
+    (within_word command seen place word within) (λ more here. within_words command more (place + 1) count words (omega arith) here)
+
+-- ---- the places of a line
+
+-- the arguments begin not behind the words, and the plain words stand in front of them
+args_within : (args : Option ℕ) (places : List ℕ) (count : ℕ) → AreBehind args places count → unwrap_or args count ≤ count
+args_within None places count all = omega arith
+args_within (Some args) places count (all, le) = le
+
+all_in_front : (args : Option ℕ) (places : List ℕ) (count : ℕ) → AreBehind args places count → AllBelow (unwrap_or args count) places
+all_in_front None places count all = all
+all_in_front (Some args) places count (all, le) = all
+
+got_below : (n : ℕ) (places : List ℕ) (k place : ℕ) → AllBelow n places → slice_get places k ≡ Some place → place < n
+got_below n places k place all got =
+    let below = all k 0 (slice_get_within places k place got) in
+    omega (arith, get_or_from_slice_get places k place 0 got)
+
+-- a line that needs a plain word
+with_place : (P : Line → Type 0) (count : ℕ) (o : Option ℕ) (next : ℕ → Result Line WordsFault) → ((place : ℕ) → o ≡ Some place → IfOk (next place) P) → IfOk (option_map_or next o (refused MissingWord count)) P
+with_place P count None next step = tt
+with_place P count (Some place) next step = step place refl
+
+-- a line that needs a vector length and a budget
+with_both : (P : Line → Type 0) (count : ℕ) (vl budget : Option ℕ) (said : ℕ → ℕ → Line) → ((bits steps : ℕ) → P (said bits steps)) → IfOk (with_machine count vl budget said) P
+with_both P count None budget said holds = tt
+with_both P count (Some bits) None said holds = tt
+with_both P count (Some bits) (Some steps) said holds = holds bits steps
+
+module _ (count : ℕ) (seen : Seen) (within : IsWithin count seen) where
+  front : (k place : ℕ) → slice_get seen.plain k ≡ Some place → place < args_of count seen
+  front k place got = got_below (args_of count seen) seen.plain k place (all_in_front seen.args seen.plain count within) got
+
+  behind : args_of count seen ≤ count
+  behind = args_within seen.args seen.plain count within
+
+  line_places : (command : Command) → IfOk (line_of command count seen) (λ l. HasPlaces l count)
+  line_places Run =
+      with_place (λ l. HasPlaces l count) count (slice_get seen.plain 0) (λ file. with_machine count seen.vl seen.budget (λ bits budget. RunLine file (args_of count seen) bits budget (pages_of seen))) (λ file got.
+      with_both (λ l. HasPlaces l count) count seen.vl seen.budget (λ bits budget. RunLine file (args_of count seen) bits budget (pages_of seen)) (λ bits budget. (front 0 file got, behind)))
+  line_places Asm = with_place (λ l. HasPlaces l count) count (slice_get seen.plain 0) (λ listing. Ok (AsmLine listing)) (λ listing got. let lt = front 0 listing got in let le = behind in omega arith)
+  line_places Dis = with_place (λ l. HasPlaces l count) count (slice_get seen.plain 0) (λ file. Ok (DisLine file)) (λ file got. let lt = front 0 file got in let le = behind in omega arith)
+  line_places Dbg =
+      with_place (λ l. HasPlaces l count) count (slice_get seen.plain 0)
+      (λ file. with_plain count seen 1 (λ script. with_machine count seen.vl seen.budget (λ bits budget. DbgLine file script (args_of count seen) bits budget (pages_of seen)))) (λ file got.
+      with_place (λ l. HasPlaces l count) count (slice_get seen.plain 1)
+      (λ script. with_machine count seen.vl seen.budget (λ bits budget. DbgLine file script (args_of count seen) bits budget (pages_of seen))) (λ script also.
+      with_both (λ l. HasPlaces l count) count seen.vl seen.budget (λ bits budget. DbgLine file script (args_of count seen) bits budget (pages_of seen)) (λ bits budget. (front 0 file got, front 1 script also, behind))))
+
+places_of : (command : Command) (count : ℕ) (seen : Seen) → IsWithin count seen → IfOk (end_of command count seen) (λ l. HasPlaces l count)
+places_of command count seen within =
+    if_either (λ l. HasPlaces l count) (is_some seen.awaited) (refused MissingValue (count - 1)) (line_of command count seen) (λ _. tt) (λ _. line_places count seen within command)
+
+command_places : (words : List (List ℕ)) (command : Option Command) → 0 < length words → IfOk (line_of_command words command) (λ l. HasPlaces l (length words))
+command_places words None some = tt
+command_places words (Some command) some =
+    then_so (IsWithin (length words)) (λ l. HasPlaces l (length words)) (read_words command nothing_seen 1 (drop 1 words)) (end_of command (length words))
+    (within_words command nothing_seen 1 (length words) (drop 1 words) (let e = length-drop 1 words in omega arith) (λ k d h. absurd (omega arith)))
+    (λ seen within. places_of command (length words) seen within)
+
+pub words_places : (words : List (List ℕ)) → IfOk (line_of_words words) (λ l. HasPlaces l (length words))
+words_places [] = tt
+words_places (name ∷ words) = command_places (name ∷ words) (command_of name) (omega arith)
+
+-- ---- the arguments of a line
+
+-- one word, and those from a later place on
+one_and_later : (P : List ℕ → Type 0) (words : List (List ℕ)) (file args : ℕ) → file < args → args ≤ length words → All P words → All P (get_or words file [] ∷ drop args words)
+one_and_later P words file args lt le all = All-cons P (get_or words file []) (drop args words) (all file [] (omega arith)) (All-drop P args words all)
+
+-- those of the words that a program is given
+given_words : (words : List (List ℕ)) → length words ≤ 300 → None ≡ first_too_long words → None ≡ first_with_zero words
+    → (file args : ℕ) → file < args → args ≤ length words → AreArguments (program_arguments words file args)
+given_words words few short free file args lt le = record {
+  few = omega (arith, length-drop args words);
+  short = omega (
+    arith,
+    sum_by-cons length (get_or words file []) (drop args words),
+    none_too_long words (sym short),
+    sum_by-take-drop length words args,
+    sum_by_more_le length (take args words) file [] (omega (arith, length-take args words)),
+    ap length (get_or-take args words file [] lt),
+  );
+  plain = list_all-from_AllPass is_free_of_zeros (get_or words file [] ∷ drop args words) (one_and_later (λ w. is_free_of_zeros w ≡ true) words file args lt le (none_with_zero words (sym free)));
+}
+
+pub arguments_fit : (words : List (List ℕ)) → length words ≤ 300 → None ≡ first_too_long words → None ≡ first_with_zero words
+    → (r : Result Line WordsFault) → IfOk r (λ l. HasPlaces l (length words)) → IfOk r (HasArguments words)
+arguments_fit words few short free (Err fault) places = tt
+arguments_fit words few short free (Ok (RunLine file args bits budget pages)) (lt, le) = given_words words few short free file args lt le
+arguments_fit words few short free (Ok (AsmLine listing)) lt = tt
+arguments_fit words few short free (Ok (DisLine file)) lt = tt
+arguments_fit words few short free (Ok (DbgLine file script args bits budget pages)) (lt, also, le) = given_words words few short free file args lt le

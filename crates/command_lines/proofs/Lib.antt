@@ -1,0 +1,3 @@
+pub mod AcceptedLines
+pub mod FirstWords
+pub mod Numerals

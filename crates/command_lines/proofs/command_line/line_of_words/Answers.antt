@@ -1,0 +1,21 @@
+use Rattle.std.proofs.Common.{map, length, string_bytes, Result, IfOk, sym, ◌∙◌, subst, arith}
+use Rattle.std.proofs.lemmas.List.{length-map}
+use Rattle.command_model.specs.declared.command_line.Line.{Line}
+use Rattle.command_model.specs.declared.command_line.WordsFault.{WordsFault}
+use Rattle.command_model.specs.CommandLine.{line_of_words}
+use Rattle.command_lines.specs.Places.{HasArguments, HasPlaces}
+use Rattle.command_lines.proofs.AcceptedLines.{arguments_fit, words_places}
+use Rattle.command_lines.proofs.command_line.line_of_words.Goals as goal
+
+pub returns-clause-places : goal.returns-clause-places
+returns-clause-places c =
+    subst (λ (r : Result Line WordsFault). IfOk r (λ line. HasPlaces line (length c.args.words.now))) (sym c.command_of_words.ensures)
+    (rw (← length-map c.args.words.now string_bytes) (words_places (map string_bytes c.args.words.now)))
+
+pub returns-clause-arguments : goal.returns-clause-arguments
+returns-clause-arguments c =
+    let ws = map string_bytes c.args.words.now in
+    subst (λ (r : Result Line WordsFault). IfOk r (HasArguments ws)) (sym c.command_of_words.ensures)
+    (arguments_fit ws (omega (arith, length-map c.args.words.now string_bytes))
+    (sym c.in_default.is ∙ c.first_too_long.ensures.place) (sym c.in_default-first_with_zero.is ∙ c.first_with_zero.ensures.place)
+    (line_of_words ws) (words_places ws))

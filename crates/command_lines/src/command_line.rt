@@ -1,0 +1,44 @@
+//! The command line: its words, or why they are refused.
+ghost use Rattle.std.specs.Prelude.{◌≡◌, ◌≤◌, map, length, string_bytes, IfOk};
+ghost use Rattle.command_model.specs.CommandLine.{line, line_of_words};
+ghost use Rattle.command_lines.specs.Places.{HasArguments, HasPlaces};
+
+use crate::scan::{fault, line_of, read_words};
+use crate::words::{first_too_long, first_with_zero, word};
+use command_model::{Command, Line, WordsFault, WordsWhy};
+
+/// The greatest number of words.
+const MOST_WORDS: usize = 300;
+
+/// The command that the words after the program's name say, or the first refusal and its place.
+pub fn line_of_words(words: &[String]) -> Result<Line, WordsFault>
+    ensures line { result ≡ line (map string_bytes words.now) }
+    ensures places { IfOk result (λ line. HasPlaces line (length words.now)) }
+    ensures arguments { IfOk result (HasArguments (map string_bytes words.now)) }
+{
+    if words.len() > MOST_WORDS {
+        return Err(fault(WordsWhy::TooManyWords, MOST_WORDS));
+    }
+    if let Some(place) = first_too_long(words) {
+        return Err(fault(WordsWhy::WordsTooLong, place));
+    }
+    if let Some(place) = first_with_zero(words) {
+        return Err(fault(WordsWhy::ZeroByte, place));
+    }
+    command_of_words(words)
+}
+
+/// The command that words say of which none is refused by itself.
+fn command_of_words(words: &[String]) -> Result<Line, WordsFault>
+    requires { length words.now ≤ 300 }
+    ensures { result ≡ line_of_words (map string_bytes words.now) }
+{
+    if words.is_empty() {
+        return Err(fault(WordsWhy::NoCommand, 0));
+    }
+    let Some(command) = Command::of(word(words, 0)) else {
+        return Err(fault(WordsWhy::UnknownCommand, 0));
+    };
+    let seen = read_words(command, words)?;
+    line_of(command, words.len(), &seen)
+}

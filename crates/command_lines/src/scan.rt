@@ -1,0 +1,261 @@
+//! The words behind a command's name, read one after the other.
+ghost use Rattle.std.specs.Prelude.{◌≡◌, ◌≤◌, ℕ, drop, map, length, string_bytes, is_some, slice_get, MatchResult, Some, None, Err};
+ghost use Rattle.command_model.specs.CommandLine.{given, line_of, end_of, nothing_seen, option_of, read_item, read_option, read_plain, read_value, read_word, read_words, refused, value_of_word, with_machine};
+ghost use Rattle.command_lines.specs.Scan.{Leaves};
+
+use crate::values::{budget_of_word, length_of_word, pages_of_word};
+use crate::words::word;
+use arrayvec::ArrayVec;
+use command_model::{Command, Line, OptionName, WordsFault, WordsWhy};
+use emu_model::Length;
+use std::marker::Model;
+
+/// The most plain words that a command has.
+const MOST_PLAIN: usize = 2;
+
+/// The greatest number of mapped pages where no option says it.
+const DEFAULT_PAGES: u32 = 16_384;
+
+/// What the words so far said.
+#[derive(Drop)]
+pub struct Seen {
+    /// The places of the plain words.
+    plain: ArrayVec<usize, MOST_PLAIN>,
+    length: Option<Length>,
+    budget: Option<u64>,
+    pages: Option<u32>,
+    /// The option whose value is the next word.
+    awaited: Option<OptionName>,
+    /// The place behind `--`.
+    args: Option<usize>,
+}
+
+impl Model for Seen {
+    ghost use Rattle.command_model.specs.CommandLine.{Seen};
+
+    ghost Value = { Seen };
+
+    ghost view = { λ s. record { plain = s.plain.items; vl = s.length; budget = s.budget; pages = s.pages; awaited = s.awaited; args = s.args } };
+}
+
+/// A refusal at a place.
+pub fn fault(why: WordsWhy, place: usize) -> WordsFault
+    requires { place ≤ 300 }
+    ensures { result ≡ record { why = why; place = place } }
+{
+    WordsFault {
+        why,
+        place: place as u32,
+    }
+}
+
+/// A value, or its refusal at a place.
+fn placed<T>(value: Result<T, WordsWhy>, place: usize) -> Result<T, WordsFault>
+    requires { place ≤ 300 }
+    ensures { MatchResult value (λ v. result ≡ Ok v) (λ why. result ≡ refused why place) }
+{
+    value.map_err(|why| fault(why, place))
+}
+
+/// The option of a command that a word gives. None exactly where there is none.
+fn option_of(command: Command, word: &str) -> Option<OptionName>
+    ensures { result ≡ option_of command word.now }
+{
+    command
+        .options()
+        .iter()
+        .copied()
+        .find(|option| option.text() == word)
+}
+
+impl Seen {
+    /// Before any word was read.
+    pub fn nothing() -> Seen
+        ensures { result ≡ nothing_seen }
+    {
+        Seen {
+            plain: ArrayVec::new(),
+            length: None,
+            budget: None,
+            pages: None,
+            awaited: None,
+            args: None,
+        }
+    }
+
+    /// Whether an option has its value.
+    fn has(&self, option: OptionName) -> bool
+        ensures { result ≡ is_some (given option self.now) }
+    {
+        match option {
+            OptionName::Vl => self.length.is_some(),
+            OptionName::Budget => self.budget.is_some(),
+            OptionName::Pages => self.pages.is_some(),
+        }
+    }
+
+    /// Reads a word as the value of an option.
+    fn read_value(&mut self, place: usize, option: OptionName, word: &str) -> Result<(), WordsFault>
+        requires { place ≤ 300 }
+        ensures { Leaves (read_value self.old place option (value_of_word option word.now)) self.new result }
+    {
+        match option {
+            OptionName::Vl => self.length = Some(placed(length_of_word(word), place)?),
+            OptionName::Budget => self.budget = Some(placed(budget_of_word(word), place)?),
+            OptionName::Pages => self.pages = Some(placed(pages_of_word(word), place)?),
+        }
+        self.awaited = None;
+        Ok(())
+    }
+
+    /// Reads a word in the form of an option.
+    fn read_option(&mut self, command: Command, place: usize, word: &str) -> Result<(), WordsFault>
+        requires { place ≤ 300 }
+        ensures { Leaves (read_option self.old place (option_of command word.now)) self.new result }
+    {
+        let Some(option) = option_of(command, word) else {
+            return Err(fault(WordsWhy::UnknownOption, place));
+        };
+        if self.has(option) {
+            return Err(fault(WordsWhy::Repeated, place));
+        }
+        self.awaited = Some(option);
+        Ok(())
+    }
+
+    /// Reads a plain word.
+    fn read_plain(&mut self, command: Command, place: usize) -> Result<(), WordsFault>
+        requires { place ≤ 300 }
+        ensures { Leaves (read_plain command self.old place) self.new result }
+    {
+        if self.plain.len() >= command.plain_words() {
+            return Err(fault(WordsWhy::ExtraWord, place));
+        }
+        self.plain.push(place);
+        Ok(())
+    }
+
+    /// Reads `--`, an option or a plain word.
+    fn read_item(&mut self, command: Command, place: usize, word: &str) -> Result<(), WordsFault>
+        requires { place ≤ 300 }
+        ensures { Leaves (read_item command self.old place word.now) self.new result }
+    {
+        if command.takes_arguments() && word == "--" {
+            self.args = Some(place + 1);
+            return Ok(());
+        }
+        if word.starts_with("--") {
+            self.read_option(command, place, word)
+        } else {
+            self.read_plain(command, place)
+        }
+    }
+
+    /// Reads any word: behind `--` an argument, behind an option its value.
+    fn read_word(&mut self, command: Command, place: usize, word: &str) -> Result<(), WordsFault>
+        requires { place ≤ 300 }
+        ensures { Leaves (read_word command self.old place word.now) self.new result }
+    {
+        if self.args.is_some() {
+            return Ok(());
+        }
+        match self.awaited {
+            Some(option) => self.read_value(place, option, word),
+            None => self.read_item(command, place, word),
+        }
+    }
+}
+
+/// What the words behind the command's name say.
+pub fn read_words(command: Command, words: &[String]) -> Result<Seen, WordsFault>
+    requires { length words.now ≤ 300 }
+    ensures { result ≡ read_words command nothing_seen 1 (drop 1 (map string_bytes words.now)) }
+{
+    let mut seen = Seen::nothing();
+    for place in 1..words.len() {
+        seen.read_word(command, place, word(words, place))?;
+    }
+    Ok(seen)
+}
+
+/// The place of a plain word, which is counted from 0. Err is that it is missing.
+fn plain_word(seen: &Seen, k: usize, count: usize) -> Result<usize, WordsFault>
+    requires { count ≤ 300 }
+    ensures { MatchResult result (λ place. slice_get seen.now.plain k ≡ Some place) (λ fault. (slice_get seen.now.plain k ≡ None) × (fault ≡ record { why = WordsWhy.MissingWord; place = count })) }
+{
+    match seen.plain.get(k) {
+        Some(place) => Ok(*place),
+        None => Err(fault(WordsWhy::MissingWord, count)),
+    }
+}
+
+/// The vector length and the budget of a machine. Err is that one is missing.
+fn length_and_budget(seen: &Seen, count: usize) -> Result<(Length, u64), WordsFault>
+    requires { count ≤ 300 }
+    ensures { MatchResult result (λ said. (seen.now.vl ≡ Some said.0) × (seen.now.budget ≡ Some said.1)) (λ fault. (line : ℕ → ℕ → Line) → with_machine count seen.now.vl seen.now.budget line ≡ Err fault) }
+{
+    let Some(length) = seen.length else {
+        return Err(fault(WordsWhy::MissingLength, count));
+    };
+    let Some(budget) = seen.budget else {
+        return Err(fault(WordsWhy::MissingBudget, count));
+    };
+    Ok((length, budget))
+}
+
+/// The run that so many words say.
+fn run_of(count: usize, seen: &Seen) -> Result<Line, WordsFault>
+    requires { count ≤ 300 }
+    ensures { result ≡ line_of Command.Run count seen.now }
+{
+    let file = plain_word(seen, 0, count)?;
+    let (length, budget) = length_and_budget(seen, count)?;
+    Ok(Line::Run {
+        file,
+        args: seen.args.unwrap_or(count),
+        length,
+        budget,
+        pages: seen.pages.unwrap_or(DEFAULT_PAGES),
+    })
+}
+
+/// The session that so many words say.
+fn session_of(count: usize, seen: &Seen) -> Result<Line, WordsFault>
+    requires { count ≤ 300 }
+    ensures { result ≡ line_of Command.Dbg count seen.now }
+{
+    let file = plain_word(seen, 0, count)?;
+    let script = plain_word(seen, 1, count)?;
+    let (length, budget) = length_and_budget(seen, count)?;
+    Ok(Line::Dbg {
+        file,
+        script,
+        args: seen.args.unwrap_or(count),
+        length,
+        budget,
+        pages: seen.pages.unwrap_or(DEFAULT_PAGES),
+    })
+}
+
+/// The line that so many words say.
+pub fn line_of(command: Command, count: usize, seen: &Seen) -> Result<Line, WordsFault>
+    requires few { count ≤ 300 }
+    requires some { 1 ≤ count }
+    ensures { result ≡ end_of command count seen.now }
+{
+    if seen.awaited.is_some() {
+        return Err(fault(WordsWhy::MissingValue, count - 1));
+    }
+    match command {
+        Command::Run => run_of(count, seen),
+        Command::Asm => {
+            let listing = plain_word(seen, 0, count)?;
+            Ok(Line::Asm { listing })
+        }
+        Command::Dis => {
+            let file = plain_word(seen, 0, count)?;
+            Ok(Line::Dis { file })
+        }
+        Command::Dbg => session_of(count, seen),
+    }
+}

@@ -1,0 +1,133 @@
+-- The line of a refusal: what is refused, the name of the cause, and the place.
+use Rattle.std.specs.Prelude.{ℕ, List, [], ◌++◌, codes, Option, Some, None}
+use Rattle.std.specs.Fmt.{decimal}
+use Rattle.dbg_model.specs.declared.script.ScriptFault.{ScriptFault}
+use Rattle.dbg_model.specs.declared.script.ScriptWhy.{ScriptWhy}
+use Rattle.dbg_model.specs.declared.script.ScriptWhy.TheVariants as script
+use Rattle.emu_run.specs.Text.{newline}
+use Rattle.emu_system.specs.declared.image.ElfFault.{ElfFault}
+use Rattle.emu_system.specs.declared.image.ElfFault.TheVariants.{TooShort, BadMagic, BadClass, BadData, BadVersion, BadType, BadMachine, BadHeaderSize, TooManySegments, HeadersOutside, Interpreter, SegmentOutside, FileOverMemory, AddressOutside, NotCongruent, Overlap, NoSegments, TooManyPages}
+use Rattle.listing_model.specs.declared.fault.ListingFault.{ListingFault}
+use Rattle.listing_model.specs.declared.fault.ListingWhy.{ListingWhy}
+use Rattle.listing_model.specs.declared.fault.ListingWhy.TheVariants as listing
+use Rattle.command_model.specs.declared.command_line.WordsFault.{WordsFault}
+use Rattle.command_model.specs.declared.command_line.WordsWhy.{WordsWhy}
+use Rattle.command_model.specs.declared.command_line.WordsWhy.TheVariants as words
+
+-- ---- command lines
+abbrev pub words_name : WordsWhy → List ℕ
+words_name words.TooManyWords = codes "TooManyWords"
+words_name words.WordsTooLong = codes "WordsTooLong"
+words_name words.ZeroByte = codes "ZeroByte"
+words_name words.NoCommand = codes "NoCommand"
+words_name words.UnknownCommand = codes "UnknownCommand"
+words_name words.UnknownOption = codes "UnknownOption"
+words_name words.Repeated = codes "Repeated"
+words_name words.MissingValue = codes "MissingValue"
+words_name words.BadNumber = codes "BadNumber"
+words_name words.BadLength = codes "BadLength"
+words_name words.OutOfRange = codes "OutOfRange"
+words_name words.ExtraWord = codes "ExtraWord"
+words_name words.MissingWord = codes "MissingWord"
+words_name words.MissingLength = codes "MissingLength"
+words_name words.MissingBudget = codes "MissingBudget"
+
+-- ---- images: the name of a fault, and the index of its program header
+
+abbrev pub fault_name : ElfFault → List ℕ
+fault_name TooShort = codes "TooShort"
+fault_name BadMagic = codes "BadMagic"
+fault_name BadClass = codes "BadClass"
+fault_name BadData = codes "BadData"
+fault_name BadVersion = codes "BadVersion"
+fault_name BadType = codes "BadType"
+fault_name BadMachine = codes "BadMachine"
+fault_name BadHeaderSize = codes "BadHeaderSize"
+fault_name TooManySegments = codes "TooManySegments"
+fault_name HeadersOutside = codes "HeadersOutside"
+fault_name (Interpreter i) = codes "Interpreter"
+fault_name (SegmentOutside i) = codes "SegmentOutside"
+fault_name (FileOverMemory i) = codes "FileOverMemory"
+fault_name (AddressOutside i) = codes "AddressOutside"
+fault_name (NotCongruent i) = codes "NotCongruent"
+fault_name (Overlap i) = codes "Overlap"
+fault_name NoSegments = codes "NoSegments"
+fault_name TooManyPages = codes "TooManyPages"
+
+abbrev pub fault_index : ElfFault → Option ℕ
+fault_index TooShort = None
+fault_index BadMagic = None
+fault_index BadClass = None
+fault_index BadData = None
+fault_index BadVersion = None
+fault_index BadType = None
+fault_index BadMachine = None
+fault_index BadHeaderSize = None
+fault_index TooManySegments = None
+fault_index HeadersOutside = None
+fault_index (Interpreter i) = Some i
+fault_index (SegmentOutside i) = Some i
+fault_index (FileOverMemory i) = Some i
+fault_index (AddressOutside i) = Some i
+fault_index (NotCongruent i) = Some i
+fault_index (Overlap i) = Some i
+fault_index NoSegments = None
+fault_index TooManyPages = None
+
+-- ---- listings and scripts
+
+abbrev pub listing_name : ListingWhy → List ℕ
+listing_name listing.NotUtf8 = codes "NotUtf8"
+listing_name listing.TooManyLines = codes "TooManyLines"
+listing_name listing.LongLine = codes "LongLine"
+listing_name listing.BadLabel = codes "BadLabel"
+listing_name listing.UnknownName = codes "UnknownName"
+listing_name listing.BadOperands = codes "BadOperands"
+listing_name listing.OutOfRange = codes "OutOfRange"
+listing_name listing.SecondEntry = codes "SecondEntry"
+listing_name listing.LabelTwice = codes "LabelTwice"
+listing_name listing.InstructionInData = codes "InstructionInData"
+listing_name listing.Misaligned = codes "Misaligned"
+listing_name listing.TooLarge = codes "TooLarge"
+listing_name listing.UnknownLabel = codes "UnknownLabel"
+listing_name listing.TooFar = codes "TooFar"
+listing_name listing.NoCode = codes "NoCode"
+
+abbrev pub script_name : ScriptWhy → List ℕ
+script_name script.NotUtf8 = codes "NotUtf8"
+script_name script.TooManyLines = codes "TooManyLines"
+script_name script.UnknownCommand = codes "UnknownCommand"
+script_name script.MissingWord = codes "MissingWord"
+script_name script.BadNumber = codes "BadNumber"
+script_name script.OutOfRange = codes "OutOfRange"
+script_name script.ExtraWord = codes "ExtraWord"
+script_name script.TooMany = codes "TooMany"
+
+-- ---- the lines
+
+abbrev pub at_place : ℕ → List ℕ
+at_place place = codes " at " ++ decimal place
+
+abbrev pub at_index : Option ℕ → List ℕ
+at_index None = []
+at_index (Some i) = at_place i
+
+abbrev pub words_line : WordsFault → List ℕ
+words_line f = codes "refused words " ++ words_name f.why ++ at_place f.place ++ newline
+
+abbrev pub image_line : ElfFault → List ℕ
+image_line f = codes "refused image " ++ fault_name f ++ at_index (fault_index f) ++ newline
+
+-- the place of a line, counted from 1; of a listing without code it is 0
+abbrev pub at_line : ℕ → List ℕ
+at_line number = codes " at line " ++ decimal number
+
+abbrev pub listing_line : ListingFault → List ℕ
+listing_line f = codes "refused listing " ++ listing_name f.why ++ at_line f.line ++ newline
+
+abbrev pub script_line : ScriptFault → List ℕ
+script_line f = codes "refused script " ++ script_name f.why ++ at_line f.line ++ newline
+
+-- a file that is longer than so many bytes
+abbrev pub too_long_line : ℕ → List ℕ
+too_long_line limit = codes "too long " ++ decimal limit ++ newline

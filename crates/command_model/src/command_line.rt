@@ -1,0 +1,172 @@
+//! The command line as a command with its values.
+ghost use Rattle.std.specs.Prelude.{◌≡◌, ◌≤◌, length};
+ghost use Rattle.command_model.specs.CommandLine.{command_of, option_text, options_of, plain_words_of, takes_arguments};
+
+use emu_model::Length;
+use thiserror::Error;
+
+/// Why a command line is refused.
+#[derive(Clone, Copy, Debug, PartialEq, Eq, Error)]
+pub enum WordsWhy {
+    #[error("more than 300 words")]
+    TooManyWords,
+    #[error("more than 32,768 bytes up to this word")]
+    WordsTooLong,
+    #[error("a byte 0")]
+    ZeroByte,
+    #[error("no command")]
+    NoCommand,
+    #[error("not the name of a command")]
+    UnknownCommand,
+    #[error("not an option of the command")]
+    UnknownOption,
+    #[error("an option given before")]
+    Repeated,
+    #[error("an option without a value")]
+    MissingValue,
+    #[error("not a number of at most 2^64 - 1")]
+    BadNumber,
+    #[error("not a vector length")]
+    BadLength,
+    #[error("a number outside of the option's range")]
+    OutOfRange,
+    #[error("a word too many")]
+    ExtraWord,
+    #[error("a file's name is missing")]
+    MissingWord,
+    #[error("--vl is missing")]
+    MissingLength,
+    #[error("--budget is missing")]
+    MissingBudget,
+}
+
+/// A refused command line: why, and the place of the word, from 0. Where a word is missing it is the number of words, and where there
+/// are too many it is 300.
+#[derive(Clone, Copy, Debug, PartialEq, Eq, Error)]
+#[error("{why} at word {place}")]
+pub struct WordsFault {
+    pub why: WordsWhy,
+    pub place: u32,
+}
+
+/// A command with its values. Places are those of words, from 0.
+#[derive(Clone, Copy, Debug, PartialEq, Eq)]
+pub enum Line {
+    /// Runs the program in the file that the word at `file` names.
+    Run {
+        file: usize,
+        /// The place of the program's first argument, or the number of words.
+        args: usize,
+        length: Length,
+        /// The greatest number of steps.
+        budget: u64,
+        /// The greatest number of mapped pages.
+        pages: u32,
+    },
+    /// Makes an executable of the listing in the file that the word at `listing` names.
+    Asm {
+        listing: usize,
+    },
+    /// Writes the instructions of the program in the file that the word at `file` names.
+    Dis {
+        file: usize,
+    },
+    /// Runs a debugger session of the script in the file that the word at `script` names, over a program as `Run` runs it.
+    Dbg {
+        file: usize,
+        script: usize,
+        /// The place of the program's first argument behind its name, or the number of words.
+        args: usize,
+        length: Length,
+        /// The greatest number of steps.
+        budget: u64,
+        /// The greatest number of mapped pages.
+        pages: u32,
+    },
+}
+
+/// The commands by their names.
+#[derive(Clone, Copy, Debug, PartialEq, Eq)]
+pub enum Command {
+    /// `run FILE --vl N --budget B [--pages P] [-- ARG ..]`
+    Run,
+    /// `asm LISTING`
+    Asm,
+    /// `dis FILE`
+    Dis,
+    /// `dbg FILE SCRIPT --vl N --budget B [--pages P] [-- ARG ..]`
+    Dbg,
+}
+
+/// The options of commands. Each has a value.
+#[derive(Clone, Copy, Debug, PartialEq, Eq)]
+pub enum OptionName {
+    /// `--vl`, the vector length in bits.
+    Vl,
+    /// `--budget`, the greatest number of steps.
+    Budget,
+    /// `--pages`, the greatest number of mapped pages.
+    Pages,
+}
+
+/// The options of the commands that run a machine.
+const MACHINE_OPTIONS: [OptionName; 3] = [OptionName::Vl, OptionName::Budget, OptionName::Pages];
+
+impl Command {
+    /// The command of a name. None exactly where there is none.
+    pub fn of(word: &str) -> Option<Command>
+        ensures { result ≡ command_of word.now }
+    {
+        match word {
+            "run" => Some(Command::Run),
+            "asm" => Some(Command::Asm),
+            "dis" => Some(Command::Dis),
+            "dbg" => Some(Command::Dbg),
+            _ => None,
+        }
+    }
+
+    /// The options that the command has.
+    pub fn options(self) -> &'static [OptionName]
+        ensures { result.now ≡ options_of self }
+    {
+        match self {
+            Command::Run | Command::Dbg => &MACHINE_OPTIONS,
+            Command::Asm | Command::Dis => &[],
+        }
+    }
+
+    /// How many plain words the command has: those that are no option, no option's value and no argument.
+    pub fn plain_words(self) -> usize
+        ensures count { result ≡ plain_words_of self }
+        ensures few { result ≤ 2 }
+    {
+        match self {
+            Command::Run | Command::Asm | Command::Dis => 1,
+            Command::Dbg => 2,
+        }
+    }
+
+    /// Whether the words behind `--` are the arguments of a program.
+    pub fn takes_arguments(self) -> bool
+        ensures { result ≡ takes_arguments self }
+    {
+        match self {
+            Command::Run | Command::Dbg => true,
+            Command::Asm | Command::Dis => false,
+        }
+    }
+}
+
+impl OptionName {
+    /// The word that gives the option.
+    pub fn text(self) -> &'static str
+        ensures { result.now ≡ option_text self }
+    {
+        match self {
+            OptionName::Vl => "--vl",
+            OptionName::Budget => "--budget",
+            OptionName::Pages => "--pages",
+        }
+    }
+}

@@ -1,0 +1,9 @@
+pub mod Assembling
+pub mod Copies
+pub mod Disassembling
+pub mod Meetings
+pub mod NamedFiles
+pub mod RunEnds
+pub mod Runs
+pub mod Sessions
+pub mod TextFiles

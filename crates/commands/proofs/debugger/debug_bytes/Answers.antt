@@ -1,0 +1,19 @@
+use Rattle.std.proofs.Common.{map, string_bytes, sym, ap, ◌∙◌}
+use Rattle.elf_image.specs.Images.{seen, seen_image}
+use Rattle.emu_system.specs.Image.{elf}
+use Rattle.commands.specs.Promises.{now}
+use Rattle.commands.specs.Programs.{arguments_of}
+use Rattle.commands.proofs.Sessions.{refused_program, accepted_program}
+use Rattle.commands.proofs.debugger.debug_bytes.Goals as goal
+
+pub returns-in-Err-clause-outcome : goal.returns-in-Err-clause-outcome
+returns-in-Err-clause-outcome g c =
+    refused_program c.args.bytes.now c.args.text.now (arguments_of (map string_bytes c.args.words.now) c.args.program.now) c.args.program.now.length c.args.program.now.budget c.args.program.now.pages (elf c.args.bytes.now c.args.program.now.pages)
+    (now (g.I.Source.left c.args.input.now) (g.O.Sink.held c.args.output.now) (g.E.Sink.held c.args.errors.now)) c.in-Err.fault _ c.put_image_refusal.result c.ending_after_line.result
+    (ap seen (sym c.in-Err.is) ∙ c.read.ensures.image) c.ending_after_line.ensures c.put_image_refusal.ensures.bytes
+
+pub returns-in-Ok-clause-outcome : goal.returns-in-Ok-clause-outcome
+returns-in-Ok-clause-outcome g c =
+    accepted_program c.args.bytes.now c.args.text.now (arguments_of (map string_bytes c.args.words.now) c.args.program.now) c.args.program.now.length c.args.program.now.budget c.args.program.now.pages (elf c.args.bytes.now c.args.program.now.pages)
+    (now (g.I.Source.left c.args.input.now) (g.O.Sink.held c.args.output.now) (g.E.Sink.held c.args.errors.now)) (seen_image c.in-Ok.image) _ c.debug_image.result
+    (ap seen (sym c.in-Ok.is) ∙ c.read.ensures.image) c.debug_image.ensures.outcome

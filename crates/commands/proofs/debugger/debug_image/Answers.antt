@@ -1,0 +1,34 @@
+use Rattle.std.proofs.Common.{Err, map, string_bytes, ap, refl, sym, ◌∙◌}
+use Rattle.dbg_model.specs.declared.script.ScriptFault.{ScriptFault}
+use Rattle.dbg_model.specs.Script.{script_of_file}
+use Rattle.elf_image.specs.Images.{seen_image}
+use Rattle.emu_machine.specs.declared.machine.Machine.{Machine}
+use Rattle.emu_system.specs.Start.{opening}
+use Rattle.emu_outcome.specs.declared.ending.Ending.TheVariants.{OutOfMemory}
+use Rattle.commands.specs.Promises.{now}
+use Rattle.commands.specs.Programs.{arguments_of}
+use Rattle.commands.proofs.Meetings.{nothing_meets}
+use Rattle.commands.proofs.Sessions.{is_refused, of_script, refused_script, obeyed_script}
+use Rattle.commands.proofs.debugger.debug_image.Goals as goal
+
+pub returns-in-Err-Refused-clause-outcome : goal.returns-in-Err-Refused-clause-outcome
+returns-in-Err-Refused-clause-outcome g c =
+    refused_script c.args.program.now.budget (opening c.args.bytes.now (seen_image c.args.image.now) (arguments_of (map string_bytes c.args.words.now) c.args.program.now) c.args.program.now.length c.args.program.now.pages) (script_of_file c.args.text.now)
+    (now (g.I.Source.left c.args.input.now) (g.O.Sink.held c.args.output.now) (g.E.Sink.held c.args.errors.now)) _ _ c.put_script_refusal.result c.ending_after_line.result
+    (is_refused (script_of_file c.args.text.now) c.in-Err-Refused.field-0 c.in-Err-Refused.fault c.in-Err-Refused.field-0-is c.in-Err-Refused.ensures ∙ ap (λ (f : ScriptFault). Err f) (sym c.in-Err-Refused.fault-is)) c.ending_after_line.ensures c.put_script_refusal.ensures.bytes
+
+pub returns-in-Err-OutOfMemory-clause-outcome : goal.returns-in-Err-OutOfMemory-clause-outcome
+returns-in-Err-OutOfMemory-clause-outcome g c =
+    nothing_meets (of_script c.args.program.now.budget (opening c.args.bytes.now (seen_image c.args.image.now) (arguments_of (map string_bytes c.args.words.now) c.args.program.now) c.args.program.now.length c.args.program.now.pages) (script_of_file c.args.text.now)
+    (now (g.I.Source.left c.args.input.now) (g.O.Sink.held c.args.output.now) (g.E.Sink.held c.args.errors.now))) OutOfMemory (g.I.Source.left c.args.input.now) (g.O.Sink.held c.args.output.now) (g.E.Sink.held c.args.errors.now) refl
+
+pub returns-in-Err-clause-outcome : goal.returns-in-Err-clause-outcome
+returns-in-Err-clause-outcome g c =
+    nothing_meets (of_script c.args.program.now.budget (opening c.args.bytes.now (seen_image c.args.image.now) (arguments_of (map string_bytes c.args.words.now) c.args.program.now) c.args.program.now.length c.args.program.now.pages) (script_of_file c.args.text.now)
+    (now (g.I.Source.left c.args.input.now) (g.O.Sink.held c.args.output.now) (g.E.Sink.held c.args.errors.now))) OutOfMemory (g.I.Source.left c.args.input.now) (g.O.Sink.held c.args.output.now) (g.E.Sink.held c.args.errors.now) refl
+
+pub returns-clause-outcome : goal.returns-clause-outcome
+returns-clause-outcome g c =
+    obeyed_script c.args.program.now.budget (opening c.args.bytes.now (seen_image c.args.image.now) (arguments_of (map string_bytes c.args.words.now) c.args.program.now) c.args.program.now.length c.args.program.now.pages) (script_of_file c.args.text.now)
+    (now (g.I.Source.left c.args.input.now) (g.O.Sink.held c.args.output.now) (g.E.Sink.held c.args.errors.now)) c.in-Ok.script c.in-Ok-open_machine.machine.parts _ c.debug_machine.result
+    c.in-Ok.ensures (ap (λ (x : Machine). x.parts) c.in-Ok-open_machine.ensures) c.debug_machine.ensures.outcome

@@ -1,0 +1,19 @@
+use Rattle.std.proofs.Common.{◌≡◌, List, Result, Ok, MatchResult, sym, ap, subst, ◌∙◌, arith}
+use Rattle.std.proofs.lemmas.Str.{utf8_valid_len_le}
+use Rattle.dbg_model.specs.declared.script.Command.{Command}
+use Rattle.dbg_model.specs.declared.script.ScriptFault.{ScriptFault}
+use Rattle.dbg_scripts.specs.Reading.{IsErrorOf}
+use Rattle.commands.proofs.TextFiles.{bad_script, no_script, text_script}
+use Rattle.commands.proofs.debugger.script_of.Goals as goal
+
+pub returns-in-Ok : goal.returns-in-Ok
+returns-in-Ok c =
+    subst (λ (s : Result (List Command) ScriptFault). MatchResult c.read_script.result (λ read. s ≡ Ok read) (IsErrorOf s)) (text_script c.args.bytes.now c.in-Ok.text.now c.in-Ok.ensures.cases.0 c.in-Ok.ensures.cases.1) c.read_script.ensures
+
+pub line_of_place-requires-clause-within : goal.line_of_place-requires-clause-within
+line_of_place-requires-clause-within c = omega (arith, c.valid_up_to.ensures ∙ c.in-Err.ensures.valid_len, utf8_valid_len_le c.args.bytes.now)
+
+pub returns-in-Err : goal.returns-in-Err
+returns-in-Err c =
+    no_script c.args.bytes.now c.valid_up_to.result (c.valid_up_to.ensures ∙ c.in-Err.ensures.valid_len) c.in-Err.ensures.cases.0
+    ∙ ap bad_script (sym c.line_of_place.ensures)

@@ -1,0 +1,39 @@
+use Rattle.std.proofs.Common.{◌≡◌, Ok, Err, refl}
+use Rattle.io_gate.specs.declared.images.ImagesError.TheVariants as images
+use Rattle.emu_outcome.specs.declared.ending.Ending.TheVariants.{FileFault, OutOfMemory}
+use Rattle.commands.proofs.NamedFiles.{ends_long, found_is_there, gives_line, gives_nothing, is_there, told_too_long, told_wanting}
+use Rattle.commands.proofs.files.file_bytes.Goals as goal
+
+pub returns-in-Err-Failed-clause-content : goal.returns-in-Err-Failed-clause-content
+returns-in-Err-Failed-clause-content g c = gives_nothing (g.F.Images.named c.args.files.now) c.args.name.now FileFault (g.E.Sink.held c.args.errors.now) refl
+
+pub returns-in-Err-Missing-clause-content : goal.returns-in-Err-Missing-clause-content
+returns-in-Err-Missing-clause-content g c = gives_nothing (g.F.Images.named c.args.files.now) c.args.name.now FileFault (g.E.Sink.held c.args.errors.now) refl
+
+pub returns-in-Err-TooLong-clause-content : goal.returns-in-Err-TooLong-clause-content
+returns-in-Err-TooLong-clause-content g c =
+    gives_line (g.F.Images.named c.args.files.now) c.args.name.now c.ending_after_line.result _ _ c.put_too_long.result
+    (told_too_long (g.F.Images.named c.args.files.now) c.args.name.now c.read_whole.result c.in-Err-TooLong.field-0 c.in-Err-TooLong.is c.in-Err-TooLong.field-0-is c.read_whole.ensures.content)
+    c.ending_after_line.ensures c.put_too_long.ensures.bytes
+
+pub returns-in-Err-TooLong-clause-unread : goal.returns-in-Err-TooLong-clause-unread
+returns-in-Err-TooLong-clause-unread g c =
+    ends_long (g.F.Images.named c.args.files.now) c.args.name.now c.ending_after_line.result c.put_too_long.result
+    (told_too_long (g.F.Images.named c.args.files.now) c.args.name.now c.read_whole.result c.in-Err-TooLong.field-0 c.in-Err-TooLong.is c.in-Err-TooLong.field-0-is c.read_whole.ensures.content)
+    c.ending_after_line.ensures
+
+pub returns-in-Err-OutOfMemory-clause-content : goal.returns-in-Err-OutOfMemory-clause-content
+returns-in-Err-OutOfMemory-clause-content g c = gives_nothing (g.F.Images.named c.args.files.now) c.args.name.now OutOfMemory (g.E.Sink.held c.args.errors.now) refl
+
+-- a file that is there isn't missing
+pub returns-in-Ok-clause-missing : goal.returns-in-Ok-clause-missing
+returns-in-Ok-clause-missing g c = λ missing. absurd (found_is_there (g.F.Images.named c.args.files.now) c.args.name.now (Ok c.in-Ok.bytes.items) (λ (e : Ok c.in-Ok.bytes.items ≡ Err images.Missing). cc)
+    c.in-Ok.ensures.content missing)
+
+pub returns-in-Err-TooLong-clause-missing : goal.returns-in-Err-TooLong-clause-missing
+returns-in-Err-TooLong-clause-missing g c = λ missing. absurd (found_is_there (g.F.Images.named c.args.files.now) c.args.name.now (Err images.TooLong) (λ (e : Err images.TooLong ≡ Err images.Missing). cc)
+    (told_too_long (g.F.Images.named c.args.files.now) c.args.name.now c.read_whole.result c.in-Err-TooLong.field-0 c.in-Err-TooLong.is c.in-Err-TooLong.field-0-is c.read_whole.ensures.content) missing)
+
+pub returns-in-Err-OutOfMemory-clause-missing : goal.returns-in-Err-OutOfMemory-clause-missing
+returns-in-Err-OutOfMemory-clause-missing g c = λ missing. absurd (is_there (g.F.Images.named c.args.files.now) c.args.name.now
+    (told_wanting (g.F.Images.named c.args.files.now) c.args.name.now c.read_whole.result c.in-Err-OutOfMemory.field-0 c.in-Err-OutOfMemory.is c.in-Err-OutOfMemory.field-0-is c.read_whole.ensures.content) missing)

@@ -1,0 +1,22 @@
+use Rattle.std.proofs.Common.{Some, refl}
+use Rattle.insn_texts.specs.Statements.{statements}
+use Rattle.listing_model.specs.Image.{image_of_bytes}
+use Rattle.emu_outcome.specs.Outcome.{outcome_of_listing}
+use Rattle.emu_outcome.specs.declared.ending.Ending.TheVariants.{OutOfMemory}
+use Rattle.commands.proofs.Assembling.{is_refused, made_listing, refused_listing}
+use Rattle.commands.proofs.Meetings.{nothing_meets}
+use Rattle.commands.proofs.listings.assemble_bytes.Goals as goal
+
+pub returns-in-Ok-clause-outcome : goal.returns-in-Ok-clause-outcome
+returns-in-Ok-clause-outcome g c = λ input.
+    made_listing (image_of_bytes statements c.args.bytes.now) input (g.O.Sink.held c.args.output.now) (g.E.Sink.held c.args.errors.now) c.in-Ok.file.items c.deref.result.now _ c.put_all.result c.ending_after_output.result
+    c.in-Ok.ensures c.deref.ensures.value c.ending_after_output.ensures c.put_all.ensures.bytes
+
+pub returns-in-Err-Refused-clause-outcome : goal.returns-in-Err-Refused-clause-outcome
+returns-in-Err-Refused-clause-outcome g c = λ input.
+    refused_listing (image_of_bytes statements c.args.bytes.now) input (g.O.Sink.held c.args.output.now) (g.E.Sink.held c.args.errors.now) c.in-Err-Refused.fault _ c.put_listing_refusal.result c.ending_after_line.result
+    (is_refused (image_of_bytes statements c.args.bytes.now) c.in-Err-Refused.field-0 c.in-Err-Refused.fault c.in-Err-Refused.field-0-is c.in-Err-Refused.ensures) c.ending_after_line.ensures c.put_listing_refusal.ensures.bytes
+
+pub returns-in-Err-OutOfMemory-clause-outcome : goal.returns-in-Err-OutOfMemory-clause-outcome
+returns-in-Err-OutOfMemory-clause-outcome g c = λ input.
+    nothing_meets (λ _. Some (outcome_of_listing (image_of_bytes statements c.args.bytes.now))) OutOfMemory input (g.O.Sink.held c.args.output.now) (g.E.Sink.held c.args.errors.now) refl

@@ -1,0 +1,21 @@
+use Rattle.std.proofs.Common.{ℕ, List, Option, Some, map, string_bytes, ap}
+use Rattle.insn_texts.specs.Statements.{statements}
+use Rattle.listing_model.specs.Image.{image_of_bytes}
+use Rattle.emu_outcome.specs.Outcome.{Outcome, Files, outcome_of_listing}
+use Rattle.commands.proofs.NamedFiles.{found_file, told_so, unread_file}
+use Rattle.commands.proofs.listings.assemble_file.Goals as goal
+
+-- what comes of the bytes of the listing's file
+abbrev next : Files → List ℕ → List ℕ → Option Outcome
+next files bytes i = Some (outcome_of_listing (image_of_bytes statements bytes))
+
+pub returns-in-Ok-clause-outcome : goal.returns-in-Ok-clause-outcome
+returns-in-Ok-clause-outcome g c = λ input.
+    found_file next (g.F.Images.named c.args.files.now) (map string_bytes c.args.words.now) c.args.listing c.word.result.now c.deref.result.now c.in-Ok.bytes.items
+    input (g.O.Sink.held c.args.output.now) (g.E.Sink.held c.args.errors.now) _ _ c.assemble_bytes.result
+    c.word.ensures c.deref.ensures.value (ap g.E.Sink.held c.in-Ok.ensures.read_still) c.in-Ok.ensures.content (told_so (g.F.Images.named c.args.files.now) _ (λ _. c.assemble_bytes.ensures.outcome input))
+
+pub returns-in-Err-clause-outcome : goal.returns-in-Err-clause-outcome
+returns-in-Err-clause-outcome g c = λ input.
+    unread_file next (g.F.Images.named c.args.files.now) (map string_bytes c.args.words.now) c.args.listing c.word.result.now c.in-Err.ending
+    input (g.O.Sink.held c.args.output.now) (g.E.Sink.held c.args.errors.now) _ c.word.ensures c.in-Err.ensures.content

@@ -1,0 +1,28 @@
+use Rattle.std.proofs.Common.{map, string_bytes, sym, ap, ◌∙◌, refl}
+use Rattle.elf_image.specs.Images.{seen, seen_image}
+use Rattle.emu_system.specs.Image.{elf}
+use Rattle.emu_machine.specs.declared.machine.Machine.{Machine}
+use Rattle.emu_outcome.specs.Outcome.{program_arguments}
+use Rattle.emu_outcome.specs.declared.ending.Ending.TheVariants.{OutOfMemory}
+use Rattle.commands.specs.Promises.{now}
+use Rattle.commands.proofs.Meetings.{nothing_meets}
+use Rattle.commands.proofs.Runs.{of_image, refused_image, opened_image}
+use Rattle.commands.proofs.run.run_image.Goals as goal
+
+pub returns-in-Err-clause-outcome : goal.returns-in-Err-clause-outcome
+returns-in-Err-clause-outcome g c =
+    refused_image c.args.bytes.now (program_arguments (map string_bytes c.args.words.now) c.args.program.now.file c.args.program.now.args) c.args.program.now.length c.args.program.now.budget c.args.program.now.pages (elf c.args.bytes.now c.args.program.now.pages)
+    (now (g.I.Source.left c.args.input.now) (g.O.Sink.held c.args.output.now) (g.E.Sink.held c.args.errors.now)) c.in-Err.fault _ c.put_image_refusal.result c.ending_after_line.result
+    (ap seen (sym c.in-Err.is) ∙ c.read.ensures.image) c.ending_after_line.ensures c.put_image_refusal.ensures.bytes
+
+pub returns-in-Err-open_machine-clause-outcome : goal.returns-in-Err-open_machine-clause-outcome
+returns-in-Err-open_machine-clause-outcome g c =
+    nothing_meets (of_image c.args.bytes.now (program_arguments (map string_bytes c.args.words.now) c.args.program.now.file c.args.program.now.args) c.args.program.now.length c.args.program.now.budget c.args.program.now.pages (elf c.args.bytes.now c.args.program.now.pages)
+    (now (g.I.Source.left c.args.input.now) (g.O.Sink.held c.args.output.now) (g.E.Sink.held c.args.errors.now))) OutOfMemory
+    (g.I.Source.left c.args.input.now) (g.O.Sink.held c.args.output.now) (g.E.Sink.held c.args.errors.now) refl
+
+pub returns-in-Ok-open_machine-clause-outcome : goal.returns-in-Ok-open_machine-clause-outcome
+returns-in-Ok-open_machine-clause-outcome g c =
+    opened_image c.args.bytes.now (program_arguments (map string_bytes c.args.words.now) c.args.program.now.file c.args.program.now.args) c.args.program.now.length c.args.program.now.budget c.args.program.now.pages (elf c.args.bytes.now c.args.program.now.pages)
+    (now (g.I.Source.left c.args.input.now) (g.O.Sink.held c.args.output.now) (g.E.Sink.held c.args.errors.now)) (seen_image c.in-Ok.image) c.in-Ok-open_machine.machine.parts _ c.run_machine.result
+    (ap seen (sym c.in-Ok.is) ∙ c.read.ensures.image) (ap (λ (x : Machine). x.parts) c.in-Ok-open_machine.ensures) c.run_machine.ensures.outcome

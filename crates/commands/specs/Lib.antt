@@ -1,0 +1,4 @@
+pub mod Endings
+pub mod Programs
+pub mod Promises
+pub mod Reading

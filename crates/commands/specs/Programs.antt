@@ -1,0 +1,21 @@
+-- The lines of commands that run a program, and the outcomes of lines.
+use Rattle.std.specs.Prelude.{ℕ, List, Option, Ok}
+use Rattle.command_model.specs.declared.command_line.Line.{Line}
+use Rattle.command_model.specs.declared.command_line.Line.TheVariants.{Run, Dbg}
+use Rattle.emu_outcome.specs.Outcome.{Outcome, Files, outcome_of_line, program_arguments}
+use Rattle.commands.specs.declared.program.Program.{Program}
+
+-- what an accepted line comes to
+abbrev pub outcome_over : List (List ℕ) → Line → Files → List ℕ → Option Outcome
+outcome_over words l files input = outcome_of_line words files input (Ok l)
+
+-- the program is run
+abbrev pub run_line_of : Program → Line
+run_line_of p = Run p.file p.args p.length p.budget p.pages
+
+-- the script that the word at a place names is obeyed over the program
+abbrev pub debug_line_of : Program → ℕ → Line
+debug_line_of p script = Dbg p.file script p.args p.length p.budget p.pages
+
+abbrev pub arguments_of : List (List ℕ) → Program → List (List ℕ)
+arguments_of words p = program_arguments words p.file p.args

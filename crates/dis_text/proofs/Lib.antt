@@ -1,0 +1,5 @@
+pub mod Lines
+pub mod Unaimed
+pub mod Names
+pub mod Again
+pub mod ReadBack

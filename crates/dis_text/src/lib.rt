@@ -1,0 +1,28 @@
+//! Instructions of both tables as text, and that their texts are read back.
+#![tactic(auto)]
+
+ghost use Rattle.std.specs.Prelude.{◌≡◌, ℕ, ◌^◌, ◌<◌, true};
+ghost use Rattle.emu_run.specs.declared.insn.Insn.{Insn};
+ghost use Rattle.insn_texts.specs.Texts.{text, is_canonical};
+ghost use Rattle.dis_text.specs.ReadBack.{IsInstruction, IsReadBack};
+
+use arrayvec::ArrayString;
+use dis_a64::print_a64;
+use dis_sve::print_sve;
+use insn_decode::Insn;
+
+/// Puts the text of an instruction that stands at pc in place of `out`.
+pub fn print(i: &Insn, pc: u64, out: &mut ArrayString<96>)
+    ensures { out.new.bytes ≡ text i.now pc }
+{
+    match i {
+        Insn::A64(i) => print_a64(i, pc, out),
+        Insn::Sve(i) => print_sve(i, out),
+    }
+}
+
+/// The text of each instruction, but for a bitmask whose rotation isn't the least, is read as the instruction, over both tables
+/// together: at any address that it stands at, the line that has only this text.
+pub fn printed_text_is_read()
+    ensures { (i : Insn) (pc : ℕ) → IsInstruction i → is_canonical i ≡ true → pc < 2 ^ 64 → IsReadBack i pc }
+{}

@@ -1,0 +1,3 @@
+pub mod Disassembly
+pub mod Statements
+pub mod Texts

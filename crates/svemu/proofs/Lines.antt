@@ -1,0 +1,125 @@
+-- What a line promises, put together: refused lines, done ones, the files that they name, and completeness.
+use Rattle.std.proofs.Common.{◌≡◌, ◌⊎◌, inl, inr, ℕ, Bool, true, false, List, [], get_or, Option, Some, None, Result, Ok, Err, IfSome, MatchBool, refl, sym, ap, subst, ◌∙◌}
+use Rattle.io_gate.specs.Images.{MissesNamed}
+use Rattle.io_gate.specs.Streams.{PutsAll, Rose}
+use Rattle.command_model.specs.CommandLine.{line}
+use Rattle.command_model.specs.Refusals.{words_line}
+use Rattle.command_model.specs.declared.command_line.Line.{Line}
+use Rattle.command_model.specs.declared.command_line.WordsFault.{WordsFault}
+use Rattle.emu_outcome.specs.Outcome.{Outcome, Files, outcome_of_line, result_of, refusal}
+use Rattle.emu_outcome.specs.declared.ending.Ending.{Ending}
+use Rattle.emu_outcome.specs.declared.ending.Ending.TheVariants.{WordsRefused, FileFault, ReadFault, WriteFault, ErrorsFault, OutOfMemory}
+use Rattle.commands.specs.Endings.{ended_by}
+use Rattle.commands.specs.Programs.{outcome_over}
+use Rattle.commands.specs.Promises.{is_failure, Before, Now, now, IfTold, Answers, Meets, NamesNoFile, is_silent, is_words_refusal}
+use Rattle.svemu.specs.Headline.{Completes, EndsMissing, IsQuiet, RefusesLine}
+use Rattle.commands.proofs.NamedFiles.{misses_named, names_missing, over, told_so}
+use Rattle.commands.proofs.Meetings.{line_meets}
+
+-- ---- the line
+
+-- a refused line names no file
+pub refused_names_none : (words : List (List ℕ)) (told : Option Files) (fault : WordsFault) → Err fault ≡ line words → NamesNoFile (result_of words) told → ⊥
+refused_names_none words told fault is n =
+    let e : Some (refusal (WordsRefused fault) (words_line fault)) ≡ None = ap (λ (r : Result Line WordsFault). outcome_of_line words n.files [] r) is ∙ n.missing [] in cc
+
+-- the ending of a refused line is not silent, and isn't a fault of the input
+pub refused_puts : {T E : Type 0} (fault : WordsFault) (put : Result T E) (result : Ending) → result ≡ ended_by put (WordsRefused fault) → is_silent result ≡ true → ⊥
+refused_puts fault (Ok done) result by silent = let e : false ≡ true = sym (ap is_silent by) ∙ silent in cc
+refused_puts fault (Err failed) result by silent = let e : false ≡ true = sym (ap is_silent by) ∙ silent in cc
+
+pub refused_reads_none : {T E : Type 0} (fault : WordsFault) (put : Result T E) (result : Ending) → result ≡ ended_by put (WordsRefused fault) → result ≡ ReadFault → ⊥
+refused_reads_none fault (Ok done) result by e = cc
+refused_reads_none fault (Err failed) result by e = cc
+
+-- ---- the file that an accepted line names
+
+-- the line l is m, which does something with the bytes of the file that the word at a place names
+module _ (words : List (List ℕ)) (told : Option Files) (l m : Line) (place : ℕ) (next : Files → List ℕ → List ℕ → Outcome) (result : Ending)
+    (is : l ≡ m) (does : outcome_over words m ≡ over (λ files bytes i. Some (next files bytes i)) words place) where
+  outcome_is : outcome_over words l ≡ over (λ files bytes i. Some (next files bytes i)) words place
+  outcome_is = ap (outcome_over words) is ∙ does
+
+  pub cause_of_line : (a b : ℕ) → (result ≡ FileFault → Rose a b ⊎ MissesNamed told (get_or words place [])) → result ≡ FileFault → Rose a b ⊎ NamesNoFile (outcome_over words l) told
+  cause_of_line a b cause fault = elim (cause fault) [
+    | inl rose ↦ inl rose
+    | inr missing ↦ inr (subst (λ (f : Files → List ℕ → Option Outcome). NamesNoFile f told) (sym outcome_is) (names_missing (λ files bytes i. Some (next files bytes i)) told words place missing))
+  ]
+
+  pub missing_of_line : (MissesNamed told (get_or words place []) → result ≡ FileFault) → (result ≡ FileFault → EndsMissing (Ok m) result) → NamesNoFile (outcome_over words l) told → EndsMissing (Ok l) result
+  missing_of_line missing ends names =
+      subst (λ (x : Line). EndsMissing (Ok x) result) (sym is)
+      (ends (missing (misses_named next told words place (subst (λ (f : Files → List ℕ → Option Outcome). NamesNoFile f told) outcome_is names))))
+
+-- ---- the outcome of a line
+
+module _ (words : List (List ℕ)) (named : Option Files) (i o e : Option (List ℕ)) where
+  -- a refused line
+  pub refused_line : {T E : Type 0} (fault : WordsFault) (e2 : Option (List ℕ)) (put : Result T E) (result : Ending) → Err fault ≡ line words → result ≡ ended_by put (WordsRefused fault) → PutsAll e e2 (words_line fault) put
+      → IfSome named (λ files. Meets (result_of words files) result (now i o e) (now i o e2))
+  refused_line fault e2 put result is by puts = told_so named _ (λ files.
+      subst (λ (x : Ending). Meets (result_of words files) x (now i o e) (now i o e2)) (sym by)
+      (subst (λ (r : Result Line WordsFault). Meets (λ input. outcome_of_line words files input r) (ended_by put (WordsRefused fault)) (now i o e) (now i o e2)) is
+      (line_meets (WordsRefused fault) (words_line fault) i o e e2 put refl puts)))
+
+-- no line but a refused one ends with a refusal
+no_refusal_of : (result : Ending) (fault : WordsFault) → is_words_refusal result ≡ false → result ≡ WordsRefused fault → ⊥
+no_refusal_of result fault none e = let t : true ≡ false = sym (ap is_words_refusal e) ∙ none in cc
+
+pub done_refuses : (l : Line) (r : Result Line WordsFault) (result : Ending) → Ok l ≡ r → is_words_refusal result ≡ false → RefusesLine r result
+done_refuses l r result is none = subst (λ (x : Result Line WordsFault). RefusesLine x result) is (λ fault e. no_refusal_of result fault none e)
+
+-- a refused line ends with its refusal, or with a fault of the errors
+put_or_fault : {T E : Type 0} (put : Result T E) (ending : Ending) → (ended_by put ending ≡ ending) ⊎ (ended_by put ending ≡ ErrorsFault)
+put_or_fault (Ok done) ending = inl refl
+put_or_fault (Err failed) ending = inr refl
+
+pub line_refuses : {T E : Type 0} (fault : WordsFault) (r : Result Line WordsFault) (put : Result T E) (result : Ending) → Err fault ≡ r → result ≡ ended_by put (WordsRefused fault) → RefusesLine r result
+line_refuses fault r put result is by =
+    subst (λ (x : Result Line WordsFault). RefusesLine x result) is
+    (subst (λ (x : Ending). (x ≡ WordsRefused fault) ⊎ (x ≡ ErrorsFault)) (sym by) (put_or_fault put (WordsRefused fault)))
+
+-- ---- completeness
+
+in_files : (words : List (List ℕ)) (files : Files) (input : List ℕ) → NamesNoFile (result_of words) (Some files) → result_of words files input ≡ None
+in_files words files input n = let same : files ≡ n.files = (let is : Some files ≡ Some n.files = n.is in cc) in ap (λ (x : Files). result_of words x input) same ∙ n.missing input
+
+or_memory : (o : Option Outcome) → Completes o OutOfMemory
+or_memory None = inr refl
+or_memory (Some outcome) = inr refl
+
+missing_file : (o : Option Outcome) → o ≡ None → Completes o FileFault
+missing_file o e = subst (λ (x : Option Outcome). Completes x FileFault) (sym e) (inl refl)
+
+answered : (o : Option Outcome) (ending : Ending) (before : Before) (after : Now) → Answers o ending before after → Completes o ending
+answered None ending before after a = absurd a
+answered (Some outcome) ending before after a = inl a.ending_is
+
+module _ (words : List (List ℕ)) (files : Files) (f0 f1 i0 i1 o0 o1 e0 e1 : ℕ) (before : Before) (after : Now) where
+  abbrev out : Option Outcome
+  out = result_of words files before.input
+
+  pub completes : (result : Ending) → (is_failure result ≡ false → Answers out result before after)
+      → (result ≡ FileFault → Rose f0 f1 ⊎ NamesNoFile (result_of words) (Some files)) → (result ≡ ReadFault → Rose i0 i1) → (result ≡ WriteFault → Rose o0 o1) → (result ≡ ErrorsFault → Rose e0 e1)
+      → IsQuiet f0 f1 → IsQuiet i0 i1 → IsQuiet o0 o1 → IsQuiet e0 e1 → Completes out result
+  completes FileFault answer f r w x qf qi qo qe = elim (f refl) [ inl rose ↦ absurd (qf rose) | inr n ↦ missing_file out (in_files words files before.input n) ]
+  completes ReadFault answer f r w x qf qi qo qe = absurd (qi (r refl))
+  completes WriteFault answer f r w x qf qi qo qe = absurd (qo (w refl))
+  completes ErrorsFault answer f r w x qf qi qo qe = absurd (qe (x refl))
+  completes OutOfMemory answer f r w x qf qi qo qe = or_memory out
+  completes ending answer f r w x qf qi qo qe = answered out ending before after (answer refl)
+
+fine_of : (ending : Ending) (P Q : Type 0) → is_failure ending ≡ false → MatchBool (is_failure ending) P Q → Q
+fine_of ending P Q fine m = subst (λ (b : Bool). MatchBool b P Q) fine m
+
+pub complete_command : (words : List (List ℕ)) (named : Option Files) (i o e : Option (List ℕ)) (new : Now) (f0 f1 i0 i1 o0 o1 e0 e1 : ℕ) (result : Ending)
+    → IfSome named (λ files. Meets (result_of words files) result (now i o e) new)
+    → (result ≡ FileFault → Rose f0 f1 ⊎ NamesNoFile (result_of words) named) → (result ≡ ReadFault → Rose i0 i1) → (result ≡ WriteFault → Rose o0 o1) → (result ≡ ErrorsFault → Rose e0 e1)
+    → IfSome named (λ files. IfTold (now i o e) (λ before. IsQuiet f0 f1 → IsQuiet i0 i1 → IsQuiet o0 o1 → IsQuiet e0 e1 → Completes (result_of words files before.input) result))
+complete_command words None i o e new f0 f1 i0 i1 o0 o1 e0 e1 result meets f r w x = tt
+complete_command words (Some files) None o e new f0 f1 i0 i1 o0 o1 e0 e1 result meets f r w x = tt
+complete_command words (Some files) (Some i) None e new f0 f1 i0 i1 o0 o1 e0 e1 result meets f r w x = tt
+complete_command words (Some files) (Some i) (Some o) None new f0 f1 i0 i1 o0 o1 e0 e1 result meets f r w x = tt
+complete_command words (Some files) (Some i) (Some o) (Some e) new f0 f1 i0 i1 o0 o1 e0 e1 result meets f r w x =
+    let before : Before = record { input = i; output = o; errors = e } in
+    completes words files f0 f1 i0 i1 o0 o1 e0 e1 before new result (λ fine. fine_of result _ _ fine meets) f r w x

@@ -1,6 +1,0 @@
-use Rattle.svemu.proofs.Commands.{registers_text, puts_as}
-use Rattle.svemu.proofs.top.put_machine.Goals as goal
-
-pub returns-clause-bytes : goal.returns-clause-bytes
-returns-clause-bytes g c =
-    puts_as _ _ _ _ c.put_registers.result (registers_text c.args.machine.now.parts c.core.result.now c.vec.result.now c.core.ensures c.vec.ensures) c.put_registers.ensures.bytes

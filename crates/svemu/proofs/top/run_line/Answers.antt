@@ -1,0 +1,55 @@
+use Rattle.std.proofs.Common.{IfSome, map, string_bytes, refl, sym, subst}
+use Rattle.command_model.specs.declared.command_line.Line.{Line}
+use Rattle.command_model.specs.declared.command_line.Line.TheVariants.{Run, Asm, Dis}
+use Rattle.emu_outcome.specs.Outcome.{most_pages, outcome_of_image, outcome_of_listing, outcome_of_words, program_arguments}
+use Rattle.emu_system.specs.Image.{elf}
+use Rattle.insn_texts.specs.Statements.{statements}
+use Rattle.listing_model.specs.Image.{image_of_bytes}
+use Rattle.commands.specs.Promises.{now, Meets}
+use Rattle.commands.specs.Programs.{outcome_over}
+use Rattle.svemu.proofs.Lines.{cause_of_line, missing_of_line}
+use Rattle.svemu.proofs.top.run_line.Goals as goal
+
+pub returns-in-Run-clause-file_cause : goal.returns-in-Run-clause-file_cause
+returns-in-Run-clause-file_cause g c =
+    let ws = map string_bytes c.args.words.now in
+    cause_of_line ws (g.F.Images.named c.args.files.now) c.args.line.now (Run c.in-Run.file c.in-Run.args c.in-Run.length c.in-Run.budget c.in-Run.pages) c.in-Run.file (λ files bytes i. outcome_of_image bytes (program_arguments ws c.in-Run.file c.in-Run.args) i c.in-Run.length c.in-Run.budget c.in-Run.pages (elf bytes c.in-Run.pages)) c.run_file.result c.in-Run.is refl _ _ c.run_file.ensures.file_cause
+
+pub returns-in-Run-clause-missing : goal.returns-in-Run-clause-missing
+returns-in-Run-clause-missing g c =
+    let ws = map string_bytes c.args.words.now in
+    missing_of_line ws (g.F.Images.named c.args.files.now) c.args.line.now (Run c.in-Run.file c.in-Run.args c.in-Run.length c.in-Run.budget c.in-Run.pages) c.in-Run.file (λ files bytes i. outcome_of_image bytes (program_arguments ws c.in-Run.file c.in-Run.args) i c.in-Run.length c.in-Run.budget c.in-Run.pages (elf bytes c.in-Run.pages)) c.run_file.result c.in-Run.is refl c.run_file.ensures.missing (λ fault. fault)
+
+pub returns-in-Asm-clause-outcome : goal.returns-in-Asm-clause-outcome
+returns-in-Asm-clause-outcome g c =
+    let ws = map string_bytes c.args.words.now in
+    subst (λ (l : Line). IfSome (g.F.Images.named c.args.files.now) (λ files. Meets (outcome_over ws l files) c.assemble_file.result
+    (now (g.I.Source.left c.args.input.now) (g.O.Sink.held c.args.output.now) (g.E.Sink.held c.args.errors.now)) (now (g.I.Source.left c.args.input.now) (g.O.Sink.held c.assemble_file.new.output) (g.E.Sink.held c.assemble_file.new.errors))))
+    (sym c.in-Asm.is) (c.assemble_file.ensures.outcome (g.I.Source.left c.args.input.now))
+
+pub returns-in-Asm-clause-file_cause : goal.returns-in-Asm-clause-file_cause
+returns-in-Asm-clause-file_cause g c =
+    let ws = map string_bytes c.args.words.now in
+    cause_of_line ws (g.F.Images.named c.args.files.now) c.args.line.now (Asm c.in-Asm.listing) c.in-Asm.listing (λ files bytes i. outcome_of_listing (image_of_bytes statements bytes)) c.assemble_file.result c.in-Asm.is refl _ _ c.assemble_file.ensures.file_cause
+
+pub returns-in-Asm-clause-missing : goal.returns-in-Asm-clause-missing
+returns-in-Asm-clause-missing g c =
+    let ws = map string_bytes c.args.words.now in
+    missing_of_line ws (g.F.Images.named c.args.files.now) c.args.line.now (Asm c.in-Asm.listing) c.in-Asm.listing (λ files bytes i. outcome_of_listing (image_of_bytes statements bytes)) c.assemble_file.result c.in-Asm.is refl c.assemble_file.ensures.missing (λ fault. fault)
+
+pub returns-in-Dis-clause-outcome : goal.returns-in-Dis-clause-outcome
+returns-in-Dis-clause-outcome g c =
+    let ws = map string_bytes c.args.words.now in
+    subst (λ (l : Line). IfSome (g.F.Images.named c.args.files.now) (λ files. Meets (outcome_over ws l files) c.disassemble_file.result
+    (now (g.I.Source.left c.args.input.now) (g.O.Sink.held c.args.output.now) (g.E.Sink.held c.args.errors.now)) (now (g.I.Source.left c.args.input.now) (g.O.Sink.held c.disassemble_file.new.output) (g.E.Sink.held c.disassemble_file.new.errors))))
+    (sym c.in-Dis.is) (c.disassemble_file.ensures.outcome (g.I.Source.left c.args.input.now))
+
+pub returns-in-Dis-clause-file_cause : goal.returns-in-Dis-clause-file_cause
+returns-in-Dis-clause-file_cause g c =
+    let ws = map string_bytes c.args.words.now in
+    cause_of_line ws (g.F.Images.named c.args.files.now) c.args.line.now (Dis c.in-Dis.file) c.in-Dis.file (λ files bytes i. outcome_of_words bytes (elf bytes most_pages)) c.disassemble_file.result c.in-Dis.is refl _ _ c.disassemble_file.ensures.file_cause
+
+pub returns-in-Dis-clause-missing : goal.returns-in-Dis-clause-missing
+returns-in-Dis-clause-missing g c =
+    let ws = map string_bytes c.args.words.now in
+    missing_of_line ws (g.F.Images.named c.args.files.now) c.args.line.now (Dis c.in-Dis.file) c.in-Dis.file (λ files bytes i. outcome_of_words bytes (elf bytes most_pages)) c.disassemble_file.result c.in-Dis.is refl c.disassemble_file.ensures.missing (λ fault. fault)

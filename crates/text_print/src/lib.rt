@@ -1,0 +1,9 @@
+//! Instructions printed by patterns of slots, whatever the table.
+#![tactic(auto)]
+
+mod edges;
+mod numerals;
+mod printing;
+mod spelling;
+
+pub use printing::print_word;
