@@ -1,6 +1,6 @@
 #!/bin/sh
-# Tests what stands beside the proved program: the examples, the listings, the runner, the manual page, the installation and the recipes of
-# docs/TESTING_YOUR_CODE.md. The program is the one that SVEMU names, else ./svemu. The last line is 'N passed, M failed, K skipped'.
+# Tests what stands beside the proved program: the examples, the listings, what the documents show, the runner, the manual page, the installation
+# and the recipes of docs/TESTING_YOUR_CODE.md. The program is the one that SVEMU names, else ./svemu. The last line is 'N passed, M failed, K skipped'.
 set -u
 
 cd "$(dirname "$0")/.." || exit 1
@@ -143,6 +143,7 @@ manual_page() {
 . tests/runner.sh
 . tests/recipes.sh
 . tests/listings.sh
+. tests/documents.sh
 
 run "$SVEMU" run crates/svemu/data/exit7.elf --vl 128 --budget 10
 holds "svemu is there" [ "$status" -eq 7 ]
@@ -152,6 +153,7 @@ if [ "$failed" -eq 0 ]; then
     listings
     listing_refusals
     gnu_texts
+    documents
     runner_passes_on
     runner_and_stand_ins
     runner_in_time

@@ -4,6 +4,8 @@ ghost use Rattle.std.specs.List.{position};
 ghost use Rattle.emu_system.specs.Arguments.{is_free_of_zeros};
 ghost use Rattle.command_model.specs.CommandLine.{first_too_long, first_with_zero};
 
+use emu_system::is_free_of_zeros;
+
 /// The greatest number of bytes that all words may have together.
 const MOST_BYTES: usize = 32_768;
 
@@ -31,13 +33,6 @@ pub fn first_too_long(words: &[String]) -> Option<usize>
     None
 }
 
-/// Whether a word holds no byte 0.
-fn is_free_of_zeros(word: &str) -> bool
-    ensures { result ≡ is_free_of_zeros word.now }
-{
-    word.as_bytes().iter().all(|byte| *byte != 0)
-}
-
 /// The place of the first word that holds a byte 0. None exactly where there is none.
 pub fn first_with_zero(words: &[String]) -> Option<usize>
     ensures place { result ≡ first_with_zero (map string_bytes words.now) }
@@ -53,5 +48,5 @@ fn place_of_zero(words: &[String]) -> Option<usize>
 {
     words
         .iter()
-        .position(|word| !is_free_of_zeros(word.as_str()))
+        .position(|word| !is_free_of_zeros(word.as_bytes()))
 }

@@ -7,6 +7,7 @@ use Rattle.std.specs.List.{find, list_all, range_with_len, starts_with}
 use Rattle.std.specs.Option.{option_map_or}
 use Rattle.std.specs.Str.{bytes_eq}
 use Rattle.std.specs.Str.Parse.{digits_value}
+use Rattle.dbg_model.specs.Script.{and_then}
 use Rattle.emu_model.specs.Lengths.{is_vector_length}
 use Rattle.emu_system.specs.Arguments.{is_free_of_zeros}
 use Rattle.command_model.specs.declared.command_line.Command.{Command}
@@ -21,11 +22,6 @@ use Rattle.command_model.specs.declared.command_line.WordsWhy.TheVariants.{TooMa
 
 abbrev pub refused : {T : Type 0} → WordsWhy → ℕ → Result T WordsFault
 refused why place = Err (record { why = why; place = place })
-
--- what follows where nothing is refused
-abbrev pub and_then : {T U : Type 0} → Result T WordsFault → (T → Result U WordsFault) → Result U WordsFault
-and_then (Ok value) next = next value
-and_then (Err fault) next = Err fault
 
 -- ---- commands and options
 

@@ -1,6 +1,7 @@
 pub mod Assembling
 pub mod Copies
 pub mod Disassembling
+pub mod Lines
 pub mod Meetings
 pub mod NamedFiles
 pub mod RunEnds

@@ -1,16 +1,12 @@
 -- What the parts of a run promise, put together: its report and its image.
-use Rattle.std.proofs.Common.{◌≡◌, ℕ, List, ◌++◌, Option, Some, Result, Ok, Err, refl, sym, ap, ap₂, subst, ◌∙◌}
+use Rattle.std.proofs.Common.{◌≡◌, ℕ, List, ◌++◌, Option, Some, Result, Ok, Err, refl, sym, ap₂, subst}
 use Rattle.io_gate.specs.Streams.{PutsAll}
 use Rattle.emu_model.specs.State.{Core, Vectors, Parts}
-use Rattle.emu_model.specs.declared.trap.Ended.{Ended}
-use Rattle.emu_model.specs.declared.trap.Ended.TheVariants.{Trap as Trapped}
-use Rattle.emu_model.specs.declared.trap.Trap.{Trap}
 use Rattle.emu_system.specs.Image.{Image}
 use Rattle.emu_system.specs.Start.{opening, with_input}
 use Rattle.emu_system.specs.declared.image.ElfFault.{ElfFault}
 use Rattle.emu_run.specs.Run.{run}
 use Rattle.emu_run.specs.Registers.{scalar_lines, vector_lines, register_lines}
-use Rattle.emu_run.specs.Reports.{ending_line, trap_line}
 use Rattle.command_model.specs.Refusals.{image_line}
 use Rattle.emu_outcome.specs.Outcome.{Outcome, outcome_of_run, outcome_of_image}
 use Rattle.emu_outcome.specs.declared.ending.Ending.{Ending}
@@ -23,9 +19,6 @@ use Rattle.commands.proofs.Meetings.{line_meets}
 
 pub registers_text : (m : Parts) (core : Core) (v : Vectors) → core ≡ m.core → v ≡ m.vectors → scalar_lines core v.bits ++ vector_lines v ≡ register_lines m
 registers_text m core v c w = ap₂ (λ (x : Core) (y : Vectors). scalar_lines x y.bits ++ vector_lines y) c w
-
-pub puts_as : {T E : Type 0} (old new : Option (List ℕ)) (xs ys : List ℕ) (put : Result T E) → xs ≡ ys → PutsAll old new xs put → PutsAll old new ys put
-puts_as old new xs ys put e p = subst (λ (text : List ℕ). PutsAll old new text put) e p
 
 -- ---- the image
 

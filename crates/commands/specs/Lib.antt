@@ -1,4 +1,5 @@
 pub mod Endings
+pub mod Lines
 pub mod Programs
 pub mod Promises
 pub mod Reading

@@ -1,10 +1,10 @@
 -- A run, step after step: what has come to the streams so far, and what remains.
-use Rattle.std.proofs.Common.{◌≡◌, ◌<◌, ◌≤◌, ℕ, ◌+◌, ◌-◌, Bool, true, false, List, Option, Some, None, is_none, is_some, refl, sym, ap, subst, ◌∙◌, arith, ◌||◌}
+use Rattle.std.proofs.Common.{◌≡◌, ◌<◌, ◌≤◌, ℕ, ◌+◌, ◌-◌, Bool, true, false, List, Option, Some, None, IfSome, is_none, is_some, refl, sym, ap, subst, ◌∙◌, arith, ◌||◌}
 use Rattle.emu_model.specs.declared.trap.Ended.{Ended}
 use Rattle.emu_model.specs.declared.trap.Ended.TheVariants.{Exit, Trap}
 use Rattle.emu_model.specs.State.{Parts, State}
 use Rattle.emu_system.specs.Start.{with_input}
-use Rattle.emu_system.specs.SystemCall.{Turn, quiet}
+use Rattle.emu_system.specs.SystemCall.{Turn, call, quiet}
 use Rattle.emu_run.specs.Step.{step, turn}
 use Rattle.emu_run.specs.Run.{run}
 use Rattle.emu_run.specs.RunLaws.{moves_not, step_moves, until_end_moves, run_moves, run_on, run_ended, run_spent, run_behind}
@@ -13,8 +13,9 @@ use Rattle.emu_machine.specs.declared.ends.StepEnd.TheVariants.{Going, Exit as S
 use Rattle.emu_machine.specs.declared.ends.RunEnd.{RunEnd}
 use Rattle.emu_machine.specs.declared.ends.RunEnd.TheVariants.{Exit as RunExit, Trap as RunTrap, Spent, ReadFault as RunReadFault, WriteFault as RunWriteFault, ErrorsFault as RunErrorsFault}
 use Rattle.io_gate.specs.Streams.{Causes, Rose}
-use Rattle.emu_machine.specs.Ends.{Becomes, TakesWithin, Puts, step_end, run_end, run_end_of, is_undone, is_broken_off}
-use Rattle.emu_machine.specs.Machines.{MachineState, has_ended}
+use Rattle.linux_calls.specs.Puts.{Gains}
+use Rattle.emu_machine.specs.Ends.{Becomes, TakesWithin, Puts, PutsAlways, step_end, run_end, run_end_of, is_undone, is_broken_off}
+use Rattle.emu_machine.specs.Machines.{MachineState, call_made, has_ended}
 use Rattle.emu_machine.proofs.Composed.{Blind, Moving, Came, Comes, Led, Leads, came_at, comes_by, comes_cut, comes_same, comes_still, gains_none, leads_on, leads_end}
 
 -- ---- the clauses of a step and a run, together
@@ -39,6 +40,27 @@ ran_of f old new (Some bytes) left ho hn eo en b c = record { state = c.state; i
 -- where the input told these bytes
 pub ran_at : (f : State → State) (old new : Parts) (bytes : List ℕ) (told left ho hn eo en : Option (List ℕ)) (b : Bool) → told ≡ Some bytes → Ran f old new told left ho hn eo en b → Came (f (with_input old bytes)) new bytes left ho hn eo en b
 ran_at f old new bytes told left ho hn eo en b is r = came_at f old new told left ho hn eo en b bytes is (ran_by f old new told left ho hn eo en b r)
+
+-- ---- a step, whose puts don't rest on what the input tells
+
+told_puts : (f : State → List ℕ) (old : Parts) (told held_old held_new : Option (List ℕ)) (b : Bool) → PutsAlways f old held_old held_new b → Puts f old told held_old held_new b
+told_puts f old None held_old held_new b h = tt
+told_puts f old (Some bytes) held_old held_new b h = h bytes
+
+module _ (p q : Parts) (told left ho hn eo en : Option (List ℕ)) (b : Bool) where
+  pub ran_step : Becomes step p q told left b → TakesWithin step p told left b → PutsAlways (λ st. (step st).output) p ho hn b → PutsAlways (λ st. (step st).errors) p eo en b → Ran step p q told left ho hn eo en b
+  ran_step s i o e = record { state = s; input = i; output = told_puts (λ st. (step st).output) p told ho hn b o; errors = told_puts (λ st. (step st).errors) p told eo en b e }
+
+  pub comes_step : (c : Bool) → b ≡ c → Becomes step p q told left b → TakesWithin step p told left b → PutsAlways (λ st. (step st).output) p ho hn b → PutsAlways (λ st. (step st).errors) p eo en b → Comes step p q told left ho hn eo en c
+  comes_step c is s i o e = comes_by step p q told left ho hn eo en b c is s i (told_puts (λ st. (step st).output) p told ho hn b o) (told_puts (λ st. (step st).errors) p told eo en b e)
+
+-- a step that makes a call puts what the call puts
+module _ (m p : Parts) (held_old held_new : Option (List ℕ)) (b : Bool) (same : p ≡ m) (is : (input : List ℕ) → turn m input ≡ call m input) where
+  pub puts_by_call : PutsAlways (λ st. (call_made st).output) p held_old held_new b → PutsAlways (λ st. (step st).output) m held_old held_new b
+  puts_by_call h bytes = subst (λ (out : List ℕ). IfSome held_old (λ had. Gains b held_new had out)) (ap (λ (x : Parts). (call x bytes).output) same ∙ ap (λ (t : Turn). t.output) (sym (is bytes))) (h bytes)
+
+  pub puts_errors_by_call : PutsAlways (λ st. (call_made st).errors) p held_old held_new b → PutsAlways (λ st. (step st).errors) m held_old held_new b
+  puts_errors_by_call h bytes = subst (λ (out : List ℕ). IfSome held_old (λ had. Gains b held_new had out)) (ap (λ (x : Parts). (call x bytes).errors) same ∙ ap (λ (t : Turn). t.errors) (sym (is bytes))) (h bytes)
 
 -- ---- a step that puts and takes nothing
 

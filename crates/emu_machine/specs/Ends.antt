@@ -103,6 +103,10 @@ pub record LeftOf (bytes : List ℕ) (least : ℕ) (left : Option (List ℕ)) : 
 abbrev pub TakesWithin : (State → State) → Parts → Option (List ℕ) → Option (List ℕ) → Bool → Type 0
 TakesWithin f old told left broken = IfSome told (λ bytes. broken ≡ true → LeftOf bytes (length (f (with_input old bytes)).input) left)
 
+-- where the sink told what it held: it gained the bytes that f puts to it, whatever the input has
+abbrev pub PutsAlways : (State → List ℕ) → Parts → Option (List ℕ) → Option (List ℕ) → Bool → Type 0
+PutsAlways put_by_f old held_old held_new broken = (bytes : List ℕ) → IfSome held_old (λ had. Gains broken held_new had (put_by_f (with_input old bytes)))
+
 -- where the input told its bytes, and the sink what it held: the sink gained the bytes that f puts to it
 abbrev pub Puts : (State → List ℕ) → Parts → Option (List ℕ) → Option (List ℕ) → Option (List ℕ) → Bool → Type 0
 Puts put_by_f old told held_old held_new broken = IfSome told (λ bytes. IfSome held_old (λ had. Gains broken held_new had (put_by_f (with_input old bytes))))

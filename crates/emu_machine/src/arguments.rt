@@ -1,6 +1,8 @@
 //! The arguments that a program may be started with.
-ghost use Rattle.std.specs.Prelude.{◌≡◌, ◌↔◌, IsTrue, map, string_bytes};
-ghost use Rattle.emu_system.specs.Arguments.{AreArguments, is_free_of_zeros};
+ghost use Rattle.std.specs.Prelude.{◌↔◌, IsTrue, map, string_bytes};
+ghost use Rattle.emu_system.specs.Arguments.{AreArguments};
+
+use emu_system::is_free_of_zeros;
 
 /// The greatest number of arguments.
 const MOST_ARGUMENTS: usize = 300;
@@ -26,11 +28,4 @@ pub fn are_arguments(args: &[String]) -> bool
         left -= bytes.len();
     }
     true
-}
-
-/// Whether no byte is 0.
-fn is_free_of_zeros(bytes: &[u8]) -> bool
-    ensures { result ≡ is_free_of_zeros bytes.now }
-{
-    bytes.iter().all(|b| *b != 0)
 }

@@ -3,7 +3,7 @@ ghost use Rattle.std.specs.Prelude.{◌≡◌, ◌<◌, ◌+◌, ◌-◌, ◌^�
 ghost use Rattle.io_gate.specs.Streams.{Causes};
 ghost use Rattle.linux_calls.specs.Ends.{is_fault};
 ghost use Rattle.linux_calls.specs.Names.{NamesRead, NamesWrite};
-ghost use Rattle.emu_machine.specs.Ends.{step_end, step_by, left_by, is_undone, is_unput, Becomes, TakesWithin, Puts, IsKept};
+ghost use Rattle.emu_machine.specs.Ends.{step_end, step_by, left_by, is_undone, is_unput, Becomes, TakesWithin, PutsAlways, IsKept};
 ghost use Rattle.emu_machine.specs.Machines.{call_made, has_ended};
 
 use crate::ends::StepEnd;
@@ -24,8 +24,8 @@ impl Machine {
         requires room { self.old.parts.steps < 2 ^ 64 - 1 }
         ensures state { Becomes call_made self.old.parts self.new.parts (I.left input.old) (I.left input.new) (is_undone result) }
         ensures input { TakesWithin call_made self.old.parts (I.left input.old) (I.left input.new) (is_undone result) }
-        ensures output { Puts (λ st. (call_made st).output) self.old.parts (I.left input.old) (O.held output.old) (O.held output.new) (is_undone result) }
-        ensures errors { Puts (λ st. (call_made st).errors) self.old.parts (I.left input.old) (E.held errors.old) (E.held errors.new) (is_undone result) }
+        ensures output { PutsAlways (λ st. (call_made st).output) self.old.parts (O.held output.old) (O.held output.new) (is_undone result) }
+        ensures errors { PutsAlways (λ st. (call_made st).errors) self.old.parts (E.held errors.old) (E.held errors.new) (is_undone result) }
         ensures end { is_undone result ≡ false → result ≡ step_end self.new.parts.ended }
         ensures counted { result ≡ StepEnd.Going → self.new.parts.steps ≡ self.old.parts.steps + 1 }
         ensures kept { is_undone result ≡ true → IsKept self.old.parts self.new.parts (I.left input.old) (I.left input.new) }

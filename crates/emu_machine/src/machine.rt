@@ -8,7 +8,7 @@ ghost use Rattle.emu_run.specs.Step as model;
 ghost use Rattle.emu_system.specs.SystemCall.{call, quiet, went_on};
 ghost use Rattle.emu_machine.specs.Accesses.{run_accesses};
 ghost use Rattle.linux_calls.specs.Names.{NamesRead};
-ghost use Rattle.emu_machine.specs.Ends.{step_end, run_end, run_end_of, is_undone, is_unput, is_broken_off, Becomes, TakesWithin, Puts, IsKept};
+ghost use Rattle.emu_machine.specs.Ends.{step_end, run_end, run_end_of, is_undone, is_unput, is_broken_off, Becomes, TakesWithin, Puts, PutsAlways, IsKept};
 ghost use Rattle.emu_machine.specs.Machines.{has_ended, is_at_call, is_svc, MakesRead, MakesWrite};
 
 use crate::ends::{RunEnd, StepEnd};
@@ -217,8 +217,8 @@ impl Machine {
         requires room { self.old.parts.steps < 2 ^ 64 - 1 }
         ensures state { Becomes model.step self.old.parts self.new.parts (I.left input.old) (I.left input.new) (is_undone result) }
         ensures input { TakesWithin model.step self.old.parts (I.left input.old) (I.left input.new) (is_undone result) }
-        ensures output { Puts (λ st. (model.step st).output) self.old.parts (I.left input.old) (O.held output.old) (O.held output.new) (is_undone result) }
-        ensures errors { Puts (λ st. (model.step st).errors) self.old.parts (I.left input.old) (E.held errors.old) (E.held errors.new) (is_undone result) }
+        ensures output { PutsAlways (λ st. (model.step st).output) self.old.parts (O.held output.old) (O.held output.new) (is_undone result) }
+        ensures errors { PutsAlways (λ st. (model.step st).errors) self.old.parts (E.held errors.old) (E.held errors.new) (is_undone result) }
         ensures end { is_undone result ≡ false → result ≡ step_end self.new.parts.ended }
         ensures counted { result ≡ StepEnd.Going → self.new.parts.steps ≡ self.old.parts.steps + 1 }
         ensures kept { is_undone result ≡ true → IsKept self.old.parts self.new.parts (I.left input.old) (I.left input.new) }

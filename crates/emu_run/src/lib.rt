@@ -1,4 +1,4 @@
-//! The definitions of a step, a system call and a run, and of the lines that show a machine.
+//! The definitions of a step and a run, and of the lines that show a machine.
 #![tactic(auto)]
 
 pub mod insn;

@@ -81,47 +81,46 @@ fn run_program<O: Sink, E: Sink>(
     Some((end, machine.steps()))
 }
 
+/// Runs the program of a line, and writes how it ended.
+fn play<F: Images>(rt: HostRuntime, files: &mut F, line: &str) -> io::Result<()> {
+    let Some(run) = run_of(line) else {
+        return println!(rt; "no run: {line}");
+    };
+    let Ok(args) = args_of(rt.alloc(), line) else {
+        return println!(rt; "no memory: {line}");
+    };
+    let Some(input) = input_of(rt.alloc(), files, run.input) else {
+        return println!(rt; "no input: {line}");
+    };
+    let Ok(bytes) = files.read_whole(rt.alloc(), run.file, FILE_LIMIT) else {
+        return println!(rt; "no file: {line}");
+    };
+    let mut output = StdSink::new(rt.stdout());
+    let mut errors = StdSink::new(rt.stderr());
+    let ended = run_program(
+        rt.alloc(),
+        &bytes,
+        &args,
+        run,
+        input,
+        &mut output,
+        &mut errors,
+    );
+    match ended {
+        Some((RunEnd::Exit(code), steps)) => println!(rt;
+            "{line}: exit {code} after {steps} steps"
+        ),
+        Some((RunEnd::Trap(trap), steps)) => println!(rt; "{line}: {trap:?} after {steps} steps"),
+        Some((RunEnd::Spent, steps)) => println!(rt; "{line}: spent after {steps} steps"),
+        _ => println!(rt; "{line}: not run"),
+    }
+}
+
 fn main(rt: HostRuntime) -> io::Result<()> {
     let mut files = FileImages::new(&rt);
     for line in rt.lines(rt.alloc()) {
         let line = line?;
-        let Some(run) = run_of(line.as_str()) else {
-            println!(rt; "no run: {line}")?;
-            continue;
-        };
-        let Ok(args) = args_of(rt.alloc(), line.as_str()) else {
-            println!(rt; "no memory: {line}")?;
-            continue;
-        };
-        let Some(input) = input_of(rt.alloc(), &mut files, run.input) else {
-            println!(rt; "no input: {line}")?;
-            continue;
-        };
-        let Ok(bytes) = files.read_whole(rt.alloc(), run.file, FILE_LIMIT) else {
-            println!(rt; "no file: {line}")?;
-            continue;
-        };
-        let mut output = StdSink::new(rt.stdout());
-        let mut errors = StdSink::new(rt.stderr());
-        let ended = run_program(
-            rt.alloc(),
-            &bytes,
-            &args,
-            run,
-            input,
-            &mut output,
-            &mut errors,
-        );
-        match ended {
-            Some((RunEnd::Exit(code), steps)) => {
-                println!(rt; "{line}: exit {code} after {steps} steps")?;
-            }
-            Some((RunEnd::Trap(trap), steps)) => {
-                println!(rt; "{line}: {trap:?} after {steps} steps")?;
-            }
-            Some((RunEnd::Spent, steps)) => println!(rt; "{line}: spent after {steps} steps")?,
-            _ => println!(rt; "{line}: not run")?,
-        }
+        play(rt, &mut files, line.as_str())?;
     }
     Ok(())
 }

@@ -48,69 +48,70 @@ fn a_file_that_is_cut_has_its_fault(rt: HostRuntime) -> Result<(), AllocError> {
     Ok(())
 }
 
+/// Two fields that are changed, and the fault; p_type, p_offset, p_vaddr, p_filesz and p_memsz stand at 64, 72, 80, 96 and 104.
+const CHANGED: [(Field, Field, Option<ElfFault>); 21] = [
+    ((56, 2, 0), (56, 2, 0), Some(ElfFault::NoSegments)),
+    ((56, 2, 0), (32, 8, 4108), Some(ElfFault::NoSegments)),
+    ((56, 2, 0), (32, 8, 4109), Some(ElfFault::HeadersOutside)),
+    (
+        (32, 8, u64::MAX),
+        (32, 8, u64::MAX),
+        Some(ElfFault::HeadersOutside),
+    ),
+    ((64, 4, 4), (64, 4, 4), Some(ElfFault::NoSegments)),
+    (
+        (64, 4, 3),
+        (72, 8, u64::MAX),
+        Some(ElfFault::Interpreter(0)),
+    ),
+    ((64, 4, 2), (72, 8, u64::MAX), Some(ElfFault::NoSegments)),
+    (
+        (72, 8, u64::MAX),
+        (72, 8, u64::MAX),
+        Some(ElfFault::SegmentOutside(0)),
+    ),
+    (
+        (72, 8, u64::MAX),
+        (104, 8, 0),
+        Some(ElfFault::SegmentOutside(0)),
+    ),
+    ((104, 8, 11), (96, 8, 12), Some(ElfFault::FileOverMemory(0))),
+    ((104, 8, 0), (96, 8, 1), Some(ElfFault::FileOverMemory(0))),
+    ((104, 8, 0), (96, 8, 0), Some(ElfFault::NoSegments)),
+    ((80, 8, 0x7EFF_FFFF_F000), (104, 8, 4096), None),
+    (
+        (80, 8, 0x7EFF_FFFF_F000),
+        (104, 8, 4097),
+        Some(ElfFault::AddressOutside(0)),
+    ),
+    ((80, 8, 4096), (80, 8, 4096), None),
+    (
+        (80, 8, 4095),
+        (80, 8, 4095),
+        Some(ElfFault::AddressOutside(0)),
+    ),
+    (
+        (104, 8, u64::MAX),
+        (104, 8, u64::MAX),
+        Some(ElfFault::AddressOutside(0)),
+    ),
+    (
+        (80, 8, 0x40_0001),
+        (80, 8, 0x40_0001),
+        Some(ElfFault::NotCongruent(0)),
+    ),
+    ((80, 8, 0x40_0001), (96, 8, 0), None),
+    (
+        (104, 8, 1 << 40),
+        (104, 8, 1 << 40),
+        Some(ElfFault::TooManyPages),
+    ),
+    ((24, 8, 3), (24, 8, 3), None),
+];
+
 #[test]
 fn a_changed_field_has_its_fault(rt: HostRuntime) -> Result<(), AllocError> {
-    // p_type, p_offset, p_vaddr, p_filesz and p_memsz stand at 64, 72, 80, 96 and 104
-    let table: [(Field, Field, Option<ElfFault>); 21] = [
-        ((56, 2, 0), (56, 2, 0), Some(ElfFault::NoSegments)),
-        ((56, 2, 0), (32, 8, 4108), Some(ElfFault::NoSegments)),
-        ((56, 2, 0), (32, 8, 4109), Some(ElfFault::HeadersOutside)),
-        (
-            (32, 8, u64::MAX),
-            (32, 8, u64::MAX),
-            Some(ElfFault::HeadersOutside),
-        ),
-        ((64, 4, 4), (64, 4, 4), Some(ElfFault::NoSegments)),
-        (
-            (64, 4, 3),
-            (72, 8, u64::MAX),
-            Some(ElfFault::Interpreter(0)),
-        ),
-        ((64, 4, 2), (72, 8, u64::MAX), Some(ElfFault::NoSegments)),
-        (
-            (72, 8, u64::MAX),
-            (72, 8, u64::MAX),
-            Some(ElfFault::SegmentOutside(0)),
-        ),
-        (
-            (72, 8, u64::MAX),
-            (104, 8, 0),
-            Some(ElfFault::SegmentOutside(0)),
-        ),
-        ((104, 8, 11), (96, 8, 12), Some(ElfFault::FileOverMemory(0))),
-        ((104, 8, 0), (96, 8, 1), Some(ElfFault::FileOverMemory(0))),
-        ((104, 8, 0), (96, 8, 0), Some(ElfFault::NoSegments)),
-        ((80, 8, 0x7EFF_FFFF_F000), (104, 8, 4096), None),
-        (
-            (80, 8, 0x7EFF_FFFF_F000),
-            (104, 8, 4097),
-            Some(ElfFault::AddressOutside(0)),
-        ),
-        ((80, 8, 4096), (80, 8, 4096), None),
-        (
-            (80, 8, 4095),
-            (80, 8, 4095),
-            Some(ElfFault::AddressOutside(0)),
-        ),
-        (
-            (104, 8, u64::MAX),
-            (104, 8, u64::MAX),
-            Some(ElfFault::AddressOutside(0)),
-        ),
-        (
-            (80, 8, 0x40_0001),
-            (80, 8, 0x40_0001),
-            Some(ElfFault::NotCongruent(0)),
-        ),
-        ((80, 8, 0x40_0001), (96, 8, 0), None),
-        (
-            (104, 8, 1 << 40),
-            (104, 8, 1 << 40),
-            Some(ElfFault::TooManyPages),
-        ),
-        ((24, 8, 3), (24, 8, 3), None),
-    ];
-    for (first, second, fault) in table {
+    for (first, second, fault) in CHANGED {
         let file = file_of(rt.alloc(), &[first, second])?;
         assert_eq!(rt; read(&file, 16_384).err(), fault, "{first:?} {second:?}");
     }

@@ -76,45 +76,46 @@ fn stand(machine: &Machine, address: u64, bytes: &[u8]) -> bool {
 /// The bytes from 0 to 15.
 const RANDOM: [u8; 16] = [0, 1, 2, 3, 4, 5, 6, 7, 8, 9, 10, 11, 12, 13, 14, 15];
 
+/// What stands from SP on: one argument, its address, the two ends, and the auxiliary vector.
+const STACK_WORDS: [u64; 30] = [
+    1,
+    0x7FFF_FFFF_EFFA,
+    0,
+    0,
+    3,
+    0,
+    4,
+    56,
+    5,
+    1,
+    6,
+    4096,
+    9,
+    0x40_0000,
+    11,
+    1000,
+    12,
+    1000,
+    13,
+    1000,
+    14,
+    1000,
+    16,
+    0x40_0000,
+    23,
+    0,
+    25,
+    0x7FFF_FFFF_EFE0,
+    0,
+    0,
+];
+
 #[test]
 fn a_program_starts_with_its_stack(rt: HostRuntime) -> Result<(), AllocError> {
     let file = file_of(rt.alloc(), &[])?;
     let machine = opened(rt.alloc(), &file, &["a.elf"], 257)?;
     assert_eq!(rt; stack_pointer(&machine), 0x7FFF_FFFF_EEF0);
-    // one argument, its address, the two ends, and the auxiliary vector
-    let words = [
-        1,
-        0x7FFF_FFFF_EFFA,
-        0,
-        0,
-        3,
-        0,
-        4,
-        56,
-        5,
-        1,
-        6,
-        4096,
-        9,
-        0x40_0000,
-        11,
-        1000,
-        12,
-        1000,
-        13,
-        1000,
-        14,
-        1000,
-        16,
-        0x40_0000,
-        23,
-        0,
-        25,
-        0x7FFF_FFFF_EFE0,
-        0,
-        0,
-    ];
-    assert_eq!(rt; difference(&machine, &words), None);
+    assert_eq!(rt; difference(&machine, &STACK_WORDS), None);
     assert!(rt; stand(&machine, 0x7FFF_FFFF_EFE0, &RANDOM));
     assert!(rt; stand(&machine, 0x7FFF_FFFF_EFFA, b"a.elf\0"));
     // the pages of the stack, behind which nothing is mapped

@@ -36,6 +36,13 @@ fn fields(word: u32) -> Option<[u32; 6]> {
             rt,
             ..
         } => { [u32::from(b5), b40.get(), imm14.get(), rt.get(), 0, 0] }
+        _ => return access_fields(word),
+    })
+}
+
+/// The same of a load or a store.
+fn access_fields(word: u32) -> Option<[u32; 6]> {
+    Some(match *decode_a64(word)?.form() {
         A64Form::LsReg {
             size,
             opc,

@@ -31,6 +31,7 @@ impl Model for Stock {
 }
 
 impl Stock {
+    /// These bytes, of which one call gives `most` at most.
     pub fn new(bytes: Vec<u8>, most: usize) -> Self
         requires { 1 ≤ most }
         ensures { result ≡ record { left = bytes.items; most = most } }

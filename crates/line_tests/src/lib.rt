@@ -1,4 +1,4 @@
-//! Tests of command lines and of printed lines that call nothing but public functions.
+//! Tests of the limits of command lines and of printed lines that call nothing but public functions.
 //!
 //! They stand here, and not beside what they test, since a crate with tests is proved once with them and once without.
 #![tactic(auto)]

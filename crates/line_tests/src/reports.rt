@@ -21,6 +21,20 @@ fn sink(alloc: Global) -> MemSink {
     MemSink::new(alloc, 1 << 20, Vec::new(alloc))
 }
 
+/// The lines of endings.
+const ENDINGS: &str = "exit 7 after 3 steps
+exit 255 after 18446744073709551615 steps
+trap undefined 0x0000000000400000 at 0x0000000000400000 after 0 steps
+trap read 0xfedcba9876543210 at 0x0000000000400abc after 10 steps
+spent after 2 steps
+refused words BadLength at 3
+refused image TooShort
+refused image Interpreter at 12
+refused listing InstructionInData at line 999999
+refused script MissingWord at line 7
+too long 67108864
+";
+
 #[test]
 fn endings_are_lines(rt: HostRuntime) -> Result<(), Fail> {
     let mut sink = sink(rt.alloc());
@@ -58,19 +72,7 @@ fn endings_are_lines(rt: HostRuntime) -> Result<(), Fail> {
         put_too_long(67_108_864, &mut sink),
     ];
     assert_eq!(rt; put, [Ok(()); 11]);
-    let want = "exit 7 after 3 steps
-exit 255 after 18446744073709551615 steps
-trap undefined 0x0000000000400000 at 0x0000000000400000 after 0 steps
-trap read 0xfedcba9876543210 at 0x0000000000400abc after 10 steps
-spent after 2 steps
-refused words BadLength at 3
-refused image TooShort
-refused image Interpreter at 12
-refused listing InstructionInData at line 999999
-refused script MissingWord at line 7
-too long 67108864
-";
-    assert_eq!(rt; sink.kept(), want.as_bytes());
+    assert_eq!(rt; sink.kept(), ENDINGS.as_bytes());
     Ok(())
 }
 

@@ -15,4 +15,5 @@ mod reply;
 mod still;
 
 pub use calling::call;
+pub use emu_model::Break;
 pub use end::CallEnd;

@@ -197,10 +197,12 @@ fn files_of_the_system_are_read_to_a_limit(rt: HostRuntime) -> Result<(), Fail> 
         bytes.push((number % 251) as u8)?;
     }
     fs::write(&rt, "a.bin", bytes.as_slice())?;
+    fs::write(&rt, " a.bin ", FILE)?;
     let mut files = FileImages::new(&rt);
     let table = [
         ("a.bin", 10_000, Ok(bytes.as_slice())),
         ("a.bin", 9_999, Err(ImagesError::TooLong)),
+        (" a.bin ", 3, Ok(FILE)),
         ("b.bin", 1, Err(ImagesError::Failed)),
     ];
     for (name, limit, want) in table {

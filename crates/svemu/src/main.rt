@@ -12,8 +12,6 @@ use std::process::ExitCode;
 
 #[cfg(test)]
 mod command_tests;
-#[cfg(test)]
-mod run_tests;
 mod top;
 
 pub use command_lines::{Line, WordsFault, WordsWhy, line_of_words};

@@ -6,6 +6,8 @@
 #[cfg(test)]
 mod bench;
 #[cfg(test)]
+mod lane_slices;
+#[cfg(test)]
 mod vector_memory;
 #[cfg(test)]
 mod vectors;

@@ -7,8 +7,8 @@ use Rattle.emu_machine.specs.declared.ends.StepEnd.TheVariants as steps
 use Rattle.dbg_model.specs.Session.{mark_met}
 use Rattle.dbg_core.specs.declared.ends.SessionEnd.TheVariants.{Done, ReadFault, WriteFault, ErrorsFault}
 use Rattle.dbg_core.specs.Ends.{is_fault, end_of_put, end_of_step}
-use Rattle.emu_machine.proofs.Composed.{comes_by, leads_start}
-use Rattle.emu_machine.proofs.Runs.{going_is_no, not_going}
+use Rattle.emu_machine.proofs.Composed.{leads_start}
+use Rattle.emu_machine.proofs.Runs.{comes_step, going_is_no, not_going}
 use Rattle.dbg_core.proofs.Sessions.{prints, ending_text}
 use Rattle.dbg_core.proofs.Going.{go_at, at_over, go_spent, go_goes, go_stops, go_ends, go_breaks, whole_spent, whole_stops, whole_ends}
 use Rattle.dbg_core.proofs.Leaving.{at_start, at_next, becomes_same, becomes_printed, leaves_line, leaves_step}
@@ -68,7 +68,7 @@ walk-preserved g c =
           (g.O.Sink.held c.args.output.now) (g.O.Sink.held c.walk.output) (g.O.Sink.held c.step.new.output) (g.E.Sink.held c.args.errors.now) (g.E.Sink.held c.walk.errors) (g.E.Sink.held c.step.new.errors)
           c.walk.invariant.leads c.walk.invariant.going below counted
           (ap (λ (made : List Access). mark_met c.args.marks.now made q) (sym c.step.ensures.accesses) ∙ sym c.met.ensures ∙ c.in-None.is)
-          (comes_by step p q (g.I.Source.left c.walk.input) (g.I.Source.left c.step.new.input) (g.O.Sink.held c.walk.output) (g.O.Sink.held c.step.new.output) (g.E.Sink.held c.walk.errors) (g.E.Sink.held c.step.new.errors)
+          (comes_step p q (g.I.Source.left c.walk.input) (g.I.Source.left c.step.new.input) (g.O.Sink.held c.walk.output) (g.O.Sink.held c.step.new.output) (g.E.Sink.held c.walk.errors) (g.E.Sink.held c.step.new.errors)
           (is_undone r) false fine c.step.ensures.state c.step.ensures.input c.step.ensures.output c.step.ensures.errors);
       came = at_next c.args.machine.now.parts p q (g.I.Source.left c.args.input.now) (g.I.Source.left c.walk.input) (g.I.Source.left c.step.new.input) c.walk.invariant.going
           (subst (λ (b : Bool). Becomes step p q (g.I.Source.left c.walk.input) (g.I.Source.left c.step.new.input) b) fine c.step.ensures.state) c.walk.invariant.came;
@@ -94,7 +94,7 @@ returns-in-Some g c =
           (g.O.Sink.held c.args.output.now) (g.O.Sink.held c.walk.output) (g.O.Sink.held c.step.new.output) (g.E.Sink.held c.args.errors.now) (g.E.Sink.held c.walk.errors) (g.E.Sink.held c.step.new.errors)
           c.walk.invariant.leads c.walk.invariant.going below c.in-Some.stop (g.O.Sink.held c.put_stop.new.sink) put
           (ap (λ (made : List Access). mark_met c.args.marks.now made q) (sym c.step.ensures.accesses) ∙ sym c.met.ensures ∙ c.in-Some.is)
-          (comes_by step p q (g.I.Source.left c.walk.input) (g.I.Source.left c.step.new.input) (g.O.Sink.held c.walk.output) (g.O.Sink.held c.step.new.output) (g.E.Sink.held c.walk.errors) (g.E.Sink.held c.step.new.errors)
+          (comes_step p q (g.I.Source.left c.walk.input) (g.I.Source.left c.step.new.input) (g.O.Sink.held c.walk.output) (g.O.Sink.held c.step.new.output) (g.E.Sink.held c.walk.errors) (g.E.Sink.held c.step.new.errors)
           (is_undone r) false fine c.step.ensures.state c.step.ensures.input c.step.ensures.output c.step.ensures.errors)
           c.put_stop.ensures.bytes);
       leaves = leaves_line (go_at c.args.marks.now c.args.budget) c.args.budget c.args.machine.now.parts c.step.new.self (g.I.Source.left c.args.input.now) (g.I.Source.left c.step.new.input) put c.end_of_put-in-Some.result is
@@ -103,7 +103,7 @@ returns-in-Some g c =
           (g.O.Sink.held c.args.output.now) (g.O.Sink.held c.walk.output) (g.O.Sink.held c.step.new.output) (g.E.Sink.held c.args.errors.now) (g.E.Sink.held c.walk.errors) (g.E.Sink.held c.step.new.errors)
           c.walk.invariant.leads c.walk.invariant.going below c.in-Some.stop
           (ap (λ (made : List Access). mark_met c.args.marks.now made q) (sym c.step.ensures.accesses) ∙ sym c.met.ensures ∙ c.in-Some.is)
-          (comes_by step p q (g.I.Source.left c.walk.input) (g.I.Source.left c.step.new.input) (g.O.Sink.held c.walk.output) (g.O.Sink.held c.step.new.output) (g.E.Sink.held c.walk.errors) (g.E.Sink.held c.step.new.errors)
+          (comes_step p q (g.I.Source.left c.walk.input) (g.I.Source.left c.step.new.input) (g.O.Sink.held c.walk.output) (g.O.Sink.held c.step.new.output) (g.E.Sink.held c.walk.errors) (g.E.Sink.held c.step.new.errors)
           (is_undone r) false fine c.step.ensures.state c.step.ensures.input c.step.ensures.output c.step.ensures.errors));
       done = λ _. c.step.ensures.failed ∙ fine;
       read_cause = put_read put c.end_of_put-in-Some.result is _ _ (c.step.ensures.read_cause.kept (going_is_no r steps.ReadFault (λ (h : steps.Going ≡ steps.ReadFault). cc) c.in-Going.is) ∙ c.walk.invariant.read);
@@ -131,7 +131,7 @@ returns-in-Done g c =
           (g.O.Sink.held c.args.output.now) (g.O.Sink.held c.walk.output) (g.O.Sink.held c.step.new.output) (g.E.Sink.held c.args.errors.now) (g.E.Sink.held c.walk.errors) (g.E.Sink.held c.step.new.errors)
           c.walk.invariant.leads c.walk.invariant.going below (g.O.Sink.held c.put_ending-in-Done.new.sink) put
           (not_going q.ended r (c.step.ensures.end fine) c.in_default.not-Going)
-          (comes_by step p q (g.I.Source.left c.walk.input) (g.I.Source.left c.step.new.input) (g.O.Sink.held c.walk.output) (g.O.Sink.held c.step.new.output) (g.E.Sink.held c.walk.errors) (g.E.Sink.held c.step.new.errors)
+          (comes_step p q (g.I.Source.left c.walk.input) (g.I.Source.left c.step.new.input) (g.O.Sink.held c.walk.output) (g.O.Sink.held c.step.new.output) (g.E.Sink.held c.walk.errors) (g.E.Sink.held c.step.new.errors)
           (is_undone r) false fine c.step.ensures.state c.step.ensures.input c.step.ensures.output c.step.ensures.errors)
           c.put_ending-in-Done.ensures.bytes);
       leaves = leaves_line (go_at c.args.marks.now c.args.budget) c.args.budget c.args.machine.now.parts c.step.new.self (g.I.Source.left c.args.input.now) (g.I.Source.left c.step.new.input) put c.end_of_put-in-Done.result is
@@ -140,7 +140,7 @@ returns-in-Done g c =
           (g.O.Sink.held c.args.output.now) (g.O.Sink.held c.walk.output) (g.O.Sink.held c.step.new.output) (g.E.Sink.held c.args.errors.now) (g.E.Sink.held c.walk.errors) (g.E.Sink.held c.step.new.errors)
           c.walk.invariant.leads c.walk.invariant.going below
           (not_going q.ended r (c.step.ensures.end fine) c.in_default.not-Going)
-          (comes_by step p q (g.I.Source.left c.walk.input) (g.I.Source.left c.step.new.input) (g.O.Sink.held c.walk.output) (g.O.Sink.held c.step.new.output) (g.E.Sink.held c.walk.errors) (g.E.Sink.held c.step.new.errors)
+          (comes_step p q (g.I.Source.left c.walk.input) (g.I.Source.left c.step.new.input) (g.O.Sink.held c.walk.output) (g.O.Sink.held c.step.new.output) (g.E.Sink.held c.walk.errors) (g.E.Sink.held c.step.new.errors)
           (is_undone r) false fine c.step.ensures.state c.step.ensures.input c.step.ensures.output c.step.ensures.errors));
       done = λ _. c.step.ensures.failed ∙ fine;
       read_cause = put_read put c.end_of_put-in-Done.result is _ _ (c.step.ensures.read_cause.kept (λ h. let e : Done ≡ ReadFault = sym over ∙ ap end_of_step h in cc) ∙ c.walk.invariant.read);
@@ -166,7 +166,7 @@ returns-in_default-end_of_step g c =
       obeys = go_breaks c.args.marks.now c.args.budget c.args.machine.now.parts p q (g.I.Source.left c.args.input.now) (g.I.Source.left c.walk.input) (g.I.Source.left c.step.new.input)
           (g.O.Sink.held c.args.output.now) (g.O.Sink.held c.walk.output) (g.O.Sink.held c.step.new.output) (g.E.Sink.held c.args.errors.now) (g.E.Sink.held c.walk.errors) (g.E.Sink.held c.step.new.errors)
           c.walk.invariant.leads c.walk.invariant.going below end other
-          (comes_by step p q (g.I.Source.left c.walk.input) (g.I.Source.left c.step.new.input) (g.O.Sink.held c.walk.output) (g.O.Sink.held c.step.new.output) (g.E.Sink.held c.walk.errors) (g.E.Sink.held c.step.new.errors)
+          (comes_step p q (g.I.Source.left c.walk.input) (g.I.Source.left c.step.new.input) (g.O.Sink.held c.walk.output) (g.O.Sink.held c.step.new.output) (g.E.Sink.held c.walk.errors) (g.E.Sink.held c.step.new.errors)
           (is_undone r) true broken c.step.ensures.state c.step.ensures.input c.step.ensures.output c.step.ensures.errors);
       leaves = leaves_step (go_at c.args.marks.now c.args.budget) c.args.budget c.args.machine.now.parts p c.step.new.self (g.I.Source.left c.args.input.now) (g.I.Source.left c.walk.input) (g.I.Source.left c.step.new.input)
           r end is broken c.step.ensures.failed c.walk.invariant.came c.step.ensures.kept c.step.ensures.unstored c.step.ensures.write_named below c.walk.invariant.going;

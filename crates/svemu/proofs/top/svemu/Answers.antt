@@ -1,6 +1,6 @@
 use Rattle.std.proofs.Common.{map, string_bytes}
 use Rattle.commands.specs.Promises.{now}
-use Rattle.svemu.proofs.Lines.{complete_command}
+use Rattle.svemu.proofs.Complete.{complete_command}
 use Rattle.svemu.proofs.top.svemu.Goals as goal
 
 pub returns-clause-complete : goal.returns-clause-complete

@@ -1,4 +1,4 @@
-use Rattle.std.proofs.Common.{ap}
+use Rattle.std.proofs.Common.{Some, ap}
 use Rattle.emu_model.specs.State.{Parts}
 use Rattle.emu_machine.specs.Machines.{MachineState}
 use Rattle.emu_machine.proofs.CallLaws.{errors_made, output_made, taken_within}
@@ -14,10 +14,10 @@ returns-clause-input g c =
 
 pub returns-clause-output : goal.returns-clause-output
 returns-clause-output g c =
-    output_made c.call-end.result c.leave.result (before g c) c.args.self.now.parts c.leave.ensures.end (ap (λ (s : MachineState). s.parts) c.self.view_is) (g.I.Source.left c.args.input.now) (g.O.Sink.held c.args.output.now) (g.O.Sink.held c.call-end.new.output)
+    λ bytes. output_made c.call-end.result c.leave.result (before g c) c.args.self.now.parts c.leave.ensures.end (ap (λ (s : MachineState). s.parts) c.self.view_is) (Some bytes) (g.O.Sink.held c.args.output.now) (g.O.Sink.held c.call-end.new.output)
     c.call-end.ensures.output
 
 pub returns-clause-errors : goal.returns-clause-errors
 returns-clause-errors g c =
-    errors_made c.call-end.result c.leave.result (before g c) c.args.self.now.parts c.leave.ensures.end (ap (λ (s : MachineState). s.parts) c.self.view_is) (g.I.Source.left c.args.input.now) (g.E.Sink.held c.args.errors.now) (g.E.Sink.held c.call-end.new.errors)
+    λ bytes. errors_made c.call-end.result c.leave.result (before g c) c.args.self.now.parts c.leave.ensures.end (ap (λ (s : MachineState). s.parts) c.self.view_is) (Some bytes) (g.E.Sink.held c.args.errors.now) (g.E.Sink.held c.call-end.new.errors)
     c.call-end.ensures.errors

@@ -10,7 +10,7 @@ use Rattle.emu_machine.specs.Machines.{MachineState, MakesWrite}
 use Rattle.emu_machine.proofs.Logs.{Logs, logs_start, logs_on, logs_end, logs_as, logs_spent}
 use Rattle.emu_machine.proofs.Stands.{stands_start, stands_on, stands_there, kept_there}
 use Rattle.emu_machine.proofs.Composed.{leads_start}
-use Rattle.emu_machine.proofs.Runs.{Ran, broken_as, run_counts, run_stops, run_spends, not_going, goes, goes_on_after, ran_as, ran_when, end_as, failed_as, last_step, going_is_no, causes_from}
+use Rattle.emu_machine.proofs.Runs.{Ran, broken_as, run_counts, run_stops, run_spends, not_going, goes, goes_on_after, ran_as, ran_when, end_as, failed_as, last_step, going_is_no, causes_from, ran_step}
 use Rattle.emu_machine.proofs.machine.Machine.run.Goals as goal
 
 pub loop-self-init : goal.loop-self-init
@@ -33,7 +33,7 @@ loop-self-preserved g c =
     let counted : c.step.new.self.parts.steps ≡ p.steps + 1 = c.step.ensures.counted c.in-Going.is in
     let q = c.step.new.self.parts in
     let stepped : Ran step p q (g.I.Source.left c.loop-self.input) (g.I.Source.left c.step.new.input) (g.O.Sink.held c.loop-self.output) (g.O.Sink.held c.step.new.output) (g.E.Sink.held c.loop-self.errors) (g.E.Sink.held c.step.new.errors) (is_undone c.step.result)
-    = record { state = c.step.ensures.state; input = c.step.ensures.input; output = c.step.ensures.output; errors = c.step.ensures.errors } in
+    = ran_step _ _ _ _ _ _ _ _ _ c.step.ensures.state c.step.ensures.input c.step.ensures.output c.step.ensures.errors in
     record {
       going = goes_on_after c.step.new.self c.step.result c.in-Going.is (c.step.ensures.end (ap is_undone c.in-Going.is)) c.step.ensures.failed;
       within = omega (arith, counted, below);
@@ -56,7 +56,7 @@ returns-in_default g c =
     let steps = ap (λ (s : MachineState). s.parts.steps) c.self.view_is in
     let below : p.steps < c.args.budget = omega (arith, steps) in
     let stepped : Ran step p q (g.I.Source.left c.loop-self.input) (g.I.Source.left c.step.new.input) (g.O.Sink.held c.loop-self.output) (g.O.Sink.held c.step.new.output) (g.E.Sink.held c.loop-self.errors) (g.E.Sink.held c.step.new.errors) (is_undone c.step.result)
-    = record { state = c.step.ensures.state; input = c.step.ensures.input; output = c.step.ensures.output; errors = c.step.ensures.errors } in
+    = ran_step _ _ _ _ _ _ _ _ _ c.step.ensures.state c.step.ensures.input c.step.ensures.output c.step.ensures.errors in
     let r = ran_as _ _ _ _ _ _ _ _ _ c.step.result c.run_end_of.result c.run_end_of.ensures
     (run_stops c.args.budget c.args.self.now.parts p q _ _ _ _ _ _ _ _ _ c.loop-self.invariant.leads (goes p.ended c.loop-self.self.failed c.loop-self.invariant.going) below
     (is_undone c.step.result) stepped

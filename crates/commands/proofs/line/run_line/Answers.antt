@@ -7,8 +7,8 @@ use Rattle.insn_texts.specs.Statements.{statements}
 use Rattle.listing_model.specs.Image.{image_of_bytes}
 use Rattle.commands.specs.Promises.{now, Meets}
 use Rattle.commands.specs.Programs.{outcome_over}
-use Rattle.svemu.proofs.Lines.{cause_of_line, missing_of_line}
-use Rattle.svemu.proofs.top.run_line.Goals as goal
+use Rattle.commands.proofs.Lines.{cause_of_line, missing_of_line}
+use Rattle.commands.proofs.line.run_line.Goals as goal
 
 pub returns-in-Run-clause-file_cause : goal.returns-in-Run-clause-file_cause
 returns-in-Run-clause-file_cause g c =

@@ -5,9 +5,9 @@ use Rattle.command_model.specs.declared.command_line.WordsFault.{WordsFault}
 use Rattle.emu_outcome.specs.Outcome.{outcome_of_line}
 use Rattle.emu_outcome.specs.declared.ending.Ending.TheVariants.{FileFault, ReadFault}
 use Rattle.commands.specs.Promises.{now, Meets, NamesNoFile, is_silent}
-use Rattle.svemu.specs.Headline.{EndsMissing, MissesFirst, runs_machine}
-use Rattle.svemu.proofs.Lines.{refused_line, refused_names_none, refused_puts, done_refuses, line_refuses}
-use Rattle.svemu.proofs.top.command.Goals as goal
+use Rattle.commands.specs.Lines.{EndsMissing, MissesFirst, runs_machine}
+use Rattle.commands.proofs.Lines.{refused_line, refused_names_none, refused_puts, done_refuses, line_refuses}
+use Rattle.commands.proofs.line.command.Goals as goal
 
 -- ---- a refused line
 

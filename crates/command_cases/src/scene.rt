@@ -1,0 +1,200 @@
+//! The files and the streams that commands are done over.
+ghost use Rattle.std.specs.Prelude.{◌≤◌, IfOk};
+
+use commands::command;
+use emu_outcome::Ending;
+use io_gate::{MemImages, MemSink, MemSource};
+use std::alloc::{AllocError, Global};
+
+/// How many bytes a stream moves by one call at most, where it isn't said.
+const MOST: usize = 4096;
+
+/// Files by name, and how the streams of the next command behave.
+#[derive(Drop)]
+pub struct Scene {
+    files: Vec<(String, Vec<u8>)>,
+    /// Whether the lines that come are those of the last file.
+    is_open: bool,
+    given: String,
+    images: String,
+    input: String,
+    output: String,
+    errors: String,
+}
+
+/// How a command ended, and what it wrote.
+#[derive(Drop)]
+pub struct Done {
+    pub ending: Ending,
+    pub output: MemSink,
+    pub errors: MemSink,
+}
+
+/// The numbers among the words of a text.
+fn numbers(alloc: Global, text: &str) -> Result<Vec<u64>, AllocError> {
+    let mut found = Vec::new(alloc);
+    for word in text.split(' ') {
+        if let Ok(number) = word.parse::<u64>() {
+            found.push(number)?;
+        }
+    }
+    Ok(found)
+}
+
+/// The most bytes of a call and the calls that fail: `MOST NUMBER ..`.
+fn way(alloc: Global, text: &str) -> Result<(usize, Vec<u64>), AllocError>
+    ensures { IfOk result (λ r. 1 ≤ r.0) }
+{
+    let (most, fails) = text.split_once(' ').unwrap_or((text, ""));
+    let most = match most.parse::<usize>() {
+        Ok(most) if most > 0 => most,
+        _ => MOST,
+    };
+    Ok((most, numbers(alloc, fails)?))
+}
+
+/// The words of a text that has one space between two; an empty text has none.
+fn words_of(alloc: Global, text: &str) -> Result<Vec<String>, AllocError> {
+    let mut words = Vec::new(alloc);
+    if text.is_empty() {
+        return Ok(words);
+    }
+    for word in text.split(' ') {
+        words.push(String::from_str(alloc, word)?)?;
+    }
+    Ok(words)
+}
+
+/// The bytes of a text of hexadecimal numbers.
+fn bytes_of(alloc: Global, text: &str) -> Result<Vec<u8>, AllocError> {
+    let mut bytes = Vec::new(alloc);
+    for word in text.split(' ') {
+        if let Ok(byte) = u8::from_str_radix(word, 16) {
+            bytes.push(byte)?;
+        }
+    }
+    Ok(bytes)
+}
+
+/// So many bytes of one value: `COUNT BYTE`.
+fn filled(alloc: Global, text: &str) -> Result<Vec<u8>, AllocError> {
+    let (count, byte) = text.split_once(' ').unwrap_or((text, ""));
+    let count = count.parse::<usize>().unwrap_or(0);
+    let byte = u8::from_str_radix(byte, 16).unwrap_or(0);
+    vec![in alloc; byte; count]
+}
+
+impl Scene {
+    /// No files, and streams that don't fail.
+    pub fn new(alloc: Global) -> Scene {
+        Scene {
+            files: Vec::new(alloc),
+            is_open: false,
+            given: String::new(alloc),
+            images: String::new(alloc),
+            input: String::new(alloc),
+            output: String::new(alloc),
+            errors: String::new(alloc),
+        }
+    }
+
+    /// Whether the lines that come are those of a file.
+    pub fn is_open(&self) -> bool {
+        self.is_open
+    }
+
+    /// Writes a line to the file that is open; `.` ends it.
+    pub fn write_line(&mut self, line: &str) -> Result<(), AllocError> {
+        if line == "." {
+            self.is_open = false;
+        } else if let Some((_, bytes)) = self.files.last_mut() {
+            bytes.extend_from_slice(line.as_bytes())?;
+            bytes.push(b'\n')?;
+        }
+        Ok(())
+    }
+
+    /// Keeps a file in place of those of its name.
+    fn hold(&mut self, alloc: Global, name: &str, bytes: Vec<u8>) -> Result<(), AllocError> {
+        self.files.retain(|file| file.0.as_str() != name);
+        self.files.push((String::from_str(alloc, name)?, bytes))?;
+        Ok(())
+    }
+
+    /// Keeps a copy of bytes as a file.
+    pub fn keep(&mut self, alloc: Global, name: &str, bytes: &[u8]) -> Result<(), AllocError> {
+        self.hold(alloc, name, Vec::from_slice(alloc, bytes)?)
+    }
+
+    /// Takes a line that makes a file or says how streams behave; false where it is none.
+    pub fn set(&mut self, alloc: Global, line: &str) -> Result<bool, AllocError> {
+        let (first, more) = line.split_once(' ').unwrap_or((line, ""));
+        let (name, last) = more.split_once(' ').unwrap_or((more, ""));
+        match first {
+            "file" => {
+                self.hold(alloc, more, Vec::new(alloc))?;
+                self.is_open = true;
+            }
+            "bytes" => self.hold(alloc, name, bytes_of(alloc, last)?)?,
+            "fill" => self.hold(alloc, name, filled(alloc, last)?)?,
+            "given" => self.given.push_str(more)?,
+            "images" => self.images.push_str(more)?,
+            "input" => self.input.push_str(more)?,
+            "output" => self.output.push_str(more)?,
+            "errors" => self.errors.push_str(more)?,
+            _ => return Ok(false),
+        }
+        Ok(true)
+    }
+
+    /// Copies of the files that a command line names.
+    fn named_in(&self, alloc: Global, line: &str) -> Result<Vec<(String, Vec<u8>)>, AllocError> {
+        let mut named = Vec::new(alloc);
+        for (name, bytes) in &self.files {
+            if line.split(' ').any(|word| word == name.as_str()) {
+                named.push((
+                    String::from_str(alloc, name.as_str())?,
+                    Vec::from_slice(alloc, bytes)?,
+                ))?;
+            }
+        }
+        Ok(named)
+    }
+
+    /// Does a command line; the streams of the next one don't fail.
+    pub fn done(&mut self, alloc: Global, line: &str) -> Result<Done, AllocError> {
+        let words = words_of(alloc, line)?;
+        let fails = numbers(alloc, self.images.as_str())?;
+        let mut files = MemImages::new(self.named_in(alloc, line)?, fails);
+        let (most, fails) = way(alloc, self.input.as_str())?;
+        let given = Vec::from_slice(alloc, self.given.as_bytes())?;
+        let mut input = MemSource::new(given, most, fails);
+        let (most, fails) = way(alloc, self.output.as_str())?;
+        let mut output = MemSink::new(alloc, most, fails);
+        let (most, fails) = way(alloc, self.errors.as_str())?;
+        let mut errors = MemSink::new(alloc, most, fails);
+        let ending = command(
+            alloc,
+            &words,
+            &mut files,
+            &mut input,
+            &mut output,
+            &mut errors,
+        );
+        self.forget();
+        Ok(Done {
+            ending,
+            output,
+            errors,
+        })
+    }
+
+    /// From here on no stream fails.
+    fn forget(&mut self) {
+        self.given.clear();
+        self.images.clear();
+        self.input.clear();
+        self.output.clear();
+        self.errors.clear();
+    }
+}

@@ -1,0 +1,126 @@
+//! A command line, from its words to its ending.
+ghost use Rattle.std.specs.Prelude.{◌≡◌, ◌≢◌, ◌≤◌, ◌⊎◌, map, length, string_bytes, IfSome, Ok, true, false};
+ghost use Rattle.io_gate.specs.Images.{MissesNamed};
+ghost use Rattle.io_gate.specs.Streams.{Rose, Causes};
+ghost use Rattle.command_model.specs.CommandLine.{line};
+ghost use Rattle.emu_outcome.specs.Outcome.{result_of};
+ghost use Rattle.command_lines.specs.Places.{HasArguments, HasPlaces, file_named};
+ghost use Rattle.commands.specs.Lines.{runs_machine, RefusesLine, MissesFirst, EndsMissing};
+ghost use Rattle.commands.specs.Programs.{outcome_over};
+ghost use Rattle.commands.specs.Promises.{is_silent, is_words_refusal, now, Meets, NamesNoFile};
+
+use crate::debugger::debug_file;
+use crate::disassembly::disassemble_file;
+use crate::files::ending_after_line;
+use crate::listings::assemble_file;
+use crate::program::Program;
+use crate::run::run_file;
+use command_lines::{Line, line_of_words};
+use emu_outcome::Ending;
+use emu_report::put_words_refusal;
+use io_gate::{Images, Sink, Source};
+use std::alloc::Global;
+
+/// Does what a line says.
+fn run_line<F: Images, I: Source, O: Sink, E: Sink>(
+    alloc: Global,
+    words: &[String],
+    line: &Line,
+    files: &mut F,
+    input: &mut I,
+    output: &mut O,
+    errors: &mut E,
+) -> Ending
+    requires places { HasPlaces line.now (length words.now) }
+    requires arguments { HasArguments (map string_bytes words.now) line.now }
+    ensures outcome { IfSome (F.named files.old) (λ named. Meets (outcome_over (map string_bytes words.now) line.now named) result
+        (now (I.left input.old) (O.held output.old) (E.held errors.old)) (now (I.left input.new) (O.held output.new) (E.held errors.new))) }
+    ensures file_cause { result ≡ Ending.FileFault → Rose (F.faults files.old) (F.faults files.new)
+        ⊎ NamesNoFile (outcome_over (map string_bytes words.now) line.now) (F.named files.old) }
+    ensures file_kept { result ≢ Ending.FileFault → F.faults files.new ≡ F.faults files.old }
+    ensures missing { NamesNoFile (outcome_over (map string_bytes words.now) line.now) (F.named files.old) → EndsMissing (Ok line.now) result }
+    ensures missing_first { MissesNamed (F.named files.old) (file_named (map string_bytes words.now) line.now) → result ≡ Ending.FileFault }
+    ensures file_first { result ≡ Ending.FileFault → (input.new ≡ input.old) × (output.new ≡ output.old) × (errors.new ≡ errors.old) }
+    ensures files_later { F.faults files.old ≤ F.faults files.new }
+    ensures memory_first { result ≡ Ending.OutOfMemory → (input.new ≡ input.old) × (output.new ≡ output.old) × (errors.new ≡ errors.old) }
+    ensures read_cause { Causes (result ≡ Ending.ReadFault) (I.faults input.old) (I.faults input.new) }
+    ensures write_cause { Causes (result ≡ Ending.WriteFault) (O.faults output.old) (O.faults output.new) }
+    ensures errors_cause { Causes (result ≡ Ending.ErrorsFault) (E.faults errors.old) (E.faults errors.new) }
+    ensures no_words { is_words_refusal result ≡ false }
+    ensures no_input { runs_machine (Ok line.now) ≡ false → (input.new ≡ input.old) × (result ≢ Ending.ReadFault) }
+    ensures no_errors { runs_machine (Ok line.now) ≡ false → is_silent result ≡ true → errors.new ≡ errors.old }
+{
+    match *line {
+        Line::Run {
+            file,
+            args,
+            length,
+            budget,
+            pages,
+        } => {
+            let program = Program {
+                file,
+                args,
+                length,
+                budget,
+                pages,
+            };
+            run_file(alloc, words, &program, files, input, output, errors)
+        }
+        Line::Asm { listing } => assemble_file(alloc, words, listing, files, output, errors),
+        Line::Dis { file } => disassemble_file(alloc, words, file, files, output, errors),
+        Line::Dbg {
+            file,
+            script,
+            args,
+            length,
+            budget,
+            pages,
+        } => {
+            let program = Program {
+                file,
+                args,
+                length,
+                budget,
+                pages,
+            };
+            debug_file(alloc, words, &program, script, files, input, output, errors)
+        }
+    }
+}
+
+/// Does what the words of the command line say: those after the program's name. A line that is refused is put on `errors`.
+pub fn command<F: Images, I: Source, O: Sink, E: Sink>(
+    alloc: Global,
+    words: &[String],
+    files: &mut F,
+    input: &mut I,
+    output: &mut O,
+    errors: &mut E,
+) -> Ending
+    ensures outcome { IfSome (F.named files.old) (λ named. Meets (result_of (map string_bytes words.now) named) result
+        (now (I.left input.old) (O.held output.old) (E.held errors.old)) (now (I.left input.new) (O.held output.new) (E.held errors.new))) }
+    ensures file_cause { result ≡ Ending.FileFault → Rose (F.faults files.old) (F.faults files.new)
+        ⊎ NamesNoFile (result_of (map string_bytes words.now)) (F.named files.old) }
+    ensures file_kept { result ≢ Ending.FileFault → F.faults files.new ≡ F.faults files.old }
+    ensures missing { NamesNoFile (result_of (map string_bytes words.now)) (F.named files.old) → EndsMissing (line (map string_bytes words.now)) result }
+    ensures missing_first { MissesFirst (map string_bytes words.now) (line (map string_bytes words.now)) (F.named files.old) → result ≡ Ending.FileFault }
+    ensures file_first { result ≡ Ending.FileFault → (input.new ≡ input.old) × (output.new ≡ output.old) × (errors.new ≡ errors.old) }
+    ensures files_later { F.faults files.old ≤ F.faults files.new }
+    ensures memory_first { result ≡ Ending.OutOfMemory → (input.new ≡ input.old) × (output.new ≡ output.old) × (errors.new ≡ errors.old) }
+    ensures read_cause { Causes (result ≡ Ending.ReadFault) (I.faults input.old) (I.faults input.new) }
+    ensures write_cause { Causes (result ≡ Ending.WriteFault) (O.faults output.old) (O.faults output.new) }
+    ensures errors_cause { Causes (result ≡ Ending.ErrorsFault) (E.faults errors.old) (E.faults errors.new) }
+    ensures no_input { runs_machine (line (map string_bytes words.now)) ≡ false → (input.new ≡ input.old) × (result ≢ Ending.ReadFault) }
+    ensures no_errors { runs_machine (line (map string_bytes words.now)) ≡ false → is_silent result ≡ true → errors.new ≡ errors.old }
+    ensures refused { RefusesLine (line (map string_bytes words.now)) result }
+{
+    let line = line_of_words(words);
+    match &line {
+        Err(fault) => ending_after_line(
+            put_words_refusal(fault, errors),
+            Ending::WordsRefused(*fault),
+        ),
+        Ok(line) => run_line(alloc, words, line, files, input, output, errors),
+    }
+}

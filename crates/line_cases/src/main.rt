@@ -1,0 +1,29 @@
+//! Reads command lines, and writes what each says: the places of its words, counted from 0, and its numbers; or why it is refused, and at which word.
+//!
+//! A line of standard input is a command line, with one space between two words. An empty one has no words.
+#![tactic(auto)]
+
+use command_lines::line_of_words;
+use std::alloc::{AllocError, Global};
+use std::io;
+
+/// The words of a line.
+fn words_of(alloc: Global, line: &str) -> Result<Vec<String>, AllocError> {
+    let mut words = Vec::new(alloc);
+    for word in line.split(' ').filter(|word| !word.is_empty()) {
+        words.push(String::from_str(alloc, word)?)?;
+    }
+    Ok(words)
+}
+
+fn main(rt: HostRuntime) -> io::Result<()> {
+    for line in rt.lines(rt.alloc()) {
+        let line = line?;
+        let words = words_of(rt.alloc(), line.as_str())?;
+        match line_of_words(&words) {
+            Ok(said) => println!(rt; "{line}: {said:?}")?,
+            Err(fault) => println!(rt; "{line}: {:?} at {}", fault.why, fault.place)?,
+        }
+    }
+    Ok(())
+}
