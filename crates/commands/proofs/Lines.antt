@@ -1,20 +1,22 @@
 -- What a line promises, put together: refused lines, done ones, and the files that they name.
-use Rattle.std.proofs.Common.{◌≡◌, ◌⊎◌, inl, inr, ℕ, true, false, List, [], get_or, Option, Some, None, Result, Ok, Err, IfSome, refl, sym, ap, subst, ◌∙◌}
+use Rattle.std.proofs.Common.{◌≡◌, ◌⊎◌, inl, inr, ℕ, true, false, List, [], get_or, Option, Some, None, Result, Ok, Err, IfErr, IfSome, refl, sym, ap, subst, ◌∙◌}
+use Rattle.std.proofs.lemmas.Option.{IfSome_then}
 use Rattle.io_gate.specs.Images.{MissesNamed}
 use Rattle.io_gate.specs.Streams.{PutsAll, Rose}
 use Rattle.command_model.specs.CommandLine.{line}
 use Rattle.command_model.specs.Refusals.{words_line}
 use Rattle.command_model.specs.declared.command_line.Line.{Line}
+use Rattle.command_model.specs.declared.command_line.Line.TheVariants.{Run, Asm, Dis, Dbg}
 use Rattle.command_model.specs.declared.command_line.WordsFault.{WordsFault}
 use Rattle.emu_outcome.specs.Outcome.{Outcome, Files, outcome_of_line, result_of, refusal}
 use Rattle.emu_outcome.specs.declared.ending.Ending.{Ending}
 use Rattle.emu_outcome.specs.declared.ending.Ending.TheVariants.{WordsRefused, FileFault, ReadFault, ErrorsFault}
 use Rattle.commands.specs.Endings.{ended_by}
 use Rattle.commands.specs.Programs.{outcome_over}
-use Rattle.commands.specs.Promises.{now, Meets, NamesNoFile, is_silent, is_words_refusal}
-use Rattle.commands.specs.Lines.{EndsMissing, RefusesLine}
+use Rattle.commands.specs.Promises.{Gains, now, Meets, NamesNoFile, is_failure, is_silent}
+use Rattle.commands.specs.Lines.{may_end, EndsMissing, RefusesLine}
 use Rattle.commands.proofs.NamedFiles.{misses_named, names_missing, over, told_so}
-use Rattle.commands.proofs.Meetings.{line_meets}
+use Rattle.commands.proofs.Meetings.{line_meets, put_first}
 
 -- ---- the line
 
@@ -31,6 +33,18 @@ refused_puts fault (Err failed) result by silent = let e : false ≡ true = sym 
 pub refused_reads_none : {T E : Type 0} (fault : WordsFault) (put : Result T E) (result : Ending) → result ≡ ended_by put (WordsRefused fault) → result ≡ ReadFault → ⊥
 refused_reads_none fault (Ok done) result by e = cc
 refused_reads_none fault (Err failed) result by e = cc
+
+-- its line goes to the errors, or first bytes of it
+line_gains : {T E : Type 0} (fault : WordsFault) (old new : Option (List ℕ)) (put : Result T E) (result : Ending) → result ≡ ended_by put (WordsRefused fault) → PutsAll old new (words_line fault) put
+    → IfSome old (λ had. Gains (is_failure result) new had (words_line fault))
+line_gains fault old new (Ok done) result by puts = subst (λ (x : Ending). IfSome old (λ had. Gains (is_failure x) new had (words_line fault))) (sym by) puts
+line_gains fault old new (Err failed) result by puts =
+    subst (λ (x : Ending). IfSome old (λ had. Gains (is_failure x) new had (words_line fault))) (sym by) (IfSome_then old puts (λ had p. put_first new had (words_line fault) p))
+
+pub refused_gains : {T E : Type 0} (fault : WordsFault) (r : Result Line WordsFault) (old new : Option (List ℕ)) (put : Result T E) (result : Ending)
+    → Err fault ≡ r → result ≡ ended_by put (WordsRefused fault) → PutsAll old new (words_line fault) put → IfErr r (λ f. IfSome old (λ had. Gains (is_failure result) new had (words_line f)))
+refused_gains fault r old new put result is by puts =
+    subst (λ (x : Result Line WordsFault). IfErr x (λ f. IfSome old (λ had. Gains (is_failure result) new had (words_line f)))) is (line_gains fault old new put result by puts)
 
 -- ---- the file that an accepted line names
 
@@ -62,12 +76,18 @@ module _ (words : List (List ℕ)) (named : Option Files) (i o e : Option (List 
       (subst (λ (r : Result Line WordsFault). Meets (λ input. outcome_of_line words files input r) (ended_by put (WordsRefused fault)) (now i o e) (now i o e2)) is
       (line_meets (WordsRefused fault) (words_line fault) i o e e2 put refl puts)))
 
--- no line but a refused one ends with a refusal
-no_refusal_of : (result : Ending) (fault : WordsFault) → is_words_refusal result ≡ false → result ≡ WordsRefused fault → ⊥
-no_refusal_of result fault none e = let t : true ≡ false = sym (ap is_words_refusal e) ∙ none in cc
+-- no line but a refused one ends with a refusal of its words
+may_not_refuse : (l : Line) (fault : WordsFault) → may_end l (WordsRefused fault) ≡ false
+may_not_refuse (Run file args bits budget pages) fault = refl
+may_not_refuse (Asm listing) fault = refl
+may_not_refuse (Dis file) fault = refl
+may_not_refuse (Dbg file script args bits budget pages) fault = refl
 
-pub done_refuses : (l : Line) (r : Result Line WordsFault) (result : Ending) → Ok l ≡ r → is_words_refusal result ≡ false → RefusesLine r result
-done_refuses l r result is none = subst (λ (x : Result Line WordsFault). RefusesLine x result) is (λ fault e. no_refusal_of result fault none e)
+no_refusal_of : (l : Line) (result : Ending) (fault : WordsFault) → may_end l result ≡ true → result ≡ WordsRefused fault → ⊥
+no_refusal_of l result fault kind e = let t : false ≡ true = sym (may_not_refuse l fault) ∙ sym (ap (may_end l) e) ∙ kind in cc
+
+pub done_refuses : (l : Line) (r : Result Line WordsFault) (result : Ending) → Ok l ≡ r → may_end l result ≡ true → RefusesLine r result
+done_refuses l r result is kind = subst (λ (x : Result Line WordsFault). RefusesLine x result) is (λ fault e. no_refusal_of l result fault kind e)
 
 -- a refused line ends with its refusal, or with a fault of the errors
 put_or_fault : {T E : Type 0} (put : Result T E) (ending : Ending) → (ended_by put ending ≡ ending) ⊎ (ended_by put ending ≡ ErrorsFault)

@@ -1,7 +1,10 @@
 -- What the steps of a command together promise: lines on the errors, the whole output, a run and its report, a session, and nothing at all.
-use Rattle.std.proofs.Common.{◌≡◌, ℕ, ◌-◌, Bool, true, false, List, [], ◌++◌, length, take, drop, Option, Some, None, Result, Ok, Err, MatchBool, refl, sym, ap, subst, ◌∙◌, append-nil, append_assoc, take-append-drop, length-drop, arith}
+use Rattle.std.proofs.Common.{◌≡◌, ℕ, ◌-◌, Bool, true, false, List, [], ◌++◌, length, take, drop, Option, Some, None, Result, Ok, Err, IfSome, MatchBool, refl, sym, ap, subst, ◌∙◌, append-nil, append_assoc, take-append-drop, length-drop, arith}
+use Rattle.std.proofs.lemmas.Option.{IfSome_then}
 use Rattle.io_gate.specs.Streams.{PutsAll}
 use Rattle.emu_model.specs.State.{Parts, State}
+use Rattle.emu_model.specs.declared.trap.Ended.{Ended}
+use Rattle.emu_model.specs.declared.trap.Ended.TheVariants.{Exit as Exited, Trap as Trapped}
 use Rattle.emu_system.specs.Start.{with_input}
 use Rattle.emu_outcome.specs.Outcome.{Outcome, refusal, written, outcome_of_run, outcome_of_session, ending_of}
 use Rattle.emu_run.specs.Reports.{report}
@@ -13,66 +16,113 @@ use Rattle.dbg_model.specs.Session.{session}
 use Rattle.emu_run.specs.Run.{run}
 use Rattle.emu_run.specs.RunLaws.{IsRest, until_end_moves, prefix_refl, prefix_trans}
 use Rattle.emu_outcome.specs.declared.ending.Ending.{Ending}
-use Rattle.emu_machine.specs.Ends.{Becomes, TakesWithin, Puts, run_end, is_broken_off}
+use Rattle.emu_outcome.specs.declared.ending.Ending.TheVariants.{WriteFault, ErrorsFault}
+use Rattle.emu_machine.specs.Ends.{Becomes, TakesWithin, LeftOf, Puts, run_end, is_broken_off}
 use Rattle.emu_machine.specs.declared.ends.RunEnd.{RunEnd}
+use Rattle.linux_calls.specs.Puts.{HoldsFirst}
 use Rattle.commands.specs.Endings.{done_by, ended_by, ending_by, ending_of_session}
 use Rattle.commands.proofs.RunEnds.{broken_is, ending_is, session_rest}
-use Rattle.commands.specs.Promises.{is_failure, now, Answers, GainedFirst, LostAtMost, Stops, Meets}
+use Rattle.commands.specs.Promises.{is_failure, settled_ending, is_refusal, output_of, errors_of, taken_of, now, CountsFor, Gains, GainedFirst, LostAtMost, Loses, Meets}
 
-fine_so : (ending : Ending) (P Q : Type 0) → is_failure ending ≡ false → Q → MatchBool (is_failure ending) P Q
-fine_so ending P Q fine q = subst (λ (b : Bool). MatchBool b P Q) (sym fine) q
+-- ---- by whether something failed
 
-failed_so : (ending : Ending) (P Q : Type 0) → is_failure ending ≡ true → P → MatchBool (is_failure ending) P Q
-failed_so ending P Q failed p = subst (λ (b : Bool). MatchBool b P Q) (sym failed) p
+never : (ending : Ending) {P : Type 0} → is_failure ending ≡ true → is_failure ending ≡ false → P
+never ending failed fine = let e : true ≡ false = sym failed ∙ fine in cc
 
--- ---- nothing
+gains_all : (ending : Ending) (held : Option (List ℕ)) (had bytes : List ℕ) → is_failure ending ≡ false → held ≡ Some (had ++ bytes) → Gains (is_failure ending) held had bytes
+gains_all ending held had bytes fine is = subst (λ (b : Bool). Gains b held had bytes) (sym fine) is
 
-no_bytes : (had bytes : List ℕ) → GainedFirst had bytes (Some had)
+gains_first : (ending : Ending) (held : Option (List ℕ)) (had bytes : List ℕ) → is_failure ending ≡ true → GainedFirst held had bytes → Gains (is_failure ending) held had bytes
+gains_first ending held had bytes failed first = subst (λ (b : Bool). Gains b held had bytes) (sym failed) first
+
+loses_just : (ending : Ending) (left : Option (List ℕ)) (bytes : List ℕ) (count : ℕ) → is_failure ending ≡ false → left ≡ Some (drop count bytes) → Loses (is_failure ending) left bytes count
+loses_just ending left bytes count fine is = subst (λ (b : Bool). Loses b left bytes count) (sym fine) is
+
+loses_within : (ending : Ending) (left : Option (List ℕ)) (bytes : List ℕ) (count : ℕ) → is_failure ending ≡ true → LostAtMost left bytes count → Loses (is_failure ending) left bytes count
+loses_within ending left bytes count failed lost = subst (λ (b : Bool). Loses b left bytes count) (sym failed) lost
+
+-- ---- streams that nothing was moved of
+
+-- what holds of all bytes holds of those that were told
+told : (bytes : Option (List ℕ)) {P : List ℕ → Type 0} → ((xs : List ℕ) → P xs) → IfSome bytes P
+told None p = tt
+told (Some xs) p = p xs
+
+-- what holds of the bytes that were told
+at_told : (bytes : Option (List ℕ)) (P : List ℕ → Type 0) (xs : List ℕ) → IfSome bytes P → bytes ≡ Some xs → P xs
+at_told None P xs p is = cc
+at_told (Some ys) P xs p is = let same : ys ≡ xs = cc in subst P same p
+
+no_bytes : (had bytes : List ℕ) → GainedFirst (Some had) had bytes
 no_bytes had bytes = record { gained = []; is = ap (λ (xs : List ℕ). Some xs) (sym (append-nil had)); first = (bytes, refl) }
 
-none_lost : (most : ℕ) (bytes : List ℕ) → LostAtMost most bytes (Some bytes)
-none_lost most bytes = record { taken = 0; within = omega arith; is = refl }
+none_gained : (failed : Bool) (held : Option (List ℕ)) → IfSome held (λ had. Gains failed held had [])
+none_gained failed None = tt
+none_gained false (Some had) = ap (λ (xs : List ℕ). Some xs) (sym (append-nil had))
+none_gained true (Some had) = no_bytes had []
 
-untouched : (outcome : Option Outcome) (i o e : List ℕ) → Stops outcome (record { input = i; output = o; errors = e }) (now (Some i) (Some o) (Some e))
-untouched None i o e = record { output = refl; errors = refl; input = refl }
-untouched (Some outcome) i o e = record { output = no_bytes o outcome.output; errors = no_bytes e outcome.errors; input = none_lost outcome.taken i }
+no_first : (ending : Ending) (held : Option (List ℕ)) (bytes : List ℕ) → is_failure ending ≡ true → IfSome held (λ had. Gains (is_failure ending) held had bytes)
+no_first ending None bytes failed = tt
+no_first ending (Some had) bytes failed = gains_first ending (Some had) had bytes failed (no_bytes had bytes)
+
+none_lost : (failed : Bool) (left : Option (List ℕ)) → IfSome left (λ bytes. Loses failed left bytes 0)
+none_lost failed None = tt
+none_lost false (Some bytes) = refl
+none_lost true (Some bytes) = record { taken = 0; within = omega arith; is = refl }
+
+not_lost : (ending : Ending) (left : Option (List ℕ)) (count : List ℕ → ℕ) → is_failure ending ≡ true → IfSome left (λ bytes. Loses (is_failure ending) left bytes (count bytes))
+not_lost ending None count failed = tt
+not_lost ending (Some bytes) count failed = loses_within ending (Some bytes) bytes (count bytes) failed (record { taken = 0; within = omega arith; is = refl })
 
 -- nothing was taken and nothing was written
 pub nothing_meets : (outcome : List ℕ → Option Outcome) (ending : Ending) (input output errors : Option (List ℕ)) → is_failure ending ≡ true → Meets outcome ending (now input output errors) (now input output errors)
-nothing_meets outcome ending None output errors failed = tt
-nothing_meets outcome ending (Some i) None errors failed = tt
-nothing_meets outcome ending (Some i) (Some o) None failed = tt
-nothing_meets outcome ending (Some i) (Some o) (Some e) failed = failed_so ending _ _ failed (untouched (outcome i) i o e)
-
--- ---- a line on the errors
-
--- a refusal
-pub line_meets : {T E : Type 0} (ending : Ending) (text : List ℕ) (input output errors new : Option (List ℕ)) (put : Result T E) → is_failure ending ≡ false → PutsAll errors new text put
-    → Meets (λ _. Some (refusal ending text)) (ended_by put ending) (now input output errors) (now input output new)
-line_meets ending text None output errors new put fine puts = tt
-line_meets ending text (Some i) None errors new put fine puts = tt
-line_meets ending text (Some i) (Some o) None new put fine puts = tt
-line_meets ending text (Some i) (Some o) (Some e) new (Ok done) fine puts =
-    fine_so ending _ _ fine (record { ending_is = refl; output = ap (λ (xs : List ℕ). Some xs) (sym (append-nil o)); errors = puts; input = refl })
-line_meets ending text (Some i) (Some o) (Some e) new (Err failed) fine puts = record {
-  output = no_bytes o [];
-  errors = record { gained = take puts.0 text; is = puts.1; first = (drop puts.0 text, sym (take-append-drop puts.0 text)) };
-  input = none_lost 0 i;
+nothing_meets outcome ending input output errors failed = record {
+  ends = told input (λ _ whole. never ending failed whole);
+  settled = λ whole _. never ending failed whole;
+  output = λ bytes _. no_first ending output (output_of (outcome bytes)) failed;
+  errors = λ bytes _. no_first ending errors (errors_of (outcome bytes)) failed;
+  input = not_lost ending input (λ bytes. taken_of (outcome bytes)) failed;
 }
 
--- ---- the whole output of a command
+-- ---- a text that was put
 
+pub put_first : (held : Option (List ℕ)) (had text : List ℕ) → ((n : ℕ) × (held ≡ Some (had ++ take n text))) → GainedFirst held had text
+put_first held had text p = record { gained = take p.0 text; is = p.1; first = (drop p.0 text, sym (take-append-drop p.0 text)) }
+
+-- a refusal, by its line on the errors
+pub line_meets : {T E : Type 0} (ending : Ending) (text : List ℕ) (input output errors new : Option (List ℕ)) (put : Result T E) → is_failure ending ≡ false → PutsAll errors new text put
+    → Meets (λ _. Some (refusal ending text)) (ended_by put ending) (now input output errors) (now input output new)
+line_meets ending text input output errors new (Ok done) fine puts = record {
+  ends = told input (λ _ _. refl);
+  settled = λ _ _. refl;
+  output = λ _ _. none_gained (is_failure ending) output;
+  errors = λ _ _. IfSome_then errors puts (λ had is. gains_all ending new had text fine is);
+  input = none_lost (is_failure ending) input;
+}
+line_meets ending text input output errors new (Err failed) fine puts = record {
+  ends = told input (λ _ whole. never ErrorsFault refl whole);
+  settled = λ whole _. never ErrorsFault refl whole;
+  output = λ _ _. none_gained true output;
+  errors = λ _ _. IfSome_then errors puts (λ had p. put_first new had text p);
+  input = none_lost true input;
+}
+
+-- the whole output of a command
 pub output_meets : {T E : Type 0} (text : List ℕ) (input output errors new : Option (List ℕ)) (put : Result T E) → PutsAll output new text put
     → Meets (λ _. Some (written text)) (done_by put) (now input output errors) (now input new errors)
-output_meets text None output errors new put puts = tt
-output_meets text (Some i) None errors new put puts = tt
-output_meets text (Some i) (Some o) None new put puts = tt
-output_meets text (Some i) (Some o) (Some e) new (Ok done) puts =
-    record { ending_is = refl; output = puts; errors = ap (λ (xs : List ℕ). Some xs) (sym (append-nil e)); input = refl }
-output_meets text (Some i) (Some o) (Some e) new (Err failed) puts = record {
-  output = record { gained = take puts.0 text; is = puts.1; first = (drop puts.0 text, sym (take-append-drop puts.0 text)) };
-  errors = no_bytes e [];
-  input = none_lost 0 i;
+output_meets text input output errors new (Ok done) puts = record {
+  ends = told input (λ _ _. refl);
+  settled = λ _ _. refl;
+  output = λ _ _. puts;
+  errors = λ _ _. none_gained false errors;
+  input = none_lost false input;
+}
+output_meets text input output errors new (Err failed) puts = record {
+  ends = told input (λ _ whole. never WriteFault refl whole);
+  settled = λ whole _. never WriteFault refl whole;
+  output = λ _ _. IfSome_then output puts (λ had p. put_first new had text p);
+  errors = λ _ _. none_gained true errors;
+  input = none_lost true input;
 }
 
 -- ---- a run and its report
@@ -89,63 +139,97 @@ rest_is old new r =
 left_is : (m : Parts) (budget : ℕ) (i : List ℕ) → (stop m budget i).input ≡ drop (length i - length (stop m budget i).input) i
 left_is m budget i = rest_is i (stop m budget i).input (until_end_moves (with_input m i) (budget - m.steps)).input
 
+-- a run ends with no refusal, and with an ending of a run
+run_refuses_none : (m : Parts) (ended : Option Ended) → is_refusal (ending_of m ended) ≡ false
+run_refuses_none m None = refl
+run_refuses_none m (Some (Exited code)) = refl
+run_refuses_none m (Some (Trapped trap)) = refl
+
+ends_as_run : (m : Parts) (ended : Option Ended) → settled_ending (ending_of m ended) ≡ None
+ends_as_run m None = refl
+ends_as_run m (Some (Exited code)) = refl
+ends_as_run m (Some (Trapped trap)) = refl
+
+-- so its outcome is for the bytes that the input told
+of_told : (i0 : Option (List ℕ)) (i : List ℕ) (st : State) → CountsFor i0 (Some (outcome_of_run i st)) i → i0 ≡ Some i
+of_told i0 i st of = subst (λ (b : Bool). MatchBool b (Unit {0}) (i0 ≡ Some i)) (run_refuses_none st.parts st.parts.ended) of
+
 -- what a sink gained, and after it the first bytes of a text
-gained_then : (had first text : List ℕ) (n : ℕ) (held : Option (List ℕ)) → held ≡ Some ((had ++ first) ++ take n text) → GainedFirst had (first ++ text) held
+gained_then : (had first text : List ℕ) (n : ℕ) (held : Option (List ℕ)) → held ≡ Some ((had ++ first) ++ take n text) → GainedFirst held had (first ++ text)
 gained_then had first text n held is = record {
   gained = first ++ take n text;
   is = is ∙ ap (λ (xs : List ℕ). Some xs) (append_assoc had first (take n text));
   first = (drop n text, ap (λ (xs : List ℕ). first ++ xs) (sym (take-append-drop n text)) ∙ sym (append_assoc first (take n text) (drop n text)));
 }
 
-all_gained : (had bytes : List ℕ) (held : Option (List ℕ)) → held ≡ Some (had ++ bytes) → GainedFirst had bytes held
+all_gained : (had bytes : List ℕ) (held : Option (List ℕ)) → held ≡ Some (had ++ bytes) → GainedFirst held had bytes
 all_gained had bytes held is = record { gained = bytes; is = is; first = prefix_refl bytes }
+
+-- what a run or a session says of a sink
+first_of : (held : Option (List ℕ)) (had bytes : List ℕ) → HoldsFirst held had bytes → GainedFirst held had bytes
+first_of held had bytes h = record { gained = h.gained; is = h.is; first = h.first }
+
+-- first bytes of what comes before a text
+first_then : (held : Option (List ℕ)) (had first text : List ℕ) → HoldsFirst held had first → GainedFirst held had (first ++ text)
+first_then held had first text h = record { gained = h.gained; is = h.is; first = prefix_trans h.gained first (first ++ text) h.first (text, refl) }
+
+lost_of : (bytes : List ℕ) (least : ℕ) (left : Option (List ℕ)) → LeftOf bytes least left → LostAtMost left bytes (length bytes - least)
+lost_of bytes least left l = record { taken = l.taken; within = l.most; is = l.is }
 
 module _ (m n : Parts) (budget : ℕ) where
   abbrev outcome : List ℕ → Option Outcome
   outcome i = Some (outcome_of_run i (stop m budget i))
 
-  reported : {T E : Type 0} (i o e : List ℕ) (left output errors : Option (List ℕ)) (ending : Ending) (put : Result T E)
-      → n ≡ (stop m budget i).parts → left ≡ Some (stop m budget i).input → output ≡ Some (o ++ (stop m budget i).output)
-      → ending ≡ ending_of n n.ended → is_failure ending ≡ false → PutsAll (Some (e ++ (stop m budget i).errors)) errors (report n) put
-      → MatchBool (is_failure (ended_by put ending)) (Stops (outcome i) (record { input = i; output = o; errors = e }) (now left output errors)) (Answers (outcome i) (ended_by put ending) (record { input = i; output = o; errors = e }) (now left output errors))
-  reported i o e left output errors ending (Ok done) parts rest out is fine puts =
-      fine_so ending _ _ fine (record {
-        ending_is = is ∙ ap (λ (x : Parts). ending_of x x.ended) parts;
-        output = out;
-        errors = puts ∙ ap (λ (x : Parts). Some ((e ++ (stop m budget i).errors) ++ report x)) parts ∙ ap (λ (xs : List ℕ). Some xs) (append_assoc e (stop m budget i).errors (report (stop m budget i).parts));
-        input = rest ∙ ap (λ (xs : List ℕ). Some xs) (left_is m budget i);
-      })
-  reported i o e left output errors ending (Err failed) parts rest out is fine puts = record {
-    output = all_gained o (stop m budget i).output output out;
-    errors = gained_then e (stop m budget i).errors (report (stop m budget i).parts) puts.0 errors (puts.1 ∙ ap (λ (x : Parts). Some ((e ++ (stop m budget i).errors) ++ take puts.0 (report x))) parts);
-    input = record { taken = length i - length (stop m budget i).input; within = omega arith; is = rest ∙ ap (λ (xs : List ℕ). Some xs) (left_is m budget i) };
-  }
+  -- what the errors gained by the run and by its report, whole and in part
+  reported : (i0 i1 e0 e1 e2 : Option (List ℕ)) (ending : Ending)
+      → Becomes (λ st. run st budget) m n i0 i1 false → Puts (λ st. (run st budget).errors) m i0 e0 e1 false → is_failure ending ≡ false → IfSome e1 (λ was. e2 ≡ Some (was ++ report n))
+      → IfSome i0 (λ i. IfSome e0 (λ had. Gains (is_failure ending) e2 had (errors_of (outcome i))))
+  reported None i1 e0 e1 e2 ending becomes errs fine puts = tt
+  reported (Some i) i1 e0 e1 e2 ending becomes errs fine puts = IfSome_then e0 errs (λ had held.
+      let at : e2 ≡ Some ((had ++ (stop m budget i).errors) ++ report n) = subst (λ (h : Option (List ℕ)). IfSome h (λ was. e2 ≡ Some (was ++ report n))) held puts in
+      gains_all ending e2 had ((stop m budget i).errors ++ report (stop m budget i).parts) fine
+      (at ∙ ap (λ (x : Parts). Some ((had ++ (stop m budget i).errors) ++ report x)) (becomes refl).0 ∙ ap (λ (xs : List ℕ). Some xs) (append_assoc had (stop m budget i).errors (report (stop m budget i).parts))))
+
+  reported_first : (i0 i1 e0 e1 e2 : Option (List ℕ))
+      → Becomes (λ st. run st budget) m n i0 i1 false → Puts (λ st. (run st budget).errors) m i0 e0 e1 false → IfSome e1 (λ was. (k : ℕ) × (e2 ≡ Some (was ++ take k (report n))))
+      → IfSome i0 (λ i. IfSome e0 (λ had. GainedFirst e2 had (errors_of (outcome i))))
+  reported_first None i1 e0 e1 e2 becomes errs puts = tt
+  reported_first (Some i) i1 e0 e1 e2 becomes errs puts = IfSome_then e0 errs (λ had held.
+      let at : (k : ℕ) × (e2 ≡ Some ((had ++ (stop m budget i).errors) ++ take k (report n))) = subst (λ (h : Option (List ℕ)). IfSome h (λ was. (k : ℕ) × (e2 ≡ Some (was ++ take k (report n))))) held puts in
+      gained_then had (stop m budget i).errors (report (stop m budget i).parts) at.0 e2 (at.1 ∙ ap (λ (x : Parts). Some ((had ++ (stop m budget i).errors) ++ take at.0 (report x))) (becomes refl).0))
 
   -- the run stopped, and its report was put
   pub run_meets : {T E : Type 0} (i0 i1 o0 o1 e0 e1 e2 : Option (List ℕ)) (ending : Ending) (put : Result T E)
       → Becomes (λ st. run st budget) m n i0 i1 false → Puts (λ st. (run st budget).output) m i0 o0 o1 false → Puts (λ st. (run st budget).errors) m i0 e0 e1 false
       → ending ≡ ending_of n n.ended → is_failure ending ≡ false → PutsAll e1 e2 (report n) put
       → Meets outcome (ended_by put ending) (now i0 o0 e0) (now i1 o1 e2)
-  run_meets None i1 o0 o1 e0 e1 e2 ending put becomes outs errs is fine puts = tt
-  run_meets (Some i) i1 None o1 e0 e1 e2 ending put becomes outs errs is fine puts = tt
-  run_meets (Some i) i1 (Some o) o1 None e1 e2 ending put becomes outs errs is fine puts = tt
-  run_meets (Some i) i1 (Some o) o1 (Some e) e1 e2 ending put becomes outs errs is fine puts =
-      reported i o e i1 o1 e2 ending put (becomes refl).0 (becomes refl).1 outs is fine (subst (λ (held : Option (List ℕ)). PutsAll held e2 (report n) put) errs puts)
+  run_meets i0 i1 o0 o1 e0 e1 e2 ending (Ok done) becomes outs errs is fine puts = record {
+    ends = IfSome_then i0 becomes (λ i b _. is ∙ ap (λ (x : Parts). ending_of x x.ended) (b refl).0);
+    settled = λ _ i. ap settled_ending is ∙ ends_as_run n n.ended ∙ sym (ends_as_run (stop m budget i).parts (stop m budget i).parts.ended);
+    output = λ i of. IfSome_then o0 (at_told i0 _ i outs (of_told i0 i (stop m budget i) of)) (λ had held. gains_all ending o1 had (stop m budget i).output fine held);
+    errors = λ i of. at_told i0 _ i (reported i0 i1 e0 e1 e2 ending becomes errs fine puts) (of_told i0 i (stop m budget i) of);
+    input = IfSome_then i0 becomes (λ i b. loses_just ending i1 i (length i - length (stop m budget i).input) fine ((b refl).1 ∙ ap (λ (xs : List ℕ). Some xs) (left_is m budget i)));
+  }
+  run_meets i0 i1 o0 o1 e0 e1 e2 ending (Err failed) becomes outs errs is fine puts = record {
+    ends = told i0 (λ _ whole. never ErrorsFault refl whole);
+    settled = λ whole _. never ErrorsFault refl whole;
+    output = λ i of. IfSome_then o0 (at_told i0 _ i outs (of_told i0 i (stop m budget i) of)) (λ had held. all_gained had (stop m budget i).output o1 held);
+    errors = λ i of. at_told i0 _ i (reported_first i0 i1 e0 e1 e2 becomes errs puts) (of_told i0 i (stop m budget i) of);
+    input = IfSome_then i0 becomes (λ i b. record { taken = length i - length (stop m budget i).input; within = omega arith; is = (b refl).1 ∙ ap (λ (xs : List ℕ). Some xs) (left_is m budget i) });
+  }
 
   -- the run was broken off
   pub broken_meets : (i0 i1 o0 o1 e0 e1 : Option (List ℕ)) (ending : Ending)
       → TakesWithin (λ st. run st budget) m i0 i1 true → Puts (λ st. (run st budget).output) m i0 o0 o1 true → Puts (λ st. (run st budget).errors) m i0 e0 e1 true → is_failure ending ≡ true
       → Meets outcome ending (now i0 o0 e0) (now i1 o1 e1)
-  broken_meets None i1 o0 o1 e0 e1 ending takes outs errs failed = tt
-  broken_meets (Some i) i1 None o1 e0 e1 ending takes outs errs failed = tt
-  broken_meets (Some i) i1 (Some o) o1 None e1 ending takes outs errs failed = tt
-  broken_meets (Some i) i1 (Some o) o1 (Some e) e1 ending takes outs errs failed =
-      let t = takes refl in
-      failed_so ending _ _ failed (record {
-        output = record { gained = outs.gained; is = outs.is; first = outs.first };
-        errors = record { gained = errs.gained; is = errs.is; first = prefix_trans errs.gained (stop m budget i).errors ((stop m budget i).errors ++ report (stop m budget i).parts) errs.first (report (stop m budget i).parts, refl) };
-        input = record { taken = t.taken; within = t.most; is = t.is };
-      })
+  broken_meets i0 i1 o0 o1 e0 e1 ending takes outs errs failed = record {
+    ends = told i0 (λ _ whole. never ending failed whole);
+    settled = λ whole _. never ending failed whole;
+    output = λ i of. IfSome_then o0 (at_told i0 _ i outs (of_told i0 i (stop m budget i) of)) (λ had first. gains_first ending o1 had (stop m budget i).output failed (first_of o1 had (stop m budget i).output first));
+    errors = λ i of. IfSome_then e0 (at_told i0 _ i errs (of_told i0 i (stop m budget i) of))
+        (λ had first. gains_first ending e1 had ((stop m budget i).errors ++ report (stop m budget i).parts) failed (first_then e1 had (stop m budget i).errors (report (stop m budget i).parts) first));
+    input = IfSome_then i0 takes (λ i t. loses_within ending i1 i (length i - length (stop m budget i).input) failed (lost_of i (length (stop m budget i).input) i1 (t refl)));
+  }
 
 -- ---- the same by the answer of a run
 
@@ -190,30 +274,25 @@ module _ (m n : Parts) (commands : List Command) (budget : ℕ) where
   -- all commands were obeyed
   session_done : (i0 i1 o0 o1 e0 e1 : Option (List ℕ)) → Becomes obeyed m n i0 i1 false → Puts (λ st. (obeyed st).output) m i0 o0 o1 false → Puts (λ st. (obeyed st).errors) m i0 e0 e1 false
       → Meets session_outcome (ending_of_session sessions.Done) (now i0 o0 e0) (now i1 o1 e1)
-  session_done None i1 o0 o1 e0 e1 becomes outs errs = tt
-  session_done (Some i) i1 None o1 e0 e1 becomes outs errs = tt
-  session_done (Some i) i1 (Some o) o1 None e1 becomes outs errs = tt
-  session_done (Some i) i1 (Some o) o1 (Some e) e1 becomes outs errs = record {
-    ending_is = refl;
-    output = outs;
-    errors = errs;
-    input = (becomes refl).1 ∙ ap (λ (xs : List ℕ). Some xs) (rest_is i (last i).input (session_rest commands budget (with_input m i)));
+  session_done i0 i1 o0 o1 e0 e1 becomes outs errs = record {
+    ends = told i0 (λ _ _. refl);
+    settled = λ _ _. refl;
+    output = λ i of. at_told i0 _ i outs of;
+    errors = λ i of. at_told i0 _ i errs of;
+    input = IfSome_then i0 becomes (λ i b. (b refl).1 ∙ ap (λ (xs : List ℕ). Some xs) (rest_is i (last i).input (session_rest commands budget (with_input m i))));
   }
 
   -- a stream failed
   session_broken : (i0 i1 o0 o1 e0 e1 : Option (List ℕ)) (ending : Ending)
       → TakesWithin obeyed m i0 i1 true → Puts (λ st. (obeyed st).output) m i0 o0 o1 true → Puts (λ st. (obeyed st).errors) m i0 e0 e1 true → is_failure ending ≡ true
       → Meets session_outcome ending (now i0 o0 e0) (now i1 o1 e1)
-  session_broken None i1 o0 o1 e0 e1 ending takes outs errs failed = tt
-  session_broken (Some i) i1 None o1 e0 e1 ending takes outs errs failed = tt
-  session_broken (Some i) i1 (Some o) o1 None e1 ending takes outs errs failed = tt
-  session_broken (Some i) i1 (Some o) o1 (Some e) e1 ending takes outs errs failed =
-      let t = takes refl in
-      failed_so ending _ _ failed (record {
-        output = record { gained = outs.gained; is = outs.is; first = outs.first };
-        errors = record { gained = errs.gained; is = errs.is; first = errs.first };
-        input = record { taken = t.taken; within = t.most; is = t.is };
-      })
+  session_broken i0 i1 o0 o1 e0 e1 ending takes outs errs failed = record {
+    ends = told i0 (λ _ whole. never ending failed whole);
+    settled = λ whole _. never ending failed whole;
+    output = λ i of. IfSome_then o0 (at_told i0 _ i outs of) (λ had first. gains_first ending o1 had (last i).output failed (first_of o1 had (last i).output first));
+    errors = λ i of. IfSome_then e0 (at_told i0 _ i errs of) (λ had first. gains_first ending e1 had (last i).errors failed (first_of e1 had (last i).errors first));
+    input = IfSome_then i0 takes (λ i t. loses_within ending i1 i (length i - length (last i).input) failed (lost_of i (length (last i).input) i1 (t refl)));
+  }
 
   pub session_meets : (i0 i1 o0 o1 e0 e1 : Option (List ℕ)) (end : SessionEnd)
       → Becomes obeyed m n i0 i1 (is_fault end) → TakesWithin obeyed m i0 i1 (is_fault end) → Puts (λ st. (obeyed st).output) m i0 o0 o1 (is_fault end) → Puts (λ st. (obeyed st).errors) m i0 e0 e1 (is_fault end)

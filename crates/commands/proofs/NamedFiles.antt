@@ -1,7 +1,8 @@
 -- Files as commands read them: with their bytes, without them, and files that aren't there.
-use Rattle.std.proofs.Common.{◌≡◌, ◌⊎◌, inl, inr, ℕ, Bool, true, false, cond, List, [], length, get_or, Option, Some, None, Result, Ok, Err, IfSome, MatchBool, nat_le, nat_lt, refl, sym, ap, subst, ◌∙◌, arith}
+use Rattle.std.proofs.Common.{◌≡◌, ◌⊎◌, inl, inr, ℕ, Bool, true, false, cond, List, [], length, get_or, Option, Some, None, Result, Ok, Err, IfSome, nat_le, nat_lt, refl, sym, ap, subst, ◌∙◌, arith}
 use Rattle.std.specs.FinMap.{get}
 use Rattle.std.specs.Global.{Vec}
+use Rattle.std.proofs.lemmas.Option.{IfSome_then}
 use Rattle.std.proofs.lemmas.Bool.Decides.{nat_tests}
 use Rattle.io_gate.specs.Images.{whole_file, MissesNamed, ReadsNamed}
 use Rattle.io_gate.specs.Streams.{PutsAll}
@@ -12,7 +13,7 @@ use Rattle.emu_outcome.specs.Outcome.{Outcome, Files, file_at, file_limit, refus
 use Rattle.emu_outcome.specs.declared.ending.Ending.{Ending}
 use Rattle.emu_outcome.specs.declared.ending.Ending.TheVariants.{TooLong, FileFault, ErrorsFault, OutOfMemory}
 use Rattle.commands.specs.Endings.{ended_by}
-use Rattle.commands.specs.Promises.{is_failure, Now, now, Answers, Stops, Meets, NamesNoFile}
+use Rattle.commands.specs.Promises.{is_failure, output_of, errors_of, taken_of, Now, now, CountsFor, EndsAs, Gains, Loses, Meets, NamesNoFile, Settles}
 use Rattle.commands.specs.Reading.{GivesFile, IsTooLong, EndsUnread}
 use Rattle.commands.proofs.Meetings.{nothing_meets, line_meets}
 
@@ -57,12 +58,14 @@ none_of None next e = refl
 none_of (Some found) next e = absurd (some_either (nat_lt file_limit (length found)) too_long (next found) e)
 
 -- outcomes that are equal for each input
-pub same_outcome : (f g : List ℕ → Option Outcome) (result : Ending) (i o e : Option (List ℕ)) (new : Now) → ((input : List ℕ) → f input ≡ g input) → Meets f result (now i o e) new → Meets g result (now i o e) new
-same_outcome f g result None o e new same m = tt
-same_outcome f g result (Some i) None e new same m = tt
-same_outcome f g result (Some i) (Some o) None new same m = tt
-same_outcome f g result (Some i) (Some o) (Some e) new same m =
-    subst (λ (x : Option Outcome). MatchBool (is_failure result) (Stops x (record { input = i; output = o; errors = e }) new) (Answers x result (record { input = i; output = o; errors = e }) new)) (same i) m
+pub same_outcome : (f g : List ℕ → Option Outcome) (result : Ending) (old new : Now) → ((input : List ℕ) → f input ≡ g input) → Meets f result old new → Meets g result old new
+same_outcome f g result old new same m = record {
+  ends = IfSome_then old.input m.ends (λ bytes h fine. subst (λ (x : Option Outcome). EndsAs x result) (same bytes) (h fine));
+  settled = λ fine bytes. subst (λ (x : Option Outcome). Settles x result) (same bytes) (m.settled fine bytes);
+  output = λ bytes. subst (λ (x : Option Outcome). CountsFor old.input x bytes → IfSome old.output (λ had. Gains (is_failure result) new.output had (output_of x))) (same bytes) (m.output bytes);
+  errors = λ bytes. subst (λ (x : Option Outcome). CountsFor old.input x bytes → IfSome old.errors (λ had. Gains (is_failure result) new.errors had (errors_of x))) (same bytes) (m.errors bytes);
+  input = IfSome_then old.input m.input (λ bytes h. subst (λ (x : Option Outcome). Loses (is_failure result) new.input bytes (taken_of x)) (same bytes) h);
+}
 
 -- ---- what reading a file gives
 
@@ -81,7 +84,7 @@ pub gives_line : {T E : Type 0} (told : Option Files) (name : List ℕ) (ending 
 gives_line None name ending old new put long by puts = tt
 gives_line (Some files) name ending old new put long by puts = λ next input output.
     subst (λ (x : Ending). Meets (λ i. with_file (get files name) (λ bytes. next bytes i)) x (now input output old) (now input output new)) (sym by)
-    (same_outcome (λ _. Some too_long) (λ i. with_file (get files name) (λ bytes. next bytes i)) (ended_by put (TooLong file_limit)) input output old (now input output new)
+    (same_outcome (λ _. Some too_long) (λ i. with_file (get files name) (λ bytes. next bytes i)) (ended_by put (TooLong file_limit)) (now input output old) (now input output new)
     (λ i. sym (with_long (get files name) (λ bytes. next bytes i) long))
     (line_meets (TooLong file_limit) (too_long_line file_limit) input output old new put refl puts))
 
@@ -123,7 +126,7 @@ pub found_file : (next : Files → List ℕ → List ℕ → Option Outcome) (to
 found_file next None words place name bytes items i o e still new result named are kept found meets = tt
 found_file next (Some files) words place name bytes items i o e still new result named are kept found meets =
     let whole : whole_file (get files (get_or words place [])) file_limit ≡ Ok bytes = ap (λ (n : List ℕ). whole_file (get files n) file_limit) (sym named) ∙ found ∙ ap (λ (xs : List ℕ). Ok xs) (sym are) in
-    same_outcome (next files bytes) (over next words place files) result i o e new (λ input. sym (with_found (file_at words files place) bytes (λ b. next files b input) whole))
+    same_outcome (next files bytes) (over next words place files) result (now i o e) new (λ input. sym (with_found (file_at words files place) bytes (λ b. next files b input) whole))
     (subst (λ (held : Option (List ℕ)). Meets (next files bytes) result (now i o held) new) kept meets)
 
 -- it wasn't

@@ -1,13 +1,15 @@
--- What a command line promises beside its outcome: which lines are refused, and how a command ends without its files.
-use Rattle.std.specs.Prelude.{◌≡◌, ◌⊎◌, ℕ, Bool, true, false, List, Option, Result, Ok, Err, MatchResult}
+-- What a command line promises beside its outcome: which lines are refused, for which input an outcome counts, how a line may end, and how it ends
+-- without its files.
+use Rattle.std.specs.Prelude.{◌≡◌, ◌⊎◌, ℕ, Bool, true, false, nat_eq, List, Option, Result, Ok, Err, MatchBool, MatchResult}
 use Rattle.io_gate.specs.Images.{MissesNamed}
 use Rattle.command_lines.specs.Places.{file_named}
 use Rattle.command_model.specs.declared.command_line.Line.{Line}
 use Rattle.command_model.specs.declared.command_line.Line.TheVariants.{Run, Asm, Dis, Dbg}
 use Rattle.command_model.specs.declared.command_line.WordsFault.{WordsFault}
-use Rattle.emu_outcome.specs.Outcome.{Files}
+use Rattle.emu_outcome.specs.Outcome.{Outcome, Files, file_limit}
 use Rattle.emu_outcome.specs.declared.ending.Ending.{Ending}
-use Rattle.emu_outcome.specs.declared.ending.Ending.TheVariants.{WordsRefused, FileFault, ErrorsFault, OutOfMemory}
+use Rattle.emu_outcome.specs.declared.ending.Ending.TheVariants.{Exit, Trap, Spent, Done, WordsRefused, ImageRefused, ListingRefused, ScriptRefused, TooLong, FileFault, ErrorsFault, OutOfMemory}
+use Rattle.commands.specs.Promises.{is_failure, CountsFor}
 
 -- the line runs a machine
 abbrev pub runs_machine : Result Line WordsFault → Bool
@@ -17,9 +19,50 @@ runs_machine (Ok (Dis file)) = false
 runs_machine (Ok (Dbg file script args bits budget pages)) = true
 runs_machine (Err fault) = false
 
+-- the outcome of a line for these bytes counts: the line runs no machine, or the input told them, or the outcome rests on none
+abbrev pub IsOutcome : Result Line WordsFault → Option (List ℕ) → Option Outcome → List ℕ → Type 0
+IsOutcome line told outcome bytes = MatchBool (runs_machine line) (CountsFor told outcome bytes) (Unit {0})
+
 -- a refused line ends with its refusal, or with a fault of the errors; other lines don't end with one
 abbrev pub RefusesLine : Result Line WordsFault → Ending → Type 0
 RefusesLine line ending = MatchResult line (λ _. (fault : WordsFault) → ending ≡ WordsRefused fault → ⊥) (λ fault. (ending ≡ WordsRefused fault) ⊎ (ending ≡ ErrorsFault))
+
+-- ---- how a line may end
+
+-- how any line may end that names files: by a failure, or by a file that is longer than the limit
+abbrev pub stops_any : Ending → Bool
+stops_any (TooLong limit) = nat_eq limit file_limit
+stops_any ending = is_failure ending
+
+abbrev pub ends_run : Ending → Bool
+ends_run (Exit code) = true
+ends_run (Trap trap pc) = true
+ends_run Spent = true
+ends_run (ImageRefused fault) = true
+ends_run ending = stops_any ending
+
+abbrev pub ends_asm : Ending → Bool
+ends_asm Done = true
+ends_asm (ListingRefused fault) = true
+ends_asm ending = stops_any ending
+
+abbrev pub ends_dis : Ending → Bool
+ends_dis Done = true
+ends_dis (ImageRefused fault) = true
+ends_dis ending = stops_any ending
+
+abbrev pub ends_dbg : Ending → Bool
+ends_dbg Done = true
+ends_dbg (ImageRefused fault) = true
+ends_dbg (ScriptRefused fault) = true
+ends_dbg ending = stops_any ending
+
+-- whether a line may end so, whatever is in its files
+abbrev pub may_end : Line → Ending → Bool
+may_end (Run file args bits budget pages) ending = ends_run ending
+may_end (Asm listing) ending = ends_asm ending
+may_end (Dis file) ending = ends_dis ending
+may_end (Dbg file script args bits budget pages) ending = ends_dbg ending
 
 -- ---- files that aren't there
 

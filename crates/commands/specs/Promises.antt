@@ -1,9 +1,10 @@
--- What a command promises: its result by the definitions, or, where something failed, nothing beyond it.
-use Rattle.std.specs.Prelude.{◌≡◌, ◌≤◌, ℕ, Bool, true, false, List, ◌++◌, drop, Option, Some, None, IfSome, MatchBool}
+-- What a command promises: its result by the definitions, or, where something failed, nothing beyond it. Each fact rests on what the files told, and on
+-- the input and the sinks that it names, where these tell their bytes.
+use Rattle.std.specs.Prelude.{◌≡◌, ◌≤◌, ℕ, Bool, true, false, List, [], ◌++◌, drop, Option, Some, None, IfSome, MatchBool}
 use Rattle.emu_model.specs.State.{IsPrefix}
 use Rattle.emu_outcome.specs.Outcome.{Outcome, Files}
 use Rattle.emu_outcome.specs.declared.ending.Ending.{Ending}
-use Rattle.emu_outcome.specs.declared.ending.Ending.TheVariants.{Done, WordsRefused, FileFault, ReadFault, WriteFault, ErrorsFault, OutOfMemory}
+use Rattle.emu_outcome.specs.declared.ending.Ending.TheVariants.{Exit, Trap, Spent, Done, WordsRefused, ImageRefused, ListingRefused, ScriptRefused, TooLong, FileFault, ReadFault, WriteFault, ErrorsFault, OutOfMemory}
 
 -- a file or a stream failed, or memory was wanting
 abbrev pub is_failure : Ending → Bool
@@ -14,11 +15,6 @@ is_failure ErrorsFault = true
 is_failure OutOfMemory = true
 is_failure ending = false
 
--- the command line was refused
-abbrev pub is_words_refusal : Ending → Bool
-is_words_refusal (WordsRefused fault) = true
-is_words_refusal ending = false
-
 -- nothing is put on the errors at the end
 abbrev pub is_silent : Ending → Bool
 is_silent Done = true
@@ -28,15 +24,54 @@ is_silent WriteFault = true
 is_silent OutOfMemory = true
 is_silent ending = false
 
--- ---- the streams: what they told when the command began, and what they tell now
+-- the line, a file, an image, a listing or a script is refused
+abbrev pub is_refusal : Ending → Bool
+is_refusal (WordsRefused fault) = true
+is_refusal (TooLong limit) = true
+is_refusal (ImageRefused fault) = true
+is_refusal (ListingRefused fault) = true
+is_refusal (ScriptRefused fault) = true
+is_refusal ending = false
 
--- the bytes that the input had left, and those that the output and the errors held
-pub record Before : Type 0 where
-  pub input : List ℕ
-  pub output : List ℕ
-  pub errors : List ℕ
+-- the ending, where it rests on no input: any but the end of a run
+abbrev pub settled_ending : Ending → Option Ending
+settled_ending (Exit code) = None
+settled_ending (Trap trap pc) = None
+settled_ending Spent = None
+settled_ending ending = Some ending
 
--- the same now, where they tell it
+-- ---- an outcome, if there is one; where there is none, nothing is moved
+
+-- the command ends as its outcome says
+abbrev pub EndsAs : Option Outcome → Ending → Type 0
+EndsAs None ending = ⊥
+EndsAs (Some outcome) ending = ending ≡ outcome.ending
+
+-- the command ends as its outcome says, or both end as a run does
+abbrev pub Settles : Option Outcome → Ending → Type 0
+Settles None ending = ⊥
+Settles (Some outcome) ending = settled_ending ending ≡ settled_ending outcome.ending
+
+-- the outcome rests on no input: there is none, or it is a refusal
+abbrev pub rests_on_none : Option Outcome → Bool
+rests_on_none None = true
+rests_on_none (Some outcome) = is_refusal outcome.ending
+
+abbrev pub output_of : Option Outcome → List ℕ
+output_of None = []
+output_of (Some outcome) = outcome.output
+
+abbrev pub errors_of : Option Outcome → List ℕ
+errors_of None = []
+errors_of (Some outcome) = outcome.errors
+
+abbrev pub taken_of : Option Outcome → ℕ
+taken_of None = 0
+taken_of (Some outcome) = outcome.taken
+
+-- ---- the streams
+
+-- the bytes that the input has left, and those that the output and the errors hold, where they tell it
 pub record Now : Type 0 where
   pub input : Option (List ℕ)
   pub output : Option (List ℕ)
@@ -45,59 +80,42 @@ pub record Now : Type 0 where
 abbrev pub now : Option (List ℕ) → Option (List ℕ) → Option (List ℕ) → Now
 now input output errors = record { input = input; output = output; errors = errors }
 
--- where all three told their bytes
-abbrev pub IfTold : Now → (Before → Type 0) → Type 0
-IfTold old P = IfSome old.input (λ i. IfSome old.output (λ o. IfSome old.errors (λ e. P (record { input = i; output = o; errors = e }))))
-
--- ---- the answer
-
--- the ending is that of the outcome, the output and the errors gained exactly its bytes, and the input lost exactly its number of first bytes
-pub record GivesOutcome (outcome : Outcome) (ending : Ending) (before : Before) (after : Now) : Type 0 where
-  pub ending_is : ending ≡ outcome.ending
-  pub output : after.output ≡ Some (before.output ++ outcome.output)
-  pub errors : after.errors ≡ Some (before.errors ++ outcome.errors)
-  pub input : after.input ≡ Some (drop outcome.taken before.input)
-
-abbrev pub Answers : Option Outcome → Ending → Before → Now → Type 0
-Answers None ending before after = ⊥
-Answers (Some outcome) ending before after = GivesOutcome outcome ending before after
-
--- ---- after a failure
-
--- a sink gained some first bytes of these
-pub record GainedFirst (had bytes : List ℕ) (held : Option (List ℕ)) : Type 0 where
+-- the first of these bytes, perhaps all of them, came behind those that a sink held
+pub record GainedFirst (held : Option (List ℕ)) (had bytes : List ℕ) : Type 0 where
   pub gained : List ℕ
   pub is : held ≡ Some (had ++ gained)
   pub first : IsPrefix gained bytes
 
+-- a sink gained these bytes; where something failed, first bytes of them
+abbrev pub Gains : Bool → Option (List ℕ) → List ℕ → List ℕ → Type 0
+Gains false held had bytes = held ≡ Some (had ++ bytes)
+Gains true held had bytes = GainedFirst held had bytes
+
 -- an input lost at most so many bytes
-pub record LostAtMost (most : ℕ) (bytes : List ℕ) (left : Option (List ℕ)) : Type 0 where
+pub record LostAtMost (left : Option (List ℕ)) (bytes : List ℕ) (most : ℕ) : Type 0 where
   pub taken : ℕ
   pub within : taken ≤ most
   pub is : left ≡ Some (drop taken bytes)
 
--- what was written are first bytes of what the outcome writes, and no more was taken than it takes
-pub record StopsWithin (outcome : Outcome) (before : Before) (after : Now) : Type 0 where
-  pub output : GainedFirst before.output outcome.output after.output
-  pub errors : GainedFirst before.errors outcome.errors after.errors
-  pub input : LostAtMost outcome.taken before.input after.input
+-- an input lost so many bytes; where something failed, at most so many
+abbrev pub Loses : Bool → Option (List ℕ) → List ℕ → ℕ → Type 0
+Loses false left bytes count = left ≡ Some (drop count bytes)
+Loses true left bytes count = LostAtMost left bytes count
 
--- nothing was taken and nothing was written
-pub record IsUntouched (before : Before) (after : Now) : Type 0 where
-  pub output : after.output ≡ Some before.output
-  pub errors : after.errors ≡ Some before.errors
-  pub input : after.input ≡ Some before.input
+-- ---- the answer
 
-abbrev pub Stops : Option Outcome → Before → Now → Type 0
-Stops None before after = IsUntouched before after
-Stops (Some outcome) before after = StopsWithin outcome before after
+-- the outcome for these bytes counts: the input told them, or the outcome rests on none
+abbrev pub CountsFor : Option (List ℕ) → Option Outcome → List ℕ → Type 0
+CountsFor told outcome bytes = MatchBool (rests_on_none outcome) (Unit {0}) (told ≡ Some bytes)
 
--- ---- both
-
--- where the streams told their bytes: the outcome for what the input had, or by a failure nothing beyond it
-abbrev pub Meets : (List ℕ → Option Outcome) → Ending → Now → Now → Type 0
-Meets outcome ending old new =
-    IfTold old (λ before. MatchBool (is_failure ending) (Stops (outcome before.input) before new) (Answers (outcome before.input) ending before new))
+-- Where nothing failed, the command ends as the outcome for what the input had says, and the streams gained and lost just its bytes; after a failure they
+-- gained first bytes of these, and lost no more. An ending that isn't that of a run is the outcome's whatever the input has.
+pub record Meets (outcome : List ℕ → Option Outcome) (ending : Ending) (old new : Now) : Type 0 where
+  pub ends : IfSome old.input (λ bytes. is_failure ending ≡ false → EndsAs (outcome bytes) ending)
+  pub settled : is_failure ending ≡ false → (bytes : List ℕ) → Settles (outcome bytes) ending
+  pub output : (bytes : List ℕ) → CountsFor old.input (outcome bytes) bytes → IfSome old.output (λ had. Gains (is_failure ending) new.output had (output_of (outcome bytes)))
+  pub errors : (bytes : List ℕ) → CountsFor old.input (outcome bytes) bytes → IfSome old.errors (λ had. Gains (is_failure ending) new.errors had (errors_of (outcome bytes)))
+  pub input : IfSome old.input (λ bytes. Loses (is_failure ending) new.input bytes (taken_of (outcome bytes)))
 
 -- ---- files that aren't there
 

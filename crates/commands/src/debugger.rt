@@ -1,5 +1,5 @@
 //! The command `dbg`: from the files of a program and of a script to the end of the session.
-ghost use Rattle.std.specs.Prelude.{◌≡◌, ◌≢◌, ◌<◌, ◌≤◌, ◌⊎◌, [], map, length, string_bytes, get_or, IfSome, MatchResult, Some, Ok, false};
+ghost use Rattle.std.specs.Prelude.{◌≡◌, ◌≢◌, ◌<◌, ◌≤◌, ◌⊎◌, [], map, length, string_bytes, get_or, IfSome, MatchResult, Some, Ok, false, true};
 ghost use Rattle.io_gate.specs.Images.{MissesNamed};
 ghost use Rattle.io_gate.specs.Streams.{Rose, Causes};
 ghost use Rattle.elf_image.specs.Images.{seen_image};
@@ -12,8 +12,9 @@ ghost use Rattle.dbg_model.specs.Session as model;
 ghost use Rattle.dbg_scripts.specs.Reading.{IsErrorOf};
 ghost use Rattle.emu_outcome.specs.Outcome.{file_at, outcome_of_debug, outcome_of_script, outcome_of_session, with_file};
 ghost use Rattle.commands.specs.Endings.{ending_of_session};
+ghost use Rattle.commands.specs.Lines.{ends_dbg};
 ghost use Rattle.commands.specs.Programs.{arguments_of, debug_line_of, outcome_over};
-ghost use Rattle.commands.specs.Promises.{is_words_refusal, now, Meets, NamesNoFile};
+ghost use Rattle.commands.specs.Promises.{now, Meets, NamesNoFile};
 
 use crate::files::{ending_after_line, file_bytes};
 use crate::program::{Program, open_machine};
@@ -71,7 +72,7 @@ fn debug_machine<I: Source, O: Sink, E: Sink>(
     ensures errors_cause { Causes (result ≡ Ending.ErrorsFault) (E.faults errors.old) (E.faults errors.new) }
     ensures no_file { result ≢ Ending.FileFault }
     ensures no_memory { result ≢ Ending.OutOfMemory }
-    ensures no_words { is_words_refusal result ≡ false }
+    ensures kind { ends_dbg result ≡ true }
 {
     ending_of_session(session(machine, script, budget, input, output, errors))
 }
@@ -100,7 +101,7 @@ fn debug_image<I: Source, O: Sink, E: Sink>(
     ensures errors_cause { Causes (result ≡ Ending.ErrorsFault) (E.faults errors.old) (E.faults errors.new) }
     ensures no_file { result ≢ Ending.FileFault }
     ensures memory_first { result ≡ Ending.OutOfMemory → (input.new ≡ input.old) × (output.new ≡ output.old) × (errors.new ≡ errors.old) }
-    ensures no_words { is_words_refusal result ≡ false }
+    ensures kind { ends_dbg result ≡ true }
 {
     match script_of(alloc, text) {
         Err(ScriptError::Refused(fault)) => ending_after_line(
@@ -144,7 +145,7 @@ fn debug_bytes<I: Source, O: Sink, E: Sink>(
     ensures errors_cause { Causes (result ≡ Ending.ErrorsFault) (E.faults errors.old) (E.faults errors.new) }
     ensures no_file { result ≢ Ending.FileFault }
     ensures memory_first { result ≡ Ending.OutOfMemory → (input.new ≡ input.old) × (output.new ≡ output.old) × (errors.new ≡ errors.old) }
-    ensures no_words { is_words_refusal result ≡ false }
+    ensures kind { ends_dbg result ≡ true }
 {
     match read(bytes, program.pages) {
         Err(fault) => ending_after_line(
@@ -186,7 +187,7 @@ fn debug_with_script<F: Images, I: Source, O: Sink, E: Sink>(
     ensures read_cause { Causes (result ≡ Ending.ReadFault) (I.faults input.old) (I.faults input.new) }
     ensures write_cause { Causes (result ≡ Ending.WriteFault) (O.faults output.old) (O.faults output.new) }
     ensures errors_cause { Causes (result ≡ Ending.ErrorsFault) (E.faults errors.old) (E.faults errors.new) }
-    ensures no_words { is_words_refusal result ≡ false }
+    ensures kind { ends_dbg result ≡ true }
 {
     match file_bytes(alloc, word(words, script), files, errors) {
         Ok(text) => debug_bytes(alloc, bytes, &text, words, program, input, output, errors),
@@ -225,7 +226,7 @@ pub fn debug_file<F: Images, I: Source, O: Sink, E: Sink>(
     ensures read_cause { Causes (result ≡ Ending.ReadFault) (I.faults input.old) (I.faults input.new) }
     ensures write_cause { Causes (result ≡ Ending.WriteFault) (O.faults output.old) (O.faults output.new) }
     ensures errors_cause { Causes (result ≡ Ending.ErrorsFault) (E.faults errors.old) (E.faults errors.new) }
-    ensures no_words { is_words_refusal result ≡ false }
+    ensures kind { ends_dbg result ≡ true }
 {
     match file_bytes(alloc, word(words, program.file), files, errors) {
         Ok(bytes) => debug_with_script(

@@ -4,8 +4,9 @@ ghost use Rattle.io_gate.specs.Images.{MissesNamed};
 ghost use Rattle.io_gate.specs.Streams.{Rose, Causes};
 ghost use Rattle.emu_system.specs.Image.{elf};
 ghost use Rattle.emu_outcome.specs.Outcome.{most_pages, outcome_of_words};
+ghost use Rattle.commands.specs.Lines.{ends_dis};
 ghost use Rattle.commands.specs.Programs.{outcome_over};
-ghost use Rattle.commands.specs.Promises.{is_silent, is_words_refusal, now, Meets};
+ghost use Rattle.commands.specs.Promises.{is_silent, now, Meets};
 
 use crate::files::{ending_after_line, ending_after_output, file_bytes};
 use command_lines::word;
@@ -27,7 +28,7 @@ fn disassemble_bytes<O: Sink, E: Sink>(bytes: &[u8], output: &mut O, errors: &mu
     ensures no_read { result ≢ Ending.ReadFault }
     ensures no_memory { result ≢ Ending.OutOfMemory }
     ensures no_errors { is_silent result ≡ true → errors.new ≡ errors.old }
-    ensures no_words { is_words_refusal result ≡ false }
+    ensures kind { ends_dis result ≡ true }
 {
     match read(bytes, u32::MAX) {
         Ok(image) => ending_after_output(put_dis(bytes, &image, output)),
@@ -63,7 +64,7 @@ pub fn disassemble_file<F: Images, O: Sink, E: Sink>(
     ensures write_cause { Causes (result ≡ Ending.WriteFault) (O.faults output.old) (O.faults output.new) }
     ensures errors_cause { Causes (result ≡ Ending.ErrorsFault) (E.faults errors.old) (E.faults errors.new) }
     ensures no_errors { is_silent result ≡ true → errors.new ≡ errors.old }
-    ensures no_words { is_words_refusal result ≡ false }
+    ensures kind { ends_dis result ≡ true }
 {
     match file_bytes(alloc, word(words, file), files, errors) {
         Ok(bytes) => disassemble_bytes(&bytes, output, errors),

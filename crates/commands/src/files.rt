@@ -1,9 +1,10 @@
 //! Files as commands read them, and the endings behind what is put to a sink.
-ghost use Rattle.std.specs.Prelude.{◌≡◌, ◌≢◌, ◌≤◌, ◌⊎◌, IfErr, IfOk, IfSome, OnOk, Ok, Err, vec_len};
+ghost use Rattle.std.specs.Prelude.{◌≡◌, ◌≢◌, ◌≤◌, ◌⊎◌, IfErr, IfOk, IfSome, OnOk, Ok, Err, vec_len, true};
 ghost use Rattle.std.specs.FinMap.{get};
 ghost use Rattle.io_gate.specs.Images.{MissesNamed};
 ghost use Rattle.io_gate.specs.Streams.{Rose, Causes};
 ghost use Rattle.commands.specs.Endings.{done_by, ended_by};
+ghost use Rattle.commands.specs.Lines.{stops_any};
 ghost use Rattle.commands.specs.Reading.{EndsUnread, GivesFile};
 
 use emu_outcome::Ending;
@@ -44,6 +45,7 @@ pub fn file_bytes<F: Images, E: Sink>(
 ) -> Result<Vec<u8>, Ending>
     ensures told { F.named files.new ≡ F.named files.old }
     ensures content { IfSome (F.named files.old) (λ named. GivesFile (get named name.now) result (E.held errors.old) (E.held errors.new)) }
+    ensures kind { IfErr result (λ ending. stops_any ending ≡ true) }
     ensures limit { IfOk result (λ bytes. vec_len bytes ≤ 67108864) }
     ensures unread { IfErr result (EndsUnread (F.named files.old) name.now) }
     ensures missing { MissesNamed (F.named files.old) name.now → result ≡ Err Ending.FileFault }

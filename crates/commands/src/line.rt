@@ -1,13 +1,14 @@
 //! A command line, from its words to its ending.
-ghost use Rattle.std.specs.Prelude.{◌≡◌, ◌≢◌, ◌≤◌, ◌⊎◌, map, length, string_bytes, IfSome, Ok, true, false};
+ghost use Rattle.std.specs.Prelude.{◌≡◌, ◌≢◌, ◌≤◌, ◌⊎◌, ℕ, List, Option, map, length, string_bytes, IfErr, IfOk, IfSome, Ok, true, false};
 ghost use Rattle.io_gate.specs.Images.{MissesNamed};
 ghost use Rattle.io_gate.specs.Streams.{Rose, Causes};
 ghost use Rattle.command_model.specs.CommandLine.{line};
+ghost use Rattle.command_model.specs.Refusals.{words_line};
 ghost use Rattle.emu_outcome.specs.Outcome.{result_of};
 ghost use Rattle.command_lines.specs.Places.{HasArguments, HasPlaces, file_named};
-ghost use Rattle.commands.specs.Lines.{runs_machine, RefusesLine, MissesFirst, EndsMissing};
+ghost use Rattle.commands.specs.Lines.{runs_machine, may_end, RefusesLine, MissesFirst, EndsMissing};
 ghost use Rattle.commands.specs.Programs.{outcome_over};
-ghost use Rattle.commands.specs.Promises.{is_silent, is_words_refusal, now, Meets, NamesNoFile};
+ghost use Rattle.commands.specs.Promises.{is_failure, is_silent, now, Gains, Meets, NamesNoFile};
 
 use crate::debugger::debug_file;
 use crate::disassembly::disassemble_file;
@@ -35,6 +36,8 @@ fn run_line<F: Images, I: Source, O: Sink, E: Sink>(
     requires arguments { HasArguments (map string_bytes words.now) line.now }
     ensures outcome { IfSome (F.named files.old) (λ named. Meets (outcome_over (map string_bytes words.now) line.now named) result
         (now (I.left input.old) (O.held output.old) (E.held errors.old)) (now (I.left input.new) (O.held output.new) (E.held errors.new))) }
+    ensures without_input { runs_machine (Ok line.now) ≡ false → (input : Option (List ℕ)) → IfSome (F.named files.old) (λ named. Meets (outcome_over (map string_bytes words.now) line.now named) result
+        (now input (O.held output.old) (E.held errors.old)) (now input (O.held output.new) (E.held errors.new))) }
     ensures file_cause { result ≡ Ending.FileFault → Rose (F.faults files.old) (F.faults files.new)
         ⊎ NamesNoFile (outcome_over (map string_bytes words.now) line.now) (F.named files.old) }
     ensures file_kept { result ≢ Ending.FileFault → F.faults files.new ≡ F.faults files.old }
@@ -46,7 +49,7 @@ fn run_line<F: Images, I: Source, O: Sink, E: Sink>(
     ensures read_cause { Causes (result ≡ Ending.ReadFault) (I.faults input.old) (I.faults input.new) }
     ensures write_cause { Causes (result ≡ Ending.WriteFault) (O.faults output.old) (O.faults output.new) }
     ensures errors_cause { Causes (result ≡ Ending.ErrorsFault) (E.faults errors.old) (E.faults errors.new) }
-    ensures no_words { is_words_refusal result ≡ false }
+    ensures kind { may_end line.now result ≡ true }
     ensures no_input { runs_machine (Ok line.now) ≡ false → (input.new ≡ input.old) × (result ≢ Ending.ReadFault) }
     ensures no_errors { runs_machine (Ok line.now) ≡ false → is_silent result ≡ true → errors.new ≡ errors.old }
 {
@@ -100,6 +103,8 @@ pub fn command<F: Images, I: Source, O: Sink, E: Sink>(
 ) -> Ending
     ensures outcome { IfSome (F.named files.old) (λ named. Meets (result_of (map string_bytes words.now) named) result
         (now (I.left input.old) (O.held output.old) (E.held errors.old)) (now (I.left input.new) (O.held output.new) (E.held errors.new))) }
+    ensures without_input { runs_machine (line (map string_bytes words.now)) ≡ false → (input : Option (List ℕ)) → IfSome (F.named files.old) (λ named. Meets (result_of (map string_bytes words.now) named) result
+        (now input (O.held output.old) (E.held errors.old)) (now input (O.held output.new) (E.held errors.new))) }
     ensures file_cause { result ≡ Ending.FileFault → Rose (F.faults files.old) (F.faults files.new)
         ⊎ NamesNoFile (result_of (map string_bytes words.now)) (F.named files.old) }
     ensures file_kept { result ≢ Ending.FileFault → F.faults files.new ≡ F.faults files.old }
@@ -113,7 +118,10 @@ pub fn command<F: Images, I: Source, O: Sink, E: Sink>(
     ensures errors_cause { Causes (result ≡ Ending.ErrorsFault) (E.faults errors.old) (E.faults errors.new) }
     ensures no_input { runs_machine (line (map string_bytes words.now)) ≡ false → (input.new ≡ input.old) × (result ≢ Ending.ReadFault) }
     ensures no_errors { runs_machine (line (map string_bytes words.now)) ≡ false → is_silent result ≡ true → errors.new ≡ errors.old }
+    ensures kind { IfOk (line (map string_bytes words.now)) (λ l. may_end l result ≡ true) }
     ensures refused { RefusesLine (line (map string_bytes words.now)) result }
+    ensures refused_output { IfErr (line (map string_bytes words.now)) (λ _. output.new ≡ output.old) }
+    ensures refused_errors { IfErr (line (map string_bytes words.now)) (λ fault. IfSome (E.held errors.old) (λ had. Gains (is_failure result) (E.held errors.new) had (words_line fault))) }
 {
     let line = line_of_words(words);
     match &line {

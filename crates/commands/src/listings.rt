@@ -6,8 +6,9 @@ ghost use Rattle.asm_layout.specs.Assembly.{IsMade};
 ghost use Rattle.insn_texts.specs.Statements.{statements};
 ghost use Rattle.listing_model.specs.Image.{image_of_bytes};
 ghost use Rattle.emu_outcome.specs.Outcome.{outcome_of_listing};
+ghost use Rattle.commands.specs.Lines.{ends_asm};
 ghost use Rattle.commands.specs.Programs.{outcome_over};
-ghost use Rattle.commands.specs.Promises.{is_silent, is_words_refusal, now, Meets};
+ghost use Rattle.commands.specs.Promises.{is_silent, now, Meets};
 
 use crate::files::{ending_after_line, ending_after_output, file_bytes};
 use crate::texts::line_of_place;
@@ -51,7 +52,7 @@ fn assemble_bytes<O: Sink, E: Sink>(
     ensures no_read { result ≢ Ending.ReadFault }
     ensures memory_first { result ≡ Ending.OutOfMemory → (output.new ≡ output.old) × (errors.new ≡ errors.old) }
     ensures no_errors { is_silent result ≡ true → errors.new ≡ errors.old }
-    ensures no_words { is_words_refusal result ≡ false }
+    ensures kind { ends_asm result ≡ true }
 {
     match made(alloc, bytes) {
         Ok(file) => ending_after_output(put_all(output, &file)),
@@ -88,7 +89,7 @@ pub fn assemble_file<F: Images, O: Sink, E: Sink>(
     ensures write_cause { Causes (result ≡ Ending.WriteFault) (O.faults output.old) (O.faults output.new) }
     ensures errors_cause { Causes (result ≡ Ending.ErrorsFault) (E.faults errors.old) (E.faults errors.new) }
     ensures no_errors { is_silent result ≡ true → errors.new ≡ errors.old }
-    ensures no_words { is_words_refusal result ≡ false }
+    ensures kind { ends_asm result ≡ true }
 {
     match file_bytes(alloc, word(words, listing), files, errors) {
         Ok(bytes) => assemble_bytes(alloc, &bytes, output, errors),

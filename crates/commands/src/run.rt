@@ -1,5 +1,5 @@
 //! The command `run`: from the file of a program to its report.
-ghost use Rattle.std.specs.Prelude.{◌≡◌, ◌≢◌, ◌<◌, ◌≤◌, ◌⊎◌, [], map, length, string_bytes, get_or, IfSome, Some, false};
+ghost use Rattle.std.specs.Prelude.{◌≡◌, ◌≢◌, ◌<◌, ◌≤◌, ◌⊎◌, [], map, length, string_bytes, get_or, IfSome, Some, false, true};
 ghost use Rattle.io_gate.specs.Images.{MissesNamed};
 ghost use Rattle.io_gate.specs.Streams.{Rose, Causes, HasCause, PutsAll};
 ghost use Rattle.emu_system.specs.Arguments.{AreArguments};
@@ -11,8 +11,9 @@ ghost use Rattle.emu_run.specs.Reports.{report};
 ghost use Rattle.emu_outcome.specs.Outcome.{outcome_of_run, outcome_of_image};
 ghost use Rattle.emu_machine.specs.Machines.{has_ended};
 ghost use Rattle.commands.specs.Endings.{ending_by};
+ghost use Rattle.commands.specs.Lines.{ends_run};
 ghost use Rattle.commands.specs.Programs.{arguments_of, outcome_over, run_line_of};
-ghost use Rattle.commands.specs.Promises.{is_failure, is_words_refusal, now, Meets};
+ghost use Rattle.commands.specs.Promises.{is_failure, now, Meets};
 
 use crate::files::{ending_after_line, file_bytes};
 use crate::program::{Program, open_machine};
@@ -84,7 +85,7 @@ fn run_machine<I: Source, O: Sink, E: Sink>(
     ensures errors_cause { Causes (result ≡ Ending.ErrorsFault) (E.faults errors.old) (E.faults errors.new) }
     ensures no_file { result ≢ Ending.FileFault }
     ensures no_memory { result ≢ Ending.OutOfMemory }
-    ensures no_words { is_words_refusal result ≡ false }
+    ensures kind { ends_run result ≡ true }
 {
     let end = machine.run(budget, input, output, errors);
     let ending = ending_of_run(end, machine.core().pc());
@@ -114,7 +115,7 @@ fn run_image<I: Source, O: Sink, E: Sink>(
     ensures errors_cause { Causes (result ≡ Ending.ErrorsFault) (E.faults errors.old) (E.faults errors.new) }
     ensures no_file { result ≢ Ending.FileFault }
     ensures memory_first { result ≡ Ending.OutOfMemory → (input.new ≡ input.old) × (output.new ≡ output.old) × (errors.new ≡ errors.old) }
-    ensures no_words { is_words_refusal result ≡ false }
+    ensures kind { ends_run result ≡ true }
 {
     match read(bytes, program.pages) {
         Err(fault) => ending_after_line(
@@ -155,7 +156,7 @@ pub fn run_file<F: Images, I: Source, O: Sink, E: Sink>(
     ensures read_cause { Causes (result ≡ Ending.ReadFault) (I.faults input.old) (I.faults input.new) }
     ensures write_cause { Causes (result ≡ Ending.WriteFault) (O.faults output.old) (O.faults output.new) }
     ensures errors_cause { Causes (result ≡ Ending.ErrorsFault) (E.faults errors.old) (E.faults errors.new) }
-    ensures no_words { is_words_refusal result ≡ false }
+    ensures kind { ends_run result ≡ true }
 {
     match file_bytes(alloc, word(words, program.file), files, errors) {
         Ok(bytes) => run_image(alloc, &bytes, words, program, input, output, errors),

@@ -1,15 +1,18 @@
--- What a call takes and puts, by what it made of a machine without steps.
-use Rattle.std.proofs.Common.{◌≡◌, ℕ, Bool, true, false, List, length, length-drop, take, Option, Some, None, IfSome, refl, sym, ap, subst, ◌∙◌, arith}
+-- What a call makes, takes and puts, by what it made of a machine without steps.
+use Rattle.std.proofs.Common.{◌≡◌, ℕ, Bool, true, false, List, length, length-drop, take, Option, Some, None, is_some, ◌||◌, IfSome, ◌+◌, refl, sym, ap, subst, ◌∙◌, arith}
 use Rattle.std.proofs.lemmas.List.{length-take}
+use Rattle.emu_model.specs.declared.program_break.Break.{Break}
+use Rattle.emu_model.specs.declared.trap.Ended.{Ended}
 use Rattle.emu_model.specs.Access.{Memory}
-use Rattle.emu_model.specs.State.{Parts}
+use Rattle.emu_model.specs.State.{Core, Vectors, Parts}
+use Rattle.emu_system.specs.Start.{with_input}
 use Rattle.emu_system.specs.SystemCall.{Action, fails, answers, maps, moves_break, takes, puts, exits, action, call, done_by, total}
 use Rattle.linux_calls.specs.declared.end.CallEnd.{CallEnd}
 use Rattle.linux_calls.specs.declared.end.CallEnd.TheVariants.{Returned, Exit, ReadFault, WriteFault, ErrorsFault}
-use Rattle.linux_calls.specs.Ends.{Stores, caller, does_take, is_fault}
+use Rattle.linux_calls.specs.Ends.{OfInput, Stores, behind, caller, does_take, end_of, is_fault}
 use Rattle.linux_calls.specs.Puts.{Gains}
 use Rattle.emu_machine.specs.declared.ends.StepEnd.{StepEnd}
-use Rattle.emu_machine.specs.Ends.{LeftOf, Puts, TakesWithin, is_undone, step_by}
+use Rattle.emu_machine.specs.Ends.{LeftOf, Puts, TakesWithin, is_undone, left_by, step_by, step_end}
 use Rattle.emu_machine.specs.Machines.{call_made}
 
 undone_by : (end : CallEnd) → is_undone (step_by end) ≡ is_fault end
@@ -19,10 +22,10 @@ undone_by ReadFault = refl
 undone_by WriteFault = refl
 undone_by ErrorsFault = refl
 
--- ---- what it puts
-
 abbrev without_steps : Parts → Parts
 without_steps p = caller p.core p.vectors p.memory p.brk
+
+-- ---- what it puts
 
 same_output : (a : Action) (p : Parts) (bytes : List ℕ) → (done_by a (without_steps p) bytes).output ≡ (done_by a p bytes).output
 same_output (fails e) p bytes = refl
@@ -42,9 +45,88 @@ same_errors (takes ranges) p bytes = refl
 same_errors (puts file ranges) p bytes = refl
 same_errors (exits code) p bytes = refl
 
+-- ---- what it makes of a machine that hasn't ended
+
+pub not_ended : (e : Option Ended) (failed : Bool) → (is_some e || failed) ≡ false → e ≡ None
+not_ended None failed going = refl
+not_ended (Some x) failed going = cc
+
+-- with so many steps counted before
+abbrev counted : ℕ → Parts → Parts
+counted steps m = record m { steps = steps + m.steps }
+
+left_counted : (end : CallEnd) (m : Parts) → is_fault end ≡ false → left_by end (record m { ended = None }) ≡ counted m.steps (behind end m.core m.vectors m.memory m.brk)
+left_counted Returned m done = refl
+left_counted (Exit code) m done = refl
+left_counted ReadFault m done = let no : true ≡ false = done in cc
+left_counted WriteFault m done = let no : true ≡ false = done in cc
+left_counted ErrorsFault m done = let no : true ≡ false = done in cc
+
+done_counted : (a : Action) (m : Parts) (bytes : List ℕ) → counted m.steps (done_by a (without_steps m) bytes).parts ≡ (done_by a (record m { ended = None }) bytes).parts
+done_counted (fails e) m bytes = refl
+done_counted (answers v) m bytes = refl
+done_counted (maps memory v) m bytes = refl
+done_counted (moves_break memory to) m bytes = refl
+done_counted (takes ranges) m bytes = refl
+done_counted (puts file ranges) m bytes = refl
+done_counted (exits code) m bytes = refl
+
+ends_as : (a : Action) (m : Parts) (bytes : List ℕ) → m.ended ≡ None → step_by (end_of a) ≡ step_end (done_by a m bytes).parts.ended
+ends_as (fails e) m bytes none = ap step_end (sym none)
+ends_as (answers v) m bytes none = ap step_end (sym none)
+ends_as (maps memory v) m bytes none = ap step_end (sym none)
+ends_as (moves_break memory to) m bytes none = ap step_end (sym none)
+ends_as (takes ranges) m bytes none = ap step_end (sym none)
+ends_as (puts file ranges) m bytes none = ap step_end (sym none)
+ends_as (exits code) m bytes none = refl
+
+-- what is so of any bytes is so where the input tells them, and of a call that takes none whatever they are
+pub of_each : (a : Action) (told : Option (List ℕ)) (P Q : List ℕ → Type 0) → ((bytes : List ℕ) → P bytes → Q bytes) → OfInput a told P → OfInput a told Q
+of_each (fails e) told P Q f h = λ bytes. f bytes (h bytes)
+of_each (answers v) told P Q f h = λ bytes. f bytes (h bytes)
+of_each (maps memory v) told P Q f h = λ bytes. f bytes (h bytes)
+of_each (moves_break memory to) told P Q f h = λ bytes. f bytes (h bytes)
+of_each (takes ranges) None P Q f h = tt
+of_each (takes ranges) (Some bytes) P Q f h = f bytes h
+of_each (puts file ranges) told P Q f h = λ bytes. f bytes (h bytes)
+of_each (exits code) told P Q f h = λ bytes. f bytes (h bytes)
+
+pub of_all : (a : Action) (told : Option (List ℕ)) (P : List ℕ → Type 0) → ((bytes : List ℕ) → P bytes) → OfInput a told P
+of_all (fails e) told P f = f
+of_all (answers v) told P f = f
+of_all (maps memory v) told P f = f
+of_all (moves_break memory to) told P f = f
+of_all (takes ranges) None P f = tt
+of_all (takes ranges) (Some bytes) P f = f bytes
+of_all (puts file ranges) told P f = f
+of_all (exits code) told P f = f
+
 module _ (end : CallEnd) (r : StepEnd) (p q : Parts) (is : r ≡ step_by end) (same : p ≡ q) where
   undone : is_fault end ≡ is_undone r
   undone = sym (undone_by end) ∙ ap is_undone (sym is)
+
+  pub end_made : (bytes : List ℕ) → p.ended ≡ None → (is_fault end ≡ false → end ≡ end_of (action p)) → is_undone r ≡ false → r ≡ step_end (call_made (with_input q bytes)).parts.ended
+  end_made bytes none ends fine =
+      is ∙ ap step_by (ends (undone ∙ fine)) ∙ ends_as (action p) p bytes none ∙ ap (λ (x : Parts). step_end (call x bytes).parts.ended) same
+
+  module _ (c : Core) (v : Vectors) (m : Memory) (brk : Break) (new : Parts) (none : p.ended ≡ None) (left : new ≡ left_by end (record p { core = c; vectors = v; memory = m; brk = brk })) where
+    made_at : (bytes : List ℕ) → (is_fault end ≡ false → behind end c v m brk ≡ (call (without_steps p) bytes).parts) → is_undone r ≡ false → new ≡ (call_made (with_input q bytes)).parts
+    made_at bytes made fine =
+        left
+        ∙ ap (λ (e : Option Ended). left_by end (record p { core = c; vectors = v; memory = m; brk = brk; ended = e })) none
+        ∙ left_counted end (record p { core = c; vectors = v; memory = m; brk = brk }) (undone ∙ fine)
+        ∙ ap (λ (x : Parts). counted p.steps x) (made (undone ∙ fine))
+        ∙ done_counted (action p) p bytes
+        ∙ ap (λ (e : Option Ended). (call (record p { ended = e }) bytes).parts) (sym none)
+        ∙ ap (λ (x : Parts). (call x bytes).parts) same
+
+    pub parts_made : (told : Option (List ℕ)) → OfInput (action p) told (λ bytes. is_fault end ≡ false → behind end c v m brk ≡ (call (without_steps p) bytes).parts)
+        → OfInput (action q) told (λ bytes. is_undone r ≡ false → new ≡ (call_made (with_input q bytes)).parts)
+    parts_made told made =
+        subst (λ (x : Parts). OfInput (action x) told (λ bytes. is_undone r ≡ false → new ≡ (call_made (with_input q bytes)).parts)) same
+        (of_each (action p) told (λ bytes. is_fault end ≡ false → behind end c v m brk ≡ (call (without_steps p) bytes).parts) (λ bytes. is_undone r ≡ false → new ≡ (call_made (with_input q bytes)).parts) made_at made)
+
+  -- ---- what it puts
 
   pub output_made : (told ho hn : Option (List ℕ)) → ((bytes : List ℕ) → IfSome ho (λ had. Gains (is_fault end) hn had (call (without_steps p) bytes).output))
       → Puts (λ st. (call_made st).output) q told ho hn (is_undone r)

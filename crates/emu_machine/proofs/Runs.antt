@@ -1,10 +1,10 @@
 -- A run, step after step: what has come to the streams so far, and what remains.
-use Rattle.std.proofs.Common.{◌≡◌, ◌<◌, ◌≤◌, ℕ, ◌+◌, ◌-◌, Bool, true, false, List, Option, Some, None, IfSome, is_none, is_some, refl, sym, ap, subst, ◌∙◌, arith, ◌||◌}
+use Rattle.std.proofs.Common.{◌≡◌, ◌<◌, ◌≤◌, ℕ, ◌+◌, ◌-◌, Bool, true, false, List, Option, Some, None, IfSome, MatchBool, is_none, is_some, refl, sym, ap, subst, ◌∙◌, arith, ◌||◌}
 use Rattle.emu_model.specs.declared.trap.Ended.{Ended}
 use Rattle.emu_model.specs.declared.trap.Ended.TheVariants.{Exit, Trap}
 use Rattle.emu_model.specs.State.{Parts, State}
 use Rattle.emu_system.specs.Start.{with_input}
-use Rattle.emu_system.specs.SystemCall.{Turn, call, quiet}
+use Rattle.emu_system.specs.SystemCall.{Turn, action, call, quiet}
 use Rattle.emu_run.specs.Step.{step, turn}
 use Rattle.emu_run.specs.Run.{run}
 use Rattle.emu_run.specs.RunLaws.{moves_not, step_moves, until_end_moves, run_moves, run_on, run_ended, run_spent, run_behind}
@@ -13,9 +13,11 @@ use Rattle.emu_machine.specs.declared.ends.StepEnd.TheVariants.{Going, Exit as S
 use Rattle.emu_machine.specs.declared.ends.RunEnd.{RunEnd}
 use Rattle.emu_machine.specs.declared.ends.RunEnd.TheVariants.{Exit as RunExit, Trap as RunTrap, Spent, ReadFault as RunReadFault, WriteFault as RunWriteFault, ErrorsFault as RunErrorsFault}
 use Rattle.io_gate.specs.Streams.{Causes, Rose}
+use Rattle.linux_calls.specs.Ends.{OfInput}
 use Rattle.linux_calls.specs.Puts.{Gains}
-use Rattle.emu_machine.specs.Ends.{Becomes, TakesWithin, Puts, PutsAlways, step_end, run_end, run_end_of, is_undone, is_broken_off}
-use Rattle.emu_machine.specs.Machines.{MachineState, call_made, has_ended}
+use Rattle.emu_machine.specs.Ends.{Becomes, OfStep, TakesWithin, Puts, PutsAlways, step_end, run_end, run_end_of, is_undone, is_broken_off}
+use Rattle.emu_machine.specs.Machines.{MachineState, call_made, has_ended, is_at_call}
+use Rattle.emu_machine.proofs.CallLaws.{of_all, of_each}
 use Rattle.emu_machine.proofs.Composed.{Blind, Moving, Came, Comes, Led, Leads, came_at, comes_by, comes_cut, comes_same, comes_still, gains_none, leads_on, leads_end}
 
 -- ---- the clauses of a step and a run, together
@@ -62,7 +64,31 @@ module _ (m p : Parts) (held_old held_new : Option (List ℕ)) (b : Bool) (same 
   pub puts_errors_by_call : PutsAlways (λ st. (call_made st).errors) p held_old held_new b → PutsAlways (λ st. (step st).errors) m held_old held_new b
   puts_errors_by_call h bytes = subst (λ (out : List ℕ). IfSome held_old (λ had. Gains b held_new had out)) (ap (λ (x : Parts). (call x bytes).errors) same ∙ ap (λ (t : Turn). t.errors) (sym (is bytes))) (h bytes)
 
+-- and leaves what the call leaves, and ends as it ends
+module _ (m p : Parts) (b : Bool) (same : p ≡ m) (is : (input : List ℕ) → turn m input ≡ call m input) where
+  pub ends_by_call : (bytes : List ℕ) (r : StepEnd) → (b ≡ false → r ≡ step_end (call_made (with_input p bytes)).parts.ended) → b ≡ false → r ≡ step_end (step (with_input m bytes)).parts.ended
+  ends_by_call bytes r h fine = h fine ∙ ap (λ (x : Parts). step_end (call x bytes).parts.ended) same ∙ ap (λ (t : Turn). step_end t.parts.ended) (sym (is bytes))
+
+  pub made_by_call : (told : Option (List ℕ)) (new : Parts) → is_at_call m ≡ true → OfInput (action p) told (λ bytes. b ≡ false → new ≡ (call_made (with_input p bytes)).parts)
+      → OfStep m told (λ bytes. b ≡ false → new ≡ (step (with_input m bytes)).parts)
+  made_by_call told new at h =
+      let P : List ℕ → Type 0 = λ bytes. b ≡ false → new ≡ (call_made (with_input p bytes)).parts in
+      let Q : List ℕ → Type 0 = λ bytes. b ≡ false → new ≡ (step (with_input m bytes)).parts in
+      let by : (bytes : List ℕ) → P bytes → Q bytes = λ bytes made fine. made fine ∙ ap (λ (x : Parts). (call x bytes).parts) same ∙ ap (λ (t : Turn). t.parts) (sym (is bytes)) in
+      subst (λ (c : Bool). MatchBool c (OfInput (action m) told Q) ((bytes : List ℕ) → Q bytes)) (sym at)
+      (subst (λ (x : Parts). OfInput (action x) told Q) same (of_each (action p) told P Q by h))
+
 -- ---- a step that puts and takes nothing
+
+of_any : (m : Parts) (told : Option (List ℕ)) (P : List ℕ → Type 0) → ((bytes : List ℕ) → P bytes) → OfStep m told P
+of_any m told P f = by_place (is_at_call m)
+  where
+    by_place : (c : Bool) → MatchBool c (OfInput (action m) told P) ((bytes : List ℕ) → P bytes)
+    by_place true = of_all (action m) told P f
+    by_place false = f
+
+pub quietly_made : (m q : Parts) (told : Option (List ℕ)) (b : Bool) → ((input : List ℕ) → turn m input ≡ quiet q input) → OfStep m told (λ bytes. b ≡ false → q ≡ (step (with_input m bytes)).parts)
+quietly_made m q told b is = of_any m told (λ bytes. b ≡ false → q ≡ (step (with_input m bytes)).parts) (λ bytes _. ap (λ (t : Turn). t.parts) (sym (is bytes)))
 
 pub quietly_ran : (m q : Parts) (told held errs : Option (List ℕ)) (b : Bool) → ((input : List ℕ) → turn m input ≡ quiet q input) → Ran step m q told told held held errs errs b
 quietly_ran m q None held errs b is = record { state = tt; input = tt; output = tt; errors = tt }

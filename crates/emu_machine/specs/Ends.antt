@@ -1,5 +1,5 @@
 -- How a step and a run end, and what they make of the machine and of its streams.
-use Rattle.std.specs.Prelude.{◌≡◌, ◌≤◌, ℕ, ◌+◌, ◌-◌, Bool, true, false, List, length, drop, Option, Some, None, IfSome}
+use Rattle.std.specs.Prelude.{◌≡◌, ◌≤◌, ℕ, ◌+◌, ◌-◌, Bool, true, false, List, length, drop, Option, Some, None, IfSome, MatchBool}
 use Rattle.emu_model.specs.declared.trap.Ended.{Ended}
 use Rattle.emu_model.specs.declared.trap.Ended.TheVariants.{Exit, Trap}
 use Rattle.emu_model.specs.Access.{address}
@@ -8,12 +8,13 @@ use Rattle.emu_system.specs.Start.{with_input}
 use Rattle.emu_system.specs.SystemCall.{action, went_on}
 use Rattle.linux_calls.specs.declared.end.CallEnd.{CallEnd}
 use Rattle.linux_calls.specs.declared.end.CallEnd.TheVariants.{Returned, Exit as CallExit, ReadFault as CallReadFault, WriteFault as CallWriteFault, ErrorsFault as CallErrorsFault}
-use Rattle.linux_calls.specs.Ends.{Stores}
+use Rattle.linux_calls.specs.Ends.{OfInput, Stores}
 use Rattle.linux_calls.specs.Puts.{Gains}
 use Rattle.emu_machine.specs.declared.ends.StepEnd.{StepEnd}
 use Rattle.emu_machine.specs.declared.ends.StepEnd.TheVariants.{Going, Exit as StepExit, Trap as StepTrap, ReadFault as StepReadFault, WriteFault as StepWriteFault, ErrorsFault as StepErrorsFault}
 use Rattle.emu_machine.specs.declared.ends.RunEnd.{RunEnd}
 use Rattle.emu_machine.specs.declared.ends.RunEnd.TheVariants.{Exit as RunExit, Trap as RunTrap, Spent, ReadFault, WriteFault, ErrorsFault}
+use Rattle.emu_machine.specs.Machines.{is_at_call}
 
 -- ---- the answers
 
@@ -92,6 +93,10 @@ pub record IsKept (old new : Parts) (told left : Option (List ℕ)) : Type 0 whe
 -- where the input told its bytes: the machine is what f makes of it, and what f leaves of the input is left
 abbrev pub Becomes : (State → State) → Parts → Parts → Option (List ℕ) → Option (List ℕ) → Bool → Type 0
 Becomes f old new told left broken = IfSome told (λ bytes. broken ≡ false → (new ≡ (f (with_input old bytes)).parts) × (left ≡ Some (f (with_input old bytes)).input))
+
+-- where the input tells its bytes; a step that isn't at a call, or is at one that takes none, doesn't look at them
+abbrev pub OfStep : Parts → Option (List ℕ) → (List ℕ → Type 0) → Type 0
+OfStep m told P = MatchBool (is_at_call m) (OfInput (action m) told P) ((bytes : List ℕ) → P bytes)
 
 -- a rest of these bytes is left, and at least so many of them
 pub record LeftOf (bytes : List ℕ) (least : ℕ) (left : Option (List ℕ)) : Type 0 where

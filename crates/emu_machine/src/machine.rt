@@ -8,7 +8,7 @@ ghost use Rattle.emu_run.specs.Step as model;
 ghost use Rattle.emu_system.specs.SystemCall.{call, quiet, went_on};
 ghost use Rattle.emu_machine.specs.Accesses.{run_accesses};
 ghost use Rattle.linux_calls.specs.Names.{NamesRead};
-ghost use Rattle.emu_machine.specs.Ends.{step_end, run_end, run_end_of, is_undone, is_unput, is_broken_off, Becomes, TakesWithin, Puts, PutsAlways, IsKept};
+ghost use Rattle.emu_machine.specs.Ends.{step_end, run_end, run_end_of, is_undone, is_unput, is_broken_off, Becomes, OfStep, TakesWithin, Puts, PutsAlways, IsKept};
 ghost use Rattle.emu_machine.specs.Machines.{has_ended, is_at_call, is_svc, MakesRead, MakesWrite};
 
 use crate::ends::{RunEnd, StepEnd};
@@ -203,6 +203,7 @@ impl Machine {
 
     /// Takes one step: the word at the program counter is fetched and decoded, and its instruction is done.
     ///
+    /// What a step that is done makes of the machine rests on the input only at a call that takes bytes of it, and how it ends never does.
     /// `Going` and `Exit` count the step, and `Trap` doesn't. A fault of a stream is answered exactly where that stream failed, and the
     /// machine has then ended with the step not done: it is as before, but that bytes which the call took are stored. No step wants
     /// memory. The accesses are those of this step whatever it answers: a trap leaves those of the elements before the one that was
@@ -216,10 +217,12 @@ impl Machine {
         requires going { has_ended self.old ≡ false }
         requires room { self.old.parts.steps < 2 ^ 64 - 1 }
         ensures state { Becomes model.step self.old.parts self.new.parts (I.left input.old) (I.left input.new) (is_undone result) }
+        ensures machine { OfStep self.old.parts (I.left input.old) (λ bytes. is_undone result ≡ false → self.new.parts ≡ (model.step (with_input self.old.parts bytes)).parts) }
         ensures input { TakesWithin model.step self.old.parts (I.left input.old) (I.left input.new) (is_undone result) }
         ensures output { PutsAlways (λ st. (model.step st).output) self.old.parts (O.held output.old) (O.held output.new) (is_undone result) }
         ensures errors { PutsAlways (λ st. (model.step st).errors) self.old.parts (E.held errors.old) (E.held errors.new) (is_undone result) }
         ensures end { is_undone result ≡ false → result ≡ step_end self.new.parts.ended }
+        ensures ends { (bytes : List ℕ) → is_undone result ≡ false → result ≡ step_end (model.step (with_input self.old.parts bytes)).parts.ended }
         ensures counted { result ≡ StepEnd.Going → self.new.parts.steps ≡ self.old.parts.steps + 1 }
         ensures kept { is_undone result ≡ true → IsKept self.old.parts self.new.parts (I.left input.old) (I.left input.new) }
         ensures unstored { is_unput result ≡ true → self.new.parts ≡ self.old.parts }

@@ -1,11 +1,84 @@
--- The program is complete.
-use Rattle.std.proofs.Common.{◌≡◌, ◌⊎◌, inl, inr, ℕ, Bool, false, List, Option, Some, None, IfSome, MatchBool, refl, sym, ap, subst, ◌∙◌}
+-- What a line promises where its input told its bytes, and where it rests on none; and that the program is complete.
+use Rattle.std.proofs.Common.{◌≡◌, ◌⊎◌, inl, inr, ℕ, Bool, true, false, List, Option, Some, None, Result, IfSome, MatchBool, refl, sym, ap, subst, ◌∙◌}
 use Rattle.io_gate.specs.Streams.{Rose}
 use Rattle.emu_outcome.specs.Outcome.{Outcome, Files, result_of}
 use Rattle.emu_outcome.specs.declared.ending.Ending.{Ending}
-use Rattle.emu_outcome.specs.declared.ending.Ending.TheVariants.{FileFault, ReadFault, WriteFault, ErrorsFault, OutOfMemory}
-use Rattle.commands.specs.Promises.{is_failure, Before, Now, now, IfTold, Answers, Meets, NamesNoFile}
+use Rattle.emu_outcome.specs.declared.ending.Ending.TheVariants.{Exit, Trap, Spent, WordsRefused, ImageRefused, ListingRefused, ScriptRefused, TooLong, FileFault, ReadFault, WriteFault, ErrorsFault, OutOfMemory}
+use Rattle.command_model.specs.declared.command_line.Line.{Line}
+use Rattle.command_model.specs.declared.command_line.WordsFault.{WordsFault}
+use Rattle.commands.specs.Lines.{runs_machine, IsOutcome}
+use Rattle.commands.specs.Promises.{is_failure, is_refusal, rests_on_none, settled_ending, output_of, errors_of, now, CountsFor, EndsAs, Gains, Meets, NamesNoFile, Settles}
 use Rattle.svemu.specs.Headline.{Completes, IsQuiet}
+
+-- ---- for the input that was told, and for any where the line rests on none
+
+-- a refusal isn't the end of a run
+refusal_is : (e : Ending) → is_refusal e ≡ true → settled_ending e ≡ Some e
+refusal_is (WordsRefused fault) is = refl
+refusal_is (TooLong limit) is = refl
+refusal_is (ImageRefused fault) is = refl
+refusal_is (ListingRefused fault) is = refl
+refusal_is (ScriptRefused fault) is = refl
+refusal_is e is = cc
+
+is_of : (o : Option Outcome) (bytes : List ℕ) → CountsFor (Some bytes) o bytes
+is_of o bytes = elim (rests_on_none o) as (λ b. MatchBool b (Unit {0}) (Some bytes ≡ Some bytes)) [ true ↦ record {} | false ↦ refl ]
+
+module _ (words : List (List ℕ)) (result : Ending) (o0 e0 o1 e1 : Option (List ℕ)) where
+  -- what is promised for these bytes of the input, whatever it told and has left
+  pub record MeetsFor (files : Files) (bytes : List ℕ) : Type 0 where
+    pub ends : is_failure result ≡ false → EndsAs (result_of words files bytes) result
+    pub output : IfSome o0 (λ had. Gains (is_failure result) o1 had (output_of (result_of words files bytes)))
+    pub errors : IfSome e0 (λ had. Gains (is_failure result) e1 had (errors_of (result_of words files bytes)))
+
+  -- an ending that isn't a run's is the outcome's
+  ends_so : (e r : Ending) → settled_ending e ≡ Some r → e ≡ r
+  ends_so (Exit code) r is = cc
+  ends_so (Trap trap pc) r is = cc
+  ends_so Spent r is = cc
+  ends_so e r is = cc
+
+  rests_ends : (o : Option Outcome) → rests_on_none o ≡ true → Settles o result → EndsAs o result
+  rests_ends None none settles = settles
+  rests_ends (Some outcome) none settles = ends_so result outcome.ending (settles ∙ refusal_is outcome.ending none)
+
+  meets_told : (files : Files) (bytes : List ℕ) (left : Option (List ℕ)) → Meets (result_of words files) result (now (Some bytes) o0 e0) (now left o1 e1) → MeetsFor files bytes
+  meets_told files bytes left m = record {
+    ends = m.ends;
+    output = m.output bytes (is_of (result_of words files bytes) bytes);
+    errors = m.errors bytes (is_of (result_of words files bytes) bytes);
+  }
+
+  meets_resting : (files : Files) (bytes : List ℕ) (old left : Option (List ℕ)) → rests_on_none (result_of words files bytes) ≡ true
+      → Meets (result_of words files) result (now old o0 e0) (now left o1 e1) → MeetsFor files bytes
+  meets_resting files bytes old left none m =
+      let of : CountsFor old (result_of words files bytes) bytes = subst (λ (b : Bool). MatchBool b (Unit {0}) (old ≡ Some bytes)) (sym none) (record {}) in
+      record {
+        ends = λ fine. rests_ends (result_of words files bytes) none (m.settled fine bytes);
+        output = m.output bytes of;
+        errors = m.errors bytes of;
+      }
+
+  meets_machine : (files : Files) (bytes : List ℕ) (old left : Option (List ℕ)) → CountsFor old (result_of words files bytes) bytes
+      → Meets (result_of words files) result (now old o0 e0) (now left o1 e1) → MeetsFor files bytes
+  meets_machine files bytes old left of m =
+      elim (rests_on_none (result_of words files bytes)) as (λ b. rests_on_none (result_of words files bytes) ≡ b → MatchBool b (Unit {0}) (old ≡ Some bytes) → MeetsFor files bytes) [
+        | true ↦ λ none _. meets_resting files bytes old left none m
+        | false ↦ λ _ told. meets_told files bytes left (subst (λ (t : Option (List ℕ)). Meets (result_of words files) result (now t o0 e0) (now left o1 e1)) told m)
+      ] refl of
+
+  pub meets_for : (named : Option Files) (l : Result Line WordsFault) (told left : Option (List ℕ))
+      → IfSome named (λ files. Meets (result_of words files) result (now told o0 e0) (now left o1 e1))
+      → (runs_machine l ≡ false → (input : Option (List ℕ)) → IfSome named (λ files. Meets (result_of words files) result (now input o0 e0) (now input o1 e1)))
+      → IfSome named (λ files. (bytes : List ℕ) → IsOutcome l told (result_of words files bytes) bytes → MeetsFor files bytes)
+  meets_for None l told left meets without = tt
+  meets_for (Some files) l told left meets without = λ bytes of.
+      elim (runs_machine l) as (λ b. runs_machine l ≡ b → MatchBool b (CountsFor told (result_of words files bytes) bytes) (Unit {0}) → MeetsFor files bytes) [
+        | true ↦ λ _ is. meets_machine files bytes told left is meets
+        | false ↦ λ still _. meets_told files bytes (Some bytes) (without still (Some bytes))
+      ] refl of
+
+-- ---- completeness
 
 in_files : (words : List (List ℕ)) (files : Files) (input : List ℕ) → NamesNoFile (result_of words) (Some files) → result_of words files input ≡ None
 in_files words files input n = let same : files ≡ n.files = (let is : Some files ≡ Some n.files = n.is in cc) in ap (λ (x : Files). result_of words x input) same ∙ n.missing input
@@ -17,35 +90,25 @@ or_memory (Some outcome) = inr refl
 missing_file : (o : Option Outcome) → o ≡ None → Completes o FileFault
 missing_file o e = subst (λ (x : Option Outcome). Completes x FileFault) (sym e) (inl refl)
 
-answered : (o : Option Outcome) (ending : Ending) (before : Before) (after : Now) → Answers o ending before after → Completes o ending
-answered None ending before after a = absurd a
-answered (Some outcome) ending before after a = inl a.ending_is
+ended : (o : Option Outcome) (ending : Ending) → EndsAs o ending → Completes o ending
+ended None ending e = absurd e
+ended (Some outcome) ending e = inl e
 
-module _ (words : List (List ℕ)) (files : Files) (f0 f1 i0 i1 o0 o1 e0 e1 : ℕ) (before : Before) (after : Now) where
-  abbrev out : Option Outcome
-  out = result_of words files before.input
+-- where no count rose, the ending is the result's or want of memory
+completes : (words : List (List ℕ)) (files : Files) (bytes : List ℕ) (f0 f1 i0 i1 o0 o1 e0 e1 : ℕ) (result : Ending) → (is_failure result ≡ false → EndsAs (result_of words files bytes) result)
+    → (result ≡ FileFault → Rose f0 f1 ⊎ NamesNoFile (result_of words) (Some files)) → (result ≡ ReadFault → Rose i0 i1) → (result ≡ WriteFault → Rose o0 o1) → (result ≡ ErrorsFault → Rose e0 e1)
+    → IsQuiet f0 f1 → IsQuiet i0 i1 → IsQuiet o0 o1 → IsQuiet e0 e1 → Completes (result_of words files bytes) result
+completes words files bytes f0 f1 i0 i1 o0 o1 e0 e1 FileFault ends f r w x qf qi qo qe =
+    elim (f refl) [ inl rose ↦ absurd (qf rose) | inr n ↦ missing_file (result_of words files bytes) (in_files words files bytes n) ]
+completes words files bytes f0 f1 i0 i1 o0 o1 e0 e1 ReadFault ends f r w x qf qi qo qe = absurd (qi (r refl))
+completes words files bytes f0 f1 i0 i1 o0 o1 e0 e1 WriteFault ends f r w x qf qi qo qe = absurd (qo (w refl))
+completes words files bytes f0 f1 i0 i1 o0 o1 e0 e1 ErrorsFault ends f r w x qf qi qo qe = absurd (qe (x refl))
+completes words files bytes f0 f1 i0 i1 o0 o1 e0 e1 OutOfMemory ends f r w x qf qi qo qe = or_memory (result_of words files bytes)
+completes words files bytes f0 f1 i0 i1 o0 o1 e0 e1 ending ends f r w x qf qi qo qe = ended (result_of words files bytes) ending (ends refl)
 
-  pub completes : (result : Ending) → (is_failure result ≡ false → Answers out result before after)
-      → (result ≡ FileFault → Rose f0 f1 ⊎ NamesNoFile (result_of words) (Some files)) → (result ≡ ReadFault → Rose i0 i1) → (result ≡ WriteFault → Rose o0 o1) → (result ≡ ErrorsFault → Rose e0 e1)
-      → IsQuiet f0 f1 → IsQuiet i0 i1 → IsQuiet o0 o1 → IsQuiet e0 e1 → Completes out result
-  completes FileFault answer f r w x qf qi qo qe = elim (f refl) [ inl rose ↦ absurd (qf rose) | inr n ↦ missing_file out (in_files words files before.input n) ]
-  completes ReadFault answer f r w x qf qi qo qe = absurd (qi (r refl))
-  completes WriteFault answer f r w x qf qi qo qe = absurd (qo (w refl))
-  completes ErrorsFault answer f r w x qf qi qo qe = absurd (qe (x refl))
-  completes OutOfMemory answer f r w x qf qi qo qe = or_memory out
-  completes ending answer f r w x qf qi qo qe = answered out ending before after (answer refl)
-
-fine_of : (ending : Ending) (P Q : Type 0) → is_failure ending ≡ false → MatchBool (is_failure ending) P Q → Q
-fine_of ending P Q fine m = subst (λ (b : Bool). MatchBool b P Q) fine m
-
-pub complete_command : (words : List (List ℕ)) (named : Option Files) (i o e : Option (List ℕ)) (new : Now) (f0 f1 i0 i1 o0 o1 e0 e1 : ℕ) (result : Ending)
-    → IfSome named (λ files. Meets (result_of words files) result (now i o e) new)
+pub complete_command : (words : List (List ℕ)) (named : Option Files) (f0 f1 i0 i1 o0 o1 e0 e1 : ℕ) (result : Ending) (May : Files → List ℕ → Type 0)
+    → IfSome named (λ files. (bytes : List ℕ) → May files bytes → is_failure result ≡ false → EndsAs (result_of words files bytes) result)
     → (result ≡ FileFault → Rose f0 f1 ⊎ NamesNoFile (result_of words) named) → (result ≡ ReadFault → Rose i0 i1) → (result ≡ WriteFault → Rose o0 o1) → (result ≡ ErrorsFault → Rose e0 e1)
-    → IfSome named (λ files. IfTold (now i o e) (λ before. IsQuiet f0 f1 → IsQuiet i0 i1 → IsQuiet o0 o1 → IsQuiet e0 e1 → Completes (result_of words files before.input) result))
-complete_command words None i o e new f0 f1 i0 i1 o0 o1 e0 e1 result meets f r w x = tt
-complete_command words (Some files) None o e new f0 f1 i0 i1 o0 o1 e0 e1 result meets f r w x = tt
-complete_command words (Some files) (Some i) None e new f0 f1 i0 i1 o0 o1 e0 e1 result meets f r w x = tt
-complete_command words (Some files) (Some i) (Some o) None new f0 f1 i0 i1 o0 o1 e0 e1 result meets f r w x = tt
-complete_command words (Some files) (Some i) (Some o) (Some e) new f0 f1 i0 i1 o0 o1 e0 e1 result meets f r w x =
-    let before : Before = record { input = i; output = o; errors = e } in
-    completes words files f0 f1 i0 i1 o0 o1 e0 e1 before new result (λ fine. fine_of result _ _ fine meets) f r w x
+    → IfSome named (λ files. (bytes : List ℕ) → May files bytes → IsQuiet f0 f1 → IsQuiet i0 i1 → IsQuiet o0 o1 → IsQuiet e0 e1 → Completes (result_of words files bytes) result)
+complete_command words None f0 f1 i0 i1 o0 o1 e0 e1 result May ends f r w x = tt
+complete_command words (Some files) f0 f1 i0 i1 o0 o1 e0 e1 result May ends f r w x = λ bytes may. completes words files bytes f0 f1 i0 i1 o0 o1 e0 e1 result (ends bytes may) f r w x

@@ -1,10 +1,11 @@
 //! The top call: from the words of the command line to the ending.
-ghost use Rattle.std.specs.Prelude.{◌≡◌, ◌≢◌, ◌≤◌, ◌⊎◌, map, string_bytes, IfSome, true, false};
+ghost use Rattle.std.specs.Prelude.{◌≡◌, ◌≢◌, ◌≤◌, ◌⊎◌, ℕ, List, map, string_bytes, IfErr, IfOk, IfSome, true, false};
 ghost use Rattle.io_gate.specs.Streams.{Rose, Causes};
 ghost use Rattle.command_model.specs.CommandLine.{line};
+ghost use Rattle.command_model.specs.Refusals.{words_line};
 ghost use Rattle.emu_outcome.specs.Outcome.{result_of};
-ghost use Rattle.commands.specs.Lines.{runs_machine, RefusesLine, MissesFirst, EndsMissing};
-ghost use Rattle.commands.specs.Promises.{is_failure, is_silent, now, IfTold, Answers, Stops, NamesNoFile};
+ghost use Rattle.commands.specs.Lines.{runs_machine, may_end, IsOutcome, RefusesLine, MissesFirst, EndsMissing};
+ghost use Rattle.commands.specs.Promises.{is_failure, is_silent, output_of, errors_of, taken_of, EndsAs, Gains, Loses, NamesNoFile, Settles};
 ghost use Rattle.svemu.specs.Headline.{IsQuiet, Completes};
 
 use commands::command;
@@ -16,9 +17,9 @@ use std::alloc::Global;
 /// name, and the guest reads `input` and writes to `output` and `errors`. A session's lines, the executable of a listing and the text of
 /// instructions go to `output`. How a run ended, with its registers, and why a command was refused is put on `errors`.
 ///
-/// Where files and streams tell their bytes, the ending and all that is written are those of the definitions' result, unless
-/// a file or a stream failed or memory was wanting. Each fault comes where its object failed, and that of a file where there is
-/// none of its name, and nowhere else.
+/// Unless a file or a stream failed or memory was wanting, the ending and all that is written are those of the definitions' result. That is
+/// said where the files tell their bytes, and the input too where a machine is run; of what a sink gained where it tells its own. Each fault
+/// comes where its object failed, and that of a file where there is none of its name, and nowhere else.
 pub fn svemu<F: Images, I: Source, O: Sink, E: Sink>(
     alloc: Global,
     words: &[String],
@@ -27,21 +28,29 @@ pub fn svemu<F: Images, I: Source, O: Sink, E: Sink>(
     output: &mut O,
     errors: &mut E,
 ) -> Ending
-    // The ending, what was written and what was taken are those of the command's result.
-    ensures answer { IfSome (F.named files.old) (λ named. IfTold (now (I.left input.old) (O.held output.old) (E.held errors.old))
-        (λ before. is_failure result ≡ false → Answers (result_of (map string_bytes words.now) named before.input) result before
-        (now (I.left input.new) (O.held output.new) (E.held errors.new)))) }
+    // The ending is that of the command's result; and one that isn't the end of a run is so whatever the input has or tells.
+    ensures ending { IfSome (F.named files.old) (λ named. (bytes : List ℕ) → IsOutcome (line (map string_bytes words.now)) (I.left input.old) (result_of (map string_bytes words.now) named bytes) bytes
+        → is_failure result ≡ false → EndsAs (result_of (map string_bytes words.now) named bytes) result) }
+    ensures settled { IfSome (F.named files.old) (λ named. is_failure result ≡ false → (bytes : List ℕ)
+        → Settles (result_of (map string_bytes words.now) named bytes) result) }
 
-    // After a failure, what was written are first bytes of what the result writes, and no more was taken than it takes.
-    ensures prefix { IfSome (F.named files.old) (λ named. IfTold (now (I.left input.old) (O.held output.old) (E.held errors.old))
-        (λ before. is_failure result ≡ true → Stops (result_of (map string_bytes words.now) named before.input) before
-        (now (I.left input.new) (O.held output.new) (E.held errors.new)))) }
+    // The output and the errors gained just the bytes of the result, and the input lost just as many as it takes; after a failure they gained
+    // first bytes of these, and it lost no more.
+    ensures output { IfSome (F.named files.old) (λ named. (bytes : List ℕ) → IsOutcome (line (map string_bytes words.now)) (I.left input.old) (result_of (map string_bytes words.now) named bytes) bytes
+        → IfSome (O.held output.old) (λ had. Gains (is_failure result) (O.held output.new) had (output_of (result_of (map string_bytes words.now) named bytes)))) }
+    ensures errors { IfSome (F.named files.old) (λ named. (bytes : List ℕ) → IsOutcome (line (map string_bytes words.now)) (I.left input.old) (result_of (map string_bytes words.now) named bytes) bytes
+        → IfSome (E.held errors.old) (λ had. Gains (is_failure result) (E.held errors.new) had (errors_of (result_of (map string_bytes words.now) named bytes)))) }
+    ensures input { IfSome (F.named files.old) (λ named. IfSome (I.left input.old)
+        (λ bytes. Loses (is_failure result) (I.left input.new) bytes (taken_of (result_of (map string_bytes words.now) named bytes)))) }
 
     // Where no count of faults rose, the command ends as its result says, or memory was wanting.
-    ensures complete { IfSome (F.named files.old) (λ named. IfTold (now (I.left input.old) (O.held output.old) (E.held errors.old))
-        (λ before. IsQuiet (F.faults files.old) (F.faults files.new) → IsQuiet (I.faults input.old) (I.faults input.new)
+    ensures complete { IfSome (F.named files.old) (λ named. (bytes : List ℕ) → IsOutcome (line (map string_bytes words.now)) (I.left input.old) (result_of (map string_bytes words.now) named bytes) bytes
+        → IsQuiet (F.faults files.old) (F.faults files.new) → IsQuiet (I.faults input.old) (I.faults input.new)
         → IsQuiet (O.faults output.old) (O.faults output.new) → IsQuiet (E.faults errors.old) (E.faults errors.new)
-        → Completes (result_of (map string_bytes words.now) named before.input) result)) }
+        → Completes (result_of (map string_bytes words.now) named bytes) result) }
+
+    // Whatever is told, a line that isn't refused ends only as its command may, and TooLong has the limit.
+    ensures kind { IfOk (line (map string_bytes words.now)) (λ l. may_end l result ≡ true) }
 
     // A file is at fault where the count of files rose, or where the words name one that there isn't, and only there; nothing was
     // moved then.
@@ -65,8 +74,11 @@ pub fn svemu<F: Images, I: Source, O: Sink, E: Sink>(
     ensures no_input { runs_machine (line (map string_bytes words.now)) ≡ false → (input.new ≡ input.old) × (result ≢ Ending.ReadFault) }
     ensures no_errors { runs_machine (line (map string_bytes words.now)) ≡ false → is_silent result ≡ true → errors.new ≡ errors.old }
 
-    // A line is refused exactly where the definitions refuse it.
+    // A line is refused exactly where the definitions refuse it; its line goes to the errors, and nothing to the output.
     ensures refused { RefusesLine (line (map string_bytes words.now)) result }
+    ensures refused_output { IfErr (line (map string_bytes words.now)) (λ _. output.new ≡ output.old) }
+    ensures refused_errors { IfErr (line (map string_bytes words.now)) (λ fault. IfSome (E.held errors.old)
+        (λ had. Gains (is_failure result) (E.held errors.new) had (words_line fault))) }
 {
     command(alloc, words, files, input, output, errors)
 }

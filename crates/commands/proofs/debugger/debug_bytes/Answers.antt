@@ -1,9 +1,13 @@
-use Rattle.std.proofs.Common.{map, string_bytes, sym, ap, ◌∙◌}
+use Rattle.std.proofs.Common.{map, string_bytes, sym, ap, ◌∙◌, ◌≡◌, true, refl, subst}
 use Rattle.elf_image.specs.Images.{seen, seen_image}
 use Rattle.emu_system.specs.Image.{elf}
 use Rattle.commands.specs.Promises.{now}
 use Rattle.commands.specs.Programs.{arguments_of}
 use Rattle.commands.proofs.Sessions.{refused_program, accepted_program}
+use Rattle.commands.proofs.MayEnd.{kind_put}
+use Rattle.commands.specs.Lines.{ends_dbg}
+use Rattle.emu_outcome.specs.declared.ending.Ending.TheVariants.{ImageRefused}
+use Rattle.emu_outcome.specs.declared.ending.Ending.{Ending}
 use Rattle.commands.proofs.debugger.debug_bytes.Goals as goal
 
 pub returns-in-Err-clause-outcome : goal.returns-in-Err-clause-outcome
@@ -17,3 +21,6 @@ returns-in-Ok-clause-outcome g c =
     accepted_program c.args.bytes.now c.args.text.now (arguments_of (map string_bytes c.args.words.now) c.args.program.now) c.args.program.now.length c.args.program.now.budget c.args.program.now.pages (elf c.args.bytes.now c.args.program.now.pages)
     (now (g.I.Source.left c.args.input.now) (g.O.Sink.held c.args.output.now) (g.E.Sink.held c.args.errors.now)) (seen_image c.in-Ok.image) _ c.debug_image.result
     (ap seen (sym c.in-Ok.is) ∙ c.read.ensures.image) c.debug_image.ensures.outcome
+
+pub returns-in-Err-clause-kind : goal.returns-in-Err-clause-kind
+returns-in-Err-clause-kind g c = subst (λ (x : Ending). ends_dbg x ≡ true) (sym c.ending_after_line.ensures) (kind_put ends_dbg c.put_image_refusal.result (ImageRefused c.in-Err.fault) refl refl)

@@ -8,6 +8,7 @@ use Rattle.commands.specs.Promises.{now, Meets}
 use Rattle.commands.specs.Programs.{arguments_of}
 use Rattle.commands.specs.declared.program.Program.{Program}
 use Rattle.commands.proofs.NamedFiles.{found_file, names_missing, over_two, second_misses, second_missing, unread_file, unread_missing}
+use Rattle.commands.proofs.MayEnd.{stops_dbg}
 use Rattle.commands.proofs.debugger.debug_file.Goals as goal
 
 -- what comes of the bytes of both files
@@ -58,3 +59,6 @@ pub returns-in-Err-clause-missing : goal.returns-in-Err-clause-missing
 returns-in-Err-clause-missing g c = λ names.
     let ws = map string_bytes c.args.words.now in
     unread_missing (over_two (outcome c.args.program.now) ws c.args.script) (g.F.Images.named c.args.files.now) ws c.args.program.now.file c.word.result.now c.in-Err.ending c.word.ensures c.in-Err.ensures.unread names
+
+pub returns-in-Err-clause-kind : goal.returns-in-Err-clause-kind
+returns-in-Err-clause-kind g c = stops_dbg c.in-Err.ending c.in-Err.ensures.kind

@@ -1,4 +1,4 @@
-use Rattle.std.proofs.Common.{Err, map, string_bytes, ap, refl, sym, ◌∙◌}
+use Rattle.std.proofs.Common.{Err, map, string_bytes, ap, refl, sym, ◌∙◌, ◌≡◌, true, subst}
 use Rattle.dbg_model.specs.declared.script.ScriptFault.{ScriptFault}
 use Rattle.dbg_model.specs.Script.{script_of_file}
 use Rattle.elf_image.specs.Images.{seen_image}
@@ -9,6 +9,9 @@ use Rattle.commands.specs.Promises.{now}
 use Rattle.commands.specs.Programs.{arguments_of}
 use Rattle.commands.proofs.Meetings.{nothing_meets}
 use Rattle.commands.proofs.Sessions.{is_refused, of_script, refused_script, obeyed_script}
+use Rattle.commands.proofs.MayEnd.{kind_put}
+use Rattle.commands.specs.Lines.{ends_dbg}
+use Rattle.emu_outcome.specs.declared.ending.Ending.{Ending}
 use Rattle.commands.proofs.debugger.debug_image.Goals as goal
 
 pub returns-in-Err-Refused-clause-outcome : goal.returns-in-Err-Refused-clause-outcome
@@ -32,3 +35,6 @@ returns-clause-outcome g c =
     obeyed_script c.args.program.now.budget (opening c.args.bytes.now (seen_image c.args.image.now) (arguments_of (map string_bytes c.args.words.now) c.args.program.now) c.args.program.now.length c.args.program.now.pages) (script_of_file c.args.text.now)
     (now (g.I.Source.left c.args.input.now) (g.O.Sink.held c.args.output.now) (g.E.Sink.held c.args.errors.now)) c.in-Ok.script c.in-Ok-open_machine.machine.parts _ c.debug_machine.result
     c.in-Ok.ensures (ap (λ (x : Machine). x.parts) c.in-Ok-open_machine.ensures) c.debug_machine.ensures.outcome
+
+pub returns-in-Err-Refused-clause-kind : goal.returns-in-Err-Refused-clause-kind
+returns-in-Err-Refused-clause-kind g c = subst (λ (x : Ending). ends_dbg x ≡ true) (sym c.ending_after_line.ensures) (kind_put ends_dbg c.put_script_refusal.result _ refl refl)

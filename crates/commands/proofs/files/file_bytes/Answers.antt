@@ -1,7 +1,11 @@
-use Rattle.std.proofs.Common.{◌≡◌, Ok, Err, refl}
+use Rattle.std.proofs.Common.{◌≡◌, Ok, Err, refl, true, sym, subst}
 use Rattle.io_gate.specs.declared.images.ImagesError.TheVariants as images
-use Rattle.emu_outcome.specs.declared.ending.Ending.TheVariants.{FileFault, OutOfMemory}
+use Rattle.emu_outcome.specs.declared.ending.Ending.TheVariants.{TooLong, FileFault, OutOfMemory}
 use Rattle.commands.proofs.NamedFiles.{ends_long, found_is_there, gives_line, gives_nothing, is_there, told_too_long, told_wanting}
+use Rattle.commands.proofs.MayEnd.{kind_put}
+use Rattle.emu_outcome.specs.Outcome.{file_limit}
+use Rattle.commands.specs.Lines.{stops_any}
+use Rattle.emu_outcome.specs.declared.ending.Ending.{Ending}
 use Rattle.commands.proofs.files.file_bytes.Goals as goal
 
 pub returns-in-Err-Failed-clause-content : goal.returns-in-Err-Failed-clause-content
@@ -37,3 +41,6 @@ returns-in-Err-TooLong-clause-missing g c = λ missing. absurd (found_is_there (
 pub returns-in-Err-OutOfMemory-clause-missing : goal.returns-in-Err-OutOfMemory-clause-missing
 returns-in-Err-OutOfMemory-clause-missing g c = λ missing. absurd (is_there (g.F.Images.named c.args.files.now) c.args.name.now
     (told_wanting (g.F.Images.named c.args.files.now) c.args.name.now c.read_whole.result c.in-Err-OutOfMemory.field-0 c.in-Err-OutOfMemory.is c.in-Err-OutOfMemory.field-0-is c.read_whole.ensures.content) missing)
+
+pub returns-in-Err-TooLong-clause-kind : goal.returns-in-Err-TooLong-clause-kind
+returns-in-Err-TooLong-clause-kind g c = subst (λ (x : Ending). stops_any x ≡ true) (sym c.ending_after_line.ensures) (kind_put stops_any c.put_too_long.result (TooLong file_limit) refl refl)

@@ -1,12 +1,13 @@
-use Rattle.std.proofs.Common.{◌≡◌, ◌⊎◌, Result, true, false, IfSome, map, string_bytes, sym, subst, ◌∙◌}
+use Rattle.std.proofs.Common.{◌≡◌, ◌⊎◌, ℕ, List, Option, Result, true, false, IfErr, IfOk, IfSome, map, string_bytes, refl, sym, subst, ◌∙◌}
 use Rattle.io_gate.specs.Streams.{Rose}
+use Rattle.command_model.specs.Refusals.{words_line}
 use Rattle.command_model.specs.declared.command_line.Line.{Line}
 use Rattle.command_model.specs.declared.command_line.WordsFault.{WordsFault}
 use Rattle.emu_outcome.specs.Outcome.{outcome_of_line}
 use Rattle.emu_outcome.specs.declared.ending.Ending.TheVariants.{FileFault, ReadFault}
-use Rattle.commands.specs.Promises.{now, Meets, NamesNoFile, is_silent}
-use Rattle.commands.specs.Lines.{EndsMissing, MissesFirst, runs_machine}
-use Rattle.commands.proofs.Lines.{refused_line, refused_names_none, refused_puts, done_refuses, line_refuses}
+use Rattle.commands.specs.Promises.{Gains, now, Meets, NamesNoFile, is_failure, is_silent}
+use Rattle.commands.specs.Lines.{EndsMissing, MissesFirst, may_end, runs_machine}
+use Rattle.commands.proofs.Lines.{refused_gains, refused_line, refused_names_none, refused_puts, done_refuses, line_refuses}
 use Rattle.commands.proofs.line.command.Goals as goal
 
 -- ---- a refused line
@@ -14,6 +15,11 @@ use Rattle.commands.proofs.line.command.Goals as goal
 pub returns-in-Err-clause-outcome : goal.returns-in-Err-clause-outcome
 returns-in-Err-clause-outcome g c =
     refused_line (map string_bytes c.args.words.now) (g.F.Images.named c.args.files.now) (g.I.Source.left c.args.input.now) (g.O.Sink.held c.args.output.now) (g.E.Sink.held c.args.errors.now)
+    c.in-Err.fault _ c.put_words_refusal.result c.ending_after_line.result (sym c.in-Err.is ∙ c.line_of_words-line.ensures.line) c.ending_after_line.ensures c.put_words_refusal.ensures.bytes
+
+pub returns-in-Err-clause-without_input : goal.returns-in-Err-clause-without_input
+returns-in-Err-clause-without_input g c = λ _ input.
+    refused_line (map string_bytes c.args.words.now) (g.F.Images.named c.args.files.now) input (g.O.Sink.held c.args.output.now) (g.E.Sink.held c.args.errors.now)
     c.in-Err.fault _ c.put_words_refusal.result c.ending_after_line.result (sym c.in-Err.is ∙ c.line_of_words-line.ensures.line) c.ending_after_line.ensures c.put_words_refusal.ensures.bytes
 
 pub returns-in-Err-clause-refused : goal.returns-in-Err-clause-refused
@@ -30,6 +36,17 @@ returns-in-Err-clause-missing_first g c =
 pub returns-in-Err-clause-no_errors : goal.returns-in-Err-clause-no_errors
 returns-in-Err-clause-no_errors g c = λ _ silent. absurd (refused_puts c.in-Err.fault c.put_words_refusal.result c.ending_after_line.result c.ending_after_line.ensures silent)
 
+pub returns-in-Err-clause-kind : goal.returns-in-Err-clause-kind
+returns-in-Err-clause-kind g c = subst (λ (r : Result Line WordsFault). IfOk r (λ l. may_end l c.ending_after_line.result ≡ true)) (sym c.in-Err.is ∙ c.line_of_words-line.ensures.line) tt
+
+pub returns-in-Err-clause-refused_output : goal.returns-in-Err-clause-refused_output
+returns-in-Err-clause-refused_output g c =
+    subst (λ (r : Result Line WordsFault). IfErr r (λ _. c.args.output.now ≡ c.args.output.now)) (sym c.in-Err.is ∙ c.line_of_words-line.ensures.line) refl
+
+pub returns-in-Err-clause-refused_errors : goal.returns-in-Err-clause-refused_errors
+returns-in-Err-clause-refused_errors g c =
+    refused_gains c.in-Err.fault _ _ _ c.put_words_refusal.result c.ending_after_line.result (sym c.in-Err.is ∙ c.line_of_words-line.ensures.line) c.ending_after_line.ensures c.put_words_refusal.ensures.bytes
+
 -- ---- a line that is done
 
 pub returns-in-Ok-clause-outcome : goal.returns-in-Ok-clause-outcome
@@ -37,6 +54,12 @@ returns-in-Ok-clause-outcome g c =
     subst (λ (r : Result Line WordsFault). IfSome (g.F.Images.named c.args.files.now) (λ files. Meets (λ input. outcome_of_line (map string_bytes c.args.words.now) files input r) c.run_line.result
     (now (g.I.Source.left c.args.input.now) (g.O.Sink.held c.args.output.now) (g.E.Sink.held c.args.errors.now)) (now (g.I.Source.left c.run_line.new.input) (g.O.Sink.held c.run_line.new.output) (g.E.Sink.held c.run_line.new.errors))))
     (sym c.in-Ok.is ∙ c.line_of_words-line.ensures.line) c.run_line.ensures.outcome
+
+pub returns-in-Ok-clause-without_input : goal.returns-in-Ok-clause-without_input
+returns-in-Ok-clause-without_input g c =
+    subst (λ (r : Result Line WordsFault). runs_machine r ≡ false → (told : Option (List ℕ)) → IfSome (g.F.Images.named c.args.files.now) (λ files. Meets (λ input. outcome_of_line (map string_bytes c.args.words.now) files input r) c.run_line.result
+    (now told (g.O.Sink.held c.args.output.now) (g.E.Sink.held c.args.errors.now)) (now told (g.O.Sink.held c.run_line.new.output) (g.E.Sink.held c.run_line.new.errors))))
+    (sym c.in-Ok.is ∙ c.line_of_words-line.ensures.line) c.run_line.ensures.without_input
 
 pub returns-in-Ok-clause-file_cause : goal.returns-in-Ok-clause-file_cause
 returns-in-Ok-clause-file_cause g c =
@@ -61,4 +84,16 @@ returns-in-Ok-clause-no_errors g c =
     subst (λ (r : Result Line WordsFault). runs_machine r ≡ false → is_silent c.run_line.result ≡ true → c.run_line.new.errors ≡ c.args.errors.now) (sym c.in-Ok.is ∙ c.line_of_words-line.ensures.line) c.run_line.ensures.no_errors
 
 pub returns-in-Ok-clause-refused : goal.returns-in-Ok-clause-refused
-returns-in-Ok-clause-refused g c = done_refuses c.in-Ok.line _ c.run_line.result (sym c.in-Ok.is ∙ c.line_of_words-line.ensures.line) c.run_line.ensures.no_words
+returns-in-Ok-clause-refused g c = done_refuses c.in-Ok.line _ c.run_line.result (sym c.in-Ok.is ∙ c.line_of_words-line.ensures.line) c.run_line.ensures.kind
+
+pub returns-in-Ok-clause-kind : goal.returns-in-Ok-clause-kind
+returns-in-Ok-clause-kind g c = subst (λ (r : Result Line WordsFault). IfOk r (λ l. may_end l c.run_line.result ≡ true)) (sym c.in-Ok.is ∙ c.line_of_words-line.ensures.line) c.run_line.ensures.kind
+
+pub returns-in-Ok-clause-refused_output : goal.returns-in-Ok-clause-refused_output
+returns-in-Ok-clause-refused_output g c =
+    subst (λ (r : Result Line WordsFault). IfErr r (λ _. c.run_line.new.output ≡ c.args.output.now)) (sym c.in-Ok.is ∙ c.line_of_words-line.ensures.line) tt
+
+pub returns-in-Ok-clause-refused_errors : goal.returns-in-Ok-clause-refused_errors
+returns-in-Ok-clause-refused_errors g c =
+    subst (λ (r : Result Line WordsFault). IfErr r (λ fault. IfSome (g.E.Sink.held c.args.errors.now) (λ had. Gains (is_failure c.run_line.result) (g.E.Sink.held c.run_line.new.errors) had (words_line fault))))
+    (sym c.in-Ok.is ∙ c.line_of_words-line.ensures.line) tt

@@ -1,4 +1,4 @@
-use Rattle.std.proofs.Common.{IfSome, map, string_bytes, refl, sym, subst}
+use Rattle.std.proofs.Common.{IfSome, map, string_bytes, refl, sym, subst, ◌≡◌, true}
 use Rattle.command_model.specs.declared.command_line.Line.{Line}
 use Rattle.command_model.specs.declared.command_line.Line.TheVariants.{Run, Asm, Dis}
 use Rattle.emu_outcome.specs.Outcome.{most_pages, outcome_of_image, outcome_of_listing, outcome_of_words, program_arguments}
@@ -8,6 +8,7 @@ use Rattle.listing_model.specs.Image.{image_of_bytes}
 use Rattle.commands.specs.Promises.{now, Meets}
 use Rattle.commands.specs.Programs.{outcome_over}
 use Rattle.commands.proofs.Lines.{cause_of_line, missing_of_line}
+use Rattle.commands.specs.Lines.{may_end}
 use Rattle.commands.proofs.line.run_line.Goals as goal
 
 pub returns-in-Run-clause-file_cause : goal.returns-in-Run-clause-file_cause
@@ -27,6 +28,12 @@ returns-in-Asm-clause-outcome g c =
     (now (g.I.Source.left c.args.input.now) (g.O.Sink.held c.args.output.now) (g.E.Sink.held c.args.errors.now)) (now (g.I.Source.left c.args.input.now) (g.O.Sink.held c.assemble_file.new.output) (g.E.Sink.held c.assemble_file.new.errors))))
     (sym c.in-Asm.is) (c.assemble_file.ensures.outcome (g.I.Source.left c.args.input.now))
 
+pub returns-in-Asm-clause-without_input : goal.returns-in-Asm-clause-without_input
+returns-in-Asm-clause-without_input g c = λ _ input.
+    subst (λ (l : Line). IfSome (g.F.Images.named c.args.files.now) (λ files. Meets (outcome_over (map string_bytes c.args.words.now) l files) c.assemble_file.result
+    (now input (g.O.Sink.held c.args.output.now) (g.E.Sink.held c.args.errors.now)) (now input (g.O.Sink.held c.assemble_file.new.output) (g.E.Sink.held c.assemble_file.new.errors))))
+    (sym c.in-Asm.is) (c.assemble_file.ensures.outcome input)
+
 pub returns-in-Asm-clause-file_cause : goal.returns-in-Asm-clause-file_cause
 returns-in-Asm-clause-file_cause g c =
     let ws = map string_bytes c.args.words.now in
@@ -44,6 +51,12 @@ returns-in-Dis-clause-outcome g c =
     (now (g.I.Source.left c.args.input.now) (g.O.Sink.held c.args.output.now) (g.E.Sink.held c.args.errors.now)) (now (g.I.Source.left c.args.input.now) (g.O.Sink.held c.disassemble_file.new.output) (g.E.Sink.held c.disassemble_file.new.errors))))
     (sym c.in-Dis.is) (c.disassemble_file.ensures.outcome (g.I.Source.left c.args.input.now))
 
+pub returns-in-Dis-clause-without_input : goal.returns-in-Dis-clause-without_input
+returns-in-Dis-clause-without_input g c = λ _ input.
+    subst (λ (l : Line). IfSome (g.F.Images.named c.args.files.now) (λ files. Meets (outcome_over (map string_bytes c.args.words.now) l files) c.disassemble_file.result
+    (now input (g.O.Sink.held c.args.output.now) (g.E.Sink.held c.args.errors.now)) (now input (g.O.Sink.held c.disassemble_file.new.output) (g.E.Sink.held c.disassemble_file.new.errors))))
+    (sym c.in-Dis.is) (c.disassemble_file.ensures.outcome input)
+
 pub returns-in-Dis-clause-file_cause : goal.returns-in-Dis-clause-file_cause
 returns-in-Dis-clause-file_cause g c =
     let ws = map string_bytes c.args.words.now in
@@ -53,3 +66,15 @@ pub returns-in-Dis-clause-missing : goal.returns-in-Dis-clause-missing
 returns-in-Dis-clause-missing g c =
     let ws = map string_bytes c.args.words.now in
     missing_of_line ws (g.F.Images.named c.args.files.now) c.args.line.now (Dis c.in-Dis.file) c.in-Dis.file (λ files bytes i. outcome_of_words bytes (elf bytes most_pages)) c.disassemble_file.result c.in-Dis.is refl c.disassemble_file.ensures.missing (λ fault. fault)
+
+pub returns-in-Run-clause-kind : goal.returns-in-Run-clause-kind
+returns-in-Run-clause-kind g c = subst (λ (l : Line). may_end l c.run_file.result ≡ true) (sym c.in-Run.is) c.run_file.ensures.kind
+
+pub returns-in-Asm-clause-kind : goal.returns-in-Asm-clause-kind
+returns-in-Asm-clause-kind g c = subst (λ (l : Line). may_end l c.assemble_file.result ≡ true) (sym c.in-Asm.is) c.assemble_file.ensures.kind
+
+pub returns-in-Dis-clause-kind : goal.returns-in-Dis-clause-kind
+returns-in-Dis-clause-kind g c = subst (λ (l : Line). may_end l c.disassemble_file.result ≡ true) (sym c.in-Dis.is) c.disassemble_file.ensures.kind
+
+pub returns-in-Dbg-clause-kind : goal.returns-in-Dbg-clause-kind
+returns-in-Dbg-clause-kind g c = subst (λ (l : Line). may_end l c.debug_file.result ≡ true) (sym c.in-Dbg.is) c.debug_file.ensures.kind

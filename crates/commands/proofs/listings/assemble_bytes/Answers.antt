@@ -1,10 +1,13 @@
-use Rattle.std.proofs.Common.{Some, refl}
+use Rattle.std.proofs.Common.{Some, refl, ◌≡◌, true, sym, subst}
 use Rattle.insn_texts.specs.Statements.{statements}
 use Rattle.listing_model.specs.Image.{image_of_bytes}
 use Rattle.emu_outcome.specs.Outcome.{outcome_of_listing}
-use Rattle.emu_outcome.specs.declared.ending.Ending.TheVariants.{OutOfMemory}
+use Rattle.emu_outcome.specs.declared.ending.Ending.TheVariants.{ListingRefused, OutOfMemory}
 use Rattle.commands.proofs.Assembling.{is_refused, made_listing, refused_listing}
 use Rattle.commands.proofs.Meetings.{nothing_meets}
+use Rattle.commands.proofs.MayEnd.{kind_done, kind_put}
+use Rattle.commands.specs.Lines.{ends_asm}
+use Rattle.emu_outcome.specs.declared.ending.Ending.{Ending}
 use Rattle.commands.proofs.listings.assemble_bytes.Goals as goal
 
 pub returns-in-Ok-clause-outcome : goal.returns-in-Ok-clause-outcome
@@ -20,3 +23,9 @@ returns-in-Err-Refused-clause-outcome g c = λ input.
 pub returns-in-Err-OutOfMemory-clause-outcome : goal.returns-in-Err-OutOfMemory-clause-outcome
 returns-in-Err-OutOfMemory-clause-outcome g c = λ input.
     nothing_meets (λ _. Some (outcome_of_listing (image_of_bytes statements c.args.bytes.now))) OutOfMemory input (g.O.Sink.held c.args.output.now) (g.E.Sink.held c.args.errors.now) refl
+
+pub returns-in-Ok-clause-kind : goal.returns-in-Ok-clause-kind
+returns-in-Ok-clause-kind g c = subst (λ (x : Ending). ends_asm x ≡ true) (sym c.ending_after_output.ensures) (kind_done ends_asm c.put_all.result refl refl)
+
+pub returns-in-Err-Refused-clause-kind : goal.returns-in-Err-Refused-clause-kind
+returns-in-Err-Refused-clause-kind g c = subst (λ (x : Ending). ends_asm x ≡ true) (sym c.ending_after_line.ensures) (kind_put ends_asm c.put_listing_refusal.result (ListingRefused c.in-Err-Refused.fault) refl refl)

@@ -3,6 +3,7 @@ use Rattle.insn_texts.specs.Statements.{statements}
 use Rattle.listing_model.specs.Image.{image_of_bytes}
 use Rattle.emu_outcome.specs.Outcome.{Outcome, Files, outcome_of_listing}
 use Rattle.commands.proofs.NamedFiles.{found_file, told_so, unread_file}
+use Rattle.commands.proofs.MayEnd.{stops_asm}
 use Rattle.commands.proofs.listings.assemble_file.Goals as goal
 
 -- what comes of the bytes of the listing's file
@@ -19,3 +20,6 @@ pub returns-in-Err-clause-outcome : goal.returns-in-Err-clause-outcome
 returns-in-Err-clause-outcome g c = λ input.
     unread_file next (g.F.Images.named c.args.files.now) (map string_bytes c.args.words.now) c.args.listing c.word.result.now c.in-Err.ending
     input (g.O.Sink.held c.args.output.now) (g.E.Sink.held c.args.errors.now) _ c.word.ensures c.in-Err.ensures.content
+
+pub returns-in-Err-clause-kind : goal.returns-in-Err-clause-kind
+returns-in-Err-clause-kind g c = stops_asm c.in-Err.ending c.in-Err.ensures.kind

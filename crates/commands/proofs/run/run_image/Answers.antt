@@ -1,12 +1,15 @@
-use Rattle.std.proofs.Common.{map, string_bytes, sym, ap, ◌∙◌, refl}
+use Rattle.std.proofs.Common.{map, string_bytes, sym, ap, ◌∙◌, refl, ◌≡◌, true, subst}
 use Rattle.elf_image.specs.Images.{seen, seen_image}
 use Rattle.emu_system.specs.Image.{elf}
 use Rattle.emu_machine.specs.declared.machine.Machine.{Machine}
 use Rattle.emu_outcome.specs.Outcome.{program_arguments}
-use Rattle.emu_outcome.specs.declared.ending.Ending.TheVariants.{OutOfMemory}
+use Rattle.emu_outcome.specs.declared.ending.Ending.TheVariants.{ImageRefused, OutOfMemory}
 use Rattle.commands.specs.Promises.{now}
 use Rattle.commands.proofs.Meetings.{nothing_meets}
 use Rattle.commands.proofs.Runs.{of_image, refused_image, opened_image}
+use Rattle.commands.proofs.MayEnd.{kind_put}
+use Rattle.commands.specs.Lines.{ends_run}
+use Rattle.emu_outcome.specs.declared.ending.Ending.{Ending}
 use Rattle.commands.proofs.run.run_image.Goals as goal
 
 pub returns-in-Err-clause-outcome : goal.returns-in-Err-clause-outcome
@@ -26,3 +29,6 @@ returns-in-Ok-open_machine-clause-outcome g c =
     opened_image c.args.bytes.now (program_arguments (map string_bytes c.args.words.now) c.args.program.now.file c.args.program.now.args) c.args.program.now.length c.args.program.now.budget c.args.program.now.pages (elf c.args.bytes.now c.args.program.now.pages)
     (now (g.I.Source.left c.args.input.now) (g.O.Sink.held c.args.output.now) (g.E.Sink.held c.args.errors.now)) (seen_image c.in-Ok.image) c.in-Ok-open_machine.machine.parts _ c.run_machine.result
     (ap seen (sym c.in-Ok.is) ∙ c.read.ensures.image) (ap (λ (x : Machine). x.parts) c.in-Ok-open_machine.ensures) c.run_machine.ensures.outcome
+
+pub returns-in-Err-clause-kind : goal.returns-in-Err-clause-kind
+returns-in-Err-clause-kind g c = subst (λ (x : Ending). ends_run x ≡ true) (sym c.ending_after_line.ensures) (kind_put ends_run c.put_image_refusal.result (ImageRefused c.in-Err.fault) refl refl)

@@ -1,11 +1,23 @@
-use Rattle.std.proofs.Common.{Some, ap}
+use Rattle.std.proofs.Common.{◌≡◌, Some, None, ap, ◌∙◌}
 use Rattle.emu_model.specs.State.{Parts}
 use Rattle.emu_machine.specs.Machines.{MachineState}
-use Rattle.emu_machine.proofs.CallLaws.{errors_made, output_made, taken_within}
+use Rattle.emu_machine.proofs.CallLaws.{end_made, errors_made, not_ended, output_made, parts_made, taken_within}
 use Rattle.emu_machine.proofs.machine.Machine.call.Goals as goal
 
 abbrev before : (g : _) → goal.After-leave g → Parts
 before g c = let i = c.self.inside in record { core = i.core; vectors = i.vec; memory = i.memory; brk = i.brk; steps = i.steps; ended = i.ended }
+
+going : (g : _) (c : goal.After-leave g) → (before g c).ended ≡ None
+going g c = ap (λ (s : MachineState). s.parts.ended) c.self.view_is ∙ not_ended c.args.self.now.parts.ended c.args.self.now.failed c.requires.going
+
+pub returns-clause-machine : goal.returns-clause-machine
+returns-clause-machine g c =
+    parts_made c.call-end.result c.leave.result (before g c) c.args.self.now.parts c.leave.ensures.end (ap (λ (s : MachineState). s.parts) c.self.view_is)
+    c.call-end.new.core c.call-end.new.vec c.call-end.new.mem c.call-end.new.brk c.leave.new.self.parts (going g c) c.leave.ensures.parts (g.I.Source.left c.args.input.now) c.call-end.ensures.state
+
+pub returns-clause-ends : goal.returns-clause-ends
+returns-clause-ends g c =
+    λ bytes. end_made c.call-end.result c.leave.result (before g c) c.args.self.now.parts c.leave.ensures.end (ap (λ (s : MachineState). s.parts) c.self.view_is) bytes (going g c) c.call-end.ensures.end
 
 pub returns-clause-input : goal.returns-clause-input
 returns-clause-input g c =

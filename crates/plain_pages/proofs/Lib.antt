@@ -1,0 +1,9 @@
+pub mod Bytes
+pub mod Faults
+pub mod Found
+pub mod Maps
+pub mod Ordered
+pub mod Parts
+pub mod Removed
+pub mod Runs
+pub mod Written
