@@ -130,6 +130,8 @@ runner_in_time() {
         ended "ended by SIG$signal" "${case#* }" '' begin
         holds "svemu ends by SIG$signal" sh -c '! kill -s 0 "$(cat "$1")"' sh "$scratch/id"
     done
+    run timeout 3 "$runner" "$probe" spin
+    ended "a signal to the runner, svemu and the filter at once" 124 '' before
     mkdir "$scratch/tmp"
     run env TMPDIR="$scratch/tmp" "$runner" "$probe" args
     holds "nothing is left in TMPDIR" rmdir "$scratch/tmp"
@@ -166,6 +168,8 @@ runner_refusals() {
     ended "no folder for the runner's files" 125 '' "svemu-runner: no folder could be made in $scratch/nosuch\n"
     run sh -c '"$1" "$2" >/dev/full' sh "$runner" "$probe"
     ended "an output that can't be written" 125 '' "svemu-runner: the output or the errors couldn't be written\n"
+    run sh -c '"$1" "$2" 2>/dev/full' sh "$runner" "$probe"
+    ended "errors that can't be passed on" 125 'to the output\n' ''
     input=$scratch
     run "$runner" "$probe" cat
     input=$scratch/empty
@@ -215,6 +219,13 @@ over_lengths() {
     holds "its status is 0" [ "$status" -eq 0 ]
     run "$lengths" "$probe" trap
     holds "traps, and bytes on standard error" awk '!/^vl [0-9]+ trap undefined 0x[0-9a-f]+ at 0x[0-9a-f]+ after [0-9]+ steps out 0 err 6 same$/ { bad = 1 } END { exit bad || NR != 16 }' "$scratch/output"
+    printf 'rdvl x0, #1\nmov x8, #93\nsvc #0\n' >"$scratch/vector_length.s"
+    "$built" asm "$scratch/vector_length.s" >"$scratch/vector_length.elf"
+    run "$lengths" "$scratch/vector_length.elf"
+    holds "an ending at each length" awk '$2 != 8 * $4 && $2 != 2048 || !/ after 3 steps out 0 err 0 same$/ { bad = 1 } END { exit bad || NR != 16 }' "$scratch/output"
+    holds "its status is 1 too" [ "$status" -eq 1 ]
+    run sh -c '"$1" "$2" >/dev/full' sh "$lengths" "$probe"
+    ended "lines that can't be written" 125 '' ''
     cd "$scratch" || exit 1
     ln -s "$lengths" "a link"
     run "./a link" "$probe"

@@ -120,7 +120,7 @@ builds() {
 }
 
 installation() {
-    prefix="$scratch/a prefix"
+    prefix="$scratch/it's \"a prefix\""
     run make install PREFIX="$prefix" PROGRAM="$built"
     holds "make install" [ "$status" -eq 0 ]
     run env -u SVEMU "$prefix/bin/svemu-runner" "$probe"

@@ -14,15 +14,30 @@ fn ends_in_zeros(line: &str) -> bool {
     }
 }
 
+/// Writes a row of bytes in hexadecimal, behind the place of its first.
+fn show_row(rt: HostRuntime, number: usize, row: &[u8]) -> io::Result<()> {
+    print!(rt; "{:06x}0:", number)?;
+    for byte in row {
+        print!(rt; " {byte:02x}")?;
+    }
+    println!(rt; "")
+}
+
 /// Writes the rows of 16 bytes that aren't all zero.
 fn show_rows(rt: HostRuntime, bytes: &[u8]) -> io::Result<()> {
     for (number, row) in bytes.chunks(16).enumerate() {
         if row.iter().any(|byte| *byte != 0) {
-            print!(rt; "{:06x}0:", number)?;
-            for byte in row {
-                print!(rt; " {byte:02x}")?;
-            }
-            println!(rt; "")?;
+            show_row(rt, number, row)?;
+        }
+    }
+    Ok(())
+}
+
+/// Writes the lines that don't end in zeros.
+fn show_lines(rt: HostRuntime, text: &str) -> io::Result<()> {
+    for line in text.lines() {
+        if !ends_in_zeros(line) {
+            println!(rt; "  {line}")?;
         }
     }
     Ok(())
@@ -32,14 +47,7 @@ fn show_rows(rt: HostRuntime, bytes: &[u8]) -> io::Result<()> {
 pub fn show(rt: HostRuntime, name: &str, bytes: &[u8]) -> io::Result<()> {
     println!(rt; "{name}: {} bytes", bytes.len())?;
     match str::from_utf8(bytes) {
-        Ok(text) if bytes.iter().all(|byte| is_plain(*byte)) => {
-            for line in text.lines() {
-                if !ends_in_zeros(line) {
-                    println!(rt; "  {line}")?;
-                }
-            }
-            Ok(())
-        }
+        Ok(text) if bytes.iter().all(|byte| is_plain(*byte)) => show_lines(rt, text),
         _ => show_rows(rt, bytes),
     }
 }

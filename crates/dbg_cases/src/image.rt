@@ -50,21 +50,31 @@ fn put_load(file: &mut [u8], number: usize, load: (u64, u64, u64)) {
     }
 }
 
-/// The file of these words, which stand in hexadecimal with a space between them. A word that can't be read is left out.
-pub fn file_of(alloc: Global, words: &str) -> Result<Vec<u8>, AllocError> {
-    let mut file = vec![in alloc; 0u8; 16384]?;
+/// Puts the fields of the ELF header.
+fn put_header(file: &mut [u8]) {
     for (offset, size, value) in HEADER {
-        put(&mut file, offset, size, value);
+        put(file, offset, size, value);
     }
-    for (number, load) in LOADS.iter().enumerate() {
-        put_load(&mut file, number, *load);
-    }
+}
+
+/// Puts the words that stand in hexadecimal with a space between them, from place 4,096 on. A word that can't be read is left out.
+fn put_words(file: &mut [u8], words: &str) {
     let mut at = 4096usize;
     for word in words.split(' ') {
         if let Ok(number) = u64::from_str_radix(word, 16) {
-            put(&mut file, at, 4, number);
+            put(file, at, 4, number);
             at = at.saturating_add(4);
         }
     }
+}
+
+/// The file of these words, which stand in hexadecimal with a space between them. A word that can't be read is left out.
+pub fn file_of(alloc: Global, words: &str) -> Result<Vec<u8>, AllocError> {
+    let mut file = vec![in alloc; 0u8; 16384]?;
+    put_header(&mut file);
+    for (number, load) in LOADS.iter().enumerate() {
+        put_load(&mut file, number, *load);
+    }
+    put_words(&mut file, words);
     Ok(file)
 }

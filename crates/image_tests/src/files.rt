@@ -39,15 +39,18 @@ pub fn put(file: &mut [u8], field: Field) {
     }
 }
 
+/// Writes fields, one after the other.
+fn put_fields(file: &mut [u8], fields: &[Field]) {
+    for field in fields {
+        put(file, *field);
+    }
+}
+
 /// The file of those fields, which has 4,108 bytes, with further ones.
 pub fn file_of(alloc: Global, fields: &[Field]) -> Result<Vec<u8>, AllocError> {
     let mut file = vec![in alloc; 0u8; 4108]?;
-    for field in FIELDS {
-        put(&mut file, field);
-    }
-    for field in fields {
-        put(&mut file, *field);
-    }
+    put_fields(&mut file, &FIELDS);
+    put_fields(&mut file, fields);
     Ok(file)
 }
 

@@ -27,14 +27,27 @@ fn a_file_of_one_header_is_accepted(rt: HostRuntime) -> Result<(), AllocError> {
 
 #[test]
 fn the_stack_counts_for_the_limit(rt: HostRuntime) -> Result<(), AllocError> {
-    // p_memsz, and the least limit
-    for (size, least) in [(12, 257), (4096, 257), (4097, 258), (8193, 259)] {
+    // p_memsz, a limit, and whether it is enough
+    for (size, limit, enough) in [
+        (12, 0, false),
+        (12, 1, false),
+        (12, 256, false),
+        (12, 257, true),
+        (4096, 256, false),
+        (4096, 257, true),
+        (4097, 257, false),
+        (4097, 258, true),
+        (8193, 258, false),
+        (8193, 259, true),
+    ] {
         let file = file_of(rt.alloc(), &[(104, 8, size)])?;
-        assert!(rt; read(&file, least).is_ok(), "{size} bytes");
-        for limit in [0, 1, 256, least.saturating_sub(1)] {
-            let fault = read(&file, limit).err();
-            assert_eq!(rt; fault, Some(ElfFault::TooManyPages), "{size} bytes");
-        }
+        let fault = read(&file, limit).err();
+        let expected = if enough {
+            None
+        } else {
+            Some(ElfFault::TooManyPages)
+        };
+        assert_eq!(rt; fault, expected, "{size} bytes in {limit} pages");
     }
     Ok(())
 }

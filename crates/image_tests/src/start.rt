@@ -162,14 +162,19 @@ fn arguments_stand_below_the_top(rt: HostRuntime) -> Result<(), AllocError> {
     Ok(())
 }
 
+/// A text of so many letters.
+fn long(alloc: Global, letters: usize) -> Result<String, AllocError> {
+    let mut text = String::new(alloc);
+    for _ in 0..letters {
+        text.push('x')?;
+    }
+    Ok(text)
+}
+
 /// A text of so many letters, and so many empty ones.
 fn many(alloc: Global, letters: usize, empty: usize) -> Result<Vec<String>, AllocError> {
-    let mut long = String::new(alloc);
-    for _ in 0..letters {
-        long.push('x')?;
-    }
     let mut args = Vec::new(alloc);
-    args.push(long)?;
+    args.push(long(alloc, letters)?)?;
     for _ in 0..empty {
         args.push(String::new(alloc))?;
     }

@@ -1,4 +1,4 @@
-//! The guest's pages: calls that may want memory, with ample memory.
+//! The guest's pages: `new` with ample memory, and the calls behind it, which want none.
 use guest_pages::{MapFault, Pages, Rights, Unmapped};
 use std::test::Fail;
 

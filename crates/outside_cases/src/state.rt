@@ -80,7 +80,7 @@ impl State {
                 });
                 Some(())
             }
-            "ffr" => self.set_ffr(value),
+            "ffr" => self.set_bits(None, value),
             _ => self.set_numbered(name, value),
         }
     }
@@ -91,7 +91,7 @@ impl State {
             return self.set_vector(Reg::new(r)?, value);
         }
         if let Some(r) = number_behind(name, "p") {
-            return self.set_predicate(Pred::new(r)?, value);
+            return self.set_bits(Some(Pred::new(r)?), value);
         }
         self.set_register(name, number(value)?)
     }
@@ -111,31 +111,25 @@ impl State {
         Some(())
     }
 
-    /// Sets the bits of a predicate from hexadecimal digits, the most significant first.
-    fn set_predicate(&mut self, r: Pred, digits: &str) -> Option<()> {
+    /// Sets the bits of a predicate, or of FFR, from hexadecimal digits, the most significant first.
+    fn set_bits(&mut self, of: Option<Pred>, digits: &str) -> Option<()> {
         for (k, c) in (0u32..).zip(digits.as_bytes().iter().rev()) {
-            let four = digit(*c)?;
-            for j in 0..4 {
-                let place = k.checked_mul(4)?.checked_add(j)?;
-                if place >= self.vec.length().bits() / 8 {
-                    return None;
-                }
-                self.vec.set_p_bit(r, place, four >> j & 1 == 1);
-            }
+            self.set_four_bits(of, k.checked_mul(4)?, digit(*c)?)?;
         }
         Some(())
     }
 
-    /// The same of FFR.
-    fn set_ffr(&mut self, digits: &str) -> Option<()> {
-        for (k, c) in (0u32..).zip(digits.as_bytes().iter().rev()) {
-            let four = digit(*c)?;
-            for j in 0..4 {
-                let place = k.checked_mul(4)?.checked_add(j)?;
-                if place >= self.vec.length().bits() / 8 {
-                    return None;
-                }
-                self.vec.set_ffr_bit(place, four >> j & 1 == 1);
+    /// Sets four bits of it from a place on.
+    fn set_four_bits(&mut self, of: Option<Pred>, first: u32, four: u8) -> Option<()> {
+        for j in 0..4 {
+            let place = first.checked_add(j)?;
+            if place >= self.vec.length().bits() / 8 {
+                return None;
+            }
+            let set = four >> j & 1 == 1;
+            match of {
+                Some(r) => self.vec.set_p_bit(r, place, set),
+                None => self.vec.set_ffr_bit(place, set),
             }
         }
         Some(())
