@@ -36,12 +36,11 @@ pub fn of_map(answered: Result<(), guest_pages::MapFault>) -> Answer {
 }
 
 /// The answer of the plain `map`.
-pub fn of_plain_map(answered: Result<(), plain_pages::MapFault>) -> Answer {
+pub fn of_plain_map(answered: Result<(), plain_pages::MapError>) -> Answer {
     match answered {
         Ok(()) => Answer::Done,
-        Err(plain_pages::MapFault::Taken(page)) => Answer::Taken(page),
-        Err(plain_pages::MapFault::Full) => Answer::Full,
-        Err(plain_pages::MapFault::OutOfMemory) => Answer::OutOfMemory,
+        Err(plain_pages::MapError::Refused(fault)) => of_map(Err(fault)),
+        Err(plain_pages::MapError::OutOfMemory) => Answer::OutOfMemory,
     }
 }
 

@@ -1,27 +1,9 @@
 -- Numbers as bytes.
-use Rattle.std.proofs.Common.{◌≡◌, ◌<◌, ◌≤◌, ◌-◌, ◌%◌, ℕ, zero, suc, List, [], ◌∷◌, ◌++◌, map, take, drop, length, get_or, replicate, refl, ap, ◌∙◌, sym, arith}
+use Rattle.std.proofs.Common.{◌≡◌, ◌≤◌, ◌-◌, ◌%◌, ℕ, zero, suc, List, [], ◌∷◌, ◌++◌, map, take, drop, length, refl, ap, ◌∙◌, sym, arith}
 use Rattle.std.proofs.lemmas.List.{map-append, length-map}
 use Rattle.std.proofs.Math.Seq.{take-append_seam}
-use Rattle.emu_model.specs.Pages.{zeros, zeros_is}
-use Rattle.emu_model.specs.State.{AreBytes}
 use Rattle.emu_model.specs.WithinPage.{overwritten}
-use Rattle.plain_pages.specs.Bytes.{as_bytes}
-
--- a list of values of `u8`
-pub are_bytes : (bytes : List ℕ) → ((k : ℕ) → get_or bytes k 0 < 256) → AreBytes bytes
-are_bytes [] h = tt
-are_bytes (b ∷ bytes) h = (h zero, are_bytes bytes (λ k. h (suc k)))
-
-pub as_bytes-are : (numbers : List ℕ) → AreBytes (as_bytes numbers)
-as_bytes-are [] = tt
-as_bytes-are (b ∷ numbers) = (omega arith, as_bytes-are numbers)
-
-as_bytes-replicate : (n : ℕ) → as_bytes (replicate n 0) ≡ replicate n 0
-as_bytes-replicate zero = refl
-as_bytes-replicate (suc n) = ap (λ l. 0 ∷ l) (as_bytes-replicate n)
-
-pub as_bytes-zeros : (n : ℕ) → as_bytes (zeros n) ≡ zeros n
-as_bytes-zeros n = ap as_bytes (zeros_is n) ∙ as_bytes-replicate n ∙ sym (zeros_is n)
+use Rattle.page_list.specs.Bytes.{as_bytes}
 
 pub map_take : {X Y : Type 0} (f : X → Y) (l : List X) (n : ℕ) → map f (take n l) ≡ take n (map f l)
 map_take f [] zero = refl

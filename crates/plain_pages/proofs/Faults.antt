@@ -1,20 +1,13 @@
 -- Why pages can't be mapped, by the slots.
-use Rattle.std.proofs.Common.{◌≡◌, ◌<◌, ◌≤◌, ◌+◌, ◌-◌, ℕ, Bool, true, false, List, length, Option, None, sym, ap, ◌∙◌, arith, nat_lt}
+use Rattle.std.proofs.Common.{◌≡◌, ◌+◌, ◌-◌, ℕ, Bool, List, length, Option, None, sym, ap, ◌∙◌, nat_lt}
 use Rattle.std.proofs.lemmas.List.{length-map}
-use Rattle.std.proofs.lemmas.Bool.Decides.{nat_tests}
 use Rattle.emu_model.specs.Access.{Memory}
 use Rattle.emu_model.specs.Pages.{least_mapped, is_over_limit}
 use Rattle.plain_pages.specs.declared.slots.Slot.{Slot}
 use Rattle.plain_pages.specs.declared.pages.Pages.TheInside.{Inside}
-use Rattle.plain_pages.specs.MapFault.{first_fault, map_fault}
+use Rattle.guest_pages.specs.MapFault.{first_fault, map_fault}
 use Rattle.plain_pages.specs.Slots.{pages_of, IsAscending, entry_of, entries_of, memory_of}
-use Rattle.plain_pages.proofs.Maps.{len_is}
-
-pub over : (limit n count : ℕ) → limit - n < count → n ≤ limit → nat_lt limit (n + count) ≡ true
-over limit n count h k = grind (arith, nat_tests)
-
-pub fits : (limit n count : ℕ) → count ≤ limit - n → n ≤ limit → nat_lt limit (n + count) ≡ false
-fits limit n count h k = grind (arith, nat_tests)
+use Rattle.guest_pages.proofs.Maps.{len_is}
 
 -- where no page of the range is mapped
 pub fault_is : (a : Inside) (m : Memory) (first count : ℕ) (l : List Slot) (o : Option ℕ) (b : Bool) → memory_of a ≡ m → IsAscending (entries_of a.slots.items) → l ≡ a.slots.items

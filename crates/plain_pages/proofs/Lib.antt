@@ -1,6 +1,5 @@
 pub mod Bytes
 pub mod Faults
-pub mod Found
 pub mod Maps
 pub mod Ordered
 pub mod Parts

@@ -2,14 +2,14 @@
 use Rattle.std.proofs.Common.{◌≡◌, ◌<◌, ◌≤◌, ◌%◌, ℕ, zero, suc, true, false, List, [], ◌∷◌, map, length, take, drop, get_or, Option, Some, None, is_some, nat_lt, nat_eq, refl, sym, ap, ◌∙◌, subst, cond, arith, ltb}
 use Rattle.std.specs.List.{AllByRecursion}
 use Rattle.std.specs.List.Sorted.{IsPartitionPoint}
-use Rattle.std.specs.Ordering.{nat_cmp, eq_by_cmp}
-use Rattle.std.specs.Cmp.{unsigned_tied}
+use Rattle.std.specs.Ordering.{nat_cmp}
 use Rattle.std.specs.FinMap.{find}
 use Rattle.std.proofs.lemmas.List.{length-map, get_or_default}
-use Rattle.std.proofs.lemmas.Bool.{eqb-true, eq-eqb}
+use Rattle.std.proofs.lemmas.Bool.{eqb-true}
 use Rattle.std.proofs.lemmas.Bool.Decides.{nat_tests}
 use Rattle.plain_pages.specs.declared.slots.Slot.{Slot}
-use Rattle.plain_pages.specs.Slots.{Entry, IsEntry, IsAscending, IsAbove, IsBelow, IsFrom, IsAt, entries_of, entry_of, page_in}
+use Rattle.plain_pages.specs.Slots.{IsEntry, IsAscending, IsAbove, IsBelow, IsFrom, IsAt, entries_of, entry_of, page_in}
+use Rattle.guest_pages.proofs.Ordered.{all_map, tied_same, tied_apart, IsApart, find_apart}
 
 -- what holds of each element holds at each place
 pub all_at : {X Y : Type 0} (P : Y → Type 0) (f : X → Y) (l : List X) → AllByRecursion P (map f l) → (i : ℕ) (d : X) → i < length l → P (f (get_or l i d))
@@ -33,10 +33,6 @@ all_drop P f [] (suc i) h = tt
 all_drop P f (s ∷ l) zero h = (h 0 s (omega arith) (omega arith), all_drop P f l zero (λ k d a b. h (suc k) d (omega arith) (omega arith)))
 all_drop P f (s ∷ l) (suc i) h = all_drop P f l i (λ k d a b. h (suc k) d (omega arith) (omega arith))
 
-pub all_map : {X : Type 0} (P Q : X → Type 0) (l : List X) → ((x : X) → P x → Q x) → AllByRecursion P l → AllByRecursion Q l
-all_map P Q [] f h = tt
-all_map P Q (s ∷ l) f h = (f s h.0, all_map P Q l f h.1)
-
 -- the numbers rise, as a search asks
 pub numbers_rise : (l : List Slot) → IsAscending (entries_of l) → (i j : ℕ) (d : Slot) → i ≤ j → j < length l → (get_or l i d).number ≤ (get_or l j d).number
 numbers_rise [] h i j d le lt = absurd (omega arith)
@@ -44,23 +40,6 @@ numbers_rise (s ∷ l) h zero zero d le lt = omega arith
 numbers_rise (s ∷ l) h zero (suc j) d le lt = let above : s.number < (get_or l j d).number = all_at (IsAbove s.number) entry_of l h.0 j d (omega arith) in omega arith
 numbers_rise (s ∷ l) h (suc i) zero d le lt = absurd (omega arith)
 numbers_rise (s ∷ l) h (suc i) (suc j) d le lt = numbers_rise l h.1 i j d (omega arith) (omega arith)
-
-pub tied_same : (a b : ℕ) → a ≡ b → eq_by_cmp nat_cmp a b ≡ true
-tied_same a b h = unsigned_tied a b ∙ eq-eqb a b h
-
-pub tied_apart : (a b : ℕ) → (a ≡ b → ⊥) → eq_by_cmp nat_cmp a b ≡ false
-tied_apart a b apart = elim (eq_by_cmp nat_cmp a b) as (λ t. eq_by_cmp nat_cmp a b ≡ t → t ≡ false) [
-  | true ↦ λ e. absurd (apart (eqb-true a b (sym (unsigned_tied a b) ∙ e)))
-  | false ↦ λ e. refl
-] refl
-
-abbrev pub IsApart : ℕ → Entry → Type 0
-IsApart q e = q ≡ e.0 → ⊥
-
--- a page with no entry isn't found
-pub find_apart : (q : ℕ) (l : List Entry) → AllByRecursion (IsApart q) l → find nat_cmp q l ≡ None
-find_apart q [] h = refl
-find_apart q (e ∷ l) h = ap (λ t. cond t (Some e.1) (find nat_cmp q l)) (tied_apart q e.0 h.0) ∙ find_apart q l h.1
 
 -- a page with a slot is found
 pub find_at : (l : List Slot) → IsAscending (entries_of l) → (i : ℕ) (d : Slot) → i < length l → find nat_cmp (get_or l i d).number (entries_of l) ≡ Some (page_in (get_or l i d))

@@ -11,8 +11,8 @@ use Rattle.emu_model.specs.WithinPage.{overwritten, page_with_bytes, length_over
 use Rattle.plain_pages.specs.declared.slots.Slot.{Slot}
 use Rattle.plain_pages.specs.declared.pages.Pages.TheInside.{Inside}
 use Rattle.plain_pages.specs.Slots.{pages_of, Entry, AreInOrder, IsInOrder, entry_of, entries_of, memory_of, changed}
-use Rattle.plain_pages.proofs.Parts.{all_join, all_front, all_back}
-use Rattle.plain_pages.proofs.Maps.{changed_is, order_changed, length_changed, whole}
+use Rattle.guest_pages.proofs.Parts.{all_join, all_front, all_back}
+use Rattle.guest_pages.proofs.Maps.{changed_is, order_changed, length_changed, whole}
 
 -- slots that stand for as many entries, written back into their vector
 pub written_back : (a : Inside) (new : List Slot) (es : List Entry) → entries_of new ≡ es → length es ≡ length (entries_of a.slots.items) → entries_of (with_items a.slots new).items ≡ es

@@ -8,4 +8,5 @@ pub mod pages;
 mod slots;
 
 pub use emu_model::Rights;
-pub use pages::{MapFault, OutOfMemory, Pages, Unmapped};
+pub use guest_pages::{MapFault, Unmapped};
+pub use pages::{MapError, OutOfMemory, Pages};

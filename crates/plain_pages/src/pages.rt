@@ -4,33 +4,26 @@ ghost use Rattle.std.specs.FinMap as map;
 ghost use Rattle.emu_model.specs.Access.{page_gives};
 ghost use Rattle.emu_model.specs.Pages.{free_run, least_unmapped, mapped, protected, unmapped, with_bytes};
 ghost use Rattle.emu_model.specs.State.{IsSoundMemory};
-ghost use Rattle.plain_pages.specs.MapFault.{map_fault, protect_answer};
+ghost use Rattle.guest_pages.specs.MapFault.{map_fault, protect_answer};
 
 use crate::slots::{
     Slot, find_slot, free_run, insert_slots, is_mapped, mapped_place, place, protect_slots,
     remove_slots, store_slot, taken, told_bytes, unmapped_page, write_slot, zeroed_slots,
 };
 use emu_model::{Kind, Rights};
+use guest_pages::{MapFault, Unmapped};
 use std::alloc::{AllocError, Global};
 use std::marker::Model;
 
 /// Want of memory.
 pub type OutOfMemory = AllocError;
 
-/// Why pages can't be mapped.
+/// Why pages weren't mapped.
 #[derive(Clone, Copy, Debug, PartialEq, Eq)]
-pub enum MapFault {
-    /// The page is mapped already.
-    Taken(u64),
-    /// There would be more pages than the limit allows.
-    Full,
+pub enum MapError {
+    /// They can't be.
+    Refused(MapFault),
     OutOfMemory,
-}
-
-/// A page that isn't mapped.
-#[derive(Clone, Copy, Debug, PartialEq, Eq)]
-pub struct Unmapped {
-    pub page: u64,
 }
 
 /// The mapped pages. Contracts see them as a finite map from page to rights and bytes, and the greatest number of pages.
@@ -100,27 +93,27 @@ impl Pages {
     /// Maps `count` pages from page `first` on, with these rights and their bytes 0. `Taken` has the least of them that is
     /// mapped already; else `Full` comes exactly where there would be more pages than the limit. An Err leaves the pages as
     /// they were.
-    pub fn map(&mut self, first: u64, count: u64, rights: Rights) -> Result<(), MapFault>
+    pub fn map(&mut self, first: u64, count: u64, rights: Rights) -> Result<(), MapError>
         requires begins { 1 ≤ first }
         requires ends { first + count ≤ 2 ^ 35 }
-        ensures refused { IfSome (map_fault self.old first count) (λ fault. result ≡ Err fault) }
-        ensures wanting { map_fault self.old first count ≡ None → IfErr result (λ fault. fault ≡ MapFault.OutOfMemory) }
+        ensures refused { IfSome (map_fault self.old first count) (λ fault. result ≡ Err (MapError.Refused fault)) }
+        ensures wanting { map_fault self.old first count ≡ None → IfErr result (λ error. error ≡ MapError.OutOfMemory) }
         ensures mapped { OnOk result (self.new ≡ mapped self.old first count rights) }
         ensures unchanged { OnErr result (self.new ≡ self.old) }
     {
         let at = place(&self.slots, first);
         if let Some(page) = taken(&self.slots, at, first, count) {
-            return Err(MapFault::Taken(page));
+            return Err(MapError::Refused(MapFault::Taken(page)));
         }
         if self.limit as u64 - (self.slots.len() as u64) < count {
-            return Err(MapFault::Full);
+            return Err(MapError::Refused(MapFault::Full));
         }
         let Ok(fresh) = zeroed_slots(self.alloc, first, count, rights) else {
-            return Err(MapFault::OutOfMemory);
+            return Err(MapError::OutOfMemory);
         };
         match insert_slots(&mut self.slots, at, fresh) {
             Ok(()) => Ok(()),
-            Err(_) => Err(MapFault::OutOfMemory),
+            Err(_) => Err(MapError::OutOfMemory),
         }
     }
 

@@ -1,7 +1,7 @@
 use Rattle.std.proofs.Common.{Option, is_some, sym, ap, ◌∙◌}
 use Rattle.emu_model.specs.Access.{Page}
 use Rattle.plain_pages.specs.Slots.{entries_of}
-use Rattle.plain_pages.proofs.Maps.{get_is}
+use Rattle.guest_pages.proofs.Maps.{get_is}
 use Rattle.plain_pages.proofs.Ordered.{present}
 use Rattle.plain_pages.proofs.slots.mapped_place.Goals as goal
 

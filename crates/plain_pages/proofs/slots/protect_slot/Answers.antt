@@ -1,9 +1,10 @@
 use Rattle.std.proofs.Common.{get_or, sym, ap}
 use Rattle.std.proofs.lemmas.List.{get_or_default}
 use Rattle.plain_pages.specs.declared.slots.Slot.{Slot}
-use Rattle.plain_pages.specs.Bytes.{as_bytes}
+use Rattle.page_list.specs.Bytes.{as_bytes}
 use Rattle.plain_pages.specs.Slots.{entries_of, page_with_rights}
-use Rattle.plain_pages.proofs.Maps.{none_changed, set_changed}
+use Rattle.guest_pages.proofs.Maps.{none_changed}
+use Rattle.plain_pages.proofs.Maps.{set_changed}
 use Rattle.plain_pages.proofs.slots.protect_slot.Goals as goal
 
 pub returns-in-Some : goal.returns-in-Some

@@ -1,6 +1,6 @@
 use Rattle.std.proofs.Common.{◌≡◌, ◌+◌, ◌-◌, suc, sym, ap, ◌∙◌, subst, arith}
 use Rattle.plain_pages.specs.Slots.{IsAscending, entries_of, all_changed, page_with_rights}
-use Rattle.plain_pages.proofs.Maps.{ascending_changed}
+use Rattle.guest_pages.proofs.Maps.{ascending_changed}
 use Rattle.plain_pages.proofs.slots.protect_slots.Goals as goal
 
 pub loop-page-preserved : goal.loop-page-preserved

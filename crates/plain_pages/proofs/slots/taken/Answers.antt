@@ -3,8 +3,9 @@ use Rattle.std.specs.List.{AllByRecursion}
 use Rattle.std.proofs.lemmas.List.{get_or_default}
 use Rattle.plain_pages.specs.declared.slots.Slot.{Slot}
 use Rattle.plain_pages.specs.Slots.{IsFrom, entries_of}
-use Rattle.plain_pages.proofs.Ordered.{all_map}
-use Rattle.plain_pages.proofs.Parts.{first_taken, none_taken, rest_from, nothing_past}
+use Rattle.guest_pages.proofs.Ordered.{all_map}
+use Rattle.guest_pages.proofs.Parts.{none_taken}
+use Rattle.plain_pages.proofs.Parts.{first_taken, rest_from, nothing_past}
 use Rattle.plain_pages.proofs.slots.taken.Goals as goal
 use Rattle.plain_pages.proofs.slots.taken.Goals.{else-at-slots-via-then-at-slots+else-slots-at, else-at-slots-via-else-at-slots}
 

@@ -1,4 +1,4 @@
-use Rattle.plain_pages.proofs.Bytes.{are_bytes}
+use Rattle.page_list.proofs.Bytes.{are_bytes}
 use Rattle.plain_pages.proofs.slots.told_bytes.Goals as goal
 
 pub returns-clause-bytes : goal.returns-clause-bytes

@@ -3,8 +3,9 @@ use Rattle.std.specs.Vec.{with_items}
 use Rattle.std.proofs.lemmas.List.{with_items_is, get_or_default}
 use Rattle.emu_model.specs.WithinPage.{overwritten, page_with_bytes, length_overwritten}
 use Rattle.plain_pages.specs.declared.slots.Slot.{Slot}
-use Rattle.plain_pages.specs.Bytes.{as_bytes, as_bytes-same}
-use Rattle.plain_pages.proofs.Bytes.{are_bytes, as_bytes-overwritten}
+use Rattle.page_list.specs.Bytes.{as_bytes, as_bytes-same}
+use Rattle.page_list.proofs.Bytes.{are_bytes}
+use Rattle.plain_pages.proofs.Bytes.{as_bytes-overwritten}
 use Rattle.plain_pages.proofs.Ordered.{whole_at}
 use Rattle.plain_pages.proofs.Maps.{set_changed}
 use Rattle.plain_pages.proofs.slots.write_at.Goals as goal

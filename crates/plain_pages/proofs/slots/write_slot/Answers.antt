@@ -1,7 +1,7 @@
 use Rattle.std.proofs.Common.{sym}
 use Rattle.emu_model.specs.WithinPage.{page_with_bytes}
 use Rattle.plain_pages.specs.Slots.{entries_of}
-use Rattle.plain_pages.proofs.Maps.{none_changed}
+use Rattle.guest_pages.proofs.Maps.{none_changed}
 use Rattle.plain_pages.proofs.slots.write_slot.Goals as goal
 
 pub returns-in_default : goal.returns-in_default

@@ -1,8 +1,8 @@
 use Rattle.std.proofs.Common.{◌≡◌, ◌+◌, ◌-◌, ◌++◌, suc, ap, subst, ◌∙◌, arith, List}
 use Rattle.plain_pages.specs.declared.slots.Slot.{Slot}
-use Rattle.plain_pages.specs.Bytes.{as_bytes}
+use Rattle.page_list.specs.Bytes.{as_bytes}
 use Rattle.plain_pages.specs.Slots.{entries_of, zeroed_entries}
-use Rattle.plain_pages.proofs.Bytes.{as_bytes-zeros}
+use Rattle.page_list.proofs.Bytes.{as_bytes-zeros}
 use Rattle.plain_pages.proofs.Maps.{zeroed_next}
 use Rattle.plain_pages.proofs.slots.zeroed_slots.Goals as goal
 

@@ -3,9 +3,9 @@ use Rattle.std.specs.FinMap.{get, find}
 use Rattle.std.specs.Ordering.{nat_cmp}
 use Rattle.emu_model.specs.Access.{Memory}
 use Rattle.plain_pages.specs.declared.slots.Slot.{Slot}
-use Rattle.plain_pages.specs.Bytes.{as_bytes, as_bytes-same}
+use Rattle.page_list.specs.Bytes.{as_bytes, as_bytes-same}
 use Rattle.plain_pages.specs.Slots.{page_in, entries_of, IsAt}
-use Rattle.plain_pages.proofs.Maps.{get_is, whole}
+use Rattle.guest_pages.proofs.Maps.{get_is, whole}
 use Rattle.plain_pages.proofs.Ordered.{find_is}
 use Rattle.plain_pages.proofs.pages.Pages.find.Goals as goal
 

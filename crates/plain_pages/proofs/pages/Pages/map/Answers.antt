@@ -6,14 +6,18 @@ use Rattle.std.proofs.lemmas.List.{length-map}
 use Rattle.std.specs.Ordering.{nat_cmp}
 use Rattle.emu_model.specs.Access.{Memory, Page}
 use Rattle.emu_model.specs.Pages.{mapped}
-use Rattle.plain_pages.specs.declared.pages.MapFault.{MapFault}
-use Rattle.plain_pages.specs.declared.pages.MapFault.TheVariants.{Full, OutOfMemory}
+use Rattle.guest_pages.specs.declared.pages.MapFault.{MapFault}
+use Rattle.guest_pages.specs.declared.pages.MapFault.TheVariants.{Full}
+use Rattle.plain_pages.specs.declared.pages.MapError.{MapError}
+use Rattle.plain_pages.specs.declared.pages.MapError.TheVariants.{Refused, OutOfMemory}
 use Rattle.plain_pages.specs.declared.pages.Pages.TheInside.{Inside}
 use Rattle.plain_pages.specs.declared.slots.Slot.{Slot}
-use Rattle.plain_pages.specs.MapFault.{map_fault}
+use Rattle.guest_pages.specs.MapFault.{map_fault}
 use Rattle.plain_pages.specs.Slots.{pages_of, AreInOrder, entry_of, IsBelow, IsFrom, entries_of, zeroed_entries}
-use Rattle.plain_pages.proofs.Faults.{fault_is, over, fits}
-use Rattle.plain_pages.proofs.Parts.{put_entries, put_is, order_put}
+use Rattle.guest_pages.proofs.Faults.{over, fits}
+use Rattle.plain_pages.proofs.Faults.{fault_is}
+use Rattle.guest_pages.proofs.Parts.{put_is, order_put}
+use Rattle.plain_pages.proofs.Parts.{put_entries}
 use Rattle.plain_pages.proofs.pages.Pages.map.Goals as goal
 use Rattle.plain_pages.proofs.pages.Pages.map.Goals.{in-Ok-insert_slots, in-Err}
 
@@ -33,7 +37,7 @@ returns-then-self-len-clause-wanting c none =
     let no : Some Full ≡ None = sym full ∙ none in
     cc
 
-not_refused : (o : Option MapFault) (r : Result (Unit {0}) MapFault) → o ≡ None → IfSome o (λ fault. r ≡ Err fault)
+not_refused : (o : Option MapFault) (r : Result (Unit {0}) MapError) → o ≡ None → IfSome o (λ fault. r ≡ Err (Refused fault))
 not_refused None r h = tt
 not_refused (Some fault) r h = cc
 
@@ -77,11 +81,11 @@ module _ (c : goal.Joined-insert_slots) where
 
   done : OnOk c.match-insert_slots.result (record { pages = pages_of (entries_of c.insert_slots.new.slots.items); limit = c.self.inside.limit } ≡ mapped c.args.self.now c.args.first c.args.count c.args.rights)
   done = elim c.match-insert_slots.branch [
-    | in-Ok-insert_slots w ↦ subst (λ (r : Result (Unit {0}) MapFault). OnOk r (record { pages = pages_of (entries_of c.insert_slots.new.slots.items); limit = c.self.inside.limit } ≡ mapped c.args.self.now c.args.first c.args.count c.args.rights)) (sym w.result-is) (
+    | in-Ok-insert_slots w ↦ subst (λ (r : Result (Unit {0}) MapError). OnOk r (record { pages = pages_of (entries_of c.insert_slots.new.slots.items); limit = c.self.inside.limit } ≡ mapped c.args.self.now c.args.first c.args.count c.args.rights)) (sym w.result-is) (
         ap (λ es. record { pages = pages_of es; limit = c.self.inside.limit }) (after w.in-Ok-insert_slots.ensures.ok)
         ∙ ap (λ (p : FinMap nat_cmp Page). record { pages = p; limit = c.self.inside.limit }) (put_is c.args.first c.args.count c.args.rights (entries_of c.self.inside.slots.items) c.place-at.result below past)
         ∙ ap (λ (m : Memory). mapped m c.args.first c.args.count c.args.rights) c.self.view_is)
-    | in-Err w ↦ subst (λ (r : Result (Unit {0}) MapFault). OnOk r (record { pages = pages_of (entries_of c.insert_slots.new.slots.items); limit = c.self.inside.limit } ≡ mapped c.args.self.now c.args.first c.args.count c.args.rights)) (sym w.result-is) tt
+    | in-Err w ↦ subst (λ (r : Result (Unit {0}) MapError). OnOk r (record { pages = pages_of (entries_of c.insert_slots.new.slots.items); limit = c.self.inside.limit } ≡ mapped c.args.self.now c.args.first c.args.count c.args.rights)) (sym w.result-is) tt
   ]
 
 pub invariant_of-self : goal.invariant_of-self

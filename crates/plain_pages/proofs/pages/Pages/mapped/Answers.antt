@@ -4,7 +4,7 @@ use Rattle.emu_model.specs.Access.{Memory}
 use Rattle.emu_model.specs.State.{IsSoundMemory}
 use Rattle.std.proofs.lemmas.List.{length-map}
 use Rattle.plain_pages.specs.Slots.{entry_of, entries_of}
-use Rattle.plain_pages.proofs.Maps.{len_is, sound_is}
+use Rattle.guest_pages.proofs.Maps.{len_is, sound_is}
 use Rattle.plain_pages.proofs.pages.Pages.mapped.Goals as goal
 
 -- as many slots as entries

@@ -6,7 +6,7 @@ use Rattle.emu_model.specs.Access.{Memory, Page}
 use Rattle.emu_model.specs.Pages.{protected}
 use Rattle.plain_pages.specs.declared.slots.Slot.{Slot}
 use Rattle.plain_pages.specs.Slots.{pages_of, AreInOrder, entries_of, all_changed, page_with_rights}
-use Rattle.plain_pages.proofs.Removed.{protected_is, order_protected, length_all_changed}
+use Rattle.guest_pages.proofs.Removed.{protected_is, order_protected, length_all_changed}
 use Rattle.plain_pages.proofs.Written.{written_back}
 use Rattle.plain_pages.proofs.pages.Pages.protect.Goals as goal
 

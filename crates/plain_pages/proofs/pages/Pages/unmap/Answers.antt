@@ -4,7 +4,7 @@ use Rattle.std.specs.Ordering.{nat_cmp}
 use Rattle.emu_model.specs.Access.{Memory, Page}
 use Rattle.emu_model.specs.Pages.{is_among, unmapped}
 use Rattle.plain_pages.specs.Slots.{pages_of, AreInOrder, entries_of}
-use Rattle.plain_pages.proofs.Removed.{removed_is, order_filter}
+use Rattle.guest_pages.proofs.Removed.{removed_is, order_filter}
 use Rattle.plain_pages.proofs.pages.Pages.unmap.Goals as goal
 
 pub invariant_of-self : goal.invariant_of-self

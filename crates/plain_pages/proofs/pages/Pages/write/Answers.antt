@@ -5,8 +5,8 @@ use Rattle.emu_model.specs.Pages.{with_bytes}
 use Rattle.emu_model.specs.WithinPage.{page_with_bytes}
 use Rattle.plain_pages.specs.declared.slots.Slot.{Slot}
 use Rattle.plain_pages.specs.Slots.{pages_of, AreInOrder, entries_of, changed}
-use Rattle.plain_pages.proofs.Maps.{length_changed}
-use Rattle.plain_pages.proofs.Bytes.{are_bytes}
+use Rattle.guest_pages.proofs.Maps.{length_changed}
+use Rattle.page_list.proofs.Bytes.{are_bytes}
 use Rattle.plain_pages.proofs.Written.{written_back, order_written, written_is}
 use Rattle.plain_pages.proofs.pages.Pages.write.Goals as goal
 
