@@ -13,10 +13,12 @@ use Rattle.emu_outcome.specs.declared.ending.Ending.{Ending}
 use Rattle.emu_outcome.specs.declared.ending.Ending.TheVariants.{WordsRefused, FileFault, ReadFault, ErrorsFault}
 use Rattle.commands.specs.Endings.{ended_by}
 use Rattle.commands.specs.Programs.{outcome_over}
-use Rattle.commands.specs.Promises.{Gains, now, Meets, NamesNoFile, is_failure, is_silent}
+use Rattle.emu_system.specs.Gained.{Gains}
+use Rattle.commands.specs.Promises.{now, Meets, NamesNoFile, is_failure, is_silent}
 use Rattle.commands.specs.Lines.{may_end, EndsMissing, RefusesLine}
 use Rattle.commands.proofs.NamedFiles.{misses_named, names_missing, over, told_so}
-use Rattle.commands.proofs.Meetings.{line_meets, put_first}
+use Rattle.emu_system.specs.GainedLaws.{put_first}
+use Rattle.commands.proofs.Meetings.{line_meets}
 
 -- ---- the line
 

@@ -19,10 +19,11 @@ use Rattle.emu_outcome.specs.declared.ending.Ending.{Ending}
 use Rattle.emu_outcome.specs.declared.ending.Ending.TheVariants.{WriteFault, ErrorsFault}
 use Rattle.emu_machine.specs.Ends.{Becomes, TakesWithin, LeftOf, Puts, run_end, is_broken_off}
 use Rattle.emu_machine.specs.declared.ends.RunEnd.{RunEnd}
-use Rattle.linux_calls.specs.Puts.{HoldsFirst}
 use Rattle.commands.specs.Endings.{done_by, ended_by, ending_by, ending_of_session}
 use Rattle.commands.proofs.RunEnds.{broken_is, ending_is, session_rest}
-use Rattle.commands.specs.Promises.{is_failure, settled_ending, is_refusal, output_of, errors_of, taken_of, now, CountsFor, Gains, GainedFirst, LostAtMost, Loses, Meets}
+use Rattle.emu_system.specs.Gained.{Gains, GainedFirst}
+use Rattle.emu_system.specs.GainedLaws.{put_first}
+use Rattle.commands.specs.Promises.{is_failure, settled_ending, is_refusal, output_of, errors_of, taken_of, now, CountsFor, LostAtMost, Loses, Meets}
 
 -- ---- by whether something failed
 
@@ -85,9 +86,6 @@ nothing_meets outcome ending input output errors failed = record {
 }
 
 -- ---- a text that was put
-
-pub put_first : (held : Option (List ℕ)) (had text : List ℕ) → ((n : ℕ) × (held ≡ Some (had ++ take n text))) → GainedFirst held had text
-put_first held had text p = record { gained = take p.0 text; is = p.1; first = (drop p.0 text, sym (take-append-drop p.0 text)) }
 
 -- a refusal, by its line on the errors
 pub line_meets : {T E : Type 0} (ending : Ending) (text : List ℕ) (input output errors new : Option (List ℕ)) (put : Result T E) → is_failure ending ≡ false → PutsAll errors new text put
@@ -165,12 +163,8 @@ gained_then had first text n held is = record {
 all_gained : (had bytes : List ℕ) (held : Option (List ℕ)) → held ≡ Some (had ++ bytes) → GainedFirst held had bytes
 all_gained had bytes held is = record { gained = bytes; is = is; first = prefix_refl bytes }
 
--- what a run or a session says of a sink
-first_of : (held : Option (List ℕ)) (had bytes : List ℕ) → HoldsFirst held had bytes → GainedFirst held had bytes
-first_of held had bytes h = record { gained = h.gained; is = h.is; first = h.first }
-
 -- first bytes of what comes before a text
-first_then : (held : Option (List ℕ)) (had first text : List ℕ) → HoldsFirst held had first → GainedFirst held had (first ++ text)
+first_then : (held : Option (List ℕ)) (had first text : List ℕ) → GainedFirst held had first → GainedFirst held had (first ++ text)
 first_then held had first text h = record { gained = h.gained; is = h.is; first = prefix_trans h.gained first (first ++ text) h.first (text, refl) }
 
 lost_of : (bytes : List ℕ) (least : ℕ) (left : Option (List ℕ)) → LeftOf bytes least left → LostAtMost left bytes (length bytes - least)
@@ -225,7 +219,7 @@ module _ (m n : Parts) (budget : ℕ) where
   broken_meets i0 i1 o0 o1 e0 e1 ending takes outs errs failed = record {
     ends = told i0 (λ _ whole. never ending failed whole);
     settled = λ whole _. never ending failed whole;
-    output = λ i of. IfSome_then o0 (at_told i0 _ i outs (of_told i0 i (stop m budget i) of)) (λ had first. gains_first ending o1 had (stop m budget i).output failed (first_of o1 had (stop m budget i).output first));
+    output = λ i of. IfSome_then o0 (at_told i0 _ i outs (of_told i0 i (stop m budget i) of)) (λ had first. gains_first ending o1 had (stop m budget i).output failed first);
     errors = λ i of. IfSome_then e0 (at_told i0 _ i errs (of_told i0 i (stop m budget i) of))
         (λ had first. gains_first ending e1 had ((stop m budget i).errors ++ report (stop m budget i).parts) failed (first_then e1 had (stop m budget i).errors (report (stop m budget i).parts) first));
     input = IfSome_then i0 takes (λ i t. loses_within ending i1 i (length i - length (stop m budget i).input) failed (lost_of i (length (stop m budget i).input) i1 (t refl)));
@@ -289,8 +283,8 @@ module _ (m n : Parts) (commands : List Command) (budget : ℕ) where
   session_broken i0 i1 o0 o1 e0 e1 ending takes outs errs failed = record {
     ends = told i0 (λ _ whole. never ending failed whole);
     settled = λ whole _. never ending failed whole;
-    output = λ i of. IfSome_then o0 (at_told i0 _ i outs of) (λ had first. gains_first ending o1 had (last i).output failed (first_of o1 had (last i).output first));
-    errors = λ i of. IfSome_then e0 (at_told i0 _ i errs of) (λ had first. gains_first ending e1 had (last i).errors failed (first_of e1 had (last i).errors first));
+    output = λ i of. IfSome_then o0 (at_told i0 _ i outs of) (λ had first. gains_first ending o1 had (last i).output failed first);
+    errors = λ i of. IfSome_then e0 (at_told i0 _ i errs of) (λ had first. gains_first ending e1 had (last i).errors failed first);
     input = IfSome_then i0 takes (λ i t. loses_within ending i1 i (length i - length (last i).input) failed (lost_of i (length (last i).input) i1 (t refl)));
   }
 

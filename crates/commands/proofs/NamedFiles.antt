@@ -13,7 +13,8 @@ use Rattle.emu_outcome.specs.Outcome.{Outcome, Files, file_at, file_limit, refus
 use Rattle.emu_outcome.specs.declared.ending.Ending.{Ending}
 use Rattle.emu_outcome.specs.declared.ending.Ending.TheVariants.{TooLong, FileFault, ErrorsFault, OutOfMemory}
 use Rattle.commands.specs.Endings.{ended_by}
-use Rattle.commands.specs.Promises.{is_failure, output_of, errors_of, taken_of, Now, now, CountsFor, EndsAs, Gains, Loses, Meets, NamesNoFile, Settles}
+use Rattle.emu_system.specs.Gained.{Gains}
+use Rattle.commands.specs.Promises.{is_failure, output_of, errors_of, taken_of, Now, now, CountsFor, EndsAs, Loses, Meets, NamesNoFile, Settles}
 use Rattle.commands.specs.Reading.{GivesFile, IsTooLong, EndsUnread}
 use Rattle.commands.proofs.Meetings.{nothing_meets, line_meets}
 

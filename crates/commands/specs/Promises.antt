@@ -1,7 +1,7 @@
 -- What a command promises: its result by the definitions, or, where something failed, nothing beyond it. Each fact rests on what the files told, and on
 -- the input and the sinks that it names, where these tell their bytes.
 use Rattle.std.specs.Prelude.{◌≡◌, ◌≤◌, ℕ, Bool, true, false, List, [], ◌++◌, drop, Option, Some, None, IfSome, MatchBool}
-use Rattle.emu_model.specs.State.{IsPrefix}
+use Rattle.emu_system.specs.Gained.{Gains}
 use Rattle.emu_outcome.specs.Outcome.{Outcome, Files}
 use Rattle.emu_outcome.specs.declared.ending.Ending.{Ending}
 use Rattle.emu_outcome.specs.declared.ending.Ending.TheVariants.{Exit, Trap, Spent, Done, WordsRefused, ImageRefused, ListingRefused, ScriptRefused, TooLong, FileFault, ReadFault, WriteFault, ErrorsFault, OutOfMemory}
@@ -79,17 +79,6 @@ pub record Now : Type 0 where
 
 abbrev pub now : Option (List ℕ) → Option (List ℕ) → Option (List ℕ) → Now
 now input output errors = record { input = input; output = output; errors = errors }
-
--- the first of these bytes, perhaps all of them, came behind those that a sink held
-pub record GainedFirst (held : Option (List ℕ)) (had bytes : List ℕ) : Type 0 where
-  pub gained : List ℕ
-  pub is : held ≡ Some (had ++ gained)
-  pub first : IsPrefix gained bytes
-
--- a sink gained these bytes; where something failed, first bytes of them
-abbrev pub Gains : Bool → Option (List ℕ) → List ℕ → List ℕ → Type 0
-Gains false held had bytes = held ≡ Some (had ++ bytes)
-Gains true held had bytes = GainedFirst held had bytes
 
 -- an input lost at most so many bytes
 pub record LostAtMost (left : Option (List ℕ)) (bytes : List ℕ) (most : ℕ) : Type 0 where

@@ -8,7 +8,8 @@ ghost use Rattle.emu_outcome.specs.Outcome.{result_of};
 ghost use Rattle.command_lines.specs.Places.{HasArguments, HasPlaces, file_named};
 ghost use Rattle.commands.specs.Lines.{runs_machine, may_end, RefusesLine, MissesFirst, EndsMissing};
 ghost use Rattle.commands.specs.Programs.{outcome_over};
-ghost use Rattle.commands.specs.Promises.{is_failure, is_silent, now, Gains, Meets, NamesNoFile};
+ghost use Rattle.emu_system.specs.Gained.{Gains};
+ghost use Rattle.commands.specs.Promises.{is_failure, is_silent, now, Meets, NamesNoFile};
 
 use crate::debugger::debug_file;
 use crate::disassembly::disassemble_file;

@@ -9,7 +9,7 @@ use Rattle.emu_model.specs.State.{Parts, State}
 use Rattle.emu_system.specs.Start.{with_input}
 use Rattle.emu_run.specs.Run.{run}
 use Rattle.emu_run.specs.RunLaws.{run_spent, until_end_over}
-use Rattle.linux_calls.specs.Puts.{Gains}
+use Rattle.emu_system.specs.Gained.{Gains}
 use Rattle.linux_calls.specs.Names.{NamesRead}
 use Rattle.emu_machine.specs.Ends.{IsKept, is_broken_off, is_undone, is_unput, step_end}
 use Rattle.emu_machine.specs.Machines.{MachineState, MakesRead, MakesWrite, has_ended}

@@ -10,7 +10,7 @@ use Rattle.emu_system.specs.SystemCall.{Action, fails, answers, maps, moves_brea
 use Rattle.linux_calls.specs.declared.end.CallEnd.{CallEnd}
 use Rattle.linux_calls.specs.declared.end.CallEnd.TheVariants.{Returned, Exit, ReadFault, WriteFault, ErrorsFault}
 use Rattle.linux_calls.specs.Ends.{OfInput, Stores, behind, caller, does_take, end_of, is_fault}
-use Rattle.linux_calls.specs.Puts.{Gains}
+use Rattle.emu_system.specs.Gained.{Gains}
 use Rattle.emu_machine.specs.declared.ends.StepEnd.{StepEnd}
 use Rattle.emu_machine.specs.Ends.{LeftOf, Puts, TakesWithin, is_undone, left_by, step_by, step_end}
 use Rattle.emu_machine.specs.Machines.{call_made}

@@ -4,7 +4,7 @@ use Rattle.std.proofs.lemmas.List.{drop-drop}
 use Rattle.emu_model.specs.State.{Parts, State, IsPrefix}
 use Rattle.emu_system.specs.Start.{with_input}
 use Rattle.emu_run.specs.RunLaws.{IsRest, rest_all, rest_trans, Moves, prefix_trans, behind}
-use Rattle.linux_calls.specs.Puts.{Gains}
+use Rattle.emu_system.specs.Gained.{Gains}
 use Rattle.emu_machine.specs.Ends.{Becomes, TakesWithin, Puts, LeftOf}
 
 -- a function that doesn't look at what was written before it

@@ -14,7 +14,7 @@ use Rattle.emu_machine.specs.declared.ends.RunEnd.{RunEnd}
 use Rattle.emu_machine.specs.declared.ends.RunEnd.TheVariants.{Exit as RunExit, Trap as RunTrap, Spent, ReadFault as RunReadFault, WriteFault as RunWriteFault, ErrorsFault as RunErrorsFault}
 use Rattle.io_gate.specs.Streams.{Causes, Rose}
 use Rattle.linux_calls.specs.Ends.{OfInput}
-use Rattle.linux_calls.specs.Puts.{Gains}
+use Rattle.emu_system.specs.Gained.{Gains}
 use Rattle.emu_machine.specs.Ends.{Becomes, OfStep, TakesWithin, Puts, PutsAlways, step_end, run_end, run_end_of, is_undone, is_broken_off}
 use Rattle.emu_machine.specs.Machines.{MachineState, call_made, has_ended, is_at_call}
 use Rattle.emu_machine.proofs.CallLaws.{of_all, of_each}

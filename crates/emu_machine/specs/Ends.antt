@@ -9,7 +9,7 @@ use Rattle.emu_system.specs.SystemCall.{action, went_on}
 use Rattle.linux_calls.specs.declared.end.CallEnd.{CallEnd}
 use Rattle.linux_calls.specs.declared.end.CallEnd.TheVariants.{Returned, Exit as CallExit, ReadFault as CallReadFault, WriteFault as CallWriteFault, ErrorsFault as CallErrorsFault}
 use Rattle.linux_calls.specs.Ends.{OfInput, Stores}
-use Rattle.linux_calls.specs.Puts.{Gains}
+use Rattle.emu_system.specs.Gained.{Gains}
 use Rattle.emu_machine.specs.declared.ends.StepEnd.{StepEnd}
 use Rattle.emu_machine.specs.declared.ends.StepEnd.TheVariants.{Going, Exit as StepExit, Trap as StepTrap, ReadFault as StepReadFault, WriteFault as StepWriteFault, ErrorsFault as StepErrorsFault}
 use Rattle.emu_machine.specs.declared.ends.RunEnd.{RunEnd}

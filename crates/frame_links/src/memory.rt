@@ -20,8 +20,8 @@ impl Model for Memory {
     ghost also_owns = { λ m. bytes_at m.ptr m.size };
 }
 
-/// The right to give the region back to its allocator.
-#[derive(Drop)]
+/// The right, and the duty, to give the region back to its allocator: a lease can't be dropped, so whoever has one has it until [`Memory::free`]
+/// takes it with the whole region.
 pub struct Lease<A: Allocator> {
     marker: PhantomData<A>,
     ghost alloc: { A },

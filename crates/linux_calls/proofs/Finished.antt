@@ -14,7 +14,8 @@ use Rattle.linux_calls.specs.declared.reply.Reply.{Reply}
 use Rattle.linux_calls.specs.declared.reply.Reply.TheVariants.{Answer, Error}
 use Rattle.linux_calls.specs.Done.{Around, IsDone}
 use Rattle.linux_calls.specs.Ends.{OfInput, behind, caller, end_of, is_fault}
-use Rattle.linux_calls.specs.Puts.{Gains, HasWritten, fault_of}
+use Rattle.emu_system.specs.Gained.{Gains}
+use Rattle.linux_calls.specs.Puts.{HasWritten, fault_of}
 use Rattle.linux_calls.specs.Replies.{HasBrokenOff, HasDone, HasTaken, replied, value_of}
 
 -- ---- streams that stay

@@ -8,7 +8,9 @@ use Rattle.emu_system.specs.declared.system_call.Range.{Range}
 use Rattle.emu_system.specs.SystemCall.{Action, fails, puts, file_of, gathered, is_sink}
 use Rattle.linux_calls.specs.declared.reply.Reply.{Reply}
 use Rattle.linux_calls.specs.declared.reply.Reply.TheVariants.{Answer, Error}
-use Rattle.linux_calls.specs.Puts.{Gains, HoldsFirst, HasWritten, PutsTo}
+use Rattle.emu_system.specs.Gained.{Gains}
+use Rattle.emu_system.specs.GainedLaws.{put_first}
+use Rattle.linux_calls.specs.Puts.{HasWritten, PutsTo}
 use Rattle.linux_calls.specs.Replies.{replied}
 
 -- a sink's file
@@ -24,12 +26,9 @@ module _ (m : Memory) (ho ho' : Option (List ℕ)) (same_o : Type 0) (he he' : O
   pub written_nothing : (reply : Reply) (a : Action) → replied reply ≡ a → same_o → same_e → HasWritten a m ho ho' same_o he he' same_e (Ok reply)
   written_nothing reply a is o e = subst (λ (a : Action). HasWritten a m ho ho' same_o he he' same_e (Ok reply)) is (nothing reply o e)
 
-first_bytes : (held : Option (List ℕ)) (had bytes : List ℕ) → ((n : ℕ) × (held ≡ Some (had ++ take n bytes))) → HoldsFirst held had bytes
-first_bytes held had bytes p = record { gained = take p.0 bytes; is = p.1; first = (drop p.0 bytes, sym (take-append-drop p.0 bytes)) }
-
 pub gained_first : (held now : Option (List ℕ)) (bytes : List ℕ) → IfSome held (λ had. (n : ℕ) × (now ≡ Some (had ++ take n bytes))) → IfSome held (λ had. Gains true now had bytes)
 gained_first None now bytes p = tt
-gained_first (Some had) now bytes p = first_bytes now had bytes p
+gained_first (Some had) now bytes p = put_first now had bytes p
 
 -- a sink that failed
 pub put_broken : (file to : ℕ) (ranges : List Range) (m : Memory) (held now : Option (List ℕ)) (untouched : Type 0) → nat_eq to file ≡ true → IfSome held (λ had. (n : ℕ) × (now ≡ Some (had ++ take n (gathered m ranges)))) → PutsTo file (puts to ranges) m held now untouched true

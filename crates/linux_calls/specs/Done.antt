@@ -6,7 +6,7 @@ use Rattle.emu_model.specs.State.{Core, Vectors, Parts, IsSoundBreak}
 use Rattle.emu_system.specs.SystemCall.{Action, done_by}
 use Rattle.linux_calls.specs.declared.end.CallEnd.{CallEnd}
 use Rattle.linux_calls.specs.Ends.{OfInput, Stores, behind, caller, does_put, does_take, end_of, is_fault}
-use Rattle.linux_calls.specs.Puts.{Gains}
+use Rattle.emu_system.specs.Gained.{Gains}
 
 -- the parts of a machine, what is left of the input, and what the sinks hold
 pub record Around : Type 0 where

@@ -1,24 +1,13 @@
 -- What a call puts to the sinks.
 use Rattle.std.specs.Prelude.{◌≡◌, ℕ, Bool, true, false, nat_eq, if◌then◌else◌, List, ◌++◌, Option, Some, IfSome, Result, IfOk, IfErr, is_err, MatchBool}
 use Rattle.emu_model.specs.Access.{Memory}
-use Rattle.emu_model.specs.State.{IsPrefix}
+use Rattle.emu_system.specs.Gained.{Gains}
 use Rattle.emu_system.specs.SystemCall.{Action, puts, gathered, total}
 use Rattle.linux_calls.specs.declared.end.CallEnd.{CallEnd}
 use Rattle.linux_calls.specs.declared.end.CallEnd.TheVariants.{WriteFault, ErrorsFault}
 use Rattle.linux_calls.specs.declared.reply.Reply.{Reply}
 use Rattle.linux_calls.specs.declared.reply.Reply.TheVariants.{Answer}
 use Rattle.linux_calls.specs.Replies.{replied}
-
--- the first of these bytes came behind those that were held
-pub record HoldsFirst (held : Option (List ℕ)) (had bytes : List ℕ) : Type 0 where
-  pub gained : List ℕ
-  pub is : held ≡ Some (had ++ gained)
-  pub first : IsPrefix gained bytes
-
--- these bytes came behind those that were held, or where the call was broken off the first of them
-abbrev pub Gains : Bool → Option (List ℕ) → List ℕ → List ℕ → Type 0
-Gains false held had bytes = held ≡ Some (had ++ bytes)
-Gains true held had bytes = HoldsFirst held had bytes
 
 -- where it tells what it held, the sink of a file gained the bytes that go there; any other is as it was
 abbrev pub PutsTo : ℕ → Action → Memory → Option (List ℕ) → Option (List ℕ) → Type 0 → Bool → Type 0

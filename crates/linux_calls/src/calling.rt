@@ -8,7 +8,7 @@ ghost use Rattle.emu_system.specs.SystemCall as model;
 ghost use Rattle.linux_calls.specs.Done.{IsDone};
 ghost use Rattle.linux_calls.specs.Ends.{OfInput, Stores, behind, caller, does_put, does_take, end_of, is_fault, is_put_fault};
 ghost use Rattle.linux_calls.specs.Names.{HasNumber, NamesRead, NamesWrite};
-ghost use Rattle.linux_calls.specs.Puts.{Gains};
+ghost use Rattle.emu_system.specs.Gained.{Gains};
 ghost use Rattle.linux_calls.specs.Replies.{value_of};
 
 use crate::arguments::{argument, name_of_call};

@@ -7,7 +7,8 @@ use Rattle.emu_outcome.specs.declared.ending.Ending.TheVariants.{Exit, Trap, Spe
 use Rattle.command_model.specs.declared.command_line.Line.{Line}
 use Rattle.command_model.specs.declared.command_line.WordsFault.{WordsFault}
 use Rattle.commands.specs.Lines.{runs_machine, IsOutcome}
-use Rattle.commands.specs.Promises.{is_failure, is_refusal, rests_on_none, settled_ending, output_of, errors_of, now, CountsFor, EndsAs, Gains, Meets, NamesNoFile, Settles}
+use Rattle.emu_system.specs.Gained.{Gains}
+use Rattle.commands.specs.Promises.{is_failure, is_refusal, rests_on_none, settled_ending, output_of, errors_of, now, CountsFor, EndsAs, Meets, NamesNoFile, Settles}
 use Rattle.svemu.specs.Headline.{Completes, IsQuiet}
 
 -- ---- for the input that was told, and for any where the line rests on none

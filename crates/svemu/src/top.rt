@@ -5,7 +5,8 @@ ghost use Rattle.command_model.specs.CommandLine.{line};
 ghost use Rattle.command_model.specs.Refusals.{words_line};
 ghost use Rattle.emu_outcome.specs.Outcome.{result_of};
 ghost use Rattle.commands.specs.Lines.{runs_machine, may_end, IsOutcome, RefusesLine, MissesFirst, EndsMissing};
-ghost use Rattle.commands.specs.Promises.{is_failure, is_silent, output_of, errors_of, taken_of, EndsAs, Gains, Loses, NamesNoFile, Settles};
+ghost use Rattle.emu_system.specs.Gained.{Gains};
+ghost use Rattle.commands.specs.Promises.{is_failure, is_silent, output_of, errors_of, taken_of, EndsAs, Loses, NamesNoFile, Settles};
 ghost use Rattle.svemu.specs.Headline.{IsQuiet, Completes};
 
 use commands::command;

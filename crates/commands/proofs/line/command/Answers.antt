@@ -5,7 +5,8 @@ use Rattle.command_model.specs.declared.command_line.Line.{Line}
 use Rattle.command_model.specs.declared.command_line.WordsFault.{WordsFault}
 use Rattle.emu_outcome.specs.Outcome.{outcome_of_line}
 use Rattle.emu_outcome.specs.declared.ending.Ending.TheVariants.{FileFault, ReadFault}
-use Rattle.commands.specs.Promises.{Gains, now, Meets, NamesNoFile, is_failure, is_silent}
+use Rattle.emu_system.specs.Gained.{Gains}
+use Rattle.commands.specs.Promises.{now, Meets, NamesNoFile, is_failure, is_silent}
 use Rattle.commands.specs.Lines.{EndsMissing, MissesFirst, may_end, runs_machine}
 use Rattle.commands.proofs.Lines.{refused_gains, refused_line, refused_names_none, refused_puts, done_refuses, line_refuses}
 use Rattle.commands.proofs.line.command.Goals as goal
