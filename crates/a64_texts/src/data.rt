@@ -1,376 +1,285 @@
 //! The patterns of data processing.
-use crate::operands::*;
-use text_code::{Pattern, at, bits, counted, number, of, pattern, slot, target, told, two};
-use text_model::{Bits, Class, Codec, Group, Kind, Need, Parts, Shape, Slot, Style};
+use text_code::{Pattern, padded, pattern};
+use text_lists::names;
+use text_lists::slots::*;
 
 /// `Rd|SP, Rn|SP, #i{, lsl #0}`.
 macro_rules! add_imm {
-    ($d:expr) => {
-        [$d, THEN, R_N_SP, THEN, counted!(1, at!(21, 10)), PERHAPS, LSL, within!(12, at!(22, 22))]
-    };
-}
-
-/// A number in a part that may be left out, 0 there.
-macro_rules! within {
-    ($by:literal, $parts:expr) => {
-        number!(Style::Counted, Kind::Scaled { by: $by, from: 0 }, $parts, Need::Inside(0))
+    ($name:ident, $base:literal, $d:ident) => {
+        pattern!($name, $base, [$d, COMMA, RN_SP, COMMA, UNSIGNED_21_10, PERHAPS, IN_LSL, IN_UNSIGNED_22_22_BY_12])
     };
 }
 
 /// `Rd|SP, Rn, #m` at a width.
 macro_rules! logic_imm {
-    ($d:expr, $n:expr, $width:literal) => {
-        [$d, THEN, $n, THEN, number!(Style::Hexadecimal($width), Kind::Bitmask($width), at!(22, 10))]
+    ($name:ident, $base:literal, $d:ident, $n:ident, $mask:ident) => {
+        pattern!($name, $base, [$d, COMMA, $n, COMMA, $mask])
     };
 }
 
 /// `Rd, Rn, Rm{, lsl #0}`.
 macro_rules! shifted {
-    () => {
-        [
-            R_D,
-            THEN,
-            R_N,
-            THEN,
-            R_M,
-            PERHAPS,
-            slot!(Style::Word, Shape::Only(Class::Shift), Kind::Plain, at!(23, 22), Need::Inside(0)),
-            within!(1, at!(15, 10)),
-        ]
+    ($name:ident, $base:literal) => {
+        pattern!($name, $base, [RD, COMMA, RN, COMMA, RM, PERHAPS, IN_SHIFT, IN_UNSIGNED_15_10])
     };
 }
 
 /// `Rd|SP, Rn|SP, Rm, ext #a`.
 macro_rules! extended {
-    ($d:expr, $n:expr, $m:expr, $extend:expr) => {
-        [$d, THEN, $n, THEN, $m, THEN, $extend, counted!(1, at!(12, 10))]
+    ($name:ident, $base:literal, $d:ident, $n:ident, $m:ident, $extend:ident) => {
+        pattern!($name, $base, [$d, COMMA, $n, COMMA, $m, COMMA, $extend, UNSIGNED_12_10])
     };
 }
 
 /// `Rd, Rn, Rm`.
 macro_rules! three {
-    () => {
-        [R_D, THEN, R_N, THEN, R_M]
+    ($name:ident, $base:literal) => {
+        pattern!($name, $base, [RD, COMMA, RN, COMMA, RM])
     };
 }
 
 /// `Rn, y, #f, cond`.
 macro_rules! conditional {
-    ($y:expr) => {
-        [R_N, THEN, $y, THEN, counted!(1, at!(3, 0)), THEN, CONDITION]
+    ($name:ident, $base:literal, $y:ident) => {
+        pattern!($name, $base, [RN, COMMA, $y, COMMA, UNSIGNED_3_0, COMMA, CONDITION])
     };
 }
 
 /// `adr`, `adrp Xd, target`
 pub const ADR: [Pattern; 2] = [
-    pattern!(
-        "adr",
-        0x1000_0000,
-        [X_D, THEN, target!(1, 1, two!(23, 5, 30, 29))]
-    ),
-    pattern!(
-        "adrp",
-        0x9000_0000,
-        [X_D, THEN, target!(4096, 4096, two!(23, 5, 30, 29))]
-    ),
+    pattern!(ADR, 0x1000_0000, [XD, COMMA, TARGET_23_5_30_29]),
+    pattern!(ADRP, 0x9000_0000, [XD, COMMA, TARGET_23_5_30_29_BY_PAGE]),
 ];
 
 /// `add`, `adds`, `sub`, `subs Rd|SP, Rn|SP, #i{, lsl #0}`
 pub const ADD_IMM: [Pattern; 4] = [
-    pattern!("add", 0x1100_0000, add_imm!(R_D_SP)),
-    pattern!("adds", 0x3100_0000, add_imm!(R_D)),
-    pattern!("sub", 0x5100_0000, add_imm!(R_D_SP)),
-    pattern!("subs", 0x7100_0000, add_imm!(R_D)),
+    add_imm!(ADD, 0x1100_0000, RD_SP),
+    add_imm!(ADDS, 0x3100_0000, RD),
+    add_imm!(SUB, 0x5100_0000, RD_SP),
+    add_imm!(SUBS, 0x7100_0000, RD),
 ];
 
 /// `and`, `orr`, `eor`, `ands Rd|SP, Rn, #m`
 pub const LOGIC_IMM: [Pattern; 8] = [
-    pattern!("and", 0x1200_0000, logic_imm!(W_D_SP, W_N, 32)),
-    pattern!("orr", 0x3200_0000, logic_imm!(W_D_SP, W_N, 32)),
-    pattern!("eor", 0x5200_0000, logic_imm!(W_D_SP, W_N, 32)),
-    pattern!("ands", 0x7200_0000, logic_imm!(W_D, W_N, 32)),
-    pattern!("and", 0x9200_0000, logic_imm!(X_D_SP, X_N, 64)),
-    pattern!("orr", 0xB200_0000, logic_imm!(X_D_SP, X_N, 64)),
-    pattern!("eor", 0xD200_0000, logic_imm!(X_D_SP, X_N, 64)),
-    pattern!("ands", 0xF200_0000, logic_imm!(X_D, X_N, 64)),
+    logic_imm!(AND, 0x1200_0000, WD_SP, WN, BITMASK_22_10_OF_32),
+    logic_imm!(ORR, 0x3200_0000, WD_SP, WN, BITMASK_22_10_OF_32),
+    logic_imm!(EOR, 0x5200_0000, WD_SP, WN, BITMASK_22_10_OF_32),
+    logic_imm!(ANDS, 0x7200_0000, WD, WN, BITMASK_22_10_OF_32),
+    logic_imm!(AND, 0x9200_0000, XD_SP, XN, BITMASK_22_10_OF_64),
+    logic_imm!(ORR, 0xB200_0000, XD_SP, XN, BITMASK_22_10_OF_64),
+    logic_imm!(EOR, 0xD200_0000, XD_SP, XN, BITMASK_22_10_OF_64),
+    logic_imm!(ANDS, 0xF200_0000, XD, XN, BITMASK_22_10_OF_64),
 ];
 
 /// `movn`, `movz`, `movk Rd, #i{, lsl #0}`
 pub const MOVE_WIDE: [Pattern; 3] = [
     pattern!(
-        "movn",
+        MOVN,
         0x1280_0000,
-        [R_D, THEN, IMM16, PERHAPS, LSL, within!(16, at!(22, 21))]
+        [
+            RD,
+            COMMA,
+            UNSIGNED_20_5,
+            PERHAPS,
+            IN_LSL,
+            IN_UNSIGNED_22_21_BY_16
+        ]
     ),
     pattern!(
-        "movz",
+        MOVZ,
         0x5280_0000,
-        [R_D, THEN, IMM16, PERHAPS, LSL, within!(16, at!(22, 21))]
+        [
+            RD,
+            COMMA,
+            UNSIGNED_20_5,
+            PERHAPS,
+            IN_LSL,
+            IN_UNSIGNED_22_21_BY_16
+        ]
     ),
     pattern!(
-        "movk",
+        MOVK,
         0x7280_0000,
-        [R_D, THEN, IMM16, PERHAPS, LSL, within!(16, at!(22, 21))]
+        [
+            RD,
+            COMMA,
+            UNSIGNED_20_5,
+            PERHAPS,
+            IN_LSL,
+            IN_UNSIGNED_22_21_BY_16
+        ]
     ),
 ];
 
 /// `sbfm`, `bfm`, `ubfm Rd, Rn, #r, #s`
 pub const BITFIELD: [Pattern; 6] = [
     pattern!(
-        "sbfm",
+        SBFM,
         0x1300_0000,
-        [W_D, THEN, W_N, THEN, IMMR, THEN, IMMS]
+        [WD, COMMA, WN, COMMA, UNSIGNED_21_16, COMMA, UNSIGNED_15_10]
     ),
-    pattern!("bfm", 0x3300_0000, [W_D, THEN, W_N, THEN, IMMR, THEN, IMMS]),
     pattern!(
-        "ubfm",
+        BFM,
+        0x3300_0000,
+        [WD, COMMA, WN, COMMA, UNSIGNED_21_16, COMMA, UNSIGNED_15_10]
+    ),
+    pattern!(
+        UBFM,
         0x5300_0000,
-        [W_D, THEN, W_N, THEN, IMMR, THEN, IMMS]
+        [WD, COMMA, WN, COMMA, UNSIGNED_21_16, COMMA, UNSIGNED_15_10]
     ),
     pattern!(
-        "sbfm",
+        SBFM,
         0x9340_0000,
-        [X_D, THEN, X_N, THEN, IMMR, THEN, IMMS]
+        [XD, COMMA, XN, COMMA, UNSIGNED_21_16, COMMA, UNSIGNED_15_10]
     ),
-    pattern!("bfm", 0xB340_0000, [X_D, THEN, X_N, THEN, IMMR, THEN, IMMS]),
     pattern!(
-        "ubfm",
+        BFM,
+        0xB340_0000,
+        [XD, COMMA, XN, COMMA, UNSIGNED_21_16, COMMA, UNSIGNED_15_10]
+    ),
+    pattern!(
+        UBFM,
         0xD340_0000,
-        [X_D, THEN, X_N, THEN, IMMR, THEN, IMMS]
+        [XD, COMMA, XN, COMMA, UNSIGNED_21_16, COMMA, UNSIGNED_15_10]
     ),
 ];
 
 /// `extr Rd, Rn, Rm, #s`
 pub const EXTRACT: [Pattern; 2] = [
-    pattern!("extr", 0x1380_0000, [W_D, THEN, W_N, THEN, W_M, THEN, IMMS]),
-    pattern!("extr", 0x93C0_0000, [X_D, THEN, X_N, THEN, X_M, THEN, IMMS]),
+    pattern!(
+        EXTR,
+        0x1380_0000,
+        [WD, COMMA, WN, COMMA, WM, COMMA, UNSIGNED_15_10]
+    ),
+    pattern!(
+        EXTR,
+        0x93C0_0000,
+        [XD, COMMA, XN, COMMA, XM, COMMA, UNSIGNED_15_10]
+    ),
 ];
 
 /// `and`, `bic` and so on, `Rd, Rn, Rm{, lsl #0}`
 pub const LOGIC_REG: [Pattern; 8] = [
-    pattern!("and", 0x0A00_0000, shifted!()),
-    pattern!("bic", 0x0A20_0000, shifted!()),
-    pattern!("orr", 0x2A00_0000, shifted!()),
-    pattern!("orn", 0x2A20_0000, shifted!()),
-    pattern!("eor", 0x4A00_0000, shifted!()),
-    pattern!("eon", 0x4A20_0000, shifted!()),
-    pattern!("ands", 0x6A00_0000, shifted!()),
-    pattern!("bics", 0x6A20_0000, shifted!()),
+    shifted!(AND, 0x0A00_0000),
+    shifted!(BIC, 0x0A20_0000),
+    shifted!(ORR, 0x2A00_0000),
+    shifted!(ORN, 0x2A20_0000),
+    shifted!(EOR, 0x4A00_0000),
+    shifted!(EON, 0x4A20_0000),
+    shifted!(ANDS, 0x6A00_0000),
+    shifted!(BICS, 0x6A20_0000),
 ];
 
 /// `add`, `adds`, `sub`, `subs Rd, Rn, Rm{, lsl #0}`
 pub const ADD_REG: [Pattern; 4] = [
-    pattern!("add", 0x0B00_0000, shifted!()),
-    pattern!("adds", 0x2B00_0000, shifted!()),
-    pattern!("sub", 0x4B00_0000, shifted!()),
-    pattern!("subs", 0x6B00_0000, shifted!()),
+    shifted!(ADD, 0x0B00_0000),
+    shifted!(ADDS, 0x2B00_0000),
+    shifted!(SUB, 0x4B00_0000),
+    shifted!(SUBS, 0x6B00_0000),
 ];
 
 /// `add`, `adds`, `sub`, `subs Rd|SP, Rn|SP, Rm, ext #a`
 pub const ADD_EXT: [Pattern; 12] = [
-    pattern!(
-        "add",
-        0x0B20_0000,
-        extended!(
-            W_D_SP,
-            W_N_SP,
-            W_M,
-            told!(14, 13, Extend, Plain, at!(15, 15))
-        )
-    ),
-    pattern!(
-        "add",
-        0x8B20_0000,
-        extended!(
-            X_D_SP,
-            X_N_SP,
-            W_M,
-            told!(14, 13, NarrowExtend, Plain, at!(15, 15))
-        )
-    ),
-    pattern!(
-        "add",
-        0x8B20_6000,
-        extended!(
-            X_D_SP,
-            X_N_SP,
-            X_M,
-            of!(ExtendDoubleword, Plain, at!(15, 15))
-        )
-    ),
-    pattern!(
-        "adds",
-        0x2B20_0000,
-        extended!(W_D, W_N_SP, W_M, told!(14, 13, Extend, Plain, at!(15, 15)))
-    ),
-    pattern!(
-        "adds",
-        0xAB20_0000,
-        extended!(
-            X_D,
-            X_N_SP,
-            W_M,
-            told!(14, 13, NarrowExtend, Plain, at!(15, 15))
-        )
-    ),
-    pattern!(
-        "adds",
-        0xAB20_6000,
-        extended!(X_D, X_N_SP, X_M, of!(ExtendDoubleword, Plain, at!(15, 15)))
-    ),
-    pattern!(
-        "sub",
-        0x4B20_0000,
-        extended!(
-            W_D_SP,
-            W_N_SP,
-            W_M,
-            told!(14, 13, Extend, Plain, at!(15, 15))
-        )
-    ),
-    pattern!(
-        "sub",
-        0xCB20_0000,
-        extended!(
-            X_D_SP,
-            X_N_SP,
-            W_M,
-            told!(14, 13, NarrowExtend, Plain, at!(15, 15))
-        )
-    ),
-    pattern!(
-        "sub",
-        0xCB20_6000,
-        extended!(
-            X_D_SP,
-            X_N_SP,
-            X_M,
-            of!(ExtendDoubleword, Plain, at!(15, 15))
-        )
-    ),
-    pattern!(
-        "subs",
-        0x6B20_0000,
-        extended!(W_D, W_N_SP, W_M, told!(14, 13, Extend, Plain, at!(15, 15)))
-    ),
-    pattern!(
-        "subs",
-        0xEB20_0000,
-        extended!(
-            X_D,
-            X_N_SP,
-            W_M,
-            told!(14, 13, NarrowExtend, Plain, at!(15, 15))
-        )
-    ),
-    pattern!(
-        "subs",
-        0xEB20_6000,
-        extended!(X_D, X_N_SP, X_M, of!(ExtendDoubleword, Plain, at!(15, 15)))
-    ),
+    extended!(ADD, 0x0B20_0000, WD_SP, WN_SP, WM, EXTEND),
+    extended!(ADD, 0x8B20_0000, XD_SP, XN_SP, WM, EXTEND_NARROW),
+    extended!(ADD, 0x8B20_6000, XD_SP, XN_SP, XM, EXTEND_DOUBLEWORD),
+    extended!(ADDS, 0x2B20_0000, WD, WN_SP, WM, EXTEND),
+    extended!(ADDS, 0xAB20_0000, XD, XN_SP, WM, EXTEND_NARROW),
+    extended!(ADDS, 0xAB20_6000, XD, XN_SP, XM, EXTEND_DOUBLEWORD),
+    extended!(SUB, 0x4B20_0000, WD_SP, WN_SP, WM, EXTEND),
+    extended!(SUB, 0xCB20_0000, XD_SP, XN_SP, WM, EXTEND_NARROW),
+    extended!(SUB, 0xCB20_6000, XD_SP, XN_SP, XM, EXTEND_DOUBLEWORD),
+    extended!(SUBS, 0x6B20_0000, WD, WN_SP, WM, EXTEND),
+    extended!(SUBS, 0xEB20_0000, XD, XN_SP, WM, EXTEND_NARROW),
+    extended!(SUBS, 0xEB20_6000, XD, XN_SP, XM, EXTEND_DOUBLEWORD),
 ];
 
 /// `adc`, `adcs`, `sbc`, `sbcs Rd, Rn, Rm`
 pub const ADD_CARRY: [Pattern; 4] = [
-    pattern!("adc", 0x1A00_0000, three!()),
-    pattern!("adcs", 0x3A00_0000, three!()),
-    pattern!("sbc", 0x5A00_0000, three!()),
-    pattern!("sbcs", 0x7A00_0000, three!()),
+    three!(ADC, 0x1A00_0000),
+    three!(ADCS, 0x3A00_0000),
+    three!(SBC, 0x5A00_0000),
+    three!(SBCS, 0x7A00_0000),
 ];
 
 /// `ccmn`, `ccmp Rn, Rm, #f, cond`
 pub const COND_REG: [Pattern; 2] = [
-    pattern!("ccmn", 0x3A40_0000, conditional!(R_M)),
-    pattern!("ccmp", 0x7A40_0000, conditional!(R_M)),
+    conditional!(CCMN, 0x3A40_0000, RM),
+    conditional!(CCMP, 0x7A40_0000, RM),
 ];
 
 /// `ccmn`, `ccmp Rn, #i, #f, cond`
 pub const COND_IMM: [Pattern; 2] = [
-    pattern!("ccmn", 0x3A40_0800, conditional!(counted!(1, at!(20, 16)))),
-    pattern!("ccmp", 0x7A40_0800, conditional!(counted!(1, at!(20, 16)))),
+    conditional!(CCMN, 0x3A40_0800, UNSIGNED_20_16),
+    conditional!(CCMP, 0x7A40_0800, UNSIGNED_20_16),
 ];
 
 /// `csel`, `csinc`, `csinv`, `csneg Rd, Rn, Rm, cond`
 pub const SELECT: [Pattern; 4] = [
     pattern!(
-        "csel",
+        CSEL,
         0x1A80_0000,
-        [R_D, THEN, R_N, THEN, R_M, THEN, CONDITION]
+        [RD, COMMA, RN, COMMA, RM, COMMA, CONDITION]
     ),
     pattern!(
-        "csinc",
+        CSINC,
         0x1A80_0400,
-        [R_D, THEN, R_N, THEN, R_M, THEN, CONDITION]
+        [RD, COMMA, RN, COMMA, RM, COMMA, CONDITION]
     ),
     pattern!(
-        "csinv",
+        CSINV,
         0x5A80_0000,
-        [R_D, THEN, R_N, THEN, R_M, THEN, CONDITION]
+        [RD, COMMA, RN, COMMA, RM, COMMA, CONDITION]
     ),
     pattern!(
-        "csneg",
+        CSNEG,
         0x5A80_0400,
-        [R_D, THEN, R_N, THEN, R_M, THEN, CONDITION]
+        [RD, COMMA, RN, COMMA, RM, COMMA, CONDITION]
     ),
 ];
 
 /// `madd`, `msub Rd, Rn, Rm, Ra`
 pub const MUL_ADD: [Pattern; 2] = [
-    pattern!("madd", 0x1B00_0000, [R_D, THEN, R_N, THEN, R_M, THEN, R_A]),
-    pattern!("msub", 0x1B00_8000, [R_D, THEN, R_N, THEN, R_M, THEN, R_A]),
+    pattern!(MADD, 0x1B00_0000, [RD, COMMA, RN, COMMA, RM, COMMA, RA]),
+    pattern!(MSUB, 0x1B00_8000, [RD, COMMA, RN, COMMA, RM, COMMA, RA]),
 ];
 
 /// `smaddl`, `smsubl`, `umaddl`, `umsubl Xd, Wn, Wm, Xa`
 pub const MUL_LONG: [Pattern; 4] = [
-    pattern!(
-        "smaddl",
-        0x9B20_0000,
-        [X_D, THEN, W_N, THEN, W_M, THEN, X_A]
-    ),
-    pattern!(
-        "smsubl",
-        0x9B20_8000,
-        [X_D, THEN, W_N, THEN, W_M, THEN, X_A]
-    ),
-    pattern!(
-        "umaddl",
-        0x9BA0_0000,
-        [X_D, THEN, W_N, THEN, W_M, THEN, X_A]
-    ),
-    pattern!(
-        "umsubl",
-        0x9BA0_8000,
-        [X_D, THEN, W_N, THEN, W_M, THEN, X_A]
-    ),
+    pattern!(SMADDL, 0x9B20_0000, [XD, COMMA, WN, COMMA, WM, COMMA, XA]),
+    pattern!(SMSUBL, 0x9B20_8000, [XD, COMMA, WN, COMMA, WM, COMMA, XA]),
+    pattern!(UMADDL, 0x9BA0_0000, [XD, COMMA, WN, COMMA, WM, COMMA, XA]),
+    pattern!(UMSUBL, 0x9BA0_8000, [XD, COMMA, WN, COMMA, WM, COMMA, XA]),
 ];
 
 /// `smulh`, `umulh Xd, Xn, Xm`
 pub const MUL_HIGH: [Pattern; 2] = [
-    pattern!("smulh", 0x9B40_7C00, [X_D, THEN, X_N, THEN, X_M]),
-    pattern!("umulh", 0x9BC0_7C00, [X_D, THEN, X_N, THEN, X_M]),
+    pattern!(SMULH, 0x9B40_7C00, [XD, COMMA, XN, COMMA, XM]),
+    pattern!(UMULH, 0x9BC0_7C00, [XD, COMMA, XN, COMMA, XM]),
 ];
 
 /// `udiv`, `sdiv`, `lslv`, `lsrv`, `asrv`, `rorv Rd, Rn, Rm`
 pub const TWO_SOURCE: [Pattern; 6] = [
-    pattern!("udiv", 0x1AC0_0800, three!()),
-    pattern!("sdiv", 0x1AC0_0C00, three!()),
-    pattern!("lslv", 0x1AC0_2000, three!()),
-    pattern!("lsrv", 0x1AC0_2400, three!()),
-    pattern!("asrv", 0x1AC0_2800, three!()),
-    pattern!("rorv", 0x1AC0_2C00, three!()),
+    three!(UDIV, 0x1AC0_0800),
+    three!(SDIV, 0x1AC0_0C00),
+    three!(LSLV, 0x1AC0_2000),
+    three!(LSRV, 0x1AC0_2400),
+    three!(ASRV, 0x1AC0_2800),
+    three!(RORV, 0x1AC0_2C00),
 ];
 
 /// `rbit`, `rev16`, `clz`, `cls Rd, Rn`
 pub const ONE_SOURCE: [Pattern; 4] = [
-    pattern!("rbit", 0x5AC0_0000, [R_D, THEN, R_N]),
-    pattern!("rev16", 0x5AC0_0400, [R_D, THEN, R_N]),
-    pattern!("clz", 0x5AC0_1000, [R_D, THEN, R_N]),
-    pattern!("cls", 0x5AC0_1400, [R_D, THEN, R_N]),
+    pattern!(RBIT, 0x5AC0_0000, [RD, COMMA, RN]),
+    pattern!(REV16, 0x5AC0_0400, [RD, COMMA, RN]),
+    pattern!(CLZ, 0x5AC0_1000, [RD, COMMA, RN]),
+    pattern!(CLS, 0x5AC0_1400, [RD, COMMA, RN]),
 ];
 
 /// `rev Wd, Wn`, `rev Xd, Xn`, `rev32 Xd, Xn`
 pub const REV: [Pattern; 3] = [
-    pattern!("rev", 0x5AC0_0800, [W_D, THEN, W_N]),
-    pattern!("rev", 0xDAC0_0C00, [X_D, THEN, X_N]),
-    pattern!("rev32", 0xDAC0_0800, [X_D, THEN, X_N]),
+    pattern!(REV, 0x5AC0_0800, [WD, COMMA, WN]),
+    pattern!(REV, 0xDAC0_0C00, [XD, COMMA, XN]),
+    pattern!(REV32, 0xDAC0_0800, [XD, COMMA, XN]),
 ];

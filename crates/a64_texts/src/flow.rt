@@ -1,100 +1,88 @@
 //! The patterns of branches, exceptions and system.
-use crate::operands::{IMM16, R_D, THEN, X_D, X_N};
-use text_code::{Pattern, at, counted, mark, pattern, target, two};
-use text_model::{Bits, Class, Codec, Group, Kind, Need, Parts, Shape, Slot, Style};
+use text_code::{Pattern, padded, pattern};
+use text_lists::names;
+use text_lists::slots::*;
 
 /// `b`, `bl target`
 pub const BRANCH: [Pattern; 2] = [
-    pattern!("b", 0x1400_0000, [target!(4, 1, at!(25, 0))]),
-    pattern!("bl", 0x9400_0000, [target!(4, 1, at!(25, 0))]),
+    pattern!(B, 0x1400_0000, [TARGET_25_0]),
+    pattern!(BL, 0x9400_0000, [TARGET_25_0]),
 ];
 
 /// `b.eq target` and so on: the name settles the condition
 pub const BRANCH_COND: [Pattern; 16] = [
-    pattern!("b.eq", 0x5400_0000, [target!(4, 1, at!(23, 5))]),
-    pattern!("b.ne", 0x5400_0001, [target!(4, 1, at!(23, 5))]),
-    pattern!("b.cs", 0x5400_0002, [target!(4, 1, at!(23, 5))]),
-    pattern!("b.cc", 0x5400_0003, [target!(4, 1, at!(23, 5))]),
-    pattern!("b.mi", 0x5400_0004, [target!(4, 1, at!(23, 5))]),
-    pattern!("b.pl", 0x5400_0005, [target!(4, 1, at!(23, 5))]),
-    pattern!("b.vs", 0x5400_0006, [target!(4, 1, at!(23, 5))]),
-    pattern!("b.vc", 0x5400_0007, [target!(4, 1, at!(23, 5))]),
-    pattern!("b.hi", 0x5400_0008, [target!(4, 1, at!(23, 5))]),
-    pattern!("b.ls", 0x5400_0009, [target!(4, 1, at!(23, 5))]),
-    pattern!("b.ge", 0x5400_000A, [target!(4, 1, at!(23, 5))]),
-    pattern!("b.lt", 0x5400_000B, [target!(4, 1, at!(23, 5))]),
-    pattern!("b.gt", 0x5400_000C, [target!(4, 1, at!(23, 5))]),
-    pattern!("b.le", 0x5400_000D, [target!(4, 1, at!(23, 5))]),
-    pattern!("b.al", 0x5400_000E, [target!(4, 1, at!(23, 5))]),
-    pattern!("b.nv", 0x5400_000F, [target!(4, 1, at!(23, 5))]),
+    pattern!(B_EQ, 0x5400_0000, [TARGET_23_5]),
+    pattern!(B_NE, 0x5400_0001, [TARGET_23_5]),
+    pattern!(B_CS, 0x5400_0002, [TARGET_23_5]),
+    pattern!(B_CC, 0x5400_0003, [TARGET_23_5]),
+    pattern!(B_MI, 0x5400_0004, [TARGET_23_5]),
+    pattern!(B_PL, 0x5400_0005, [TARGET_23_5]),
+    pattern!(B_VS, 0x5400_0006, [TARGET_23_5]),
+    pattern!(B_VC, 0x5400_0007, [TARGET_23_5]),
+    pattern!(B_HI, 0x5400_0008, [TARGET_23_5]),
+    pattern!(B_LS, 0x5400_0009, [TARGET_23_5]),
+    pattern!(B_GE, 0x5400_000A, [TARGET_23_5]),
+    pattern!(B_LT, 0x5400_000B, [TARGET_23_5]),
+    pattern!(B_GT, 0x5400_000C, [TARGET_23_5]),
+    pattern!(B_LE, 0x5400_000D, [TARGET_23_5]),
+    pattern!(B_AL, 0x5400_000E, [TARGET_23_5]),
+    pattern!(B_NV, 0x5400_000F, [TARGET_23_5]),
 ];
 
 /// `cbz`, `cbnz Rt, target`
 pub const COMPARE: [Pattern; 2] = [
-    pattern!("cbz", 0x3400_0000, [R_D, THEN, target!(4, 1, at!(23, 5))]),
-    pattern!("cbnz", 0x3500_0000, [R_D, THEN, target!(4, 1, at!(23, 5))]),
+    pattern!(CBZ, 0x3400_0000, [RD, COMMA, TARGET_23_5]),
+    pattern!(CBNZ, 0x3500_0000, [RD, COMMA, TARGET_23_5]),
 ];
 
 /// `tbz`, `tbnz Rt, #b, target`
 pub const TEST: [Pattern; 2] = [
     pattern!(
-        "tbz",
+        TBZ,
         0x3600_0000,
-        [
-            R_D,
-            THEN,
-            counted!(1, two!(31, 31, 23, 19)),
-            THEN,
-            target!(4, 1, at!(18, 5))
-        ]
+        [RD, COMMA, UNSIGNED_31_31_23_19, COMMA, TARGET_18_5]
     ),
     pattern!(
-        "tbnz",
+        TBNZ,
         0x3700_0000,
-        [
-            R_D,
-            THEN,
-            counted!(1, two!(31, 31, 23, 19)),
-            THEN,
-            target!(4, 1, at!(18, 5))
-        ]
+        [RD, COMMA, UNSIGNED_31_31_23_19, COMMA, TARGET_18_5]
     ),
 ];
 
 /// `br`, `blr`, `ret Xn`
 pub const BRANCH_REG: [Pattern; 3] = [
-    pattern!("br", 0xD61F_0000, [X_N]),
-    pattern!("blr", 0xD63F_0000, [X_N]),
-    pattern!("ret", 0xD65F_0000, [X_N]),
+    pattern!(BR, 0xD61F_0000, [XN]),
+    pattern!(BLR, 0xD63F_0000, [XN]),
+    pattern!(RET, 0xD65F_0000, [XN]),
 ];
 
 /// `svc`, `brk`, `hlt #i`
 pub const EXCEPT: [Pattern; 3] = [
-    pattern!("svc", 0xD400_0001, [IMM16]),
-    pattern!("brk", 0xD420_0000, [IMM16]),
-    pattern!("hlt", 0xD440_0000, [IMM16]),
+    pattern!(SVC, 0xD400_0001, [UNSIGNED_20_5]),
+    pattern!(BRK, 0xD420_0000, [UNSIGNED_20_5]),
+    pattern!(HLT, 0xD440_0000, [UNSIGNED_20_5]),
 ];
 
 /// `hint #n`
-pub const HINT: [Pattern; 1] = [pattern!("hint", 0xD503_201F, [counted!(1, at!(11, 5))])];
+pub const HINT: [Pattern; 1] = [pattern!(HINT, 0xD503_201F, [UNSIGNED_11_5])];
 
 /// `clrex`, `dsb`, `dmb`, `isb #n`
 pub const BARRIER: [Pattern; 4] = [
-    pattern!("clrex", 0xD503_305F, [counted!(1, at!(11, 8))]),
-    pattern!("dsb", 0xD503_309F, [counted!(1, at!(11, 8))]),
-    pattern!("dmb", 0xD503_30BF, [counted!(1, at!(11, 8))]),
-    pattern!("isb", 0xD503_30DF, [counted!(1, at!(11, 8))]),
+    pattern!(CLREX, 0xD503_305F, [UNSIGNED_11_8]),
+    pattern!(DSB, 0xD503_309F, [UNSIGNED_11_8]),
+    pattern!(DMB, 0xD503_30BF, [UNSIGNED_11_8]),
+    pattern!(ISB, 0xD503_30DF, [UNSIGNED_11_8]),
 ];
 
 /// `mrs Xt, tpidr_el0` and so on
 pub const READ_SYS: [Pattern; 3] = [
-    pattern!("mrs", 0xD53B_D040, [X_D, THEN, mark!(TpidrEl0)]),
-    pattern!("mrs", 0xD53B_4200, [X_D, THEN, mark!(Nzcv)]),
-    pattern!("mrs", 0xD53B_00E0, [X_D, THEN, mark!(DczidEl0)]),
+    pattern!(MRS, 0xD53B_D040, [XD, COMMA, TPIDR_EL0]),
+    pattern!(MRS, 0xD53B_4200, [XD, COMMA, NZCV]),
+    pattern!(MRS, 0xD53B_00E0, [XD, COMMA, DCZID_EL0]),
 ];
 
 /// `msr tpidr_el0, Xt` and `msr nzcv, Xt`
 pub const WRITE_SYS: [Pattern; 2] = [
-    pattern!("msr", 0xD51B_D040, [mark!(TpidrEl0), THEN, X_D]),
-    pattern!("msr", 0xD51B_4200, [mark!(Nzcv), THEN, X_D]),
+    pattern!(MSR, 0xD51B_D040, [TPIDR_EL0, COMMA, XD]),
+    pattern!(MSR, 0xD51B_4200, [NZCV, COMMA, XD]),
 ];

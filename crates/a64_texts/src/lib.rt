@@ -7,7 +7,6 @@ mod data;
 mod flow;
 mod memory;
 mod names;
-mod operands;
 
 ghost use Rattle.std.specs.Prelude.{◌≡◌, ℕ, ◌^◌, ◌<◌, true, [], Some, get_or};
 ghost use Rattle.emu_bits.specs.Rows.{IsRow};

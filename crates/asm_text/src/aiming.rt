@@ -38,7 +38,7 @@ pub fn aim(i: &Insn, pc: u64, target: u64) -> Option<Insn>
     };
     let word = encode_a64(base);
     let pattern = chosen(patterns(base.form()), word)?;
-    let reach = reach_of(pattern.slots)?;
+    let reach = reach_of(&pattern.slots())?;
     let word = aimed(reach, unaimed(reach, word), pc, target)?;
     decode_a64(word).map(Insn::A64)
 }

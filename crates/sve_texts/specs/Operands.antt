@@ -1,5 +1,5 @@
 -- Operands of SVE instructions: a list of slots each, by the bits of the word where the table has them.
-use Rattle.std.specs.Prelude.{ℕ, ◌+◌, List, [], ◌∷◌, ◌++◌, get_or, map, codes}
+use Rattle.std.specs.Prelude.{ℕ, List, [], ◌∷◌, ◌++◌, get_or, map, codes}
 use Rattle.text_model.specs.declared.classes.Class.{Class}
 use Rattle.text_model.specs.declared.classes.Class.TheVariants.{Slash, Zb, Zh, Zs, Zd, Zq, P, Pb, Ph, Ps, Pd, Shift, Count, Times, Merging, Zeroing}
 use Rattle.text_model.specs.declared.classes.Group.{Group}

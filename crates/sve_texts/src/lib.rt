@@ -6,30 +6,30 @@ macro_rules! slots {
     ([$($slots:tt)*]) => {
         slots!(@ [] $($slots)*)
     };
-    (@ [$($done:expr),*]) => {
-        [$($done),*]
+    (@ [$($done:ident),*]) => {
+        padded!([$($done),*])
     };
-    (@ [$($done:expr),*] , $($more:tt)*) => {
+    (@ [$($done:ident),*] , $($more:tt)*) => {
         slots!(@ [$($done,)* COMMA] $($more)*)
     };
-    (@ [$($done:expr),*] / $($more:tt)*) => {
+    (@ [$($done:ident),*] / $($more:tt)*) => {
         slots!(@ [$($done,)* SLASH] $($more)*)
     };
-    (@ [$($done:expr),*] {$($inner:tt)*} $($more:tt)*) => {
+    (@ [$($done:ident),*] {$($inner:tt)*} $($more:tt)*) => {
         slots!(@ [$($done,)* OPEN_BRACE] $($inner)* CLOSE_BRACE $($more)*)
     };
-    (@ [$($done:expr),*] [$($inner:tt)*] $($more:tt)*) => {
+    (@ [$($done:ident),*] [$($inner:tt)*] $($more:tt)*) => {
         slots!(@ [$($done,)* OPEN] $($inner)* CLOSE $($more)*)
     };
-    (@ [$($done:expr),*] $slot:ident $($more:tt)*) => {
+    (@ [$($done:ident),*] $slot:ident $($more:tt)*) => {
         slots!(@ [$($done,)* $slot] $($more)*)
     };
 }
 
 /// Patterns of the same slots, one after the other: the slots, and names with their words.
 macro_rules! patterns {
-    ($($slots:tt: $($name:literal $base:literal),*;)*) => {
-        [$($(Pattern { name: $name, base: $base, slots: &slots!($slots) }),*),*]
+    ($($slots:tt: $($name:ident $base:literal),*;)*) => {
+        [$($(Pattern { name: names::$name, base: $base, slots: slots!($slots) }),*),*]
     };
 }
 
@@ -40,7 +40,6 @@ mod lanes;
 mod names;
 mod permutes;
 mod predicates;
-mod slots;
 
 ghost use Rattle.std.specs.Prelude.{◌≡◌, [], true, get_or};
 ghost use Rattle.emu_bits.specs.Rows.{IsRow};

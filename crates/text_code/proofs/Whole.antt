@@ -5,6 +5,7 @@ use Rattle.std.specs.List.{slice_get}
 use Rattle.std.specs.Prelude.{slice_range, is_some}
 use Rattle.text_tokens.specs.Tokens.{tokens}
 use Rattle.text_model.specs.declared.slots.Item.{Item}
+use Rattle.text_model.specs.declared.slots.Slot.{Slot}
 use Rattle.text_model.specs.declared.slots.Refusal.{Refusal}
 use Rattle.text_model.specs.declared.slots.Refusal.TheVariants.{UnknownName, BadOperands, OutOfRange}
 use Rattle.text_model.specs.Reading.{Pattern, Read, Operands, has_target, later, best}
@@ -64,9 +65,14 @@ spots_long pss (s ∷ ss) = ap suc (spots_long pss ss)
 
 -- ---- one pattern
 
-pub by_answer : (in_table : ℕ → Bool) (p : Pattern) (o : Operands) (r : Result ℕ Refusal) → r ≡ answer_to p (if has_target p.slots then o.untargeted else o.items)
-    → answer_named in_table p o ≡ asked_of in_table (has_target p.slots) r
-by_answer in_table p o r e = one_answer in_table p (if has_target p.slots then o.untargeted else o.items) ∙ ap (asked_of in_table (has_target p.slots)) (sym e)
+-- by the word that its base and its slots read
+pub by_answer : (in_table : ℕ → Bool) (p : Pattern) (o : Operands) (ss ts : List Slot) (aimed : Bool) (r : Result ℕ Refusal) → ss ≡ p.slots → ts ≡ p.slots → aimed ≡ has_target ss
+    → r ≡ answer_to (record { name = []; base = p.base; slots = ts }) (if aimed then o.untargeted else o.items) → asked_of in_table aimed r ≡ answer_named in_table p o
+by_answer in_table p o ss ts aimed r es et ea er =
+    let a : aimed ≡ has_target p.slots = ea ∙ ap has_target es in
+    let e : r ≡ answer_to p (if has_target p.slots then o.untargeted else o.items) =
+    er ∙ ap₂ (λ (us : List Slot) (b : Bool). answer_to (record { name = []; base = p.base; slots = us }) (if b then o.untargeted else o.items)) et a in
+    ap₂ (asked_of in_table) a e ∙ sym (one_answer in_table p (if has_target p.slots then o.untargeted else o.items))
 
 -- ---- the patterns at some spots, one after the other
 

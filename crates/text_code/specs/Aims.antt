@@ -1,5 +1,5 @@
 -- Targets of the program's slots as the definitions have them.
-use Rattle.std.specs.Prelude.{ℕ, ◌&&◌, Bool, true, Option, Some, None, nat_lt, nat_le}
+use Rattle.std.specs.Prelude.{◌&&◌, Bool, true, Option, Some, None, nat_lt, nat_le}
 use Rattle.text_model.specs.Slots.{places, bits_in}
 use Rattle.text_model.specs.Aim as model
 use Rattle.text_code.specs.Sound.{are_parts}

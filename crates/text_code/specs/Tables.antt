@@ -5,6 +5,7 @@ use Rattle.text_code.specs.declared.dictionary.Family.{Family}
 use Rattle.text_code.specs.declared.dictionary.Word.{Word}
 use Rattle.text_code.specs.declared.bits.Built.{Built}
 use Rattle.text_code.specs.declared.patterns.Pattern.{Pattern}
+use Rattle.text_lists.specs.Lists.{name_at, slots_of}
 use Rattle.text_model.specs.Reading as reading
 use Rattle.text_model.specs.Told as told
 use Rattle.text_model.specs.Words as words
@@ -22,7 +23,7 @@ built_of b = record { mask = b.mask; word = b.word }
 
 -- a pattern of the program
 abbrev pub pattern_of : Pattern → reading.Pattern
-pattern_of p = record { name = p.name.now; base = p.base; slots = p.slots.now }
+pattern_of p = record { name = name_at p.name; base = p.base; slots = slots_of p.slots }
 
 abbrev pub patterns_of : List Pattern → List reading.Pattern
 patterns_of [] = []

@@ -1,6 +1,7 @@
 //! The pattern that shows a word.
 ghost use Rattle.std.specs.Prelude.{◌≡◌, ◌<◌, ◌^◌, Option, true, option_map, bit_or};
 ghost use Rattle.emu_bits.specs.Rows.{ones_at};
+ghost use Rattle.text_lists.specs.Lists.{slots_of};
 ghost use Rattle.text_model.specs.Slots.{place_of, places, all_fit, fits};
 ghost use Rattle.text_model.specs.Text.{ones_of, slot_places, told_bits, shows, chosen};
 ghost use Rattle.text_code.specs.Sound.{are_in_word, are_parts, is_sound, are_sound};
@@ -11,6 +12,8 @@ use crate::bits::{number_of, ones};
 use crate::groups::has_class;
 use crate::kinds::can_show;
 use crate::patterns::Pattern;
+use text_lists::slot;
+use text_lists::slots::END;
 use text_model::{Bits, Parts, Shape, Slot};
 
 /// Some ones, and ones at these bits.
@@ -46,14 +49,14 @@ fn slot_bits(slot: Slot) -> u32
     }
 }
 
-/// The word with ones at the bits that slots tell.
-fn told_bits(slots: &[Slot]) -> u32
-    requires { are_sound slots.now ≡ true }
-    ensures { result ≡ told_bits slots.now }
+/// The word with ones at the bits that the slots of these numbers tell.
+fn told_bits(numbers: &[u8]) -> u32
+    requires { are_sound (slots_of numbers.now) ≡ true }
+    ensures { result ≡ told_bits (slots_of numbers.now) }
 {
-    match slots.split_first() {
-        Some((slot, more)) => slot_bits(*slot) | told_bits(more),
-        None => 0,
+    match numbers.split_first() {
+        Some((number, more)) if *number != END => slot_bits(slot(*number)) | told_bits(more),
+        _ => 0,
     }
 }
 
@@ -65,23 +68,25 @@ fn fits(slot: Slot, word: u32) -> bool
     has_class(slot.shape, word) && can_show(slot.codec.kind, number_of(slot.codec.parts, word))
 }
 
-/// Whether each of some slots can show what a word has at its bits.
-fn all_fit(slots: &[Slot], word: u32) -> bool
-    requires { are_sound slots.now ≡ true }
-    ensures { result ≡ all_fit slots.now word }
+/// Whether each of the slots of these numbers can show what a word has at its bits.
+fn all_fit(numbers: &[u8], word: u32) -> bool
+    requires { are_sound (slots_of numbers.now) ≡ true }
+    ensures { result ≡ all_fit (slots_of numbers.now) word }
 {
-    match slots.split_first() {
-        Some((slot, more)) => fits(*slot, word) && all_fit(more, word),
-        None => true,
+    match numbers.split_first() {
+        Some((number, more)) if *number != END => {
+            fits(slot(*number), word) && all_fit(more, word)
+        }
+        _ => true,
     }
 }
 
 /// Whether a pattern shows a word.
 pub fn shows(pattern: &Pattern, word: u32) -> bool
-    requires { are_sound pattern.now.slots.now ≡ true }
+    requires { are_sound (pattern_of pattern.now).slots ≡ true }
     ensures { result ≡ shows (pattern_of pattern.now) word }
 {
-    word & (u32::MAX - told_bits(pattern.slots)) == pattern.base && all_fit(pattern.slots, word)
+    word & (u32::MAX - told_bits(&pattern.slots)) == pattern.base && all_fit(&pattern.slots, word)
 }
 
 /// The first of some patterns that shows a word.

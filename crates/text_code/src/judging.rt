@@ -1,17 +1,16 @@
 //! What a pattern makes of a statement's items.
-ghost use Rattle.std.specs.Prelude.{◌≡◌, ◌≤◌, ◌&&◌, true, length};
+ghost use Rattle.std.specs.Prelude.{◌≡◌, ◌≤◌, ◌&&◌, [], true, length};
 ghost use Rattle.text_model.specs.Slots.{items_in};
 ghost use Rattle.text_model.specs.Told.{built, slot_tells, put_all};
 ghost use Rattle.text_model.specs.Reading.{is_target, has_target, same_classes};
 ghost use Rattle.text_code.specs.Sound.{is_sound, are_sound};
-ghost use Rattle.text_code.specs.Tables.{pattern_of, built_of};
+ghost use Rattle.text_code.specs.Tables.{built_of};
 ghost use Rattle.text_code.specs.Judging.{verdict, are_shown, is_shown, answer_to};
 
 use crate::bits::{Built, number_of, width_of};
 use crate::filling::filled;
 use crate::groups::{class_in, has_class, place_in, same_class};
 use crate::kinds::{can_show, is_canonical, shown, told};
-use crate::patterns::Pattern;
 use text_model::{Item, Kind, Refusal, Shape, Slot};
 
 /// With what a slot's item tells.
@@ -111,16 +110,16 @@ pub fn has_target(slots: &[Slot]) -> bool
     slots.iter().any(|slot| is_target(slot.codec.kind))
 }
 
-/// The word that a pattern of the name reads in a statement's items, whatever the table says of it.
-pub fn answer(pattern: &Pattern, items: &[Item]) -> Result<u32, Refusal>
-    requires sound { are_sound pattern.now.slots.now ≡ true }
-    requires few { length pattern.now.slots.now ≤ 24 }
-    ensures { result ≡ answer_to (pattern_of pattern.now) items.now }
+/// The word that a pattern of the name with this base and these slots reads in a statement's items, whatever the table says of it.
+pub fn answer(base: u32, slots: &[Slot], items: &[Item]) -> Result<u32, Refusal>
+    requires sound { are_sound slots.now ≡ true }
+    requires few { length slots.now ≤ 24 }
+    ensures { result ≡ answer_to (record { name = []; base = base; slots = slots.now }) items.now }
 {
-    let Some(items) = filled(pattern.slots, items) else {
+    let Some(items) = filled(slots, items) else {
         return Err(Refusal::BadOperands);
     };
-    let word = word_told(pattern.base, pattern.slots, &items);
-    judged(pattern.slots, &items, word)?;
+    let word = word_told(base, slots, &items);
+    judged(slots, &items, word)?;
     Ok(word)
 }

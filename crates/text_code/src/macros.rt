@@ -1,97 +1,25 @@
-//! Words for writing the patterns of a table as constants. A macro names what stands in scope where it is called: `Bits`, `Class`,
-//! `Codec`, `Group`, `Kind`, `Name`, `Need`, `Parts`, `Pattern`, `Shape`, `Slot`, `Spot` and `Style`.
+//! Words for writing the patterns of a table as constants. A macro names what stands in scope where it is called: `END`, `Name`, `Pattern`,
+//! `Spot`, the module `names`, and the slots that it is given.
 
-/// Bits of a word.
+/// Slots, and behind them the end, up to the 24 places of a pattern.
 #[macro_export]
-macro_rules! bits {
-    ($high:literal, $low:literal) => {
-        Bits { high: $high, low: $low }
+macro_rules! padded {
+    ([$($slot:ident),*]) => {
+        $crate::padded!(@ $($slot)*
+            END END END END END END END END END END END END END END END END END END END END END END END END)
     };
-}
-
-/// A number's bits in one piece.
-#[macro_export]
-macro_rules! at {
-    ($high:literal, $low:literal) => {
-        Parts::At($crate::bits!($high, $low))
-    };
-}
-
-/// A number's bits in two pieces, the higher ones first.
-#[macro_export]
-macro_rules! two {
-    ($high:literal, $low:literal, $next_high:literal, $next_low:literal) => {
-        Parts::Two($crate::bits!($high, $low), $crate::bits!($next_high, $next_low))
-    };
-}
-
-/// A slot.
-#[macro_export]
-macro_rules! slot {
-    ($style:expr, $shape:expr, $kind:expr, $parts:expr, $need:expr) => {
-        Slot { style: $style, shape: $shape, codec: Codec { kind: $kind, parts: $parts }, need: $need }
-    };
-}
-
-/// A register or a word of a class.
-#[macro_export]
-macro_rules! of {
-    ($class:ident, $kind:ident, $parts:expr) => {
-        $crate::slot!(Style::Word, Shape::Only(Class::$class), Kind::$kind, $parts, Need::Must)
-    };
-}
-
-/// A register or a word of the class that bits pick of a group.
-#[macro_export]
-macro_rules! told {
-    ($high:literal, $low:literal, $group:ident, $kind:ident, $parts:expr) => {
-        $crate::slot!(Style::Word, Shape::Told($crate::bits!($high, $low), Group::$group), Kind::$kind, $parts, Need::Must)
-    };
-}
-
-/// A mark, or the one word of a class.
-#[macro_export]
-macro_rules! mark {
-    ($class:ident) => {
-        $crate::mark!($class, Need::Must)
-    };
-    ($class:ident, $need:expr) => {
-        $crate::slot!(Style::Word, Shape::Only(Class::$class), Kind::Fixed(0), Parts::Nowhere, $need)
-    };
-}
-
-/// A number.
-#[macro_export]
-macro_rules! number {
-    ($style:expr, $kind:expr, $parts:expr) => {
-        $crate::number!($style, $kind, $parts, Need::Must)
-    };
-    ($style:expr, $kind:expr, $parts:expr, $need:expr) => {
-        $crate::slot!($style, Shape::Only(Class::Number), $kind, $parts, $need)
-    };
-}
-
-/// `#` and a number, so many times the bits.
-#[macro_export]
-macro_rules! counted {
-    ($by:literal, $parts:expr) => {
-        $crate::number!(Style::Counted, Kind::Scaled { by: $by, from: 0 }, $parts)
-    };
-}
-
-/// An address, so many times the bits behind the instruction's, which is rounded down to a multiple.
-#[macro_export]
-macro_rules! target {
-    ($by:literal, $page:literal, $parts:expr) => {
-        $crate::number!(Style::Address, Kind::Target { by: $by, page: $page }, $parts)
+    (@ $a:ident $b:ident $c:ident $d:ident $e:ident $f:ident $g:ident $h:ident $i:ident $j:ident $k:ident $l:ident
+        $m:ident $n:ident $o:ident $p:ident $q:ident $r:ident $s:ident $t:ident $u:ident $v:ident $w:ident $x:ident
+        $($rest:ident)*) => {
+        [$a, $b, $c, $d, $e, $f, $g, $h, $i, $j, $k, $l, $m, $n, $o, $p, $q, $r, $s, $t, $u, $v, $w, $x]
     };
 }
 
 /// A pattern.
 #[macro_export]
 macro_rules! pattern {
-    ($name:literal, $base:literal, $slots:expr) => {
-        Pattern { name: $name, base: $base, slots: &$slots }
+    ($name:ident, $base:literal, $slots:tt) => {
+        Pattern { name: names::$name, base: $base, slots: $crate::padded!($slots) }
     };
 }
 

@@ -5,6 +5,7 @@ ghost use Rattle.text_model.specs.Reading.{Pattern as TablePattern, later};
 ghost use Rattle.text_model.specs.Statement.{is_address, untargeted, lowered, reads_tokens};
 ghost use Rattle.text_model.specs.Writing.{flat};
 ghost use Rattle.text_code.specs.Tables.{pattern_of, patterns_of};
+ghost use Rattle.text_code.specs.Sound.{are_sound};
 ghost use Rattle.text_code.specs.Reads.{with_name, at_spot, at_spots, are_spots, all_sound, answer_named, reads_named, read_of, aim_at, statement_of, IsCut};
 ghost use Rattle.text_code.specs.Judging.{answer_to};
 ghost use Rattle.text_code.specs.Places.{kept_or_zero};
@@ -16,7 +17,7 @@ use crate::operands::{items, last_label};
 use crate::patterns::{Pattern, Spot};
 use arrayvec::ArrayVec;
 use asm_tokens::Token;
-use text_model::{Class, Item, Refusal};
+use text_model::{Class, Item, Refusal, Slot};
 
 /// What a statement goes to: a label, by where it stands, or an address.
 #[derive(Clone, Copy)]
@@ -108,20 +109,23 @@ fn later(a: Refusal, b: Refusal) -> Refusal
     }
 }
 
-/// The word that a pattern reads in items, the second ones where it has a target, whatever the table says of it.
+/// The word that a pattern with this base and these slots reads in items, the second ones where it has a target, whatever the table
+/// says of it.
 fn answer_by(
-    pattern: &Pattern,
+    base: u32,
+    slots: &[Slot],
     aimed: bool,
     items: &[Item],
     untargeted: &[Item],
 ) -> Result<u32, Refusal>
-    requires { all_sound (pattern_of pattern.now ∷ []) ≡ true }
-    ensures { result ≡ answer_to (pattern_of pattern.now) (if aimed then untargeted.now else items.now) }
+    requires sound { are_sound slots.now ≡ true }
+    requires few { length slots.now ≤ 24 }
+    ensures { result ≡ answer_to (record { name = []; base = base; slots = slots.now }) (if aimed then untargeted.now else items.now) }
 {
     if aimed {
-        answer(pattern, untargeted)
+        answer(base, slots, untargeted)
     } else {
-        answer(pattern, items)
+        answer(base, slots, items)
     }
 }
 
@@ -135,8 +139,9 @@ fn read_by<T: Table>(
     requires { all_sound (pattern_of pattern.now ∷ []) ≡ true }
     ensures { read_of result ≡ answer_named (T.in_table table.now) (pattern_of pattern.now) (record { items = items.now; untargeted = untargeted.now }) }
 {
-    let aimed = has_target(pattern.slots);
-    match answer_by(pattern, aimed, items, untargeted) {
+    let slots = pattern.slots();
+    let aimed = has_target(&slots);
+    match answer_by(pattern.base, &slots, aimed, items, untargeted) {
         Ok(word) => {
             if table.holds(word) {
                 Ok((word, aimed))

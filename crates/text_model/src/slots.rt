@@ -103,6 +103,20 @@ pub struct Slot {
     pub need: Need,
 }
 
+impl Default for Slot {
+    fn default() -> Self {
+        Slot {
+            style: Style::Word,
+            shape: Shape::Only(Class::Unknown),
+            codec: Codec {
+                kind: Kind::Fixed(0),
+                parts: Parts::Nowhere,
+            },
+            need: Need::Must,
+        }
+    }
+}
+
 /// An item of a statement.
 #[derive(Clone, Copy)]
 pub struct Item {

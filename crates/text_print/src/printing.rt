@@ -99,13 +99,15 @@ fn put_slots(out: &mut ArrayString<96>, last: Edge, slots: &[Slot], word: u32, p
 
 /// Puts the text that a pattern gives of a word at pc in place of `out`.
 fn print(pattern: &Pattern, word: u32, pc: u64, out: &mut ArrayString<96>)
-    requires sound { are_sound pattern.now.slots.now ≡ true }
+    requires sound { are_sound (pattern_of pattern.now).slots ≡ true }
     requires room { has_room (pattern_of pattern.now) ≡ true }
     ensures { out.new.bytes ≡ text (pattern_of pattern.now) word pc }
 {
+    let name = pattern.name();
+    let slots = pattern.slots();
     out.clear();
-    out.push_str(pattern.name);
-    put_slots(out, edge_of(pattern.name), pattern.slots, word, pc);
+    out.push_str(name);
+    put_slots(out, edge_of(name), &slots, word, pc);
 }
 
 /// The first pattern that shows a word, among those of so many lines of a table from one on.

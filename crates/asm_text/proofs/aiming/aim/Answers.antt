@@ -4,7 +4,9 @@ use Rattle.emu_run.specs.declared.insn.Insn.{Insn}
 use Rattle.emu_run.specs.declared.insn.Insn.TheVariants.{A64}
 use Rattle.insn_texts.specs.Statements.{may_have_target}
 use Rattle.insn_texts.specs.Texts.{is_canonical}
+use Rattle.text_model.specs.Aim.{reach_of}
 use Rattle.text_code.specs.Aims.{reach_told}
+use Rattle.text_code.specs.Sound.{are_sound}
 use Rattle.text_code.specs.Tables.{pattern_of, patterns_of, pattern_at}
 use Rattle.asm_text.proofs.Steps.{chosen_sound, sought, none_sought, aimed_so, aimed_well}
 use Rattle.asm_text.proofs.aiming.aim.Goals as goal
@@ -17,7 +19,8 @@ returns-in_err-pattern-clause-aimed c =
 
 pub reach_of-requires : goal.reach_of-requires
 reach_of-requires c =
-    chosen_sound (patterns_of c.patterns.result.now) c.encode_a64-word.result (pattern_of c.in_ok-pattern.pattern.now) c.patterns.ensures.sound
+    ap are_sound (c.deref.ensures.0 ∙ c.slots.ensures)
+    ∙ chosen_sound (patterns_of c.patterns.result.now) c.encode_a64-word.result (pattern_of c.in_ok-pattern.pattern.now) c.patterns.ensures.sound
     (ap pattern_at (sym c.in_ok-pattern.was) ∙ c.chosen.ensures)
 
 pub returns-in_err-word-clause-aimed : goal.returns-in_err-word-clause-aimed
@@ -27,7 +30,7 @@ returns-in_err-word-clause-aimed c =
     let n : c.from_residual-in_err-word.result ≡ None = search rules in
     n
     ∙ aimed_so c.args.i.now c.in-A64.base (pattern_of c.in_ok-pattern.pattern.now) c.encode_a64-word.result c.unaimed.result c.args.pc c.args.target (reach_told (Some c.in_ok-reach.reach)) None s
-    c.encode_a64-word.ensures.table (ap reach_told (sym c.in_ok-reach.was) ∙ c.reach_of.ensures.told) c.unaimed.ensures (sym c.in_err-word.was ∙ c.aimed.ensures)
+    c.encode_a64-word.ensures.table (ap reach_told (sym c.in_ok-reach.was) ∙ c.reach_of.ensures.told ∙ ap reach_of (c.deref.ensures.0 ∙ c.slots.ensures)) c.unaimed.ensures (sym c.in_err-word.was ∙ c.aimed.ensures)
 
 pub returns-clause-aimed : goal.returns-clause-aimed
 returns-clause-aimed c =
@@ -36,7 +39,7 @@ returns-clause-aimed c =
     let m : c.map.result ≡ option_map A64 c.decode_a64.result = search rules in
     m ∙ ap (option_map A64) c.decode_a64.ensures.form
     ∙ aimed_so c.args.i.now c.in-A64.base (pattern_of c.in_ok-pattern.pattern.now) c.encode_a64-word.result c.unaimed.result c.args.pc c.args.target (reach_told (Some c.in_ok-reach.reach))
-    (Some c.in_ok-word.word) s c.encode_a64-word.ensures.table (ap reach_told (sym c.in_ok-reach.was) ∙ c.reach_of.ensures.told) c.unaimed.ensures
+    (Some c.in_ok-word.word) s c.encode_a64-word.ensures.table (ap reach_told (sym c.in_ok-reach.was) ∙ c.reach_of.ensures.told ∙ ap reach_of (c.deref.ensures.0 ∙ c.slots.ensures)) c.unaimed.ensures
     (sym c.in_ok-word.was ∙ c.aimed.ensures)
 
 pub returns-clause-canonical : goal.returns-clause-canonical

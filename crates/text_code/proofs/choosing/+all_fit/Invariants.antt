@@ -2,4 +2,4 @@ use Rattle.std.proofs.Common.{length}
 use Rattle.text_code.proofs.choosing.+all_fit.Given as goal
 
 abbrev pub decreases-all_fit : goal.decreases-all_fit
-decreases-all_fit l = length l.slots.now
+decreases-all_fit l = length l.numbers.now

@@ -5,7 +5,7 @@ use Rattle.text_code.proofs.Spots.{place_there, place_is}
 use Rattle.text_code.proofs.reading.pattern_at.Goals as goal
 
 nothing : Pattern
-nothing = record { name = record { ref_ptr = (0, 0); now = [] }; base = 0; slots = record { ref_ptr = (0, 0); now = [] } }
+nothing = record { name = 0; base = 0; slots = [] }
 
 pub bounds-line-from : goal.bounds-line-from
 bounds-line-from g c =

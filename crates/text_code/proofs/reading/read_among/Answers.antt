@@ -1,8 +1,7 @@
 use Rattle.std.proofs.Common.{◌≡◌, true, List, [], ◌∷◌, sym, ap, ◌∙◌, subst}
 use Rattle.text_model.specs.Reading.{Pattern}
 use Rattle.text_code.specs.declared.patterns.Spot.{Spot}
-use Rattle.text_code.specs.Tables.{pattern_of}
-use Rattle.text_code.specs.Reads.{at_spot, at_spots, are_spots, all_sound}
+use Rattle.text_code.specs.Reads.{at_spot, at_spots, all_sound}
 use Rattle.text_code.proofs.Whole.{one_sound}
 use Rattle.text_code.proofs.reading.read_among.Goals as goal
 

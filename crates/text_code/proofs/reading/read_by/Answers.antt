@@ -1,25 +1,17 @@
-use Rattle.std.proofs.Common.{Bool, List, if◌then◌else◌, Ok, Err, sym, ap, ap₂, ◌∙◌}
+use Rattle.std.proofs.Common.{Bool, if◌then◌else◌, Ok, Err, sym, ap, ◌∙◌}
 use Rattle.text_model.specs.declared.slots.Refusal.TheVariants.{OutOfRange}
-use Rattle.text_model.specs.declared.slots.Item.{Item}
-use Rattle.text_code.specs.Judging.{answer_to}
 use Rattle.text_code.specs.Tables.{pattern_of}
 use Rattle.text_code.proofs.Whole.{by_answer}
 use Rattle.text_code.proofs.reading.read_by.Goals as goal
 
 pub returns-then-holds : goal.returns-then-holds
 returns-then-holds g c =
-    let p = pattern_of c.args.pattern.now in
-    let is : List Item = c.args.items.now in
-    let js : List Item = c.args.untargeted.now in
-    let a = c.has_target-aimed.ensures in
-    let e = sym c.in-Ok.is ∙ c.answer_by.ensures ∙ ap (λ (b : Bool). answer_to p (if b then js else is)) a in
-    sym (by_answer (g.T.Table.in_table c.args.table.now) p (record { items = is; untargeted = js }) (Ok c.in-Ok.word) e
-    ∙ ap₂ (λ (b t : Bool). if b then Ok (record { word = c.in-Ok.word; aimed = t }) else Err OutOfRange) (sym c.holds.ensures ∙ c.if-holds.true) (sym a))
+    let aimed = c.has_target-aimed.result in
+    ap (λ (b : Bool). if b then Ok (record { word = c.in-Ok.word; aimed = aimed }) else Err OutOfRange) (sym c.if-holds.true ∙ c.holds.ensures)
+    ∙ by_answer (g.T.Table.in_table c.args.table.now) (pattern_of c.args.pattern.now) (record { items = c.args.items.now; untargeted = c.args.untargeted.now }) c.deref.result.now c.deref-2.result.now aimed
+    (Ok c.in-Ok.word) (c.deref.ensures.0 ∙ c.slots-slots.ensures) (c.deref-2.ensures.0 ∙ c.slots-slots.ensures) c.has_target-aimed.ensures (sym c.in-Ok.is ∙ c.answer_by.ensures)
 
 pub returns-in-Err : goal.returns-in-Err
 returns-in-Err g c =
-    let p = pattern_of c.args.pattern.now in
-    let is : List Item = c.args.items.now in
-    let js : List Item = c.args.untargeted.now in
-    let e = sym c.in-Err.is ∙ c.answer_by.ensures ∙ ap (λ (b : Bool). answer_to p (if b then js else is)) c.has_target-aimed.ensures in
-    sym (by_answer (g.T.Table.in_table c.args.table.now) p (record { items = is; untargeted = js }) (Err c.in-Err.refusal) e)
+    by_answer (g.T.Table.in_table c.args.table.now) (pattern_of c.args.pattern.now) (record { items = c.args.items.now; untargeted = c.args.untargeted.now }) c.deref.result.now c.deref-2.result.now
+    c.has_target-aimed.result (Err c.in-Err.refusal) (c.deref.ensures.0 ∙ c.slots-slots.ensures) (c.deref-2.ensures.0 ∙ c.slots-slots.ensures) c.has_target-aimed.ensures (sym c.in-Err.is ∙ c.answer_by.ensures)

@@ -1,4 +1,4 @@
-use Rattle.std.proofs.Common.{◌≡◌, ℕ, ◌^◌, ◌<◌, refl, sym, subst}
+use Rattle.std.proofs.Common.{ℕ, ◌^◌, ◌<◌, refl, sym, subst}
 use Rattle.text_model.specs.Slots.{places, bits_in}
 use Rattle.text_code.proofs.Slots.{narrow, kind_sound}
 use Rattle.text_code.proofs.showing.printed.Goals as goal
