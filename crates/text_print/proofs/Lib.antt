@@ -1,5 +1,6 @@
 pub mod Digits
 pub mod Laid
 pub mod Bounds
+pub mod ByClass
 pub mod Chosen
 pub mod Tokens

@@ -1,3 +1,4 @@
 pub mod Edges
+pub mod ByClass
 pub mod Room
 pub mod Lines

@@ -101,10 +101,6 @@ all_lines_have_room (ps ∷ pss) = all_have_room ps && all_lines_have_room pss
 abbrev pub is_short_family : Family → Bool
 is_short_family f = nat_lt f.letter 128 && (nat_le f.count 100 && nat_le (length f.suffix) 17)
 
-abbrev pub are_short_families : List Family → Bool
-are_short_families [] = true
-are_short_families (f ∷ fs) = is_short_family f && are_short_families fs
-
 abbrev pub are_short_words : List Word → Bool
 are_short_words [] = true
 are_short_words (w ∷ ws) = nat_le (length w.text) 20 && are_short_words ws

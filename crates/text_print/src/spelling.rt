@@ -1,9 +1,9 @@
 //! Tokens of words.
-ghost use Rattle.std.specs.Prelude.{◌≡◌, ◌+◌, ◌<◌, ◌≤◌, true, ◌∷◌, ◌++◌, length};
-ghost use Rattle.text_model.specs.Words.{two_digits, spelled_word, spelled_in, spelled};
-ghost use Rattle.text_code.specs.Tables.{families_of, words_of};
-ghost use Rattle.text_print.specs.Room.{are_short_families, are_short_words};
+ghost use Rattle.std.specs.Prelude.{◌≡◌, ℕ, ◌<◌, ◌≤◌, true, ◌∷◌, ◌++◌, length};
+ghost use Rattle.text_model.specs.Words.{dictionary, two_digits, spelled_word, spelled};
+ghost use Rattle.text_print.specs.ByClass.{family_at, spelled_by, is_short_register, word_at, spelled_at, is_short_word};
 
+use crate::by_class::{family_place, word_place};
 use crate::numerals::{Piece, push_ascii};
 use text_code::dictionary::{Family, Word, other_words, register_families};
 use text_model::Class;
@@ -35,37 +35,35 @@ fn short(text: &str) -> Piece
     piece
 }
 
-/// The word of a class and a value, which is no register; an empty one where there is none.
-fn word(words: &[Word], class: Class, value: u128) -> Piece
-    requires { are_short_words (words_of words.now) ≡ true }
-    ensures { result.bytes ≡ spelled_word (words_of words.now) class value }
+/// The family of a class's registers; none where it has no registers.
+fn family_of(class: Class) -> Option<&'static Family>
+    ensures spelled { (v : ℕ) → spelled class v ≡ spelled_by (family_at result) class v }
+    ensures short { is_short_register (family_at result) ≡ true }
 {
-    match words.split_first() {
-        Some((first, more)) => {
-            if class.number() == first.class.number() && value == u128::from(first.value) {
-                short(first.text)
+    register_families().get(family_place(class))
+}
+
+/// The only word that can be that of a class and a value, which is no register.
+fn word_of(class: Class, value: u128) -> Option<&'static Word>
+    ensures spelled { spelled_word dictionary class value ≡ spelled_at (word_at result) class value }
+    ensures short { is_short_word (word_at result) ≡ true }
+{
+    other_words().get(word_place(class, value))
+}
+
+/// The word of a class and a value, which is no register; an empty one where there is none.
+fn word(class: Class, value: u128) -> Piece
+    ensures { result.bytes ≡ spelled_word dictionary class value }
+{
+    match word_of(class, value) {
+        Some(word) => {
+            if class.number() == word.class.number() && value == u128::from(word.value) {
+                short(word.text)
             } else {
-                word(more, class, value)
+                Piece::new()
             }
         }
         None => Piece::new(),
-    }
-}
-
-/// The word of a class and a value: a register of one of these families, or another word.
-fn word_among(families: &[Family], class: Class, value: u128) -> Piece
-    requires { are_short_families (families_of families.now) ≡ true }
-    ensures { result.bytes ≡ spelled_in (families_of families.now) class value }
-{
-    match families.split_first() {
-        Some((family, more)) => {
-            if class.number() == family.class.number() && value < u128::from(family.count) {
-                register(family, value as u8)
-            } else {
-                word_among(more, class, value)
-            }
-        }
-        None => word(other_words(), class, value),
     }
 }
 
@@ -73,5 +71,14 @@ fn word_among(families: &[Family], class: Class, value: u128) -> Piece
 pub fn spelled(class: Class, value: u128) -> Piece
     ensures { result.bytes ≡ spelled class value }
 {
-    word_among(register_families(), class, value)
+    match family_of(class) {
+        Some(family) => {
+            if value < u128::from(family.count) {
+                register(family, value as u8)
+            } else {
+                word(class, value)
+            }
+        }
+        None => word(class, value),
+    }
 }
