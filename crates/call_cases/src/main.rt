@@ -6,7 +6,7 @@
 //!
 //! What there is before the first call:
 //!
-//! - `vl=BITS`, the vector length, else 128, and `pages=COUNT`, the greatest number of mapped pages, else 16,384;
+//! - `vl=BITS`, the starting vector length, else 128, and `pages=COUNT`, the greatest number of mapped pages, else 16,384;
 //! - `input=TEXT`; `portion=COUNT`, how many bytes a stream moves at most by one take or put, else 4,096; `fail=NUMBER`, which take or put
 //!   of each stream fails, counted from 0;
 //! - `data=ADDRESS:TEXT`, bytes of the page of data at 0x401000, which may be read and written, and is there where a line has such an
@@ -16,9 +16,10 @@
 //! What happens, in order: `call=NUMBER,X0,X1,..:ANSWER`; x0 to x5 that aren't given are 0. ANSWER is what x0 is behind it, or how the
 //! program ended: `exit/CODE`, `read-fault`, `write-fault`, `errors-fault`. All registers are told apart before each call, all predicates
 //! and FFR are true, and the monitor is set. Behind one that returns, x0 is the answer, the monitor is empty, of each Z register the low 16
-//! bytes are left and of predicates and FFR nothing, and the others are as before; behind one that doesn't, all are.
+//! bytes are left and of predicates and FFR nothing, and the others are as before; behind one that doesn't, all are. The vector
+//! length stays from call to call, and a prctl alone may change it.
 //!
-//! What is there at this place of the line: `memory=ADDRESS:TEXT`; `output=` and `errors=TEXT`, all that was put so far;
+//! What is there at this place of the line: `length=BITS`, the present vector length; `memory=ADDRESS:TEXT`; `output=` and `errors=TEXT`, all that was put so far;
 //! `page=ADDRESS:RIGHTS`, letters of `rwx`, `-` for none of them, or `none` where the page isn't mapped; `mapped=COUNT`, how many pages are.
 #![tactic(auto)]
 

@@ -18,9 +18,14 @@ const DATA: u64 = 0x401;
 
 const STACK: u64 = 0x7_FFFF_FEFF;
 
-/// The memory, the break and the streams of a case.
+/// The number of prctl, which alone may change the vector length.
+const PRCTL: u64 = 167;
+
+/// The lengths, the memory, the break and the streams of a case.
 #[derive(Drop)]
 struct Play {
+    /// The starting vector length, and the present one.
+    most: Length,
     length: Length,
     memory: Mem,
     brk: Break,
@@ -158,6 +163,7 @@ impl Play {
         let most = find_number(line, "portion", 4096)? as usize;
         let start = if has_data(line) { 0x40_2000 } else { 0x40_1000 };
         Some(Play {
+            most: length,
             length,
             memory: memory_of(alloc, line)?,
             brk: Break { start, now: start },
@@ -186,7 +192,8 @@ impl Play {
         let (end, answer) = end_of(end)?;
         let mut general = distinct();
         let mut numbers = numbers.split(',');
-        general[8] = number(numbers.next()?)?;
+        let name = number(numbers.next()?)?;
+        general[8] = name;
         for x in general.iter_mut().take(6) {
             *x = match numbers.next() {
                 Some(text) => number(text)?,
@@ -197,7 +204,7 @@ impl Play {
             return None;
         }
         let mut core = core_of(&general);
-        let mut vec = vectors_of(self.length, false);
+        let mut vec = vectors_of(self.most, self.length, false);
         let found = call(
             &mut core,
             &mut vec,
@@ -214,7 +221,10 @@ impl Play {
         } else {
             (general[0], MONITOR)
         };
-        let wanted = vectors_of(self.length, returned);
+        if returned && name == PRCTL {
+            self.length = vec.length();
+        }
+        let wanted = vectors_of(self.most, self.length, returned);
         Some(found == end && is_core(&core, &general, x0, monitor) && are_same(&vec, &wanted))
     }
 
@@ -222,6 +232,7 @@ impl Play {
     fn has(&self, name: &str, value: &str) -> Option<bool> {
         match name {
             "mapped" => Some(u64::from(self.memory.pages().mapped()) == number(value)?),
+            "length" => Some(u64::from(self.length.bits()) == number(value)?),
             "output" => Some(are_text(self.output.kept(), value)),
             "errors" => Some(are_text(self.errors.kept(), value)),
             "memory" => {

@@ -65,10 +65,13 @@ pub fn is_core(core: &Core, general: &General, x0: u64, monitor: Option<(u64, u3
     same
 }
 
-/// The vector registers before a call: bytes that differ, and true flags; or behind it, where only the low 16 bytes of each Z
-/// register are left.
-pub fn vectors_of(length: Length, is_behind: bool) -> VecRegs {
-    let mut vec = VecRegs::new(length);
+/// The vector registers before a call, of a starting and a present length: bytes that differ, and true flags; or behind it, where
+/// only the low 16 bytes of each Z register are left.
+pub fn vectors_of(most: Length, length: Length, is_behind: bool) -> VecRegs {
+    let mut vec = VecRegs::new(most);
+    if length.bits() <= most.bits() {
+        vec.set_length(length);
+    }
     for number in 0..32 {
         if let Some(r) = Reg::new(number) {
             fill_vector(&mut vec, r, if is_behind { 16 } else { 256 });
@@ -109,9 +112,11 @@ fn fill_ffr(vec: &mut VecRegs, most: u32) {
     }
 }
 
-/// Whether all vector registers are the same.
+/// Whether the lengths and all vector registers are the same.
 pub fn are_same(a: &VecRegs, b: &VecRegs) -> bool {
-    let mut same = a.ffr_words() == b.ffr_words();
+    let mut same = a.most() == b.most()
+        && a.length() == b.length()
+        && a.ffr_words() == b.ffr_words();
     for number in 0..32 {
         if let Some(r) = Reg::new(number) {
             same = same && a.z_words(r) == b.z_words(r);

@@ -9,7 +9,7 @@ use Rattle.std.proofs.lemmas.Option.{get_or_from_slice_get}
 use Rattle.emu_model.specs.State.{Parts, State}
 use Rattle.emu_system.specs.Start.{with_input}
 use Rattle.dbg_model.specs.declared.script.Command.{Command}
-use Rattle.dbg_model.specs.declared.script.Command.TheVariants.{Step, Go, Break, Watch, Regs, Zreg, Preg, Ffr, Lanes, Mem}
+use Rattle.dbg_model.specs.declared.script.Command.TheVariants.{Step, Go, Break, Watch, Regs, Vl, Zreg, Preg, Ffr, Lanes, Mem}
 use Rattle.dbg_model.specs.Commands.{is_break, is_watch, is_within}
 use Rattle.dbg_model.specs.Session.{Marks, marked, obeyed, obeyed_all, shown}
 use Rattle.dbg_core.specs.declared.ends.SessionEnd.{SessionEnd}
@@ -49,6 +49,7 @@ room_left marks Go rest b w = tt
 room_left marks (Break address) rest b w = omega (arith, b, one_break address rest)
 room_left marks (Watch address count) rest b w = omega (arith, w, one_watch address count rest)
 room_left marks Regs rest b w = tt
+room_left marks Vl rest b w = tt
 room_left marks (Zreg k) rest b w = tt
 room_left marks (Preg k) rest b w = tt
 room_left marks Ffr rest b w = tt
@@ -63,6 +64,7 @@ breaks_left marks (Break address) rest b =
     omega (arith, b, more, one_break address rest)
 breaks_left marks (Watch address count) rest b = b
 breaks_left marks Regs rest b = b
+breaks_left marks Vl rest b = b
 breaks_left marks (Zreg k) rest b = b
 breaks_left marks (Preg k) rest b = b
 breaks_left marks Ffr rest b = b
@@ -77,6 +79,7 @@ watches_left marks (Watch address count) rest w =
     let more : length (marked (Watch address count) marks).watches ≡ length marks.watches + 1 = length-append marks.watches (record { address = address; count = count } ∷ []) in
     omega (arith, w, more, one_watch address count rest)
 watches_left marks Regs rest w = w
+watches_left marks Vl rest w = w
 watches_left marks (Zreg k) rest w = w
 watches_left marks (Preg k) rest w = w
 watches_left marks Ffr rest w = w
@@ -160,6 +163,7 @@ shows Go marks budget no_step no_go st = absurd (no_go refl)
 shows (Break address) marks budget no_step no_go st = refl
 shows (Watch address count) marks budget no_step no_go st = refl
 shows Regs marks budget no_step no_go st = refl
+shows Vl marks budget no_step no_go st = refl
 shows (Zreg k) marks budget no_step no_go st = refl
 shows (Preg k) marks budget no_step no_go st = refl
 shows Ffr marks budget no_step no_go st = refl

@@ -8,7 +8,7 @@ use Rattle.emu_run.specs.Run.{goes_on, until_end, run}
 use Rattle.emu_run.specs.Reports.{ending_line}
 use Rattle.emu_run.specs.RunLaws.{rest_all, Moves, moves_not, moves_trans, prefix_refl, step_moves, until_end_none, until_end_one, until_end_over, behind, run_behind, step_behind}
 use Rattle.dbg_model.specs.declared.script.Command.{Command}
-use Rattle.dbg_model.specs.declared.script.Command.TheVariants.{Step, Go, Break, Watch, Regs, Zreg, Preg, Ffr, Lanes, Mem}
+use Rattle.dbg_model.specs.declared.script.Command.TheVariants.{Step, Go, Break, Watch, Regs, Vl, Zreg, Preg, Ffr, Lanes, Mem}
 use Rattle.dbg_model.specs.declared.script.Stop.{Stop}
 use Rattle.dbg_model.specs.Session.{Marks, no_marks, marked, is_touched, mark_met, watch_met, shown, stop_line, printed, ending_printed, stepped_text, stepped, stopped_or, go, go-zero, go-suc, obeyed, obeyed_all}
 use Rattle.emu_machine.proofs.Composed.{Blind, Moving}
@@ -107,6 +107,7 @@ obeyed_blind Go marks budget o e st = go_blind marks (budget - st.parts.steps) o
 obeyed_blind (Break address) marks budget o e st = prints_blind (shown (Break address)) o e st
 obeyed_blind (Watch address count) marks budget o e st = prints_blind (shown (Watch address count)) o e st
 obeyed_blind Regs marks budget o e st = prints_blind (shown Regs) o e st
+obeyed_blind Vl marks budget o e st = prints_blind (shown Vl) o e st
 obeyed_blind (Zreg k) marks budget o e st = prints_blind (shown (Zreg k)) o e st
 obeyed_blind (Preg k) marks budget o e st = prints_blind (shown (Preg k)) o e st
 obeyed_blind Ffr marks budget o e st = prints_blind (shown Ffr) o e st
@@ -119,6 +120,7 @@ obeyed_moving Go marks budget st = go_moves marks (budget - st.parts.steps) st
 obeyed_moving (Break address) marks budget st = prints_moving (shown (Break address)) st
 obeyed_moving (Watch address count) marks budget st = prints_moving (shown (Watch address count)) st
 obeyed_moving Regs marks budget st = prints_moving (shown Regs) st
+obeyed_moving Vl marks budget st = prints_moving (shown Vl) st
 obeyed_moving (Zreg k) marks budget st = prints_moving (shown (Zreg k)) st
 obeyed_moving (Preg k) marks budget st = prints_moving (shown (Preg k)) st
 obeyed_moving Ffr marks budget st = prints_moving (shown Ffr) st

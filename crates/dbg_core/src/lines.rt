@@ -4,14 +4,14 @@ ghost use Rattle.io_gate.specs.Streams.{HasCause, PutsAll};
 ghost use Rattle.emu_run.specs.Reports.{ending_line};
 ghost use Rattle.emu_run.specs.Registers.{scalar_lines};
 ghost use Rattle.dbg_model.specs.Commands.{is_within};
-ghost use Rattle.dbg_model.specs.Session.{lanes_line, shown, stepped_text, stop_line};
+ghost use Rattle.dbg_model.specs.Session.{lanes_line, length_line, shown, stepped_text, stop_line};
 
 use dbg_model::{Command, Stop};
 use emu_bits::{Esize, Reg};
 use emu_machine::{Ended, Machine};
 use emu_report::{
-    put_break, put_exit, put_ffr, put_lanes, put_memory, put_preg, put_scalars, put_spent,
-    put_step, put_trap, put_watch, put_zreg,
+    put_break, put_exit, put_ffr, put_lanes, put_length, put_memory, put_preg, put_scalars,
+    put_spent, put_step, put_trap, put_watch, put_zreg,
 };
 use io_gate::{Failed, Sink};
 
@@ -64,6 +64,14 @@ fn put_machine_scalars<S: Sink>(machine: &Machine, sink: &mut S) -> Result<(), F
     put_scalars(machine.core(), machine.vec(), sink)
 }
 
+/// Puts the present and the starting vector length of a machine.
+fn put_machine_length<S: Sink>(machine: &Machine, sink: &mut S) -> Result<(), Failed>
+    ensures bytes { PutsAll (S.held sink.old) (S.held sink.new) (length_line machine.now.parts.vectors) result }
+    ensures cause { HasCause (S.faults sink.old) (S.faults sink.new) result }
+{
+    put_length(machine.vec(), sink)
+}
+
 /// Puts the lanes of a Z register of a machine.
 fn put_machine_lanes<S: Sink>(
     k: Reg,
@@ -85,6 +93,7 @@ pub fn put_shown<S: Sink>(command: &Command, machine: &Machine, sink: &mut S) ->
 {
     match command {
         Command::Regs => put_machine_scalars(machine, sink),
+        Command::Vl => put_machine_length(machine, sink),
         Command::Zreg(k) => put_zreg(*k, machine.vec(), sink),
         Command::Preg(k) => put_preg(*k, machine.vec(), sink),
         Command::Ffr => put_ffr(machine.vec(), sink),

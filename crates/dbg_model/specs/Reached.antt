@@ -7,7 +7,7 @@ use Rattle.emu_run.specs.Step.{accesses, step}
 use Rattle.emu_run.specs.Run.{goes_on, until_end, run}
 use Rattle.emu_run.specs.RunLaws.{behind, step_counts, until_end_none, until_end_one, until_end_over, until_end_behind}
 use Rattle.dbg_model.specs.declared.script.Command.{Command}
-use Rattle.dbg_model.specs.declared.script.Command.TheVariants.{Step, Go, Break, Watch, Regs, Zreg, Preg, Ffr, Lanes, Mem}
+use Rattle.dbg_model.specs.declared.script.Command.TheVariants.{Step, Go, Break, Watch, Regs, Vl, Zreg, Preg, Ffr, Lanes, Mem}
 use Rattle.dbg_model.specs.declared.script.Stop.{Stop}
 use Rattle.dbg_model.specs.Session.{Marks, no_marks, marked, mark_met, printed, stopped_or, go, go-zero, go-suc, obeyed, obeyed_all, session, ending_printed}
 
@@ -138,6 +138,7 @@ reached_obeyed Go marks budget st = reached_go marks (budget - st.parts.steps) s
 reached_obeyed (Break address) marks budget st = reached_shown _ _ st
 reached_obeyed (Watch address count) marks budget st = reached_shown _ _ st
 reached_obeyed Regs marks budget st = reached_shown _ _ st
+reached_obeyed Vl marks budget st = reached_shown _ _ st
 reached_obeyed (Zreg k) marks budget st = reached_shown _ _ st
 reached_obeyed (Preg k) marks budget st = reached_shown _ _ st
 reached_obeyed Ffr marks budget st = reached_shown _ _ st

@@ -12,7 +12,7 @@ use Rattle.std.specs.Str.Parse.{digits_value}
 use Rattle.emu_bits.specs.declared.flags.Esize.{Esize}
 use Rattle.emu_bits.specs.declared.flags.Esize.TheVariants.{B, H, S, D}
 use Rattle.dbg_model.specs.declared.script.Command.{Command}
-use Rattle.dbg_model.specs.declared.script.Command.TheVariants.{Step, Go, Break, Watch, Regs, Zreg, Preg, Ffr, Lanes, Mem}
+use Rattle.dbg_model.specs.declared.script.Command.TheVariants.{Step, Go, Break, Watch, Regs, Vl, Zreg, Preg, Ffr, Lanes, Mem}
 use Rattle.dbg_model.specs.declared.script.ScriptFault.{ScriptFault}
 use Rattle.dbg_model.specs.declared.script.ScriptWhy.{ScriptWhy}
 use Rattle.dbg_model.specs.declared.script.ScriptWhy.TheVariants.{NotUtf8, TooManyLines, UnknownCommand, MissingWord, BadNumber, OutOfRange, ExtraWord, TooMany}
@@ -121,11 +121,12 @@ command_named name words =
     else (if bytes_eq name (codes "break") then break_of words
     else (if bytes_eq name (codes "watch") then watch_of words
     else (if bytes_eq name (codes "regs") then whole words 1 Regs
+    else (if bytes_eq name (codes "vl") then whole words 1 Vl
     else (if bytes_eq name (codes "zreg") then zreg_of words
     else (if bytes_eq name (codes "preg") then preg_of words
     else (if bytes_eq name (codes "ffr") then whole words 1 Ffr
     else (if bytes_eq name (codes "lanes") then lanes_of words
-    else (if bytes_eq name (codes "mem") then mem_of words else Err UnknownCommand)))))))))
+    else (if bytes_eq name (codes "mem") then mem_of words else Err UnknownCommand))))))))))
 
 abbrev pub command_of : List (List ℕ) → Result Command ScriptWhy
 command_of words = command_named (get_or words 0 []) words

@@ -21,7 +21,7 @@ use Rattle.emu_run.specs.Reports.{ending_line}
 use Rattle.emu_run.specs.Step.{accesses, step}
 use Rattle.emu_run.specs.Run.{goes_on, run}
 use Rattle.dbg_model.specs.declared.script.Command.{Command}
-use Rattle.dbg_model.specs.declared.script.Command.TheVariants.{Step, Go, Break, Watch, Regs, Zreg, Preg, Ffr, Lanes, Mem}
+use Rattle.dbg_model.specs.declared.script.Command.TheVariants.{Step, Go, Break, Watch, Regs, Vl, Zreg, Preg, Ffr, Lanes, Mem}
 use Rattle.dbg_model.specs.declared.script.Watch.{Watch as Watched}
 use Rattle.dbg_model.specs.declared.script.Stop.{Stop}
 use Rattle.dbg_model.specs.declared.script.Stop.TheVariants.{AtWatch, AtBreak}
@@ -33,6 +33,10 @@ size_letter B = codes "b"
 size_letter H = codes "h"
 size_letter S = codes "s"
 size_letter D = codes "d"
+
+-- the present and the starting vector length, in bits
+abbrev pub length_line : Vectors → List ℕ
+length_line v = codes "vl " ++ decimal v.bits ++ codes " of " ++ decimal v.most ++ newline
 
 abbrev pub z_line : Vectors → ℕ → List ℕ
 z_line v k = register_line (numbered (codes "z") k) (byte_digits (read_z v k))
@@ -66,6 +70,7 @@ memory_lines m address count = lines_of ((count + 15) / 16) (λ k. memory_line m
 
 abbrev pub shown : Command → Parts → List ℕ
 shown Regs m = scalar_lines m.core m.vectors.bits
+shown Vl m = length_line m.vectors
 shown (Zreg k) m = z_line m.vectors k
 shown (Preg k) m = p_line m.vectors k
 shown Ffr m = ffr_line m.vectors

@@ -65,6 +65,8 @@ pub enum Command {
     Watch(u64, u64),
     /// `regs`: prints the scalar registers and the vector length.
     Regs,
+    /// `vl`: prints the present and the starting vector length.
+    Vl,
     /// `zreg K`: prints a Z register.
     Zreg(Reg),
     /// `preg K`: prints a predicate register.

@@ -6,7 +6,7 @@ use Rattle.std.specs.Str.{bytes_eq}
 use Rattle.std.proofs.lemmas.Bool.Decides.{nat_tests}
 use Rattle.emu_bits.specs.declared.flags.Esize.{Esize}
 use Rattle.dbg_model.specs.declared.script.Command.{Command}
-use Rattle.dbg_model.specs.declared.script.Command.TheVariants.{Step, Go, Break, Watch, Regs, Zreg, Preg, Ffr, Lanes, Mem}
+use Rattle.dbg_model.specs.declared.script.Command.TheVariants.{Step, Go, Break, Watch, Regs, Vl, Zreg, Preg, Ffr, Lanes, Mem}
 use Rattle.dbg_model.specs.declared.script.ScriptWhy.{ScriptWhy}
 use Rattle.dbg_model.specs.declared.script.ScriptWhy.TheVariants.{MissingWord, BadNumber, OutOfRange, ExtraWord, UnknownCommand}
 use Rattle.dbg_model.specs.Commands.{is_within}
@@ -106,11 +106,12 @@ named_keeps name words =
     (either (bytes_eq name (codes "break")) _ _ (break_keeps words)
     (either (bytes_eq name (codes "watch")) _ _ (watch_keeps words)
     (either (bytes_eq name (codes "regs")) _ _ (keeps_whole words 1 Regs refl)
+    (either (bytes_eq name (codes "vl")) _ _ (keeps_whole words 1 Vl refl)
     (either (bytes_eq name (codes "zreg")) _ _ (zreg_keeps words)
     (either (bytes_eq name (codes "preg")) _ _ (preg_keeps words)
     (either (bytes_eq name (codes "ffr")) _ _ (keeps_whole words 1 Ffr refl)
     (either (bytes_eq name (codes "lanes")) _ _ (lanes_keeps words)
-    (either (bytes_eq name (codes "mem")) _ _ (mem_keeps words) (refuses UnknownCommand))))))))))
+    (either (bytes_eq name (codes "mem")) _ _ (mem_keeps words) (refuses UnknownCommand)))))))))))
 
 pub command_within : (words : List (List ℕ)) (c : Command) → command_of words ≡ Ok c → is_within c ≡ true
 command_within words c is = named_keeps (get_or words 0 []) words c is

@@ -108,6 +108,8 @@ pub fn command_of(words: &[&str]) -> Result<Command, ScriptWhy>
         watch_of(words)
     } else if name == "regs" {
         whole(words, 1, Command::Regs)
+    } else if name == "vl" {
+        whole(words, 1, Command::Vl)
     } else if name == "zreg" {
         zreg_of(words)
     } else if name == "preg" {

@@ -1,13 +1,13 @@
 -- What a call makes of all that it sees, by what it did.
-use Rattle.std.proofs.Common.{◌≡◌, ℕ, Bool, true, false, List, [], ◌++◌, length, drop, min, Option, Some, None, IfSome, MatchBool, Ok, Err, nat_eq, if◌then◌else◌, refl, sym, ap, subst, ◌∙◌, append-nil}
+use Rattle.std.proofs.Common.{◌≡◌, ◌/◌, ℕ, Bool, true, false, List, [], ◌++◌, length, drop, min, Option, Some, None, IfSome, MatchBool, Ok, Err, nat_eq, if◌then◌else◌, refl, sym, ap, subst, ◌∙◌, append-nil}
 use Rattle.emu_model.specs.declared.program_break.Break.{Break}
 use Rattle.emu_model.specs.Access.{Memory}
 use Rattle.emu_model.specs.State.{Core, Vectors, Parts, IsSoundBreak}
-use Rattle.vec_model.specs.AfterCall.{after_call}
+use Rattle.vec_model.specs.AfterCall.{after_call, cleared}
 use Rattle.emu_system.specs.declared.system_call.CallName.{CallName}
 use Rattle.emu_system.specs.declared.system_call.Errno.{Errno}
 use Rattle.emu_system.specs.declared.system_call.Range.{Range}
-use Rattle.emu_system.specs.SystemCall.{Action, fails, answers, maps, moves_break, takes, puts, exits, Turn, action_of, answered_core, done_by, error_answer, filled, gathered, quiet, returned, total}
+use Rattle.emu_system.specs.SystemCall.{Action, fails, answers, maps, moves_break, sets_length, takes, puts, exits, Turn, action_of, answered_core, done_by, error_answer, filled, gathered, quiet, returned_in, total}
 use Rattle.linux_calls.specs.declared.end.CallEnd.{CallEnd}
 use Rattle.linux_calls.specs.declared.end.CallEnd.TheVariants.{Returned, Exit, ReadFault, WriteFault, ErrorsFault}
 use Rattle.linux_calls.specs.declared.reply.Reply.{Reply}
@@ -59,28 +59,28 @@ module _ (c : Core) (v : Vectors) (m : Memory) (b : Break) (told ho he : Option 
 
   -- ---- a call that returned
 
-  module _ (c' : Core) (v' : Vectors) (m' : Memory) (b' : Break) (left ho' he' : Option (List ℕ)) (vectors : v' ≡ after_call v) (sound : IsSoundBreak b') where
+  module _ (c' : Core) (v' : Vectors) (m' : Memory) (b' : Break) (left ho' he' : Option (List ℕ)) (sound : IsSoundBreak b') where
     abbrev new : Around
     new = record { core = c'; vectors = v'; memory = m'; brk = b'; left = left; output = ho'; errors = he' }
 
-    state_of : (x : ℕ) (m2 : Memory) (b2 : Break) → c' ≡ answered_core c x → m' ≡ m2 → b' ≡ b2 → behind Returned c' v' m' b' ≡ returned (record (caller c v m b) { memory = m2; brk = b2 }) x
-    state_of x m2 b2 ce me be = λ i. behind Returned (ce i) (vectors i) (me i) (be i)
+    state_of : (bits x : ℕ) (m2 : Memory) (b2 : Break) → v' ≡ cleared bits v → c' ≡ answered_core c x → m' ≡ m2 → b' ≡ b2 → behind Returned c' v' m' b' ≡ returned_in bits (record (caller c v m b) { memory = m2; brk = b2 }) x
+    state_of bits x m2 b2 vectors ce me be = λ i. behind Returned (ce i) (vectors i) (me i) (be i)
 
     -- and moved no byte
     module _ (same_left : left ≡ told) (same_written : ho' ≡ ho) (same_told : he' ≡ he) (i : si) (o : so) (e : se) where
       left_is : IfSome told (λ bytes. left ≡ Some bytes)
       left_is = subst (λ (l : Option (List ℕ)). IfSome told (λ bytes. l ≡ Some bytes)) (sym same_left) (still_left told)
 
-      -- with this answer, memory and break
-      module _ (a : Action) (x : ℕ) (m2 : Memory) (b2 : Break) (is : (bytes : List ℕ) → done_by a (caller c v m b) bytes ≡ quiet (returned (record (caller c v m b) { memory = m2; brk = b2 }) x) bytes)
-          (ends : Returned ≡ end_of a) (any : (P : List ℕ → Type 0) → ((bytes : List ℕ) → P bytes) → OfInput a told P) (ce : c' ≡ answered_core c x) (me : m' ≡ m2) (be : b' ≡ b2) where
+      -- in this length, with this answer, memory and break
+      module _ (a : Action) (bits x : ℕ) (m2 : Memory) (b2 : Break) (is : (bytes : List ℕ) → done_by a (caller c v m b) bytes ≡ quiet (returned_in bits (record (caller c v m b) { memory = m2; brk = b2 }) x) bytes)
+          (ends : Returned ≡ end_of a) (any : (P : List ℕ → Type 0) → ((bytes : List ℕ) → P bytes) → OfInput a told P) (vectors : v' ≡ cleared bits v) (ce : c' ≡ answered_core c x) (me : m' ≡ m2) (be : b' ≡ b2) where
         left_of : (t : Option (List ℕ)) → IfSome t (λ bytes. left ≡ Some bytes) → IfSome t (λ bytes. false ≡ false → left ≡ Some (done_by a (caller c v m b) bytes).input)
         left_of None h = tt
         left_of (Some bytes) h = λ _. h ∙ ap (λ (t : Turn). Some t.input) (sym (is bytes))
 
         quietly : IsDone a old new si so se Returned
         quietly = record {
-          state = any (λ bytes. false ≡ false → behind Returned c' v' m' b' ≡ (done_by a (caller c v m b) bytes).parts) (λ bytes _. state_of x m2 b2 ce me be ∙ ap (λ (t : Turn). t.parts) (sym (is bytes)));
+          state = any (λ bytes. false ≡ false → behind Returned c' v' m' b' ≡ (done_by a (caller c v m b) bytes).parts) (λ bytes _. state_of bits x m2 b2 vectors ce me be ∙ ap (λ (t : Turn). t.parts) (sym (is bytes)));
           input = left_of told left_is;
           output = λ bytes. subst (λ (t : Turn). IfSome ho (λ had. Gains false ho' had t.output)) (sym (is bytes)) (nothing_gained ho ho' false same_written);
           errors = λ bytes. subst (λ (t : Turn). IfSome he (λ had. Gains false he' had t.errors)) (sym (is bytes)) (nothing_gained he he' false same_told);
@@ -93,88 +93,98 @@ module _ (c : Core) (v : Vectors) (m : Memory) (b : Break) (told ho he : Option 
           errors_kept = λ _. e;
         }
 
-      reply_of : (r s : Reply) → c' ≡ answered_core c (value_of r) → r ≡ s → c' ≡ answered_core c (value_of s)
-      reply_of r s ce is = ce ∙ ap (λ (r : Reply). answered_core c (value_of r)) is
+      -- and set the length
+      pub done_length : (bits : ℕ) → v' ≡ cleared bits v → c' ≡ answered_core c (bits / 8) → m' ≡ m → b' ≡ b → IsDone (sets_length bits) old new si so se Returned
+      done_length bits vectors ce me be = quietly (sets_length bits) bits (bits / 8) m b (λ bytes. refl) refl (λ P f. f) vectors ce me be
 
-      pub done_still : (a : Action) (r : Reply) → HasDone a m b m' b' r → c' ≡ answered_core c (value_of r) → IsDone a old new si so se Returned
-      done_still (fails x) r h ce = quietly (fails x) (error_answer x) m b (λ bytes. refl) refl (λ P f. f) (reply_of r (Error x) ce h.0) h.1 h.2
-      done_still (answers x) r h ce = quietly (answers x) x m b (λ bytes. refl) refl (λ P f. f) (reply_of r (Answer x) ce h.0) h.1 h.2
-      done_still (maps memory x) r h ce = quietly (maps memory x) x memory b (λ bytes. refl) refl (λ P f. f) (reply_of r (Answer x) ce h.0) h.1 h.2
-      done_still (moves_break memory to) r h ce = quietly (moves_break memory to) to memory (record { start = b.start; now = to }) (λ bytes. refl) refl (λ P f. f) (reply_of r (Answer to) ce h.0) h.1 h.2
-      done_still (takes ranges) r h ce = absurd h
-      done_still (puts file ranges) r h ce = absurd h
-      done_still (exits code) r h ce = absurd h
+      -- and left the length
+      module _ (vectors : v' ≡ after_call v) where
+        reply_of : (r s : Reply) → c' ≡ answered_core c (value_of r) → r ≡ s → c' ≡ answered_core c (value_of s)
+        reply_of r s ce is = ce ∙ ap (λ (r : Reply). answered_core c (value_of r)) is
 
-      -- the same of a reply alone
-      pub done_replied : (a : Action) (r : Reply) → a ≡ replied r → m' ≡ m → b' ≡ b → c' ≡ answered_core c (value_of r) → IsDone a old new si so se Returned
-      done_replied a (Answer x) is me be ce = subst (λ (a : Action). IsDone a old new si so se Returned) (sym is) (done_still (answers x) (Answer x) (refl, me, be) ce)
-      done_replied a (Error x) is me be ce = subst (λ (a : Action). IsDone a old new si so se Returned) (sym is) (done_still (fails x) (Error x) (refl, me, be) ce)
+        pub done_still : (a : Action) (r : Reply) → HasDone a m b m' b' r → c' ≡ answered_core c (value_of r) → IsDone a old new si so se Returned
+        done_still (fails x) r h ce = quietly (fails x) v.bits (error_answer x) m b (λ bytes. refl) refl (λ P f. f) vectors (reply_of r (Error x) ce h.0) h.1 h.2
+        done_still (answers x) r h ce = quietly (answers x) v.bits x m b (λ bytes. refl) refl (λ P f. f) vectors (reply_of r (Answer x) ce h.0) h.1 h.2
+        done_still (maps memory x) r h ce = quietly (maps memory x) v.bits x memory b (λ bytes. refl) refl (λ P f. f) vectors (reply_of r (Answer x) ce h.0) h.1 h.2
+        done_still (moves_break memory to) r h ce = quietly (moves_break memory to) v.bits to memory (record { start = b.start; now = to }) (λ bytes. refl) refl (λ P f. f) vectors (reply_of r (Answer to) ce h.0) h.1 h.2
+        done_still (sets_length bits) r h ce = absurd h
+        done_still (takes ranges) r h ce = absurd h
+        done_still (puts file ranges) r h ce = absurd h
+        done_still (exits code) r h ce = absurd h
 
-    -- and took bytes
-    module _ (same : b' ≡ b) (keeps : si → left ≡ told) (same_written : ho' ≡ ho) (same_told : he' ≡ he) (o : so) (e : se) where
-      of_reply : (a : Action) (r : Reply) → (a ≡ replied r) × (m' ≡ m) × si → c' ≡ answered_core c (value_of r) → IsDone a old new si so se Returned
-      of_reply a r h ce = done_replied (keeps h.2) same_written same_told h.2 o e a r h.0 h.1 same ce
+        -- the same of a reply alone
+        pub done_replied : (a : Action) (r : Reply) → a ≡ replied r → m' ≡ m → b' ≡ b → c' ≡ answered_core c (value_of r) → IsDone a old new si so se Returned
+        done_replied a (Answer x) is me be ce = subst (λ (a : Action). IsDone a old new si so se Returned) (sym is) (done_still (answers x) (Answer x) (refl, me, be) ce)
+        done_replied a (Error x) is me be ce = subst (λ (a : Action). IsDone a old new si so se Returned) (sym is) (done_still (fails x) (Error x) (refl, me, be) ce)
 
-      taken_state : (ranges : List Range) (r : Reply) (t : Option (List ℕ)) → IfSome t (λ bytes. (r ≡ Answer (min (total ranges) (length bytes))) × (m' ≡ filled m ranges bytes) × (left ≡ Some (drop (total ranges) bytes))) → c' ≡ answered_core c (value_of r)
-          → IfSome t (λ bytes. false ≡ false → behind Returned c' v' m' b' ≡ (done_by (takes ranges) (caller c v m b) bytes).parts)
-      taken_state ranges r None h ce = tt
-      taken_state ranges r (Some bytes) h ce = λ _. state_of (min (total ranges) (length bytes)) (filled m ranges bytes) b (ce ∙ ap (λ (r : Reply). answered_core c (value_of r)) h.0) h.1 same
+    module _ (vectors : v' ≡ after_call v) where
+      -- and took bytes
+      module _ (same : b' ≡ b) (keeps : si → left ≡ told) (same_written : ho' ≡ ho) (same_told : he' ≡ he) (o : so) (e : se) where
+        of_reply : (a : Action) (r : Reply) → (a ≡ replied r) × (m' ≡ m) × si → c' ≡ answered_core c (value_of r) → IsDone a old new si so se Returned
+        of_reply a r h ce = done_replied (keeps h.2) same_written same_told h.2 o e vectors a r h.0 h.1 same ce
 
-      taken_left : (ranges : List Range) (r : Reply) (t : Option (List ℕ)) → IfSome t (λ bytes. (r ≡ Answer (min (total ranges) (length bytes))) × (m' ≡ filled m ranges bytes) × (left ≡ Some (drop (total ranges) bytes)))
-          → IfSome t (λ bytes. false ≡ false → left ≡ Some (drop (total ranges) bytes))
-      taken_left ranges r None h = tt
-      taken_left ranges r (Some bytes) h = λ _. h.2
+        taken_state : (ranges : List Range) (r : Reply) (t : Option (List ℕ)) → IfSome t (λ bytes. (r ≡ Answer (min (total ranges) (length bytes))) × (m' ≡ filled m ranges bytes) × (left ≡ Some (drop (total ranges) bytes))) → c' ≡ answered_core c (value_of r)
+            → IfSome t (λ bytes. false ≡ false → behind Returned c' v' m' b' ≡ (done_by (takes ranges) (caller c v m b) bytes).parts)
+        taken_state ranges r None h ce = tt
+        taken_state ranges r (Some bytes) h ce = λ _. state_of v.bits (min (total ranges) (length bytes)) (filled m ranges bytes) b vectors (ce ∙ ap (λ (r : Reply). answered_core c (value_of r)) h.0) h.1 same
 
-      pub done_taken : (a : Action) (r : Reply) → HasTaken a m m' told left si r → c' ≡ answered_core c (value_of r) → IsDone a old new si so se Returned
-      done_taken (takes ranges) r h ce = record {
-        state = taken_state ranges r told h ce;
-        input = taken_left ranges r told h;
-        output = λ bytes. nothing_gained ho ho' false same_written;
-        errors = λ bytes. nothing_gained he he' false same_told;
-        end = λ _. refl;
-        sound = sound;
-        kept = no_fault _;
-        stored = no_fault _;
-        untaken = fault _;
-        output_kept = λ _. o;
-        errors_kept = λ _. e;
-      }
-      done_taken (fails x) r h ce = of_reply (fails x) r h ce
-      done_taken (answers x) r h ce = of_reply (answers x) r h ce
-      done_taken (maps memory x) r h ce = of_reply (maps memory x) r h ce
-      done_taken (moves_break memory to) r h ce = of_reply (moves_break memory to) r h ce
-      done_taken (puts file ranges) r h ce = of_reply (puts file ranges) r h ce
-      done_taken (exits code) r h ce = of_reply (exits code) r h ce
+        taken_left : (ranges : List Range) (r : Reply) (t : Option (List ℕ)) → IfSome t (λ bytes. (r ≡ Answer (min (total ranges) (length bytes))) × (m' ≡ filled m ranges bytes) × (left ≡ Some (drop (total ranges) bytes)))
+            → IfSome t (λ bytes. false ≡ false → left ≡ Some (drop (total ranges) bytes))
+        taken_left ranges r None h = tt
+        taken_left ranges r (Some bytes) h = λ _. h.2
 
-    -- and put bytes
-    module _ (same : b' ≡ b) (stays : m' ≡ m) (same_left : left ≡ told) (keeps_output : so → ho' ≡ ho) (keeps_errors : se → he' ≡ he) (i : si) where
-      put_reply : (a : Action) (r : Reply) → a ≡ replied r → so → se → c' ≡ answered_core c (value_of r) → IsDone a old new si so se Returned
-      put_reply a r is o e ce = done_replied same_left (keeps_output o) (keeps_errors e) i o e a r is stays same ce
+        pub done_taken : (a : Action) (r : Reply) → HasTaken a m m' told left si r → c' ≡ answered_core c (value_of r) → IsDone a old new si so se Returned
+        done_taken (takes ranges) r h ce = record {
+          state = taken_state ranges r told h ce;
+          input = taken_left ranges r told h;
+          output = λ bytes. nothing_gained ho ho' false same_written;
+          errors = λ bytes. nothing_gained he he' false same_told;
+          end = λ _. refl;
+          sound = sound;
+          kept = no_fault _;
+          stored = no_fault _;
+          untaken = fault _;
+          output_kept = λ _. o;
+          errors_kept = λ _. e;
+        }
+        done_taken (fails x) r h ce = of_reply (fails x) r h ce
+        done_taken (answers x) r h ce = of_reply (answers x) r h ce
+        done_taken (maps memory x) r h ce = of_reply (maps memory x) r h ce
+        done_taken (moves_break memory to) r h ce = of_reply (moves_break memory to) r h ce
+        done_taken (sets_length bits) r h ce = of_reply (sets_length bits) r h ce
+        done_taken (puts file ranges) r h ce = of_reply (puts file ranges) r h ce
+        done_taken (exits code) r h ce = of_reply (exits code) r h ce
 
-      put_left : (t : Option (List ℕ)) → IfSome t (λ bytes. left ≡ Some bytes) → IfSome t (λ bytes. false ≡ false → left ≡ Some bytes)
-      put_left None h = tt
-      put_left (Some bytes) h = λ _. h
+      -- and put bytes
+      module _ (same : b' ≡ b) (stays : m' ≡ m) (same_left : left ≡ told) (keeps_output : so → ho' ≡ ho) (keeps_errors : se → he' ≡ he) (i : si) where
+        put_reply : (a : Action) (r : Reply) → a ≡ replied r → so → se → c' ≡ answered_core c (value_of r) → IsDone a old new si so se Returned
+        put_reply a r is o e ce = done_replied same_left (keeps_output o) (keeps_errors e) i o e vectors a r is stays same ce
 
-      pub done_written : (a : Action) (r : Reply) → HasWritten a m ho ho' so he he' se (Ok r) → c' ≡ answered_core c (value_of r) → IsDone a old new si so se Returned
-      done_written (puts file ranges) r h ce = record {
-        state = λ bytes _. state_of (total ranges) m b (ce ∙ ap (λ (r : Reply). answered_core c (value_of r)) h.replied) stays same;
-        input = put_left told (subst (λ (l : Option (List ℕ)). IfSome told (λ bytes. l ≡ Some bytes)) (sym same_left) (still_left told));
-        output = λ bytes. gained_by (nat_eq file 1) false ho ho' (gathered m ranges) so keeps_output h.output;
-        errors = λ bytes. gained_by (nat_eq file 2) false he he' (gathered m ranges) se keeps_errors h.errors;
-        end = λ _. refl;
-        sound = sound;
-        kept = no_fault _;
-        stored = no_fault _;
-        untaken = λ _. i;
-        output_kept = kept_by (nat_eq file 1) _ so h.output;
-        errors_kept = kept_by (nat_eq file 2) _ se h.errors;
-      }
-      done_written (fails x) r h ce = put_reply (fails x) r h.replied h.output h.errors ce
-      done_written (answers x) r h ce = put_reply (answers x) r h.replied h.output h.errors ce
-      done_written (maps memory x) r h ce = put_reply (maps memory x) r h.replied h.output h.errors ce
-      done_written (moves_break memory to) r h ce = put_reply (moves_break memory to) r h.replied h.output h.errors ce
-      done_written (takes ranges) r h ce = put_reply (takes ranges) r h.replied h.output h.errors ce
-      done_written (exits code) r h ce = put_reply (exits code) r h.replied h.output h.errors ce
+        put_left : (t : Option (List ℕ)) → IfSome t (λ bytes. left ≡ Some bytes) → IfSome t (λ bytes. false ≡ false → left ≡ Some bytes)
+        put_left None h = tt
+        put_left (Some bytes) h = λ _. h
+
+        pub done_written : (a : Action) (r : Reply) → HasWritten a m ho ho' so he he' se (Ok r) → c' ≡ answered_core c (value_of r) → IsDone a old new si so se Returned
+        done_written (puts file ranges) r h ce = record {
+          state = λ bytes _. state_of v.bits (total ranges) m b vectors (ce ∙ ap (λ (r : Reply). answered_core c (value_of r)) h.replied) stays same;
+          input = put_left told (subst (λ (l : Option (List ℕ)). IfSome told (λ bytes. l ≡ Some bytes)) (sym same_left) (still_left told));
+          output = λ bytes. gained_by (nat_eq file 1) false ho ho' (gathered m ranges) so keeps_output h.output;
+          errors = λ bytes. gained_by (nat_eq file 2) false he he' (gathered m ranges) se keeps_errors h.errors;
+          end = λ _. refl;
+          sound = sound;
+          kept = no_fault _;
+          stored = no_fault _;
+          untaken = λ _. i;
+          output_kept = kept_by (nat_eq file 1) _ so h.output;
+          errors_kept = kept_by (nat_eq file 2) _ se h.errors;
+        }
+        done_written (fails x) r h ce = put_reply (fails x) r h.replied h.output h.errors ce
+        done_written (answers x) r h ce = put_reply (answers x) r h.replied h.output h.errors ce
+        done_written (maps memory x) r h ce = put_reply (maps memory x) r h.replied h.output h.errors ce
+        done_written (moves_break memory to) r h ce = put_reply (moves_break memory to) r h.replied h.output h.errors ce
+        done_written (sets_length bits) r h ce = put_reply (sets_length bits) r h.replied h.output h.errors ce
+        done_written (takes ranges) r h ce = put_reply (takes ranges) r h.replied h.output h.errors ce
+        done_written (exits code) r h ce = put_reply (exits code) r h.replied h.output h.errors ce
 
   -- ---- a call that a stream broke off
 
@@ -201,6 +211,7 @@ module _ (c : Core) (v : Vectors) (m : Memory) (b : Break) (told ho he : Option 
     done_failed (answers x) h same_written same_told o e = absurd h
     done_failed (maps memory x) h same_written same_told o e = absurd h
     done_failed (moves_break memory to) h same_written same_told o e = absurd h
+    done_failed (sets_length bits) h same_written same_told o e = absurd h
     done_failed (puts file ranges) h same_written same_told o e = absurd h
     done_failed (exits code) h same_written same_told o e = absurd h
 
@@ -234,12 +245,13 @@ module _ (c : Core) (v : Vectors) (m : Memory) (b : Break) (told ho he : Option 
     done_unwritten (answers x) end h stays keeps_output keeps_errors i = absurd h.failed
     done_unwritten (maps memory x) end h stays keeps_output keeps_errors i = absurd h.failed
     done_unwritten (moves_break memory to) end h stays keeps_output keeps_errors i = absurd h.failed
+    done_unwritten (sets_length bits) end h stays keeps_output keeps_errors i = absurd h.failed
     done_unwritten (takes ranges) end h stays keeps_output keeps_errors i = absurd h.failed
     done_unwritten (exits code) end h stays keeps_output keeps_errors i = absurd h.failed
 
 -- what holds at a call's name and end holds at the same
-pub named : (P : Action → CallEnd → Type 0) (c : Core) (bits : ℕ) (m : Memory) (b : Break) (name other : CallName) (call_end end : CallEnd) → name ≡ other → call_end ≡ end → P (action_of other c bits m b) end → P (action_of name c bits m b) call_end
-named P c bits m b name other call_end end is ended p = subst (λ (n : CallName). P (action_of n c bits m b) call_end) (sym is) (subst (P (action_of other c bits m b)) (sym ended) p)
+pub named : (P : Action → CallEnd → Type 0) (c : Core) (v : Vectors) (m : Memory) (b : Break) (name other : CallName) (call_end end : CallEnd) → name ≡ other → call_end ≡ end → P (action_of other c v m b) end → P (action_of name c v m b) call_end
+named P c v m b name other call_end end is ended p = subst (λ (n : CallName). P (action_of n c v m b) call_end) (sym is) (subst (P (action_of other c v m b)) (sym ended) p)
 
 -- ---- a call that is refused
 

@@ -2,7 +2,7 @@
 use Rattle.std.specs.Prelude.{◌≡◌, ◌⊎◌, ℕ, Bool, true, false}
 use Rattle.emu_model.specs.State.{Core}
 use Rattle.emu_system.specs.declared.system_call.CallName.{CallName}
-use Rattle.emu_system.specs.declared.system_call.CallName.TheVariants.{Read, Write, Readv, Writev, Exit, ExitGroup}
+use Rattle.emu_system.specs.declared.system_call.CallName.TheVariants.{Read, Write, Readv, Writev, Exit, ExitGroup, Prctl}
 use Rattle.emu_system.specs.SystemCall.{file_of, number_of_call}
 
 -- a call that moves bytes has this number
@@ -23,7 +23,7 @@ pub record NamesWrite (c : Core) (file : ℕ) : Type 0 where
   pub call : (number_of_call c ≡ 64) ⊎ (number_of_call c ≡ 66)
   pub to : file_of c ≡ file
 
--- a call that moves no byte and doesn't end the program
+-- a call that moves no byte, sets no length and doesn't end the program
 abbrev pub is_still : CallName → Bool
 is_still Read = false
 is_still Write = false
@@ -31,4 +31,5 @@ is_still Readv = false
 is_still Writev = false
 is_still Exit = false
 is_still ExitGroup = false
+is_still Prctl = false
 is_still name = true

@@ -1,8 +1,8 @@
--- Replies of calls, and what a call that moves no byte leaves.
+-- Replies of calls, and what a call that moves no byte and sets no length leaves.
 use Rattle.std.specs.Prelude.{◌≡◌, ◌≤◌, ℕ, List, Option, Some, IfSome, drop, length, min}
 use Rattle.emu_model.specs.declared.program_break.Break.{Break}
 use Rattle.emu_model.specs.Access.{Memory}
-use Rattle.emu_system.specs.SystemCall.{Action, fails, answers, maps, moves_break, takes, puts, exits, error_answer, filled, total}
+use Rattle.emu_system.specs.SystemCall.{Action, fails, answers, maps, moves_break, sets_length, takes, puts, exits, error_answer, filled, total}
 use Rattle.linux_calls.specs.declared.reply.Reply.{Reply}
 use Rattle.linux_calls.specs.declared.reply.Reply.TheVariants.{Answer, Error}
 use Rattle.linux_calls.specs.Taken.{Takes}
@@ -16,12 +16,13 @@ abbrev pub replied : Reply → Action
 replied (Answer v) = answers v
 replied (Error e) = fails e
 
--- a call that moves no byte did what it came to
+-- a call that moves no byte and sets no length did what it came to
 abbrev pub HasDone : Action → Memory → Break → Memory → Break → Reply → Type 0
 HasDone (fails e) m brk now now_brk reply = (reply ≡ Error e) × (now ≡ m) × (now_brk ≡ brk)
 HasDone (answers v) m brk now now_brk reply = (reply ≡ Answer v) × (now ≡ m) × (now_brk ≡ brk)
 HasDone (maps memory v) m brk now now_brk reply = (reply ≡ Answer v) × (now ≡ memory) × (now_brk ≡ brk)
 HasDone (moves_break memory to) m brk now now_brk reply = (reply ≡ Answer to) × (now ≡ memory) × (now_brk ≡ record { start = brk.start; now = to })
+HasDone (sets_length bits) m brk now now_brk reply = ⊥
 HasDone (takes ranges) m brk now now_brk reply = ⊥
 HasDone (puts file ranges) m brk now now_brk reply = ⊥
 HasDone (exits code) m brk now now_brk reply = ⊥

@@ -1,8 +1,8 @@
 //! The call that a program makes.
-ghost use Rattle.std.specs.Prelude.{◌≡◌, ℕ, List, Some, IfSome, true, false};
+ghost use Rattle.std.specs.Prelude.{◌≡◌, ◌≤◌, ◌/◌, ℕ, List, Some, IfSome, true, false};
 ghost use Rattle.io_gate.specs.Streams.{Causes};
 ghost use Rattle.emu_model.specs.State.{IsSoundBreak};
-ghost use Rattle.vec_model.specs.AfterCall.{after_call};
+ghost use Rattle.vec_model.specs.AfterCall.{after_call, cleared};
 ghost use Rattle.emu_system.specs.declared.system_call.Errno.{Errno};
 ghost use Rattle.emu_system.specs.SystemCall as model;
 ghost use Rattle.linux_calls.specs.Done.{IsDone};
@@ -14,11 +14,12 @@ ghost use Rattle.linux_calls.specs.Replies.{value_of};
 use crate::arguments::{argument, name_of_call};
 use crate::end::CallEnd;
 use crate::files::{read, readv, write, writev};
+use crate::lengths::prctl;
 use crate::reply::Reply;
 use crate::still::make_still;
 use core_regs::Core;
 use emu_bits::Reg;
-use emu_model::Break;
+use emu_model::{Break, Length};
 use emu_system::CallName;
 use guest_mem::Mem;
 use io_gate::{Sink, Source};
@@ -85,7 +86,7 @@ fn make<I: Source, O: Sink, E: Sink>(
 ) -> CallEnd
     requires number { HasNumber name (model.number_of_call core.old) }
     requires sound { IsSoundBreak brk.old }
-    ensures done { IsDone (model.action_of name core.old vec.old.bits mem.old brk.old)
+    ensures done { IsDone (model.action_of name core.old vec.old mem.old brk.old)
         (record { core = core.old; vectors = vec.old; memory = mem.old; brk = brk.old; left = I.left input.old; output = O.held output.old; errors = E.held errors.old })
         (record { core = core.new; vectors = vec.new; memory = mem.new; brk = brk.new; left = I.left input.new; output = O.held output.new; errors = E.held errors.new })
         (input.new ≡ input.old) (output.new ≡ output.old) (errors.new ≡ errors.old) result }
@@ -115,8 +116,12 @@ fn make<I: Source, O: Sink, E: Sink>(
             Ok(reply) => answer(core, vec, reply),
             Err(end) => end,
         },
+        CallName::Prctl => match prctl(core, vec) {
+            Ok(length) => set_length(core, vec, length),
+            Err(reply) => answer(core, vec, reply),
+        },
         _ => {
-            let reply = make_still(name, core, vec, mem, brk);
+            let reply = make_still(name, core, mem, brk);
             answer(core, vec, reply)
         }
     }
@@ -131,5 +136,18 @@ fn answer(core: &mut Core, vec: &mut VecRegs, reply: Reply) -> CallEnd
     core.set_x(Reg::at(0, 0), 64, reply.value());
     core.set_monitor(None);
     vec.after_call();
+    CallEnd::Returned
+}
+
+/// What a call that sets the vector length leaves of the registers: the bytes of the length are in x0.
+fn set_length(core: &mut Core, vec: &mut VecRegs, length: Length) -> CallEnd
+    requires { length ≤ vec.old.most }
+    ensures core { core.new ≡ model.answered_core core.old (length / 8) }
+    ensures vectors { vec.new ≡ cleared length vec.old }
+    ensures end { result ≡ CallEnd.Returned }
+{
+    core.set_x(Reg::at(0, 0), 64, u64::from(length.bits() / 8));
+    core.set_monitor(None);
+    vec.set_length(length);
     CallEnd::Returned
 }

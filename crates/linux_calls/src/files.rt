@@ -1,8 +1,9 @@
 //! The calls on files: ioctl, read, write, readv, writev.
-ghost use Rattle.std.specs.Prelude.{◌≡◌, ◌≤◌, ℕ, IfOk, IfErr, OnErr, IsTrue, is_err, Err};
+ghost use Rattle.std.specs.Prelude.{◌≡◌, ◌≤◌, IfOk, IfErr, OnErr, IsTrue, is_err, Err};
 ghost use Rattle.io_gate.specs.Streams.{Causes, HasCause};
 ghost use Rattle.emu_model.specs.declared.program_break.Break.{Break};
 ghost use Rattle.emu_model.specs.Access.{Memory};
+ghost use Rattle.emu_model.specs.State.{Vectors};
 ghost use Rattle.emu_system.specs.SystemCall as model;
 ghost use Rattle.linux_calls.specs.Granted.{AreGranted};
 ghost use Rattle.linux_calls.specs.Puts.{FailsAt, HasPut, HasWritten, PutsTo, fault_of};
@@ -22,7 +23,7 @@ use io_gate::{Failed, Sink, Source};
 
 /// ioctl(file): no file is a terminal.
 pub fn ioctl(core: &Core) -> Reply
-    ensures { (bits : ℕ) (m : Memory) (brk : Break) → model.action_of CallName.Ioctl core.now bits m brk ≡ replied result }
+    ensures { (v : Vectors) (m : Memory) (brk : Break) → model.action_of CallName.Ioctl core.now v m brk ≡ replied result }
 {
     if file_of(core) < 3 {
         Reply::Error(Errno::ENOTTY)
@@ -33,8 +34,8 @@ pub fn ioctl(core: &Core) -> Reply
 
 /// read(file, address, count): bytes of the input are taken to the buffer, and their number is answered.
 pub fn read<S: Source>(core: &Core, mem: &mut Mem, input: &mut S) -> Result<Reply, Failed>
-    ensures replied { (bits : ℕ) (brk : Break) → IfOk result (HasTaken (model.action_of CallName.Read core.now bits mem.old brk) mem.old mem.new (S.left input.old) (S.left input.new) (input.new ≡ input.old)) }
-    ensures failed { (bits : ℕ) (brk : Break) → OnErr result (HasBrokenOff (model.action_of CallName.Read core.now bits mem.old brk) mem.old mem.new (S.left input.old) (S.left input.new)) }
+    ensures replied { (v : Vectors) (brk : Break) → IfOk result (HasTaken (model.action_of CallName.Read core.now v mem.old brk) mem.old mem.new (S.left input.old) (S.left input.new) (input.new ≡ input.old)) }
+    ensures failed { (v : Vectors) (brk : Break) → OnErr result (HasBrokenOff (model.action_of CallName.Read core.now v mem.old brk) mem.old mem.new (S.left input.old) (S.left input.new)) }
     ensures file { OnErr result (model.file_of core.now ≡ 0) }
     ensures cause { HasCause (S.faults input.old) (S.faults input.new) result }
 {
@@ -50,8 +51,8 @@ pub fn read<S: Source>(core: &Core, mem: &mut Mem, input: &mut S) -> Result<Repl
 /// readv(file, address, count): the same to the ranges whose entries stand at the address.
 #[inline(never)]
 pub fn readv<S: Source>(core: &Core, mem: &mut Mem, input: &mut S) -> Result<Reply, Failed>
-    ensures replied { (bits : ℕ) (brk : Break) → IfOk result (HasTaken (model.action_of CallName.Readv core.now bits mem.old brk) mem.old mem.new (S.left input.old) (S.left input.new) (input.new ≡ input.old)) }
-    ensures failed { (bits : ℕ) (brk : Break) → OnErr result (HasBrokenOff (model.action_of CallName.Readv core.now bits mem.old brk) mem.old mem.new (S.left input.old) (S.left input.new)) }
+    ensures replied { (v : Vectors) (brk : Break) → IfOk result (HasTaken (model.action_of CallName.Readv core.now v mem.old brk) mem.old mem.new (S.left input.old) (S.left input.new) (input.new ≡ input.old)) }
+    ensures failed { (v : Vectors) (brk : Break) → OnErr result (HasBrokenOff (model.action_of CallName.Readv core.now v mem.old brk) mem.old mem.new (S.left input.old) (S.left input.new)) }
     ensures file { OnErr result (model.file_of core.now ≡ 0) }
     ensures cause { HasCause (S.faults input.old) (S.faults input.new) result }
 {
@@ -83,7 +84,7 @@ pub fn write<O: Sink, E: Sink>(
     output: &mut O,
     errors: &mut E,
 ) -> Result<Reply, CallEnd>
-    ensures written { (bits : ℕ) (brk : Break) → HasWritten (model.action_of CallName.Write core.now bits mem.old brk) mem.old
+    ensures written { (v : Vectors) (brk : Break) → HasWritten (model.action_of CallName.Write core.now v mem.old brk) mem.old
         (O.held output.old) (O.held output.new) (output.new ≡ output.old) (E.held errors.old) (E.held errors.new) (errors.new ≡ errors.old) result }
     ensures file { IfErr result (λ end. end ≡ fault_of (model.file_of core.now)) }
     ensures sink { IfErr result (λ end. IsTrue (model.is_sink (model.file_of core.now))) }
@@ -109,7 +110,7 @@ pub fn writev<O: Sink, E: Sink>(
     output: &mut O,
     errors: &mut E,
 ) -> Result<Reply, CallEnd>
-    ensures written { (bits : ℕ) (brk : Break) → HasWritten (model.action_of CallName.Writev core.now bits mem.old brk) mem.old
+    ensures written { (v : Vectors) (brk : Break) → HasWritten (model.action_of CallName.Writev core.now v mem.old brk) mem.old
         (O.held output.old) (O.held output.new) (output.new ≡ output.old) (E.held errors.old) (E.held errors.new) (errors.new ≡ errors.old) result }
     ensures file { IfErr result (λ end. end ≡ fault_of (model.file_of core.now)) }
     ensures sink { IfErr result (λ end. IsTrue (model.is_sink (model.file_of core.now))) }

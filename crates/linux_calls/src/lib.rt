@@ -8,6 +8,7 @@ pub mod end;
 mod entries;
 mod files;
 mod identity;
+mod lengths;
 mod memory;
 mod moves;
 mod ranges;

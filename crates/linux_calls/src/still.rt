@@ -1,32 +1,25 @@
-//! The calls that move no byte and don't end the program.
+//! The calls that move no byte, set no length and don't end the program.
 ghost use Rattle.std.specs.Prelude.{◌≡◌, true};
-ghost use Rattle.emu_model.specs.State.{IsSoundBreak};
+ghost use Rattle.emu_model.specs.State.{IsSoundBreak, Vectors};
 ghost use Rattle.emu_system.specs.SystemCall as model;
 ghost use Rattle.linux_calls.specs.Names.{is_still};
 ghost use Rattle.linux_calls.specs.Replies.{HasDone};
 
 use crate::arguments::argument;
 use crate::files::ioctl;
-use crate::identity::{PARENT, THREAD, USER, prctl};
+use crate::identity::{PARENT, THREAD, USER};
 use crate::memory::{map, move_break, protect, unmap};
 use crate::reply::Reply;
 use core_regs::Core;
 use emu_model::Break;
 use emu_system::{CallName, Errno};
 use guest_mem::Mem;
-use vec_regs::VecRegs;
 
 /// Makes such a call, and says what it answers.
-pub fn make_still(
-    name: CallName,
-    core: &Core,
-    vec: &VecRegs,
-    mem: &mut Mem,
-    brk: &mut Break,
-) -> Reply
+pub fn make_still(name: CallName, core: &Core, mem: &mut Mem, brk: &mut Break) -> Reply
     requires still { is_still name ≡ true }
     requires sound { IsSoundBreak brk.old }
-    ensures done { HasDone (model.action_of name core.now vec.now.bits mem.old brk.old) mem.old brk.old mem.new brk.new result }
+    ensures done { (v : Vectors) → HasDone (model.action_of name core.now v mem.old brk.old) mem.old brk.old mem.new brk.new result }
     ensures sound { IsSoundBreak brk.new }
 {
     match name {
@@ -34,13 +27,12 @@ pub fn make_still(
         CallName::SetTidAddress | CallName::Getpid | CallName::Gettid => THREAD,
         CallName::Getppid => PARENT,
         CallName::Getuid | CallName::Geteuid | CallName::Getgid | CallName::Getegid => USER,
-        CallName::Prctl => prctl(core, vec),
         CallName::Brk => move_break(mem, brk, argument(core, 0)),
         CallName::Munmap => unmap(mem, argument(core, 0), argument(core, 1)),
         CallName::Mmap => map(mem, argument(core, 1), argument(core, 2), argument(core, 3)),
         CallName::Mprotect => protect(mem, argument(core, 0), argument(core, 1), argument(core, 2)),
         CallName::Unknown => Reply::Error(Errno::ENOSYS),
         CallName::Read | CallName::Readv | CallName::Write | CallName::Writev => unreachable!(),
-        CallName::Exit | CallName::ExitGroup => unreachable!(),
+        CallName::Exit | CallName::ExitGroup | CallName::Prctl => unreachable!(),
     }
 }

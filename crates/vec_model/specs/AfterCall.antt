@@ -1,14 +1,16 @@
 -- What a system call that returns leaves of the vector registers.
-use Rattle.std.specs.Prelude.{ℕ, ◌-◌, Bool, false, List, ◌++◌, length, map, take, replicate}
+use Rattle.std.specs.Prelude.{ℕ, ◌-◌, ◌/◌, false, List, ◌++◌, map, take, replicate}
 use Rattle.emu_model.specs.State.{Vectors}
 
--- the low 128 bits of a Z register, zeros above
-abbrev pub low_bytes : List ℕ → List ℕ
-low_bytes bytes = take 16 bytes ++ replicate (length bytes - 16) 0
+-- the low 128 bits of a Z register, and zeros above, up to `bits` bits
+abbrev pub low_bytes : ℕ → List ℕ → List ℕ
+low_bytes bits bytes = take 16 bytes ++ replicate (bits / 8 - 16) 0
 
-abbrev pub no_bits : List Bool → List Bool
-no_bits bits = replicate (length bits) false
+-- in a length of `bits` bits, which is the present one from then on, the bits above 127 of each Z register, the predicates and
+-- FFR are 0
+abbrev pub cleared : ℕ → Vectors → Vectors
+cleared bits v = record v { bits = bits; z = map (low_bytes bits) v.z; p = replicate 16 (replicate (bits / 8) false); ffr = replicate (bits / 8) false }
 
--- the bits above 127 of each Z register, the predicates and FFR are 0
+-- the same in the present length
 abbrev pub after_call : Vectors → Vectors
-after_call v = record v { z = map low_bytes v.z; p = map no_bits v.p; ffr = no_bits v.ffr }
+after_call v = cleared v.bits v

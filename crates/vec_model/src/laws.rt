@@ -1,17 +1,19 @@
 //! Laws of the definitions, each the contract of a function that does nothing.
 ghost use Rattle.std.specs.Prelude.{◌≡◌, ◌≢◌, ◌<◌, ◌≤◌, ◌/◌, ◌%◌, ◌^◌, ℕ, Bool, false, List, get_or, if◌then◌else◌, nat_lt};
+ghost use Rattle.emu_model.specs.Lengths.{IsVectorLength};
 ghost use Rattle.emu_model.specs.State.{Vectors, IsSoundVectors};
 ghost use Rattle.vec_model.specs.Active.{active};
-ghost use Rattle.vec_model.specs.AfterCall.{after_call};
+ghost use Rattle.vec_model.specs.AfterCall.{after_call, cleared};
 ghost use Rattle.vec_model.specs.Lanes.{IsLaneSize, lane, number, read_z, read_p, with_z, with_p, with_lanes, with_fields, with_ffr_fields, with_low};
 
 /// Sound vectors are sound after a write, whatever is written: lanes or low bits of a Z register, fields of a predicate or of FFR;
-/// and after a call that returns.
+/// cleared in a vector length that is at most the starting one; and after a call that returns.
 pub fn lanes_keep_vectors_sound()
     ensures lanes { (e : ℕ) (f : ℕ → ℕ) (zd : ℕ) (v : Vectors) → IsSoundVectors v → IsSoundVectors (with_lanes e f zd v) }
     ensures fields { (e : ℕ) (f : ℕ → Bool) (pd : ℕ) (v : Vectors) → IsSoundVectors v → IsSoundVectors (with_fields e f pd v) }
     ensures ffr { (e : ℕ) (f : ℕ → Bool) (v : Vectors) → IsSoundVectors v → IsSoundVectors (with_ffr_fields e f v) }
     ensures low { (bits x zd : ℕ) (v : Vectors) → IsSoundVectors v → IsSoundVectors (with_low bits x zd v) }
+    ensures cleared { (bits : ℕ) (v : Vectors) → IsVectorLength bits → bits ≤ v.most → IsSoundVectors v → IsSoundVectors (cleared bits v) }
     ensures call { (v : Vectors) → IsSoundVectors v → IsSoundVectors (after_call v) }
 {}
 
@@ -35,10 +37,10 @@ pub fn lanes_read_as_written()
         → get_or (with_ffr_fields e f v).ffr j false ≡ false }
 {}
 
-/// After a call that returns, the low 16 bytes of each Z register read as before, and its other bytes, the bits of each predicate
-/// and those of FFR read as 0.
+/// Cleared in any length of bits, as they are after a call that returns, the low 16 bytes of each Z register read as before, and
+/// its other bytes, the bits of each predicate and those of FFR read as 0.
 pub fn calls_clear_vectors()
-    ensures z { (v : Vectors) (r j : ℕ) → get_or (read_z (after_call v) r) j 0 ≡ (if nat_lt j 16 then get_or (read_z v r) j 0 else 0) }
-    ensures p { (v : Vectors) (r j : ℕ) → get_or (read_p (after_call v) r) j false ≡ false }
-    ensures ffr { (v : Vectors) (j : ℕ) → get_or (after_call v).ffr j false ≡ false }
+    ensures z { (bits : ℕ) (v : Vectors) (r j : ℕ) → get_or (read_z (cleared bits v) r) j 0 ≡ (if nat_lt j 16 then get_or (read_z v r) j 0 else 0) }
+    ensures p { (bits : ℕ) (v : Vectors) (r j : ℕ) → get_or (read_p (cleared bits v) r) j false ≡ false }
+    ensures ffr { (bits : ℕ) (v : Vectors) (j : ℕ) → get_or (cleared bits v).ffr j false ≡ false }
 {}

@@ -1,5 +1,5 @@
 -- The lowest 128 bits of registers.
-use Rattle.std.proofs.Common.{◌≡◌, ◌<◌, ◌≤◌, ◌+◌, ◌-◌, ◌*◌, ◌/◌, ◌%◌, ◌^◌, ℕ, zero, suc, Bool, false, List, [], ◌∷◌, map, length, take, get_or, set, replicate, min, inl, inr, refl, sym, ap, ◌∙◌, arith, length-append}
+use Rattle.std.proofs.Common.{◌≡◌, ◌<◌, ◌≤◌, ◌+◌, ◌-◌, ◌*◌, ◌/◌, ◌%◌, ◌^◌, ℕ, zero, suc, Bool, List, [], ◌∷◌, map, length, take, get_or, set, replicate, min, inl, inr, refl, sym, ap, ◌∙◌, arith, length-append}
 use Rattle.std.proofs.Math.Nat.{div-eq_of_lt, lt_of_lt_of_le, pow-le-pow_right}
 use Rattle.std.proofs.lemmas.Bool.{cases_lt}
 use Rattle.std.proofs.lemmas.List.{get_or-map, get_or-take, get_or-set_other, get_or_append_left, get_or-append_right, length-replicate, length-take, length-map}
@@ -8,11 +8,11 @@ use Rattle.std.proofs.lemmas.List.FromFn.{fill_by_all}
 use Rattle.std.proofs.lemmas.Nat.{shr-shr}
 use Rattle.emu_model.specs.Lists.{each, length-each, get_or-each, each_same}
 use Rattle.emu_model.specs.State.{Vectors}
-use Rattle.vec_model.specs.AfterCall.{low_bytes, no_bits, after_call}
+use Rattle.vec_model.specs.AfterCall.{low_bytes, cleared}
 use Rattle.vec_model.specs.Lanes.{lane, with_z, with_low}
 use Rattle.vec_regs.specs.Packed.{number_words, low_words}
 use Rattle.vec_regs.specs.Shown.{shown}
-use Rattle.vec_regs.specs.Words.{byte_of, bit_of, bytes_of, bits_of, AreZeroFrom}
+use Rattle.vec_regs.specs.Words.{byte_of, bytes_of, bits_of, AreZeroFrom}
 use Rattle.vec_regs.specs.declared.VecRegs.TheInside.{Inside}
 use Rattle.vec_regs.proofs.Parts.{same_part, lower_to}
 use Rattle.vec_regs.proofs.Views.{zero_word, zero_bits, nothing}
@@ -100,68 +100,53 @@ kept_byte words j h =
     let low : j / 8 < 2 = omega arith in
     ap (λ w. w / 2 ^ (8 * (j % 8)) % 256) (kept_word words (j / 8) low)
 
-low_length : (n : ℕ) (bytes : List ℕ) → 16 ≤ n → length bytes ≡ n → length (low_bytes bytes) ≡ n
-low_length n bytes h count =
-    let e : length (low_bytes bytes) ≡ min 16 (length bytes) + (length bytes - 16) = simp (length-append, length-take, length-replicate) in
+low_length : (n bits : ℕ) (bytes : List ℕ) → 16 ≤ n → 16 ≤ bits / 8 → length bytes ≡ n → length (low_bytes bits bytes) ≡ bits / 8
+low_length n bits bytes h more count =
+    let e : length (low_bytes bits bytes) ≡ min 16 (length bytes) + (bits / 8 - 16) = simp (length-append, length-take, length-replicate) in
     omega arith
 
 first_length : (n : ℕ) (bytes : List ℕ) → 16 ≤ n → length bytes ≡ n → length (take 16 bytes) ≡ 16
 first_length n bytes h count = let e : length (take 16 bytes) ≡ min 16 (length bytes) = length-take 16 bytes in omega arith
 
-low_byte : (n : ℕ) (words : List ℕ) → 16 ≤ n → (k : ℕ) → k < n → get_or (low_bytes (bytes_of n words)) k 0 ≡ byte_of 8 (low_words words) k
-low_byte n words h k b =
+low_byte : (n bits : ℕ) (words : List ℕ) → 16 ≤ n → (k : ℕ) → k < bits / 8 → get_or (low_bytes bits (bytes_of n words)) k 0 ≡ byte_of 8 (low_words words) k
+low_byte n bits words h k b =
     let count : length (bytes_of n words) ≡ n = length-each n (byte_of 8 words) in
     let first : length (take 16 (bytes_of n words)) ≡ 16 = first_length n (bytes_of n words) h count in
     elim (cases_lt k 16) [
       | inl low ↦
           (let within : k < length (take 16 (bytes_of n words)) = omega arith in
-          get_or_append_left (take 16 (bytes_of n words)) (replicate (length (bytes_of n words) - 16) 0) 0 k within
+          get_or_append_left (take 16 (bytes_of n words)) (replicate (bits / 8 - 16) 0) 0 k within
           ∙ get_or-take 16 (bytes_of n words) k 0 low
-          ∙ get_or-each n (byte_of 8 words) k 0 b
+          ∙ get_or-each n (byte_of 8 words) k 0 (omega arith)
           ∙ sym (kept_byte words k low))
       | inr high ↦
-          (get_or-append_right (take 16 (bytes_of n words)) (replicate (length (bytes_of n words) - 16) 0) 16 k 0 first high
-          ∙ zero_word (length (bytes_of n words) - 16) (k - 16)
+          (get_or-append_right (take 16 (bytes_of n words)) (replicate (bits / 8 - 16) 0) 16 k 0 first high
+          ∙ zero_word (bits / 8 - 16) (k - 16)
           ∙ sym (no_byte (get_or words 0 0) (get_or words 1 0) k high))
     ]
 
-low_one : (n : ℕ) (words : List ℕ) → 16 ≤ n → bytes_of n (low_words words) ≡ low_bytes (bytes_of n words)
-low_one n words h =
-    sym (fill_by_all (byte_of 8 (low_words words)) (low_bytes (bytes_of n words)) n 0 (low_length n (bytes_of n words) h (length-each n (byte_of 8 words))) (low_byte n words h))
+low_one : (n bits : ℕ) (words : List ℕ) → 16 ≤ n → 16 ≤ bits / 8 → bytes_of (bits / 8) (low_words words) ≡ low_bytes bits (bytes_of n words)
+low_one n bits words h more =
+    sym (fill_by_all (byte_of 8 (low_words words)) (low_bytes bits (bytes_of n words)) (bits / 8) 0 (low_length n bits (bytes_of n words) h more (length-each n (byte_of 8 words))) (low_byte n bits words h))
 
-low_all : (n : ℕ) → 16 ≤ n → (zs : List (List ℕ)) → map (bytes_of n) (map low_words zs) ≡ map low_bytes (map (bytes_of n) zs)
-low_all n h [] = refl
-low_all n h (z ∷ zs) =
-    ap (λ (bs : List ℕ). bs ∷ map (bytes_of n) (map low_words zs)) (low_one n z h) ∙ ap (λ (bs : List (List ℕ)). low_bytes (bytes_of n z) ∷ bs) (low_all n h zs)
+low_all : (n bits : ℕ) → 16 ≤ n → 16 ≤ bits / 8 → (zs : List (List ℕ)) → map (bytes_of (bits / 8)) (map low_words zs) ≡ map (low_bytes bits) (map (bytes_of n) zs)
+low_all n bits h more [] = refl
+low_all n bits h more (z ∷ zs) =
+    ap (λ (bs : List ℕ). bs ∷ map (bytes_of (bits / 8)) (map low_words zs)) (low_one n bits z h more) ∙ ap (λ (bs : List (List ℕ)). low_bytes bits (bytes_of n z) ∷ bs) (low_all n bits h more zs)
 
--- ---- what a call clears
+-- ---- registers cleared in a length
 
-no_bits_of : (n : ℕ) (words : List ℕ) → no_bits (bits_of n words) ≡ replicate n false
-no_bits_of n words = ap (λ m. replicate m false) (length-each n (bit_of words))
+abbrev pub cleared_inside : ℕ → List (List ℕ) → Inside → Inside
+cleared_inside bits z a = record a { z = z; p = replicate 16 (replicate 4 0); ffr = replicate 4 0; length = bits }
 
-no_bits_all : (n : ℕ) (ps : List (List ℕ)) → map no_bits (map (bits_of n) ps) ≡ replicate (length ps) (replicate n false)
-no_bits_all n [] = refl
-no_bits_all n (p ∷ ps) =
-    ap (λ (bs : List Bool). bs ∷ map no_bits (map (bits_of n) ps)) (no_bits_of n p) ∙ ap (λ (bs : List (List Bool)). replicate n false ∷ bs) (no_bits_all n ps)
+cleared_is : (a : Inside) (bits : ℕ) → 16 ≤ a.length / 8 → 16 ≤ bits / 8 → shown (cleared_inside bits (map low_words a.z) a) ≡ cleared bits (shown a)
+cleared_is a bits h more =
+    let f : List (List ℕ) → List Bool → Vectors = λ z p. record { most = a.most; bits = bits; z = z; p = replicate 16 p; ffr = p } in
+    ap (λ (z : List (List ℕ)). f z (bits_of (bits / 8) (replicate 4 0))) (low_all (a.length / 8) bits h more a.z)
+    ∙ ap (f (map (low_bytes bits) (map (bytes_of (a.length / 8)) a.z))) (zero_bits (bits / 8) 4)
 
-abbrev pub cleared : Inside → Inside
-cleared a = record a { z = map low_words a.z; p = replicate 16 (replicate 4 0); ffr = replicate 4 0 }
-
-cleared_is : (a : Inside) → 16 ≤ a.length / 8 → length a.p ≡ 16 → shown (cleared a) ≡ after_call (shown a)
-cleared_is a h count =
-    let f : List (List ℕ) → List (List Bool) → List Bool → Vectors = λ z p ffr. record { bits = a.length; z = z; p = p; ffr = ffr } in
-    let zeros : bits_of (a.length / 8) (replicate 4 0) ≡ replicate (a.length / 8) false = zero_bits (a.length / 8) 4 in
-    let ps : map no_bits (map (bits_of (a.length / 8)) a.p) ≡ replicate 16 (replicate (a.length / 8) false)
-    = no_bits_all (a.length / 8) a.p ∙ ap (λ m. replicate m (replicate (a.length / 8) false)) count in
-    ap (λ (z : List (List ℕ)). f z (replicate 16 (bits_of (a.length / 8) (replicate 4 0))) (bits_of (a.length / 8) (replicate 4 0))) (low_all (a.length / 8) h a.z)
-    ∙ ap (λ (b : List Bool). f (map low_bytes (map (bytes_of (a.length / 8)) a.z)) (replicate 16 b) b) zeros
-    ∙ ap (λ (p : List (List Bool)). f (map low_bytes (map (bytes_of (a.length / 8)) a.z)) p (replicate (a.length / 8) false)) (sym ps)
-    ∙ ap (f (map low_bytes (map (bytes_of (a.length / 8)) a.z)) (map no_bits (map (bits_of (a.length / 8)) a.p))) (sym (no_bits_of (a.length / 8) a.ffr))
-
-pub cleared_shown : (a : Inside) (v : Vectors) (z : List (List ℕ)) → shown a ≡ v → 16 ≤ a.length / 8 → length a.p ≡ 16 → z ≡ map low_words a.z
-    → shown (record a { z = z; p = replicate 16 (replicate 4 0); ffr = replicate 4 0 }) ≡ after_call v
-cleared_shown a v z e h count is =
-    ap (λ (z : List (List ℕ)). shown (record a { z = z; p = replicate 16 (replicate 4 0); ffr = replicate 4 0 })) is ∙ cleared_is a h count ∙ ap after_call e
+pub cleared_shown : (a : Inside) (bits : ℕ) (v : Vectors) (z : List (List ℕ)) → shown a ≡ v → 16 ≤ a.length / 8 → 16 ≤ bits / 8 → z ≡ map low_words a.z → shown (cleared_inside bits z a) ≡ cleared bits v
+cleared_shown a bits v z e h more is = ap (λ (z : List (List ℕ)). shown (cleared_inside bits z a)) is ∙ cleared_is a bits h more ∙ ap (cleared bits) e
 
 -- ---- the loop over registers
 

@@ -81,11 +81,11 @@ pub zero_bits : (n m : ℕ) → bits_of n (replicate m 0) ≡ replicate n false
 zero_bits n m = sym (fill_by_all (bit_of (replicate m 0)) (replicate n false) n false (length-replicate n false) (λ k h. get_or-replicate n k false false h ∙ sym (zero_bit m k)))
 
 abbrev pub zero_inside : ℕ → Inside
-zero_inside n = record { z = replicate 32 (replicate 32 0); p = replicate 16 (replicate 4 0); ffr = replicate 4 0; length = n }
+zero_inside n = record { z = replicate 32 (replicate 32 0); p = replicate 16 (replicate 4 0); ffr = replicate 4 0; most = n; length = n }
 
 pub zero_shown : (n : ℕ) → shown (zero_inside n) ≡ zero_vectors n
 zero_shown n =
-    let f : List ℕ → List Bool → Vectors = λ z p. record { bits = n; z = replicate 32 z; p = replicate 16 p; ffr = p } in
+    let f : List ℕ → List Bool → Vectors = λ z p. record { most = n; bits = n; z = replicate 32 z; p = replicate 16 p; ffr = p } in
     ap (λ (z : List ℕ). f z (bits_of (n / 8) (replicate 4 0))) (zero_bytes (n / 8) 32) ∙ ap (f (replicate (n / 8) 0)) (zero_bits (n / 8) 4)
 
 pub ruleset views = (z_shown, p_shown, ffr_shown, z_byte_shown, p_bit_shown, ffr_bit_shown, set_z_shown, set_p_shown, set_ffr_shown)

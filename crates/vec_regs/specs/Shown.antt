@@ -1,5 +1,5 @@
 -- What the words of the vector registers show.
-use Rattle.std.specs.Prelude.{◌≡◌, ◌/◌, map, length as len}
+use Rattle.std.specs.Prelude.{◌≡◌, ◌≤◌, ◌/◌, map, length as len}
 use Rattle.std.specs.List.{All}
 use Rattle.emu_model.specs.Lengths.{IsVectorLength}
 use Rattle.emu_model.specs.State.{Vectors}
@@ -7,11 +7,13 @@ use Rattle.vec_regs.specs.Words.{bytes_of, bits_of, AreZeroFrom, AreClearFrom}
 use Rattle.vec_regs.specs.declared.VecRegs.TheInside.{Inside}
 
 abbrev pub shown : Inside → Vectors
-shown a = record { bits = a.length; z = map (bytes_of (a.length / 8)) a.z; p = map (bits_of (a.length / 8)) a.p; ffr = bits_of (a.length / 8) a.ffr }
+shown a = record { most = a.most; bits = a.length; z = map (bytes_of (a.length / 8)) a.z; p = map (bits_of (a.length / 8)) a.p; ffr = bits_of (a.length / 8) a.ffr }
 
--- every bit at or above the length is 0
+-- the present length is at most the starting one, and every bit at or above it is 0
 pub record IsInside (a : Inside) : Type 0 where
+  pub most : IsVectorLength a.most
   pub length : IsVectorLength a.length
+  pub within : a.length ≤ a.most
   pub z_count : len a.z ≡ 32
   pub z_width : All (λ words. len words ≡ 32) a.z
   pub z : All (AreZeroFrom (a.length / 64)) a.z

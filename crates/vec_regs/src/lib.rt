@@ -1,8 +1,8 @@
 //! The vector registers of a machine: 32 Z registers, 16 predicates and FFR, kept as words of 64 bits.
 //!
-//! Contracts see them as `Vectors` of `emu_model`: lists of bytes and of bits, the lowest first, as many as the vector length
-//! has. Bits at or above the length are 0, and every call keeps them so. A call changes the register that it names and nothing
-//! else, and copies no other.
+//! Contracts see them as `Vectors` of `emu_model`: lists of bytes and of bits, the lowest first, as many as the present vector
+//! length has, which is at most the starting one. Bits at or above the present length are 0, and every call keeps them so. A call
+//! changes the register that it names and nothing else, and copies no other; `set_length` and `after_call` clear.
 #![tactic(auto)]
 
 mod lower;
@@ -15,6 +15,7 @@ ghost use Rattle.emu_model.specs.Lists.{each};
 ghost use Rattle.emu_model.specs.State.{zero_vectors};
 ghost use Rattle.vec_model.specs.Active.{active};
 ghost use Rattle.vec_model.specs.AfterCall as model_call;
+ghost use Rattle.vec_model.specs.AfterCall.{cleared};
 ghost use Rattle.vec_model.specs.Lanes as model;
 ghost use Rattle.vec_model.specs.Lanes.{read_z, read_p, with_z, with_p, with_ffr, with_lanes, with_fields, with_ffr_fields, with_low, IsLaneSize};
 ghost use Rattle.vec_regs.specs.Packed.{IsLowSize};
@@ -24,12 +25,14 @@ use emu_bits::{Pred, Reg};
 pub use emu_model::Length;
 use std::marker::Model;
 
-/// The vector registers of a machine, of one vector length (VL). Contracts see them as a record.
+/// The vector registers of a machine, of the present vector length (VL), which may change up to the starting one. Contracts see
+/// them as a record.
 #[derive(Drop)]
 pub struct VecRegs {
     z: [[u64; 32]; 32],
     p: [[u64; 4]; 16],
     ffr: [u64; 4],
+    most: Length,
     length: Length,
 }
 
@@ -47,7 +50,7 @@ impl Model for VecRegs {
 }
 
 impl VecRegs {
-    /// All registers 0, of a vector length.
+    /// All registers 0, of a vector length, which is both the starting one and the present one.
     pub fn new(l: Length) -> VecRegs
         ensures { result ≡ zero_vectors l }
     {
@@ -56,14 +59,25 @@ impl VecRegs {
             z: [[0; 32]; 32],
             p: [[0; 4]; 16],
             ffr: [0; 4],
+            most: l,
             length: l,
         }
     }
 
-    /// The vector length, in bits: a multiple of 128 from 128 to 2048.
+    /// The starting vector length, in bits: a multiple of 128 from 128 to 2048. The present one is at most that.
+    pub fn most(&self) -> Length
+        ensures value { result ≡ self.now.most }
+        ensures length { IsVectorLength self.now.most }
+        ensures within { self.now.bits ≤ self.now.most }
+    {
+        self.most
+    }
+
+    /// The present vector length, in bits: a multiple of 128 from 128 to 2048.
     pub fn length(&self) -> Length
         ensures value { result ≡ self.now.bits }
         ensures length { IsVectorLength self.now.bits }
+        ensures within { self.now.bits ≤ self.now.most }
     {
         self.length
     }
@@ -154,14 +168,25 @@ impl VecRegs {
         self.set_z_words(r, &words);
     }
 
+    /// Makes l the vector length, which is at most the starting one: the low 128 bits of each Z register stay, and its other bits,
+    /// the predicates and FFR are 0.
+    pub fn set_length(&mut self, l: Length)
+        requires { l ≤ self.old.most }
+        ensures { self.new ≡ cleared l self.old }
+    {
+        let _bits = l.bits();
+        lower::keep_low(&mut self.z);
+        self.p = [[0; 4]; 16];
+        self.ffr = [0; 4];
+        self.length = l;
+    }
+
     /// What a system call that returns leaves: the bits above 127 of each Z register, the predicates and FFR are 0.
     pub fn after_call(&mut self)
         ensures { self.new ≡ model_call.after_call self.old }
     {
-        let _bits = self.length.bits();
-        lower::keep_low(&mut self.z);
-        self.p = [[0; 4]; 16];
-        self.ffr = [0; 4];
+        let length = self.length();
+        self.set_length(length);
     }
 
     /// The words of a Z register, the lowest first: 0 from bit VL on.

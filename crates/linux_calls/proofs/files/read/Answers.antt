@@ -7,19 +7,19 @@ use Rattle.linux_calls.proofs.Actions.{as_action, of_input, taken_nothing}
 use Rattle.linux_calls.proofs.files.read.Goals as goal
 
 pub returns-in-Err-clause-replied : goal.returns-in-Err-clause-replied
-returns-in-Err-clause-replied g c bits brk =
+returns-in-Err-clause-replied g c v brk =
     taken_nothing c.in-Err.reply _ c.args.mem.now c.buffer.new.mem _ _ _
     (of_input c.args.core.now c.file_of.result (replied c.in-Err.reply) (with_buffer Write takes c.args.core.now c.args.mem.now) c.file_of.ensures c.if-file_of-ne0.false (sym (c.in-Err.ensures.refused takes)))
     c.in-Err.ensures.unchanged refl
 
 pub returns-in-Ok-clause-replied : goal.returns-in-Ok-clause-replied
-returns-in-Ok-clause-replied g c bits brk =
+returns-in-Ok-clause-replied g c v brk =
     as_action (λ (a : Action) (m : Memory). IfOk c.take.result (HasTaken a m c.take.new.mem (g.S.Source.left c.args.input.now) (g.S.Source.left c.take.new.input) (c.take.new.input ≡ c.args.input.now))) _ _ _ _
     (of_input c.args.core.now c.file_of.result (takes (c.in-Ok.range ∷ [])) (with_buffer Write takes c.args.core.now c.args.mem.now) c.file_of.ensures c.if-file_of-ne0.false (sym (c.in-Ok.ensures.range takes)))
     c.in-Ok.ensures.unchanged c.take.ensures.replied
 
 pub returns-in-Ok-clause-failed : goal.returns-in-Ok-clause-failed
-returns-in-Ok-clause-failed g c bits brk =
+returns-in-Ok-clause-failed g c v brk =
     as_action (λ (a : Action) (m : Memory). OnErr c.take.result (HasBrokenOff a m c.take.new.mem (g.S.Source.left c.args.input.now) (g.S.Source.left c.take.new.input))) _ _ _ _
     (of_input c.args.core.now c.file_of.result (takes (c.in-Ok.range ∷ [])) (with_buffer Write takes c.args.core.now c.args.mem.now) c.file_of.ensures c.if-file_of-ne0.false (sym (c.in-Ok.ensures.range takes)))
     c.in-Ok.ensures.unchanged c.take.ensures.failed

@@ -9,14 +9,14 @@ use Rattle.linux_calls.proofs.Written.{of_sink, written_nothing}
 use Rattle.linux_calls.proofs.files.write.Goals as goal
 
 pub returns-in-Err-clause-written : goal.returns-in-Err-clause-written
-returns-in-Err-clause-written g c bits brk =
+returns-in-Err-clause-written g c v brk =
     let core = c.args.core.now in
     written_nothing c.args.mem.now _ _ _ _ _ _ c.in-Err.reply _
     (of_sink core c.file_of-file.result (replied c.in-Err.reply) (with_buffer Read (puts (file_of core)) core c.args.mem.now) c.file_of-file.ensures c.if-not-is_sink.ensures (sym (c.in-Err.ensures.refused (puts (file_of core)))))
     refl refl
 
 pub returns-in-Ok-clause-written : goal.returns-in-Ok-clause-written
-returns-in-Ok-clause-written g c bits brk =
+returns-in-Ok-clause-written g c v brk =
     let core = c.args.core.now in let file = c.file_of-file.result in let e = c.put.ensures in
     as_action (λ (a : Action) (m : Memory). HasWritten a m (g.O.Sink.held c.args.output.now) (g.O.Sink.held c.put.new.output) (c.put.new.output ≡ c.args.output.now) (g.E.Sink.held c.args.errors.now) (g.E.Sink.held c.put.new.errors) (c.put.new.errors ≡ c.args.errors.now) c.put.result)
     (puts file (c.in-Ok.range ∷ [])) _ _ _

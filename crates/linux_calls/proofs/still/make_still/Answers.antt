@@ -5,11 +5,6 @@ use Rattle.linux_calls.proofs.Actions.{done_nothing}
 use Rattle.linux_calls.proofs.still.make_still.Goals as goal
 
 pub returns-in-Ioctl-clause-done : goal.returns-in-Ioctl-clause-done
-returns-in-Ioctl-clause-done c =
-    let m = c.args.mem.now in let brk = c.args.brk.now in let bits = c.args.vec.now.bits in
-    done_nothing c.ioctl.result _ m brk (ap (λ (n : CallName). action_of n c.args.core.now bits m brk) c.in-Ioctl.is ∙ c.ioctl.ensures bits m brk)
-
-pub returns-in-Prctl-clause-done : goal.returns-in-Prctl-clause-done
-returns-in-Prctl-clause-done c =
+returns-in-Ioctl-clause-done c v =
     let m = c.args.mem.now in let brk = c.args.brk.now in
-    done_nothing c.prctl.result _ m brk (ap (λ (n : CallName). action_of n c.args.core.now c.args.vec.now.bits m brk) c.in-Prctl.is ∙ c.prctl.ensures m brk)
+    done_nothing c.ioctl.result _ m brk (ap (λ (n : CallName). action_of n c.args.core.now v m brk) c.in-Ioctl.is ∙ c.ioctl.ensures v m brk)

@@ -1,4 +1,4 @@
-use Rattle.std.proofs.Common.{◌≡◌, ◌/◌, ℕ, List, length, replicate, refl, subst}
+use Rattle.std.proofs.Common.{◌≡◌, ◌/◌, ℕ, List, length, replicate, refl, subst, arith}
 use Rattle.emu_model.specs.Lengths.{IsVectorLength}
 use Rattle.std.proofs.lemmas.List.Elements.{All-replicate}
 use Rattle.vec_regs.specs.Words.{AreZeroFrom, AreClearFrom}
@@ -7,7 +7,9 @@ use Rattle.vec_regs.proofs.VecRegs.new.Goals as goal
 
 pub invariant_of-result : goal.invariant_of-result
 invariant_of-result c = record {
+  most = subst IsVectorLength c.bits-bits.ensures.value c.bits-bits.ensures.length;
   length = subst IsVectorLength c.bits-bits.ensures.value c.bits-bits.ensures.length;
+  within = omega arith;
   z_count = refl;
   z_width = All-replicate (λ (ws : List ℕ). length ws ≡ 32) 32 (replicate 32 0) refl;
   z = All-replicate (AreZeroFrom (c.args.l / 64)) 32 (replicate 32 0) (λ k h. zero_word 32 k);

@@ -9,7 +9,9 @@ invariant_of-self c =
     let within : c.args.k < c.self.inside.length / 8 = subst (λ n. c.args.k < n / 8) (sym bits) c.requires in
     let inner : c.args.k / 64 < length c.self.inside.ffr = omega arith in
     record {
+      most = c.self.invariant.most;
       length = c.self.invariant.length;
+      within = c.self.invariant.within;
       z_count = c.self.invariant.z_count;
       z_width = c.self.invariant.z_width;
       z = c.self.invariant.z;

@@ -16,7 +16,9 @@ invariant_of-self c =
     let width : length (get_or c.self.inside.p c.get-n.result []) ≡ 4 = All-get_or (λ (ws : List ℕ). length ws ≡ 4) c.self.inside.p c.get-n.result [] place c.self.invariant.p_width in
     let old : AreClearFrom (c.self.inside.length / 8) (get_or c.self.inside.p c.get-n.result []) = All-get_or (AreClearFrom (c.self.inside.length / 8)) c.self.inside.p c.get-n.result [] place c.self.invariant.p in
     record {
+      most = c.self.invariant.most;
       length = c.self.invariant.length;
+      within = c.self.invariant.within;
       z_count = c.self.invariant.z_count;
       z_width = c.self.invariant.z_width;
       z = c.self.invariant.z;
