@@ -1,15 +1,17 @@
 //! Sums and differences.
 ghost use Rattle.std.specs.Prelude.{◌≡◌, ◌<◌, ◌^◌, ◌⊎◌, true};
 ghost use Rattle.a64_insn.specs.declared.form.A64Form.{A64Form};
+ghost use Rattle.emu_bits.specs.Numbers.{width_of};
 ghost use Rattle.a64_effects.specs.Scalar as table;
 ghost use Rattle.a64_data.specs.Groups.{is_sum};
 
 use crate::numbers::complement;
 use crate::registers::{operand, operand_sp, set_flags, width_of};
 use crate::shifts::{lsl, shifted};
+use crate::sums::add_flags;
 use a64_insn::{A64, A64Form, AddCarryOp, AddOp};
 use core_regs::Core;
-use emu_bits::{Reg, U, add_flags, extended};
+use emu_bits::{Reg, U, extended};
 
 fn sets_flags(op: AddOp) -> bool
     ensures { result ≡ table.sets_flags op }
@@ -40,6 +42,7 @@ fn addend(minus: bool, w: u32, b: u64) -> u64
 }
 
 /// Rd is a sum with a carry, and the flags are the sum's, where they are set.
+#[inline(always)]
 fn sum(core: &mut Core, sets: bool, w: u32, rd: Reg, a: u64, b: u64, carry: bool)
     requires width { (w ≡ 32) ⊎ (w ≡ 64) }
     requires first { a < 2 ^ w }
@@ -52,6 +55,7 @@ fn sum(core: &mut Core, sets: bool, w: u32, rd: Reg, a: u64, b: u64, carry: bool
 }
 
 /// The same of an operation; Rd 31 isn't written.
+#[inline(always)]
 fn add(core: &mut Core, op: AddOp, w: u32, rd: Reg, a: u64, b: u64)
     requires width { (w ≡ 32) ⊎ (w ≡ 64) }
     requires first { a < 2 ^ w }
@@ -63,6 +67,7 @@ fn add(core: &mut Core, op: AddOp, w: u32, rd: Reg, a: u64, b: u64)
 }
 
 /// The same, where Rd 31 is SP but in the forms with s.
+#[inline(always)]
 fn add_sp(core: &mut Core, op: AddOp, w: u32, rd: Reg, a: u64, b: u64)
     requires width { (w ≡ 32) ⊎ (w ≡ 64) }
     requires first { a < 2 ^ w }
@@ -125,7 +130,29 @@ pub(crate) fn exec(core: &mut Core, i: &A64)
 fn add_imm(core: &mut Core, op: AddOp, sf: bool, sh: bool, imm12: U<12>, rn: Reg, rd: Reg)
     ensures { core.new ≡ table.scalar (A64Form.AddImm op sf sh imm12 rn rd) core.old }
 {
-    let w = width_of(sf);
+    // the width is a constant in each of the two
+    if sf {
+        add_imm_at(core, op, true, sh, imm12, rn, rd, 64);
+    } else {
+        add_imm_at(core, op, false, sh, imm12, rn, rd, 32);
+    }
+}
+
+#[inline(always)]
+fn add_imm_at(
+    core: &mut Core,
+    op: AddOp,
+    sf: bool,
+    sh: bool,
+    imm12: U<12>,
+    rn: Reg,
+    rd: Reg,
+    w: u32,
+)
+    requires width { w ≡ width_of sf }
+    requires either { (w ≡ 32) ⊎ (w ≡ 64) }
+    ensures { core.new ≡ table.scalar (A64Form.AddImm op sf sh imm12 rn rd) core.old }
+{
     let a = operand_sp(w, core, rn);
     add_sp(core, op, w, rd, a, shifted_12(sh, imm12));
 }
@@ -142,7 +169,30 @@ fn add_reg(
 )
     ensures { core.new ≡ table.scalar (A64Form.AddReg op sf shift rm amount rn rd) core.old }
 {
-    let w = width_of(sf);
+    // the width is a constant in each of the two
+    if sf {
+        add_reg_at(core, op, true, shift, rm, amount, rn, rd, 64);
+    } else {
+        add_reg_at(core, op, false, shift, rm, amount, rn, rd, 32);
+    }
+}
+
+#[inline(always)]
+fn add_reg_at(
+    core: &mut Core,
+    op: AddOp,
+    sf: bool,
+    shift: U<2>,
+    rm: Reg,
+    amount: U<6>,
+    rn: Reg,
+    rd: Reg,
+    w: u32,
+)
+    requires width { w ≡ width_of sf }
+    requires either { (w ≡ 32) ⊎ (w ≡ 64) }
+    ensures { core.new ≡ table.scalar (A64Form.AddReg op sf shift rm amount rn rd) core.old }
+{
     let a = operand(w, core, rn);
     let b = shifted(w, shift, operand(w, core, rm), amount);
     add(core, op, w, rd, a, b);

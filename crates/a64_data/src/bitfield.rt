@@ -3,6 +3,7 @@ ghost use Rattle.std.specs.Prelude.{◌≡◌, ◌<◌, ◌≤◌, ◌+◌, ◌^
 ghost use Rattle.a64_insn.specs.declared.form.A64Form.{A64Form};
 ghost use Rattle.a64_insn.specs.Table.{meets_form};
 ghost use Rattle.emu_bits.specs.Fields.{field};
+ghost use Rattle.emu_bits.specs.Numbers as numbers;
 ghost use Rattle.a64_effects.specs.Scalar as table;
 ghost use Rattle.emu_bits.specs.Operations as bits;
 ghost use Rattle.a64_data.specs.Groups.{is_field};
@@ -124,12 +125,36 @@ pub(crate) fn exec(core: &mut Core, i: &A64)
     }
 }
 
-#[tactic(auto, using(crate::proofs::Conditions::bitfield_below))]
 fn bitfield(core: &mut Core, op: BitfieldOp, sf: bool, n: bool, r: U<6>, s: U<6>, rn: Reg, rd: Reg)
     requires { meets_form (A64Form.Bitfield op sf n r s rn rd) ≡ true }
     ensures { core.new ≡ table.scalar (A64Form.Bitfield op sf n r s rn rd) core.old }
 {
-    let w = width_of(sf);
+    // the width is a constant in each of the two
+    if sf {
+        bitfield_at(core, op, true, n, r, s, rn, rd, 64);
+    } else {
+        bitfield_at(core, op, false, n, r, s, rn, rd, 32);
+    }
+}
+
+#[tactic(auto, using(crate::proofs::Conditions::bitfield_below))]
+#[inline(always)]
+fn bitfield_at(
+    core: &mut Core,
+    op: BitfieldOp,
+    sf: bool,
+    n: bool,
+    r: U<6>,
+    s: U<6>,
+    rn: Reg,
+    rd: Reg,
+    w: u32,
+)
+    requires width { w ≡ numbers.width_of sf }
+    requires either { (w ≡ 32) ⊎ (w ≡ 64) }
+    requires met { meets_form (A64Form.Bitfield op sf n r s rn rd) ≡ true }
+    ensures { core.new ≡ table.scalar (A64Form.Bitfield op sf n r s rn rd) core.old }
+{
     move_field(core, op, w, rn, rd, places(w, r.get(), s.get()));
 }
 

@@ -1,14 +1,16 @@
 //! Conditional compares and selects.
 ghost use Rattle.std.specs.Prelude.{◌≡◌, ◌<◌, ◌^◌, ◌⊎◌, true};
 ghost use Rattle.a64_insn.specs.declared.form.A64Form.{A64Form};
+ghost use Rattle.emu_bits.specs.Numbers as numbers;
 ghost use Rattle.a64_effects.specs.Scalar as table;
 ghost use Rattle.a64_data.specs.Groups.{is_conditional};
 
 use crate::numbers::{complement, difference};
 use crate::registers::{operand, width_of, write};
+use crate::sums::add_flags;
 use a64_insn::{A64, A64Form, CondCompareOp, SelectOp};
 use core_regs::Core;
-use emu_bits::{Cond, Flags, Reg, U, add_flags};
+use emu_bits::{Cond, Flags, Reg, U};
 
 /// The flags of a + b in ccmn, of a + NOT b + 1 in ccmp.
 fn compared(op: CondCompareOp, w: u32, a: u64, b: u64) -> Flags
@@ -105,7 +107,20 @@ fn otherwise(op: SelectOp, w: u32, b: u64) -> u128
 fn select(core: &mut Core, op: SelectOp, sf: bool, rm: Reg, cond: U<4>, rn: Reg, rd: Reg)
     ensures { core.new ≡ table.scalar (A64Form.Select op sf rm cond rn rd) core.old }
 {
-    let w = width_of(sf);
+    // the width is a constant in each of the two
+    if sf {
+        select_at(core, op, true, rm, cond, rn, rd, 64);
+    } else {
+        select_at(core, op, false, rm, cond, rn, rd, 32);
+    }
+}
+
+#[inline(always)]
+fn select_at(core: &mut Core, op: SelectOp, sf: bool, rm: Reg, cond: U<4>, rn: Reg, rd: Reg, w: u32)
+    requires width { w ≡ numbers.width_of sf }
+    requires either { (w ≡ 32) ⊎ (w ≡ 64) }
+    ensures { core.new ≡ table.scalar (A64Form.Select op sf rm cond rn rd) core.old }
+{
     let v = if Cond::of_number(cond).holds(core.flags()) {
         operand(w, core, rn) as u128
     } else {

@@ -11,6 +11,7 @@ mod multiply;
 mod numbers;
 mod registers;
 mod shifts;
+mod sums;
 
 ghost use Rattle.std.specs.Prelude.{◌≡◌, true};
 ghost use Rattle.emu_model.specs.declared.trap.Effect.{Effect};

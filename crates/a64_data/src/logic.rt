@@ -1,6 +1,7 @@
 //! Logical operations.
 ghost use Rattle.std.specs.Prelude.{◌≡◌, ◌<◌, ◌^◌, ◌⊎◌, true};
 ghost use Rattle.a64_insn.specs.declared.form.A64Form.{A64Form};
+ghost use Rattle.emu_bits.specs.Numbers.{width_of};
 ghost use Rattle.a64_effects.specs.Scalar as table;
 ghost use Rattle.emu_bits.specs.Operations.{flags_of_result};
 ghost use Rattle.a64_data.specs.Groups.{is_logical};
@@ -39,6 +40,7 @@ fn logic(core: &mut Core, sets: bool, w: u32, rd: Reg, v: u64)
 }
 
 /// The second of each pair takes the complement of b.
+#[inline(always)]
 fn logic_of(core: &mut Core, op: LogicRegOp, w: u32, rd: Reg, a: u64, b: u64)
     requires width { (w ≡ 32) ⊎ (w ≡ 64) }
     requires second { b < 2 ^ w }
@@ -96,7 +98,30 @@ fn logic_reg(
 )
     ensures { core.new ≡ table.scalar (A64Form.LogicReg op sf shift rm amount rn rd) core.old }
 {
-    let w = width_of(sf);
+    // the width is a constant in each of the two
+    if sf {
+        logic_reg_at(core, op, true, shift, rm, amount, rn, rd, 64);
+    } else {
+        logic_reg_at(core, op, false, shift, rm, amount, rn, rd, 32);
+    }
+}
+
+#[inline(always)]
+fn logic_reg_at(
+    core: &mut Core,
+    op: LogicRegOp,
+    sf: bool,
+    shift: U<2>,
+    rm: Reg,
+    amount: U<6>,
+    rn: Reg,
+    rd: Reg,
+    w: u32,
+)
+    requires width { w ≡ width_of sf }
+    requires either { (w ≡ 32) ⊎ (w ≡ 64) }
+    ensures { core.new ≡ table.scalar (A64Form.LogicReg op sf shift rm amount rn rd) core.old }
+{
     let a = operand(w, core, rn);
     let b = shifted(w, shift, operand(w, core, rm), amount);
     logic_of(core, op, w, rd, a, b);
@@ -114,7 +139,29 @@ fn logic_imm(
 )
     ensures { core.new ≡ table.scalar (A64Form.LogicImm op sf n immr imms rn rd) core.old }
 {
-    let w = width_of(sf);
+    if sf {
+        logic_imm_at(core, op, true, n, immr, imms, rn, rd, 64);
+    } else {
+        logic_imm_at(core, op, false, n, immr, imms, rn, rd, 32);
+    }
+}
+
+#[inline(always)]
+fn logic_imm_at(
+    core: &mut Core,
+    op: LogicImmOp,
+    sf: bool,
+    n: bool,
+    immr: U<6>,
+    imms: U<6>,
+    rn: Reg,
+    rd: Reg,
+    w: u32,
+)
+    requires width { w ≡ width_of sf }
+    requires either { (w ≡ 32) ⊎ (w ≡ 64) }
+    ensures { core.new ≡ table.scalar (A64Form.LogicImm op sf n immr imms rn rd) core.old }
+{
     let a = operand(w, core, rn);
     let mask = bitmask(n, immr.get(), imms.get(), w).unwrap_or(0);
     match op {

@@ -1,12 +1,13 @@
 //! Addresses near PC, and moves of immediates.
-ghost use Rattle.std.specs.Prelude.{◌≡◌, true};
+ghost use Rattle.std.specs.Prelude.{◌≡◌, ◌⊎◌, true};
 ghost use Rattle.a64_insn.specs.declared.form.A64Form.{A64Form};
+ghost use Rattle.emu_bits.specs.Numbers as numbers;
 ghost use Rattle.a64_effects.specs.Scalar as table;
 ghost use Rattle.a64_data.specs.Groups.{is_move};
 
 use crate::bitfield::replaced;
 use crate::numbers::{complement, wrapped};
-use crate::registers::{width_of, write};
+use crate::registers::write;
 use crate::shifts::lsl;
 use a64_insn::{A64, A64Form, AdrOp, MoveWideOp};
 use core_regs::Core;
@@ -50,7 +51,20 @@ fn adr(core: &mut Core, op: AdrOp, immlo: U<2>, immhi: U<19>, rd: Reg)
 fn move_wide(core: &mut Core, op: MoveWideOp, sf: bool, hw: U<2>, imm16: U<16>, rd: Reg)
     ensures { core.new ≡ table.scalar (A64Form.MoveWide op sf hw imm16 rd) core.old }
 {
-    let w = width_of(sf);
+    // the width is a constant in each of the two
+    if sf {
+        move_wide_at(core, op, true, hw, imm16, rd, 64);
+    } else {
+        move_wide_at(core, op, false, hw, imm16, rd, 32);
+    }
+}
+
+#[inline(always)]
+fn move_wide_at(core: &mut Core, op: MoveWideOp, sf: bool, hw: U<2>, imm16: U<16>, rd: Reg, w: u32)
+    requires width { w ≡ numbers.width_of sf }
+    requires either { (w ≡ 32) ⊎ (w ≡ 64) }
+    ensures { core.new ≡ table.scalar (A64Form.MoveWide op sf hw imm16 rd) core.old }
+{
     let place = 16 * hw.get();
     let imm = imm16.get() as u64;
     match op {

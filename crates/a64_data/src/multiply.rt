@@ -1,6 +1,7 @@
 //! Products, quotients, and shifts by a register.
 ghost use Rattle.std.specs.Prelude.{◌≡◌, ◌<◌, ◌^◌, ◌*◌, ◌⊎◌, true};
 ghost use Rattle.a64_insn.specs.declared.form.A64Form.{A64Form};
+ghost use Rattle.emu_bits.specs.Numbers as numbers;
 ghost use Rattle.a64_effects.specs.Scalar as table;
 ghost use Rattle.emu_bits.specs.Operations as bits;
 ghost use Rattle.a64_data.specs.Groups.{is_product};
@@ -36,7 +37,20 @@ pub(crate) fn exec(core: &mut Core, i: &A64)
 fn mul_add(core: &mut Core, op: MulAddOp, sf: bool, rm: Reg, ra: Reg, rn: Reg, rd: Reg)
     ensures { core.new ≡ table.scalar (A64Form.MulAdd op sf rm ra rn rd) core.old }
 {
-    let w = width_of(sf);
+    // the width is a constant in each of the two
+    if sf {
+        mul_add_at(core, op, true, rm, ra, rn, rd, 64);
+    } else {
+        mul_add_at(core, op, false, rm, ra, rn, rd, 32);
+    }
+}
+
+#[inline(always)]
+fn mul_add_at(core: &mut Core, op: MulAddOp, sf: bool, rm: Reg, ra: Reg, rn: Reg, rd: Reg, w: u32)
+    requires width { w ≡ numbers.width_of sf }
+    requires either { (w ≡ 32) ⊎ (w ≡ 64) }
+    ensures { core.new ≡ table.scalar (A64Form.MulAdd op sf rm ra rn rd) core.old }
+{
     let a = operand(w, core, ra);
     let p = operand(w, core, rn) as u128 * operand(w, core, rm) as u128;
     match op {

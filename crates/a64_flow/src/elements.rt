@@ -10,7 +10,7 @@ ghost use Rattle.vec_regs.specs.Packed.{IsLowSize};
 use crate::fields::is_vector;
 use a64_effects::Transfer;
 use core_regs::{Core, Trap};
-use element_access::{load, store};
+use element_access::{load_here, store_here};
 use emu_bits::{Reg, sign_extended};
 use guest_mem::{AccessLog, Mem};
 use vec_regs::VecRegs;
@@ -54,7 +54,34 @@ fn put_loaded(core: &mut Core, vec: &mut VecRegs, t: Transfer, rt: Reg, n: u32, 
     }
 }
 
+/// Stores one register. Each usual number of bytes has the code for itself, in which it is a constant.
+#[inline(always)]
+pub(crate) fn store_sized(
+    core: &Core,
+    vec: &VecRegs,
+    mem: &mut Mem,
+    log: &mut AccessLog,
+    t: Transfer,
+    rt: Reg,
+    address: u64,
+    n: u32,
+) -> Result<(), Trap>
+    requires some { 1 ≤ n }
+    requires most { n ≤ 16 }
+    requires empty { log.old.items ≡ [] }
+    ensures { (after : CoreState → CoreState) → table.stored_to t (reach mem.old Kind.Write (record { lane = 0; register = rt; address = address; bytes = n } ∷ [])) after core.now vec.now mem.old
+        ≡ followed_by after result core.now vec.now mem.new log.new.items }
+{
+    match n {
+        8 => store_one(core, vec, mem, log, t, rt, address, n),
+        4 => store_one(core, vec, mem, log, t, rt, address, n),
+        1 => store_one(core, vec, mem, log, t, rt, address, n),
+        _ => store_one(core, vec, mem, log, t, rt, address, n),
+    }
+}
+
 /// Stores one register.
+#[inline(always)]
 fn store_one(
     core: &Core,
     vec: &VecRegs,
@@ -72,10 +99,38 @@ fn store_one(
         ≡ followed_by after result core.now vec.now mem.new log.new.items }
 {
     let v = stored_value(core, vec, t, rt);
-    store(mem, log, v, address, n)
+    store_here(mem, log, v, address, n)
+}
+
+/// Loads one register. Each usual number of bytes has the code for itself, in which it is a constant.
+#[inline(always)]
+pub(crate) fn load_sized(
+    core: &mut Core,
+    vec: &mut VecRegs,
+    mem: &mut Mem,
+    log: &mut AccessLog,
+    t: Transfer,
+    rt: Reg,
+    address: u64,
+    n: u32,
+) -> Result<(), Trap>
+    requires some { 1 ≤ n }
+    requires most { n ≤ greatest_of t }
+    requires size { IsLowSize (8 * n) }
+    requires empty { log.old.items ≡ [] }
+    ensures { (after : CoreState → CoreState) → table.loaded_to t (reach mem.old Kind.Read (record { lane = 0; register = rt; address = address; bytes = n } ∷ [])) after core.old vec.old mem.old
+        ≡ followed_by after result core.new vec.new mem.new log.new.items }
+{
+    match n {
+        8 => load_one(core, vec, mem, log, t, rt, address, n),
+        4 => load_one(core, vec, mem, log, t, rt, address, n),
+        1 => load_one(core, vec, mem, log, t, rt, address, n),
+        _ => load_one(core, vec, mem, log, t, rt, address, n),
+    }
 }
 
 /// Loads one register.
+#[inline(always)]
 fn load_one(
     core: &mut Core,
     vec: &mut VecRegs,
@@ -93,7 +148,7 @@ fn load_one(
     ensures { (after : CoreState → CoreState) → table.loaded_to t (reach mem.old Kind.Read (record { lane = 0; register = rt; address = address; bytes = n } ∷ [])) after core.old vec.old mem.old
         ≡ followed_by after result core.new vec.new mem.new log.new.items }
 {
-    let v = load(mem, log, address, n)?;
+    let v = load_here(mem, log, address, n)?;
     put_loaded(core, vec, t, rt, n, v);
     Ok(())
 }
@@ -147,8 +202,8 @@ fn store_couple(
 {
     let first = stored_value(core, vec, t, rt);
     let second = stored_value(core, vec, t, rt2);
-    store(mem, log, first, address, n)?;
-    store(mem, log, second, address.wrapping_add(n as u64), n)
+    store_here(mem, log, first, address, n)?;
+    store_here(mem, log, second, address.wrapping_add(n as u64), n)
 }
 
 /// Loads two registers, one behind the other, or none.
@@ -170,8 +225,8 @@ fn load_couple(
     ensures { (after : CoreState → CoreState) → table.loaded_to t (reach mem.old Kind.Read (table.couple rt rt2 address n)) after core.old vec.old mem.old
         ≡ followed_by after result core.new vec.new mem.new log.new.items }
 {
-    let first = load(mem, log, address, n)?;
-    let second = load(mem, log, address.wrapping_add(n as u64), n)?;
+    let first = load_here(mem, log, address, n)?;
+    let second = load_here(mem, log, address.wrapping_add(n as u64), n)?;
     put_loaded(core, vec, t, rt, n, first);
     put_loaded(core, vec, t, rt2, n, second);
     Ok(())

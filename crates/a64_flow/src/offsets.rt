@@ -8,7 +8,7 @@ ghost use Rattle.a64_flow.specs.Groups.{is_at_offset};
 ghost use Rattle.vec_regs.specs.Packed.{IsLowSize};
 
 use crate::branches::target;
-use crate::elements::single;
+use crate::elements::{load_sized, single, store_sized};
 use crate::fields::{access_bytes, has_sp, literal_bytes, literal_transfer, transfer};
 use crate::numbers::{indexed, near};
 use a64_effects::Transfer;
@@ -89,6 +89,76 @@ pub(crate) fn from_base(
     single(core, vec, mem, log, t, rt, address, n)
 }
 
+/// The same by V, size and opc, in the code of its caller: its arguments and its answer would cost as much as the access.
+#[inline(always)]
+fn from_base_here(
+    core: &mut Core,
+    vec: &mut VecRegs,
+    mem: &mut Mem,
+    log: &mut AccessLog,
+    v: bool,
+    size: U<2>,
+    opc: U<2>,
+    rn: Reg,
+    rt: Reg,
+    address: u64,
+) -> Result<(), Trap>
+    requires { log.old.items ≡ [] }
+    ensures { (after : CoreState → CoreState)
+        → table.tested (table.has_sp (table.transfer v size opc) rn) None core.old vec.old mem.old (table.transferred (table.transfer v size opc) (table.single (table.transfer v size opc) rt address (table.access_bytes v size opc)) after core.old vec.old mem.old)
+        ≡ followed_by after result core.new vec.new mem.new log.new.items }
+{
+    let n = access_bytes(v, size, opc);
+    single_from_base(
+        core,
+        vec,
+        mem,
+        log,
+        transfer(v, size, opc),
+        rn,
+        rt,
+        address,
+        n,
+    )
+}
+
+/// The same of what is moved. It is chosen here once, and each has the test of SP and the access for itself.
+#[inline(always)]
+fn single_from_base(
+    core: &mut Core,
+    vec: &mut VecRegs,
+    mem: &mut Mem,
+    log: &mut AccessLog,
+    t: Transfer,
+    rn: Reg,
+    rt: Reg,
+    address: u64,
+    n: u32,
+) -> Result<(), Trap>
+    requires some { 1 ≤ n }
+    requires most { n ≤ greatest_of t }
+    requires size { IsLowSize (8 * n) }
+    requires empty { log.old.items ≡ [] }
+    ensures { (after : CoreState → CoreState)
+        → table.tested (table.has_sp t rn) None core.old vec.old mem.old (table.transferred t (table.single t rt address n) after core.old vec.old mem.old)
+        ≡ followed_by after result core.new vec.new mem.new log.new.items }
+{
+    match t {
+        Transfer::Store => {
+            test_sp(core, has_sp(t, rn))?;
+            store_sized(core, vec, mem, log, t, rt, address, n)
+        }
+        Transfer::Load => {
+            test_sp(core, has_sp(t, rn))?;
+            load_sized(core, vec, mem, log, t, rt, address, n)
+        }
+        _ => {
+            test_sp(core, has_sp(t, rn))?;
+            single(core, vec, mem, log, t, rt, address, n)
+        }
+    }
+}
+
 /// At `[Xn|SP{, #0}]`: imm12 counts accesses.
 fn ls_unsigned(
     core: &mut Core,
@@ -105,9 +175,9 @@ fn ls_unsigned(
     requires { log.old.items ≡ [] }
     ensures { table.access (A64Form.LsUnsigned size v opc imm12 rn rt) core.old vec.old mem.old ≡ ended result core.new vec.new mem.new log.new.items }
 {
-    let (t, n) = (transfer(v, size, opc), access_bytes(v, size, opc));
+    let n = access_bytes(v, size, opc);
     let address = core.x_sp(rn).wrapping_add(u64::from(n * imm12.get()));
-    from_base(core, vec, mem, log, t, rn, rt, address, n)
+    from_base_here(core, vec, mem, log, v, size, opc, rn, rt, address)
 }
 
 /// At `[Xn|SP{, #0}]`: imm9 is signed, in bytes.

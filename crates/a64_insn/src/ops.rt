@@ -1,14 +1,14 @@
 //! The names of the lines that have several.
 
 /// PC-relative addresses.
-#[derive(Clone, Copy, PartialEq, Eq, Debug)]
+#[derive(Clone, Copy)]
 pub enum AdrOp {
     Adr,
     Adrp,
 }
 
 /// Sums and differences, those with an s set the flags.
-#[derive(Clone, Copy, PartialEq, Eq, Debug)]
+#[derive(Clone, Copy)]
 pub enum AddOp {
     Add,
     Adds,
@@ -17,7 +17,7 @@ pub enum AddOp {
 }
 
 /// Logical operations with an immediate; ands sets the flags.
-#[derive(Clone, Copy, PartialEq, Eq, Debug)]
+#[derive(Clone, Copy)]
 pub enum LogicImmOp {
     And,
     Orr,
@@ -26,7 +26,7 @@ pub enum LogicImmOp {
 }
 
 /// Moves of a 16-bit immediate: its complement, itself, or into its place alone.
-#[derive(Clone, Copy, PartialEq, Eq, Debug)]
+#[derive(Clone, Copy)]
 pub enum MoveWideOp {
     Movn,
     Movz,
@@ -34,7 +34,7 @@ pub enum MoveWideOp {
 }
 
 /// Bitfield moves: signed, into old bits, unsigned.
-#[derive(Clone, Copy, PartialEq, Eq, Debug)]
+#[derive(Clone, Copy)]
 pub enum BitfieldOp {
     Sbfm,
     Bfm,
@@ -42,7 +42,7 @@ pub enum BitfieldOp {
 }
 
 /// Logical operations of registers; the second of each pair takes the complement of its last operand.
-#[derive(Clone, Copy, PartialEq, Eq, Debug)]
+#[derive(Clone, Copy)]
 pub enum LogicRegOp {
     And,
     Bic,
@@ -55,7 +55,7 @@ pub enum LogicRegOp {
 }
 
 /// Sums and differences with carry.
-#[derive(Clone, Copy, PartialEq, Eq, Debug)]
+#[derive(Clone, Copy)]
 pub enum AddCarryOp {
     Adc,
     Adcs,
@@ -64,14 +64,14 @@ pub enum AddCarryOp {
 }
 
 /// Conditional compares: of a sum (ccmn) or a difference (ccmp).
-#[derive(Clone, Copy, PartialEq, Eq, Debug)]
+#[derive(Clone, Copy)]
 pub enum CondCompareOp {
     Ccmn,
     Ccmp,
 }
 
 /// Conditional selects: the other register, its increment, complement or negation.
-#[derive(Clone, Copy, PartialEq, Eq, Debug)]
+#[derive(Clone, Copy)]
 pub enum SelectOp {
     Csel,
     Csinc,
@@ -80,14 +80,14 @@ pub enum SelectOp {
 }
 
 /// Products added or subtracted.
-#[derive(Clone, Copy, PartialEq, Eq, Debug)]
+#[derive(Clone, Copy)]
 pub enum MulAddOp {
     Madd,
     Msub,
 }
 
 /// Products of two 32-bit registers, signed or unsigned, added or subtracted.
-#[derive(Clone, Copy, PartialEq, Eq, Debug)]
+#[derive(Clone, Copy)]
 pub enum MulLongOp {
     Smaddl,
     Smsubl,
@@ -96,14 +96,14 @@ pub enum MulLongOp {
 }
 
 /// Upper halves of products, signed or unsigned.
-#[derive(Clone, Copy, PartialEq, Eq, Debug)]
+#[derive(Clone, Copy)]
 pub enum MulHighOp {
     Smulh,
     Umulh,
 }
 
 /// Quotients, unsigned or signed, and shifts by a register.
-#[derive(Clone, Copy, PartialEq, Eq, Debug)]
+#[derive(Clone, Copy)]
 pub enum TwoSourceOp {
     Udiv,
     Sdiv,
@@ -114,7 +114,7 @@ pub enum TwoSourceOp {
 }
 
 /// Bits reversed, bytes of each 16 bits reversed, leading zeros, leading copies of the sign.
-#[derive(Clone, Copy, PartialEq, Eq, Debug)]
+#[derive(Clone, Copy)]
 pub enum OneSourceOp {
     Rbit,
     Rev16,
@@ -123,7 +123,7 @@ pub enum OneSourceOp {
 }
 
 /// Bytes reversed: of 32 bits, of 64 bits, in each 32 of 64 bits.
-#[derive(Clone, Copy, PartialEq, Eq, Debug)]
+#[derive(Clone, Copy)]
 pub enum RevOp {
     RevW,
     RevX,
@@ -131,28 +131,28 @@ pub enum RevOp {
 }
 
 /// Branches: plain, and with a link in x30.
-#[derive(Clone, Copy, PartialEq, Eq, Debug)]
+#[derive(Clone, Copy)]
 pub enum BranchOp {
     B,
     Bl,
 }
 
 /// Branches where a register is 0, or is not.
-#[derive(Clone, Copy, PartialEq, Eq, Debug)]
+#[derive(Clone, Copy)]
 pub enum CompareOp {
     Cbz,
     Cbnz,
 }
 
 /// Branches where a bit of a register is 0, or is 1.
-#[derive(Clone, Copy, PartialEq, Eq, Debug)]
+#[derive(Clone, Copy)]
 pub enum TestOp {
     Tbz,
     Tbnz,
 }
 
 /// Branches to a register: plain, with a link in x30, as a return.
-#[derive(Clone, Copy, PartialEq, Eq, Debug)]
+#[derive(Clone, Copy)]
 pub enum BranchRegOp {
     Br,
     Blr,
@@ -160,7 +160,7 @@ pub enum BranchRegOp {
 }
 
 /// Exceptions: supervisor call, breakpoint, halt.
-#[derive(Clone, Copy, PartialEq, Eq, Debug)]
+#[derive(Clone, Copy)]
 pub enum ExceptOp {
     Svc,
     Brk,
@@ -168,7 +168,7 @@ pub enum ExceptOp {
 }
 
 /// The exclusive monitor's clearing, and barriers of data (two kinds) and of instructions.
-#[derive(Clone, Copy, PartialEq, Eq, Debug)]
+#[derive(Clone, Copy)]
 pub enum BarrierOp {
     Clrex,
     Dsb,
@@ -177,7 +177,7 @@ pub enum BarrierOp {
 }
 
 /// System registers that are read: the thread pointer, the flags, the block size of `dc zva`.
-#[derive(Clone, Copy, PartialEq, Eq, Debug)]
+#[derive(Clone, Copy)]
 pub enum ReadSysOp {
     Tpidr,
     Nzcv,
@@ -185,35 +185,35 @@ pub enum ReadSysOp {
 }
 
 /// System registers that are written: the thread pointer, the flags.
-#[derive(Clone, Copy, PartialEq, Eq, Debug)]
+#[derive(Clone, Copy)]
 pub enum WriteSysOp {
     Tpidr,
     Nzcv,
 }
 
 /// Exclusive stores; stlxr releases.
-#[derive(Clone, Copy, PartialEq, Eq, Debug)]
+#[derive(Clone, Copy)]
 pub enum StoreExOp {
     Stxr,
     Stlxr,
 }
 
 /// Exclusive loads; ldaxr acquires.
-#[derive(Clone, Copy, PartialEq, Eq, Debug)]
+#[derive(Clone, Copy)]
 pub enum LoadExOp {
     Ldxr,
     Ldaxr,
 }
 
 /// A store that releases, and a load that acquires.
-#[derive(Clone, Copy, PartialEq, Eq, Debug)]
+#[derive(Clone, Copy)]
 pub enum OrderedOp {
     Stlr,
     Ldar,
 }
 
 /// Copies of bits between general and vector registers, by destination and source.
-#[derive(Clone, Copy, PartialEq, Eq, Debug)]
+#[derive(Clone, Copy)]
 pub enum FMoveOp {
     WdSn,
     SdWn,

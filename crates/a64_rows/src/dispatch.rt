@@ -7,9 +7,9 @@ ghost use Rattle.std.specs.Prelude.{◌≡◌, [], ◌∷◌};
 ghost use Rattle.emu_bits.specs.Rows.{decode};
 ghost use Rattle.a64_insn.specs.Table.{a64_table};
 ghost use Rattle.a64_insn.specs.Data.{logic_imm, move_wide, bitfield, extract, add_reg, add_ext, cond_reg, cond_imm, mul_add, mul_long, mul_high, two_source, one_source, rev};
-ghost use Rattle.a64_insn.specs.Flow.{branch_cond, compare, test_branch, except, hint, barrier, read_sys, write_sys};
+ghost use Rattle.a64_insn.specs.Flow.{branch, branch_cond, branch_reg, compare, test_branch, except, hint, barrier, read_sys, write_sys};
 ghost use Rattle.a64_insn.specs.Memory.{ls_unscaled, ls_post, ls_pre, ls_reg, ls_literal, pair, store_ex, load_ex, ordered};
-ghost use Rattle.a64_rows.specs.Left.{lines_01, lines_01_1, lines_10, immediates, branches, branches_10, lines_11, lines_11_10};
+ghost use Rattle.a64_rows.specs.Left.{lines_11_10};
 ghost use Rattle.a64_rows.specs.Seen.{seen};
 
 use crate::bit_moves::{f_move, move_imm};
@@ -27,25 +27,31 @@ use crate::memory::{
 use a64_insn::A64;
 use emu_bits::bits;
 
-/// The instruction of a word, found by bits 28 to 27.
+/// The instruction of a word, found by bits 28 to 24.
 pub fn find<Site>(w: u32) -> Option<A64>
     ensures { seen result ≡ decode a64_table w }
 {
-    match bits(w, 28, 27) {
-        0b01 => words_01::<Site>(w),
-        0b10 => words_10::<Site>(w),
-        0b11 => words_11::<Site>(w),
+    match bits(w, 28, 24) {
+        0b01000 | 0b01100 => words_of_pairs_and_exclusives::<Site>(w),
+        0b01001 | 0b01101 => pair(w),
+        0b01010 => logic_reg(w),
+        0b01011 => words_of_register_sums::<Site>(w),
+        0b01110 => None,
+        0b01111 => move_imm(w),
+        0b10000 => adr(w),
+        0b10001 => add_imm(w),
+        0b10010 => words_of_logic_and_moves::<Site>(w),
+        0b10011 => words_of_bitfields::<Site>(w),
+        0b10100 => words_10100::<Site>(w),
+        0b10101 => words_10101::<Site>(w),
+        0b10110 => words_10110::<Site>(w),
+        0b10111 => words_10111::<Site>(w),
+        0b11000 | 0b11100 => words_of_accesses::<Site>(w),
+        0b11001 | 0b11101 => ls_unsigned(w),
+        0b11010 | 0b11110 => words_11_10::<Site>(w),
+        0b11011 => words_of_products::<Site>(w),
+        0b11111 => None,
         _ => None,
-    }
-}
-
-/// Registers with a shift or an extension, pairs, exclusive accesses and the move of a vector immediate, by bit 25.
-fn words_01<Site>(w: u32) -> Option<A64>
-    ensures { seen result ≡ decode lines_01 w }
-{
-    match bits(w, 25, 25) {
-        0b0 => words_of_pairs_and_exclusives::<Site>(w),
-        _ => words_01_1::<Site>(w),
     }
 }
 
@@ -64,18 +70,6 @@ fn words_of_pairs_and_exclusives<Site>(w: u32) -> Option<A64>
     ordered(w)
 }
 
-/// Registers with a shift or an extension, and the move of a vector immediate, by bits 26 to 24.
-fn words_01_1<Site>(w: u32) -> Option<A64>
-    ensures { seen result ≡ decode lines_01_1 w }
-{
-    match bits(w, 26, 24) {
-        0b010 => logic_reg(w),
-        0b011 => words_of_register_sums::<Site>(w),
-        0b111 => move_imm(w),
-        _ => None,
-    }
-}
-
 fn words_of_register_sums<Site>(w: u32) -> Option<A64>
     ensures { seen result ≡ decode (add_reg ∷ add_ext ∷ []) w }
 {
@@ -83,28 +77,6 @@ fn words_of_register_sums<Site>(w: u32) -> Option<A64>
         return Some(i);
     }
     add_ext(w)
-}
-
-/// Immediates and branches, by bit 26.
-fn words_10<Site>(w: u32) -> Option<A64>
-    ensures { seen result ≡ decode lines_10 w }
-{
-    match bits(w, 26, 26) {
-        0b0 => words_of_immediates::<Site>(w),
-        _ => words_of_branches::<Site>(w),
-    }
-}
-
-/// By bits 25 to 24.
-fn words_of_immediates<Site>(w: u32) -> Option<A64>
-    ensures { seen result ≡ decode immediates w }
-{
-    match bits(w, 25, 24) {
-        0b00 => adr(w),
-        0b01 => add_imm(w),
-        0b10 => words_of_logic_and_moves::<Site>(w),
-        _ => words_of_bitfields::<Site>(w),
-    }
 }
 
 fn words_of_logic_and_moves<Site>(w: u32) -> Option<A64>
@@ -125,35 +97,49 @@ fn words_of_bitfields<Site>(w: u32) -> Option<A64>
     extract(w)
 }
 
-/// Branches, exceptions and system, by bits 30 to 29.
-fn words_of_branches<Site>(w: u32) -> Option<A64>
-    ensures { seen result ≡ decode branches w }
+/// Branches and system where bits 28 to 24 are 10100, by bits 30 to 29.
+fn words_10100<Site>(w: u32) -> Option<A64>
+    ensures { seen result ≡ decode (branch ∷ branch_cond ∷ compare ∷ except ∷ []) w }
 {
     match bits(w, 30, 29) {
         0b00 => branch(w),
-        0b01 => words_of_compares::<Site>(w),
-        0b10 => words_of_branches_10::<Site>(w),
+        0b01 => compare(w),
+        0b10 => words_of_exceptions::<Site>(w),
         _ => None,
     }
 }
 
-fn words_of_compares<Site>(w: u32) -> Option<A64>
-    ensures { seen result ≡ decode (compare ∷ test_branch ∷ []) w }
+/// Branches and system where bits 28 to 24 are 10101, by bits 30 to 29.
+fn words_10101<Site>(w: u32) -> Option<A64>
+    ensures { seen result ≡ decode (branch ∷ compare ∷ hint ∷ barrier ∷ read_sys ∷ write_sys ∷ []) w }
 {
-    if let Some(i) = compare(w) {
-        return Some(i);
+    match bits(w, 30, 29) {
+        0b00 => branch(w),
+        0b01 => compare(w),
+        0b10 => words_of_system::<Site>(w),
+        _ => None,
     }
-    test_branch(w)
 }
 
-/// Branches on a condition or to a register, exceptions and system, by bits 25 to 24.
-fn words_of_branches_10<Site>(w: u32) -> Option<A64>
-    ensures { seen result ≡ decode branches_10 w }
+/// Branches and system where bits 28 to 24 are 10110, by bits 30 to 29.
+fn words_10110<Site>(w: u32) -> Option<A64>
+    ensures { seen result ≡ decode (branch ∷ test_branch ∷ branch_reg ∷ []) w }
 {
-    match bits(w, 25, 24) {
-        0b00 => words_of_exceptions::<Site>(w),
-        0b01 => words_of_system::<Site>(w),
+    match bits(w, 30, 29) {
+        0b00 => branch(w),
+        0b01 => test_branch(w),
         0b10 => branch_reg(w),
+        _ => None,
+    }
+}
+
+/// Branches and system where bits 28 to 24 are 10111, by bits 30 to 29.
+fn words_10111<Site>(w: u32) -> Option<A64>
+    ensures { seen result ≡ decode (branch ∷ test_branch ∷ []) w }
+{
+    match bits(w, 30, 29) {
+        0b00 => branch(w),
+        0b01 => test_branch(w),
         _ => None,
     }
 }
@@ -180,18 +166,6 @@ fn words_of_system<Site>(w: u32) -> Option<A64>
         return Some(i);
     }
     write_sys(w)
-}
-
-/// Single accesses and the other registers, by bits 25 to 24.
-fn words_11<Site>(w: u32) -> Option<A64>
-    ensures { seen result ≡ decode lines_11 w }
-{
-    match bits(w, 25, 24) {
-        0b00 => words_of_accesses::<Site>(w),
-        0b01 => ls_unsigned(w),
-        0b10 => words_11_10::<Site>(w),
-        _ => words_of_products::<Site>(w),
-    }
 }
 
 fn words_of_accesses<Site>(w: u32) -> Option<A64>

@@ -5,7 +5,7 @@ ghost use Rattle.std.specs.Prelude.{◌≡◌, ◌%◌, ◌^◌, ◌⊎◌};
 ghost use Rattle.emu_bits.specs.Flags.{cond_holds};
 ghost use Rattle.emu_model.specs.State.{IsSoundCore, read_x, read_x_sp, with_x, with_x_sp, with_pc, zero_core};
 
-use emu_bits::{Cond, Flags, Reg, low_bits};
+use emu_bits::{Cond, Flags, Reg};
 pub use emu_model::{Effect, Trap, TrapKind};
 use std::marker::Model;
 
@@ -30,6 +30,15 @@ impl Model for Core {
     ghost view = { λ a. record { x = a.x; sp = a.sp; pc = a.pc; flags = a.flags; tpidr = a.tpidr; monitor = a.monitor } };
 
     ghost invariant = { λ a. IsSoundCore (record { x = a.x; sp = a.sp; pc = a.pc; flags = a.flags; tpidr = a.tpidr; monitor = a.monitor }) };
+}
+
+/// A number modulo 2^width, with no mask to be made.
+#[inline(always)]
+fn low(v: u64, width: u32) -> u64
+    requires { (width ≡ 32) ⊎ (width ≡ 64) }
+    ensures { result ≡ v % 2 ^ width }
+{
+    if width == 32 { v % 0x1_0000_0000 } else { v }
 }
 
 impl Core {
@@ -112,7 +121,7 @@ impl Core {
     {
         let n = r.get() as usize;
         if n != 31 {
-            self.x[n] = low_bits(v, width);
+            self.x[n] = low(v, width);
         }
     }
 
@@ -123,9 +132,9 @@ impl Core {
     {
         let n = r.get() as usize;
         if n == 31 {
-            self.sp = low_bits(v, width);
+            self.sp = low(v, width);
         } else {
-            self.x[n] = low_bits(v, width);
+            self.x[n] = low(v, width);
         }
     }
 

@@ -6,13 +6,13 @@ use Rattle.emu_model.specs.declared.trap.Ended.{Ended}
 use Rattle.emu_model.specs.Access.{Memory}
 use Rattle.emu_model.specs.State.{Core, Vectors, Parts}
 use Rattle.emu_system.specs.Start.{with_input}
-use Rattle.emu_system.specs.SystemCall.{Action, fails, answers, maps, moves_break, takes, puts, exits, action, call, done_by, total}
+use Rattle.emu_system.specs.SystemCall.{Action, fails, answers, maps, moves_break, sets_length, takes, puts, exits, action, call, done_by, total}
 use Rattle.linux_calls.specs.declared.end.CallEnd.{CallEnd}
 use Rattle.linux_calls.specs.declared.end.CallEnd.TheVariants.{Returned, Exit, ReadFault, WriteFault, ErrorsFault}
 use Rattle.linux_calls.specs.Ends.{OfInput, Stores, behind, caller, does_take, end_of, is_fault}
 use Rattle.emu_system.specs.Gained.{Gains}
 use Rattle.emu_machine.specs.declared.ends.StepEnd.{StepEnd}
-use Rattle.emu_machine.specs.Ends.{LeftOf, Puts, TakesWithin, is_undone, left_by, step_by, step_end}
+use Rattle.emu_machine.specs.Ends.{Becomes, LeftOf, Puts, TakesWithin, is_undone, left_by, step_by, step_end}
 use Rattle.emu_machine.specs.Machines.{call_made}
 
 undone_by : (end : CallEnd) → is_undone (step_by end) ≡ is_fault end
@@ -32,6 +32,7 @@ same_output (fails e) p bytes = refl
 same_output (answers v) p bytes = refl
 same_output (maps memory v) p bytes = refl
 same_output (moves_break memory to) p bytes = refl
+same_output (sets_length bits) p bytes = refl
 same_output (takes ranges) p bytes = refl
 same_output (puts file ranges) p bytes = refl
 same_output (exits code) p bytes = refl
@@ -41,9 +42,20 @@ same_errors (fails e) p bytes = refl
 same_errors (answers v) p bytes = refl
 same_errors (maps memory v) p bytes = refl
 same_errors (moves_break memory to) p bytes = refl
+same_errors (sets_length bits) p bytes = refl
 same_errors (takes ranges) p bytes = refl
 same_errors (puts file ranges) p bytes = refl
 same_errors (exits code) p bytes = refl
+
+same_input : (a : Action) (p : Parts) (bytes : List ℕ) → (done_by a (without_steps p) bytes).input ≡ (done_by a p bytes).input
+same_input (fails e) p bytes = refl
+same_input (answers v) p bytes = refl
+same_input (maps memory v) p bytes = refl
+same_input (moves_break memory to) p bytes = refl
+same_input (sets_length bits) p bytes = refl
+same_input (takes ranges) p bytes = refl
+same_input (puts file ranges) p bytes = refl
+same_input (exits code) p bytes = refl
 
 -- ---- what it makes of a machine that hasn't ended
 
@@ -67,6 +79,7 @@ done_counted (fails e) m bytes = refl
 done_counted (answers v) m bytes = refl
 done_counted (maps memory v) m bytes = refl
 done_counted (moves_break memory to) m bytes = refl
+done_counted (sets_length bits) m bytes = refl
 done_counted (takes ranges) m bytes = refl
 done_counted (puts file ranges) m bytes = refl
 done_counted (exits code) m bytes = refl
@@ -76,6 +89,7 @@ ends_as (fails e) m bytes none = ap step_end (sym none)
 ends_as (answers v) m bytes none = ap step_end (sym none)
 ends_as (maps memory v) m bytes none = ap step_end (sym none)
 ends_as (moves_break memory to) m bytes none = ap step_end (sym none)
+ends_as (sets_length bits) m bytes none = ap step_end (sym none)
 ends_as (takes ranges) m bytes none = ap step_end (sym none)
 ends_as (puts file ranges) m bytes none = ap step_end (sym none)
 ends_as (exits code) m bytes none = refl
@@ -86,6 +100,7 @@ of_each (fails e) told P Q f h = λ bytes. f bytes (h bytes)
 of_each (answers v) told P Q f h = λ bytes. f bytes (h bytes)
 of_each (maps memory v) told P Q f h = λ bytes. f bytes (h bytes)
 of_each (moves_break memory to) told P Q f h = λ bytes. f bytes (h bytes)
+of_each (sets_length bits) told P Q f h = λ bytes. f bytes (h bytes)
 of_each (takes ranges) None P Q f h = tt
 of_each (takes ranges) (Some bytes) P Q f h = f bytes h
 of_each (puts file ranges) told P Q f h = λ bytes. f bytes (h bytes)
@@ -96,10 +111,22 @@ of_all (fails e) told P f = f
 of_all (answers v) told P f = f
 of_all (maps memory v) told P f = f
 of_all (moves_break memory to) told P f = f
+of_all (sets_length bits) told P f = f
 of_all (takes ranges) None P f = tt
 of_all (takes ranges) (Some bytes) P f = f bytes
 of_all (puts file ranges) told P f = f
 of_all (exits code) told P f = f
+
+-- of bytes that the input told
+of_told : (a : Action) (bytes : List ℕ) (P : List ℕ → Type 0) → OfInput a (Some bytes) P → P bytes
+of_told (fails e) bytes P h = h bytes
+of_told (answers v) bytes P h = h bytes
+of_told (maps memory v) bytes P h = h bytes
+of_told (moves_break memory to) bytes P h = h bytes
+of_told (sets_length bits) bytes P h = h bytes
+of_told (takes ranges) bytes P h = h
+of_told (puts file ranges) bytes P h = h bytes
+of_told (exits code) bytes P h = h bytes
 
 module _ (end : CallEnd) (r : StepEnd) (p q : Parts) (is : r ≡ step_by end) (same : p ≡ q) where
   undone : is_fault end ≡ is_undone r
@@ -125,6 +152,14 @@ module _ (end : CallEnd) (r : StepEnd) (p q : Parts) (is : r ≡ step_by end) (s
     parts_made told made =
         subst (λ (x : Parts). OfInput (action x) told (λ bytes. is_undone r ≡ false → new ≡ (call_made (with_input q bytes)).parts)) same
         (of_each (action p) told (λ bytes. is_fault end ≡ false → behind end c v m brk ≡ (call (without_steps p) bytes).parts) (λ bytes. is_undone r ≡ false → new ≡ (call_made (with_input q bytes)).parts) made_at made)
+
+    pub state_made : (told now : Option (List ℕ)) → OfInput (action p) told (λ bytes. is_fault end ≡ false → behind end c v m brk ≡ (call (without_steps p) bytes).parts)
+        → IfSome told (λ bytes. is_fault end ≡ false → now ≡ Some (call (without_steps p) bytes).input) → Becomes call_made q new told now (is_undone r)
+    state_made None now made rest = tt
+    state_made (Some bytes) now made rest = λ fine. (
+      made_at bytes (of_told (action p) bytes (λ bytes. is_fault end ≡ false → behind end c v m brk ≡ (call (without_steps p) bytes).parts) made) fine,
+      rest (undone ∙ fine) ∙ ap (λ (l : List ℕ). Some l) (same_input (action p) p bytes ∙ ap (λ (x : Parts). (call x bytes).input) same),
+    )
 
   -- ---- what it puts
 
@@ -162,6 +197,7 @@ module _ (end : CallEnd) (r : StepEnd) (p q : Parts) (is : r ≡ step_by end) (s
   within (answers v) bytes now left stored kept = absurd stored
   within (maps memory v) bytes now left stored kept = absurd stored
   within (moves_break memory to) bytes now left stored kept = absurd stored
+  within (sets_length bits) bytes now left stored kept = absurd stored
   within (exits code) bytes now left stored kept = absurd stored
 
   pub taken_within : (told left : Option (List ℕ)) (now : Memory) → (is_fault end ≡ true → Stores (action p) p.memory now told left) → (does_take (action p) ≡ false → left ≡ told)

@@ -1,3 +1,4 @@
+pub mod Advanced
 pub mod Breaks
 pub mod CallLaws
 pub mod Composed

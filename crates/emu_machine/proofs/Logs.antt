@@ -9,7 +9,7 @@ use Rattle.emu_machine.proofs.Runs.{LeadsRun, LedRun, Ran, ran_at}
 
 -- ---- the equations
 
-last_none : (l : List Access) (m : Parts) (input : List ℕ) → last_accesses l m input 0 ≡ l
+pub last_none : (l : List Access) (m : Parts) (input : List ℕ) → last_accesses l m input 0 ≡ l
 unfolding last_accesses
 last_none l m input = refl
 
@@ -23,11 +23,11 @@ unfolding last_accesses
 last_over l m input zero over = refl
 last_over l m input (suc k) over = ap (λ (b : Bool). if b then last_accesses (accesses m) (turn m input).parts (turn m input).input k else l) over
 
-log_one : (l : List Access) (m : Parts) (input : List ℕ) (budget : ℕ) → is_none m.ended ≡ true → m.steps < budget
+pub log_one : (l : List Access) (m : Parts) (input : List ℕ) (budget : ℕ) → is_none m.ended ≡ true → m.steps < budget
     → run_accesses l m input budget ≡ last_accesses (accesses m) (turn m input).parts (turn m input).input (budget - (m.steps + 1))
 log_one l m input budget going below = let e : budget - m.steps ≡ suc (budget - (m.steps + 1)) = omega arith in rw e (last_one l m input _ going)
 
-log_spent : (l : List Access) (m : Parts) (input : List ℕ) (budget : ℕ) → budget ≤ m.steps → run_accesses l m input budget ≡ l
+pub log_spent : (l : List Access) (m : Parts) (input : List ℕ) (budget : ℕ) → budget ≤ m.steps → run_accesses l m input budget ≡ l
 log_spent l m input budget over = let e : budget - m.steps ≡ 0 = omega arith in rw e (last_none l m input)
 
 -- ---- what the log of a run has come to

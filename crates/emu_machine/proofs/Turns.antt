@@ -1,50 +1,59 @@
 -- The turn of a step, by its fetch and its instruction.
-use Rattle.std.proofs.Common.{◌≡◌, ℕ, ◌%◌, Bool, List, [], Option, Some, None, Ok, MatchOption, refl, ap, sym, ◌∙◌, eq-eqb, if◌then◌else◌}
+use Rattle.std.proofs.Common.{◌≡◌, ℕ, ◌%◌, Bool, true, List, [], Option, Some, None, Ok, MatchOption, refl, ap, sym, ◌∙◌, eq-eqb, if◌then◌else◌}
 use Rattle.emu_model.specs.declared.access.Kind.{Kind}
 use Rattle.emu_model.specs.declared.access.Kind.TheVariants.{Fetch}
-use Rattle.emu_model.specs.declared.trap.TrapKind.TheVariants.{PcAlign}
+use Rattle.emu_model.specs.declared.trap.TrapKind.TheVariants.{PcAlign, Undefined}
 use Rattle.emu_model.specs.Access.{done_unless, refused, value}
 use Rattle.emu_model.specs.State.{Parts}
 use Rattle.emu_run.specs.declared.insn.Insn.{Insn}
 use Rattle.emu_run.specs.Step.{accesses, decode, executed, executed_accesses, fetched, fetched_accesses, trapped, turn}
 use Rattle.emu_system.specs.SystemCall.{call, quiet}
 use Rattle.emu_machine.specs.declared.ends.StepEnd.{StepEnd}
+use Rattle.emu_machine.specs.Machines.{is_at_call, is_svc}
 
 -- an access that was done
 pub done_is : (o : Option ℕ) (kind : Kind) (x y : ℕ) → Ok x ≡ done_unless o kind y → (o ≡ None) × (x ≡ y)
 done_is None kind x y is = (refl, cc)
 done_is (Some a) kind x y is = cc
 
--- the word at the program counter was fetched, and is this instruction
-pub record HasFetched (m : Parts) (word : ℕ) (insn : Insn) : Type 0 where
+-- the word at the program counter was fetched
+pub record HasFetched (m : Parts) (word : ℕ) : Type 0 where
   pub aligned : m.core.pc % 4 ≡ 0
   pub done : Ok word ≡ done_unless (refused m.memory m.core.pc 4 Fetch) Fetch (value m.memory m.core.pc 4)
-  pub decoded : Some insn ≡ decode word
 
-fetched_insn : (m : Parts) (word : ℕ) (insn : Insn) → HasFetched m word insn → (refused m.memory m.core.pc 4 Fetch ≡ None) × (decode (value m.memory m.core.pc 4) ≡ Some insn)
-fetched_insn m word insn has =
-    let d = done_is (refused m.memory m.core.pc 4 Fetch) Fetch word (value m.memory m.core.pc 4) has.done in
-    (d.0, ap decode (sym d.1) ∙ sym has.decoded)
+module _ (m : Parts) (word : ℕ) (has : HasFetched m word) where
+  fetched_word : (refused m.memory m.core.pc 4 Fetch ≡ None) × (word ≡ value m.memory m.core.pc 4)
+  fetched_word = done_is (refused m.memory m.core.pc 4 Fetch) Fetch word (value m.memory m.core.pc 4) has.done
 
-pub turn_executes : (m : Parts) (word : ℕ) (insn : Insn) → HasFetched m word insn → (input : List ℕ) → turn m input ≡ executed m input (Some insn)
-turn_executes m word insn has input =
-    let is = fetched_insn m word insn has in
-    ap (λ (b : Bool). if b then fetched m input (refused m.memory m.core.pc 4 Fetch) else quiet (trapped m PcAlign m.core.pc) input) (eq-eqb (m.core.pc % 4) 0 has.aligned)
-    ∙ ap (λ (o : Option ℕ). fetched m input o) is.0
-    ∙ ap (λ (i : Option Insn). executed m input i) is.1
+  -- a turn does the instruction of the word
+  pub turn_executes : (input : List ℕ) → turn m input ≡ executed m input (decode word)
+  turn_executes input =
+      ap (λ (b : Bool). if b then fetched m input (refused m.memory m.core.pc 4 Fetch) else quiet (trapped m PcAlign m.core.pc) input) (eq-eqb (m.core.pc % 4) 0 has.aligned)
+      ∙ ap (λ (o : Option ℕ). fetched m input o) fetched_word.0
+      ∙ ap (λ (w : ℕ). executed m input (decode w)) (sym fetched_word.1)
 
-pub accesses_of_insn : (m : Parts) (word : ℕ) (insn : Insn) → HasFetched m word insn → executed_accesses m (Some insn) ≡ accesses m
-accesses_of_insn m word insn has =
-    let is = fetched_insn m word insn has in
-    sym (
-    ap (λ (b : Bool). if b then fetched_accesses m (refused m.memory m.core.pc 4 Fetch) else []) (eq-eqb (m.core.pc % 4) 0 has.aligned)
-    ∙ ap (λ (o : Option ℕ). fetched_accesses m o) is.0
-    ∙ ap (λ (i : Option Insn). executed_accesses m i) is.1
-    )
+  pub accesses_of_word : executed_accesses m (decode word) ≡ accesses m
+  accesses_of_word = sym (
+      ap (λ (b : Bool). if b then fetched_accesses m (refused m.memory m.core.pc 4 Fetch) else []) (eq-eqb (m.core.pc % 4) 0 has.aligned)
+      ∙ ap (λ (o : Option ℕ). fetched_accesses m o) fetched_word.0
+      ∙ ap (λ (w : ℕ). executed_accesses m (decode w)) (sym fetched_word.1)
+      )
+
+  pub call_of_word : is_svc (decode word) ≡ is_at_call m
+  call_of_word = ap (λ (w : ℕ). is_svc (decode w)) fetched_word.1
 
 -- a turn that does an instruction leaves what the instruction leaves
-pub executed_as : (r : Option StepEnd) (insn : Insn) (m n p : Parts) → n ≡ m → ((input : List ℕ) → turn m input ≡ executed m input (Some insn))
-    → MatchOption r ((input : List ℕ) → executed n input (Some insn) ≡ call n input) (λ _. (input : List ℕ) → executed n input (Some insn) ≡ quiet p input)
+pub executed_as : (r : Option StepEnd) (insn : Option Insn) (m n p : Parts) → n ≡ m → ((input : List ℕ) → turn m input ≡ executed m input insn)
+    → MatchOption r ((input : List ℕ) → executed n input insn ≡ call n input) (λ _. (input : List ℕ) → executed n input insn ≡ quiet p input)
     → MatchOption r ((input : List ℕ) → turn m input ≡ call m input) (λ _. (input : List ℕ) → turn m input ≡ quiet p input)
-executed_as None insn m n p same turns is = λ input. turns input ∙ ap (λ (x : Parts). executed x input (Some insn)) (sym same) ∙ is input ∙ ap (λ (x : Parts). call x input) same
-executed_as (Some end) insn m n p same turns is = λ input. turns input ∙ ap (λ (x : Parts). executed x input (Some insn)) (sym same) ∙ is input
+executed_as None insn m n p same turns is = λ input. turns input ∙ ap (λ (x : Parts). executed x input insn) (sym same) ∙ is input ∙ ap (λ (x : Parts). call x input) same
+executed_as (Some end) insn m n p same turns is = λ input. turns input ∙ ap (λ (x : Parts). executed x input insn) (sym same) ∙ is input
+
+-- a call is one along an equation of tests
+pub call_as : (r : Option StepEnd) (a b : Bool) (q : StepEnd → Type 0) → a ≡ b → MatchOption r (a ≡ true) q → MatchOption r (b ≡ true) q
+call_as None a b q e is = sym e ∙ is
+call_as (Some end) a b q e is = is
+
+-- a word that is in no row
+pub undefined_as : (m n : Parts) (word : ℕ) → decode word ≡ None → n ≡ trapped m Undefined m.core.pc → (input : List ℕ) → executed m input (decode word) ≡ quiet n input
+undefined_as m n word none is input = ap (λ (i : Option Insn). executed m input i) none ∙ ap (λ (p : Parts). quiet p input) (sym is)

@@ -1,4 +1,5 @@
 pub mod Accesses
+pub mod Advances
 pub mod Ends
 pub mod Layouts
 pub mod Loads

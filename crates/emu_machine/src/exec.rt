@@ -60,8 +60,8 @@ fn perform_a64(
     }
 }
 
-/// Does an SVE instruction. It isn't inlined into the step, which then keeps the form of an A64 instruction in registers.
-#[inline(never)]
+/// Does an SVE instruction.
+#[inline(always)]
 #[tactic(auto, using(sve_effects::specs::Pages::others_are_first_fault))]
 fn perform_sve(
     core: &mut Core,

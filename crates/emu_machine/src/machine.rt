@@ -1,12 +1,14 @@
 //! The machine, its step and its run.
-ghost use Rattle.std.specs.Prelude.{◌≡◌, ◌<◌, ◌≤◌, ◌+◌, ◌-◌, ◌^◌, List, [], ℕ, IfSome, MatchOption, Some, None, is_none, true, false};
+ghost use Rattle.std.specs.Prelude.{◌≡◌, ◌<◌, ◌≤◌, ◌+◌, ◌-◌, ◌^◌, List, [], ℕ, ⊤, IfSome, MatchOption, Some, None, is_none, true, false};
 ghost use Rattle.io_gate.specs.Streams.{Causes};
+ghost use Rattle.emu_bits.specs.Fields.{field};
 ghost use Rattle.emu_model.specs.State.{IsSoundBreak};
 ghost use Rattle.emu_system.specs.Start.{with_input};
 ghost use Rattle.emu_run.specs.Run as runs;
 ghost use Rattle.emu_run.specs.Step as model;
 ghost use Rattle.emu_system.specs.SystemCall.{call, quiet, went_on};
 ghost use Rattle.emu_machine.specs.Accesses.{run_accesses};
+ghost use Rattle.emu_machine.specs.Advances.{Advances};
 ghost use Rattle.linux_calls.specs.Names.{NamesRead};
 ghost use Rattle.emu_machine.specs.Ends.{step_end, run_end, run_end_of, is_undone, is_unput, is_broken_off, Becomes, OfStep, TakesWithin, Puts, PutsAlways, IsKept};
 ghost use Rattle.emu_machine.specs.Machines.{has_ended, is_at_call, is_svc, MakesRead, MakesWrite};
@@ -16,7 +18,7 @@ use crate::exec::perform;
 use core_regs::{Core, Effect};
 use emu_model::{Break, Ended, Kind, Trap, TrapKind};
 use guest_mem::{Access, AccessLog, Mem};
-use insn_decode::{Insn, decode_at};
+use insn_decode::{Insn, decode_a64_word, decode_sve_word, may_be_sve};
 use io_gate::{Sink, Source};
 use std::marker::Model;
 use vec_regs::VecRegs;
@@ -163,13 +165,39 @@ impl Machine {
             Err(denied) => return Some(self.trap(TrapKind::Fetch, denied.address)),
             Ok(word) => word as u32,
         };
-        match decode_at::<Machine>(word) {
+        if may_be_sve(word) {
+            return self.vector(word);
+        }
+        match decode_a64_word::<Machine>(word) {
             None => Some(self.trap(TrapKind::Undefined, pc)),
-            Some(insn) => self.execute(&insn),
+            Some(insn) => self.execute(&Insn::A64(insn)),
+        }
+    }
+
+    /// Does the instruction of a word that may be in a row of SVE. It isn't inlined, so that no form of SVE is in the loop.
+    #[inline(never)]
+    fn vector(&mut self, word: u32) -> Option<StepEnd>
+        requires going { has_ended self.old ≡ false }
+        requires room { self.old.parts.steps < 2 ^ 64 - 1 }
+        requires clear { self.old.accesses ≡ [] }
+        requires word { field word 27 2 ≡ 0 }
+        ensures turn { MatchOption result ((input : List ℕ) → model.executed self.old.parts input (model.decode word) ≡ call self.old.parts input) (λ _. (input : List ℕ) → model.executed self.old.parts input (model.decode word) ≡ quiet self.new.parts input) }
+        ensures kept { MatchOption result (self.new ≡ self.old) (λ _. self.new.failed ≡ false) }
+        ensures svc { MatchOption result (is_svc (model.decode word) ≡ true) (λ end. end ≡ step_end self.new.parts.ended) }
+        ensures counted { IfSome result (λ end. end ≡ StepEnd.Going → self.new.parts.steps ≡ self.old.parts.steps + 1) }
+        ensures accesses { self.new.accesses ≡ model.executed_accesses self.old.parts (model.decode word) }
+    {
+        match decode_sve_word(word) {
+            None => {
+                let pc = self.core.pc();
+                Some(self.trap(TrapKind::Undefined, pc))
+            }
+            Some(insn) => self.execute(&Insn::Sve(insn)),
         }
     }
 
     /// Does an instruction that isn't a call. None asks for the call, with nothing changed.
+    #[inline(always)]
     fn execute(&mut self, insn: &Insn) -> Option<StepEnd>
         requires going { has_ended self.old ≡ false }
         requires room { self.old.parts.steps < 2 ^ 64 - 1 }
@@ -236,11 +264,49 @@ impl Machine {
         ensures write_named { result ≡ StepEnd.WriteFault → MakesWrite self.old.parts 1 }
         ensures errors_named { result ≡ StepEnd.ErrorsFault → MakesWrite self.old.parts 2 }
     {
-        self.log.clear();
-        match self.plain() {
+        match self.once() {
             Some(end) => end,
             None => self.call(input, output, errors),
         }
+    }
+
+    /// Takes steps until one is a call, `until` steps are counted in all, or one ends the machine. None asks for the call, with its step
+    /// not begun; `Going` says that the budget is spent.
+    #[inline(never)]
+    fn advance(&mut self, until: u64) -> Option<StepEnd>
+        requires going { has_ended self.old ≡ false }
+        requires within { self.old.parts.steps < until }
+        ensures steps { Advances until self.old self.new result }
+        ensures failed { self.new.failed ≡ false }
+        ensures going { MatchOption result (has_ended self.new ≡ false) (λ _. ⊤) }
+        ensures below { MatchOption result (self.new.parts.steps < until) (λ _. ⊤) }
+    {
+        while self.steps < until {
+            self.log.clear();
+            match self.plain() {
+                None => return None,
+                Some(end) => match end {
+                    StepEnd::Going => {}
+                    end => return Some(end),
+                },
+            }
+        }
+        Some(StepEnd::Going)
+    }
+
+    /// A step that isn't a call, with the log emptied. None asks for the call, with nothing else changed.
+    fn once(&mut self) -> Option<StepEnd>
+        requires going { has_ended self.old ≡ false }
+        requires room { self.old.parts.steps < 2 ^ 64 - 1 }
+        ensures turn { MatchOption result ((input : List ℕ) → model.turn self.old.parts input ≡ call self.old.parts input) (λ _. (input : List ℕ) → model.turn self.old.parts input ≡ quiet self.new.parts input) }
+        ensures kept { MatchOption result (self.new.parts ≡ self.old.parts) (λ _. self.new.failed ≡ false) }
+        ensures svc { MatchOption result (is_at_call self.old.parts ≡ true) (λ end. end ≡ step_end self.new.parts.ended) }
+        ensures counted { IfSome result (λ end. end ≡ StepEnd.Going → self.new.parts.steps ≡ self.old.parts.steps + 1) }
+        ensures accesses { self.new.accesses ≡ model.accesses self.old.parts }
+        ensures going { self.new.failed ≡ false }
+    {
+        let next = self.steps + 1;
+        self.advance(next)
     }
 
     /// Takes steps until the machine has ended or has counted `budget` steps in all, which is `Spent`.
@@ -277,9 +343,12 @@ impl Machine {
         ensures errors_named { result ≡ RunEnd.ErrorsFault → MakesWrite self.new.parts 2 }
     {
         while self.steps < budget {
-            match self.step(input, output, errors) {
-                StepEnd::Going => {}
-                end => return run_end_of(end),
+            match self.advance(budget) {
+                Some(end) => return run_end_of(end),
+                None => match self.step(input, output, errors) {
+                    StepEnd::Going => {}
+                    end => return run_end_of(end),
+                },
             }
         }
         RunEnd::Spent

@@ -55,6 +55,16 @@ impl Model for FrameArena {
     ghost invariant = { IsKept };
 }
 
+impl Frame {
+    /// Its number in the arena.
+    #[inline(always)]
+    pub fn number(&self) -> u32
+        ensures { result ≡ self.now }
+    {
+        self.number
+    }
+}
+
 impl FrameArena {
     ghost use Rattle.std.specs.Borrow.{sem};
     ghost use Rattle.frame_arena.specs.Frames.{IsLive, fresh, zeroed, Takes, Gives};
@@ -144,7 +154,17 @@ impl FrameArena {
         ensures bytes { map.get self.now.live f.now ≡ Some result.now }
         ensures length { length result.now ≡ 4096 }
     {
-        self.slots[f.number as usize].bytes()
+        self.bytes_at(f.number())
+    }
+
+    /// The same by the frame's number.
+    #[inline(always)]
+    pub fn bytes_at(&self, number: u32) -> &[u8]
+        requires { IsLive self.now number }
+        ensures bytes { map.get self.now.live number ≡ Some result.now }
+        ensures length { length result.now ≡ 4096 }
+    {
+        self.slots[number as usize].bytes()
     }
 
     /// The 4,096 bytes of a live frame, for writing. No other frame is changed.

@@ -1,20 +1,21 @@
 //! The mapped pages, and the calls that map, find and change them.
-ghost use Rattle.std.specs.Prelude.{◌≡◌, ◌≤◌, ◌<◌, ◌+◌, ◌*◌, ◌^◌, length, if◌then◌else◌, MatchOption, IfOk, IfSome, OnOk, OnErr, IsTrue, option_map, ⊤};
+ghost use Rattle.std.specs.Prelude.{◌≡◌, ◌≤◌, ◌<◌, ◌+◌, ◌*◌, ◌^◌, length, false, if◌then◌else◌, MatchOption, IfOk, IfSome, OnOk, OnErr, IsTrue, option_map, ⊤};
 ghost use Rattle.std.specs.FinMap as map;
 ghost use mathlib.Core.Option.{none};
-ghost use Rattle.emu_model.specs.Access.{page_gives};
+ghost use Rattle.emu_model.specs.Access.{gives, page_gives};
 ghost use Rattle.std.specs.Borrow.{sem, follows_so, Lends, LendsIf, Array, u8 as byte};
 ghost use Rattle.guest_pages.specs.contracts.pages.Pages.{the_row};
 ghost use Rattle.guest_pages.specs.Lending.{with_part};
 ghost use Rattle.emu_model.specs.Pages.{bytes_at, free_run, least_unmapped, mapped, protected, unmapped, with_bytes};
 ghost use Rattle.emu_model.specs.State.{IsSoundMemory};
 ghost use Rattle.guest_pages.specs.MapFault.{map_fault, protect_answer};
+ghost use Rattle.guest_pages.specs.Open.{IsOpen};
 
 use crate::cache::Cache;
 use crate::gaps::free_run;
 use crate::places::{
-    cached_place, is_mapped, look_up, mapped_place, protect_pages, remove_pages, store_page, taken,
-    unmapped_page, write_page,
+    cached_place, is_mapped, look_up, mapped_place, protect_pages, remove_pages, search_code,
+    store_page, taken, unmapped_page, write_page,
 };
 use emu_model::{Kind, Rights};
 use page_list::PageList;
@@ -112,6 +113,57 @@ impl Pages {
         match look_up(&self.list, &mut self.cache, page) {
             None => None,
             Some(i) => Some((self.list.rights(i), self.list.bytes(i))),
+        }
+    }
+
+    /// The bytes of a page that has the right for `kind`, with the look-up cache as in `seek`.
+    #[inline(always)]
+    pub fn seek_for(&mut self, page: u64, kind: Kind) -> Option<&[u8]>
+        ensures* unchanged { sem 𝓛 (follows_so the_row the_row self.entry.ghost_name none (λ _ _. ⊤) (λ m. m ≡ self.old)) }
+        ensures found { MatchOption result (page_gives (map.get self.old.pages page) kind ≡ false)
+            (λ s. IsOpen (map.get self.old.pages page) kind s.now) }
+        ensures whole { MatchOption result ⊤ (λ s. length s.now ≡ 4096) }
+    {
+        match kind {
+            Kind::Fetch => self.seek_code(page),
+            Kind::Read | Kind::Write => self.seek_data(page, kind),
+        }
+    }
+
+    /// The same by the look-up cache alone.
+    #[inline(always)]
+    fn seek_data(&mut self, page: u64, kind: Kind) -> Option<&[u8]>
+        ensures* unchanged { sem 𝓛 (follows_so the_row the_row self.entry.ghost_name none (λ _ _. ⊤) (λ m. m ≡ self.old)) }
+        ensures found { MatchOption result (page_gives (map.get self.old.pages page) kind ≡ false)
+            (λ s. IsOpen (map.get self.old.pages page) kind s.now) }
+        ensures whole { MatchOption result ⊤ (λ s. length s.now ≡ 4096) }
+    {
+        match look_up(&self.list, &mut self.cache, page) {
+            None => None,
+            Some(i) => {
+                if allows(self.list.rights(i), kind) {
+                    Some(self.list.bytes(i))
+                } else {
+                    None
+                }
+            }
+        }
+    }
+
+    /// The bytes of a page that may be fetched from: the one at hand, or else it is looked for.
+    #[inline(always)]
+    fn seek_code(&mut self, page: u64) -> Option<&[u8]>
+        ensures* unchanged { sem 𝓛 (follows_so the_row the_row self.entry.ghost_name none (λ _ _. ⊤) (λ m. m ≡ self.old)) }
+        ensures found { MatchOption result (page_gives (map.get self.old.pages page) Kind.Fetch ≡ false)
+            (λ s. IsOpen (map.get self.old.pages page) Kind.Fetch s.now) }
+        ensures whole { MatchOption result ⊤ (λ s. length s.now ≡ 4096) }
+    {
+        if self.list.is_code(page) {
+            return Some(self.list.code(page));
+        }
+        match search_code(&mut self.list, &mut self.cache, page) {
+            None => None,
+            Some(i) => Some(self.list.bytes(i)),
         }
     }
 
@@ -225,5 +277,17 @@ impl Pages {
         ensures bytes { self.new ≡ (if result then with_bytes self.old (page * 4096 + at) bytes.now else self.old) }
     {
         store_page(&mut self.list, &mut self.cache, page, at, bytes)
+    }
+}
+
+/// Whether rights allow an access.
+#[inline(always)]
+pub fn allows(rights: Rights, kind: Kind) -> bool
+    ensures { result ≡ gives rights kind }
+{
+    match kind {
+        Kind::Read => rights.r,
+        Kind::Write => rights.w,
+        Kind::Fetch => rights.x,
     }
 }

@@ -1,14 +1,17 @@
 //! The instruction that a word is, and the word of an instruction, over all tables of instructions.
 #![tactic(auto)]
 
-ghost use Rattle.std.specs.Prelude.{◌≡◌, IfSome, Some};
+ghost use Rattle.std.specs.Prelude.{◌≡◌, ◌↔◌, IfSome, IsTrue, Some};
+ghost use Rattle.emu_bits.specs.Fields.{field};
 ghost use Rattle.emu_run.specs.Step as model;
 ghost use Rattle.insn_decode.specs.OneRow.{OneRowOfAll};
 ghost use Rattle.insn_decode.specs.Words.{word_of};
 
+use a64_insn::A64;
 use a64_rows::{decode_a64_at, encode_a64};
 use emu_bits::bits;
 pub use emu_run::Insn;
+use sve_insn::Sve;
 use sve_rows::{decode_sve, encode_sve};
 
 /// The instruction that a word is. None exactly where the word is in no row of a table.
@@ -25,12 +28,39 @@ pub fn decode_at<Site>(w: u32) -> Option<Insn>
     ensures table { result ≡ model.decode w }
     ensures back { IfSome result (λ i. word_of i ≡ w) }
 {
-    // In each row of SVE bits 28 and 27 are 0, and in none of A64.
-    if bits(w, 28, 27) == 0 {
-        decode_sve(w).map(Insn::Sve)
+    if may_be_sve(w) {
+        decode_sve_word(w).map(Insn::Sve)
     } else {
-        decode_a64_at::<Site>(w).map(Insn::A64)
+        decode_a64_word::<Site>(w).map(Insn::A64)
     }
+}
+
+/// Whether bits 28 and 27 of a word are 0, as they are in each row of SVE and in none of A64.
+#[inline(always)]
+pub fn may_be_sve(w: u32) -> bool
+    ensures { IsTrue result ↔ (field w 27 2 ≡ 0) }
+{
+    bits(w, 28, 27) == 0
+}
+
+/// The instruction of a word that may be in a row of SVE. None exactly where it is in no row of a table.
+#[inline(always)]
+pub fn decode_sve_word(w: u32) -> Option<Sve>
+    requires { field w 27 2 ≡ 0 }
+    ensures table { model.sve result ≡ model.decode w }
+    ensures back { IfSome result (λ i. word_of (Insn.Sve i) ≡ w) }
+{
+    decode_sve(w)
+}
+
+/// The instruction of a word that isn't in a row of SVE, for one place of a program. None exactly where it is in no row of a table.
+#[inline(always)]
+pub fn decode_a64_word<Site>(w: u32) -> Option<A64>
+    requires { ¬ (field w 27 2 ≡ 0) }
+    ensures table { model.a64 result ≡ model.decode w }
+    ensures back { IfSome result (λ i. word_of (Insn.A64 i) ≡ w) }
+{
+    decode_a64_at::<Site>(w)
 }
 
 /// The word of an instruction: its row's base word with the fields put in.

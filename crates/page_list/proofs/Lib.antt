@@ -1,4 +1,5 @@
 pub mod Bytes
+pub mod Codes
 pub mod Held
 pub mod Lists
 pub mod Search

@@ -1,5 +1,5 @@
 -- Pages in a list, each with its number.
-use Rattle.std.specs.Prelude.{◌<◌, ◌≤◌, ℕ, zero, suc, ◌+◌, false, List, [], ◌∷◌, get_or, ⊤, refl}
+use Rattle.std.specs.Prelude.{◌≡◌, ◌<◌, ◌≤◌, ℕ, zero, suc, ◌+◌, ◌-◌, ◌^◌, true, false, List, [], ◌∷◌, length, get_or, ⊤, refl}
 use Rattle.std.specs.Coded.{Coded, code_by, coded×, coded_ℕ, coded_list}
 use Rattle.std.specs.List.{AllByRecursion}
 use Rattle.emu_model.specs.declared.access.Rights.{Rights}
@@ -10,13 +10,18 @@ use Rattle.emu_model.specs.Pages.{zeroed_page}
 abbrev pub Entry : Type 0
 Entry = ℕ × Page
 
--- the pages that are listed, and how many there may be
+-- the pages that are listed, how many there may be, and the number of the page at hand for fetches, or no page's
 pub record Listed : Type 0 where
   pub pages : List Entry
   pub limit : ℕ
+  pub code : ℕ
+
+-- no page has this number
+abbrev pub no_page : ℕ
+no_page = 2 ^ 64 - 1
 
 abbrev pub coded_listed : Coded Listed
-coded_listed = code_by (List Entry × ℕ) (coded× (coded_list (coded× coded_ℕ coded_page)) coded_ℕ) (λ l. (l.pages, l.limit)) (λ p. record { pages = p.0; limit = p.1 }) (λ _. refl)
+coded_listed = code_by (List Entry × (ℕ × ℕ)) (coded× (coded_list (coded× coded_ℕ coded_page)) (coded× coded_ℕ coded_ℕ)) (λ l. (l.pages, (l.limit, l.code))) (λ p. record { pages = p.0; limit = p.1.0; code = p.1.1 }) (λ _. refl)
 
 abbrev pub no_entry : Entry
 no_entry = (0, record { rights = record { r = false; w = false; x = false }; bytes = [] })
@@ -24,6 +29,18 @@ no_entry = (0, record { rights = record { r = false; w = false; x = false }; byt
 -- the entry at place i
 abbrev pub entry_at : List Entry → ℕ → Entry
 entry_at es i = get_or es i no_entry
+
+-- the page is at hand
+abbrev pub IsAtHand : Listed → ℕ → Type 0
+IsAtHand l page = (l.code ≡ page) × (page < no_page)
+
+-- the page is listed, may be fetched from and has these bytes
+pub record IsFetched (es : List Entry) (page : ℕ) (bytes : List ℕ) : Type 0 where
+  pub place : ℕ
+  pub within : place < length es
+  pub number : (entry_at es place).0 ≡ page
+  pub allowed : (entry_at es place).1.rights.x ≡ true
+  pub bytes_are : (entry_at es place).1.bytes ≡ bytes
 
 -- the entries with another page at place i
 abbrev pub changed_at : (Page → Page) → ℕ → List Entry → List Entry

@@ -1,9 +1,10 @@
 //! The list of pages.
-ghost use Rattle.std.specs.Prelude.{◌≡◌, ◌≤◌, ◌<◌, ◌+◌, ◌^◌, ◌++◌, [], length, take, drop, IfOk};
+ghost use Rattle.std.specs.Prelude.{◌≡◌, ◌≤◌, ◌<◌, ◌+◌, ◌^◌, ◌++◌, ◌↔◌, [], length, take, drop, true, IfOk, IsTrue};
 ghost use Rattle.std.specs.List.{AllByRecursion};
 ghost use Rattle.emu_model.specs.WithinPage.{page_with_bytes};
-ghost use Rattle.page_list.specs.Entries.{IsAscending, IsBelow, IsFrom, changed_at, entry_at, page_with_rights, zeroed_entries};
+ghost use Rattle.page_list.specs.Entries.{IsAscending, IsAtHand, IsBelow, IsFetched, IsFrom, changed_at, entry_at, no_page, page_with_rights, zeroed_entries};
 
+use crate::code::{CodePage, NO_CODE, NO_PAGE};
 use crate::slots::{
     Slot, ensure_frame, move_back, move_to_end, own_frame, page_bytes, pop_all, push_all,
     told_bytes,
@@ -19,6 +20,7 @@ pub struct PageList {
     slots: Vec<Slot>,
     arena: FrameArena,
     limit: u32,
+    code: CodePage,
 }
 
 impl Model for PageList {
@@ -40,7 +42,7 @@ impl PageList {
 
     /// No pages, with room for `limit` of them. No later call takes memory.
     pub fn new(alloc: Global, limit: u32) -> Result<PageList, OutOfMemory>
-        ensures { IfOk result (λ l. l ≡ record { pages = []; limit = limit }) }
+        ensures { IfOk result (λ l. l ≡ record { pages = []; limit = limit; code = no_page }) }
     {
         let slots = Vec::with_capacity(alloc, limit as usize)?;
         let arena = FrameArena::new(alloc, limit)?;
@@ -48,6 +50,7 @@ impl PageList {
             slots,
             arena,
             limit,
+            code: NO_CODE,
         })
     }
 
@@ -96,12 +99,47 @@ impl PageList {
         page_bytes(&self.slots[i], &self.arena)
     }
 
+    /// Whether a page is at hand, to be fetched from.
+    #[inline(always)]
+    pub fn is_code(&self, page: u64) -> bool
+        ensures { IsTrue result ↔ IsAtHand self.now page }
+    {
+        self.code.number == page && page != NO_PAGE
+    }
+
+    /// The 4,096 bytes of a page that is at hand.
+    #[inline(always)]
+    pub fn code(&self, page: u64) -> &[u8]
+        requires { IsAtHand self.now page }
+        ensures fetched { IsFetched self.now.pages page result.now }
+        ensures length { length result.now ≡ 4096 }
+    {
+        told_bytes(self.arena.bytes_at(self.code.frame))
+    }
+
+    /// Keeps the page at place `i`, which may be fetched from, at hand, where it has a frame.
+    pub fn hold_code(&mut self, i: usize)
+        requires place { i < length self.old.pages }
+        requires allowed { (entry_at self.old.pages i).1.rights.x ≡ true }
+        ensures pages { self.new.pages ≡ self.old.pages }
+        ensures limit { self.new.limit ≡ self.old.limit }
+    {
+        let slot = &self.slots[i];
+        if let Some(frame) = &slot.frame {
+            self.code = CodePage {
+                number: slot.number,
+                frame: frame.number(),
+            };
+        }
+    }
+
     /// Gives the page at place `i` other rights.
     pub fn set_rights(&mut self, i: usize, rights: Rights)
         requires { i < length self.old.pages }
         ensures pages { self.new.pages ≡ changed_at (page_with_rights rights) i self.old.pages }
         ensures limit { self.new.limit ≡ self.old.limit }
     {
+        self.code = NO_CODE;
         self.slots[i].rights = rights;
     }
 
@@ -150,6 +188,7 @@ impl PageList {
         ensures pages { self.new.pages ≡ take at self.old.pages ++ (zeroed_entries first count rights ++ drop at self.old.pages) }
         ensures limit { self.new.limit ≡ self.old.limit }
     {
+        self.code = NO_CODE;
         push_all(&mut self.slots, first, count, rights);
         move_back(&mut self.slots, at, count as usize);
     }
@@ -160,6 +199,7 @@ impl PageList {
         ensures pages { self.new.pages ≡ take at self.old.pages ++ drop count (drop at self.old.pages) }
         ensures limit { self.new.limit ≡ self.old.limit }
     {
+        self.code = NO_CODE;
         move_to_end(&mut self.slots, at, count);
         pop_all(&mut self.slots, &mut self.arena, count);
     }

@@ -4,7 +4,8 @@ ghost use Rattle.std.specs.Vec.{vec_len, vec_capacity};
 ghost use Rattle.emu_model.specs.Pages.{zeros};
 ghost use Rattle.emu_model.specs.State.{AreBytes};
 ghost use Rattle.frame_arena.specs.Frames.{IsLive};
-ghost use Rattle.page_list.specs.Slots.{AreHeld, bytes_in, entries_in, frame_at, framed, zeroed_slots};
+ghost use Rattle.page_list.specs.declared.code.CodePage.{CodePage};
+ghost use Rattle.page_list.specs.Slots.{AreHeld, IsCode, bytes_in, entries_in, frame_at, framed, zeroed_slots};
 
 use emu_model::Rights;
 use frame_arena::{Frame, FrameArena};
@@ -73,6 +74,7 @@ fn take_frame(slots: &mut Vec<Slot>, arena: &mut FrameArena, i: usize)
     requires held { AreHeld arena.old.live slots.old.items }
     ensures entries { entries_in arena.new.live slots.new.items ≡ entries_in arena.old.live slots.old.items }
     ensures frame { IsSome (frame_at slots.new.items i) }
+    ensures code { (code : CodePage) → IsCode slots.old.items code → IsCode slots.new.items code }
     ensures held { AreHeld arena.new.live slots.new.items }
     ensures spare { arena.new.spare + framed slots.new.items ≡ arena.old.spare + framed slots.old.items }
     ensures length { length slots.new.items ≡ length slots.old.items }
@@ -92,6 +94,7 @@ pub(crate) fn ensure_frame(slots: &mut Vec<Slot>, arena: &mut FrameArena, i: usi
     requires held { AreHeld arena.old.live slots.old.items }
     ensures entries { entries_in arena.new.live slots.new.items ≡ entries_in arena.old.live slots.old.items }
     ensures frame { IsSome (frame_at slots.new.items i) }
+    ensures code { (code : CodePage) → IsCode slots.old.items code → IsCode slots.new.items code }
     ensures held { AreHeld arena.new.live slots.new.items }
     ensures spare { arena.new.spare + framed slots.new.items ≡ arena.old.spare + framed slots.old.items }
     ensures length { length slots.new.items ≡ length slots.old.items }

@@ -1,7 +1,7 @@
 //! The names of the lines that have several.
 
 /// Operations of two lanes; those with an r at the end take the operands in the other order.
-#[derive(Clone, Copy, PartialEq, Eq, Debug)]
+#[derive(Clone, Copy)]
 pub enum BinaryOp {
     Add,
     Sub,
@@ -32,7 +32,7 @@ pub enum BinaryOp {
 }
 
 /// Shifts: right with the sign, right, left.
-#[derive(Clone, Copy, PartialEq, Eq, Debug)]
+#[derive(Clone, Copy)]
 pub enum ShiftOp {
     Asr,
     Lsr,
@@ -40,7 +40,7 @@ pub enum ShiftOp {
 }
 
 /// Shifts by an immediate; asrd is a signed division towards zero.
-#[derive(Clone, Copy, PartialEq, Eq, Debug)]
+#[derive(Clone, Copy)]
 pub enum ShiftImmOp {
     Asr,
     Lsr,
@@ -49,7 +49,7 @@ pub enum ShiftImmOp {
 }
 
 /// Operations of one lane: extensions, arithmetic, counts of bits, reversals.
-#[derive(Clone, Copy, PartialEq, Eq, Debug)]
+#[derive(Clone, Copy)]
 pub enum UnaryOp {
     Sxtb,
     Uxtb,
@@ -71,21 +71,21 @@ pub enum UnaryOp {
 }
 
 /// Products added to the addend's register or subtracted from it.
-#[derive(Clone, Copy, PartialEq, Eq, Debug)]
+#[derive(Clone, Copy)]
 pub enum MulAddZOp {
     Mla,
     Mls,
 }
 
 /// Products of the destination added to another register or subtracted from it.
-#[derive(Clone, Copy, PartialEq, Eq, Debug)]
+#[derive(Clone, Copy)]
 pub enum MulAddDOp {
     Mad,
     Msb,
 }
 
 /// Sums and differences, those with sq or uq before them saturating.
-#[derive(Clone, Copy, PartialEq, Eq, Debug)]
+#[derive(Clone, Copy)]
 pub enum PlainOp {
     Add,
     Sub,
@@ -96,7 +96,7 @@ pub enum PlainOp {
 }
 
 /// Logical operations; bic takes the complement of its last operand.
-#[derive(Clone, Copy, PartialEq, Eq, Debug)]
+#[derive(Clone, Copy)]
 pub enum LogicZOp {
     And,
     Orr,
@@ -105,7 +105,7 @@ pub enum LogicZOp {
 }
 
 /// The first number and the step of an index, each an immediate or a register.
-#[derive(Clone, Copy, PartialEq, Eq, Debug)]
+#[derive(Clone, Copy)]
 pub enum IndexOp {
     ImmImm,
     RegImm,
@@ -114,14 +114,14 @@ pub enum IndexOp {
 }
 
 /// Sums of four products, signed or unsigned.
-#[derive(Clone, Copy, PartialEq, Eq, Debug)]
+#[derive(Clone, Copy)]
 pub enum DotOp {
     Sdot,
     Udot,
 }
 
 /// Sums of four products, signed or unsigned, in lanes of 32 (s) or 64 bits (d).
-#[derive(Clone, Copy, PartialEq, Eq, Debug)]
+#[derive(Clone, Copy)]
 pub enum DotIndexedOp {
     SdotS,
     UdotS,
@@ -130,7 +130,7 @@ pub enum DotIndexedOp {
 }
 
 /// Sums and differences with an immediate.
-#[derive(Clone, Copy, PartialEq, Eq, Debug)]
+#[derive(Clone, Copy)]
 pub enum WideImmOp {
     Add,
     Sub,
@@ -142,7 +142,7 @@ pub enum WideImmOp {
 }
 
 /// The greater, the smaller or the product of a lane and an immediate.
-#[derive(Clone, Copy, PartialEq, Eq, Debug)]
+#[derive(Clone, Copy)]
 pub enum MinMaxImmOp {
     Smax,
     Smin,
@@ -152,7 +152,7 @@ pub enum MinMaxImmOp {
 }
 
 /// Logical operations with a bitmask, and the bitmask itself (dupm).
-#[derive(Clone, Copy, PartialEq, Eq, Debug)]
+#[derive(Clone, Copy)]
 pub enum BitmaskZOp {
     Orr,
     Eor,
@@ -161,7 +161,7 @@ pub enum BitmaskZOp {
 }
 
 /// Folds over the active lanes.
-#[derive(Clone, Copy, PartialEq, Eq, Debug)]
+#[derive(Clone, Copy)]
 pub enum ReduceOp {
     Saddv,
     Uaddv,
@@ -175,14 +175,14 @@ pub enum ReduceOp {
 }
 
 /// A count added or subtracted.
-#[derive(Clone, Copy, PartialEq, Eq, Debug)]
+#[derive(Clone, Copy)]
 pub enum IncOp {
     Inc,
     Dec,
 }
 
 /// A count added or subtracted with saturation, signed (sq) or unsigned (uq).
-#[derive(Clone, Copy, PartialEq, Eq, Debug)]
+#[derive(Clone, Copy)]
 pub enum SatOp {
     Sqinc,
     Uqinc,
@@ -191,21 +191,21 @@ pub enum SatOp {
 }
 
 /// Multiples of the bytes of a vector register (addvl) or of a predicate register (addpl).
-#[derive(Clone, Copy, PartialEq, Eq, Debug)]
+#[derive(Clone, Copy)]
 pub enum AddLengthOp {
     Addvl,
     Addpl,
 }
 
 /// Lane 0 from a general (r) or a vector register (v).
-#[derive(Clone, Copy, PartialEq, Eq, Debug)]
+#[derive(Clone, Copy)]
 pub enum InsertOp {
     InsrR,
     InsrV,
 }
 
 /// The low or the high half's lanes, extended signed or unsigned.
-#[derive(Clone, Copy, PartialEq, Eq, Debug)]
+#[derive(Clone, Copy)]
 pub enum UnpackOp {
     Sunpklo,
     Sunpkhi,
@@ -214,7 +214,7 @@ pub enum UnpackOp {
 }
 
 /// Lanes in turn, even or odd lanes, even or odd lanes in turn.
-#[derive(Clone, Copy, PartialEq, Eq, Debug)]
+#[derive(Clone, Copy)]
 pub enum InterleaveOp {
     Zip1,
     Zip2,
@@ -225,21 +225,21 @@ pub enum InterleaveOp {
 }
 
 /// The low or the high half's bits.
-#[derive(Clone, Copy, PartialEq, Eq, Debug)]
+#[derive(Clone, Copy)]
 pub enum UnpackPOp {
     Punpklo,
     Punpkhi,
 }
 
 /// Lanes from a general (r) or a vector register (v).
-#[derive(Clone, Copy, PartialEq, Eq, Debug)]
+#[derive(Clone, Copy)]
 pub enum CopyRegOp {
     CpyR,
     CpyV,
 }
 
 /// The lane after the last active one or that one, to a general (r) or a vector register (v).
-#[derive(Clone, Copy, PartialEq, Eq, Debug)]
+#[derive(Clone, Copy)]
 pub enum LastOp {
     LastaR,
     LastbR,
@@ -248,7 +248,7 @@ pub enum LastOp {
 }
 
 /// The lane after the last active one or that one, where one is active, to a general (r) or a vector register (v), or to each lane (z).
-#[derive(Clone, Copy, PartialEq, Eq, Debug)]
+#[derive(Clone, Copy)]
 pub enum CondLastOp {
     ClastaR,
     ClastbR,
@@ -259,7 +259,7 @@ pub enum CondLastOp {
 }
 
 /// Comparisons of lanes: hs and hi unsigned, ge and gt signed.
-#[derive(Clone, Copy, PartialEq, Eq, Debug)]
+#[derive(Clone, Copy)]
 pub enum CmpVecOp {
     Cmphs,
     Cmphi,
@@ -270,7 +270,7 @@ pub enum CmpVecOp {
 }
 
 /// Comparisons with 64-bit lanes: those from cmphs on unsigned.
-#[derive(Clone, Copy, PartialEq, Eq, Debug)]
+#[derive(Clone, Copy)]
 pub enum CmpWideOp {
     Cmpeq,
     Cmpne,
@@ -285,7 +285,7 @@ pub enum CmpWideOp {
 }
 
 /// Comparisons with an unsigned immediate.
-#[derive(Clone, Copy, PartialEq, Eq, Debug)]
+#[derive(Clone, Copy)]
 pub enum CmpUImmOp {
     Cmphs,
     Cmphi,
@@ -294,7 +294,7 @@ pub enum CmpUImmOp {
 }
 
 /// Comparisons with a signed immediate.
-#[derive(Clone, Copy, PartialEq, Eq, Debug)]
+#[derive(Clone, Copy)]
 pub enum CmpSImmOp {
     Cmpge,
     Cmpgt,
@@ -305,7 +305,7 @@ pub enum CmpSImmOp {
 }
 
 /// Logical operations of predicates.
-#[derive(Clone, Copy, PartialEq, Eq, Debug)]
+#[derive(Clone, Copy)]
 pub enum LogicPOp {
     And,
     Bic,
@@ -317,49 +317,49 @@ pub enum LogicPOp {
 }
 
 /// Breaks after (a) and before (b) the first set bit.
-#[derive(Clone, Copy, PartialEq, Eq, Debug)]
+#[derive(Clone, Copy)]
 pub enum BreakOp {
     Brka,
     Brkb,
 }
 
 /// Breaks after (a) and before (b) the first set bit, going on from another predicate.
-#[derive(Clone, Copy, PartialEq, Eq, Debug)]
+#[derive(Clone, Copy)]
 pub enum BreakPairOp {
     Brkpa,
     Brkpb,
 }
 
 /// The lanes of a pattern; ptrues sets the flags.
-#[derive(Clone, Copy, PartialEq, Eq, Debug)]
+#[derive(Clone, Copy)]
 pub enum PtrueOp {
     Ptrue,
     Ptrues,
 }
 
 /// FFR under a predicate; rdffrs sets the flags.
-#[derive(Clone, Copy, PartialEq, Eq, Debug)]
+#[derive(Clone, Copy)]
 pub enum ReadFfrOp {
     Rdffr,
     Rdffrs,
 }
 
 /// FFR set to all ones, or to a predicate.
-#[derive(Clone, Copy, PartialEq, Eq, Debug)]
+#[derive(Clone, Copy)]
 pub enum WriteFfrOp {
     Setffr,
     Wrffr,
 }
 
 /// The number of set lanes added or subtracted.
-#[derive(Clone, Copy, PartialEq, Eq, Debug)]
+#[derive(Clone, Copy)]
 pub enum IncPOp {
     Incp,
     Decp,
 }
 
 /// Comparisons of a loop's counter: signed (lt, le), unsigned (lo, ls).
-#[derive(Clone, Copy, PartialEq, Eq, Debug)]
+#[derive(Clone, Copy)]
 pub enum WhileOp {
     Whilelt,
     Whilele,
@@ -368,14 +368,14 @@ pub enum WhileOp {
 }
 
 /// The end of a loop where two registers are equal, or different.
-#[derive(Clone, Copy, PartialEq, Eq, Debug)]
+#[derive(Clone, Copy)]
 pub enum CtermOp {
     Ctermeq,
     Ctermne,
 }
 
 /// Loads of two, three or four registers.
-#[derive(Clone, Copy, PartialEq, Eq, Debug)]
+#[derive(Clone, Copy)]
 pub enum LoadManyOp {
     Ld2,
     Ld3,
@@ -383,7 +383,7 @@ pub enum LoadManyOp {
 }
 
 /// Stores of two, three or four registers.
-#[derive(Clone, Copy, PartialEq, Eq, Debug)]
+#[derive(Clone, Copy)]
 pub enum StoreManyOp {
     St2,
     St3,

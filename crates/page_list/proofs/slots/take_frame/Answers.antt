@@ -6,6 +6,7 @@ use Rattle.page_list.specs.declared.slots.Slot.{Slot}
 use Rattle.page_list.specs.Bytes.{as_bytes}
 use Rattle.page_list.specs.Slots.{AreHeld, entries_in, no_slot}
 use Rattle.page_list.proofs.Bytes.{as_bytes-zeros}
+use Rattle.page_list.proofs.Codes.{code_taken}
 use Rattle.page_list.proofs.Held.{slot_there, framed_less, entries-taken, held-taken}
 use Rattle.page_list.proofs.slots.take_frame.Goals as goal
 
@@ -27,6 +28,11 @@ returns-clause-entries c =
     let bare : x.frame ≡ None = ap (λ (t : Slot). t.frame) (at ∙ get_or_default ss i x no_slot l) ∙ c.requires.none in
     ap (λ (m : Live). entries_in m (set ss i s)) c.in-Some.ensures.2
     ∙ entries-taken ss i x l at bare c.args.arena.now.live k zeroed c.requires.held c.in-Some.ensures.0 zeroed_is
+
+pub returns-clause-code : goal.returns-clause-code
+returns-clause-code c =
+    let x = c.index_mut.result.now in
+    code_taken c.args.slots.now.items c.args.i (record { number = x.number; rights = x.rights; frame = Some c.in-Some.frame }) c.requires.none
 
 pub returns-clause-held : goal.returns-clause-held
 returns-clause-held c =

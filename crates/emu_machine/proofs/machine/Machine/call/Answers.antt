@@ -1,7 +1,7 @@
 use Rattle.std.proofs.Common.{◌≡◌, Some, None, ap, ◌∙◌}
 use Rattle.emu_model.specs.State.{Parts}
 use Rattle.emu_machine.specs.Machines.{MachineState}
-use Rattle.emu_machine.proofs.CallLaws.{end_made, errors_made, not_ended, output_made, parts_made, taken_within}
+use Rattle.emu_machine.proofs.CallLaws.{end_made, errors_made, not_ended, output_made, parts_made, state_made, taken_within}
 use Rattle.emu_machine.proofs.machine.Machine.call.Goals as goal
 
 abbrev before : (g : _) → goal.After-leave g → Parts
@@ -9,6 +9,12 @@ before g c = let i = c.self.inside in record { core = i.core; vectors = i.vec; m
 
 going : (g : _) (c : goal.After-leave g) → (before g c).ended ≡ None
 going g c = ap (λ (s : MachineState). s.parts.ended) c.self.view_is ∙ not_ended c.args.self.now.parts.ended c.args.self.now.failed c.requires.going
+
+pub returns-clause-state : goal.returns-clause-state
+returns-clause-state g c =
+    state_made c.call-end.result c.leave.result (before g c) c.args.self.now.parts c.leave.ensures.end (ap (λ (s : MachineState). s.parts) c.self.view_is)
+    c.call-end.new.core c.call-end.new.vec c.call-end.new.mem c.call-end.new.brk c.leave.new.self.parts (going g c) c.leave.ensures.parts (g.I.Source.left c.args.input.now) (g.I.Source.left c.call-end.new.input)
+    c.call-end.ensures.state c.call-end.ensures.input
 
 pub returns-clause-machine : goal.returns-clause-machine
 returns-clause-machine g c =

@@ -1,33 +1,79 @@
-use Rattle.std.proofs.Common.{◌≡◌, Some, ap, sym, ◌∙◌, arith}
+use Rattle.std.proofs.Common.{◌≡◌, ℕ, ◌%◌, Some, Option, Ok, ap, sym, ◌∙◌, arith}
 use Rattle.emu_model.specs.Access.{Memory, done_unless, refused, value}
 use Rattle.emu_model.specs.declared.access.Kind.TheVariants.{Fetch}
-use Rattle.emu_model.specs.State.{Parts}
-use Rattle.emu_run.specs.Step.{executed_accesses}
-use Rattle.emu_machine.specs.Machines.{MachineState}
-use Rattle.emu_machine.proofs.Performed.{machine_of}
-use Rattle.emu_machine.proofs.Turns.{HasFetched, turn_executes, accesses_of_insn, executed_as}
-use Rattle.emu_machine.proofs.machine.Machine.plain.Goals.{After-execute}
+use Rattle.emu_model.specs.declared.program_break.Break.{Break}
+use Rattle.emu_model.specs.declared.trap.Ended.{Ended}
+use Rattle.emu_model.specs.State.{Core, Parts, Vectors}
+use Rattle.emu_run.specs.declared.insn.Insn.{Insn}
+use Rattle.emu_run.specs.declared.insn.Insn.TheVariants.{A64}
+use Rattle.emu_run.specs.Step.{a64, decode, executed, executed_accesses}
+use Rattle.emu_machine.specs.Ends.{step_end}
+use Rattle.emu_machine.specs.Machines.{MachineState, is_at_call, is_svc}
+use Rattle.emu_machine.proofs.Turns.{HasFetched, turn_executes, accesses_of_word, call_of_word, call_as, executed_as}
+use Rattle.emu_machine.proofs.machine.Machine.plain.Goals.{After-vector, After-execute}
 use Rattle.emu_machine.proofs.machine.Machine.plain.Goals as goal
 
-has_fetched : (c : After-execute) → HasFetched c.args.self.now.parts c.in-Ok.word c.in-Some.insn
-has_fetched c = let i = c.self.inside in record {
-  aligned = let e = c.self.view_is in let p = c.pc-pc.ensures.value in grind arith;
-  done = sym c.in-Ok.is ∙ c.load.ensures.value ∙ ap (λ pc. done_unless (refused i.memory pc 4 Fetch) Fetch (value i.memory pc 4)) c.pc-pc.ensures.value
-      ∙ ap (λ (s : MachineState). done_unless (refused s.parts.memory s.parts.core.pc 4 Fetch) Fetch (value s.parts.memory s.parts.core.pc 4)) c.self.view_is;
-  decoded = sym c.in-Some.is ∙ c.decode_at.ensures.table;
+fetched_at : (core : Core) (memory : Memory) (m : Parts) (pc word : ℕ) → core ≡ m.core → memory ≡ m.memory → pc ≡ core.pc → m.core.pc % 4 ≡ 0 → Ok word ≡ done_unless (refused memory pc 4 Fetch) Fetch (value memory pc 4) → HasFetched m word
+fetched_at core memory m pc word same_core same_memory at aligned is = record {
+  aligned = aligned;
+  done = is
+      ∙ ap (λ (p : ℕ). done_unless (refused memory p 4 Fetch) Fetch (value memory p 4)) (at ∙ ap (λ (c : Core). c.pc) same_core)
+      ∙ ap (λ (x : Memory). done_unless (refused x m.core.pc 4 Fetch) Fetch (value x m.core.pc 4)) same_memory;
 }
 
--- the machine that does the instruction is the one that fetched it
-same_parts : (c : After-execute) → (machine_of c.self.inside.core c.self.inside.vec c.load.new.self c.self.inside.brk c.self.inside.steps c.self.inside.ended c.self.inside.log.items c.self.inside.failed).parts ≡ c.args.self.now.parts
-same_parts c =
+-- a fetch leaves the machine as it was
+fetched_parts : (core : Core) (vectors : Vectors) (memory n : Memory) (brk : Break) (steps : ℕ) (ended : Option Ended) (m : Parts) → n ≡ memory
+    → record { core = core; vectors = vectors; memory = memory; brk = brk; steps = steps; ended = ended } ≡ m → record { core = core; vectors = vectors; memory = n; brk = brk; steps = steps; ended = ended } ≡ m
+fetched_parts core vectors memory n brk steps ended m same is = ap (λ (x : Memory). record { core = core; vectors = vectors; memory = x; brk = brk; steps = steps; ended = ended }) same ∙ is
+
+-- ---- a word that may be of SVE
+
+fetched_v : (c : After-vector) → HasFetched c.args.self.now.parts c.in-Ok.word
+fetched_v c =
+    let e = c.self.view_is in let p = c.pc-pc.ensures.value in
+    fetched_at c.self.inside.core c.self.inside.memory c.args.self.now.parts c.pc-pc.result c.in-Ok.word (ap (λ (s : MachineState). s.parts.core) e) (ap (λ (s : MachineState). s.parts.memory) e) p (grind arith) (sym c.in-Ok.is ∙ c.load.ensures.value)
+
+same_v : (c : After-vector) → record { core = c.self.inside.core; vectors = c.self.inside.vec; memory = c.load.new.self; brk = c.self.inside.brk; steps = c.self.inside.steps; ended = c.self.inside.ended } ≡ c.args.self.now.parts
+same_v c =
     let i = c.self.inside in
-    ap (λ (memory : Memory). record { core = i.core; vectors = i.vec; memory = memory; brk = i.brk; steps = i.steps; ended = i.ended }) c.load.ensures.unchanged
-    ∙ ap (λ (s : MachineState). s.parts) c.self.view_is
+    fetched_parts i.core i.vec i.memory c.load.new.self i.brk i.steps i.ended c.args.self.now.parts c.load.ensures.unchanged (ap (λ (s : MachineState). s.parts) c.self.view_is)
+
+pub returns-then-may_be_sve-clause-turn : goal.returns-then-may_be_sve-clause-turn
+returns-then-may_be_sve-clause-turn c =
+    executed_as c.vector.result (decode c.in-Ok.word) c.args.self.now.parts _ _ (same_v c) (turn_executes c.args.self.now.parts c.in-Ok.word (fetched_v c)) c.vector.ensures.turn
+
+pub returns-then-may_be_sve-clause-svc : goal.returns-then-may_be_sve-clause-svc
+returns-then-may_be_sve-clause-svc c =
+    call_as c.vector.result (is_svc (decode c.in-Ok.word)) (is_at_call c.args.self.now.parts) (λ end. end ≡ step_end c.vector.new.self.parts.ended) (call_of_word c.args.self.now.parts c.in-Ok.word (fetched_v c)) c.vector.ensures.svc
+
+pub returns-then-may_be_sve-clause-accesses : goal.returns-then-may_be_sve-clause-accesses
+returns-then-may_be_sve-clause-accesses c =
+    c.vector.ensures.accesses ∙ ap (λ (m : Parts). executed_accesses m (decode c.in-Ok.word)) (same_v c) ∙ accesses_of_word c.args.self.now.parts c.in-Ok.word (fetched_v c)
+
+-- ---- an A64 instruction
+
+fetched_e : (c : After-execute) → HasFetched c.args.self.now.parts c.in-Ok.word
+fetched_e c =
+    let e = c.self.view_is in let p = c.pc-pc.ensures.value in
+    fetched_at c.self.inside.core c.self.inside.memory c.args.self.now.parts c.pc-pc.result c.in-Ok.word (ap (λ (s : MachineState). s.parts.core) e) (ap (λ (s : MachineState). s.parts.memory) e) p (grind arith) (sym c.in-Ok.is ∙ c.load.ensures.value)
+
+same_e : (c : After-execute) → record { core = c.self.inside.core; vectors = c.self.inside.vec; memory = c.load.new.self; brk = c.self.inside.brk; steps = c.self.inside.steps; ended = c.self.inside.ended } ≡ c.args.self.now.parts
+same_e c =
+    let i = c.self.inside in
+    fetched_parts i.core i.vec i.memory c.load.new.self i.brk i.steps i.ended c.args.self.now.parts c.load.ensures.unchanged (ap (λ (s : MachineState). s.parts) c.self.view_is)
+
+insn_is : (c : After-execute) → Some (A64 c.in-Some.insn) ≡ decode c.in-Ok.word
+insn_is c = ap a64 (sym c.in-Some.is) ∙ c.decode_a64_word.ensures.table
 
 pub returns-in-Some-clause-turn : goal.returns-in-Some-clause-turn
 returns-in-Some-clause-turn c =
-    executed_as c.execute.result c.in-Some.insn c.args.self.now.parts _ _ (same_parts c) (turn_executes c.args.self.now.parts c.in-Ok.word c.in-Some.insn (has_fetched c)) c.execute.ensures.turn
+    let p = c.args.self.now.parts in
+    executed_as c.execute.result (Some (A64 c.in-Some.insn)) p _ _ (same_e c) (λ input. turn_executes p c.in-Ok.word (fetched_e c) input ∙ ap (λ (i : Option Insn). executed p input i) (sym (insn_is c))) c.execute.ensures.turn
 
 pub returns-in-Some-clause-accesses : goal.returns-in-Some-clause-accesses
 returns-in-Some-clause-accesses c =
-    c.execute.ensures.accesses ∙ ap (λ (m : Parts). executed_accesses m (Some c.in-Some.insn)) (same_parts c) ∙ accesses_of_insn c.args.self.now.parts c.in-Ok.word c.in-Some.insn (has_fetched c)
+    let p = c.args.self.now.parts in
+    c.execute.ensures.accesses
+    ∙ ap (λ (m : Parts). executed_accesses m (Some (A64 c.in-Some.insn))) (same_e c)
+    ∙ ap (λ (i : Option Insn). executed_accesses p i) (insn_is c)
+    ∙ accesses_of_word p c.in-Ok.word (fetched_e c)

@@ -11,6 +11,7 @@ use Rattle.emu_machine.proofs.Logs.{Logs, logs_start, logs_on, logs_end, logs_as
 use Rattle.emu_machine.proofs.Stands.{stands_start, stands_on, stands_there, kept_there}
 use Rattle.emu_machine.proofs.Composed.{leads_start}
 use Rattle.emu_machine.proofs.Runs.{Ran, broken_as, run_counts, run_stops, run_spends, not_going, goes, goes_on_after, ran_as, ran_when, end_as, failed_as, last_step, going_is_no, causes_from, ran_step}
+use Rattle.emu_machine.proofs.Advanced.{causes_not, end_ended, ended_done, ended_logs, ended_ran, ended_spent, leads_ahead, logs_ahead, none_broken, not_both, stands_ahead}
 use Rattle.emu_machine.proofs.machine.Machine.run.Goals as goal
 
 pub loop-self-init : goal.loop-self-init
@@ -27,9 +28,13 @@ loop-self-init g c = record {
 
 pub loop-self-preserved : goal.loop-self-preserved
 loop-self-preserved g c =
-    let p = c.loop-self.self.parts in
-    let steps = ap (λ (s : MachineState). s.parts.steps) c.self.view_is in
-    let below : p.steps < c.args.budget = omega (arith, steps) in
+    let asks = c.in-None.ensures.steps in
+    let p = c.advance.new.self.parts in
+    let below : p.steps < c.args.budget = asks.below in
+    let ahead = asks.ahead in
+    let leads = leads_ahead c.args.budget c.args.self.now.parts c.loop-self.self.parts p c.args.self.now.accesses c.loop-self.self.accesses asks.log ahead _ _ _ _ _ _ (omega (arith, below)) c.loop-self.invariant.leads in
+    let logs = logs_ahead c.args.budget c.args.self.now.parts c.loop-self.self.parts p c.args.self.now.accesses c.loop-self.self.accesses asks.log ahead _ _ (omega (arith, below)) c.loop-self.invariant.logs in
+    let stands = stands_ahead c.args.budget c.args.self.now.parts c.loop-self.self.parts p c.args.self.now.accesses c.loop-self.self.accesses asks.log ahead _ _ c.loop-self.invariant.stands in
     let counted : c.step.new.self.parts.steps ≡ p.steps + 1 = c.step.ensures.counted c.in-Going.is in
     let q = c.step.new.self.parts in
     let stepped : Ran step p q (g.I.Source.left c.loop-self.input) (g.I.Source.left c.step.new.input) (g.O.Sink.held c.loop-self.output) (g.O.Sink.held c.step.new.output) (g.E.Sink.held c.loop-self.errors) (g.E.Sink.held c.step.new.errors) (is_undone c.step.result)
@@ -37,56 +42,91 @@ loop-self-preserved g c =
     record {
       going = goes_on_after c.step.new.self c.step.result c.in-Going.is (c.step.ensures.end (ap is_undone c.in-Going.is)) c.step.ensures.failed;
       within = omega (arith, counted, below);
-      leads = run_counts c.args.budget _ p q _ _ _ _ _ _ _ _ _ c.loop-self.invariant.leads (goes p.ended c.loop-self.self.failed c.loop-self.invariant.going) below counted
+      leads = run_counts c.args.budget _ p q _ _ _ _ _ _ _ _ _ leads ahead.goes below counted
           (ran_when _ _ _ _ _ _ _ _ _ _ _ (ap is_undone c.in-Going.is) stepped);
       logs = subst (λ (log : List Access). Logs c.args.budget c.args.self.now.accesses c.args.self.now.parts (g.I.Source.left c.args.input.now) log q (g.I.Source.left c.step.new.input)) (sym c.step.ensures.accesses)
-          (logs_on c.args.budget _ _ _ p _ _ _ _ _ q _ _ _ (goes p.ended c.loop-self.self.failed c.loop-self.invariant.going) below _ c.loop-self.invariant.leads
-          (ran_when _ _ _ _ _ _ _ _ _ _ _ (ap is_undone c.in-Going.is) stepped) c.loop-self.invariant.logs counted);
-      stands = stands_on c.args.budget _ p _ _ _ _ _ q _ _ _ _ c.loop-self.invariant.leads
-          (ran_when _ _ _ _ _ _ _ _ _ _ _ (ap is_undone c.in-Going.is) stepped) (goes p.ended c.loop-self.self.failed c.loop-self.invariant.going) counted c.loop-self.invariant.stands;
+          (logs_on c.args.budget _ _ _ p _ _ _ _ _ q _ _ _ ahead.goes below _ leads
+          (ran_when _ _ _ _ _ _ _ _ _ _ _ (ap is_undone c.in-Going.is) stepped) logs counted);
+      stands = stands_on c.args.budget _ p _ _ _ _ _ q _ _ _ _ leads
+          (ran_when _ _ _ _ _ _ _ _ _ _ _ (ap is_undone c.in-Going.is) stepped) ahead.goes counted stands;
       read = c.step.ensures.read_cause.kept (going_is_no c.step.result ReadFault (λ (e : Going ≡ ReadFault). cc) c.in-Going.is) ∙ c.loop-self.invariant.read;
       write = c.step.ensures.write_cause.kept (going_is_no c.step.result WriteFault (λ (e : Going ≡ WriteFault). cc) c.in-Going.is) ∙ c.loop-self.invariant.write;
       errors = c.step.ensures.errors_cause.kept (going_is_no c.step.result ErrorsFault (λ (e : Going ≡ ErrorsFault). cc) c.in-Going.is) ∙ c.loop-self.invariant.errors;
     }
 
-pub returns-in_default : goal.returns-in_default
-returns-in_default g c =
-    let p = c.loop-self.self.parts in
-    let q = c.step.new.self.parts in
-    let steps = ap (λ (s : MachineState). s.parts.steps) c.self.view_is in
-    let below : p.steps < c.args.budget = omega (arith, steps) in
-    let stepped : Ran step p q (g.I.Source.left c.loop-self.input) (g.I.Source.left c.step.new.input) (g.O.Sink.held c.loop-self.output) (g.O.Sink.held c.step.new.output) (g.E.Sink.held c.loop-self.errors) (g.E.Sink.held c.step.new.errors) (is_undone c.step.result)
-    = ran_step _ _ _ _ _ _ _ _ _ c.step.ensures.state c.step.ensures.input c.step.ensures.output c.step.ensures.errors in
-    let r = ran_as _ _ _ _ _ _ _ _ _ c.step.result c.run_end_of.result c.run_end_of.ensures
-    (run_stops c.args.budget c.args.self.now.parts p q _ _ _ _ _ _ _ _ _ c.loop-self.invariant.leads (goes p.ended c.loop-self.self.failed c.loop-self.invariant.going) below
-    (is_undone c.step.result) stepped
-    (λ (fine : is_undone c.step.result ≡ false). not_going q.ended c.step.result (c.step.ensures.end fine) c.in_default.not-Going)) in
-    let undone : is_broken_off c.run_end_of.result ≡ true → is_undone c.step.result ≡ true = λ h. broken_as c.step.result ∙ ap is_broken_off (sym c.run_end_of.ensures) ∙ h in
-    let kept : is_broken_off c.run_end_of.result ≡ true → IsKept p q (g.I.Source.left c.loop-self.input) (g.I.Source.left c.step.new.input) = λ h. c.step.ensures.kept (undone h) in
+pub returns-in-Some : goal.returns-in-Some
+returns-in-Some g c =
+    let q = c.advance.new.self in
+    let end = c.in-Some.end in
+    let by = c.in-Some.ensures.steps in
+    let done : is_undone end ≡ false = ended_done c.args.budget c.loop-self.self q end by in
+    let whole : is_broken_off c.run_end_of.result ≡ false = ap is_broken_off c.run_end_of.ensures ∙ sym (broken_as end) ∙ done in
+    let r = ran_as _ _ _ _ _ _ _ _ _ end c.run_end_of.result c.run_end_of.ensures
+    (ended_ran c.args.budget c.args.self.now.parts c.args.self.now.accesses c.loop-self.self q _ _ _ _ _ _ c.loop-self.invariant.leads end by) in
     record {
       state = r.state;
       input = r.input;
       output = r.output;
       errors = r.errors;
-      end = end_as c.step.result c.run_end_of.result q.ended c.run_end_of.ensures c.step.ensures.end;
-      accesses = logs_as _ _ _ _ _ _ _ (broken_as c.step.result ∙ ap is_broken_off (sym c.run_end_of.ensures))
+      end = end_as end c.run_end_of.result q.parts.ended c.run_end_of.ensures (λ _. end_ended c.args.budget c.loop-self.self q end by);
+      accesses = logs_as _ _ _ _ _ _ _ (broken_as end ∙ ap is_broken_off (sym c.run_end_of.ensures))
+          (λ _. ended_logs c.args.budget c.args.self.now.parts c.args.self.now.accesses c.loop-self.self q _ _ _ _ _ _ c.loop-self.invariant.leads c.loop-self.invariant.logs end by);
+      undone = λ h. not_both _ _ whole h;
+      kept = none_broken _ _ _ whole;
+      unspent = λ h. not_both _ _ whole h;
+      unended = λ h. not_both _ _ whole h;
+      spent = λ h. ended_spent c.args.budget c.loop-self.self q end by (last_step end c.run_end_of.result _ c.run_end_of.ensures h);
+      failed = c.advance.ensures.failed ∙ sym whole;
+      read_cause = causes_not _ _ _ c.loop-self.invariant.read (λ e. not_both _ _ whole (ap is_broken_off e));
+      write_cause = causes_not _ _ _ c.loop-self.invariant.write (λ e. not_both _ _ whole (ap is_broken_off e));
+      errors_cause = causes_not _ _ _ c.loop-self.invariant.errors (λ e. not_both _ _ whole (ap is_broken_off e));
+      read_named = λ h. not_both _ _ whole (ap is_broken_off h);
+      write_named = λ h. not_both _ _ whole (ap is_broken_off h);
+      errors_named = λ h. not_both _ _ whole (ap is_broken_off h);
+    }
+
+pub returns-in_default : goal.returns-in_default
+returns-in_default g c =
+    let asks = c.in-None.ensures.steps in
+    let p = c.advance.new.self.parts in
+    let below : p.steps < c.args.budget = asks.below in
+    let ahead = asks.ahead in
+    let leads = leads_ahead c.args.budget c.args.self.now.parts c.loop-self.self.parts p c.args.self.now.accesses c.loop-self.self.accesses asks.log ahead _ _ _ _ _ _ (omega (arith, below)) c.loop-self.invariant.leads in
+    let logs = logs_ahead c.args.budget c.args.self.now.parts c.loop-self.self.parts p c.args.self.now.accesses c.loop-self.self.accesses asks.log ahead _ _ (omega (arith, below)) c.loop-self.invariant.logs in
+    let stands = stands_ahead c.args.budget c.args.self.now.parts c.loop-self.self.parts p c.args.self.now.accesses c.loop-self.self.accesses asks.log ahead _ _ c.loop-self.invariant.stands in
+    let q = c.step.new.self.parts in
+    let stepped : Ran step p q (g.I.Source.left c.loop-self.input) (g.I.Source.left c.step.new.input) (g.O.Sink.held c.loop-self.output) (g.O.Sink.held c.step.new.output) (g.E.Sink.held c.loop-self.errors) (g.E.Sink.held c.step.new.errors) (is_undone c.step.result)
+    = ran_step _ _ _ _ _ _ _ _ _ c.step.ensures.state c.step.ensures.input c.step.ensures.output c.step.ensures.errors in
+    let r = ran_as _ _ _ _ _ _ _ _ _ c.step.result c.run_end_of-in_default.result c.run_end_of-in_default.ensures
+    (run_stops c.args.budget c.args.self.now.parts p q _ _ _ _ _ _ _ _ _ leads ahead.goes below
+    (is_undone c.step.result) stepped
+    (λ (fine : is_undone c.step.result ≡ false). not_going q.ended c.step.result (c.step.ensures.end fine) c.in_default.not-Going)) in
+    let undone : is_broken_off c.run_end_of-in_default.result ≡ true → is_undone c.step.result ≡ true = λ h. broken_as c.step.result ∙ ap is_broken_off (sym c.run_end_of-in_default.ensures) ∙ h in
+    let kept : is_broken_off c.run_end_of-in_default.result ≡ true → IsKept p q (g.I.Source.left c.loop-self.input) (g.I.Source.left c.step.new.input) = λ h. c.step.ensures.kept (undone h) in
+    record {
+      state = r.state;
+      input = r.input;
+      output = r.output;
+      errors = r.errors;
+      end = end_as c.step.result c.run_end_of-in_default.result q.ended c.run_end_of-in_default.ensures c.step.ensures.end;
+      accesses = logs_as _ _ _ _ _ _ _ (broken_as c.step.result ∙ ap is_broken_off (sym c.run_end_of-in_default.ensures))
           (λ (fine : is_undone c.step.result ≡ false). subst (λ (log : List Access). IfSome (g.I.Source.left c.args.input.now) (λ bytes. log ≡ run_accesses c.args.self.now.accesses c.args.self.now.parts bytes c.args.budget)) (sym c.step.ensures.accesses)
-          (logs_end c.args.budget _ _ _ p _ _ _ _ _ q _ _ _ (goes p.ended c.loop-self.self.failed c.loop-self.invariant.going) below _ c.loop-self.invariant.leads
-          (ran_when _ _ _ _ _ _ _ _ _ _ _ fine stepped) c.loop-self.invariant.logs (not_going q.ended c.step.result (c.step.ensures.end fine) c.in_default.not-Going)));
+          (logs_end c.args.budget _ _ _ p _ _ _ _ _ q _ _ _ ahead.goes below _ leads
+          (ran_when _ _ _ _ _ _ _ _ _ _ _ fine stepped) logs (not_going q.ended c.step.result (c.step.ensures.end fine) c.in_default.not-Going)));
       undone = λ h. c.step.ensures.undone (undone h);
-      kept = kept_there _ p q _ _ _ _ kept (stands_there c.args.budget _ p _ _ _ _ _ _ c.loop-self.invariant.leads c.loop-self.invariant.stands);
+      kept = kept_there _ p q _ _ _ _ kept (stands_there c.args.budget _ p _ _ _ _ _ _ leads stands);
       unspent = λ h. let same = ap (λ (m : Parts). m.steps) (kept h).is in omega (arith, same, below);
-      unended = λ h. ap (λ (m : Parts). is_none m.ended) (kept h).is ∙ goes p.ended c.loop-self.self.failed c.loop-self.invariant.going;
-      spent = λ h. absurd (c.in_default.not-Going (last_step c.step.result c.run_end_of.result _ c.run_end_of.ensures h));
-      failed = failed_as c.step.result c.run_end_of.result c.step.new.self.failed c.run_end_of.ensures c.step.ensures.failed;
-      read_cause = causes_from _ _ _ _ _ c.loop-self.invariant.read c.step.ensures.read_cause (last_step c.step.result c.run_end_of.result _ c.run_end_of.ensures) (λ (e : c.step.result ≡ ReadFault). c.run_end_of.ensures ∙ ap run_end_of e);
-      write_cause = causes_from _ _ _ _ _ c.loop-self.invariant.write c.step.ensures.write_cause (last_step c.step.result c.run_end_of.result _ c.run_end_of.ensures) (λ (e : c.step.result ≡ WriteFault). c.run_end_of.ensures ∙ ap run_end_of e);
-      errors_cause = causes_from _ _ _ _ _ c.loop-self.invariant.errors c.step.ensures.errors_cause (last_step c.step.result c.run_end_of.result _ c.run_end_of.ensures) (λ (e : c.step.result ≡ ErrorsFault). c.run_end_of.ensures ∙ ap run_end_of e);
-      read_named = λ h. let r = last_step c.step.result c.run_end_of.result _ c.run_end_of.ensures h in
+      unended = λ h. ap (λ (m : Parts). is_none m.ended) (kept h).is ∙ ahead.goes;
+      spent = λ h. absurd (c.in_default.not-Going (last_step c.step.result c.run_end_of-in_default.result _ c.run_end_of-in_default.ensures h));
+      failed = failed_as c.step.result c.run_end_of-in_default.result c.step.new.self.failed c.run_end_of-in_default.ensures c.step.ensures.failed;
+      read_cause = causes_from _ _ _ _ _ c.loop-self.invariant.read c.step.ensures.read_cause (last_step c.step.result c.run_end_of-in_default.result _ c.run_end_of-in_default.ensures) (λ (e : c.step.result ≡ ReadFault). c.run_end_of-in_default.ensures ∙ ap run_end_of e);
+      write_cause = causes_from _ _ _ _ _ c.loop-self.invariant.write c.step.ensures.write_cause (last_step c.step.result c.run_end_of-in_default.result _ c.run_end_of-in_default.ensures) (λ (e : c.step.result ≡ WriteFault). c.run_end_of-in_default.ensures ∙ ap run_end_of e);
+      errors_cause = causes_from _ _ _ _ _ c.loop-self.invariant.errors c.step.ensures.errors_cause (last_step c.step.result c.run_end_of-in_default.result _ c.run_end_of-in_default.ensures) (λ (e : c.step.result ≡ ErrorsFault). c.run_end_of-in_default.ensures ∙ ap run_end_of e);
+      read_named = λ h. let r = last_step c.step.result c.run_end_of-in_default.result _ c.run_end_of-in_default.ensures h in
           subst (λ (m : Parts). NamesRead m.core) (sym (c.step.ensures.kept (ap is_undone r)).is) (c.step.ensures.read_named r).names;
-      write_named = λ h. let r = last_step c.step.result c.run_end_of.result _ c.run_end_of.ensures h in
+      write_named = λ h. let r = last_step c.step.result c.run_end_of-in_default.result _ c.run_end_of-in_default.ensures h in
           subst (λ (m : Parts). MakesWrite m 1) (sym (c.step.ensures.unstored (ap is_unput r))) (c.step.ensures.write_named r);
-      errors_named = λ h. let r = last_step c.step.result c.run_end_of.result _ c.run_end_of.ensures h in
+      errors_named = λ h. let r = last_step c.step.result c.run_end_of-in_default.result _ c.run_end_of-in_default.ensures h in
           subst (λ (m : Parts). MakesWrite m 2) (sym (c.step.ensures.unstored (ap is_unput r))) (c.step.ensures.errors_named r);
     }
 

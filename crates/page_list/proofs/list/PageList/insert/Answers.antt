@@ -20,6 +20,7 @@ invariant_of-self c =
       spare = ap (λ n. a.arena.spare + n) frames ∙ i.spare;
       most = omega (arith, c.requires.room, ap (λ (l : Listed). length l.pages) c.self.view_is, ap (λ (l : Listed). l.limit) c.self.view_is, length-map a.slots.items (entry_in live), c.push_all.ensures.length, long);
       narrow = i.narrow;
+      code = λ some. absurd (omega arith);
     }
 
 pub returns-clause-pages : goal.returns-clause-pages

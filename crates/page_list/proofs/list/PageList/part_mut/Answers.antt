@@ -39,6 +39,7 @@ invariant_of-self-lent c w =
       spare = e.spare ∙ i.spare;
       most = omega (arith, i.most, e.length);
       narrow = i.narrow;
+      code = e.code c.self.inside.code i.code;
     }
 
 pub returns : goal.returns
@@ -61,8 +62,8 @@ returns c =
         refl,
         λ w.
             let z = overwritten at (take (4096 - at) w) old in let g : Page → Page = page_with_bytes at (take (4096 - at) (as_bytes w)) in
-            ap (λ (es : List Entry). record { pages = es; limit = a.limit }) (written live (insert live k z) k (λ f ne. get-insert_other live k z f ne) g ss i x l there is (held_once live ss k c.ensure_frame.ensures.held) (page_after live x k at w is))
-            ∙ ap (λ (es : List Entry). record { pages = changed_at g i es; limit = a.limit }) c.ensure_frame.ensures.entries
+            ap (λ (es : List Entry). record { pages = es; limit = a.limit; code = a.code.number }) (written live (insert live k z) k (λ f ne. get-insert_other live k z f ne) g ss i x l there is (held_once live ss k c.ensure_frame.ensures.held) (page_after live x k at w is))
+            ∙ ap (λ (es : List Entry). record { pages = changed_at g i es; limit = a.limit; code = a.code.number }) c.ensure_frame.ensures.entries
             ∙ ap (λ (l : Listed). with_part l i at w) c.self.view_is,
       ),
       record {

@@ -23,6 +23,7 @@ invariant_of-self c =
       spare = c.pop_all.ensures.spare ∙ ap (λ n. a.arena.spare + n) frames ∙ i.spare;
       most = omega (arith, i.most, c.pop_all.ensures.length, long);
       narrow = i.narrow;
+      code = λ some. absurd (omega arith);
     }
 
 pub returns-clause-pages : goal.returns-clause-pages

@@ -18,6 +18,7 @@ invariant_of-self c =
       spare = ap (λ n. a.arena.spare + n) (framed-set ss c.args.i s l (ap (λ (t : Slot). t.frame) same)) ∙ i.spare;
       most = omega (arith, i.most, length-set ss c.args.i s);
       narrow = i.narrow;
+      code = λ some. absurd (omega arith);
     }
 
 pub returns-clause-pages : goal.returns-clause-pages

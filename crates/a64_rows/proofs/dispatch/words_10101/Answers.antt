@@ -1,0 +1,16 @@
+-- Each arm has the lines that its bits leave.
+use Rattle.std.proofs.Common.{◌∙◌, sym, arith}
+use Rattle.a64_rows.proofs.Narrowed.{words_10101_at_0, words_10101_at_1, words_10101_at_2, words_10101_at_others}
+use Rattle.a64_rows.proofs.dispatch.words_10101.Goals as goal
+
+pub returns-in-0 : goal.returns-in-0
+returns-in-0 g c = c.branch-w.ensures ∙ sym (words_10101_at_0 c.args.w (sym c.bits.ensures ∙ c.in-0.is))
+
+pub returns-in-1 : goal.returns-in-1
+returns-in-1 g c = c.compare.ensures ∙ sym (words_10101_at_1 c.args.w (sym c.bits.ensures ∙ c.in-1.is))
+
+pub returns-in-2 : goal.returns-in-2
+returns-in-2 g c = c.words_of_system.ensures ∙ sym (words_10101_at_2 c.args.w (sym c.bits.ensures ∙ c.in-2.is))
+
+pub returns-in_default : goal.returns-in_default
+returns-in_default g c = sym (words_10101_at_others c.args.w ((λ e. omega (arith, e)), ((λ e. omega (arith, e)), ((λ e. omega (arith, e)), tt))))

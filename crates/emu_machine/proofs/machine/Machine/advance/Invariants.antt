@@ -1,0 +1,14 @@
+use Rattle.std.proofs.Common.{◌≡◌, ◌≤◌, ◌-◌, false}
+use Rattle.emu_machine.specs.Advances.{IsAhead}
+use Rattle.emu_machine.specs.Machines.{has_ended}
+use Rattle.emu_machine.proofs.machine.Machine.advance.Given as goal
+
+abbrev pub invariant-loop-self : goal.invariant-loop-self
+invariant-loop-self l = record {
+  going : has_ended l.self ≡ false;
+  within : l.self.parts.steps ≤ l.until;
+  ahead : IsAhead l.fn.self.parts l.self.parts l.fn.self.accesses l.self.accesses;
+}
+
+abbrev pub decreases-loop-self : goal.decreases-loop-self
+decreases-loop-self l = l.until - l.self.parts.steps
