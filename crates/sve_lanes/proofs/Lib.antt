@@ -1,2 +1,1 @@
-pub mod RegisterWords
-pub mod SameRows
+mod SameRows

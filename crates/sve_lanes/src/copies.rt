@@ -3,12 +3,13 @@ ghost use Rattle.std.specs.Prelude.{◌≡◌, true};
 ghost use Rattle.sve_insn.specs.declared.form.SveForm.{SveForm};
 ghost use Rattle.sve_effects.specs.VectorData as table;
 ghost use Rattle.sve_lanes.specs.Groups.{is_copy};
+ghost use Rattle.vec_model.specs.Lanes.{IsLaneSize};
 
 use crate::fields::wide_signed;
-use crate::lanes::{LaneOf, Number, Select};
-use crate::loops::{copied, plain};
 use core_regs::Core;
 use emu_bits::{Pred, PredLow, Reg, U};
+use lane_kernels::sources::{LaneOf, Number, Select};
+use lane_kernels::words::{Chunks, merging, plain, zeroing};
 use sve_effects::lane_bits;
 use sve_insn::{Sve, SveForm};
 use vec_regs::VecRegs;
@@ -44,6 +45,25 @@ pub(crate) fn exec(core: &Core, vec: &mut VecRegs, i: &Sve)
             zd,
         } => select(core, vec, size, zm, pg, zn, zd),
         _ => {}
+    }
+}
+
+/// Writes the active lanes; the others keep their value where `merges` is set (/m), else they are 0 (/z).
+fn copied<L: Chunks<u8, 16> + Chunks<u16, 8> + Chunks<u32, 4> + Chunks<u64, 2> + Copy>(
+    vec: &mut VecRegs,
+    merges: bool,
+    e: u32,
+    pg: Pred,
+    zd: Reg,
+    lanes: L,
+)
+    requires { IsLaneSize e }
+    ensures { vec.new ≡ table.copied merges e pg (L.Gives.value lanes e vec.old) zd vec.old }
+{
+    if merges {
+        merging(vec, e, pg, zd, lanes);
+    } else {
+        zeroing(vec, e, pg, zd, lanes);
     }
 }
 

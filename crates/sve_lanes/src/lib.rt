@@ -9,7 +9,6 @@ mod fields;
 mod immediates;
 mod index;
 mod lanes;
-mod loops;
 mod merging;
 mod names;
 mod operations;

@@ -5,12 +5,16 @@ ghost use Rattle.sve_effects.specs.VectorData as table;
 ghost use Rattle.sve_lanes.specs.Groups.{is_merging};
 
 use crate::fields::{shift_amount, shift_bits, tsz_of};
-use crate::lanes::{CoveringLane, LaneOf, Number};
-use crate::loops::merging;
-use crate::names::{binary_element, binary_exchanged, shift_element, shift_imm_element};
-use crate::operations::{OneLane, Operation};
+use crate::names::{shift_element, shift_imm_element};
+use crate::operations::{WideShift, merging_number, merging_one, merging_two};
 use core_regs::Core;
 use emu_bits::{PredLow, Reg, U};
+use lane_kernels::words::merging;
+use lane_ops::{
+    Abs, Add, And, Asr, Asrd, Bic, Cls, Clz, Cnot, Cnt, Eor, Lsl, Lsr, Mul, Neg, Not, Orr, Rbit,
+    Revb, Revh, Revw, Sabd, Sdiv, Smax, Smin, Smulh, Sub, Sxtb, Sxth, Sxtw, Uabd, Udiv, Umax, Umin,
+    Umulh, Uxtb, Uxth, Uxtw,
+};
 use sve_effects::lane_bits;
 use sve_insn::{BinaryOp, ShiftImmOp, ShiftOp, Sve, SveForm, UnaryOp};
 use vec_regs::VecRegs;
@@ -57,13 +61,36 @@ pub(crate) fn exec(core: &Core, vec: &mut VecRegs, i: &Sve)
 fn binary(core: &Core, vec: &mut VecRegs, op: BinaryOp, size: U<2>, pg: PredLow, zm: Reg, zdn: Reg)
     ensures { vec.new ≡ table.vector_data (SveForm.Binary op size pg zm zdn) core.now vec.old }
 {
-    let lanes = Operation {
-        exchanged: binary_exchanged(op),
-        op: binary_element(op),
-        zn: zdn,
-        second: LaneOf { r: zm },
-    };
-    merging(vec, lane_bits(size), pg.register(), zdn, lanes);
+    let e = lane_bits(size);
+    let pg = pg.register();
+    match op {
+        BinaryOp::Add => merging_two(vec, e, pg, zdn, zdn, zm, Add),
+        BinaryOp::Sub => merging_two(vec, e, pg, zdn, zdn, zm, Sub),
+        BinaryOp::Smax => merging_two(vec, e, pg, zdn, zdn, zm, Smax),
+        BinaryOp::Umax => merging_two(vec, e, pg, zdn, zdn, zm, Umax),
+        BinaryOp::Smin => merging_two(vec, e, pg, zdn, zdn, zm, Smin),
+        BinaryOp::Umin => merging_two(vec, e, pg, zdn, zdn, zm, Umin),
+        BinaryOp::Sabd => merging_two(vec, e, pg, zdn, zdn, zm, Sabd),
+        BinaryOp::Uabd => merging_two(vec, e, pg, zdn, zdn, zm, Uabd),
+        BinaryOp::Mul => merging_two(vec, e, pg, zdn, zdn, zm, Mul),
+        BinaryOp::Smulh => merging_two(vec, e, pg, zdn, zdn, zm, Smulh),
+        BinaryOp::Umulh => merging_two(vec, e, pg, zdn, zdn, zm, Umulh),
+        BinaryOp::Sdiv => merging_two(vec, e, pg, zdn, zdn, zm, Sdiv),
+        BinaryOp::Udiv => merging_two(vec, e, pg, zdn, zdn, zm, Udiv),
+        BinaryOp::Orr => merging_two(vec, e, pg, zdn, zdn, zm, Orr),
+        BinaryOp::Eor => merging_two(vec, e, pg, zdn, zdn, zm, Eor),
+        BinaryOp::And => merging_two(vec, e, pg, zdn, zdn, zm, And),
+        BinaryOp::Bic => merging_two(vec, e, pg, zdn, zdn, zm, Bic),
+        BinaryOp::Asr => merging_two(vec, e, pg, zdn, zdn, zm, Asr),
+        BinaryOp::Lsr => merging_two(vec, e, pg, zdn, zdn, zm, Lsr),
+        BinaryOp::Lsl => merging_two(vec, e, pg, zdn, zdn, zm, Lsl),
+        BinaryOp::Subr => merging_two(vec, e, pg, zdn, zm, zdn, Sub),
+        BinaryOp::Sdivr => merging_two(vec, e, pg, zdn, zm, zdn, Sdiv),
+        BinaryOp::Udivr => merging_two(vec, e, pg, zdn, zm, zdn, Udiv),
+        BinaryOp::Asrr => merging_two(vec, e, pg, zdn, zm, zdn, Asr),
+        BinaryOp::Lsrr => merging_two(vec, e, pg, zdn, zm, zdn, Lsr),
+        BinaryOp::Lslr => merging_two(vec, e, pg, zdn, zm, zdn, Lsl),
+    }
 }
 
 fn binary_wide(
@@ -77,12 +104,8 @@ fn binary_wide(
 )
     ensures { vec.new ≡ table.vector_data (SveForm.BinaryWide op size pg zm zdn) core.now vec.old }
 {
-    let lanes = Operation {
-        exchanged: false,
-        op: shift_element(op),
-        zn: zdn,
-        second: CoveringLane { r: zm },
-    };
+    let op = shift_element(op);
+    let lanes = WideShift { op, zn: zdn, zm };
     merging(vec, lane_bits(size), pg.register(), zdn, lanes);
 }
 
@@ -99,20 +122,39 @@ fn shift_imm(
     ensures { vec.new ≡ table.vector_data (SveForm.ShiftImm op tszh pg tszl imm3 zdn) core.now vec.old }
 {
     let tsz = tsz_of(tszh, tszl);
-    let op = shift_imm_element(op);
-    let n = shift_amount(op, tsz, imm3);
-    let lanes = Operation {
-        exchanged: false,
-        op,
-        zn: zdn,
-        second: Number { n },
-    };
-    merging(vec, shift_bits(tsz), pg.register(), zdn, lanes);
+    let e = shift_bits(tsz);
+    let n = shift_amount(shift_imm_element(op), tsz, imm3);
+    let pg = pg.register();
+    match op {
+        ShiftImmOp::Asr => merging_number(vec, e, pg, zdn, zdn, n, Asr),
+        ShiftImmOp::Lsr => merging_number(vec, e, pg, zdn, zdn, n, Lsr),
+        ShiftImmOp::Lsl => merging_number(vec, e, pg, zdn, zdn, n, Lsl),
+        ShiftImmOp::Asrd => merging_number(vec, e, pg, zdn, zdn, n, Asrd),
+    }
 }
 
 fn unary(core: &Core, vec: &mut VecRegs, op: UnaryOp, size: U<2>, pg: PredLow, zn: Reg, zd: Reg)
     ensures { vec.new ≡ table.vector_data (SveForm.Unary op size pg zn zd) core.now vec.old }
 {
-    let lanes = OneLane { op, zn };
-    merging(vec, lane_bits(size), pg.register(), zd, lanes);
+    let e = lane_bits(size);
+    let pg = pg.register();
+    match op {
+        UnaryOp::Sxtb => merging_one(vec, e, pg, zd, zn, Sxtb),
+        UnaryOp::Uxtb => merging_one(vec, e, pg, zd, zn, Uxtb),
+        UnaryOp::Sxth => merging_one(vec, e, pg, zd, zn, Sxth),
+        UnaryOp::Uxth => merging_one(vec, e, pg, zd, zn, Uxth),
+        UnaryOp::Sxtw => merging_one(vec, e, pg, zd, zn, Sxtw),
+        UnaryOp::Uxtw => merging_one(vec, e, pg, zd, zn, Uxtw),
+        UnaryOp::Abs => merging_one(vec, e, pg, zd, zn, Abs),
+        UnaryOp::Neg => merging_one(vec, e, pg, zd, zn, Neg),
+        UnaryOp::Cls => merging_one(vec, e, pg, zd, zn, Cls),
+        UnaryOp::Clz => merging_one(vec, e, pg, zd, zn, Clz),
+        UnaryOp::Cnt => merging_one(vec, e, pg, zd, zn, Cnt),
+        UnaryOp::Cnot => merging_one(vec, e, pg, zd, zn, Cnot),
+        UnaryOp::Not => merging_one(vec, e, pg, zd, zn, Not),
+        UnaryOp::Revb => merging_one(vec, e, pg, zd, zn, Revb),
+        UnaryOp::Revh => merging_one(vec, e, pg, zd, zn, Revh),
+        UnaryOp::Revw => merging_one(vec, e, pg, zd, zn, Revw),
+        UnaryOp::Rbit => merging_one(vec, e, pg, zd, zn, Rbit),
+    }
 }

@@ -5,12 +5,13 @@ ghost use Rattle.vec_model.specs.Lanes.{IsLaneSize};
 ghost use Rattle.sve_effects.specs.VectorData as table;
 ghost use Rattle.sve_lanes.specs.Groups.{is_product};
 
-use crate::lanes::LaneOf;
-use crate::loops::{merging, plain};
-use crate::names::{dot_indexed_signed, dot_signed, subtracts_d, subtracts_z};
-use crate::operations::{Dot, IndexedLane, MultiplyAdd};
+use crate::names::dot_indexed_signed;
+use crate::operations::IndexedDot;
 use core_regs::Core;
 use emu_bits::{PredLow, Reg, U};
+use lane_kernels::sources::Map3;
+use lane_kernels::words::{merging, plain};
+use lane_ops::{MultiplyAdd, MultiplySubtract, Sdot, Udot};
 use sve_effects::lane_bits;
 use sve_insn::{DotIndexedOp, DotOp, MulAddDOp, MulAddZOp, Sve, SveForm};
 use vec_regs::VecRegs;
@@ -61,13 +62,19 @@ fn mul_add_z(
 )
     ensures { vec.new ≡ table.vector_data (SveForm.MulAddZ op size zm pg zn zda) core.now vec.old }
 {
-    let lanes = MultiplyAdd {
-        subtracts: subtracts_z(op),
-        za: zda,
-        zn,
-        zm,
-    };
-    merging(vec, lane_bits(size), pg.register(), zda, lanes);
+    let e = lane_bits(size);
+    let pg = pg.register();
+    let za = zda;
+    match op {
+        MulAddZOp::Mla => {
+            let op = MultiplyAdd;
+            merging(vec, e, pg, zda, Map3 { op, za, zn, zm });
+        }
+        MulAddZOp::Mls => {
+            let op = MultiplySubtract;
+            merging(vec, e, pg, zda, Map3 { op, za, zn, zm });
+        }
+    }
 }
 
 fn mul_add_d(
@@ -82,25 +89,36 @@ fn mul_add_d(
 )
     ensures { vec.new ≡ table.vector_data (SveForm.MulAddD op size zm pg za zdn) core.now vec.old }
 {
-    let lanes = MultiplyAdd {
-        subtracts: subtracts_d(op),
-        za,
-        zn: zdn,
-        zm,
-    };
-    merging(vec, lane_bits(size), pg.register(), zdn, lanes);
+    let e = lane_bits(size);
+    let pg = pg.register();
+    let zn = zdn;
+    match op {
+        MulAddDOp::Mad => {
+            let op = MultiplyAdd;
+            merging(vec, e, pg, zdn, Map3 { op, za, zn, zm });
+        }
+        MulAddDOp::Msb => {
+            let op = MultiplySubtract;
+            merging(vec, e, pg, zdn, Map3 { op, za, zn, zm });
+        }
+    }
 }
 
 fn dot(core: &Core, vec: &mut VecRegs, op: DotOp, size: U<2>, zm: Reg, zn: Reg, zda: Reg)
     ensures { vec.new ≡ table.vector_data (SveForm.Dot op size zm zn zda) core.now vec.old }
 {
-    let lanes = Dot {
-        is_signed: dot_signed(op),
-        zda,
-        zn,
-        second: LaneOf { r: zm },
-    };
-    plain(vec, lane_bits(size), zda, &lanes);
+    let e = lane_bits(size);
+    let za = zda;
+    match op {
+        DotOp::Sdot => {
+            let op = Sdot;
+            plain(vec, e, zda, &Map3 { op, za, zn, zm });
+        }
+        DotOp::Udot => {
+            let op = Udot;
+            plain(vec, e, zda, &Map3 { op, za, zn, zm });
+        }
+    }
 }
 
 fn dot_indexed(core: &Core, vec: &mut VecRegs, op: DotIndexedOp, i_zm: U<5>, zn: Reg, zda: Reg)
@@ -124,11 +142,12 @@ fn dot_with_lane(vec: &mut VecRegs, is_signed: bool, e: u32, i: u32, zm: Reg, zn
     requires within { i < 128 / e }
     ensures { vec.new ≡ table.dot_indexed is_signed e i zm zn zda vec.old }
 {
-    let lanes = Dot {
+    let lanes = IndexedDot {
         is_signed,
+        i,
         zda,
         zn,
-        second: IndexedLane { i, zm },
+        zm,
     };
     plain(vec, e, zda, &lanes);
 }

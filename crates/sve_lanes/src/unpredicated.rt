@@ -5,12 +5,12 @@ ghost use Rattle.sve_effects.specs.VectorData as table;
 ghost use Rattle.sve_lanes.specs.Groups.{is_plain};
 
 use crate::fields::{shift_amount, shift_bits, tsz_of};
-use crate::lanes::{CoveringLane, LaneOf, Number};
-use crate::loops::plain;
-use crate::names::{logic_element, plain_element, shift_element};
-use crate::operations::Operation;
+use crate::names::shift_element;
+use crate::operations::{WideShift, plain_number, plain_two};
 use core_regs::Core;
 use emu_bits::{Reg, U};
+use lane_kernels::words::plain;
+use lane_ops::{Add, And, Asr, Bic, Eor, Lsl, Lsr, Orr, Sqadd, Sqsub, Sub, Uqadd, Uqsub};
 use sve_effects::lane_bits;
 use sve_insn::{LogicZOp, PlainOp, ShiftOp, Sve, SveForm};
 use vec_regs::VecRegs;
@@ -51,37 +51,33 @@ pub(crate) fn exec(core: &Core, vec: &mut VecRegs, i: &Sve)
 fn sum(core: &Core, vec: &mut VecRegs, op: PlainOp, size: U<2>, zm: Reg, zn: Reg, zd: Reg)
     ensures { vec.new ≡ table.vector_data (SveForm.Plain op size zm zn zd) core.now vec.old }
 {
-    let lanes = Operation {
-        exchanged: false,
-        op: plain_element(op),
-        zn,
-        second: LaneOf { r: zm },
-    };
-    plain(vec, lane_bits(size), zd, &lanes);
+    let e = lane_bits(size);
+    match op {
+        PlainOp::Add => plain_two(vec, e, zd, zn, zm, Add),
+        PlainOp::Sub => plain_two(vec, e, zd, zn, zm, Sub),
+        PlainOp::Sqadd => plain_two(vec, e, zd, zn, zm, Sqadd),
+        PlainOp::Uqadd => plain_two(vec, e, zd, zn, zm, Uqadd),
+        PlainOp::Sqsub => plain_two(vec, e, zd, zn, zm, Sqsub),
+        PlainOp::Uqsub => plain_two(vec, e, zd, zn, zm, Uqsub),
+    }
 }
 
 fn logic(core: &Core, vec: &mut VecRegs, op: LogicZOp, zm: Reg, zn: Reg, zd: Reg)
     ensures { vec.new ≡ table.vector_data (SveForm.LogicZ op zm zn zd) core.now vec.old }
 {
-    let lanes = Operation {
-        exchanged: false,
-        op: logic_element(op),
-        zn,
-        second: LaneOf { r: zm },
-    };
-    plain(vec, 64, zd, &lanes);
+    match op {
+        LogicZOp::And => plain_two(vec, 64, zd, zn, zm, And),
+        LogicZOp::Orr => plain_two(vec, 64, zd, zn, zm, Orr),
+        LogicZOp::Eor => plain_two(vec, 64, zd, zn, zm, Eor),
+        LogicZOp::Bic => plain_two(vec, 64, zd, zn, zm, Bic),
+    }
 }
 
 fn shift_wide(core: &Core, vec: &mut VecRegs, op: ShiftOp, size: U<2>, zm: Reg, zn: Reg, zd: Reg)
     ensures { vec.new ≡ table.vector_data (SveForm.PlainWide op size zm zn zd) core.now vec.old }
 {
-    let lanes = Operation {
-        exchanged: false,
-        op: shift_element(op),
-        zn,
-        second: CoveringLane { r: zm },
-    };
-    plain(vec, lane_bits(size), zd, &lanes);
+    let op = shift_element(op);
+    plain(vec, lane_bits(size), zd, &WideShift { op, zn, zm });
 }
 
 fn shift_imm(
@@ -97,13 +93,11 @@ fn shift_imm(
     ensures { vec.new ≡ table.vector_data (SveForm.PlainShift op tszh tszl imm3 zn zd) core.now vec.old }
 {
     let tsz = tsz_of(tszh, tszl);
-    let op = shift_element(op);
-    let n = shift_amount(op, tsz, imm3);
-    let lanes = Operation {
-        exchanged: false,
-        op,
-        zn,
-        second: Number { n },
-    };
-    plain(vec, shift_bits(tsz), zd, &lanes);
+    let e = shift_bits(tsz);
+    let n = shift_amount(shift_element(op), tsz, imm3);
+    match op {
+        ShiftOp::Asr => plain_number(vec, e, zd, zn, n, Asr),
+        ShiftOp::Lsr => plain_number(vec, e, zd, zn, n, Lsr),
+        ShiftOp::Lsl => plain_number(vec, e, zd, zn, n, Lsl),
+    }
 }

@@ -7,10 +7,11 @@ ghost use Rattle.vec_model.specs.Lanes.{IsLaneSize};
 
 use crate::single::set_low_lane;
 use core_regs::Core;
-use emu_bits::{Pred, PredLow, Reg, U, sign_extended};
+use emu_bits::{Pred, PredLow, Reg, U};
+use lane_kernels::folds::fold_active;
+use lane_tests::{Andv, Eorv, Orv, Saddv, Smaxv, Sminv, Uaddv, Umaxv, Uminv};
 use sve_effects::lane_bits;
 use sve_elements::numbers::complement;
-use sve_elements::{add, and, eor, orr, smax, smin, umax, umin};
 use sve_insn::ReduceOp;
 use vec_regs::VecRegs;
 
@@ -31,36 +32,21 @@ pub(crate) fn reduce(
 }
 
 /// The fold of the active lanes, in the order of lanes.
-#[tactic(auto, using(sve_effects::proofs::ActiveLanes::active_rules))]
 fn folded(vec: &VecRegs, op: ReduceOp, e: u32, pg: Pred, zn: Reg) -> u64
     requires { IsLaneSize e }
     ensures { result ≡ folding e pg (table.reduce_step op e) (table.reduce_start op e) zn vec.now }
 {
-    let mut so_far = start(op, e);
-    for k in 0..vec.length().bits() / e {
-        if vec.is_active(pg, e, k) {
-            so_far = step(op, e, so_far, vec.lane(zn, e, k));
-        }
-    }
-    so_far
-}
-
-/// The next value, of the value so far and a lane of e bits.
-#[inline(always)]
-fn step(op: ReduceOp, e: u32, so_far: u64, a: u64) -> u64
-    requires { IsLaneSize e }
-    ensures { result ≡ table.reduce_step op e so_far a }
-{
+    let start = start(op, e);
     match op {
-        ReduceOp::Saddv => add(64, so_far, sign_extended(a, e, 64)),
-        ReduceOp::Uaddv => add(64, so_far, a),
-        ReduceOp::Smaxv => smax(e, so_far, a),
-        ReduceOp::Umaxv => umax(e, so_far, a),
-        ReduceOp::Sminv => smin(e, so_far, a),
-        ReduceOp::Uminv => umin(e, so_far, a),
-        ReduceOp::Orv => orr(e, so_far, a),
-        ReduceOp::Eorv => eor(e, so_far, a),
-        ReduceOp::Andv => and(e, so_far, a),
+        ReduceOp::Saddv => fold_active(vec, &Saddv, e, pg, zn, start),
+        ReduceOp::Uaddv => fold_active(vec, &Uaddv, e, pg, zn, start),
+        ReduceOp::Smaxv => fold_active(vec, &Smaxv, e, pg, zn, start),
+        ReduceOp::Umaxv => fold_active(vec, &Umaxv, e, pg, zn, start),
+        ReduceOp::Sminv => fold_active(vec, &Sminv, e, pg, zn, start),
+        ReduceOp::Uminv => fold_active(vec, &Uminv, e, pg, zn, start),
+        ReduceOp::Orv => fold_active(vec, &Orv, e, pg, zn, start),
+        ReduceOp::Eorv => fold_active(vec, &Eorv, e, pg, zn, start),
+        ReduceOp::Andv => fold_active(vec, &Andv, e, pg, zn, start),
     }
 }
 

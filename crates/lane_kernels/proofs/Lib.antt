@@ -1,0 +1,3 @@
+pub mod PairLanes
+pub mod RegisterWords
+mod Zips

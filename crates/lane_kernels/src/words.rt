@@ -1,0 +1,115 @@
+//! The kernels over the words of registers: 128 bits at a time, of which a vector length is always a multiple.
+ghost use Rattle.std.specs.Prelude.{◌≡◌, ◌<◌, ◌≤◌, ◌+◌, ◌*◌, ◌/◌, ◌%◌, ◌^◌, ℕ, map, get_or};
+ghost use Rattle.emu_model.specs.Lists.{each};
+ghost use Rattle.emu_model.specs.State.{Vectors};
+ghost use Rattle.sve_effects.specs.ElementLoop as model;
+ghost use Rattle.vec_model.specs.Lanes.{IsLaneSize};
+ghost use Rattle.vec_regs.specs.Packed.{packed};
+ghost use Rattle.vec_regs.specs.Words.{AreZeroFrom};
+
+use crate::sources::{Merged, Zeroed};
+use emu_bits::{Pred, Reg};
+use lane_pack::Quad;
+use vec_regs::VecRegs;
+
+/// Gives lanes, each by its number alone.
+pub trait Gives {
+    /// The number of lane k of e bits.
+    ghost value: { Self → ℕ → Vectors → ℕ → ℕ };
+}
+
+/// Gives the lanes of 128 bits at a time.
+pub trait Chunks<T: Quad<W>, const W: usize>: Gives {
+    /// W lanes from lane i * W on.
+    fn chunk(&self, vec: &VecRegs, i: u32) -> [T; W]
+        requires within { i < vec.now.bits / 128 }
+        requires width { W ≤ 16 }
+        ensures { (j : ℕ) → j < W → get_or (map T.number result) j 0 ≡ Self.value self.now T.BITS vec.now (i * W + j) % 2 ^ T.BITS };
+}
+
+/// The words of a register whose lanes are given, over zeros.
+#[inline(always)]
+fn fill<T: Quad<W>, L: Chunks<T, W>, const W: usize>(
+    vec: &VecRegs,
+    lanes: &L,
+    words: &mut [u64; 32],
+)
+    requires { (k : ℕ) → get_or words.old k 0 ≡ 0 }
+    ensures words { (i : ℕ) → i < vec.now.bits / 64 → get_or words.new i 0 ≡ packed T.BITS (each (64 / T.BITS) (λ j. L.value lanes.now T.BITS vec.now (i * (64 / T.BITS) + j))) }
+    ensures above { AreZeroFrom (vec.now.bits / 64) words.new }
+{
+    let _length = vec.length();
+    for i in 0..vec.length().bits() / 128 {
+        let pair = T::packed(lanes.chunk(vec, i));
+        words[2 * i as usize] = pair[0];
+        words[2 * i as usize + 1] = pair[1];
+    }
+}
+
+/// The words of a register whose lanes of e bits are given.
+#[inline(always)]
+fn register_of<L: Chunks<u8, 16> + Chunks<u16, 8> + Chunks<u32, 4> + Chunks<u64, 2>>(
+    vec: &VecRegs,
+    e: u32,
+    lanes: &L,
+    words: &mut [u64; 32],
+)
+    requires size { IsLaneSize e }
+    requires zeros { (k : ℕ) → get_or words.old k 0 ≡ 0 }
+    ensures words { (i : ℕ) → i < vec.now.bits / 64 → get_or words.new i 0 ≡ packed e (each (64 / e) (λ j. L.Gives.value lanes.now e vec.now (i * (64 / e) + j))) }
+    ensures above { AreZeroFrom (vec.now.bits / 64) words.new }
+{
+    match e {
+        8 => fill::<u8, L, 16>(vec, lanes, words),
+        16 => fill::<u16, L, 8>(vec, lanes, words),
+        32 => fill::<u32, L, 4>(vec, lanes, words),
+        _ => fill::<u64, L, 2>(vec, lanes, words),
+    }
+}
+
+/// Writes each lane of e bits of register zd, of 8, 16, 32 or 64 bits.
+#[inline(always)]
+pub fn plain<L: Chunks<u8, 16> + Chunks<u16, 8> + Chunks<u32, 4> + Chunks<u64, 2>>(
+    vec: &mut VecRegs,
+    e: u32,
+    zd: Reg,
+    lanes: &L,
+)
+    requires { IsLaneSize e }
+    ensures { vec.new ≡ model.plain e (L.Gives.value lanes.now e vec.old) zd vec.old }
+{
+    let _length = vec.length();
+    let mut words = [0; 32];
+    register_of(vec, e, lanes, &mut words);
+    vec.set_z_words(zd, &words);
+}
+
+/// Writes the active lanes of e bits, and the others keep their value.
+#[inline(always)]
+pub fn merging<L: Chunks<u8, 16> + Chunks<u16, 8> + Chunks<u32, 4> + Chunks<u64, 2> + Copy>(
+    vec: &mut VecRegs,
+    e: u32,
+    pg: Pred,
+    zd: Reg,
+    lanes: L,
+)
+    requires { IsLaneSize e }
+    ensures { vec.new ≡ model.merging e pg (L.Gives.value lanes e vec.old) zd vec.old }
+{
+    plain(vec, e, zd, &Merged { pg, zd, lanes });
+}
+
+/// Writes the active lanes of e bits, and the others are 0.
+#[inline(always)]
+pub fn zeroing<L: Chunks<u8, 16> + Chunks<u16, 8> + Chunks<u32, 4> + Chunks<u64, 2> + Copy>(
+    vec: &mut VecRegs,
+    e: u32,
+    pg: Pred,
+    zd: Reg,
+    lanes: L,
+)
+    requires { IsLaneSize e }
+    ensures { vec.new ≡ model.zeroing e pg (L.Gives.value lanes e vec.old) zd vec.old }
+{
+    plain(vec, e, zd, &Zeroed { pg, lanes });
+}

@@ -1,0 +1,23 @@
+//! The element functions of SVE instructions as operations on lanes, one struct for each name.
+//!
+//! A struct stands for all lane types (8, 16, 32 and 64 bits, the manual's esize). What it makes of lanes is its entry of the
+//! table of element functions.
+#![tactic(auto)]
+
+mod logic;
+mod products;
+mod saturated;
+mod shifts;
+mod single;
+mod sums;
+mod three;
+
+pub use logic::{And, Bic, Eor, Orr};
+pub use products::{Mul, Sdiv, Smulh, Udiv, Umulh};
+pub use saturated::{Sqadd, SqaddAmount, Sqsub, SqsubAmount, Uqadd, Uqsub};
+pub use shifts::{Asr, Asrd, Lsl, Lsr};
+pub use single::{
+    Abs, Cls, Clz, Cnot, Cnt, Neg, Not, Rbit, Revb, Revh, Revw, Sxtb, Sxth, Sxtw, Uxtb, Uxth, Uxtw,
+};
+pub use sums::{Add, Sabd, Smax, Smin, Sub, SubtractFrom, Uabd, Umax, Umin};
+pub use three::{MultiplyAdd, MultiplySubtract, Sdot, Udot};

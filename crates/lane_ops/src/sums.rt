@@ -1,0 +1,170 @@
+//! Sums, differences, and the greater and the smaller of two lanes.
+ghost use Rattle.sve_effects.specs.declared.elements.ElementOp.{ElementOp};
+ghost use Rattle.sve_effects.specs.Element.{element};
+
+use lane_kernels::{LaneWise1, LaneWise2};
+use lane_pack::Lane;
+use sve_elements::{ElementOp, apply};
+
+/// The sum.
+#[derive(Clone, Copy)]
+pub struct Add;
+
+impl LaneWise2 for Add {
+    ghost entry = { λ _ e a b. element ElementOp.Add e a b };
+
+    #[inline(always)]
+    fn one<T: Lane>(&self, a: T, b: T) -> T {
+        a.add_mod(b)
+    }
+
+    #[inline(always)]
+    fn with_number<T: Lane>(&self, a: T, n: u64) -> T {
+        T::from_u64(apply(ElementOp::Add, T::BITS, a.to_u64(), n))
+    }
+}
+
+/// The difference.
+#[derive(Clone, Copy)]
+pub struct Sub;
+
+impl LaneWise2 for Sub {
+    ghost entry = { λ _ e a b. element ElementOp.Sub e a b };
+
+    #[inline(always)]
+    fn one<T: Lane>(&self, a: T, b: T) -> T {
+        self.with_number(a, b.to_u64())
+    }
+
+    #[inline(always)]
+    fn with_number<T: Lane>(&self, a: T, n: u64) -> T {
+        T::from_u64(apply(ElementOp::Sub, T::BITS, a.to_u64(), n))
+    }
+}
+
+/// The greater signed number.
+#[derive(Clone, Copy)]
+pub struct Smax;
+
+impl LaneWise2 for Smax {
+    ghost entry = { λ _ e a b. element ElementOp.Smax e a b };
+
+    #[inline(always)]
+    fn one<T: Lane>(&self, a: T, b: T) -> T {
+        let _first = a.to_u64();
+        let _second = b.to_u64();
+        if a.signed_less(b) { b } else { a }
+    }
+
+    #[inline(always)]
+    fn with_number<T: Lane>(&self, a: T, n: u64) -> T {
+        T::from_u64(apply(ElementOp::Smax, T::BITS, a.to_u64(), n))
+    }
+}
+
+/// The greater unsigned number.
+#[derive(Clone, Copy)]
+pub struct Umax;
+
+impl LaneWise2 for Umax {
+    ghost entry = { λ _ e a b. element ElementOp.Umax e a b };
+
+    #[inline(always)]
+    fn one<T: Lane>(&self, a: T, b: T) -> T {
+        self.with_number(a, b.to_u64())
+    }
+
+    #[inline(always)]
+    fn with_number<T: Lane>(&self, a: T, n: u64) -> T {
+        T::from_u64(apply(ElementOp::Umax, T::BITS, a.to_u64(), n))
+    }
+}
+
+/// The smaller signed number.
+#[derive(Clone, Copy)]
+pub struct Smin;
+
+impl LaneWise2 for Smin {
+    ghost entry = { λ _ e a b. element ElementOp.Smin e a b };
+
+    #[inline(always)]
+    fn one<T: Lane>(&self, a: T, b: T) -> T {
+        let _first = a.to_u64();
+        let _second = b.to_u64();
+        if a.signed_less(b) { a } else { b }
+    }
+
+    #[inline(always)]
+    fn with_number<T: Lane>(&self, a: T, n: u64) -> T {
+        T::from_u64(apply(ElementOp::Smin, T::BITS, a.to_u64(), n))
+    }
+}
+
+/// The smaller unsigned number.
+#[derive(Clone, Copy)]
+pub struct Umin;
+
+impl LaneWise2 for Umin {
+    ghost entry = { λ _ e a b. element ElementOp.Umin e a b };
+
+    #[inline(always)]
+    fn one<T: Lane>(&self, a: T, b: T) -> T {
+        self.with_number(a, b.to_u64())
+    }
+
+    #[inline(always)]
+    fn with_number<T: Lane>(&self, a: T, n: u64) -> T {
+        T::from_u64(apply(ElementOp::Umin, T::BITS, a.to_u64(), n))
+    }
+}
+
+/// The greater signed number less the smaller.
+#[derive(Clone, Copy)]
+pub struct Sabd;
+
+impl LaneWise2 for Sabd {
+    ghost entry = { λ _ e a b. element ElementOp.Sabd e a b };
+
+    #[inline(always)]
+    fn one<T: Lane>(&self, a: T, b: T) -> T {
+        self.with_number(a, b.to_u64())
+    }
+
+    #[inline(always)]
+    fn with_number<T: Lane>(&self, a: T, n: u64) -> T {
+        T::from_u64(apply(ElementOp::Sabd, T::BITS, a.to_u64(), n))
+    }
+}
+
+/// The greater unsigned number less the smaller.
+#[derive(Clone, Copy)]
+pub struct Uabd;
+
+impl LaneWise2 for Uabd {
+    ghost entry = { λ _ e a b. element ElementOp.Uabd e a b };
+
+    #[inline(always)]
+    fn one<T: Lane>(&self, a: T, b: T) -> T {
+        self.with_number(a, b.to_u64())
+    }
+
+    #[inline(always)]
+    fn with_number<T: Lane>(&self, a: T, n: u64) -> T {
+        T::from_u64(apply(ElementOp::Uabd, T::BITS, a.to_u64(), n))
+    }
+}
+
+/// A number less a lane.
+#[derive(Clone, Copy)]
+pub struct SubtractFrom {
+    pub n: u64,
+}
+
+impl LaneWise1 for SubtractFrom {
+    ghost entry = { λ s e a. element ElementOp.Sub e s.n a };
+
+    #[inline(always)]
+    fn one<T: Lane>(&self, a: T) -> T {
+        T::from_u64(apply(ElementOp::Sub, T::BITS, self.n, a.to_u64()))
+    }
+}

@@ -1,0 +1,59 @@
+//! Products added to lanes and subtracted from them, and dot products.
+ghost use Rattle.std.specs.Prelude.{true, false};
+ghost use Rattle.sve_effects.specs.Element as table;
+
+use lane_kernels::LaneWise3;
+use lane_pack::Lane;
+use sve_elements::{dot_product, multiply_subtract};
+
+/// The first plus the product of the others.
+#[derive(Clone, Copy)]
+pub struct MultiplyAdd;
+
+impl LaneWise3 for MultiplyAdd {
+    ghost entry = { λ _ e c a b. table.multiply_add e c a b };
+
+    #[inline(always)]
+    fn one<T: Lane>(&self, c: T, a: T, b: T) -> T {
+        c.add_mod(a.mul_mod(b))
+    }
+}
+
+/// The first less the product of the others.
+#[derive(Clone, Copy)]
+pub struct MultiplySubtract;
+
+impl LaneWise3 for MultiplySubtract {
+    ghost entry = { λ _ e c a b. table.multiply_subtract e c a b };
+
+    #[inline(always)]
+    fn one<T: Lane>(&self, c: T, a: T, b: T) -> T {
+        T::from_u64(multiply_subtract(T::BITS, c.to_u64(), a.to_u64(), b.to_u64()))
+    }
+}
+
+/// The first plus the products of the signed quarters of the others.
+#[derive(Clone, Copy)]
+pub struct Sdot;
+
+impl LaneWise3 for Sdot {
+    ghost entry = { λ _ e c a b. table.dot_product true e c a b };
+
+    #[inline(always)]
+    fn one<T: Lane>(&self, c: T, a: T, b: T) -> T {
+        T::from_u64(dot_product(true, T::BITS, c.to_u64(), a.to_u64(), b.to_u64()))
+    }
+}
+
+/// The first plus the products of the unsigned quarters of the others.
+#[derive(Clone, Copy)]
+pub struct Udot;
+
+impl LaneWise3 for Udot {
+    ghost entry = { λ _ e c a b. table.dot_product false e c a b };
+
+    #[inline(always)]
+    fn one<T: Lane>(&self, c: T, a: T, b: T) -> T {
+        T::from_u64(dot_product(false, T::BITS, c.to_u64(), a.to_u64(), b.to_u64()))
+    }
+}

@@ -1,0 +1,11 @@
+//! Comparisons and folds of lanes as operations, one struct for each name.
+//!
+//! A struct stands for all lane types (8, 16, 32 and 64 bits, the manual's esize). What it tells of lanes, or makes of the value so
+//! far and a lane, is its entry of the definitions.
+#![tactic(auto)]
+
+mod compares;
+mod folds;
+
+pub use compares::{Eq, Ge, Gt, Hi, Hs, Le, Lo, Ls, Lt, Ne};
+pub use folds::{Andv, Eorv, Orv, Saddv, Smaxv, Sminv, Uaddv, Umaxv, Uminv};
