@@ -28,6 +28,28 @@ pub fn store(mem: &mut Mem, log: &mut AccessLog, v: u128, address: u64, n: u32) 
         (λ x. log.new.items ≡ log.old.items ++ record { address = address; bytes = n; write = true } ∷ [])
         (λ trap. log.new.items ≡ log.old.items) }
 {
+    store_here(mem, log, v, address, n)
+}
+
+/// The same as `store`, in the code of its caller.
+#[inline(always)]
+pub fn store_here(
+    mem: &mut Mem,
+    log: &mut AccessLog,
+    v: u128,
+    address: u64,
+    n: u32,
+) -> Result<(), Trap>
+    requires some { 1 ≤ n }
+    requires most { n ≤ 16 }
+    requires room { array_vec_len log.old < 1024 }
+    ensures result { MatchResult result (λ x. refused mem.old address n Kind.Write ≡ None)
+        (λ trap. (trap.kind ≡ TrapKind.Write) × (refused mem.old address n Kind.Write ≡ Some trap.address)) }
+    ensures memory { MatchResult result (λ x. mem.new ≡ stored mem.old address n v) (λ trap. mem.new ≡ mem.old) }
+    ensures log { MatchResult result
+        (λ x. log.new.items ≡ log.old.items ++ record { address = address; bytes = n; write = true } ∷ [])
+        (λ trap. log.new.items ≡ log.old.items) }
+{
     match mem.store(address, n, v) {
         Ok(()) => {
             log.push(Access {
@@ -46,6 +68,23 @@ pub fn store(mem: &mut Mem, log: &mut AccessLog, v: u128, address: u64, n: u32) 
 
 /// The little-endian number of n bytes, n at most 16, and logs the access. A trap logs nothing.
 pub fn load(mem: &mut Mem, log: &mut AccessLog, address: u64, n: u32) -> Result<u128, Trap>
+    requires some { 1 ≤ n }
+    requires most { n ≤ 16 }
+    requires room { array_vec_len log.old < 1024 }
+    ensures result { MatchResult result (λ v. (refused mem.old address n Kind.Read ≡ None) × (v ≡ value mem.old address n))
+        (λ trap. (trap.kind ≡ TrapKind.Read) × (refused mem.old address n Kind.Read ≡ Some trap.address)) }
+    ensures small { MatchResult result (λ v. v < 256 ^ n) (λ trap. ⊤) }
+    ensures memory { mem.new ≡ mem.old }
+    ensures log { MatchResult result
+        (λ v. log.new.items ≡ log.old.items ++ record { address = address; bytes = n; write = false } ∷ [])
+        (λ trap. log.new.items ≡ log.old.items) }
+{
+    load_here(mem, log, address, n)
+}
+
+/// The same as `load`, in the code of its caller.
+#[inline(always)]
+pub fn load_here(mem: &mut Mem, log: &mut AccessLog, address: u64, n: u32) -> Result<u128, Trap>
     requires some { 1 ≤ n }
     requires most { n ≤ 16 }
     requires room { array_vec_len log.old < 1024 }

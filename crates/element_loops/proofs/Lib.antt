@@ -4,3 +4,9 @@ pub mod Writes
 pub mod Stores
 pub mod Nonempty
 pub mod Lists
+pub mod FieldBits
+pub mod RunWords
+pub mod RunNotes
+pub mod RunLoads
+pub mod RunStores
+pub mod Lines

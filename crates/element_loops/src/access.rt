@@ -1,13 +1,18 @@
 //! Loads and stores by a plan: the test of SP, the elements one after the other, and what a load leaves.
-ghost use Rattle.std.specs.Prelude.{◌≡◌, [], true};
+ghost use Rattle.std.specs.Prelude.{◌≡◌, ◌≤◌, ◌*◌, [], true};
 ghost use Rattle.sve_effects.specs.VectorElements.{elements_of};
 ghost use Rattle.sve_effects.specs.VectorLoadStore.{tests_sp};
 ghost use Rattle.element_loops.specs.Layouts.{IsPlan, layout_of};
-ghost use Rattle.element_loops.specs.Planned.{load_by, store_by};
+ghost use Rattle.element_loops.specs.Planned.{load_by, loaded_by, store_by};
+ghost use Rattle.emu_model.specs.declared.access.Kind.{Kind};
+ghost use Rattle.emu_model.specs.Elements.{reach};
+ghost use Rattle.emu_model.specs.State.{Core as CoreState};
+ghost use Rattle.sve_effects.specs.VectorLoadStore.{loaded_to};
 
 use crate::loading::load_values;
-use crate::place::is_on;
+use crate::place::{is_on, most_elements};
 use crate::plan::Plan;
+use crate::run::load_run;
 use crate::storing::store_values;
 use crate::values::write;
 use core_regs::{Core, Effect};
@@ -36,6 +41,45 @@ fn tests_sp(plan: &Plan, vec: &VecRegs) -> bool
     plan.has_sp_base && has_element(plan, vec)
 }
 
+/// Loads all elements one by one, at most N, and then writes the registers. It isn't inlined, so that its buffers take no time where
+/// they aren't used.
+#[inline(never)]
+fn load_buffered<const N: usize>(
+    plan: &Plan,
+    vec: &mut VecRegs,
+    mem: &mut Mem,
+    log: &mut AccessLog,
+) -> Effect
+    requires most { N ≤ 1024 }
+    requires plan { IsPlan plan.now vec.old }
+    requires room { plan.now.lanes * plan.now.registers ≤ N }
+    requires empty { log.old.items ≡ [] }
+    ensures { (c : CoreState) → loaded_to (reach mem.old Kind.Read (elements_of (layout_of plan.now vec.old))) (loaded_by plan.now.target plan.now.is_signed (layout_of plan.now vec.old) mem.old vec.old) c vec.old mem.old
+        ≡ record { core = c; vectors = vec.new; memory = mem.new; accesses = log.new.items; effect = result } }
+{
+    match load_values::<N>(plan, vec, mem, log) {
+        Ok(values) => {
+            write(vec, plan, values.as_slice());
+            Effect::Next
+        }
+        Err(trap) => Effect::Trap(trap),
+    }
+}
+
+/// Loads all elements one by one and then writes the registers. A buffer of 64 elements serves gathers, and everything at 128 bits.
+fn load_elements(plan: &Plan, vec: &mut VecRegs, mem: &mut Mem, log: &mut AccessLog) -> Effect
+    requires plan { IsPlan plan.now vec.old }
+    requires empty { log.old.items ≡ [] }
+    ensures { (c : CoreState) → loaded_to (reach mem.old Kind.Read (elements_of (layout_of plan.now vec.old))) (loaded_by plan.now.target plan.now.is_signed (layout_of plan.now vec.old) mem.old vec.old) c vec.old mem.old
+        ≡ record { core = c; vectors = vec.new; memory = mem.new; accesses = log.new.items; effect = result } }
+{
+    if most_elements(plan, vec) <= 64 {
+        load_buffered::<64>(plan, vec, mem, log)
+    } else {
+        load_buffered::<1024>(plan, vec, mem, log)
+    }
+}
+
 /// Loads all elements and then writes the registers, and says how the step goes on. The elements that were loaded are logged in
 /// order. A trap changes no register.
 pub fn load(
@@ -53,13 +97,10 @@ pub fn load(
     if let Err(trap) = test_sp(core, tests_sp(plan, vec)) {
         return Effect::Trap(trap);
     }
-    match load_values(plan, vec, mem, log) {
-        Ok(values) => {
-            write(vec, plan, &values);
-            Effect::Next
-        }
-        Err(trap) => Effect::Trap(trap),
+    if load_run(plan, vec, mem, log) {
+        return Effect::Next;
     }
+    load_elements(plan, vec, mem, log)
 }
 
 /// Stores all elements in order, and says how the step goes on. The elements that were stored are logged in order. A trap has

@@ -3,13 +3,20 @@
 #![tactic(auto)]
 
 mod access;
+mod fields;
+mod line;
+mod line_store;
 mod listing;
 mod loading;
+mod noting;
 mod place;
 mod plan;
+mod run;
+mod run_store;
 pub mod sizes;
 mod storing;
 mod values;
+mod words;
 
 pub use access::{load, store};
 pub use listing::elements;

@@ -11,8 +11,11 @@ ghost use Rattle.element_loops.specs.Layouts.{IsPlan, layout_of};
 ghost use Rattle.element_loops.specs.Planned.{stored_by};
 ghost use Rattle.element_loops.specs.SoFar.{element_of_lane};
 
+use crate::line_store::store_line;
 use crate::place::{address, is_on, position, register_at};
 use crate::plan::{Plan, Target};
+use crate::run::run_of;
+use crate::run_store::store_run;
 use core_regs::Trap;
 use element_access::store;
 use emu_bits::Pred;
@@ -42,7 +45,7 @@ fn predicate_byte(vec: &VecRegs, pt: Pred, k: u32) -> u64
 }
 
 /// The number whose low bytes are stored of a lane and the j-th register.
-fn stored_value(plan: &Plan, vec: &VecRegs, k: u32, j: u32) -> u64
+pub(crate) fn stored_value(plan: &Plan, vec: &VecRegs, k: u32, j: u32) -> u64
     requires plan { IsPlan plan.now vec.now }
     requires lane { k < plan.now.lanes }
     requires register { j < plan.now.registers }
@@ -88,7 +91,7 @@ fn store_lane(
 }
 
 /// Stores the elements of a lane, if it has some.
-fn put_lane(
+pub(crate) fn put_lane(
     plan: &Plan,
     vec: &VecRegs,
     mem: &mut Mem,
@@ -110,6 +113,20 @@ fn put_lane(
     Ok(())
 }
 
+/// Stores all elements one by one, or stops at the first that is refused.
+fn store_lanes(plan: &Plan, vec: &VecRegs, mem: &mut Mem, log: &mut AccessLog) -> Result<(), Trap>
+    requires plan { IsPlan plan.now vec.now }
+    requires empty { log.old.items ≡ [] }
+    ensures { let l = layout_of plan.now vec.now in MatchResult result
+        (λ x. AreStored (stored_by plan.now.target l vec.now) mem.old (elements_of l) mem.new log.new.items)
+        (λ trap. StopsStore (stored_by plan.now.target l vec.now) mem.old (elements_of l) mem.new log.new.items trap) }
+{
+    for k in 0..plan.lanes {
+        put_lane(plan, vec, mem, log, k)?;
+    }
+    Ok(())
+}
+
 /// Stores all elements in order, or stops at the first that is refused.
 pub(crate) fn store_values(
     plan: &Plan,
@@ -123,8 +140,13 @@ pub(crate) fn store_values(
         (λ x. AreStored (stored_by plan.now.target l vec.now) mem.old (elements_of l) mem.new log.new.items)
         (λ trap. StopsStore (stored_by plan.now.target l vec.now) mem.old (elements_of l) mem.new log.new.items trap) }
 {
-    for k in 0..plan.lanes {
-        put_lane(plan, vec, mem, log, k)?;
+    match run_of(plan) {
+        Some(run) => store_run(plan, vec, mem, log, &run),
+        None => {
+            if store_line(plan, vec, mem, log) {
+                return Ok(());
+            }
+            store_lanes(plan, vec, mem, log)
+        }
     }
-    Ok(())
 }

@@ -1,6 +1,0 @@
-use Rattle.std.proofs.Common.{length, ap, ◌∙◌}
-use Rattle.emu_model.specs.Lists.{length-each}
-use Rattle.element_loops.proofs.access.load.Goals as goal
-
-pub write-requires-clause-count : goal.write-requires-clause-count
-write-requires-clause-count c = ap length c.in-Ok.ensures.values ∙ length-each _ _

@@ -1,0 +1,36 @@
+use Rattle.std.proofs.Common.{◌≡◌, ◌+◌, ◌*◌, ◌++◌, ℕ, None, false, length, sym, ap, subst, ◌∙◌, arith}
+use Rattle.emu_model.specs.declared.access.Access.{Access}
+use Rattle.emu_model.specs.declared.access.Kind.TheVariants.{Read}
+use Rattle.emu_model.specs.Access.{address, refused}
+use Rattle.emu_model.specs.Lists.{each}
+use Rattle.emu_model.specs.Pages.{bytes_at}
+use Rattle.guest_mem.specs.Slices.{to_page_end}
+use Rattle.element_loops.specs.declared.plan.Target.{Target}
+use Rattle.element_loops.specs.Layouts.{layout_of}
+use Rattle.element_loops.specs.Planned.{loaded_by}
+use Rattle.element_loops.proofs.Lines.{line_reached, line_loaded, all_noted}
+use Rattle.element_loops.proofs.line.take_structures.Goals as goal
+
+pub returns-in-Some-clause-loaded : goal.returns-in-Some-clause-loaded
+returns-in-Some-clause-loaded c = λ is.
+    let count : to_page_end c.args.line.now.base c.total_bytes-total.result ≡ c.args.plan.now.lanes * c.args.plan.now.registers * c.args.plan.now.bytes
+    = sym c.in-Some.ensures.length ∙ c.if-bytes-total.true ∙ c.total_bytes-total.ensures in
+    let free : refused c.args.mem.now c.args.line.now.base (c.args.plan.now.lanes * c.args.plan.now.registers * c.args.plan.now.bytes) Read ≡ None
+    = subst (λ n. refused c.args.mem.now c.args.line.now.base n Read ≡ None) count c.in-Some.ensures.allowed in
+    record {
+      reached = line_reached c.args.line.now.base c.args.line.now.pg c.args.plan.now c.args.vec.now c.requires.line c.args.mem.now Read free;
+      logged = all_noted c.args.line.now.base c.args.line.now.pg c.args.plan.now c.args.vec.now c.requires.line false c.args.log.now.items c.push_run.new.self.items c.requires.empty
+          (c.are_all_on.ensures c.if-not-are_all_on.false)
+          (c.push_run.ensures.items ∙ ap (λ n. c.args.log.now.items ++ each n (λ (i : ℕ). let x : Access = record { address = address (c.args.line.now.base + i * c.args.plan.now.bytes); bytes = c.args.plan.now.bytes; write = false } in x)) c.most_elements.ensures.value);
+    }
+
+pub returns-in-Some-clause-registers : goal.returns-in-Some-clause-registers
+returns-in-Some-clause-registers c = λ is.
+    let count : to_page_end c.args.line.now.base c.total_bytes-total.result ≡ c.args.plan.now.lanes * c.args.plan.now.registers * c.args.plan.now.bytes
+    = sym c.in-Some.ensures.length ∙ c.if-bytes-total.true ∙ c.total_bytes-total.ensures in
+    line_loaded c.args.line.now.base c.args.line.now.pg c.args.plan.now c.args.vec.now c.requires.line c.args.mem.now c.in-Some.bytes.now c.set_registers.new.vec
+    (c.in-Some.ensures.bytes ∙ ap (λ n. bytes_at c.args.mem.now c.args.line.now.base n) count) c.set_registers.ensures
+    ∙ ap (λ (t : Target). loaded_by t c.args.plan.now.is_signed (layout_of c.args.plan.now c.args.vec.now) c.args.mem.now c.args.vec.now) (sym c.requires.line.target)
+
+pub push_run-requires : goal.push_run-requires
+push_run-requires c = let none : length c.args.log.now.items ≡ 0 = ap length c.requires.empty in omega (arith, none, c.most_elements.ensures.most)

@@ -1,0 +1,18 @@
+use Rattle.std.proofs.Common.{◌≤◌, ◌*◌, length, subst, arith}
+use Rattle.element_loops.specs.Layouts.{layout_of}
+use Rattle.element_loops.specs.Planned.{stored_by}
+use Rattle.element_loops.proofs.Stores.{stores_begin, log_count}
+use Rattle.element_loops.proofs.run_store.store_run.Goals as goal
+
+pub loop-k-init : goal.loop-k-init
+loop-k-init c = record {
+  few = omega arith;
+  stored = stores_begin (stored_by c.args.plan.now.target (layout_of c.args.plan.now c.args.vec.now) c.args.vec.now) (layout_of c.args.plan.now c.args.vec.now) c.args.mem.now c.args.log.now.items c.requires.empty;
+}
+
+pub put_some-lanes-requires-clause-count : goal.put_some-lanes-requires-clause-count
+put_some-lanes-requires-clause-count c =
+    let n : length c.loop-k.log.items ≤ c.loop-k.k * c.args.plan.now.registers
+    = log_count (stored_by c.args.plan.now.target (layout_of c.args.plan.now c.args.vec.now) c.args.vec.now) (layout_of c.args.plan.now c.args.vec.now) c.args.mem.now c.loop-k.k c.loop-k.mem c.loop-k.log.items c.loop-k.invariant.stored in
+    let m : length c.loop-k.log.items ≤ c.loop-k.k * 1 = subst (λ r. length c.loop-k.log.items ≤ c.loop-k.k * r) c.requires.run.one n in
+    omega (arith, m)
