@@ -9,16 +9,16 @@ use Rattle.std.proofs.lemmas.List.Elements.{All-append, All-cons, All-drop}
 use Rattle.std.proofs.lemmas.List.Sums.{list_all-from_AllPass, sum_by-cons, sum_by_more_le, sum_by-take-drop}
 use Rattle.emu_system.specs.Arguments.{AreArguments, is_free_of_zeros}
 use Rattle.command_model.specs.declared.command_line.Command.{Command}
-use Rattle.command_model.specs.declared.command_line.Command.TheVariants.{Run, Asm, Dis, Dbg}
+use Rattle.command_model.specs.declared.command_line.Command.TheVariants.{Run, Asm, Dis, Dbg, Sweep}
 use Rattle.command_model.specs.declared.command_line.Line.{Line}
-use Rattle.command_model.specs.declared.command_line.Line.TheVariants.{Run as RunLine, Asm as AsmLine, Dis as DisLine, Dbg as DbgLine}
+use Rattle.command_model.specs.declared.command_line.Line.TheVariants.{Run as RunLine, Asm as AsmLine, Dis as DisLine, Dbg as DbgLine, Sweep as SweepLine}
 use Rattle.command_model.specs.declared.command_line.OptionName.{OptionName}
 use Rattle.command_model.specs.declared.command_line.OptionName.TheVariants.{Vl, Budget, Pages}
 use Rattle.command_model.specs.declared.command_line.WordsFault.{WordsFault}
 use Rattle.command_model.specs.declared.command_line.WordsWhy.{WordsWhy}
 use Rattle.command_model.specs.declared.command_line.WordsWhy.TheVariants.{Repeated, MissingValue, ExtraWord, MissingWord}
 use Rattle.dbg_model.specs.Script.{and_then}
-use Rattle.command_model.specs.CommandLine.{Seen, args_of, command_of, end_of, first_too_long, first_with_zero, given, is_option, line_of, line_of_command, line_of_words, nothing_seen, option_of, plain_words_of, read_item, read_option, read_plain, read_value, read_word, read_words, refused, pages_of, takes_arguments, value_of_word, with_machine, with_plain, with_value}
+use Rattle.command_model.specs.CommandLine.{Seen, args_of, command_of, end_of, first_too_long, first_with_zero, given, is_option, line_of, line_of_command, line_of_words, nothing_seen, option_of, plain_words_of, read_item, read_option, read_plain, read_value, read_word, read_words, refused, pages_of, takes_arguments, value_of_word, with_budget, with_machine, with_plain, with_value}
 use Rattle.emu_outcome.specs.Outcome.{program_arguments}
 use Rattle.command_lines.specs.Places.{HasArguments, HasPlaces}
 use Rattle.command_lines.proofs.FirstWords.{none_too_long, none_with_zero}
@@ -141,6 +141,11 @@ with_both P count None budget said holds = tt
 with_both P count (Some bits) None said holds = tt
 with_both P count (Some bits) (Some steps) said holds = holds bits steps
 
+-- a line that needs a budget alone
+with_steps : (P : Line → Type 0) (count : ℕ) (budget : Option ℕ) (said : ℕ → Line) → ((steps : ℕ) → P (said steps)) → IfOk (with_budget count budget said) P
+with_steps P count None said holds = tt
+with_steps P count (Some steps) said holds = holds steps
+
 module _ (count : ℕ) (seen : Seen) (within : IsWithin count seen) where
   front : (k place : ℕ) → slice_get seen.plain k ≡ Some place → place < args_of count seen
   front k place got = got_below (args_of count seen) seen.plain k place (all_in_front seen.args seen.plain count within) got
@@ -160,6 +165,9 @@ module _ (count : ℕ) (seen : Seen) (within : IsWithin count seen) where
       with_place (λ l. HasPlaces l count) count (slice_get seen.plain 1)
       (λ script. with_machine count seen.vl seen.budget (λ bits budget. DbgLine file script (args_of count seen) bits budget (pages_of seen))) (λ script also.
       with_both (λ l. HasPlaces l count) count seen.vl seen.budget (λ bits budget. DbgLine file script (args_of count seen) bits budget (pages_of seen)) (λ bits budget. (front 0 file got, front 1 script also, behind))))
+  line_places Sweep =
+      with_place (λ l. HasPlaces l count) count (slice_get seen.plain 0) (λ file. with_budget count seen.budget (λ budget. SweepLine file (args_of count seen) budget (pages_of seen))) (λ file got.
+      with_steps (λ l. HasPlaces l count) count seen.budget (λ budget. SweepLine file (args_of count seen) budget (pages_of seen)) (λ budget. (front 0 file got, behind)))
 
 places_of : (command : Command) (count : ℕ) (seen : Seen) → IsWithin count seen → IfOk (end_of command count seen) (λ l. HasPlaces l count)
 places_of command count seen within =
@@ -205,3 +213,4 @@ arguments_fit words few short free (Ok (RunLine file args bits budget pages)) (l
 arguments_fit words few short free (Ok (AsmLine listing)) lt = tt
 arguments_fit words few short free (Ok (DisLine file)) lt = tt
 arguments_fit words few short free (Ok (DbgLine file script args bits budget pages)) (lt, also, le) = given_words words few short free file args lt le
+arguments_fit words few short free (Ok (SweepLine file args budget pages)) (lt, le) = given_words words few short free file args lt le

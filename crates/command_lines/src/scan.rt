@@ -237,6 +237,23 @@ fn session_of(count: usize, seen: &Seen) -> Result<Line, WordsFault>
     })
 }
 
+/// The sweep that so many words say.
+fn sweep_of(count: usize, seen: &Seen) -> Result<Line, WordsFault>
+    requires { count ≤ 300 }
+    ensures { result ≡ line_of Command.Sweep count seen.now }
+{
+    let file = plain_word(seen, 0, count)?;
+    let Some(budget) = seen.budget else {
+        return Err(fault(WordsWhy::MissingBudget, count));
+    };
+    Ok(Line::Sweep {
+        file,
+        args: seen.args.unwrap_or(count),
+        budget,
+        pages: seen.pages.unwrap_or(DEFAULT_PAGES),
+    })
+}
+
 /// The line that so many words say.
 pub fn line_of(command: Command, count: usize, seen: &Seen) -> Result<Line, WordsFault>
     requires few { count ≤ 300 }
@@ -257,5 +274,6 @@ pub fn line_of(command: Command, count: usize, seen: &Seen) -> Result<Line, Word
             Ok(Line::Dis { file })
         }
         Command::Dbg => session_of(count, seen),
+        Command::Sweep => sweep_of(count, seen),
     }
 }

@@ -11,9 +11,9 @@ use Rattle.dbg_model.specs.Script.{and_then}
 use Rattle.emu_model.specs.Lengths.{is_vector_length}
 use Rattle.emu_system.specs.Arguments.{is_free_of_zeros}
 use Rattle.command_model.specs.declared.command_line.Command.{Command}
-use Rattle.command_model.specs.declared.command_line.Command.TheVariants.{Run, Asm, Dis, Dbg}
+use Rattle.command_model.specs.declared.command_line.Command.TheVariants.{Run, Asm, Dis, Dbg, Sweep}
 use Rattle.command_model.specs.declared.command_line.Line.{Line}
-use Rattle.command_model.specs.declared.command_line.Line.TheVariants.{Run as RunLine, Asm as AsmLine, Dis as DisLine, Dbg as DbgLine}
+use Rattle.command_model.specs.declared.command_line.Line.TheVariants.{Run as RunLine, Asm as AsmLine, Dis as DisLine, Dbg as DbgLine, Sweep as SweepLine}
 use Rattle.command_model.specs.declared.command_line.OptionName.{OptionName}
 use Rattle.command_model.specs.declared.command_line.OptionName.TheVariants.{Vl, Budget, Pages}
 use Rattle.command_model.specs.declared.command_line.WordsFault.{WordsFault}
@@ -30,17 +30,23 @@ command_of word =
     if bytes_eq word (codes "run") then Some Run
     else (if bytes_eq word (codes "asm") then Some Asm
     else (if bytes_eq word (codes "dis") then Some Dis
-    else (if bytes_eq word (codes "dbg") then Some Dbg else None)))
+    else (if bytes_eq word (codes "dbg") then Some Dbg
+    else (if bytes_eq word (codes "sweep") then Some Sweep else None))))
 
 -- a command that runs a machine says how long its vectors are, how many steps it may take and how many pages it may have
 abbrev pub machine_options : List OptionName
 machine_options = Vl ∷ Budget ∷ Pages ∷ []
+
+-- one that runs a machine at each length says the other two
+abbrev pub sweep_options : List OptionName
+sweep_options = Budget ∷ Pages ∷ []
 
 abbrev pub options_of : Command → List OptionName
 options_of Run = machine_options
 options_of Asm = []
 options_of Dis = []
 options_of Dbg = machine_options
+options_of Sweep = sweep_options
 
 -- how many plain words a command has
 abbrev pub plain_words_of : Command → ℕ
@@ -48,6 +54,7 @@ plain_words_of Run = 1
 plain_words_of Asm = 1
 plain_words_of Dis = 1
 plain_words_of Dbg = 2
+plain_words_of Sweep = 1
 
 -- whether a command knows the word `--`
 abbrev pub takes_arguments : Command → Bool
@@ -55,6 +62,7 @@ takes_arguments Run = true
 takes_arguments Asm = false
 takes_arguments Dis = false
 takes_arguments Dbg = true
+takes_arguments Sweep = true
 
 abbrev pub option_text : OptionName → List ℕ
 option_text Vl = codes "--vl"
@@ -182,6 +190,7 @@ line_of Asm count seen = with_plain count seen 0 (λ listing. Ok (AsmLine listin
 line_of Dis count seen = with_plain count seen 0 (λ file. Ok (DisLine file))
 line_of Dbg count seen =
     with_plain count seen 0 (λ file. with_plain count seen 1 (λ script. with_machine count seen.vl seen.budget (λ bits budget. DbgLine file script (args_of count seen) bits budget (pages_of seen))))
+line_of Sweep count seen = with_plain count seen 0 (λ file. with_budget count seen.budget (λ budget. SweepLine file (args_of count seen) budget (pages_of seen)))
 
 -- an option that is the last word has no value
 abbrev pub end_of : Command → ℕ → Seen → Result Line WordsFault

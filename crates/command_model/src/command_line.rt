@@ -83,6 +83,16 @@ pub enum Line {
         /// The greatest number of mapped pages.
         pages: u32,
     },
+    /// Runs the program in the file that the word at `file` names at each vector length, and writes a line on each.
+    Sweep {
+        file: usize,
+        /// The place of the program's first argument, or the number of words.
+        args: usize,
+        /// The greatest number of steps at each length.
+        budget: u64,
+        /// The greatest number of mapped pages at each length.
+        pages: u32,
+    },
 }
 
 /// The commands by their names.
@@ -96,6 +106,8 @@ pub enum Command {
     Dis,
     /// `dbg FILE SCRIPT --vl N --budget B [--pages P] [-- ARG ..]`
     Dbg,
+    /// `sweep FILE --budget B [--pages P] [-- ARG ..]`
+    Sweep,
 }
 
 /// The options of commands. Each has a value.
@@ -112,6 +124,9 @@ pub enum OptionName {
 /// The options of the commands that run a machine.
 const MACHINE_OPTIONS: [OptionName; 3] = [OptionName::Vl, OptionName::Budget, OptionName::Pages];
 
+/// The options of the command that runs a machine at each length.
+const SWEEP_OPTIONS: [OptionName; 2] = [OptionName::Budget, OptionName::Pages];
+
 impl Command {
     /// The command of a name. None exactly where there is none.
     pub fn of(word: &str) -> Option<Command>
@@ -122,6 +137,7 @@ impl Command {
             "asm" => Some(Command::Asm),
             "dis" => Some(Command::Dis),
             "dbg" => Some(Command::Dbg),
+            "sweep" => Some(Command::Sweep),
             _ => None,
         }
     }
@@ -132,6 +148,7 @@ impl Command {
     {
         match self {
             Command::Run | Command::Dbg => &MACHINE_OPTIONS,
+            Command::Sweep => &SWEEP_OPTIONS,
             Command::Asm | Command::Dis => &[],
         }
     }
@@ -142,7 +159,7 @@ impl Command {
         ensures few { result ≤ 2 }
     {
         match self {
-            Command::Run | Command::Asm | Command::Dis => 1,
+            Command::Run | Command::Asm | Command::Dis | Command::Sweep => 1,
             Command::Dbg => 2,
         }
     }
@@ -152,7 +169,7 @@ impl Command {
         ensures { result ≡ takes_arguments self }
     {
         match self {
-            Command::Run | Command::Dbg => true,
+            Command::Run | Command::Dbg | Command::Sweep => true,
             Command::Asm | Command::Dis => false,
         }
     }

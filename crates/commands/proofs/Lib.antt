@@ -8,4 +8,5 @@ pub mod NamedFiles
 pub mod RunEnds
 pub mod Runs
 pub mod Sessions
+pub mod Sweeps
 pub mod TextFiles

@@ -1,13 +1,15 @@
 -- How lines may end, by how their parts end.
-use Rattle.std.proofs.Common.{◌≡◌, ℕ, Bool, true, Result, Ok, Err, refl}
+use Rattle.std.proofs.Common.{◌≡◌, ◌∙◌, ℕ, Bool, true, false, ◌||◌, nat_eq, Result, Ok, Err, ap, refl}
+use Rattle.sweep_model.specs.Sweep.{stream_limit}
+use Rattle.commands.specs.Sweeping.{ends_swept}
 use Rattle.emu_outcome.specs.declared.ending.Ending.{Ending}
-use Rattle.emu_outcome.specs.declared.ending.Ending.TheVariants.{Exit, Trap, Spent, Done, ImageRefused, ListingRefused, ScriptRefused, WriteFault, ErrorsFault}
+use Rattle.emu_outcome.specs.declared.ending.Ending.TheVariants.{Exit, Trap, Spent, Done, ImageRefused, ListingRefused, ScriptRefused, TooLong, WriteFault, ErrorsFault, OutOfMemory}
 use Rattle.emu_machine.specs.declared.ends.RunEnd.{RunEnd}
 use Rattle.emu_machine.specs.declared.ends.RunEnd.TheVariants as runs
 use Rattle.dbg_core.specs.declared.ends.SessionEnd.{SessionEnd}
 use Rattle.dbg_core.specs.declared.ends.SessionEnd.TheVariants as sessions
 use Rattle.commands.specs.Endings.{done_by, ended_by, ending_by, ending_of_session}
-use Rattle.commands.specs.Lines.{stops_any, ends_run, ends_asm, ends_dis, ends_dbg}
+use Rattle.commands.specs.Lines.{stops_any, ends_run, ends_asm, ends_dis, ends_dbg, ends_sweep}
 
 -- behind a line on the errors, and behind the whole output
 pub kind_put : {T E : Type 0} (may : Ending → Bool) (put : Result T E) (ending : Ending) → may ErrorsFault ≡ true → may ending ≡ true → may (ended_by put ending) ≡ true
@@ -56,3 +58,22 @@ stops_dbg Done is = refl
 stops_dbg (ImageRefused fault) is = refl
 stops_dbg (ScriptRefused fault) is = refl
 stops_dbg ending is = is
+
+either_true : (a : Bool) → (a || true) ≡ true
+either_true true = refl
+either_true false = refl
+
+pub stops_sweep : (ending : Ending) → stops_any ending ≡ true → ends_sweep ending ≡ true
+stops_sweep Done is = refl
+stops_sweep (ImageRefused fault) is = refl
+stops_sweep (TooLong limit) is = ap (λ b. nat_eq limit stream_limit || b) is ∙ either_true (nat_eq limit stream_limit)
+stops_sweep ending is = is
+
+-- a sweep that has its input
+pub swept_sweep : (ending : Ending) → ends_swept ending ≡ true → ends_sweep ending ≡ true
+swept_sweep Done is = refl
+swept_sweep (TooLong limit) is = ap (λ b. b || stops_any (TooLong limit)) is
+swept_sweep WriteFault is = refl
+swept_sweep ErrorsFault is = refl
+swept_sweep OutOfMemory is = refl
+swept_sweep ending is = cc

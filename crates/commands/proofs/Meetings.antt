@@ -27,10 +27,10 @@ use Rattle.commands.specs.Promises.{is_failure, settled_ending, is_refusal, outp
 
 -- ---- by whether something failed
 
-never : (ending : Ending) {P : Type 0} → is_failure ending ≡ true → is_failure ending ≡ false → P
+pub never : (ending : Ending) {P : Type 0} → is_failure ending ≡ true → is_failure ending ≡ false → P
 never ending failed fine = let e : true ≡ false = sym failed ∙ fine in cc
 
-gains_all : (ending : Ending) (held : Option (List ℕ)) (had bytes : List ℕ) → is_failure ending ≡ false → held ≡ Some (had ++ bytes) → Gains (is_failure ending) held had bytes
+pub gains_all : (ending : Ending) (held : Option (List ℕ)) (had bytes : List ℕ) → is_failure ending ≡ false → held ≡ Some (had ++ bytes) → Gains (is_failure ending) held had bytes
 gains_all ending held had bytes fine is = subst (λ (b : Bool). Gains b held had bytes) (sym fine) is
 
 gains_first : (ending : Ending) (held : Option (List ℕ)) (had bytes : List ℕ) → is_failure ending ≡ true → GainedFirst held had bytes → Gains (is_failure ending) held had bytes
@@ -39,30 +39,30 @@ gains_first ending held had bytes failed first = subst (λ (b : Bool). Gains b h
 loses_just : (ending : Ending) (left : Option (List ℕ)) (bytes : List ℕ) (count : ℕ) → is_failure ending ≡ false → left ≡ Some (drop count bytes) → Loses (is_failure ending) left bytes count
 loses_just ending left bytes count fine is = subst (λ (b : Bool). Loses b left bytes count) (sym fine) is
 
-loses_within : (ending : Ending) (left : Option (List ℕ)) (bytes : List ℕ) (count : ℕ) → is_failure ending ≡ true → LostAtMost left bytes count → Loses (is_failure ending) left bytes count
+pub loses_within : (ending : Ending) (left : Option (List ℕ)) (bytes : List ℕ) (count : ℕ) → is_failure ending ≡ true → LostAtMost left bytes count → Loses (is_failure ending) left bytes count
 loses_within ending left bytes count failed lost = subst (λ (b : Bool). Loses b left bytes count) (sym failed) lost
 
 -- ---- streams that nothing was moved of
 
 -- what holds of all bytes holds of those that were told
-told : (bytes : Option (List ℕ)) {P : List ℕ → Type 0} → ((xs : List ℕ) → P xs) → IfSome bytes P
+pub told : (bytes : Option (List ℕ)) {P : List ℕ → Type 0} → ((xs : List ℕ) → P xs) → IfSome bytes P
 told None p = tt
 told (Some xs) p = p xs
 
 -- what holds of the bytes that were told
-at_told : (bytes : Option (List ℕ)) (P : List ℕ → Type 0) (xs : List ℕ) → IfSome bytes P → bytes ≡ Some xs → P xs
+pub at_told : (bytes : Option (List ℕ)) (P : List ℕ → Type 0) (xs : List ℕ) → IfSome bytes P → bytes ≡ Some xs → P xs
 at_told None P xs p is = cc
 at_told (Some ys) P xs p is = let same : ys ≡ xs = cc in subst P same p
 
 no_bytes : (had bytes : List ℕ) → GainedFirst (Some had) had bytes
 no_bytes had bytes = record { gained = []; is = ap (λ (xs : List ℕ). Some xs) (sym (append-nil had)); first = (bytes, refl) }
 
-none_gained : (failed : Bool) (held : Option (List ℕ)) → IfSome held (λ had. Gains failed held had [])
+pub none_gained : (failed : Bool) (held : Option (List ℕ)) → IfSome held (λ had. Gains failed held had [])
 none_gained failed None = tt
 none_gained false (Some had) = ap (λ (xs : List ℕ). Some xs) (sym (append-nil had))
 none_gained true (Some had) = no_bytes had []
 
-no_first : (ending : Ending) (held : Option (List ℕ)) (bytes : List ℕ) → is_failure ending ≡ true → IfSome held (λ had. Gains (is_failure ending) held had bytes)
+pub no_first : (ending : Ending) (held : Option (List ℕ)) (bytes : List ℕ) → is_failure ending ≡ true → IfSome held (λ had. Gains (is_failure ending) held had bytes)
 no_first ending None bytes failed = tt
 no_first ending (Some had) bytes failed = gains_first ending (Some had) had bytes failed (no_bytes had bytes)
 

@@ -14,7 +14,7 @@ use Rattle.emu_outcome.specs.declared.ending.Ending.{Ending}
 use Rattle.emu_outcome.specs.declared.ending.Ending.TheVariants.{TooLong, FileFault, ErrorsFault, OutOfMemory}
 use Rattle.commands.specs.Endings.{ended_by}
 use Rattle.emu_system.specs.Gained.{Gains}
-use Rattle.commands.specs.Promises.{is_failure, output_of, errors_of, taken_of, Now, now, CountsFor, EndsAs, Loses, Meets, NamesNoFile, Settles}
+use Rattle.commands.specs.Promises.{is_failure, output_of, errors_of, taken_of, Now, now, CountsFor, EndsAs, Loses, Meets, MeetsBy, NamesNoFile, Settles}
 use Rattle.commands.specs.Reading.{GivesFile, IsTooLong, EndsUnread}
 use Rattle.commands.proofs.Meetings.{nothing_meets, line_meets}
 
@@ -59,10 +59,10 @@ none_of None next e = refl
 none_of (Some found) next e = absurd (some_either (nat_lt file_limit (length found)) too_long (next found) e)
 
 -- outcomes that are equal for each input
-pub same_outcome : (f g : List ℕ → Option Outcome) (result : Ending) (old new : Now) → ((input : List ℕ) → f input ≡ g input) → Meets f result old new → Meets g result old new
-same_outcome f g result old new same m = record {
+pub same_outcome : {settles : Option Outcome → Ending → Type 0} (f g : List ℕ → Option Outcome) (result : Ending) (old new : Now) → ((input : List ℕ) → f input ≡ g input) → MeetsBy settles f result old new → MeetsBy settles g result old new
+same_outcome {settles} f g result old new same m = record {
   ends = IfSome_then old.input m.ends (λ bytes h fine. subst (λ (x : Option Outcome). EndsAs x result) (same bytes) (h fine));
-  settled = λ fine bytes. subst (λ (x : Option Outcome). Settles x result) (same bytes) (m.settled fine bytes);
+  settled = λ fine bytes. subst (λ (x : Option Outcome). settles x result) (same bytes) (m.settled fine bytes);
   output = λ bytes. subst (λ (x : Option Outcome). CountsFor old.input x bytes → IfSome old.output (λ had. Gains (is_failure result) new.output had (output_of x))) (same bytes) (m.output bytes);
   errors = λ bytes. subst (λ (x : Option Outcome). CountsFor old.input x bytes → IfSome old.errors (λ had. Gains (is_failure result) new.errors had (errors_of x))) (same bytes) (m.errors bytes);
   input = IfSome_then old.input m.input (λ bytes h. subst (λ (x : Option Outcome). Loses (is_failure result) new.input bytes (taken_of x)) (same bytes) h);
@@ -121,14 +121,19 @@ abbrev pub over : (Files → List ℕ → List ℕ → Option Outcome) → List 
 over next words place files i = with_file (file_at words files place) (λ bytes. next files bytes i)
 
 -- the file was read, which put nothing
+pub found_file_by : (settles : Option Outcome → Ending → Type 0) (next : Files → List ℕ → List ℕ → Option Outcome) (told : Option Files) (words : List (List ℕ)) (place : ℕ) (name bytes items : List ℕ) (i o e still : Option (List ℕ)) (new : Now) (result : Ending)
+    → name ≡ get_or words place [] → bytes ≡ items → still ≡ e → IfSome told (λ files. whole_file (get files name) file_limit ≡ Ok items)
+    → IfSome told (λ files. MeetsBy settles (next files bytes) result (now i o still) new) → IfSome told (λ files. MeetsBy settles (over next words place files) result (now i o e) new)
+found_file_by settles next None words place name bytes items i o e still new result named are kept found meets = tt
+found_file_by settles next (Some files) words place name bytes items i o e still new result named are kept found meets =
+    let whole : whole_file (get files (get_or words place [])) file_limit ≡ Ok bytes = ap (λ (n : List ℕ). whole_file (get files n) file_limit) (sym named) ∙ found ∙ ap (λ (xs : List ℕ). Ok xs) (sym are) in
+    same_outcome (next files bytes) (over next words place files) result (now i o e) new (λ input. sym (with_found (file_at words files place) bytes (λ b. next files b input) whole))
+    (subst (λ (held : Option (List ℕ)). MeetsBy settles (next files bytes) result (now i o held) new) kept meets)
+
 pub found_file : (next : Files → List ℕ → List ℕ → Option Outcome) (told : Option Files) (words : List (List ℕ)) (place : ℕ) (name bytes items : List ℕ) (i o e still : Option (List ℕ)) (new : Now) (result : Ending)
     → name ≡ get_or words place [] → bytes ≡ items → still ≡ e → IfSome told (λ files. whole_file (get files name) file_limit ≡ Ok items)
     → IfSome told (λ files. Meets (next files bytes) result (now i o still) new) → IfSome told (λ files. Meets (over next words place files) result (now i o e) new)
-found_file next None words place name bytes items i o e still new result named are kept found meets = tt
-found_file next (Some files) words place name bytes items i o e still new result named are kept found meets =
-    let whole : whole_file (get files (get_or words place [])) file_limit ≡ Ok bytes = ap (λ (n : List ℕ). whole_file (get files n) file_limit) (sym named) ∙ found ∙ ap (λ (xs : List ℕ). Ok xs) (sym are) in
-    same_outcome (next files bytes) (over next words place files) result (now i o e) new (λ input. sym (with_found (file_at words files place) bytes (λ b. next files b input) whole))
-    (subst (λ (held : Option (List ℕ)). Meets (next files bytes) result (now i o held) new) kept meets)
+found_file next told words place name bytes items i o e still new result named are kept found meets = found_file_by Settles next told words place name bytes items i o e still new result named are kept found meets
 
 -- it wasn't
 pub unread_file : (next : Files → List ℕ → List ℕ → Option Outcome) (told : Option Files) (words : List (List ℕ)) (place : ℕ) (name : List ℕ) (ending : Ending) (input output old new : Option (List ℕ))

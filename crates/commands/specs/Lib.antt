@@ -3,3 +3,4 @@ pub mod Lines
 pub mod Programs
 pub mod Promises
 pub mod Reading
+pub mod Sweeping

@@ -1,15 +1,16 @@
 -- What a command line promises beside its outcome: which lines are refused, for which input an outcome counts, how a line may end, and how it ends
 -- without its files.
-use Rattle.std.specs.Prelude.{◌≡◌, ◌⊎◌, ℕ, Bool, true, false, nat_eq, List, Option, Result, Ok, Err, MatchBool, MatchResult}
+use Rattle.std.specs.Prelude.{◌≡◌, ◌⊎◌, ℕ, Bool, true, false, ◌||◌, nat_eq, List, Option, Result, Ok, Err, MatchBool, MatchResult}
 use Rattle.io_gate.specs.Images.{MissesNamed}
 use Rattle.command_lines.specs.Places.{file_named}
 use Rattle.command_model.specs.declared.command_line.Line.{Line}
-use Rattle.command_model.specs.declared.command_line.Line.TheVariants.{Run, Asm, Dis, Dbg}
+use Rattle.command_model.specs.declared.command_line.Line.TheVariants.{Run, Asm, Dis, Dbg, Sweep}
 use Rattle.command_model.specs.declared.command_line.WordsFault.{WordsFault}
+use Rattle.sweep_model.specs.Sweep.{stream_limit}
 use Rattle.emu_outcome.specs.Outcome.{Outcome, Files, file_limit}
 use Rattle.emu_outcome.specs.declared.ending.Ending.{Ending}
 use Rattle.emu_outcome.specs.declared.ending.Ending.TheVariants.{Exit, Trap, Spent, Done, WordsRefused, ImageRefused, ListingRefused, ScriptRefused, TooLong, FileFault, ErrorsFault, OutOfMemory}
-use Rattle.commands.specs.Promises.{is_failure, CountsFor}
+use Rattle.commands.specs.Promises.{is_failure, CountsFor, MeetsBy, Now, Settles, SettlesSweep}
 
 -- the line runs a machine
 abbrev pub runs_machine : Result Line WordsFault → Bool
@@ -17,7 +18,29 @@ runs_machine (Ok (Run file args bits budget pages)) = true
 runs_machine (Ok (Asm listing)) = false
 runs_machine (Ok (Dis file)) = false
 runs_machine (Ok (Dbg file script args bits budget pages)) = true
+runs_machine (Ok (Sweep file args budget pages)) = true
 runs_machine (Err fault) = false
+
+-- the line runs one at each length
+abbrev pub sweeps : Result Line WordsFault → Bool
+sweeps (Ok (Run file args bits budget pages)) = false
+sweeps (Ok (Asm listing)) = false
+sweeps (Ok (Dis file)) = false
+sweeps (Ok (Dbg file script args bits budget pages)) = false
+sweeps (Ok (Sweep file args budget pages)) = true
+sweeps (Err fault) = false
+
+-- what the ending of the line and its outcome share whatever the input has
+abbrev pub SettlesLine : Result Line WordsFault → Option Outcome → Ending → Type 0
+SettlesLine (Ok (Run file args bits budget pages)) = Settles
+SettlesLine (Ok (Asm listing)) = Settles
+SettlesLine (Ok (Dis file)) = Settles
+SettlesLine (Ok (Dbg file script args bits budget pages)) = Settles
+SettlesLine (Ok (Sweep file args budget pages)) = SettlesSweep
+SettlesLine (Err fault) = Settles
+
+abbrev pub MeetsLine : Result Line WordsFault → (List ℕ → Option Outcome) → Ending → Now → Now → Type 0
+MeetsLine line outcome ending old new = MeetsBy (SettlesLine line) outcome ending old new
 
 -- the outcome of a line for these bytes counts: the line runs no machine, or the input told them, or the outcome rests on none
 abbrev pub IsOutcome : Result Line WordsFault → Option (List ℕ) → Option Outcome → List ℕ → Type 0
@@ -57,12 +80,20 @@ ends_dbg (ImageRefused fault) = true
 ends_dbg (ScriptRefused fault) = true
 ends_dbg ending = stops_any ending
 
+-- the input, or the output or the errors of a run, may be too long
+abbrev pub ends_sweep : Ending → Bool
+ends_sweep Done = true
+ends_sweep (ImageRefused fault) = true
+ends_sweep (TooLong limit) = nat_eq limit stream_limit || stops_any (TooLong limit)
+ends_sweep ending = stops_any ending
+
 -- whether a line may end so, whatever is in its files
 abbrev pub may_end : Line → Ending → Bool
 may_end (Run file args bits budget pages) ending = ends_run ending
 may_end (Asm listing) ending = ends_asm ending
 may_end (Dis file) ending = ends_dis ending
 may_end (Dbg file script args bits budget pages) ending = ends_dbg ending
+may_end (Sweep file args budget pages) ending = ends_sweep ending
 
 -- ---- files that aren't there
 

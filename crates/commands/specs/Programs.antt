@@ -1,9 +1,10 @@
 -- The lines of commands that run a program, and the outcomes of lines.
 use Rattle.std.specs.Prelude.{ℕ, List, Option, Ok}
 use Rattle.command_model.specs.declared.command_line.Line.{Line}
-use Rattle.command_model.specs.declared.command_line.Line.TheVariants.{Run, Dbg}
+use Rattle.command_model.specs.declared.command_line.Line.TheVariants.{Run, Dbg, Sweep}
 use Rattle.emu_outcome.specs.Outcome.{Outcome, Files, outcome_of_line, program_arguments}
 use Rattle.commands.specs.declared.program.Program.{Program}
+use Rattle.commands.specs.declared.sweeping.Swept.{Swept}
 
 -- what an accepted line comes to
 abbrev pub outcome_over : List (List ℕ) → Line → Files → List ℕ → Option Outcome
@@ -17,5 +18,12 @@ run_line_of p = Run p.file p.args p.length p.budget p.pages
 abbrev pub debug_line_of : Program → ℕ → Line
 debug_line_of p script = Dbg p.file script p.args p.length p.budget p.pages
 
+-- the program is run at each length
+abbrev pub sweep_line_of : Swept → Line
+sweep_line_of p = Sweep p.file p.args p.budget p.pages
+
 abbrev pub arguments_of : List (List ℕ) → Program → List (List ℕ)
 arguments_of words p = program_arguments words p.file p.args
+
+abbrev pub swept_arguments : List (List ℕ) → Swept → List (List ℕ)
+swept_arguments words p = program_arguments words p.file p.args

@@ -1,8 +1,9 @@
 -- What a command promises: its result by the definitions, or, where something failed, nothing beyond it. Each fact rests on what the files told, and on
 -- the input and the sinks that it names, where these tell their bytes.
-use Rattle.std.specs.Prelude.{◌≡◌, ◌≤◌, ℕ, Bool, true, false, List, [], ◌++◌, drop, Option, Some, None, IfSome, MatchBool}
+use Rattle.std.specs.Prelude.{◌≡◌, ◌≤◌, ℕ, Bool, true, false, nat_eq, List, [], ◌++◌, drop, Option, Some, None, IfSome, MatchBool, if◌then◌else◌}
 use Rattle.emu_system.specs.Gained.{Gains}
-use Rattle.emu_outcome.specs.Outcome.{Outcome, Files}
+use Rattle.sweep_model.specs.Sweep.{stream_limit}
+use Rattle.emu_outcome.specs.Outcome.{Outcome, Files, file_limit}
 use Rattle.emu_outcome.specs.declared.ending.Ending.{Ending}
 use Rattle.emu_outcome.specs.declared.ending.Ending.TheVariants.{Exit, Trap, Spent, Done, WordsRefused, ImageRefused, ListingRefused, ScriptRefused, TooLong, FileFault, ReadFault, WriteFault, ErrorsFault, OutOfMemory}
 
@@ -24,10 +25,10 @@ is_silent WriteFault = true
 is_silent OutOfMemory = true
 is_silent ending = false
 
--- the line, a file, an image, a listing or a script is refused
+-- the line, a file, an image, a listing or a script is refused; a stream of a sweep that is too long isn't, since that rests on the input
 abbrev pub is_refusal : Ending → Bool
 is_refusal (WordsRefused fault) = true
-is_refusal (TooLong limit) = true
+is_refusal (TooLong limit) = nat_eq limit file_limit
 is_refusal (ImageRefused fault) = true
 is_refusal (ListingRefused fault) = true
 is_refusal (ScriptRefused fault) = true
@@ -51,6 +52,17 @@ EndsAs (Some outcome) ending = ending ≡ outcome.ending
 abbrev pub Settles : Option Outcome → Ending → Type 0
 Settles None ending = ⊥
 Settles (Some outcome) ending = settled_ending ending ≡ settled_ending outcome.ending
+
+-- the ending of a sweep, where it rests on no input: any but that it came to its end, or that a stream was too long for it
+abbrev pub settled_sweep : Ending → Option Ending
+settled_sweep Done = None
+settled_sweep (TooLong limit) = if nat_eq limit stream_limit then None else Some (TooLong limit)
+settled_sweep ending = Some ending
+
+-- the sweep ends as its outcome says, or both end as a sweep does that read its input
+abbrev pub SettlesSweep : Option Outcome → Ending → Type 0
+SettlesSweep None ending = ⊥
+SettlesSweep (Some outcome) ending = settled_sweep ending ≡ settled_sweep outcome.ending
 
 -- the outcome rests on no input: there is none, or it is a refusal
 abbrev pub rests_on_none : Option Outcome → Bool
@@ -98,13 +110,21 @@ abbrev pub CountsFor : Option (List ℕ) → Option Outcome → List ℕ → Typ
 CountsFor told outcome bytes = MatchBool (rests_on_none outcome) (Unit {0}) (told ≡ Some bytes)
 
 -- Where nothing failed, the command ends as the outcome for what the input had says, and the streams gained and lost just its bytes; after a failure they
--- gained first bytes of these, and lost no more. An ending that isn't that of a run is the outcome's whatever the input has.
-pub record Meets (outcome : List ℕ → Option Outcome) (ending : Ending) (old new : Now) : Type 0 where
+-- gained first bytes of these, and lost no more. What the ending and the outcome share whatever the input has is `settles`.
+pub record MeetsBy (settles : Option Outcome → Ending → Type 0) (outcome : List ℕ → Option Outcome) (ending : Ending) (old new : Now) : Type 0 where
   pub ends : IfSome old.input (λ bytes. is_failure ending ≡ false → EndsAs (outcome bytes) ending)
-  pub settled : is_failure ending ≡ false → (bytes : List ℕ) → Settles (outcome bytes) ending
+  pub settled : is_failure ending ≡ false → (bytes : List ℕ) → settles (outcome bytes) ending
   pub output : (bytes : List ℕ) → CountsFor old.input (outcome bytes) bytes → IfSome old.output (λ had. Gains (is_failure ending) new.output had (output_of (outcome bytes)))
   pub errors : (bytes : List ℕ) → CountsFor old.input (outcome bytes) bytes → IfSome old.errors (λ had. Gains (is_failure ending) new.errors had (errors_of (outcome bytes)))
   pub input : IfSome old.input (λ bytes. Loses (is_failure ending) new.input bytes (taken_of (outcome bytes)))
+
+-- an ending that isn't that of a run is the outcome's whatever the input has
+abbrev pub Meets : (List ℕ → Option Outcome) → Ending → Now → Now → Type 0
+Meets outcome ending old new = MeetsBy Settles outcome ending old new
+
+-- and so is one that isn't that of a sweep
+abbrev pub MeetsSweep : (List ℕ → Option Outcome) → Ending → Now → Now → Type 0
+MeetsSweep outcome ending old new = MeetsBy SettlesSweep outcome ending old new
 
 -- ---- files that aren't there
 

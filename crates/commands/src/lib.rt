@@ -9,6 +9,7 @@ mod line;
 mod listings;
 mod program;
 mod run;
+mod sweeping;
 mod texts;
 
 pub use line::command;

@@ -6,10 +6,10 @@ ghost use Rattle.command_model.specs.CommandLine.{line};
 ghost use Rattle.command_model.specs.Refusals.{words_line};
 ghost use Rattle.emu_outcome.specs.Outcome.{result_of};
 ghost use Rattle.command_lines.specs.Places.{HasArguments, HasPlaces, file_named};
-ghost use Rattle.commands.specs.Lines.{runs_machine, may_end, RefusesLine, MissesFirst, EndsMissing};
+ghost use Rattle.commands.specs.Lines.{runs_machine, may_end, sweeps, MeetsLine, RefusesLine, MissesFirst, EndsMissing};
 ghost use Rattle.commands.specs.Programs.{outcome_over};
 ghost use Rattle.emu_system.specs.Gained.{Gains};
-ghost use Rattle.commands.specs.Promises.{is_failure, is_silent, now, Meets, NamesNoFile};
+ghost use Rattle.commands.specs.Promises.{is_failure, is_silent, now, NamesNoFile};
 
 use crate::debugger::debug_file;
 use crate::disassembly::disassemble_file;
@@ -17,6 +17,7 @@ use crate::files::ending_after_line;
 use crate::listings::assemble_file;
 use crate::program::Program;
 use crate::run::run_file;
+use crate::sweeping::{Swept, sweep_file};
 use command_lines::{Line, line_of_words};
 use emu_outcome::Ending;
 use emu_report::put_words_refusal;
@@ -35,9 +36,9 @@ fn run_line<F: Images, I: Source, O: Sink, E: Sink>(
 ) -> Ending
     requires places { HasPlaces line.now (length words.now) }
     requires arguments { HasArguments (map string_bytes words.now) line.now }
-    ensures outcome { IfSome (F.named files.old) (λ named. Meets (outcome_over (map string_bytes words.now) line.now named) result
+    ensures outcome { IfSome (F.named files.old) (λ named. MeetsLine (Ok line.now) (outcome_over (map string_bytes words.now) line.now named) result
         (now (I.left input.old) (O.held output.old) (E.held errors.old)) (now (I.left input.new) (O.held output.new) (E.held errors.new))) }
-    ensures without_input { runs_machine (Ok line.now) ≡ false → (input : Option (List ℕ)) → IfSome (F.named files.old) (λ named. Meets (outcome_over (map string_bytes words.now) line.now named) result
+    ensures without_input { runs_machine (Ok line.now) ≡ false → (input : Option (List ℕ)) → IfSome (F.named files.old) (λ named. MeetsLine (Ok line.now) (outcome_over (map string_bytes words.now) line.now named) result
         (now input (O.held output.old) (E.held errors.old)) (now input (O.held output.new) (E.held errors.new))) }
     ensures file_cause { result ≡ Ending.FileFault → Rose (F.faults files.old) (F.faults files.new)
         ⊎ NamesNoFile (outcome_over (map string_bytes words.now) line.now) (F.named files.old) }
@@ -46,7 +47,7 @@ fn run_line<F: Images, I: Source, O: Sink, E: Sink>(
     ensures missing_first { MissesNamed (F.named files.old) (file_named (map string_bytes words.now) line.now) → result ≡ Ending.FileFault }
     ensures file_first { result ≡ Ending.FileFault → (input.new ≡ input.old) × (output.new ≡ output.old) × (errors.new ≡ errors.old) }
     ensures files_later { F.faults files.old ≤ F.faults files.new }
-    ensures memory_first { result ≡ Ending.OutOfMemory → (input.new ≡ input.old) × (output.new ≡ output.old) × (errors.new ≡ errors.old) }
+    ensures memory_first { sweeps (Ok line.now) ≡ false → result ≡ Ending.OutOfMemory → (input.new ≡ input.old) × (output.new ≡ output.old) × (errors.new ≡ errors.old) }
     ensures read_cause { Causes (result ≡ Ending.ReadFault) (I.faults input.old) (I.faults input.new) }
     ensures write_cause { Causes (result ≡ Ending.WriteFault) (O.faults output.old) (O.faults output.new) }
     ensures errors_cause { Causes (result ≡ Ending.ErrorsFault) (E.faults errors.old) (E.faults errors.new) }
@@ -90,6 +91,20 @@ fn run_line<F: Images, I: Source, O: Sink, E: Sink>(
             };
             debug_file(alloc, words, &program, script, files, input, output, errors)
         }
+        Line::Sweep {
+            file,
+            args,
+            budget,
+            pages,
+        } => {
+            let program = Swept {
+                file,
+                args,
+                budget,
+                pages,
+            };
+            sweep_file(alloc, words, &program, files, input, output, errors)
+        }
     }
 }
 
@@ -102,9 +117,9 @@ pub fn command<F: Images, I: Source, O: Sink, E: Sink>(
     output: &mut O,
     errors: &mut E,
 ) -> Ending
-    ensures outcome { IfSome (F.named files.old) (λ named. Meets (result_of (map string_bytes words.now) named) result
+    ensures outcome { IfSome (F.named files.old) (λ named. MeetsLine (line (map string_bytes words.now)) (result_of (map string_bytes words.now) named) result
         (now (I.left input.old) (O.held output.old) (E.held errors.old)) (now (I.left input.new) (O.held output.new) (E.held errors.new))) }
-    ensures without_input { runs_machine (line (map string_bytes words.now)) ≡ false → (input : Option (List ℕ)) → IfSome (F.named files.old) (λ named. Meets (result_of (map string_bytes words.now) named) result
+    ensures without_input { runs_machine (line (map string_bytes words.now)) ≡ false → (input : Option (List ℕ)) → IfSome (F.named files.old) (λ named. MeetsLine (line (map string_bytes words.now)) (result_of (map string_bytes words.now) named) result
         (now input (O.held output.old) (E.held errors.old)) (now input (O.held output.new) (E.held errors.new))) }
     ensures file_cause { result ≡ Ending.FileFault → Rose (F.faults files.old) (F.faults files.new)
         ⊎ NamesNoFile (result_of (map string_bytes words.now)) (F.named files.old) }
@@ -113,7 +128,7 @@ pub fn command<F: Images, I: Source, O: Sink, E: Sink>(
     ensures missing_first { MissesFirst (map string_bytes words.now) (line (map string_bytes words.now)) (F.named files.old) → result ≡ Ending.FileFault }
     ensures file_first { result ≡ Ending.FileFault → (input.new ≡ input.old) × (output.new ≡ output.old) × (errors.new ≡ errors.old) }
     ensures files_later { F.faults files.old ≤ F.faults files.new }
-    ensures memory_first { result ≡ Ending.OutOfMemory → (input.new ≡ input.old) × (output.new ≡ output.old) × (errors.new ≡ errors.old) }
+    ensures memory_first { sweeps (line (map string_bytes words.now)) ≡ false → result ≡ Ending.OutOfMemory → (input.new ≡ input.old) × (output.new ≡ output.old) × (errors.new ≡ errors.old) }
     ensures read_cause { Causes (result ≡ Ending.ReadFault) (I.faults input.old) (I.faults input.new) }
     ensures write_cause { Causes (result ≡ Ending.WriteFault) (O.faults output.old) (O.faults output.new) }
     ensures errors_cause { Causes (result ≡ Ending.ErrorsFault) (E.faults errors.old) (E.faults errors.new) }

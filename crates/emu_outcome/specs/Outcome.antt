@@ -1,12 +1,12 @@
 -- The result of a command line: its ending, the bytes that it writes to the output and to the errors, and how much input it takes.
 -- `result_of`, at the end, is the whole of it.
-use Rattle.std.specs.Prelude.{ℕ, ◌-◌, List, [], ◌∷◌, ◌++◌, drop, length, get_or, Option, Some, None, Result, Ok, Err, nat_lt, if◌then◌else◌}
+use Rattle.std.specs.Prelude.{ℕ, ◌+◌, ◌-◌, List, [], ◌∷◌, ◌++◌, drop, length, get_or, Option, Some, None, Result, Ok, Err, nat_lt, if◌then◌else◌}
 use Rattle.std.specs.Ordering.{nat_cmp}
 use Rattle.std.specs.Cmp.Lexicographic.{slice_cmp}
 use Rattle.std.specs.FinMap.{FinMap, get}
 use Rattle.command_model.specs.declared.command_line.WordsFault.{WordsFault}
 use Rattle.command_model.specs.declared.command_line.Line.{Line}
-use Rattle.command_model.specs.declared.command_line.Line.TheVariants.{Run, Asm, Dis, Dbg}
+use Rattle.command_model.specs.declared.command_line.Line.TheVariants.{Run, Asm, Dis, Dbg, Sweep as SweepLine}
 use Rattle.command_model.specs.CommandLine.{line}
 use Rattle.command_model.specs.Refusals.{words_line, image_line, listing_line, script_line, too_long_line}
 use Rattle.dbg_model.specs.declared.script.Command.{Command}
@@ -25,6 +25,7 @@ use Rattle.insn_texts.specs.Disassembly.{dis_of}
 use Rattle.insn_texts.specs.Statements.{statements}
 use Rattle.listing_model.specs.declared.fault.ListingFault.{ListingFault}
 use Rattle.listing_model.specs.Image.{image_of_bytes}
+use Rattle.sweep_model.specs.Sweep.{Sweep, fits, stream_limit, sweep_text, text_before}
 use Rattle.emu_outcome.specs.declared.ending.Ending.{Ending}
 use Rattle.emu_outcome.specs.declared.ending.Ending.TheVariants.{Exit, Trap, Spent, Done, WordsRefused, ImageRefused, ListingRefused, ScriptRefused, TooLong}
 
@@ -126,6 +127,29 @@ outcome_of_debug file script args input bits budget pages (Ok image) =
     outcome_of_script input budget (with_input (opening file image args bits pages) input) (script_of_file script)
 outcome_of_debug file script args input bits budget pages (Err fault) = refusal (ImageRefused fault) (image_line fault)
 
+-- ---- sweep
+
+-- the input, or the output or the errors of a run, are too long: the lines of the lengths before it
+abbrev pub too_long_stream : List ℕ → ℕ → Outcome
+too_long_stream lines taken = record { ending = TooLong stream_limit; output = lines; errors = too_long_line stream_limit; taken = taken }
+
+-- the lines of all lengths
+abbrev pub outcome_of_sweep : Sweep → Outcome
+outcome_of_sweep s =
+    if fits s then record { ending = Done; output = sweep_text s; errors = []; taken = length s.input }
+    else too_long_stream (text_before s) (length s.input)
+
+-- the input is read before the first run, up to one byte more than the limit
+abbrev pub outcome_of_lengths : List ℕ → List (List ℕ) → List ℕ → ℕ → ℕ → Image → Outcome
+outcome_of_lengths file args input budget pages image =
+    if nat_lt stream_limit (length input) then too_long_stream [] (stream_limit + 1)
+    else outcome_of_sweep (record { file = file; image = image; args = args; pages = pages; budget = budget; input = input })
+
+-- an image's refusal comes before the input is read
+abbrev pub outcome_of_swept : List ℕ → List (List ℕ) → List ℕ → ℕ → ℕ → Result Image ElfFault → Outcome
+outcome_of_swept file args input budget pages (Ok image) = outcome_of_lengths file args input budget pages image
+outcome_of_swept file args input budget pages (Err fault) = refusal (ImageRefused fault) (image_line fault)
+
 -- ---- all commands
 
 abbrev pub outcome_of_line : List (List ℕ) → Files → List ℕ → Result Line WordsFault → Option Outcome
@@ -139,6 +163,8 @@ outcome_of_line words files input (Ok (Dis file)) =
 outcome_of_line words files input (Ok (Dbg file script args bits budget pages)) =
     with_file (file_at words files file) (λ bytes. with_file (file_at words files script) (λ text.
     Some (outcome_of_debug bytes text (program_arguments words file args) input bits budget pages (elf bytes pages))))
+outcome_of_line words files input (Ok (SweepLine file args budget pages)) =
+    with_file (file_at words files file) (λ bytes. Some (outcome_of_swept bytes (program_arguments words file args) input budget pages (elf bytes pages)))
 
 -- the result of a command line over these files and this input; none where it names a file that there isn't
 abbrev pub result_of : List (List ℕ) → Files → List ℕ → Option Outcome

@@ -6,7 +6,7 @@ ghost use Rattle.emu_model.specs.Pages.{peeked};
 ghost use Rattle.vec_model.specs.Lanes.{read_z};
 ghost use Rattle.emu_run.specs.Text.{hex, space};
 ghost use Rattle.emu_run.specs.Registers.{lines_of};
-ghost use Rattle.dbg_model.specs.Session.{behind_steps, break_line, byte_text, lane_text, lanes_line, memory_line, memory_lines, p_line, size_letter, step_line, watch_line, z_line};
+ghost use Rattle.dbg_model.specs.Session.{behind_steps, break_line, byte_text, lane_text, lanes_line, length_line, memory_line, memory_lines, p_line, size_letter, step_line, watch_line, z_line};
 
 use crate::endings::push_address;
 use crate::registers::{Kind, push_name, put_line};
@@ -50,6 +50,20 @@ pub fn put_break<S: Sink>(steps: u64, pc: u64, sink: &mut S) -> Result<(), Faile
     let mut text = Text::new();
     text.push(b"break");
     push_behind_steps(&mut text, steps, pc);
+    text.put(sink)
+}
+
+/// Puts the line of the present and the starting vector length in bits, as `vl 128 of 256`.
+pub fn put_length<S: Sink>(vec: &VecRegs, sink: &mut S) -> Result<(), Failed>
+    ensures bytes { PutsAll (S.held sink.old) (S.held sink.new) (length_line vec.now) result }
+    ensures cause { HasCause (S.faults sink.old) (S.faults sink.new) result }
+{
+    let mut text = Text::new();
+    text.push(b"vl ");
+    text.push_decimal(u64::from(vec.length().bits()));
+    text.push(b" of ");
+    text.push_decimal(u64::from(vec.most().bits()));
+    text.push(b"\n");
     text.put(sink)
 }
 

@@ -1,7 +1,7 @@
 //! The line of a run's ending.
 ghost use Rattle.std.specs.Prelude.{◌≡◌, ◌≤◌, ◌+◌, ◌++◌, length};
 ghost use Rattle.io_gate.specs.Streams.{HasCause, PutsAll};
-ghost use Rattle.emu_run.specs.Reports.{address_text, after_steps, exit_line, trap_line, spent_line};
+ghost use Rattle.emu_run.specs.Reports.{address_text, after_steps, exit_line, exit_text, spent_line, spent_text, trap_line, trap_text};
 
 use crate::names::trap_name;
 use crate::text::Text;
@@ -14,8 +14,7 @@ pub fn put_exit<S: Sink>(code: u8, steps: u64, sink: &mut S) -> Result<(), Faile
     ensures cause { HasCause (S.faults sink.old) (S.faults sink.new) result }
 {
     let mut text = Text::new();
-    text.push(b"exit ");
-    text.push_decimal(u64::from(code));
+    push_exit(&mut text, code);
     push_after_steps(&mut text, steps);
     text.put(sink)
 }
@@ -27,12 +26,7 @@ pub fn put_trap<S: Sink>(t: &Trap, pc: u64, steps: u64, sink: &mut S) -> Result<
     ensures cause { HasCause (S.faults sink.old) (S.faults sink.new) result }
 {
     let mut text = Text::new();
-    text.push(b"trap ");
-    text.push(trap_name(t.kind).as_bytes());
-    text.push(b" ");
-    push_address(&mut text, t.address);
-    text.push(b" at ");
-    push_address(&mut text, pc);
+    push_trap(&mut text, t, pc);
     push_after_steps(&mut text, steps);
     text.put(sink)
 }
@@ -43,9 +37,42 @@ pub fn put_spent<S: Sink>(steps: u64, sink: &mut S) -> Result<(), Failed>
     ensures cause { HasCause (S.faults sink.old) (S.faults sink.new) result }
 {
     let mut text = Text::new();
-    text.push(b"spent");
+    push_spent(&mut text);
     push_after_steps(&mut text, steps);
     text.put(sink)
+}
+
+/// Appends how a program ended by a call, as `exit 7`.
+pub fn push_exit(text: &mut Text, code: u8)
+    requires { length text.old + 25 ≤ 2048 }
+    ensures text { text.new ≡ text.old ++ exit_text code }
+    ensures len { length text.new ≤ length text.old + 25 }
+{
+    text.push(b"exit ");
+    text.push_decimal(u64::from(code));
+}
+
+/// Appends how a program trapped at the address `pc`, as `trap undefined 0x0000000000400000 at 0x0000000000400000`.
+pub fn push_trap(text: &mut Text, t: &Trap, pc: u64)
+    requires { length text.old + 60 ≤ 2048 }
+    ensures text { text.new ≡ text.old ++ trap_text t.now pc }
+    ensures len { length text.new ≤ length text.old + 60 }
+{
+    text.push(b"trap ");
+    text.push(trap_name(t.kind).as_bytes());
+    text.push(b" ");
+    push_address(text, t.address);
+    text.push(b" at ");
+    push_address(text, pc);
+}
+
+/// Appends that a budget is spent, as `spent`.
+pub fn push_spent(text: &mut Text)
+    requires { length text.old + 5 ≤ 2048 }
+    ensures text { text.new ≡ text.old ++ spent_text }
+    ensures len { length text.new ≡ length text.old + 5 }
+{
+    text.push(b"spent");
 }
 
 /// Appends an address with 16 hexadecimal digits.

@@ -28,16 +28,32 @@ address_text a = codes "0x" ++ hex 16 a
 abbrev pub after_steps : ℕ → List ℕ
 after_steps steps = codes " after " ++ decimal steps ++ codes " steps" ++ newline
 
+-- how a machine ended, by itself
+abbrev pub exit_text : ℕ → List ℕ
+exit_text code = codes "exit " ++ decimal code
+
+abbrev pub trap_text : Trap → ℕ → List ℕ
+trap_text t pc = codes "trap " ++ trap_name t.kind ++ codes " " ++ address_text t.address ++ codes " at " ++ address_text pc
+
+abbrev pub spent_text : List ℕ
+spent_text = codes "spent"
+
+-- of one that has stopped; where it hasn't ended its budget is spent
+abbrev pub ending_text : Parts → Option Ended → List ℕ
+ending_text m None = spent_text
+ending_text m (Some (Exited code)) = exit_text code
+ending_text m (Some (Trapped t)) = trap_text t m.core.pc
+
+-- the same as a line, with the steps that were counted
 abbrev pub exit_line : ℕ → ℕ → List ℕ
-exit_line code steps = codes "exit " ++ decimal code ++ after_steps steps
+exit_line code steps = exit_text code ++ after_steps steps
 
 abbrev pub trap_line : Trap → ℕ → ℕ → List ℕ
-trap_line t pc steps = codes "trap " ++ trap_name t.kind ++ codes " " ++ address_text t.address ++ codes " at " ++ address_text pc ++ after_steps steps
+trap_line t pc steps = trap_text t pc ++ after_steps steps
 
 abbrev pub spent_line : ℕ → List ℕ
-spent_line steps = codes "spent" ++ after_steps steps
+spent_line steps = spent_text ++ after_steps steps
 
--- how a machine that has stopped ended; where it hasn't ended its budget is spent
 abbrev pub ending_line : Parts → Option Ended → List ℕ
 ending_line m None = spent_line m.steps
 ending_line m (Some (Exited code)) = exit_line code m.steps

@@ -10,7 +10,7 @@ use Rattle.emu_model.specs.Access.{Memory, refused, value}
 use Rattle.emu_model.specs.State.{Core, Vectors, Parts, State, IsPrefix}
 use Rattle.emu_system.specs.Start.{with_input}
 use Rattle.emu_run.specs.declared.insn.Insn.{Insn}
-use Rattle.emu_system.specs.SystemCall.{Action, fails, answers, maps, moves_break, takes, puts, exits, Turn, quiet, total, done_by, action}
+use Rattle.emu_system.specs.SystemCall.{Action, fails, answers, maps, moves_break, sets_length, takes, puts, exits, Turn, quiet, total, done_by, action}
 use Rattle.emu_model.specs.Done.{Done}
 use Rattle.emu_run.specs.Step.{decode, performed, trapped, finished, undefined, executed, fetched, turn, taken_by, step}
 use Rattle.emu_run.specs.Run.{goes_on, until_end, run}
@@ -74,6 +74,7 @@ done_turns (fails e) m input = record { counts = inr refl; takes = rest_all inpu
 done_turns (answers v) m input = record { counts = inr refl; takes = rest_all input }
 done_turns (maps memory v) m input = record { counts = inr refl; takes = rest_all input }
 done_turns (moves_break memory to) m input = record { counts = inr refl; takes = rest_all input }
+done_turns (sets_length bits) m input = record { counts = inr refl; takes = rest_all input }
 done_turns (takes ranges) m input = record { counts = inr refl; takes = record { taken = min (total ranges) (length input); within = omega arith; is = sym (drop_min (total ranges) input) } }
 done_turns (puts file ranges) m input = record { counts = inr refl; takes = rest_all input }
 done_turns (exits code) m input = record { counts = inl refl; takes = rest_all input }

@@ -3,3 +3,5 @@ pub mod Images
 pub mod Calls
 pub mod Memory
 pub mod Pieces
+pub mod Lent
+pub mod ReadAll

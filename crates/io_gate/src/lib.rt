@@ -10,13 +10,17 @@ mod images;
 mod memory;
 mod memory_images;
 mod no_fault;
+mod slice_source;
 mod std_streams;
 mod streams;
+mod whole_source;
 
 pub use file_images::FileImages;
 pub use images::{Images, ImagesError};
 pub use memory::{MemSink, MemSource};
 pub use memory_images::MemImages;
 pub use no_fault::{NoFaultImages, NoFaultSource};
+pub use slice_source::SliceSource;
 pub use std_streams::{StdSink, StdSource};
 pub use streams::{Failed, Sink, Source, put_all};
+pub use whole_source::{ReadEnd, read_all};

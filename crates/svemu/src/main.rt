@@ -1,5 +1,5 @@
-//! svemu: runs a static AArch64 program with the Scalable Vector Extension at a chosen vector length, by itself or in a debugger; makes
-//! executables of listings, and shows the instructions of executables.
+//! svemu: runs a static AArch64 program with the Scalable Vector Extension at a chosen vector length, by itself or in a debugger, or at
+//! each length; makes executables of listings, and shows the instructions of executables.
 #![tactic(auto)]
 
 ghost use Rattle.std.specs.Prelude.{◌≡◌, ◌≢◌};
@@ -10,8 +10,6 @@ use std::env;
 use std::io::ErrorKind;
 use std::process::ExitCode;
 
-#[cfg(test)]
-mod command_tests;
 mod top;
 
 pub use command_lines::{Line, WordsFault, WordsWhy, line_of_words};

@@ -1,0 +1,4 @@
+pub mod PartingLaws
+pub mod Partings
+pub mod Sweep
+pub mod SweepLaws

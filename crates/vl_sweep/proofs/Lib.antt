@@ -1,0 +1,4 @@
+pub mod LineAt
+pub mod LinesSoFar
+pub mod Running
+pub mod Shared
