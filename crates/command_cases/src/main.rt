@@ -6,6 +6,7 @@
 //! - `bytes NAME BYTE ..`: a file of these bytes, in hexadecimal.
 //! - `fill NAME COUNT BYTE`: a file of so many bytes of one value.
 //! - `given TEXT`: the next command reads this text.
+//! - `supply COUNT BYTE`: the next command reads so many bytes of one value, behind what it was given.
 //! - `images NUMBER ..`: of the next command, these calls for a file fail, counted from 0.
 //! - `input MOST NUMBER ..`, and so `output` and `errors`: of the next command, the stream moves so many bytes by one call at most, 4,096 where it
 //!   isn't said, and these calls fail.

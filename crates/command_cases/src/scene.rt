@@ -15,7 +15,7 @@ pub struct Scene {
     files: Vec<(String, Vec<u8>)>,
     /// Whether the lines that come are those of the last file.
     is_open: bool,
-    given: String,
+    given: Vec<u8>,
     images: String,
     input: String,
     output: String,
@@ -90,7 +90,7 @@ impl Scene {
         Scene {
             files: Vec::new(alloc),
             is_open: false,
-            given: String::new(alloc),
+            given: Vec::new(alloc),
             images: String::new(alloc),
             input: String::new(alloc),
             output: String::new(alloc),
@@ -137,7 +137,8 @@ impl Scene {
             }
             "bytes" => self.hold(alloc, name, bytes_of(alloc, last)?)?,
             "fill" => self.hold(alloc, name, filled(alloc, last)?)?,
-            "given" => self.given.push_str(more)?,
+            "given" => self.given.extend_from_slice(more.as_bytes())?,
+            "supply" => self.given.extend_from_slice(&filled(alloc, more)?)?,
             "images" => self.images.push_str(more)?,
             "input" => self.input.push_str(more)?,
             "output" => self.output.push_str(more)?,
@@ -167,7 +168,7 @@ impl Scene {
         let fails = numbers(alloc, self.images.as_str())?;
         let mut files = MemImages::new(self.named_in(alloc, line)?, fails);
         let (most, fails) = way(alloc, self.input.as_str())?;
-        let given = Vec::from_slice(alloc, self.given.as_bytes())?;
+        let given = Vec::from_slice(alloc, &self.given)?;
         let mut input = MemSource::new(given, most, fails);
         let (most, fails) = way(alloc, self.output.as_str())?;
         let mut output = MemSink::new(alloc, most, fails);

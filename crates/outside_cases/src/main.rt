@@ -1,6 +1,6 @@
 //! Compares single words with what other programs say of them, and writes the lines that differ.
 //!
-//! A line of four columns, with a tab between them, is a case: one step as another emulator answered it. Its columns are
+//! A line of four columns, with a tab between them, is a case: one step as another emulator answered it, or as it was worked by hand. Its columns are
 //! the word, a vector length, the state before the step and what differs after it, as items `name=value` with a space between
 //! them. Numbers are hexadecimal:
 //!
@@ -8,7 +8,8 @@
 //!   their digits, the most significant first; registers that aren't given are 0 before;
 //! - before the step `monitor=ADDRESS:BYTES`, `page=ADDRESS:RIGHTS`, a mapped page, and `mem=ADDRESS:DIGITS`, bytes of it;
 //! - after the step `mem=ADDRESS:DIGITS`, bytes that differ, and `trap=KIND:ADDRESS`. Where no `pc` and no trap is given it
-//!   goes on behind the word.
+//!   goes on behind the word. The monitor is compared where it is given, which may be `none`, and so is `accesses=COUNT`, the number of the
+//!   elements that were loaded or stored.
 //!
 //! A line of three columns is a word, the name of the form of its row, or `-` where it is in no row, and the text that a
 //! disassembler has for it, which is there for the reader alone.
@@ -44,13 +45,10 @@ fn a64_effect(state: &mut State, insn: &A64) -> Option<Effect> {
     }
     if a64_flow::is_own(insn) {
         let mut log = AccessLog::new();
-        return Some(a64_flow::exec(
-            &mut state.core,
-            &mut state.vec,
-            &mut state.memory,
-            &mut log,
-            insn,
-        ));
+        let (core, vec, memory) = (&mut state.core, &mut state.vec, &mut state.memory);
+        let effect = a64_flow::exec(core, vec, memory, &mut log, insn);
+        state.accesses = Some(log.as_slice().len());
+        return Some(effect);
     }
     if bit_moves::is_own(insn) {
         return Some(bit_moves::exec(&mut state.core, &mut state.vec, insn));
@@ -71,20 +69,21 @@ fn sve_effect(state: &mut State, insn: &Sve) -> Option<Effect> {
 fn memory_effect(state: &mut State, insn: &Sve) -> Option<Effect> {
     let (core, vec, memory) = (&mut state.core, &mut state.vec, &mut state.memory);
     let mut log = AccessLog::new();
-    if sve_loads::is_own(insn) {
-        return Some(sve_loads::exec(core, vec, memory, &mut log, insn));
-    }
-    if sve_gather::is_own(insn) {
-        return Some(sve_gather::exec(core, vec, memory, &mut log, insn));
-    }
-    if sve_ffr::is_own(insn) {
+    let effect = if sve_loads::is_own(insn) {
+        sve_loads::exec(core, vec, memory, &mut log, insn)
+    } else if sve_gather::is_own(insn) {
+        sve_gather::exec(core, vec, memory, &mut log, insn)
+    } else if sve_ffr::is_own(insn) {
         let list = match insn.form() {
             SveForm::LoadFf { .. } | SveForm::LoadNf { .. } => sve_loads::elements(core, vec, insn),
             _ => sve_gather::elements(core, vec, insn),
         };
-        return Some(sve_ffr::exec(core, vec, memory, &mut log, insn, &list));
-    }
-    None
+        sve_ffr::exec(core, vec, memory, &mut log, insn, &list)
+    } else {
+        return None;
+    };
+    state.accesses = Some(log.as_slice().len());
+    Some(effect)
 }
 
 /// Does an instruction, and goes on as its effect says. None where its row doesn't run, or it is a call.
@@ -128,7 +127,9 @@ fn agrees(alloc: Global, line: &str) -> Option<bool> {
     let mut state = State::read(alloc, word, length, before)?;
     let wanted = wanted_after(alloc, word, length, before, after)?;
     step(&mut state, &insn)?;
-    Some(state.is_same(&wanted))
+    let has_monitor = after.split(' ').any(|item| item.starts_with("monitor="));
+    let is_monitor = !has_monitor || state.core.monitor() == wanted.core.monitor();
+    Some(is_monitor && state.is_same(&wanted))
 }
 
 /// How many lines there are of a kind, and how many of them differ.

@@ -22,6 +22,8 @@ pub struct State {
     mapped: ArrayVec<u64, MOST_PAGES>,
     /// The trap of the step, after one that trapped.
     pub trap: Option<Trap>,
+    /// How many elements the step loaded or stored, where that was counted, or where the case has it.
+    pub accesses: Option<usize>,
 }
 
 impl State {
@@ -35,6 +37,7 @@ impl State {
             memory: Mem::new(Pages::new(alloc, MOST_PAGES as u32).ok()?),
             mapped: ArrayVec::new(),
             trap: None,
+            accesses: None,
         };
         state.set_all(items)?;
         let pc = state.core.pc();
@@ -67,9 +70,11 @@ impl State {
                 self.put_bytes(number(address)?, digits)
             }
             "monitor" => {
-                let (address, size) = value.split_once(':')?;
-                let size = size.parse::<u32>().ok()?;
-                self.core.set_monitor(Some((number(address)?, size)));
+                self.core.set_monitor(monitor_of(value)?);
+                Some(())
+            }
+            "accesses" => {
+                self.accesses = Some(value.parse::<usize>().ok()?);
                 Some(())
             }
             "trap" => {
@@ -191,9 +196,10 @@ impl State {
     }
 
     /// Whether all registers but the monitor, the flags, the trap and the pages are the same, these with their rights and
-    /// all of their bytes.
+    /// all of their bytes, and the accesses are as many as the other state has, where it has their number.
     pub fn is_same(&self, other: &State) -> bool {
         self.trap == other.trap
+            && (other.accesses.is_none() || self.accesses == other.accesses)
             && are_same(&self.core, &other.core)
             && are_same_vectors(&self.vec, &other.vec)
             && self.mapped == other.mapped
@@ -247,10 +253,20 @@ fn rights_of(letters: &str) -> Option<Rights> {
     }
 }
 
+/// The monitor of `ADDRESS:BYTES` or `none`.
+fn monitor_of(value: &str) -> Option<Option<(u64, u32)>> {
+    if value == "none" {
+        return Some(None);
+    }
+    let (address, size) = value.split_once(':')?;
+    Some(Some((number(address)?, size.parse::<u32>().ok()?)))
+}
+
 fn trap_kind(name: &str) -> Option<TrapKind> {
     match name {
         "halt" => Some(TrapKind::Halt),
         "break" => Some(TrapKind::Break),
+        "sp-align" => Some(TrapKind::SpAlign),
         "access-align" => Some(TrapKind::AccessAlign),
         "read" => Some(TrapKind::Read),
         "write" => Some(TrapKind::Write),

@@ -12,6 +12,10 @@ pub enum Command {
     /// Replaces bytes of a page from a place on: so many, the first of which is this one.
     Write(u64, usize, usize, u8),
     Store(u64, usize, usize, u8),
+    /// Replaces a byte of a page by one, through the bytes of the page that are lent.
+    Lend(u64, usize, u8),
+    /// Replaces bytes as `Write` does, through those bytes of the page that are lent.
+    Part(u64, usize, usize, u8),
     Find(u64),
     Seek(u64),
     Free(u64, u64),
@@ -44,6 +48,8 @@ pub fn command_of(line: &str) -> Option<Command> {
         "protect" => Some(Command::Protect(a, b, rights_of(c))),
         "write" => Some(Command::Write(a, b as usize, c as usize, (d % 256) as u8)),
         "store" => Some(Command::Store(a, b as usize, c as usize, (d % 256) as u8)),
+        "lend" => Some(Command::Lend(a, b as usize, (c % 256) as u8)),
+        "part" => Some(Command::Part(a, b as usize, c as usize, (d % 256) as u8)),
         "find" => Some(Command::Find(a)),
         "seek" => Some(Command::Seek(a)),
         "free" => Some(Command::Free(a, b)),
@@ -52,11 +58,12 @@ pub fn command_of(line: &str) -> Option<Command> {
     }
 }
 
-/// The number that a word says; 0 where there is none.
-fn number(word: Option<&str>) -> u64 {
-    match word {
-        Some(text) => text.parse::<u64>().unwrap_or(0),
-        None => 0,
+/// The number that a word says, decimal or hexadecimal behind `0x`; 0 where there is none.
+pub fn number(word: Option<&str>) -> u64 {
+    let text = word.unwrap_or("");
+    match text.strip_prefix("0x") {
+        Some(digits) => u64::from_str_radix(digits, 16).unwrap_or(0),
+        None => text.parse::<u64>().unwrap_or(0),
     }
 }
 

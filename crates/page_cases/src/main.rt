@@ -1,46 +1,87 @@
 //! Obeys commands over two programs of mapped pages, `guest_pages` and the plain `plain_pages`, and writes what each command answers, or that the
-//! two differ.
+//! two differ. Commands about memory are obeyed by `guest_mem` over the first.
 //!
-//! At most 40 pages may be mapped. Each line of standard input is a command with its numbers:
+//! At most 40 pages may be mapped. Each line of standard input is a command with its numbers, decimal or hexadecimal behind `0x`:
 //!
 //! - `map FIRST COUNT RIGHTS`, `unmap FIRST COUNT` and `protect FIRST COUNT RIGHTS`, with 4 for r, 2 for w and 1 for x;
 //! - `write PAGE AT COUNT BYTE` and `store PAGE AT COUNT BYTE`, which replace COUNT bytes from place AT on by BYTE and those that follow it, modulo 256;
-//! - `find PAGE`; `seek PAGE`, which is `find` of the plain program; `free COUNT BELOW`; and `mapped`.
+//! - `lend PAGE AT BYTE` and `part PAGE AT COUNT BYTE`, which replace a byte of a mapped page, and bytes as `write` does, through bytes that are lent;
+//! - `find PAGE`; `seek PAGE`, which is `find` of the plain program; `free COUNT BELOW`; and `mapped`;
+//! - `load ADDRESS COUNT KIND` and `put ADDRESS COUNT VALUE`, a number of so many bytes, where KIND is `read`, `write` or `fetch`; `peek ADDRESS`;
+//!   `slice ADDRESS MOST KIND`, the bytes to the end of a page, and `fill ADDRESS MOST BYTE`, which replaces those that may be written;
+//! - `new LIMIT`: from here on no pages are mapped, and at most so many may be.
 //!
 //! Of a page that is found, its rights are written and the sum of its bytes, each times its place counted from 1, modulo 2^32.
 #![tactic(auto)]
 
 mod answers;
 mod commands;
+mod memory;
 mod programs;
 
-use crate::commands::command_of;
+use crate::commands::{command_of, number};
+use crate::memory::reply_of;
 use crate::programs::{by_list, by_plain_list};
+use guest_mem::Mem;
+use std::alloc::{AllocError, Global};
 use std::io;
 
 /// The greatest number of mapped pages.
 const LIMIT: u32 = 40;
 
+/// Both programs, and how many commands they obeyed and how many they answered differently.
+#[derive(Drop)]
+struct Both {
+    memory: Mem,
+    plain: plain_pages::Pages,
+    commands: u64,
+    differ: u64,
+}
+
+impl Both {
+    /// No pages, of which at most so many may be mapped.
+    fn new(alloc: Global, limit: u32) -> Result<Both, AllocError> {
+        Ok(Both {
+            memory: Mem::new(guest_pages::Pages::new(alloc, limit)?),
+            plain: plain_pages::Pages::new(alloc, limit)?,
+            commands: 0,
+            differ: 0,
+        })
+    }
+
+    /// Obeys the command of a line, and writes what it answers.
+    fn obey(&mut self, rt: HostRuntime, line: &str) -> io::Result<()> {
+        if let Some(reply) = reply_of(&mut self.memory, line) {
+            self.commands = self.commands.saturating_add(1);
+            return println!(rt; "{line}: {reply:?}");
+        }
+        let Some(command) = command_of(line) else {
+            return println!(rt; "{line}: no command");
+        };
+        self.commands = self.commands.saturating_add(1);
+        let answer = by_list(self.memory.pages_mut(), &command);
+        let other = by_plain_list(&mut self.plain, &command);
+        if answer == other {
+            return println!(rt; "{line}: {answer:?}");
+        }
+        self.differ = self.differ.saturating_add(1);
+        println!(rt; "{line}: {answer:?}, and by the plain program {other:?}")
+    }
+}
+
 fn main(rt: HostRuntime) -> io::Result<()> {
-    let mut pages = guest_pages::Pages::new(rt.alloc(), LIMIT)?;
-    let mut plain = plain_pages::Pages::new(rt.alloc(), LIMIT)?;
-    let mut commands = 0u64;
-    let mut differ = 0u64;
+    let mut both = Both::new(rt.alloc(), LIMIT)?;
     for line in rt.lines(rt.alloc()) {
         let line = line?;
-        let Some(command) = command_of(line.as_str()) else {
-            println!(rt; "{line}: no command")?;
-            continue;
-        };
-        commands = commands.saturating_add(1);
-        let answer = by_list(&mut pages, &command);
-        let other = by_plain_list(&mut plain, &command);
-        if answer == other {
-            println!(rt; "{line}: {answer:?}")?;
-        } else {
-            differ = differ.saturating_add(1);
-            println!(rt; "{line}: {answer:?}, and by the plain program {other:?}")?;
+        match line.strip_prefix("new ") {
+            Some(limit) => {
+                let limit = u32::try_from(number(Some(limit)) % 1_048_576).unwrap_or(0);
+                both.memory = Mem::new(guest_pages::Pages::new(rt.alloc(), limit)?);
+                both.plain = plain_pages::Pages::new(rt.alloc(), limit)?;
+                println!(rt; "{line}: Done")?;
+            }
+            None => both.obey(rt, line.as_str())?,
         }
     }
-    println!(rt; "{commands} commands, {differ} differ")
+    println!(rt; "{} commands, {} differ", both.commands, both.differ)
 }
