@@ -36,11 +36,18 @@ recipes() {
         done
     else
         first_program gcc
+        seeing_the_lengths
+        seeing_the_lanes
         reading_a_trap
         recipe make "Run with make:" Makefile sum.c
-        holds "make" sh -c "[ $status -eq 0 ] && [ \"\$(grep -cx 'sum 500500' '$scratch/output')\" -eq 3 ]"
+        holds "make" sh -c "[ $status -eq 0 ] && [ \"\$(grep -cx 'sum 500500' '$scratch/output')\" -eq 3 ] && [ \"\$(grep -c '^vl .* out 11 err 0 same$' '$scratch/output')\" -eq 16 ]"
         cmake_recipe
         lit_recipe
+    fi
+    if command -v aarch64-linux-gnu-g++ >/dev/null && [ -f /usr/include/hwy/highway.h ]; then
+        highway
+    else
+        skip Highway "aarch64-linux-gnu-g++ and libhwy-dev aren't on this machine"
     fi
     if command -v clang >/dev/null && command -v ld.lld >/dev/null; then
         first_program clang
@@ -57,6 +64,51 @@ first_program() {
     run env SVEMU_TOP="$top" sh -eu "$scratch/commands"
     cd "$top" || exit 1
     holds "a first program by $1 runs" awk 'NR == 1 ? $0 != "sum 500500" : !/^vl [0-9]+ exit 0 after [0-9]+ steps out 11 err 0 same$/ { bad = 1 } END { exit bad || NR != 17 }' "$scratch/output"
+}
+
+# Of the program that was built last.
+seeing_the_lengths() {
+    if ! command -v python3 >/dev/null; then
+        skip "seeing the lengths" "python3 isn't on this machine"
+        return
+    fi
+    if ! "$SVEMU" sweep "$probe" --budget 10 <"$input" >/dev/null 2>&1; then
+        skip "seeing the lengths" "this svemu has no sweep"
+        return
+    fi
+    block "Draw a program over the lengths:" >"$scratch/commands"
+    cd "$scratch/recipe" || exit 1
+    run env SVEMU_TOP="$top" sh -eu "$scratch/commands"
+    cd "$top" || exit 1
+    holds "seeing the lengths" sh -c "[ $status -eq 0 ] && grep -q '<title>sum.elf from 128 to 2048 bits<' '$scratch/recipe/lengths.html' && grep -q 'same at all sixteen lengths' '$scratch/recipe/lengths.html'"
+}
+
+# Of the program that was built last.
+seeing_the_lanes() {
+    if ! command -v python3 >/dev/null; then
+        skip "seeing the lanes" "python3 isn't on this machine"
+        return
+    fi
+    block "Draw a part of a run:" >"$scratch/commands"
+    cd "$scratch/recipe" || exit 1
+    run env SVEMU_TOP="$top" sh -eu "$scratch/commands"
+    cd "$top" || exit 1
+    holds "seeing the lanes" sh -c "[ $status -eq 0 ] && grep -q '<title>sum.elf at 384 bits, step ' '$scratch/recipe/sum.html' && grep -q '\"at\":\"main\"' '$scratch/recipe/sum.html'"
+}
+
+highway() {
+    recipe Highway "Build with g++ and run it:" sum.cc
+    holds "Highway's sum is built and runs at all lengths" sh -c "[ $status -eq 0 ] && [ \"\$(grep -cE '^vl [0-9]+ exit 0 after [0-9]+ steps out 11 err 0 same\$' '$scratch/output')\" -eq 16 ]"
+    rm -rf "$scratch/examples"
+    cp -R examples "$scratch/examples"
+    rm "$scratch/examples/positives.elf"
+    holds "the example of Highway is built" make -C "$scratch/examples" highway
+    for folder in "$top/examples" "$scratch/examples"; do
+        for vl in 128 384 2048; do
+            run "$runner" --vl "$vl" "$folder/positives.elf"
+            holds "positives at $vl" sh -c "[ $status -eq 0 ] && cmp '$scratch/output' examples/positives.out && [ ! -s '$scratch/errors' ]"
+        done
+    done
 }
 
 reading_a_trap() {
@@ -77,12 +129,12 @@ cmake_recipe() {
         return
     fi
     recipe CMake "Run with CMake:" toolchain.cmake CMakeLists.txt sum.c
-    holds "CMake" sh -c "[ $status -eq 0 ] && grep -q '100% tests passed, 0 tests failed out of 3' '$scratch/output'"
+    holds "CMake" sh -c "[ $status -eq 0 ] && grep -q '100% tests passed, 0 tests failed out of 4' '$scratch/output'"
     # A test that fails is seen.
     sed 's/sum == 500500/sum != 500500/' "$scratch/recipe/sum.c" >"$scratch/wrong.c"
     cp "$scratch/wrong.c" "$scratch/recipe/sum.c"
     run env SVEMU_TOP="$top" sh -c 'cmake --build "$1" && cd "$1" && ctest' sh "$scratch/recipe/build"
-    holds "CMake with a wrong program" sh -c "[ $status -ne 0 ] && grep -q '0% tests passed, 3 tests failed out of 3' '$scratch/output'"
+    holds "CMake with a wrong program" sh -c "[ $status -ne 0 ] && grep -q '0% tests passed, 4 tests failed out of 4' '$scratch/output'"
 }
 
 lit_recipe() {

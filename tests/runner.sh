@@ -78,6 +78,21 @@ runner_and_stand_ins() {
     printf 'head -n 85 "%s" >&2; exit 0' "$scratch/report" | stand_in
     run env SVEMU="$scratch/stand-in" "$runner" p
     ended "a report that lacks its last line" 0 '' "$(head -n 85 "$scratch/report")\n"
+    report 'exit 0 after 12 steps' 128 >"$scratch/shorter"
+    printf 'printf "own\n" >&2; cat "%s" >&2; exit 0' "$scratch/shorter" | stand_in
+    run env SVEMU="$scratch/stand-in" "$runner" --vl 256 --registers "$scratch/registers" p
+    ended "a report of a length that the program set" 0 '' 'own\n'
+    holds "its registers" cmp "$scratch/registers" "$scratch/shorter"
+    run env SVEMU="$scratch/stand-in" "$runner" --vl 128 p
+    ended "a report of the starting length" 0 '' 'own\n'
+    for vl in 128 256 384 512 640 768 896 1024 1152 1280 1408 1536 1664 1792 1920 2048; do
+        report 'exit 0 after 12 steps' "$vl" >"$scratch/shorter"
+        run env SVEMU="$scratch/stand-in" "$runner" --vl 2048 p
+        ended "a report of $vl bits" 0 '' 'own\n'
+    done
+    printf 'cat "%s" >&2; exit 0' "$scratch/report" | stand_in
+    run env SVEMU="$scratch/stand-in" "$runner" --vl 384 p
+    ended "a report of a length past the starting one is the program's own" 0 '' "$(cat "$scratch/report")\n"
     printf 'printf "exit 0 after " >&2; cat "%s" >&2; exit 0' "$scratch/report" | stand_in
     run env SVEMU="$scratch/stand-in" "$runner" p
     ended "errors that break off within a first line" 0 '' 'exit 0 after '
@@ -232,9 +247,9 @@ over_lengths() {
     cd "$top" || exit 1
     holds "by a link" awk '!/^vl [0-9]+ exit 3 after [0-9]+ steps out 14 err 14 same$/ { bad = 1 } END { exit bad || NR != 16 }' "$scratch/output"
     run "$lengths" "$scratch/nosuch"
-    ended "a missing program at all lengths" 126 '' "svemu-runner: $scratch/nosuch couldn't be read\n"
+    ended "a missing program at all lengths" 126 '' "svemu-lengths: $scratch/nosuch couldn't be read\n"
     run env SVEMU_BUDGET=x "$lengths" "$probe"
-    ended "a budget that is no number" 121 '' 'refused words BadNumber at 5\n'
+    ended "a budget that is no number" 121 '' 'refused words BadNumber at 3\n'
     run "$lengths"
     ended "lengths of no program" 121 '' 'svemu-lengths: no program is named (--help shows how)\n'
 }

@@ -1,11 +1,12 @@
 #!/bin/sh
-# Tests what stands beside the proved program: the examples, the listings, what the documents show, the runner, the manual page, the installation
-# and the recipes of docs/TESTING_YOUR_CODE.md. The program is the one that SVEMU names, else ./svemu. The last line is 'N passed, M failed, K skipped'.
+# Tests what stands beside the proved program: its start and its release, the cases over real files, the examples, the listings, what the documents
+# show, the runner, the manual page, the installation and the recipes of docs/TESTING_YOUR_CODE.md. The program is the one that SVEMU names, else the one
+# that ./svemu runs; no kit is needed. The last line is 'N passed, M failed, K skipped'.
 set -u
 
 cd "$(dirname "$0")/.." || exit 1
 top=$(pwd)
-built=${SVEMU:-crates/svemu/out/svemu}
+built=${SVEMU:-$(./svemu --program || { ./svemu --build && ./svemu --program; })}
 SVEMU=${SVEMU:-$top/svemu}
 export SVEMU
 unset SVEMU_VL SVEMU_BUDGET SVEMU_PAGES
@@ -81,7 +82,7 @@ ended_like() {
 
 # Whether each example writes what stands beside it.
 examples() {
-    for example in memcpy strlen dot_product histogram lost_sums; do
+    for example in memcpy strlen dot_product histogram lost_sums set_length; do
         for vl in 128 384 2048; do
             wanted=$top/examples/$example.$vl.out
             [ -f "$wanted" ] || wanted=$top/examples/$example.out
@@ -128,6 +129,8 @@ installation() {
     run "$prefix/bin/svemu" run "$probe" --vl 128 --budget 0
     holds "the installed program" sh -c "[ $status -eq 123 ] && grep -qx 'spent after 0 steps' '$scratch/errors'"
     holds "the installed manual page" cmp docs/svemu.1 "$prefix/share/man/man1/svemu.1"
+    run "$prefix/bin/svemu-lengths" "$probe"
+    holds "the installed lengths" awk '/^vl [0-9]+ exit 3 / { n++ } END { exit n != 16 }' "$scratch/output"
 }
 
 manual_page() {
@@ -140,6 +143,46 @@ manual_page() {
     holds "without a warning" [ ! -s "$scratch/errors" ]
 }
 
+# The program of dist/ for AArch64, where it is of these sources: the examples, a listing made, shown and debugged, and the cases over real files.
+aarch64() {
+    if ! are_there qemu-aarch64; then
+        skip "the program for AArch64" "qemu-aarch64 isn't on this machine"
+        return
+    fi
+    if [ ! -f dist/svemu-aarch64.gz ] || [ "$(sed -n 's/^sources //p' dist/svemu.txt)" != "$(./svemu --sources)" ]; then
+        skip "the program for AArch64" "dist/ has none of these sources"
+        return
+    fi
+    gzip -dc dist/svemu-aarch64.gz >"$scratch/svemu-aarch64"
+    chmod +x "$scratch/svemu-aarch64"
+    printf '#!/bin/sh\nexec qemu-aarch64 "%s" "$@"\n' "$scratch/svemu-aarch64" >"$scratch/on-aarch64"
+    chmod +x "$scratch/on-aarch64"
+    before=$SVEMU
+    SVEMU=$scratch/on-aarch64
+    examples "$top/examples" "on AArch64:"
+    run "$SVEMU" asm examples/lane_sum.s
+    cp "$scratch/output" "$scratch/made-on-aarch64.elf"
+    "$before" asm examples/lane_sum.s >"$scratch/made.elf"
+    holds "on AArch64: a listing" cmp "$scratch/made-on-aarch64.elf" "$scratch/made.elf"
+    run "$SVEMU" dis "$scratch/made.elf"
+    "$before" dis "$scratch/made.elf" >"$scratch/shown"
+    holds "on AArch64: its text" cmp "$scratch/output" "$scratch/shown"
+    run "$SVEMU" dbg "$scratch/made.elf" examples/lane_sum.script --vl 256 --budget 100
+    holds "on AArch64: a session" cmp "$scratch/output" examples/lane_sum.session
+    SVEMU=$before
+    holds "on AArch64: the cases over real files" sh tests/cases.sh "$scratch/on-aarch64"
+}
+
+# A minute of random input, the same each time.
+random_input() {
+    if ! command -v python3 >/dev/null; then
+        skip "random input" "there is no python3"
+        return
+    fi
+    holds "random input" env SVEMU="$built" sh tests/fuzz.sh 60 1
+}
+
+. tests/start.sh
 . tests/runner.sh
 . tests/recipes.sh
 . tests/listings.sh
@@ -148,6 +191,9 @@ manual_page() {
 run "$SVEMU" run crates/svemu/data/exit7.elf --vl 128 --budget 10
 holds "svemu is there" [ "$status" -eq 7 ]
 if [ "$failed" -eq 0 ]; then
+    start
+    holds "the cases over real files" sh tests/cases.sh "$built"
+    aarch64
     examples "$top/examples" "checked in:"
     builds
     listings
@@ -163,6 +209,8 @@ if [ "$failed" -eq 0 ]; then
     installation
     manual_page
     recipes
+    . tests/pages.sh
+    random_input
 fi
 echo "$passed passed, $failed failed, $skipped skipped"
 [ "$failed" -eq 0 ]

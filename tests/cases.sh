@@ -1,0 +1,124 @@
+#!/bin/sh
+# Has a program of svemu do the stored runs of the crates svemu and command_cases over real files and streams, but for those of streams that fail:
+#   sh tests/cases.sh PROGRAM
+# The last line is 'N lines, M differ'.
+set -u
+
+cd "$(dirname "$0")/.." || exit 1
+program=$1
+scratch=$(mktemp -d) || exit 1
+trap 'rm -rf "$scratch"' EXIT
+trap 'exit 1' HUP INT TERM
+mkdir "$scratch/files"
+
+# Makes a script of the cases: what `src/main.rt` of command_cases says of its lines. A stream that fails can't be had here, so such a line is copied.
+awk -v quote="'" '
+    function quoted(text) {
+        gsub(quote, quote "\\" quote quote, text)
+        return quote text quote
+    }
+    open { if ($0 == ".") open = 0; print; next }
+    $1 == "file" { print "file " quoted($2) " <<" quote "." quote; open = 1; next }
+    $1 == "bytes" || $1 == "fill" || $1 == "given" { print $1 " " quoted(substr($0, length($1) + 2)); next }
+    /^(images|input|output|errors) / { fails = 1; next }
+    /^line / {
+        text = substr($0, 6)
+        kept = ""
+        if (match(text, / > [^ ]*$/)) {
+            kept = substr(text, RSTART + 3)
+            text = substr(text, 1, RSTART - 1)
+        }
+        said = (fails ? "skip " : "line ") quoted($0) " " quoted(kept)
+        fails = 0
+        count = split(text, words, "[ ]")
+        for (i = 1; i <= count; i++) said = said " " quoted(words[i])
+        print said
+    }' crates/command_cases/stdin >"$scratch/cases"
+
+file() { cat >"$scratch/files/$1"; }
+bytes() {
+    # shellcheck disable=SC2086
+    set -- $1
+    name=$1
+    shift
+    : >"$scratch/files/$name"
+    for byte in "$@"; do
+        # shellcheck disable=SC2059
+        printf "\\$(printf %o "0x$byte")" >>"$scratch/files/$name"
+    done
+}
+fill() {
+    # shellcheck disable=SC2086
+    set -- $1
+    head -c "$2" /dev/zero | tr '\000' "\\$(printf %o "0x$3")" >"$scratch/files/$1"
+}
+given() { printf %s "$1" >"$scratch/given"; }
+
+# Writes what `src/shown.rt` of command_cases does of a stream.
+show() {
+    echo "$1: $(wc -c <"$2" | tr -d ' ') bytes"
+    if [ "$(LC_ALL=C tr -d '\n -~' <"$2" | wc -c)" -eq 0 ]; then
+        awk '!/ 00000*$/ { print "  " $0 }' "$2"
+    else
+        od -An -v -t x1 -w16 "$2" | awk '/[1-9a-f]/ { printf "%06x0:%s\n", NR - 1, $0 }'
+    fi
+}
+
+# What the stored output has of each line, one file for each: the name of the ending falls out, which no program tells.
+awk -v to="$scratch/wanted." '
+    /^line / { count++; open = 1; first = 1; next }
+    open && /^($|#|file |bytes |fill |given |images |input |output |errors )/ { open = 0 }
+    open { if (first) sub(/^.*, status/, "status"); first = 0; print >(to count) }' crates/command_cases/stdout
+
+number=0
+done=0
+differ=0
+
+# Does a command line, and compares what comes of it.
+line() {
+    text=$1
+    kept=$2
+    shift 2
+    number=$((number + 1))
+    done=$((done + 1))
+    [ -f "$scratch/given" ] || : >"$scratch/given"
+    (cd "$scratch/files" && "$program" "$@") <"$scratch/given" >"$scratch/output" 2>"$scratch/errors"
+    echo "status $?" >"$scratch/got"
+    rm "$scratch/given"
+    show output "$scratch/output" >>"$scratch/got"
+    show errors "$scratch/errors" >>"$scratch/got"
+    [ -z "$kept" ] || cp "$scratch/output" "$scratch/files/$kept"
+    if ! cmp -s "$scratch/got" "$scratch/wanted.$number"; then
+        differ=$((differ + 1))
+        echo "$text"
+        diff "$scratch/wanted.$number" "$scratch/got" | head -n 20
+    fi
+}
+
+# A line whose streams fail is not done.
+skip() {
+    number=$((number + 1))
+    rm -f "$scratch/given"
+}
+
+case $program in
+    /*) ;;
+    *) program=$PWD/$program ;;
+esac
+. "$scratch/cases"
+
+# The stored run of svemu: each line of args is a word.
+set --
+while IFS= read -r word; do
+    set -- "$@" "$word"
+done <crates/svemu/args
+(cd crates/svemu/data && "$program" "$@") </dev/null >"$scratch/output" 2>"$scratch/errors"
+status=$?
+done=$((done + 1))
+if [ "$status" -ne "$(cat crates/svemu/status)" ] || ! cmp "$scratch/output" crates/svemu/stdout; then
+    differ=$((differ + 1))
+    echo "the stored run of svemu: status $status"
+fi
+
+echo "$done lines, $differ differ"
+[ "$differ" -eq 0 ]

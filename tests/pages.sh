@@ -1,0 +1,189 @@
+# shellcheck shell=sh
+# shellcheck disable=SC2016,SC2154 # shells that are called expand them; tools.sh sets the others
+# Tests of the pages that svemu-lanes and svemu-curve draw; tools.sh reads it.
+
+lanes=$top/tools/svemu-lanes
+curve=$top/tools/svemu-curve
+
+# Whether a page is opened by Chromium without an error, and has what svemu shows.
+opens() {
+    name=$1
+    script=$2
+    shift 2
+    if command -v chromium >/dev/null; then
+        holds "$name" timeout 120 python3 "tests/$script" "$scratch/page.html" "$@"
+    else
+        skip "$name" "chromium isn't on this machine"
+    fi
+}
+
+drawn_pages() {
+    rm -rf "$scratch/pages"
+    cp -R examples "$scratch/pages"
+    rm "$scratch"/pages/*.html
+    holds "make lanes" make -C "$scratch/pages" lanes LANES="$lanes"
+    for page in strlen lost_sums; do
+        holds "the page of $page is the one beside it" cmp "$scratch/pages/$page.html" "examples/$page.html"
+        holds "it names nothing outside of it" sh -c '! grep -Eq "https?:|src=|@import|url\(" "$1"' sh "examples/$page.html"
+    done
+    for vl in 128 2048; do
+        run "$lanes" --vl "$vl" --symbols examples/strlen.symbols --from strlen --after 3 --steps 30 examples/strlen.elf
+        holds "a page of strlen at $vl" [ "$status" -eq 0 ]
+        cp "$scratch/output" "$scratch/page.html"
+        opens "strlen at $vl in Chromium" pages.py examples/strlen.elf "$vl" 'ldff1b {z0.b}, p0/z, [x1, x0]' 'rdffr p1.b, p0/z' 'cmpeq p2.b, p1/z, z0.b, #0'
+        run "$lanes" --vl "$vl" --from 0x400158 --steps 200 --show z0.s,z1.b,p0.s,x0,ffr examples/lost_sums.elf
+        holds "a page of lost_sums at $vl" [ "$status" -eq 0 ]
+        cp "$scratch/output" "$scratch/page.html"
+        holds "it has less than 2 MB" [ "$(wc -c <"$scratch/page.html")" -lt 2000000 ]
+        opens "lost_sums at $vl in Chromium" pages.py examples/lost_sums.elf "$vl" 'ld1w {z1.s}, p0/z, [x1, x0, lsl #2]' 'add x0, x0, x2, lsl #0' 'movprfx z0.s, p0/z, z0.s'
+    done
+}
+
+# What the page of the last run has of the step with this number: the JSON of its row.
+row() {
+    sed 's/{"n":/\n{"n":/g' "$scratch/output" | grep "^{\"n\":$1,"
+}
+
+page_notes() {
+    run "$lanes" --vl 256 --steps 190 "$probe"
+    holds "a page of the whole probe" [ "$status" -eq 0 ]
+    holds "it has what was written" grep -q 'writes 14 bytes: to the output\\\\n' "$scratch/output"
+    holds "and how it ended" grep -Eq '"exit 3 after [0-9]+ steps"' "$scratch/output"
+    run "$SVEMU" asm examples/lane_sum.s
+    cp "$scratch/output" "$scratch/lane_sum.elf"
+    run "$lanes" --vl 256 --watch 0x401028,4 --show z1.s "$scratch/lane_sum.elf"
+    holds "a watch is told where dbg tells it, and nowhere else" sh -c '[ "$(printf "%s\n" "$1" | grep -c touches)" -eq 1 ] && [ "$(grep -o touches "$2" | wc -l)" -eq 1 ]' \
+        sh "$(row 11)" "$scratch/output"
+    run "$lanes" --vl 256 --from 0x400000 --steps 2 "$scratch/lane_sum.elf"
+    holds "a place where the program begins" [ -n "$(row 1)" ]
+    run "$lanes" --vl 256 --budget 5 "$scratch/lane_sum.elf"
+    holds "a budget ends the steps" sh -c '[ -z "$2" ] && case $1 in *"spent after 5 steps"*) ;; *) exit 1 ;; esac' sh "$(row 5)" "$(row 6)"
+    run "$lanes" --vl 384 --symbols examples/lost_sums.symbols --from put_text --steps 1 examples/lost_sums.elf
+    holds "a label" sh -c 'case $1 in *"\"at\":\"put_text\""*) ;; *) exit 1 ;; esac' sh "$(sed 's/{"n":/\n{"n":/g' "$scratch/output")"
+}
+
+# The pages over the lengths: those of the examples, and that of a guest which does otherwise from length to length.
+drawn_curves() {
+    holds "make curves" make -C "$scratch/pages" curves CURVE="$curve"
+    for page in strlen lost_sums; do
+        holds "the curve of $page is the one beside it" cmp "$scratch/pages/$page.curve.html" "examples/$page.curve.html"
+        holds "it names nothing outside of it" sh -c '! grep -Eq "https?:|src=|@import|url\(" "$1"' sh "examples/$page.curve.html"
+        cp "examples/$page.curve.html" "$scratch/page.html"
+        opens "the curve of $page in Chromium" curves.py "examples/$page.elf"
+    done
+    # It writes as many bytes as a vector has, traps at 768 bits, and exits with another code from 1024 bits on.
+    cat >"$scratch/by_length.s" <<'TEXT'
+        rdvl x19, #1
+        mov x20, #0
+        sub sp, sp, #512
+        str x19, [sp]
+        mov x0, #1
+        mov x1, sp
+        mov x2, x19
+        mov x8, #64
+        svc #0
+        mov x0, #2
+        mov x2, #5
+        svc #0
+        cmp x19, #96
+        b.ne on
+        ldr x0, [x20]
+on:     lsr x0, x19, #7
+        mov x8, #93
+        svc #0
+TEXT
+    run "$SVEMU" asm "$scratch/by_length.s"
+    cp "$scratch/output" "$scratch/by_length.elf"
+    run "$curve" --budget 100 --pages 300 "$scratch/by_length.elf"
+    holds "a curve of a guest that does otherwise at each length" [ "$status" -eq 0 ]
+    holds "it says where" grep -q 'parts from that at 128 bits at 256, .* and 2048 bits. The program ends otherwise than at 128 bits at 768, 1024, ' "$scratch/output"
+    cp "$scratch/output" "$scratch/page.html"
+    opens "it in Chromium" curves.py "$scratch/by_length.elf"
+    run env SVEMU_BUDGET=15 SVEMU_VL=99 "$curve" "$scratch/by_length.elf"
+    holds "a budget ends the runs, and the length of a run is none of a curve" sh -c '[ "$1" -eq 0 ] && [ "$(grep -o "\"how\":\"spent\"" "$2" | wc -l)" -eq 15 ]' \
+        sh "$status" "$scratch/output"
+}
+
+# Whether the page is refused in one line, with status 2 and nothing written, by the tool that `drawer` names.
+refused() {
+    name=$1
+    wanted=$2
+    shift 2
+    run "$drawer" "$@"
+    holds "$name: nothing is written" [ ! -s "$scratch/output" ]
+    ended_like "$name" 2 "${drawer##*/}: $wanted"
+}
+
+# A stand-in for svemu, whose sweep goes through these commands.
+sweeping() {
+    printf '#!/bin/sh\n[ "$1" = sweep ] || exec "%s" "$@"\n%s\n' "$SVEMU" "$1" >"$scratch/sweeping"
+    chmod +x "$scratch/sweeping"
+}
+
+curve_refusals() {
+    drawer=$curve
+    refused "a curve of no program" "no program is named \(--help shows how\)"
+    refused "a curve of one length" "there is no option --vl \(--help lists them\)" --vl 256 "$probe"
+    refused "a bad budget" "--budget wants a number from 0 to 18446744073709551615, not x" --budget x "$probe"
+    refused "no file for a curve" ".*/nosuch couldn't be read" "$scratch/nosuch"
+    refused "no image for a curve" "svemu says: refused image TooShort" "$scratch/empty"
+    before=$SVEMU
+    for change in 's/^vl 384 exit 0 after 1367/vl 384 exit 0 after 1368/' 's/parts at 4$/parts at 5/' 's/^\(vl 512 .*\) out 11/\1 out 12/' 's/^\(vl 128 .*\) err 0/\1 err 1/'; do
+        sweeping "\"$before\" \"\$@\" | sed '$change'"
+        SVEMU=$scratch/sweeping
+        refused "a sweep that isn't as the runs are: $change" "a run at (128|384|512) bits isn't the one that the sweep told" examples/lost_sums.elf
+        SVEMU=$before
+    done
+    for change in 15q '3p' 's/^vl 256/vl 257/' 's/ same/ alike/' '$s/$/ and more/'; do
+        sweeping "\"$before\" \"\$@\" | sed '$change'"
+        SVEMU=$scratch/sweeping
+        refused "a sweep that can't be read: $change" "what the sweep showed couldn't be read" examples/strlen.elf
+        SVEMU=$before
+    done
+    sweeping "echo 'too long 16777216' >&2; exit 127"
+    SVEMU=$scratch/sweeping
+    refused "a long output" "the input, or what the program writes at one of the lengths, has more than 16777216 bytes" "$probe"
+    SVEMU=$before
+    run sh -c '"$1" "$2" >/dev/full' sh "$curve" "$probe"
+    ended_like "a full disk for a curve" 2 "svemu-curve: the page couldn't be written: No space left on device"
+}
+
+page_refusals() {
+    drawer=$lanes
+    refused "no program" "no program is named \(--help shows how\)"
+    refused "an unknown option" "there is no option --wide \(--help lists them\)" --wide 3 "$probe"
+    refused "an option without a value" "--vl wants a value" --vl
+    refused "a bad length" "--vl wants a multiple of 128 from 128 to 2048, not 192" --vl 192 "$probe"
+    refused "a bad number" "--steps wants a number from 1 to 10000, not 0" --steps 0 "$probe"
+    refused "a bad register" "--show has no register z32 \(as z0.s, p0, ffr, x3\)" --show z0.s,z32 "$probe"
+    refused "a label without symbols" "main is no number, and --symbols names no file" --from main "$probe"
+    refused "an unknown label" "no symbol is named nosuch" --symbols examples/strlen.symbols --from nosuch examples/strlen.elf
+    refused "no symbols" ".*/empty has no line of nm that names code" --symbols "$scratch/empty" "$probe"
+    refused "too many steps" "that makes a script of 10302 lines, and 10000 are the most: .*" --steps 201 "$probe"
+    refused "a place that isn't reached" "the program ends before: exit 0 after 97 steps" --vl 128 --from 0x400000 examples/strlen.elf
+    refused "a bad watch" "--watch wants a place and a number of bytes with a comma between, not 4" --watch 4 "$probe"
+    refused "no such file" ".*/nosuch couldn't be read" "$scratch/nosuch"
+    refused "no image" "svemu says: refused image TooShort" "$scratch/empty"
+    run env SVEMU="$scratch/nosuch" "$lanes" "$probe"
+    ended_like "no svemu" 2 "svemu-lanes: there is no program .*/nosuch \(--help says where it is looked for\)"
+    run sh -c '"$1" --vl 128 "$2" >/dev/full' sh "$lanes" "$probe"
+    ended_like "a full disk" 2 "svemu-lanes: the page couldn't be written: No space left on device"
+    run "$lanes" --help
+    holds "help" sh -c '[ "$1" -eq 0 ] && grep -q "^usage: svemu-lanes " "$2"' sh "$status" "$scratch/output"
+}
+
+if command -v python3 >/dev/null; then
+    drawn_pages
+    page_notes
+    page_refusals
+    run "$curve" --help
+    holds "the curve's help" sh -c '[ "$1" -eq 0 ] && grep -q "^usage: svemu-curve " "$2"' sh "$status" "$scratch/output"
+    if "$SVEMU" sweep "$probe" --budget 10 <"$scratch/empty" >/dev/null 2>&1; then
+        drawn_curves
+        curve_refusals
+    else
+        skip "pages over the lengths" "this svemu has no sweep"
+    fi
+else
+    skip pages "python3 isn't on this machine"
+fi

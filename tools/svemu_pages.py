@@ -1,0 +1,233 @@
+"""What the tools that draw pages share: words of a command line, svemu and its sessions, and the frame of a page."""
+
+import json
+import os
+import re
+import shutil
+import subprocess
+import sys
+import tempfile
+
+# A script of svemu's debugger has no more lines.
+SCRIPT_LINES = 10000
+
+# What a sweep reads, and what a program writes to one file under it, has no more bytes.
+STREAM_BYTES = 16777216
+
+# How a program ended: the beginning of the lines that say so.
+ENDING = rb"(?:exit \d+|trap [-a-z]+ 0x[0-9a-f]+ at 0x[0-9a-f]+|spent)"
+
+# A line by which `step` or `go` say where they stopped: what stopped them, the steps since the start and the program counter; or
+# how the program ended, and the steps.
+STOP = re.compile(rb"(?:(step|break|watch \d+) after (\d+) steps at 0x([0-9a-f]{16})|(" + ENDING + rb" after (\d+) steps))\n")
+
+WHY = {118: "a word isn't text", 120: "there is no memory", 124: "the input couldn't be read",
+       125: "svemu couldn't write", 127: "the program has more than 67108864 bytes"}
+
+
+class Failure(Exception):
+    """Why there is no page, in one line."""
+
+
+def run(tool, main):
+    """Calls main with the words of the command line, and writes the page that it gives. On a failure nothing is written."""
+    try:
+        page = main(sys.argv[1:])
+        sys.stdout.buffer.write(page.encode())
+        sys.stdout.buffer.flush()
+    except Failure as failure:
+        sys.exit(fail(tool, str(failure)))
+    except OSError as error:
+        os.dup2(os.open(os.devnull, os.O_WRONLY), 1)
+        sys.exit(fail(tool, f"the page couldn't be written: {error.strerror}"))
+    except KeyboardInterrupt:
+        sys.exit(130)
+
+
+def fail(tool, why):
+    sys.stderr.write(f"{tool}: {why}\n")
+    return 2
+
+
+def options(words, known, usage):
+    """The options in front of the program, the program and its arguments. An option's value is added to its list."""
+    given = {name: [] for name in known}
+    while words and words[0].startswith("--"):
+        name = words.pop(0)
+        if name == "--":
+            break
+        if name == "--help":
+            sys.stdout.write(usage)
+            sys.exit(0)
+        if name not in known:
+            raise Failure(f"there is no option {name} (--help lists them)")
+        if not words:
+            raise Failure(f"{name} wants a value")
+        given[name].append(words.pop(0))
+    if not words:
+        raise Failure("no program is named (--help shows how)")
+    return given, words[0], words[1:]
+
+
+def number(name, text, least, most):
+    """The number that a text is, in decimal or behind 0x."""
+    if not re.fullmatch(r"[0-9]+|0[xX][0-9a-fA-F]+", text) or not least <= int(text, 16 if "x" in text.lower() else 10) <= most:
+        raise Failure(f"{name} wants a number from {least} to {most}, not {text}")
+    return int(text, 16 if "x" in text.lower() else 10)
+
+
+class Run:
+    """A program with its arguments, its whole input and its limits, and the svemu that runs it."""
+
+    LIMITS = ("--budget", "--pages")
+    OPTIONS = ("--vl", *LIMITS)
+
+    def __init__(self, given, program, arguments):
+        def limit(name, variable, usual, least, most):
+            text = given[name][-1] if given[name] else os.environ.get(variable) or usual
+            return text and number(name, text, least, most)
+
+        # A tool for all lengths has no --vl.
+        self.vl = limit("--vl", "SVEMU_VL", "512", 128, 2048) if "--vl" in given else 128
+        if self.vl % 128 != 0:
+            raise Failure(f"--vl wants a multiple of 128 from 128 to 2048, not {self.vl}")
+        self.budget = limit("--budget", "SVEMU_BUDGET", "10000000000", 0, 2**64 - 1)
+        self.pages = limit("--pages", "SVEMU_PAGES", "", 1, 1048576)
+        self.file = "./" + program if program.startswith("--") else program
+        self.arguments = ["--", *arguments] if arguments else []
+        self.svemu = find_svemu()
+        self.input = b"" if sys.stdin is None or sys.stdin.isatty() else sys.stdin.buffer.read()
+
+    def ended(self, *words, given=b""):
+        """A call of svemu that came to its end: its status, its output and its errors."""
+        try:
+            return subprocess.run([self.svemu, *words], input=given, capture_output=True, check=False)
+        except (OSError, ValueError) as error:
+            raise Failure(f"svemu couldn't be called: {error}") from None
+
+    def call(self, *words, given=b""):
+        """What svemu writes to its standard output."""
+        done = self.ended(*words, given=given)
+        if done.returncode == 0:
+            return done.stdout
+        said = done.stderr.decode(errors="replace").strip().splitlines()
+        if done.returncode == 126:
+            raise Failure(f"{words[1]} couldn't be read")
+        if said[-1:] == [f"too long {STREAM_BYTES}"]:
+            raise Failure(f"the input, or what the program writes at one of the lengths, has more than {STREAM_BYTES} bytes")
+        raise Failure(WHY.get(done.returncode) or (f"svemu says: {said[-1]}" if said else f"svemu ended with {done.returncode}"))
+
+    def limits(self, budget=None):
+        """The words that limit a run."""
+        return ["--budget", str(self.budget if budget is None else budget)] + (["--pages", str(self.pages)] if self.pages else [])
+
+    def session(self, script, budget=None):
+        """What a session of the debugger shows, between what the program writes."""
+        if len(script) > SCRIPT_LINES:
+            raise Failure(f"that makes a script of {len(script)} lines, and {SCRIPT_LINES} are the most: take fewer steps or registers")
+        with tempfile.NamedTemporaryFile("w", prefix="svemu-pages.") as file:
+            file.write("".join(line + "\n" for line in script))
+            file.flush()
+            words = [*self.limits(budget), "--vl", str(self.vl), *self.arguments]
+            return self.call("dbg", self.file, file.name, *words, given=self.input)
+
+    def texts(self, addresses):
+        """The texts of the instructions at these addresses, as `dis` shows them."""
+        places = {b"%016x" % address for address in addresses}
+        lines = self.call("dis", self.file).splitlines()
+        return {int(line[:16], 16): line[26:].decode() for line in lines if line[:16] in places}
+
+
+def find_svemu():
+    """svemu, where svemu-runner finds it: the variable SVEMU, beside the tools, in the folder above, in the PATH."""
+    tools = os.path.dirname(os.path.realpath(__file__))
+    beside = [os.path.join(tools, "svemu"), os.path.join(tools, "..", "svemu")]
+    if os.environ.get("SVEMU"):
+        found = shutil.which(os.environ["SVEMU"])
+    else:
+        found = next((file for file in beside if os.path.isfile(file) and os.access(file, os.X_OK)), shutil.which("svemu"))
+    if found is None:
+        raise Failure(f"there is no program {os.environ.get('SVEMU') or 'svemu'} (--help says where it is looked for)")
+    return found
+
+
+class Symbols:
+    """The names of code in the output of nm."""
+
+    def __init__(self, name):
+        self.places = []
+        if name is None:
+            return
+        try:
+            with open(name, encoding="utf-8", errors="replace") as file:
+                lines = file.read().splitlines()
+        except OSError as error:
+            raise Failure(f"{name} couldn't be read: {error.strerror}") from None
+        for line in lines:
+            parts = line.split()
+            if len(parts) == 3 and re.fullmatch("[0-9a-fA-F]+", parts[0]) and parts[1] in "TtWwi":
+                self.places.append((int(parts[0], 16), parts[2]))
+        if not self.places:
+            raise Failure(f"{name} has no line of nm that names code")
+        self.places.sort(key=lambda place: place[0])
+
+    def address(self, name):
+        for address, other in self.places:
+            if other == name:
+                return address
+        raise Failure(f"no symbol is named {name}" if self.places else f"{name} is no number, and --symbols names no file")
+
+    def label(self, address):
+        """The nearest name at or below an address, with what lies between; or nothing."""
+        below = [place for place in self.places if place[0] <= address]
+        if not below:
+            return ""
+        at, name = below[-1]
+        return name if at == address else f"{name}+{address - at:#x}"
+
+
+def page(title, style, body, data, script):
+    """A page that needs nothing but itself."""
+    held = json.dumps(data, separators=(",", ":")).replace("<", "\\u003c")
+    parts = {"TITLE": escape(title), "STYLE": STYLE + style, "BODY": body, "DATA": held, "SCRIPT": script}
+    return re.sub(r"\b(TITLE|STYLE|BODY|DATA|SCRIPT)\b", lambda name: parts[name[0]], FRAME)
+
+
+def escape(text):
+    return text.replace("&", "&amp;").replace("<", "&lt;").replace(">", "&gt;").replace('"', "&quot;")
+
+
+FRAME = """<!DOCTYPE html>
+<html lang="en">
+<head>
+<meta charset="utf-8">
+<meta name="viewport" content="width=device-width, initial-scale=1">
+<title>TITLE</title>
+<style>
+STYLE</style>
+</head>
+<body>
+BODY<noscript>This page is drawn by its own script, which is switched off.</noscript>
+<script type="application/json" id="data">DATA</script>
+<script>
+SCRIPT</script>
+</body>
+</html>
+"""
+
+# One typeface; light or dark as the reader's system is set.
+STYLE = """\
+:root {
+  color-scheme: light dark;
+  --paper: #ffffff; --raised: #f4f6f8; --ink: #16191d; --pale: #626b76; --line: #c9d0d8; --fill: #d5e5fb; --mark: #a8430a;
+}
+@media (prefers-color-scheme: dark) {
+  :root { --paper: #14171b; --raised: #1d2228; --ink: #e8ebee; --pale: #98a2ae; --line: #3b434c; --fill: #234a78; --mark: #ffb35c; }
+}
+* { box-sizing: border-box; }
+body { margin: 0; background: var(--paper); color: var(--ink); font: 13px/1.45 "DejaVu Sans Mono", ui-monospace, Menlo, Consolas, monospace; }
+h1, h2, p { margin: 0; font: inherit; }
+button, select, input { font: inherit; color: inherit; }
+button, select { background: var(--paper); border: 1px solid var(--line); border-radius: 3px; padding: 2px 8px; }
+:focus-visible { outline: 2px solid var(--mark); outline-offset: 1px; }
+"""
