@@ -19,7 +19,7 @@ awk -v quote="'" '
     }
     open { if ($0 == ".") open = 0; print; next }
     $1 == "file" { print "file " quoted($2) " <<" quote "." quote; open = 1; next }
-    $1 == "bytes" || $1 == "fill" || $1 == "given" { print $1 " " quoted(substr($0, length($1) + 2)); next }
+    $1 == "bytes" || $1 == "fill" || $1 == "given" || $1 == "supply" { print $1 " " quoted(substr($0, length($1) + 2)); next }
     /^(images|input|output|errors) / { fails = 1; next }
     /^line / {
         text = substr($0, 6)
@@ -53,6 +53,11 @@ fill() {
     head -c "$2" /dev/zero | tr '\000' "\\$(printf %o "0x$3")" >"$scratch/files/$1"
 }
 given() { printf %s "$1" >"$scratch/given"; }
+supply() {
+    # shellcheck disable=SC2086
+    set -- $1
+    head -c "$1" /dev/zero | tr '\000' "\\$(printf %o "0x$2")" >>"$scratch/given"
+}
 
 # Writes what `src/shown.rt` of command_cases does of a stream.
 show() {
@@ -67,7 +72,7 @@ show() {
 # What the stored output has of each line, one file for each: the name of the ending falls out, which no program tells.
 awk -v to="$scratch/wanted." '
     /^line / { count++; open = 1; first = 1; next }
-    open && /^($|#|file |bytes |fill |given |images |input |output |errors )/ { open = 0 }
+    open && /^($|#|file |bytes |fill |given |supply |images |input |output |errors )/ { open = 0 }
     open { if (first) sub(/^.*, status/, "status"); first = 0; print >(to count) }' crates/command_cases/stdout
 
 number=0
