@@ -25,7 +25,7 @@ OWN = {
     127: rb"too long [0-9]+\n",
 }
 # How a run ends by itself, with its status; the registers follow.
-EXIT = re.compile(rb"(?:.*\n)*?exit ([0-9]+) after [0-9]+ steps\n", re.S)
+EXIT = re.compile(rb"exit ([0-9]+) after [0-9]+ steps\n")
 SPENT = re.compile(rb"spent after [0-9]+ steps\n")
 TRAP = re.compile(rb"trap ([a-z-]+) 0x[0-9a-f]{16} at 0x[0-9a-f]{16} after [0-9]+ steps\n")
 SIGNALS = {
