@@ -1,3 +1,5 @@
 pub mod PairLanes
+pub mod Reductions
 pub mod RegisterWords
+mod ToldBits
 mod Zips

@@ -1,10 +1,9 @@
 -- Lanes of 128 bits: read from two words, packed into two words, and active by 16 bits of a predicate.
-use Rattle.std.proofs.Common.{◌≡◌, ◌<◌, ◌≤◌, ◌+◌, ◌-◌, ◌*◌, ◌/◌, ◌%◌, ◌^◌, ℕ, zero, suc, Bool, true, false, cond, nat_eq, List, [], ◌∷◌, length, map, get_or, set, take, drop, if◌then◌else◌, inl, inr, refl, sym, ap, ap₂, subst, ◌∙◌, arith}
+use Rattle.std.proofs.Common.{◌≡◌, ◌<◌, ◌≤◌, ◌+◌, ◌-◌, ◌*◌, ◌/◌, ◌%◌, ◌^◌, ℕ, zero, suc, Bool, true, false, cond, nat_eq, List, [], ◌∷◌, length, map, get_or, take, drop, if◌then◌else◌, inl, inr, refl, sym, ap, ap₂, subst, ◌∙◌, arith}
 use Rattle.std.specs.List.{range_with_len}
 use Rattle.std.proofs.Math.Nat.{mod-mod, mod-lt, pow-zero}
 use Rattle.std.proofs.lemmas.Grind.{pow_more}
-use Rattle.std.proofs.lemmas.Bool.{cases_lt, cases_eq}
-use Rattle.std.proofs.lemmas.List.{get_or-take, get_or-drop, get_or-set_same, get_or-set_other, length-take, length-drop}
+use Rattle.std.proofs.lemmas.List.{get_or-take, get_or-drop, length-take, length-drop}
 use Rattle.std.proofs.lemmas.List.FromFn.{fill_by_all}
 use Rattle.std.proofs.lemmas.Nat.{pow-add, pow_pos, shr-shr, div-add-mod'}
 use Rattle.std.proofs.lemmas.Simd.{get_or_narrower, get_or_wider}
@@ -20,12 +19,11 @@ use Rattle.vec_regs.specs.Words.{bytes_of, bits_of, bit_of}
 use Rattle.vec_regs.proofs.Parts.{same_part}
 use Rattle.vec_regs.proofs.WordLanes.{lane_of_words}
 use Rattle.lane_pack.specs.Bits.{is_set}
-use Rattle.lane_kernels.specs.Chunks.{zip3, taken}
-use Rattle.sve_effects.specs.ElementLoop.{folded}
+use Rattle.lane_kernels.specs.Chunks.{zip3}
 
 -- ---- powers
 
-powers : (e n : ℕ) → (2 ^ e) ^ n ≡ 2 ^ (e * n)
+pub powers : (e n : ℕ) → (2 ^ e) ^ n ≡ 2 ^ (e * n)
 powers e zero = let z : e * 0 ≡ 0 = omega arith in pow-zero (2 ^ e) ∙ sym (ap (λ k. 2 ^ k) z)
 powers e (suc n) =
     let s : suc n ≡ n + 1 = omega arith in
@@ -241,44 +239,3 @@ zipped3 number f entry m law (x ∷ xs) (y ∷ ys) (z ∷ zs) (suc j) p q r = zi
 -- a lane read from words is below 2^e
 pub lane_read_small : (e bits k : ℕ) (bytes words : List ℕ) → IsLaneSize e → k < bits / e → bytes ≡ bytes_of (bits / 8) words → lane e bytes k % 2 ^ e ≡ lane e bytes k
 lane_read_small e bits k bytes words size within is = ap (λ (bs : List ℕ). lane e bs k % 2 ^ e) is ∙ lane_small e bits k words size within ∙ ap (λ (bs : List ℕ). lane e bs k) (sym is)
-
--- ---- folds
-
-module _ {A : Type 0} (number : A → ℕ) (takes : ℕ → A → ℕ) (step : ℕ → ℕ → ℕ) (law : (n : ℕ) (x : A) → takes n x ≡ step n (number x)) (on : ℕ → Bool) (start : ℕ) (value : ℕ → ℕ) where
-  one_folded : (a m : ℕ) (t : Bool) (x : A) (b : ℕ) → b ≡ a + 1 → m ≡ folded on step start value a → t ≡ on a → number x ≡ value a → cond t (takes m x) m ≡ folded on step start value b
-  unfolding folded
-  one_folded a m t x b next is same lane =
-      let s : b ≡ suc a = omega arith in
-      ap (λ c. cond c (takes m x) m) same ∙ ap₂ (λ (y z : ℕ). cond (on a) y z) (law m x ∙ ap₂ step is lane) is ∙ choice (on a) (step (folded on step start value a) (value a)) (folded on step start value a)
-      ∙ sym (ap (folded on step start value) s) where
-        choice : (t : Bool) (x y : ℕ) → cond t x y ≡ (if t then x else y)
-        choice true x y = refl
-        choice false x y = refl
-
-  pub taken_folded : (a m : ℕ) (ms : List Bool) (xs : List A) → length ms ≡ length xs → m ≡ folded on step start value a → ((j : ℕ) → j < length xs → get_or ms j false ≡ on (a + j)) → ((j : ℕ) → j < length xs → get_or (map number xs) j 0 ≡ value (a + j))
-      → taken takes m ms xs ≡ folded on step start value (a + length xs)
-  taken_folded a m [] [] e is f g = is ∙ ap (folded on step start value) (omega arith)
-  taken_folded a m [] (x ∷ xs) e is f g = absurd (omega arith)
-  taken_folded a m (t ∷ ms) [] e is f g = absurd (omega arith)
-  taken_folded a m (t ∷ ms) (x ∷ xs) e is f g =
-      let z : a + 0 ≡ a = omega arith in
-      let some : 0 < length (x ∷ xs) = omega arith in
-      let next : a + 1 + length xs ≡ a + suc (length xs) = omega arith in
-      let at : (j : ℕ) → a + suc j ≡ a + 1 + j = λ j. omega arith in
-      taken_folded (a + 1) (cond t (takes m x) m) ms xs (omega arith) (one_folded a m t x (a + 1) refl is (f 0 some ∙ ap on z) (g 0 some ∙ ap value z))
-      (λ j b. let s : suc j < length (x ∷ xs) = omega arith in f (suc j) s ∙ ap on (at j))
-      (λ j b. let s : suc j < length (x ∷ xs) = omega arith in g (suc j) s ∙ ap value (at j))
-      ∙ ap (folded on step start value) next
-
-  pub folded_none : folded on step start value 0 ≡ start
-  unfolding folded
-  folded_none = refl
-
-pub flags_more : (f : ℕ → Bool) (xs : List Bool) (i : ℕ) (x : Bool) → i < length xs → x ≡ f i → ((k : ℕ) → k < i → get_or xs k false ≡ f k) → (k : ℕ) → k < i + 1 → get_or (set xs i x) k false ≡ f k
-flags_more f xs i x within e h k b = elim (cases_eq k i) [
-  | inl s ↦ (let P : ℕ → Type 0 = λ k. get_or (set xs i x) k false ≡ f k in subst P (sym s) (get_or-set_same xs i x false within ∙ e))
-  | inr other ↦ (let below : k < i = omega arith in get_or-set_other xs i k x false other ∙ h k below)
-]
-
-pub shifted_on : (n left j s : ℕ) → left ≡ n / 2 ^ (j * s) → left / 2 ^ s ≡ n / 2 ^ ((j + 1) * s)
-shifted_on n left j s e = let t : (j + 1) * s ≡ j * s + s = omega arith in ap (λ x. x / 2 ^ s) e ∙ shr-shr n (j * s) s ∙ sym (ap (λ x. n / 2 ^ x) t)

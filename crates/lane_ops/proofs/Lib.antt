@@ -1,1 +1,2 @@
-mod Greater
+pub mod Greater
+pub mod Readings

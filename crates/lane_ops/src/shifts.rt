@@ -1,10 +1,61 @@
 //! Shifts of lanes by any unsigned amount.
+ghost use Rattle.std.specs.Prelude.{◌≡◌, ◌<◌, ◌^◌};
+ghost use Rattle.emu_bits.specs.Operations.{lsl, lsr, asr};
 ghost use Rattle.sve_effects.specs.declared.elements.ElementOp.{ElementOp};
 ghost use Rattle.sve_effects.specs.Element.{element};
+ghost use Rattle.vec_model.specs.Lanes.{IsLaneSize};
 
 use lane_kernels::LaneWise2;
 use lane_pack::Lane;
 use sve_elements::{ElementOp, apply};
+
+/// A lane of e bits shifted to the left by fewer.
+#[inline(always)]
+fn shifted_left(e: u32, a: u64, n: u64) -> u64
+    requires size { IsLaneSize e }
+    requires lane { a < 2 ^ e }
+    requires near { n < e }
+    ensures { result ≡ lsl e a n }
+{
+    match e {
+        8 => u64::from((a as u8) << n),
+        16 => u64::from((a as u16) << n),
+        32 => u64::from((a as u32) << n),
+        _ => a << n,
+    }
+}
+
+/// A lane of e bits shifted to the right by fewer, with zeros above.
+#[inline(always)]
+fn shifted_right(e: u32, a: u64, n: u64) -> u64
+    requires size { IsLaneSize e }
+    requires lane { a < 2 ^ e }
+    requires near { n < e }
+    ensures { result ≡ lsr a n }
+{
+    match e {
+        8 => u64::from((a as u8) >> n),
+        16 => u64::from((a as u16) >> n),
+        32 => u64::from((a as u32) >> n),
+        _ => a >> n,
+    }
+}
+
+/// A lane of e bits shifted to the right by fewer, with copies of the top bit above.
+#[inline(always)]
+fn shifted_signed(e: u32, a: u64, n: u64) -> u64
+    requires size { IsLaneSize e }
+    requires lane { a < 2 ^ e }
+    requires near { n < e }
+    ensures { result ≡ asr e a n }
+{
+    match e {
+        8 => u64::from(((a as u8).cast_signed() >> n).cast_unsigned()),
+        16 => u64::from(((a as u16).cast_signed() >> n).cast_unsigned()),
+        32 => u64::from(((a as u32).cast_signed() >> n).cast_unsigned()),
+        _ => (a.cast_signed() >> n).cast_unsigned(),
+    }
+}
 
 /// A shift to the right, with copies of the top bit above.
 #[derive(Clone, Copy)]
@@ -20,7 +71,8 @@ impl LaneWise2 for Asr {
 
     #[inline(always)]
     fn with_number<T: Lane>(&self, a: T, n: u64) -> T {
-        T::from_u64(apply(ElementOp::Asr, T::BITS, a.to_u64(), n))
+        let most = u64::from(T::BITS - 1);
+        T::from_u64(shifted_signed(T::BITS, a.to_u64(), n.min(most)))
     }
 }
 
@@ -38,7 +90,12 @@ impl LaneWise2 for Lsr {
 
     #[inline(always)]
     fn with_number<T: Lane>(&self, a: T, n: u64) -> T {
-        T::from_u64(apply(ElementOp::Lsr, T::BITS, a.to_u64(), n))
+        let lane = a.to_u64();
+        if n < u64::from(T::BITS) {
+            T::from_u64(shifted_right(T::BITS, lane, n))
+        } else {
+            T::from_u64(0)
+        }
     }
 }
 
@@ -56,7 +113,12 @@ impl LaneWise2 for Lsl {
 
     #[inline(always)]
     fn with_number<T: Lane>(&self, a: T, n: u64) -> T {
-        T::from_u64(apply(ElementOp::Lsl, T::BITS, a.to_u64(), n))
+        let lane = a.to_u64();
+        if n < u64::from(T::BITS) {
+            T::from_u64(shifted_left(T::BITS, lane, n))
+        } else {
+            T::from_u64(0)
+        }
     }
 }
 

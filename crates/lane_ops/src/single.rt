@@ -2,7 +2,8 @@
 ghost use Rattle.sve_insn.specs.declared.ops.UnaryOp.{UnaryOp};
 ghost use Rattle.sve_effects.specs.Element as table;
 
-use lane_kernels::LaneWise1;
+use crate::sums::Sabd;
+use lane_kernels::{LaneWise1, LaneWise2};
 use lane_pack::Lane;
 use sve_elements::unary;
 use sve_insn::UnaryOp;
@@ -85,7 +86,7 @@ impl LaneWise1 for Uxtw {
     }
 }
 
-/// The magnitude of the signed number.
+/// The magnitude of the signed number: its distance from 0.
 #[derive(Clone, Copy)]
 pub struct Abs;
 
@@ -94,7 +95,7 @@ impl LaneWise1 for Abs {
 
     #[inline(always)]
     fn one<T: Lane>(&self, a: T) -> T {
-        T::from_u64(unary(UnaryOp::Abs, T::BITS, a.to_u64()))
+        Sabd.one(a, T::from_u64(0))
     }
 }
 

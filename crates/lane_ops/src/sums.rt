@@ -58,7 +58,7 @@ impl LaneWise2 for Smax {
 
     #[inline(always)]
     fn with_number<T: Lane>(&self, a: T, n: u64) -> T {
-        T::from_u64(apply(ElementOp::Smax, T::BITS, a.to_u64(), n))
+        self.one(a, T::from_u64(n))
     }
 }
 
@@ -71,12 +71,14 @@ impl LaneWise2 for Umax {
 
     #[inline(always)]
     fn one<T: Lane>(&self, a: T, b: T) -> T {
-        self.with_number(a, b.to_u64())
+        T::from_u64(apply(ElementOp::Umax, T::BITS, a.to_u64(), b.to_u64()))
     }
 
     #[inline(always)]
     fn with_number<T: Lane>(&self, a: T, n: u64) -> T {
-        T::from_u64(apply(ElementOp::Umax, T::BITS, a.to_u64(), n))
+        let _lane = a.to_u64();
+        let b = T::from_u64(n);
+        if b.to_u64() == n { self.one(a, b) } else { b }
     }
 }
 
@@ -96,7 +98,7 @@ impl LaneWise2 for Smin {
 
     #[inline(always)]
     fn with_number<T: Lane>(&self, a: T, n: u64) -> T {
-        T::from_u64(apply(ElementOp::Smin, T::BITS, a.to_u64(), n))
+        self.one(a, T::from_u64(n))
     }
 }
 
@@ -109,12 +111,14 @@ impl LaneWise2 for Umin {
 
     #[inline(always)]
     fn one<T: Lane>(&self, a: T, b: T) -> T {
-        self.with_number(a, b.to_u64())
+        T::from_u64(apply(ElementOp::Umin, T::BITS, a.to_u64(), b.to_u64()))
     }
 
     #[inline(always)]
     fn with_number<T: Lane>(&self, a: T, n: u64) -> T {
-        T::from_u64(apply(ElementOp::Umin, T::BITS, a.to_u64(), n))
+        let _lane = a.to_u64();
+        let b = T::from_u64(n);
+        if b.to_u64() == n { self.one(a, b) } else { a }
     }
 }
 
@@ -127,7 +131,13 @@ impl LaneWise2 for Sabd {
 
     #[inline(always)]
     fn one<T: Lane>(&self, a: T, b: T) -> T {
-        self.with_number(a, b.to_u64())
+        let _first = a.to_u64();
+        let _second = b.to_u64();
+        if a.signed_less(b) {
+            b.sub_mod(a)
+        } else {
+            a.sub_mod(b)
+        }
     }
 
     #[inline(always)]

@@ -1,3 +1,5 @@
+pub mod Copied
 pub mod Gathered
 pub mod FirstLast
+pub mod Turns
 pub mod Written

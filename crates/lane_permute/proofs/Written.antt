@@ -1,10 +1,6 @@
--- Lanes of slices that are written one after the other.
-use Rattle.std.proofs.Common.{◌≡◌, ◌≢◌, ◌<◌, ◌≤◌, ◌+◌, ◌%◌, ◌^◌, ℕ, List, map, length, set, get_or, sym, subst, ◌∙◌, ap, arith, below_more}
-use Rattle.std.proofs.lemmas.List.{map-set, length-map, get_or-map, get_or-set_same, get_or-set_other}
-use Rattle.sve_effects.specs.declared.places.Place.{Place}
-use Rattle.sve_effects.specs.declared.places.Place.TheVariants.{FirstLane, SecondLane}
-use Rattle.sve_effects.specs.Permute.{taken}
-use Rattle.lane_permute.specs.Rules.{IsWithin}
+-- Lanes that are written one by one, by their numbers.
+use Rattle.std.proofs.Common.{◌≡◌, ◌≢◌, ◌<◌, ◌≤◌, ◌+◌, ◌*◌, ◌%◌, ◌^◌, ℕ, List, map, length, set, get_or, sym, ◌∙◌, ap, arith, below_more}
+use Rattle.std.proofs.lemmas.List.{map-set, length-map, length-set, get_or-map, get_or-set_same, get_or-set_other}
 use Rattle.lane_permute.specs.Slices.{number_at}
 
 module _ {T : Type 0} (f : T → ℕ) where
@@ -19,16 +15,9 @@ module _ {T : Type 0} (f : T → ℕ) where
   pub number_read : (xs : List T) (j : ℕ) (d : T) → j < length xs → number_at f xs j ≡ f (get_or xs j d)
   number_read xs j d h = get_or-map f xs j d 0 h
 
-  -- a lane of a source that a place names
-  pub read_first : (a b : List T) (scalar : ℕ) (at : Place) (j : ℕ) (x : T) → at ≡ FirstLane j → IsWithin (length a) at → x ≡ get_or a j x → f x ≡ taken (number_at f a) (number_at f b) scalar 0 at
-  read_first a b scalar at j x e within is =
-      let P : Place → Type 0 = λ p. IsWithin (length a) p → f x ≡ taken (number_at f a) (number_at f b) scalar 0 p in
-      subst P (sym e) (λ h. ap f is ∙ sym (number_read a j x h)) within
-
-  pub read_second : (a b : List T) (scalar : ℕ) (at : Place) (j : ℕ) (x : T) → at ≡ SecondLane j → IsWithin (length b) at → x ≡ get_or b j x → f x ≡ taken (number_at f a) (number_at f b) scalar 0 at
-  read_second a b scalar at j x e within is =
-      let P : Place → Type 0 = λ p. IsWithin (length b) p → f x ≡ taken (number_at f a) (number_at f b) scalar 0 p in
-      subst P (sym e) (λ h. ap f is ∙ sym (number_read b j x h)) within
+  -- a lane that was read
+  pub read_at : (xs : List T) (j : ℕ) (x : T) → j < length xs → x ≡ get_or xs j x → f x ≡ number_at f xs j
+  read_at xs j x h is = ap f is ∙ sym (number_read xs j x h)
 
   -- one lane more
   pub written_more : (F : ℕ → ℕ) (xs : List T) (k : ℕ) (x : T) → k < length xs → ((i : ℕ) → i < k → number_at f xs i ≡ F i) → f x ≡ F k → (i : ℕ) → i < k + 1 → number_at f (set xs k x) i ≡ F i
@@ -37,21 +26,21 @@ module _ {T : Type 0} (f : T → ℕ) where
       (λ i b. let ne : i ≢ k = omega arith in number_other xs k i x ne ∙ below i b)
       (number_same xs k x h ∙ here)
 
+  -- two lanes more
+  pub pair_more : (F : ℕ → ℕ) (xs : List T) (j : ℕ) (x y : T) → 2 * j + 1 < length xs → ((i : ℕ) → i < 2 * j → number_at f xs i ≡ F i) → f x ≡ F (2 * j) → f y ≡ F (2 * j + 1)
+      → (i : ℕ) → i < 2 * (j + 1) → number_at f (set (set xs (2 * j) x) (2 * j + 1) y) i ≡ F i
+  pair_more F xs j x y room below first second i b =
+      let within : 2 * j < length xs = omega arith in
+      let more : 2 * j + 1 < length (set xs (2 * j) x) = omega (arith, length-set xs (2 * j) x) in
+      let last : i < 2 * j + 1 + 1 = omega arith in
+      written_more F (set xs (2 * j) x) (2 * j + 1) y more (written_more F xs (2 * j) x within below first) second i last
+
   -- one lane more, from some lane on
   pub written_from : (F : ℕ → ℕ) (xs : List T) (from k : ℕ) (x : T) → k < length xs → ((i : ℕ) → from ≤ i → i < k → number_at f xs i ≡ F i) → f x ≡ F k → (i : ℕ) → from ≤ i → i < k + 1 → number_at f (set xs k x) i ≡ F i
   written_from F xs from k x h below here i b u =
       below_more (λ i. from ≤ i → number_at f (set xs k x) i ≡ F i) k
       (λ i v w. let ne : i ≢ k = omega arith in number_other xs k i x ne ∙ below i w v)
       (λ w. number_same xs k x h ∙ here) i u b
-
-  -- the same of what a place names
-  pub placed_more : (named : Place → ℕ) (place : ℕ → Place) (at : Place) (xs : List T) (k : ℕ) (x : T) → k < length xs → ((i : ℕ) → i < k → number_at f xs i ≡ named (place i)) → f x ≡ named at → at ≡ place k
-      → (i : ℕ) → i < k + 1 → number_at f (set xs k x) i ≡ named (place i)
-  placed_more named place at xs k x h below is e = written_more (λ i. named (place i)) xs k x h below (is ∙ ap named e)
-
-  -- a place that names no scalar, by a scalar 0
-  pub named_zero : (a b : List T) (scalar : ℕ) (at : Place) (x : T) → scalar ≡ 0 → f x ≡ taken (number_at f a) (number_at f b) scalar 0 at → f x ≡ taken (number_at f a) (number_at f b) 0 0 at
-  named_zero a b scalar at x e is = is ∙ ap (λ s. taken (number_at f a) (number_at f b) s 0 at) e
 
 pub zero_lane : (b : ℕ) → 0 % 2 ^ b ≡ 0
 zero_lane b = omega arith

@@ -1,13 +1,12 @@
 //! Permutes by active lanes.
-ghost use Rattle.std.specs.Prelude.{◌≡◌, ◌<◌, ◌+◌, ℕ, length, slice_set, nat_lt, if◌then◌else◌, MatchOption, is_some};
+ghost use Rattle.std.specs.Prelude.{◌≡◌, ◌<◌, ◌≤◌, ◌+◌, ℕ, length, slice_set, nat_lt, if◌then◌else◌, MatchOption, is_some};
 ghost use Rattle.sve_effects.specs.FirstLast.{first_where, last_where, IsFirstWhere, IsLastWhere};
+ghost use Rattle.sve_effects.specs.Permute as model;
 ghost use Rattle.sve_effects.specs.Permute.{active_lanes, compact_place, splice_place, last_lane};
-ghost use Rattle.lane_permute.specs.Rules.{rule_place, IsFor};
 ghost use Rattle.lane_permute.specs.Slices.{HasLanes, IsPermuted, number_at, active_by};
 
 use crate::by_number::zero;
-use crate::permute;
-use crate::places::Rule;
+use crate::runs::spliced;
 use lane_pack::Lane;
 
 /// The active lanes in order, and 0 behind them (compact). `mask` tells which lanes are active.
@@ -28,7 +27,8 @@ pub fn splice<T: Lane>(mask: &[bool], a: &[T], b: &[T], out: &mut [T])
     requires second { length b.now ≡ length out.old }
     ensures { IsPermuted T.number a.now b.now 0 (splice_place (active_by mask.now) (length out.old)) out.new }
 {
-    permute(splice_rule(mask), a, b, T::from_u64(0), out);
+    let (from, count) = run_of(mask);
+    spliced(a, b, from, count, out);
 }
 
 /// The last active lane; or, where `after` is true, the lane after it, which is lane 0 after the last lane of all (lastb, lasta).
@@ -90,17 +90,17 @@ fn clear_from<T: Lane>(from: usize, out: &mut [T])
     }
 }
 
-/// The places of a splice by these active lanes.
-fn splice_rule(mask: &[bool]) -> Rule
-    ensures lanes { IsFor result (length mask.now) }
-    ensures places { (k : ℕ) → rule_place result (length mask.now) k ≡ splice_place (active_by mask.now) (length mask.now) k }
+/// The run of a splice by these active lanes: its first lane, and how many lanes it has.
+fn run_of(mask: &[bool]) -> (usize, usize)
+    ensures within { result.0 + result.1 ≤ length mask.now }
+    ensures places { (k : ℕ) → model.spliced result.0 result.1 k ≡ splice_place (active_by mask.now) (length mask.now) k }
 {
     match first_active(mask) {
         Some(from) => match last_active(mask) {
-            Some(to) => Rule::Splice(from, to + 1 - from),
-            None => Rule::Splice(0, 0),
+            Some(to) => (from, to + 1 - from),
+            None => (0, 0),
         },
-        None => Rule::Splice(0, 0),
+        None => (0, 0),
     }
 }
 

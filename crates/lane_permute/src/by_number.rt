@@ -3,13 +3,10 @@ ghost use Rattle.std.specs.Prelude.{◌≡◌, ◌<◌, ◌*◌, ◌^◌, ℕ, l
 ghost use Rattle.emu_bits.specs.Fields.{bit};
 ghost use Rattle.sve_effects.specs.Element.{extended_by};
 ghost use Rattle.sve_effects.specs.Permute.{taken, indexed_place, half_place};
-ghost use Rattle.lane_permute.specs.Rules.{IsWithin};
 ghost use Rattle.lane_permute.specs.Slices.{IsPermuted, number_at};
 
-use crate::named;
 use emu_bits::sign_extended;
 use lane_pack::Lane;
-use sve_effects::Place;
 
 /// The lanes of `a` that the lanes of `at` number, and 0 where there is none (tbl).
 pub fn tbl<T: Lane>(a: &[T], at: &[T], out: &mut [T])
@@ -17,10 +14,18 @@ pub fn tbl<T: Lane>(a: &[T], at: &[T], out: &mut [T])
     requires places { length at.now ≡ length out.old }
     ensures { IsPermuted T.number a.now a.now 0 (λ k. indexed_place (number_at T.number at.now k) (length out.old)) out.new }
 {
-    let n = out.len();
+    chosen(a, at, out);
+}
+
+/// The same of any number of lanes.
+#[inline(always)]
+pub fn chosen<T: Lane>(a: &[T], at: &[T], out: &mut [T])
+    requires { length at.now ≡ length out.old }
+    ensures { IsPermuted T.number a.now a.now 0 (λ k. indexed_place (number_at T.number at.now k) (length a.now)) out.new }
+{
     let zero = zero();
-    for k in 0..n {
-        out[k] = named(a, a, zero, indexed(number_of(at, k), n));
+    for k in 0..out.len() {
+        out[k] = indexed(a, number_of(at, k), zero);
     }
 }
 
@@ -64,16 +69,16 @@ pub(crate) fn zero<T: Lane>() -> T
     T::from_u64(0)
 }
 
-/// Lane i of n, or 0.
+/// Lane i, or another where there is none.
 #[inline(always)]
-fn indexed(i: u64, n: usize) -> Place
-    ensures place { result ≡ indexed_place i n }
-    ensures within { IsWithin n result }
+fn indexed<T: Lane>(a: &[T], i: u64, none: T) -> T
+    requires { T.number none ≡ 0 }
+    ensures { T.number result ≡ taken (number_at T.number a.now) (number_at T.number a.now) 0 0 (indexed_place i (length a.now)) }
 {
-    if i < n as u64 {
-        Place::FirstLane(i as usize)
+    if i < a.len() as u64 {
+        a[i as usize]
     } else {
-        Place::Zero
+        none
     }
 }
 

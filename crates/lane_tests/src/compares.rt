@@ -4,7 +4,6 @@ ghost use Rattle.sve_effects.specs.Element.{element_test};
 
 use lane_kernels::LaneWiseTest2;
 use lane_pack::Lane;
-use sve_elements::{ElementTest, test};
 
 /// Equal.
 #[derive(Clone, Copy)]
@@ -15,7 +14,7 @@ impl LaneWiseTest2 for Eq {
 
     #[inline(always)]
     fn one<T: Lane>(&self, a: T, b: T) -> bool {
-        test(ElementTest::Eq, T::BITS, a.to_u64(), b.to_u64())
+        a.to_u64() == b.to_u64()
     }
 }
 
@@ -28,7 +27,7 @@ impl LaneWiseTest2 for Ne {
 
     #[inline(always)]
     fn one<T: Lane>(&self, a: T, b: T) -> bool {
-        test(ElementTest::Ne, T::BITS, a.to_u64(), b.to_u64())
+        a.to_u64() != b.to_u64()
     }
 }
 
@@ -41,7 +40,7 @@ impl LaneWiseTest2 for Ge {
 
     #[inline(always)]
     fn one<T: Lane>(&self, a: T, b: T) -> bool {
-        test(ElementTest::Ge, T::BITS, a.to_u64(), b.to_u64())
+        !a.signed_less(b)
     }
 }
 
@@ -54,7 +53,7 @@ impl LaneWiseTest2 for Gt {
 
     #[inline(always)]
     fn one<T: Lane>(&self, a: T, b: T) -> bool {
-        test(ElementTest::Gt, T::BITS, a.to_u64(), b.to_u64())
+        b.signed_less(a)
     }
 }
 
@@ -67,7 +66,7 @@ impl LaneWiseTest2 for Lt {
 
     #[inline(always)]
     fn one<T: Lane>(&self, a: T, b: T) -> bool {
-        test(ElementTest::Lt, T::BITS, a.to_u64(), b.to_u64())
+        a.signed_less(b)
     }
 }
 
@@ -80,7 +79,7 @@ impl LaneWiseTest2 for Le {
 
     #[inline(always)]
     fn one<T: Lane>(&self, a: T, b: T) -> bool {
-        test(ElementTest::Le, T::BITS, a.to_u64(), b.to_u64())
+        !b.signed_less(a)
     }
 }
 
@@ -93,7 +92,7 @@ impl LaneWiseTest2 for Hs {
 
     #[inline(always)]
     fn one<T: Lane>(&self, a: T, b: T) -> bool {
-        test(ElementTest::Hs, T::BITS, a.to_u64(), b.to_u64())
+        a.to_u64() >= b.to_u64()
     }
 }
 
@@ -106,7 +105,7 @@ impl LaneWiseTest2 for Hi {
 
     #[inline(always)]
     fn one<T: Lane>(&self, a: T, b: T) -> bool {
-        test(ElementTest::Hi, T::BITS, a.to_u64(), b.to_u64())
+        a.to_u64() > b.to_u64()
     }
 }
 
@@ -119,7 +118,7 @@ impl LaneWiseTest2 for Lo {
 
     #[inline(always)]
     fn one<T: Lane>(&self, a: T, b: T) -> bool {
-        test(ElementTest::Lo, T::BITS, a.to_u64(), b.to_u64())
+        a.to_u64() < b.to_u64()
     }
 }
 
@@ -132,6 +131,6 @@ impl LaneWiseTest2 for Ls {
 
     #[inline(always)]
     fn one<T: Lane>(&self, a: T, b: T) -> bool {
-        test(ElementTest::Ls, T::BITS, a.to_u64(), b.to_u64())
+        a.to_u64() <= b.to_u64()
     }
 }

@@ -5,11 +5,10 @@ ghost use Rattle.sve_effects.specs.VectorData as table;
 ghost use Rattle.sve_lanes.specs.Groups.{is_merging};
 
 use crate::fields::{shift_amount, shift_bits, tsz_of};
-use crate::names::{shift_element, shift_imm_element};
-use crate::operations::{WideShift, merging_number, merging_one, merging_two};
+use crate::names::shift_imm_element;
+use crate::operations::{merging_covered, merging_number, merging_one, merging_two};
 use core_regs::Core;
 use emu_bits::{PredLow, Reg, U};
-use lane_kernels::words::merging;
 use lane_ops::{
     Abs, Add, And, Asr, Asrd, Bic, Cls, Clz, Cnot, Cnt, Eor, Lsl, Lsr, Mul, Neg, Not, Orr, Rbit,
     Revb, Revh, Revw, Sabd, Sdiv, Smax, Smin, Smulh, Sub, Sxtb, Sxth, Sxtw, Uabd, Udiv, Umax, Umin,
@@ -104,9 +103,13 @@ fn binary_wide(
 )
     ensures { vec.new ≡ table.vector_data (SveForm.BinaryWide op size pg zm zdn) core.now vec.old }
 {
-    let op = shift_element(op);
-    let lanes = WideShift { op, zn: zdn, zm };
-    merging(vec, lane_bits(size), pg.register(), zdn, lanes);
+    let e = lane_bits(size);
+    let pg = pg.register();
+    match op {
+        ShiftOp::Asr => merging_covered(vec, e, pg, zdn, zdn, zm, Asr),
+        ShiftOp::Lsr => merging_covered(vec, e, pg, zdn, zdn, zm, Lsr),
+        ShiftOp::Lsl => merging_covered(vec, e, pg, zdn, zdn, zm, Lsl),
+    }
 }
 
 fn shift_imm(

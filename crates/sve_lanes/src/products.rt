@@ -6,7 +6,7 @@ ghost use Rattle.sve_effects.specs.VectorData as table;
 ghost use Rattle.sve_lanes.specs.Groups.{is_product};
 
 use crate::names::dot_indexed_signed;
-use crate::operations::IndexedDot;
+use crate::operations::plain_indexed;
 use core_regs::Core;
 use emu_bits::{PredLow, Reg, U};
 use lane_kernels::sources::Map3;
@@ -142,12 +142,9 @@ fn dot_with_lane(vec: &mut VecRegs, is_signed: bool, e: u32, i: u32, zm: Reg, zn
     requires within { i < 128 / e }
     ensures { vec.new ≡ table.dot_indexed is_signed e i zm zn zda vec.old }
 {
-    let lanes = IndexedDot {
-        is_signed,
-        i,
-        zda,
-        zn,
-        zm,
-    };
-    plain(vec, e, zda, &lanes);
+    if is_signed {
+        plain_indexed(vec, e, zda, zn, zm, i, Sdot);
+    } else {
+        plain_indexed(vec, e, zda, zn, zm, i, Udot);
+    }
 }

@@ -6,10 +6,9 @@ ghost use Rattle.sve_lanes.specs.Groups.{is_plain};
 
 use crate::fields::{shift_amount, shift_bits, tsz_of};
 use crate::names::shift_element;
-use crate::operations::{WideShift, plain_number, plain_two};
+use crate::operations::{plain_covered, plain_number, plain_two};
 use core_regs::Core;
 use emu_bits::{Reg, U};
-use lane_kernels::words::plain;
 use lane_ops::{Add, And, Asr, Bic, Eor, Lsl, Lsr, Orr, Sqadd, Sqsub, Sub, Uqadd, Uqsub};
 use sve_effects::lane_bits;
 use sve_insn::{LogicZOp, PlainOp, ShiftOp, Sve, SveForm};
@@ -76,8 +75,12 @@ fn logic(core: &Core, vec: &mut VecRegs, op: LogicZOp, zm: Reg, zn: Reg, zd: Reg
 fn shift_wide(core: &Core, vec: &mut VecRegs, op: ShiftOp, size: U<2>, zm: Reg, zn: Reg, zd: Reg)
     ensures { vec.new ≡ table.vector_data (SveForm.PlainWide op size zm zn zd) core.now vec.old }
 {
-    let op = shift_element(op);
-    plain(vec, lane_bits(size), zd, &WideShift { op, zn, zm });
+    let e = lane_bits(size);
+    match op {
+        ShiftOp::Asr => plain_covered(vec, e, zd, zn, zm, Asr),
+        ShiftOp::Lsr => plain_covered(vec, e, zd, zn, zm, Lsr),
+        ShiftOp::Lsl => plain_covered(vec, e, zd, zn, zm, Lsl),
+    }
 }
 
 fn shift_imm(

@@ -6,10 +6,11 @@ ghost use Rattle.sve_effects.specs.Permute.{taken, indexed_place};
 ghost use Rattle.sve_effects.specs.PermuteRows as table;
 ghost use Rattle.vec_model.specs.Lanes.{IsLaneSize, with_lanes};
 
-use crate::moves::{MOST_LANES, filled, indexed};
-use arrayvec::ArrayVec;
+use crate::chunks::Turns;
+use crate::moves::{filled, indexed};
 use core_regs::Core;
 use emu_bits::{Reg, U};
+use lane_kernels::words::plain;
 use vec_regs::VecRegs;
 
 /// Does a dup of a lane of 8 to 128 bits.
@@ -69,13 +70,8 @@ fn dup_quad(vec: &mut VecRegs, i: u32, zn: Reg, zd: Reg)
 }
 
 /// Writes two numbers in turn to the lanes of 64 bits.
-#[tactic(auto, using(emu_model::specs::Lists::each_rules))]
 fn in_turn(vec: &mut VecRegs, low: u64, high: u64, zd: Reg)
     ensures { vec.new ≡ with_lanes 64 (λ k. if nat_eq (k % 2) 0 then low else high) zd vec.old }
 {
-    let mut out: ArrayVec<u64, MOST_LANES> = ArrayVec::new();
-    for k in 0..vec.length().bits() / 64 {
-        out.push(if k % 2 == 0 { low } else { high });
-    }
-    vec.set_lanes(64, zd, &out);
+    plain(vec, 64, zd, &Turns { low, high });
 }

@@ -1,5 +1,5 @@
 //! Folds over the active lanes of a register.
-ghost use Rattle.std.specs.Prelude.{◌≡◌, ◌-◌, ◌^◌};
+ghost use Rattle.std.specs.Prelude.{◌≡◌};
 ghost use Rattle.sve_insn.specs.declared.form.SveForm.{SveForm};
 ghost use Rattle.sve_effects.specs.ElementLoop.{folding};
 ghost use Rattle.sve_effects.specs.Fold as table;
@@ -11,7 +11,6 @@ use emu_bits::{Pred, PredLow, Reg, U};
 use lane_kernels::folds::fold_active;
 use lane_tests::{Andv, Eorv, Orv, Saddv, Smaxv, Sminv, Uaddv, Umaxv, Uminv};
 use sve_effects::lane_bits;
-use sve_elements::numbers::complement;
 use sve_insn::ReduceOp;
 use vec_regs::VecRegs;
 
@@ -36,30 +35,16 @@ fn folded(vec: &VecRegs, op: ReduceOp, e: u32, pg: Pred, zn: Reg) -> u64
     requires { IsLaneSize e }
     ensures { result ≡ folding e pg (table.reduce_step op e) (table.reduce_start op e) zn vec.now }
 {
-    let start = start(op, e);
     match op {
-        ReduceOp::Saddv => fold_active(vec, &Saddv, e, pg, zn, start),
-        ReduceOp::Uaddv => fold_active(vec, &Uaddv, e, pg, zn, start),
-        ReduceOp::Smaxv => fold_active(vec, &Smaxv, e, pg, zn, start),
-        ReduceOp::Umaxv => fold_active(vec, &Umaxv, e, pg, zn, start),
-        ReduceOp::Sminv => fold_active(vec, &Sminv, e, pg, zn, start),
-        ReduceOp::Uminv => fold_active(vec, &Uminv, e, pg, zn, start),
-        ReduceOp::Orv => fold_active(vec, &Orv, e, pg, zn, start),
-        ReduceOp::Eorv => fold_active(vec, &Eorv, e, pg, zn, start),
-        ReduceOp::Andv => fold_active(vec, &Andv, e, pg, zn, start),
-    }
-}
-
-/// The value where no lane is active.
-fn start(op: ReduceOp, e: u32) -> u64
-    requires { IsLaneSize e }
-    ensures { result ≡ table.reduce_start op e }
-{
-    match op {
-        ReduceOp::Saddv | ReduceOp::Uaddv | ReduceOp::Umaxv | ReduceOp::Orv | ReduceOp::Eorv => 0,
-        ReduceOp::Smaxv => 1 << (e - 1),
-        ReduceOp::Sminv => (1 << (e - 1)) - 1,
-        ReduceOp::Uminv | ReduceOp::Andv => complement(e, 0),
+        ReduceOp::Saddv => fold_active(vec, &Saddv, e, pg, zn),
+        ReduceOp::Uaddv => fold_active(vec, &Uaddv, e, pg, zn),
+        ReduceOp::Smaxv => fold_active(vec, &Smaxv, e, pg, zn),
+        ReduceOp::Umaxv => fold_active(vec, &Umaxv, e, pg, zn),
+        ReduceOp::Sminv => fold_active(vec, &Sminv, e, pg, zn),
+        ReduceOp::Uminv => fold_active(vec, &Uminv, e, pg, zn),
+        ReduceOp::Orv => fold_active(vec, &Orv, e, pg, zn),
+        ReduceOp::Eorv => fold_active(vec, &Eorv, e, pg, zn),
+        ReduceOp::Andv => fold_active(vec, &Andv, e, pg, zn),
     }
 }
 

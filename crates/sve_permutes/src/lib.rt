@@ -1,9 +1,11 @@
 //! What the SVE rows that work across lanes do: permutes, counts of lanes, and folds over active lanes.
 //!
-//! A permute works out its whole result before it writes it; where a lane comes from is one formula of places.
+//! A permute works out its whole result before it writes it, by the permutes of slices of `lane_permute`: 128 bits at a time where
+//! 128 bits of each source make 128 bits of the result, and over whole registers where runs of lanes move.
 #![tactic(auto)]
 
 mod active;
+mod chunks;
 mod counts;
 mod dup;
 mod folds;
@@ -12,6 +14,8 @@ mod permutes;
 mod predicates;
 mod rows;
 mod single;
+mod slices;
+mod tables;
 
 ghost use Rattle.std.specs.Prelude.{◌≡◌, true};
 ghost use Rattle.sve_effects.specs.Across.{is_across, across};

@@ -4,58 +4,61 @@ ghost use Rattle.sve_insn.specs.declared.form.SveForm.{SveForm};
 ghost use Rattle.sve_insn.specs.Conditions.{is_no_byte};
 ghost use Rattle.sve_effects.specs.ElementLoop.{lane_of};
 ghost use Rattle.sve_effects.specs.Permute.{interleave_place};
-ghost use Rattle.sve_effects.specs.PermuteRows as table;
+ghost use Rattle.sve_effects.specs.PermuteRows as model;
 ghost use Rattle.lane_permute.specs.Rules.{rule_place, IsFor};
 ghost use Rattle.vec_model.specs.Lanes.{IsLaneSize};
 
+use crate::chunks::{Inserted, Reversed, Transposed, Unzipped, Zipped};
+use crate::slices::{extracted, widened_lanes};
+use crate::tables::table;
 use crate::{active, moves, predicates};
 use core_regs::Core;
 use emu_bits::{Pred, PredLow, Reg, U};
+use lane_kernels::words::plain;
 use lane_permute::places::Rule;
 use sve_effects::lane_bits;
 use sve_insn::{CopyRegOp, InsertOp, InterleaveOp, UnpackOp, UnpackPOp};
 use vec_regs::VecRegs;
 
 pub(crate) fn dup_reg(core: &Core, vec: &mut VecRegs, size: U<2>, rn: Reg, zd: Reg)
-    ensures { vec.new ≡ (table.permuted (SveForm.DupReg size rn zd) core.now vec.old).vectors }
+    ensures { vec.new ≡ (model.permuted (SveForm.DupReg size rn zd) core.now vec.old).vectors }
 {
     moves::filled(vec, lane_bits(size), core.x_sp(rn), zd);
 }
 
 pub(crate) fn insert(core: &Core, vec: &mut VecRegs, op: InsertOp, size: U<2>, src: Reg, zdn: Reg)
-    ensures { vec.new ≡ (table.permuted (SveForm.Insert op size src zdn) core.now vec.old).vectors }
+    ensures { vec.new ≡ (model.permuted (SveForm.Insert op size src zdn) core.now vec.old).vectors }
 {
     let e = lane_bits(size);
     let scalar = insert_scalar(core, vec, op, e, src);
-    moves::moved(vec, e, Rule::Insr, zdn, zdn, scalar, zdn);
+    plain(vec, e, zdn, &Inserted { scalar, zn: zdn });
 }
 
 pub(crate) fn rev_z(core: &Core, vec: &mut VecRegs, size: U<2>, zn: Reg, zd: Reg)
-    ensures { vec.new ≡ (table.permuted (SveForm.RevZ size zn zd) core.now vec.old).vectors }
+    ensures { vec.new ≡ (model.permuted (SveForm.RevZ size zn zd) core.now vec.old).vectors }
 {
-    moves::moved(vec, lane_bits(size), Rule::Rev, zn, zn, 0, zd);
+    plain(vec, lane_bits(size), zd, &Reversed { zn });
 }
 
 #[tactic(auto, unfolding(sve_insn::specs::Conditions::is_no_byte))]
 pub(crate) fn unpack(core: &Core, vec: &mut VecRegs, op: UnpackOp, size: U<2>, zn: Reg, zd: Reg)
     requires { is_no_byte size ≡ true }
-    ensures { vec.new ≡ (table.permuted (SveForm.Unpack op size zn zd) core.now vec.old).vectors }
+    ensures { vec.new ≡ (model.permuted (SveForm.Unpack op size zn zd) core.now vec.old).vectors }
 {
     match size.get() {
         0 => {}
-        1 => moves::unpacked(vec, op, 16, zn, zd),
-        2 => moves::unpacked(vec, op, 32, zn, zd),
-        _ => moves::unpacked(vec, op, 64, zn, zd),
+        1 => widened_lanes::<u16, u8, 128, 256>(vec, op, zn, zd),
+        2 => widened_lanes::<u32, u16, 64, 128>(vec, op, zn, zd),
+        _ => widened_lanes::<u64, u32, 32, 64>(vec, op, zn, zd),
     }
 }
 
 pub(crate) fn lookup(core: &Core, vec: &mut VecRegs, size: U<2>, zm: Reg, zn: Reg, zd: Reg)
-    ensures { vec.new ≡ (table.permuted (SveForm.Table size zm zn zd) core.now vec.old).vectors }
+    ensures { vec.new ≡ (model.permuted (SveForm.Table size zm zn zd) core.now vec.old).vectors }
 {
-    moves::table(vec, lane_bits(size), zm, zn, zd);
+    table(vec, lane_bits(size), zm, zn, zd);
 }
 
-#[tactic(auto, using(crate::proofs::FieldPlaces::even_lanes))]
 pub(crate) fn interleave(
     core: &Core,
     vec: &mut VecRegs,
@@ -65,11 +68,71 @@ pub(crate) fn interleave(
     zn: Reg,
     zd: Reg,
 )
-    ensures { vec.new ≡ (table.permuted (SveForm.Interleave op size zm zn zd) core.now vec.old).vectors }
+    ensures { vec.new ≡ (model.permuted (SveForm.Interleave op size zm zn zd) core.now vec.old).vectors }
 {
     let e = lane_bits(size);
-    let _length = vec.length();
-    moves::moved(vec, e, interleave_rule(op), zn, zm, 0, zd);
+    match op {
+        InterleaveOp::Zip1 => plain(
+            vec,
+            e,
+            zd,
+            &Zipped {
+                second: false,
+                zn,
+                zm,
+            },
+        ),
+        InterleaveOp::Zip2 => plain(
+            vec,
+            e,
+            zd,
+            &Zipped {
+                second: true,
+                zn,
+                zm,
+            },
+        ),
+        InterleaveOp::Uzp1 => plain(
+            vec,
+            e,
+            zd,
+            &Unzipped {
+                second: false,
+                zn,
+                zm,
+            },
+        ),
+        InterleaveOp::Uzp2 => plain(
+            vec,
+            e,
+            zd,
+            &Unzipped {
+                second: true,
+                zn,
+                zm,
+            },
+        ),
+        InterleaveOp::Trn1 => plain(
+            vec,
+            e,
+            zd,
+            &Transposed {
+                second: false,
+                zn,
+                zm,
+            },
+        ),
+        InterleaveOp::Trn2 => plain(
+            vec,
+            e,
+            zd,
+            &Transposed {
+                second: true,
+                zn,
+                zm,
+            },
+        ),
+    }
 }
 
 #[tactic(auto, using(crate::proofs::FieldPlaces::even_lanes))]
@@ -82,7 +145,7 @@ pub(crate) fn interleave_p(
     pn: Pred,
     pd: Pred,
 )
-    ensures { vec.new ≡ (table.permuted (SveForm.InterleaveP op size pm pn pd) core.now vec.old).vectors }
+    ensures { vec.new ≡ (model.permuted (SveForm.InterleaveP op size pm pn pd) core.now vec.old).vectors }
 {
     let e = lane_bits(size);
     let _length = vec.length();
@@ -90,34 +153,34 @@ pub(crate) fn interleave_p(
 }
 
 pub(crate) fn unpack_p(core: &Core, vec: &mut VecRegs, op: UnpackPOp, pn: Pred, pd: Pred)
-    ensures { vec.new ≡ (table.permuted (SveForm.UnpackP op pn pd) core.now vec.old).vectors }
+    ensures { vec.new ≡ (model.permuted (SveForm.UnpackP op pn pd) core.now vec.old).vectors }
 {
     predicates::unpacked(vec, op, pn, pd);
 }
 
 pub(crate) fn rev_p(core: &Core, vec: &mut VecRegs, size: U<2>, pn: Pred, pd: Pred)
-    ensures { vec.new ≡ (table.permuted (SveForm.RevP size pn pd) core.now vec.old).vectors }
+    ensures { vec.new ≡ (model.permuted (SveForm.RevP size pn pd) core.now vec.old).vectors }
 {
     predicates::moved_fields(vec, lane_bits(size), Rule::Rev, pn, pn, pd);
 }
 
 pub(crate) fn compact(core: &Core, vec: &mut VecRegs, size: U<2>, pg: PredLow, zn: Reg, zd: Reg)
-    ensures { vec.new ≡ (table.permuted (SveForm.Compact size pg zn zd) core.now vec.old).vectors }
+    ensures { vec.new ≡ (model.permuted (SveForm.Compact size pg zn zd) core.now vec.old).vectors }
 {
     active::compacted(vec, lane_bits(size), pg.register(), zn, zd);
 }
 
 pub(crate) fn splice(core: &Core, vec: &mut VecRegs, size: U<2>, pg: PredLow, zm: Reg, zdn: Reg)
-    ensures { vec.new ≡ (table.permuted (SveForm.Splice size pg zm zdn) core.now vec.old).vectors }
+    ensures { vec.new ≡ (model.permuted (SveForm.Splice size pg zm zdn) core.now vec.old).vectors }
 {
     active::spliced(vec, lane_bits(size), pg.register(), zm, zdn);
 }
 
 pub(crate) fn ext(core: &Core, vec: &mut VecRegs, imm8h: U<5>, imm8l: U<3>, zm: Reg, zdn: Reg)
-    ensures { vec.new ≡ (table.permuted (SveForm.Ext imm8h imm8l zm zdn) core.now vec.old).vectors }
+    ensures { vec.new ≡ (model.permuted (SveForm.Ext imm8h imm8l zm zdn) core.now vec.old).vectors }
 {
     let from = imm8h.get() * 8 + imm8l.get();
-    moves::moved(vec, 8, Rule::Ext(from as usize), zdn, zm, 0, zdn);
+    extracted(vec, from as usize, zm, zdn);
 }
 
 pub(crate) fn copy_reg(
@@ -129,7 +192,7 @@ pub(crate) fn copy_reg(
     rn: Reg,
     zd: Reg,
 )
-    ensures { vec.new ≡ (table.permuted (SveForm.CopyReg op size pg rn zd) core.now vec.old).vectors }
+    ensures { vec.new ≡ (model.permuted (SveForm.CopyReg op size pg rn zd) core.now vec.old).vectors }
 {
     let e = lane_bits(size);
     let scalar = copy_scalar(core, vec, op, e, rn);
@@ -139,7 +202,7 @@ pub(crate) fn copy_reg(
 /// The scalar that is inserted.
 fn insert_scalar(core: &Core, vec: &VecRegs, op: InsertOp, e: u32, src: Reg) -> u64
     requires { IsLaneSize e }
-    ensures { result ≡ table.insert_scalar op e src core.now vec.now }
+    ensures { result ≡ model.insert_scalar op e src core.now vec.now }
 {
     match op {
         InsertOp::InsrR => core.x(src),
@@ -150,7 +213,7 @@ fn insert_scalar(core: &Core, vec: &VecRegs, op: InsertOp, e: u32, src: Reg) -> 
 /// The scalar that is copied.
 fn copy_scalar(core: &Core, vec: &VecRegs, op: CopyRegOp, e: u32, rn: Reg) -> u64
     requires { IsLaneSize e }
-    ensures { result ≡ table.copy_scalar op e rn core.now vec.now }
+    ensures { result ≡ model.copy_scalar op e rn core.now vec.now }
 {
     match op {
         CopyRegOp::CpyR => core.x_sp(rn),

@@ -1,7 +1,7 @@
-use Rattle.std.proofs.Common.{◌≡◌}
+use Rattle.std.proofs.Common.{◌/◌}
 use Rattle.sve_effects.specs.ElementLoop.{is_active}
-use Rattle.sve_effects.specs.FirstLast.{last_where}
+use Rattle.sve_permutes.proofs.ActiveWords.{IdleFrom}
 use Rattle.sve_permutes.proofs.active.last_active.Given as goal
 
-abbrev pub invariant-loop-k : goal.invariant-loop-k
-invariant-loop-k l = l.found ≡ last_where l.k (is_active l.e l.vec l.pg)
+abbrev pub invariant-loop-i : goal.invariant-loop-i
+invariant-loop-i l = IdleFrom (is_active l.e l.vec l.pg) (64 / l.e) (l.vec.bits / l.e) l.i

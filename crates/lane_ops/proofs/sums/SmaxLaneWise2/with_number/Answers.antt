@@ -1,0 +1,13 @@
+use Rattle.std.proofs.Common.{◌%◌, ◌^◌, ℕ, ap, ◌∙◌}
+use Rattle.std.specs.Int.{int_max}
+use Rattle.emu_bits.specs.Numbers.{signed, unsigned_int}
+use Rattle.lane_ops.proofs.Readings.{read_again}
+use Rattle.lane_ops.proofs.sums.SmaxLaneWise2.with_number.Goals as goal
+
+pub returns : goal.returns
+returns g c =
+    let e = g.T.Lane.BITS in
+    let a = g.T.Lane.number c.args.a in
+    c.one.ensures
+    ∙ ap (λ x. unsigned_int (int_max (signed a e) (signed x e)) e % 2 ^ e) c.from_u64.ensures
+    ∙ ap (λ z. unsigned_int (int_max (signed a e) z) e % 2 ^ e) (read_again e c.args.n)

@@ -1,0 +1,13 @@
+use Rattle.std.proofs.Common.{ℕ, ap, ◌∙◌}
+use Rattle.sve_effects.specs.Permute.{taken, splice_place}
+use Rattle.lane_permute.specs.Slices.{number_at, active_by}
+use Rattle.lane_permute.proofs.by_active.splice.Goals as goal
+
+pub returns : goal.returns
+returns g c k h =
+    let f = g.T.Lane.number in
+    let a : ℕ → ℕ = number_at f c.args.a.now in
+    let b : ℕ → ℕ = number_at f c.args.b.now in
+    c.spliced.ensures k h
+    ∙ ap (taken a b 0 0) (c.run_of-from.ensures.places k)
+    ∙ ap (λ n. taken a b 0 0 (splice_place (active_by c.args.mask.now) n k)) c.requires.mask
