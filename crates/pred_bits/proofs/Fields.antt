@@ -1,6 +1,6 @@
 -- Fields of lanes: e / 8 bits each.
-use Rattle.std.proofs.Common.{◌≡◌, ◌≢◌, ◌<◌, ◌+◌, ◌/◌, ◌%◌, ◌*◌, ℕ, Bool, true, false, nat_eq, nat_lt, if◌then◌else◌, min, List, length, get_or, set, replicate, inl, inr, refl, sym, ap, ◌∙◌, arith}
-use Rattle.std.proofs.lemmas.Bool.{cases_eq}
+use Rattle.std.proofs.Common.{◌≡◌, ◌≢◌, ◌<◌, ◌≤◌, ◌+◌, ◌/◌, ◌%◌, ◌*◌, ℕ, Bool, true, false, nat_eq, nat_lt, ◌&&◌, if◌then◌else◌, min, List, length, get_or, set, replicate, inl, inr, refl, sym, ap, ◌∙◌, arith}
+use Rattle.std.proofs.lemmas.Bool.{cases_eq, cases_lt, lt-ltb, le-ltb, and_right, eqb-true}
 use Rattle.std.proofs.lemmas.Bool.Decides.{nat_tests}
 use Rattle.std.proofs.lemmas.List.{length-set, length-replicate, get_or-replicate, get_or-set_same, get_or-set_other}
 use Rattle.std.proofs.lemmas.List.FromFn.{fill_by_all}
@@ -11,7 +11,9 @@ use Rattle.emu_bits.specs.declared.flags.Esize.TheVariants.{B, H, S, D}
 use Rattle.emu_model.specs.Lists.{each, length-each, get_or-each, each_same}
 use Rattle.vec_model.proofs.FieldBits.{at_start, between}
 use Rattle.vec_model.specs.Lanes.{field_bit}
+use Rattle.vec_regs.specs.Words.{bit_of, bits_of, AreClearFrom}
 use Rattle.sve_effects.specs.Predicate.{lanes_of, lanes_below}
+use Rattle.pred_bits.proofs.Made.{clear_from, bits_are}
 
 -- ---- lanes within the bits
 
@@ -20,6 +22,13 @@ lane_within B k m h = omega arith
 lane_within H k m h = omega arith
 lane_within S k m h = omega arith
 lane_within D k m h = omega arith
+
+-- and all their fields within 256 bits
+pub lanes_room : (e : Esize) (m : ℕ) → m ≤ 256 → lanes_of (size_of e) m * (size_of e / 8) ≤ 256
+lanes_room B m h = omega arith
+lanes_room H m h = omega arith
+lanes_room S m h = omega arith
+lanes_room D m h = omega arith
 
 pub some_bits : (e : Esize) → 0 < size_of e / 8
 some_bits B = omega arith
@@ -80,26 +89,36 @@ module _ (w m k : ℕ) (f g : ℕ → Bool) (some : 0 < w) (within : k * w < m) 
 
 -- ---- the lanes below a number
 
-none_below : (k : ℕ) → nat_lt k 0 ≡ false
-none_below k = grind (arith, nat_tests)
+guarded : (t x y : Bool) → (t ≡ true → x ≡ y) → (t && x) ≡ (if t then y else false)
+guarded true x y h = h refl
+guarded false x y h = refl
 
-one_below : (k : ℕ) → nat_lt k (k + 1) ≡ true
-one_below k = grind (arith, nat_tests)
+-- a field that begins below the end is of a lane below the number
+start_below : (e : Esize) (m count b : ℕ) → m ≤ 256 → b < m → b % (size_of e / 8) ≡ 0 → nat_lt b (min (min count 256 * (size_of e / 8)) m) ≡ nat_lt (b / (size_of e / 8)) count
+start_below e m count b few h start = elim (cases_lt (b / (size_of e / 8)) count) [
+  | inl less ↦ lt-ltb b (min (min count 256 * (size_of e / 8)) m) (within e less start) ∙ sym (lt-ltb (b / (size_of e / 8)) count less)
+  | inr most ↦ le-ltb b (min (min count 256 * (size_of e / 8)) m) (past e most start) ∙ sym (le-ltb (b / (size_of e / 8)) count most)
+] where
+  within : (e : Esize) → b / (size_of e / 8) < count → b % (size_of e / 8) ≡ 0 → b < min (min count 256 * (size_of e / 8)) m
+  within B less start = omega arith
+  within H less start = omega arith
+  within S less start = omega arith
+  within D less start = omega arith
 
-same_below : (k j : ℕ) → j ≢ k → nat_lt j k ≡ nat_lt j (k + 1)
-same_below k j other = grind (arith, nat_tests)
+  past : (e : Esize) → count ≤ b / (size_of e / 8) → b % (size_of e / 8) ≡ 0 → min (min count 256 * (size_of e / 8)) m ≤ b
+  past B most start = omega arith
+  past H most start = omega arith
+  past S most start = omega arith
+  past D most start = omega arith
 
-least_below : (k n count : ℕ) → k < n → nat_lt k (min count n) ≡ nat_lt k count
-least_below k n count h = grind (arith, nat_tests)
+pub below_clear : (e : Esize) (m end : ℕ) (words : List ℕ) → end ≤ m → ((b : ℕ) → bit_of words b ≡ (nat_eq (b % (size_of e / 8)) 0 && nat_lt b end)) → AreClearFrom m words
+below_clear e m end words le is = clear_from words m (λ b. nat_eq (b % (size_of e / 8)) 0 && nat_lt b end) is (λ b past. and_right (nat_eq (b % (size_of e / 8)) 0) (nat_lt b end) (le-ltb b end (omega arith)))
 
-pub below_none : (e : Esize) (m : ℕ) → replicate m false ≡ lanes_below (size_of e) m 0
-below_none e m = no_fields (size_of e / 8) m (λ k. nat_lt k 0) none_below
-
-pub below_one_more : (e : Esize) (m k : ℕ) → k < lanes_of (size_of e) m → set (lanes_below (size_of e) m k) (k * (size_of e / 8)) true ≡ lanes_below (size_of e) m (k + 1)
-below_one_more e m k h = field_set (size_of e / 8) m k (λ j. nat_lt j k) (λ j. nat_lt j (k + 1)) (some_bits e) (lane_within e k m h) (one_below k) (same_below k)
-
-pub below_least : (e : Esize) (m count : ℕ) → m % (size_of e / 8) ≡ 0 → lanes_below (size_of e) m (min count (lanes_of (size_of e) m)) ≡ lanes_below (size_of e) m count
-below_least e m count whole = fields_same e m (λ k. nat_lt k (min count (lanes_of (size_of e) m))) (λ k. nat_lt k count) whole (λ k h. least_below k (lanes_of (size_of e) m) count h)
+pub below_fields : (e : Esize) (m count end : ℕ) (words : List ℕ) → m ≤ 256 → end ≡ min (min count 256 * (size_of e / 8)) m → ((b : ℕ) → bit_of words b ≡ (nat_eq (b % (size_of e / 8)) 0 && nat_lt b end))
+    → bits_of m words ≡ lanes_below (size_of e) m count
+below_fields e m count end words few at is = bits_are words m (λ b. nat_eq (b % (size_of e / 8)) 0 && nat_lt b end) (field_bit (size_of e / 8) (λ k. nat_lt k count)) is
+    (λ b h. guarded (nat_eq (b % (size_of e / 8)) 0) (nat_lt b end) (nat_lt (b / (size_of e / 8)) count)
+    (λ start. ap (nat_lt b) at ∙ start_below e m count b few h (eqb-true (b % (size_of e / 8)) 0 start)))
 
 -- ---- one lane alone
 

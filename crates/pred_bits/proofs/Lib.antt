@@ -1,8 +1,14 @@
+pub mod AllActive
 pub mod Breaks
 pub mod Bytes
+pub mod Counted
 pub mod Fields
+pub mod LaneWords
 pub mod LogicWords
 pub mod Loops
+pub mod Made
+pub mod Places
 pub mod Powers
 pub mod Views
 pub mod WordBits
+pub mod WordMasks

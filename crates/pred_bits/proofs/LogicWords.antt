@@ -1,18 +1,13 @@
 -- Logical operations on the words of predicates.
-use Rattle.std.proofs.Common.{◌≡◌, ◌≢◌, ◌<◌, ◌≤◌, ◌+◌, ◌/◌, ◌%◌, ◌^◌, ℕ, Bool, false, nat_eq, List, length, get_or, set, subst, inl, inr, refl, sym, ap, ◌∙◌, arith}
-use Rattle.std.specs.Int.{bit_at}
+use Rattle.std.proofs.Common.{◌≡◌, ◌<◌, ◌≤◌, ◌/◌, ◌%◌, ℕ, Bool, false, List, length, inl, inr, refl, sym, ap, ◌∙◌, arith}
 use Rattle.std.proofs.lemmas.Bool.{cases_lt}
-use Rattle.std.proofs.lemmas.List.{get_or_past, get_or-set_same, get_or-set_other}
 use Rattle.emu_model.specs.Lists.{each, each_same}
 use Rattle.sve_effects.specs.declared.predicates.LogicOp.{LogicOp}
 use Rattle.sve_effects.specs.declared.predicates.LogicOp.TheVariants.{And, Bic, Eor, Orr, Orn, Nor, Nand, Sel}
 use Rattle.sve_effects.specs.Predicate.{is_set, logic_bit, logic}
 use Rattle.vec_regs.specs.Words.{bit_of, bits_of, AreClearFrom}
+use Rattle.pred_bits.proofs.Made.{bit_in, bit_past}
 use Rattle.pred_bits.proofs.Views.{length_shown, get_shown}
-
--- bit i of word j
-abbrev pub bit_in : List ℕ → ℕ → ℕ → Bool
-bit_in words j i = nat_eq (bit_at (get_or words j 0) i) 1
 
 none_of : (op : LogicOp) → logic_bit op false false false ≡ false
 none_of And = refl
@@ -29,19 +24,13 @@ module _ (op : LogicOp) (words gs os bs : List ℕ) (count : length words ≡ 4)
   bit_is : (j : ℕ) → j < 256 → bit_of words j ≡ logic_bit op (bit_of gs j) (bit_of os j) (bit_of bs j)
   bit_is j h = done (j / 64) (j % 64) (omega arith) (omega arith)
 
-  past : (j : ℕ) → 256 ≤ j → bit_of words j ≡ false
-  past j h =
-      let outside : length words ≤ j / 64 = omega arith in
-      let zero_bit : 0 / 2 ^ (j % 64) % 2 ≡ 0 = omega arith in
-      ap (λ x. nat_eq (x / 2 ^ (j % 64) % 2) 1) (get_or_past words (j / 64) 0 outside) ∙ ap (λ x. nat_eq x 1) zero_bit
-
   three : (x y z u v w : Bool) → x ≡ u → y ≡ v → z ≡ w → logic_bit op x y z ≡ logic_bit op u v w
   three x y z u v w e f g = ap (λ t. logic_bit op t y z) e ∙ ap (λ t. logic_bit op u t z) f ∙ ap (λ t. logic_bit op u v t) g
 
   pub logic_above : (n : ℕ) → AreClearFrom n gs → AreClearFrom n os → AreClearFrom n bs → AreClearFrom n words
   logic_above n g a b j le = elim (cases_lt j 256) [
     | inl h ↦ bit_is j h ∙ three (bit_of gs j) (bit_of os j) (bit_of bs j) false false false (g j le) (a j le) (b j le) ∙ none_of op
-    | inr h ↦ past j h
+    | inr h ↦ bit_past words j count h
   ]
 
   pub logic_shown : (n na nb : ℕ) (g a b : List Bool) → n ≤ 256 → bits_of n gs ≡ g → bits_of na os ≡ a → bits_of nb bs ≡ b → length a ≡ length g → length b ≡ length g
@@ -55,16 +44,3 @@ module _ (op : LogicOp) (words gs os bs : List ℕ) (count : length words ≡ 4)
       bit_is k (omega arith)
       ∙ three (bit_of gs k) (bit_of os k) (bit_of bs k) (is_set g k) (is_set a k) (is_set b k) (sym (get_shown n gs g k eg kg)) (sym (get_shown na os a k ea ka)) (sym (get_shown nb bs b k eb kb)))
       ∙ ap (λ m. each m (λ k. logic_bit op (is_set g k) (is_set a k) (is_set b k))) (sym lg)
-
--- ---- one word more
-
-module _ (op : LogicOp) (words gs os bs : List ℕ) (k w : ℕ) (place : k < length words)
-    (done : (j i : ℕ) → j < k → i < 64 → bit_in words j i ≡ logic_bit op (bit_in gs j i) (bit_in os j i) (bit_in bs j i))
-    (here : (i : ℕ) → i < 64 → nat_eq (bit_at w i) 1 ≡ logic_bit op (bit_in gs k i) (bit_in os k i) (bit_in bs k i)) where
-  pub done_more : (j i : ℕ) → j < k + 1 → i < 64 → bit_in (set words k w) j i ≡ logic_bit op (bit_in gs j i) (bit_in os j i) (bit_in bs j i)
-  done_more j i q r = elim (cases_lt j k) [
-    | inl less ↦ let other : j ≢ k = λ e. absurd (omega arith) in ap (λ x. nat_eq (bit_at x i) 1) (get_or-set_other words k j w 0 other) ∙ done j i less r
-    | inr most ↦
-        let same : k ≡ j = omega arith in
-        subst (λ j. bit_in (set words k w) j i ≡ logic_bit op (bit_in gs j i) (bit_in os j i) (bit_in bs j i)) same (ap (λ x. nat_eq (bit_at x i) 1) (get_or-set_same words k w 0 place) ∙ here i r)
-  ]

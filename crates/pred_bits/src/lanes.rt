@@ -1,13 +1,46 @@
-//! First, last and next lanes, the predicate test, loops and counts: lane by lane.
-ghost use Rattle.std.specs.Prelude.{◌≡◌, ◌<◌, ◌≤◌, ◌+◌, ◌/◌, ◌%◌, ◌⊎◌, ℕ, suc, ◌&&◌, length, IfSome, nat_lt};
+//! First, last and next lanes, the predicate test, loops and counts, by the words of predicates.
+ghost use Rattle.std.specs.Prelude.{◌≡◌, ◌<◌, ◌≤◌, ◌+◌, ◌-◌, ◌*◌, ◌/◌, ◌%◌, ◌^◌, ◌⊎◌, ℕ, suc, true, ◌&&◌, length, min, IfSome, nat_lt};
 ghost use Rattle.emu_bits.specs.Flags.{size_of};
+ghost use Rattle.emu_model.specs.Lists.{each};
+ghost use Rattle.pred_bits.specs.LaneBits as lane_bits;
+ghost use Rattle.pred_bits.specs.LaneBits.{among, rank};
 ghost use Rattle.vec_model.specs.Active.{active};
+ghost use Rattle.vec_model.specs.Lanes.{field_bit};
+ghost use Rattle.vec_regs.specs.Words.{bit_of};
 ghost use Rattle.sve_effects.specs.FirstLast.{first_where, last_where, all_below};
 ghost use Rattle.sve_effects.specs.Predicate as model;
-ghost use Rattle.sve_effects.specs.Predicate.{lanes_of, only_next, while_holds, while_lanes, count_lanes};
+ghost use Rattle.sve_effects.specs.Predicate.{lanes_of, only_next, while_lanes, while_holds, count_lanes};
 
+use crate::words::{count_bits, first_bit, from_place, last_bit, starts_below, starts_in_both};
 use crate::{PredBits, WhileTest};
-use emu_bits::{Esize, Flags, low_bits, sext};
+use emu_bits::numbers::power;
+use emu_bits::{Esize, Flags, low_bits};
+
+/// The words of the lanes that are active and set: the lowest bit of such a lane's field is 1, and all others are 0.
+fn lane_words(g: &PredBits, a: &PredBits, e: Esize) -> [u64; 4]
+    requires { length a.now ≡ length g.now }
+    ensures { (b : ℕ) → bit_of result b ≡ field_bit (size_of e / 8) (among (lanes_of (size_of e) (length g.now)) (λ k. active (size_of e) g.now k && active (size_of e) a.now k)) b }
+{
+    let words = starts_in_both(&g.words, &a.words, e);
+    let rest = g.bits % (e.bits() / 8);
+    if rest == 0 {
+        words
+    } else {
+        // a part of a field at the end is no lane
+        starts_in_both(&words, &starts_below(g.bits - rest, e), e)
+    }
+}
+
+/// The lane in whose field a place is.
+fn lane_at(place: Option<u32>, e: Esize) -> Option<u32>
+    ensures { result ≡ lane_bits.lane_at (size_of e / 8) place }
+{
+    let width = e.bits() / 8;
+    match place {
+        Some(p) => Some(p / width),
+        None => None,
+    }
+}
 
 /// The first lane that is active and set.
 pub(crate) fn first_set(g: &PredBits, a: &PredBits, e: Esize) -> Option<u32>
@@ -15,12 +48,8 @@ pub(crate) fn first_set(g: &PredBits, a: &PredBits, e: Esize) -> Option<u32>
     ensures value { result ≡ model.first_set (lanes_of (size_of e) (length g.now)) (active (size_of e) g.now) (active (size_of e) a.now) }
     ensures within { IfSome result (λ k. k < lanes_of (size_of e) (length g.now)) }
 {
-    for k in 0..g.lanes(e) {
-        if g.lane(e, k) && a.lane(e, k) {
-            return Some(k);
-        }
-    }
-    None
+    let _bits = g.bits();
+    lane_at(first_bit(&lane_words(g, a, e)), e)
 }
 
 /// The first active lane.
@@ -36,12 +65,8 @@ fn last_lane(g: &PredBits, e: Esize) -> Option<u32>
     ensures value { result ≡ last_where (lanes_of (size_of e) (length g.now)) (active (size_of e) g.now) }
     ensures within { IfSome result (λ k. k < lanes_of (size_of e) (length g.now)) }
 {
-    for k in (0..g.lanes(e)).rev() {
-        if g.lane(e, k) {
-            return Some(k);
-        }
-    }
-    None
+    let _bits = g.bits();
+    lane_at(last_bit(&lane_words(g, g, e)), e)
 }
 
 /// Whether the last active lane is set; false where none is active.
@@ -80,27 +105,18 @@ pub fn pred_test(g: &PredBits, a: &PredBits, e: Esize) -> Flags
     }
 }
 
-/// Whether a lane is behind a place, or there is none.
-fn is_behind(place: Option<u32>, k: u32) -> bool
-    ensures { result ≡ model.is_behind place k }
-{
-    match place {
-        Some(j) => j < k,
-        None => true,
-    }
-}
-
 /// The first active lane behind a place, or of all where there is none.
 fn first_behind(g: &PredBits, place: Option<u32>, e: Esize) -> Option<u32>
+    requires { IfSome place (λ k. k < 256) }
     ensures value { result ≡ first_where (lanes_of (size_of e) (length g.now)) (λ k. active (size_of e) g.now k && model.is_behind place k) }
     ensures within { IfSome result (λ k. k < lanes_of (size_of e) (length g.now)) }
 {
-    for k in 0..g.lanes(e) {
-        if g.lane(e, k) && is_behind(place, k) {
-            return Some(k);
-        }
+    let _bits = g.bits();
+    let words = lane_words(g, g, e);
+    match place {
+        Some(k) => lane_at(first_bit(&from_place(&words, (k + 1) * (e.bits() / 8))), e),
+        None => lane_at(first_bit(&words), e),
     }
-    None
 }
 
 /// The first active lane behind the last one that is set in `before`, alone (pnext).
@@ -121,25 +137,45 @@ pub fn lanes_below(count: u32, e: Esize, bits: u32) -> PredBits
     requires whole { bits % (size_of e / 8) ≡ 0 }
     ensures { result ≡ model.lanes_below (size_of e) bits count }
 {
-    let mut set = PredBits::new(bits);
-    let lanes = set.lanes(e);
-    for k in 0..count.min(lanes) {
-        set.set_lane(e, k);
-    }
-    set
+    let end = (count.min(256) * (e.bits() / 8)).min(bits);
+    PredBits::of_words(bits, &starts_below(end, e))
 }
 
-/// The condition of a loop, of the low `width` bits.
-fn holds(test: WhileTest, a: u64, b: u64, width: u32) -> bool
-    requires { (width ≡ 32) ⊎ (width ≡ 64) }
-    ensures { result ≡ while_holds test width a b }
+/// Whether the condition of a loop holds of equal numbers too.
+fn is_inclusive(test: WhileTest) -> bool
+    ensures { result ≡ lane_bits.is_inclusive test }
 {
     match test {
-        WhileTest::Lt => sext(a, width) < sext(b, width),
-        WhileTest::Le => sext(a, width) <= sext(b, width),
-        WhileTest::Lo => low_bits(a, width) < low_bits(b, width),
-        WhileTest::Ls => low_bits(a, width) <= low_bits(b, width),
+        WhileTest::Lt | WhileTest::Lo => false,
+        WhileTest::Le | WhileTest::Ls => true,
     }
+}
+
+/// What is added to numbers of so many bits, for their order as unsigned ones to be the order that the condition of a loop tests.
+fn offset(test: WhileTest, width: u32) -> u64
+    requires { (width ≡ 32) ⊎ (width ≡ 64) }
+    ensures { result ≡ lane_bits.offset test width }
+{
+    match test {
+        WhileTest::Lt | WhileTest::Le => power(width - 1),
+        WhileTest::Lo | WhileTest::Ls => 0,
+    }
+}
+
+/// The low `width` bits of a number, as an unsigned number by the order that the condition of a loop tests.
+fn rank(test: WhileTest, x: u64, width: u32) -> u64
+    requires { (width ≡ 32) ⊎ (width ≡ 64) }
+    ensures value { result ≡ rank test width x }
+    ensures small { result < 2 ^ width }
+{
+    low_bits(x.wrapping_add(offset(test, width)), width)
+}
+
+/// How many numbers from a on are below b, at most `lanes`.
+fn numbers_below(a: u64, b: u64, lanes: u32) -> u32
+    ensures { result ≡ min (b - a) lanes }
+{
+    b.saturating_sub(a).min(lanes as u64) as u32
 }
 
 /// How many of the first lanes the condition of a loop holds of, up to all of them.
@@ -147,12 +183,16 @@ fn while_count(test: WhileTest, from: u64, to: u64, width: u32, lanes: u32) -> u
     requires { (width ≡ 32) ⊎ (width ≡ 64) }
     ensures { (k : ℕ) → k < lanes → nat_lt k result ≡ all_below (suc k) (λ j. while_holds test width (from + j) to) }
 {
-    for k in 0..lanes {
-        if !holds(test, from.wrapping_add(k as u64), to, width) {
-            return k;
-        }
+    let a = rank(test, from, width);
+    let b = rank(test, to, width);
+    if !is_inclusive(test) {
+        numbers_below(a, b, lanes)
+    } else if b == low_bits(0xffff_ffff_ffff_ffff, width) {
+        // the greatest number: no other is behind it
+        lanes
+    } else {
+        numbers_below(a, b + 1, lanes)
     }
-    lanes
 }
 
 /// The lanes of a loop: a lane is set where the condition holds of `from`, `from` + 1 and so on up to the lane's number, and of
@@ -167,17 +207,25 @@ pub fn while_bits(test: WhileTest, from: u64, to: u64, width: u32, e: Esize, bit
     lanes_below(while_count(test, from, to, width, lanes), e, bits)
 }
 
+/// The flags of a predicate test of all lanes, the first of which has to be there.
+pub fn test_all(a: &PredBits, e: Esize) -> Flags
+    requires { 0 < lanes_of (size_of e) (length a.now) }
+    ensures { result ≡ model.pred_test (size_of e) (length a.now) (each (length a.now) (λ k. true)) a.now }
+{
+    Flags {
+        n: a.lane(e, 0),
+        z: first_set(a, a, e).is_none(),
+        c: !a.lane(e, a.lanes(e) - 1),
+        v: false,
+    }
+}
+
 /// How many lanes are active and set (cntp).
 pub fn count(g: &PredBits, a: &PredBits, e: Esize) -> u32
     requires { length a.now ≡ length g.now }
     ensures value { result ≡ count_lanes (size_of e) (length g.now) g.now a.now }
     ensures few { result ≤ 256 }
 {
-    let mut n = 0;
-    for k in 0..g.lanes(e) {
-        if g.lane(e, k) && a.lane(e, k) {
-            n += 1;
-        }
-    }
-    n
+    let _bits = g.bits();
+    count_bits(&lane_words(g, a, e))
 }

@@ -10,12 +10,7 @@ fn greatest_power(n: u32) -> u32
     ensures value { result ≡ model.greatest_power n }
     ensures within { result ≤ n }
 {
-    for k in (0..32u32).rev() {
-        if n >> k != 0 {
-            return 1u32 << k;
-        }
-    }
-    0
+    1u32 << (31 - n.leading_zeros())
 }
 
 /// That many, or none where there are fewer.

@@ -1,56 +1,62 @@
--- Compares, one lane after the other.
-use Rattle.std.proofs.Common.{◌≡◌, ◌≢◌, ◌<◌, ◌+◌, ◌/◌, ◌%◌, ◌*◌, ℕ, Bool, true, false, ◌&&◌, nat_lt, set, replicate, sym, ap, ◌∙◌, arith}
-use Rattle.std.proofs.lemmas.Bool.{lt-ltb, le-ltb}
-use Rattle.std.proofs.lemmas.Bool.Decides.{nat_tests}
-use Rattle.emu_bits.specs.Flags.{size_of}
-use Rattle.emu_bits.specs.declared.flags.Esize.{Esize}
-use Rattle.emu_bits.specs.declared.flags.Esize.TheVariants.{B, H, S, D}
+-- Compares into a predicate, by the lanes that are told.
+use Rattle.std.proofs.Common.{◌≡◌, ◌<◌, ◌≤◌, ◌*◌, ◌/◌, ◌%◌, ◌^◌, ℕ, Bool, true, false, not, ◌&&◌, nat_eq, nat_lt, if◌then◌else◌, List, get_or, inl, inr, refl, sym, ap, ◌∙◌, arith}
+use Rattle.std.proofs.Math.Nat.{mod-eq_of_lt}
+use Rattle.std.proofs.lemmas.Bool.{cases_eq, lt-ltb, le-ltb}
+use Rattle.std.proofs.lemmas.Nat.{div-add-mod'}
+use Rattle.emu_model.specs.Lists.{each, get_or-each, each_same}
 use Rattle.emu_model.specs.State.{Core, Vectors}
-use Rattle.pred_bits.proofs.Fields.{some_bits, lane_within, no_fields, fields_same, field_set, field_kept}
+use Rattle.vec_model.proofs.FieldBits.{between}
+use Rattle.vec_model.specs.Active.{active}
+use Rattle.vec_model.specs.Lanes.{field_bit}
+use Rattle.vec_regs.specs.Words.{bit_of, bits_of, AreClearFrom}
 use Rattle.sve_effects.specs.declared.elements.ElementTest.{ElementTest}
-use Rattle.sve_effects.specs.Predicate.{lanes_of, fields}
-use Rattle.sve_effects.specs.PredicateRows.{put_compared}
-use Rattle.sve_pred.specs.Compares.{answer}
+use Rattle.sve_effects.specs.declared.predicates.LogicOp.TheVariants.{And}
+use Rattle.sve_effects.specs.Element.{element_test}
+use Rattle.sve_effects.specs.Predicate.{logic}
+use Rattle.sve_effects.specs.PredicateRows.{put_compared, is_unsigned}
+use Rattle.sve_pred.specs.Compares.{answer, told, IsOfLane}
 use Rattle.sve_pred.specs.declared.compares.Operand.{Operand}
+use Rattle.sve_pred.specs.declared.compares.Operand.TheVariants.{Lane, Covering, Number}
 
--- VL / e lanes
-pub lanes_are : (e : Esize) (bits : ℕ) → bits / size_of e ≡ lanes_of (size_of e) (bits / 8)
-lanes_are B bits = omega arith
-lanes_are H bits = omega arith
-lanes_are S bits = omega arith
-lanes_are D bits = omega arith
+-- a number with the bits of a lane is itself modulo 2^e
+pub told_answer : (test : ElementTest) (e zn k : ℕ) (v : Vectors) (operand : Operand) → IsOfLane e operand → told (element_test test) (not (is_unsigned test)) e v zn operand k ≡ answer test e v zn operand k
+told_answer test e zn k v (Lane zm) h = refl
+told_answer test e zn k v (Covering zm) h = refl
+told_answer test e zn k v (Number n) h = ap (element_test test e _) (mod-eq_of_lt h)
 
--- the first k of the lanes of a test
-abbrev pub first_lanes : ℕ → (ℕ → Bool) → ℕ → Bool
-first_lanes k test j = nat_lt j k && test j
+-- ---- the active ones of the lanes that are told
 
-none_first : (test : ℕ → Bool) (j : ℕ) → first_lanes 0 test j ≡ false
-none_first test j = ap (λ b. b && test j) (le-ltb j 0 (omega arith))
+both : (g x : Bool) → (g && (x && x)) ≡ (if g then x else false)
+both true true = refl
+both true false = refl
+both false x = refl
 
-more_first : (k : ℕ) (test : ℕ → Bool) (j : ℕ) → j ≢ k → first_lanes k test j ≡ first_lanes (k + 1) test j
-more_first k test j other = let e : nat_lt j k ≡ nat_lt j (k + 1) = grind (arith, nat_tests) in ap (λ b. b && test j) e
+none : (g : Bool) → (g && (false && false)) ≡ false
+none true = refl
+none false = refl
 
-this_first : (k : ℕ) (test : ℕ → Bool) → first_lanes (k + 1) test k ≡ test k
-this_first k test = ap (λ b. b && test k) (lt-ltb k (k + 1) (omega arith))
+module _ (e m : ℕ) (g : List Bool) (words : List ℕ) (told answer : ℕ → Bool) (same : (k : ℕ) → told k ≡ answer k) (is : (b : ℕ) → bit_of words b ≡ (nat_lt b m && field_bit (e / 8) told b)) where
+  pub told_clear : AreClearFrom m words
+  told_clear b past = is b ∙ ap (λ t. t && field_bit (e / 8) told b) (le-ltb b m past)
 
-not_yet : (k : ℕ) (test : ℕ → Bool) → first_lanes k test k ≡ false
-not_yet k test = ap (λ b. b && test k) (le-ltb k k (omega arith))
+  told_bit : (b : ℕ) → b < m → get_or (bits_of m words) b false ≡ field_bit (e / 8) told b
+  told_bit b h = get_or-each m (bit_of words) b false h ∙ is b ∙ ap (λ t. t && field_bit (e / 8) told b) (lt-ltb b m h)
 
-all_first : (n : ℕ) (test : ℕ → Bool) (k : ℕ) → k < n → first_lanes n test k ≡ test k
-all_first n test k h = ap (λ b. b && test k) (lt-ltb k n h)
-
-pub none_compared : (e : Esize) (m : ℕ) (test : ℕ → Bool) → replicate m false ≡ fields (size_of e) m (first_lanes 0 test)
-none_compared e m test = no_fields (size_of e / 8) m (first_lanes 0 test) (none_first test)
-
-pub one_compared : (e : Esize) (m k : ℕ) (test : ℕ → Bool) → k < lanes_of (size_of e) m → test k ≡ true
-    → set (fields (size_of e) m (first_lanes k test)) (k * (size_of e / 8)) true ≡ fields (size_of e) m (first_lanes (k + 1) test)
-one_compared e m k test h meets = field_set (size_of e / 8) m k (first_lanes k test) (first_lanes (k + 1) test) (some_bits e) (lane_within e k m h) (this_first k test ∙ meets) (more_first k test)
-
-pub one_passed : (e : Esize) (m k : ℕ) (test : ℕ → Bool) → test k ≡ false → fields (size_of e) m (first_lanes k test) ≡ fields (size_of e) m (first_lanes (k + 1) test)
-one_passed e m k test fails = field_kept (size_of e / 8) m k (first_lanes k test) (first_lanes (k + 1) test) (not_yet k test ∙ sym (this_first k test ∙ fails)) (more_first k test)
-
-pub all_compared : (e : Esize) (m : ℕ) (test : ℕ → Bool) → m % (size_of e / 8) ≡ 0 → fields (size_of e) m (first_lanes (lanes_of (size_of e) m) test) ≡ fields (size_of e) m test
-all_compared e m test whole = fields_same e m (first_lanes (lanes_of (size_of e) m) test) test whole (all_first (lanes_of (size_of e) m) test)
+  pub told_active : logic And m g (bits_of m words) (bits_of m words) ≡ each m (field_bit (e / 8) (λ k. if active e g k then answer k else false))
+  told_active = each_same m _ (field_bit (e / 8) (λ k. if active e g k then answer k else false)) false (λ b h.
+      ap (λ x. get_or g b false && (x && x)) (told_bit b h)
+      ∙ elim (cases_eq (b % (e / 8)) 0) [
+        | inl start ↦
+            (let whole : b / (e / 8) * (e / 8) ≡ b = omega (arith, div-add-mod' b (e / 8)) in
+            ap (λ r. get_or g b false && ((if nat_eq r 0 then told (b / (e / 8)) else false) && (if nat_eq r 0 then told (b / (e / 8)) else false))) start
+            ∙ both (get_or g b false) (told (b / (e / 8)))
+            ∙ ap (λ i. if get_or g i false then told (b / (e / 8)) else false) (sym whole)
+            ∙ ap (λ t. if active e g (b / (e / 8)) then t else false) (same (b / (e / 8)))
+            ∙ sym (ap (λ r. if nat_eq r 0 then (if active e g (b / (e / 8)) then answer (b / (e / 8)) else false) else false) start))
+        | inr other ↦
+            (let off : 0 < b % (e / 8) = omega arith in
+            ap (λ x. get_or g b false && (x && x)) (between (e / 8) b told off) ∙ none (get_or g b false) ∙ sym (between (e / 8) b (λ k. if active e g k then answer k else false) off))
+      ])
 
 -- ---- the same operands
 

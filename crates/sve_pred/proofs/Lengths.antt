@@ -1,10 +1,14 @@
 -- How many bits a predicate has.
-use Rattle.std.proofs.Common.{◌≡◌, ◌/◌, ◌%◌, ℕ, Bool, List, length, ap, ◌∙◌, arith}
+use Rattle.std.proofs.Common.{◌≡◌, ◌<◌, ◌≤◌, ◌*◌, ◌/◌, ◌%◌, ◌^◌, ℕ, Bool, List, length, ap, ◌∙◌, arith}
+use Rattle.std.proofs.Math.Pow.{pow_mono}
+use Rattle.std.proofs.lemmas.Nat.{pow_pos}
 use Rattle.emu_bits.specs.Flags.{size_of}
 use Rattle.emu_bits.specs.declared.flags.Esize.{Esize}
 use Rattle.emu_bits.specs.declared.flags.Esize.TheVariants.{B, H, S, D}
 use Rattle.emu_model.specs.Lengths.{IsVectorLength}
 use Rattle.emu_model.specs.Lists.{each, length-each}
+use Rattle.sve_effects.specs.ElementLoop.{lane_bits}
+use Rattle.sve_effects.specs.Predicate.{lanes_of}
 
 pub length_given : (p : List Bool) (m n : ℕ) (f : ℕ → Bool) → p ≡ each m f → m ≡ n → length p ≡ n
 length_given p m n f e s = ap length e ∙ length-each m f ∙ s
@@ -15,5 +19,19 @@ whole_fields B bits m h is = omega arith
 whole_fields H bits m h is = let w : bits % 128 ≡ 0 = h.multiple in omega arith
 whole_fields S bits m h is = let w : bits % 128 ≡ 0 = h.multiple in omega arith
 whole_fields D bits m h is = let w : bits % 128 ≡ 0 = h.multiple in omega arith
+
+-- eight bits are a lane of each size
+pub some_lane : (e : Esize) (m : ℕ) → 8 ≤ m → 0 < lanes_of (size_of e) m
+some_lane B m h = omega arith
+some_lane H m h = omega arith
+some_lane S m h = omega arith
+some_lane D m h = omega arith
+
+-- a number of seven bits has the bits of a lane
+pub number_fits : (n size : ℕ) → n < 2 ^ 7 → n < 2 ^ lane_bits size
+number_fits n size h =
+    let some : 0 < 2 ^ size = pow_pos size in
+    let more : 2 ^ 7 ≤ 2 ^ (8 * 2 ^ size) = pow_mono {i = 7} {j = 8 * 2 ^ size} (omega arith) in
+    omega arith
 
 pub ruleset lengths = (length_given, whole_fields)

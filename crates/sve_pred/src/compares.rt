@@ -1,20 +1,23 @@
 //! Compares of lanes into predicates.
-ghost use Rattle.std.specs.Prelude.{◌≡◌, ◌<◌, ◌/◌, true, not, length};
+ghost use Rattle.std.specs.Prelude.{◌≡◌, ◌<◌, ◌/◌, ◌^◌, ◌&&◌, ℕ, true, not, nat_lt, length};
 ghost use Rattle.emu_bits.specs.Flags.{size_of};
 ghost use Rattle.emu_bits.specs.Numbers.{sign_extended};
-ghost use Rattle.sve_effects.specs.Element.{extended_by};
+ghost use Rattle.sve_effects.specs.Element.{element_test};
 ghost use Rattle.sve_effects.specs.ElementLoop.{lane_bits};
 ghost use Rattle.sve_effects.specs.PredicateRows as table;
 ghost use Rattle.sve_effects.specs.PredicateRows.{predicate, predicate_bits, put_compared, vector_test, wide_test, unsigned_test, signed_test, is_unsigned};
 ghost use Rattle.sve_insn.specs.declared.form.SveForm.TheVariants as form;
 ghost use Rattle.sve_pred.specs.Compares as model;
 ghost use Rattle.sve_pred.specs.Groups.{is_compare};
-ghost use Rattle.vec_model.specs.Lanes.{IsLaneSize};
+ghost use Rattle.vec_model.specs.Lanes.{field_bit, IsLaneSize};
+ghost use Rattle.vec_regs.specs.Words.{bit_of};
 
 use crate::registers::{bits, esize, read, test_lanes, write};
 use core_regs::Core;
 use emu_bits::{Esize, Pred, PredLow, Reg, U, sign_extended};
-use pred_bits::PredBits;
+use lane_kernels::LaneWiseTest2;
+use lane_kernels::told::{Compared, ComparedNumber, ComparedWide, told};
+use pred_bits::{LogicOp, PredBits};
 use sve_elements::ElementTest;
 use sve_insn::{CmpSImmOp, CmpUImmOp, CmpVecOp, CmpWideOp, Sve, SveForm};
 use vec_regs::VecRegs;
@@ -87,16 +90,11 @@ fn is_unsigned(test: ElementTest) -> bool
     )
 }
 
-/// A lane of e bits, extended to 64 bits as a test reads it.
-fn widened(test: ElementTest, e: u32, a: u64) -> u64
-    requires { IsLaneSize e }
-    ensures { result ≡ extended_by (not (is_unsigned test)) 64 e a }
+/// Whether a test extends lanes by their sign to the width of wider ones.
+fn is_signed(test: ElementTest) -> bool
+    ensures { result ≡ not (is_unsigned test) }
 {
-    if is_unsigned(test) {
-        a
-    } else {
-        sign_extended(a, e, 64)
-    }
+    if is_unsigned(test) { false } else { true }
 }
 
 /// The second operand of a compare.
@@ -110,42 +108,43 @@ enum Operand {
     Number(u64),
 }
 
-/// The answer of a compare of lane k.
-fn answer(vec: &VecRegs, test: ElementTest, e: Esize, zn: Reg, operand: &Operand, k: u32) -> bool
-    requires { k < vec.now.bits / size_of e }
-    ensures { result ≡ model.answer test (size_of e) vec.now zn operand.now k }
+/// The words of a predicate that has the lanes of which an operation tells, a number taken modulo 2^e.
+fn told_by<F: LaneWiseTest2 + Copy>(
+    vec: &VecRegs,
+    op: F,
+    signed: bool,
+    e: u32,
+    zn: Reg,
+    operand: &Operand,
+) -> [u64; 4]
+    requires { IsLaneSize e }
+    ensures { (b : ℕ) → bit_of result b ≡ (nat_lt b (vec.now.bits / 8) && field_bit (e / 8) (model.told (F.entry op) signed e vec.now zn operand.now) b) }
 {
-    let _length = vec.length().bits();
-    let size = e.bits();
-    let a = vec.lane(zn, size, k);
     match *operand {
-        Operand::Lane(zm) => sve_elements::test(test, size, a, vec.lane(zm, size, k)),
-        Operand::Covering(zm) => {
-            sve_elements::test(
-                test,
-                64,
-                widened(test, size, a),
-                vec.lane(zm, 64, k * size / 64),
-            )
-        }
-        Operand::Number(n) => sve_elements::test(test, size, a, n),
+        Operand::Lane(zm) => told(vec, e, &Compared { op, zn, zm }),
+        Operand::Covering(zm) => told(vec, e, &ComparedWide { op, zn, zm, signed }),
+        Operand::Number(n) => told(vec, e, &ComparedNumber { op, zn, n }),
     }
 }
 
-/// Whether lane k is active and its compare holds.
-fn holds(
-    vec: &VecRegs,
-    test: ElementTest,
-    e: Esize,
-    pg: Pred,
-    zn: Reg,
-    operand: &Operand,
-    k: u32,
-) -> bool
-    requires { k < vec.now.bits / size_of e }
-    ensures { result ≡ model.holds test (size_of e) pg vec.now zn operand.now k }
+/// The same, of a test by its name.
+fn words_told(vec: &VecRegs, test: ElementTest, e: u32, zn: Reg, operand: &Operand) -> [u64; 4]
+    requires { IsLaneSize e }
+    ensures { (b : ℕ) → bit_of result b ≡ (nat_lt b (vec.now.bits / 8) && field_bit (e / 8) (model.told (element_test test) (not (is_unsigned test)) e vec.now zn operand.now) b) }
 {
-    vec.is_active(pg, e.bits(), k) && answer(vec, test, e, zn, operand, k)
+    let signed = is_signed(test);
+    match test {
+        ElementTest::Eq => told_by(vec, lane_tests::Eq, signed, e, zn, operand),
+        ElementTest::Ne => told_by(vec, lane_tests::Ne, signed, e, zn, operand),
+        ElementTest::Ge => told_by(vec, lane_tests::Ge, signed, e, zn, operand),
+        ElementTest::Gt => told_by(vec, lane_tests::Gt, signed, e, zn, operand),
+        ElementTest::Lt => told_by(vec, lane_tests::Lt, signed, e, zn, operand),
+        ElementTest::Le => told_by(vec, lane_tests::Le, signed, e, zn, operand),
+        ElementTest::Hs => told_by(vec, lane_tests::Hs, signed, e, zn, operand),
+        ElementTest::Hi => told_by(vec, lane_tests::Hi, signed, e, zn, operand),
+        ElementTest::Lo => told_by(vec, lane_tests::Lo, signed, e, zn, operand),
+        ElementTest::Ls => told_by(vec, lane_tests::Ls, signed, e, zn, operand),
+    }
 }
 
 /// The active lanes whose compare holds.
@@ -157,15 +156,13 @@ fn compared(
     zn: Reg,
     operand: &Operand,
 ) -> PredBits
+    requires { model.IsOfLane (size_of e) operand.now }
     ensures { result ≡ table.compared (size_of e) pg (model.answer test (size_of e) vec.now zn operand.now) vec.now }
 {
-    let mut set = PredBits::new(bits(vec));
-    for k in 0..vec.length().lanes(e) {
-        if holds(vec, test, e, pg, zn, operand, k) {
-            set.set_lane(e, k);
-        }
-    }
-    set
+    let _length = vec.length().bits();
+    let words = words_told(vec, test, e.bits(), zn, operand);
+    let told = PredBits::of_words(bits(vec), &words);
+    pred_bits::logic(LogicOp::And, &read(vec, pg), &told, &told)
 }
 
 /// The same, with the size of lanes that a field names.
@@ -178,6 +175,7 @@ fn compared_lanes(
     zn: Reg,
     operand: &Operand,
 ) -> PredBits
+    requires { model.IsOfLane (lane_bits size) operand.now }
     ensures value { result ≡ table.compared (lane_bits size) pg (model.answer test (lane_bits size) vec.now zn operand.now) vec.now }
     ensures length { length result ≡ predicate_bits vec.now }
 {
@@ -195,6 +193,7 @@ fn compare(
     operand: &Operand,
     pd: Pred,
 )
+    requires { model.IsOfLane (lane_bits size) operand.now }
     ensures registers { core.new ≡ (put_compared (lane_bits size) pg pd (model.answer test (lane_bits size) vec.old zn operand.now) core.old vec.old).core }
     ensures vectors { vec.new ≡ (put_compared (lane_bits size) pg pd (model.answer test (lane_bits size) vec.old zn operand.now) core.old vec.old).vectors }
 {
@@ -283,7 +282,8 @@ pub fn unsigned(
 
 /// A signed immediate, extended to a lane.
 fn immediate(size: U<2>, imm5: U<5>) -> u64
-    ensures { result ≡ sign_extended (lane_bits size) 5 imm5 }
+    ensures value { result ≡ sign_extended (lane_bits size) 5 imm5 }
+    ensures small { result < 2 ^ lane_bits size }
 {
     sign_extended(imm5.get() as u64, 5, esize(size).bits())
 }

@@ -11,11 +11,11 @@ ghost use Rattle.sve_insn.specs.declared.form.SveForm.TheVariants as form;
 ghost use Rattle.sve_pred.specs.Groups.{is_by_lanes};
 ghost use Rattle.vec_model.specs.Lanes.{IsLaneSize, read_p, with_lanes};
 
-use crate::registers::{bits, esize, read, test_lanes, write};
+use crate::registers::{bits, esize, read, test_all_lanes, test_lanes, write};
 use arrayvec::ArrayVec;
 use core_regs::Core;
 use emu_bits::{Flags, Pred, Reg, U, low_bits};
-use pred_bits::{PredBits, WhileTest, lanes_below, next, ones, pattern_count, while_bits};
+use pred_bits::{PredBits, WhileTest, lanes_below, next, pattern_count, while_bits};
 use sve_elements::{ElementOp, apply};
 use sve_insn::{CtermOp, IncPOp, PtrueOp, Sve, SveForm, WhileOp};
 use vec_regs::VecRegs;
@@ -186,8 +186,9 @@ pub fn while_lanes(
     ensures registers { core.new ≡ (predicate (form.While op size rm sf rn pd) core.old vec.old).core }
     ensures vectors { vec.new ≡ (predicate (form.While op size rm sf rn pd) core.old vec.old).vectors }
 {
+    let _length = vec.length().bits();
     let set = loop_bits(core, vec, op, size, rm, sf, rn);
-    test_lanes(core, true, &ones(bits(vec)), &set, size);
+    test_all_lanes(core, &set, size);
     write(vec, pd, &set);
 }
 

@@ -1,13 +1,13 @@
 //! Predicate registers as predicates, and results written to them.
-ghost use Rattle.std.specs.Prelude.{◌≡◌, ◌≤◌, length};
+ghost use Rattle.std.specs.Prelude.{◌≡◌, ◌≤◌, true, length};
 ghost use Rattle.emu_bits.specs.Flags.{size_of};
 ghost use Rattle.sve_effects.specs.ElementLoop.{lane_bits};
-ghost use Rattle.sve_effects.specs.PredicateRows.{predicate_bits, after_test};
+ghost use Rattle.sve_effects.specs.PredicateRows.{predicate_bits, after_test, ones};
 ghost use Rattle.vec_model.specs.Lanes.{read_p, with_p, with_ffr};
 
 use core_regs::Core;
 use emu_bits::{Esize, Pred, U};
-use pred_bits::{PredBits, pred_test};
+use pred_bits::{PredBits, pred_test, test_all};
 use vec_regs::VecRegs;
 
 /// The bits of a predicate.
@@ -80,4 +80,12 @@ pub fn test_lanes(core: &mut Core, sets: bool, g: &PredBits, outcome: &PredBits,
     ensures { core.new ≡ after_test sets (lane_bits size) (length g.now) g.now outcome.now core.old }
 {
     test(core, sets, g, outcome, esize(size));
+}
+
+/// Sets the flags of the predicate test of all lanes; there are at least 8 bits, and so a lane.
+pub fn test_all_lanes(core: &mut Core, outcome: &PredBits, size: U<2>)
+    requires { 8 ≤ length outcome.now }
+    ensures { core.new ≡ after_test true (lane_bits size) (length outcome.now) (ones (length outcome.now)) outcome.now core.old }
+{
+    core.set_flags(test_all(outcome, esize(size)));
 }

@@ -1,18 +1,19 @@
-use Rattle.std.proofs.Common.{◌≡◌, true, ◌&&◌, length, Some, None, sym, ◌∙◌, arith}
-use Rattle.std.proofs.lemmas.Bool.{and_from}
+use Rattle.std.proofs.Common.{◌≤◌, ◌*◌, ◌/◌, ◌&&◌, ℕ, Bool, length, sym, subst, arith}
 use Rattle.emu_bits.specs.Flags.{size_of}
-use Rattle.sve_effects.proofs.Found.{first_is}
 use Rattle.vec_model.specs.Active.{active}
+use Rattle.vec_regs.specs.Words.{bit_of}
+use Rattle.sve_effects.proofs.Found.{first_found, first_is}
+use Rattle.sve_effects.specs.FirstLast.{IsFirstWhere}
 use Rattle.sve_effects.specs.Predicate.{lanes_of}
+use Rattle.pred_bits.proofs.Fields.{some_bits, lanes_room}
+use Rattle.pred_bits.proofs.LaneWords.{first_of_words, first_within}
 use Rattle.pred_bits.proofs.lanes.first_set.Goals as goal
 
-pub returns-then-lane-2-clause-value : goal.returns-then-lane-2-clause-value
-returns-then-lane-2-clause-value c =
-    let g : active (size_of c.args.e) c.args.g.now c.loop-k.k ≡ true = sym c.lane.ensures ∙ c.if-lane.true in
-    let a : active (size_of c.args.e) c.args.a.now c.loop-k.k ≡ true = sym c.lane-then-lane.ensures ∙ c.if-lane-2.true in
-    sym (first_is (lanes_of (size_of c.args.e) (length c.args.g.now)) (λ k. active (size_of c.args.e) c.args.g.now k && active (size_of c.args.e) c.args.a.now k) (Some c.loop-k.k)
-    (record { within = omega arith; meets = and_from (active (size_of c.args.e) c.args.g.now c.loop-k.k) (active (size_of c.args.e) c.args.a.now c.loop-k.k) g a; before = c.loop-k.invariant }))
-
-pub returns-clause-value : goal.returns-clause-value
-returns-clause-value c =
-    sym (first_is (lanes_of (size_of c.args.e) (length c.args.g.now)) (λ k. active (size_of c.args.e) c.args.g.now k && active (size_of c.args.e) c.args.a.now k) None (λ j h. c.loop-k.invariant j (omega arith)))
+pub returns : goal.returns
+returns c =
+    let n : ℕ = lanes_of (size_of c.args.e) (length c.args.g.now) in
+    let test : ℕ → Bool = λ k. active (size_of c.args.e) c.args.g.now k && active (size_of c.args.e) c.args.a.now k in
+    let room : lanes_of (size_of c.args.e) (length c.args.g.now) * (size_of c.args.e / 8) ≤ 256 = lanes_room c.args.e (length c.args.g.now) (omega (arith, c.bits-bits.ensures.few, c.bits-bits.ensures.value)) in
+    let place : IsFirstWhere 256 (bit_of c.lane_words.result) c.first_bit.result = subst (IsFirstWhere 256 (bit_of c.lane_words.result)) (sym c.first_bit.ensures.value) (first_found 256 (bit_of c.lane_words.result)) in
+    let found : IsFirstWhere n test c.lane_at.result = subst (IsFirstWhere n test) (sym c.lane_at.ensures) (first_of_words (size_of c.args.e / 8) n test (bit_of c.lane_words.result) (some_bits c.args.e) room c.lane_words.ensures c.first_bit.result place) in
+    record { value = sym (first_is n test c.lane_at.result found); within = first_within n test c.lane_at.result found }

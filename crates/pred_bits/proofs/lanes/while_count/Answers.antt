@@ -1,10 +1,18 @@
-use Rattle.std.proofs.Common.{◌+◌, sym, ◌∙◌, arith}
-use Rattle.sve_effects.specs.Predicate.{while_holds}
-use Rattle.pred_bits.proofs.Loops.{holds_wrapped, up_to_first, up_to_all}
+use Rattle.std.proofs.Common.{sym, ◌∙◌}
+use Rattle.pred_bits.proofs.Loops.{exclusive_run, inclusive_run, whole_run}
 use Rattle.pred_bits.proofs.lanes.while_count.Goals as goal
 
-pub returns-then-not-holds : goal.returns-then-not-holds
-returns-then-not-holds c k h = up_to_first c.loop-k.k (λ j. while_holds c.args.test c.args.width (c.args.from + j) c.args.to) k c.loop-k.invariant (sym (holds_wrapped c.args.test c.args.width (c.args.from + c.loop-k.k) c.args.to c.requires) ∙ sym c.holds.ensures ∙ c.if-not-holds.true)
+pub returns-then-not-is_inclusive : goal.returns-then-not-is_inclusive
+returns-then-not-is_inclusive c =
+    exclusive_run c.args.test c.args.width c.args.from c.args.to c.rank-a.result c.rank-b.result c.args.lanes c.requires c.rank-a.ensures.value c.rank-b.ensures.value
+    c.numbers_below.result (sym c.is_inclusive.ensures ∙ c.if-not-is_inclusive.true) c.numbers_below.ensures
 
-pub returns : goal.returns
-returns c k h = up_to_all c.args.lanes (λ j. while_holds c.args.test c.args.width (c.args.from + j) c.args.to) k (λ j q. c.loop-k.invariant j (omega arith)) h
+pub returns-then-b-low_bits : goal.returns-then-b-low_bits
+returns-then-b-low_bits c =
+    whole_run c.args.test c.args.width c.args.from c.args.to c.rank-a.result c.rank-b.result c.args.lanes c.requires c.rank-a.ensures.value c.rank-b.ensures.value
+    (sym c.is_inclusive.ensures ∙ c.if-not-is_inclusive.false) (c.if-b-low_bits.true ∙ c.low_bits.ensures.value)
+
+pub returns-else-b-low_bits : goal.returns-else-b-low_bits
+returns-else-b-low_bits c =
+    inclusive_run c.args.test c.args.width c.args.from c.args.to c.rank-a.result c.rank-b.result c.args.lanes c.requires c.rank-a.ensures.value c.rank-b.ensures.value
+    c.numbers_below-else-b-low_bits.result (sym c.is_inclusive.ensures ∙ c.if-not-is_inclusive.false) (λ e. c.if-b-low_bits.false (e ∙ sym c.low_bits.ensures.value)) c.numbers_below-else-b-low_bits.ensures

@@ -1,7 +1,9 @@
 use Rattle.std.proofs.Common.{◌≡◌, ◌<◌, length, sym, subst, ◌∙◌, arith}
 use Rattle.std.proofs.lemmas.List.{length-set}
 use Rattle.vec_regs.specs.Words.{AreClearFrom}
-use Rattle.pred_bits.proofs.LogicWords.{done_more, logic_above, logic_shown}
+use Rattle.sve_effects.specs.Predicate.{logic_bit}
+use Rattle.pred_bits.proofs.LogicWords.{logic_above, logic_shown}
+use Rattle.pred_bits.proofs.Made.{bit_in, made_more}
 use Rattle.pred_bits.proofs.Views.{length_shown}
 use Rattle.pred_bits.proofs.whole.logic.Goals as goal
 
@@ -10,7 +12,7 @@ loop-i-preserved c =
     let place : c.loop-i.i < length c.loop-i.words = omega (arith, c.loop-i.invariant.count) in
     record {
       count = length-set c.loop-i.words c.loop-i.i c.logic.result ∙ c.loop-i.invariant.count;
-      done = done_more c.args.op c.loop-i.words c.g.inside.words c.a.inside.words c.b.inside.words c.loop-i.i c.logic.result place c.loop-i.invariant.done c.logic.ensures;
+      done = made_more c.loop-i.words c.loop-i.i c.logic.result (λ j i. logic_bit c.args.op (bit_in c.g.inside.words j i) (bit_in c.a.inside.words j i) (bit_in c.b.inside.words j i)) place c.loop-i.invariant.done c.logic.ensures;
     }
 
 pub invariant_of-result : goal.invariant_of-result

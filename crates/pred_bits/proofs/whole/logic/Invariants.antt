@@ -1,6 +1,6 @@
 use Rattle.std.proofs.Common.{◌≡◌, ◌<◌, ℕ, length}
 use Rattle.sve_effects.specs.Predicate.{logic_bit}
-use Rattle.pred_bits.proofs.LogicWords.{bit_in}
+use Rattle.pred_bits.proofs.Made.{bit_in}
 use Rattle.pred_bits.proofs.whole.logic.Given as goal
 
 abbrev pub invariant-loop-i : goal.invariant-loop-i

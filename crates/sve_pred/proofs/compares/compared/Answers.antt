@@ -1,43 +1,37 @@
-use Rattle.std.proofs.Common.{◌≡◌, ◌<◌, ◌*◌, ◌/◌, true, false, Bool, List, length, set, replicate, refl, ap, sym, subst, ◌∙◌, arith}
+use Rattle.std.proofs.Common.{◌≡◌, ◌/◌, ◌&&◌, ℕ, Bool, List, not, nat_lt, length, refl, sym, ap, subst, ◌∙◌}
 use Rattle.emu_bits.specs.Flags.{size_of}
-use Rattle.emu_model.specs.Lists.{length-each}
-use Rattle.sve_effects.specs.Predicate.{lanes_of, fields}
-use Rattle.sve_effects.specs.PredicateRows.{predicate_bits}
-use Rattle.sve_pred.proofs.Compared.{first_lanes, lanes_are, none_compared, one_compared, one_passed, all_compared}
-use Rattle.sve_pred.proofs.Lengths.{whole_fields}
-use Rattle.sve_pred.specs.Compares.{holds}
+use Rattle.vec_model.specs.Lanes.{read_p, field_bit}
+use Rattle.vec_regs.specs.Words.{bit_of, bits_of, AreClearFrom}
+use Rattle.sve_effects.specs.declared.predicates.LogicOp.TheVariants.{And}
+use Rattle.sve_effects.specs.Element.{element_test}
+use Rattle.sve_effects.specs.Predicate.{logic}
+use Rattle.sve_effects.specs.PredicateRows.{predicate_bits, is_unsigned}
+use Rattle.sve_pred.specs.Compares.{told, answer}
+use Rattle.sve_pred.proofs.Compared.{told_answer, told_clear, told_active}
+use Rattle.sve_pred.proofs.Lengths.{length_given}
 use Rattle.sve_pred.proofs.compares.compared.Goals as goal
-use Rattle.sve_pred.proofs.compares.compared.Goals.{then-holds, else-holds}
 
-pub loop-k-init : goal.loop-k-init
-loop-k-init c =
-    c.new-set.ensures ∙ ap (λ m. replicate m false) c.bits.ensures.value ∙ none_compared c.args.e (predicate_bits c.args.vec.now) (holds c.args.test (size_of c.args.e) c.args.pg c.args.vec.now c.args.zn c.args.operand.now)
+pub of_words-told-requires-clause-above : goal.of_words-told-requires-clause-above
+of_words-told-requires-clause-above c =
+    let tells : ℕ → Bool = told (element_test c.args.test) (not (is_unsigned c.args.test)) c.bits.result c.args.vec.now c.args.zn c.args.operand.now in
+    subst (λ m. AreClearFrom m c.words_told-words.result) (sym c.bits-2.ensures.value)
+    (told_clear c.bits.result (predicate_bits c.args.vec.now) (read_p c.args.vec.now c.args.pg) c.words_told-words.result tells tells (λ k. refl) c.words_told-words.ensures)
 
-pub set_lane-requires : goal.set_lane-requires
-set_lane-requires c =
-    let lanes : c.lanes-k-end.result ≡ lanes_of (size_of c.args.e) (predicate_bits c.args.vec.now) = c.lanes-k-end.ensures ∙ ap (λ n. n / size_of c.args.e) c.length.ensures.value ∙ lanes_are c.args.e c.args.vec.now.bits in
-    let within : c.loop-k.k < lanes_of (size_of c.args.e) (predicate_bits c.args.vec.now) = omega arith in
-    let count : length c.loop-k.set ≡ predicate_bits c.args.vec.now = ap length c.loop-k.invariant ∙ length-each (predicate_bits c.args.vec.now) _ in
-    subst (λ m. c.loop-k.k < lanes_of (size_of c.args.e) m) (sym count) within
+pub logic-requires-clause-first : goal.logic-requires-clause-first
+logic-requires-clause-first c = length_given c.of_words-told.result c.bits-2.result (predicate_bits c.args.vec.now) (bit_of c.words_told-words.result) c.of_words-told.ensures c.bits-2.ensures.value ∙ sym c.read.ensures.length
 
-pub loop-k-preserved : goal.loop-k-preserved
-loop-k-preserved c =
-    let lanes : c.lanes-k-end.result ≡ lanes_of (size_of c.args.e) (predicate_bits c.args.vec.now) = c.lanes-k-end.ensures ∙ ap (λ n. n / size_of c.args.e) c.length.ensures.value ∙ lanes_are c.args.e c.args.vec.now.bits in
-    let within : c.loop-k.k < lanes_of (size_of c.args.e) (predicate_bits c.args.vec.now) = omega arith in
-    elim c.if-holds.branch [
-      | then-holds w ↦
-          w.set-is ∙ w.set_lane.ensures ∙ ap (λ (p : List Bool). set p (c.loop-k.k * (size_of c.args.e / 8)) true) c.loop-k.invariant
-          ∙ one_compared c.args.e (predicate_bits c.args.vec.now) c.loop-k.k (holds c.args.test (size_of c.args.e) c.args.pg c.args.vec.now c.args.zn c.args.operand.now) within (sym c.holds.ensures ∙ w.if-holds.true)
-      | else-holds w ↦
-          w.set-is ∙ c.loop-k.invariant
-          ∙ one_passed c.args.e (predicate_bits c.args.vec.now) c.loop-k.k (holds c.args.test (size_of c.args.e) c.args.pg c.args.vec.now c.args.zn c.args.operand.now) (sym c.holds.ensures ∙ w.if-holds.false)
-    ]
+pub logic-requires-clause-second : goal.logic-requires-clause-second
+logic-requires-clause-second c = length_given c.of_words-told.result c.bits-2.result (predicate_bits c.args.vec.now) (bit_of c.words_told-words.result) c.of_words-told.ensures c.bits-2.ensures.value ∙ sym c.read.ensures.length
 
 pub returns : goal.returns
 returns c =
-    let lanes : c.lanes-k-end.result ≡ lanes_of (size_of c.args.e) (predicate_bits c.args.vec.now) = c.lanes-k-end.ensures ∙ ap (λ n. n / size_of c.args.e) c.length.ensures.value ∙ lanes_are c.args.e c.args.vec.now.bits in
-    let all : c.loop-k.k ≡ lanes_of (size_of c.args.e) (predicate_bits c.args.vec.now) = omega arith in
-    c.loop-k.invariant
-    ∙ ap (λ n. fields (size_of c.args.e) (predicate_bits c.args.vec.now) (first_lanes n (holds c.args.test (size_of c.args.e) c.args.pg c.args.vec.now c.args.zn c.args.operand.now))) all
-    ∙ all_compared c.args.e (predicate_bits c.args.vec.now) (holds c.args.test (size_of c.args.e) c.args.pg c.args.vec.now c.args.zn c.args.operand.now)
-    (whole_fields c.args.e c.args.vec.now.bits (predicate_bits c.args.vec.now) c.length.ensures.length refl)
+    let tells : ℕ → ℕ → Bool = λ e. told (element_test c.args.test) (not (is_unsigned c.args.test)) e c.args.vec.now c.args.zn c.args.operand.now in
+    let answers : ℕ → Bool = answer c.args.test (size_of c.args.e) c.args.vec.now c.args.zn c.args.operand.now in
+    let m : ℕ = predicate_bits c.args.vec.now in
+    let shown = subst (λ e. (b : ℕ) → bit_of c.words_told-words.result b ≡ (nat_lt b (predicate_bits c.args.vec.now) && field_bit (e / 8) (tells e) b)) c.bits.ensures c.words_told-words.ensures in
+    c.logic.ensures
+    ∙ ap (λ n. logic And n c.read.result c.of_words-told.result c.of_words-told.result) c.read.ensures.length
+    ∙ ap (λ (g : List Bool). logic And m g c.of_words-told.result c.of_words-told.result) c.read.ensures.value
+    ∙ ap (λ (t : List Bool). logic And m (read_p c.args.vec.now c.args.pg) t t) (c.of_words-told.ensures ∙ ap (λ n. bits_of n c.words_told-words.result) c.bits-2.ensures.value)
+    ∙ told_active (size_of c.args.e) m (read_p c.args.vec.now c.args.pg) c.words_told-words.result (tells (size_of c.args.e)) answers
+    (λ k. told_answer c.args.test (size_of c.args.e) c.args.zn k c.args.vec.now c.args.operand.now c.requires) shown

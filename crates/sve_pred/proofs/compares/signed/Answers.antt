@@ -10,9 +10,9 @@ use Rattle.sve_pred.proofs.compares.signed.Goals as goal
 pub returns-clause-registers : goal.returns-clause-registers
 returns-clause-registers c =
     c.compare.ensures.registers
-    ∙ ap (λ (r : Registers). r.core) (same_compared (lane_bits c.args.size) c.register.result c.args.pg c.args.pd c.args.zn c.signed_test.result (signed_test c.args.op) (Number c.immediate.result) (Number (sign_extended (lane_bits c.args.size) 5 c.args.imm5)) c.args.core.now c.args.vec.now c.register.ensures c.signed_test.ensures (ap Number c.immediate.ensures))
+    ∙ ap (λ (r : Registers). r.core) (same_compared (lane_bits c.args.size) c.register.result c.args.pg c.args.pd c.args.zn c.signed_test.result (signed_test c.args.op) (Number c.immediate.result) (Number (sign_extended (lane_bits c.args.size) 5 c.args.imm5)) c.args.core.now c.args.vec.now c.register.ensures c.signed_test.ensures (ap Number c.immediate.ensures.value))
 
 pub returns-clause-vectors : goal.returns-clause-vectors
 returns-clause-vectors c =
     c.compare.ensures.vectors
-    ∙ ap (λ (r : Registers). r.vectors) (same_compared (lane_bits c.args.size) c.register.result c.args.pg c.args.pd c.args.zn c.signed_test.result (signed_test c.args.op) (Number c.immediate.result) (Number (sign_extended (lane_bits c.args.size) 5 c.args.imm5)) c.args.core.now c.args.vec.now c.register.ensures c.signed_test.ensures (ap Number c.immediate.ensures))
+    ∙ ap (λ (r : Registers). r.vectors) (same_compared (lane_bits c.args.size) c.register.result c.args.pg c.args.pd c.args.zn c.signed_test.result (signed_test c.args.op) (Number c.immediate.result) (Number (sign_extended (lane_bits c.args.size) 5 c.args.imm5)) c.args.core.now c.args.vec.now c.register.ensures c.signed_test.ensures (ap Number c.immediate.ensures.value))
