@@ -5,8 +5,10 @@ pub mod Stores
 pub mod Nonempty
 pub mod Lists
 pub mod FieldBits
+pub mod Kept
 pub mod RunWords
 pub mod RunNotes
 pub mod RunLoads
 pub mod RunStores
 pub mod Lines
+pub mod Repeats

@@ -1,7 +1,7 @@
 -- Elements one behind the other that are read as bytes.
-use Rattle.std.proofs.Common.{◌≡◌, ◌<◌, ◌≤◌, ◌+◌, ◌*◌, ◌/◌, ◌%◌, ℕ, zero, suc, Bool, true, if◌then◌else◌, List, [], ◌∷◌, ◌++◌, length, take, drop, get_or, None, refl, sym, ap, subst, ◌∙◌, add-one, inl, inr, arith}
+use Rattle.std.proofs.Common.{◌≡◌, ◌<◌, ◌≤◌, ◌+◌, ◌*◌, ◌/◌, ◌%◌, ◌^◌, ℕ, zero, suc, Bool, true, false, if◌then◌else◌, List, [], ◌∷◌, ◌++◌, length, take, drop, get_or, None, refl, sym, ap, subst, ◌∙◌, add-one, inl, inr, arith}
 use Rattle.std.specs.Int.{bytes_low_first}
-use Rattle.std.proofs.Math.Nat.{mul-le-mul_right}
+use Rattle.std.proofs.Math.Nat.{mul-le-mul_right, zero-div}
 use Rattle.std.proofs.lemmas.Bool.{cases_lt}
 use Rattle.std.proofs.lemmas.List.{length-take}
 use Rattle.std.proofs.lemmas.Nat.{div-mul-add, mod-mul-add, mul-add-lt}
@@ -16,22 +16,24 @@ use Rattle.emu_model.specs.Lists.{each, each_same, each-more}
 use Rattle.emu_model.specs.Pages.{bytes_at, with_bytes}
 use Rattle.emu_model.specs.State.{Vectors}
 use Rattle.emu_model.specs.WithinPage.{number_in}
-use Rattle.vec_model.specs.Active.{active}
+use Rattle.emu_model.specs.Lengths.{IsVectorLength}
+use Rattle.vec_model.specs.Lanes.{IsLaneSize, byte_in}
+use Rattle.vec_regs.specs.Words.{byte_of, bytes_of}
+use Rattle.vec_regs.proofs.PackedLanes.{below_quotient}
+use Rattle.element_words.specs.Placed.{lane_at}
 use Rattle.sve_effects.specs.Element.{extended_by}
-use Rattle.sve_effects.specs.ElementLoop.{is_active}
 use Rattle.sve_effects.specs.VectorElements.{Layout, elements_below, elements_of}
 use Rattle.sve_effects.specs.VectorLoadStore.{loaded_lane, with_loaded}
 use Rattle.element_access.specs.ReachLaws.{AreStored, all_of, accesses_append, refused_with_stored}
 use Rattle.element_loops.specs.declared.plan.Plan.{Plan}
-use Rattle.element_loops.specs.declared.plan.OnLanes.{OnLanes}
-use Rattle.element_loops.specs.declared.plan.OnLanes.TheVariants.{All, Active, Only}
-use Rattle.element_loops.specs.declared.plan.Places.{Places}
-use Rattle.element_loops.specs.Layouts.{layout_of, is_on_of, address_of}
-use Rattle.element_loops.specs.Runs.{AreFilled, IsLine, lane_in, stored_in_turn}
+use Rattle.element_loops.specs.Layouts.{layout_of}
+use Rattle.element_loops.specs.Runs.{AreFilled, IsLine, is_kept, lane_in, stored_in_turn}
 use Rattle.element_loops.specs.SoFar.{element_of_lane, elements_within}
 use Rattle.element_loops.specs.Values.{with_taken}
 use Rattle.guest_mem.proofs.Numbers.{stored_is}
+use Rattle.element_loops.proofs.Kept.{same_kept}
 use Rattle.element_loops.proofs.RunLoads.{part_allowed, element_value, all_reached}
+use Rattle.element_loops.proofs.RunNotes.{placed_at}
 use Rattle.element_loops.proofs.RunStores.{again, bytes_same, nothing_taken, slice_each, take_both}
 use Rattle.element_loops.proofs.Stores.{stores_begin, lane_begins, lane_goes_on}
 use Rattle.element_loops.proofs.Turns.{below_none, within_none, within_more, within_all, taken_is_loaded, given_by_itself}
@@ -45,78 +47,43 @@ element_fits k j r lanes n h i =
     let more : suc (k * r + j) * n ≡ (k * r + j) * n + n = omega arith in
     omega (arith, times, more)
 
-module _ (base pg : ℕ) (p : Plan) (v : Vectors) (line : IsLine base pg p) where
-  line_address : (k j : ℕ) → (layout_of p v).address k j ≡ address (base + (k * p.registers + j) * p.bytes)
-  line_address k j = ap (λ (q : Places). address_of q p.bits p.bytes p.registers v k j) line.places
+element_place : (j k r n : ℕ) → j * n + k * (r * n) ≡ (k * r + j) * n
+element_place j k r n = omega arith
 
+pub element_placed : (k j r n at step : ℕ) → at ≡ j * n → step ≡ r * n → at + k * step ≡ (k * r + j) * n
+element_placed k j r n at step start apart = ap (λ a. a + k * step) start ∙ ap (λ s. j * n + k * s) apart ∙ element_place j k r n
+
+module _ (base pg whole : ℕ) (p : Plan) (v : Vectors) (line : IsLine base pg whole p v) where
   -- no element is refused
   pub line_reached : (m : Memory) (kind : Kind) → refused m base (p.lanes * p.registers * p.bytes) kind ≡ None → reach m kind (elements_of (layout_of p v)) ≡ all_of (elements_of (layout_of p v))
   line_reached m kind h = all_reached (layout_of p v) m kind (λ k j b c.
-      ap (λ a. refused m a p.bytes kind) (line_address k j)
+      ap (λ a. refused m a p.bytes kind) (placed_at base p v line.placed k j c)
       ∙ part_allowed m base (p.lanes * p.registers * p.bytes) ((k * p.registers + j) * p.bytes) p.bytes kind h (element_fits k j p.registers p.lanes p.bytes b c))
 
-  line_lane : (m : Memory) (j k : ℕ) → j < p.registers → k < p.lanes
-      → loaded_lane p.is_signed (layout_of p v) m j k ≡ lane_in (bytes_at m base (p.lanes * p.registers * p.bytes)) p v j k
+  pub line_lane : (m : Memory) (j k : ℕ) → j < p.registers → k < p.lanes
+      → loaded_lane p.is_signed (layout_of p v) m j k ≡ lane_in (bytes_at m base (p.lanes * p.registers * p.bytes)) p pg whole v j k
   line_lane m j k b c =
-      ap (λ x. if is_on_of p.on p.bits v k then extended_by p.is_signed p.bits (8 * p.bytes) x else 0)
-      (ap (λ a. value m a p.bytes) (line_address k j)
+      ap (λ (t : Bool). if t then extended_by p.is_signed p.bits (8 * p.bytes) (value m ((layout_of p v).address k j) p.bytes) else 0) (line.on k c)
+      ∙ ap (λ x. if is_kept whole pg p.bits v k then extended_by p.is_signed p.bits (8 * p.bytes) x else 0)
+      (ap (λ a. value m a p.bytes) (placed_at base p v line.placed k j b)
       ∙ element_value m base (p.lanes * p.registers * p.bytes) ((k * p.registers + j) * p.bytes) p.bytes (element_fits k j p.registers p.lanes p.bytes c b))
 
   -- what is written from the bytes is what is loaded
   pub line_loaded : (m : Memory) (bs : List ℕ) (next : Vectors) → bs ≡ bytes_at m base (p.lanes * p.registers * p.bytes)
-      → ((f : ℕ → ℕ → ℕ) → ((j k : ℕ) → j < p.registers → k < p.lanes → f j k ≡ lane_in bs p v j k) → next ≡ with_taken p.bits f p.register p.registers v)
+      → ((f : ℕ → ℕ → ℕ) → ((j k : ℕ) → j < p.registers → k < p.lanes → f j k ≡ lane_in bs p pg whole v j k) → next ≡ with_taken p.bits f p.register p.registers v)
       → next ≡ with_loaded p.is_signed (layout_of p v) m p.registers v
   line_loaded m bs next are written =
-      written (loaded_lane p.is_signed (layout_of p v) m) (λ j k b c. line_lane m j k b c ∙ ap (λ (xs : List ℕ). lane_in xs p v j k) (sym are))
+      written (loaded_lane p.is_signed (layout_of p v) m) (λ j k b c. line_lane m j k b c ∙ ap (λ (xs : List ℕ). lane_in xs p pg whole v j k) (sym are))
       ∙ taken_is_loaded p.is_signed (layout_of p v) m p.registers v
-
-  -- ---- the log where all lanes are on
-
-  within_noted : (w : Bool) (k : ℕ) → accesses_of w (elements_below (layout_of p v) k) ≡ each (k * p.registers) (λ i. record { address = address (base + i * p.bytes); bytes = p.bytes; write = w })
-      → (j : ℕ) → accesses_of w (elements_within (layout_of p v) k j) ≡ each (k * p.registers + j) (λ i. record { address = address (base + i * p.bytes); bytes = p.bytes; write = w })
-  within_noted w k h zero =
-      let f : ℕ → Access = λ i. record { address = address (base + i * p.bytes); bytes = p.bytes; write = w } in
-      let e : k * p.registers ≡ k * p.registers + 0 = omega arith in
-      ap (accesses_of w) (within_none (layout_of p v) k) ∙ h ∙ ap (λ n. each n f) e
-  within_noted w k h (suc j) =
-      let f : ℕ → Access = λ i. record { address = address (base + i * p.bytes); bytes = p.bytes; write = w } in
-      let e : k * p.registers + j + 1 ≡ k * p.registers + suc j = omega arith in
-      ap (λ j. accesses_of w (elements_within (layout_of p v) k j)) (sym (add-one j))
-      ∙ ap (accesses_of w) (within_more (layout_of p v) k j)
-      ∙ accesses_append w (elements_within (layout_of p v) k j) (element_of_lane (layout_of p v) k j ∷ [])
-      ∙ ap (λ (l : List Access). l ++ record { address = (layout_of p v).address k j; bytes = p.bytes; write = w } ∷ []) (within_noted w k h j)
-      ∙ ap (λ a. each (k * p.registers + j) f ++ record { address = a; bytes = p.bytes; write = w } ∷ []) (line_address k j)
-      ∙ sym (each-more (k * p.registers + j) f)
-      ∙ ap (λ n. each n f) e
-
-  below_noted : (w : Bool) (n : ℕ) → ((k : ℕ) → k < n → is_active p.bits v pg k ≡ true)
-      → accesses_of w (elements_below (layout_of p v) n) ≡ each (n * p.registers) (λ i. record { address = address (base + i * p.bytes); bytes = p.bytes; write = w })
-  below_noted w zero on = let e : 0 ≡ 0 * p.registers = omega arith in
-      ap (accesses_of w) (below_none (layout_of p v)) ∙ ap (λ n. each n (λ (i : ℕ). let x : Access = record { address = address (base + i * p.bytes); bytes = p.bytes; write = w } in x)) e
-  below_noted w (suc n) on =
-      let f : ℕ → Access = λ i. record { address = address (base + i * p.bytes); bytes = p.bytes; write = w } in
-      let e : n * p.registers + p.registers ≡ suc n * p.registers = omega arith in
-      let here : (layout_of p v).is_on n ≡ true = ap (λ (o : OnLanes). is_on_of o p.bits v n) line.on ∙ on n (omega arith) in
-      ap (λ n. accesses_of w (elements_below (layout_of p v) n)) (sym (add-one n))
-      ∙ ap (accesses_of w) (sym (within_all (layout_of p v) n here))
-      ∙ within_noted w n (below_noted w n (λ k b. on k (omega arith))) p.registers
-      ∙ ap (λ n. each n f) e
-
-  pub all_noted : (w : Bool) (log after : List Access) → log ≡ [] → ((k : ℕ) → k < p.lanes → is_active p.bits v pg k ≡ true)
-      → after ≡ log ++ each (p.lanes * p.registers) (λ i. record { address = address (base + i * p.bytes); bytes = p.bytes; write = w })
-      → after ≡ accesses_of w (elements_of (layout_of p v))
-  all_noted w log after empty on is =
-      let f : ℕ → Access = λ i. record { address = address (base + i * p.bytes); bytes = p.bytes; write = w } in
-      is ∙ ap (λ (l : List Access). l ++ each (p.lanes * p.registers) f) empty ∙ sym (below_noted w p.lanes on)
 
 -- ---- the bytes of elements that are stored at once
 
 slice_is : (bs xs : List ℕ) (n at : ℕ) → length xs ≡ n → at + n ≤ length bs → ((t : ℕ) → t < n → get_or bs (at + t) 0 ≡ get_or xs t 0) → take n (drop at bs) ≡ xs
 slice_is bs xs n at long room same = slice_each n at bs room ∙ each_same n (λ t. get_or bs (at + t) 0) (λ t. get_or xs t 0) 0 same ∙ sym (given_by_itself xs n long)
 
-module _ (base pg : ℕ) (p : Plan) (v : Vectors) (line : IsLine base pg p) (f : Element → ℕ) (m : Memory) (bs : List ℕ) (most : p.bytes ≤ 8)
+module _ (base pg whole : ℕ) (p : Plan) (v : Vectors) (line : IsLine base pg whole p v) (f : Element → ℕ) (m : Memory) (bs : List ℕ) (most : p.bytes ≤ 8)
     (free : refused m base (p.lanes * p.registers * p.bytes) Write ≡ None) (room : p.lanes * p.registers * p.bytes ≤ length bs)
-    (filled : AreFilled p.bytes (stored_in_turn f p v) (p.lanes * p.registers) bs) (on : (k : ℕ) → k < p.lanes → is_active p.bits v pg k ≡ true) where
+    (filled : AreFilled p.bytes (stored_in_turn f p v) (p.lanes * p.registers) bs) (on : (k : ℕ) → k < p.lanes → (layout_of p v).is_on k ≡ true) where
   element_bytes : (k j : ℕ) → k < p.lanes → j < p.registers → take p.bytes (drop ((k * p.registers + j) * p.bytes) bs) ≡ take p.bytes (bytes_low_first 0 8 (f (element_of_lane (layout_of p v) k j)))
   element_bytes k j b c =
       let i : ℕ = k * p.registers + j in
@@ -141,7 +108,7 @@ module _ (base pg : ℕ) (p : Plan) (v : Vectors) (line : IsLine base pg p) (f :
       let fits : (k * p.registers + j) * p.bytes + p.bytes ≤ p.lanes * p.registers * p.bytes = element_fits k j p.registers p.lanes p.bytes b c in
       let long : length (take ((k * p.registers + j) * p.bytes) bs) ≡ (k * p.registers + j) * p.bytes = omega (arith, length-take ((k * p.registers + j) * p.bytes) bs, fits, room) in
       let place : address (base + length (take ((k * p.registers + j) * p.bytes) bs)) ≡ address ((layout_of p v).address k j)
-      = ap (λ n. address (base + n)) long ∙ sym (again (base + (k * p.registers + j) * p.bytes)) ∙ ap address (sym (line_address base pg p v line k j)) in
+      = ap (λ n. address (base + n)) long ∙ sym (again (base + (k * p.registers + j) * p.bytes)) ∙ ap address (sym (placed_at base p v line.placed k j c)) in
       ap (λ n. with_bytes m base (take n bs)) size
       ∙ ap (λ xs. with_bytes m base xs) (take_both (i * n) n bs)
       ∙ with_bytes_split (take (i * n) bs) (take n (drop (i * n) bs)) m base
@@ -159,11 +126,11 @@ module _ (base pg : ℕ) (p : Plan) (v : Vectors) (line : IsLine base pg p) (f :
       let g : ℕ → Access = λ i. record { address = address (base + i * p.bytes); bytes = p.bytes; write = true } in
       let fits : (k * p.registers + j) * p.bytes + p.bytes ≤ p.lanes * p.registers * p.bytes = element_fits k j p.registers p.lanes p.bytes b c in
       let allowed_first : refused m (l.address k j) p.bytes Write ≡ None
-      = ap (λ a. refused m a p.bytes Write) (line_address base pg p v line k j) ∙ part_allowed m base (p.lanes * p.registers * p.bytes) ((k * p.registers + j) * p.bytes) p.bytes Write free fits in
+      = ap (λ a. refused m a p.bytes Write) (placed_at base p v line.placed k j c) ∙ part_allowed m base (p.lanes * p.registers * p.bytes) ((k * p.registers + j) * p.bytes) p.bytes Write free fits in
       let allowed : refused (with_bytes m base (take ((k * p.registers + j) * p.bytes) bs)) (l.address k j) p.bytes Write ≡ None
       = ap (λ (x : Memory). refused x (l.address k j) p.bytes Write) so_far.memory ∙ refused_with_stored f (elements_within l k j) m (l.address k j) p.bytes Write ∙ allowed_first in
       let noted : each (k * p.registers + j + 1) g ≡ each (k * p.registers + j) g ++ record { address = l.address k j; bytes = p.bytes; write = true } ∷ []
-      = each-more i g ∙ ap (λ a. each i g ++ record { address = a; bytes = p.bytes; write = true } ∷ []) (sym (line_address base pg p v line k j)) in
+      = each-more i g ∙ ap (λ a. each i g ++ record { address = a; bytes = p.bytes; write = true } ∷ []) (sym (placed_at base p v line.placed k j c)) in
       lane_goes_on f l m k j (with_bytes m base (take (i * n) bs)) (with_bytes m base (take ((i + 1) * n) bs)) (each i g) (each (i + 1) g) so_far allowed (one_stored k j b c) noted
 
   stored_within : (k : ℕ) → k < p.lanes → AreStored f m (elements_below (layout_of p v) k) (with_bytes m base (take (k * p.registers * p.bytes) bs)) (each (k * p.registers) (λ i. record { address = address (base + i * p.bytes); bytes = p.bytes; write = true }))
@@ -192,7 +159,7 @@ module _ (base pg : ℕ) (p : Plan) (v : Vectors) (line : IsLine base pg p) (f :
   stored_below (suc k) c =
       let g : ℕ → Access = λ i. record { address = address (base + i * p.bytes); bytes = p.bytes; write = true } in
       let e : k * p.registers + p.registers ≡ suc k * p.registers = omega arith in
-      let here : (layout_of p v).is_on k ≡ true = ap (λ (o : OnLanes). is_on_of o p.bits v k) line.on ∙ on k (omega arith) in
+      let here : (layout_of p v).is_on k ≡ true = on k (omega arith) in
       subst (λ n. AreStored f m (elements_below (layout_of p v) n) (with_bytes m base (take (suc k * p.registers * p.bytes) bs)) (each (suc k * p.registers) g)) (add-one k)
       (subst (λ i. AreStored f m (elements_below (layout_of p v) (k + 1)) (with_bytes m base (take (i * p.bytes) bs)) (each i g)) e
       (subst (λ (es : List Element). AreStored f m es (with_bytes m base (take ((k * p.registers + p.registers) * p.bytes) bs)) (each (k * p.registers + p.registers) g)) (within_all (layout_of p v) k here)
@@ -226,13 +193,28 @@ in_turn_is f p v k j h =
     ap (λ x. f (element_of_lane (layout_of p v) x j)) (sym (div-mul-add k p.registers j h))
     ∙ ap (λ x. f (element_of_lane (layout_of p v) ((k * p.registers + j) / p.registers) x)) (sym (mod-mul-add k p.registers j h))
 
+-- ---- what is written of the bytes of all elements
+
+where_byte : (t : Bool) (x d : ℕ) → (if t then x / d % 256 else 0) ≡ (if t then x else 0) / d % 256
+where_byte true x d = refl
+where_byte false x d = sym (ap (λ x. x % 256) (zero-div d))
+
+pub lanes_written : (pg whole : ℕ) (p : Plan) (v : Vectors) → IsLaneSize p.bits → IsVectorLength v.bits → (bs before words : List ℕ) (at step : ℕ) (f : ℕ → ℕ)
+    → ((i : ℕ) → i < v.bits / 8 → byte_of 8 before i ≡ byte_in (p.bits / 8) (lane_at p.is_signed p.bits p.bytes bs at step) i)
+    → ((i : ℕ) → i < v.bits / 8 → byte_of 8 words i ≡ (if is_kept whole pg p.bits v (i / (p.bits / 8)) then byte_of 8 before i else 0))
+    → ((k : ℕ) → k < v.bits / p.bits → f k ≡ (if is_kept whole pg p.bits v k then lane_at p.is_signed p.bits p.bytes bs at step k else 0))
+    → bytes_of (v.bits / 8) words ≡ each (v.bits / 8) (byte_in (p.bits / 8) f)
+lanes_written pg whole p v size long bs before words at step f all kept given =
+    each_same (v.bits / 8) (byte_of 8 words) (byte_in (p.bits / 8) f) 0 (λ i b.
+    let k : ℕ = i / (p.bits / 8) in
+    let d : ℕ = 2 ^ (8 * (i % (p.bits / 8))) in
+    kept i b
+    ∙ ap (λ y. if is_kept whole pg p.bits v k then y else 0) (all i b)
+    ∙ where_byte (is_kept whole pg p.bits v k) (lane_at p.is_signed p.bits p.bytes bs at step k) d
+    ∙ ap (λ y. y / d % 256) (sym (given k (below_quotient p.bits v.bits i size long b))))
+
 -- ---- lanes of other vectors with the same predicates
 
-same_on : (on : OnLanes) (e : ℕ) (v w : Vectors) (k : ℕ) → v.p ≡ w.p → is_on_of on e v k ≡ is_on_of on e w k
-same_on All e v w k h = refl
-same_on (Active pg) e v w k h = ap (λ (ps : List (List Bool)). active e (get_or ps pg []) k) h
-same_on (Only found) e v w k h = refl
-
-pub same_lane : (bs : List ℕ) (p : Plan) (v w : Vectors) (j k : ℕ) → v.p ≡ w.p → lane_in bs p v j k ≡ lane_in bs p w j k
-same_lane bs p v w j k h =
-    ap (λ (t : Bool). if t then extended_by p.is_signed p.bits (8 * p.bytes) (number_in bs ((k * p.registers + j) * p.bytes) p.bytes) else 0) (same_on p.on p.bits v w k h)
+pub same_lane : (bs : List ℕ) (p : Plan) (pg whole : ℕ) (v w : Vectors) (j k : ℕ) → v.p ≡ w.p → lane_in bs p pg whole v j k ≡ lane_in bs p pg whole w j k
+same_lane bs p pg whole v w j k h =
+    ap (λ (t : Bool). if t then extended_by p.is_signed p.bits (8 * p.bytes) (number_in bs ((k * p.registers + j) * p.bytes) p.bytes) else 0) (same_kept whole pg p.bits k v w h)

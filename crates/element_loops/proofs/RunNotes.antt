@@ -1,74 +1,140 @@
--- The log of a run.
-use Rattle.std.proofs.Common.{◌≡◌, ◌<◌, ◌+◌, ◌*◌, ◌%◌, ◌^◌, ℕ, zero, suc, Bool, true, false, List, [], ◌∷◌, ◌++◌, refl, sym, ap, ◌∙◌, add-one, append_assoc, arith}
+-- The log of elements that are one behind the other.
+use Rattle.std.proofs.Common.{◌≡◌, ◌<◌, ◌≤◌, ◌+◌, ◌*◌, ◌/◌, ◌%◌, ◌^◌, ℕ, zero, suc, Bool, true, false, List, [], ◌∷◌, ◌++◌, inl, inr, refl, sym, ap, subst, ◌∙◌, add-one, append_assoc, arith}
+use Rattle.std.proofs.Math.Nat.{mul-le-mul_right}
+use Rattle.std.proofs.lemmas.List.{append-nil}
 use Rattle.emu_model.specs.declared.access.Access.{Access}
 use Rattle.emu_model.specs.Access.{address}
 use Rattle.emu_model.specs.Elements.{Element, accesses_of}
-use Rattle.emu_model.specs.Lists.{each, each-more}
+use Rattle.emu_model.specs.Lists.{each, each-more, each_same}
 use Rattle.emu_model.specs.State.{Vectors}
-use Rattle.sve_effects.specs.ElementLoop.{is_active}
 use Rattle.sve_effects.specs.VectorElements.{Layout, elements_below}
 use Rattle.element_access.specs.ReachLaws.{accesses_append}
 use Rattle.element_loops.specs.declared.plan.Plan.{Plan}
-use Rattle.element_loops.specs.declared.plan.OnLanes.{OnLanes}
 use Rattle.element_loops.specs.declared.plan.Places.{Places}
-use Rattle.element_loops.specs.Layouts.{layout_of, is_on_of, address_of}
-use Rattle.element_loops.specs.Runs.{IsLine}
+use Rattle.element_loops.specs.Layouts.{layout_of, address_of}
+use Rattle.element_loops.specs.Runs.{ArePlaced, IsLine}
 use Rattle.element_loops.specs.SoFar.{element_of_lane, elements_within}
+use Rattle.element_loops.proofs.Kept.{kept_front}
 use Rattle.element_loops.proofs.Turns.{below_none, within_none, within_more, within_all, skipped}
 
-pub each_none : {A : Type 0} (f : ℕ → A) → each 0 f ≡ []
-each_none f = refl
+-- ---- places
 
--- one more access
-pub each_noted : (old before after : List Access) (k : ℕ) (f : ℕ → Access) (x : Access) → before ≡ old ++ each k f → after ≡ before ++ x ∷ [] → x ≡ f k → after ≡ old ++ each (k + 1) f
-each_noted old before after k f x so_far more is =
-    more ∙ ap (λ (l : List Access). l ++ x ∷ []) so_far ∙ append_assoc old (each k f) (x ∷ []) ∙ ap (λ x. old ++ (each k f ++ x ∷ [])) is ∙ ap (λ (l : List Access). old ++ l) (sym (each-more k f))
+-- so many bytes on
+further : (base x y at : ℕ) → at ≡ address (base + x) → address (at + y) ≡ address (base + (x + y))
+further base x y at is = omega (arith, is)
 
-pub next_address : (base n k at next : ℕ) → at ≡ (base + k * n) % 2 ^ 64 → next ≡ (at + n) % 2 ^ 64 → next ≡ (base + (k + 1) * n) % 2 ^ 64
-next_address base n k at next is more =
-    let e : base + k * n + n ≡ base + (k + 1) * n = omega arith in
-    let m : next ≡ (base + k * n + n) % 2 ^ 64 = omega arith in
-    m ∙ ap (λ a. a % 2 ^ 64) e
+-- one lane on
+pub next_lane : (base r n k at next step : ℕ) → at ≡ address (base + k * r * n) → step ≡ r * n → next ≡ address (at + step) → next ≡ address (base + (k + 1) * r * n)
+next_lane base r n k at next step is size more =
+    let e : k * r * n + r * n ≡ (k + 1) * r * n = omega arith in
+    more ∙ ap (λ s. address (at + s)) size ∙ further base (k * r * n) (r * n) at is ∙ ap (λ x. address (base + x)) e
 
-module _ (base pg : ℕ) (p : Plan) (v : Vectors) (line : IsLine base pg p) (one : p.registers ≡ 1) where
-  pub run_on : (k : ℕ) → (layout_of p v).is_on k ≡ is_active p.bits v pg k
-  run_on k = ap (λ (o : OnLanes). is_on_of o p.bits v k) line.on
+pub lane_count : (k r lanes : ℕ) → k < lanes → k * r + r ≤ lanes * r
+lane_count k r lanes h =
+    let next : suc k ≤ lanes = omega arith in
+    let times : suc k * r ≤ lanes * r = mul-le-mul_right r next in
+    let more : suc k * r ≡ k * r + r = omega arith in
+    omega (arith, times, more)
 
-  pub run_address : (k : ℕ) → (layout_of p v).address k 0 ≡ address (base + k * p.bytes)
-  run_address k =
+-- the log of one access for each of r elements from place `at` on
+pub noted_at : (base at k r n : ℕ) (w : Bool) → at ≡ address (base + k * r * n)
+    → each r (λ (j : ℕ). let x : Access = record { address = address (at + j * n); bytes = n; write = w } in x) ≡ each r (λ (j : ℕ). let x : Access = record { address = address (base + (k * r + j) * n); bytes = n; write = w } in x)
+noted_at base at k r n w is =
+    let f : ℕ → Access = λ j. record { address = address (at + j * n); bytes = n; write = w } in
+    let g : ℕ → Access = λ j. record { address = address (base + (k * r + j) * n); bytes = n; write = w } in
+    let none : Access = record { address = 0; bytes = 0; write = w } in
+    let here : ℕ → Access = λ a. record { address = a; bytes = n; write = w } in
+    each_same r f g none (λ j b.
+    let e : k * r * n + j * n ≡ (k * r + j) * n = omega arith in
+    ap here (further base (k * r * n) (j * n) at is ∙ ap (λ x. address (base + x)) e))
+
+each_both : (a b : ℕ) (f : ℕ → Access) → each (a + b) f ≡ each a f ++ each b (λ j. f (a + j))
+each_both a zero f = let e : a + 0 ≡ a = omega arith in ap (λ n. each n f) e ∙ sym (append-nil (each a f))
+each_both a (suc b) f =
+    let e : a + suc b ≡ a + b + 1 = omega arith in
+    ap (λ n. each n f) e ∙ each-more (a + b) f
+    ∙ ap (λ (l : List Access). l ++ f (a + b) ∷ []) (each_both a b f)
+    ∙ append_assoc (each a f) (each b (λ j. f (a + j))) (f (a + b) ∷ [])
+    ∙ ap (λ (l : List Access). each a f ++ l) (sym (each-more b (λ j. f (a + j))))
+    ∙ ap (λ n. each a f ++ each n (λ j. f (a + j))) (add-one b)
+
+-- ---- where the elements are
+
+one_place : (k r n : ℕ) → r ≡ 1 → n ≡ 1 → (k * r + 0) * n ≡ k
+one_place k r n one single = let e : (k * 1 + 0) * 1 ≡ k = omega arith in ap (λ r. (k * r + 0) * n) one ∙ ap (λ n. (k * 1 + 0) * n) single ∙ e
+
+pub placed_at : (base : ℕ) (p : Plan) (v : Vectors) → ArePlaced base p → (k j : ℕ) → j < p.registers → (layout_of p v).address k j ≡ address (base + (k * p.registers + j) * p.bytes)
+placed_at base p v (inl is) k j h = ap (λ (q : Places). address_of q p.bits p.bytes p.registers v k j) is
+placed_at base p v (inr is) k j h =
+    let first : j < 1 = subst (λ r. j < r) is.1 h in
+    let zero : 0 ≡ j = omega arith in
+    ap (λ (q : Places). address_of q p.bits p.bytes p.registers v k j) is.0
+    ∙ ap (λ x. address (base + x)) (sym (one_place k p.registers p.bytes is.1 is.2))
+    ∙ ap (λ j. address (base + (k * p.registers + j) * p.bytes)) zero
+
+module _ (base pg whole : ℕ) (p : Plan) (v : Vectors) (line : IsLine base pg whole p v) where
+  pub run_address : p.registers ≡ 1 → (k : ℕ) → (layout_of p v).address k 0 ≡ address (base + k * p.bytes)
+  run_address one k =
       let e : k * 1 + 0 ≡ k = omega arith in
-      ap (λ (q : Places). address_of q p.bits p.bytes p.registers v k 0) line.places
+      let some : 0 < p.registers = omega (arith, one) in
+      placed_at base p v line.placed k 0 some
       ∙ ap (λ r. address (base + (k * r + 0) * p.bytes)) one
       ∙ ap (λ k. address (base + k * p.bytes)) e
 
-  lane_noted : (w : Bool) (k : ℕ) → (layout_of p v).is_on k ≡ true
-      → accesses_of w (elements_below (layout_of p v) (k + 1)) ≡ accesses_of w (elements_below (layout_of p v) k) ++ record { address = address (base + k * p.bytes); bytes = p.bytes; write = w } ∷ []
-  lane_noted w k on =
+  -- the elements of the first j registers of a lane
+  within_noted : (w : Bool) (k j : ℕ) → j ≤ p.registers → accesses_of w (elements_within (layout_of p v) k j)
+      ≡ accesses_of w (elements_below (layout_of p v) k) ++ each j (λ (j : ℕ). let x : Access = record { address = address (base + (k * p.registers + j) * p.bytes); bytes = p.bytes; write = w } in x)
+  within_noted w k zero h = ap (accesses_of w) (within_none (layout_of p v) k) ∙ sym (append-nil (accesses_of w (elements_below (layout_of p v) k)))
+  within_noted w k (suc j) h =
       let l : Layout = layout_of p v in
-      let one : elements_below l (k + 1) ≡ elements_below l k ++ element_of_lane l k 0 ∷ []
-      = sym (within_all l k on) ∙ ap (λ j. elements_within l k j) one ∙ within_more l k 0 ∙ ap (λ (es : List Element). es ++ element_of_lane l k 0 ∷ []) (within_none l k) in
-      ap (accesses_of w) one ∙ accesses_append w (elements_below l k) (element_of_lane l k 0 ∷ [])
-      ∙ ap (λ a. accesses_of w (elements_below l k) ++ record { address = a; bytes = p.bytes; write = w } ∷ []) (run_address k)
+      let f : ℕ → Access = λ j. record { address = address (base + (k * p.registers + j) * p.bytes); bytes = p.bytes; write = w } in
+      let before : List Access = accesses_of w (elements_below l k) in
+      ap (λ j. accesses_of w (elements_within l k j)) (sym (add-one j))
+      ∙ ap (accesses_of w) (within_more l k j)
+      ∙ accesses_append w (elements_within l k j) (element_of_lane l k j ∷ [])
+      ∙ ap (λ (xs : List Access). xs ++ record { address = l.address k j; bytes = p.bytes; write = w } ∷ []) (within_noted w k j (omega arith))
+      ∙ ap (λ a. (before ++ each j f) ++ record { address = a; bytes = p.bytes; write = w } ∷ []) (placed_at base p v line.placed k j (omega arith))
+      ∙ append_assoc before (each j f) (f j ∷ [])
+      ∙ ap (λ (xs : List Access). before ++ xs) (sym (each-more j f))
+      ∙ ap (λ n. before ++ each n f) (add-one j)
 
-  pub noted_more : (w : Bool) (k at : ℕ) (before after : List Access) → (layout_of p v).is_on k ≡ true → at ≡ address (base + k * p.bytes) → before ≡ accesses_of w (elements_below (layout_of p v) k)
-      → after ≡ before ++ record { address = at; bytes = p.bytes; write = w } ∷ [] → after ≡ accesses_of w (elements_below (layout_of p v) (k + 1))
+  lane_noted : (w : Bool) (k : ℕ) → (layout_of p v).is_on k ≡ true → accesses_of w (elements_below (layout_of p v) (k + 1))
+      ≡ accesses_of w (elements_below (layout_of p v) k) ++ each p.registers (λ (j : ℕ). let x : Access = record { address = address (base + (k * p.registers + j) * p.bytes); bytes = p.bytes; write = w } in x)
+  lane_noted w k on = ap (accesses_of w) (sym (within_all (layout_of p v) k on)) ∙ within_noted w k p.registers (omega arith)
+
+  pub noted_more : (w : Bool) (k at : ℕ) (before after : List Access) → (layout_of p v).is_on k ≡ true → at ≡ address (base + k * p.registers * p.bytes) → before ≡ accesses_of w (elements_below (layout_of p v) k)
+      → after ≡ before ++ each p.registers (λ i. record { address = address (at + i * p.bytes); bytes = p.bytes; write = w }) → after ≡ accesses_of w (elements_below (layout_of p v) (k + 1))
   noted_more w k at before after on is so_far more =
-      more ∙ ap (λ (l : List Access). l ++ record { address = at; bytes = p.bytes; write = w } ∷ []) so_far
-      ∙ ap (λ a. accesses_of w (elements_below (layout_of p v) k) ++ record { address = a; bytes = p.bytes; write = w } ∷ []) is
+      let f : ℕ → Access = λ j. record { address = address (at + j * p.bytes); bytes = p.bytes; write = w } in
+      more ∙ ap (λ (l : List Access). l ++ each p.registers f) so_far
+      ∙ ap (λ (l : List Access). accesses_of w (elements_below (layout_of p v) k) ++ l) (noted_at base at k p.registers p.bytes w is)
       ∙ sym (lane_noted w k on)
 
   pub noted_skipped : (w : Bool) (k : ℕ) → (layout_of p v).is_on k ≡ false → accesses_of w (elements_below (layout_of p v) k) ≡ accesses_of w (elements_below (layout_of p v) (k + 1))
   noted_skipped w k off = ap (accesses_of w) (sym (skipped (layout_of p v) k off))
 
-  pub noted_none : (w : Bool) → accesses_of w (elements_below (layout_of p v) 0) ≡ []
-  noted_none w = ap (accesses_of w) (below_none (layout_of p v))
-
-  pub noted_below : (w : Bool) (n : ℕ) → ((k : ℕ) → k < n → is_active p.bits v pg k ≡ true) → accesses_of w (elements_below (layout_of p v) n) ≡ each n (λ i. record { address = address (base + i * p.bytes); bytes = p.bytes; write = w })
-  noted_below w zero on = noted_none w
+  -- all of the first n lanes are on
+  pub noted_below : (w : Bool) (n : ℕ) → ((k : ℕ) → k < n → (layout_of p v).is_on k ≡ true)
+      → accesses_of w (elements_below (layout_of p v) n) ≡ each (n * p.registers) (λ i. record { address = address (base + i * p.bytes); bytes = p.bytes; write = w })
+  noted_below w zero on = let e : 0 ≡ 0 * p.registers = omega arith in
+      ap (accesses_of w) (below_none (layout_of p v)) ∙ ap (λ n. each n (λ (i : ℕ). let x : Access = record { address = address (base + i * p.bytes); bytes = p.bytes; write = w } in x)) e
   noted_below w (suc n) on =
       let f : ℕ → Access = λ i. record { address = address (base + i * p.bytes); bytes = p.bytes; write = w } in
+      let r : ℕ = p.registers in
+      let e : n * p.registers + p.registers ≡ suc n * p.registers = omega arith in
       ap (λ n. accesses_of w (elements_below (layout_of p v) n)) (sym (add-one n))
-      ∙ lane_noted w n (run_on n ∙ on n (omega arith))
-      ∙ ap (λ (l : List Access). l ++ f n ∷ []) (noted_below w n (λ k b. on k (omega arith)))
-      ∙ sym (each-more n f)
-      ∙ ap (λ n. each n f) (add-one n)
+      ∙ lane_noted w n (on n (omega arith))
+      ∙ ap (λ (l : List Access). l ++ each r (λ j. f (n * r + j))) (noted_below w n (λ k b. on k (omega arith)))
+      ∙ sym (each_both (n * r) r f)
+      ∙ ap (λ n. each n f) e
+
+  pub all_noted : (w : Bool) (log after : List Access) → log ≡ [] → ((k : ℕ) → k < p.lanes → (layout_of p v).is_on k ≡ true)
+      → after ≡ log ++ each (p.lanes * p.registers) (λ i. record { address = address (base + i * p.bytes); bytes = p.bytes; write = w })
+      → after ≡ accesses_of w (elements_below (layout_of p v) p.lanes)
+  all_noted w log after empty on is =
+      let f : ℕ → Access = λ i. record { address = address (base + i * p.bytes); bytes = p.bytes; write = w } in
+      is ∙ ap (λ (l : List Access). l ++ each (p.lanes * p.registers) f) empty ∙ sym (noted_below w p.lanes on)
+
+  -- the lanes of the first words are on
+  pub front_on : (k : ℕ) → k < whole * (64 / p.bits) → k < p.lanes → (layout_of p v).is_on k ≡ true
+  front_on k h b = line.on k b ∙ kept_front whole pg p.bits v k h

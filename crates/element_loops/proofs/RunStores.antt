@@ -2,14 +2,15 @@
 use Rattle.std.proofs.Common.{◌≡◌, ◌<◌, ◌≤◌, ◌+◌, ◌-◌, ◌*◌, ◌/◌, ◌%◌, ◌^◌, ℕ, zero, suc, Bool, true, List, [], ◌∷◌, ◌++◌, length, take, drop, get_or, None, inl, inr, refl, sym, ap, subst, ◌∙◌, add-one, append_assoc, arith}
 use Rattle.std.specs.Int.{bytes_low_first, byte_at}
 use Rattle.std.proofs.Math.Nat.{pow-suc, div-div-eq-div-mul, mul-le-mul_right}
-use Rattle.std.proofs.lemmas.List.{append-nil, get_or-take, get_or-drop, get_or_past, length-take, length-drop, take_all}
+use Rattle.std.proofs.lemmas.List.{append-nil, get_or-take, get_or-drop, get_or_past, length-take, length-drop, take_all, take-append-drop}
 use Rattle.std.proofs.lemmas.Bool.{cases_lt}
 use Rattle.std.proofs.lemmas.List.FromFn.{fill_by_all}
 use Rattle.byteorder.specs.Numbers.{length-bytes_low_first}
 use Rattle.emu_model.specs.declared.access.Access.{Access}
+use Rattle.emu_model.specs.declared.access.Kind.{Kind}
 use Rattle.emu_model.specs.declared.access.Kind.TheVariants.{Write}
 use Rattle.emu_model.specs.Access.{Memory, address, refused, stored, with_byte}
-use Rattle.emu_model.specs.AccessLaws.{with_bytes_split}
+use Rattle.emu_model.specs.AccessLaws.{refused_stored, with_bytes_split}
 use Rattle.emu_model.specs.Elements.{Element}
 use Rattle.emu_model.specs.Lengths.{IsVectorLength}
 use Rattle.emu_model.specs.Lists.{each, each_same, each-more}
@@ -17,7 +18,6 @@ use Rattle.emu_model.specs.Pages.{with_bytes}
 use Rattle.emu_model.specs.State.{Vectors}
 use Rattle.guest_mem.proofs.Numbers.{stored_is}
 use Rattle.vec_model.specs.Lanes.{IsLaneSize, number, lane, read_z}
-use Rattle.sve_effects.specs.ElementLoop.{is_active}
 use Rattle.sve_effects.specs.VectorElements.{Layout, elements_below}
 use Rattle.sve_effects.specs.VectorLoadStore.{lane_stored}
 use Rattle.element_access.specs.ReachLaws.{AreStored, refused_with_stored}
@@ -25,7 +25,7 @@ use Rattle.element_loops.specs.declared.plan.Plan.{Plan}
 use Rattle.element_loops.specs.Layouts.{layout_of}
 use Rattle.element_loops.specs.Runs.{IsRun}
 use Rattle.element_loops.specs.SoFar.{element_of_lane, elements_within}
-use Rattle.element_loops.proofs.RunNotes.{run_on, run_address}
+use Rattle.element_loops.proofs.RunNotes.{run_address}
 use Rattle.element_loops.proofs.FieldBits.{lane_again}
 use Rattle.element_loops.proofs.RunLoads.{part_allowed, some_bytes}
 use Rattle.element_loops.proofs.Stores.{lane_begins, lane_goes_on, lane_ends}
@@ -71,12 +71,37 @@ stored_bytes m a w v =
     let few : length (bytes_low_first 0 w v) ≤ w = omega (arith, length-bytes_low_first 0 w v) in
     sym (stored_is m a w w v most) ∙ ap (λ bs. with_bytes m a bs) (take_all w (bytes_low_first 0 w v) few)
 
+-- bytes that are written change no right
+pub written_refused : (bs : List ℕ) (m : Memory) (a q n : ℕ) (kind : Kind) → ((k : ℕ) → get_or bs k 0 < 256) → refused (with_bytes m a bs) q n kind ≡ refused m q n kind
+written_refused bs m a q n kind small =
+    let unit : number bs / 256 ^ 0 ≡ number bs = omega arith in
+    ap (λ xs. refused (with_bytes m a xs) q n kind) (sym (number_bytes bs small 0 (number bs) unit))
+    ∙ ap (λ (x : Memory). refused x q n kind) (sym (stored_bytes m a (length bs) (number bs)))
+    ∙ refused_stored (length bs) m a (number bs) q n kind
+
+-- bytes that are written in two parts
+pub written_parts : (bs : List ℕ) (m : Memory) (a f b : ℕ) → f ≤ length bs → address (a + f) ≡ address b → with_bytes (with_bytes m a (take f bs)) b (drop f bs) ≡ with_bytes m a bs
+written_parts bs m a f b h at =
+    let long : length (take f bs) ≡ f = omega (arith, length-take f bs) in
+    let place : address b ≡ address (a + length (take f bs)) = sym at ∙ ap (λ n. address (a + n)) (sym long) in
+    bytes_same (drop f bs) (with_bytes m a (take f bs)) b (a + length (take f bs)) place
+    ∙ sym (with_bytes_split (take f bs) (drop f bs) m a)
+    ∙ ap (λ xs. with_bytes m a xs) (take-append-drop f bs)
+
 part_small : (w a : ℕ) (z : List ℕ) (t : ℕ) → ((j : ℕ) → get_or z j 0 < 256) → get_or (take w (drop a z)) t 0 < 256
 part_small w a z t small = elim (cases_lt t w) [
   | inl b ↦ subst (λ x. x < 256) (sym (get_or-take w (drop a z) t 0 b ∙ get_or-drop a z t 0)) (small (a + t))
   | inr b ↦
       (let few : length (take w (drop a z)) ≤ t = omega (arith, length-take w (drop a z)) in
       subst (λ x. x < 256) (sym (get_or_past (take w (drop a z)) t 0 few)) (omega arith))
+]
+
+pub part_small_first : (f : ℕ) (bs : List ℕ) (t : ℕ) → ((j : ℕ) → get_or bs j 0 < 256) → get_or (take f bs) t 0 < 256
+part_small_first f bs t small = elim (cases_lt t f) [
+  | inl b ↦ subst (λ x. x < 256) (sym (get_or-take f bs t 0 b)) (small t)
+  | inr b ↦
+      (let few : length (take f bs) ≤ t = omega (arith, length-take f bs) in
+      subst (λ x. x < 256) (sym (get_or_past (take f bs) t 0 few)) (omega arith))
 ]
 
 twice : (a : ℕ) → address a ≡ address (address a)
@@ -97,7 +122,7 @@ assoc a b c = omega arith
 
 -- ---- lanes from k on, whose bytes are bs
 
-module _ (base pg : ℕ) (p : Plan) (v : Vectors) (run : IsRun base pg p) (w : ℕ) (width : p.bits / 8 ≡ w) (bytes_are : p.bytes ≡ w) where
+module _ (base pg whole : ℕ) (p : Plan) (v : Vectors) (run : IsRun base pg whole p v) (w : ℕ) (width : p.bits / 8 ≡ w) (bytes_are : p.bytes ≡ w) where
   one_lane_stored : (now : Memory) (k d a : ℕ) (z bs : List ℕ) → z ≡ read_z v ((p.register + 0) % 32) → k * w + w ≤ length z → ((j : ℕ) → get_or z j 0 < 256) → d * w + w ≤ length bs
       → ((t : ℕ) → t < w → get_or z (k * w + t) 0 ≡ get_or bs (d * w + t) 0) → address (a + d * w) ≡ address (base + k * w)
       → with_bytes now a (take ((d + 1) * w) bs) ≡ stored (with_bytes now a (take (d * w) bs)) ((layout_of p v).address k 0) p.bytes (lane_stored (layout_of p v) v (element_of_lane (layout_of p v) k 0))
@@ -116,7 +141,7 @@ module _ (base pg : ℕ) (p : Plan) (v : Vectors) (run : IsRun base pg p) (w : �
       let value : lane_stored l v (element_of_lane l k 0) ≡ number here
       = ap (λ (bytes : List ℕ). lane p.bits bytes k) (sym is) ∙ ap (λ w. number (take w (drop (k * w) z))) width in
       let place : address (a + length (take (d * w) bs)) ≡ address (l.address k 0)
-      = ap (λ n. address (a + n)) long ∙ at ∙ twice (base + k * w) ∙ ap (λ n. address (address (base + k * n))) (sym bytes_are) ∙ ap address (sym (run_address base pg p v run.line run.one k)) in
+      = ap (λ n. address (a + n)) long ∙ at ∙ twice (base + k * w) ∙ ap (λ n. address (address (base + k * n))) (sym bytes_are) ∙ ap address (sym (run_address base pg whole p v run.line run.one k)) in
       ap (λ n. with_bytes now a (take n bs)) n
       ∙ ap (λ xs. with_bytes now a xs) (take_both (d * w) w bs)
       ∙ with_bytes_split (take (d * w) bs) (take w (drop (d * w) bs)) now a
@@ -130,7 +155,7 @@ module _ (base pg : ℕ) (p : Plan) (v : Vectors) (run : IsRun base pg p) (w : �
   module _ (f : Element → ℕ) (same_f : f ≡ lane_stored (layout_of p v) v) (m now : Memory) (log : List Access) (first a : ℕ) (z bs : List ℕ)
       (z_is : z ≡ read_z v ((p.register + 0) % 32)) (small : (j : ℕ) → get_or z j 0 < 256)
       (given : AreStored f m (elements_below (layout_of p v) first) now log) where
-    lanes_stored : (d : ℕ) → ((k : ℕ) → first ≤ k → k < first + d → is_active p.bits v pg k ≡ true)
+    lanes_stored : (d : ℕ) → ((k : ℕ) → first ≤ k → k < first + d → (layout_of p v).is_on k ≡ true)
         → ((j : ℕ) → j < d * w → get_or z (first * w + j) 0 ≡ get_or bs j 0) → d * w ≤ length bs → first * w + d * w ≤ length z
         → ((i : ℕ) → i + w ≤ d * w → refused now (address (a + i)) w Write ≡ None) → a ≡ address (base + first * w)
         → AreStored f m (elements_below (layout_of p v) (first + d)) (with_bytes now a (take (d * w) bs)) (log ++ each d (λ i. record { address = address (a + i * p.bytes); bytes = p.bytes; write = true }))
@@ -148,11 +173,11 @@ module _ (base pg : ℕ) (p : Plan) (v : Vectors) (run : IsRun base pg p) (w : �
         let size : suc d * w ≡ d * w + w = omega arith in
         let more : (d + 1) * w ≡ suc d * w = omega arith in
         let sum : (first + d) * w ≡ first * w + d * w = omega arith in
-        let on_here : l.is_on k ≡ true = run_on base pg p v run.line run.one k ∙ on k (omega arith) (omega arith) in
+        let on_here : l.is_on k ≡ true = on k (omega arith) (omega arith) in
         let so_far : AreStored f m (elements_below l k) (with_bytes now a (take (d * w) bs)) (log ++ each d g)
         = lanes_stored d (λ k lo hi. on k lo (omega arith)) (λ j b. same j (omega arith)) (omega arith) (omega arith) (λ i b. free i (omega arith)) at in
         let address_here : l.address k 0 ≡ address (a + d * w)
-        = run_address base pg p v run.line run.one k ∙ ap (λ n. address (base + k * n)) bytes_are ∙ later base (first * w) (d * w) (k * w) a at sum in
+        = run_address base pg whole p v run.line run.one k ∙ ap (λ n. address (base + k * n)) bytes_are ∙ later base (first * w) (d * w) (k * w) a at sum in
         let allowed_now : refused now (l.address k 0) p.bytes Write ≡ None
         = ap (λ x. refused now x p.bytes Write) address_here ∙ ap (λ n. refused now (address (a + d * w)) n Write) bytes_are ∙ free (d * w) (omega arith) in
         let allowed_first : refused m (l.address k 0) p.bytes Write ≡ None
@@ -176,15 +201,6 @@ module _ (base pg : ℕ) (p : Plan) (v : Vectors) (run : IsRun base pg p) (w : �
         subst (λ n. AreStored f m (elements_below l (first + suc d)) (with_bytes now a (take (suc d * w) bs)) (log ++ each n g)) (add-one d)
         (subst (λ n. AreStored f m (elements_below l n) (with_bytes now a (take (suc d * w) bs)) (log ++ each (d + 1) g)) e ended)
 
-pub word_lanes : (e : ℕ) → IsLaneSize e → 64 / e * (e / 8) ≡ 8
-word_lanes e (inl s) = rw s refl
-word_lanes e (inr (inl s)) = rw s refl
-word_lanes e (inr (inr (inl s))) = rw s refl
-word_lanes e (inr (inr (inr s))) = rw s refl
-
-pub times : (n per w : ℕ) → per * w ≡ 8 → n * per * w ≡ 8 * n
-times n per w h = let e : n * per * w ≡ n * (per * w) = omega arith in e ∙ ap (λ x. n * x) h ∙ omega arith
-
 whole_small : (n : ℕ) (z buf : List ℕ) → length z ≡ n → ((j : ℕ) → j < n → get_or buf j 0 ≡ get_or z j 0) → ((j : ℕ) → get_or buf j 0 < 256) → (j : ℕ) → get_or z j 0 < 256
 whole_small n z buf long same small j = elim (cases_lt j n) [
   | inl b ↦ subst (λ x. x < 256) (same j b) (small j)
@@ -198,12 +214,12 @@ lanes_fit e bits x (inr (inr (inl s))) l = rw s (λ h. omega (arith, l.multiple)
 lanes_fit e bits x (inr (inr (inr s))) l = rw s (λ h. omega (arith, l.multiple))
 
 -- d lanes from lane k on, which are all on
-module _ (base pg : ℕ) (p : Plan) (v : Vectors) (run : IsRun base pg p) (size : IsLaneSize p.bits) (vector : IsVectorLength v.bits) (lanes : p.lanes ≡ v.bits / p.bits) (f : Element → ℕ) (same_f : f ≡ lane_stored (layout_of p v) v) where
+module _ (base pg whole : ℕ) (p : Plan) (v : Vectors) (run : IsRun base pg whole p v) (size : IsLaneSize p.bits) (vector : IsVectorLength v.bits) (lanes : p.lanes ≡ v.bits / p.bits) (f : Element → ℕ) (same_f : f ≡ lane_stored (layout_of p v) v) where
   pub lanes_put : (m now next : Memory) (log after : List Access) (k d at from to : ℕ) (buf bs : List ℕ)
       → AreStored f m (elements_below (layout_of p v) k) now log
       → length (read_z v ((p.register + 0) % 32)) ≡ v.bits / 8 → ((j : ℕ) → j < v.bits / 8 → get_or buf j 0 ≡ get_or (read_z v ((p.register + 0) % 32)) j 0) → ((j : ℕ) → get_or buf j 0 < 256)
       → length buf ≡ 256 → k + d ≤ p.lanes → from ≡ k * p.bytes → to ≡ from + d * p.bytes → bs ≡ take (to - from) (drop from buf) → at ≡ address (base + k * p.bytes)
-      → ((i : ℕ) → k ≤ i → i < k + d → is_active p.bits v pg i ≡ true)
+      → ((i : ℕ) → k ≤ i → i < k + d → (layout_of p v).is_on i ≡ true)
       → refused now at (length bs) Write ≡ None → next ≡ with_bytes now at bs
       → after ≡ log ++ each d (λ i. record { address = address (at + i * p.bytes); bytes = p.bytes; write = true })
       → AreStored f m (elements_below (layout_of p v) (k + d)) next after
@@ -218,28 +234,17 @@ module _ (base pg : ℕ) (p : Plan) (v : Vectors) (run : IsRun base pg p) (size 
       let from_is : from ≡ k * w = start ∙ ap (λ n. k * n) width in
       let to_is : to ≡ k * w + d * w = end ∙ ap (λ a. a + d * p.bytes) from_is ∙ ap (λ n. k * w + d * n) width in
       let count_is : k * w + d * w - k * w ≡ d * w = omega arith in
-      let whole : bs ≡ take (d * w) (drop (k * w) buf) = bytes_are ∙ ap (λ a. take (to - a) (drop a buf)) from_is ∙ ap (λ n. take (n - k * w) (drop (k * w) buf)) to_is ∙ ap (λ n. take n (drop (k * w) buf)) count_is in
-      let count : length bs ≡ d * w = ap length whole ∙ omega (arith, length-take (d * w) (drop (k * w) buf), length-drop (k * w) buf, inside, sum, most, room) in
+      let piece : bs ≡ take (d * w) (drop (k * w) buf) = bytes_are ∙ ap (λ a. take (to - a) (drop a buf)) from_is ∙ ap (λ n. take (n - k * w) (drop (k * w) buf)) to_is ∙ ap (λ n. take n (drop (k * w) buf)) count_is in
+      let count : length bs ≡ d * w = ap length piece ∙ omega (arith, length-take (d * w) (drop (k * w) buf), length-drop (k * w) buf, inside, sum, most, room) in
       let at_first : at ≡ address (base + k * w) = place ∙ ap (λ n. address (base + k * n)) width in
       let stored_so : AreStored f m (elements_below (layout_of p v) (k + d)) (with_bytes now at (take (d * w) bs)) (log ++ each d (λ i. record { address = address (at + i * p.bytes); bytes = p.bytes; write = true }))
-      = lanes_stored base pg p v run w refl width f same_f m now log k at z bs refl (whole_small (v.bits / 8) z buf long same small) given d on
+      = lanes_stored base pg whole p v run w refl width f same_f m now log k at z bs refl (whole_small (v.bits / 8) z buf long same small) given d on
       (λ j b.
       let below : k * w + j < v.bits / 8 = omega (arith, b, sum, inside) in
-      sym (same (k * w + j) below) ∙ sym (ap (λ (xs : List ℕ). get_or xs j 0) whole ∙ get_or-take (d * w) (drop (k * w) buf) j 0 b ∙ get_or-drop (k * w) buf j 0))
+      sym (same (k * w + j) below) ∙ sym (ap (λ (xs : List ℕ). get_or xs j 0) piece ∙ get_or-take (d * w) (drop (k * w) buf) j 0 b ∙ get_or-drop (k * w) buf j 0))
       (omega (arith, count)) (omega (arith, sum, long, inside))
       (λ i b. part_allowed now at (length bs) i w Write free (omega (arith, b, count))) at_first in
       let all : take (d * w) bs ≡ bs = take_all (d * w) bs (omega (arith, count)) in
       subst (λ (l : List Access). AreStored f m (elements_below (layout_of p v) (k + d)) next l) (sym noted)
       (subst (λ (x : Memory). AreStored f m (elements_below (layout_of p v) (k + d)) x (log ++ each d (λ i. record { address = address (at + i * p.bytes); bytes = p.bytes; write = true }))) (sym written)
       (subst (λ (xs : List ℕ). AreStored f m (elements_below (layout_of p v) (k + d)) (with_bytes now at xs) (log ++ each d (λ i. record { address = address (at + i * p.bytes); bytes = p.bytes; write = true }))) all stored_so))
-
--- the lanes of the first n words
-pub active_lanes : (e n d k : ℕ) (on : ℕ → Bool) → IsLaneSize e → d ≡ n * (64 / e) → ((j : ℕ) → 8 * 0 ≤ j → j < 8 * (0 + n) → on (j / (e / 8)) ≡ true) → k < d → on k ≡ true
-active_lanes e n d k on size lanes h b =
-    let w : ℕ = e / 8 in
-    let total : d * (e / 8) ≡ 8 * n = ap (λ d. d * w) lanes ∙ times n (64 / e) w (word_lanes e size) in
-    let up : suc k ≤ d = omega (arith, b) in
-    let high : suc k * w ≤ d * w = mul-le-mul_right w up in
-    let more : suc k * w ≡ k * w + w = omega arith in
-    let some : 0 < w = some_bytes e size in
-    subst (λ k. on k ≡ true) (lane_again e k size) (h (k * w) (omega arith) (omega (arith, high, more, some, total)))

@@ -34,7 +34,7 @@ fn has_element(plan: &Plan, vec: &VecRegs) -> bool
 }
 
 /// Whether SP is tested: it is the base, and a lane has an element.
-fn tests_sp(plan: &Plan, vec: &VecRegs) -> bool
+pub fn tests_sp(plan: &Plan, vec: &VecRegs) -> bool
     requires { IsPlan plan.now vec.now }
     ensures { result ≡ tests_sp plan.now.has_sp_base (elements_of (layout_of plan.now vec.now)) }
 {

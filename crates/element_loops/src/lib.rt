@@ -3,14 +3,16 @@
 #![tactic(auto)]
 
 mod access;
+mod border;
 mod fields;
 mod line;
 mod line_store;
 mod listing;
 mod loading;
 mod noting;
-mod place;
+pub mod place;
 mod plan;
+mod repeated;
 mod run;
 mod run_store;
 pub mod sizes;
@@ -18,6 +20,7 @@ mod storing;
 mod values;
 mod words;
 
-pub use access::{load, store};
+pub use access::{load, store, tests_sp};
 pub use listing::elements;
 pub use plan::{OnLanes, Places, Plan, Target};
+pub use run::load_run;

@@ -1,119 +1,100 @@
-//! Loads of elements that are one behind the other and aren't lanes as they are: extended ones, and those of structures.
-ghost use Rattle.std.specs.Prelude.{◌≡◌, ◌≤◌, ◌<◌, ◌+◌, ◌*◌, ◌/◌, ◌%◌, ℕ, [], true, false, length};
-ghost use Rattle.emu_model.specs.WithinPage.{number_in};
+//! Loads of elements that are one behind the other: lanes as they are, extended ones, and those of structures.
+ghost use Rattle.std.specs.Prelude.{◌≡◌, ◌≤◌, ◌<◌, ◌+◌, ◌*◌, ◌/◌, ◌%◌, ℕ, [], true, false, length, if◌then◌else◌};
+ghost use Rattle.emu_model.specs.Elements.{accesses_of};
 ghost use Rattle.vec_model.specs.Lanes.{with_lanes};
-ghost use Rattle.sve_effects.specs.ElementLoop.{is_active};
 ghost use Rattle.sve_effects.specs.VectorElements.{elements_of};
 ghost use Rattle.element_access.specs.ReachLaws.{AreLoaded};
+ghost use Rattle.element_words.specs.Placed.{lane_at};
 ghost use Rattle.element_loops.specs.Layouts.{IsPlan, layout_of};
 ghost use Rattle.element_loops.specs.Planned.{loaded_by};
-ghost use Rattle.element_loops.specs.Runs.{IsLine, lane_in};
+ghost use Rattle.element_loops.specs.Runs.{IsLine, is_kept, lane_in};
 ghost use Rattle.element_loops.specs.Values.{with_taken};
 ghost use Rattle.element_loops.specs.declared.plan.Target.{Target};
 
-use crate::fields::active_from;
+use crate::border::joined;
 use crate::noting::note;
-use crate::place::{is_on, most_elements, position, register_at};
+use crate::place::register_at;
 use crate::plan::Plan;
 use crate::run::Run;
-use arrayvec::ArrayVec;
-use byteorder::{ByteOrder, LittleEndian};
-use element_access::extended;
-use emu_bits::Pred;
+use crate::words::keep_active;
+use element_words::put_words;
+use emu_bits::{Pred, Reg};
 use guest_mem::{AccessLog, Kind, Mem};
 use vec_regs::VecRegs;
 
-/// The little-endian number of n bytes from a place on.
-fn number_at(bytes: &[u8], at: usize, n: u32) -> u64
-    requires some { 1 ≤ n }
-    requires most { n ≤ 8 }
-    requires room { at + n ≤ length bytes.now }
-    ensures { result ≡ number_in bytes.now at n }
-{
-    match n {
-        1 => u64::from(bytes[at]),
-        2 => u64::from(LittleEndian::read_u16(&bytes[at..at + 2])),
-        4 => u64::from(LittleEndian::read_u32(&bytes[at..at + 4])),
-        _ => LittleEndian::read_uint(&bytes[at..at + n as usize], n as usize),
-    }
-}
-
-/// What lane k of the j-th register gets of the bytes of all elements.
-fn lane_in(plan: &Plan, vec: &VecRegs, bytes: &[u8], k: u32, j: u32) -> u64
-    requires plan { IsPlan plan.now vec.now }
-    requires lane { k < plan.now.lanes }
-    requires register { j < plan.now.registers }
-    requires room { plan.now.lanes * plan.now.registers * plan.now.bytes ≤ length bytes.now }
-    ensures { result ≡ lane_in bytes.now plan.now vec.now j k }
-{
-    if !is_on(plan, vec, k) {
-        return 0;
-    }
-    let at = (position(plan, vec, k, j) * plan.bytes) as usize;
-    let v = number_at(bytes, at, plan.bytes);
-    extended(plan.is_signed, plan.bits, plan.bytes, v)
-}
-
-/// Writes the j-th register, of at most N lanes, from the bytes of all elements. It isn't inlined, so that its buffer takes no time
-/// where it isn't used.
-#[inline(never)]
-fn set_register<const N: usize>(plan: &Plan, vec: &mut VecRegs, bytes: &[u8], j: u32)
-    requires most { N ≤ 256 }
+/// Writes a register whose lane k is the element at place `at + k * step` among bytes, or 0 where the lane isn't kept.
+pub(crate) fn set_placed(
+    plan: &Plan,
+    vec: &mut VecRegs,
+    bytes: &[u8],
+    pg: Pred,
+    whole: u32,
+    at: usize,
+    step: usize,
+    zd: Reg,
+)
     requires plan { IsPlan plan.now vec.old }
-    requires lanes { plan.now.lanes ≡ vec.old.bits / plan.now.bits }
-    requires few { plan.now.lanes ≤ N }
-    requires register { j < plan.now.registers }
-    requires room { plan.now.lanes * plan.now.registers * plan.now.bytes ≤ length bytes.now }
+    requires few { whole ≤ vec.old.bits / 64 }
+    requires room { (k : ℕ) → k < vec.old.bits / plan.now.bits → at + k * step + plan.now.bytes ≤ length bytes.now }
     // whatever function gives the lanes
-    ensures { (f : ℕ → ℕ) → ((k : ℕ) → k < plan.now.lanes → f k ≡ lane_in bytes.now plan.now vec.old j k)
-        → vec.new ≡ with_lanes plan.now.bits f ((plan.now.register + j) % 32) vec.old }
+    ensures { (f : ℕ → ℕ) → ((k : ℕ) → k < vec.old.bits / plan.now.bits → f k ≡ (if is_kept whole pg plan.now.bits vec.old k then lane_at plan.now.is_signed plan.now.bits plan.now.bytes bytes.now at step k else 0))
+        → vec.new ≡ with_lanes plan.now.bits f zd vec.old }
 {
-    let mut lanes: ArrayVec<u64, N> = ArrayVec::new();
-    for k in 0..plan.lanes {
-        lanes.push(lane_in(plan, vec, bytes, k, j));
-    }
-    vec.set_lanes(plan.bits, register_at(plan, j), &lanes);
+    let count = vec.length().bits() / 64;
+    let mut words = [0; 32];
+    put_words(
+        plan.bits,
+        plan.bytes,
+        plan.is_signed,
+        bytes,
+        at,
+        step,
+        count as usize,
+        &mut words,
+    );
+    keep_active(vec, pg, plan.bits, whole, count, &mut words);
+    vec.set_z_words(zd, &words);
 }
 
 /// Writes the j-th register from the bytes of all elements.
-fn set_lanes_of(plan: &Plan, vec: &mut VecRegs, bytes: &[u8], j: u32)
+fn set_register(plan: &Plan, vec: &mut VecRegs, bytes: &[u8], line: &Run, j: u32)
     requires plan { IsPlan plan.now vec.old }
     requires lanes { plan.now.lanes ≡ vec.old.bits / plan.now.bits }
     requires register { j < plan.now.registers }
     requires room { plan.now.lanes * plan.now.registers * plan.now.bytes ≤ length bytes.now }
+    requires few { line.now.whole ≤ vec.old.bits / 64 }
     // whatever function gives the lanes
-    ensures { (f : ℕ → ℕ) → ((k : ℕ) → k < plan.now.lanes → f k ≡ lane_in bytes.now plan.now vec.old j k)
+    ensures { (f : ℕ → ℕ) → ((k : ℕ) → k < plan.now.lanes → f k ≡ lane_in bytes.now plan.now line.now.pg line.now.whole vec.old j k)
         → vec.new ≡ with_lanes plan.now.bits f ((plan.now.register + j) % 32) vec.old }
 {
-    let _length = vec.length();
-    if plan.lanes <= 64 {
-        set_register::<64>(plan, vec, bytes, j)
-    } else {
-        set_register::<256>(plan, vec, bytes, j)
-    }
+    let pg = line.pg;
+    let at = (j * plan.bytes) as usize;
+    let step = (plan.registers * plan.bytes) as usize;
+    set_placed(
+        plan,
+        vec,
+        bytes,
+        pg,
+        line.whole,
+        at,
+        step,
+        register_at(plan, j),
+    );
 }
 
 /// Writes all registers from the bytes of all elements.
-fn set_registers(plan: &Plan, vec: &mut VecRegs, bytes: &[u8])
+fn set_registers(plan: &Plan, vec: &mut VecRegs, bytes: &[u8], line: &Run)
     requires plan { IsPlan plan.now vec.old }
     requires target { plan.now.target ≡ Target.Registers }
     requires room { plan.now.lanes * plan.now.registers * plan.now.bytes ≤ length bytes.now }
+    requires few { line.now.whole ≤ vec.old.bits / 64 }
     // whatever function gives the lanes
-    ensures { (f : ℕ → ℕ → ℕ) → ((j k : ℕ) → j < plan.now.registers → k < plan.now.lanes → f j k ≡ lane_in bytes.now plan.now vec.old j k)
+    ensures { (f : ℕ → ℕ → ℕ) → ((j k : ℕ) → j < plan.now.registers → k < plan.now.lanes → f j k ≡ lane_in bytes.now plan.now line.now.pg line.now.whole vec.old j k)
         → vec.new ≡ with_taken plan.now.bits f plan.now.register plan.now.registers vec.old }
 {
     for j in 0..plan.registers {
-        set_lanes_of(plan, vec, bytes, j);
+        set_register(plan, vec, bytes, line, j);
     }
-}
-
-/// Whether all lanes are active.
-pub(crate) fn are_all_on(plan: &Plan, vec: &VecRegs, pg: Pred) -> bool
-    requires plan { IsPlan plan.now vec.now }
-    ensures { result ≡ true → (k : ℕ) → k < plan.now.lanes → is_active plan.now.bits vec.now pg k ≡ true }
-{
-    let lanes = vec.length().bits() / plan.bits;
-    active_from(vec, pg, plan.bits, 0, lanes) == lanes
 }
 
 /// The bytes of the elements of all lanes.
@@ -125,38 +106,27 @@ pub(crate) fn total_bytes(plan: &Plan, vec: &VecRegs) -> usize
     (plan.lanes * plan.registers * plan.bytes) as usize
 }
 
-/// Loads the elements of one register and writes it, where the elements of all lanes are in a page that may be read, and says whether
-/// it did. Else nothing is changed.
-pub(crate) fn take_extended(
-    plan: &Plan,
-    vec: &mut VecRegs,
-    mem: &mut Mem,
-    log: &mut AccessLog,
-    line: &Run,
-) -> bool
+/// Loads the elements from bytes that are theirs, and writes the registers.
+fn take_bytes(plan: &Plan, vec: &mut VecRegs, bytes: &[u8], log: &mut AccessLog, line: &Run)
     requires plan { IsPlan plan.now vec.old }
-    requires line { IsLine line.now.base line.now.pg plan.now }
-    requires one { plan.now.registers ≡ 1 }
+    requires line { IsLine line.now.base line.now.pg line.now.whole plan.now vec.old }
+    requires target { plan.now.target ≡ Target.Registers }
+    requires room { plan.now.lanes * plan.now.registers * plan.now.bytes ≤ length bytes.now }
     requires empty { log.old.items ≡ [] }
-    ensures loaded { result ≡ true → AreLoaded mem.old (elements_of (layout_of plan.now vec.old)) log.new.items }
-    ensures registers { result ≡ true → vec.new ≡ loaded_by plan.now.target plan.now.is_signed (layout_of plan.now vec.old) mem.old vec.old }
-    ensures kept { result ≡ false → vec.new ≡ vec.old }
-    ensures unlogged { result ≡ false → log.new ≡ log.old }
-    ensures memory { mem.new ≡ mem.old }
+    ensures logged { log.new.items ≡ accesses_of false (elements_of (layout_of plan.now vec.old)) }
+    // whatever function gives the lanes
+    ensures registers { (f : ℕ → ℕ → ℕ) → ((j k : ℕ) → j < plan.now.registers → k < plan.now.lanes → f j k ≡ lane_in bytes.now plan.now line.now.pg line.now.whole vec.old j k)
+        → vec.new ≡ with_taken plan.now.bits f plan.now.register plan.now.registers vec.old }
 {
-    let total = total_bytes(plan, vec);
-    match mem.slice_at(line.base, total, Kind::Read) {
-        Some(bytes) if bytes.len() == total => {
-            note(plan, vec, line, log, false);
-            set_registers(plan, vec, bytes);
-            true
-        }
-        _ => false,
-    }
+    let _length = vec.length();
+    note(plan, vec, line, log, false);
+    set_registers(plan, vec, bytes, line);
 }
 
-/// The same of several registers, where all lanes are on.
-pub(crate) fn take_structures(
+/// Loads the elements that end in the next page, and writes the registers, where both pages may be read, and says whether it did. Else
+/// nothing is changed. It isn't inlined, so that its buffer takes no time where it isn't used.
+#[inline(never)]
+fn take_across(
     plan: &Plan,
     vec: &mut VecRegs,
     mem: &mut Mem,
@@ -164,7 +134,8 @@ pub(crate) fn take_structures(
     line: &Run,
 ) -> bool
     requires plan { IsPlan plan.now vec.old }
-    requires line { IsLine line.now.base line.now.pg plan.now }
+    requires line { IsLine line.now.base line.now.pg line.now.whole plan.now vec.old }
+    requires target { plan.now.target ≡ Target.Registers }
     requires empty { log.old.items ≡ [] }
     ensures loaded { result ≡ true → AreLoaded mem.old (elements_of (layout_of plan.now vec.old)) log.new.items }
     ensures registers { result ≡ true → vec.new ≡ loaded_by plan.now.target plan.now.is_signed (layout_of plan.now vec.old) mem.old vec.old }
@@ -172,16 +143,43 @@ pub(crate) fn take_structures(
     ensures unlogged { result ≡ false → log.new ≡ log.old }
     ensures memory { mem.new ≡ mem.old }
 {
-    if !are_all_on(plan, vec, line.pg) {
+    let total = total_bytes(plan, vec);
+    if total > 1024 {
         return false;
     }
+    let mut bytes = [0u8; 1024];
+    if !joined(mem, line.base, total, &mut bytes) {
+        return false;
+    }
+    take_bytes(plan, vec, &bytes[..total], log, line);
+    true
+}
+
+/// Loads the elements and writes the registers, where the elements of all lanes are in pages that may be read, and says whether it
+/// did. Else nothing is changed.
+pub(crate) fn take_line(
+    plan: &Plan,
+    vec: &mut VecRegs,
+    mem: &mut Mem,
+    log: &mut AccessLog,
+    line: &Run,
+) -> bool
+    requires plan { IsPlan plan.now vec.old }
+    requires line { IsLine line.now.base line.now.pg line.now.whole plan.now vec.old }
+    requires target { plan.now.target ≡ Target.Registers }
+    requires empty { log.old.items ≡ [] }
+    ensures loaded { result ≡ true → AreLoaded mem.old (elements_of (layout_of plan.now vec.old)) log.new.items }
+    ensures registers { result ≡ true → vec.new ≡ loaded_by plan.now.target plan.now.is_signed (layout_of plan.now vec.old) mem.old vec.old }
+    ensures kept { result ≡ false → vec.new ≡ vec.old }
+    ensures unlogged { result ≡ false → log.new ≡ log.old }
+    ensures memory { mem.new ≡ mem.old }
+{
     let total = total_bytes(plan, vec);
     match mem.slice_at(line.base, total, Kind::Read) {
         Some(bytes) if bytes.len() == total => {
-            log.push_run(line.base, plan.bytes, most_elements(plan, vec), false);
-            set_registers(plan, vec, bytes);
+            take_bytes(plan, vec, bytes, log, line);
             true
         }
-        _ => false,
+        _ => take_across(plan, vec, mem, log, line),
     }
 }

@@ -1,19 +1,17 @@
 //! Stores of runs.
-ghost use Rattle.std.specs.Prelude.{◌≡◌, ◌≤◌, ◌<◌, ◌+◌, ◌*◌, ◌/◌, ◌%◌, ℕ, [], MatchResult, None, true, false, get_or, length};
+ghost use Rattle.std.specs.Prelude.{◌≡◌, ◌≤◌, ◌<◌, ◌+◌, ◌*◌, ◌/◌, ◌%◌, ℕ, [], IfOk, MatchResult, true, get_or, length};
 ghost use Rattle.arrayvec.specs.ArrayVec.{array_vec_len};
-ghost use Rattle.emu_model.specs.declared.access.Kind.{Kind};
-ghost use Rattle.emu_model.specs.Access.{Memory, address, refused};
-ghost use Rattle.emu_model.specs.Pages.{with_bytes};
-ghost use Rattle.sve_effects.specs.ElementLoop.{is_active};
-ghost use Rattle.vec_model.specs.Lanes.{read_z};
+ghost use Rattle.emu_model.specs.Access.{Memory, address};
+ghost use Rattle.vec_model.specs.Lanes.{IsLaneSize, read_z};
 ghost use Rattle.sve_effects.specs.VectorElements.{elements_below, elements_of};
 ghost use Rattle.element_access.specs.ReachLaws.{AreStored, StopsStore};
 ghost use Rattle.element_loops.specs.Layouts.{IsPlan, layout_of};
 ghost use Rattle.element_loops.specs.Planned.{stored_by};
 ghost use Rattle.element_loops.specs.Runs.{IsRun};
 
-use crate::fields::active_from;
-use crate::place::{position, register_at};
+use crate::border::put_bytes;
+use crate::fields::{active_from, lanes_of_word};
+use crate::place::{is_on, register_at};
 use crate::plan::Plan;
 use crate::run::Run;
 use crate::storing::put_lane;
@@ -22,40 +20,16 @@ use emu_bits::Reg;
 use guest_mem::{AccessLog, Mem};
 use vec_regs::VecRegs;
 
-/// The bytes of a register.
-fn register_bytes(vec: &VecRegs, r: Reg) -> [u8; 256]
-    ensures bytes { (j : ℕ) → j < vec.now.bits / 8 → get_or result j 0 ≡ get_or (read_z vec.now r) j 0 }
-    ensures count { length result ≡ 256 }
+/// Puts the bytes of a register into a buffer.
+fn put_register(vec: &VecRegs, r: Reg, bytes: &mut [u8])
+    requires { length bytes.old ≡ 256 }
+    ensures bytes { (j : ℕ) → j < vec.now.bits / 8 → get_or bytes.new j 0 ≡ get_or (read_z vec.now r) j 0 }
+    ensures count { length bytes.new ≡ 256 }
     ensures whole { length (read_z vec.now r) ≡ vec.now.bits / 8 }
 {
     let words = vec.z_words(r);
-    let mut bytes = [0u8; 256];
     for i in 0..vec.length().bits() as usize / 64 {
         bytes[8 * i..8 * i + 8].copy_from_slice(&words[i].to_le_bytes());
-    }
-    bytes
-}
-
-/// How many lanes a word has.
-pub(crate) fn lanes_of_word(plan: &Plan, vec: &VecRegs) -> u32
-    requires plan { IsPlan plan.now vec.now }
-    ensures value { result ≡ 64 / plan.now.bits }
-    ensures few { result ≤ 8 }
-{
-    let _length = vec.length();
-    64 / plan.bits
-}
-
-/// Writes bytes that fit their page, where it may be written, and says whether it may.
-pub(crate) fn put_bytes(mem: &mut Mem, at: u64, bytes: &[u8]) -> bool
-    requires { at % 4096 + length bytes.now ≤ 4096 }
-    ensures allowed { result ≡ true → refused mem.old at (length bytes.now) Kind.Write ≡ None }
-    ensures written { result ≡ true → mem.new ≡ with_bytes mem.old at bytes.now }
-    ensures kept { result ≡ false → mem.new ≡ mem.old }
-{
-    match mem.write_at(at, bytes) {
-        Some(_) => true,
-        None => false,
     }
 }
 
@@ -72,10 +46,10 @@ fn put_lanes(
     d: u32,
 ) -> u32
     requires plan { IsPlan plan.now vec.now }
-    requires run { IsRun run.now.base run.now.pg plan.now }
+    requires run { IsRun run.now.base run.now.pg run.now.whole plan.now vec.now }
     requires within { k + d ≤ plan.now.lanes }
     requires fits { address (run.now.base + k * plan.now.bytes) % 4096 + d * plan.now.bytes ≤ 4096 }
-    requires on { (i : ℕ) → k ≤ i → i < k + d → is_active plan.now.bits vec.now run.now.pg i ≡ true }
+    requires on { (i : ℕ) → k ≤ i → i < k + d → let l = layout_of plan.now vec.now in l.is_on i ≡ true }
     requires bytes { (j : ℕ) → j < vec.now.bits / 8 → get_or bytes.now j 0 ≡ get_or (read_z vec.now ((plan.now.register + 0) % 32)) j 0 }
     requires whole { length (read_z vec.now ((plan.now.register + 0) % 32)) ≡ vec.now.bits / 8 }
     requires long { length bytes.now ≡ 256 }
@@ -98,6 +72,46 @@ fn put_lanes(
     0
 }
 
+/// How many of so many lanes, of n bytes each, from an address on end in its page.
+fn lanes_in_page(at: u64, n: u32, lanes: u32) -> u32
+    requires some { 1 ≤ n }
+    requires most { n ≤ 8 }
+    requires lanes { lanes ≤ 256 }
+    ensures few { result ≤ lanes }
+    ensures fits { at % 4096 + result * n ≤ 4096 }
+{
+    if at % 4096 + u64::from(lanes * n) <= 4096 {
+        return lanes;
+    }
+    (((4096 - at % 4096) / u64::from(n)) as u32).min(lanes)
+}
+
+/// How many of at most so many lanes from lane k on are of the first words, so many.
+fn front_lanes(e: u32, whole: u32, k: u32, most: u32) -> u32
+    requires size { IsLaneSize e }
+    requires words { whole ≤ 32 }
+    ensures few { result ≤ most }
+    ensures before { 0 < result → k + result ≤ whole * (64 / e) }
+    ensures behind { result < most → whole * (64 / e) ≤ k + result }
+{
+    let front = whole * lanes_of_word(e);
+    if k < front { most.min(front - k) } else { 0 }
+}
+
+/// How many of at most so many lanes from lane k on have an element, before the first that may have none.
+fn lanes_on(plan: &Plan, vec: &VecRegs, run: &Run, k: u32, most: u32) -> u32
+    requires plan { IsPlan plan.now vec.now }
+    requires run { IsRun run.now.base run.now.pg run.now.whole plan.now vec.now }
+    requires within { k + most ≤ plan.now.lanes }
+    ensures on { (i : ℕ) → k ≤ i → i < k + result → let l = layout_of plan.now vec.now in l.is_on i ≡ true }
+    ensures few { result ≤ most }
+{
+    let _length = vec.length();
+    let pg = run.pg;
+    let first = front_lanes(plan.bits, run.whole, k, most);
+    first + active_from(vec, pg, plan.bits, k + first, most - first)
+}
+
 /// Stores the lanes of a register from lane k on up to the first that isn't on, as far as they are in one page, where it may be
 /// written, and answers how many were stored.
 fn put_some(
@@ -110,7 +124,7 @@ fn put_some(
     k: u32,
 ) -> u32
     requires plan { IsPlan plan.now vec.now }
-    requires run { IsRun run.now.base run.now.pg plan.now }
+    requires run { IsRun run.now.base run.now.pg run.now.whole plan.now vec.now }
     requires within { k < plan.now.lanes }
     requires bytes { (j : ℕ) → j < vec.now.bits / 8 → get_or bytes.now j 0 ≡ get_or (read_z vec.now ((plan.now.register + 0) % 32)) j 0 }
     requires whole { length (read_z vec.now ((plan.now.register + 0) % 32)) ≡ vec.now.bits / 8 }
@@ -124,14 +138,52 @@ fn put_some(
         → AreStored (stored_by plan.now.target l vec.now) m (elements_below l (k + result)) mem.new log.new.items }
 {
     let _length = vec.length();
-    let pg = run.pg;
     let at = run.base.wrapping_add(u64::from(k * plan.bytes));
-    let room = ((4096 - at % 4096) / u64::from(plan.bytes)) as u32;
-    let d = active_from(vec, pg, plan.bits, k, room.min(plan.lanes - k));
+    let room = lanes_in_page(at, plan.bytes, plan.lanes - k);
+    let d = lanes_on(plan, vec, run, k, room);
     if d == 0 {
         return 0;
     }
     put_lanes(plan, vec, mem, log, run, bytes, k, d)
+}
+
+/// Stores as many lanes from lane k on as `put_some` does, or else lane k by itself, which may be off, and answers how many lanes are
+/// done.
+fn put_next(
+    plan: &Plan,
+    vec: &VecRegs,
+    mem: &mut Mem,
+    log: &mut AccessLog,
+    run: &Run,
+    bytes: &[u8],
+    k: u32,
+) -> Result<u32, Trap>
+    requires plan { IsPlan plan.now vec.now }
+    requires run { IsRun run.now.base run.now.pg run.now.whole plan.now vec.now }
+    requires within { k < plan.now.lanes }
+    requires bytes { (j : ℕ) → j < vec.now.bits / 8 → get_or bytes.now j 0 ≡ get_or (read_z vec.now ((plan.now.register + 0) % 32)) j 0 }
+    requires whole { length (read_z vec.now ((plan.now.register + 0) % 32)) ≡ vec.now.bits / 8 }
+    requires long { length bytes.now ≡ 256 }
+    requires count { array_vec_len log.old ≤ k }
+    ensures some { IfOk result (λ d. 1 ≤ d) }
+    ensures few { IfOk result (λ d. k + d ≤ plan.now.lanes) }
+    // whatever the memory was before the first store
+    ensures stored { (m : Memory) → let l = layout_of plan.now vec.now in
+        AreStored (stored_by plan.now.target l vec.now) m (elements_below l k) mem.old log.old.items
+        → MatchResult result (λ d. AreStored (stored_by plan.now.target l vec.now) m (elements_below l (k + d)) mem.new log.new.items)
+        (λ trap. StopsStore (stored_by plan.now.target l vec.now) m (elements_of l) mem.new log.new.items trap) }
+{
+    if !is_on(plan, vec, k) {
+        return Ok(1);
+    }
+    let lanes = put_some(plan, vec, mem, log, run, bytes, k);
+    if lanes > 0 {
+        return Ok(lanes);
+    }
+    match put_lane(plan, vec, mem, log, k) {
+        Ok(()) => Ok(1),
+        Err(trap) => Err(trap),
+    }
 }
 
 /// Stores a run.
@@ -143,22 +195,20 @@ pub(crate) fn store_run(
     run: &Run,
 ) -> Result<(), Trap>
     requires plan { IsPlan plan.now vec.now }
-    requires run { IsRun run.now.base run.now.pg plan.now }
+    requires run { IsRun run.now.base run.now.pg run.now.whole plan.now vec.now }
     requires empty { log.old.items ≡ [] }
     ensures { let l = layout_of plan.now vec.now in MatchResult result
         (λ x. AreStored (stored_by plan.now.target l vec.now) mem.old (elements_of l) mem.new log.new.items)
         (λ trap. StopsStore (stored_by plan.now.target l vec.now) mem.old (elements_of l) mem.new log.new.items trap) }
 {
-    let bytes = register_bytes(vec, register_at(plan, 0));
+    let _length = vec.length();
+    let mut bytes = [0u8; 256];
+    put_register(vec, register_at(plan, 0), &mut bytes);
     let mut k = 0;
     while k < plan.lanes {
-        let _room = position(plan, vec, k, 0);
-        let lanes = put_some(plan, vec, mem, log, run, &bytes, k);
-        if lanes == 0 {
-            put_lane(plan, vec, mem, log, k)?;
-            k += 1;
-        } else {
-            k += lanes;
+        match put_next(plan, vec, mem, log, run, &bytes, k) {
+            Ok(lanes) => k += lanes,
+            Err(trap) => return Err(trap),
         }
     }
     Ok(())

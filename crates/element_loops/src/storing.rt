@@ -140,7 +140,7 @@ pub(crate) fn store_values(
         (λ x. AreStored (stored_by plan.now.target l vec.now) mem.old (elements_of l) mem.new log.new.items)
         (λ trap. StopsStore (stored_by plan.now.target l vec.now) mem.old (elements_of l) mem.new log.new.items trap) }
 {
-    match run_of(plan) {
+    match run_of(plan, vec) {
         Some(run) => store_run(plan, vec, mem, log, &run),
         None => {
             if store_line(plan, vec, mem, log) {

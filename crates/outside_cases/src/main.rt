@@ -7,9 +7,10 @@
 //! - `x0` to `x30`, `sp`, `pc`, `tpidr`, `nzcv` with four binary digits, and `z0` to `z31`, `p0` to `p15` and `ffr` with all
 //!   their digits, the most significant first; registers that aren't given are 0 before;
 //! - before the step `monitor=ADDRESS:BYTES`, `page=ADDRESS:RIGHTS`, a mapped page, and `mem=ADDRESS:DIGITS`, bytes of it;
-//! - after the step `mem=ADDRESS:DIGITS`, bytes that differ, and `trap=KIND:ADDRESS`. Where no `pc` and no trap is given it
-//!   goes on behind the word. The monitor is compared where it is given, which may be `none`, and so is `accesses=COUNT`, the number of the
-//!   elements that were loaded or stored.
+//! - after the step `mem=ADDRESS:DIGITS`, bytes that differ, and `trap=KIND:ADDRESS`. Where no `pc` and no trap is given
+//!   it goes on behind the word. The monitor is compared where it is given, which may be `none`, and so is
+//!   `accesses=COUNT`, the number of the elements that were loaded or stored. A first-faulting or non-faulting load is
+//!   done twice, at once where that is possible and element by element.
 //!
 //! A line of three columns is a word, the name of the form of its row, or `-` where it is in no row, and the text that a
 //! disassembler has for it, which is there for the reader alone.
@@ -20,16 +21,19 @@ mod state;
 mod sve_names;
 mod words;
 
+ghost use Rattle.std.specs.Prelude.{◌≡◌, [], true, false};
+ghost use Rattle.sve_effects.specs.VectorLoadStore.{is_first_fault};
+
 use crate::state::State;
 use crate::words::line_agrees;
 use a64_insn::A64;
-use core_regs::Effect;
-use guest_mem::AccessLog;
+use core_regs::{Core, Effect};
+use guest_mem::{AccessLog, Mem};
 use insn_decode::{Insn, decode};
 use std::alloc::Global;
 use std::io;
 use sve_insn::{Sve, SveForm};
-use vec_regs::Length;
+use vec_regs::{Length, VecRegs};
 
 /// Does an instruction by the crate of its row. None where its row doesn't run.
 fn effect_of(state: &mut State, insn: &Insn) -> Option<Effect> {
@@ -74,11 +78,11 @@ fn memory_effect(state: &mut State, insn: &Sve) -> Option<Effect> {
     } else if sve_gather::is_own(insn) {
         sve_gather::exec(core, vec, memory, &mut log, insn)
     } else if sve_ffr::is_own(insn) {
-        let list = match insn.form() {
-            SveForm::LoadFf { .. } | SveForm::LoadNf { .. } => sve_loads::elements(core, vec, insn),
-            _ => sve_gather::elements(core, vec, insn),
-        };
-        sve_ffr::exec(core, vec, memory, &mut log, insn, &list)
+        if load_unrefused(core, vec, memory, &mut log, insn) {
+            Effect::Next
+        } else {
+            load_listed(core, vec, memory, &mut log, insn)
+        }
     } else {
         return None;
     };
@@ -86,10 +90,69 @@ fn memory_effect(state: &mut State, insn: &Sve) -> Option<Effect> {
     Some(effect)
 }
 
+/// Does a first-faulting or non-faulting load at once, and says whether it did.
+fn load_unrefused(
+    core: &Core,
+    vec: &mut VecRegs,
+    memory: &mut Mem,
+    log: &mut AccessLog,
+    insn: &Sve,
+) -> bool
+    requires own { is_first_fault insn.now ≡ true }
+    requires empty { log.old.items ≡ [] }
+    ensures unlogged { result ≡ false → log.new.items ≡ [] }
+{
+    match insn.form() {
+        SveForm::LoadFf { .. } | SveForm::LoadNf { .. } => {
+            sve_loads::load_unrefused(core, vec, memory, log, insn)
+        }
+        _ => sve_gather::load_unrefused(core, vec, memory, log, insn),
+    }
+}
+
+/// Does a first-faulting or non-faulting load element by element.
+fn load_listed(
+    core: &mut Core,
+    vec: &mut VecRegs,
+    memory: &mut Mem,
+    log: &mut AccessLog,
+    insn: &Sve,
+) -> Effect
+    requires own { is_first_fault insn.now ≡ true }
+    requires empty { log.old.items ≡ [] }
+{
+    let list = match insn.form() {
+        SveForm::LoadFf { .. } | SveForm::LoadNf { .. } => sve_loads::elements(core, vec, insn),
+        _ => sve_gather::elements(core, vec, insn),
+    };
+    sve_ffr::exec(core, vec, memory, log, insn, &list)
+}
+
 /// Does an instruction, and goes on as its effect says. None where its row doesn't run, or it is a call.
 fn step(state: &mut State, insn: &Insn) -> Option<()> {
+    let effect = effect_of(state, insn)?;
+    go_on(state, effect)
+}
+
+/// Does a first-faulting or non-faulting load element by element, and goes on as its effect says. None where it is
+/// none.
+fn step_listed(state: &mut State, insn: &Insn) -> Option<()> {
+    match insn {
+        Insn::Sve(insn) if sve_ffr::is_own(insn) => {
+            let (core, vec, memory) = (&mut state.core, &mut state.vec, &mut state.memory);
+            let mut log = AccessLog::new();
+            let effect = load_listed(core, vec, memory, &mut log, insn);
+            state.accesses = Some(log.as_slice().len());
+            go_on(state, effect)
+        }
+        _ => None,
+    }
+}
+
+/// Goes on as an effect says. None where it is a call.
+fn go_on(state: &mut State, effect: Effect) -> Option<()> {
     let pc = state.core.pc();
-    match effect_of(state, insn)? {
+    match effect {
         Effect::Next => state.core.set_pc(pc.wrapping_add(4)),
         Effect::Branch(target) => state.core.set_pc(target),
         Effect::Trap(trap) => state.trap = Some(trap),
@@ -129,7 +192,9 @@ fn agrees(alloc: Global, line: &str) -> Option<bool> {
     step(&mut state, &insn)?;
     let has_monitor = after.split(' ').any(|item| item.starts_with("monitor="));
     let is_monitor = !has_monitor || state.core.monitor() == wanted.core.monitor();
-    Some(is_monitor && state.is_same(&wanted))
+    let mut listed = State::read(alloc, word, length, before)?;
+    let is_listed = step_listed(&mut listed, &insn).is_none() || listed.is_same(&wanted);
+    Some(is_monitor && is_listed && state.is_same(&wanted))
 }
 
 /// How many lines there are of a kind, and how many of them differ.

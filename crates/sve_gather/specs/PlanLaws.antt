@@ -8,8 +8,10 @@ use Rattle.emu_model.specs.Access.{Memory}
 use Rattle.emu_model.specs.State.{Core, Vectors}
 use Rattle.sve_effects.specs.VectorElements.{layout}
 use Rattle.sve_effects.specs.VectorLoadStore.{vector_load, vector_store, is_gather, is_scatter, loads_signed}
+use Rattle.sve_effects.specs.FirstFault.{first_fault, is_non_fault}
 use Rattle.element_loops.specs.Layouts.{layout_of}
 use Rattle.element_loops.specs.Planned.{load_by, store_by}
+use Rattle.unrefused_loads.specs.FirstFaultPlan.{first_fault_by}
 use Rattle.sve_gather.specs.Plans.{plan_of, is_first_gather, has_gather_plan}
 
 pub gather_planned : (form : SveForm) (c : Core) (v : Vectors) (m : Memory) → is_gather form ≡ true → load_by (plan_of form c v) c v m ≡ vector_load form c v m
@@ -124,3 +126,15 @@ first_single (GatherDScaled msz zm u ff pg rn zt) c v h = refl
 first_single (GatherSv msz imm5 u ff pg zn zt) c v h = refl
 first_single (GatherDv msz imm5 u ff pg zn zt) c v h = refl
 first_single form c v h = absurd (both_ways false refl h)
+
+-- and its load
+pub first_loaded : (form : SveForm) (c : Core) (v : Vectors) (m : Memory) → is_first_gather form ≡ true → first_fault_by (is_non_fault form) (plan_of form c v) c v m ≡ first_fault form c v m
+first_loaded (GatherSx msz xs zm u ff pg rn zt) c v m h = refl
+first_loaded (GatherSxScaled msz xs zm u ff pg rn zt) c v m h = refl
+first_loaded (GatherDx msz xs zm u ff pg rn zt) c v m h = refl
+first_loaded (GatherDxScaled msz xs zm u ff pg rn zt) c v m h = refl
+first_loaded (GatherD msz zm u ff pg rn zt) c v m h = refl
+first_loaded (GatherDScaled msz zm u ff pg rn zt) c v m h = refl
+first_loaded (GatherSv msz imm5 u ff pg zn zt) c v m h = refl
+first_loaded (GatherDv msz imm5 u ff pg zn zt) c v m h = refl
+first_loaded form c v m h = absurd (both_ways false refl h)

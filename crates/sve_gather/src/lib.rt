@@ -1,9 +1,11 @@
-//! SVE gathers and scatters, and the elements of first-faulting gathers.
+//! SVE gathers and scatters; and first-faulting gathers: their elements, and the load where no element is refused.
 #![tactic(auto)]
 
 mod plans;
 
-ghost use Rattle.std.specs.Prelude.{◌≡◌, ◌||◌, [], true};
+ghost use Rattle.std.specs.Prelude.{◌≡◌, ◌||◌, [], true, false};
+ghost use Rattle.emu_model.specs.declared.trap.Effect.{Effect};
+ghost use Rattle.sve_effects.specs.FirstFault.{first_fault};
 ghost use Rattle.sve_effects.specs.VectorElements.{layout, vector_elements};
 ghost use Rattle.sve_effects.specs.VectorLoadStore.{vector_load, vector_store, is_gather, is_scatter, loads_signed};
 ghost use Rattle.element_loops.specs.Listed.{listed};
@@ -64,7 +66,7 @@ fn load(core: &Core, vec: &mut VecRegs, mem: &mut Mem, log: &mut AccessLog, i: &
         ≡ record { core = core.now; vectors = vec.new; memory = mem.new; accesses = log.new.items; effect = result } }
 {
     let plan = plans::plan(core, vec, i);
-    element_loops::load(&plan, core, vec, mem, log)
+    gather_loops::load(&plan, core, vec, mem, log)
 }
 
 /// Does a scatter.
@@ -76,7 +78,7 @@ fn store(core: &Core, vec: &VecRegs, mem: &mut Mem, log: &mut AccessLog, i: &Sve
         ≡ record { core = core.now; vectors = vec.now; memory = mem.new; accesses = log.new.items; effect = result } }
 {
     let plan = plans::plan(core, vec, i);
-    element_loops::store(&plan, core, vec, mem, log)
+    gather_loops::store(&plan, core, vec, mem, log)
 }
 
 /// Does an instruction of this crate's rows, and says how the step goes on. The elements that were loaded or stored are logged in
@@ -112,4 +114,26 @@ pub fn elements(core: &Core, vec: &VecRegs, i: &Sve) -> ElementList
     ensures is_signed { result.signed ≡ loads_signed i.now }
 {
     element_loops::elements(&plans::plan(core, vec, i), vec)
+}
+
+/// Does a first-faulting gather where FFR is all ones and it can be seen that no element is refused, and says whether
+/// it did. Else nothing is changed.
+#[tactic(auto, using(crate::specs::PlanLaws::first_gathers))]
+pub fn load_unrefused(
+    core: &Core,
+    vec: &mut VecRegs,
+    mem: &mut Mem,
+    log: &mut AccessLog,
+    i: &Sve,
+) -> bool
+    requires own { is_first_gather i.now ≡ true }
+    requires empty { log.old.items ≡ [] }
+    ensures loaded { result ≡ true → first_fault i.now core.now vec.old mem.old
+        ≡ record { core = core.now; vectors = vec.new; memory = mem.new; accesses = log.new.items; effect = Effect.Next } }
+    ensures kept { result ≡ false → vec.new ≡ vec.old }
+    ensures unlogged { result ≡ false → log.new.items ≡ [] }
+    ensures memory { mem.new ≡ mem.old }
+{
+    let plan = plans::plan(core, vec, i);
+    unrefused_loads::load_gather(&plan, core, vec, mem, log)
 }

@@ -1,7 +1,7 @@
 //! The plans of gathers and scatters.
-ghost use Rattle.std.specs.Prelude.{◌≡◌, ◌*◌, ◌^◌, true};
+ghost use Rattle.std.specs.Prelude.{◌≡◌, ◌⊎◌, ◌*◌, ◌^◌, true};
 ghost use Rattle.emu_model.specs.State.{read_x_sp};
-ghost use Rattle.vec_model.specs.Lanes.{IsLaneSize};
+ghost use Rattle.gather_loops.specs.Gathers.{IsGather};
 ghost use Rattle.element_loops.specs.declared.plan.Places.{Places};
 ghost use Rattle.element_loops.specs.Layouts.{IsPlan};
 ghost use Rattle.sve_gather.specs.Plans as table;
@@ -24,8 +24,9 @@ fn scattered(
     is_signed: bool,
     has_sp_base: bool,
 ) -> Plan
-    requires { IsLaneSize bits }
+    requires { (bits ≡ 32) ⊎ (bits ≡ 64) }
     ensures plan { IsPlan result vec.now }
+    ensures gather { IsGather result }
     ensures value { result ≡ table.scattered_plan bits (2 ^ msz) zt pg places is_signed has_sp_base vec.now }
 {
     Plan {
@@ -80,6 +81,7 @@ fn vector(zn: Reg, imm5: U<5>, msz: U<2>) -> Places
 pub(crate) fn plan(core: &Core, vec: &VecRegs, i: &Sve) -> Plan
     requires { table.has_gather_plan i.now ≡ true }
     ensures plan { IsPlan result vec.now }
+    ensures gather { IsGather result }
     ensures value { result ≡ table.plan_of i.now core.now vec.now }
 {
     match *i.form() {

@@ -8,8 +8,10 @@ use Rattle.emu_model.specs.Access.{Memory}
 use Rattle.emu_model.specs.State.{Core, Vectors}
 use Rattle.sve_effects.specs.VectorElements.{layout}
 use Rattle.sve_effects.specs.VectorLoadStore.{vector_load, vector_store, loads_signed, is_contiguous_load, is_contiguous_store}
+use Rattle.sve_effects.specs.FirstFault.{first_fault, is_non_fault}
 use Rattle.element_loops.specs.Layouts.{layout_of}
 use Rattle.element_loops.specs.Planned.{load_by, store_by}
+use Rattle.unrefused_loads.specs.FirstFaultPlan.{first_fault_by}
 use Rattle.sve_loads.specs.Plans.{load_plan, store_plan, first_plan, is_first_contiguous}
 
 pub load_planned : (form : SveForm) (c : Core) (v : Vectors) (m : Memory) → is_contiguous_load form ≡ true → load_by (load_plan form c v) c v m ≡ vector_load form c v m
@@ -67,3 +69,9 @@ pub first_bytes : (form : SveForm) (c : Core) (v : Vectors) → is_first_contigu
 first_bytes (LoadFf dtype rm pg rn zt) c v h = refl
 first_bytes (LoadNf dtype imm4 pg rn zt) c v h = refl
 first_bytes form c v h = absurd (both_ways false refl h)
+
+-- and its load
+pub first_loaded : (form : SveForm) (c : Core) (v : Vectors) (m : Memory) → is_first_contiguous form ≡ true → first_fault_by (is_non_fault form) (first_plan form c v) c v m ≡ first_fault form c v m
+first_loaded (LoadFf dtype rm pg rn zt) c v m h = refl
+first_loaded (LoadNf dtype imm4 pg rn zt) c v m h = refl
+first_loaded form c v m h = absurd (both_ways false refl h)

@@ -1,5 +1,5 @@
 //! SVE loads and stores of consecutive elements: contiguous ones, of structures, of whole registers, replicated and repeated; and
-//! the elements of contiguous first-faulting and non-faulting loads.
+//! contiguous first-faulting and non-faulting loads: their elements, and the load where no element is refused.
 #![tactic(auto)]
 
 mod bases;
@@ -7,7 +7,9 @@ mod plans;
 mod rows;
 mod shape;
 
-ghost use Rattle.std.specs.Prelude.{◌≡◌, ◌||◌, [], true};
+ghost use Rattle.std.specs.Prelude.{◌≡◌, ◌||◌, [], true, false};
+ghost use Rattle.emu_model.specs.declared.trap.Effect.{Effect};
+ghost use Rattle.sve_effects.specs.FirstFault.{first_fault};
 ghost use Rattle.sve_effects.specs.VectorElements.{layout, vector_elements};
 ghost use Rattle.sve_effects.specs.VectorLoadStore.{vector_load, vector_store, is_contiguous_load, is_contiguous_store, loads_signed};
 ghost use Rattle.element_loops.specs.Listed.{listed};
@@ -120,4 +122,25 @@ pub fn elements(core: &Core, vec: &VecRegs, i: &Sve) -> ElementList
     ensures is_signed { result.signed ≡ loads_signed i.now }
 {
     element_loops::elements(&rows::first_plan(core, vec, i), vec)
+}
+
+/// Does a contiguous first-faulting or non-faulting load where FFR is all ones and it can be seen that no element is
+/// refused, and says whether it did. Else nothing is changed.
+pub fn load_unrefused(
+    core: &Core,
+    vec: &mut VecRegs,
+    mem: &mut Mem,
+    log: &mut AccessLog,
+    i: &Sve,
+) -> bool
+    requires own { is_first_contiguous i.now ≡ true }
+    requires empty { log.old.items ≡ [] }
+    ensures loaded { result ≡ true → first_fault i.now core.now vec.old mem.old
+        ≡ record { core = core.now; vectors = vec.new; memory = mem.new; accesses = log.new.items; effect = Effect.Next } }
+    ensures kept { result ≡ false → vec.new ≡ vec.old }
+    ensures unlogged { result ≡ false → log.new.items ≡ [] }
+    ensures memory { mem.new ≡ mem.old }
+{
+    let plan = rows::first_plan(core, vec, i);
+    unrefused_loads::load(&plan, core, vec, mem, log)
 }

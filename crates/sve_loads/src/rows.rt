@@ -2,6 +2,7 @@
 ghost use Rattle.std.specs.Prelude.{◌≡◌, ◌≤◌, ◌+◌, ◌*◌, true};
 ghost use Rattle.sve_effects.specs.VectorElements.{load_registers, store_registers};
 ghost use Rattle.sve_effects.specs.VectorLoadStore.{is_contiguous_load, is_contiguous_store};
+ghost use Rattle.element_loops.specs.declared.plan.Target.{Target};
 ghost use Rattle.element_loops.specs.Layouts.{IsPlan};
 ghost use Rattle.sve_loads.specs.Plans as table;
 
@@ -141,6 +142,7 @@ pub(crate) fn first_plan(core: &Core, vec: &VecRegs, i: &Sve) -> Plan
     ensures plan { IsPlan result vec.now }
     ensures value { result ≡ table.first_plan i.now core.now vec.now }
     ensures one { result.registers ≡ 1 }
+    ensures target { result.target ≡ Target.Registers }
 {
     match *i.form() {
         SveForm::LoadFf { dtype, rm, pg, rn, zt } => by_register(core, vec, by_dtype(dtype.get()), pg, rn, rm, zt),

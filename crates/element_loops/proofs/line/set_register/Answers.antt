@@ -1,25 +1,21 @@
-use Rattle.std.proofs.Common.{◌≡◌, ◌/◌, ℕ, List, length, ap, sym, ◌∙◌, arith}
-use Rattle.emu_model.specs.Lists.{each, each_same}
+use Rattle.std.proofs.Common.{◌≡◌, ◌<◌, ◌≤◌, ◌+◌, ◌*◌, ◌/◌, ◌%◌, ℕ, length, refl, if◌then◌else◌, ap, sym, subst, ◌∙◌, arith}
+use Rattle.emu_model.specs.WithinPage.{number_in}
+use Rattle.sve_effects.specs.Element.{extended_by}
 use Rattle.vec_model.specs.Lanes.{with_lanes}
-use Rattle.element_loops.specs.Runs.{lane_in}
-use Rattle.element_loops.proofs.Writes.{push_each}
+use Rattle.element_loops.specs.Runs.{is_kept}
+use Rattle.element_loops.proofs.Lines.{element_fits, element_placed}
 use Rattle.element_loops.proofs.line.set_register.Goals as goal
 
-pub loop-k-preserved : goal.loop-k-preserved
-loop-k-preserved o c = record {
-  count = omega (arith, c.push.ensures.len, c.loop-k.invariant.count);
-  values = push_each c.loop-k.k (lane_in c.args.bytes.now c.args.plan.now c.args.vec.now c.args.j) c.lane_in.result c.loop-k.lanes.items c.push.new.self.items c.push.ensures.items c.loop-k.invariant.values c.lane_in.ensures;
-}
-
-pub set_lanes-requires-clause-lanes : goal.set_lanes-requires-clause-lanes
-set_lanes-requires-clause-lanes o c =
-    let end : c.loop-k.k ≡ c.args.plan.now.lanes = omega (arith, c.loop-k-test.false, c.loop-k.auto.k-end) in
-    ap (λ (xs : List ℕ). length xs) c.deref.ensures.0 ∙ c.loop-k.invariant.count ∙ end ∙ c.requires.lanes
+pub set_placed-requires-clause-room : goal.set_placed-requires-clause-room
+set_placed-requires-clause-room c = λ k b.
+    let within : k < c.args.plan.now.lanes = subst (λ n. k < n) (sym c.requires.lanes) b in
+    let place : _ ≡ (k * c.args.plan.now.registers + c.args.j) * c.args.plan.now.bytes = element_placed k c.args.j c.args.plan.now.registers c.args.plan.now.bytes _ _ refl refl in
+    omega (arith, place, c.requires.room, element_fits k c.args.j c.args.plan.now.registers c.args.plan.now.lanes c.args.plan.now.bytes within c.requires.register)
 
 pub returns : goal.returns
-returns o c = λ f given.
-    let end : c.loop-k.k ≡ c.args.plan.now.lanes = omega (arith, c.loop-k-test.false, c.loop-k.auto.k-end) in
-    let g : ℕ → ℕ = lane_in c.args.bytes.now c.args.plan.now c.args.vec.now c.args.j in
-    let items : c.deref.result.now ≡ each (c.args.vec.now.bits / c.args.plan.now.bits) f
-    = c.deref.ensures.0 ∙ c.loop-k.invariant.values ∙ ap (λ n. each n g) end ∙ each_same c.args.plan.now.lanes g f 0 (λ k b. sym (given k b)) ∙ ap (λ n. each n f) c.requires.lanes in
-    c.set_lanes.ensures f items ∙ ap (λ zd. with_lanes c.args.plan.now.bits f zd c.args.vec.now) c.register_at.ensures
+returns c = λ f given.
+    c.set_placed.ensures f (λ k b.
+    given k (subst (λ n. k < n) (sym c.requires.lanes) b)
+    ∙ ap (λ a. if is_kept c.args.line.now.whole c.args.line.now.pg c.args.plan.now.bits c.args.vec.now k then extended_by c.args.plan.now.is_signed c.args.plan.now.bits (8 * c.args.plan.now.bytes) (number_in c.args.bytes.now a c.args.plan.now.bytes) else 0)
+    (sym (element_placed k c.args.j c.args.plan.now.registers c.args.plan.now.bytes _ _ refl refl)))
+    ∙ ap (λ zd. with_lanes c.args.plan.now.bits f zd c.args.vec.now) c.register_at.ensures

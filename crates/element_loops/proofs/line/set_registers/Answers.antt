@@ -1,4 +1,4 @@
-use Rattle.std.proofs.Common.{◌≡◌, ◌+◌, ◌/◌, ◌%◌, ℕ, List, refl, ap, sym, subst, ◌∙◌, arith}
+use Rattle.std.proofs.Common.{◌≡◌, ◌<◌, ◌≤◌, ◌+◌, ◌*◌, ◌/◌, ◌%◌, ℕ, Bool, true, List, get_or, [], refl, ap, sym, subst, ◌∙◌, arith}
 use Rattle.emu_model.specs.State.{Vectors}
 use Rattle.element_loops.specs.declared.plan.Target.{Target}
 use Rattle.element_loops.specs.Layouts.{IsTarget}
@@ -11,8 +11,8 @@ use Rattle.element_loops.proofs.line.set_registers.Goals as goal
 pub loop-j-init : goal.loop-j-init
 loop-j-init c = record { bits = refl; predicates = refl; taken = λ f given. none_taken c.args.plan.now.bits f c.args.plan.now.register c.args.vec.now }
 
-pub set_lanes_of-requires-clause-plan : goal.set_lanes_of-requires-clause-plan
-set_lanes_of-requires-clause-plan c =
+pub set_register-requires-clause-plan : goal.set_register-requires-clause-plan
+set_register-requires-clause-plan c =
     let lanes : c.args.plan.now.lanes ≡ c.args.vec.now.bits / c.args.plan.now.bits = subst (λ (t : Target). IsTarget t c.args.plan.now c.args.vec.now) c.requires.target c.requires.plan.target in
     let now : c.args.plan.now.lanes ≡ c.loop-j.vec.bits / c.args.plan.now.bits = lanes ∙ ap (λ n. n / c.args.plan.now.bits) (sym c.loop-j.invariant.bits) in
     record {
@@ -25,23 +25,26 @@ set_lanes_of-requires-clause-plan c =
       target = subst (λ (t : Target). IsTarget t c.args.plan.now c.loop-j.vec) (sym c.requires.target) now;
     }
 
-pub set_lanes_of-requires-clause-lanes : goal.set_lanes_of-requires-clause-lanes
-set_lanes_of-requires-clause-lanes c =
+pub set_register-requires-clause-lanes : goal.set_register-requires-clause-lanes
+set_register-requires-clause-lanes c =
     let lanes : c.args.plan.now.lanes ≡ c.args.vec.now.bits / c.args.plan.now.bits = subst (λ (t : Target). IsTarget t c.args.plan.now c.args.vec.now) c.requires.target c.requires.plan.target in
     lanes ∙ ap (λ n. n / c.args.plan.now.bits) (sym c.loop-j.invariant.bits)
+
+pub set_register-requires-clause-few : goal.set_register-requires-clause-few
+set_register-requires-clause-few c = subst (λ n. c.args.line.now.whole ≤ n / 64) (sym c.loop-j.invariant.bits) c.requires.few
 
 pub loop-j-preserved : goal.loop-j-preserved
 loop-j-preserved c =
     let j : ℕ = c.loop-j.j in
     let bs : List ℕ = c.args.bytes.now in
-    let g : ℕ → ℕ = lane_in bs c.args.plan.now c.loop-j.vec j in
+    let g : ℕ → ℕ = lane_in bs c.args.plan.now c.args.line.now.pg c.args.line.now.whole c.loop-j.vec j in
     record {
-      bits = ap (λ (v : Vectors). v.bits) (c.set_lanes_of.ensures g (λ k b. refl)) ∙ c.loop-j.invariant.bits;
-      predicates = ap (λ (v : Vectors). v.p) (c.set_lanes_of.ensures g (λ k b. refl)) ∙ c.loop-j.invariant.predicates;
+      bits = ap (λ (v : Vectors). v.bits) (c.set_register.ensures g (λ k b. refl)) ∙ c.loop-j.invariant.bits;
+      predicates = ap (λ (v : Vectors). v.p) (c.set_register.ensures g (λ k b. refl)) ∙ c.loop-j.invariant.predicates;
       taken = λ f given.
-          taken_more c.args.plan.now.bits f c.args.plan.now.register j ((c.args.plan.now.register + j) % 32) c.args.vec.now c.loop-j.vec c.set_lanes_of.new.vec
+          taken_more c.args.plan.now.bits f c.args.plan.now.register j ((c.args.plan.now.register + j) % 32) c.args.vec.now c.loop-j.vec c.set_register.new.vec
           (c.loop-j.invariant.taken f given) refl
-          (c.set_lanes_of.ensures (f j) (λ k b. given j k c.loop-j-test.true b ∙ same_lane bs c.args.plan.now c.args.vec.now c.loop-j.vec j k (sym c.loop-j.invariant.predicates)));
+          (c.set_register.ensures (f j) (λ k b. given j k c.loop-j-test.true b ∙ same_lane bs c.args.plan.now c.args.line.now.pg c.args.line.now.whole c.args.vec.now c.loop-j.vec j k (sym c.loop-j.invariant.predicates)));
     }
 
 pub returns : goal.returns

@@ -7,5 +7,5 @@ abbrev pub invariant-loop-j : goal.invariant-loop-j
 invariant-loop-j l = record {
   bits : l.vec.bits ≡ l.fn.vec.bits;
   predicates : l.vec.p ≡ l.fn.vec.p;
-  taken : (f : ℕ → ℕ → ℕ) → ((j k : ℕ) → j < l.plan.registers → k < l.plan.lanes → f j k ≡ lane_in l.bytes l.plan l.fn.vec j k) → l.vec ≡ with_taken l.plan.bits f l.plan.register l.j l.fn.vec;
+  taken : (f : ℕ → ℕ → ℕ) → ((j k : ℕ) → j < l.plan.registers → k < l.plan.lanes → f j k ≡ lane_in l.bytes l.plan l.line.pg l.line.whole l.fn.vec j k) → l.vec ≡ with_taken l.plan.bits f l.plan.register l.j l.fn.vec;
 }

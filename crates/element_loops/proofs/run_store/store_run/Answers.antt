@@ -1,6 +1,7 @@
 use Rattle.std.proofs.Common.{◌≤◌, ◌*◌, length, subst, arith}
 use Rattle.element_loops.specs.Layouts.{layout_of}
 use Rattle.element_loops.specs.Planned.{stored_by}
+use Rattle.element_loops.proofs.Kept.{most_lanes}
 use Rattle.element_loops.proofs.Stores.{stores_begin, log_count}
 use Rattle.element_loops.proofs.run_store.store_run.Goals as goal
 
@@ -10,9 +11,14 @@ loop-k-init c = record {
   stored = stores_begin (stored_by c.args.plan.now.target (layout_of c.args.plan.now c.args.vec.now) c.args.vec.now) (layout_of c.args.plan.now c.args.vec.now) c.args.mem.now c.args.log.now.items c.requires.empty;
 }
 
-pub put_some-lanes-requires-clause-count : goal.put_some-lanes-requires-clause-count
-put_some-lanes-requires-clause-count c =
+pub put_next-requires-clause-count : goal.put_next-requires-clause-count
+put_next-requires-clause-count c =
     let n : length c.loop-k.log.items ≤ c.loop-k.k * c.args.plan.now.registers
     = log_count (stored_by c.args.plan.now.target (layout_of c.args.plan.now c.args.vec.now) c.args.vec.now) (layout_of c.args.plan.now c.args.vec.now) c.args.mem.now c.loop-k.k c.loop-k.mem c.loop-k.log.items c.loop-k.invariant.stored in
     let m : length c.loop-k.log.items ≤ c.loop-k.k * 1 = subst (λ r. length c.loop-k.log.items ≤ c.loop-k.k * r) c.requires.run.one n in
     omega (arith, m)
+
+pub overflow_add-k : goal.overflow_add-k
+overflow_add-k c =
+    let most : c.args.plan.now.lanes ≤ 256 = most_lanes c.args.plan.now.bits c.args.vec.now.bits c.args.plan.now.lanes c.requires.plan.size c.length-length.ensures.length c.requires.plan.lanes in
+    record { fits = omega (arith, c.in-Ok.ensures.few, most) }

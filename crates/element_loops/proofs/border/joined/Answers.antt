@@ -1,0 +1,17 @@
+use Rattle.std.proofs.Common.{◌≡◌, ◌+◌, ◌%◌, ◌^◌, None, get_or, refl, ap, sym, ◌∙◌}
+use Rattle.emu_model.specs.declared.access.Kind.TheVariants.{Read}
+use Rattle.emu_model.specs.Access.{Memory, refused}
+use Rattle.emu_model.specs.Pages.{bytes_at}
+use Rattle.element_loops.proofs.RunLoads.{joined_allowed, joined_bytes}
+use Rattle.element_loops.proofs.border.joined.Goals as goal
+
+pub returns-clause-allowed : goal.returns-clause-allowed
+returns-clause-allowed c = λ is.
+    let second : refused c.args.mem.now ((c.args.base + c.in-Some.first) % 2 ^ 64) c.in-Some-copy_part.rest Read ≡ None = ap (λ (m : Memory). refused m ((c.args.base + c.in-Some.first) % 2 ^ 64) c.in-Some-copy_part.rest Read) (sym c.copy_part.ensures.memory) ∙ c.in-Some-copy_part.ensures.allowed in
+    joined_allowed c.args.mem.now Read c.args.base c.args.total c.in-Some.first c.in-Some-copy_part.rest ((c.args.base + c.in-Some.first) % 2 ^ 64) c.in-Some.ensures.allowed second refl c.in-Some.ensures.few c.in-Some-copy_part.ensures.few c.if-first-rest.false
+
+pub returns-clause-bytes : goal.returns-clause-bytes
+returns-clause-bytes c = λ is.
+    joined_bytes c.args.mem.now c.args.base c.args.total c.in-Some.first c.in-Some-copy_part.rest ((c.args.base + c.in-Some.first) % 2 ^ 64) c.copy_part.new.bytes c.copy_part-2.new.bytes refl c.in-Some.ensures.few c.in-Some-copy_part.ensures.few c.if-first-rest.false
+    c.in-Some.ensures.here c.in-Some-copy_part.ensures.before
+    (λ j b. c.in-Some-copy_part.ensures.here j b ∙ ap (λ (m : Memory). get_or (bytes_at m ((c.args.base + c.in-Some.first) % 2 ^ 64) c.in-Some-copy_part.rest) j 0) c.copy_part.ensures.memory)

@@ -1,0 +1,86 @@
+//! Bytes over a page border.
+ghost use Rattle.std.specs.Prelude.{◌≡◌, ◌≤◌, ◌<◌, ◌+◌, ◌%◌, ℕ, None, IfSome, true, false, get_or, length};
+ghost use Rattle.emu_model.specs.declared.access.Kind.{Kind};
+ghost use Rattle.emu_model.specs.Access.{refused};
+ghost use Rattle.emu_model.specs.Pages.{bytes_at, with_bytes};
+
+use guest_mem::{Kind, Mem};
+
+/// Copies the bytes from an address on, up to the end of its page and at most `most`, to a place of a buffer, and answers how many
+/// they are. None where the page may not be read.
+fn copy_part(mem: &mut Mem, at: u64, most: usize, bytes: &mut [u8], place: usize) -> Option<usize>
+    requires { place + most ≤ length bytes.old }
+    ensures few { IfSome result (λ n. n ≤ most) }
+    ensures allowed { IfSome result (λ n. refused mem.old at n Kind.Read ≡ None) }
+    ensures here { IfSome result (λ n. (j : ℕ) → j < n → get_or bytes.new (place + j) 0 ≡ get_or (bytes_at mem.old at n) j 0) }
+    ensures before { (j : ℕ) → j < place → get_or bytes.new j 0 ≡ get_or bytes.old j 0 }
+    ensures long { length bytes.new ≡ length bytes.old }
+    ensures memory { mem.new ≡ mem.old }
+{
+    match mem.slice_at(at, most, Kind::Read) {
+        Some(part) => {
+            let n = part.len();
+            bytes[place..place + n].copy_from_slice(part);
+            Some(n)
+        }
+        None => None,
+    }
+}
+
+/// Fills the first `total` places of a buffer with the bytes from an address on, which end in its page or in the next, and says whether
+/// they may be read.
+pub(crate) fn joined(mem: &mut Mem, base: u64, total: usize, bytes: &mut [u8]) -> bool
+    requires { total ≤ length bytes.old }
+    ensures allowed { result ≡ true → refused mem.old base total Kind.Read ≡ None }
+    ensures bytes { result ≡ true → (j : ℕ) → j < total → get_or bytes.new j 0 ≡ get_or (bytes_at mem.old base total) j 0 }
+    ensures long { length bytes.new ≡ length bytes.old }
+    ensures memory { mem.new ≡ mem.old }
+{
+    let Some(first) = copy_part(mem, base, total, bytes, 0) else {
+        return false;
+    };
+    let at = base.wrapping_add(first as u64);
+    let Some(rest) = copy_part(mem, at, total - first, bytes, first) else {
+        return false;
+    };
+    if first + rest < total {
+        return false;
+    }
+    true
+}
+
+/// Writes bytes that fit their page, where it may be written, and says whether it may.
+pub(crate) fn put_bytes(mem: &mut Mem, at: u64, bytes: &[u8]) -> bool
+    requires { at % 4096 + length bytes.now ≤ 4096 }
+    ensures allowed { result ≡ true → refused mem.old at (length bytes.now) Kind.Write ≡ None }
+    ensures written { result ≡ true → mem.new ≡ with_bytes mem.old at bytes.now }
+    ensures kept { result ≡ false → mem.new ≡ mem.old }
+    ensures sure { 0 < length bytes.now → refused mem.old at (length bytes.now) Kind.Write ≡ None → result ≡ true }
+{
+    match mem.write_at(at, bytes) {
+        Some(_) => true,
+        None => false,
+    }
+}
+
+/// Writes bytes that end in their page or in the next, where both may be written, and says whether they may.
+pub(crate) fn put_over(mem: &mut Mem, at: u64, bytes: &[u8]) -> bool
+    requires { length bytes.now ≤ 4096 }
+    ensures allowed { result ≡ true → refused mem.old at (length bytes.now) Kind.Write ≡ None }
+    ensures written { result ≡ true → mem.new ≡ with_bytes mem.old at bytes.now }
+    ensures kept { result ≡ false → mem.new ≡ mem.old }
+{
+    let first = (4096 - at % 4096) as usize;
+    if bytes.len() <= first {
+        return put_bytes(mem, at, bytes);
+    }
+    let next = at.wrapping_add(first as u64);
+    if !mem.may_write(next) {
+        return false;
+    }
+    if !put_bytes(mem, at, &bytes[..first]) {
+        return false;
+    }
+    put_bytes(mem, next, &bytes[first..]);
+    true
+}

@@ -1,0 +1,253 @@
+//! Gathers.
+ghost use Rattle.std.specs.Prelude.{ℕ, ◌≡◌, ◌≤◌, ◌<◌, ◌+◌, ◌*◌, ◌/◌, ◌++◌, ◌∷◌, [], ⊤, MatchResult, None, Some, false, true};
+ghost use Rattle.arrayvec.specs.ArrayVec.{array_vec_len};
+ghost use Rattle.emu_model.specs.Access.{Memory, refused, value};
+ghost use Rattle.emu_model.specs.Elements.{reach};
+ghost use Rattle.emu_model.specs.State.{Core as CoreState};
+ghost use Rattle.emu_model.specs.declared.access.Kind.{Kind};
+ghost use Rattle.emu_model.specs.declared.trap.TrapKind.{TrapKind};
+ghost use Rattle.sve_effects.specs.VectorElements.{elements_below, elements_of};
+ghost use Rattle.sve_effects.specs.VectorLoadStore.{loaded_to};
+ghost use Rattle.element_access.specs.ReachLaws.{AreLoaded, StopsLoad};
+ghost use Rattle.element_loops.specs.Layouts.{IsPlan, layout_of};
+ghost use Rattle.element_loops.specs.Planned.{load_by, loaded_by};
+ghost use Rattle.vec_regs.specs.Words.{AreZeroFrom};
+ghost use Rattle.gather_loops.specs.Gathers.{AreWords, IsGather, lane_value, word_of_lanes};
+
+use core_regs::{Core, Effect, Trap};
+use element_access::{extended, load_here, test_sp};
+use element_loops::place::{address, is_on, position, register_at};
+use element_loops::{Plan, tests_sp};
+use guest_mem::{AccessLog, Mem};
+use vec_regs::VecRegs;
+
+/// The little-endian number of n bytes, n at most 8, and logs the access. A trap logs nothing.
+#[inline(always)]
+fn load_number(mem: &mut Mem, log: &mut AccessLog, at: u64, n: u32) -> Result<u64, Trap>
+    requires some { 1 ≤ n }
+    requires most { n ≤ 8 }
+    requires room { array_vec_len log.old < 1024 }
+    ensures result { MatchResult result (λ v. (refused mem.old at n Kind.Read ≡ None) × (v ≡ value mem.old at n))
+        (λ trap. (trap.kind ≡ TrapKind.Read) × (refused mem.old at n Kind.Read ≡ Some trap.address)) }
+    ensures memory { mem.new ≡ mem.old }
+    ensures log { MatchResult result
+        (λ v. log.new.items ≡ log.old.items ++ record { address = at; bytes = n; write = false } ∷ [])
+        (λ trap. log.new.items ≡ log.old.items) }
+{
+    let v = load_here(mem, log, at, n)?;
+    Ok(v as u64)
+}
+
+/// Loads the element of a lane, which has n bytes, and extends it to the lane: 0 where the lane has none.
+#[inline(always)]
+fn load_lane(
+    plan: &Plan,
+    vec: &VecRegs,
+    mem: &mut Mem,
+    log: &mut AccessLog,
+    k: u32,
+    n: u32,
+) -> Result<u64, Trap>
+    requires plan { IsPlan plan.now vec.now }
+    requires one { plan.now.registers ≡ 1 }
+    requires within { k < plan.now.lanes }
+    requires bytes { n ≡ plan.now.bytes }
+    requires loaded { AreLoaded mem.old (elements_below (layout_of plan.now vec.now) k) log.old.items }
+    ensures loaded { let l = layout_of plan.now vec.now in MatchResult result
+        (λ v. AreLoaded mem.old (elements_below l (k + 1)) log.new.items)
+        (λ trap. StopsLoad mem.old (elements_of l) log.new.items trap) }
+    ensures value { MatchResult result (λ v. v ≡ lane_value plan.now vec.now mem.old k) (λ trap. ⊤) }
+    ensures memory { mem.new ≡ mem.old }
+{
+    let _room = position(plan, vec, k, 0);
+    if !is_on(plan, vec, k) {
+        return Ok(0);
+    }
+    let at = address(plan, vec, k, 0);
+    match load_number(mem, log, at, n) {
+        Ok(v) => Ok(extended(plan.is_signed, plan.bits, n, v)),
+        Err(trap) => Err(trap),
+    }
+}
+
+/// The word of a lane of 64 bits.
+#[inline(always)]
+fn one_lane(lane: u64) -> u64
+    // whatever function gives the lanes
+    ensures { (f : ℕ → ℕ) (i : ℕ) → lane ≡ f i → result ≡ word_of_lanes 64 f i }
+{
+    lane
+}
+
+/// The word of two lanes of 32 bits, the first the lower.
+#[inline(always)]
+fn two_lanes(low: u64, high: u64) -> u64
+    // whatever function gives the lanes
+    ensures { (f : ℕ → ℕ) (i : ℕ) → low ≡ f (2 * i) → high ≡ f (2 * i + 1) → result ≡ word_of_lanes 32 f i }
+{
+    low % 0x1_0000_0000 + high % 0x1_0000_0000 * 0x1_0000_0000
+}
+
+/// Loads the elements of the lanes of word i of the register, n bytes each.
+#[inline(always)]
+fn load_word(
+    plan: &Plan,
+    vec: &VecRegs,
+    mem: &mut Mem,
+    log: &mut AccessLog,
+    i: u32,
+    n: u32,
+) -> Result<u64, Trap>
+    requires plan { IsPlan plan.now vec.now }
+    requires gather { IsGather plan.now }
+    requires within { i < vec.now.bits / 64 }
+    requires bytes { n ≡ plan.now.bytes }
+    requires loaded { AreLoaded mem.old (elements_below (layout_of plan.now vec.now) (i * (64 / plan.now.bits))) log.old.items }
+    ensures loaded { let l = layout_of plan.now vec.now in MatchResult result
+        (λ word. AreLoaded mem.old (elements_below l ((i + 1) * (64 / plan.now.bits))) log.new.items)
+        (λ trap. StopsLoad mem.old (elements_of l) log.new.items trap) }
+    ensures word { MatchResult result (λ word. word ≡ word_of_lanes plan.now.bits (lane_value plan.now vec.now mem.old) i) (λ trap. ⊤) }
+    ensures memory { mem.new ≡ mem.old }
+{
+    let _length = vec.length();
+    if plan.bits == 64 {
+        let word = load_lane(plan, vec, mem, log, i, n)?;
+        return Ok(one_lane(word));
+    }
+    let low = load_lane(plan, vec, mem, log, 2 * i, n)?;
+    let high = load_lane(plan, vec, mem, log, 2 * i + 1, n)?;
+    Ok(two_lanes(low, high))
+}
+
+/// Loads all elements in order, n bytes each, and makes the words of the register, or stops at the first that is
+/// refused.
+#[inline(always)]
+fn load_words(
+    plan: &Plan,
+    vec: &VecRegs,
+    mem: &mut Mem,
+    log: &mut AccessLog,
+    words: &mut [u64; 32],
+    n: u32,
+) -> Result<(), Trap>
+    requires plan { IsPlan plan.now vec.now }
+    requires gather { IsGather plan.now }
+    requires bytes { n ≡ plan.now.bytes }
+    requires zero { AreWords plan.now vec.now mem.old 0 words.old }
+    requires empty { log.old.items ≡ [] }
+    ensures loaded { let l = layout_of plan.now vec.now in MatchResult result
+        (λ x. AreLoaded mem.old (elements_of l) log.new.items)
+        (λ trap. StopsLoad mem.old (elements_of l) log.new.items trap) }
+    ensures words { MatchResult result (λ x. AreWords plan.now vec.now mem.old (vec.now.bits / 64) words.new) (λ trap. ⊤) }
+    ensures memory { mem.new ≡ mem.old }
+{
+    let plan = *plan;
+    for i in 0..vec.length().bits() / 64 {
+        words[i as usize] = load_word(&plan, vec, mem, log, i, n)?;
+    }
+    Ok(())
+}
+
+/// The same, with the usual numbers of bytes as constants in the loop.
+fn load_all(
+    plan: &Plan,
+    vec: &VecRegs,
+    mem: &mut Mem,
+    log: &mut AccessLog,
+    words: &mut [u64; 32],
+) -> Result<(), Trap>
+    requires plan { IsPlan plan.now vec.now }
+    requires gather { IsGather plan.now }
+    requires zero { AreWords plan.now vec.now mem.old 0 words.old }
+    requires empty { log.old.items ≡ [] }
+    ensures loaded { let l = layout_of plan.now vec.now in MatchResult result
+        (λ x. AreLoaded mem.old (elements_of l) log.new.items)
+        (λ trap. StopsLoad mem.old (elements_of l) log.new.items trap) }
+    ensures words { MatchResult result (λ x. AreWords plan.now vec.now mem.old (vec.now.bits / 64) words.new) (λ trap. ⊤) }
+    ensures memory { mem.new ≡ mem.old }
+{
+    match plan.bytes {
+        1 => load_words(plan, vec, mem, log, words, 1),
+        2 => load_words(plan, vec, mem, log, words, 2),
+        4 => load_words(plan, vec, mem, log, words, 4),
+        8 => load_words(plan, vec, mem, log, words, 8),
+        n => load_words(plan, vec, mem, log, words, n),
+    }
+}
+
+/// Writes the words of the register.
+fn write(plan: &Plan, vec: &mut VecRegs, words: &[u64; 32])
+    requires plan { IsPlan plan.now vec.old }
+    requires gather { IsGather plan.now }
+    requires above { AreZeroFrom (vec.old.bits / 64) words.now }
+    // whatever the memory was that they were loaded from
+    ensures { (m : Memory) → AreWords plan.now vec.old m (vec.old.bits / 64) words.now
+        → vec.new ≡ loaded_by plan.now.target plan.now.is_signed (layout_of plan.now vec.old) m vec.old }
+{
+    let _length = vec.length();
+    vec.set_z_words(register_at(plan, 0), words);
+}
+
+/// Loads all elements and then writes the register.
+fn load_register(plan: &Plan, vec: &mut VecRegs, mem: &mut Mem, log: &mut AccessLog) -> Effect
+    requires plan { IsPlan plan.now vec.old }
+    requires gather { IsGather plan.now }
+    requires empty { log.old.items ≡ [] }
+    ensures { (c : CoreState) → loaded_to (reach mem.old Kind.Read (elements_of (layout_of plan.now vec.old))) (loaded_by plan.now.target plan.now.is_signed (layout_of plan.now vec.old) mem.old vec.old) c vec.old mem.old
+        ≡ record { core = c; vectors = vec.new; memory = mem.new; accesses = log.new.items; effect = result } }
+{
+    let mut words = [0u64; 32];
+    match load_all(plan, vec, mem, log, &mut words) {
+        Ok(()) => {
+            write(plan, vec, &words);
+            Effect::Next
+        }
+        Err(trap) => Effect::Trap(trap),
+    }
+}
+
+/// Loads all elements and then writes the register, and says how the step goes on. The elements that were loaded are
+/// logged in order. A trap changes no register.
+pub fn load(
+    plan: &Plan,
+    core: &Core,
+    vec: &mut VecRegs,
+    mem: &mut Mem,
+    log: &mut AccessLog,
+) -> Effect
+    requires plan { IsPlan plan.now vec.old }
+    requires gather { IsGather plan.now }
+    requires empty { log.old.items ≡ [] }
+    ensures { load_by plan.now core.now vec.old mem.old
+        ≡ record { core = core.now; vectors = vec.new; memory = mem.new; accesses = log.new.items; effect = result } }
+{
+    if let Err(trap) = test_sp(core, tests_sp(plan, vec)) {
+        return Effect::Trap(trap);
+    }
+    load_register(plan, vec, mem, log)
+}
+
+/// Loads all elements and then writes the register, where none of them is refused, and says whether it did. Else
+/// nothing is changed.
+pub fn load_unrefused(plan: &Plan, vec: &mut VecRegs, mem: &mut Mem, log: &mut AccessLog) -> bool
+    requires plan { IsPlan plan.now vec.old }
+    requires gather { IsGather plan.now }
+    requires empty { log.old.items ≡ [] }
+    ensures loaded { result ≡ true → AreLoaded mem.old (elements_of (layout_of plan.now vec.old)) log.new.items }
+    ensures registers { result ≡ true → vec.new ≡ loaded_by plan.now.target plan.now.is_signed (layout_of plan.now vec.old) mem.old vec.old }
+    ensures kept { result ≡ false → vec.new ≡ vec.old }
+    ensures unlogged { result ≡ false → log.new.items ≡ [] }
+    ensures memory { mem.new ≡ mem.old }
+{
+    let mut words = [0u64; 32];
+    match load_all(plan, vec, mem, log, &mut words) {
+        Ok(()) => {
+            write(plan, vec, &words);
+            true
+        }
+        Err(_) => {
+            log.clear();
+            false
+        }
+    }
+}

@@ -1,0 +1,140 @@
+//! Scatters.
+ghost use Rattle.std.specs.Prelude.{◌≡◌, ◌≤◌, ◌<◌, ◌+◌, ◌*◌, ◌/◌, [], MatchResult};
+ghost use Rattle.arrayvec.specs.ArrayVec.{array_vec_len};
+ghost use Rattle.emu_model.specs.Access.{Memory};
+ghost use Rattle.sve_effects.specs.VectorElements.{elements_below, elements_of};
+ghost use Rattle.element_access.specs.ReachLaws.{AreStored, StopsStore};
+ghost use Rattle.element_loops.specs.Layouts.{IsPlan, layout_of};
+ghost use Rattle.element_loops.specs.Planned.{store_by, stored_by};
+ghost use Rattle.gather_loops.specs.Gathers.{IsGather};
+
+use core_regs::{Core, Effect, Trap};
+use element_access::{store_here, test_sp};
+use element_loops::place::{address, is_on, position, register_at};
+use element_loops::{Plan, tests_sp};
+use guest_mem::{AccessLog, Mem};
+use vec_regs::VecRegs;
+
+/// Stores the element of a lane, which has n bytes, if the lane has one.
+#[inline(always)]
+fn store_lane(
+    plan: &Plan,
+    vec: &VecRegs,
+    mem: &mut Mem,
+    log: &mut AccessLog,
+    k: u32,
+    n: u32,
+) -> Result<(), Trap>
+    requires plan { IsPlan plan.now vec.now }
+    requires gather { IsGather plan.now }
+    requires within { k < plan.now.lanes }
+    requires bytes { n ≡ plan.now.bytes }
+    requires count { array_vec_len log.old ≤ k }
+    ensures count { array_vec_len log.new ≤ k + 1 }
+    // whatever the memory was before the first store
+    ensures stored { (m : Memory) → let l = layout_of plan.now vec.now in
+        AreStored (stored_by plan.now.target l vec.now) m (elements_below l k) mem.old log.old.items
+        → MatchResult result (λ x. AreStored (stored_by plan.now.target l vec.now) m (elements_below l (k + 1)) mem.new log.new.items)
+        (λ trap. StopsStore (stored_by plan.now.target l vec.now) m (elements_of l) mem.new log.new.items trap) }
+{
+    let _room = position(plan, vec, k, 0);
+    if !is_on(plan, vec, k) {
+        return Ok(());
+    }
+    let at = address(plan, vec, k, 0);
+    let v = vec.lane(register_at(plan, 0), plan.bits, k);
+    match store_here(mem, log, u128::from(v), at, n) {
+        Ok(()) => Ok(()),
+        Err(trap) => Err(trap),
+    }
+}
+
+/// Stores the elements of the lanes of word i of the register, n bytes each.
+#[inline(always)]
+fn store_word(
+    plan: &Plan,
+    vec: &VecRegs,
+    mem: &mut Mem,
+    log: &mut AccessLog,
+    i: u32,
+    n: u32,
+) -> Result<(), Trap>
+    requires plan { IsPlan plan.now vec.now }
+    requires gather { IsGather plan.now }
+    requires within { i < vec.now.bits / 64 }
+    requires bytes { n ≡ plan.now.bytes }
+    requires count { array_vec_len log.old ≤ i * (64 / plan.now.bits) }
+    ensures count { array_vec_len log.new ≤ (i + 1) * (64 / plan.now.bits) }
+    // whatever the memory was before the first store
+    ensures stored { (m : Memory) → let l = layout_of plan.now vec.now in
+        AreStored (stored_by plan.now.target l vec.now) m (elements_below l (i * (64 / plan.now.bits))) mem.old log.old.items
+        → MatchResult result (λ x. AreStored (stored_by plan.now.target l vec.now) m (elements_below l ((i + 1) * (64 / plan.now.bits))) mem.new log.new.items)
+        (λ trap. StopsStore (stored_by plan.now.target l vec.now) m (elements_of l) mem.new log.new.items trap) }
+{
+    let _length = vec.length();
+    if plan.bits == 64 {
+        return store_lane(plan, vec, mem, log, i, n);
+    }
+    store_lane(plan, vec, mem, log, 2 * i, n)?;
+    store_lane(plan, vec, mem, log, 2 * i + 1, n)
+}
+
+/// Stores all elements in order, n bytes each, or stops at the first that is refused.
+#[inline(always)]
+fn store_words(
+    plan: &Plan,
+    vec: &VecRegs,
+    mem: &mut Mem,
+    log: &mut AccessLog,
+    n: u32,
+) -> Result<(), Trap>
+    requires plan { IsPlan plan.now vec.now }
+    requires gather { IsGather plan.now }
+    requires bytes { n ≡ plan.now.bytes }
+    requires empty { log.old.items ≡ [] }
+    ensures { let l = layout_of plan.now vec.now in MatchResult result
+        (λ x. AreStored (stored_by plan.now.target l vec.now) mem.old (elements_of l) mem.new log.new.items)
+        (λ trap. StopsStore (stored_by plan.now.target l vec.now) mem.old (elements_of l) mem.new log.new.items trap) }
+{
+    let plan = *plan;
+    for i in 0..vec.length().bits() / 64 {
+        store_word(&plan, vec, mem, log, i, n)?;
+    }
+    Ok(())
+}
+
+/// The same, with the usual numbers of bytes as constants in the loop.
+fn store_all(plan: &Plan, vec: &VecRegs, mem: &mut Mem, log: &mut AccessLog) -> Result<(), Trap>
+    requires plan { IsPlan plan.now vec.now }
+    requires gather { IsGather plan.now }
+    requires empty { log.old.items ≡ [] }
+    ensures { let l = layout_of plan.now vec.now in MatchResult result
+        (λ x. AreStored (stored_by plan.now.target l vec.now) mem.old (elements_of l) mem.new log.new.items)
+        (λ trap. StopsStore (stored_by plan.now.target l vec.now) mem.old (elements_of l) mem.new log.new.items trap) }
+{
+    match plan.bytes {
+        1 => store_words(plan, vec, mem, log, 1),
+        2 => store_words(plan, vec, mem, log, 2),
+        4 => store_words(plan, vec, mem, log, 4),
+        8 => store_words(plan, vec, mem, log, 8),
+        n => store_words(plan, vec, mem, log, n),
+    }
+}
+
+/// Stores all elements in order, and says how the step goes on. The elements that were stored are logged in order. A
+/// trap has stored and logged the elements before the one that was refused.
+pub fn store(plan: &Plan, core: &Core, vec: &VecRegs, mem: &mut Mem, log: &mut AccessLog) -> Effect
+    requires plan { IsPlan plan.now vec.now }
+    requires gather { IsGather plan.now }
+    requires empty { log.old.items ≡ [] }
+    ensures { store_by plan.now core.now vec.now mem.old
+        ≡ record { core = core.now; vectors = vec.now; memory = mem.new; accesses = log.new.items; effect = result } }
+{
+    if let Err(trap) = test_sp(core, tests_sp(plan, vec)) {
+        return Effect::Trap(trap);
+    }
+    match store_all(plan, vec, mem, log) {
+        Ok(()) => Effect::Next,
+        Err(trap) => Effect::Trap(trap),
+    }
+}

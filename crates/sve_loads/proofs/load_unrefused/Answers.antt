@@ -1,0 +1,12 @@
+use Rattle.std.proofs.Common.{sym, ap, ◌∙◌}
+use Rattle.sve_effects.specs.FirstFault.{is_non_fault}
+use Rattle.element_loops.specs.declared.plan.Plan.{Plan}
+use Rattle.unrefused_loads.specs.FirstFaultPlan.{first_fault_by}
+use Rattle.sve_loads.specs.PlanLaws.{first_loaded}
+use Rattle.sve_loads.proofs.load_unrefused.Goals as goal
+
+pub returns-clause-loaded : goal.returns-clause-loaded
+returns-clause-loaded c = λ is.
+    sym (first_loaded c.args.i.now c.args.core.now c.args.vec.now c.args.mem.now c.requires.own)
+    ∙ ap (λ (p : Plan). first_fault_by (is_non_fault c.args.i.now) p c.args.core.now c.args.vec.now c.args.mem.now) (sym c.first_plan-plan.ensures.value)
+    ∙ c.load.ensures.loaded is (is_non_fault c.args.i.now)

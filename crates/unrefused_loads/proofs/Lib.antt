@@ -1,0 +1,3 @@
+pub mod Ffr
+pub mod Elements
+pub mod Plain
