@@ -1,7 +1,7 @@
 -- Steps that are no calls, one after the other, and what a run comes to by them.
-use Rattle.std.proofs.Common.{◌≡◌, ◌<◌, ◌≤◌, ℕ, zero, suc, ◌+◌, ◌-◌, Bool, true, false, List, [], Option, Some, None, IfSome, MatchOption, is_none, is_some, refl, sym, ap, subst, ◌∙◌, arith}
+use Rattle.std.specs.Prelude.{⊤}
+use Rattle.std.proofs.Common.{◌≡◌, ◌<◌, ◌≤◌, ℕ, ◌+◌, ◌-◌, Bool, true, false, List, [], Option, Some, None, IfSome, is_none, refl, sym, ap, subst, ◌∙◌, arith}
 use Rattle.emu_model.specs.declared.access.Access.{Access}
-use Rattle.emu_model.specs.declared.trap.Ended.{Ended}
 use Rattle.emu_model.specs.State.{Parts, State}
 use Rattle.emu_system.specs.Start.{with_input}
 use Rattle.emu_system.specs.SystemCall.{Turn, call, quiet}
@@ -10,13 +10,14 @@ use Rattle.emu_run.specs.Run.{run, until_end}
 use Rattle.emu_run.specs.RunLaws.{behind, run_after_turn, run_one, run_spent, until_end_none}
 use Rattle.io_gate.specs.Streams.{Causes}
 use Rattle.emu_machine.specs.Accesses.{last_accesses, run_accesses}
-use Rattle.emu_machine.specs.Advances.{Advances, AsksCall, EndsBy, IsAhead, IsLast, IsSpent}
-use Rattle.emu_machine.specs.declared.ends.StepEnd.{StepEnd}
-use Rattle.emu_machine.specs.declared.ends.StepEnd.TheVariants.{Going, Exit, Trap, ReadFault, WriteFault, ErrorsFault}
-use Rattle.emu_machine.specs.Ends.{is_undone, step_end}
+use Rattle.emu_machine.specs.Advances.{Advances, AsksCall, EndsBy, IsAhead, IsLast, IsSpent, MatchCall}
+use Rattle.emu_machine.specs.declared.ends.Progress.{Progress}
+use Rattle.emu_machine.specs.declared.ends.Progress.TheVariants.{GoesOn, Trapped, AtCall}
+use Rattle.emu_machine.specs.declared.ends.StepEnd.TheVariants.{Going}
+use Rattle.emu_machine.specs.Ends.{step_end}
 use Rattle.emu_machine.specs.Machines.{MachineState, is_at_call}
 use Rattle.emu_machine.proofs.Logs.{Logs, last_none, log_one, log_spent, logs_end, logs_spent}
-use Rattle.emu_machine.proofs.Runs.{LeadsRun, Ran, done_by_end, not_going, quietly_ran, run_spends, run_stops}
+use Rattle.emu_machine.proofs.Runs.{LeadsRun, Ran, not_ended, quietly_ran, run_spends, run_stops}
 use Rattle.emu_machine.proofs.Stands.{Stands}
 
 -- ---- how far the steps came
@@ -42,47 +43,14 @@ ahead_on old p q before log a turns counted goes =
           ∙ ap (λ n. last_accesses (accesses p) q input (b - n)) (sym counted);
     }
 
-pub last_ends : (budget : ℕ) (old new : MachineState) (end : StepEnd) → (end ≡ Going → ⊥) → IsLast budget old new end → EndsBy budget old new end
-last_ends budget old new Going other d = absurd (other refl)
-last_ends budget old new (Exit code) other d = d
-last_ends budget old new (Trap t) other d = d
-last_ends budget old new ReadFault other d = d
-last_ends budget old new WriteFault other d = d
-last_ends budget old new ErrorsFault other d = d
-
--- ---- what their end says
-
-going_by : (e : Option Ended) → is_none e ≡ true → Going ≡ step_end e
-going_by None is = refl
-going_by (Some x) is = cc
-
-pub end_ended : (budget : ℕ) (old new : MachineState) (end : StepEnd) → EndsBy budget old new end → end ≡ step_end new.parts.ended
-end_ended budget old new Going d = going_by new.parts.ended d.ahead.goes
-end_ended budget old new (Exit code) d = d.ended
-end_ended budget old new (Trap t) d = d.ended
-end_ended budget old new ReadFault d = d.ended
-end_ended budget old new WriteFault d = d.ended
-end_ended budget old new ErrorsFault d = d.ended
-
-pub ended_done : (budget : ℕ) (old new : MachineState) (end : StepEnd) → EndsBy budget old new end → is_undone end ≡ false
-ended_done budget old new end d = ap is_undone (end_ended budget old new end d) ∙ done_by_end new.parts.ended
-
-pub ended_spent : (budget : ℕ) (old new : MachineState) (end : StepEnd) → EndsBy budget old new end → end ≡ Going → new.parts.steps ≡ budget
-ended_spent budget old new Going d is = d.spent
-ended_spent budget old new (Exit code) d is = cc
-ended_spent budget old new (Trap t) d is = cc
-ended_spent budget old new ReadFault d is = cc
-ended_spent budget old new WriteFault d is = cc
-ended_spent budget old new ErrorsFault d is = cc
-
 -- ---- one step
 
 module _ (m new : MachineState) where
   asked_same : AsksCall (m.parts.steps + 1) m new → new.parts ≡ m.parts
   asked_same a = let from = a.ahead.after in let below = a.below in a.ahead.first (omega (arith, from, below))
 
-  last_same : (end : StepEnd) (d : IsLast (m.parts.steps + 1) m new end) → d.at ≡ m.parts
-  last_same end d = let from = d.ahead.after in let below = d.below in d.ahead.first (omega (arith, from, below))
+  last_same : (d : IsLast (m.parts.steps + 1) m new) → d.at ≡ m.parts
+  last_same d = let from = d.ahead.after in let below = d.below in d.ahead.first (omega (arith, from, below))
 
   spent_turn : is_none m.parts.ended ≡ true → IsSpent (m.parts.steps + 1) m new → (input : List ℕ) → turn m.parts input ≡ quiet new.parts input
   spent_turn going d input =
@@ -106,48 +74,60 @@ module _ (m new : MachineState) where
       ∙ ap (λ n. last_accesses (accesses m.parts) t.parts t.input n) none
       ∙ last_none (accesses m.parts) t.parts t.input
 
-  last_turn : (end : StepEnd) → IsLast (m.parts.steps + 1) m new end → (input : List ℕ) → turn m.parts input ≡ quiet new.parts input
-  last_turn end d input = subst (λ (x : Parts). turn x input ≡ quiet new.parts input) (last_same end d) (d.turns input)
+  last_turn : IsLast (m.parts.steps + 1) m new → (input : List ℕ) → turn m.parts input ≡ quiet new.parts input
+  last_turn d input = subst (λ (x : Parts). turn x input ≡ quiet new.parts input) (last_same d) (d.turns input)
 
-  last_accesses_of : (end : StepEnd) → IsLast (m.parts.steps + 1) m new end → new.accesses ≡ accesses m.parts
-  last_accesses_of end d = d.accesses ∙ ap accesses (last_same end d)
+  last_accesses_of : IsLast (m.parts.steps + 1) m new → new.accesses ≡ accesses m.parts
+  last_accesses_of d = d.accesses ∙ ap accesses (last_same d)
 
-  ended_turn : (end : StepEnd) → is_none m.parts.ended ≡ true → EndsBy (m.parts.steps + 1) m new end → (input : List ℕ) → turn m.parts input ≡ quiet new.parts input
-  ended_turn Going going d = spent_turn going d
-  ended_turn (Exit code) going d = last_turn (Exit code) d
-  ended_turn (Trap t) going d = last_turn (Trap t) d
-  ended_turn ReadFault going d = last_turn ReadFault d
-  ended_turn WriteFault going d = last_turn WriteFault d
-  ended_turn ErrorsFault going d = last_turn ErrorsFault d
+  pub once_turn : (r : Progress) → is_none m.parts.ended ≡ true → Advances (m.parts.steps + 1) m new r
+      → MatchCall r ((input : List ℕ) → turn m.parts input ≡ call m.parts input) ((input : List ℕ) → turn m.parts input ≡ quiet new.parts input)
+  once_turn GoesOn going d = spent_turn going d
+  once_turn Trapped going d = last_turn d
+  once_turn AtCall going d = λ input. subst (λ (x : Parts). turn x input ≡ call x input) (asked_same d) (d.calls input)
 
-  ended_accesses : (end : StepEnd) → is_none m.parts.ended ≡ true → EndsBy (m.parts.steps + 1) m new end → new.accesses ≡ accesses m.parts
-  ended_accesses Going going d = spent_accesses going d
-  ended_accesses (Exit code) going d = last_accesses_of (Exit code) d
-  ended_accesses (Trap t) going d = last_accesses_of (Trap t) d
-  ended_accesses ReadFault going d = last_accesses_of ReadFault d
-  ended_accesses WriteFault going d = last_accesses_of WriteFault d
-  ended_accesses ErrorsFault going d = last_accesses_of ErrorsFault d
+  pub once_kept : (r : Progress) → Advances (m.parts.steps + 1) m new r → MatchCall r (new.parts ≡ m.parts) ⊤
+  once_kept GoesOn d = tt
+  once_kept Trapped d = tt
+  once_kept AtCall d = asked_same d
 
-  pub once_turn : (r : Option StepEnd) → is_none m.parts.ended ≡ true → Advances (m.parts.steps + 1) m new r
-      → MatchOption r ((input : List ℕ) → turn m.parts input ≡ call m.parts input) (λ _. (input : List ℕ) → turn m.parts input ≡ quiet new.parts input)
-  once_turn None going a = λ input. subst (λ (x : Parts). turn x input ≡ call x input) (asked_same a) (a.calls input)
-  once_turn (Some end) going d = ended_turn end going d
+  pub once_svc : (r : Progress) → Advances (m.parts.steps + 1) m new r → r ≡ AtCall → is_at_call m.parts ≡ true
+  once_svc GoesOn d is = cc
+  once_svc Trapped d is = cc
+  once_svc AtCall d is = ap is_at_call (sym (asked_same d)) ∙ d.svc
 
-  pub once_kept : (r : Option StepEnd) → new.failed ≡ false → Advances (m.parts.steps + 1) m new r → MatchOption r (new.parts ≡ m.parts) (λ _. new.failed ≡ false)
-  once_kept None failed a = asked_same a
-  once_kept (Some end) failed d = failed
+  pub once_ended : (r : Progress) → Advances (m.parts.steps + 1) m new r → EndsBy r new.parts
+  once_ended GoesOn d = d.ahead.goes
+  once_ended Trapped d = d.ended
+  once_ended AtCall d = tt
 
-  pub once_svc : (r : Option StepEnd) → Advances (m.parts.steps + 1) m new r → MatchOption r (is_at_call m.parts ≡ true) (λ end. end ≡ step_end new.parts.ended)
-  once_svc None a = ap is_at_call (sym (asked_same a)) ∙ a.svc
-  once_svc (Some end) d = end_ended (m.parts.steps + 1) m new end d
+  pub once_counted : (r : Progress) → Advances (m.parts.steps + 1) m new r → r ≡ GoesOn → new.parts.steps ≡ m.parts.steps + 1
+  once_counted GoesOn d is = d.spent
+  once_counted Trapped d is = cc
+  once_counted AtCall d is = cc
 
-  pub once_counted : (r : Option StepEnd) → Advances (m.parts.steps + 1) m new r → IfSome r (λ end. end ≡ Going → new.parts.steps ≡ m.parts.steps + 1)
-  once_counted None a = tt
-  once_counted (Some end) d = ended_spent (m.parts.steps + 1) m new end d
+  pub once_accesses : (r : Progress) → is_none m.parts.ended ≡ true → Advances (m.parts.steps + 1) m new r → new.accesses ≡ accesses m.parts
+  once_accesses GoesOn going d = spent_accesses going d
+  once_accesses Trapped going d = last_accesses_of d
+  once_accesses AtCall going d = d.clear ∙ ap accesses (asked_same d)
 
-  pub once_accesses : (r : Option StepEnd) → is_none m.parts.ended ≡ true → Advances (m.parts.steps + 1) m new r → new.accesses ≡ accesses m.parts
-  once_accesses None going a = a.clear ∙ ap accesses (asked_same a)
-  once_accesses (Some end) going d = ended_accesses end going d
+-- what it makes of the machine where it makes no call
+module _ (r : Progress) (m n : Parts) (other : r ≡ AtCall → ⊥) where
+  pub turned : MatchCall r ((input : List ℕ) → turn m input ≡ call m input) ((input : List ℕ) → turn m input ≡ quiet n input) → (input : List ℕ) → turn m input ≡ quiet n input
+  turned is = by_progress r other is
+    where
+      by_progress : (x : Progress) → (x ≡ AtCall → ⊥) → MatchCall x ((input : List ℕ) → turn m input ≡ call m input) ((input : List ℕ) → turn m input ≡ quiet n input) → (input : List ℕ) → turn m input ≡ quiet n input
+      by_progress GoesOn apart h = h
+      by_progress Trapped apart h = h
+      by_progress AtCall apart h = absurd (apart refl)
+
+  pub counted_as : EndsBy r n → (r ≡ GoesOn → n.steps ≡ m.steps + 1) → Going ≡ step_end n.ended → n.steps ≡ m.steps + 1
+  counted_as ends counted going = by_progress r other ends counted
+    where
+      by_progress : (x : Progress) → (x ≡ AtCall → ⊥) → EndsBy x n → (x ≡ GoesOn → n.steps ≡ m.steps + 1) → n.steps ≡ m.steps + 1
+      by_progress GoesOn apart e h = h refl
+      by_progress Trapped apart e h = not_ended (n.steps ≡ m.steps + 1) n.ended going e
+      by_progress AtCall apart e h = absurd (apart refl)
 
 -- ---- a run
 
@@ -178,50 +158,34 @@ module _ (budget : ℕ) (old p q : Parts) (before log_p log_q : List Access) (a 
       stands b (omega (arith, from, h)) ∙ ap (λ (s : State). (s.parts, s.input)) (a.leads b input h)
 
 module _ (budget : ℕ) (old : Parts) (before : List Access) (p new : MachineState) (told left ho hp eo ep : Option (List ℕ)) (led : LeadsRun budget old p.parts told left ho hp eo ep) where
-  spent_ran : IsSpent budget p new → Ran (λ s. run s budget) old new.parts told left ho hp eo ep false
+  pub spent_ran : IsSpent budget p new → Ran (λ s. run s budget) old new.parts told left ho hp eo ep false
   spent_ran d =
       let s = d.spent in
       run_spends budget old new.parts told left ho hp eo ep (leads_ahead budget old p.parts new.parts before p.accesses new.accesses d.ahead told left ho hp eo ep (omega (arith, s)) led) (omega (arith, s))
 
-  last_ran : (end : StepEnd) → (end ≡ Going → ⊥) → IsLast budget p new end → Ran (λ s. run s budget) old new.parts told left ho hp eo ep (is_undone end)
-  last_ran end other d =
+  pub last_ran : IsLast budget p new → Ran (λ s. run s budget) old new.parts told left ho hp eo ep false
+  last_ran d =
       let below = d.below in
       run_stops budget old d.at new.parts told left left ho hp hp eo ep ep (leads_ahead budget old p.parts d.at before p.accesses d.log d.ahead told left ho hp eo ep (omega (arith, below)) led) d.ahead.goes d.below
-      (is_undone end) (quietly_ran d.at new.parts left hp ep (is_undone end) d.turns) (λ fine. not_going new.parts.ended end d.ended other)
-
-  pub ended_ran : (end : StepEnd) → EndsBy budget p new end → Ran (λ s. run s budget) old new.parts told left ho hp eo ep (is_undone end)
-  ended_ran Going d = spent_ran d
-  ended_ran (Exit code) d = last_ran (Exit code) (λ (e : Exit code ≡ Going). cc) d
-  ended_ran (Trap t) d = last_ran (Trap t) (λ (e : Trap t ≡ Going). cc) d
-  ended_ran ReadFault d = last_ran ReadFault (λ (e : ReadFault ≡ Going). cc) d
-  ended_ran WriteFault d = last_ran WriteFault (λ (e : WriteFault ≡ Going). cc) d
-  ended_ran ErrorsFault d = last_ran ErrorsFault (λ (e : ErrorsFault ≡ Going). cc) d
+      false (quietly_ran d.at new.parts left hp ep false d.turns) (λ fine. d.ended)
 
   module _ (logs : Logs budget before old told p.accesses p.parts left) where
-    spent_logs : IsSpent budget p new → IfSome told (λ bytes. new.accesses ≡ run_accesses before old bytes budget)
+    pub spent_logs : IsSpent budget p new → IfSome told (λ bytes. new.accesses ≡ run_accesses before old bytes budget)
     spent_logs d =
         let s = d.spent in
         logs_spent budget before new.accesses old new.parts left ho hp eo ep told
         (leads_ahead budget old p.parts new.parts before p.accesses new.accesses d.ahead told left ho hp eo ep (omega (arith, s)) led)
         (logs_ahead budget old p.parts new.parts before p.accesses new.accesses d.ahead told left (omega (arith, s)) logs) (omega (arith, s))
 
-    last_logs : (end : StepEnd) → (end ≡ Going → ⊥) → IsLast budget p new end → IfSome told (λ bytes. new.accesses ≡ run_accesses before old bytes budget)
-    last_logs end other d =
+    pub last_logs : IsLast budget p new → IfSome told (λ bytes. new.accesses ≡ run_accesses before old bytes budget)
+    last_logs d =
         let below = d.below in
         subst (λ (log : List Access). IfSome told (λ bytes. log ≡ run_accesses before old bytes budget)) (sym d.accesses)
         (logs_end budget before d.log old d.at left ho hp eo ep new.parts left hp ep d.ahead.goes d.below told
         (leads_ahead budget old p.parts d.at before p.accesses d.log d.ahead told left ho hp eo ep (omega (arith, below)) led)
         (quietly_ran d.at new.parts left hp ep false d.turns)
         (logs_ahead budget old p.parts d.at before p.accesses d.log d.ahead told left (omega (arith, below)) logs)
-        (not_going new.parts.ended end d.ended other))
-
-    pub ended_logs : (end : StepEnd) → EndsBy budget p new end → IfSome told (λ bytes. new.accesses ≡ run_accesses before old bytes budget)
-    ended_logs Going d = spent_logs d
-    ended_logs (Exit code) d = last_logs (Exit code) (λ (e : Exit code ≡ Going). cc) d
-    ended_logs (Trap t) d = last_logs (Trap t) (λ (e : Trap t ≡ Going). cc) d
-    ended_logs ReadFault d = last_logs ReadFault (λ (e : ReadFault ≡ Going). cc) d
-    ended_logs WriteFault d = last_logs WriteFault (λ (e : WriteFault ≡ Going). cc) d
-    ended_logs ErrorsFault d = last_logs ErrorsFault (λ (e : ErrorsFault ≡ Going). cc) d
+        d.ended)
 
 -- ---- a run that isn't broken off
 

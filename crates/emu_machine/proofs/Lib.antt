@@ -4,6 +4,7 @@ pub mod CallLaws
 pub mod Composed
 pub mod Gathered
 pub mod Laid
+pub mod Left
 pub mod Loading
 pub mod Logs
 pub mod Performed

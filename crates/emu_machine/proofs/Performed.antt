@@ -1,5 +1,5 @@
 -- An instruction that asks for a call is svc, and does nothing else.
-use Rattle.std.proofs.Common.{◌≡◌, ℕ, Bool, true, false, List, [], Option, Some, None, if◌then◌else◌, refl, ap, sym, ◌∙◌}
+use Rattle.std.proofs.Common.{◌≡◌, ℕ, Bool, true, false, List, [], Option, Some, None, is_none, if◌then◌else◌, refl, ap, sym, ◌∙◌}
 use Rattle.std.specs.Prelude.{◌||◌, is_some}
 use Rattle.a64_insn.specs.declared.form.A64Form.{A64Form}
 use Rattle.a64_insn.specs.declared.form.A64Form.TheVariants.{Branch, BranchCond, Compare, Test, BranchReg, Except}
@@ -212,3 +212,11 @@ not_failed m going = by_end (is_some m.parts.ended) going
     by_end : (b : Bool) → (b || m.failed) ≡ false → m.failed ≡ false
     by_end true is = cc
     by_end false is = is
+
+-- and one that neither ended nor failed goes on
+pub still_goes : (m : MachineState) → is_none m.parts.ended ≡ true → m.failed ≡ false → has_ended m ≡ false
+still_goes m none fine = by_end m.parts.ended none
+  where
+    by_end : (e : Option Ended) → is_none e ≡ true → (is_some e || m.failed) ≡ false
+    by_end None is = fine
+    by_end (Some x) is = cc

@@ -15,7 +15,7 @@ use Rattle.emu_machine.specs.declared.ends.RunEnd.TheVariants.{Exit as RunExit, 
 use Rattle.io_gate.specs.Streams.{Causes, Rose}
 use Rattle.linux_calls.specs.Ends.{OfInput}
 use Rattle.emu_system.specs.Gained.{Gains}
-use Rattle.emu_machine.specs.Ends.{Becomes, OfStep, TakesWithin, Puts, PutsAlways, step_end, run_end, run_end_of, is_undone, is_broken_off}
+use Rattle.emu_machine.specs.Ends.{Becomes, OfStep, TakesWithin, Puts, PutsAlways, step_end, run_end, run_end_of, is_undone, is_unput, is_broken_off}
 use Rattle.emu_machine.specs.Machines.{MachineState, call_made, has_ended, is_at_call}
 use Rattle.emu_machine.proofs.CallLaws.{of_all, of_each}
 use Rattle.emu_machine.proofs.Composed.{Blind, Moving, Came, Comes, Led, Leads, came_at, comes_by, comes_cut, comes_same, comes_still, gains_none, leads_on, leads_end}
@@ -170,6 +170,11 @@ done_by_end None = refl
 done_by_end (Some (Exit code)) = refl
 done_by_end (Some (Trap t)) = refl
 
+pub unput_by_end : (e : Option Ended) → is_unput (step_end e) ≡ false
+unput_by_end None = refl
+unput_by_end (Some (Exit code)) = refl
+unput_by_end (Some (Trap t)) = refl
+
 pub not_going : (e : Option Ended) (r : StepEnd) → r ≡ step_end e → (r ≡ Going → ⊥) → is_none e ≡ false
 not_going None r is other = absurd (other is)
 not_going (Some (Exit code)) r is other = refl
@@ -179,6 +184,17 @@ pub is_going : (e : Option Ended) → Going ≡ step_end e → is_some e ≡ fal
 is_going None is = refl
 is_going (Some (Exit code)) is = cc
 is_going (Some (Trap t)) is = cc
+
+-- where the machine goes on
+pub going_by : (e : Option Ended) → is_none e ≡ true → Spent ≡ run_end e
+going_by None is = refl
+going_by (Some x) is = cc
+
+-- no machine that ended goes on
+pub not_ended : (A : Type 0) (e : Option Ended) → Going ≡ step_end e → is_none e ≡ false → A
+not_ended A None is over = cc
+not_ended A (Some (Exit code)) is over = cc
+not_ended A (Some (Trap t)) is over = cc
 
 pub goes_on_after : (s : MachineState) (r : StepEnd) → r ≡ Going → r ≡ step_end s.parts.ended → s.failed ≡ is_undone r → has_ended s ≡ false
 goes_on_after s r going end failed =

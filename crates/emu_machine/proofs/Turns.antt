@@ -1,5 +1,5 @@
 -- The turn of a step, by its fetch and its instruction.
-use Rattle.std.proofs.Common.{◌≡◌, ℕ, ◌%◌, Bool, true, List, [], Option, Some, None, Ok, MatchOption, refl, ap, sym, ◌∙◌, eq-eqb, if◌then◌else◌}
+use Rattle.std.proofs.Common.{◌≡◌, ℕ, ◌%◌, Bool, List, [], Option, Some, None, Ok, refl, ap, sym, ◌∙◌, eq-eqb, if◌then◌else◌}
 use Rattle.emu_model.specs.declared.access.Kind.{Kind}
 use Rattle.emu_model.specs.declared.access.Kind.TheVariants.{Fetch}
 use Rattle.emu_model.specs.declared.trap.TrapKind.TheVariants.{PcAlign, Undefined}
@@ -8,7 +8,9 @@ use Rattle.emu_model.specs.State.{Parts}
 use Rattle.emu_run.specs.declared.insn.Insn.{Insn}
 use Rattle.emu_run.specs.Step.{accesses, decode, executed, executed_accesses, fetched, fetched_accesses, trapped, turn}
 use Rattle.emu_system.specs.SystemCall.{call, quiet}
-use Rattle.emu_machine.specs.declared.ends.StepEnd.{StepEnd}
+use Rattle.emu_machine.specs.Advances.{MatchCall}
+use Rattle.emu_machine.specs.declared.ends.Progress.{Progress}
+use Rattle.emu_machine.specs.declared.ends.Progress.TheVariants.{GoesOn, Trapped, AtCall}
 use Rattle.emu_machine.specs.Machines.{is_at_call, is_svc}
 
 -- an access that was done
@@ -43,16 +45,12 @@ module _ (m : Parts) (word : ℕ) (has : HasFetched m word) where
   call_of_word = ap (λ (w : ℕ). is_svc (decode w)) fetched_word.1
 
 -- a turn that does an instruction leaves what the instruction leaves
-pub executed_as : (r : Option StepEnd) (insn : Option Insn) (m n p : Parts) → n ≡ m → ((input : List ℕ) → turn m input ≡ executed m input insn)
-    → MatchOption r ((input : List ℕ) → executed n input insn ≡ call n input) (λ _. (input : List ℕ) → executed n input insn ≡ quiet p input)
-    → MatchOption r ((input : List ℕ) → turn m input ≡ call m input) (λ _. (input : List ℕ) → turn m input ≡ quiet p input)
-executed_as None insn m n p same turns is = λ input. turns input ∙ ap (λ (x : Parts). executed x input insn) (sym same) ∙ is input ∙ ap (λ (x : Parts). call x input) same
-executed_as (Some end) insn m n p same turns is = λ input. turns input ∙ ap (λ (x : Parts). executed x input insn) (sym same) ∙ is input
-
--- a call is one along an equation of tests
-pub call_as : (r : Option StepEnd) (a b : Bool) (q : StepEnd → Type 0) → a ≡ b → MatchOption r (a ≡ true) q → MatchOption r (b ≡ true) q
-call_as None a b q e is = sym e ∙ is
-call_as (Some end) a b q e is = is
+pub executed_as : (r : Progress) (insn : Option Insn) (m n p : Parts) → n ≡ m → ((input : List ℕ) → turn m input ≡ executed m input insn)
+    → MatchCall r ((input : List ℕ) → executed n input insn ≡ call n input) ((input : List ℕ) → executed n input insn ≡ quiet p input)
+    → MatchCall r ((input : List ℕ) → turn m input ≡ call m input) ((input : List ℕ) → turn m input ≡ quiet p input)
+executed_as GoesOn insn m n p same turns is = λ input. turns input ∙ ap (λ (x : Parts). executed x input insn) (sym same) ∙ is input
+executed_as Trapped insn m n p same turns is = λ input. turns input ∙ ap (λ (x : Parts). executed x input insn) (sym same) ∙ is input
+executed_as AtCall insn m n p same turns is = λ input. turns input ∙ ap (λ (x : Parts). executed x input insn) (sym same) ∙ is input ∙ ap (λ (x : Parts). call x input) same
 
 -- a word that is in no row
 pub undefined_as : (m n : Parts) (word : ℕ) → decode word ≡ None → n ≡ trapped m Undefined m.core.pc → (input : List ℕ) → executed m input (decode word) ≡ quiet n input

@@ -1,5 +1,8 @@
 //! How a step and a run end.
-use emu_model::Trap;
+ghost use Rattle.std.specs.Prelude.{◌≡◌};
+ghost use Rattle.emu_machine.specs.Ends as ends;
+
+use emu_model::{Ended, Trap};
 
 /// How a step ended. After a fault of a stream the step wasn't done.
 #[derive(Clone, Copy, Debug, PartialEq, Eq)]
@@ -18,6 +21,17 @@ pub enum StepEnd {
     ErrorsFault,
 }
 
+/// How far steps that make no call came.
+#[derive(Clone, Copy)]
+pub(crate) enum Progress {
+    /// They were done, and the machine goes on.
+    GoesOn,
+    /// The last one trapped, which ended the machine.
+    Trapped,
+    /// The next one makes a call.
+    AtCall,
+}
+
 /// How a run ended. After a fault of a stream its last step wasn't done.
 #[derive(Clone, Copy, Debug, PartialEq, Eq)]
 pub enum RunEnd {
@@ -33,4 +47,29 @@ pub enum RunEnd {
     WriteFault,
     /// The stream of errors failed.
     ErrorsFault,
+}
+
+/// The answer of a step that was done, by how the machine ended.
+pub(crate) fn step_end(ended: Option<Ended>) -> StepEnd
+    ensures { result ≡ ends.step_end ended }
+{
+    match ended {
+        None => StepEnd::Going,
+        Some(Ended::Exit(code)) => StepEnd::Exit(code),
+        Some(Ended::Trap(trap)) => StepEnd::Trap(trap),
+    }
+}
+
+/// The answer of a run by that of its last step.
+pub(crate) fn run_end_of(end: StepEnd) -> RunEnd
+    ensures { result ≡ ends.run_end_of end }
+{
+    match end {
+        StepEnd::Going => RunEnd::Spent,
+        StepEnd::Exit(code) => RunEnd::Exit(code),
+        StepEnd::Trap(trap) => RunEnd::Trap(trap),
+        StepEnd::ReadFault => RunEnd::ReadFault,
+        StepEnd::WriteFault => RunEnd::WriteFault,
+        StepEnd::ErrorsFault => RunEnd::ErrorsFault,
+    }
 }

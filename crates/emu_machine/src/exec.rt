@@ -1,7 +1,7 @@
 //! What an instruction does to the registers and to memory, by the crate of its row.
-ghost use Rattle.std.specs.Prelude.{◌≡◌, [], true};
+ghost use Rattle.std.specs.Prelude.{◌≡◌, [], true, false};
+ghost use Rattle.emu_model.specs.declared.trap.Effect.{Effect};
 ghost use Rattle.a64_effects.specs.Effects as a64;
-ghost use Rattle.emu_run.specs.Step.{performed};
 ghost use Rattle.sve_effects.specs.Effects as sve;
 ghost use Rattle.sve_effects.specs.VectorElements.{layout, vector_elements};
 ghost use Rattle.sve_effects.specs.FirstFault.{first_fault};
@@ -12,36 +12,13 @@ ghost use Rattle.element_loops.specs.Listed.{listed};
 use a64_insn::A64;
 use core_regs::{Core, Effect};
 use guest_mem::{AccessLog, ElementList, Mem};
-use insn_decode::Insn;
 use sve_insn::{Sve, SveForm};
 use vec_regs::VecRegs;
 
-/// Does an instruction, logs the elements that it loads or stores, and says what it leaves to the step.
-#[inline(always)]
-pub fn perform(
-    core: &mut Core,
-    vec: &mut VecRegs,
-    memory: &mut Mem,
-    log: &mut AccessLog,
-    insn: &Insn,
-) -> Effect
-    requires { log.old.items ≡ [] }
-    ensures { performed insn.now core.old vec.old memory.old ≡ record { core = core.new; vectors = vec.new; memory = memory.new; accesses = log.new.items; effect = result } }
-{
-    match insn {
-        Insn::A64(insn) => perform_a64(core, vec, memory, log, insn),
-        Insn::Sve(insn) => {
-            // a copy, so that no address of an A64 instruction is taken
-            let insn = *insn;
-            perform_sve(core, vec, memory, log, &insn)
-        }
-    }
-}
-
-/// Does an A64 instruction.
+/// Does an A64 instruction, logs the elements that it loads or stores, and says what it leaves to the step.
 #[inline(always)]
 #[tactic(auto, using(a64_effects::specs::Pages::others_are_bit_moves))]
-fn perform_a64(
+pub(crate) fn perform_a64(
     core: &mut Core,
     vec: &mut VecRegs,
     memory: &mut Mem,
@@ -60,10 +37,10 @@ fn perform_a64(
     }
 }
 
-/// Does an SVE instruction.
+/// The same of an SVE instruction.
 #[inline(always)]
 #[tactic(auto, using(sve_effects::specs::Pages::others_are_first_fault))]
-fn perform_sve(
+pub(crate) fn perform_sve(
     core: &mut Core,
     vec: &mut VecRegs,
     memory: &mut Mem,
@@ -76,7 +53,9 @@ fn perform_sve(
     if sve_data::is_own(insn) {
         sve_data::exec(core, vec, insn)
     } else if sve_pred::is_own(insn) {
-        sve_pred::exec(core, vec, insn)
+        // its effect is this one, so that none is read back
+        sve_pred::exec(core, vec, insn);
+        Effect::Next
     } else if sve_loads::is_own(insn) {
         load_or_store(core, vec, memory, log, insn)
     } else if sve_gather::is_own(insn) {
@@ -118,6 +97,51 @@ fn gather_or_scatter(
 
 /// Does a first-faulting or non-faulting load.
 fn load_first_fault(
+    core: &mut Core,
+    vec: &mut VecRegs,
+    memory: &mut Mem,
+    log: &mut AccessLog,
+    insn: &Sve,
+) -> Effect
+    requires own { is_first_fault insn.now ≡ true }
+    requires empty { log.old.items ≡ [] }
+    ensures { first_fault insn.now core.old vec.old memory.old ≡ record { core = core.new; vectors = vec.new; memory = memory.new; accesses = log.new.items; effect = result } }
+{
+    if load_unrefused(core, vec, memory, log, insn) {
+        return Effect::Next;
+    }
+    load_listed(core, vec, memory, log, insn)
+}
+
+/// Does a first-faulting or non-faulting load at once, where FFR is all ones and it can be seen that no element is
+/// refused, and says whether it did. Else nothing is changed.
+#[tactic(auto, using(crate::proofs::Gathered::others_are_gathered))]
+fn load_unrefused(
+    core: &Core,
+    vec: &mut VecRegs,
+    memory: &mut Mem,
+    log: &mut AccessLog,
+    insn: &Sve,
+) -> bool
+    requires own { is_first_fault insn.now ≡ true }
+    requires empty { log.old.items ≡ [] }
+    ensures loaded { result ≡ true → first_fault insn.now core.now vec.old memory.old
+        ≡ record { core = core.now; vectors = vec.new; memory = memory.new; accesses = log.new.items; effect = Effect.Next } }
+    ensures kept { result ≡ false → vec.new ≡ vec.old }
+    ensures unlogged { result ≡ false → log.new.items ≡ [] }
+    ensures memory { memory.new ≡ memory.old }
+{
+    if is_first_contiguous(insn) {
+        sve_loads::load_unrefused(core, vec, memory, log, insn)
+    } else {
+        sve_gather::load_unrefused(core, vec, memory, log, insn)
+    }
+}
+
+/// Does a first-faulting or non-faulting load element by element. It isn't inlined, so that its buffers take no time
+/// where they aren't used.
+#[inline(never)]
+fn load_listed(
     core: &mut Core,
     vec: &mut VecRegs,
     memory: &mut Mem,

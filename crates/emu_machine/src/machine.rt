@@ -1,5 +1,5 @@
 //! The machine, its step and its run.
-ghost use Rattle.std.specs.Prelude.{◌≡◌, ◌<◌, ◌≤◌, ◌+◌, ◌-◌, ◌^◌, List, [], ℕ, ⊤, IfSome, MatchOption, Some, None, is_none, true, false};
+ghost use Rattle.std.specs.Prelude.{◌≡◌, ◌<◌, ◌≤◌, ◌+◌, ◌-◌, ◌^◌, List, [], ℕ, ⊤, IfSome, Some, None, is_none, true, false};
 ghost use Rattle.io_gate.specs.Streams.{Causes};
 ghost use Rattle.emu_bits.specs.Fields.{field};
 ghost use Rattle.emu_model.specs.State.{IsSoundBreak};
@@ -8,17 +8,18 @@ ghost use Rattle.emu_run.specs.Run as runs;
 ghost use Rattle.emu_run.specs.Step as model;
 ghost use Rattle.emu_system.specs.SystemCall.{call, quiet, went_on};
 ghost use Rattle.emu_machine.specs.Accesses.{run_accesses};
-ghost use Rattle.emu_machine.specs.Advances.{Advances};
+ghost use Rattle.emu_machine.specs.Advances.{Advances, EndsBy, MatchCall, left_by_effect, progress_by};
 ghost use Rattle.linux_calls.specs.Names.{NamesRead};
 ghost use Rattle.emu_machine.specs.Ends.{step_end, run_end, run_end_of, is_undone, is_unput, is_broken_off, Becomes, OfStep, TakesWithin, Puts, PutsAlways, IsKept};
 ghost use Rattle.emu_machine.specs.Machines.{has_ended, is_at_call, is_svc, MakesRead, MakesWrite};
 
-use crate::ends::{RunEnd, StepEnd};
-use crate::exec::perform;
+use crate::ends::{Progress, RunEnd, StepEnd, run_end_of, step_end};
+use crate::exec::{perform_a64, perform_sve};
+use a64_insn::A64;
 use core_regs::{Core, Effect};
 use emu_model::{Break, Ended, Kind, Trap, TrapKind};
 use guest_mem::{Access, AccessLog, Mem};
-use insn_decode::{Insn, decode_a64_word, decode_sve_word, may_be_sve};
+use insn_decode::{decode_a64_word, decode_sve_word, may_be_sve};
 use io_gate::{Sink, Source};
 use std::marker::Model;
 use vec_regs::VecRegs;
@@ -123,15 +124,14 @@ impl Machine {
     }
 
     /// Ends by a trap, with no step counted.
-    fn trap(&mut self, kind: TrapKind, address: u64) -> StepEnd
+    fn trap(&mut self, kind: TrapKind, address: u64) -> Progress
         ensures parts { self.new.parts ≡ model.trapped self.old.parts kind address }
         ensures accesses { self.new.accesses ≡ self.old.accesses }
         ensures failed { self.new.failed ≡ self.old.failed }
-        ensures end { result ≡ StepEnd.Trap (record { kind = kind; address = address }) }
+        ensures progress { result ≡ Progress.Trapped }
     {
-        let trap = Trap { kind, address };
-        self.ended = Some(Ended::Trap(trap));
-        StepEnd::Trap(trap)
+        self.ended = Some(Ended::Trap(Trap { kind, address }));
+        Progress::Trapped
     }
 
     /// Goes on at an address, and counts the step.
@@ -145,87 +145,112 @@ impl Machine {
         self.steps += 1;
     }
 
-    /// A step that isn't a call. None asks for the call, with nothing changed.
+    /// Goes on behind an instruction by its effect: there or where it branched, or by its trap. A call isn't made.
     #[inline(always)]
-    fn plain(&mut self) -> Option<StepEnd>
+    fn leave_insn(&mut self, effect: Effect) -> Progress
+        requires { self.old.parts.steps < 2 ^ 64 - 1 }
+        ensures parts { self.new.parts ≡ left_by_effect effect self.old.parts }
+        ensures accesses { self.new.accesses ≡ self.old.accesses }
+        ensures failed { self.new.failed ≡ self.old.failed }
+        ensures progress { result ≡ progress_by effect }
+    {
+        match effect {
+            Effect::Next => {
+                let next = self.core.pc().wrapping_add(4);
+                self.go_on(next);
+                Progress::GoesOn
+            }
+            Effect::Branch(target) => {
+                self.go_on(target);
+                Progress::GoesOn
+            }
+            Effect::Trap(trap) => self.trap(trap.kind, trap.address),
+            Effect::Call => Progress::AtCall,
+        }
+    }
+
+    /// A step that makes no call. At a call nothing is changed.
+    #[inline(always)]
+    fn plain(&mut self) -> Progress
         requires going { has_ended self.old ≡ false }
         requires room { self.old.parts.steps < 2 ^ 64 - 1 }
         requires clear { self.old.accesses ≡ [] }
-        ensures turn { MatchOption result ((input : List ℕ) → model.turn self.old.parts input ≡ call self.old.parts input) (λ _. (input : List ℕ) → model.turn self.old.parts input ≡ quiet self.new.parts input) }
-        ensures kept { MatchOption result (self.new ≡ self.old) (λ _. self.new.failed ≡ false) }
-        ensures svc { MatchOption result (is_at_call self.old.parts ≡ true) (λ end. end ≡ step_end self.new.parts.ended) }
-        ensures counted { IfSome result (λ end. end ≡ StepEnd.Going → self.new.parts.steps ≡ self.old.parts.steps + 1) }
+        ensures turn { MatchCall result ((input : List ℕ) → model.turn self.old.parts input ≡ call self.old.parts input) ((input : List ℕ) → model.turn self.old.parts input ≡ quiet self.new.parts input) }
+        ensures kept { MatchCall result (self.new ≡ self.old) (self.new.failed ≡ false) }
+        ensures svc { result ≡ Progress.AtCall → is_at_call self.old.parts ≡ true }
+        ensures ended { EndsBy result self.new.parts }
+        ensures counted { result ≡ Progress.GoesOn → self.new.parts.steps ≡ self.old.parts.steps + 1 }
         ensures accesses { self.new.accesses ≡ model.accesses self.old.parts }
     {
         let pc = self.core.pc();
         if pc % 4 != 0 {
-            return Some(self.trap(TrapKind::PcAlign, pc));
+            return self.trap(TrapKind::PcAlign, pc);
         }
         let word = match self.memory.load(pc, 4, Kind::Fetch) {
-            Err(denied) => return Some(self.trap(TrapKind::Fetch, denied.address)),
+            Err(denied) => return self.trap(TrapKind::Fetch, denied.address),
             Ok(word) => word as u32,
         };
         if may_be_sve(word) {
             return self.vector(word);
         }
         match decode_a64_word::<Machine>(word) {
-            None => Some(self.trap(TrapKind::Undefined, pc)),
-            Some(insn) => self.execute(&Insn::A64(insn)),
+            None => self.trap(TrapKind::Undefined, pc),
+            Some(insn) => self.scalar(&insn),
         }
     }
 
-    /// Does the instruction of a word that may be in a row of SVE. It isn't inlined, so that no form of SVE is in the loop.
-    #[inline(never)]
-    fn vector(&mut self, word: u32) -> Option<StepEnd>
-        requires going { has_ended self.old ≡ false }
-        requires room { self.old.parts.steps < 2 ^ 64 - 1 }
-        requires clear { self.old.accesses ≡ [] }
-        requires word { field word 27 2 ≡ 0 }
-        ensures turn { MatchOption result ((input : List ℕ) → model.executed self.old.parts input (model.decode word) ≡ call self.old.parts input) (λ _. (input : List ℕ) → model.executed self.old.parts input (model.decode word) ≡ quiet self.new.parts input) }
-        ensures kept { MatchOption result (self.new ≡ self.old) (λ _. self.new.failed ≡ false) }
-        ensures svc { MatchOption result (is_svc (model.decode word) ≡ true) (λ end. end ≡ step_end self.new.parts.ended) }
-        ensures counted { IfSome result (λ end. end ≡ StepEnd.Going → self.new.parts.steps ≡ self.old.parts.steps + 1) }
-        ensures accesses { self.new.accesses ≡ model.executed_accesses self.old.parts (model.decode word) }
-    {
-        match decode_sve_word(word) {
-            None => {
-                let pc = self.core.pc();
-                Some(self.trap(TrapKind::Undefined, pc))
-            }
-            Some(insn) => self.execute(&Insn::Sve(insn)),
-        }
-    }
-
-    /// Does an instruction that isn't a call. None asks for the call, with nothing changed.
+    /// Does an A64 instruction that makes no call. At a call nothing is changed.
     #[inline(always)]
-    fn execute(&mut self, insn: &Insn) -> Option<StepEnd>
+    fn scalar(&mut self, insn: &A64) -> Progress
         requires going { has_ended self.old ≡ false }
         requires room { self.old.parts.steps < 2 ^ 64 - 1 }
         requires clear { self.old.accesses ≡ [] }
-        ensures turn { MatchOption result ((input : List ℕ) → model.executed self.old.parts input (Some insn.now) ≡ call self.old.parts input) (λ _. (input : List ℕ) → model.executed self.old.parts input (Some insn.now) ≡ quiet self.new.parts input) }
-        ensures kept { MatchOption result (self.new ≡ self.old) (λ _. self.new.failed ≡ false) }
-        ensures svc { MatchOption result (is_svc (Some insn.now) ≡ true) (λ end. end ≡ step_end self.new.parts.ended) }
-        ensures counted { IfSome result (λ end. end ≡ StepEnd.Going → self.new.parts.steps ≡ self.old.parts.steps + 1) }
-        ensures accesses { self.new.accesses ≡ model.executed_accesses self.old.parts (Some insn.now) }
+        ensures turn { MatchCall result ((input : List ℕ) → model.executed self.old.parts input (model.a64 (Some insn.now)) ≡ call self.old.parts input) ((input : List ℕ) → model.executed self.old.parts input (model.a64 (Some insn.now)) ≡ quiet self.new.parts input) }
+        ensures kept { MatchCall result (self.new ≡ self.old) (self.new.failed ≡ false) }
+        ensures svc { result ≡ Progress.AtCall → is_svc (model.a64 (Some insn.now)) ≡ true }
+        ensures ended { EndsBy result self.new.parts }
+        ensures counted { result ≡ Progress.GoesOn → self.new.parts.steps ≡ self.old.parts.steps + 1 }
+        ensures accesses { self.new.accesses ≡ model.executed_accesses self.old.parts (model.a64 (Some insn.now)) }
     {
-        match perform(
+        let effect = perform_a64(
             &mut self.core,
             &mut self.vec,
             &mut self.memory,
             &mut self.log,
             insn,
-        ) {
-            Effect::Next => {
-                let next = self.core.pc().wrapping_add(4);
-                self.go_on(next);
-                Some(StepEnd::Going)
+        );
+        self.leave_insn(effect)
+    }
+
+    /// Does the instruction of a word that may be in a row of SVE. It isn't inlined, so that no form of SVE is in the loop.
+    #[inline(never)]
+    fn vector(&mut self, word: u32) -> Progress
+        requires going { has_ended self.old ≡ false }
+        requires room { self.old.parts.steps < 2 ^ 64 - 1 }
+        requires clear { self.old.accesses ≡ [] }
+        requires word { field word 27 2 ≡ 0 }
+        ensures turn { MatchCall result ((input : List ℕ) → model.executed self.old.parts input (model.decode word) ≡ call self.old.parts input) ((input : List ℕ) → model.executed self.old.parts input (model.decode word) ≡ quiet self.new.parts input) }
+        ensures kept { MatchCall result (self.new ≡ self.old) (self.new.failed ≡ false) }
+        ensures svc { result ≡ Progress.AtCall → is_svc (model.decode word) ≡ true }
+        ensures ended { EndsBy result self.new.parts }
+        ensures counted { result ≡ Progress.GoesOn → self.new.parts.steps ≡ self.old.parts.steps + 1 }
+        ensures accesses { self.new.accesses ≡ model.executed_accesses self.old.parts (model.decode word) }
+    {
+        match &decode_sve_word(word) {
+            None => {
+                let pc = self.core.pc();
+                self.trap(TrapKind::Undefined, pc)
             }
-            Effect::Branch(target) => {
-                self.go_on(target);
-                Some(StepEnd::Going)
+            Some(insn) => {
+                let effect = perform_sve(
+                    &mut self.core,
+                    &mut self.vec,
+                    &mut self.memory,
+                    &mut self.log,
+                    insn,
+                );
+                self.leave_insn(effect)
             }
-            Effect::Trap(trap) => Some(self.trap(trap.kind, trap.address)),
-            Effect::Call => None,
         }
     }
 
@@ -265,45 +290,43 @@ impl Machine {
         ensures errors_named { result ≡ StepEnd.ErrorsFault → MakesWrite self.old.parts 2 }
     {
         match self.once() {
-            Some(end) => end,
-            None => self.call(input, output, errors),
+            Progress::AtCall => self.call(input, output, errors),
+            _ => step_end(self.ending()),
         }
     }
 
-    /// Takes steps until one is a call, `until` steps are counted in all, or one ends the machine. None asks for the call, with its step
-    /// not begun; `Going` says that the budget is spent.
+    /// Takes steps until the next one makes a call, `until` steps are counted in all, or one ends the machine.
     #[inline(never)]
-    fn advance(&mut self, until: u64) -> Option<StepEnd>
+    fn advance(&mut self, until: u64) -> Progress
         requires going { has_ended self.old ≡ false }
         requires within { self.old.parts.steps < until }
         ensures steps { Advances until self.old self.new result }
         ensures failed { self.new.failed ≡ false }
-        ensures going { MatchOption result (has_ended self.new ≡ false) (λ _. ⊤) }
-        ensures below { MatchOption result (self.new.parts.steps < until) (λ _. ⊤) }
+        ensures going { MatchCall result (has_ended self.new ≡ false) ⊤ }
+        ensures below { MatchCall result (self.new.parts.steps < until) ⊤ }
     {
         while self.steps < until {
             self.log.clear();
             match self.plain() {
-                None => return None,
-                Some(end) => match end {
-                    StepEnd::Going => {}
-                    end => return Some(end),
-                },
+                Progress::GoesOn => {}
+                Progress::Trapped => return Progress::Trapped,
+                Progress::AtCall => return Progress::AtCall,
             }
         }
-        Some(StepEnd::Going)
+        Progress::GoesOn
     }
 
-    /// A step that isn't a call, with the log emptied. None asks for the call, with nothing else changed.
-    fn once(&mut self) -> Option<StepEnd>
+    /// A step that makes no call, with the log emptied. At a call nothing else is changed.
+    fn once(&mut self) -> Progress
         requires going { has_ended self.old ≡ false }
         requires room { self.old.parts.steps < 2 ^ 64 - 1 }
-        ensures turn { MatchOption result ((input : List ℕ) → model.turn self.old.parts input ≡ call self.old.parts input) (λ _. (input : List ℕ) → model.turn self.old.parts input ≡ quiet self.new.parts input) }
-        ensures kept { MatchOption result (self.new.parts ≡ self.old.parts) (λ _. self.new.failed ≡ false) }
-        ensures svc { MatchOption result (is_at_call self.old.parts ≡ true) (λ end. end ≡ step_end self.new.parts.ended) }
-        ensures counted { IfSome result (λ end. end ≡ StepEnd.Going → self.new.parts.steps ≡ self.old.parts.steps + 1) }
+        ensures turn { MatchCall result ((input : List ℕ) → model.turn self.old.parts input ≡ call self.old.parts input) ((input : List ℕ) → model.turn self.old.parts input ≡ quiet self.new.parts input) }
+        ensures kept { MatchCall result (self.new.parts ≡ self.old.parts) ⊤ }
+        ensures svc { result ≡ Progress.AtCall → is_at_call self.old.parts ≡ true }
+        ensures ended { EndsBy result self.new.parts }
+        ensures counted { result ≡ Progress.GoesOn → self.new.parts.steps ≡ self.old.parts.steps + 1 }
         ensures accesses { self.new.accesses ≡ model.accesses self.old.parts }
-        ensures going { self.new.failed ≡ false }
+        ensures failed { self.new.failed ≡ false }
     {
         let next = self.steps + 1;
         self.advance(next)
@@ -344,27 +367,14 @@ impl Machine {
     {
         while self.steps < budget {
             match self.advance(budget) {
-                Some(end) => return run_end_of(end),
-                None => match self.step(input, output, errors) {
+                Progress::GoesOn => return RunEnd::Spent,
+                Progress::Trapped => return run_end_of(step_end(self.ending())),
+                Progress::AtCall => match self.step(input, output, errors) {
                     StepEnd::Going => {}
                     end => return run_end_of(end),
                 },
             }
         }
         RunEnd::Spent
-    }
-}
-
-/// The answer of a run by that of its last step.
-fn run_end_of(end: StepEnd) -> RunEnd
-    ensures { result ≡ run_end_of end }
-{
-    match end {
-        StepEnd::Going => RunEnd::Spent,
-        StepEnd::Exit(code) => RunEnd::Exit(code),
-        StepEnd::Trap(trap) => RunEnd::Trap(trap),
-        StepEnd::ReadFault => RunEnd::ReadFault,
-        StepEnd::WriteFault => RunEnd::WriteFault,
-        StepEnd::ErrorsFault => RunEnd::ErrorsFault,
     }
 }

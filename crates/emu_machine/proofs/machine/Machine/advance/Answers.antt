@@ -1,23 +1,21 @@
-use Rattle.std.proofs.Common.{◌≡◌, ◌<◌, ◌+◌, ℕ, List, false, refl, ap, sym, subst, ◌∙◌, arith}
+use Rattle.std.proofs.Common.{◌≡◌, ◌<◌, ◌+◌, ℕ, List, false, ap, sym, subst, ◌∙◌, arith}
 use Rattle.emu_model.specs.declared.access.Access.{Access}
 use Rattle.emu_model.specs.State.{Parts}
 use Rattle.emu_system.specs.SystemCall.{call, quiet}
 use Rattle.emu_run.specs.Step.{accesses, turn}
 use Rattle.emu_machine.specs.Advances.{IsAhead}
-use Rattle.emu_machine.specs.declared.ends.StepEnd.TheVariants.{Going}
 use Rattle.emu_machine.specs.Machines.{MachineState, has_ended, is_at_call}
-use Rattle.emu_machine.proofs.Advanced.{ahead_on, last_ends}
-use Rattle.emu_machine.proofs.Performed.{not_failed}
-use Rattle.emu_machine.proofs.Runs.{goes, goes_on_after}
+use Rattle.emu_machine.proofs.Advanced.{ahead_on}
+use Rattle.emu_machine.proofs.Performed.{not_failed, still_goes}
 use Rattle.emu_machine.proofs.machine.Machine.advance.Goals as goal
 
 pub loop-self-preserved : goal.loop-self-preserved
 loop-self-preserved c =
     let p = c.loop-self.self.parts in
     let q = c.plain.new.self.parts in
-    let turns : (input : List ℕ) → turn p input ≡ quiet q input = λ input. ap (λ (s : MachineState). turn s.parts input) (sym c.self.view_is) ∙ c.in-Some.ensures.turn input in
-    let counted : q.steps ≡ p.steps + 1 = c.in-Some.ensures.counted c.in-Going.is ∙ ap (λ (s : MachineState). s.parts.steps + 1) c.self.view_is in
-    let going : has_ended c.plain.new.self ≡ false = goes_on_after c.plain.new.self Going refl (sym c.in-Going.is ∙ c.in-Some.ensures.svc) c.in-Some.ensures.kept in
+    let turns : (input : List ℕ) → turn p input ≡ quiet q input = λ input. ap (λ (s : MachineState). turn s.parts input) (sym c.self.view_is) ∙ c.in-GoesOn.ensures.turn input in
+    let counted : q.steps ≡ p.steps + 1 = c.plain.ensures.counted c.in-GoesOn.is ∙ ap (λ (s : MachineState). s.parts.steps + 1) c.self.view_is in
+    let going : has_ended c.plain.new.self ≡ false = still_goes c.plain.new.self c.in-GoesOn.ensures.ended c.in-GoesOn.ensures.kept in
     let made : c.plain.new.self.accesses ≡ accesses p = c.plain.ensures.accesses ∙ ap (λ (s : MachineState). accesses s.parts) c.self.view_is in
     let steps = ap (λ (s : MachineState). s.parts.steps) c.self.view_is in
     let below : p.steps < c.args.until = omega (arith, steps) in
@@ -25,13 +23,13 @@ loop-self-preserved c =
       going = going;
       within = omega (arith, counted, below);
       ahead = subst (λ (log : List Access). IsAhead c.args.self.now.parts q c.args.self.now.accesses log) (sym made)
-          (ahead_on c.args.self.now.parts p q c.args.self.now.accesses c.loop-self.self.accesses c.loop-self.invariant.ahead turns counted (goes c.plain.new.self.parts.ended c.plain.new.self.failed going));
+          (ahead_on c.args.self.now.parts p q c.args.self.now.accesses c.loop-self.self.accesses c.loop-self.invariant.ahead turns counted c.in-GoesOn.ensures.ended);
     }
 
-pub returns-in-None-clause-steps : goal.returns-in-None-clause-steps
-returns-in-None-clause-steps c =
+pub returns-in-AtCall-clause-steps : goal.returns-in-AtCall-clause-steps
+returns-in-AtCall-clause-steps c =
     let m = c.plain.new.self in
-    let k = ap (λ (s : MachineState). s.parts) c.in-None.ensures.kept in
+    let k = ap (λ (s : MachineState). s.parts) c.in-AtCall.ensures.kept in
     let same : m.parts ≡ c.loop-self.self.parts = k ∙ ap (λ (s : MachineState). s.parts) c.self.view_is in
     let steps = ap (λ (x : Parts). x.steps) k in
     record {
@@ -39,29 +37,28 @@ returns-in-None-clause-steps c =
       ahead = subst (λ (x : Parts). IsAhead c.args.self.now.parts x c.args.self.now.accesses c.loop-self.self.accesses) (sym same) c.loop-self.invariant.ahead;
       below = omega (arith, steps);
       clear = c.plain.ensures.accesses ∙ ap accesses (sym k);
-      calls = λ input. subst (λ (x : Parts). turn x input ≡ call x input) (sym k) (c.in-None.ensures.turn input);
-      svc = ap is_at_call k ∙ c.in-None.ensures.svc;
+      calls = λ input. subst (λ (x : Parts). turn x input ≡ call x input) (sym k) (c.in-AtCall.ensures.turn input);
+      svc = ap is_at_call k ∙ c.plain.ensures.svc c.in-AtCall.is;
     }
 
-pub returns-in-None-clause-failed : goal.returns-in-None-clause-failed
-returns-in-None-clause-failed c = ap (λ (s : MachineState). s.failed) c.in-None.ensures.kept ∙ ap (λ (s : MachineState). s.failed) c.self.view_is ∙ not_failed c.loop-self.self c.loop-self.invariant.going
+pub returns-in-AtCall-clause-failed : goal.returns-in-AtCall-clause-failed
+returns-in-AtCall-clause-failed c = ap (λ (s : MachineState). s.failed) c.in-AtCall.ensures.kept ∙ ap (λ (s : MachineState). s.failed) c.self.view_is ∙ not_failed c.loop-self.self c.loop-self.invariant.going
 
-pub returns-in-None-clause-going : goal.returns-in-None-clause-going
-returns-in-None-clause-going c = ap has_ended c.in-None.ensures.kept ∙ ap has_ended c.self.view_is ∙ c.loop-self.invariant.going
+pub returns-in-AtCall-clause-going : goal.returns-in-AtCall-clause-going
+returns-in-AtCall-clause-going c = ap has_ended c.in-AtCall.ensures.kept ∙ ap has_ended c.self.view_is ∙ c.loop-self.invariant.going
 
-pub returns-in-None-clause-below : goal.returns-in-None-clause-below
-returns-in-None-clause-below c = let steps = ap (λ (s : MachineState). s.parts.steps) c.in-None.ensures.kept in omega (arith, steps)
+pub returns-in-AtCall-clause-below : goal.returns-in-AtCall-clause-below
+returns-in-AtCall-clause-below c = let steps = ap (λ (s : MachineState). s.parts.steps) c.in-AtCall.ensures.kept in omega (arith, steps)
 
-pub returns-in_default-clause-steps : goal.returns-in_default-clause-steps
-returns-in_default-clause-steps c =
-    let p = c.loop-self.self.parts in
+pub returns-in-Trapped-clause-steps : goal.returns-in-Trapped-clause-steps
+returns-in-Trapped-clause-steps c =
     let steps = ap (λ (s : MachineState). s.parts.steps) c.self.view_is in
-    last_ends c.args.until c.args.self.now c.plain.new.self c.in-Some.end c.in_default.not-Going (record {
-      at = p;
+    record {
+      at = c.loop-self.self.parts;
       log = c.loop-self.self.accesses;
       ahead = c.loop-self.invariant.ahead;
       below = omega (arith, steps);
-      turns = λ input. ap (λ (s : MachineState). turn s.parts input) (sym c.self.view_is) ∙ c.in-Some.ensures.turn input;
+      turns = λ input. ap (λ (s : MachineState). turn s.parts input) (sym c.self.view_is) ∙ c.in-Trapped.ensures.turn input;
       accesses = c.plain.ensures.accesses ∙ ap (λ (s : MachineState). accesses s.parts) c.self.view_is;
-      ended = c.in-Some.ensures.svc;
-    })
+      ended = c.in-Trapped.ensures.ended;
+    }

@@ -1,7 +1,7 @@
-use Rattle.std.proofs.Common.{◌≡◌, ◌+◌, ℕ, is_none, true, ap, subst}
+use Rattle.std.proofs.Common.{◌≡◌, ◌+◌, is_none, true, ap, subst}
 use Rattle.emu_machine.specs.Advances.{Advances}
 use Rattle.emu_machine.specs.Machines.{MachineState}
-use Rattle.emu_machine.proofs.Advanced.{once_turn, once_kept, once_svc, once_counted, once_accesses}
+use Rattle.emu_machine.proofs.Advanced.{once_turn, once_kept, once_svc, once_ended, once_counted, once_accesses}
 use Rattle.emu_machine.proofs.Runs.{goes}
 use Rattle.emu_machine.proofs.machine.Machine.once.Goals.{After-advance}
 use Rattle.emu_machine.proofs.machine.Machine.once.Goals as goal
@@ -16,10 +16,13 @@ pub returns-clause-turn : goal.returns-clause-turn
 returns-clause-turn c = once_turn c.args.self.now c.advance.new.self c.advance.result (going c) (advances c)
 
 pub returns-clause-kept : goal.returns-clause-kept
-returns-clause-kept c = once_kept c.args.self.now c.advance.new.self c.advance.result c.advance.ensures.failed (advances c)
+returns-clause-kept c = once_kept c.args.self.now c.advance.new.self c.advance.result (advances c)
 
 pub returns-clause-svc : goal.returns-clause-svc
 returns-clause-svc c = once_svc c.args.self.now c.advance.new.self c.advance.result (advances c)
+
+pub returns-clause-ended : goal.returns-clause-ended
+returns-clause-ended c = once_ended c.args.self.now c.advance.new.self c.advance.result (advances c)
 
 pub returns-clause-counted : goal.returns-clause-counted
 returns-clause-counted c = once_counted c.args.self.now c.advance.new.self c.advance.result (advances c)

@@ -7,10 +7,9 @@ use Rattle.emu_model.specs.State.{Core, Parts, Vectors}
 use Rattle.emu_run.specs.declared.insn.Insn.{Insn}
 use Rattle.emu_run.specs.declared.insn.Insn.TheVariants.{A64}
 use Rattle.emu_run.specs.Step.{a64, decode, executed, executed_accesses}
-use Rattle.emu_machine.specs.Ends.{step_end}
-use Rattle.emu_machine.specs.Machines.{MachineState, is_at_call, is_svc}
-use Rattle.emu_machine.proofs.Turns.{HasFetched, turn_executes, accesses_of_word, call_of_word, call_as, executed_as}
-use Rattle.emu_machine.proofs.machine.Machine.plain.Goals.{After-vector, After-execute}
+use Rattle.emu_machine.specs.Machines.{MachineState, is_svc}
+use Rattle.emu_machine.proofs.Turns.{HasFetched, turn_executes, accesses_of_word, call_of_word, executed_as}
+use Rattle.emu_machine.proofs.machine.Machine.plain.Goals.{After-vector, After-scalar}
 use Rattle.emu_machine.proofs.machine.Machine.plain.Goals as goal
 
 fetched_at : (core : Core) (memory : Memory) (m : Parts) (pc word : ℕ) → core ≡ m.core → memory ≡ m.memory → pc ≡ core.pc → m.core.pc % 4 ≡ 0 → Ok word ≡ done_unless (refused memory pc 4 Fetch) Fetch (value memory pc 4) → HasFetched m word
@@ -43,8 +42,7 @@ returns-then-may_be_sve-clause-turn c =
     executed_as c.vector.result (decode c.in-Ok.word) c.args.self.now.parts _ _ (same_v c) (turn_executes c.args.self.now.parts c.in-Ok.word (fetched_v c)) c.vector.ensures.turn
 
 pub returns-then-may_be_sve-clause-svc : goal.returns-then-may_be_sve-clause-svc
-returns-then-may_be_sve-clause-svc c =
-    call_as c.vector.result (is_svc (decode c.in-Ok.word)) (is_at_call c.args.self.now.parts) (λ end. end ≡ step_end c.vector.new.self.parts.ended) (call_of_word c.args.self.now.parts c.in-Ok.word (fetched_v c)) c.vector.ensures.svc
+returns-then-may_be_sve-clause-svc c = λ h. sym (call_of_word c.args.self.now.parts c.in-Ok.word (fetched_v c)) ∙ c.vector.ensures.svc h
 
 pub returns-then-may_be_sve-clause-accesses : goal.returns-then-may_be_sve-clause-accesses
 returns-then-may_be_sve-clause-accesses c =
@@ -52,28 +50,31 @@ returns-then-may_be_sve-clause-accesses c =
 
 -- ---- an A64 instruction
 
-fetched_e : (c : After-execute) → HasFetched c.args.self.now.parts c.in-Ok.word
+fetched_e : (c : After-scalar) → HasFetched c.args.self.now.parts c.in-Ok.word
 fetched_e c =
     let e = c.self.view_is in let p = c.pc-pc.ensures.value in
     fetched_at c.self.inside.core c.self.inside.memory c.args.self.now.parts c.pc-pc.result c.in-Ok.word (ap (λ (s : MachineState). s.parts.core) e) (ap (λ (s : MachineState). s.parts.memory) e) p (grind arith) (sym c.in-Ok.is ∙ c.load.ensures.value)
 
-same_e : (c : After-execute) → record { core = c.self.inside.core; vectors = c.self.inside.vec; memory = c.load.new.self; brk = c.self.inside.brk; steps = c.self.inside.steps; ended = c.self.inside.ended } ≡ c.args.self.now.parts
+same_e : (c : After-scalar) → record { core = c.self.inside.core; vectors = c.self.inside.vec; memory = c.load.new.self; brk = c.self.inside.brk; steps = c.self.inside.steps; ended = c.self.inside.ended } ≡ c.args.self.now.parts
 same_e c =
     let i = c.self.inside in
     fetched_parts i.core i.vec i.memory c.load.new.self i.brk i.steps i.ended c.args.self.now.parts c.load.ensures.unchanged (ap (λ (s : MachineState). s.parts) c.self.view_is)
 
-insn_is : (c : After-execute) → Some (A64 c.in-Some.insn) ≡ decode c.in-Ok.word
+insn_is : (c : After-scalar) → Some (A64 c.in-Some.insn) ≡ decode c.in-Ok.word
 insn_is c = ap a64 (sym c.in-Some.is) ∙ c.decode_a64_word.ensures.table
 
 pub returns-in-Some-clause-turn : goal.returns-in-Some-clause-turn
 returns-in-Some-clause-turn c =
     let p = c.args.self.now.parts in
-    executed_as c.execute.result (Some (A64 c.in-Some.insn)) p _ _ (same_e c) (λ input. turn_executes p c.in-Ok.word (fetched_e c) input ∙ ap (λ (i : Option Insn). executed p input i) (sym (insn_is c))) c.execute.ensures.turn
+    executed_as c.scalar.result (Some (A64 c.in-Some.insn)) p _ _ (same_e c) (λ input. turn_executes p c.in-Ok.word (fetched_e c) input ∙ ap (λ (i : Option Insn). executed p input i) (sym (insn_is c))) c.scalar.ensures.turn
 
 pub returns-in-Some-clause-accesses : goal.returns-in-Some-clause-accesses
 returns-in-Some-clause-accesses c =
     let p = c.args.self.now.parts in
-    c.execute.ensures.accesses
+    c.scalar.ensures.accesses
     ∙ ap (λ (m : Parts). executed_accesses m (Some (A64 c.in-Some.insn))) (same_e c)
     ∙ ap (λ (i : Option Insn). executed_accesses p i) (insn_is c)
     ∙ accesses_of_word p c.in-Ok.word (fetched_e c)
+
+pub returns-in-Some-clause-svc : goal.returns-in-Some-clause-svc
+returns-in-Some-clause-svc c = λ h. sym (call_of_word c.args.self.now.parts c.in-Ok.word (fetched_e c)) ∙ ap is_svc (sym (insn_is c)) ∙ c.scalar.ensures.svc h

@@ -5,13 +5,13 @@ use Rattle.emu_run.specs.Step.{step}
 use Rattle.emu_machine.specs.Accesses.{run_accesses}
 use Rattle.emu_machine.specs.declared.ends.StepEnd.TheVariants.{Going, ReadFault, WriteFault, ErrorsFault}
 use Rattle.linux_calls.specs.Names.{NamesRead}
-use Rattle.emu_machine.specs.Ends.{IsKept, is_undone, is_unput, is_broken_off, run_end_of}
+use Rattle.emu_machine.specs.Ends.{IsKept, is_undone, is_unput, is_broken_off, run_end_of, step_end}
 use Rattle.emu_machine.specs.Machines.{MachineState, MakesWrite}
 use Rattle.emu_machine.proofs.Logs.{Logs, logs_start, logs_on, logs_end, logs_as, logs_spent}
 use Rattle.emu_machine.proofs.Stands.{stands_start, stands_on, stands_there, kept_there}
 use Rattle.emu_machine.proofs.Composed.{leads_start}
-use Rattle.emu_machine.proofs.Runs.{Ran, broken_as, run_counts, run_stops, run_spends, not_going, goes, goes_on_after, ran_as, ran_when, end_as, failed_as, last_step, going_is_no, causes_from, ran_step}
-use Rattle.emu_machine.proofs.Advanced.{causes_not, end_ended, ended_done, ended_logs, ended_ran, ended_spent, leads_ahead, logs_ahead, none_broken, not_both, stands_ahead}
+use Rattle.emu_machine.proofs.Runs.{Ran, broken_as, done_by_end, going_by, not_ended, run_counts, run_stops, run_spends, not_going, goes_on_after, ran_as, ran_when, end_as, failed_as, last_step, going_is_no, causes_from, ran_step}
+use Rattle.emu_machine.proofs.Advanced.{causes_not, last_logs, last_ran, leads_ahead, logs_ahead, none_broken, not_both, spent_logs, spent_ran, stands_ahead}
 use Rattle.emu_machine.proofs.machine.Machine.run.Goals as goal
 
 pub loop-self-init : goal.loop-self-init
@@ -28,7 +28,7 @@ loop-self-init g c = record {
 
 pub loop-self-preserved : goal.loop-self-preserved
 loop-self-preserved g c =
-    let asks = c.in-None.ensures.steps in
+    let asks = c.in-AtCall.ensures.steps in
     let p = c.advance.new.self.parts in
     let below : p.steps < c.args.budget = asks.below in
     let ahead = asks.ahead in
@@ -54,28 +54,55 @@ loop-self-preserved g c =
       errors = c.step.ensures.errors_cause.kept (going_is_no c.step.result ErrorsFault (λ (e : Going ≡ ErrorsFault). cc) c.in-Going.is) ∙ c.loop-self.invariant.errors;
     }
 
-pub returns-in-Some : goal.returns-in-Some
-returns-in-Some g c =
+pub returns-in-GoesOn : goal.returns-in-GoesOn
+returns-in-GoesOn g c =
     let q = c.advance.new.self in
-    let end = c.in-Some.end in
-    let by = c.in-Some.ensures.steps in
-    let done : is_undone end ≡ false = ended_done c.args.budget c.loop-self.self q end by in
-    let whole : is_broken_off c.run_end_of.result ≡ false = ap is_broken_off c.run_end_of.ensures ∙ sym (broken_as end) ∙ done in
-    let r = ran_as _ _ _ _ _ _ _ _ _ end c.run_end_of.result c.run_end_of.ensures
-    (ended_ran c.args.budget c.args.self.now.parts c.args.self.now.accesses c.loop-self.self q _ _ _ _ _ _ c.loop-self.invariant.leads end by) in
+    let d = c.in-GoesOn.ensures.steps in
+    let r = spent_ran c.args.budget c.args.self.now.parts c.args.self.now.accesses c.loop-self.self q _ _ _ _ _ _ c.loop-self.invariant.leads d in
     record {
       state = r.state;
       input = r.input;
       output = r.output;
       errors = r.errors;
-      end = end_as end c.run_end_of.result q.parts.ended c.run_end_of.ensures (λ _. end_ended c.args.budget c.loop-self.self q end by);
-      accesses = logs_as _ _ _ _ _ _ _ (broken_as end ∙ ap is_broken_off (sym c.run_end_of.ensures))
-          (λ _. ended_logs c.args.budget c.args.self.now.parts c.args.self.now.accesses c.loop-self.self q _ _ _ _ _ _ c.loop-self.invariant.leads c.loop-self.invariant.logs end by);
+      end = λ _. going_by q.parts.ended d.ahead.goes;
+      accesses = logs_as _ _ _ _ _ false false refl
+          (λ _. spent_logs c.args.budget c.args.self.now.parts c.args.self.now.accesses c.loop-self.self q _ _ _ _ _ _ c.loop-self.invariant.leads c.loop-self.invariant.logs d);
+      undone = λ h. not_both _ _ refl h;
+      kept = none_broken _ _ _ refl;
+      unspent = λ h. not_both _ _ refl h;
+      unended = λ h. not_both _ _ refl h;
+      spent = λ _. d.spent;
+      failed = c.advance.ensures.failed;
+      read_cause = causes_not _ _ _ c.loop-self.invariant.read (λ e. not_both _ _ refl (ap is_broken_off e));
+      write_cause = causes_not _ _ _ c.loop-self.invariant.write (λ e. not_both _ _ refl (ap is_broken_off e));
+      errors_cause = causes_not _ _ _ c.loop-self.invariant.errors (λ e. not_both _ _ refl (ap is_broken_off e));
+      read_named = λ h. not_both _ _ refl (ap is_broken_off h);
+      write_named = λ h. not_both _ _ refl (ap is_broken_off h);
+      errors_named = λ h. not_both _ _ refl (ap is_broken_off h);
+    }
+
+pub returns-in-Trapped : goal.returns-in-Trapped
+returns-in-Trapped g c =
+    let q = c.advance.new.self in
+    let end = c.step_end.result in
+    let d = c.in-Trapped.ensures.steps in
+    let ended : end ≡ step_end q.parts.ended = c.step_end.ensures ∙ ap step_end c.ending.ensures in
+    let whole : is_broken_off c.run_end_of.result ≡ false = ap is_broken_off c.run_end_of.ensures ∙ sym (broken_as end) ∙ ap is_undone ended ∙ done_by_end q.parts.ended in
+    let r = ran_when _ _ _ _ _ _ _ _ _ _ _ (sym whole)
+    (last_ran c.args.budget c.args.self.now.parts c.args.self.now.accesses c.loop-self.self q _ _ _ _ _ _ c.loop-self.invariant.leads d) in
+    record {
+      state = r.state;
+      input = r.input;
+      output = r.output;
+      errors = r.errors;
+      end = end_as end c.run_end_of.result q.parts.ended c.run_end_of.ensures (λ _. ended);
+      accesses = logs_as _ _ _ _ _ _ _ (sym whole)
+          (λ _. last_logs c.args.budget c.args.self.now.parts c.args.self.now.accesses c.loop-self.self q _ _ _ _ _ _ c.loop-self.invariant.leads c.loop-self.invariant.logs d);
       undone = λ h. not_both _ _ whole h;
       kept = none_broken _ _ _ whole;
       unspent = λ h. not_both _ _ whole h;
       unended = λ h. not_both _ _ whole h;
-      spent = λ h. ended_spent c.args.budget c.loop-self.self q end by (last_step end c.run_end_of.result _ c.run_end_of.ensures h);
+      spent = λ h. not_ended _ q.parts.ended (sym (last_step end c.run_end_of.result _ c.run_end_of.ensures h) ∙ ended) d.ended;
       failed = c.advance.ensures.failed ∙ sym whole;
       read_cause = causes_not _ _ _ c.loop-self.invariant.read (λ e. not_both _ _ whole (ap is_broken_off e));
       write_cause = causes_not _ _ _ c.loop-self.invariant.write (λ e. not_both _ _ whole (ap is_broken_off e));
@@ -87,7 +114,7 @@ returns-in-Some g c =
 
 pub returns-in_default : goal.returns-in_default
 returns-in_default g c =
-    let asks = c.in-None.ensures.steps in
+    let asks = c.in-AtCall.ensures.steps in
     let p = c.advance.new.self.parts in
     let below : p.steps < c.args.budget = asks.below in
     let ahead = asks.ahead in

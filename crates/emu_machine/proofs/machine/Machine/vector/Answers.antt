@@ -1,25 +1,28 @@
-use Rattle.std.proofs.Common.{◌≡◌, ℕ, List, Some, Option, MatchOption, ap, sym, ◌∙◌, subst}
+use Rattle.std.proofs.Common.{◌≡◌, Some, Option, ap, sym, ◌∙◌, subst}
 use Rattle.emu_run.specs.declared.insn.Insn.{Insn}
 use Rattle.emu_run.specs.declared.insn.Insn.TheVariants.{Sve}
-use Rattle.emu_run.specs.Step.{sve, decode, executed, executed_accesses}
-use Rattle.emu_system.specs.SystemCall.{call, quiet}
-use Rattle.emu_machine.specs.Ends.{step_end}
-use Rattle.emu_machine.specs.Machines.{is_svc}
-use Rattle.emu_machine.proofs.Turns.{call_as}
-use Rattle.emu_machine.proofs.machine.Machine.vector.Goals.{After-execute}
+use Rattle.emu_run.specs.Step.{sve, decode}
+use Rattle.emu_machine.proofs.Left.{HasDone, done_by}
+use Rattle.emu_machine.proofs.machine.Machine.vector.Goals.{After-leave_insn}
 use Rattle.emu_machine.proofs.machine.Machine.vector.Goals as goal
 
-insn_is : (c : After-execute) → Some (Sve c.in-Some.insn) ≡ decode c.args.word
-insn_is c = ap sve (sym c.in-Some.is) ∙ c.decode_sve_word.ensures.table
+done : (c : After-leave_insn) → HasDone (decode c.args.word) c.args.self.now c.leave_insn.new.self c.leave_insn.result
+done c =
+    let i = c.self-in-Some.inside in
+    let n = c.perform_sve-effect.new in
+    let is : Some (Sve c.in-Some.insn) ≡ decode c.args.word = ap sve (sym c.in-Some.is) ∙ c.decode_sve_word.ensures.table in
+    subst (λ (o : Option Insn). HasDone o c.args.self.now c.leave_insn.new.self c.leave_insn.result) is
+    (done_by (Sve c.in-Some.insn) i.core n.core i.vec n.vec i.memory n.memory i.brk i.steps i.ended i.log.items n.log.items i.failed c.perform_sve-effect.result c.leave_insn.result c.args.self.now c.leave_insn.new.self
+    c.self-in-Some.view_is c.requires.clear c.requires.going c.perform_sve-effect.ensures c.leave_insn.ensures.progress c.leave_insn.ensures.parts c.leave_insn.ensures.accesses c.leave_insn.ensures.failed)
 
-pub returns-in-Some-clause-turn : goal.returns-in-Some-clause-turn
-returns-in-Some-clause-turn c =
-    let p = c.args.self.now.parts in
-    subst (λ (i : Option Insn). MatchOption c.execute.result ((input : List ℕ) → executed p input i ≡ call p input) (λ _. (input : List ℕ) → executed p input i ≡ quiet c.execute.new.self.parts input)) (insn_is c) c.execute.ensures.turn
-
-pub returns-in-Some-clause-svc : goal.returns-in-Some-clause-svc
-returns-in-Some-clause-svc c =
-    call_as c.execute.result (is_svc (Some (Sve c.in-Some.insn))) (is_svc (decode c.args.word)) (λ end. end ≡ step_end c.execute.new.self.parts.ended) (ap is_svc (insn_is c)) c.execute.ensures.svc
-
-pub returns-in-Some-clause-accesses : goal.returns-in-Some-clause-accesses
-returns-in-Some-clause-accesses c = c.execute.ensures.accesses ∙ ap (λ (i : Option Insn). executed_accesses c.args.self.now.parts i) (insn_is c)
+pub returns-in-Some : goal.returns-in-Some
+returns-in-Some c =
+    let d = done c in
+    record {
+      turn = d.turn;
+      kept = d.kept;
+      svc = d.svc;
+      ended = d.ended;
+      counted = d.counted;
+      accesses = d.accesses;
+    }

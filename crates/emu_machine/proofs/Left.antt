@@ -1,0 +1,90 @@
+-- What a step that does an instruction makes of the machine, by the instruction's effect.
+use Rattle.std.proofs.Common.{◌≡◌, ℕ, ◌+◌, Bool, true, false, List, [], Option, Some, refl, ap, sym, subst, ◌∙◌}
+use Rattle.emu_model.specs.declared.access.Access.{Access}
+use Rattle.emu_model.specs.declared.program_break.Break.{Break}
+use Rattle.emu_model.specs.declared.trap.Effect.{Effect}
+use Rattle.emu_model.specs.declared.trap.Effect.TheVariants.{Next, Branch, Call, Trap}
+use Rattle.emu_model.specs.declared.trap.Ended.{Ended}
+use Rattle.emu_model.specs.Access.{Memory}
+use Rattle.emu_model.specs.Done.{Done}
+use Rattle.emu_model.specs.State.{Core, Vectors, Parts}
+use Rattle.emu_run.specs.declared.insn.Insn.{Insn}
+use Rattle.emu_run.specs.Step.{executed, executed_accesses, finish, performed}
+use Rattle.emu_system.specs.SystemCall.{call, quiet}
+use Rattle.emu_machine.specs.Advances.{EndsBy, MatchCall, left_by_effect, progress_by}
+use Rattle.emu_machine.specs.declared.ends.Progress.{Progress}
+use Rattle.emu_machine.specs.declared.ends.Progress.TheVariants.{GoesOn, AtCall}
+use Rattle.emu_machine.specs.Machines.{MachineState, has_ended, is_svc}
+use Rattle.emu_machine.proofs.Performed.{AsksFor, asks_for, machine_of, not_failed, same_machine}
+use Rattle.emu_machine.proofs.Runs.{goes}
+
+-- the step of an instruction, or of a word that is none
+pub record HasDone (insn : Option Insn) (old new : MachineState) (r : Progress) : Type 0 where
+  pub turn : MatchCall r ((input : List ℕ) → executed old.parts input insn ≡ call old.parts input) ((input : List ℕ) → executed old.parts input insn ≡ quiet new.parts input)
+  pub kept : MatchCall r (new ≡ old) (new.failed ≡ false)
+  pub svc : r ≡ AtCall → is_svc insn ≡ true
+  pub ended : EndsBy r new.parts
+  pub counted : r ≡ GoesOn → new.parts.steps ≡ old.parts.steps + 1
+  pub accesses : new.accesses ≡ executed_accesses old.parts insn
+
+abbrev state_of : Parts → List Access → Bool → MachineState
+state_of p l failed = record { parts = p; accesses = l; failed = failed }
+
+rebuilt : (p : Parts) (l : List Access) (failed : Bool) (m : MachineState) → m.parts ≡ p → m.accesses ≡ l → m.failed ≡ failed → state_of p l failed ≡ m
+rebuilt p l failed m parts log same =
+    ap (λ (x : Parts). state_of x l failed) (sym parts) ∙ ap (λ (x : List Access). state_of m.parts x failed) (sym log) ∙ ap (λ (x : Bool). state_of m.parts m.accesses x) (sym same)
+
+module _ (i : Insn) (c d : Core) (v w : Vectors) (m n : Memory) (brk : Break) (steps : ℕ) (ended : Option Ended) (k l : List Access) (failed : Bool) where
+  -- the machine before the instruction, and what the instruction left
+  abbrev before : MachineState
+  before = machine_of c v m brk steps ended k failed
+
+  abbrev left : Effect → MachineState
+  left e = state_of (left_by_effect e (machine_of d w n brk steps ended l failed).parts) l failed
+
+  module _ (clear : k ≡ []) (going : has_ended before ≡ false) where
+    by_effect : (e : Effect) → performed i c v m ≡ record { core = d; vectors = w; memory = n; accesses = l; effect = e } → HasDone (Some i) before (left e) (progress_by e)
+    by_effect Next is = record {
+      turn = λ input. ap (λ (x : Done). finish before.parts input x) is;
+      kept = not_failed before going;
+      svc = λ h. cc;
+      ended = goes ended failed going;
+      counted = λ h. refl;
+      accesses = sym (ap (λ (x : Done). x.accesses) is);
+    }
+    by_effect (Branch a) is = record {
+      turn = λ input. ap (λ (x : Done). finish before.parts input x) is;
+      kept = not_failed before going;
+      svc = λ h. cc;
+      ended = goes ended failed going;
+      counted = λ h. refl;
+      accesses = sym (ap (λ (x : Done). x.accesses) is);
+    }
+    by_effect (Trap t) is = record {
+      turn = λ input. ap (λ (x : Done). finish before.parts input x) is;
+      kept = not_failed before going;
+      svc = λ h. cc;
+      ended = refl;
+      counted = λ h. cc;
+      accesses = sym (ap (λ (x : Done). x.accesses) is);
+    }
+    by_effect Call is =
+        let asked : AsksFor i c d v w m n l = asks_for i c d v w m n l Call is refl in
+        record {
+          turn = λ input. ap (λ (x : Done). finish before.parts input x) is;
+          kept = same_machine c d v w m n brk steps ended k l failed asked.core asked.vectors asked.memory (asked.none ∙ sym clear);
+          svc = λ h. asked.svc;
+          ended = tt;
+          counted = λ h. cc;
+          accesses = sym (ap (λ (x : Done). x.accesses) is);
+        }
+
+  pub done_by : (e : Effect) (r : Progress) (old new : MachineState) → before ≡ old → old.accesses ≡ [] → has_ended old ≡ false
+      → performed i c v m ≡ record { core = d; vectors = w; memory = n; accesses = l; effect = e } → r ≡ progress_by e → new.parts ≡ (left e).parts → new.accesses ≡ l → new.failed ≡ failed → HasDone (Some i) old new r
+  done_by e r old new view clear going is by parts log same =
+      let made : left e ≡ new = rebuilt (left e).parts l failed new parts log same in
+      let none : k ≡ [] = ap (λ (s : MachineState). s.accesses) view ∙ clear in
+      let goes_on : has_ended before ≡ false = ap has_ended view ∙ going in
+      subst (λ (x : MachineState). HasDone (Some i) x new r) view
+      (subst (λ (x : MachineState). HasDone (Some i) before x r) made
+      (subst (λ (x : Progress). HasDone (Some i) before (left e) x) (sym by) (by_effect none goes_on e is)))

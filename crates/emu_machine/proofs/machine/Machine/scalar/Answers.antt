@@ -1,0 +1,24 @@
+use Rattle.emu_run.specs.declared.insn.Insn.TheVariants.{A64}
+use Rattle.std.proofs.Common.{Some}
+use Rattle.emu_machine.proofs.Left.{HasDone, done_by}
+use Rattle.emu_machine.proofs.machine.Machine.scalar.Goals.{After-leave_insn}
+use Rattle.emu_machine.proofs.machine.Machine.scalar.Goals as goal
+
+done : (c : After-leave_insn) → HasDone (Some (A64 c.args.insn.now)) c.args.self.now c.leave_insn.new.self c.leave_insn.result
+done c =
+    let i = c.self.inside in
+    let n = c.perform_a64-effect.new in
+    done_by (A64 c.args.insn.now) i.core n.core i.vec n.vec i.memory n.memory i.brk i.steps i.ended i.log.items n.log.items i.failed c.perform_a64-effect.result c.leave_insn.result c.args.self.now c.leave_insn.new.self
+    c.self.view_is c.requires.clear c.requires.going c.perform_a64-effect.ensures c.leave_insn.ensures.progress c.leave_insn.ensures.parts c.leave_insn.ensures.accesses c.leave_insn.ensures.failed
+
+pub returns : goal.returns
+returns c =
+    let d = done c in
+    record {
+      turn = d.turn;
+      kept = d.kept;
+      svc = d.svc;
+      ended = d.ended;
+      counted = d.counted;
+      accesses = d.accesses;
+    }
