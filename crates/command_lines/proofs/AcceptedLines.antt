@@ -17,7 +17,7 @@ use Rattle.command_model.specs.declared.command_line.OptionName.TheVariants.{Vl,
 use Rattle.command_model.specs.declared.command_line.WordsFault.{WordsFault}
 use Rattle.command_model.specs.declared.command_line.WordsWhy.{WordsWhy}
 use Rattle.command_model.specs.declared.command_line.WordsWhy.TheVariants.{Repeated, MissingValue, ExtraWord, MissingWord}
-use Rattle.dbg_model.specs.Script.{and_then}
+use Rattle.line_words.specs.Refusals.{and_then}
 use Rattle.command_model.specs.CommandLine.{Seen, args_of, command_of, end_of, first_too_long, first_with_zero, given, is_option, line_of, line_of_command, line_of_words, nothing_seen, option_of, plain_words_of, read_item, read_option, read_plain, read_value, read_word, read_words, refused, pages_of, takes_arguments, value_of_word, with_budget, with_machine, with_plain, with_value}
 use Rattle.emu_outcome.specs.Outcome.{program_arguments}
 use Rattle.command_lines.specs.Places.{HasArguments, HasPlaces}

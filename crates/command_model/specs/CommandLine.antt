@@ -7,7 +7,7 @@ use Rattle.std.specs.List.{find, list_all, range_with_len, starts_with}
 use Rattle.std.specs.Option.{option_map_or}
 use Rattle.std.specs.Str.{bytes_eq}
 use Rattle.std.specs.Str.Parse.{digits_value}
-use Rattle.dbg_model.specs.Script.{and_then}
+use Rattle.line_words.specs.Refusals.{and_then}
 use Rattle.emu_model.specs.Lengths.{is_vector_length}
 use Rattle.emu_system.specs.Arguments.{is_free_of_zeros}
 use Rattle.command_model.specs.declared.command_line.Command.{Command}

@@ -7,7 +7,7 @@ use Rattle.asm_layout.specs.declared.assembly.AsmError.{AsmError}
 use Rattle.asm_layout.specs.declared.assembly.AsmError.TheVariants.{Refused}
 use Rattle.io_gate.specs.Streams.{PutsAll}
 use Rattle.command_model.specs.Refusals.{listing_line}
-use Rattle.dbg_model.specs.Script.{is_newline}
+use Rattle.line_words.specs.Lines.{is_newline}
 use Rattle.insn_texts.specs.Statements.{statements}
 use Rattle.listing_model.specs.Image.{image_of, image_of_bytes}
 use Rattle.listing_model.specs.declared.fault.ListingFault.{ListingFault}

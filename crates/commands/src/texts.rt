@@ -1,6 +1,6 @@
 //! Files that have to be texts.
 ghost use Rattle.std.specs.Prelude.{◌≡◌, ◌≤◌, ◌+◌, count_by, length, take};
-ghost use Rattle.dbg_model.specs.Script.{is_newline};
+ghost use Rattle.line_words.specs.Lines.{is_newline};
 
 /// The line of a place among the bytes of a file, counted from 1.
 pub fn line_of_place(bytes: &[u8], place: usize) -> u32

@@ -1,16 +1,13 @@
 -- What the text of a debugger script says: its commands, or its first refusal. `script`, at the end, is the whole of it.
 --
--- A line ends with a newline; a last line without one counts. Words are what stands between spaces. A line without a word, and a
--- line whose first byte is `#`, are skipped; any other is a command.
-use Rattle.std.specs.Prelude.{ℕ, ◌+◌, ◌-◌, ◌^◌, Bool, false, ◌&&◌, ◌||◌, not, List, [], ◌∷◌, ◌++◌, length, take, drop, get_or, filter, count_by, codes, Option, Some, None, Result, Ok, Err, nat_eq, nat_lt, nat_le, if◌then◌else◌, slice_get, slice_index}
-use Rattle.std.specs.List.{list_all, slice_split, starts_with}
+-- Each line that isn't skipped is a command.
+use Rattle.std.specs.Prelude.{ℕ, ◌+◌, ◌-◌, ◌^◌, Bool, false, ◌&&◌, List, [], ◌∷◌, ◌++◌, length, get_or, count_by, codes, Result, Ok, Err, nat_lt, nat_le, if◌then◌else◌, slice_get}
 use Rattle.std.specs.Option.{option_map_or}
-use Rattle.std.specs.Char.{digit_value}
 use Rattle.std.specs.Str.{bytes_eq, is_utf8}
-use Rattle.std.specs.Str.Lossy.{utf8_valid_len}
-use Rattle.std.specs.Str.Parse.{digits_value}
 use Rattle.emu_bits.specs.declared.flags.Esize.{Esize}
 use Rattle.emu_bits.specs.declared.flags.Esize.TheVariants.{B, H, S, D}
+use Rattle.line_words.specs.Lines.{lines, words, is_skipped, number_of_word, line_of_bad_byte}
+use Rattle.line_words.specs.Refusals.{and_then}
 use Rattle.dbg_model.specs.declared.script.Command.{Command}
 use Rattle.dbg_model.specs.declared.script.Command.TheVariants.{Step, Go, Break, Watch, Regs, Vl, Zreg, Preg, Ffr, Lanes, Mem}
 use Rattle.dbg_model.specs.declared.script.ScriptFault.{ScriptFault}
@@ -18,50 +15,7 @@ use Rattle.dbg_model.specs.declared.script.ScriptWhy.{ScriptWhy}
 use Rattle.dbg_model.specs.declared.script.ScriptWhy.TheVariants.{NotUtf8, TooManyLines, UnknownCommand, MissingWord, BadNumber, OutOfRange, ExtraWord, TooMany}
 use Rattle.dbg_model.specs.Commands.{is_break, is_watch, most_marks}
 
--- what follows where nothing is refused
-abbrev pub and_then : {T U E : Type 0} → Result T E → (T → Result U E) → Result U E
-and_then (Ok value) next = next value
-and_then (Err why) next = Err why
-
--- ---- lines and words
-
-abbrev pub is_newline : ℕ → Bool
-is_newline c = nat_eq c 10
-
-abbrev pub is_space : ℕ → Bool
-is_space c = nat_eq c 32
-
-abbrev pub is_empty : List ℕ → Bool
-is_empty text = nat_eq (length text) 0
-
--- behind the last newline nothing is no line
-abbrev pub lines_of_parts : List (List ℕ) → List (List ℕ)
-lines_of_parts parts = if is_empty (get_or parts (length parts - 1) []) then take (length parts - 1) parts else parts
-
-abbrev pub lines : List ℕ → List (List ℕ)
-lines text = lines_of_parts (slice_split is_newline text)
-
-abbrev pub words : List ℕ → List (List ℕ)
-words line = filter (λ word. not (is_empty word)) (slice_split is_space line)
-
-abbrev pub is_skipped : List ℕ → Bool
-is_skipped line = nat_eq (slice_index line 0) 35 || nat_eq (length (words line)) 0
-
 -- ---- arguments
-
--- the digits of a radix, of either case, with any leading zeros, write a number of at most 2^64 - 1
-abbrev pub is_digit : ℕ → ℕ → Bool
-is_digit radix c = nat_lt (digit_value c) radix
-
-abbrev pub is_numeral : ℕ → List ℕ → Bool
-is_numeral radix digits = nat_lt 0 (length digits) && list_all (is_digit radix) digits
-
-abbrev pub number_of_digits : ℕ → List ℕ → Option ℕ
-number_of_digits radix digits = if is_numeral radix digits && nat_lt (digits_value radix digits) (2 ^ 64) then Some (digits_value radix digits) else None
-
--- the number that a word writes: decimal, or behind `0x` hexadecimal
-abbrev pub number_of_word : List ℕ → Option ℕ
-number_of_word word = if starts_with nat_eq word (codes "0x") then number_of_digits 16 (drop 2 word) else number_of_digits 10 word
 
 abbrev pub in_range : ℕ → ℕ → ℕ → Result ℕ ScriptWhy
 in_range least most n = if nat_le least n && nat_le n most then Ok n else Err OutOfRange
@@ -165,4 +119,4 @@ script text = if nat_lt 10000 (length (lines text)) then refused TooManyLines 10
 
 -- the script of a file, which is refused at the line of its first bad byte where it is no text
 abbrev pub script_of_file : List ℕ → Result (List Command) ScriptFault
-script_of_file bytes = if is_utf8 bytes then script bytes else refused NotUtf8 (1 + count_by is_newline (take (utf8_valid_len bytes) bytes))
+script_of_file bytes = if is_utf8 bytes then script bytes else refused NotUtf8 (line_of_bad_byte bytes)

@@ -5,7 +5,9 @@ use Rattle.dbg_model.specs.declared.script.Command.{Command}
 use Rattle.dbg_model.specs.declared.script.ScriptFault.{ScriptFault}
 use Rattle.dbg_model.specs.declared.script.ScriptWhy.{ScriptWhy}
 use Rattle.dbg_model.specs.declared.script.ScriptWhy.TheVariants.{TooMany, TooManyLines}
-use Rattle.dbg_model.specs.Script.{and_then, at_line, command_of, followed, is_full, is_skipped, lines, read_line, read_lines, refused, script, words}
+use Rattle.line_words.specs.Lines.{lines, words, is_skipped}
+use Rattle.line_words.specs.Refusals.{and_then}
+use Rattle.dbg_model.specs.Script.{at_line, command_of, followed, is_full, read_line, read_lines, refused, script}
 use Rattle.dbg_scripts.specs.declared.reader.ScriptError.{ScriptError}
 use Rattle.dbg_scripts.specs.declared.reader.ScriptError.TheVariants.{Refused, OutOfMemory}
 use Rattle.dbg_scripts.specs.Reading.{IsErrorOf}

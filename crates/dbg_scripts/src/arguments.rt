@@ -2,9 +2,9 @@
 ghost use Rattle.std.specs.Prelude.{◌≡◌, map};
 ghost use Rattle.dbg_model.specs.Script.{argument, in_range, number_within, size_argument, size_of_word};
 
-use crate::numbers::number_of_word;
 use dbg_model::ScriptWhy;
 use emu_bits::Esize;
+use line_words::number_of_word;
 
 /// A number in a range, or OutOfRange.
 fn in_range(least: u64, most: u64, n: u64) -> Result<u64, ScriptWhy>

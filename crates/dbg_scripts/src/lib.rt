@@ -5,8 +5,6 @@
 
 mod arguments;
 mod commands;
-mod numbers;
 mod reader;
-mod texts;
 
 pub use reader::{ScriptError, read_script};

@@ -1,11 +1,10 @@
 //! A script line by line.
-ghost use Rattle.std.specs.Prelude.{◌≡◌, ◌<◌, ◌≤◌, [], get_or, length, map, MatchResult};
+ghost use Rattle.std.specs.Prelude.{◌≡◌, ◌≤◌, MatchResult};
 ghost use Rattle.dbg_model.specs.Commands.{is_break, is_watch};
-ghost use Rattle.dbg_model.specs.Script.{at_line, is_full, is_skipped, read_line, script, words};
+ghost use Rattle.dbg_model.specs.Script.{at_line, is_full, read_line, script};
 ghost use Rattle.dbg_scripts.specs.Reading.{IsErrorOf, Leaves};
 
 use crate::commands::command_of;
-use crate::texts;
 use dbg_model::{Command, Script, ScriptFault, ScriptWhy};
 use std::alloc::{AllocError, Global};
 use thiserror::Error;
@@ -72,22 +71,6 @@ fn is_watch(command: &Command) -> bool
     matches!(command, Command::Watch(_, _))
 }
 
-/// Whether a line is no command.
-fn is_skipped(line: &str, found: &[&str]) -> bool
-    requires { map (λ word. word.now) found.now ≡ words line.now }
-    ensures { result ≡ is_skipped line.now }
-{
-    line.as_bytes().first() == Some(&b'#') || found.is_empty()
-}
-
-/// The line at a place.
-fn line_at<'a>(lines: &[&'a str], place: usize) -> &'a str
-    requires { place < length lines.now }
-    ensures { result.now ≡ get_or (map (λ line. line.now) lines.now) place [] }
-{
-    lines[place]
-}
-
 /// Reads a line behind those before it.
 fn read_line(
     alloc: Global,
@@ -98,8 +81,8 @@ fn read_line(
     requires { number ≤ 10001 }
     ensures { Leaves (at_line number (read_line script.old line.now)) script.new result }
 {
-    let words = texts::words(alloc, line)?;
-    if is_skipped(line, &words) {
+    let words = line_words::words(alloc, line)?;
+    if line_words::is_skipped(line, &words) {
         return Ok(());
     }
     let command = match command_of(&words) {
@@ -121,13 +104,13 @@ fn read_line(
 pub fn read_script(alloc: Global, text: &str) -> Result<Script, ScriptError>
     ensures { MatchResult result (λ read. script text.now ≡ Ok read) (IsErrorOf (script text.now)) }
 {
-    let lines = texts::lines(alloc, text)?;
+    let lines = line_words::lines(alloc, text)?;
     if lines.len() > MOST_LINES {
         return Err(refused(ScriptWhy::TooManyLines, MOST_LINES + 1));
     }
     let mut script = Script::new(alloc);
     for place in 0..lines.len() {
-        let line = line_at(&lines, place);
+        let line = line_words::text_at(&lines, place);
         if let Err(error) = read_line(alloc, &mut script, line, place + 1) {
             return Err(error);
         }

@@ -8,5 +8,5 @@ returns-in-Err c =
     let items = c.in_ok-lines.lines.items in
     let ls = map (λ line. line.now) items in
     let count : length ls ≡ length items = length-map items (λ (line : Bor (List ℕ)). line.now) in
-    stop_at c.args.text.now ls c.loop-place.script c.loop-place.place c.line_at-line.result.now c.in-Err.error c.in_ok-lines.ensures (omega (arith, count)) (omega (arith, count))
-    (c.line_at-line.ensures ∙ ap (λ (words : List (Bor (List ℕ))). get_or (map (λ word. word.now) words) c.loop-place.place []) c.deref.ensures.value) c.loop-place.invariant c.in-Err.ensures
+    stop_at c.args.text.now ls c.loop-place.script c.loop-place.place c.text_at-line.result.now c.in-Err.error c.in_ok-lines.ensures (omega (arith, count)) (omega (arith, count))
+    (c.text_at-line.ensures ∙ ap (λ (words : List (Bor (List ℕ))). get_or (map (λ word. word.now) words) c.loop-place.place []) c.deref.ensures.value) c.loop-place.invariant c.in-Err.ensures
