@@ -1,6 +1,7 @@
 -- A statement as an A64 instruction.
 use Rattle.std.specs.Prelude.{◌≡◌, ℕ, Option, Some, None, Result, Ok, Err, List}
 use Rattle.emu_bits.specs.Rows.{instruction}
+use Rattle.a64_insn.specs.declared.form.A64Form.{A64Form}
 use Rattle.a64_insn.specs.Table.{a64_table}
 use Rattle.text_tokens.specs.Tokens.{tokens}
 use Rattle.text_model.specs.declared.slots.Refusal.{Refusal}
@@ -33,3 +34,23 @@ pub record IsRefused (name rest : List ℕ) (e : AsmFault) : Type 0 where
   pub refusal : Refusal
   pub refused : a64_reads name rest ≡ Err refusal
   pub fault : e ≡ fault_of refusal
+
+-- What a statement goes to is a label.
+pub record IsLabel (d : Option Destination) : Type 0 where
+  pub label : List ℕ
+  pub is : d ≡ Some (to_label label)
+
+-- A word is an instruction, and what it goes to is a label.
+pub record GoesToLabel (word : ℕ) (d : Option Destination) : Type 0 where
+  pub form : A64Form
+  pub insn : instruction a64_table word ≡ Some form
+  pub label : List ℕ
+  pub is : d ≡ Some (to_label label)
+
+-- The statement is read as an instruction that goes to a label, which stands at its end.
+pub record EndsInLabel (name rest : List ℕ) : Type 0 where
+  pub word : ℕ
+  pub form : A64Form
+  pub label : List ℕ
+  pub read : a64_reads name rest ≡ Ok (record { word = word; target = Some (to_label label) })
+  pub insn : instruction a64_table word ≡ Some form

@@ -3,3 +3,4 @@ pub mod Leading
 pub mod Stored
 pub mod Aimable
 pub mod Colons
+pub mod Wanting

@@ -1,6 +1,7 @@
 //! Directives.
-ghost use Rattle.std.specs.Prelude.{drop};
+ghost use Rattle.std.specs.Prelude.{◌≡◌, ◌≢◌, Err, drop, true};
 ghost use Rattle.std.specs.Str.{IsCharBoundary};
+ghost use Rattle.asm_lines.specs.Wanting.{is_copied};
 ghost use Rattle.listing_model.specs.Directives.{no_argument, directive_of};
 ghost use Rattle.listing_model.specs.Faults.{Answers};
 ghost use Rattle.text_tokens.specs.Tokens.{tokens};
@@ -15,7 +16,8 @@ use std::alloc::Global;
 /// A directive without arguments, where no token is left from a place on.
 fn alone(directive: Directive, text: &str, at: usize) -> Result<Directive, AsmFault>
     requires { IsCharBoundary text.now at }
-    ensures { Answers result (no_argument directive (tokens (drop at text.now))) }
+    ensures read { Answers result (no_argument directive (tokens (drop at text.now))) }
+    ensures wanting { result ≢ Err AsmFault.OutOfMemory }
 {
     if is_over(text, at) {
         Ok(directive)
@@ -24,7 +26,7 @@ fn alone(directive: Directive, text: &str, at: usize) -> Result<Directive, AsmFa
     }
 }
 
-/// The directive of a name and of the tokens from a place on.
+/// The directive of a name and of the tokens from a place on. Memory is wanting only for a list, a string or an entry.
 pub fn read_directive(
     alloc: Global,
     name: DirectiveName,
@@ -32,7 +34,8 @@ pub fn read_directive(
     at: usize,
 ) -> Result<Directive, AsmFault>
     requires { IsCharBoundary text.now at }
-    ensures { Answers result (directive_of name (tokens (drop at text.now))) }
+    ensures read { Answers result (directive_of name (tokens (drop at text.now))) }
+    ensures wanting { result ≡ Err AsmFault.OutOfMemory → is_copied name ≡ true }
 {
     match name {
         DirectiveName::Code => alone(Directive::Code, text, at),

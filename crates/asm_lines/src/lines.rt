@@ -1,8 +1,9 @@
 //! Whole lines.
-ghost use Rattle.std.specs.Prelude.{◌≡◌, drop, IfOk, IfSome};
+ghost use Rattle.std.specs.Prelude.{◌≡◌, drop, Err, IfOk, IfSome};
 ghost use Rattle.std.specs.Str.{IsCharBoundary};
 ghost use Rattle.asm_lines.specs.Aimable.{IsAimable};
 ghost use Rattle.asm_lines.specs.Colons.{IsColon};
+ghost use Rattle.asm_lines.specs.Wanting.{IsBodyCopied, IsLineCopied};
 ghost use Rattle.listing_model.specs.Faults.{Answers};
 ghost use Rattle.listing_model.specs.LineOf.{body_of, line_of, colon};
 ghost use Rattle.text_tokens.specs.Layout.{is_sign};
@@ -24,6 +25,7 @@ fn read_body<T: Instructions>(
     requires { IsCharBoundary text.now at }
     ensures read { Answers result (body_of T.statements (tokens (drop at text.now))) }
     ensures target { IfOk result (λ b. IsAimable T.has_target b) }
+    ensures wanting { result ≡ Err AsmFault.OutOfMemory → IsBodyCopied T.statements (tokens (drop at text.now)) }
 {
     let Some(token) = next_token(text, at) else {
         return Ok(Body::Nothing);
@@ -63,10 +65,12 @@ fn is_a_colon(token: &str) -> bool
     }
 }
 
-/// What a line says, or why it is refused. Where an instruction has a target, its text has one.
+/// What a line says, or why it is refused. Where an instruction has a target, its text has one. Memory is wanting only
+/// for a label, a list of numbers, a string, an entry, or a label that the statement ends in.
 pub fn read_line<T: Instructions>(alloc: Global, text: &str) -> Result<Line<T::Insn>, AsmFault>
     ensures read { Answers result (line_of T.statements text.now) }
     ensures target { IfOk result (λ l. IsAimable T.has_target l.body) }
+    ensures wanting { result ≡ Err AsmFault.OutOfMemory → IsLineCopied T.statements (tokens text.now) }
 {
     if text.len() > 256 {
         return Err(AsmFault::LongLine);

@@ -30,9 +30,10 @@ use Rattle.sve_insn.specs.Table.{sve_table}
 use Rattle.sve_texts.specs.Law as vectors
 use Rattle.sve_texts.specs.Table.{sve_patterns}
 use Rattle.text_model.specs.declared.slots.Refusal.{Refusal}
-use Rattle.text_model.specs.Statement.{Destination, Statement, reads_tokens}
+use Rattle.text_model.specs.Statement.{Destination, to_label, Statement, reads_tokens}
 use Rattle.text_tokens.specs.Layout.{is_sign}
 use Rattle.text_tokens.specs.Tokens.{tokens}
+use Rattle.asm_lines.specs.Wanting.{SaysLabel}
 use Rattle.asm_text.specs.Canonical.{HasCanonical}
 use Rattle.asm_text.proofs.Base.{canonical_read as base_canonical, line_read}
 use Rattle.asm_text.proofs.Targeted.{targeted}
@@ -77,7 +78,7 @@ either_canonical (Ok s) g p h b v = with_base (instruction a64_table s.word) s.t
 either_canonical (Err e) (Ok s) p h b v = with_vector (instruction sve_table s.word) s.target p h (λ f i. v s f refl i)
 either_canonical (Err e) (Err f) p h b v = absurd (cc)
 
-reads_canonical : (name : List ℕ) (ts : List (List ℕ)) (p : Insn × Option Target) → reads name ts ≡ Ok p → is_canonical p.0 ≡ true
+pub reads_canonical : (name : List ℕ) (ts : List (List ℕ)) (p : Insn × Option Target) → reads name ts ≡ Ok p → is_canonical p.0 ≡ true
 reads_canonical name ts p h =
     either_canonical (reads_tokens base.in_table a64_patterns name ts) (reads_tokens vectors.in_table sve_patterns name ts) p h
     (λ s f e i. base_canonical name ts s f e i) (λ s f e i. vector_canonical name ts s f e i)
@@ -122,8 +123,35 @@ short_canonical : (b : Bool) (ts : List (List ℕ)) (k : Line Insn) → (if b th
 short_canonical true ts k h = absurd (cc)
 short_canonical false ts k h = tokens_canonical ts k h
 
-line_canonical : (text : List ℕ) (k : Line Insn) → line_of statements text ≡ Ok k → HasCanonical k.body
+pub line_canonical : (text : List ℕ) (k : Line Insn) → line_of statements text ≡ Ok k → HasCanonical k.body
 line_canonical text k h = short_canonical (nat_lt 256 (length text)) (tokens text) k h
+
+-- ---- want of memory
+
+-- an A64 statement that ends in a label says so over both tables
+pub says_label : (name rest : List ℕ) → base_lines.EndsInLabel name rest → SaysLabel (reads name (tokens rest))
+says_label name rest h = record {
+  insn = A64 h.form;
+  label = h.label;
+  is = ap (λ (r : Result Statement Refusal). either r (reads_tokens vectors.in_table sve_patterns name (tokens rest))) h.read
+      ∙ ap (λ (o : Option A64Form). with_target (option_map A64 o) (Some (to_label h.label))) h.insn;
+}
+
+-- ---- the laws
+
+said_so : (r : Said) → ((p : Insn × Option Target) → r ≡ Ok p → is_canonical p.0 ≡ true) → IfOk r (λ p. is_canonical p.0 ≡ true)
+said_so (Ok p) h = h p refl
+said_so (Err e) h = tt
+
+pub statements_law : (name : List ℕ) (ts : List (List ℕ)) → IfOk (reads name ts) (λ p. is_canonical p.0 ≡ true)
+statements_law name ts = said_so (reads name ts) (reads_canonical name ts)
+
+line_so : (r : Result (Line Insn) ListingWhy) → ((k : Line Insn) → r ≡ Ok k → HasCanonical k.body) → IfOk r (λ k. HasCanonical k.body)
+line_so (Ok k) h = h k refl
+line_so (Err e) h = tt
+
+pub lines_law : (text : List ℕ) → IfOk (line_of statements text) (λ k. HasCanonical k.body)
+lines_law text = line_so (line_of statements text) (line_canonical text)
 
 pub line_answered : (text : List ℕ) (r : Result (Line Insn) AsmFault) → Answers r (line_of statements text) → IfOk r (λ l. HasCanonical l.body)
 line_answered text (Ok l) h = line_canonical text l h

@@ -75,3 +75,13 @@ given f pc t (Some x) h e = made f pc t x (instruction a64_table x) h e refl
 pub aimed_well : (i : Insn) (pc t : ℕ) → HasTarget i → IfSome (aimed_at i pc t) (λ j. is_canonical j ≡ true)
 aimed_well (A64 f) pc t h = given f pc t (aimed (reach f) (unaimed_word f) pc t) h refl
 aimed_well (Sve f) pc t h = absurd h
+
+aimed_by_reach : (f : A64Form) (pc t : ℕ) (r : Option Reach) → reach f ≡ r → IfSome (aimed_at (A64 f) pc t) (λ j. is_canonical j ≡ true)
+aimed_by_reach f pc t None e =
+    subst (λ (r : Option Reach). IfSome (option_map A64 (option_and_then (instruction a64_table) (aimed r (unaimed_word f) pc t))) (λ j. is_canonical j ≡ true)) (sym e) tt
+aimed_by_reach f pc t (Some r) e = aimed_well (A64 f) pc t (ap is_some e)
+
+-- whatever is aimed is canonical
+pub aimed_law : (i : Insn) (pc t : ℕ) → IfSome (aimed_at i pc t) (λ j. is_canonical j ≡ true)
+aimed_law (A64 f) pc t = aimed_by_reach f pc t (reach f) refl
+aimed_law (Sve f) pc t = tt

@@ -1,5 +1,5 @@
 //! Both tables as one reader of instructions.
-ghost use Rattle.std.specs.Prelude.{◌≡◌};
+ghost use Rattle.std.specs.Prelude.{◌≡◌, ◌≢◌};
 ghost use Rattle.insn_texts.specs.Statements.{HasTarget, later, statements};
 ghost use Rattle.text_code.specs.Faults.{fault_of};
 ghost use Rattle.text_model.specs.declared.slots.Refusal.{Refusal};
@@ -17,7 +17,8 @@ pub struct Tables;
 
 /// The refusal that stands later in the order in which causes are looked for.
 fn later(a: AsmFault, b: AsmFault) -> AsmFault
-    ensures { (x y : Refusal) → a ≡ fault_of x → b ≡ fault_of y → result ≡ fault_of (later x y) }
+    ensures later { (x y : Refusal) → a ≡ fault_of x → b ≡ fault_of y → result ≡ fault_of (later x y) }
+    ensures refusal { result ≢ AsmFault.OutOfMemory }
 {
     match (a, b) {
         (AsmFault::OutOfRange, _) | (_, AsmFault::OutOfRange) => AsmFault::OutOfRange,

@@ -3,3 +3,5 @@ pub mod Unaimed
 pub mod Names
 pub mod Again
 pub mod ReadBack
+pub mod Rows
+pub mod Said

@@ -5,11 +5,14 @@ ghost use Rattle.std.specs.Prelude.{◌≡◌, ℕ, ◌^◌, ◌<◌, true};
 ghost use Rattle.emu_run.specs.declared.insn.Insn.{Insn};
 ghost use Rattle.insn_texts.specs.Texts.{text, is_canonical};
 ghost use Rattle.dis_text.specs.ReadBack.{IsInstruction, IsReadBack};
+ghost use Rattle.dis_text.specs.Said.{IsSaid, IsShownAgain};
 
+use a64_rows::encode_a64;
 use arrayvec::ArrayString;
 use dis_a64::print_a64;
 use dis_sve::print_sve;
-use insn_decode::Insn;
+use insn_decode::{Insn, encode};
+use sve_rows::encode_sve;
 
 /// Puts the text of an instruction that stands at pc in place of `out`.
 pub fn print(i: &Insn, pc: u64, out: &mut ArrayString<96>)
@@ -26,3 +29,20 @@ pub fn print(i: &Insn, pc: u64, out: &mut ArrayString<96>)
 pub fn printed_text_is_read()
     ensures { (i : Insn) (pc : ℕ) → IsInstruction i → is_canonical i ≡ true → pc < 2 ^ 64 → IsReadBack i pc }
 {}
+
+/// Each instruction that a line of a listing says, by itself or aimed at an address from where it stands, is
+/// disassembled there to a line that makes the same word: behind the address and the word stands the instruction's
+/// text, and this is read as the instruction, or as one that aimed at the line's address is it.
+pub fn what_is_said_is_read_back(i: &Insn)
+    ensures { (pc : ℕ) → pc < 2 ^ 64 → IsSaid i.now pc → IsShownAgain i.now pc }
+{
+    encode(i);
+    match i {
+        Insn::A64(i) => {
+            encode_a64(i);
+        }
+        Insn::Sve(i) => {
+            encode_sve(i);
+        }
+    }
+}

@@ -1,5 +1,5 @@
 //! Two instructions, so that listings can be laid out without a table.
-ghost use Rattle.std.specs.Prelude.{◌≡◌, [], MatchOption, IfSome};
+ghost use Rattle.std.specs.Prelude.{◌≡◌, [], Err, List, MatchOption, Ok, IfSome, ℕ};
 ghost use Rattle.std.specs.Str.{IsCharBoundary};
 ghost use Rattle.listing_cases.specs.Toy as toy;
 ghost use Rattle.listing_model.specs.Faults.{Answers};
@@ -26,7 +26,8 @@ fn first_token(text: &str) -> Option<Token>
 
 /// The one token of a text.
 fn one_token(alloc: Global, text: &str) -> Result<Name, AsmFault>
-    ensures { Answers result (toy.one_token (tokens text.now)) }
+    ensures read { Answers result (toy.one_token (tokens text.now)) }
+    ensures wanting { result ≡ Err AsmFault.OutOfMemory → (token : List ℕ) × (toy.one_token (tokens text.now) ≡ Ok token) }
 {
     let token = first_token(text).ok_or(AsmFault::BadOperands)?;
     if next_token(text, token.to).is_some() {

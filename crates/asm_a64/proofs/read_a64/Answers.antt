@@ -1,6 +1,6 @@
 use Rattle.std.proofs.Common.{inr}
 use Rattle.a64_texts.specs.Table.{a64_patterns}
-use Rattle.asm_a64.proofs.Lines.{read_from, refused_from}
+use Rattle.asm_a64.proofs.Lines.{ends_in_label, read_from, refused_from}
 use Rattle.asm_a64.proofs.read_a64.Goals as goal
 
 pub returns-in-Ok-clause-read : goal.returns-in-Ok-clause-read
@@ -13,3 +13,7 @@ returns-in-Ok-clause-refused c = refused_from c.args.name.now c.args.rest.now c.
 pub returns-in-Err-clause-refused : goal.returns-in-Err-clause-refused
 unfolding a64_patterns
 returns-in-Err-clause-refused c = inr (record { refusal = c.in-Err.refusal; refused = c.in-Err.ensures.read; fault = c.fault.ensures })
+
+pub returns-in-Ok-clause-wanting : goal.returns-in-Ok-clause-wanting
+unfolding a64_patterns
+returns-in-Ok-clause-wanting c = λ e. ends_in_label c.args.name.now c.args.rest.now c.in-Ok.found c.in-Ok.ensures.read (c.line_of.ensures.wanting e)
