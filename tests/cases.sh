@@ -21,6 +21,7 @@ awk -v quote="'" '
     $1 == "file" { print "file " quoted($2) " <<" quote "." quote; open = 1; next }
     $1 == "bytes" || $1 == "fill" || $1 == "given" || $1 == "supply" { print $1 " " quoted(substr($0, length($1) + 2)); next }
     /^(images|input|output|errors) / { fails = 1; next }
+    $1 == "each" { print "forget"; next }
     /^line / {
         text = substr($0, 6)
         kept = ""
@@ -72,7 +73,7 @@ show() {
 # What the stored output has of each line, one file for each: the name of the ending falls out, which no program tells.
 awk -v to="$scratch/wanted." '
     /^line / { count++; open = 1; first = 1; next }
-    open && /^($|#|file |bytes |fill |given |supply |images |input |output |errors )/ { open = 0 }
+    open && /^($|#|file |bytes |fill |given |supply |images |input |output |errors |each )/ { open = 0 }
     open { if (first) sub(/^.*, status/, "status"); first = 0; print >(to count) }' crates/command_cases/stdout
 
 number=0
@@ -100,10 +101,13 @@ line() {
     fi
 }
 
+# Calls that fail in turn are those of streams in memory: what was given to them is left out.
+forget() { rm -f "$scratch/given"; }
+
 # A line whose streams fail is not done.
 skip() {
     number=$((number + 1))
-    rm -f "$scratch/given"
+    forget
 }
 
 case $program in

@@ -1,7 +1,8 @@
 #!/bin/sh
-# Tests what stands beside the proved program: its start and its release, the cases over real files, the examples, the listings, what the documents
-# show, the runner, the manual page, the installation and the recipes of docs/TESTING_YOUR_CODE.md. The program is the one that SVEMU names, else the one
-# that ./svemu runs; no kit is needed. The last line is 'N passed, M failed, K skipped'.
+# Tests what stands beside the proved program: its start and its release, the cases over real files, the examples, the
+# listings, what the documents show, the runner, the manual page, the installation, the recipes of
+# docs/TESTING_YOUR_CODE.md, refused memory and random input. The program is the one that SVEMU names, else the one that
+# ./svemu runs; no kit is needed. The last line is 'N passed, M failed, K skipped'.
 set -u
 
 cd "$(dirname "$0")/.." || exit 1
@@ -182,6 +183,19 @@ random_input() {
     holds "random input" env SVEMU="$built" sh tests/fuzz.sh 60 1
 }
 
+# Each allocation of some commands refused in turn, by what a C compiler makes.
+refused_memory() {
+    env SVEMU="$built" sh tests/wanting.sh >"$scratch/said" 2>&1
+    case $? in
+        0)
+            pass
+            tail -n 1 "$scratch/said"
+            ;;
+        3) skip "refused memory" "there is no C compiler that makes a shared object" ;;
+        *) fail "refused memory" "$(tail -n 5 "$scratch/said")" ;;
+    esac
+}
+
 . tests/start.sh
 . tests/runner.sh
 . tests/recipes.sh
@@ -200,6 +214,7 @@ if [ "$failed" -eq 0 ]; then
     listing_refusals
     gnu_texts
     documents
+    places_of_forms
     runner_passes_on
     runner_and_stand_ins
     runner_in_time
@@ -210,6 +225,7 @@ if [ "$failed" -eq 0 ]; then
     manual_page
     recipes
     . tests/pages.sh
+    refused_memory
     random_input
 fi
 echo "$passed passed, $failed failed, $skipped skipped"
