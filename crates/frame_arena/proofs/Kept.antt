@@ -1,16 +1,16 @@
 -- Where the frames of an arena lie, as one is taken, given back or cut off.
-use Rattle.std.proofs.Common.{◌≡◌, ℕ, ◌+◌, ◌*◌, ◌<◌, List, length, get_or, sym, ap, subst, ◌∙◌, arith, Some, None, Option, option_map}
+use Rattle.std.proofs.Common.{◌≡◌, ℕ, ◌+◌, ◌*◌, ◌<◌, List, length, get_or, sym, ap, subst, ◌∙◌, arith, Some, None, Option}
 use Rattle.std.proofs.lemmas.List.{get_or_read}
 use denote.RawPtr.{Ptr, block_ptr, block_of, count_of}
 use Rattle.frame_links.specs.declared.memory.Memory.{Memory}
 use Rattle.frame_links.specs.declared.page.Page.{Page}
-use Rattle.frame_links.specs.Lending.{with_bytes}
 use Rattle.frame_arena.specs.Lending.{with_slot}
 use Rattle.frame_arena.specs.declared.slot.Slot.{Slot}
-use Rattle.frame_arena.specs.Slots.{no_page, IsSeat, IsSeated, AreSeated, IsRest}
+use Rattle.frame_arena.specs.declared.slot.Slot.TheVariants.{Spare, Used}
+use Rattle.frame_arena.specs.Slots.{no_page, page_in, with_others, IsSeat, IsSeated, AreSeated, IsRest}
 
-pub seat_of : (p : Ptr) (ss : List Slot) (n : ℕ) (x : Slot) (page : Page) → n < length ss → x ≡ get_or ss n x → x.page ≡ Some page → AreSeated p ss → IsSeat p n page.block page.place
-seat_of p ss n x page l at e h = subst (IsSeated p n) e (subst (λ (s : Slot). IsSeated p n s.page) (sym (get_or_read ss n x l at no_page)) (h n))
+pub seat_of : (p : Ptr) (ss : List Slot) (n : ℕ) (x : Slot) (page : Page) → n < length ss → x ≡ get_or ss n x → page_in x ≡ Some page → AreSeated p ss → IsSeat p n page.block page.place
+seat_of p ss n x page l at e h = subst (IsSeated p n) e (subst (λ (s : Slot). IsSeated p n (page_in s)) (sym (get_or_read ss n x l at no_page)) (h n))
 
 pub seat_as : (p : Ptr) (n b o d e : ℕ) → d ≡ b → e ≡ o → IsSeat p n b o → IsSeat p n d e
 seat_as p n b o d e i j s = (i ∙ s.0, j ∙ s.1)
@@ -18,13 +18,24 @@ seat_as p n b o d e i j s = (i ∙ s.0, j ∙ s.1)
 pub rest_at : (p : Ptr) (n m k j : ℕ) (r : Option Memory) → k ≡ n → j ≡ m → IsRest p n m r → IsRest p k j r
 rest_at p n m k j r e f h = subst (λ (x : ℕ). IsRest p x j r) (sym e) (subst (λ (x : ℕ). IsRest p n x r) (sym f) h)
 
--- a page with other bytes lies where it did
-with_other : (p : Ptr) (n : ℕ) (o : Option Page) (w : List ℕ) → IsSeated p n o → IsSeated p n (option_map (λ (x : Page). with_bytes x w) o)
-with_other p n None w h = tt
-with_other p n (Some page) w h = h
+-- a page with other bytes or another count lies where it did
+with_other : (p : Ptr) (n : ℕ) (s : Slot) (w : List ℕ) → IsSeated p n (page_in s) → IsSeated p n (page_in (with_slot s w))
+with_other p n Spare w h = tt
+with_other p n (Used k page) w h = h
 
-pub seat_with : (p : Ptr) (ss : List Slot) (n : ℕ) (x : Slot) → n < length ss → x ≡ get_or ss n x → (w : List ℕ) → AreSeated p ss → IsSeated p n (with_slot x w).page
-seat_with p ss n x l at w h = with_other p n x.page w (subst (λ (s : Slot). IsSeated p n s.page) (sym (get_or_read ss n x l at no_page)) (h n))
+other_count : (p : Ptr) (n : ℕ) (s : Slot) (k : ℕ) → IsSeated p n (page_in s) → IsSeated p n (page_in (with_others s k))
+other_count p n Spare k h = tt
+other_count p n (Used j page) k h = h
+
+module _ (p : Ptr) (ss : List Slot) (n : ℕ) (x : Slot) (l : n < length ss) (at : x ≡ get_or ss n x) (h : AreSeated p ss) where
+  here : IsSeated p n (page_in x)
+  here = subst (λ (s : Slot). IsSeated p n (page_in s)) (sym (get_or_read ss n x l at no_page)) (h n)
+
+  pub seat_with : (w : List ℕ) → IsSeated p n (page_in (with_slot x w))
+  seat_with w = with_other p n x w here
+
+  pub seat_counted : (k : ℕ) → IsSeated p n (page_in (with_others x k))
+  seat_counted k = other_count p n x k here
 
 -- the frame at block_ptr b o is cut off the rest, which is the memory r
 module _ (p : Ptr) (n b o : ℕ) (r : Ptr) (at : r ≡ block_ptr (block_of p) (count_of p + n * 4096)) (cut : r ≡ block_ptr b o) where

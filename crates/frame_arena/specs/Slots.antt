@@ -1,34 +1,54 @@
 -- What the table of frames has, and what it is beside the list of the spare ones.
-use Rattle.std.specs.Prelude.{◌≡◌, ℕ, ◌+◌, ◌-◌, ◌*◌, ◌<◌, ◌≤◌, ◌^◌, ◌==◌, Bool, false, ◌||◌, List, [], ◌∷◌, length, slice_index_or, Option, Some, None, option_map}
+use Rattle.std.specs.Prelude.{◌≡◌, ℕ, ◌+◌, ◌-◌, ◌*◌, ◌<◌, ◌≤◌, ◌^◌, ◌==◌, Bool, false, ◌||◌, List, [], ◌∷◌, length, slice_index_or, Option, Some, None}
 use Rattle.std.specs.FinMap.{from_entries, len}
-use Rattle.frame_arena.specs.Frames.{Frames, Live}
+use Rattle.frame_arena.specs.Frames.{Block, Frames, Live}
 use Rattle.frame_links.specs.Links.{Place}
 use Rattle.std.specs.Vec.{vec_capacity}
 use denote.RawPtr.{Ptr, block_ptr, block_of, count_of}
 use Rattle.frame_links.specs.declared.memory.Memory.{Memory}
 use Rattle.frame_links.specs.declared.page.Page.{Page}
 use Rattle.frame_arena.specs.declared.slot.Slot.{Slot}
+use Rattle.frame_arena.specs.declared.slot.Slot.TheVariants.{Spare, Used}
 use Rattle.frame_arena.specs.declared.arena.FrameArena.TheInside.{Inside}
+
+abbrev pub page_in : Slot → Option Page
+page_in Spare = None
+page_in (Used others page) = Some page
+
+-- how many frames name the block of a slot but for one
+abbrev pub others_in : Slot → ℕ
+others_in Spare = 0
+others_in (Used others page) = others
+
+abbrev pub with_others : Slot → ℕ → Slot
+with_others Spare k = Spare
+with_others (Used others page) k = Used k page
 
 -- the bytes of a live frame
 abbrev pub slot_bytes : Slot → Option (List ℕ)
-slot_bytes s = option_map (λ (p : Page). p.bytes) s.page
+slot_bytes Spare = None
+slot_bytes (Used others page) = Some page.bytes
+
+-- the block of a slot, if it is in use
+abbrev pub slot_block : Slot → Option Block
+slot_block Spare = None
+slot_block (Used others page) = Some (record { bytes = page.bytes; count = others + 1 })
 
 abbrev pub no_page : Slot
-no_page = record { page = None }
+no_page = Spare
 
--- the bytes of the frame n, if it is live
-abbrev pub bytes_at : List Slot → ℕ → Option (List ℕ)
-bytes_at ss n = slot_bytes (slice_index_or ss n no_page)
+-- the block n, if it is in use
+abbrev pub block_at : List Slot → ℕ → Option Block
+block_at ss n = slot_block (slice_index_or ss n no_page)
 
-abbrev pub entry : ℕ → Option (List ℕ) → List (ℕ × List ℕ) → List (ℕ × List ℕ)
+abbrev pub entry : ℕ → Option Block → List (ℕ × Block) → List (ℕ × Block)
 entry n None es = es
 entry n (Some x) es = (n, x) ∷ es
 
 -- the live frames from the number n on
-abbrev pub entries_of : ℕ → List Slot → List (ℕ × List ℕ)
+abbrev pub entries_of : ℕ → List Slot → List (ℕ × Block)
 entries_of n [] = []
-entries_of n (s ∷ ss) = entry n (slot_bytes s) (entries_of (n + 1) ss)
+entries_of n (s ∷ ss) = entry n (slot_block s) (entries_of (n + 1) ss)
 
 abbrev pub live_slots : List Slot → Live
 live_slots ss = from_entries (entries_of 0 ss)
@@ -47,7 +67,7 @@ lists q (f ∷ fs) = (q == f.2) || lists q fs
 -- frames of the table that are not live, each once
 abbrev pub AreVacant : List Slot → List Place → Type 0
 AreVacant ss [] = Unit {0}
-AreVacant ss (f ∷ fs) = (f.2 < length ss) × (bytes_at ss f.2 ≡ None) × (lists f.2 fs ≡ false) × AreVacant ss fs
+AreVacant ss (f ∷ fs) = (f.2 < length ss) × (block_at ss f.2 ≡ None) × (lists f.2 fs ≡ false) × AreVacant ss fs
 
 -- each frame of the table is live or in the list
 abbrev pub IsWhole : List Slot → List Place → Type 0
@@ -63,7 +83,7 @@ IsSeated p n (Some page) = IsSeat p n page.block page.place
 
 -- each page lies where its number says
 abbrev pub AreSeated : Ptr → List Slot → Type 0
-AreSeated p ss = (n : ℕ) → IsSeated p n (slice_index_or ss n no_page).page
+AreSeated p ss = (n : ℕ) → IsSeated p n (page_in (slice_index_or ss n no_page))
 
 abbrev pub AreSpareSeated : Ptr → List Place → Type 0
 AreSpareSeated p [] = Unit {0}

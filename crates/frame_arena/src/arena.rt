@@ -1,5 +1,5 @@
 //! Frames that are taken and given back.
-ghost use Rattle.std.specs.Prelude.{◌≡◌, ℕ, ◌≤◌, ◌+◌, take, drop, IfOk, MatchOption, Some, length};
+ghost use Rattle.std.specs.Prelude.{◌≡◌, ℕ, ◌≤◌, ◌<◌, ◌+◌, ◌^◌, ◌==◌, take, drop, IfOk, MatchOption, Some, length};
 ghost use Rattle.std.specs.FinMap as map;
 
 use crate::OutOfMemory;
@@ -9,8 +9,8 @@ use std::alloc::{AllocError, Global};
 use std::marker::Model;
 use std::mem;
 
-/// A frame that was taken from an arena, and is live there until it is given back; one that is dropped stays live. Contracts
-/// see it as its number.
+/// A frame that was taken from an arena, and is live there until it is given back; one that is dropped stays live.
+/// Several frames may name one block. Contracts see a frame as the number of its block.
 #[derive(Drop)]
 pub struct Frame {
     number: u32,
@@ -27,8 +27,8 @@ impl Model for Frame {
     ghost view = { λ f. f.number };
 }
 
-/// One region of frames. Contracts see the bytes of the live frames by their numbers, how many frames are spare, and how
-/// many there are.
+/// One region of blocks. Contracts see the bytes of the blocks in use by their numbers and how many frames name each, how
+/// many are spare, and how many there are.
 pub struct FrameArena {
     // the frames that were cut off the region so far, by their numbers
     slots: Vec<Slot>,
@@ -67,8 +67,8 @@ impl Frame {
 
 impl FrameArena {
     ghost use Rattle.std.specs.Borrow.{sem};
-    ghost use Rattle.frame_arena.specs.Frames.{IsLive, fresh, zeroed, Takes, Gives};
-    ghost use Rattle.frame_arena.specs.LendingFrames.{LendsFrame, LendsPart, bytes_of};
+    ghost use Rattle.frame_arena.specs.Frames.{IsLive, IsSole, bytes_of, count_of, fresh, freed, given, lowered, shared, zeroed, Takes};
+    ghost use Rattle.frame_arena.specs.LendingFrames.{LendsFrame, LendsPart};
 
     /// An arena of that many frames, all spare. No byte of the region is read or written.
     pub fn new(alloc: Global, frames: u32) -> Result<FrameArena, OutOfMemory>
@@ -94,6 +94,7 @@ impl FrameArena {
     pub fn spare(&self) -> u32
         ensures spare { result ≡ self.now.spare }
         ensures total { map.len self.now.live + result ≡ self.now.total }
+        ensures counted { (n : ℕ) → IsLive self.now n → 1 ≤ count_of self.now.live n }
     {
         self.total - self.slots.len() as u32 + self.given
     }
@@ -107,8 +108,9 @@ impl FrameArena {
             let (number, (frame, free)) = free.pop();
             self.free = free;
             self.given -= 1;
-            self.slots[number] = Slot {
-                page: Some(zeroed_page(frame)),
+            self.slots[number] = Slot::Used {
+                others: 0,
+                page: zeroed_page(frame),
             };
             return Some(Frame {
                 number: number as u32,
@@ -123,35 +125,90 @@ impl FrameArena {
         };
         let (frame, rest) = region.cut();
         self.rest = Some(rest);
-        self.slots.push_reserved(Slot {
-            page: Some(zeroed_page(frame)),
+        self.slots.push_reserved(Slot::Used {
+            others: 0,
+            page: zeroed_page(frame),
         });
         Some(Frame { number })
     }
 
-    /// A live frame becomes spare. A frame counts as live by its number alone: give it to the arena that it was taken from.
-    pub fn give(&mut self, f: Frame)
+    /// The block of a frame that alone names it becomes spare.
+    fn free(&mut self, f: Frame)
         requires { IsLive self.old f }
-        ensures { Gives self.old f self.new }
+        ensures { self.new ≡ freed self.old f }
     {
         let Frame { number } = f;
-        let slot = mem::replace(&mut self.slots[number as usize], Slot { page: None });
-        let Slot { page } = slot;
-        match page {
-            Some(page) => {
+        match mem::replace(&mut self.slots[number as usize], Slot::Spare) {
+            Slot::Used { others: _, page } => {
                 let free = mem::replace(&mut self.free, FreeList::empty());
                 self.free = free.push(page.into_spare(), number as usize);
                 self.given += 1;
             }
-            None => unreachable!(),
+            Slot::Spare => unreachable!(),
         }
+    }
+
+    /// One frame less names the block of a frame.
+    fn lower(&mut self, f: Frame)
+        requires live { IsLive self.old f }
+        requires others { 1 < count_of self.old.live f }
+        ensures { self.new ≡ lowered self.old f }
+    {
+        let Frame { number } = f;
+        self.slots[number as usize].lower();
+    }
+
+    /// Gives a frame back; its block becomes spare with the last frame that names it. A block counts as in use by its
+    /// number alone: give a frame to the arena that it was taken from.
+    pub fn give(&mut self, f: Frame)
+        requires { IsLive self.old f }
+        ensures { self.new ≡ given self.old f }
+    {
+        if self.sole(&f) {
+            self.free(f);
+        } else {
+            self.lower(f);
+        }
+    }
+
+    /// Another frame that names the same block.
+    pub fn share(&mut self, f: &Frame) -> Frame
+        requires live { IsLive self.old f.now }
+        requires few { count_of self.old.live f.now + 1 < 2 ^ 32 }
+        ensures same { result ≡ f.now }
+        ensures arena { self.new ≡ shared self.old f.now }
+    {
+        self.slots[f.number as usize].raise();
+        Frame { number: f.number }
+    }
+
+    /// Whether the frame alone names its block.
+    #[inline(always)]
+    pub fn sole(&self, f: &Frame) -> bool
+        requires { IsLive self.now f.now }
+        ensures sole { result ≡ (count_of self.now.live f.now == 1) }
+        ensures named { 1 ≤ count_of self.now.live f.now }
+    {
+        self.slots[f.number as usize].is_sole()
+    }
+
+    /// A spare block takes the bytes of a frame's block. None exactly where no block is spare.
+    pub fn copy(&mut self, f: &Frame) -> Option<Frame>
+        requires { IsLive self.old f.now }
+        ensures { MatchOption result ((self.old.spare ≡ 0) × (self.new ≡ self.old)) (λ c. Takes self.old c (bytes_of self.old.live f.now) self.new) }
+    {
+        let mut bytes = [0; 4096];
+        bytes.copy_from_slice(self.bytes(f));
+        let copy = self.take()?;
+        self.bytes_mut(&copy).copy_from_slice(&bytes);
+        Some(copy)
     }
 
     /// The 4,096 bytes of a live frame.
     #[inline(always)]
     pub fn bytes(&self, f: &Frame) -> &[u8]
         requires { IsLive self.now f.now }
-        ensures bytes { map.get self.now.live f.now ≡ Some result.now }
+        ensures bytes { result.now ≡ bytes_of self.now.live f.now }
         ensures length { length result.now ≡ 4096 }
     {
         self.bytes_at(f.number())
@@ -161,7 +218,7 @@ impl FrameArena {
     #[inline(always)]
     pub fn bytes_at(&self, number: u32) -> &[u8]
         requires { IsLive self.now number }
-        ensures bytes { map.get self.now.live number ≡ Some result.now }
+        ensures bytes { result.now ≡ bytes_of self.now.live number }
         ensures length { length result.now ≡ 4096 }
     {
         self.slots[number as usize].bytes()
@@ -170,9 +227,9 @@ impl FrameArena {
     /// The 4,096 bytes of a live frame, for writing. No other frame is changed.
     #[inline(always)]
     pub fn bytes_mut(&mut self, f: &Frame) -> &mut [u8]
-        requires { IsLive self.old f.now }
+        requires { IsSole self.old f.now }
         ensures* writes_back { sem 𝓛 (LendsFrame self.entry f.now result) }
-        ensures bytes { map.get self.old.live f.now ≡ Some result.now }
+        ensures bytes { result.now ≡ bytes_of self.old.live f.now }
         ensures length { length result.now ≡ 4096 }
     {
         // for its length
@@ -184,10 +241,10 @@ impl FrameArena {
     /// `count` bytes of a live frame from place `at` on, for writing.
     #[inline(always)]
     pub fn part_mut(&mut self, f: &Frame, at: usize, count: usize) -> &mut [u8]
-        requires live { IsLive self.old f.now }
+        requires sole { IsSole self.old f.now }
         requires within { at + count ≤ 4096 }
         ensures* writes_back { sem 𝓛 (LendsPart self.entry f.now at result) }
-        ensures bytes { result.now ≡ take count (drop at (bytes_of self.old f.now)) }
+        ensures bytes { result.now ≡ take count (drop at (bytes_of self.old.live f.now)) }
         ensures length { length result.now ≡ count }
     {
         self.slots[f.number as usize].part_mut(at, count)
@@ -211,8 +268,9 @@ impl Drop for FrameArena {
             let (number, (frame, others)) = free.pop();
             free = others;
             // a page has bytes: the zeros are read by nobody
-            slots[number] = Slot {
-                page: Some(zeroed_page(frame)),
+            slots[number] = Slot::Used {
+                others: 0,
+                page: zeroed_page(frame),
             };
         }
         let Some(mut region) = rest else {
@@ -222,8 +280,9 @@ impl Drop for FrameArena {
             let Some(slot) = slots.pop() else {
                 unreachable!()
             };
-            let Slot { page } = slot;
-            let Some(page) = page else { unreachable!() };
+            let Slot::Used { others: _, page } = slot else {
+                unreachable!()
+            };
             region = region.glue(page.into_spare());
         }
         region.free(lease, &alloc);

@@ -1,8 +1,9 @@
 //! The mapped pages, and the calls that map, find and change them.
-ghost use Rattle.std.specs.Prelude.{◌≡◌, ◌≤◌, ◌<◌, ◌+◌, ◌*◌, ◌^◌, length, false, if◌then◌else◌, MatchOption, IfOk, IfSome, OnOk, OnErr, IsTrue, option_map, ⊤};
+ghost use Rattle.std.specs.Prelude.{◌≡◌, ◌≤◌, ◌<◌, ◌+◌, ◌*◌, ◌^◌, length, set, get_or, is_some, IsSome, Some, None, false, if◌then◌else◌, MatchOption, IfOk, IfSome, OnOk, OnErr, IsTrue, option_map, ⊤};
 ghost use Rattle.std.specs.FinMap as map;
+ghost use Rattle.std.specs.List.{count_by};
 ghost use mathlib.Core.Option.{none};
-ghost use Rattle.emu_model.specs.Access.{gives, page_gives};
+ghost use Rattle.emu_model.specs.Access.{fresh_marks, gives, no_marks, page_gives};
 ghost use Rattle.std.specs.Borrow.{sem, follows_so, Lends, LendsIf, Array, u8 as byte};
 ghost use Rattle.guest_pages.specs.contracts.pages.Pages.{the_row};
 ghost use Rattle.guest_pages.specs.Lending.{with_part};
@@ -42,7 +43,8 @@ pub struct Unmapped {
     pub page: u64,
 }
 
-/// The mapped pages. Contracts see them as a finite map from page to rights and bytes, and the greatest number of pages.
+/// The mapped pages. Contracts see them as a finite map from page to rights and bytes, the greatest number of pages, and the
+/// marks, each none or such a map.
 #[derive(Drop)]
 pub struct Pages {
     list: PageList,
@@ -66,7 +68,7 @@ impl Model for Pages {
 impl Pages {
     /// No pages, of which at most `limit` may be mapped. No later call takes memory.
     pub fn new(alloc: Global, limit: u32) -> Result<Pages, OutOfMemory>
-        ensures { IfOk result (λ p. p ≡ record { pages = map.empty; limit = limit }) }
+        ensures { IfOk result (λ p. p ≡ record { pages = map.empty; limit = limit; marks = no_marks limit }) }
     {
         let list = PageList::new(alloc, limit)?;
         Ok(Pages {
@@ -277,6 +279,78 @@ impl Pages {
         ensures bytes { self.new ≡ (if result then with_bytes self.old (page * 4096 + at) bytes.now else self.old) }
     {
         store_page(&mut self.list, &mut self.cache, page, at, bytes)
+    }
+
+    /// No pages, of which at most `limit` may be mapped, and sixteen marks, which are none. No later call takes memory.
+    pub fn with_marks(alloc: Global, limit: u32) -> Result<Pages, OutOfMemory>
+        requires { limit ≤ 1048576 }
+        ensures { IfOk result (λ p. p ≡ record { pages = map.empty; limit = limit; marks = fresh_marks limit }) }
+    {
+        let list = PageList::with_marks(alloc, limit)?;
+        Ok(Pages {
+            list,
+            cache: Cache::empty(),
+        })
+    }
+
+    /// The greatest number of pages.
+    pub fn limit(&self) -> u32
+        ensures { result ≡ self.now.limit }
+    {
+        self.list.limit()
+    }
+
+    /// The number of spare frames. There are no more of them than frames that no mark names, and no fewer but for one a
+    /// mapped page. Where at most one mark isn't none, the pages can be marked.
+    pub fn spare(&self) -> u32
+        ensures most { result ≤ self.now.marks.unmarked }
+        ensures least { self.now.marks.unmarked ≤ result + map.len self.now.pages }
+        ensures one_mark { 0 < length self.now.marks.list → count_by is_some self.now.marks.list ≤ 1 → self.now.limit + map.len self.now.pages ≤ self.now.marks.unmarked }
+        ensures room { self.now.limit ≤ result + map.len self.now.pages }
+    {
+        self.list.spare()
+    }
+
+    /// The number of marks that aren't none.
+    pub fn marked(&self) -> u32
+        ensures { result ≡ count_by is_some self.now.marks.list }
+    {
+        self.list.marked()
+    }
+
+    /// Makes mark `k` the pages as they are.
+    pub fn mark(&mut self, k: u32)
+        requires index { k < length self.old.marks.list }
+        requires none { get_or self.old.marks.list k None ≡ None }
+        requires room { self.old.limit + map.len self.old.pages ≤ self.old.marks.unmarked }
+        ensures pages { self.new.pages ≡ self.old.pages }
+        ensures limit { self.new.limit ≡ self.old.limit }
+        ensures marks { self.new.marks.list ≡ set self.old.marks.list k (Some self.old.pages) }
+    {
+        self.list.mark(k as usize);
+    }
+
+    /// Makes mark `k` none.
+    pub fn drop_mark(&mut self, k: u32)
+        requires index { k < length self.old.marks.list }
+        ensures pages { self.new.pages ≡ self.old.pages }
+        ensures limit { self.new.limit ≡ self.old.limit }
+        ensures marks { self.new.marks.list ≡ set self.old.marks.list k None }
+    {
+        self.list.drop_mark(k as usize);
+    }
+
+    /// Makes the pages those of mark `k`.
+    pub fn restore(&mut self, k: u32)
+        requires index { k < length self.old.marks.list }
+        requires set { IsSome (get_or self.old.marks.list k None) }
+        requires few { count_by is_some self.old.marks.list ≤ 2 }
+        ensures pages { get_or self.old.marks.list k None ≡ Some self.new.pages }
+        ensures limit { self.new.limit ≡ self.old.limit }
+        ensures marks { self.new.marks ≡ self.old.marks }
+    {
+        self.list.restore(k as usize);
+        self.cache = Cache::empty();
     }
 }
 

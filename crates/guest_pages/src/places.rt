@@ -81,6 +81,7 @@ pub fn search_code(list: &mut PageList, cache: &mut Cache, page: u64) -> Option<
     ensures allowed { IfSome result (λ i. (entry_at list.old.pages i).1.rights.x ≡ true) }
     ensures pages { list.new.pages ≡ list.old.pages }
     ensures limit { list.new.limit ≡ list.old.limit }
+    ensures marks { (list.new.marks ≡ list.old.marks) × (list.new.unmarked ≡ list.old.unmarked) }
     ensures right { IsRight list.old.pages cache.new }
 {
     match look_up(list, cache, page) {
@@ -130,6 +131,7 @@ pub fn write_page(list: &mut PageList, cache: &mut Cache, page: u64, at: usize, 
     requires within { at + length bytes.now ≤ 4096 }
     ensures pages { list.new.pages ≡ changed (page_with_bytes at bytes.now) page list.old.pages }
     ensures limit { list.new.limit ≡ list.old.limit }
+    ensures marks { (list.new.marks ≡ list.old.marks) × (list.new.unmarked ≡ list.old.unmarked) }
     ensures right { IsRight list.new.pages cache.new }
 {
     if let Some(i) = look_up(list, cache, page) {
@@ -152,6 +154,7 @@ pub fn store_page(
     ensures allowed { result ≡ page_gives (find nat_cmp page list.old.pages) Kind.Write }
     ensures pages { list.new.pages ≡ (if result then changed (page_with_bytes at bytes.now) page list.old.pages else list.old.pages) }
     ensures limit { list.new.limit ≡ list.old.limit }
+    ensures marks { (list.new.marks ≡ list.old.marks) × (list.new.unmarked ≡ list.old.unmarked) }
     ensures right { IsRight list.new.pages cache.new }
 {
     match look_up(list, cache, page) {
@@ -169,6 +172,7 @@ pub fn remove_pages(list: &mut PageList, first: u64, count: u64)
     requires ends { first + count ≤ 2 ^ 35 }
     ensures pages { list.new.pages ≡ filter (λ e. not (is_among first count e.0)) list.old.pages }
     ensures limit { list.new.limit ≡ list.old.limit }
+    ensures marks { (list.new.marks ≡ list.old.marks) × (list.new.unmarked ≡ list.old.unmarked) }
 {
     let at = list.place(first);
     let end = list.place(first + count);
@@ -208,6 +212,7 @@ fn protect_page(list: &mut PageList, page: u64, rights: Rights)
     requires { IsAscending list.old.pages }
     ensures pages { list.new.pages ≡ changed (page_with_rights rights) page list.old.pages }
     ensures limit { list.new.limit ≡ list.old.limit }
+    ensures marks { (list.new.marks ≡ list.old.marks) × (list.new.unmarked ≡ list.old.unmarked) }
 {
     if let Some(i) = find_place(list, page) {
         list.set_rights(i, rights);
@@ -220,6 +225,7 @@ pub fn protect_pages(list: &mut PageList, first: u64, count: u64, rights: Rights
     requires ends { first + count ≤ 2 ^ 35 }
     ensures pages { list.new.pages ≡ all_changed (page_with_rights rights) first count list.old.pages }
     ensures limit { list.new.limit ≡ list.old.limit }
+    ensures marks { (list.new.marks ≡ list.old.marks) × (list.new.unmarked ≡ list.old.unmarked) }
 {
     for page in first..first + count {
         protect_page(list, page, rights);

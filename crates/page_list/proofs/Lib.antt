@@ -3,3 +3,5 @@ pub mod Codes
 pub mod Held
 pub mod Lists
 pub mod Search
+pub mod Shared
+pub mod Marks

@@ -1,74 +1,217 @@
--- What a list of slots stands for, by the bytes of the live frames.
-use Rattle.std.specs.Prelude.{◌≡◌, ◌≤◌, ◌<◌, ◌^◌, if◌then◌else◌, ℕ, zero, suc, ◌+◌, ◌==◌, Bool, true, false, List, [], ◌∷◌, map, length, get_or, unwrap_or, Option, Some, None, is_some}
-use Rattle.std.specs.FinMap.{get, contains_key}
-use Rattle.std.specs.List.{count_by}
+-- What a list of slots stands for, by the bytes of the blocks in use, and how often blocks are named.
+use Rattle.std.specs.Prelude.{◌≡◌, ◌≤◌, ◌<◌, ◌^◌, if◌then◌else◌, ℕ, zero, suc, ◌+◌, ◌-◌, ◌*◌, ◌==◌, Bool, true, false, ◌&&◌, not, List, [], ◌∷◌, ◌++◌, map, length, get_or, Option, Some, None}
+use Rattle.std.specs.List.{sum_by, AllByRecursion}
 use Rattle.std.specs.Vec.{vec_capacity}
 use Rattle.emu_model.specs.Pages.{zeros}
 use Rattle.emu_model.specs.declared.access.Rights.{Rights}
-use Rattle.frame_arena.specs.Frames.{Live}
+use Rattle.frame_arena.specs.Frames.{Frames, Live, bytes_of, count_of, given, shared, zeroed}
 use Rattle.page_list.specs.Bytes.{as_bytes}
 use Rattle.page_list.specs.Entries.{Entry, Listed, no_page}
 use Rattle.page_list.specs.declared.code.CodePage.{CodePage}
 use Rattle.page_list.specs.declared.slots.Slot.{Slot}
+use Rattle.page_list.specs.declared.slots.Hold.{Hold}
+use Rattle.page_list.specs.declared.slots.Hold.TheVariants.{Bare, Own, Shared}
+use Rattle.page_list.specs.declared.slots.Mark.{Mark}
 use Rattle.page_list.specs.declared.list.PageList.TheInside.{Inside}
 
--- the bytes of a page: those of its frame, and zeros where it has none
+-- the frame that a page has, if it has one
+abbrev pub hold_frame : Hold → Option ℕ
+hold_frame Bare = None
+hold_frame (Own f) = Some f
+hold_frame (Shared f) = Some f
+
+-- whether it is said to name its block alone
+abbrev pub hold_own : Hold → Bool
+hold_own Bare = false
+hold_own (Own f) = true
+hold_own (Shared f) = false
+
+abbrev pub frame_of : Slot → Option ℕ
+frame_of s = hold_frame s.hold
+
+abbrev pub is_own : Slot → Bool
+is_own s = hold_own s.hold
+
+-- the bytes of a page: those of its block, and zeros where it has none
 abbrev pub bytes_in : Live → Option ℕ → List ℕ
 bytes_in live None = zeros 4096
-bytes_in live (Some f) = as_bytes (unwrap_or (get live f) [])
+bytes_in live (Some f) = as_bytes (bytes_of live f)
 
 abbrev pub entry_in : Live → Slot → Entry
-entry_in live s = (s.number, record { rights = s.rights; bytes = bytes_in live s.frame })
+entry_in live s = (s.number, record { rights = s.rights; bytes = bytes_in live (frame_of s) })
 
 abbrev pub entries_in : Live → List Slot → List Entry
 entries_in live slots = map (entry_in live) slots
 
 abbrev pub no_slot : Slot
-no_slot = record { number = 0; rights = record { r = false; w = false; x = false }; frame = None }
+no_slot = record { number = 0; rights = record { r = false; w = false; x = false }; hold = Bare }
+
+abbrev pub slot_at : List Slot → ℕ → Slot
+slot_at slots i = get_or slots i no_slot
 
 -- the frame of the page at place i
 abbrev pub frame_at : List Slot → ℕ → Option ℕ
-frame_at slots i = (get_or slots i no_slot).frame
-
-abbrev pub listed : Inside → Listed
-listed a = record { pages = entries_in a.arena.live a.slots.items; limit = a.limit; code = a.code.number }
+frame_at slots i = frame_of (slot_at slots i)
 
 -- the slots of `count` pages from `first` on that have no frame
 abbrev pub zeroed_slots : ℕ → ℕ → Rights → List Slot
 zeroed_slots first zero rights = []
-zeroed_slots first (suc count) rights = record { number = first; rights = rights; frame = None } ∷ zeroed_slots (first + 1) count rights
+zeroed_slots first (suc count) rights = record { number = first; rights = rights; hold = Bare } ∷ zeroed_slots (first + 1) count rights
+
+-- the frame is shared from now on
+abbrev pub shared_hold : Hold → Hold
+shared_hold Bare = Bare
+shared_hold (Own f) = Shared f
+shared_hold (Shared f) = Shared f
+
+abbrev pub shared_slot : Slot → Slot
+shared_slot s = record s { hold = shared_hold s.hold }
+
+-- the frame alone names its block again
+abbrev pub owned_hold : Hold → Hold
+owned_hold Bare = Bare
+owned_hold (Own f) = Own f
+owned_hold (Shared f) = Own f
+
+abbrev pub owned_slot : Slot → Slot
+owned_slot s = record s { hold = owned_hold s.hold }
+
+abbrev pub shared_slots : List Slot → List Slot
+shared_slots slots = map shared_slot slots
+
+abbrev pub one : Bool → ℕ
+one b = if b then 1 else 0
 
 abbrev pub is_frame : ℕ → Option ℕ → Bool
 is_frame f None = false
 is_frame f (Some g) = f == g
 
+-- 1 where that is the frame f
+abbrev pub has : ℕ → Option ℕ → ℕ
+has f o = one (is_frame f o)
+
 -- how many slots have the frame f
 abbrev pub holders : ℕ → List Slot → ℕ
-holders f slots = count_by (λ (s : Slot). is_frame f s.frame) slots
+holders f slots = sum_by (λ (s : Slot). has f (frame_of s)) slots
 
--- how many slots have a frame
-abbrev pub framed : List Slot → ℕ
-framed slots = count_by (λ (s : Slot). is_some s.frame) slots
+-- one slot names the block
+abbrev pub is_sole : Live → Option ℕ → Bool
+is_sole live None = false
+is_sole live (Some f) = count_of live f == 1
 
--- a live frame has at most one slot, and one that isn't live has none
+-- how many slots have a block that they alone name
+abbrev pub sole_in : Live → List Slot → ℕ
+sole_in live slots = sum_by (λ (s : Slot). one (is_sole live (frame_of s))) slots
+
+-- how many slots say that they alone name their block where they don't
+abbrev pub wrong_in : Live → List Slot → ℕ
+wrong_in live slots = sum_by (λ (s : Slot). one (is_own s && not (is_sole live (frame_of s)))) slots
+
+-- the slots that say that they alone name their block do
+abbrev pub AreOwn : Live → List Slot → Type 0
+AreOwn live slots = wrong_in live slots ≡ 0
+
+-- each block is named as often as slots have it, or oftener
 abbrev pub AreHeld : Live → List Slot → Type 0
-AreHeld live slots = (f : ℕ) → holders f slots ≤ (if contains_key live f then 1 else 0)
+AreHeld live slots = (f : ℕ) → holders f slots ≤ count_of live f
+
+-- the same of two lists side by side
+abbrev pub AreBeside : Live → List Slot → List Slot → Type 0
+AreBeside live slots others = (f : ℕ) → holders f slots + holders f others ≤ count_of live f
+
+-- counts change as slots do, and blocks that stay named keep their bytes
+pub record Changes (before after : Frames) (old new : List Slot) : Type 0 where
+  pub counts : (f : ℕ) → count_of after.live f + holders f old ≡ count_of before.live f + holders f new
+  pub bytes : (f : ℕ) → 1 ≤ count_of before.live f → 1 ≤ count_of after.live f → bytes_of after.live f ≡ bytes_of before.live f
+  pub total : after.total ≡ before.total
+
+-- the bytes of a slot's block, and zeros where it has none
+abbrev pub block_bytes : Live → Option ℕ → List ℕ
+block_bytes live None = zeroed
+block_bytes live (Some f) = bytes_of live f
+
+-- a frame is given back where there is one
+abbrev pub given_if : Frames → Option ℕ → Frames
+given_if a None = a
+given_if a (Some f) = given a f
+
+-- one frame more names the block where there is one
+abbrev pub shared_if : Frames → Option ℕ → Frames
+shared_if a None = a
+shared_if a (Some f) = shared a f
+
+-- the frames that are spare or that slots alone name grow no fewer
+abbrev pub HasRoom : Frames → Frames → List Slot → List Slot → List Slot → Type 0
+HasRoom before after old new others = before.spare + (sole_in before.live old + sole_in before.live others) ≤ after.spare + (sole_in after.live new + sole_in after.live others)
+
+-- ---- marks
+
+abbrev pub mark_in : Live → Mark → Option (List Entry)
+mark_in live m = if m.set then Some (entries_in live m.slots.items) else None
+
+abbrev pub marks_in : Live → List Mark → List (Option (List Entry))
+marks_in live marks = map (mark_in live) marks
+
+-- how many slots of the marks have the frame f
+abbrev pub marked : ℕ → List Mark → ℕ
+marked f marks = sum_by (λ (m : Mark). holders f m.slots.items) marks
+
+-- the slots of all marks
+abbrev pub marked_slots : List Mark → List Slot
+marked_slots [] = []
+marked_slots (m ∷ ms) = m.slots.items ++ marked_slots ms
+
+-- how many blocks slots name
+abbrev pub is_last : Option ℕ → List Slot → ℕ
+is_last None slots = 0
+is_last (Some f) slots = one (holders f slots == 0)
+
+abbrev pub named : List Slot → ℕ
+named [] = 0
+named (s ∷ ss) = is_last (frame_of s) ss + named ss
+
+-- how many blocks no mark names
+abbrev pub unmarked : ℕ → List Mark → ℕ
+unmarked total marks = total - named (marked_slots marks)
+
+abbrev pub listed : Inside → Listed
+listed a = record { pages = entries_in a.arena.live a.slots.items; limit = a.limit; code = a.code.number; marks = marks_in a.arena.live a.marks.items; unmarked = unmarked a.arena.total a.marks.items }
+
+-- a mark has room, one that isn't set is empty, and its slots say of no block that they alone name it
+pub record IsMark (limit : ℕ) (m : Mark) : Type 0 where
+  pub room : limit ≤ vec_capacity m.slots
+  pub most : length m.slots.items ≤ limit
+  pub unset : m.set ≡ false → m.slots.items ≡ []
+  pub plain : shared_slots m.slots.items ≡ m.slots.items
+
+-- what is kept of an object with marks
+pub record HasMarks (total limit : ℕ) (marks : List Mark) : Type 0 where
+  pub sixteen : length marks ≡ 16
+  pub frames : total ≡ 3 * limit
+  pub few : limit ≤ 1048576
 
 -- the page at place i may be fetched from, and it and its frame have these numbers
 pub record IsCodeAt (slots : List Slot) (code : CodePage) (i : ℕ) : Type 0 where
   pub within : i < length slots
-  pub number : (get_or slots i no_slot).number ≡ code.number
-  pub allowed : (get_or slots i no_slot).rights.x ≡ true
+  pub number : (slot_at slots i).number ≡ code.number
+  pub allowed : (slot_at slots i).rights.x ≡ true
   pub frame : frame_at slots i ≡ Some code.frame
 
 -- the page at hand, if there is one, has a place
 abbrev pub IsCode : List Slot → CodePage → Type 0
 IsCode slots code = code.number < no_page → (i : ℕ) × IsCodeAt slots code i
 
+-- the page at hand where a page gets the frame f: the same page, with that frame where it is that page
+abbrev pub code_after : CodePage → Slot → ℕ → CodePage
+code_after code s f = if s.number == code.number && s.rights.x then record { number = code.number; frame = f } else code
+
 pub record IsKept (a : Inside) : Type 0 where
-  pub held : AreHeld a.arena.live a.slots.items
+  pub counts : (f : ℕ) → count_of a.arena.live f ≡ holders f a.slots.items + marked f a.marks.items
+  pub own : AreOwn a.arena.live a.slots.items
+  pub spare : a.limit ≤ a.arena.spare + sole_in a.arena.live a.slots.items
   pub room : a.limit ≤ vec_capacity a.slots
-  pub spare : a.arena.spare + framed a.slots.items ≡ a.limit
   pub most : length a.slots.items ≤ a.limit
   pub narrow : a.limit < 2 ^ 32
   pub code : IsCode a.slots.items a.code
+  pub marks : AllByRecursion (IsMark a.limit) a.marks.items
+  pub object : 0 < length a.marks.items → HasMarks a.arena.total a.limit a.marks.items

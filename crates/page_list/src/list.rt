@@ -1,13 +1,13 @@
 //! The list of pages.
-ghost use Rattle.std.specs.Prelude.{◌≡◌, ◌≤◌, ◌<◌, ◌+◌, ◌^◌, ◌++◌, ◌↔◌, [], length, take, drop, true, IfOk, IsTrue};
-ghost use Rattle.std.specs.List.{AllByRecursion};
+ghost use Rattle.std.specs.Prelude.{◌≡◌, ◌≤◌, ◌<◌, ◌+◌, ◌*◌, ◌^◌, ◌++◌, ◌↔◌, [], length, take, drop, set, get_or, replicate, true, is_some, Some, None, IsSome, IfOk, IsTrue};
+ghost use Rattle.std.specs.List.{AllByRecursion, count_by};
 ghost use Rattle.emu_model.specs.WithinPage.{page_with_bytes};
 ghost use Rattle.page_list.specs.Entries.{IsAscending, IsAtHand, IsBelow, IsFetched, IsFrom, changed_at, entry_at, no_page, page_with_rights, zeroed_entries};
 
 use crate::code::{CodePage, NO_CODE, NO_PAGE};
 use crate::slots::{
-    Slot, ensure_frame, move_back, move_to_end, own_frame, page_bytes, pop_all, push_all,
-    told_bytes,
+    Mark, Slot, clear_mark, code_of, ensure_own, fill_mark, move_back, move_to_end, own_frame,
+    page_bytes, pop_all, pop_every, push_all, share_all, told_bytes,
 };
 use emu_model::Rights;
 use frame_arena::{FrameArena, OutOfMemory};
@@ -21,6 +21,8 @@ pub struct PageList {
     arena: FrameArena,
     limit: u32,
     code: CodePage,
+    // none, or sixteen
+    marks: Vec<Mark>,
 }
 
 impl Model for PageList {
@@ -42,7 +44,7 @@ impl PageList {
 
     /// No pages, with room for `limit` of them. No later call takes memory.
     pub fn new(alloc: Global, limit: u32) -> Result<PageList, OutOfMemory>
-        ensures { IfOk result (λ l. l ≡ record { pages = []; limit = limit; code = no_page }) }
+        ensures { IfOk result (λ l. l ≡ record { pages = []; limit = limit; code = no_page; marks = []; unmarked = limit }) }
     {
         let slots = Vec::with_capacity(alloc, limit as usize)?;
         let arena = FrameArena::new(alloc, limit)?;
@@ -51,6 +53,7 @@ impl PageList {
             arena,
             limit,
             code: NO_CODE,
+            marks: Vec::new(alloc),
         })
     }
 
@@ -123,13 +126,11 @@ impl PageList {
         requires allowed { (entry_at self.old.pages i).1.rights.x ≡ true }
         ensures pages { self.new.pages ≡ self.old.pages }
         ensures limit { self.new.limit ≡ self.old.limit }
+        ensures marks { self.new.marks ≡ self.old.marks }
+        ensures unmarked { self.new.unmarked ≡ self.old.unmarked }
     {
-        let slot = &self.slots[i];
-        if let Some(frame) = &slot.frame {
-            self.code = CodePage {
-                number: slot.number,
-                frame: frame.number(),
-            };
+        if let Some(code) = code_of(&self.slots[i]) {
+            self.code = code;
         }
     }
 
@@ -138,6 +139,8 @@ impl PageList {
         requires { i < length self.old.pages }
         ensures pages { self.new.pages ≡ changed_at (page_with_rights rights) i self.old.pages }
         ensures limit { self.new.limit ≡ self.old.limit }
+        ensures marks { self.new.marks ≡ self.old.marks }
+        ensures unmarked { self.new.unmarked ≡ self.old.unmarked }
     {
         self.code = NO_CODE;
         self.slots[i].rights = rights;
@@ -152,7 +155,7 @@ impl PageList {
         ensures bytes { result.now ≡ take count (drop at (entry_at self.old.pages i).1.bytes) }
         ensures length { length result.now ≡ count }
     {
-        ensure_frame(&mut self.slots, &mut self.arena, i);
+        ensure_own(&mut self.slots, &mut self.arena, &mut self.code, i);
         // for its clause: what the frame has are bytes
         let _bytes = told_bytes(self.arena.bytes(own_frame(&self.slots, i)));
         self.arena.part_mut(own_frame(&self.slots, i), at, count)
@@ -165,6 +168,8 @@ impl PageList {
         requires within { at + length bytes.now ≤ 4096 }
         ensures pages { self.new.pages ≡ changed_at (page_with_bytes at bytes.now) i self.old.pages }
         ensures limit { self.new.limit ≡ self.old.limit }
+        ensures marks { self.new.marks ≡ self.old.marks }
+        ensures unmarked { self.new.unmarked ≡ self.old.unmarked }
     {
         let bytes = told_bytes(bytes);
         self.part_mut(i, at, bytes.len()).copy_from_slice(bytes);
@@ -187,6 +192,8 @@ impl PageList {
         requires room { length self.old.pages + count ≤ self.old.limit }
         ensures pages { self.new.pages ≡ take at self.old.pages ++ (zeroed_entries first count rights ++ drop at self.old.pages) }
         ensures limit { self.new.limit ≡ self.old.limit }
+        ensures marks { self.new.marks ≡ self.old.marks }
+        ensures unmarked { self.new.unmarked ≡ self.old.unmarked }
     {
         self.code = NO_CODE;
         push_all(&mut self.slots, first, count, rights);
@@ -198,9 +205,102 @@ impl PageList {
         requires { at + count ≤ length self.old.pages }
         ensures pages { self.new.pages ≡ take at self.old.pages ++ drop count (drop at self.old.pages) }
         ensures limit { self.new.limit ≡ self.old.limit }
+        ensures marks { self.new.marks ≡ self.old.marks }
+        ensures unmarked { self.new.unmarked ≡ self.old.unmarked }
     {
         self.code = NO_CODE;
         move_to_end(&mut self.slots, at, count);
         pop_all(&mut self.slots, &mut self.arena, count);
+    }
+
+    /// No pages and no marks, with room for `limit` pages and for sixteen marks of as many. No later call takes memory.
+    pub fn with_marks(alloc: Global, limit: u32) -> Result<PageList, OutOfMemory>
+        requires { limit ≤ 1048576 }
+        ensures { IfOk result (λ l. l ≡ record { pages = []; limit = limit; code = no_page; marks = replicate 16 None; unmarked = 3 * limit }) }
+    {
+        let slots = Vec::with_capacity(alloc, limit as usize)?;
+        let arena = FrameArena::new(alloc, 3 * limit)?;
+        let mut marks = Vec::with_capacity(alloc, 16)?;
+        for _turn in 0..16u32 {
+            marks.push_reserved(Mark {
+                slots: Vec::with_capacity(alloc, limit as usize)?,
+                set: false,
+            });
+        }
+        Ok(PageList {
+            slots,
+            arena,
+            limit,
+            code: NO_CODE,
+            marks,
+        })
+    }
+
+    /// The number of spare frames. There are no more of them than frames that no mark names, and no fewer but for one a
+    /// page. Where at most one mark is set, the pages can be marked.
+    pub fn spare(&self) -> u32
+        ensures most { result ≤ self.now.unmarked }
+        ensures least { self.now.unmarked ≤ result + length self.now.pages }
+        ensures one_mark { 0 < length self.now.marks → count_by is_some self.now.marks ≤ 1 → self.now.limit + length self.now.pages ≤ self.now.unmarked }
+        ensures room { self.now.limit ≤ result + length self.now.pages }
+    {
+        let _marks = &self.marks;
+        self.arena.spare()
+    }
+
+    /// The number of marks that are set.
+    pub fn marked(&self) -> u32
+        ensures { result ≡ count_by is_some self.now.marks }
+    {
+        let mut count = 0;
+        for i in 0..self.marks.len() {
+            if self.marks[i].set {
+                count += 1;
+            }
+        }
+        count
+    }
+
+    /// Makes mark `k` the pages as they are.
+    pub fn mark(&mut self, k: usize)
+        requires index { k < length self.old.marks }
+        requires none { get_or self.old.marks k None ≡ None }
+        requires room { self.old.limit + length self.old.pages ≤ self.old.unmarked }
+        ensures pages { self.new.pages ≡ self.old.pages }
+        ensures limit { self.new.limit ≡ self.old.limit }
+        ensures marks { self.new.marks ≡ set self.old.marks k (Some self.old.pages) }
+        ensures unmarked { self.old.unmarked ≤ self.new.unmarked + length self.old.pages }
+    {
+        self.code = NO_CODE;
+        // for its clauses
+        let _spare = self.arena.spare();
+        fill_mark(&mut self.slots, &mut self.marks[k], &mut self.arena);
+    }
+
+    /// Makes mark `k` none.
+    pub fn drop_mark(&mut self, k: usize)
+        requires index { k < length self.old.marks }
+        ensures pages { self.new.pages ≡ self.old.pages }
+        ensures limit { self.new.limit ≡ self.old.limit }
+        ensures marks { self.new.marks ≡ set self.old.marks k None }
+    {
+        clear_mark(&mut self.marks[k], &mut self.arena);
+    }
+
+    /// Makes the pages those of mark `k`.
+    pub fn restore(&mut self, k: usize)
+        requires index { k < length self.old.marks }
+        requires set { IsSome (get_or self.old.marks k None) }
+        requires few { count_by is_some self.old.marks ≤ 2 }
+        ensures pages { get_or self.old.marks k None ≡ Some self.new.pages }
+        ensures limit { self.new.limit ≡ self.old.limit }
+        ensures marks { self.new.marks ≡ self.old.marks }
+        ensures unmarked { self.new.unmarked ≡ self.old.unmarked }
+    {
+        self.code = NO_CODE;
+        pop_every(&mut self.slots, &mut self.arena);
+        share_all(&mut self.marks[k].slots, &mut self.slots, &mut self.arena);
+        // for its clauses
+        let _spare = self.arena.spare();
     }
 }

@@ -1,7 +1,7 @@
 //! The mapped pages, and the calls that map, find and change them: the plain program of the definitions.
 ghost use Rattle.std.specs.Prelude.{◌≡◌, ◌≤◌, ◌<◌, ◌+◌, ◌*◌, ◌^◌, length, if◌then◌else◌, MatchOption, IfOk, IfErr, IfSome, OnOk, OnErr, ⊤};
 ghost use Rattle.std.specs.FinMap as map;
-ghost use Rattle.emu_model.specs.Access.{page_gives};
+ghost use Rattle.emu_model.specs.Access.{no_marks, page_gives};
 ghost use Rattle.emu_model.specs.Pages.{free_run, least_unmapped, mapped, protected, unmapped, with_bytes};
 ghost use Rattle.emu_model.specs.State.{IsSoundMemory};
 ghost use Rattle.guest_pages.specs.MapFault.{map_fault, protect_answer};
@@ -51,7 +51,7 @@ impl Model for Pages {
 impl Pages {
     /// No pages, of which at most `limit` may be mapped.
     pub fn new(alloc: Global, limit: u32) -> Result<Pages, OutOfMemory>
-        ensures { IfOk result (λ p. p ≡ record { pages = map.empty; limit = limit }) }
+        ensures { IfOk result (λ p. p ≡ record { pages = map.empty; limit = limit; marks = no_marks limit }) }
     {
         Ok(Pages {
             alloc,

@@ -3,6 +3,7 @@ use Rattle.std.proofs.lemmas.List.{length_push}
 use Rattle.frame_links.specs.Links.{Place}
 use Rattle.frame_arena.specs.Frames.{Takes, zeroed}
 use Rattle.frame_arena.specs.declared.slot.Slot.{Slot}
+use Rattle.frame_arena.specs.declared.slot.Slot.TheVariants.{Used}
 use Rattle.frame_arena.specs.Slots.{AreVacant, IsWhole, AreSeated, AreSpareSeated, IsRest, seen}
 use Rattle.frame_arena.proofs.Kept.{seat_as, rest_at, cut_seat, cut_rest}
 use Rattle.frame_arena.proofs.Table.{vacant-set, vacant-pushed, whole-taken, whole-pushed, seated-set, seated-pushed, takes, takes_next}
@@ -13,7 +14,7 @@ pub invariant_of-self : goal.invariant_of-self
 invariant_of-self c =
     let a = c.self.inside in let i = c.self.invariant in let ss = a.slots.items in let p = a.lease.ptr in
     let r = c.pop-number.result in let f : Place = (r.1.0.block, r.1.0.place, r.0) in let rest = r.1.1.frames in
-    let s : Slot = record { page = Some c.zeroed_page.result } in
+    let s : Slot = Used 0 c.zeroed_page.result in
     let listed : f ∷ rest ≡ a.free.frames = c.pop-number.ensures ∙ ap (λ l. l.frames) c.replace-free.ensures.value in
     let v : AreVacant ss (f ∷ rest) = subst (AreVacant ss) (sym listed) i.vacant in
     let w : IsWhole ss (f ∷ rest) = subst (IsWhole ss) (sym listed) i.whole in
@@ -23,7 +24,7 @@ invariant_of-self c =
     record {
       given = omega (arith, count, i.given);
       vacant = vacant-set ss rest f.2 s v.0 v.2 v.3;
-      whole = whole-taken ss f rest s c.zeroed_page.result.bytes v refl w;
+      whole = whole-taken ss f rest s (record { bytes = c.zeroed_page.result.bytes; count = 1 }) v refl w;
       most = omega (arith, long, i.most);
       narrow = i.narrow;
       room = i.room;
@@ -38,16 +39,16 @@ pub returns-then-self-gt0 : goal.returns-then-self-gt0
 returns-then-self-gt0 c =
     let a = c.self.inside in let ss = a.slots.items in
     let r = c.pop-number.result in let f : Place = (r.1.0.block, r.1.0.place, r.0) in let rest = r.1.1.frames in
-    let s : Slot = record { page = Some c.zeroed_page.result } in
+    let s : Slot = Used 0 c.zeroed_page.result in
     let listed : f ∷ rest ≡ a.free.frames = c.pop-number.ensures ∙ ap (λ l. l.frames) c.replace-free.ensures.value in
     let v : AreVacant ss (f ∷ rest) = subst (AreVacant ss) (sym listed) c.self.invariant.vacant in
-    takes a.total ss f rest c.args.self.now (ap (seen a.total ss) listed ∙ c.self.view_is) s zeroed v (ap (λ (z : List ℕ). Some z) c.zeroed_page.ensures.2)
+    takes a.total ss f rest c.args.self.now (ap (seen a.total ss) listed ∙ c.self.view_is) s zeroed v (ap (λ (z : List ℕ). Some (record { bytes = z; count = 1 })) c.zeroed_page.ensures.2)
 
 -- a frame that is cut off
 pub invariant_of-self-2 : goal.invariant_of-self-2
 invariant_of-self-2 c =
     let a = c.self.inside in let i = c.self.invariant in let ss = a.slots.items in let p = a.lease.ptr in let n = length ss in
-    let s : Slot = record { page = Some c.zeroed_page-2.result } in let region = c.in-Some.region in let cut = c.cut-frame.ensures in
+    let s : Slot = Used 0 c.zeroed_page-2.result in let region = c.in-Some.region in let cut = c.cut-frame.ensures in
     let b = c.cut-frame.result.0.block in let o = c.cut-frame.result.0.place in
     let more : c.push_reserved.new.self.items ≡ ss ++ s ∷ [] = c.push_reserved.ensures.items in
     let l : n < a.total = omega (arith, c.if-number-self.false, c.len-number.ensures, a.slots.ok.0, i.most) in
@@ -57,7 +58,7 @@ invariant_of-self-2 c =
     record {
       given = i.given;
       vacant = subst (λ (x : List Slot). AreVacant x a.free.frames) (sym more) (vacant-pushed ss a.free.frames s i.vacant);
-      whole = subst (λ (x : List Slot). IsWhole x a.free.frames) (sym more) (whole-pushed ss a.free.frames s c.zeroed_page-2.result.bytes refl i.whole);
+      whole = subst (λ (x : List Slot). IsWhole x a.free.frames) (sym more) (whole-pushed ss a.free.frames s (record { bytes = c.zeroed_page-2.result.bytes; count = 1 }) refl i.whole);
       most = omega (arith, left, l);
       narrow = i.narrow;
       room = omega (arith, i.room, c.push_reserved.ensures.capacity);
@@ -71,9 +72,9 @@ invariant_of-self-2 c =
 
 pub returns : goal.returns
 returns c =
-    let a = c.self.inside in let ss = a.slots.items in let s : Slot = record { page = Some c.zeroed_page-2.result } in
+    let a = c.self.inside in let ss = a.slots.items in let s : Slot = Used 0 c.zeroed_page-2.result in
     let l : length ss < a.total = omega (arith, c.if-number-self.false, c.len-number.ensures, a.slots.ok.0, c.self.invariant.most) in
     let number : c.len-number.result ≡ length ss = c.len-number.ensures ∙ c.self.inside.slots.ok.0 in
     subst (λ (x : List Slot). Takes c.args.self.now c.len-number.result zeroed (seen a.total x a.free.frames)) (sym c.push_reserved.ensures.items)
     (subst (λ (k : ℕ). Takes c.args.self.now k zeroed (seen a.total (ss ++ s ∷ []) a.free.frames)) (sym number)
-    (takes_next a.total ss a.free.frames c.args.self.now c.self.view_is s zeroed l (ap (λ (z : List ℕ). Some z) c.zeroed_page-2.ensures.2)))
+    (takes_next a.total ss a.free.frames c.args.self.now c.self.view_is s zeroed l (ap (λ (z : List ℕ). Some (record { bytes = z; count = 1 })) c.zeroed_page-2.ensures.2)))

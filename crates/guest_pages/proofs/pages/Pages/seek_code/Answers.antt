@@ -5,7 +5,7 @@ use Rattle.emu_model.specs.Access.{Memory, page_gives}
 use Rattle.emu_model.specs.declared.access.Kind.TheVariants.{Fetch}
 use Rattle.page_list.specs.Entries.{IsFetched}
 use Rattle.guest_pages.specs.Open.{IsOpen}
-use Rattle.guest_pages.specs.Places.{Entry, IsAscending, entry_at, memory_of, pages_of}
+use Rattle.guest_pages.specs.Places.{Entry, IsAscending, entry_at, marks_of, memory_of, pages_of}
 use Rattle.guest_pages.specs.declared.pages.Pages.TheInside.{Inside}
 use Rattle.guest_pages.proofs.Maps.{get_is}
 use Rattle.guest_pages.proofs.Ordered.{find_is}
@@ -36,7 +36,7 @@ returns-then-is_code c = (
 pub returns-in-None : goal.returns-in-None
 returns-in-None c =
     let e = c.search_code.ensures in (
-      (refl, λ _. tt, (λ j. record { pages = pages_of (e.pages j); limit = e.limit j }) ∙ c.self.view_is),
+      (refl, λ _. tt, (λ j. record { pages = pages_of (e.pages j); limit = e.limit j; marks = marks_of (e.marks.0 j) (e.marks.1 j) }) ∙ c.self.view_is),
       record {
         unchanged = tt;
         found = ap (λ o. page_gives o Fetch) (found c.self.inside c.args.self.now c.self.view_is c.args.page) ∙ c.in-None.ensures.place;
@@ -48,7 +48,7 @@ pub returns-in-Some : goal.returns-in-Some
 returns-in-Some c =
     let e = c.search_code.ensures in let at = c.in-Some.ensures.place in
     let bytes = ap (λ (es : List Entry). (entry_at es c.in-Some.i).1.bytes) (sym e.pages) ∙ sym c.bytes.ensures.bytes in (
-      (refl, λ _. tt, (λ j. record { pages = pages_of (e.pages j); limit = e.limit j }) ∙ c.self.view_is),
+      (refl, λ _. tt, (λ j. record { pages = pages_of (e.pages j); limit = e.limit j; marks = marks_of (e.marks.0 j) (e.marks.1 j) }) ∙ c.self.view_is),
       record {
         unchanged = tt;
         found = open_at c.self.inside c.args.self.now c.self.view_is c.args.page c.self.invariant.order.ascending c.bytes.result.now (record {

@@ -1,9 +1,9 @@
-use Rattle.std.proofs.Common.{◌≡◌, ◌≤◌, ◌+◌, ◌-◌, ◌++◌, List, length, take, drop, ap, ◌∙◌, sym, subst, arith}
+use Rattle.std.proofs.Common.{◌≡◌, ◌≤◌, ◌-◌, ◌++◌, List, length, take, drop, ap, ◌∙◌, sym, subst, arith}
 use Rattle.std.proofs.lemmas.List.{length-map}
 use Rattle.page_list.specs.declared.slots.Slot.{Slot}
 use Rattle.page_list.specs.Entries.{Listed, zeroed_entries}
-use Rattle.page_list.specs.Slots.{AreHeld, entry_in, entries_in, framed}
-use Rattle.page_list.proofs.Held.{held-moved, framed-moved, held-pushed, framed-pushed, entries-pushed}
+use Rattle.page_list.specs.Slots.{AreOwn, entry_in, entries_in, holders, sole_in}
+use Rattle.page_list.proofs.Held.{holders-moved, sole-moved, own-moved, holders-pushed, sole-pushed, own-pushed, entries-pushed}
 use Rattle.page_list.proofs.Lists.{moved_back, length_turned}
 use Rattle.page_list.proofs.list.PageList.insert.Goals as goal
 
@@ -12,15 +12,23 @@ invariant_of-self c =
     let a = c.self.inside in let i = c.self.invariant in let live = a.arena.live in let ss = c.push_all.new.slots.items in let k = length ss - c.args.at - c.args.count in
     let pushed = c.push_all.ensures.slots in let moved = c.move_back.ensures.slots in
     let long : length c.move_back.new.slots.items ≡ length ss = ap length moved ∙ length_turned ss c.args.at k in
-    let frames : framed c.move_back.new.slots.items ≡ framed a.slots.items =
-    ap (λ (l : List Slot). framed l) moved ∙ framed-moved ss c.args.at k ∙ ap (λ (l : List Slot). framed l) pushed ∙ framed-pushed a.slots.items c.args.first c.args.count c.args.rights in
     record {
-      held = subst (AreHeld live) (sym moved) (held-moved live ss c.args.at k (subst (AreHeld live) (sym pushed) (held-pushed a.slots.items c.args.first c.args.count c.args.rights live i.held)));
+      counts = λ f.
+          let n = i.counts f in
+          let m =
+          ap (λ (l : List Slot). holders f l) moved ∙ holders-moved ss c.args.at k f ∙ ap (λ (l : List Slot). holders f l) pushed ∙ holders-pushed a.slots.items c.args.first c.args.count c.args.rights f in
+          omega (arith, n, m);
+      own = subst (AreOwn live) (sym moved) (own-moved live ss c.args.at k (subst (AreOwn live) (sym pushed) (own-pushed a.slots.items c.args.first c.args.count c.args.rights live i.own)));
+      spare =
+          let e =
+          ap (λ (l : List Slot). sole_in live l) moved ∙ sole-moved live ss c.args.at k ∙ ap (λ (l : List Slot). sole_in live l) pushed ∙ sole-pushed a.slots.items c.args.first c.args.count c.args.rights live in
+          omega (arith, e, i.spare);
       room = omega (arith, i.room, c.push_all.ensures.capacity, c.move_back.ensures.capacity);
-      spare = ap (λ n. a.arena.spare + n) frames ∙ i.spare;
       most = omega (arith, c.requires.room, ap (λ (l : Listed). length l.pages) c.self.view_is, ap (λ (l : Listed). l.limit) c.self.view_is, length-map a.slots.items (entry_in live), c.push_all.ensures.length, long);
       narrow = i.narrow;
       code = λ some. absurd (omega arith);
+      marks = i.marks;
+      object = i.object;
     }
 
 pub returns-clause-pages : goal.returns-clause-pages

@@ -1,0 +1,38 @@
+use Rattle.std.proofs.Common.{◌≡◌, ◌-◌, ◌*◌, List, [], length, replicate, None, refl, sym, ap, subst, ◌∙◌, arith}
+use Rattle.frame_arena.specs.Frames.{Frames, count_of}
+use Rattle.page_list.specs.declared.slots.Slot.{Slot}
+use Rattle.page_list.specs.Entries.{no_page}
+use Rattle.page_list.specs.Slots.{AreOwn, entries_in, holders, marks_in, marked_slots, named, sole_in, unmarked}
+use Rattle.page_list.proofs.Held.{empty-counts}
+use Rattle.page_list.proofs.Marks.{fresh_marks, fresh_shown, fresh_slots, holders-marked}
+use Rattle.page_list.proofs.list.PageList.with_marks.Goals as goal
+
+pub invariant_of-result : goal.invariant_of-result
+invariant_of-result c =
+    let ss = c.in_ok-slots.slots.items in let a = c.in_ok-arena.arena in let ms = c.loop-turn.marks.items in let limit = c.args.limit in
+    let none : ss ≡ [] = c.in_ok-slots.ensures.items in let e = c.in_ok-arena.ensures in let i = c.loop-turn.invariant in
+    let sixteen : length ms ≡ 16 = omega (arith, i.0, c.loop-turn-test.false) in
+    record {
+      counts = λ f.
+          let m = ap (λ (x : Frames). count_of x.live f) e ∙ empty-counts f in let n = ap (holders f) none in let k = sym (holders-marked f ms) ∙ ap (holders f) (fresh_slots limit ms i.2) in
+          omega (arith, m, n, k);
+      own = subst (AreOwn a.live) (sym none) refl;
+      spare = let n = ap (sole_in a.live) none in let m = ap (λ (x : Frames). x.spare) e in omega (arith, n, m);
+      room = c.in_ok-slots.ensures.capacity;
+      most = let n = ap length none in omega (arith, n);
+      narrow = c.ranges.limit.fits;
+      code = λ some. absurd (omega arith);
+      marks = fresh_marks limit ms i.2;
+      object = λ _. record { sixteen = sixteen; frames = ap (λ (x : Frames). x.total) e; few = c.requires };
+    }
+
+pub returns : goal.returns
+returns c =
+    let ss = c.in_ok-slots.slots.items in let a = c.in_ok-arena.arena in let ms = c.loop-turn.marks.items in let limit = c.args.limit in let i = c.loop-turn.invariant in
+    let none : ss ≡ [] = c.in_ok-slots.ensures.items in
+    let sixteen : length ms ≡ 16 = omega (arith, i.0, c.loop-turn-test.false) in
+    let pages : entries_in a.live ss ≡ [] = ap (entries_in a.live) none in
+    let marks : marks_in a.live ms ≡ replicate 16 None = fresh_shown a.live limit ms i.2 ∙ ap (λ n. replicate n None) sixteen in
+    let total : a.total ≡ 3 * limit = ap (λ (x : Frames). x.total) c.in_ok-arena.ensures in
+    let free : unmarked a.total ms ≡ 3 * limit = ap (λ n. n - named (marked_slots ms)) total ∙ ap (λ (xs : List Slot). 3 * limit - named xs) (fresh_slots limit ms i.2) ∙ omega arith in
+    λ j. record { pages = pages j; limit = limit; code = no_page; marks = marks j; unmarked = free j }
