@@ -3,13 +3,9 @@ use Rattle.std.proofs.Common.{◌≡◌, Bool, true, false, refl, ap, ◌∙◌,
 use Rattle.emu_bits.specs.Fields.{bit}
 use Rattle.emu_bits.specs.Rows.{meets, form_of}
 use Rattle.a64_insn.specs.declared.form.A64Form.{A64Form}
-use Rattle.a64_insn.specs.declared.form.A64Form.TheVariants.{Adr, AddImm, LogicImm, MoveWide, Bitfield, Extract, LogicReg, AddReg, AddExt, AddCarry, CondReg, CondImm, Select, MulAdd, MulLong, MulHigh, TwoSource, OneSource, Rev, Branch, BranchCond, Compare, Test, BranchReg, Except, Hint, Barrier, ReadSys, WriteSys, LsUnsigned, LsUnscaled, LsPost, LsPre, LsReg, LsLiteral, Pair, StoreEx, LoadEx, Ordered, FMove, MoveImm}
-use Rattle.a64_insn.specs.Table.{row_of, meets_form}
-use Rattle.a64_insn.specs.Names.{add_carry_named, add_carry_number, add_named, add_number, adr_named, adr_number, barrier_named, barrier_number, bitfield_named, bitfield_number, branch_named, branch_number, branch_reg_named, branch_reg_number, compare_named, compare_number, cond_compare_named, cond_compare_number, except_named, except_number, f_move_named, f_move_number, load_ex_named, load_ex_number, logic_imm_named, logic_imm_number, logic_reg_named, logic_reg_number, move_wide_named, move_wide_number, mul_add_named, mul_add_number, mul_high_named, mul_high_number, mul_long_named, mul_long_number, one_source_named, one_source_number, ordered_named, ordered_number, read_sys_named, read_sys_number, rev_named, rev_number, select_named, select_number, store_ex_named, store_ex_number, test_named, test_number, two_source_named, two_source_number, write_sys_named, write_sys_number}
-use Rattle.a64_insn.specs.Data.{adr, add_imm, logic_imm, move_wide, bitfield, extract, logic_reg, add_reg, add_ext, add_carry, cond_reg, cond_imm, select, mul_add, mul_long, mul_high, two_source, one_source, rev}
-use Rattle.a64_insn.specs.Flow.{branch, branch_cond, compare, test_branch, branch_reg, except, hint, barrier, read_sys, write_sys}
-use Rattle.a64_insn.specs.Memory.{ls_unsigned, ls_unscaled, ls_post, ls_pre, ls_reg, ls_literal, pair, store_ex, load_ex, ordered}
-use Rattle.a64_insn.specs.BitMoves.{f_move, move_imm}
+use Rattle.a64_insn.specs.declared.form.A64Form.TheVariants.{Adr, AddImm, LogicImm, MoveWide, Bitfield, Extract, LogicReg, AddReg, AddExt, AddCarry, CondReg, CondImm, Select, MulAdd, MulLong, MulHigh, TwoSource, OneSource, Rev, Branch, BranchCond, Compare, Test, BranchReg, Except, Hint, Barrier, ReadSys, WriteSys, LsUnsigned, LsUnscaled, LsPost, LsPre, LsReg, LsLiteral, Pair, StoreEx, LoadEx, Ordered, Atomic, CompareSwap, FMove, MoveImm}
+use Rattle.a64_insn.specs.Table.{row_of, meets_form, lines_open}
+use Rattle.a64_insn.specs.Names.{add_carry_named, add_carry_number, add_named, add_number, adr_named, adr_number, atomic_named, atomic_number, barrier_named, barrier_number, bitfield_named, bitfield_number, branch_named, branch_number, branch_reg_named, branch_reg_number, compare_named, compare_number, cond_compare_named, cond_compare_number, except_named, except_number, f_move_named, f_move_number, load_ex_named, load_ex_number, logic_imm_named, logic_imm_number, logic_reg_named, logic_reg_number, move_wide_named, move_wide_number, mul_add_named, mul_add_number, mul_high_named, mul_high_number, mul_long_named, mul_long_number, one_source_named, one_source_number, ordered_named, ordered_number, read_sys_named, read_sys_number, rev_named, rev_number, select_named, select_number, store_ex_named, store_ex_number, test_named, test_number, two_source_named, two_source_number, write_sys_named, write_sys_number}
 use Rattle.a64_insn.specs.declared.ops.AdrOp.{AdrOp}
 use Rattle.a64_insn.specs.declared.ops.AdrOp.TheVariants as adr_names
 use Rattle.a64_insn.specs.declared.ops.AddOp.{AddOp}
@@ -62,11 +58,13 @@ use Rattle.a64_insn.specs.declared.ops.LoadExOp.{LoadExOp}
 use Rattle.a64_insn.specs.declared.ops.LoadExOp.TheVariants as load_ex_names
 use Rattle.a64_insn.specs.declared.ops.OrderedOp.{OrderedOp}
 use Rattle.a64_insn.specs.declared.ops.OrderedOp.TheVariants as ordered_names
+use Rattle.a64_insn.specs.declared.ops.AtomicOp.{AtomicOp}
+use Rattle.a64_insn.specs.declared.ops.AtomicOp.TheVariants as atomic_names
 use Rattle.a64_insn.specs.declared.ops.FMoveOp.{FMoveOp}
 use Rattle.a64_insn.specs.declared.ops.FMoveOp.TheVariants as f_move_names
 
 pub same_condition : (f : A64Form) → meets (row_of f) ≡ meets_form f
-unfolding adr add_imm logic_imm move_wide bitfield extract logic_reg add_reg add_ext add_carry cond_reg cond_imm select mul_add mul_long mul_high two_source one_source rev branch branch_cond compare test_branch branch_reg except hint barrier read_sys write_sys ls_unsigned ls_unscaled ls_post ls_pre ls_reg ls_literal pair store_ex load_ex ordered f_move move_imm
+unfolding lines_open
 same_condition (Adr op immlo immhi rd) = refl
 same_condition (AddImm op sf sh imm12 rn rd) = refl
 same_condition (LogicImm op sf n immr imms rn rd) = refl
@@ -106,6 +104,8 @@ same_condition (Pair opc v mode l imm7 rt2 rn rt) = refl
 same_condition (StoreEx op size rs rn rt) = refl
 same_condition (LoadEx op size rn rt) = refl
 same_condition (Ordered op size rn rt) = refl
+same_condition (Atomic op size acquires releases rs rn rt) = refl
+same_condition (CompareSwap size acquires releases rs rn rt) = refl
 same_condition (FMove op rn rd) = refl
 same_condition (MoveImm q op abc cmode defgh rd) = refl
 
@@ -247,6 +247,17 @@ ordered_named_again : (op : OrderedOp) → ordered_named (ordered_number op) ≡
 ordered_named_again ordered_names.Stlr = refl
 ordered_named_again ordered_names.Ldar = refl
 
+atomic_named_again : (op : AtomicOp) → atomic_named (atomic_number op) ≡ op
+atomic_named_again atomic_names.Ldadd = refl
+atomic_named_again atomic_names.Ldclr = refl
+atomic_named_again atomic_names.Ldeor = refl
+atomic_named_again atomic_names.Ldset = refl
+atomic_named_again atomic_names.Ldsmax = refl
+atomic_named_again atomic_names.Ldsmin = refl
+atomic_named_again atomic_names.Ldumax = refl
+atomic_named_again atomic_names.Ldumin = refl
+atomic_named_again atomic_names.Swp = refl
+
 f_move_named_again : (op : FMoveOp) → f_move_named (f_move_number op) ≡ op
 f_move_named_again f_move_names.WdSn = refl
 f_move_named_again f_move_names.SdWn = refl
@@ -254,7 +265,7 @@ f_move_named_again f_move_names.XdDn = refl
 f_move_named_again f_move_names.DdXn = refl
 
 pub form_again : (f : A64Form) → form_of (row_of f) ≡ f
-unfolding adr add_imm logic_imm move_wide bitfield extract logic_reg add_reg add_ext add_carry cond_reg cond_imm select mul_add mul_long mul_high two_source one_source rev branch branch_cond compare test_branch branch_reg except hint barrier read_sys write_sys ls_unsigned ls_unscaled ls_post ls_pre ls_reg ls_literal pair store_ex load_ex ordered f_move move_imm
+unfolding lines_open
 form_again (Adr op immlo immhi rd) = ap (λ (y : AdrOp). Adr y immlo immhi rd) (adr_named_again op)
 form_again (AddImm op sf sh imm12 rn rd) = ap (λ (y : AddOp). AddImm y (bit sf == 1) (bit sh == 1) imm12 rn rd) (add_named_again op) ∙ ap (λ (y : Bool). AddImm op y (bit sh == 1) imm12 rn rd) (flag_again sf) ∙ ap (λ (y : Bool). AddImm op sf y imm12 rn rd) (flag_again sh)
 form_again (LogicImm op sf n immr imms rn rd) = ap (λ (y : LogicImmOp). LogicImm y (bit sf == 1) (bit n == 1) immr imms rn rd) (logic_imm_named_again op) ∙ ap (λ (y : Bool). LogicImm op y (bit n == 1) immr imms rn rd) (flag_again sf) ∙ ap (λ (y : Bool). LogicImm op sf y immr imms rn rd) (flag_again n)
@@ -294,5 +305,7 @@ form_again (Pair opc v mode l imm7 rt2 rn rt) = ap (λ (y : Bool). Pair opc y mo
 form_again (StoreEx op size rs rn rt) = ap (λ (y : StoreExOp). StoreEx y size rs rn rt) (store_ex_named_again op)
 form_again (LoadEx op size rn rt) = ap (λ (y : LoadExOp). LoadEx y size rn rt) (load_ex_named_again op)
 form_again (Ordered op size rn rt) = ap (λ (y : OrderedOp). Ordered y size rn rt) (ordered_named_again op)
+form_again (Atomic op size acquires releases rs rn rt) = ap (λ (y : AtomicOp). Atomic y size (bit acquires == 1) (bit releases == 1) rs rn rt) (atomic_named_again op) ∙ ap (λ (y : Bool). Atomic op size y (bit releases == 1) rs rn rt) (flag_again acquires) ∙ ap (λ (y : Bool). Atomic op size acquires y rs rn rt) (flag_again releases)
+form_again (CompareSwap size acquires releases rs rn rt) = ap (λ (y : Bool). CompareSwap size y (bit releases == 1) rs rn rt) (flag_again acquires) ∙ ap (λ (y : Bool). CompareSwap size acquires y rs rn rt) (flag_again releases)
 form_again (FMove op rn rd) = ap (λ (y : FMoveOp). FMove y rn rd) (f_move_named_again op)
 form_again (MoveImm q op abc cmode defgh rd) = ap (λ (y : Bool). MoveImm y (bit op == 1) abc cmode defgh rd) (flag_again q) ∙ ap (λ (y : Bool). MoveImm q y abc cmode defgh rd) (flag_again op)

@@ -2,8 +2,8 @@
 use Rattle.std.specs.Prelude.{ℕ, ◌==◌, ◌&&◌, ◌||◌, Bool, cond, not, [], ◌∷◌, nat_lt}
 use Rattle.emu_bits.specs.Rows.{◌to◌, Line, value_at, flag_at, always, is_among}
 use Rattle.a64_insn.specs.declared.form.A64Form.{A64Form}
-use Rattle.a64_insn.specs.declared.form.A64Form.TheVariants.{LsUnsigned, LsUnscaled, LsPost, LsPre, LsReg, LsLiteral, Pair, StoreEx, LoadEx, Ordered}
-use Rattle.a64_insn.specs.Names.{load_ex_named, ordered_named, store_ex_named}
+use Rattle.a64_insn.specs.declared.form.A64Form.TheVariants.{LsUnsigned, LsUnscaled, LsPost, LsPre, LsReg, LsLiteral, Pair, StoreEx, LoadEx, Ordered, Atomic, CompareSwap}
+use Rattle.a64_insn.specs.Names.{atomic_named, load_ex_named, ordered_named, store_ex_named}
 
 -- There are these loads and stores: of general registers all but opc 3 from 4 bytes on, of vector registers
 -- opc 0 and 1 of each size, and 2 and 3 (16 bytes) with size 0.
@@ -146,4 +146,22 @@ ordered = record {
   places = (31 to 30) ∷ (9 to 5) ∷ (4 to 0) ∷ [];
   holds = always;
   form = λ k vs. Ordered (ordered_named k) (value_at vs 0) (value_at vs 1) (value_at vs 2);
+}
+
+-- `ldadd`, `ldclr`, `ldeor`, `ldset`, `ldsmax`, `ldsmin`, `ldumax`, `ldumin`, `swp Rs, Rt, [Xn|SP]`: bit 23 acquires, bit 22 releases
+unfoldable pub atomic : Line A64Form
+atomic = record {
+  words = 0x38200000 ∷ 0x38201000 ∷ 0x38202000 ∷ 0x38203000 ∷ 0x38204000 ∷ 0x38205000 ∷ 0x38206000 ∷ 0x38207000 ∷ 0x38208000 ∷ [];
+  places = (31 to 30) ∷ (23 to 23) ∷ (22 to 22) ∷ (20 to 16) ∷ (9 to 5) ∷ (4 to 0) ∷ [];
+  holds = always;
+  form = λ k vs. Atomic (atomic_named k) (value_at vs 0) (value_at vs 1 == 1) (value_at vs 2 == 1) (value_at vs 3) (value_at vs 4) (value_at vs 5);
+}
+
+-- `cas Rs, Rt, [Xn|SP]`: bit 22 acquires, bit 15 releases
+unfoldable pub compare_swap : Line A64Form
+compare_swap = record {
+  words = 0x08A07C00 ∷ [];
+  places = (31 to 30) ∷ (22 to 22) ∷ (20 to 16) ∷ (15 to 15) ∷ (9 to 5) ∷ (4 to 0) ∷ [];
+  holds = always;
+  form = λ k vs. CompareSwap (value_at vs 0) (value_at vs 1 == 1) (value_at vs 3 == 1) (value_at vs 2) (value_at vs 4) (value_at vs 5);
 }

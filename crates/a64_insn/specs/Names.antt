@@ -52,6 +52,8 @@ use Rattle.a64_insn.specs.declared.ops.LoadExOp.{LoadExOp}
 use Rattle.a64_insn.specs.declared.ops.LoadExOp.TheVariants as load_ex_names
 use Rattle.a64_insn.specs.declared.ops.OrderedOp.{OrderedOp}
 use Rattle.a64_insn.specs.declared.ops.OrderedOp.TheVariants as ordered_names
+use Rattle.a64_insn.specs.declared.ops.AtomicOp.{AtomicOp}
+use Rattle.a64_insn.specs.declared.ops.AtomicOp.TheVariants as atomic_names
 use Rattle.a64_insn.specs.declared.ops.FMoveOp.{FMoveOp}
 use Rattle.a64_insn.specs.declared.ops.FMoveOp.TheVariants as f_move_names
 
@@ -266,6 +268,20 @@ ordered_number ordered_names.Ldar = 1
 
 abbrev pub ordered_named : ℕ → OrderedOp
 ordered_named k = get_or (ordered_names.Stlr ∷ ordered_names.Ldar ∷ []) k ordered_names.Stlr
+
+abbrev pub atomic_number : AtomicOp → ℕ
+atomic_number atomic_names.Ldadd = 0
+atomic_number atomic_names.Ldclr = 1
+atomic_number atomic_names.Ldeor = 2
+atomic_number atomic_names.Ldset = 3
+atomic_number atomic_names.Ldsmax = 4
+atomic_number atomic_names.Ldsmin = 5
+atomic_number atomic_names.Ldumax = 6
+atomic_number atomic_names.Ldumin = 7
+atomic_number atomic_names.Swp = 8
+
+abbrev pub atomic_named : ℕ → AtomicOp
+atomic_named k = get_or (atomic_names.Ldadd ∷ atomic_names.Ldclr ∷ atomic_names.Ldeor ∷ atomic_names.Ldset ∷ atomic_names.Ldsmax ∷ atomic_names.Ldsmin ∷ atomic_names.Ldumax ∷ atomic_names.Ldumin ∷ atomic_names.Swp ∷ []) k atomic_names.Ldadd
 
 abbrev pub f_move_number : FMoveOp → ℕ
 f_move_number f_move_names.WdSn = 0

@@ -1,17 +1,69 @@
 -- The table of A64 instructions, and which row a form is.
-use Rattle.std.specs.Prelude.{Bool, true, List, [], ◌∷◌}
+use Rattle.std.specs.Prelude.{ℕ, Bool, true, List, [], ◌∷◌}
 use Rattle.emu_bits.specs.Fields.{bit}
 use Rattle.emu_bits.specs.Rows.{Line, Row}
 use Rattle.a64_insn.specs.declared.form.A64Form.{A64Form}
-use Rattle.a64_insn.specs.declared.form.A64Form.TheVariants.{Adr, AddImm, LogicImm, MoveWide, Bitfield, Extract, LogicReg, AddReg, AddExt, AddCarry, CondReg, CondImm, Select, MulAdd, MulLong, MulHigh, TwoSource, OneSource, Rev, Branch, BranchCond, Compare, Test, BranchReg, Except, Hint, Barrier, ReadSys, WriteSys, LsUnsigned, LsUnscaled, LsPost, LsPre, LsReg, LsLiteral, Pair, StoreEx, LoadEx, Ordered, FMove, MoveImm}
-use Rattle.a64_insn.specs.Names.{add_carry_number, add_number, adr_number, barrier_number, bitfield_number, branch_number, branch_reg_number, compare_number, cond_compare_number, except_number, f_move_number, load_ex_number, logic_imm_number, logic_reg_number, move_wide_number, mul_add_number, mul_high_number, mul_long_number, one_source_number, ordered_number, read_sys_number, rev_number, select_number, store_ex_number, test_number, two_source_number, write_sys_number}
+use Rattle.a64_insn.specs.declared.form.A64Form.TheVariants.{Adr, AddImm, LogicImm, MoveWide, Bitfield, Extract, LogicReg, AddReg, AddExt, AddCarry, CondReg, CondImm, Select, MulAdd, MulLong, MulHigh, TwoSource, OneSource, Rev, Branch, BranchCond, Compare, Test, BranchReg, Except, Hint, Barrier, ReadSys, WriteSys, LsUnsigned, LsUnscaled, LsPost, LsPre, LsReg, LsLiteral, Pair, StoreEx, LoadEx, Ordered, Atomic, CompareSwap, FMove, MoveImm}
+use Rattle.a64_insn.specs.declared.lines.TheConstants as line
+use Rattle.a64_insn.specs.Names.{add_carry_number, add_number, adr_number, atomic_number, barrier_number, bitfield_number, branch_number, branch_reg_number, compare_number, cond_compare_number, except_number, f_move_number, load_ex_number, logic_imm_number, logic_reg_number, move_wide_number, mul_add_number, mul_high_number, mul_long_number, one_source_number, ordered_number, read_sys_number, rev_number, select_number, store_ex_number, test_number, two_source_number, write_sys_number}
 use Rattle.a64_insn.specs.Data.{adr, add_imm, logic_imm, move_wide, bitfield, extract, logic_reg, add_reg, add_ext, add_carry, cond_reg, cond_imm, select, mul_add, mul_long, mul_high, two_source, one_source, rev, has_bitmask, move_wide_holds_for, bitfield_holds_for, extract_holds_for, is_below_width, add_reg_holds_for, add_ext_holds_for}
 use Rattle.a64_insn.specs.Flow.{branch, branch_cond, compare, test_branch, branch_reg, except, hint, barrier, read_sys, write_sys}
-use Rattle.a64_insn.specs.Memory.{ls_unsigned, ls_unscaled, ls_post, ls_pre, ls_reg, ls_literal, pair, store_ex, load_ex, ordered, is_access, writeback_holds_for, ls_reg_holds_for, ls_literal_holds_for, pair_holds_for, store_ex_holds_for}
+use Rattle.a64_insn.specs.Memory.{ls_unsigned, ls_unscaled, ls_post, ls_pre, ls_reg, ls_literal, pair, store_ex, load_ex, ordered, atomic, compare_swap, is_access, writeback_holds_for, ls_reg_holds_for, ls_literal_holds_for, pair_holds_for, store_ex_holds_for}
 use Rattle.a64_insn.specs.BitMoves.{f_move, move_imm, move_imm_holds_for}
 
 unfoldable pub a64_table : List (Line A64Form)
-a64_table = adr ∷ add_imm ∷ logic_imm ∷ move_wide ∷ bitfield ∷ extract ∷ logic_reg ∷ add_reg ∷ add_ext ∷ add_carry ∷ cond_reg ∷ cond_imm ∷ select ∷ mul_add ∷ mul_long ∷ mul_high ∷ two_source ∷ one_source ∷ rev ∷ branch ∷ branch_cond ∷ compare ∷ test_branch ∷ branch_reg ∷ except ∷ hint ∷ barrier ∷ read_sys ∷ write_sys ∷ ls_unsigned ∷ ls_unscaled ∷ ls_post ∷ ls_pre ∷ ls_reg ∷ ls_literal ∷ pair ∷ store_ex ∷ load_ex ∷ ordered ∷ f_move ∷ move_imm ∷ []
+a64_table = adr ∷ add_imm ∷ logic_imm ∷ move_wide ∷ bitfield ∷ extract ∷ logic_reg ∷ add_reg ∷ add_ext ∷ add_carry ∷ cond_reg ∷ cond_imm ∷ select ∷ mul_add ∷ mul_long ∷ mul_high ∷ two_source ∷ one_source ∷ rev ∷ branch ∷ branch_cond ∷ compare ∷ test_branch ∷ branch_reg ∷ except ∷ hint ∷ barrier ∷ read_sys ∷ write_sys ∷ ls_unsigned ∷ ls_unscaled ∷ ls_post ∷ ls_pre ∷ ls_reg ∷ ls_literal ∷ pair ∷ store_ex ∷ load_ex ∷ ordered ∷ atomic ∷ compare_swap ∷ f_move ∷ move_imm ∷ []
+
+-- opens every line of the table
+unfoldable pub lines_open : Unit {0}
+unfolding adr add_imm logic_imm move_wide bitfield extract logic_reg add_reg add_ext add_carry cond_reg cond_imm select mul_add mul_long mul_high two_source one_source rev branch branch_cond compare test_branch branch_reg except hint barrier read_sys write_sys ls_unsigned ls_unscaled ls_post ls_pre ls_reg ls_literal pair store_ex load_ex ordered atomic compare_swap f_move move_imm
+lines_open = tt
+
+-- the place of a form's line in the table
+abbrev pub line_number : A64Form → ℕ
+line_number (Adr op immlo immhi rd) = line.ADR
+line_number (AddImm op sf sh imm12 rn rd) = line.ADD_IMM
+line_number (LogicImm op sf n immr imms rn rd) = line.LOGIC_IMM
+line_number (MoveWide op sf hw imm16 rd) = line.MOVE_WIDE
+line_number (Bitfield op sf n r s rn rd) = line.BITFIELD
+line_number (Extract sf n rm s rn rd) = line.EXTRACT
+line_number (LogicReg op sf shift rm amount rn rd) = line.LOGIC_REG
+line_number (AddReg op sf shift rm amount rn rd) = line.ADD_REG
+line_number (AddExt op sf rm ext a rn rd) = line.ADD_EXT
+line_number (AddCarry op sf rm rn rd) = line.ADD_CARRY
+line_number (CondReg op sf rm cond rn f) = line.COND_REG
+line_number (CondImm op sf i cond rn f) = line.COND_IMM
+line_number (Select op sf rm cond rn rd) = line.SELECT
+line_number (MulAdd op sf rm ra rn rd) = line.MUL_ADD
+line_number (MulLong op rm ra rn rd) = line.MUL_LONG
+line_number (MulHigh op rm rn rd) = line.MUL_HIGH
+line_number (TwoSource op sf rm rn rd) = line.TWO_SOURCE
+line_number (OneSource op sf rn rd) = line.ONE_SOURCE
+line_number (Rev op rn rd) = line.REV
+line_number (Branch op imm26) = line.BRANCH
+line_number (BranchCond imm19 cond) = line.BRANCH_COND
+line_number (Compare op sf imm19 rt) = line.COMPARE
+line_number (Test op b5 b40 imm14 rt) = line.TEST
+line_number (BranchReg op rn) = line.BRANCH_REG
+line_number (Except op imm16) = line.EXCEPT
+line_number (Hint n) = line.HINT
+line_number (Barrier op n) = line.BARRIER
+line_number (ReadSys op rt) = line.READ_SYS
+line_number (WriteSys op rt) = line.WRITE_SYS
+line_number (LsUnsigned size v opc imm12 rn rt) = line.LS_UNSIGNED
+line_number (LsUnscaled size v opc imm9 rn rt) = line.LS_UNSCALED
+line_number (LsPost size v opc imm9 rn rt) = line.LS_POST
+line_number (LsPre size v opc imm9 rn rt) = line.LS_PRE
+line_number (LsReg size v opc rm ext s rn rt) = line.LS_REG
+line_number (LsLiteral opc v imm19 rt) = line.LS_LITERAL
+line_number (Pair opc v mode l imm7 rt2 rn rt) = line.PAIR
+line_number (StoreEx op size rs rn rt) = line.STORE_EX
+line_number (LoadEx op size rn rt) = line.LOAD_EX
+line_number (Ordered op size rn rt) = line.ORDERED
+line_number (Atomic op size acquires releases rs rn rt) = line.ATOMIC
+line_number (CompareSwap size acquires releases rs rn rt) = line.COMPARE_SWAP
+line_number (FMove op rn rd) = line.F_MOVE
+line_number (MoveImm q op abc cmode defgh rd) = line.MOVE_IMM
 
 -- the row of a form
 abbrev pub row_of : A64Form → Row A64Form
@@ -54,6 +106,8 @@ row_of (Pair opc v mode l imm7 rt2 rn rt) = record { line = pair; number = 0; va
 row_of (StoreEx op size rs rn rt) = record { line = store_ex; number = store_ex_number op; values = size ∷ rs ∷ rn ∷ rt ∷ [] }
 row_of (LoadEx op size rn rt) = record { line = load_ex; number = load_ex_number op; values = size ∷ rn ∷ rt ∷ [] }
 row_of (Ordered op size rn rt) = record { line = ordered; number = ordered_number op; values = size ∷ rn ∷ rt ∷ [] }
+row_of (Atomic op size acquires releases rs rn rt) = record { line = atomic; number = atomic_number op; values = size ∷ bit acquires ∷ bit releases ∷ rs ∷ rn ∷ rt ∷ [] }
+row_of (CompareSwap size acquires releases rs rn rt) = record { line = compare_swap; number = 0; values = size ∷ bit acquires ∷ rs ∷ bit releases ∷ rn ∷ rt ∷ [] }
 row_of (FMove op rn rd) = record { line = f_move; number = f_move_number op; values = rn ∷ rd ∷ [] }
 row_of (MoveImm q op abc cmode defgh rd) = record { line = move_imm; number = 0; values = bit q ∷ bit op ∷ abc ∷ cmode ∷ defgh ∷ rd ∷ [] }
 
@@ -102,6 +156,8 @@ meets_form (Pair opc v mode l imm7 rt2 rn rt) = pair_holds_for opc (bit v) mode 
 meets_form (StoreEx op size rs rn rt) = store_ex_holds_for rs rn rt
 meets_form (LoadEx op size rn rt) = true
 meets_form (Ordered op size rn rt) = true
+meets_form (Atomic op size acquires releases rs rn rt) = true
+meets_form (CompareSwap size acquires releases rs rn rt) = true
 meets_form (FMove op rn rd) = true
 meets_form (MoveImm q op abc cmode defgh rd) = move_imm_holds_for cmode
 meets_form f = meets_single f

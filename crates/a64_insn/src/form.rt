@@ -4,7 +4,7 @@ ghost use Rattle.a64_insn.specs.Table.{meets_form};
 
 use crate::conditions::meets;
 use crate::ops::{
-    AddCarryOp, AddOp, AdrOp, BarrierOp, BitfieldOp, BranchOp, BranchRegOp, CompareOp,
+    AddCarryOp, AddOp, AdrOp, AtomicOp, BarrierOp, BitfieldOp, BranchOp, BranchRegOp, CompareOp,
     CondCompareOp, ExceptOp, FMoveOp, LoadExOp, LogicImmOp, LogicRegOp, MoveWideOp, MulAddOp,
     MulHighOp, MulLongOp, OneSourceOp, OrderedOp, ReadSysOp, RevOp, SelectOp, StoreExOp, TestOp,
     TwoSourceOp, WriteSysOp,
@@ -316,6 +316,26 @@ pub enum A64Form {
     Ordered {
         op: OrderedOp,
         size: U<2>,
+        rn: Reg,
+        rt: Reg,
+    },
+    /// `ldadd`, `ldclr`, `ldeor`, `ldset`, `ldsmax`, `ldsmin`, `ldumax`, `ldumin`, `swp Rs, Rt, [Xn|SP]`: a load of 2^size bytes to Rt and a store of what
+    /// op makes of them and Rs, as one step.
+    Atomic {
+        op: AtomicOp,
+        size: U<2>,
+        acquires: bool,
+        releases: bool,
+        rs: Reg,
+        rn: Reg,
+        rt: Reg,
+    },
+    /// `cas Rs, Rt, [Xn|SP]`: a load of 2^size bytes to Rs, and, where they equal what Rs had, a store of Rt, as one step.
+    CompareSwap {
+        size: U<2>,
+        acquires: bool,
+        releases: bool,
+        rs: Reg,
         rn: Reg,
         rt: Reg,
     },

@@ -6,6 +6,7 @@ mod conditions;
 pub mod data_words;
 pub mod flow_words;
 pub mod form;
+pub mod lines;
 pub mod memory_words;
 pub mod ops;
 
@@ -15,8 +16,9 @@ ghost use Rattle.a64_insn.specs.declared.form.A64Form.{A64Form};
 ghost use Rattle.a64_insn.specs.Table.{row_of, meets_form};
 
 pub use form::{A64, A64Form};
+pub use lines::line_number;
 pub use ops::{
-    AddCarryOp, AddOp, AdrOp, BarrierOp, BitfieldOp, BranchOp, BranchRegOp, CompareOp,
+    AddCarryOp, AddOp, AdrOp, AtomicOp, BarrierOp, BitfieldOp, BranchOp, BranchRegOp, CompareOp,
     CondCompareOp, ExceptOp, FMoveOp, LoadExOp, LogicImmOp, LogicRegOp, MoveWideOp, MulAddOp,
     MulHighOp, MulLongOp, OneSourceOp, OrderedOp, ReadSysOp, RevOp, SelectOp, StoreExOp, TestOp,
     TwoSourceOp, WriteSysOp,

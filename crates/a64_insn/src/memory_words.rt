@@ -1,10 +1,10 @@
-//! The names of exclusive and ordered loads and stores with their base words, which have all fields 0.
+//! The names of exclusive, ordered and atomic loads and stores with their base words, which have all fields 0.
 ghost use Rattle.std.specs.Prelude.{◌≡◌, ◌<◌, Some, None, MatchOption, get_or, length};
 ghost use Rattle.emu_bits.specs.Rows.{number_of};
-ghost use Rattle.a64_insn.specs.Memory.{store_ex, load_ex, ordered};
-ghost use Rattle.a64_insn.specs.Names.{load_ex_number, ordered_number, store_ex_number};
+ghost use Rattle.a64_insn.specs.Memory.{store_ex, load_ex, ordered, atomic};
+ghost use Rattle.a64_insn.specs.Names.{atomic_number, load_ex_number, ordered_number, store_ex_number};
 
-use crate::ops::{LoadExOp, OrderedOp, StoreExOp};
+use crate::ops::{AtomicOp, LoadExOp, OrderedOp, StoreExOp};
 use emu_bits::Word;
 
 /// The name that has this base word in the line of `StoreEx`.
@@ -78,6 +78,45 @@ pub fn ordered_word(op: OrderedOp) -> Word
     let bits = match op {
         OrderedOp::Stlr => 0x089f_fc00,
         OrderedOp::Ldar => 0x08df_fc00,
+    };
+    Word { bits }
+}
+
+/// The name that has this base word in the line of `Atomic`.
+#[tactic(auto, unfolding(crate::specs::Memory::atomic))]
+pub fn atomic_op(word: u32) -> Option<AtomicOp>
+    ensures { MatchOption result (number_of word atomic.words ≡ None) (λ op. number_of word atomic.words ≡ Some (atomic_number op)) }
+{
+    match word {
+        0x3820_0000 => Some(AtomicOp::Ldadd),
+        0x3820_1000 => Some(AtomicOp::Ldclr),
+        0x3820_2000 => Some(AtomicOp::Ldeor),
+        0x3820_3000 => Some(AtomicOp::Ldset),
+        0x3820_4000 => Some(AtomicOp::Ldsmax),
+        0x3820_5000 => Some(AtomicOp::Ldsmin),
+        0x3820_6000 => Some(AtomicOp::Ldumax),
+        0x3820_7000 => Some(AtomicOp::Ldumin),
+        0x3820_8000 => Some(AtomicOp::Swp),
+        _ => None,
+    }
+}
+
+/// A name's base word in the line of `Atomic`.
+#[tactic(auto, unfolding(crate::specs::Memory::atomic))]
+pub fn atomic_word(op: AtomicOp) -> Word
+    ensures bits { result.bits ≡ get_or atomic.words (atomic_number op) 0 }
+    ensures numbered { atomic_number op < length atomic.words }
+{
+    let bits = match op {
+        AtomicOp::Ldadd => 0x3820_0000,
+        AtomicOp::Ldclr => 0x3820_1000,
+        AtomicOp::Ldeor => 0x3820_2000,
+        AtomicOp::Ldset => 0x3820_3000,
+        AtomicOp::Ldsmax => 0x3820_4000,
+        AtomicOp::Ldsmin => 0x3820_5000,
+        AtomicOp::Ldumax => 0x3820_6000,
+        AtomicOp::Ldumin => 0x3820_7000,
+        AtomicOp::Swp => 0x3820_8000,
     };
     Word { bits }
 }

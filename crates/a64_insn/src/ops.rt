@@ -212,6 +212,21 @@ pub enum OrderedOp {
     Ldar,
 }
 
+/// What a load and store as one step makes of the old bytes and of a register: their sum, the bytes without the bits of the register, the
+/// exclusive or, the or, the greater and the smaller, signed and unsigned, and the register itself.
+#[derive(Clone, Copy)]
+pub enum AtomicOp {
+    Ldadd,
+    Ldclr,
+    Ldeor,
+    Ldset,
+    Ldsmax,
+    Ldsmin,
+    Ldumax,
+    Ldumin,
+    Swp,
+}
+
 /// Copies of bits between general and vector registers, by destination and source.
 #[derive(Clone, Copy)]
 pub enum FMoveOp {

@@ -5,21 +5,17 @@ use Rattle.emu_bits.proofs.Computed.{are_sound, are_alone}
 use Rattle.emu_bits.proofs.Encoding.{Alone, alone_of, decode_encoded, encode_decoded, one_row_of}
 use Rattle.a64_insn.specs.declared.form.A64Form.{A64Form}
 use Rattle.a64_insn.specs.declared.form.A64Form.TheVariants.{Adr}
-use Rattle.a64_insn.specs.Table.{row_of, meets_form, a64_table}
-use Rattle.a64_insn.specs.Data.{adr, add_imm, logic_imm, move_wide, bitfield, extract, logic_reg, add_reg, add_ext, add_carry, cond_reg, cond_imm, select, mul_add, mul_long, mul_high, two_source, one_source, rev}
-use Rattle.a64_insn.specs.Flow.{branch, branch_cond, compare, test_branch, branch_reg, except, hint, barrier, read_sys, write_sys}
-use Rattle.a64_insn.specs.Memory.{ls_unsigned, ls_unscaled, ls_post, ls_pre, ls_reg, ls_literal, pair, store_ex, load_ex, ordered}
-use Rattle.a64_insn.specs.BitMoves.{f_move, move_imm}
+use Rattle.a64_insn.specs.Table.{row_of, meets_form, a64_table, lines_open, line_number}
 use Rattle.a64_insn.proofs.Forms.{form_again, same_condition}
-use Rattle.a64_rows.specs.Lines.{line_number}
+use Rattle.a64_insn.specs.declared.lines.TheConstants as line
 use Rattle.a64_rows.specs.Seen.{seen}
 
 pub sound : are_sound a64_table ≡ true
-unfolding a64_table adr add_imm logic_imm move_wide bitfield extract logic_reg add_reg add_ext add_carry cond_reg cond_imm select mul_add mul_long mul_high two_source one_source rev branch branch_cond compare test_branch branch_reg except hint barrier read_sys write_sys ls_unsigned ls_unscaled ls_post ls_pre ls_reg ls_literal pair store_ex load_ex ordered f_move move_imm
+unfolding lines_open a64_table
 sound = refl
 
 alone_test : are_alone a64_table ≡ true
-unfolding a64_table adr add_imm logic_imm move_wide bitfield extract logic_reg add_reg add_ext add_carry cond_reg cond_imm select mul_add mul_long mul_high two_source one_source rev branch branch_cond compare test_branch branch_reg except hint barrier read_sys write_sys ls_unsigned ls_unscaled ls_post ls_pre ls_reg ls_literal pair store_ex load_ex ordered f_move move_imm
+unfolding lines_open a64_table
 alone_test = refl
 
 pub alone : Alone a64_table
@@ -30,7 +26,7 @@ unfolding a64_table
 listed (Adr op immlo immhi rd) = refl
 listed _ = refl
 
-pub is_listed : (f : A64Form) → line_number f < 41
+pub is_listed : (f : A64Form) → line_number f < line.LINES
 is_listed (Adr op immlo immhi rd) = omega arith
 is_listed _ = omega arith
 

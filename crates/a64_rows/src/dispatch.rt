@@ -8,7 +8,7 @@ ghost use Rattle.emu_bits.specs.Rows.{decode};
 ghost use Rattle.a64_insn.specs.Table.{a64_table};
 ghost use Rattle.a64_insn.specs.Data.{logic_imm, move_wide, bitfield, extract, add_reg, add_ext, cond_reg, cond_imm, mul_add, mul_long, mul_high, two_source, one_source, rev};
 ghost use Rattle.a64_insn.specs.Flow.{branch, branch_cond, branch_reg, compare, test_branch, except, hint, barrier, read_sys, write_sys};
-ghost use Rattle.a64_insn.specs.Memory.{ls_unscaled, ls_post, ls_pre, ls_reg, ls_literal, pair, store_ex, load_ex, ordered};
+ghost use Rattle.a64_insn.specs.Memory.{ls_unscaled, ls_post, ls_pre, ls_reg, ls_literal, pair, store_ex, load_ex, ordered, atomic, compare_swap};
 ghost use Rattle.a64_rows.specs.Left.{lines_11_10};
 ghost use Rattle.a64_rows.specs.Seen.{seen};
 
@@ -22,7 +22,8 @@ use crate::flow::{
     write_sys,
 };
 use crate::memory::{
-    load_ex, ls_literal, ls_post, ls_pre, ls_reg, ls_unscaled, ls_unsigned, ordered, pair, store_ex,
+    atomic, compare_swap, load_ex, ls_literal, ls_post, ls_pre, ls_reg, ls_unscaled, ls_unsigned,
+    ordered, pair, store_ex,
 };
 use a64_insn::A64;
 use emu_bits::bits;
@@ -56,7 +57,7 @@ pub fn find<Site>(w: u32) -> Option<A64>
 }
 
 fn words_of_pairs_and_exclusives<Site>(w: u32) -> Option<A64>
-    ensures { seen result ≡ decode (pair ∷ store_ex ∷ load_ex ∷ ordered ∷ []) w }
+    ensures { seen result ≡ decode (pair ∷ store_ex ∷ load_ex ∷ ordered ∷ compare_swap ∷ []) w }
 {
     if let Some(i) = pair(w) {
         return Some(i);
@@ -67,7 +68,10 @@ fn words_of_pairs_and_exclusives<Site>(w: u32) -> Option<A64>
     if let Some(i) = load_ex(w) {
         return Some(i);
     }
-    ordered(w)
+    if let Some(i) = ordered(w) {
+        return Some(i);
+    }
+    compare_swap(w)
 }
 
 fn words_of_register_sums<Site>(w: u32) -> Option<A64>
@@ -169,7 +173,7 @@ fn words_of_system<Site>(w: u32) -> Option<A64>
 }
 
 fn words_of_accesses<Site>(w: u32) -> Option<A64>
-    ensures { seen result ≡ decode (ls_unscaled ∷ ls_post ∷ ls_pre ∷ ls_reg ∷ ls_literal ∷ []) w }
+    ensures { seen result ≡ decode (ls_unscaled ∷ ls_post ∷ ls_pre ∷ ls_reg ∷ ls_literal ∷ atomic ∷ []) w }
 {
     if let Some(i) = ls_unscaled(w) {
         return Some(i);
@@ -183,7 +187,10 @@ fn words_of_accesses<Site>(w: u32) -> Option<A64>
     if let Some(i) = ls_reg(w) {
         return Some(i);
     }
-    ls_literal(w)
+    if let Some(i) = ls_literal(w) {
+        return Some(i);
+    }
+    atomic(w)
 }
 
 /// Carries, conditions, one and two sources, and moves between register files, by bits 23 to 21.

@@ -1,15 +1,16 @@
 //! Words of loads and stores, read and made.
 ghost use Rattle.std.specs.Prelude.{◌≡◌};
 ghost use Rattle.emu_bits.specs.Rows.{encode, row_in, IsShape};
-ghost use Rattle.a64_insn.specs.declared.form.A64Form.TheVariants.{LsUnsigned, LsUnscaled, LsPost, LsPre, LsReg, LsLiteral, Pair, StoreEx, LoadEx, Ordered};
-ghost use Rattle.a64_insn.specs.Memory.{ls_unsigned, ls_unscaled, ls_post, ls_pre, ls_reg, ls_literal, pair, store_ex, load_ex, ordered};
+ghost use Rattle.a64_insn.specs.declared.form.A64Form.TheVariants.{LsUnsigned, LsUnscaled, LsPost, LsPre, LsReg, LsLiteral, Pair, StoreEx, LoadEx, Ordered, Atomic, CompareSwap};
+ghost use Rattle.a64_insn.specs.Memory.{ls_unsigned, ls_unscaled, ls_post, ls_pre, ls_reg, ls_literal, pair, store_ex, load_ex, ordered, atomic, compare_swap};
 ghost use Rattle.a64_insn.specs.Table.{row_of};
 ghost use Rattle.a64_rows.specs.Seen.{seen};
 
 use a64_insn::memory_words::{
-    load_ex_op, load_ex_word, ordered_op, ordered_word, store_ex_op, store_ex_word,
+    atomic_op, atomic_word, load_ex_op, load_ex_word, ordered_op, ordered_word, store_ex_op,
+    store_ex_word,
 };
-use a64_insn::{A64, A64Form, LoadExOp, OrderedOp, StoreExOp};
+use a64_insn::{A64, A64Form, AtomicOp, LoadExOp, OrderedOp, StoreExOp};
 use emu_bits::{Reg, U, Word, flag};
 
 /// The instruction of `LsUnsigned` that a word is.
@@ -345,4 +346,86 @@ pub fn ordered_bits(op: OrderedOp, size: U<2>, rn: Reg, rt: Reg) -> u32
     ensures shape { IsShape (row_of (Ordered op size rn rt)) }
 {
     ordered_word(op).number(size, 30).reg(rn, 5).reg(rt, 0).bits
+}
+
+/// The instruction of `Atomic` that a word is.
+#[tactic(auto, unfolding(a64_insn::specs::Memory::atomic))]
+pub fn atomic(w: u32) -> Option<A64>
+    ensures { seen result ≡ row_in atomic w }
+{
+    let op = atomic_op(w & 0x3f20_fc00)?;
+    A64::new(A64Form::Atomic {
+        op,
+        size: U::at(w, 30),
+        acquires: flag(w, 23),
+        releases: flag(w, 22),
+        rs: Reg::at(w, 16),
+        rn: Reg::at(w, 5),
+        rt: Reg::at(w, 0),
+    })
+}
+
+/// The word of `Atomic` with these fields.
+#[tactic(auto, unfolding(a64_insn::specs::Memory::atomic))]
+pub fn atomic_bits(
+    op: AtomicOp,
+    size: U<2>,
+    acquires: bool,
+    releases: bool,
+    rs: Reg,
+    rn: Reg,
+    rt: Reg,
+) -> u32
+    ensures table { result ≡ encode (row_of (Atomic op size acquires releases rs rn rt)) }
+    ensures shape { IsShape (row_of (Atomic op size acquires releases rs rn rt)) }
+{
+    atomic_word(op)
+        .number(size, 30)
+        .flag(acquires, 23)
+        .flag(releases, 22)
+        .reg(rs, 16)
+        .reg(rn, 5)
+        .reg(rt, 0)
+        .bits
+}
+
+/// The instruction of `CompareSwap` that a word is.
+#[tactic(auto, unfolding(a64_insn::specs::Memory::compare_swap))]
+pub fn compare_swap(w: u32) -> Option<A64>
+    ensures { seen result ≡ row_in compare_swap w }
+{
+    if w & 0x3fa0_7c00 != 0x08a0_7c00 {
+        return None;
+    }
+    A64::new(A64Form::CompareSwap {
+        size: U::at(w, 30),
+        acquires: flag(w, 22),
+        releases: flag(w, 15),
+        rs: Reg::at(w, 16),
+        rn: Reg::at(w, 5),
+        rt: Reg::at(w, 0),
+    })
+}
+
+/// The word of `CompareSwap` with these fields.
+#[tactic(auto, unfolding(a64_insn::specs::Memory::compare_swap))]
+pub fn compare_swap_bits(
+    size: U<2>,
+    acquires: bool,
+    releases: bool,
+    rs: Reg,
+    rn: Reg,
+    rt: Reg,
+) -> u32
+    ensures table { result ≡ encode (row_of (CompareSwap size acquires releases rs rn rt)) }
+    ensures shape { IsShape (row_of (CompareSwap size acquires releases rs rn rt)) }
+{
+    Word { bits: 0x08a0_7c00 }
+        .number(size, 30)
+        .flag(acquires, 22)
+        .reg(rs, 16)
+        .flag(releases, 15)
+        .reg(rn, 5)
+        .reg(rt, 0)
+        .bits
 }

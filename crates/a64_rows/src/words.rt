@@ -2,6 +2,7 @@
 ghost use Rattle.std.specs.Prelude.{◌≡◌, MatchOption, true};
 ghost use Rattle.emu_bits.specs.Rows.{encode, IsShape};
 ghost use Rattle.a64_insn.specs.Table.{row_of, meets_form};
+ghost use Rattle.a64_insn.specs.declared.lines.TheConstants as line;
 ghost use Rattle.a64_rows.specs.Lines.{IsOutside, IsWordOf};
 
 use crate::bit_moves::{f_move_bits, move_imm_bits};
@@ -16,8 +17,8 @@ use crate::flow::{
     hint_bits, read_sys_bits, test_bits, write_sys_bits,
 };
 use crate::memory::{
-    load_ex_bits, ls_literal_bits, ls_post_bits, ls_pre_bits, ls_reg_bits, ls_unscaled_bits,
-    ls_unsigned_bits, ordered_bits, pair_bits, store_ex_bits,
+    atomic_bits, compare_swap_bits, load_ex_bits, ls_literal_bits, ls_post_bits, ls_pre_bits,
+    ls_reg_bits, ls_unscaled_bits, ls_unsigned_bits, ordered_bits, pair_bits, store_ex_bits,
 };
 use a64_insn::{A64, A64Form};
 
@@ -53,6 +54,9 @@ pub fn word_of(i: &A64) -> u32
     if let Some(w) = other_access_word(form) {
         return w;
     }
+    if let Some(w) = atomic_access_word(form) {
+        return w;
+    }
     let Some(w) = bit_move_word(form) else {
         unreachable!()
     };
@@ -61,7 +65,7 @@ pub fn word_of(i: &A64) -> u32
 
 /// The word of an address, or a sum or a logical operation with an immediate; none of another form.
 fn immediate_word(form: &A64Form) -> Option<u32>
-    ensures { MatchOption result (IsOutside 0 2 form.now) (λ w. IsWordOf form.now w) }
+    ensures { MatchOption result (IsOutside line.ADR line.LOGIC_IMM form.now) (λ w. IsWordOf form.now w) }
 {
     match *form {
         A64Form::Adr {
@@ -93,7 +97,7 @@ fn immediate_word(form: &A64Form) -> Option<u32>
 
 /// The word of a move of an immediate or a bitfield, or an extraction; none of another form.
 fn moved_word(form: &A64Form) -> Option<u32>
-    ensures { MatchOption result (IsOutside 3 5 form.now) (λ w. IsWordOf form.now w) }
+    ensures { MatchOption result (IsOutside line.MOVE_WIDE line.EXTRACT form.now) (λ w. IsWordOf form.now w) }
 {
     match *form {
         A64Form::MoveWide {
@@ -126,7 +130,7 @@ fn moved_word(form: &A64Form) -> Option<u32>
 
 /// The word of a logical operation or a sum of registers; none of another form.
 fn register_word(form: &A64Form) -> Option<u32>
-    ensures { MatchOption result (IsOutside 6 9 form.now) (λ w. IsWordOf form.now w) }
+    ensures { MatchOption result (IsOutside line.LOGIC_REG line.ADD_CARRY form.now) (λ w. IsWordOf form.now w) }
 {
     match *form {
         A64Form::LogicReg {
@@ -163,7 +167,7 @@ fn register_word(form: &A64Form) -> Option<u32>
 
 /// The word of a comparison or a selection under a condition; none of another form.
 fn conditional_word(form: &A64Form) -> Option<u32>
-    ensures { MatchOption result (IsOutside 10 12 form.now) (λ w. IsWordOf form.now w) }
+    ensures { MatchOption result (IsOutside line.COND_REG line.SELECT form.now) (λ w. IsWordOf form.now w) }
 {
     match *form {
         A64Form::CondReg {
@@ -196,7 +200,7 @@ fn conditional_word(form: &A64Form) -> Option<u32>
 
 /// The word of a product, or an operation on two registers or on one; none of another form.
 fn product_word(form: &A64Form) -> Option<u32>
-    ensures { MatchOption result (IsOutside 13 18 form.now) (λ w. IsWordOf form.now w) }
+    ensures { MatchOption result (IsOutside line.MUL_ADD line.REV form.now) (λ w. IsWordOf form.now w) }
 {
     match *form {
         A64Form::MulAdd {
@@ -218,7 +222,7 @@ fn product_word(form: &A64Form) -> Option<u32>
 
 /// The word of a branch, an exception or a system instruction; none of another form.
 fn flow_word(form: &A64Form) -> Option<u32>
-    ensures { MatchOption result (IsOutside 19 28 form.now) (λ w. IsWordOf form.now w) }
+    ensures { MatchOption result (IsOutside line.BRANCH line.WRITE_SYS form.now) (λ w. IsWordOf form.now w) }
 {
     match *form {
         A64Form::Branch { op, imm26 } => Some(branch_bits(op, imm26)),
@@ -243,7 +247,7 @@ fn flow_word(form: &A64Form) -> Option<u32>
 
 /// The word of a load or store at an immediate offset; none of another form.
 fn offset_access_word(form: &A64Form) -> Option<u32>
-    ensures { MatchOption result (IsOutside 29 32 form.now) (λ w. IsWordOf form.now w) }
+    ensures { MatchOption result (IsOutside line.LS_UNSIGNED line.LS_PRE form.now) (λ w. IsWordOf form.now w) }
 {
     match *form {
         A64Form::LsUnsigned {
@@ -284,7 +288,7 @@ fn offset_access_word(form: &A64Form) -> Option<u32>
 
 /// The word of a load or store at another place, of a pair, or exclusive or ordered; none of another form.
 fn other_access_word(form: &A64Form) -> Option<u32>
-    ensures { MatchOption result (IsOutside 33 38 form.now) (λ w. IsWordOf form.now w) }
+    ensures { MatchOption result (IsOutside line.LS_REG line.ORDERED form.now) (λ w. IsWordOf form.now w) }
 {
     match *form {
         A64Form::LsReg {
@@ -321,9 +325,35 @@ fn other_access_word(form: &A64Form) -> Option<u32>
     }
 }
 
+/// The word of a load and store as one step; none of another form.
+fn atomic_access_word(form: &A64Form) -> Option<u32>
+    ensures { MatchOption result (IsOutside line.ATOMIC line.COMPARE_SWAP form.now) (λ w. IsWordOf form.now w) }
+{
+    match *form {
+        A64Form::Atomic {
+            op,
+            size,
+            acquires,
+            releases,
+            rs,
+            rn,
+            rt,
+        } => Some(atomic_bits(op, size, acquires, releases, rs, rn, rt)),
+        A64Form::CompareSwap {
+            size,
+            acquires,
+            releases,
+            rs,
+            rn,
+            rt,
+        } => Some(compare_swap_bits(size, acquires, releases, rs, rn, rt)),
+        _ => None,
+    }
+}
+
 /// The word of a bit move; none of another form.
 fn bit_move_word(form: &A64Form) -> Option<u32>
-    ensures { MatchOption result (IsOutside 39 40 form.now) (λ w. IsWordOf form.now w) }
+    ensures { MatchOption result (IsOutside line.F_MOVE line.MOVE_IMM form.now) (λ w. IsWordOf form.now w) }
 {
     match *form {
         A64Form::FMove { op, rn, rd } => Some(f_move_bits(op, rn, rd)),

@@ -5,7 +5,7 @@ use Rattle.std.proofs.lemmas.Nat.{and_comm, and_assoc, pow_pos}
 use Rattle.std.specs.Prelude.{is_some}
 use lib.Bits.{and_zero_r, or_zero_r, and_self}
 use Rattle.emu_bits.specs.Fields.{field}
-use Rattle.emu_bits.specs.Rows.{Place, ◌to◌, width, ones_at, outside, values, Line, Row, number_of, where_it_holds, row_in, line_at, IsRow}
+use Rattle.emu_bits.specs.Rows.{Place, ◌to◌, width, ones_at, outside, values, Line, Row, number_of, where_it_holds, row_in, line_at, is_among, IsRow}
 use Rattle.emu_bits.proofs.Encoding.{answer_of, fixed_field, and_over_or}
 use Rattle.text_model.specs.Slots.{bits_in, joined, address}
 use Rattle.text_model.specs.Told.{parted, Built, put_all}
@@ -18,19 +18,14 @@ use Rattle.text_model.proofs.Again.{pattern_at}
 use Rattle.text_model.proofs.Tables.{chosen_is}
 use Rattle.a64_insn.specs.declared.form.A64Form.{A64Form}
 use Rattle.a64_insn.specs.declared.form.A64Form.TheVariants.{Adr, Branch, BranchCond, Compare, Test, LsLiteral}
-use Rattle.a64_insn.specs.Table.{row_of, a64_table}
-use Rattle.a64_insn.specs.Data.{adr, add_imm, logic_imm, move_wide, bitfield, extract, logic_reg, add_reg, add_ext, add_carry, cond_reg, cond_imm, select, mul_add, mul_long, mul_high, two_source, one_source, rev}
-use Rattle.a64_insn.specs.Flow.{branch, branch_cond, compare, test_branch, branch_reg, except, hint, barrier, read_sys, write_sys}
-use Rattle.a64_insn.specs.Memory.{ls_unsigned, ls_unscaled, ls_post, ls_pre, ls_reg, ls_literal, pair, store_ex, load_ex, ordered}
-use Rattle.a64_insn.specs.BitMoves.{f_move, move_imm}
-use Rattle.a64_texts.specs.Data.{adr_texts, add_imm_texts, logic_imm_texts, move_wide_texts, bitfield_texts, extract_texts, logic_reg_texts, add_reg_texts, add_ext_texts, add_carry_texts, cond_reg_texts, cond_imm_texts, select_texts, mul_add_texts, mul_long_texts, mul_high_texts, two_source_texts, one_source_texts, rev_texts}
-use Rattle.a64_texts.specs.Flow.{branch_texts, branch_cond_texts, compare_texts, test_texts, branch_reg_texts, except_texts, hint_texts, barrier_texts, read_sys_texts, write_sys_texts}
-use Rattle.a64_texts.specs.Memory.{ls_unsigned_texts, ls_unscaled_texts, ls_post_texts, ls_pre_texts, ls_reg_texts, ls_reg_lines, ls_literal_texts, pair_texts, store_ex_texts, load_ex_texts, ordered_texts}
-use Rattle.a64_texts.specs.BitMoves.{f_move_texts, move_imm_texts}
+use Rattle.a64_insn.specs.Table.{row_of, a64_table, lines_open, line_number}
+use Rattle.a64_insn.specs.Data.{adr}
+use Rattle.a64_insn.specs.Flow.{branch, branch_cond, compare, test_branch}
+use Rattle.a64_insn.specs.Memory.{ls_literal}
 use Rattle.a64_insn.specs.Memory.{ls_literal_holds_for}
-use Rattle.a64_rows.specs.Lines.{line_number}
+use Rattle.a64_insn.specs.declared.lines.TheConstants as line
 use Rattle.a64_rows.proofs.Laws.{one_row}
-use Rattle.a64_texts.specs.Table.{line_texts}
+use Rattle.a64_texts.specs.Table.{line_texts, texts_open}
 use Rattle.a64_texts.specs.Law.{in_table, word_of, texts_of, reach_by, reach, unaimed_word}
 use Rattle.a64_texts.proofs.Totals.{listed, in_row, held, has_text}
 
@@ -121,11 +116,20 @@ aimed_as ps (Some r) w pc t x h e =
 abbrev adr_places : List Place
 adr_places = (23 to 5) ∷ (30 to 29) ∷ []
 
+abbrev places_of_target : ℕ → Option (List Place)
+places_of_target k =
+    if k == line.ADR then Some adr_places
+    else (if k == line.BRANCH then Some ((25 to 0) ∷ [])
+    else (if k == line.TEST then Some ((18 to 5) ∷ [])
+    else (if is_among k (line.BRANCH_COND ∷ line.COMPARE ∷ line.LS_LITERAL ∷ []) then Some ((23 to 5) ∷ [])
+    else None)))
+
+abbrev places_from : ℕ → ℕ → List (Option (List Place))
+places_from k zero = []
+places_from k (suc n) = places_of_target k ∷ places_from (suc k) n
+
 abbrev target_places : List (Option (List Place))
-target_places =
-    Some adr_places ∷ None ∷ None ∷ None ∷ None ∷ None ∷ None ∷ None ∷ None ∷ None ∷ None ∷ None ∷ None ∷ None ∷ None ∷ None ∷ None ∷ None ∷ None
-    ∷ Some ((25 to 0) ∷ []) ∷ Some ((23 to 5) ∷ []) ∷ Some ((23 to 5) ∷ []) ∷ Some ((18 to 5) ∷ []) ∷ None ∷ None ∷ None ∷ None ∷ None ∷ None
-    ∷ None ∷ None ∷ None ∷ None ∷ None ∷ Some ((23 to 5) ∷ []) ∷ None ∷ None ∷ None ∷ None ∷ None ∷ None ∷ []
+target_places = places_from 0 line.LINES
 
 abbrev all_reach : Option (List Place) → List Pattern → Bool
 all_reach c [] = true
@@ -137,7 +141,7 @@ lines_reach (ps ∷ pss) [] = false
 lines_reach (ps ∷ pss) (c ∷ cs) = all_reach c ps && lines_reach pss cs
 
 reaches : lines_reach line_texts target_places ≡ true
-unfolding line_texts adr_texts add_imm_texts logic_imm_texts move_wide_texts bitfield_texts extract_texts logic_reg_texts add_reg_texts add_ext_texts add_carry_texts cond_reg_texts cond_imm_texts select_texts mul_add_texts mul_long_texts mul_high_texts two_source_texts one_source_texts rev_texts branch_texts branch_cond_texts compare_texts test_texts branch_reg_texts except_texts hint_texts barrier_texts read_sys_texts write_sys_texts ls_unsigned_texts ls_unscaled_texts ls_post_texts ls_pre_texts ls_reg_texts ls_reg_lines ls_literal_texts pair_texts store_ex_texts load_ex_texts ordered_texts f_move_texts move_imm_texts adr add_imm logic_imm move_wide bitfield extract logic_reg add_reg add_ext add_carry cond_reg cond_imm select mul_add mul_long mul_high two_source one_source rev branch branch_cond compare test_branch branch_reg except hint barrier read_sys write_sys ls_unsigned ls_unscaled ls_post ls_pre ls_reg ls_literal pair store_ex load_ex ordered f_move move_imm
+unfolding texts_open line_texts
 reaches = refl
 
 some_is : (p q : Pattern) → Some p ≡ Some q → p ≡ q
@@ -201,31 +205,31 @@ aimed_row l k w a b u x r e h i p q t = kept_row l k w x r e h (ap (λ (y : ℕ)
 
 -- A word aimed at a target that its field can reach is the word of a row.
 pub aimed_held : (f : A64Form) (pc t x : ℕ) → IsRow (row_of f) → aimed (reach f) (unaimed_word f) pc t ≡ Some x → in_table x ≡ true
-unfolding adr branch branch_cond compare test_branch ls_literal
+unfolding lines_open
 aimed_held (Adr op immlo immhi rd) pc t x v e =
     let f : A64Form = Adr op immlo immhi rd in
     let y = at_places f v pc t x e adr_places find_21 refl refl in
-    aimed_row adr 0 (word_of f) (2 ^ 32 - 1 - ones_of adr_places) (masked 0 adr_places) y.0 x (row_of f) (listed f) (in_row f v) y.1 refl refl refl
+    aimed_row adr line.ADR (word_of f) (2 ^ 32 - 1 - ones_of adr_places) (masked 0 adr_places) y.0 x (row_of f) (listed f) (in_row f v) y.1 refl refl refl
 aimed_held (Branch op imm26) pc t x v e =
     let f : A64Form = Branch op imm26 in
     let ps : List Place = (25 to 0) ∷ [] in
     let y = at_places f v pc t x e ps find_26 refl refl in
-    aimed_row branch 19 (word_of f) (2 ^ 32 - 1 - ones_of ps) (masked 0 ps) y.0 x (row_of f) (listed f) (in_row f v) y.1 refl refl refl
+    aimed_row branch line.BRANCH (word_of f) (2 ^ 32 - 1 - ones_of ps) (masked 0 ps) y.0 x (row_of f) (listed f) (in_row f v) y.1 refl refl refl
 aimed_held (BranchCond imm19 cond') pc t x v e =
     let f : A64Form = BranchCond imm19 cond' in
     let ps : List Place = (23 to 5) ∷ [] in
     let y = at_places f v pc t x e ps find_19 refl refl in
-    aimed_row branch_cond 20 (word_of f) (2 ^ 32 - 1 - ones_of ps) (masked 0 ps) y.0 x (row_of f) (listed f) (in_row f v) y.1 refl refl refl
+    aimed_row branch_cond line.BRANCH_COND (word_of f) (2 ^ 32 - 1 - ones_of ps) (masked 0 ps) y.0 x (row_of f) (listed f) (in_row f v) y.1 refl refl refl
 aimed_held (Compare op sf imm19 rt) pc t x v e =
     let f : A64Form = Compare op sf imm19 rt in
     let ps : List Place = (23 to 5) ∷ [] in
     let y = at_places f v pc t x e ps find_19 refl refl in
-    aimed_row compare 21 (word_of f) (2 ^ 32 - 1 - ones_of ps) (masked 0 ps) y.0 x (row_of f) (listed f) (in_row f v) y.1 refl refl refl
+    aimed_row compare line.COMPARE (word_of f) (2 ^ 32 - 1 - ones_of ps) (masked 0 ps) y.0 x (row_of f) (listed f) (in_row f v) y.1 refl refl refl
 aimed_held (Test op b5 b40 imm14 rt) pc t x v e =
     let f : A64Form = Test op b5 b40 imm14 rt in
     let ps : List Place = (18 to 5) ∷ [] in
     let y = at_places f v pc t x e ps find_14 refl refl in
-    aimed_row test_branch 22 (word_of f) (2 ^ 32 - 1 - ones_of ps) (masked 0 ps) y.0 x (row_of f) (listed f) (in_row f v) y.1 refl refl refl
+    aimed_row test_branch line.TEST (word_of f) (2 ^ 32 - 1 - ones_of ps) (masked 0 ps) y.0 x (row_of f) (listed f) (in_row f v) y.1 refl refl refl
 aimed_held (LsLiteral opc v' imm19 rt) pc t x v e =
     let f : A64Form = LsLiteral opc v' imm19 rt in
     let ps : List Place = (23 to 5) ∷ [] in
@@ -235,6 +239,6 @@ aimed_held (LsLiteral opc v' imm19 rt) pc t x v e =
     let y = at_places f v pc t x e ps find_19 refl refl in
     let field_kept = λ (p : Place) (h : nat_le p.low p.high ≡ true) (m : bit_and a (ones_at p) ≡ ones_at p) (n : bit_and b (ones_at p) ≡ 0).
     kept_field w x p h (ap (λ (z : ℕ). bit_and z (ones_at p)) y.1 ∙ kept w y.0 a b (ones_at p) m n) in
-    aimed_row ls_literal 34 w a b y.0 x (row_of f) (listed f) (in_row f v) y.1 refl refl
+    aimed_row ls_literal line.LS_LITERAL w a b y.0 x (row_of f) (listed f) (in_row f v) y.1 refl refl
     (ap₂ ls_literal_holds_for (field_kept (31 to 30) refl refl refl) (field_kept (26 to 26) refl refl refl) ∙ held f v)
 aimed_held f pc t x v e = absurd (no_target (reach f) (unaimed_word f) pc t x (reach_of_form f v) e)

@@ -6,19 +6,20 @@ use Rattle.a64_texts.specs.Flow.{flow_lines}
 use Rattle.a64_texts.specs.Memory.{memory_lines, ls_reg_lines}
 use Rattle.a64_texts.specs.BitMoves.{last_lines}
 use Rattle.a64_texts.specs.Table.{a64_lines}
+use Rattle.a64_texts.specs.declared.lines.TheConstants as text_line
 
-pub in_data : (k : ℕ) → k < 19 → get_or data_lines k [] ≡ get_or a64_lines k []
+pub in_data : (k : ℕ) → k < text_line.BRANCH → get_or data_lines k [] ≡ get_or a64_lines k []
 unfolding a64_lines data_lines flow_lines memory_lines ls_reg_lines
-in_data k h = in_first_part data_lines flow_lines memory_lines last_lines 19 10 15 k refl refl refl h
+in_data k h = in_first_part data_lines flow_lines memory_lines last_lines text_line.BRANCH (text_line.LS_UNSIGNED - text_line.BRANCH) (text_line.F_MOVE - text_line.LS_UNSIGNED) k refl refl refl h
 
-pub in_flow : (k : ℕ) → 19 ≤ k → k < 29 → get_or flow_lines (k - 19) [] ≡ get_or a64_lines k []
+pub in_flow : (k : ℕ) → text_line.BRANCH ≤ k → k < text_line.LS_UNSIGNED → get_or flow_lines (k - text_line.BRANCH) [] ≡ get_or a64_lines k []
 unfolding a64_lines data_lines flow_lines memory_lines ls_reg_lines
-in_flow k l h = in_second_part data_lines flow_lines memory_lines last_lines 19 10 15 k refl refl refl l h
+in_flow k l h = in_second_part data_lines flow_lines memory_lines last_lines text_line.BRANCH (text_line.LS_UNSIGNED - text_line.BRANCH) (text_line.F_MOVE - text_line.LS_UNSIGNED) k refl refl refl l h
 
-pub in_memory : (k : ℕ) → 29 ≤ k → k < 44 → get_or memory_lines (k - 29) [] ≡ get_or a64_lines k []
+pub in_memory : (k : ℕ) → text_line.LS_UNSIGNED ≤ k → k < text_line.F_MOVE → get_or memory_lines (k - text_line.LS_UNSIGNED) [] ≡ get_or a64_lines k []
 unfolding a64_lines data_lines flow_lines memory_lines ls_reg_lines
-in_memory k l h = in_third_part data_lines flow_lines memory_lines last_lines 19 10 15 k refl refl refl l h
+in_memory k l h = in_third_part data_lines flow_lines memory_lines last_lines text_line.BRANCH (text_line.LS_UNSIGNED - text_line.BRANCH) (text_line.F_MOVE - text_line.LS_UNSIGNED) k refl refl refl l h
 
-pub in_last : (k : ℕ) → 44 ≤ k → get_or last_lines (k - 44) [] ≡ get_or a64_lines k []
+pub in_last : (k : ℕ) → text_line.F_MOVE ≤ k → get_or last_lines (k - text_line.F_MOVE) [] ≡ get_or a64_lines k []
 unfolding a64_lines data_lines flow_lines memory_lines ls_reg_lines
-in_last k l = in_last_part data_lines flow_lines memory_lines last_lines 19 10 15 k refl refl refl l
+in_last k l = in_last_part data_lines flow_lines memory_lines last_lines text_line.BRANCH (text_line.LS_UNSIGNED - text_line.BRANCH) (text_line.F_MOVE - text_line.LS_UNSIGNED) k refl refl refl l

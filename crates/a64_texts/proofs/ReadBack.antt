@@ -1,12 +1,12 @@
 -- What reading the text of an instruction gives: computed over the table, and by the law of a table.
-use Rattle.std.proofs.Common.{◌≡◌, ℕ, zero, suc, ◌-◌, ◌*◌, ◌/◌, ◌%◌, ◌^◌, ◌<◌, ◌≤◌, ◌==◌, ◌&&◌, cond, Bool, true, false, Option, Some, None, Ok, List, [], ◌∷◌, ◌++◌, get_or, bit_and, bit_or, nat_lt, nat_le, refl, sym, ap, ap₂, ◌∙◌, arith, inl, inr}
+use Rattle.std.proofs.Common.{◌≡◌, ℕ, zero, suc, ◌-◌, ◌*◌, ◌/◌, ◌%◌, ◌^◌, ◌<◌, ◌≤◌, ◌==◌, ◌&&◌, if◌then◌else◌, cond, Bool, true, false, Option, Some, None, Ok, List, [], ◌∷◌, ◌++◌, get_or, bit_and, bit_or, nat_lt, nat_le, refl, sym, ap, ap₂, ◌∙◌, arith, inl, inr}
 use Rattle.std.proofs.lemmas.Bool.{cases_Bool, and_parts, and_from, eqb-true, false≢true, true≢false, leb-true, ltb-true}
 use Rattle.std.proofs.lemmas.Nat.{and_mask, and_assoc, or_lt}
 use Rattle.std.proofs.Math.Nat.{mod-eq_of_lt}
 use Rattle.std.specs.Prelude.{is_some, unwrap_or}
 use Rattle.emu_bits.specs.Bitmask.{bitmask_of, element_log}
 use Rattle.emu_bits.specs.Fields.{field, bit}
-use Rattle.emu_bits.specs.Rows.{Place, ◌to◌, width, ones_at, outside, values, fill, Fit, Line, Row, number_of, where_it_holds, row_in, line_at, IsRow}
+use Rattle.emu_bits.specs.Rows.{Place, ◌to◌, width, ones_at, outside, values, fill, Fit, Line, Row, number_of, where_it_holds, row_in, line_at, is_among, IsRow}
 use Rattle.emu_bits.proofs.Encoding.{answer_of, fixed_field}
 use Rattle.emu_bits.proofs.Places.{put_fits}
 use Rattle.text_model.specs.declared.slots.Kind.TheVariants.{Bitmask}
@@ -20,21 +20,20 @@ use Rattle.text_model.proofs.Again.{pattern_at}
 use Rattle.text_model.proofs.Tables.{chosen_is, all_plain, plain_at, plain_canonical, IsLegible, table_law}
 use Rattle.a64_insn.specs.declared.form.A64Form.{A64Form}
 use Rattle.a64_insn.specs.declared.form.A64Form.TheVariants.{Adr, LogicImm, Branch, BranchCond, Compare, Test, LsLiteral}
-use Rattle.a64_insn.specs.Table.{row_of, a64_table}
-use Rattle.a64_insn.specs.Data.{adr, add_imm, logic_imm, move_wide, bitfield, extract, logic_reg, add_reg, add_ext, add_carry, cond_reg, cond_imm, select, mul_add, mul_long, mul_high, two_source, one_source, rev}
-use Rattle.a64_insn.specs.Flow.{branch, branch_cond, compare, test_branch, branch_reg, except, hint, barrier, read_sys, write_sys}
-use Rattle.a64_insn.specs.Memory.{ls_unsigned, ls_unscaled, ls_post, ls_pre, ls_reg, ls_literal, pair, store_ex, load_ex, ordered}
-use Rattle.a64_insn.specs.BitMoves.{f_move, move_imm}
-use Rattle.a64_texts.specs.Data.{data_lines, adr_texts, add_imm_texts, logic_imm_texts, move_wide_texts, bitfield_texts, extract_texts, logic_reg_texts, add_reg_texts, add_ext_texts, add_carry_texts, cond_reg_texts, cond_imm_texts, select_texts, mul_add_texts, mul_long_texts, mul_high_texts, two_source_texts, one_source_texts, rev_texts}
-use Rattle.a64_texts.specs.Flow.{flow_lines, branch_texts, branch_cond_texts, compare_texts, test_texts, branch_reg_texts, except_texts, hint_texts, barrier_texts, read_sys_texts, write_sys_texts}
-use Rattle.a64_texts.specs.Memory.{memory_lines, ls_unsigned_texts, ls_unscaled_texts, ls_post_texts, ls_pre_texts, ls_reg_texts, ls_reg_lines, ls_literal_texts, pair_texts, store_ex_texts, load_ex_texts, ordered_texts}
-use Rattle.a64_texts.specs.BitMoves.{last_lines, f_move_texts, move_imm_texts}
+use Rattle.a64_insn.specs.Table.{row_of, a64_table, lines_open, line_number}
+use Rattle.a64_insn.specs.Data.{adr, logic_imm}
+use Rattle.a64_insn.specs.Flow.{branch, branch_cond, compare, test_branch}
+use Rattle.a64_insn.specs.Memory.{ls_literal}
+use Rattle.a64_texts.specs.Data.{data_lines, logic_imm_texts}
+use Rattle.a64_texts.specs.Flow.{flow_lines}
+use Rattle.a64_texts.specs.Memory.{memory_lines}
+use Rattle.a64_texts.specs.BitMoves.{last_lines}
 use Rattle.a64_insn.specs.Memory.{ls_literal_holds_for}
 use Rattle.a64_insn.specs.Data.{has_bitmask}
-use Rattle.a64_rows.specs.Lines.{line_number}
+use Rattle.a64_insn.specs.declared.lines.TheConstants as line
 use Rattle.a64_rows.proofs.Laws.{one_row}
 use Rattle.a64_texts.specs.Aliases.{aliases}
-use Rattle.a64_texts.specs.Table.{line_texts, printed_patterns, a64_lines, a64_patterns}
+use Rattle.a64_texts.specs.Table.{line_texts, printed_patterns, a64_lines, a64_patterns, texts_open}
 use Rattle.a64_texts.specs.Law.{in_table, word_of, texts_of, reach_by, reach, target_at, is_canonical_form, IsReadBack}
 use Rattle.a64_texts.proofs.Legible.{readable, written, aimed_well, apart, reach_well}
 use Rattle.a64_texts.proofs.Totals.{listed, in_row, held, has_text}
@@ -54,7 +53,7 @@ lines_in_word [] = true
 lines_in_word (l ∷ ls) = (are_in_word l.places && are_words l.words) && lines_in_word ls
 
 table_in_word : lines_in_word a64_table ≡ true
-unfolding a64_table adr add_imm logic_imm move_wide bitfield extract logic_reg add_reg add_ext add_carry cond_reg cond_imm select mul_add mul_long mul_high two_source one_source rev branch branch_cond compare test_branch branch_reg except hint barrier read_sys write_sys ls_unsigned ls_unscaled ls_post ls_pre ls_reg ls_literal pair store_ex load_ex ordered f_move move_imm
+unfolding lines_open a64_table
 table_in_word = refl
 
 some_line : (l m : Line A64Form) → Some l ≡ Some m → l ≡ m
@@ -87,10 +86,20 @@ word_small f v =
 
 -- ---- the bits of targets, line by line
 
+abbrev bits_of_target : ℕ → ℕ
+bits_of_target k =
+    if k == line.ADR then 0x60FFFFE0
+    else (if k == line.BRANCH then 0x03FFFFFF
+    else (if k == line.TEST then 0x0007FFE0
+    else (if is_among k (line.BRANCH_COND ∷ line.COMPARE ∷ line.LS_LITERAL ∷ []) then 0x00FFFFE0
+    else 0)))
+
+abbrev bits_from : ℕ → ℕ → List ℕ
+bits_from k zero = []
+bits_from k (suc n) = bits_of_target k ∷ bits_from (suc k) n
+
 abbrev target_bits : List ℕ
-target_bits =
-    0x60FFFFE0 ∷ 0 ∷ 0 ∷ 0 ∷ 0 ∷ 0 ∷ 0 ∷ 0 ∷ 0 ∷ 0 ∷ 0 ∷ 0 ∷ 0 ∷ 0 ∷ 0 ∷ 0 ∷ 0 ∷ 0 ∷ 0 ∷ 0x03FFFFFF ∷ 0x00FFFFE0 ∷ 0x00FFFFE0 ∷ 0x0007FFE0
-    ∷ 0 ∷ 0 ∷ 0 ∷ 0 ∷ 0 ∷ 0 ∷ 0 ∷ 0 ∷ 0 ∷ 0 ∷ 0 ∷ 0x00FFFFE0 ∷ 0 ∷ 0 ∷ 0 ∷ 0 ∷ 0 ∷ 0 ∷ []
+target_bits = bits_from 0 line.LINES
 
 abbrev reach_by_bits : ℕ → List Pattern → Bool
 reach_by_bits c [] = true
@@ -102,7 +111,7 @@ all_reach_by (ps ∷ pss) [] = false
 all_reach_by (ps ∷ pss) (c ∷ cs) = reach_by_bits c ps && all_reach_by pss cs
 
 targets : all_reach_by line_texts target_bits ≡ true
-unfolding line_texts adr_texts add_imm_texts logic_imm_texts move_wide_texts bitfield_texts extract_texts logic_reg_texts add_reg_texts add_ext_texts add_carry_texts cond_reg_texts cond_imm_texts select_texts mul_add_texts mul_long_texts mul_high_texts two_source_texts one_source_texts rev_texts branch_texts branch_cond_texts compare_texts test_texts branch_reg_texts except_texts hint_texts barrier_texts read_sys_texts write_sys_texts ls_unsigned_texts ls_unscaled_texts ls_post_texts ls_pre_texts ls_reg_texts ls_reg_lines ls_literal_texts pair_texts store_ex_texts load_ex_texts ordered_texts f_move_texts move_imm_texts adr add_imm logic_imm move_wide bitfield extract logic_reg add_reg add_ext add_carry cond_reg cond_imm select mul_add mul_long mul_high two_source one_source rev branch branch_cond compare test_branch branch_reg except hint barrier read_sys write_sys ls_unsigned ls_unscaled ls_post ls_pre ls_reg ls_literal pair store_ex load_ex ordered f_move move_imm
+unfolding texts_open line_texts
 targets = refl
 
 some_is : (p q : Pattern) → Some p ≡ Some q → p ≡ q
@@ -142,17 +151,17 @@ abbrev cut : A64Form → ℕ
 cut f = bit_and (word_of f) (2 ^ 32 - 1 - get_or target_bits (line_number f) 0)
 
 cut_held : (f : A64Form) → IsRow (row_of f) → in_table (cut f) ≡ true
-unfolding adr branch branch_cond compare test_branch ls_literal
-cut_held (Adr op immlo immhi rd) v = cut_row adr 0 _ _ (row_of (Adr op immlo immhi rd)) (listed (Adr op immlo immhi rd)) (in_row (Adr op immlo immhi rd) v) refl refl
-cut_held (Branch op imm26) v = cut_row branch 19 _ _ (row_of (Branch op imm26)) (listed (Branch op imm26)) (in_row (Branch op imm26) v) refl refl
-cut_held (BranchCond imm19 cond') v = cut_row branch_cond 20 _ _ (row_of (BranchCond imm19 cond')) (listed (BranchCond imm19 cond')) (in_row (BranchCond imm19 cond') v) refl refl
-cut_held (Compare op sf imm19 rt) v = cut_row compare 21 _ _ (row_of (Compare op sf imm19 rt)) (listed (Compare op sf imm19 rt)) (in_row (Compare op sf imm19 rt) v) refl refl
-cut_held (Test op b5 b40 imm14 rt) v = cut_row test_branch 22 _ _ (row_of (Test op b5 b40 imm14 rt)) (listed (Test op b5 b40 imm14 rt)) (in_row (Test op b5 b40 imm14 rt) v) refl refl
+unfolding lines_open
+cut_held (Adr op immlo immhi rd) v = cut_row adr line.ADR _ _ (row_of (Adr op immlo immhi rd)) (listed (Adr op immlo immhi rd)) (in_row (Adr op immlo immhi rd) v) refl refl
+cut_held (Branch op imm26) v = cut_row branch line.BRANCH _ _ (row_of (Branch op imm26)) (listed (Branch op imm26)) (in_row (Branch op imm26) v) refl refl
+cut_held (BranchCond imm19 cond') v = cut_row branch_cond line.BRANCH_COND _ _ (row_of (BranchCond imm19 cond')) (listed (BranchCond imm19 cond')) (in_row (BranchCond imm19 cond') v) refl refl
+cut_held (Compare op sf imm19 rt) v = cut_row compare line.COMPARE _ _ (row_of (Compare op sf imm19 rt)) (listed (Compare op sf imm19 rt)) (in_row (Compare op sf imm19 rt) v) refl refl
+cut_held (Test op b5 b40 imm14 rt) v = cut_row test_branch line.TEST _ _ (row_of (Test op b5 b40 imm14 rt)) (listed (Test op b5 b40 imm14 rt)) (in_row (Test op b5 b40 imm14 rt) v) refl refl
 cut_held (LsLiteral opc v' imm19 rt) v =
     let f : A64Form = LsLiteral opc v' imm19 rt in
     let w : ℕ = word_of f in
     let m : ℕ = 2 ^ 32 - 1 - 0x00FFFFE0 in
-    cut_row ls_literal 34 w m (row_of f) (listed f) (in_row f v) refl
+    cut_row ls_literal line.LS_LITERAL w m (row_of f) (listed f) (in_row f v) refl
     (ap₂ ls_literal_holds_for (sym (fixed_field w m (bit_and w m) (31 to 30) refl refl refl)) (sym (fixed_field w m (bit_and w m) (26 to 26) refl refl refl)) ∙ held f v)
 cut_held f v = ap in_table (uncut (word_of f) (word_small f v)) ∙ in_table_itself f v
 
@@ -163,7 +172,7 @@ is_logic_imm (LogicImm op sf n immr imms rn rd) = true
 is_logic_imm f = false
 
 plain_texts : (f : A64Form) → is_logic_imm f ≡ false → all_plain (texts_of f) ≡ true
-unfolding line_texts adr_texts add_imm_texts logic_imm_texts move_wide_texts bitfield_texts extract_texts logic_reg_texts add_reg_texts add_ext_texts add_carry_texts cond_reg_texts cond_imm_texts select_texts mul_add_texts mul_long_texts mul_high_texts two_source_texts one_source_texts rev_texts branch_texts branch_cond_texts compare_texts test_texts branch_reg_texts except_texts hint_texts barrier_texts read_sys_texts write_sys_texts ls_unsigned_texts ls_unscaled_texts ls_post_texts ls_pre_texts ls_reg_texts ls_reg_lines ls_literal_texts pair_texts store_ex_texts load_ex_texts ordered_texts f_move_texts move_imm_texts adr add_imm logic_imm move_wide bitfield extract logic_reg add_reg add_ext add_carry cond_reg cond_imm select mul_add mul_long mul_high two_source one_source rev branch branch_cond compare test_branch branch_reg except hint barrier read_sys write_sys ls_unsigned ls_unscaled ls_post ls_pre ls_reg ls_literal pair store_ex load_ex ordered f_move move_imm
+unfolding texts_open line_texts
 plain_texts (LogicImm op sf n immr imms rn rd) h = absurd (true≢false h)
 plain_texts f h = refl
 
@@ -246,7 +255,7 @@ unfolding printed_patterns
 legible = record { legible = record { readable = readable; apart = apart; written = written; aimed = aimed_well }; reach = reach_well }
 
 all_patterns : a64_patterns ≡ flat line_texts ++ aliases
-unfolding a64_patterns a64_lines data_lines flow_lines memory_lines last_lines aliases line_texts adr_texts add_imm_texts logic_imm_texts move_wide_texts bitfield_texts extract_texts logic_reg_texts add_reg_texts add_ext_texts add_carry_texts cond_reg_texts cond_imm_texts select_texts mul_add_texts mul_long_texts mul_high_texts two_source_texts one_source_texts rev_texts branch_texts branch_cond_texts compare_texts test_texts branch_reg_texts except_texts hint_texts barrier_texts read_sys_texts write_sys_texts ls_unsigned_texts ls_unscaled_texts ls_post_texts ls_pre_texts ls_reg_texts ls_reg_lines ls_literal_texts pair_texts store_ex_texts load_ex_texts ordered_texts f_move_texts move_imm_texts adr add_imm logic_imm move_wide bitfield extract logic_reg add_reg add_ext add_carry cond_reg cond_imm select mul_add mul_long mul_high two_source one_source rev branch branch_cond compare test_branch branch_reg except hint barrier read_sys write_sys ls_unsigned ls_unscaled ls_post ls_pre ls_reg ls_literal pair store_ex load_ex ordered f_move move_imm
+unfolding texts_open a64_patterns a64_lines data_lines flow_lines memory_lines last_lines aliases line_texts
 all_patterns = refl
 
 no_bits : (w : ℕ) (o : Option Reach) (pc : ℕ) → w < 2 ^ 32 → reached o w pc ≡ None → bit_and w (2 ^ 32 - 1 - reach_bits o) ≡ w

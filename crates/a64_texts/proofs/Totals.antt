@@ -1,8 +1,8 @@
 -- Each instruction has a text: computed over the table's lines.
-use Rattle.std.proofs.Common.{◌≡◌, ℕ, zero, suc, ◌<◌, ◌==◌, ◌&&◌, Bool, true, false, not, Some, List, [], ◌∷◌, length, get_or, subst, refl, sym, ap, ◌∙◌, arith}
+use Rattle.std.proofs.Common.{◌≡◌, ℕ, zero, suc, ◌<◌, ◌==◌, ◌&&◌, if◌then◌else◌, Bool, true, false, not, Some, List, [], ◌∷◌, length, get_or, subst, refl, sym, ap, ◌∙◌, arith}
 use Rattle.std.proofs.lemmas.Bool.{and_parts, and_from, false≢true}
 use Rattle.emu_bits.specs.Fields.{field}
-use Rattle.emu_bits.specs.Rows.{Place, ◌to◌, values, value_at, always, Line, row_in, line_at, IsRow}
+use Rattle.emu_bits.specs.Rows.{Place, ◌to◌, values, value_at, always, Line, row_in, line_at, is_among, IsRow}
 use Rattle.emu_bits.proofs.Computed.{is_sound, are_sound}
 use Rattle.emu_bits.proofs.Encoding.{answer_of, row_of_encoded}
 use Rattle.text_model.specs.Reading.{Pattern}
@@ -11,19 +11,14 @@ use Rattle.text_model.proofs.Tests.{is_total}
 use Rattle.text_model.proofs.Totals.{total}
 use Rattle.a64_insn.specs.declared.form.A64Form.{A64Form}
 use Rattle.a64_insn.specs.declared.form.A64Form.TheVariants.{Adr, Bitfield, Extract, LsUnsigned, LsUnscaled, LsPost, LsPre, LsReg, LsLiteral, Pair, MoveImm}
-use Rattle.a64_insn.specs.Table.{row_of, a64_table}
-use Rattle.a64_insn.specs.Data.{adr, add_imm, logic_imm, move_wide, bitfield, extract, logic_reg, add_reg, add_ext, add_carry, cond_reg, cond_imm, select, mul_add, mul_long, mul_high, two_source, one_source, rev, bitfield_holds_for, extract_holds_for}
-use Rattle.a64_insn.specs.Flow.{branch, branch_cond, compare, test_branch, branch_reg, except, hint, barrier, read_sys, write_sys}
-use Rattle.a64_insn.specs.Memory.{ls_unsigned, ls_unscaled, ls_post, ls_pre, ls_reg, ls_literal, pair, store_ex, load_ex, ordered, is_access, is_prefetch, is_offset_extension, ls_reg_holds_for, ls_literal_holds_for, is_pair, keeps_base, writeback_holds_for, pair_holds_for}
-use Rattle.a64_insn.specs.BitMoves.{f_move, move_imm, move_imm_holds_for}
-use Rattle.a64_rows.specs.Lines.{line_number}
+use Rattle.a64_insn.specs.Table.{row_of, a64_table, lines_open, line_number}
+use Rattle.a64_insn.specs.Data.{bitfield_holds_for, extract_holds_for}
+use Rattle.a64_insn.specs.Memory.{is_access, is_prefetch, is_offset_extension, ls_reg_holds_for, ls_literal_holds_for, is_pair, keeps_base, writeback_holds_for, pair_holds_for}
+use Rattle.a64_insn.specs.BitMoves.{move_imm_holds_for}
+use Rattle.a64_insn.specs.declared.lines.TheConstants as line
 use Rattle.a64_rows.proofs.Laws.{sound, is_listed}
 use Rattle.a64_texts.specs.Law.{texts_of, word_of}
-use Rattle.a64_texts.specs.Table.{line_texts}
-use Rattle.a64_texts.specs.Data.{adr_texts, add_imm_texts, logic_imm_texts, move_wide_texts, bitfield_texts, extract_texts, logic_reg_texts, add_reg_texts, add_ext_texts, add_carry_texts, cond_reg_texts, cond_imm_texts, select_texts, mul_add_texts, mul_long_texts, mul_high_texts, two_source_texts, one_source_texts, rev_texts}
-use Rattle.a64_texts.specs.Flow.{branch_texts, branch_cond_texts, compare_texts, test_texts, branch_reg_texts, except_texts, hint_texts, barrier_texts, read_sys_texts, write_sys_texts}
-use Rattle.a64_texts.specs.Memory.{ls_unsigned_texts, ls_unscaled_texts, ls_post_texts, ls_pre_texts, ls_reg_texts, ls_reg_lines, ls_literal_texts, pair_texts, store_ex_texts, load_ex_texts, ordered_texts}
-use Rattle.a64_texts.specs.BitMoves.{f_move_texts, move_imm_texts}
+use Rattle.a64_texts.specs.Table.{line_texts, texts_open}
 
 -- ---- a form's line
 
@@ -65,19 +60,32 @@ accessed vs = is_access (value_at vs 0) (value_at vs 1) (value_at vs 2)
 abbrev written_back : List ℕ → Bool
 written_back vs = accessed vs && not (is_prefetch (value_at vs 0) (value_at vs 1) (value_at vs 2))
 
+abbrev width_and_n : Choice
+width_and_n = asking ((31 to 31) ∷ (22 to 22) ∷ []) (λ vs. value_at vs 1 == value_at vs 0)
+
+abbrev choice_at : ℕ → Choice
+choice_at k =
+    if k == line.LOGIC_IMM then by ((31 to 31) ∷ [])
+    else (if is_among k (line.BITFIELD ∷ line.EXTRACT ∷ []) then width_and_n
+    else (if k == line.ADD_EXT then by ((31 to 31) ∷ (14 to 13) ∷ [])
+    else (if k == line.BRANCH_COND then by ((3 to 0) ∷ [])
+    else (if is_among k (line.LS_UNSIGNED ∷ line.LS_UNSCALED ∷ []) then asking kinds_of_access accessed
+    else (if is_among k (line.LS_POST ∷ line.LS_PRE ∷ []) then asking kinds_of_access written_back
+    else (if k == line.LS_REG then asking ((31 to 30) ∷ (26 to 26) ∷ (23 to 22) ∷ (15 to 13) ∷ (12 to 12) ∷ []) (λ vs. ls_reg_holds_for (value_at vs 0) (value_at vs 1) (value_at vs 2) (value_at vs 3))
+    else (if k == line.LS_LITERAL then asking ((31 to 30) ∷ (26 to 26) ∷ []) (λ vs. ls_literal_holds_for (value_at vs 0) (value_at vs 1))
+    else (if k == line.PAIR then asking ((31 to 30) ∷ (26 to 26) ∷ (24 to 23) ∷ (22 to 22) ∷ []) (λ vs. is_pair (value_at vs 0) (value_at vs 1) (value_at vs 2) (value_at vs 3))
+    else (if is_among k (line.STORE_EX ∷ line.LOAD_EX ∷ line.ORDERED ∷ []) then by ((31 to 30) ∷ [])
+    else (if k == line.ATOMIC then by ((31 to 30) ∷ (23 to 23) ∷ (22 to 22) ∷ [])
+    else (if k == line.COMPARE_SWAP then by ((31 to 30) ∷ (22 to 22) ∷ (15 to 15) ∷ [])
+    else (if k == line.MOVE_IMM then asking ((30 to 30) ∷ (29 to 29) ∷ (15 to 12) ∷ []) (λ vs. move_imm_holds_for (value_at vs 2))
+    else by []))))))))))))
+
+abbrev choices_from : ℕ → ℕ → List Choice
+choices_from k zero = []
+choices_from k (suc n) = choice_at k ∷ choices_from (suc k) n
+
 abbrev choices : List Choice
-choices =
-    by [] ∷ by [] ∷ by ((31 to 31) ∷ []) ∷ by []
-    ∷ asking ((31 to 31) ∷ (22 to 22) ∷ []) (λ vs. value_at vs 1 == value_at vs 0) ∷ asking ((31 to 31) ∷ (22 to 22) ∷ []) (λ vs. value_at vs 1 == value_at vs 0)
-    ∷ by [] ∷ by [] ∷ by ((31 to 31) ∷ (14 to 13) ∷ [])
-    ∷ by [] ∷ by [] ∷ by [] ∷ by [] ∷ by [] ∷ by [] ∷ by [] ∷ by [] ∷ by [] ∷ by []
-    ∷ by [] ∷ by ((3 to 0) ∷ []) ∷ by [] ∷ by [] ∷ by [] ∷ by [] ∷ by [] ∷ by [] ∷ by [] ∷ by []
-    ∷ asking kinds_of_access accessed ∷ asking kinds_of_access accessed ∷ asking kinds_of_access written_back ∷ asking kinds_of_access written_back
-    ∷ asking ((31 to 30) ∷ (26 to 26) ∷ (23 to 22) ∷ (15 to 13) ∷ (12 to 12) ∷ []) (λ vs. ls_reg_holds_for (value_at vs 0) (value_at vs 1) (value_at vs 2) (value_at vs 3))
-    ∷ asking ((31 to 30) ∷ (26 to 26) ∷ []) (λ vs. ls_literal_holds_for (value_at vs 0) (value_at vs 1))
-    ∷ asking ((31 to 30) ∷ (26 to 26) ∷ (24 to 23) ∷ (22 to 22) ∷ []) (λ vs. is_pair (value_at vs 0) (value_at vs 1) (value_at vs 2) (value_at vs 3))
-    ∷ by ((31 to 30) ∷ []) ∷ by ((31 to 30) ∷ []) ∷ by ((31 to 30) ∷ [])
-    ∷ by [] ∷ asking ((30 to 30) ∷ (29 to 29) ∷ (15 to 12) ∷ []) (λ vs. move_imm_holds_for (value_at vs 2)) ∷ []
+choices = choices_from 0 line.LINES
 
 abbrev are_total : List (List Pattern) → List (Line A64Form) → List Choice → Bool
 are_total [] ls cs = true
@@ -86,7 +94,7 @@ are_total (qs ∷ qss) (l ∷ ls) [] = false
 are_total (qs ∷ qss) (l ∷ ls) (c ∷ cs) = is_total qs l c.places c.asks && are_total qss ls cs
 
 totals : are_total line_texts a64_table choices ≡ true
-unfolding a64_table line_texts adr_texts add_imm_texts logic_imm_texts move_wide_texts bitfield_texts extract_texts logic_reg_texts add_reg_texts add_ext_texts add_carry_texts cond_reg_texts cond_imm_texts select_texts mul_add_texts mul_long_texts mul_high_texts two_source_texts one_source_texts rev_texts branch_texts branch_cond_texts compare_texts test_texts branch_reg_texts except_texts hint_texts barrier_texts read_sys_texts write_sys_texts ls_unsigned_texts ls_unscaled_texts ls_post_texts ls_pre_texts ls_reg_texts ls_reg_lines ls_literal_texts pair_texts store_ex_texts load_ex_texts ordered_texts f_move_texts move_imm_texts adr add_imm logic_imm move_wide bitfield extract logic_reg add_reg add_ext add_carry cond_reg cond_imm select mul_add mul_long mul_high two_source one_source rev branch branch_cond compare test_branch branch_reg except hint barrier read_sys write_sys ls_unsigned ls_unscaled ls_post ls_pre ls_reg ls_literal pair store_ex load_ex ordered f_move move_imm is_access is_prefetch is_offset_extension ls_reg_holds_for ls_literal_holds_for is_pair move_imm_holds_for
+unfolding texts_open a64_table line_texts is_access is_prefetch is_offset_extension ls_reg_holds_for ls_literal_holds_for is_pair move_imm_holds_for
 totals = refl
 
 total_at : (qss : List (List Pattern)) (ls : List (Line A64Form)) (cs : List Choice) (k : ℕ) (l : Line A64Form) → are_total qss ls cs ≡ true → k < length qss → line_at ls k ≡ Some l
@@ -100,7 +108,7 @@ total_at (qs ∷ qss) (n ∷ ns) (c ∷ cs) (suc k) l h m e = total_at qss ns cs
 abbrev choice : A64Form → Choice
 choice f = get_or choices (line_number f) (by [])
 
-lines_long : length line_texts ≡ 41
+lines_long : length line_texts ≡ line.LINES
 unfolding line_texts
 lines_long = refl
 
@@ -119,7 +127,7 @@ not_prefetched w h =
 
 -- what the condition asks of the choosing values holds of each row's word
 asked : (f : A64Form) → IsRow (row_of f) → (choice f).asks (row_of f).number (values (choice f).places (word_of f)) ≡ true
-unfolding bitfield extract bitfield_holds_for extract_holds_for ls_unsigned ls_unscaled ls_post ls_pre ls_reg ls_literal pair move_imm writeback_holds_for pair_holds_for
+unfolding lines_open bitfield_holds_for extract_holds_for writeback_holds_for pair_holds_for
 asked (Bitfield op sf n r s rn rd) v = (and_parts _ _ (held (Bitfield op sf n r s rn rd) v)).0
 asked (Extract sf n rm s rn rd) v = (and_parts _ _ (held (Extract sf n rm s rn rd) v)).0
 asked (LsUnsigned size v' opc imm12 rn rt) v = held (LsUnsigned size v' opc imm12 rn rt) v

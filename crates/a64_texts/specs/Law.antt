@@ -5,8 +5,7 @@ use Rattle.emu_bits.specs.Fields.{bit}
 use Rattle.emu_bits.specs.Rows.{decode, encode}
 use Rattle.a64_insn.specs.declared.form.A64Form.{A64Form}
 use Rattle.a64_insn.specs.declared.form.A64Form.TheVariants.{LogicImm}
-use Rattle.a64_insn.specs.Table.{row_of, a64_table}
-use Rattle.a64_rows.specs.Lines.{line_number}
+use Rattle.a64_insn.specs.Table.{row_of, a64_table, line_number}
 use Rattle.text_model.specs.Reading.{Pattern}
 use Rattle.text_model.specs.Statement.{destination_of, reads_text}
 use Rattle.text_model.specs.Text.{chosen, text_of}

@@ -9,7 +9,7 @@ use Rattle.text_model.specs.declared.slots.Shape.TheVariants.{Only, Told}
 use Rattle.text_model.specs.declared.slots.Slot.{Slot}
 use Rattle.text_model.specs.Reading.{Pattern}
 use Rattle.text_model.specs.Writing.{◌to◌, plain, times, signed_times, always, of, one, then, counted, amount, perhaps, inside, bracketed, row, put_at, flat}
-use Rattle.a64_insn.specs.Memory.{ls_unsigned, ls_unscaled, ls_post, ls_pre, ls_reg, ls_literal, pair, store_ex, load_ex, ordered}
+use Rattle.a64_insn.specs.Memory.{ls_unsigned, ls_unscaled, ls_post, ls_pre, ls_reg, ls_literal, pair, store_ex, load_ex, ordered, atomic, compare_swap}
 use Rattle.a64_texts.specs.Data.{w, x, rd, rn_sp, ra, rm}
 use Rattle.a64_texts.specs.Flow.{jump}
 
@@ -171,6 +171,32 @@ load_ex_texts = sized load_ex 0 (codes "ldxr") [] ++ sized load_ex 1 (codes "lda
 unfoldable pub ordered_texts : List Pattern
 ordered_texts = sized ordered 0 (codes "stlr") [] ++ sized ordered 1 (codes "ldar") []
 
+-- ---- loads and stores as one step
+
+-- a row with some bits settled at its sizes: bytes and halfwords by the name, words and doublewords by both registers
+abbrev two_sized : {F : Type 0} → Line F → ℕ → ℕ → List ℕ → List Pattern
+two_sized l k settled name =
+    row l k settled (name ++ codes "b") (w rm ∷ then ∷ w rd ∷ then ∷ place) ∷ row l k (put_at 30 1 + settled) (name ++ codes "h") (w rm ∷ then ∷ w rd ∷ then ∷ place)
+    ∷ row l k (put_at 31 1 + settled) name (of (Told (30 to 30) General) rm ∷ then ∷ of (Told (30 to 30) General) rd ∷ then ∷ place) ∷ []
+
+-- a row by the bits that acquire and release: the name alone, with `a`, with `l` and with `al`
+abbrev orders : {F : Type 0} → Line F → ℕ → ℕ → ℕ → List ℕ → List Pattern
+orders l k acquires releases name =
+    two_sized l k 0 name ++ (two_sized l k (put_at acquires 1) (name ++ codes "a")
+    ++ (two_sized l k (put_at releases 1) (name ++ codes "l") ++ two_sized l k (put_at acquires 1 + put_at releases 1) (name ++ codes "al")))
+
+-- the rows of `Atomic` from a number on
+abbrev atomic_rows : ℕ → List (List ℕ) → List Pattern
+atomic_rows k [] = []
+atomic_rows k (name ∷ names) = orders atomic k 23 22 name ++ atomic_rows (k + 1) names
+
+unfoldable pub atomic_texts : List Pattern
+atomic_texts =
+    atomic_rows 0 (codes "ldadd" ∷ codes "ldclr" ∷ codes "ldeor" ∷ codes "ldset" ∷ codes "ldsmax" ∷ codes "ldsmin" ∷ codes "ldumax" ∷ codes "ldumin" ∷ codes "swp" ∷ [])
+
+unfoldable pub compare_swap_texts : List Pattern
+compare_swap_texts = orders compare_swap 0 22 15 (codes "cas")
+
 -- the patterns of these lines, in the order of the table's, those of offsets in registers in six parts
 unfoldable pub memory_lines : List (List Pattern)
-memory_lines = ls_unsigned_texts ∷ ls_unscaled_texts ∷ ls_post_texts ∷ ls_pre_texts ∷ (ls_reg_lines ++ (ls_literal_texts ∷ pair_texts ∷ store_ex_texts ∷ load_ex_texts ∷ ordered_texts ∷ []))
+memory_lines = ls_unsigned_texts ∷ ls_unscaled_texts ∷ ls_post_texts ∷ ls_pre_texts ∷ (ls_reg_lines ++ (ls_literal_texts ∷ pair_texts ∷ store_ex_texts ∷ load_ex_texts ∷ ordered_texts ∷ atomic_texts ∷ compare_swap_texts ∷ []))

@@ -2,9 +2,11 @@
 #![tactic(auto)]
 
 mod aliases;
+mod atomics;
 mod bit_moves;
 mod data;
 mod flow;
+pub mod lines;
 mod memory;
 mod names;
 
@@ -70,7 +72,7 @@ fn flow_lines() -> [&'static [Pattern]; 10]
 }
 
 /// The patterns of the lines of loads and stores; those of offsets in registers stand in six parts.
-fn memory_lines() -> [&'static [Pattern]; 15]
+fn memory_lines() -> [&'static [Pattern]; 17]
     ensures { lines_of result ≡ memory_lines }
 {
     [
@@ -89,6 +91,8 @@ fn memory_lines() -> [&'static [Pattern]; 15]
         &memory::STORE_EX,
         &memory::LOAD_EX,
         &memory::ORDERED,
+        &atomics::ATOMIC,
+        &atomics::COMPARE_SWAP,
     ]
 }
 
@@ -103,14 +107,14 @@ fn last_lines() -> [&'static [Pattern]; 3]
 fn line_numbered(number: u8) -> &'static [Pattern]
     ensures { patterns_of result.now ≡ get_or a64_lines number [] }
 {
-    if number < 19 {
+    if number < lines::BRANCH {
         line_of(&data_lines(), number)
-    } else if number < 29 {
-        line_of(&flow_lines(), number - 19)
-    } else if number < 44 {
-        line_of(&memory_lines(), number - 29)
+    } else if number < lines::LS_UNSIGNED {
+        line_of(&flow_lines(), number - lines::BRANCH)
+    } else if number < lines::F_MOVE {
+        line_of(&memory_lines(), number - lines::LS_UNSIGNED)
     } else {
-        line_of(&last_lines(), number - 44)
+        line_of(&last_lines(), number - lines::F_MOVE)
     }
 }
 

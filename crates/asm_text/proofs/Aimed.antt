@@ -14,18 +14,10 @@ use Rattle.text_model.proofs.Again.{pattern_at}
 use Rattle.text_model.proofs.Tables.{chosen_is}
 use Rattle.a64_insn.specs.declared.form.A64Form.{A64Form}
 use Rattle.a64_insn.specs.declared.form.A64Form.TheVariants.{Adr, Branch, BranchCond, Compare, Test, LsLiteral}
-use Rattle.a64_insn.specs.Table.{a64_table}
-use Rattle.a64_insn.specs.Data.{adr, add_imm, logic_imm, move_wide, bitfield, extract, logic_reg, add_reg, add_ext, add_carry, cond_reg, cond_imm, select, mul_add, mul_long, mul_high, two_source, one_source, rev}
-use Rattle.a64_insn.specs.Flow.{branch, branch_cond, compare, test_branch, branch_reg, except, hint, barrier, read_sys, write_sys}
-use Rattle.a64_insn.specs.Memory.{ls_unsigned, ls_unscaled, ls_post, ls_pre, ls_reg, ls_literal, pair, store_ex, load_ex, ordered}
-use Rattle.a64_insn.specs.BitMoves.{f_move, move_imm}
-use Rattle.a64_texts.specs.Data.{adr_texts, add_imm_texts, logic_imm_texts, move_wide_texts, bitfield_texts, extract_texts, logic_reg_texts, add_reg_texts, add_ext_texts, add_carry_texts, cond_reg_texts, cond_imm_texts, select_texts, mul_add_texts, mul_long_texts, mul_high_texts, two_source_texts, one_source_texts, rev_texts}
-use Rattle.a64_texts.specs.Flow.{branch_texts, branch_cond_texts, compare_texts, test_texts, branch_reg_texts, except_texts, hint_texts, barrier_texts, read_sys_texts, write_sys_texts}
-use Rattle.a64_texts.specs.Memory.{ls_unsigned_texts, ls_unscaled_texts, ls_post_texts, ls_pre_texts, ls_reg_texts, ls_reg_lines, ls_literal_texts, pair_texts, store_ex_texts, load_ex_texts, ordered_texts}
-use Rattle.a64_texts.specs.BitMoves.{f_move_texts, move_imm_texts}
-use Rattle.a64_rows.specs.Lines.{line_number}
+use Rattle.a64_insn.specs.Table.{a64_table, line_number}
+use Rattle.a64_insn.specs.declared.lines.TheConstants as line
 use Rattle.a64_texts.specs.Law.{word_of, texts_of, reach_by, reach, unaimed_word, is_canonical_form}
-use Rattle.a64_texts.specs.Table.{line_texts}
+use Rattle.a64_texts.specs.Table.{line_texts, texts_open}
 use Rattle.insn_texts.specs.Statements.{may_have_target}
 use Rattle.asm_text.proofs.Kept.{are_clear, parts_keep}
 use Rattle.asm_text.proofs.ReadBy.{every}
@@ -49,7 +41,7 @@ has_none p = not (has_reach p)
 
 -- each pattern of a line with targets has one, and no other does
 pub reaching : (f : A64Form) → has_targets (line_number f) ≡ true → every has_reach (texts_of f) ≡ true
-unfolding line_texts adr_texts add_imm_texts logic_imm_texts move_wide_texts bitfield_texts extract_texts logic_reg_texts add_reg_texts add_ext_texts add_carry_texts cond_reg_texts cond_imm_texts select_texts mul_add_texts mul_long_texts mul_high_texts two_source_texts one_source_texts rev_texts branch_texts branch_cond_texts compare_texts test_texts branch_reg_texts except_texts hint_texts barrier_texts read_sys_texts write_sys_texts ls_unsigned_texts ls_unscaled_texts ls_post_texts ls_pre_texts ls_reg_texts ls_reg_lines ls_literal_texts pair_texts store_ex_texts load_ex_texts ordered_texts f_move_texts move_imm_texts adr add_imm logic_imm move_wide bitfield extract logic_reg add_reg add_ext add_carry cond_reg cond_imm select mul_add mul_long mul_high two_source one_source rev branch branch_cond compare test_branch branch_reg except hint barrier read_sys write_sys ls_unsigned ls_unscaled ls_post ls_pre ls_reg ls_literal pair store_ex load_ex ordered f_move move_imm
+unfolding texts_open line_texts
 reaching (Adr op immlo immhi rd) h = refl
 reaching (Branch op imm26) h = refl
 reaching (BranchCond imm19 cond') h = refl
@@ -59,7 +51,7 @@ reaching (LsLiteral opc v imm19 rt) h = refl
 reaching f h = absurd (false≢true h)
 
 not_reaching : (f : A64Form) → has_targets (line_number f) ≡ false → every has_none (texts_of f) ≡ true
-unfolding line_texts adr_texts add_imm_texts logic_imm_texts move_wide_texts bitfield_texts extract_texts logic_reg_texts add_reg_texts add_ext_texts add_carry_texts cond_reg_texts cond_imm_texts select_texts mul_add_texts mul_long_texts mul_high_texts two_source_texts one_source_texts rev_texts branch_texts branch_cond_texts compare_texts test_texts branch_reg_texts except_texts hint_texts barrier_texts read_sys_texts write_sys_texts ls_unsigned_texts ls_unscaled_texts ls_post_texts ls_pre_texts ls_reg_texts ls_reg_lines ls_literal_texts pair_texts store_ex_texts load_ex_texts ordered_texts f_move_texts move_imm_texts adr add_imm logic_imm move_wide bitfield extract logic_reg add_reg add_ext add_carry cond_reg cond_imm select mul_add mul_long mul_high two_source one_source rev branch branch_cond compare test_branch branch_reg except hint barrier read_sys write_sys ls_unsigned ls_unscaled ls_post ls_pre ls_reg ls_literal pair store_ex load_ex ordered f_move move_imm
+unfolding texts_open line_texts
 not_reaching (Adr op immlo immhi rd) h = absurd (true≢false h)
 not_reaching (Branch op imm26) h = absurd (true≢false h)
 not_reaching (BranchCond imm19 cond') h = absurd (true≢false h)
@@ -118,7 +110,7 @@ aims_again p =
     && misses_but has_targets 0 a64_table p)
 
 aims : (f : A64Form) → every aims_again (texts_of f) ≡ true
-unfolding reach_places a64_table line_texts adr_texts add_imm_texts logic_imm_texts move_wide_texts bitfield_texts extract_texts logic_reg_texts add_reg_texts add_ext_texts add_carry_texts cond_reg_texts cond_imm_texts select_texts mul_add_texts mul_long_texts mul_high_texts two_source_texts one_source_texts rev_texts branch_texts branch_cond_texts compare_texts test_texts branch_reg_texts except_texts hint_texts barrier_texts read_sys_texts write_sys_texts ls_unsigned_texts ls_unscaled_texts ls_post_texts ls_pre_texts ls_reg_texts ls_reg_lines ls_literal_texts pair_texts store_ex_texts load_ex_texts ordered_texts f_move_texts move_imm_texts adr add_imm logic_imm move_wide bitfield extract logic_reg add_reg add_ext add_carry cond_reg cond_imm select mul_add mul_long mul_high two_source one_source rev branch branch_cond compare test_branch branch_reg except hint barrier read_sys write_sys ls_unsigned ls_unscaled ls_post ls_pre ls_reg ls_literal pair store_ex load_ex ordered f_move move_imm
+unfolding texts_open reach_places a64_table line_texts
 aims (Adr op immlo immhi rd) = refl
 aims f = refl
 
@@ -165,9 +157,9 @@ aimed_line f g pc t x h e i =
     ap has_targets (number_found line_number a64_table x g d numbered ∙ sym z)
     ∙ told_place has_targets 0 a64_table p d.place d.line x d.row t2.1 kept d.stands d.holds
 
-no_two : (k : ℕ) → has_targets k ≡ true → (k == 2) ≡ false
-no_two k h = elim (cases_Bool (k == 2)) [
-  | inl e ↦ absurd (false≢true (ap has_targets (sym (eqb-true k 2 e)) ∙ h))
+no_two : (k : ℕ) → has_targets k ≡ true → (k == line.LOGIC_IMM) ≡ false
+no_two k h = elim (cases_Bool (k == line.LOGIC_IMM)) [
+  | inl e ↦ absurd (false≢true (ap has_targets (sym (eqb-true k line.LOGIC_IMM e)) ∙ h))
   | inr e ↦ e
 ]
 

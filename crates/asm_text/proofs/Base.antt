@@ -11,9 +11,9 @@ use Rattle.text_model.specs.Statement.{Statement, reads_tokens}
 use Rattle.text_model.proofs.Tests.{all_places}
 use Rattle.a64_insn.specs.declared.form.A64Form.{A64Form}
 use Rattle.a64_insn.specs.declared.form.A64Form.TheVariants.{LogicImm}
-use Rattle.a64_insn.specs.Table.{a64_table}
+use Rattle.a64_insn.specs.Table.{a64_table, line_number}
 use Rattle.a64_insn.specs.Data.{logic_imm}
-use Rattle.a64_rows.specs.Lines.{line_number}
+use Rattle.a64_insn.specs.declared.lines.TheConstants as line
 use Rattle.a64_texts.specs.Law.{in_table, is_canonical_form}
 use Rattle.a64_texts.specs.Table.{a64_patterns}
 use Rattle.asm_text.proofs.Kept.{are_clear}
@@ -55,18 +55,18 @@ mask_form : (w n : ℕ) → has_least mask w ≡ true → is_canonical_form (log
 unfolding logic_imm
 mask_form w n h = ap (λ (x : ℕ). is_least x (field w 16 6) (field w 10 6)) (flag_back (field w 22 1) (one_bit w 22)) ∙ least_fields w h
 
-logic_imm_line : (l : Line A64Form) → line_at a64_table 2 ≡ Some l → l ≡ logic_imm
+logic_imm_line : (l : Line A64Form) → line_at a64_table line.LOGIC_IMM ≡ Some l → l ≡ logic_imm
 unfolding a64_table
 logic_imm_line l h = cc
 
 -- forms of other lines have no bitmask
-pub no_mask : (f : A64Form) → (line_number f == 2) ≡ false → is_canonical_form f ≡ true
+pub no_mask : (f : A64Form) → (line_number f == line.LOGIC_IMM) ≡ false → is_canonical_form f ≡ true
 no_mask (LogicImm op sf n immr imms rn rd) h = absurd (true≢false h)
 no_mask f h = refl
 
 found_canonical : (s : Statement) (f : A64Form) → IsReadBy (masks_well mask logic_imm) s → IsFound a64_table s.word f → is_canonical_form f ≡ true
-found_canonical s f d i = elim (cases_Bool (line_number f == 2)) [
-  | inl e ↦ (let p : i.place ≡ 2 = sym (number_found line_number a64_table s.word f i numbered) ∙ eqb-true _ _ e in
+found_canonical s f d i = elim (cases_Bool (line_number f == line.LOGIC_IMM)) [
+  | inl e ↦ (let p : i.place ≡ line.LOGIC_IMM = sym (number_found line_number a64_table s.word f i numbered) ∙ eqb-true _ _ e in
       let l : i.line ≡ logic_imm = logic_imm_line i.line (ap (line_at a64_table) (sym p) ∙ i.stands) in
       let h : row_in logic_imm s.word ≡ Some i.row = ap (λ (x : Line A64Form). row_in x s.word) (sym l) ∙ i.holds in
       ap is_canonical_form (i.form ∙ ap (λ (x : Line A64Form). x.form i.row.number (values x.places s.word)) l)

@@ -5,6 +5,8 @@ use Rattle.a64_texts.specs.Data.{data_lines}
 use Rattle.a64_texts.specs.Flow.{flow_lines}
 use Rattle.a64_texts.specs.Memory.{memory_lines, ls_reg_lines}
 use Rattle.a64_texts.specs.BitMoves.{last_lines}
+use Rattle.a64_insn.specs.declared.lines.TheConstants as line
+use Rattle.a64_texts.specs.declared.lines.TheConstants as text_line
 use Rattle.a64_texts.specs.Table.{line_texts, a64_lines}
 use Rattle.a64_texts.proofs.Legible.{lines_sound}
 use Rattle.text_model.specs.Reading.{Pattern}
@@ -18,26 +20,26 @@ sound_at (ps ∷ pss) (suc k) h = sound_at pss k (and_parts (all_sound ps) (all_
 pub sound_line : (ps : List Pattern) (k : ℕ) → ps ≡ get_or a64_lines k [] → all_sound ps ≡ true
 sound_line ps k h = ap all_sound h ∙ sound_at a64_lines k lines_sound
 
-pub adr_line : get_or a64_lines 0 [] ≡ get_or line_texts 0 []
+pub adr_line : get_or a64_lines text_line.ADR [] ≡ get_or line_texts line.ADR []
 unfolding a64_lines data_lines flow_lines memory_lines last_lines ls_reg_lines line_texts
 adr_line = refl
 
-pub branch_line : get_or a64_lines 19 [] ≡ get_or line_texts 19 []
+pub branch_line : get_or a64_lines text_line.BRANCH [] ≡ get_or line_texts line.BRANCH []
 unfolding a64_lines data_lines flow_lines memory_lines last_lines ls_reg_lines line_texts
 branch_line = refl
 
-pub branch_cond_line : get_or a64_lines 20 [] ≡ get_or line_texts 20 []
+pub branch_cond_line : get_or a64_lines text_line.BRANCH_COND [] ≡ get_or line_texts line.BRANCH_COND []
 unfolding a64_lines data_lines flow_lines memory_lines last_lines ls_reg_lines line_texts
 branch_cond_line = refl
 
-pub compare_line : get_or a64_lines 21 [] ≡ get_or line_texts 21 []
+pub compare_line : get_or a64_lines text_line.COMPARE [] ≡ get_or line_texts line.COMPARE []
 unfolding a64_lines data_lines flow_lines memory_lines last_lines ls_reg_lines line_texts
 compare_line = refl
 
-pub test_line : get_or a64_lines 22 [] ≡ get_or line_texts 22 []
+pub test_line : get_or a64_lines text_line.TEST [] ≡ get_or line_texts line.TEST []
 unfolding a64_lines data_lines flow_lines memory_lines last_lines ls_reg_lines line_texts
 test_line = refl
 
-pub ls_literal_line : get_or a64_lines 39 [] ≡ get_or line_texts 34 []
+pub ls_literal_line : get_or a64_lines text_line.LS_LITERAL [] ≡ get_or line_texts line.LS_LITERAL []
 unfolding a64_lines data_lines flow_lines memory_lines last_lines ls_reg_lines line_texts
 ls_literal_line = refl

@@ -19,11 +19,11 @@ use Rattle.a64_insn.specs.declared.ops.CompareOp.TheVariants as compare_names
 use Rattle.a64_insn.specs.declared.ops.TestOp.{TestOp}
 use Rattle.a64_insn.specs.declared.ops.TestOp.TheVariants as test_names
 use Rattle.a64_insn.specs.Names.{adr_named, adr_number, branch_named, branch_number, compare_named, compare_number, test_named, test_number}
-use Rattle.a64_insn.specs.Table.{row_of, a64_table}
+use Rattle.a64_insn.specs.Table.{row_of, a64_table, line_number}
 use Rattle.a64_insn.specs.Data.{adr}
 use Rattle.a64_insn.specs.Flow.{branch, branch_cond, compare, test_branch}
 use Rattle.a64_insn.specs.Memory.{ls_literal, ls_literal_holds_for}
-use Rattle.a64_rows.specs.Lines.{line_number}
+use Rattle.a64_insn.specs.declared.lines.TheConstants as line
 use Rattle.a64_texts.specs.Law.{word_of, texts_of, reach_by, reach}
 use Rattle.a64_texts.proofs.Totals.{has_text}
 use Rattle.asm_text.proofs.Found.{IsFound, found, number_found}
@@ -111,12 +111,12 @@ at_line k l w f d n e g =
 
 row_found : (w : ℕ) (f : A64Form) → IsFound a64_table w f → has_targets (line_number f) ≡ true → IsRow (row_of f)
 unfolding a64_table
-row_found w (Adr op immlo immhi rd) d h = at_line 0 adr w (Adr op immlo immhi rd) d refl refl adr_rows
-row_found w (Branch op imm26) d h = at_line 19 branch w (Branch op imm26) d refl refl branch_rows
-row_found w (BranchCond imm19 cond') d h = at_line 20 branch_cond w (BranchCond imm19 cond') d refl refl branch_cond_rows
-row_found w (Compare op sf imm19 rt) d h = at_line 21 compare w (Compare op sf imm19 rt) d refl refl compare_rows
-row_found w (Test op b5 b40 imm14 rt) d h = at_line 22 test_branch w (Test op b5 b40 imm14 rt) d refl refl test_rows
-row_found w (LsLiteral opc v imm19 rt) d h = at_line 34 ls_literal w (LsLiteral opc v imm19 rt) d refl refl ls_literal_rows
+row_found w (Adr op immlo immhi rd) d h = at_line line.ADR adr w (Adr op immlo immhi rd) d refl refl adr_rows
+row_found w (Branch op imm26) d h = at_line line.BRANCH branch w (Branch op imm26) d refl refl branch_rows
+row_found w (BranchCond imm19 cond') d h = at_line line.BRANCH_COND branch_cond w (BranchCond imm19 cond') d refl refl branch_cond_rows
+row_found w (Compare op sf imm19 rt) d h = at_line line.COMPARE compare w (Compare op sf imm19 rt) d refl refl compare_rows
+row_found w (Test op b5 b40 imm14 rt) d h = at_line line.TEST test_branch w (Test op b5 b40 imm14 rt) d refl refl test_rows
+row_found w (LsLiteral opc v imm19 rt) d h = at_line line.LS_LITERAL ls_literal w (LsLiteral opc v imm19 rt) d refl refl ls_literal_rows
 row_found w f d h = absurd (false≢true h)
 
 pub targeted : (w : ℕ) (f : A64Form) → instruction a64_table w ≡ Some f → has_targets (line_number f) ≡ true → is_some (reach f) ≡ true

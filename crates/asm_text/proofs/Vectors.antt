@@ -9,9 +9,9 @@ use Rattle.text_model.specs.Slots.{joined}
 use Rattle.text_model.specs.Statement.{Statement, reads_tokens}
 use Rattle.sve_insn.specs.declared.form.SveForm.{SveForm}
 use Rattle.sve_insn.specs.declared.form.SveForm.TheVariants.{BitmaskZ}
-use Rattle.sve_insn.specs.Table.{memory_lines, data_lines, move_lines, predicate_lines, sve_table}
+use Rattle.sve_insn.specs.Table.{memory_lines, data_lines, move_lines, predicate_lines, sve_table, line_number}
 use Rattle.sve_insn.specs.Lanes.{bitmask_z}
-use Rattle.sve_insn.specs.Lines.{line_number}
+use Rattle.sve_insn.specs.declared.lines.TheConstants.{BITMASK_Z}
 use Rattle.sve_texts.specs.Law.{in_table, is_canonical_form}
 use Rattle.sve_texts.specs.Table.{sve_patterns}
 use Rattle.asm_text.proofs.ReadBy.{IsReadBy, read_by}
@@ -46,18 +46,18 @@ mask_form : (w n : ℕ) → has_least mask w ≡ true → is_canonical_form (bit
 unfolding bitmask_z
 mask_form w n h = ap (λ (x : ℕ). is_least x (field w 11 6) (field w 5 6)) (flag_back (field w 17 1) (one_bit w 17)) ∙ least_fields w h
 
-mask_line : (l : Line SveForm) → line_at sve_table 60 ≡ Some l → l ≡ bitmask_z
+mask_line : (l : Line SveForm) → line_at sve_table BITMASK_Z ≡ Some l → l ≡ bitmask_z
 unfolding sve_table memory_lines data_lines move_lines predicate_lines
 mask_line l h = cc
 
 -- forms of other lines have no bitmask
-no_mask : (f : SveForm) → (line_number f == 60) ≡ false → is_canonical_form f ≡ true
+no_mask : (f : SveForm) → (line_number f == BITMASK_Z) ≡ false → is_canonical_form f ≡ true
 no_mask (BitmaskZ op n immr imms zdn) h = absurd (true≢false h)
 no_mask f h = refl
 
 found_canonical : (s : Statement) (f : SveForm) → IsReadBy (masks_well mask bitmask_z) s → IsFound sve_table s.word f → is_canonical_form f ≡ true
-found_canonical s f d i = elim (cases_Bool (line_number f == 60)) [
-  | inl e ↦ (let p : i.place ≡ 60 = sym (number_found line_number sve_table s.word f i numbered) ∙ eqb-true _ _ e in
+found_canonical s f d i = elim (cases_Bool (line_number f == BITMASK_Z)) [
+  | inl e ↦ (let p : i.place ≡ BITMASK_Z = sym (number_found line_number sve_table s.word f i numbered) ∙ eqb-true _ _ e in
       let l : i.line ≡ bitmask_z = mask_line i.line (ap (line_at sve_table) (sym p) ∙ i.stands) in
       let h : row_in bitmask_z s.word ≡ Some i.row = ap (λ (x : Line SveForm). row_in x s.word) (sym l) ∙ i.holds in
       ap is_canonical_form (i.form ∙ ap (λ (x : Line SveForm). x.form i.row.number (values x.places s.word)) l)

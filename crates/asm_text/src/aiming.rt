@@ -7,7 +7,7 @@ ghost use Rattle.text_code.specs.Tables.{patterns_of};
 
 use a64_insn::A64Form;
 use a64_rows::{decode_a64, encode_a64};
-use a64_texts::A64Texts;
+use a64_texts::{A64Texts, lines};
 use insn_decode::Insn;
 use text_code::{Pattern, Table, aimed, chosen, reach_of, unaimed};
 
@@ -17,12 +17,12 @@ fn patterns(form: &A64Form) -> &'static [Pattern]
     ensures sound { all_sound (patterns_of result.now) ≡ true }
 {
     match form {
-        A64Form::Adr { .. } => A64Texts.line(0),
-        A64Form::Branch { .. } => A64Texts.line(19),
-        A64Form::BranchCond { .. } => A64Texts.line(20),
-        A64Form::Compare { .. } => A64Texts.line(21),
-        A64Form::Test { .. } => A64Texts.line(22),
-        A64Form::LsLiteral { .. } => A64Texts.line(39),
+        A64Form::Adr { .. } => A64Texts.line(lines::ADR),
+        A64Form::Branch { .. } => A64Texts.line(lines::BRANCH),
+        A64Form::BranchCond { .. } => A64Texts.line(lines::BRANCH_COND),
+        A64Form::Compare { .. } => A64Texts.line(lines::COMPARE),
+        A64Form::Test { .. } => A64Texts.line(lines::TEST),
+        A64Form::LsLiteral { .. } => A64Texts.line(lines::LS_LITERAL),
         _ => &[],
     }
 }

@@ -1,12 +1,9 @@
 -- The lines of patterns that a line of the table has, where those of offsets in registers are six.
 use Rattle.std.specs.Prelude.{ℕ, ◌+◌, ◌==◌, if◌then◌else◌, nat_lt}
-
--- the number of the table's line of offsets in registers
-abbrev pub offsets_in_registers : ℕ
-offsets_in_registers = 33
+use Rattle.a64_insn.specs.declared.lines.TheConstants as line
 
 abbrev pub first_line : ℕ → ℕ
-first_line n = if nat_lt offsets_in_registers n then n + 5 else n
+first_line n = if nat_lt line.LS_REG n then n + 5 else n
 
 abbrev pub line_count : ℕ → ℕ
-line_count n = if n == offsets_in_registers then 6 else 1
+line_count n = if n == line.LS_REG then 6 else 1

@@ -1,26 +1,29 @@
 //! A64 instructions printed.
 #![tactic(auto)]
 
-mod lines;
-
 ghost use Rattle.std.specs.Prelude.{◌≡◌, ◌<◌, ◌≤◌};
+ghost use Rattle.a64_insn.specs.declared.lines.TheConstants as line;
 ghost use Rattle.a64_texts.specs.Law.{text_of_form};
+ghost use Rattle.a64_texts.specs.declared.lines.TheConstants as text_line;
 ghost use Rattle.dis_a64.specs.Lines.{first_line, line_count};
 
-use a64_insn::A64;
+use a64_insn::{A64, line_number, lines};
 use a64_rows::encode_a64;
 use a64_texts::A64Texts;
 use arrayvec::ArrayString;
-use lines::line_number;
 use text_print::print_word;
 
 /// The first of the lines of patterns that a line of the table has.
 fn first_line(number: u8) -> u8
-    requires { number < 41 }
+    requires { number < line.LINES }
     ensures value { result ≡ first_line number }
-    ensures small { result < 46 }
+    ensures small { result < text_line.ALIASES }
 {
-    if number > 33 { number + 5 } else { number }
+    if number > lines::LS_REG {
+        number + 5
+    } else {
+        number
+    }
 }
 
 /// How many they are: one, but for offsets in registers, which have six.
@@ -28,7 +31,7 @@ fn line_count(number: u8) -> u8
     ensures value { result ≡ line_count number }
     ensures small { result ≤ 6 }
 {
-    if number == 33 { 6 } else { 1 }
+    if number == lines::LS_REG { 6 } else { 1 }
 }
 
 /// Puts the text of an instruction that stands at pc in place of `out`.

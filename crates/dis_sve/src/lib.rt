@@ -1,14 +1,12 @@
 //! SVE instructions printed.
 #![tactic(auto)]
 
-mod lines;
-
 ghost use Rattle.std.specs.Prelude.{◌≡◌};
 ghost use Rattle.sve_texts.specs.Law.{text_of_form};
 
 use arrayvec::ArrayString;
-use lines::line_number;
 use sve_insn::Sve;
+use sve_insn::lines::line_number;
 use sve_rows::encode_sve;
 use sve_texts::SveTexts;
 use text_print::print_word;

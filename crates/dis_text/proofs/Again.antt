@@ -12,19 +12,14 @@ use Rattle.text_model.specs.Text.{chosen}
 use Rattle.text_model.specs.Aim.{Reach, reach_of, reach_bits, reached, aimed}
 use Rattle.a64_insn.specs.declared.form.A64Form.{A64Form}
 use Rattle.a64_insn.specs.declared.form.A64Form.TheVariants.{Adr, Branch, BranchCond, Compare, Test, LsLiteral}
-use Rattle.a64_insn.specs.Table.{row_of, a64_table}
-use Rattle.a64_insn.specs.Data.{adr, add_imm, logic_imm, move_wide, bitfield, extract, logic_reg, add_reg, add_ext, add_carry, cond_reg, cond_imm, select, mul_add, mul_long, mul_high, two_source, one_source, rev}
-use Rattle.a64_insn.specs.Flow.{branch, branch_cond, compare, test_branch, branch_reg, except, hint, barrier, read_sys, write_sys}
-use Rattle.a64_insn.specs.Memory.{ls_unsigned, ls_unscaled, ls_post, ls_pre, ls_reg, ls_literal, pair, store_ex, load_ex, ordered}
-use Rattle.a64_insn.specs.BitMoves.{f_move, move_imm}
-use Rattle.a64_texts.specs.Data.{adr_texts, add_imm_texts, logic_imm_texts, move_wide_texts, bitfield_texts, extract_texts, logic_reg_texts, add_reg_texts, add_ext_texts, add_carry_texts, cond_reg_texts, cond_imm_texts, select_texts, mul_add_texts, mul_long_texts, mul_high_texts, two_source_texts, one_source_texts, rev_texts}
-use Rattle.a64_texts.specs.Flow.{branch_texts, branch_cond_texts, compare_texts, test_texts, branch_reg_texts, except_texts, hint_texts, barrier_texts, read_sys_texts, write_sys_texts}
-use Rattle.a64_texts.specs.Memory.{ls_unsigned_texts, ls_unscaled_texts, ls_post_texts, ls_pre_texts, ls_reg_texts, ls_reg_lines, ls_literal_texts, pair_texts, store_ex_texts, load_ex_texts, ordered_texts}
-use Rattle.a64_texts.specs.BitMoves.{f_move_texts, move_imm_texts}
+use Rattle.a64_insn.specs.Table.{row_of, a64_table, line_number}
+use Rattle.a64_insn.specs.Data.{adr}
+use Rattle.a64_insn.specs.Flow.{branch, branch_cond, compare, test_branch}
+use Rattle.a64_insn.specs.Memory.{ls_literal}
 use Rattle.a64_insn.specs.Memory.{ls_literal_holds_for}
-use Rattle.a64_rows.specs.Lines.{line_number}
+use Rattle.a64_insn.specs.declared.lines.TheConstants as line
 use Rattle.a64_rows.proofs.Laws.{one_row, form_back, word_again}
-use Rattle.a64_texts.specs.Table.{line_texts}
+use Rattle.a64_texts.specs.Table.{line_texts, texts_open}
 use Rattle.a64_texts.specs.Law.{word_of, texts_of, reach_by, reach, unaimed_word, target_at}
 use Rattle.a64_texts.proofs.Totals.{listed, in_row, held}
 use Rattle.emu_run.specs.declared.insn.Insn.TheVariants.{A64}
@@ -101,29 +96,29 @@ outside_target (Test op b5 b40 imm14 rt) = 2 ^ 32 - 1 - 0x0007FFE0
 outside_target f = 2 ^ 32 - 1 - 0x00FFFFE0
 
 unaimed_at : (f : A64Form) → IsRow (row_of f) → may_be_aimed f ≡ true → IsUnaimed f (bit_and (word_of f) (outside_target f))
-unfolding line_texts adr_texts branch_texts branch_cond_texts compare_texts test_texts ls_literal_texts adr branch branch_cond compare test_branch ls_literal
+unfolding texts_open line_texts
 unaimed_at (Adr op immlo immhi rd) v h =
     let f : A64Form = Adr op immlo immhi rd in
     let m : ℕ = outside_target f in
     let x : ℕ = bit_and (word_of f) m in
-    some_unaimed f (Adr op (field x 29 2) (field x 5 19) (field x 0 5)) m (omega arith) (cut_row adr 0 (word_of f) m (row_of f) (listed f) (in_row f v) refl refl) refl refl
+    some_unaimed f (Adr op (field x 29 2) (field x 5 19) (field x 0 5)) m (omega arith) (cut_row adr line.ADR (word_of f) m (row_of f) (listed f) (in_row f v) refl refl) refl refl
 unaimed_at (Branch op imm26) v h =
     let f : A64Form = Branch op imm26 in
     let m : ℕ = outside_target f in
     let x : ℕ = bit_and (word_of f) m in
-    some_unaimed f (Branch op (field x 0 26)) m (omega arith) (cut_row branch 19 (word_of f) m (row_of f) (listed f) (in_row f v) refl refl) refl refl
+    some_unaimed f (Branch op (field x 0 26)) m (omega arith) (cut_row branch line.BRANCH (word_of f) m (row_of f) (listed f) (in_row f v) refl refl) refl refl
 unaimed_at (BranchCond imm19 cond') v h =
     let f : A64Form = BranchCond imm19 cond' in
     let m : ℕ = outside_target f in
     let x : ℕ = bit_and (word_of f) m in
-    some_unaimed f (BranchCond (field x 5 19) (field x 0 4)) m (omega arith) (cut_row branch_cond 20 (word_of f) m (row_of f) (listed f) (in_row f v) refl refl) refl refl
+    some_unaimed f (BranchCond (field x 5 19) (field x 0 4)) m (omega arith) (cut_row branch_cond line.BRANCH_COND (word_of f) m (row_of f) (listed f) (in_row f v) refl refl) refl refl
 unaimed_at (Compare op sf imm19 rt) v h =
     let f : A64Form = Compare op sf imm19 rt in
     let m : ℕ = outside_target f in
     let x : ℕ = bit_and (word_of f) m in
     let g : A64Form = Compare op (field x 31 1 == 1) (field x 5 19) (field x 0 5) in
     some_unaimed f g m (omega arith)
-    (cut_row compare 21 (word_of f) m (row_of f) (listed f) (in_row f v) refl refl
+    (cut_row compare line.COMPARE (word_of f) m (row_of f) (listed f) (in_row f v) refl refl
     ∙ ap (λ (y : ℕ). some_row compare (row_of f).number (y ∷ field x 5 19 ∷ field x 0 5 ∷ [])) (sym (one_bit x 31))) refl refl
 unaimed_at (Test op b5 b40 imm14 rt) v h =
     let f : A64Form = Test op b5 b40 imm14 rt in
@@ -131,7 +126,7 @@ unaimed_at (Test op b5 b40 imm14 rt) v h =
     let x : ℕ = bit_and (word_of f) m in
     let g : A64Form = Test op (field x 31 1 == 1) (field x 19 5) (field x 5 14) (field x 0 5) in
     some_unaimed f g m (omega arith)
-    (cut_row test_branch 22 (word_of f) m (row_of f) (listed f) (in_row f v) refl refl
+    (cut_row test_branch line.TEST (word_of f) m (row_of f) (listed f) (in_row f v) refl refl
     ∙ ap (λ (y : ℕ). some_row test_branch (row_of f).number (y ∷ field x 19 5 ∷ field x 5 14 ∷ field x 0 5 ∷ [])) (sym (one_bit x 31))) refl refl
 unaimed_at (LsLiteral opc v' imm19 rt) v h =
     let f : A64Form = LsLiteral opc v' imm19 rt in
@@ -140,7 +135,7 @@ unaimed_at (LsLiteral opc v' imm19 rt) v h =
     let x : ℕ = bit_and w m in
     let g : A64Form = LsLiteral (field x 30 2) (field x 26 1 == 1) (field x 5 19) (field x 0 5) in
     some_unaimed f g m (omega arith)
-    (cut_row ls_literal 34 w m (row_of f) (listed f) (in_row f v) refl
+    (cut_row ls_literal line.LS_LITERAL w m (row_of f) (listed f) (in_row f v) refl
     (ap₂ ls_literal_holds_for (sym (fixed_field w m x (31 to 30) refl refl refl)) (sym (fixed_field w m x (26 to 26) refl refl refl)) ∙ held f v)
     ∙ ap (λ (y : ℕ). some_row ls_literal (row_of f).number (field x 30 2 ∷ y ∷ field x 5 19 ∷ field x 0 5 ∷ [])) (sym (one_bit x 26))) refl refl
 unaimed_at f v h = absurd (false≢true h)
@@ -151,7 +146,7 @@ abbrev has_bits : ℕ → Pattern → Bool
 has_bits c p = reach_bits (reach_of p.slots) == c
 
 bits_of_target : (f : A64Form) → may_be_aimed f ≡ true → all_pass (has_bits (2 ^ 32 - 1 - outside_target f)) (texts_of f) ≡ true
-unfolding line_texts adr_texts branch_texts branch_cond_texts compare_texts test_texts ls_literal_texts adr branch branch_cond compare test_branch ls_literal
+unfolding texts_open line_texts
 bits_of_target (Adr op immlo immhi rd) h = refl
 bits_of_target (Branch op imm26) h = refl
 bits_of_target (BranchCond imm19 cond') h = refl
@@ -172,7 +167,7 @@ abbrev reaches_nowhere : Pattern → Bool
 reaches_nowhere p = is_nowhere (reach_of p.slots)
 
 no_target : (f : A64Form) → may_be_aimed f ≡ false → all_pass reaches_nowhere (texts_of f) ≡ true
-unfolding line_texts adr_texts add_imm_texts logic_imm_texts move_wide_texts bitfield_texts extract_texts logic_reg_texts add_reg_texts add_ext_texts add_carry_texts cond_reg_texts cond_imm_texts select_texts mul_add_texts mul_long_texts mul_high_texts two_source_texts one_source_texts rev_texts branch_texts branch_cond_texts compare_texts test_texts branch_reg_texts except_texts hint_texts barrier_texts read_sys_texts write_sys_texts ls_unsigned_texts ls_unscaled_texts ls_post_texts ls_pre_texts ls_reg_texts ls_reg_lines ls_literal_texts pair_texts store_ex_texts load_ex_texts ordered_texts f_move_texts move_imm_texts adr add_imm logic_imm move_wide bitfield extract logic_reg add_reg add_ext add_carry cond_reg cond_imm select mul_add mul_long mul_high two_source one_source rev branch branch_cond compare test_branch branch_reg except hint barrier read_sys write_sys ls_unsigned ls_unscaled ls_post ls_pre ls_reg ls_literal pair store_ex load_ex ordered f_move move_imm
+unfolding texts_open line_texts
 no_target (Adr op immlo immhi rd) h = absurd (true≢false h)
 no_target (Branch op imm26) h = absurd (true≢false h)
 no_target (BranchCond imm19 cond') h = absurd (true≢false h)

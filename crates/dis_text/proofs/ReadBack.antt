@@ -22,7 +22,6 @@ use Rattle.a64_texts.proofs.Legible as base_checked
 use Rattle.a64_texts.proofs.ReadBack as base_back
 use Rattle.sve_insn.specs.declared.form.SveForm.{SveForm}
 use Rattle.sve_insn.specs.Table as vector_table
-use Rattle.sve_insn.specs.Lines as vector_lines
 use Rattle.sve_rows.proofs.Laws as vector_laws
 use Rattle.sve_rows.proofs.Listed as vector_listed
 use Rattle.sve_rows.proofs.Alone as vector_alone
@@ -42,7 +41,7 @@ use Rattle.listing_model.specs.declared.line.Body.TheVariants.{Plain, Aimed}
 use Rattle.insn_texts.specs.Statements.{with_target, target_of, made, either, reads, statements}
 use Rattle.insn_texts.specs.Texts.{is_canonical}
 use Rattle.dis_text.specs.ReadBack.{IsInstruction, IsReadBack}
-use Rattle.a64_rows.specs.Lines.{line_number}
+use Rattle.a64_insn.specs.Table.{line_number}
 use Rattle.dis_a64.specs.Lines.{first_line, line_count}
 use Rattle.dis_a64.proofs.Rooms as base_room
 use Rattle.dis_sve.proofs.Rooms as vector_room
@@ -130,10 +129,10 @@ base_read_back f pc v c h =
 -- ---- the SVE lines
 
 vector_room_is : (f : SveForm) → all_have_room (vectors.texts_of f) ≡ true
-vector_room_is f = vector_room.line_has_room (vector_lines.line_number f)
+vector_room_is f = vector_room.line_has_room (vector_table.line_number f)
 
 vector_sound_is : (f : SveForm) → all_sound (vectors.texts_of f) ≡ true
-vector_sound_is f = line_sound sve_lines (vector_lines.line_number f) vector_checked.lines_sound
+vector_sound_is f = line_sound sve_lines (vector_table.line_number f) vector_checked.lines_sound
 
 abbrev vector_statement_of : SveForm → Statement
 vector_statement_of f = record { word = vectors.word_of f; target = None }
@@ -145,7 +144,7 @@ only_vectors name ts s (Ok b) e h = absurd (none_by_both base.in_table vectors.i
 only_vectors name ts s (Err g) e h = ap₂ either e h
 
 own_vector : (f : SveForm) → IsRow (vector_table.row_of f) → instruction vector_table.sve_table (vectors.word_of f) ≡ Some f
-own_vector f v = vector_laws.form_back f (vectors.word_of f) (decode_encoded vector_table.sve_table (vector_lines.line_number f) (vector_table.row_of f) vector_alone.sound vector_alone.alone (vector_listed.listed f) v)
+own_vector f v = vector_laws.form_back f (vectors.word_of f) (decode_encoded vector_table.sve_table (vector_table.line_number f) (vector_table.row_of f) vector_alone.sound vector_alone.alone (vector_listed.listed f) v)
 
 module _ (f : SveForm) (pc : ℕ) (v : IsRow (vector_table.row_of f)) (law : vectors.IsReadBack f) (p : Pattern) (c : chosen (vectors.texts_of f) (vectors.word_of f) ≡ Some p) where
   vector_again : IsReadBack (Sve f) pc

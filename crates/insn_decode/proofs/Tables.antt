@@ -1,21 +1,13 @@
 -- Bits 28 to 27 tell the two tables apart.
+use Rattle.sve_insn.specs.Table.{lines_open, sve_table}
 use Rattle.std.proofs.Common.{◌≡◌, ℕ, zero, suc, ◌⊎◌, inl, inr, refl, [], ◌∷◌, Option, Some, None, sym, ap, ◌∙◌, arith}
 use Rattle.emu_bits.specs.Fields.{field}
 use Rattle.emu_bits.specs.Rows.{◌to◌, Row, OneRow, decode as decode_in, formed, instruction}
 use Rattle.emu_bits.proofs.Computed.{IsNoneOf}
 use Rattle.emu_bits.proofs.Encoding.{narrow_field, narrow_others}
 use Rattle.a64_insn.specs.declared.form.A64Form.{A64Form}
-use Rattle.a64_insn.specs.Table.{a64_table}
-use Rattle.a64_insn.specs.Data.{adr, add_imm, logic_imm, move_wide, bitfield, extract, logic_reg, add_reg, add_ext, add_carry, cond_reg, cond_imm, select, mul_add, mul_long, mul_high, two_source, one_source, rev}
-use Rattle.a64_insn.specs.Flow.{branch, branch_cond, compare, test_branch, branch_reg, except, hint, barrier, read_sys, write_sys}
-use Rattle.a64_insn.specs.Memory.{ls_unsigned, ls_unscaled, ls_post, ls_pre, ls_reg, ls_literal, pair, store_ex, load_ex, ordered}
-use Rattle.a64_insn.specs.BitMoves.{f_move, move_imm}
+use Rattle.a64_insn.specs.Table.{a64_table, lines_open as a64_lines_open}
 use Rattle.sve_insn.specs.declared.form.SveForm.{SveForm}
-use Rattle.sve_insn.specs.Table.{sve_table, memory_lines, data_lines, move_lines, predicate_lines}
-use Rattle.sve_insn.specs.Lanes.{binary, binary_wide, shift_imm, unary, mul_add_z, mul_add_d, plain, logic_z, plain_wide, plain_shift, index_z, dot, dot_indexed, wide_imm, min_max_imm, dup_imm, bitmask_z, copy_imm, prefix_p, prefix, select_z}
-use Rattle.sve_insn.specs.Folds.{reduce, count_elements, inc_x, inc_z, sat_x, sat_z, add_length, read_length, dup_reg, dup_lane, insert_scalar, rev_z, unpack, table_lookup, interleave, interleave_p, unpack_p, rev_p, compact, splice, ext, copy_reg, last_active, cond_last}
-use Rattle.sve_insn.specs.Predicates.{cmp_vec, cmp_wide, cmp_u_imm, cmp_s_imm, logic_p, select_p, break_first, break_pair, break_next, ptest, first_active, next_active, ptrue, pfalse, read_ffr, read_ffr_all, write_ffr, count_p, inc_p, inc_p_z, while_compare, cterm}
-use Rattle.sve_insn.specs.Memory.{load_imm, load_reg, load_ff, load_nf, load_nt_imm, load_nt_reg, load_quad_imm, load_quad_reg, load_many_imm, load_many_reg, load_one, load_z, load_p, store_imm, store_reg, store_nt_imm, store_nt_reg, store_many_imm, store_many_reg, store_z, store_p, gather_sx, gather_sx_scaled, gather_dx, gather_dx_scaled, gather_d, gather_d_scaled, gather_sv, gather_dv, scatter_sx, scatter_sx_scaled, scatter_dx, scatter_dx_scaled, scatter_d, scatter_d_scaled, scatter_sv, scatter_dv}
 use Rattle.emu_run.specs.declared.insn.Insn.{Insn}
 use Rattle.emu_run.specs.declared.insn.Insn.TheVariants.{A64, Sve}
 use Rattle.emu_run.specs.Step.{a64, sve, first_of, decode}
@@ -24,11 +16,11 @@ use Rattle.insn_decode.specs.OneRow.{OneRowOfAll}
 -- ---- which table a word may be in
 
 no_a64 : (w : ℕ) → field w 27 2 ≡ 0 → decode_in a64_table w ≡ None
-unfolding a64_table adr add_imm logic_imm move_wide bitfield extract logic_reg add_reg add_ext add_carry cond_reg cond_imm select mul_add mul_long mul_high two_source one_source rev branch branch_cond compare test_branch branch_reg except hint barrier read_sys write_sys ls_unsigned ls_unscaled ls_post ls_pre ls_reg ls_literal pair store_ex load_ex ordered f_move move_imm
+unfolding a64_lines_open a64_table
 no_a64 w e = narrow_field (28 to 27) 0 a64_table w refl e
 
 no_sve : (w : ℕ) → IsNoneOf (field w 27 2) (0 ∷ []) → decode_in sve_table w ≡ None
-unfolding sve_table memory_lines data_lines move_lines predicate_lines binary binary_wide shift_imm unary mul_add_z mul_add_d plain logic_z plain_wide plain_shift index_z dot dot_indexed wide_imm min_max_imm dup_imm bitmask_z copy_imm prefix_p prefix select_z reduce count_elements inc_x inc_z sat_x sat_z add_length read_length dup_reg dup_lane insert_scalar rev_z unpack table_lookup interleave interleave_p unpack_p rev_p compact splice ext copy_reg last_active cond_last cmp_vec cmp_wide cmp_u_imm cmp_s_imm logic_p select_p break_first break_pair break_next ptest first_active next_active ptrue pfalse read_ffr read_ffr_all write_ffr count_p inc_p inc_p_z while_compare cterm load_imm load_reg load_ff load_nf load_nt_imm load_nt_reg load_quad_imm load_quad_reg load_many_imm load_many_reg load_one load_z load_p store_imm store_reg store_nt_imm store_nt_reg store_many_imm store_many_reg store_z store_p gather_sx gather_sx_scaled gather_dx gather_dx_scaled gather_d gather_d_scaled gather_sv gather_dv scatter_sx scatter_sx_scaled scatter_dx scatter_dx_scaled scatter_d scatter_d_scaled scatter_sv scatter_dv
+unfolding lines_open
 no_sve w n = narrow_others (28 to 27) (0 ∷ []) sve_table w refl n
 
 zero_or_not : (x : ℕ) → (x ≡ 0) ⊎ IsNoneOf x (0 ∷ [])

@@ -12,7 +12,7 @@ use a64_rows::{decode_a64_at, encode_a64};
 use emu_bits::bits;
 pub use emu_run::Insn;
 use sve_insn::Sve;
-use sve_rows::{decode_sve, encode_sve};
+use sve_rows::{decode_sve_here, encode_sve};
 
 /// The instruction that a word is. None exactly where the word is in no row of a table.
 pub fn decode(w: u32) -> Option<Insn>
@@ -50,7 +50,7 @@ pub fn decode_sve_word(w: u32) -> Option<Sve>
     ensures table { model.sve result ≡ model.decode w }
     ensures back { IfSome result (λ i. word_of (Insn.Sve i) ≡ w) }
 {
-    decode_sve(w)
+    decode_sve_here(w)
 }
 
 /// The instruction of a word that isn't in a row of SVE, for one place of a program. None exactly where it is in no row of a table.

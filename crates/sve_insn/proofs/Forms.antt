@@ -1,15 +1,11 @@
 -- A form is the form of its row, and its condition is the row's.
+use Rattle.sve_insn.specs.Table.{lines_open, row_of, meets_form}
 use Rattle.std.proofs.Common.{◌≡◌, Bool, true, false, refl, ap, ◌∙◌, ◌==◌}
 use Rattle.emu_bits.specs.Fields.{bit}
 use Rattle.emu_bits.specs.Rows.{meets, form_of}
 use Rattle.sve_insn.specs.declared.form.SveForm.{SveForm}
 use Rattle.sve_insn.specs.declared.form.SveForm.TheVariants.{Binary, BinaryWide, ShiftImm, Unary, MulAddZ, MulAddD, Plain, LogicZ, PlainWide, PlainShift, Index, Dot, DotIndexed, WideImm, MinMaxImm, DupImm, BitmaskZ, CopyImm, PrefixP, Reduce, IncX, IncZ, SatX, SatZ, AddLength, Insert, Unpack, Interleave, InterleaveP, UnpackP, CopyReg, Last, CondLast, CmpVec, CmpWide, CmpUImm, CmpSImm, LogicP, Break, BreakPair, BreakNext, Ptrue, ReadFfr, WriteFfr, IncP, IncPZ, While, Cterm, LoadManyImm, LoadManyReg, StoreManyImm, StoreManyReg, GatherSx, GatherSxScaled, GatherDx, GatherDxScaled, GatherD, GatherDScaled, GatherSv, GatherDv, ScatterSx, ScatterSxScaled, ScatterDx, ScatterDxScaled}
-use Rattle.sve_insn.specs.Table.{row_of, meets_form}
 use Rattle.sve_insn.specs.Names.{add_length_named, add_length_number, binary_named, binary_number, bitmask_z_named, bitmask_z_number, break_named, break_number, break_pair_named, break_pair_number, cmp_s_imm_named, cmp_s_imm_number, cmp_u_imm_named, cmp_u_imm_number, cmp_vec_named, cmp_vec_number, cmp_wide_named, cmp_wide_number, cond_last_named, cond_last_number, copy_reg_named, copy_reg_number, cterm_named, cterm_number, dot_named, dot_number, dot_indexed_named, dot_indexed_number, inc_named, inc_number, inc_p_named, inc_p_number, index_named, index_number, insert_named, insert_number, interleave_named, interleave_number, last_named, last_number, load_many_named, load_many_number, logic_p_named, logic_p_number, logic_z_named, logic_z_number, min_max_imm_named, min_max_imm_number, mul_add_d_named, mul_add_d_number, mul_add_z_named, mul_add_z_number, plain_named, plain_number, ptrue_named, ptrue_number, read_ffr_named, read_ffr_number, reduce_named, reduce_number, sat_named, sat_number, shift_named, shift_number, shift_imm_named, shift_imm_number, store_many_named, store_many_number, unary_named, unary_number, unpack_named, unpack_number, unpack_p_named, unpack_p_number, while_named, while_number, wide_imm_named, wide_imm_number, write_ffr_named, write_ffr_number}
-use Rattle.sve_insn.specs.Lanes.{binary, binary_wide, shift_imm, unary, mul_add_z, mul_add_d, plain, logic_z, plain_wide, plain_shift, index_z, dot, dot_indexed, wide_imm, min_max_imm, dup_imm, bitmask_z, copy_imm, prefix_p, prefix, select_z}
-use Rattle.sve_insn.specs.Folds.{reduce, count_elements, inc_x, inc_z, sat_x, sat_z, add_length, read_length, dup_reg, dup_lane, insert_scalar, rev_z, unpack, table_lookup, interleave, interleave_p, unpack_p, rev_p, compact, splice, ext, copy_reg, last_active, cond_last}
-use Rattle.sve_insn.specs.Predicates.{cmp_vec, cmp_wide, cmp_u_imm, cmp_s_imm, logic_p, select_p, break_first, break_pair, break_next, ptest, first_active, next_active, ptrue, pfalse, read_ffr, read_ffr_all, write_ffr, count_p, inc_p, inc_p_z, while_compare, cterm}
-use Rattle.sve_insn.specs.Memory.{load_imm, load_reg, load_ff, load_nf, load_nt_imm, load_nt_reg, load_quad_imm, load_quad_reg, load_many_imm, load_many_reg, load_one, load_z, load_p, store_imm, store_reg, store_nt_imm, store_nt_reg, store_many_imm, store_many_reg, store_z, store_p, gather_sx, gather_sx_scaled, gather_dx, gather_dx_scaled, gather_d, gather_d_scaled, gather_sv, gather_dv, scatter_sx, scatter_sx_scaled, scatter_dx, scatter_dx_scaled, scatter_d, scatter_d_scaled, scatter_sv, scatter_dv}
 use Rattle.sve_insn.specs.declared.ops.BinaryOp.{BinaryOp}
 use Rattle.sve_insn.specs.declared.ops.BinaryOp.TheVariants as binary_names
 use Rattle.sve_insn.specs.declared.ops.ShiftOp.{ShiftOp}
@@ -92,7 +88,7 @@ use Rattle.sve_insn.specs.declared.ops.StoreManyOp.{StoreManyOp}
 use Rattle.sve_insn.specs.declared.ops.StoreManyOp.TheVariants as store_many_names
 
 pub same_condition : (f : SveForm) → meets (row_of f) ≡ meets_form f
-unfolding binary binary_wide shift_imm unary mul_add_z mul_add_d plain logic_z plain_wide plain_shift index_z dot dot_indexed wide_imm min_max_imm dup_imm bitmask_z copy_imm prefix_p prefix select_z reduce count_elements inc_x inc_z sat_x sat_z add_length read_length dup_reg dup_lane insert_scalar rev_z unpack table_lookup interleave interleave_p unpack_p rev_p compact splice ext copy_reg last_active cond_last cmp_vec cmp_wide cmp_u_imm cmp_s_imm logic_p select_p break_first break_pair break_next ptest first_active next_active ptrue pfalse read_ffr read_ffr_all write_ffr count_p inc_p inc_p_z while_compare cterm load_imm load_reg load_ff load_nf load_nt_imm load_nt_reg load_quad_imm load_quad_reg load_many_imm load_many_reg load_one load_z load_p store_imm store_reg store_nt_imm store_nt_reg store_many_imm store_many_reg store_z store_p gather_sx gather_sx_scaled gather_dx gather_dx_scaled gather_d gather_d_scaled gather_sv gather_dv scatter_sx scatter_sx_scaled scatter_dx scatter_dx_scaled scatter_d scatter_d_scaled scatter_sv scatter_dv
+unfolding lines_open
 same_condition (Binary op size pg zm zdn) = refl
 same_condition _ = refl
 
@@ -261,7 +257,7 @@ store_many_named_again store_many_names.St2 = refl
 store_many_named_again _ = refl
 
 pub form_again : (f : SveForm) → form_of (row_of f) ≡ f
-unfolding binary binary_wide shift_imm unary mul_add_z mul_add_d plain logic_z plain_wide plain_shift index_z dot dot_indexed wide_imm min_max_imm dup_imm bitmask_z copy_imm prefix_p prefix select_z reduce count_elements inc_x inc_z sat_x sat_z add_length read_length dup_reg dup_lane insert_scalar rev_z unpack table_lookup interleave interleave_p unpack_p rev_p compact splice ext copy_reg last_active cond_last cmp_vec cmp_wide cmp_u_imm cmp_s_imm logic_p select_p break_first break_pair break_next ptest first_active next_active ptrue pfalse read_ffr read_ffr_all write_ffr count_p inc_p inc_p_z while_compare cterm load_imm load_reg load_ff load_nf load_nt_imm load_nt_reg load_quad_imm load_quad_reg load_many_imm load_many_reg load_one load_z load_p store_imm store_reg store_nt_imm store_nt_reg store_many_imm store_many_reg store_z store_p gather_sx gather_sx_scaled gather_dx gather_dx_scaled gather_d gather_d_scaled gather_sv gather_dv scatter_sx scatter_sx_scaled scatter_dx scatter_dx_scaled scatter_d scatter_d_scaled scatter_sv scatter_dv
+unfolding lines_open
 form_again (Binary op size pg zm zdn) = ap (λ (z : BinaryOp). Binary z size pg zm zdn) (binary_named_again op)
 form_again (BinaryWide op size pg zm zdn) = ap (λ (z : ShiftOp). BinaryWide z size pg zm zdn) (shift_named_again op)
 form_again (ShiftImm op tszh pg tszl imm3 zdn) = ap (λ (z : ShiftImmOp). ShiftImm z tszh pg tszl imm3 zdn) (shift_imm_named_again op)

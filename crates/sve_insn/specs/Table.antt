@@ -1,9 +1,10 @@
 -- The table of SVE instructions, and which row a form is.
-use Rattle.std.specs.Prelude.{Bool, true, List, [], ◌∷◌, ◌++◌}
+use Rattle.std.specs.Prelude.{ℕ, Bool, true, List, [], ◌∷◌, ◌++◌}
 use Rattle.emu_bits.specs.Fields.{bit}
 use Rattle.emu_bits.specs.Rows.{Line, Row}
 use Rattle.sve_insn.specs.declared.form.SveForm.{SveForm}
 use Rattle.sve_insn.specs.declared.form.SveForm.TheVariants.{Binary, BinaryWide, ShiftImm, Unary, MulAddZ, MulAddD, Plain, LogicZ, PlainWide, PlainShift, Index, Dot, DotIndexed, WideImm, MinMaxImm, DupImm, BitmaskZ, CopyImm, PrefixP, Prefix, SelectZ, Reduce, Count, IncX, IncZ, SatX, SatZ, AddLength, ReadLength, DupReg, DupLane, Insert, RevZ, Unpack, Table, Interleave, InterleaveP, UnpackP, RevP, Compact, Splice, Ext, CopyReg, Last, CondLast, CmpVec, CmpWide, CmpUImm, CmpSImm, LogicP, SelectP, Break, BreakPair, BreakNext, Ptest, First, Next, Ptrue, Pfalse, ReadFfr, ReadFfrAll, WriteFfr, CountP, IncP, IncPZ, While, Cterm, LoadImm, LoadReg, LoadFf, LoadNf, LoadNtImm, LoadNtReg, LoadQuadImm, LoadQuadReg, LoadManyImm, LoadManyReg, LoadOne, LoadZ, LoadP, StoreImm, StoreReg, StoreNtImm, StoreNtReg, StoreManyImm, StoreManyReg, StoreZ, StoreP, GatherSx, GatherSxScaled, GatherDx, GatherDxScaled, GatherD, GatherDScaled, GatherSv, GatherDv, ScatterSx, ScatterSxScaled, ScatterDx, ScatterDxScaled, ScatterD, ScatterDScaled, ScatterSv, ScatterDv}
+use Rattle.sve_insn.specs.declared.lines.TheConstants as numbers
 use Rattle.sve_insn.specs.Names.{add_length_number, binary_number, bitmask_z_number, break_number, break_pair_number, cmp_s_imm_number, cmp_u_imm_number, cmp_vec_number, cmp_wide_number, cond_last_number, copy_reg_number, cterm_number, dot_number, dot_indexed_number, inc_number, inc_p_number, index_number, insert_number, interleave_number, last_number, load_many_number, logic_p_number, logic_z_number, min_max_imm_number, mul_add_d_number, mul_add_z_number, plain_number, ptrue_number, read_ffr_number, reduce_number, sat_number, shift_number, shift_imm_number, store_many_number, unary_number, unpack_number, unpack_p_number, while_number, wide_imm_number, write_ffr_number}
 use Rattle.sve_insn.specs.Conditions.{is_no_byte, is_no_doubleword, is_word_or_doubleword, is_halfword_or_word, binary_holds_for, has_tsz, unary_holds_for, shifts_no_byte, has_bitmask, reduce_holds_for, has_lane_size, break_first_holds_for, write_ffr_holds_for, is_register, fits_lane, store_reg_holds_for, extends_to_doubleword, gather_word_holds_for, gather_scaled_word_holds_for, gather_scaled_doubleword_holds_for}
 use Rattle.sve_insn.specs.Lanes.{binary, binary_wide, shift_imm, unary, mul_add_z, mul_add_d, plain, logic_z, plain_wide, plain_shift, index_z, dot, dot_indexed, wide_imm, min_max_imm, dup_imm, bitmask_z, copy_imm, prefix_p, prefix, select_z}
@@ -194,3 +195,133 @@ meets_form (DupImm size sh imm8 zd) = shifts_no_byte size (bit sh)
 meets_form (BitmaskZ op n immr imms zdn) = has_bitmask (bit n) immr imms
 meets_form (CopyImm size pg m sh imm8 zd) = shifts_no_byte size (bit sh)
 meets_form f = meets_folds f
+
+-- the place of a form's line in the table
+abbrev pub line_number : SveForm → ℕ
+line_number (LoadZ imm9h imm9l rn zt) = numbers.LOAD_Z
+line_number (LoadP imm9h imm9l rn pt) = numbers.LOAD_P
+line_number (StoreZ imm9h imm9l rn zt) = numbers.STORE_Z
+line_number (GatherSx msz xs zm u ff pg rn zt) = numbers.GATHER_SX
+line_number (GatherSxScaled msz xs zm u ff pg rn zt) = numbers.GATHER_SX_SCALED
+line_number (StoreReg msz size rm pg rn zt) = numbers.STORE_REG
+line_number (LoadImm dtype imm4 pg rn zt) = numbers.LOAD_IMM
+line_number (LoadReg dtype rm pg rn zt) = numbers.LOAD_REG
+line_number (LoadFf dtype rm pg rn zt) = numbers.LOAD_FF
+line_number (LoadNf dtype imm4 pg rn zt) = numbers.LOAD_NF
+line_number (LoadNtImm msz imm4 pg rn zt) = numbers.LOAD_NT_IMM
+line_number (LoadNtReg msz rm pg rn zt) = numbers.LOAD_NT_REG
+line_number (LoadQuadImm msz imm4 pg rn zt) = numbers.LOAD_QUAD_IMM
+line_number (LoadQuadReg msz rm pg rn zt) = numbers.LOAD_QUAD_REG
+line_number (LoadManyImm op msz imm4 pg rn zt) = numbers.LOAD_MANY_IMM
+line_number (LoadManyReg op msz rm pg rn zt) = numbers.LOAD_MANY_REG
+line_number (LoadOne dtypeh imm6 dtypel pg rn zt) = numbers.LOAD_ONE
+line_number (StoreImm msz size imm4 pg rn zt) = numbers.STORE_IMM
+line_number (StoreNtImm msz imm4 pg rn zt) = numbers.STORE_NT_IMM
+line_number (StoreNtReg msz rm pg rn zt) = numbers.STORE_NT_REG
+line_number (StoreManyImm op msz imm4 pg rn zt) = numbers.STORE_MANY_IMM
+line_number (StoreManyReg op msz rm pg rn zt) = numbers.STORE_MANY_REG
+line_number (StoreP imm9h imm9l rn pt) = numbers.STORE_P
+line_number (GatherDx msz xs zm u ff pg rn zt) = numbers.GATHER_DX
+line_number (GatherDxScaled msz xs zm u ff pg rn zt) = numbers.GATHER_DX_SCALED
+line_number (GatherD msz zm u ff pg rn zt) = numbers.GATHER_D
+line_number (GatherDScaled msz zm u ff pg rn zt) = numbers.GATHER_D_SCALED
+line_number (GatherSv msz imm5 u ff pg zn zt) = numbers.GATHER_SV
+line_number (GatherDv msz imm5 u ff pg zn zt) = numbers.GATHER_DV
+line_number (ScatterSx msz zm xs pg rn zt) = numbers.SCATTER_SX
+line_number (ScatterSxScaled msz zm xs pg rn zt) = numbers.SCATTER_SX_SCALED
+line_number (ScatterDx msz zm xs pg rn zt) = numbers.SCATTER_DX
+line_number (ScatterDxScaled msz zm xs pg rn zt) = numbers.SCATTER_DX_SCALED
+line_number (ScatterD msz zm pg rn zt) = numbers.SCATTER_D
+line_number (ScatterDScaled msz zm pg rn zt) = numbers.SCATTER_D_SCALED
+line_number (ScatterSv msz imm5 pg zn zt) = numbers.SCATTER_SV
+line_number (ScatterDv msz imm5 pg zn zt) = numbers.SCATTER_DV
+line_number (Binary op size pg zm zdn) = numbers.BINARY
+line_number (BinaryWide op size pg zm zdn) = numbers.BINARY_WIDE
+line_number (ShiftImm op tszh pg tszl imm3 zdn) = numbers.SHIFT_IMM
+line_number (Unary op size pg zn zd) = numbers.UNARY
+line_number (MulAddZ op size zm pg zn zda) = numbers.MUL_ADD_Z
+line_number (MulAddD op size zm pg za zdn) = numbers.MUL_ADD_D
+line_number (Plain op size zm zn zd) = numbers.PLAIN
+line_number (LogicZ op zm zn zd) = numbers.LOGIC_Z
+line_number (PlainWide op size zm zn zd) = numbers.PLAIN_WIDE
+line_number (PlainShift op tszh tszl imm3 zn zd) = numbers.PLAIN_SHIFT
+line_number (Index op size y x zd) = numbers.INDEX
+line_number (PrefixP size m pg zn zd) = numbers.PREFIX_P
+line_number (Prefix zn zd) = numbers.PREFIX
+line_number (Dot op size zm zn zda) = numbers.DOT
+line_number (DotIndexed op i_zm zn zda) = numbers.DOT_INDEXED
+line_number (Reduce op size pg zn vd) = numbers.REDUCE
+line_number (Count size imm4 pattern rd) = numbers.COUNT
+line_number (IncX op size imm4 pattern rdn) = numbers.INC_X
+line_number (IncZ op size imm4 pattern zdn) = numbers.INC_Z
+line_number (SatX op size sf imm4 pattern rdn) = numbers.SAT_X
+line_number (SatZ op size imm4 pattern zdn) = numbers.SAT_Z
+line_number (AddLength op rn imm6 rd) = numbers.ADD_LENGTH
+line_number (ReadLength imm6 rd) = numbers.READ_LENGTH
+line_number (BitmaskZ op n immr imms zdn) = numbers.BITMASK_Z
+line_number (CopyImm size pg m sh imm8 zd) = numbers.COPY_IMM
+line_number (SelectZ size zm pg zn zd) = numbers.SELECT_Z
+line_number (DupReg size rn zd) = numbers.DUP_REG
+line_number (DupLane imm2 tsz zn zd) = numbers.DUP_LANE
+line_number (Insert op size src zdn) = numbers.INSERT
+line_number (RevZ size zn zd) = numbers.REV_Z
+line_number (Unpack op size zn zd) = numbers.UNPACK
+line_number (Table size zm zn zd) = numbers.TABLE
+line_number (Interleave op size zm zn zd) = numbers.INTERLEAVE
+line_number (InterleaveP op size pm pn pd) = numbers.INTERLEAVE_P
+line_number (UnpackP op pn pd) = numbers.UNPACK_P
+line_number (RevP size pn pd) = numbers.REV_P
+line_number (Compact size pg zn zd) = numbers.COMPACT
+line_number (Splice size pg zm zdn) = numbers.SPLICE
+line_number (Ext imm8h imm8l zm zdn) = numbers.EXT
+line_number (CopyReg op size pg rn zd) = numbers.COPY_REG
+line_number (Last op size pg zn rd) = numbers.LAST
+line_number (CondLast op size pg zm zdn) = numbers.COND_LAST
+line_number (CmpVec op size zm pg zn pd) = numbers.CMP_VEC
+line_number (CmpWide op size zm pg zn pd) = numbers.CMP_WIDE
+line_number (CmpUImm op size imm7 pg zn pd) = numbers.CMP_U_IMM
+line_number (CmpSImm op size imm5 pg zn pd) = numbers.CMP_S_IMM
+line_number (LogicP op s pm pg pn pd) = numbers.LOGIC_P
+line_number (SelectP pm pg pn pd) = numbers.SELECT_P
+line_number (Break op s pg pn m pd) = numbers.BREAK
+line_number (BreakPair op s pm pg pn pd) = numbers.BREAK_PAIR
+line_number (BreakNext s pg pn pdm) = numbers.BREAK_NEXT
+line_number (Ptest pg pn) = numbers.PTEST
+line_number (First pg pdn) = numbers.FIRST
+line_number (Next size pg pdn) = numbers.NEXT
+line_number (Ptrue op size pattern pd) = numbers.PTRUE
+line_number (Pfalse pd) = numbers.PFALSE
+line_number (ReadFfr op pg pd) = numbers.READ_FFR
+line_number (ReadFfrAll pd) = numbers.READ_FFR_ALL
+line_number (WriteFfr op pn) = numbers.WRITE_FFR
+line_number (CountP size pg pn rd) = numbers.COUNT_P
+line_number (IncP op size pm rdn) = numbers.INC_P
+line_number (IncPZ op size pm zdn) = numbers.INC_PZ
+line_number (While op size rm sf rn pd) = numbers.WHILE
+line_number (Cterm op sf rm rn) = numbers.CTERM
+line_number (WideImm op size sh imm8 zdn) = numbers.WIDE_IMM
+line_number (MinMaxImm op size imm8 zdn) = numbers.MIN_MAX_IMM
+line_number (DupImm size sh imm8 zd) = numbers.DUP_IMM
+
+-- ---- what opens the lines: a test over the table names the last of these, or that of a part
+
+unfoldable pub memory_lines_open : Unit {0}
+unfolding load_z load_p store_z gather_sx gather_sx_scaled store_reg load_imm load_reg load_ff load_nf load_nt_imm load_nt_reg load_quad_imm load_quad_reg load_many_imm load_many_reg load_one store_imm store_nt_imm store_nt_reg store_many_imm store_many_reg store_p gather_dx gather_dx_scaled gather_d gather_d_scaled gather_sv gather_dv scatter_sx scatter_sx_scaled scatter_dx scatter_dx_scaled scatter_d scatter_d_scaled scatter_sv scatter_dv
+memory_lines_open = tt
+
+unfoldable pub data_lines_open : Unit {0}
+unfolding binary binary_wide shift_imm unary mul_add_z mul_add_d plain logic_z plain_wide plain_shift index_z prefix_p prefix dot dot_indexed reduce count_elements inc_x inc_z sat_x sat_z add_length read_length
+data_lines_open = tt
+
+unfoldable pub move_lines_open : Unit {0}
+unfolding bitmask_z copy_imm select_z dup_reg dup_lane insert_scalar rev_z unpack table_lookup interleave interleave_p unpack_p rev_p compact splice ext copy_reg last_active cond_last
+move_lines_open = tt
+
+unfoldable pub predicate_lines_open : Unit {0}
+unfolding cmp_vec cmp_wide cmp_u_imm cmp_s_imm logic_p select_p break_first break_pair break_next ptest first_active next_active ptrue pfalse read_ffr read_ffr_all write_ffr count_p inc_p inc_p_z while_compare cterm wide_imm min_max_imm dup_imm
+predicate_lines_open = tt
+
+-- opens the table and every line of it
+unfoldable pub lines_open : Unit {0}
+unfolding sve_table memory_lines data_lines move_lines predicate_lines memory_lines_open data_lines_open move_lines_open predicate_lines_open
+lines_open = tt

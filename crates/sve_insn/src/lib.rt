@@ -5,6 +5,7 @@ mod conditions;
 pub mod fold_words;
 pub mod form;
 pub mod lane_words;
+pub mod lines;
 pub mod memory_words;
 pub mod ops;
 pub mod predicate_words;

@@ -1,30 +1,29 @@
 -- No word is in two lines. Bits outside of the fields tell all lines apart but five pairs: a load of a whole register stands where an
 -- element would have 64 bits in two gathers, and a store of a Z register where an element would be longer than its lane in a store.
 -- These differ by the lines' conditions.
-use Rattle.std.proofs.Common.{◌≡◌, ℕ, true, refl, List, [], ◌∷◌, ◌∙◌, ap, sym, not, ◌==◌, ◌||◌, ◌/◌, ◌%◌, ◌^◌, nat_le, arith}
+use Rattle.sve_insn.specs.Table.{lines_open, sve_table, memory_lines, data_lines, move_lines, predicate_lines}
+use Rattle.std.proofs.Common.{drop, ◌≡◌, ℕ, true, refl, List, [], ◌∷◌, ◌∙◌, ap, sym, not, ◌==◌, ◌||◌, ◌/◌, ◌%◌, ◌^◌, nat_le, arith}
 use lib.Pow.{shr-shr}
 use Rattle.std.proofs.lemmas.Bool.{false≢true, leb-true}
 use Rattle.emu_bits.specs.Fields.{field}
 use Rattle.emu_bits.specs.Rows.{◌to◌, Line}
 use Rattle.sve_insn.specs.declared.form.SveForm.{SveForm}
+use Rattle.sve_insn.specs.declared.lines.TheConstants.{LOAD_IMM}
 use Rattle.emu_bits.proofs.Computed.{are_sound, are_alone}
 use Rattle.emu_bits.proofs.Encoding.{both, test_apart, and_apart, all_apart, apart_by, fixed_field, Apart, AllApart, one_more, alone_of, Alone}
-use Rattle.sve_insn.specs.Table.{sve_table, memory_lines, data_lines, move_lines, predicate_lines}
 use Rattle.sve_insn.specs.Conditions.{is_no_doubleword, is_halfword_or_word, gather_word_holds_for, gather_scaled_word_holds_for, fits_lane, store_reg_holds_for}
-use Rattle.sve_insn.specs.Lanes.{binary, binary_wide, shift_imm, unary, mul_add_z, mul_add_d, plain, logic_z, plain_wide, plain_shift, index_z, dot, dot_indexed, wide_imm, min_max_imm, dup_imm, bitmask_z, copy_imm, prefix_p, prefix, select_z}
-use Rattle.sve_insn.specs.Folds.{reduce, count_elements, inc_x, inc_z, sat_x, sat_z, add_length, read_length, dup_reg, dup_lane, insert_scalar, rev_z, unpack, table_lookup, interleave, interleave_p, unpack_p, rev_p, compact, splice, ext, copy_reg, last_active, cond_last}
-use Rattle.sve_insn.specs.Predicates.{cmp_vec, cmp_wide, cmp_u_imm, cmp_s_imm, logic_p, select_p, break_first, break_pair, break_next, ptest, first_active, next_active, ptrue, pfalse, read_ffr, read_ffr_all, write_ffr, count_p, inc_p, inc_p_z, while_compare, cterm}
-use Rattle.sve_insn.specs.Memory.{load_imm, load_reg, load_ff, load_nf, load_nt_imm, load_nt_reg, load_quad_imm, load_quad_reg, load_many_imm, load_many_reg, load_one, load_z, load_p, store_imm, store_reg, store_nt_imm, store_nt_reg, store_many_imm, store_many_reg, store_z, store_p, gather_sx, gather_sx_scaled, gather_dx, gather_dx_scaled, gather_d, gather_d_scaled, gather_sv, gather_dv, scatter_sx, scatter_sx_scaled, scatter_dx, scatter_dx_scaled, scatter_d, scatter_d_scaled, scatter_sv, scatter_dv}
+use Rattle.sve_insn.specs.Memory.{load_z, load_p, store_reg, store_z, gather_sx, gather_sx_scaled}
 
 -- The table without its first three lines, and without the next three too.
 abbrev other_lines : List (Line SveForm)
-other_lines = load_imm ∷ load_reg ∷ load_ff ∷ load_nf ∷ load_nt_imm ∷ load_nt_reg ∷ load_quad_imm ∷ load_quad_reg ∷ load_many_imm ∷ load_many_reg ∷ load_one ∷ store_imm ∷ store_nt_imm ∷ store_nt_reg ∷ store_many_imm ∷ store_many_reg ∷ store_p ∷ gather_dx ∷ gather_dx_scaled ∷ gather_d ∷ gather_d_scaled ∷ gather_sv ∷ gather_dv ∷ scatter_sx ∷ scatter_sx_scaled ∷ scatter_dx ∷ scatter_dx_scaled ∷ scatter_d ∷ scatter_d_scaled ∷ scatter_sv ∷ scatter_dv ∷ binary ∷ binary_wide ∷ shift_imm ∷ unary ∷ mul_add_z ∷ mul_add_d ∷ plain ∷ logic_z ∷ plain_wide ∷ plain_shift ∷ index_z ∷ prefix_p ∷ prefix ∷ dot ∷ dot_indexed ∷ reduce ∷ count_elements ∷ inc_x ∷ inc_z ∷ sat_x ∷ sat_z ∷ add_length ∷ read_length ∷ bitmask_z ∷ copy_imm ∷ select_z ∷ dup_reg ∷ dup_lane ∷ insert_scalar ∷ rev_z ∷ unpack ∷ table_lookup ∷ interleave ∷ interleave_p ∷ unpack_p ∷ rev_p ∷ compact ∷ splice ∷ ext ∷ copy_reg ∷ last_active ∷ cond_last ∷ cmp_vec ∷ cmp_wide ∷ cmp_u_imm ∷ cmp_s_imm ∷ logic_p ∷ select_p ∷ break_first ∷ break_pair ∷ break_next ∷ ptest ∷ first_active ∷ next_active ∷ ptrue ∷ pfalse ∷ read_ffr ∷ read_ffr_all ∷ write_ffr ∷ count_p ∷ inc_p ∷ inc_p_z ∷ while_compare ∷ cterm ∷ wide_imm ∷ min_max_imm ∷ dup_imm ∷ []
+unfolding sve_table memory_lines data_lines move_lines predicate_lines
+other_lines = drop LOAD_IMM sve_table
 
 abbrev later_lines : List (Line SveForm)
 later_lines = gather_sx ∷ gather_sx_scaled ∷ store_reg ∷ other_lines
 
 pub sound : are_sound sve_table ≡ true
-unfolding sve_table memory_lines data_lines move_lines predicate_lines load_z load_p store_z gather_sx gather_sx_scaled store_reg load_imm load_reg load_ff load_nf load_nt_imm load_nt_reg load_quad_imm load_quad_reg load_many_imm load_many_reg load_one store_imm store_nt_imm store_nt_reg store_many_imm store_many_reg store_p gather_dx gather_dx_scaled gather_d gather_d_scaled gather_sv gather_dv scatter_sx scatter_sx_scaled scatter_dx scatter_dx_scaled scatter_d scatter_d_scaled scatter_sv scatter_dv binary binary_wide shift_imm unary mul_add_z mul_add_d plain logic_z plain_wide plain_shift index_z prefix_p prefix dot dot_indexed reduce count_elements inc_x inc_z sat_x sat_z add_length read_length bitmask_z copy_imm select_z dup_reg dup_lane insert_scalar rev_z unpack table_lookup interleave interleave_p unpack_p rev_p compact splice ext copy_reg last_active cond_last cmp_vec cmp_wide cmp_u_imm cmp_s_imm logic_p select_p break_first break_pair break_next ptest first_active next_active ptrue pfalse read_ffr read_ffr_all write_ffr count_p inc_p inc_p_z while_compare cterm wide_imm min_max_imm dup_imm
+unfolding lines_open
 sound = refl
 
 load_z_gather_sx : Apart load_z gather_sx
@@ -74,19 +73,19 @@ store_z_store_reg = apart_by store_z store_reg 0xE5804000 refl (λ k w h e.
     size_small w z (ap (λ (x : ℕ). nat_le x (field w 21 2)) (sym m) ∙ b))
 
 rest_test : are_alone later_lines ≡ true
-unfolding load_z load_p store_z gather_sx gather_sx_scaled store_reg load_imm load_reg load_ff load_nf load_nt_imm load_nt_reg load_quad_imm load_quad_reg load_many_imm load_many_reg load_one store_imm store_nt_imm store_nt_reg store_many_imm store_many_reg store_p gather_dx gather_dx_scaled gather_d gather_d_scaled gather_sv gather_dv scatter_sx scatter_sx_scaled scatter_dx scatter_dx_scaled scatter_d scatter_d_scaled scatter_sv scatter_dv binary binary_wide shift_imm unary mul_add_z mul_add_d plain logic_z plain_wide plain_shift index_z prefix_p prefix dot dot_indexed reduce count_elements inc_x inc_z sat_x sat_z add_length read_length bitmask_z copy_imm select_z dup_reg dup_lane insert_scalar rev_z unpack table_lookup interleave interleave_p unpack_p rev_p compact splice ext copy_reg last_active cond_last cmp_vec cmp_wide cmp_u_imm cmp_s_imm logic_p select_p break_first break_pair break_next ptest first_active next_active ptrue pfalse read_ffr read_ffr_all write_ffr count_p inc_p inc_p_z while_compare cterm wide_imm min_max_imm dup_imm
+unfolding lines_open
 rest_test = refl
 
 load_z_and_later : AllApart load_z (store_reg ∷ other_lines)
-unfolding load_z load_p store_z gather_sx gather_sx_scaled store_reg load_imm load_reg load_ff load_nf load_nt_imm load_nt_reg load_quad_imm load_quad_reg load_many_imm load_many_reg load_one store_imm store_nt_imm store_nt_reg store_many_imm store_many_reg store_p gather_dx gather_dx_scaled gather_d gather_d_scaled gather_sv gather_dv scatter_sx scatter_sx_scaled scatter_dx scatter_dx_scaled scatter_d scatter_d_scaled scatter_sv scatter_dv binary binary_wide shift_imm unary mul_add_z mul_add_d plain logic_z plain_wide plain_shift index_z prefix_p prefix dot dot_indexed reduce count_elements inc_x inc_z sat_x sat_z add_length read_length bitmask_z copy_imm select_z dup_reg dup_lane insert_scalar rev_z unpack table_lookup interleave interleave_p unpack_p rev_p compact splice ext copy_reg last_active cond_last cmp_vec cmp_wide cmp_u_imm cmp_s_imm logic_p select_p break_first break_pair break_next ptest first_active next_active ptrue pfalse read_ffr read_ffr_all write_ffr count_p inc_p inc_p_z while_compare cterm wide_imm min_max_imm dup_imm
+unfolding lines_open
 load_z_and_later = all_apart load_z (store_reg ∷ other_lines) refl
 
 load_p_and_later : AllApart load_p (store_reg ∷ other_lines)
-unfolding load_z load_p store_z gather_sx gather_sx_scaled store_reg load_imm load_reg load_ff load_nf load_nt_imm load_nt_reg load_quad_imm load_quad_reg load_many_imm load_many_reg load_one store_imm store_nt_imm store_nt_reg store_many_imm store_many_reg store_p gather_dx gather_dx_scaled gather_d gather_d_scaled gather_sv gather_dv scatter_sx scatter_sx_scaled scatter_dx scatter_dx_scaled scatter_d scatter_d_scaled scatter_sv scatter_dv binary binary_wide shift_imm unary mul_add_z mul_add_d plain logic_z plain_wide plain_shift index_z prefix_p prefix dot dot_indexed reduce count_elements inc_x inc_z sat_x sat_z add_length read_length bitmask_z copy_imm select_z dup_reg dup_lane insert_scalar rev_z unpack table_lookup interleave interleave_p unpack_p rev_p compact splice ext copy_reg last_active cond_last cmp_vec cmp_wide cmp_u_imm cmp_s_imm logic_p select_p break_first break_pair break_next ptest first_active next_active ptrue pfalse read_ffr read_ffr_all write_ffr count_p inc_p inc_p_z while_compare cterm wide_imm min_max_imm dup_imm
+unfolding lines_open
 load_p_and_later = all_apart load_p (store_reg ∷ other_lines) refl
 
 store_z_and_later : AllApart store_z other_lines
-unfolding load_z load_p store_z gather_sx gather_sx_scaled store_reg load_imm load_reg load_ff load_nf load_nt_imm load_nt_reg load_quad_imm load_quad_reg load_many_imm load_many_reg load_one store_imm store_nt_imm store_nt_reg store_many_imm store_many_reg store_p gather_dx gather_dx_scaled gather_d gather_d_scaled gather_sv gather_dv scatter_sx scatter_sx_scaled scatter_dx scatter_dx_scaled scatter_d scatter_d_scaled scatter_sv scatter_dv binary binary_wide shift_imm unary mul_add_z mul_add_d plain logic_z plain_wide plain_shift index_z prefix_p prefix dot dot_indexed reduce count_elements inc_x inc_z sat_x sat_z add_length read_length bitmask_z copy_imm select_z dup_reg dup_lane insert_scalar rev_z unpack table_lookup interleave interleave_p unpack_p rev_p compact splice ext copy_reg last_active cond_last cmp_vec cmp_wide cmp_u_imm cmp_s_imm logic_p select_p break_first break_pair break_next ptest first_active next_active ptrue pfalse read_ffr read_ffr_all write_ffr count_p inc_p inc_p_z while_compare cterm wide_imm min_max_imm dup_imm
+unfolding lines_open
 store_z_and_later = all_apart store_z other_lines refl
 
 load_z_and_rest : AllApart load_z (load_p ∷ store_z ∷ later_lines)

@@ -3,8 +3,7 @@ use Rattle.std.proofs.Common.{◌≡◌, ℕ, true, Option, Some, None, IfSome, 
 use Rattle.emu_bits.specs.Rows.{decode, encode, formed, instruction, IsShape, OneRow}
 use Rattle.emu_bits.proofs.Encoding.{decode_encoded, encode_decoded, one_row_of}
 use Rattle.sve_insn.specs.declared.form.SveForm.{SveForm}
-use Rattle.sve_insn.specs.Table.{row_of, meets_form, sve_table}
-use Rattle.sve_insn.specs.Lines.{line_number}
+use Rattle.sve_insn.specs.Table.{row_of, meets_form, sve_table, line_number}
 use Rattle.sve_insn.specs.Seen.{seen}
 use Rattle.sve_insn.proofs.Forms.{form_again, same_condition}
 use Rattle.sve_rows.proofs.Listed.{listed}

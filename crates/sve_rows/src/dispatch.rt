@@ -15,6 +15,7 @@ use sve_rows_moves::find_moves;
 use sve_rows_predicates::find_predicates;
 
 /// The instruction of a word, found by bit 31.
+#[inline(always)]
 pub fn find(w: u32) -> Option<Sve>
     ensures { seen result ≡ decode sve_table w }
 {
@@ -25,6 +26,7 @@ pub fn find(w: u32) -> Option<Sve>
 }
 
 /// All but loads and stores, by bits 31 to 24.
+#[inline(always)]
 fn words_of_registers(w: u32) -> Option<Sve>
     ensures { seen result ≡ decode register_lines w }
 {
@@ -39,6 +41,7 @@ fn words_of_registers(w: u32) -> Option<Sve>
 }
 
 /// Reversals of parts of a lane, which are of the data lines, and the moves.
+#[inline(always)]
 fn words_of_reversals_and_moves(w: u32) -> Option<Sve>
     ensures { seen result ≡ decode (unary ∷ move_lines) w }
 {

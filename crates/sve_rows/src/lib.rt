@@ -2,7 +2,7 @@
 #![tactic(auto)]
 
 mod dispatch;
-mod words;
+mod sve_words;
 
 ghost use Rattle.std.specs.Prelude.{◌≡◌, Some, IfSome};
 ghost use Rattle.emu_bits.specs.Rows.{decode, encode, instruction, OneRow};
@@ -11,11 +11,21 @@ ghost use Rattle.sve_insn.specs.Seen.{seen};
 
 use dispatch::find;
 use sve_insn::Sve;
-use words::word_of;
+use sve_words::word_of;
 
 /// The instruction that a word is, or none where the word is in no row of the table.
 #[inline(never)]
 pub fn decode_sve(w: u32) -> Option<Sve>
+    ensures table { seen result ≡ decode sve_table w }
+    ensures form { result ≡ instruction sve_table w }
+    ensures back { IfSome result (λ i. encode (row_of i) ≡ w) }
+{
+    decode_sve_here(w)
+}
+
+/// The same, all of it in the code of the caller, where a form need not lie in memory.
+#[inline(always)]
+pub fn decode_sve_here(w: u32) -> Option<Sve>
     ensures table { seen result ≡ decode sve_table w }
     ensures form { result ≡ instruction sve_table w }
     ensures back { IfSome result (λ i. encode (row_of i) ≡ w) }

@@ -16,6 +16,7 @@ use emu_bits::bits;
 use sve_insn::Sve;
 
 /// The operation, fold or count that a word is, found by bits 15 to 13, or none where the word is in no row of these lines.
+#[inline(always)]
 pub fn find_data(w: u32) -> Option<Sve>
     ensures { seen result ≡ decode data_lines w }
 {
@@ -32,6 +33,7 @@ pub fn find_data(w: u32) -> Option<Sve>
 }
 
 /// Arithmetic and logic of two vectors, and dot products.
+#[inline(always)]
 fn words_of_operations_and_dots(w: u32) -> Option<Sve>
     ensures { seen result ≡ decode (binary ∷ plain ∷ dot ∷ dot_indexed ∷ []) w }
 {
@@ -48,6 +50,7 @@ fn words_of_operations_and_dots(w: u32) -> Option<Sve>
 }
 
 /// Logical operations of whole registers, copies under a predicate, and folds.
+#[inline(always)]
 fn words_of_logic_copies_and_folds(w: u32) -> Option<Sve>
     ensures { seen result ≡ decode (logic_z ∷ prefix_p ∷ reduce ∷ []) w }
 {
@@ -61,6 +64,7 @@ fn words_of_logic_copies_and_folds(w: u32) -> Option<Sve>
 }
 
 /// Products with a sum, series of numbers, and vector lengths.
+#[inline(always)]
 fn words_of_sums_series_and_lengths(w: u32) -> Option<Sve>
     ensures { seen result ≡ decode (mul_add_z ∷ index_z ∷ add_length ∷ read_length ∷ []) w }
 {
@@ -77,6 +81,7 @@ fn words_of_sums_series_and_lengths(w: u32) -> Option<Sve>
 }
 
 /// Shifts. Reversals of parts of a lane have these bits too, with 05 in bits 31 to 24.
+#[inline(always)]
 fn words_of_shifts(w: u32) -> Option<Sve>
     ensures { seen result ≡ decode (binary ∷ binary_wide ∷ shift_imm ∷ unary ∷ plain_wide ∷ plain_shift ∷ []) w }
 {
@@ -99,6 +104,7 @@ fn words_of_shifts(w: u32) -> Option<Sve>
 }
 
 /// Operations on one vector.
+#[inline(always)]
 fn words_of_one_source(w: u32) -> Option<Sve>
     ensures { seen result ≡ decode (unary ∷ prefix ∷ []) w }
 {
@@ -109,6 +115,7 @@ fn words_of_one_source(w: u32) -> Option<Sve>
 }
 
 /// Products with a sum, and counts added to each lane.
+#[inline(always)]
 fn words_of_sums_and_lane_counts(w: u32) -> Option<Sve>
     ensures { seen result ≡ decode (mul_add_d ∷ inc_z ∷ sat_z ∷ []) w }
 {
@@ -122,6 +129,7 @@ fn words_of_sums_and_lane_counts(w: u32) -> Option<Sve>
 }
 
 /// Products with a sum, and counts in general registers.
+#[inline(always)]
 fn words_of_sums_and_register_counts(w: u32) -> Option<Sve>
     ensures { seen result ≡ decode (mul_add_d ∷ count_elements ∷ inc_x ∷ sat_x ∷ []) w }
 {

@@ -15,6 +15,7 @@ use sve_insn::{AddLengthOp, IncOp, ReduceOp, SatOp, Sve, SveForm};
 
 /// The instruction of `Reduce` that a word is.
 #[tactic(auto, unfolding(sve_insn::specs::Folds::reduce))]
+#[inline(always)]
 pub fn reduce(w: u32) -> Option<Sve>
     ensures { seen result ≡ row_in reduce w }
 {
@@ -44,6 +45,7 @@ pub fn reduce_bits(op: ReduceOp, size: U<2>, pg: PredLow, zn: Reg, vd: Reg) -> u
 
 /// The instruction of `Count` that a word is.
 #[tactic(auto, unfolding(sve_insn::specs::Folds::count_elements))]
+#[inline(always)]
 pub fn count_elements(w: u32) -> Option<Sve>
     ensures { seen result ≡ row_in count_elements w }
 {
@@ -74,6 +76,7 @@ pub fn count_elements_bits(size: U<2>, imm4: U<4>, pattern: U<5>, rd: Reg) -> u3
 
 /// The instruction of `IncX` that a word is.
 #[tactic(auto, unfolding(sve_insn::specs::Folds::inc_x))]
+#[inline(always)]
 pub fn inc_x(w: u32) -> Option<Sve>
     ensures { seen result ≡ row_in inc_x w }
 {
@@ -103,6 +106,7 @@ pub fn inc_x_bits(op: IncOp, size: U<2>, imm4: U<4>, pattern: U<5>, rdn: Reg) ->
 
 /// The instruction of `IncZ` that a word is.
 #[tactic(auto, unfolding(sve_insn::specs::Folds::inc_z))]
+#[inline(always)]
 pub fn inc_z(w: u32) -> Option<Sve>
     ensures { seen result ≡ row_in inc_z w }
 {
@@ -132,6 +136,7 @@ pub fn inc_z_bits(op: IncOp, size: U<2>, imm4: U<4>, pattern: U<5>, zdn: Reg) ->
 
 /// The instruction of `SatX` that a word is.
 #[tactic(auto, unfolding(sve_insn::specs::Folds::sat_x))]
+#[inline(always)]
 pub fn sat_x(w: u32) -> Option<Sve>
     ensures { seen result ≡ row_in sat_x w }
 {
@@ -163,6 +168,7 @@ pub fn sat_x_bits(op: SatOp, size: U<2>, sf: bool, imm4: U<4>, pattern: U<5>, rd
 
 /// The instruction of `SatZ` that a word is.
 #[tactic(auto, unfolding(sve_insn::specs::Folds::sat_z))]
+#[inline(always)]
 pub fn sat_z(w: u32) -> Option<Sve>
     ensures { seen result ≡ row_in sat_z w }
 {
@@ -192,6 +198,7 @@ pub fn sat_z_bits(op: SatOp, size: U<2>, imm4: U<4>, pattern: U<5>, zdn: Reg) ->
 
 /// The instruction of `AddLength` that a word is.
 #[tactic(auto, unfolding(sve_insn::specs::Folds::add_length))]
+#[inline(always)]
 pub fn add_length(w: u32) -> Option<Sve>
     ensures { seen result ≡ row_in add_length w }
 {
@@ -219,6 +226,7 @@ pub fn add_length_bits(op: AddLengthOp, rn: Reg, imm6: U<6>, rd: Reg) -> u32
 
 /// The instruction of `ReadLength` that a word is.
 #[tactic(auto, unfolding(sve_insn::specs::Folds::read_length))]
+#[inline(always)]
 pub fn read_length(w: u32) -> Option<Sve>
     ensures { seen result ≡ row_in read_length w }
 {

@@ -20,6 +20,7 @@ use sve_insn::{
 
 /// The instruction of `Binary` that a word is.
 #[tactic(auto, unfolding(sve_insn::specs::Lanes::binary))]
+#[inline(always)]
 pub fn binary(w: u32) -> Option<Sve>
     ensures { seen result ≡ row_in binary w }
 {
@@ -49,6 +50,7 @@ pub fn binary_bits(op: BinaryOp, size: U<2>, pg: PredLow, zm: Reg, zdn: Reg) -> 
 
 /// The instruction of `BinaryWide` that a word is.
 #[tactic(auto, unfolding(sve_insn::specs::Lanes::binary_wide))]
+#[inline(always)]
 pub fn binary_wide(w: u32) -> Option<Sve>
     ensures { seen result ≡ row_in binary_wide w }
 {
@@ -78,6 +80,7 @@ pub fn binary_wide_bits(op: ShiftOp, size: U<2>, pg: PredLow, zm: Reg, zdn: Reg)
 
 /// The instruction of `ShiftImm` that a word is.
 #[tactic(auto, unfolding(sve_insn::specs::Lanes::shift_imm))]
+#[inline(always)]
 pub fn shift_imm(w: u32) -> Option<Sve>
     ensures { seen result ≡ row_in shift_imm w }
 {
@@ -116,6 +119,7 @@ pub fn shift_imm_bits(
 
 /// The instruction of `Unary` that a word is.
 #[tactic(auto, unfolding(sve_insn::specs::Lanes::unary))]
+#[inline(always)]
 pub fn unary(w: u32) -> Option<Sve>
     ensures { seen result ≡ row_in unary w }
 {
@@ -145,6 +149,7 @@ pub fn unary_bits(op: UnaryOp, size: U<2>, pg: PredLow, zn: Reg, zd: Reg) -> u32
 
 /// The instruction of `MulAddZ` that a word is.
 #[tactic(auto, unfolding(sve_insn::specs::Lanes::mul_add_z))]
+#[inline(always)]
 pub fn mul_add_z(w: u32) -> Option<Sve>
     ensures { seen result ≡ row_in mul_add_z w }
 {
@@ -176,6 +181,7 @@ pub fn mul_add_z_bits(op: MulAddZOp, size: U<2>, zm: Reg, pg: PredLow, zn: Reg, 
 
 /// The instruction of `MulAddD` that a word is.
 #[tactic(auto, unfolding(sve_insn::specs::Lanes::mul_add_d))]
+#[inline(always)]
 pub fn mul_add_d(w: u32) -> Option<Sve>
     ensures { seen result ≡ row_in mul_add_d w }
 {
@@ -207,6 +213,7 @@ pub fn mul_add_d_bits(op: MulAddDOp, size: U<2>, zm: Reg, pg: PredLow, za: Reg, 
 
 /// The instruction of `Plain` that a word is.
 #[tactic(auto, unfolding(sve_insn::specs::Lanes::plain))]
+#[inline(always)]
 pub fn plain(w: u32) -> Option<Sve>
     ensures { seen result ≡ row_in plain w }
 {
@@ -236,6 +243,7 @@ pub fn plain_bits(op: PlainOp, size: U<2>, zm: Reg, zn: Reg, zd: Reg) -> u32
 
 /// The instruction of `LogicZ` that a word is.
 #[tactic(auto, unfolding(sve_insn::specs::Lanes::logic_z))]
+#[inline(always)]
 pub fn logic_z(w: u32) -> Option<Sve>
     ensures { seen result ≡ row_in logic_z w }
 {
@@ -259,6 +267,7 @@ pub fn logic_z_bits(op: LogicZOp, zm: Reg, zn: Reg, zd: Reg) -> u32
 
 /// The instruction of `PlainWide` that a word is.
 #[tactic(auto, unfolding(sve_insn::specs::Lanes::plain_wide))]
+#[inline(always)]
 pub fn plain_wide(w: u32) -> Option<Sve>
     ensures { seen result ≡ row_in plain_wide w }
 {
@@ -288,6 +297,7 @@ pub fn plain_wide_bits(op: ShiftOp, size: U<2>, zm: Reg, zn: Reg, zd: Reg) -> u3
 
 /// The instruction of `PlainShift` that a word is.
 #[tactic(auto, unfolding(sve_insn::specs::Lanes::plain_shift))]
+#[inline(always)]
 pub fn plain_shift(w: u32) -> Option<Sve>
     ensures { seen result ≡ row_in plain_shift w }
 {
@@ -319,6 +329,7 @@ pub fn plain_shift_bits(op: ShiftOp, tszh: U<2>, tszl: U<2>, imm3: U<3>, zn: Reg
 
 /// The instruction of `Index` that a word is.
 #[tactic(auto, unfolding(sve_insn::specs::Lanes::index_z))]
+#[inline(always)]
 pub fn index_z(w: u32) -> Option<Sve>
     ensures { seen result ≡ row_in index_z w }
 {
@@ -348,6 +359,7 @@ pub fn index_z_bits(op: IndexOp, size: U<2>, y: U<5>, x: U<5>, zd: Reg) -> u32
 
 /// The instruction of `PrefixP` that a word is.
 #[tactic(auto, unfolding(sve_insn::specs::Lanes::prefix_p))]
+#[inline(always)]
 pub fn prefix_p(w: u32) -> Option<Sve>
     ensures { seen result ≡ row_in prefix_p w }
 {
@@ -380,6 +392,7 @@ pub fn prefix_p_bits(size: U<2>, m: bool, pg: PredLow, zn: Reg, zd: Reg) -> u32
 
 /// The instruction of `Prefix` that a word is.
 #[tactic(auto, unfolding(sve_insn::specs::Lanes::prefix))]
+#[inline(always)]
 pub fn prefix(w: u32) -> Option<Sve>
     ensures { seen result ≡ row_in prefix w }
 {
@@ -403,6 +416,7 @@ pub fn prefix_bits(zn: Reg, zd: Reg) -> u32
 
 /// The instruction of `Dot` that a word is.
 #[tactic(auto, unfolding(sve_insn::specs::Lanes::dot))]
+#[inline(always)]
 pub fn dot(w: u32) -> Option<Sve>
     ensures { seen result ≡ row_in dot w }
 {
@@ -432,6 +446,7 @@ pub fn dot_bits(op: DotOp, size: U<2>, zm: Reg, zn: Reg, zda: Reg) -> u32
 
 /// The instruction of `DotIndexed` that a word is.
 #[tactic(auto, unfolding(sve_insn::specs::Lanes::dot_indexed))]
+#[inline(always)]
 pub fn dot_indexed(w: u32) -> Option<Sve>
     ensures { seen result ≡ row_in dot_indexed w }
 {

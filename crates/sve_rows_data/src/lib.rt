@@ -1,11 +1,11 @@
 //! Words of SVE operations lane by lane, folds and counts to instructions and back.
 #![tactic(auto)]
 
+mod data_words;
 mod dispatch;
 mod folds;
 mod lanes;
-mod words;
 
+pub use data_words::data_word;
 pub use dispatch::find_data;
 pub use lanes::unary;
-pub use words::data_word;

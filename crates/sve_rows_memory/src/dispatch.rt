@@ -27,6 +27,7 @@ use emu_bits::bits;
 use sve_insn::Sve;
 
 /// The load or store that a word is, found by bits 30 to 29, or none where the word is in no row of a load or store.
+#[inline(always)]
 pub fn find_memory(w: u32) -> Option<Sve>
     ensures { seen result ≡ decode memory_lines w }
 {
@@ -39,6 +40,7 @@ pub fn find_memory(w: u32) -> Option<Sve>
 }
 
 /// Loads of whole registers, gathers of S lanes, and a load of one element to all lanes.
+#[inline(always)]
 fn words_of_whole_loads_and_s_gathers(w: u32) -> Option<Sve>
     ensures { seen result ≡ decode (load_z ∷ load_p ∷ gather_sx ∷ gather_sx_scaled ∷ load_one ∷ gather_sv ∷ []) w }
 {
@@ -61,6 +63,7 @@ fn words_of_whole_loads_and_s_gathers(w: u32) -> Option<Sve>
 }
 
 /// Contiguous loads, by bits 15 to 13.
+#[inline(always)]
 fn words_of_contiguous_loads(w: u32) -> Option<Sve>
     ensures { seen result ≡ decode contiguous_loads w }
 {
@@ -75,6 +78,7 @@ fn words_of_contiguous_loads(w: u32) -> Option<Sve>
 }
 
 /// Loads at an immediate offset, with lanes that may be wider than their elements.
+#[inline(always)]
 fn words_of_typed_loads(w: u32) -> Option<Sve>
     ensures { seen result ≡ decode (load_imm ∷ load_nf ∷ []) w }
 {
@@ -85,6 +89,7 @@ fn words_of_typed_loads(w: u32) -> Option<Sve>
 }
 
 /// Non-temporal loads, and loads to several registers: their lanes are as wide as their elements.
+#[inline(always)]
 fn words_of_sized_loads(w: u32) -> Option<Sve>
     ensures { seen result ≡ decode (load_nt_imm ∷ load_nt_reg ∷ load_many_imm ∷ load_many_reg ∷ []) w }
 {
@@ -101,6 +106,7 @@ fn words_of_sized_loads(w: u32) -> Option<Sve>
 }
 
 /// Gathers of D lanes.
+#[inline(always)]
 fn words_of_d_gathers(w: u32) -> Option<Sve>
     ensures { seen result ≡ decode (gather_dx ∷ gather_dx_scaled ∷ gather_d ∷ gather_d_scaled ∷ gather_dv ∷ []) w }
 {
@@ -120,6 +126,7 @@ fn words_of_d_gathers(w: u32) -> Option<Sve>
 }
 
 /// Stores, by bit 15.
+#[inline(always)]
 fn words_of_stores(w: u32) -> Option<Sve>
     ensures { seen result ≡ decode all_stores w }
 {
@@ -130,6 +137,7 @@ fn words_of_stores(w: u32) -> Option<Sve>
 }
 
 /// Stores of whole registers, and at a register offset.
+#[inline(always)]
 fn words_of_stores_by_register(w: u32) -> Option<Sve>
     ensures { seen result ≡ decode (store_z ∷ store_reg ∷ store_nt_reg ∷ store_many_reg ∷ store_p ∷ []) w }
 {
@@ -149,6 +157,7 @@ fn words_of_stores_by_register(w: u32) -> Option<Sve>
 }
 
 /// Scatters, and stores at an immediate offset, by bit 13.
+#[inline(always)]
 fn words_of_scatters_and_immediate_stores(w: u32) -> Option<Sve>
     ensures { seen result ≡ decode scatters_and_immediate_stores w }
 {
@@ -159,6 +168,7 @@ fn words_of_scatters_and_immediate_stores(w: u32) -> Option<Sve>
 }
 
 /// Scatters at offsets that are extended from 32 bits.
+#[inline(always)]
 fn words_of_extended_scatters(w: u32) -> Option<Sve>
     ensures { seen result ≡ decode (scatter_sx ∷ scatter_sx_scaled ∷ scatter_dx ∷ scatter_dx_scaled ∷ []) w }
 {
@@ -175,6 +185,7 @@ fn words_of_extended_scatters(w: u32) -> Option<Sve>
 }
 
 /// Scatters at 64-bit offsets or at the addresses of a vector, and stores at an immediate offset, by bit 14.
+#[inline(always)]
 fn words_of_plain_scatters_and_immediate_stores(w: u32) -> Option<Sve>
     ensures { seen result ≡ decode plain_scatters_and_immediate_stores w }
 {
@@ -185,6 +196,7 @@ fn words_of_plain_scatters_and_immediate_stores(w: u32) -> Option<Sve>
 }
 
 /// Scatters at 64-bit offsets, or at the addresses of a vector.
+#[inline(always)]
 fn words_of_plain_scatters(w: u32) -> Option<Sve>
     ensures { seen result ≡ decode (scatter_d ∷ scatter_d_scaled ∷ scatter_sv ∷ scatter_dv ∷ []) w }
 {
@@ -200,6 +212,7 @@ fn words_of_plain_scatters(w: u32) -> Option<Sve>
     scatter_dv(w)
 }
 
+#[inline(always)]
 fn words_of_stores_by_immediate(w: u32) -> Option<Sve>
     ensures { seen result ≡ decode (store_imm ∷ store_nt_imm ∷ store_many_imm ∷ []) w }
 {

@@ -11,6 +11,7 @@ use sve_insn::{Sve, SveForm};
 
 /// The instruction of `GatherSx` that a word is.
 #[tactic(auto, unfolding(sve_insn::specs::Memory::gather_sx))]
+#[inline(always)]
 pub fn gather_sx(w: u32) -> Option<Sve>
     ensures { seen result ≡ row_in gather_sx w }
 {
@@ -58,6 +59,7 @@ pub fn gather_sx_bits(
 
 /// The instruction of `GatherSxScaled` that a word is.
 #[tactic(auto, unfolding(sve_insn::specs::Memory::gather_sx_scaled))]
+#[inline(always)]
 pub fn gather_sx_scaled(w: u32) -> Option<Sve>
     ensures { seen result ≡ row_in gather_sx_scaled w }
 {
@@ -105,6 +107,7 @@ pub fn gather_sx_scaled_bits(
 
 /// The instruction of `GatherDx` that a word is.
 #[tactic(auto, unfolding(sve_insn::specs::Memory::gather_dx))]
+#[inline(always)]
 pub fn gather_dx(w: u32) -> Option<Sve>
     ensures { seen result ≡ row_in gather_dx w }
 {
@@ -152,6 +155,7 @@ pub fn gather_dx_bits(
 
 /// The instruction of `GatherDxScaled` that a word is.
 #[tactic(auto, unfolding(sve_insn::specs::Memory::gather_dx_scaled))]
+#[inline(always)]
 pub fn gather_dx_scaled(w: u32) -> Option<Sve>
     ensures { seen result ≡ row_in gather_dx_scaled w }
 {
@@ -199,6 +203,7 @@ pub fn gather_dx_scaled_bits(
 
 /// The instruction of `GatherD` that a word is.
 #[tactic(auto, unfolding(sve_insn::specs::Memory::gather_d))]
+#[inline(always)]
 pub fn gather_d(w: u32) -> Option<Sve>
     ensures { seen result ≡ row_in gather_d w }
 {
@@ -235,6 +240,7 @@ pub fn gather_d_bits(msz: U<2>, zm: Reg, u: bool, ff: bool, pg: PredLow, rn: Reg
 
 /// The instruction of `GatherDScaled` that a word is.
 #[tactic(auto, unfolding(sve_insn::specs::Memory::gather_d_scaled))]
+#[inline(always)]
 pub fn gather_d_scaled(w: u32) -> Option<Sve>
     ensures { seen result ≡ row_in gather_d_scaled w }
 {
@@ -279,6 +285,7 @@ pub fn gather_d_scaled_bits(
 
 /// The instruction of `GatherSv` that a word is.
 #[tactic(auto, unfolding(sve_insn::specs::Memory::gather_sv))]
+#[inline(always)]
 pub fn gather_sv(w: u32) -> Option<Sve>
     ensures { seen result ≡ row_in gather_sv w }
 {
@@ -323,6 +330,7 @@ pub fn gather_sv_bits(
 
 /// The instruction of `GatherDv` that a word is.
 #[tactic(auto, unfolding(sve_insn::specs::Memory::gather_dv))]
+#[inline(always)]
 pub fn gather_dv(w: u32) -> Option<Sve>
     ensures { seen result ≡ row_in gather_dv w }
 {

@@ -4,9 +4,9 @@
 mod dispatch;
 mod gathers;
 mod loads;
+mod memory_words;
 mod scatters;
 mod stores;
-mod words;
 
 pub use dispatch::find_memory;
-pub use words::memory_word;
+pub use memory_words::memory_word;

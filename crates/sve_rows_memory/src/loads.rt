@@ -14,6 +14,7 @@ use sve_insn::{LoadManyOp, Sve, SveForm};
 
 /// The instruction of `LoadZ` that a word is.
 #[tactic(auto, unfolding(sve_insn::specs::Memory::load_z))]
+#[inline(always)]
 pub fn load_z(w: u32) -> Option<Sve>
     ensures { seen result ≡ row_in load_z w }
 {
@@ -44,6 +45,7 @@ pub fn load_z_bits(imm9h: U<6>, imm9l: U<3>, rn: Reg, zt: Reg) -> u32
 
 /// The instruction of `LoadP` that a word is.
 #[tactic(auto, unfolding(sve_insn::specs::Memory::load_p))]
+#[inline(always)]
 pub fn load_p(w: u32) -> Option<Sve>
     ensures { seen result ≡ row_in load_p w }
 {
@@ -74,6 +76,7 @@ pub fn load_p_bits(imm9h: U<6>, imm9l: U<3>, rn: Reg, pt: Pred) -> u32
 
 /// The instruction of `LoadImm` that a word is.
 #[tactic(auto, unfolding(sve_insn::specs::Memory::load_imm))]
+#[inline(always)]
 pub fn load_imm(w: u32) -> Option<Sve>
     ensures { seen result ≡ row_in load_imm w }
 {
@@ -106,6 +109,7 @@ pub fn load_imm_bits(dtype: U<4>, imm4: U<4>, pg: PredLow, rn: Reg, zt: Reg) -> 
 
 /// The instruction of `LoadReg` that a word is.
 #[tactic(auto, unfolding(sve_insn::specs::Memory::load_reg))]
+#[inline(always)]
 pub fn load_reg(w: u32) -> Option<Sve>
     ensures { seen result ≡ row_in load_reg w }
 {
@@ -138,6 +142,7 @@ pub fn load_reg_bits(dtype: U<4>, rm: Reg, pg: PredLow, rn: Reg, zt: Reg) -> u32
 
 /// The instruction of `LoadFf` that a word is.
 #[tactic(auto, unfolding(sve_insn::specs::Memory::load_ff))]
+#[inline(always)]
 pub fn load_ff(w: u32) -> Option<Sve>
     ensures { seen result ≡ row_in load_ff w }
 {
@@ -170,6 +175,7 @@ pub fn load_ff_bits(dtype: U<4>, rm: Reg, pg: PredLow, rn: Reg, zt: Reg) -> u32
 
 /// The instruction of `LoadNf` that a word is.
 #[tactic(auto, unfolding(sve_insn::specs::Memory::load_nf))]
+#[inline(always)]
 pub fn load_nf(w: u32) -> Option<Sve>
     ensures { seen result ≡ row_in load_nf w }
 {
@@ -202,6 +208,7 @@ pub fn load_nf_bits(dtype: U<4>, imm4: U<4>, pg: PredLow, rn: Reg, zt: Reg) -> u
 
 /// The instruction of `LoadNtImm` that a word is.
 #[tactic(auto, unfolding(sve_insn::specs::Memory::load_nt_imm))]
+#[inline(always)]
 pub fn load_nt_imm(w: u32) -> Option<Sve>
     ensures { seen result ≡ row_in load_nt_imm w }
 {
@@ -234,6 +241,7 @@ pub fn load_nt_imm_bits(msz: U<2>, imm4: U<4>, pg: PredLow, rn: Reg, zt: Reg) ->
 
 /// The instruction of `LoadNtReg` that a word is.
 #[tactic(auto, unfolding(sve_insn::specs::Memory::load_nt_reg))]
+#[inline(always)]
 pub fn load_nt_reg(w: u32) -> Option<Sve>
     ensures { seen result ≡ row_in load_nt_reg w }
 {
@@ -266,6 +274,7 @@ pub fn load_nt_reg_bits(msz: U<2>, rm: Reg, pg: PredLow, rn: Reg, zt: Reg) -> u3
 
 /// The instruction of `LoadQuadImm` that a word is.
 #[tactic(auto, unfolding(sve_insn::specs::Memory::load_quad_imm))]
+#[inline(always)]
 pub fn load_quad_imm(w: u32) -> Option<Sve>
     ensures { seen result ≡ row_in load_quad_imm w }
 {
@@ -298,6 +307,7 @@ pub fn load_quad_imm_bits(msz: U<2>, imm4: U<4>, pg: PredLow, rn: Reg, zt: Reg) 
 
 /// The instruction of `LoadQuadReg` that a word is.
 #[tactic(auto, unfolding(sve_insn::specs::Memory::load_quad_reg))]
+#[inline(always)]
 pub fn load_quad_reg(w: u32) -> Option<Sve>
     ensures { seen result ≡ row_in load_quad_reg w }
 {
@@ -330,6 +340,7 @@ pub fn load_quad_reg_bits(msz: U<2>, rm: Reg, pg: PredLow, rn: Reg, zt: Reg) -> 
 
 /// The instruction of `LoadManyImm` that a word is.
 #[tactic(auto, unfolding(sve_insn::specs::Memory::load_many_imm))]
+#[inline(always)]
 pub fn load_many_imm(w: u32) -> Option<Sve>
     ensures { seen result ≡ row_in load_many_imm w }
 {
@@ -368,6 +379,7 @@ pub fn load_many_imm_bits(
 
 /// The instruction of `LoadManyReg` that a word is.
 #[tactic(auto, unfolding(sve_insn::specs::Memory::load_many_reg))]
+#[inline(always)]
 pub fn load_many_reg(w: u32) -> Option<Sve>
     ensures { seen result ≡ row_in load_many_reg w }
 {
@@ -399,6 +411,7 @@ pub fn load_many_reg_bits(op: LoadManyOp, msz: U<2>, rm: Reg, pg: PredLow, rn: R
 
 /// The instruction of `LoadOne` that a word is.
 #[tactic(auto, unfolding(sve_insn::specs::Memory::load_one))]
+#[inline(always)]
 pub fn load_one(w: u32) -> Option<Sve>
     ensures { seen result ≡ row_in load_one w }
 {

@@ -11,6 +11,7 @@ use sve_insn::{Sve, SveForm};
 
 /// The instruction of `ScatterSx` that a word is.
 #[tactic(auto, unfolding(sve_insn::specs::Memory::scatter_sx))]
+#[inline(always)]
 pub fn scatter_sx(w: u32) -> Option<Sve>
     ensures { seen result ≡ row_in scatter_sx w }
 {
@@ -45,6 +46,7 @@ pub fn scatter_sx_bits(msz: U<2>, zm: Reg, xs: bool, pg: PredLow, rn: Reg, zt: R
 
 /// The instruction of `ScatterSxScaled` that a word is.
 #[tactic(auto, unfolding(sve_insn::specs::Memory::scatter_sx_scaled))]
+#[inline(always)]
 pub fn scatter_sx_scaled(w: u32) -> Option<Sve>
     ensures { seen result ≡ row_in scatter_sx_scaled w }
 {
@@ -79,6 +81,7 @@ pub fn scatter_sx_scaled_bits(msz: U<2>, zm: Reg, xs: bool, pg: PredLow, rn: Reg
 
 /// The instruction of `ScatterDx` that a word is.
 #[tactic(auto, unfolding(sve_insn::specs::Memory::scatter_dx))]
+#[inline(always)]
 pub fn scatter_dx(w: u32) -> Option<Sve>
     ensures { seen result ≡ row_in scatter_dx w }
 {
@@ -113,6 +116,7 @@ pub fn scatter_dx_bits(msz: U<2>, zm: Reg, xs: bool, pg: PredLow, rn: Reg, zt: R
 
 /// The instruction of `ScatterDxScaled` that a word is.
 #[tactic(auto, unfolding(sve_insn::specs::Memory::scatter_dx_scaled))]
+#[inline(always)]
 pub fn scatter_dx_scaled(w: u32) -> Option<Sve>
     ensures { seen result ≡ row_in scatter_dx_scaled w }
 {
@@ -147,6 +151,7 @@ pub fn scatter_dx_scaled_bits(msz: U<2>, zm: Reg, xs: bool, pg: PredLow, rn: Reg
 
 /// The instruction of `ScatterD` that a word is.
 #[tactic(auto, unfolding(sve_insn::specs::Memory::scatter_d))]
+#[inline(always)]
 pub fn scatter_d(w: u32) -> Option<Sve>
     ensures { seen result ≡ row_in scatter_d w }
 {
@@ -179,6 +184,7 @@ pub fn scatter_d_bits(msz: U<2>, zm: Reg, pg: PredLow, rn: Reg, zt: Reg) -> u32
 
 /// The instruction of `ScatterDScaled` that a word is.
 #[tactic(auto, unfolding(sve_insn::specs::Memory::scatter_d_scaled))]
+#[inline(always)]
 pub fn scatter_d_scaled(w: u32) -> Option<Sve>
     ensures { seen result ≡ row_in scatter_d_scaled w }
 {
@@ -211,6 +217,7 @@ pub fn scatter_d_scaled_bits(msz: U<2>, zm: Reg, pg: PredLow, rn: Reg, zt: Reg) 
 
 /// The instruction of `ScatterSv` that a word is.
 #[tactic(auto, unfolding(sve_insn::specs::Memory::scatter_sv))]
+#[inline(always)]
 pub fn scatter_sv(w: u32) -> Option<Sve>
     ensures { seen result ≡ row_in scatter_sv w }
 {
@@ -243,6 +250,7 @@ pub fn scatter_sv_bits(msz: U<2>, imm5: U<5>, pg: PredLow, zn: Reg, zt: Reg) -> 
 
 /// The instruction of `ScatterDv` that a word is.
 #[tactic(auto, unfolding(sve_insn::specs::Memory::scatter_dv))]
+#[inline(always)]
 pub fn scatter_dv(w: u32) -> Option<Sve>
     ensures { seen result ≡ row_in scatter_dv w }
 {

@@ -14,6 +14,7 @@ use sve_insn::{StoreManyOp, Sve, SveForm};
 
 /// The instruction of `StoreZ` that a word is.
 #[tactic(auto, unfolding(sve_insn::specs::Memory::store_z))]
+#[inline(always)]
 pub fn store_z(w: u32) -> Option<Sve>
     ensures { seen result ≡ row_in store_z w }
 {
@@ -44,6 +45,7 @@ pub fn store_z_bits(imm9h: U<6>, imm9l: U<3>, rn: Reg, zt: Reg) -> u32
 
 /// The instruction of `StoreReg` that a word is.
 #[tactic(auto, unfolding(sve_insn::specs::Memory::store_reg))]
+#[inline(always)]
 pub fn store_reg(w: u32) -> Option<Sve>
     ensures { seen result ≡ row_in store_reg w }
 {
@@ -78,6 +80,7 @@ pub fn store_reg_bits(msz: U<2>, size: U<2>, rm: Reg, pg: PredLow, rn: Reg, zt: 
 
 /// The instruction of `StoreImm` that a word is.
 #[tactic(auto, unfolding(sve_insn::specs::Memory::store_imm))]
+#[inline(always)]
 pub fn store_imm(w: u32) -> Option<Sve>
     ensures { seen result ≡ row_in store_imm w }
 {
@@ -112,6 +115,7 @@ pub fn store_imm_bits(msz: U<2>, size: U<2>, imm4: U<4>, pg: PredLow, rn: Reg, z
 
 /// The instruction of `StoreNtImm` that a word is.
 #[tactic(auto, unfolding(sve_insn::specs::Memory::store_nt_imm))]
+#[inline(always)]
 pub fn store_nt_imm(w: u32) -> Option<Sve>
     ensures { seen result ≡ row_in store_nt_imm w }
 {
@@ -144,6 +148,7 @@ pub fn store_nt_imm_bits(msz: U<2>, imm4: U<4>, pg: PredLow, rn: Reg, zt: Reg) -
 
 /// The instruction of `StoreNtReg` that a word is.
 #[tactic(auto, unfolding(sve_insn::specs::Memory::store_nt_reg))]
+#[inline(always)]
 pub fn store_nt_reg(w: u32) -> Option<Sve>
     ensures { seen result ≡ row_in store_nt_reg w }
 {
@@ -176,6 +181,7 @@ pub fn store_nt_reg_bits(msz: U<2>, rm: Reg, pg: PredLow, rn: Reg, zt: Reg) -> u
 
 /// The instruction of `StoreManyImm` that a word is.
 #[tactic(auto, unfolding(sve_insn::specs::Memory::store_many_imm))]
+#[inline(always)]
 pub fn store_many_imm(w: u32) -> Option<Sve>
     ensures { seen result ≡ row_in store_many_imm w }
 {
@@ -214,6 +220,7 @@ pub fn store_many_imm_bits(
 
 /// The instruction of `StoreManyReg` that a word is.
 #[tactic(auto, unfolding(sve_insn::specs::Memory::store_many_reg))]
+#[inline(always)]
 pub fn store_many_reg(w: u32) -> Option<Sve>
     ensures { seen result ≡ row_in store_many_reg w }
 {
@@ -252,6 +259,7 @@ pub fn store_many_reg_bits(
 
 /// The instruction of `StoreP` that a word is.
 #[tactic(auto, unfolding(sve_insn::specs::Memory::store_p))]
+#[inline(always)]
 pub fn store_p(w: u32) -> Option<Sve>
     ensures { seen result ≡ row_in store_p w }
 {

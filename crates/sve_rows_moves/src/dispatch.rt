@@ -17,6 +17,7 @@ use emu_bits::bits;
 use sve_insn::Sve;
 
 /// The immediate, permute or selection that a word is, found by bit 21, or none where the word is in no row of these lines.
+#[inline(always)]
 pub fn find_moves(w: u32) -> Option<Sve>
     ensures { seen result ≡ decode move_lines w }
 {
@@ -27,6 +28,7 @@ pub fn find_moves(w: u32) -> Option<Sve>
 }
 
 /// Bitmask immediates, and immediates that are copied under a predicate.
+#[inline(always)]
 fn words_of_immediates(w: u32) -> Option<Sve>
     ensures { seen result ≡ decode (bitmask_z ∷ copy_imm ∷ []) w }
 {
@@ -37,6 +39,7 @@ fn words_of_immediates(w: u32) -> Option<Sve>
 }
 
 /// Permutes and selections, by bits 15 to 14.
+#[inline(always)]
 fn words_of_permutes(w: u32) -> Option<Sve>
     ensures { seen result ≡ decode permutes_and_selections w }
 {
@@ -49,6 +52,7 @@ fn words_of_permutes(w: u32) -> Option<Sve>
 }
 
 /// Moves of lanes without a predicate, by bit 13.
+#[inline(always)]
 fn words_of_lane_moves(w: u32) -> Option<Sve>
     ensures { seen result ≡ decode lane_moves w }
 {
@@ -59,6 +63,7 @@ fn words_of_lane_moves(w: u32) -> Option<Sve>
 }
 
 /// Duplicates, an insertion, reversals, unpacking and look-ups.
+#[inline(always)]
 fn words_of_lane_moves_and_duplicates(w: u32) -> Option<Sve>
     ensures { seen result ≡ decode (dup_reg ∷ dup_lane ∷ insert_scalar ∷ rev_z ∷ unpack ∷ table_lookup ∷ []) w }
 {
@@ -81,6 +86,7 @@ fn words_of_lane_moves_and_duplicates(w: u32) -> Option<Sve>
 }
 
 /// Interleavings, and moves within predicates.
+#[inline(always)]
 fn words_of_interleavings(w: u32) -> Option<Sve>
     ensures { seen result ≡ decode (interleave ∷ interleave_p ∷ unpack_p ∷ rev_p ∷ []) w }
 {
@@ -97,6 +103,7 @@ fn words_of_interleavings(w: u32) -> Option<Sve>
 }
 
 /// Moves of the lanes that a predicate selects.
+#[inline(always)]
 fn words_of_active_lanes(w: u32) -> Option<Sve>
     ensures { seen result ≡ decode (compact ∷ splice ∷ copy_reg ∷ last_active ∷ cond_last ∷ []) w }
 {

@@ -12,6 +12,7 @@ use sve_insn::{BitmaskZOp, Sve, SveForm};
 
 /// The instruction of `BitmaskZ` that a word is.
 #[tactic(auto, unfolding(sve_insn::specs::Lanes::bitmask_z))]
+#[inline(always)]
 pub fn bitmask_z(w: u32) -> Option<Sve>
     ensures { seen result ≡ row_in bitmask_z w }
 {
@@ -41,6 +42,7 @@ pub fn bitmask_z_bits(op: BitmaskZOp, n: bool, immr: U<6>, imms: U<6>, zdn: Reg)
 
 /// The instruction of `CopyImm` that a word is.
 #[tactic(auto, unfolding(sve_insn::specs::Lanes::copy_imm))]
+#[inline(always)]
 pub fn copy_imm(w: u32) -> Option<Sve>
     ensures { seen result ≡ row_in copy_imm w }
 {

@@ -3,8 +3,8 @@
 
 mod dispatch;
 mod immediates;
+mod move_words;
 mod permutes;
-mod words;
 
 pub use dispatch::find_moves;
-pub use words::move_word;
+pub use move_words::move_word;

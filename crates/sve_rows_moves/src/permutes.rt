@@ -19,6 +19,7 @@ use sve_insn::{
 
 /// The instruction of `SelectZ` that a word is.
 #[tactic(auto, unfolding(sve_insn::specs::Lanes::select_z))]
+#[inline(always)]
 pub fn select_z(w: u32) -> Option<Sve>
     ensures { seen result ≡ row_in select_z w }
 {
@@ -51,6 +52,7 @@ pub fn select_z_bits(size: U<2>, zm: Reg, pg: Pred, zn: Reg, zd: Reg) -> u32
 
 /// The instruction of `DupReg` that a word is.
 #[tactic(auto, unfolding(sve_insn::specs::Folds::dup_reg))]
+#[inline(always)]
 pub fn dup_reg(w: u32) -> Option<Sve>
     ensures { seen result ≡ row_in dup_reg w }
 {
@@ -79,6 +81,7 @@ pub fn dup_reg_bits(size: U<2>, rn: Reg, zd: Reg) -> u32
 
 /// The instruction of `DupLane` that a word is.
 #[tactic(auto, unfolding(sve_insn::specs::Folds::dup_lane))]
+#[inline(always)]
 pub fn dup_lane(w: u32) -> Option<Sve>
     ensures { seen result ≡ row_in dup_lane w }
 {
@@ -109,6 +112,7 @@ pub fn dup_lane_bits(imm2: U<2>, tsz: U<5>, zn: Reg, zd: Reg) -> u32
 
 /// The instruction of `Insert` that a word is.
 #[tactic(auto, unfolding(sve_insn::specs::Folds::insert_scalar))]
+#[inline(always)]
 pub fn insert_scalar(w: u32) -> Option<Sve>
     ensures { seen result ≡ row_in insert_scalar w }
 {
@@ -136,6 +140,7 @@ pub fn insert_scalar_bits(op: InsertOp, size: U<2>, src: Reg, zdn: Reg) -> u32
 
 /// The instruction of `RevZ` that a word is.
 #[tactic(auto, unfolding(sve_insn::specs::Folds::rev_z))]
+#[inline(always)]
 pub fn rev_z(w: u32) -> Option<Sve>
     ensures { seen result ≡ row_in rev_z w }
 {
@@ -164,6 +169,7 @@ pub fn rev_z_bits(size: U<2>, zn: Reg, zd: Reg) -> u32
 
 /// The instruction of `Unpack` that a word is.
 #[tactic(auto, unfolding(sve_insn::specs::Folds::unpack))]
+#[inline(always)]
 pub fn unpack(w: u32) -> Option<Sve>
     ensures { seen result ≡ row_in unpack w }
 {
@@ -187,6 +193,7 @@ pub fn unpack_bits(op: UnpackOp, size: U<2>, zn: Reg, zd: Reg) -> u32
 
 /// The instruction of `Table` that a word is.
 #[tactic(auto, unfolding(sve_insn::specs::Folds::table_lookup))]
+#[inline(always)]
 pub fn table_lookup(w: u32) -> Option<Sve>
     ensures { seen result ≡ row_in table_lookup w }
 {
@@ -217,6 +224,7 @@ pub fn table_lookup_bits(size: U<2>, zm: Reg, zn: Reg, zd: Reg) -> u32
 
 /// The instruction of `Interleave` that a word is.
 #[tactic(auto, unfolding(sve_insn::specs::Folds::interleave))]
+#[inline(always)]
 pub fn interleave(w: u32) -> Option<Sve>
     ensures { seen result ≡ row_in interleave w }
 {
@@ -246,6 +254,7 @@ pub fn interleave_bits(op: InterleaveOp, size: U<2>, zm: Reg, zn: Reg, zd: Reg) 
 
 /// The instruction of `InterleaveP` that a word is.
 #[tactic(auto, unfolding(sve_insn::specs::Folds::interleave_p))]
+#[inline(always)]
 pub fn interleave_p(w: u32) -> Option<Sve>
     ensures { seen result ≡ row_in interleave_p w }
 {
@@ -275,6 +284,7 @@ pub fn interleave_p_bits(op: InterleaveOp, size: U<2>, pm: Pred, pn: Pred, pd: P
 
 /// The instruction of `UnpackP` that a word is.
 #[tactic(auto, unfolding(sve_insn::specs::Folds::unpack_p))]
+#[inline(always)]
 pub fn unpack_p(w: u32) -> Option<Sve>
     ensures { seen result ≡ row_in unpack_p w }
 {
@@ -297,6 +307,7 @@ pub fn unpack_p_bits(op: UnpackPOp, pn: Pred, pd: Pred) -> u32
 
 /// The instruction of `RevP` that a word is.
 #[tactic(auto, unfolding(sve_insn::specs::Folds::rev_p))]
+#[inline(always)]
 pub fn rev_p(w: u32) -> Option<Sve>
     ensures { seen result ≡ row_in rev_p w }
 {
@@ -325,6 +336,7 @@ pub fn rev_p_bits(size: U<2>, pn: Pred, pd: Pred) -> u32
 
 /// The instruction of `Compact` that a word is.
 #[tactic(auto, unfolding(sve_insn::specs::Folds::compact))]
+#[inline(always)]
 pub fn compact(w: u32) -> Option<Sve>
     ensures { seen result ≡ row_in compact w }
 {
@@ -355,6 +367,7 @@ pub fn compact_bits(size: U<2>, pg: PredLow, zn: Reg, zd: Reg) -> u32
 
 /// The instruction of `Splice` that a word is.
 #[tactic(auto, unfolding(sve_insn::specs::Folds::splice))]
+#[inline(always)]
 pub fn splice(w: u32) -> Option<Sve>
     ensures { seen result ≡ row_in splice w }
 {
@@ -385,6 +398,7 @@ pub fn splice_bits(size: U<2>, pg: PredLow, zm: Reg, zdn: Reg) -> u32
 
 /// The instruction of `Ext` that a word is.
 #[tactic(auto, unfolding(sve_insn::specs::Folds::ext))]
+#[inline(always)]
 pub fn ext(w: u32) -> Option<Sve>
     ensures { seen result ≡ row_in ext w }
 {
@@ -415,6 +429,7 @@ pub fn ext_bits(imm8h: U<5>, imm8l: U<3>, zm: Reg, zdn: Reg) -> u32
 
 /// The instruction of `CopyReg` that a word is.
 #[tactic(auto, unfolding(sve_insn::specs::Folds::copy_reg))]
+#[inline(always)]
 pub fn copy_reg(w: u32) -> Option<Sve>
     ensures { seen result ≡ row_in copy_reg w }
 {
@@ -444,6 +459,7 @@ pub fn copy_reg_bits(op: CopyRegOp, size: U<2>, pg: PredLow, rn: Reg, zd: Reg) -
 
 /// The instruction of `Last` that a word is.
 #[tactic(auto, unfolding(sve_insn::specs::Folds::last_active))]
+#[inline(always)]
 pub fn last_active(w: u32) -> Option<Sve>
     ensures { seen result ≡ row_in last_active w }
 {
@@ -473,6 +489,7 @@ pub fn last_active_bits(op: LastOp, size: U<2>, pg: PredLow, zn: Reg, rd: Reg) -
 
 /// The instruction of `CondLast` that a word is.
 #[tactic(auto, unfolding(sve_insn::specs::Folds::cond_last))]
+#[inline(always)]
 pub fn cond_last(w: u32) -> Option<Sve>
     ensures { seen result ≡ row_in cond_last w }
 {

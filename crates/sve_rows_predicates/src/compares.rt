@@ -15,6 +15,7 @@ use sve_insn::{CmpSImmOp, CmpUImmOp, CmpVecOp, CmpWideOp, CtermOp, Sve, SveForm,
 
 /// The instruction of `CmpVec` that a word is.
 #[tactic(auto, unfolding(sve_insn::specs::Predicates::cmp_vec))]
+#[inline(always)]
 pub fn cmp_vec(w: u32) -> Option<Sve>
     ensures { seen result ≡ row_in cmp_vec w }
 {
@@ -46,6 +47,7 @@ pub fn cmp_vec_bits(op: CmpVecOp, size: U<2>, zm: Reg, pg: PredLow, zn: Reg, pd:
 
 /// The instruction of `CmpWide` that a word is.
 #[tactic(auto, unfolding(sve_insn::specs::Predicates::cmp_wide))]
+#[inline(always)]
 pub fn cmp_wide(w: u32) -> Option<Sve>
     ensures { seen result ≡ row_in cmp_wide w }
 {
@@ -77,6 +79,7 @@ pub fn cmp_wide_bits(op: CmpWideOp, size: U<2>, zm: Reg, pg: PredLow, zn: Reg, p
 
 /// The instruction of `CmpUImm` that a word is.
 #[tactic(auto, unfolding(sve_insn::specs::Predicates::cmp_u_imm))]
+#[inline(always)]
 pub fn cmp_u_imm(w: u32) -> Option<Sve>
     ensures { seen result ≡ row_in cmp_u_imm w }
 {
@@ -108,6 +111,7 @@ pub fn cmp_u_imm_bits(op: CmpUImmOp, size: U<2>, imm7: U<7>, pg: PredLow, zn: Re
 
 /// The instruction of `CmpSImm` that a word is.
 #[tactic(auto, unfolding(sve_insn::specs::Predicates::cmp_s_imm))]
+#[inline(always)]
 pub fn cmp_s_imm(w: u32) -> Option<Sve>
     ensures { seen result ≡ row_in cmp_s_imm w }
 {
@@ -139,6 +143,7 @@ pub fn cmp_s_imm_bits(op: CmpSImmOp, size: U<2>, imm5: U<5>, pg: PredLow, zn: Re
 
 /// The instruction of `While` that a word is.
 #[tactic(auto, unfolding(sve_insn::specs::Predicates::while_compare))]
+#[inline(always)]
 pub fn while_compare(w: u32) -> Option<Sve>
     ensures { seen result ≡ row_in while_compare w }
 {
@@ -170,6 +175,7 @@ pub fn while_compare_bits(op: WhileOp, size: U<2>, rm: Reg, sf: bool, rn: Reg, p
 
 /// The instruction of `Cterm` that a word is.
 #[tactic(auto, unfolding(sve_insn::specs::Predicates::cterm))]
+#[inline(always)]
 pub fn cterm(w: u32) -> Option<Sve>
     ensures { seen result ≡ row_in cterm w }
 {

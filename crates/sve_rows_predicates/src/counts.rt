@@ -12,6 +12,7 @@ use sve_insn::{IncPOp, Sve, SveForm};
 
 /// The instruction of `CountP` that a word is.
 #[tactic(auto, unfolding(sve_insn::specs::Predicates::count_p))]
+#[inline(always)]
 pub fn count_p(w: u32) -> Option<Sve>
     ensures { seen result ≡ row_in count_p w }
 {
@@ -42,6 +43,7 @@ pub fn count_p_bits(size: U<2>, pg: Pred, pn: Pred, rd: Reg) -> u32
 
 /// The instruction of `IncP` that a word is.
 #[tactic(auto, unfolding(sve_insn::specs::Predicates::inc_p))]
+#[inline(always)]
 pub fn inc_p(w: u32) -> Option<Sve>
     ensures { seen result ≡ row_in inc_p w }
 {
@@ -65,6 +67,7 @@ pub fn inc_p_bits(op: IncPOp, size: U<2>, pm: Pred, rdn: Reg) -> u32
 
 /// The instruction of `IncPZ` that a word is.
 #[tactic(auto, unfolding(sve_insn::specs::Predicates::inc_p_z))]
+#[inline(always)]
 pub fn inc_p_z(w: u32) -> Option<Sve>
     ensures { seen result ≡ row_in inc_p_z w }
 {

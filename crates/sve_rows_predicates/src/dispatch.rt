@@ -20,6 +20,7 @@ use sve_insn::Sve;
 
 /// The compare, operation on predicates, count of them or operation with an immediate that a word is, found by bit 24, or
 /// none where the word is in no row of these lines.
+#[inline(always)]
 pub fn find_predicates(w: u32) -> Option<Sve>
     ensures { seen result ≡ decode predicate_lines w }
 {
@@ -30,6 +31,7 @@ pub fn find_predicates(w: u32) -> Option<Sve>
 }
 
 /// Compares of vectors, and with an unsigned immediate.
+#[inline(always)]
 fn words_of_vector_compares(w: u32) -> Option<Sve>
     ensures { seen result ≡ decode (cmp_vec ∷ cmp_wide ∷ cmp_u_imm ∷ []) w }
 {
@@ -43,6 +45,7 @@ fn words_of_vector_compares(w: u32) -> Option<Sve>
 }
 
 /// Operations on predicates, counts of them, and operations with an immediate, by bit 21.
+#[inline(always)]
 fn words_of_predicates_and_immediates(w: u32) -> Option<Sve>
     ensures { seen result ≡ decode predicates_and_immediates w }
 {
@@ -53,6 +56,7 @@ fn words_of_predicates_and_immediates(w: u32) -> Option<Sve>
 }
 
 /// Compares with a signed immediate, and operations on predicates, by bits 15 to 14.
+#[inline(always)]
 fn words_of_predicates(w: u32) -> Option<Sve>
     ensures { seen result ≡ decode signed_compares_and_predicates w }
 {
@@ -65,6 +69,7 @@ fn words_of_predicates(w: u32) -> Option<Sve>
 }
 
 /// Logical operations and breaks.
+#[inline(always)]
 fn words_of_logic_and_breaks(w: u32) -> Option<Sve>
     ensures { seen result ≡ decode (logic_p ∷ select_p ∷ break_first ∷ break_next ∷ []) w }
 {
@@ -81,6 +86,7 @@ fn words_of_logic_and_breaks(w: u32) -> Option<Sve>
 }
 
 /// Breaks of pairs, and operations on one predicate, by bit 20.
+#[inline(always)]
 fn words_of_pairs_and_single_predicates(w: u32) -> Option<Sve>
     ensures { seen result ≡ decode pairs_and_single_predicates w }
 {
@@ -91,6 +97,7 @@ fn words_of_pairs_and_single_predicates(w: u32) -> Option<Sve>
 }
 
 /// Operations on one predicate, by bits 19 to 16.
+#[inline(always)]
 fn words_of_single_predicates(w: u32) -> Option<Sve>
     ensures { seen result ≡ decode single_predicates w }
 {
@@ -103,6 +110,7 @@ fn words_of_single_predicates(w: u32) -> Option<Sve>
 }
 
 /// The first active element, constants, and FFR under a predicate.
+#[inline(always)]
 fn words_of_whole_predicates(w: u32) -> Option<Sve>
     ensures { seen result ≡ decode (first_active ∷ ptrue ∷ pfalse ∷ read_ffr ∷ []) w }
 {
@@ -119,6 +127,7 @@ fn words_of_whole_predicates(w: u32) -> Option<Sve>
 }
 
 /// The next active element, a constant with flags, and FFR whole.
+#[inline(always)]
 fn words_of_next_and_flags(w: u32) -> Option<Sve>
     ensures { seen result ≡ decode (next_active ∷ ptrue ∷ read_ffr_all ∷ []) w }
 {
@@ -132,6 +141,7 @@ fn words_of_next_and_flags(w: u32) -> Option<Sve>
 }
 
 /// Compares of general registers, counts of predicates, and operations with an immediate, by bits 15 to 14.
+#[inline(always)]
 fn words_of_counts_and_immediates(w: u32) -> Option<Sve>
     ensures { seen result ≡ decode counts_and_immediates w }
 {
@@ -144,6 +154,7 @@ fn words_of_counts_and_immediates(w: u32) -> Option<Sve>
 }
 
 /// Compares of general registers.
+#[inline(always)]
 fn words_of_register_compares(w: u32) -> Option<Sve>
     ensures { seen result ≡ decode (while_compare ∷ cterm ∷ []) w }
 {
@@ -154,6 +165,7 @@ fn words_of_register_compares(w: u32) -> Option<Sve>
 }
 
 /// Writes of FFR, and counts of predicates.
+#[inline(always)]
 fn words_of_predicate_counts(w: u32) -> Option<Sve>
     ensures { seen result ≡ decode (write_ffr ∷ count_p ∷ inc_p ∷ inc_p_z ∷ []) w }
 {
@@ -170,6 +182,7 @@ fn words_of_predicate_counts(w: u32) -> Option<Sve>
 }
 
 /// Operations with an immediate.
+#[inline(always)]
 fn words_of_immediates(w: u32) -> Option<Sve>
     ensures { seen result ≡ decode (wide_imm ∷ min_max_imm ∷ dup_imm ∷ []) w }
 {

@@ -12,6 +12,7 @@ use sve_insn::{MinMaxImmOp, Sve, SveForm, WideImmOp};
 
 /// The instruction of `WideImm` that a word is.
 #[tactic(auto, unfolding(sve_insn::specs::Lanes::wide_imm))]
+#[inline(always)]
 pub fn wide_imm(w: u32) -> Option<Sve>
     ensures { seen result ≡ row_in wide_imm w }
 {
@@ -41,6 +42,7 @@ pub fn wide_imm_bits(op: WideImmOp, size: U<2>, sh: bool, imm8: U<8>, zdn: Reg) 
 
 /// The instruction of `MinMaxImm` that a word is.
 #[tactic(auto, unfolding(sve_insn::specs::Lanes::min_max_imm))]
+#[inline(always)]
 pub fn min_max_imm(w: u32) -> Option<Sve>
     ensures { seen result ≡ row_in min_max_imm w }
 {
@@ -68,6 +70,7 @@ pub fn min_max_imm_bits(op: MinMaxImmOp, size: U<2>, imm8: U<8>, zdn: Reg) -> u3
 
 /// The instruction of `DupImm` that a word is.
 #[tactic(auto, unfolding(sve_insn::specs::Lanes::dup_imm))]
+#[inline(always)]
 pub fn dup_imm(w: u32) -> Option<Sve>
     ensures { seen result ≡ row_in dup_imm w }
 {

@@ -5,8 +5,8 @@ mod compares;
 mod counts;
 mod dispatch;
 mod immediates;
+mod predicate_words;
 mod predicates;
-mod words;
 
 pub use dispatch::find_predicates;
-pub use words::predicate_word;
+pub use predicate_words::predicate_word;

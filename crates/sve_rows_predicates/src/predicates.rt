@@ -15,6 +15,7 @@ use sve_insn::{BreakOp, BreakPairOp, LogicPOp, PtrueOp, ReadFfrOp, Sve, SveForm,
 
 /// The instruction of `LogicP` that a word is.
 #[tactic(auto, unfolding(sve_insn::specs::Predicates::logic_p))]
+#[inline(always)]
 pub fn logic_p(w: u32) -> Option<Sve>
     ensures { seen result ≡ row_in logic_p w }
 {
@@ -46,6 +47,7 @@ pub fn logic_p_bits(op: LogicPOp, s: bool, pm: Pred, pg: Pred, pn: Pred, pd: Pre
 
 /// The instruction of `SelectP` that a word is.
 #[tactic(auto, unfolding(sve_insn::specs::Predicates::select_p))]
+#[inline(always)]
 pub fn select_p(w: u32) -> Option<Sve>
     ensures { seen result ≡ row_in select_p w }
 {
@@ -76,6 +78,7 @@ pub fn select_p_bits(pm: Pred, pg: Pred, pn: Pred, pd: Pred) -> u32
 
 /// The instruction of `Break` that a word is.
 #[tactic(auto, unfolding(sve_insn::specs::Predicates::break_first))]
+#[inline(always)]
 pub fn break_first(w: u32) -> Option<Sve>
     ensures { seen result ≡ row_in break_first w }
 {
@@ -107,6 +110,7 @@ pub fn break_first_bits(op: BreakOp, s: bool, pg: Pred, pn: Pred, m: bool, pd: P
 
 /// The instruction of `BreakPair` that a word is.
 #[tactic(auto, unfolding(sve_insn::specs::Predicates::break_pair))]
+#[inline(always)]
 pub fn break_pair(w: u32) -> Option<Sve>
     ensures { seen result ≡ row_in break_pair w }
 {
@@ -138,6 +142,7 @@ pub fn break_pair_bits(op: BreakPairOp, s: bool, pm: Pred, pg: Pred, pn: Pred, p
 
 /// The instruction of `BreakNext` that a word is.
 #[tactic(auto, unfolding(sve_insn::specs::Predicates::break_next))]
+#[inline(always)]
 pub fn break_next(w: u32) -> Option<Sve>
     ensures { seen result ≡ row_in break_next w }
 {
@@ -168,6 +173,7 @@ pub fn break_next_bits(s: bool, pg: Pred, pn: Pred, pdm: Pred) -> u32
 
 /// The instruction of `Ptest` that a word is.
 #[tactic(auto, unfolding(sve_insn::specs::Predicates::ptest))]
+#[inline(always)]
 pub fn ptest(w: u32) -> Option<Sve>
     ensures { seen result ≡ row_in ptest w }
 {
@@ -191,6 +197,7 @@ pub fn ptest_bits(pg: Pred, pn: Pred) -> u32
 
 /// The instruction of `First` that a word is.
 #[tactic(auto, unfolding(sve_insn::specs::Predicates::first_active))]
+#[inline(always)]
 pub fn first_active(w: u32) -> Option<Sve>
     ensures { seen result ≡ row_in first_active w }
 {
@@ -214,6 +221,7 @@ pub fn first_active_bits(pg: Pred, pdn: Pred) -> u32
 
 /// The instruction of `Next` that a word is.
 #[tactic(auto, unfolding(sve_insn::specs::Predicates::next_active))]
+#[inline(always)]
 pub fn next_active(w: u32) -> Option<Sve>
     ensures { seen result ≡ row_in next_active w }
 {
@@ -242,6 +250,7 @@ pub fn next_active_bits(size: U<2>, pg: Pred, pdn: Pred) -> u32
 
 /// The instruction of `Ptrue` that a word is.
 #[tactic(auto, unfolding(sve_insn::specs::Predicates::ptrue))]
+#[inline(always)]
 pub fn ptrue(w: u32) -> Option<Sve>
     ensures { seen result ≡ row_in ptrue w }
 {
@@ -269,6 +278,7 @@ pub fn ptrue_bits(op: PtrueOp, size: U<2>, pattern: U<5>, pd: Pred) -> u32
 
 /// The instruction of `Pfalse` that a word is.
 #[tactic(auto, unfolding(sve_insn::specs::Predicates::pfalse))]
+#[inline(always)]
 pub fn pfalse(w: u32) -> Option<Sve>
     ensures { seen result ≡ row_in pfalse w }
 {
@@ -289,6 +299,7 @@ pub fn pfalse_bits(pd: Pred) -> u32
 
 /// The instruction of `ReadFfr` that a word is.
 #[tactic(auto, unfolding(sve_insn::specs::Predicates::read_ffr))]
+#[inline(always)]
 pub fn read_ffr(w: u32) -> Option<Sve>
     ensures { seen result ≡ row_in read_ffr w }
 {
@@ -311,6 +322,7 @@ pub fn read_ffr_bits(op: ReadFfrOp, pg: Pred, pd: Pred) -> u32
 
 /// The instruction of `ReadFfrAll` that a word is.
 #[tactic(auto, unfolding(sve_insn::specs::Predicates::read_ffr_all))]
+#[inline(always)]
 pub fn read_ffr_all(w: u32) -> Option<Sve>
     ensures { seen result ≡ row_in read_ffr_all w }
 {
@@ -331,6 +343,7 @@ pub fn read_ffr_all_bits(pd: Pred) -> u32
 
 /// The instruction of `WriteFfr` that a word is.
 #[tactic(auto, unfolding(sve_insn::specs::Predicates::write_ffr))]
+#[inline(always)]
 pub fn write_ffr(w: u32) -> Option<Sve>
     ensures { seen result ≡ row_in write_ffr w }
 {

@@ -1,9 +1,5 @@
 pub mod Checked
 pub mod Shown
-pub mod TotalMemory
-pub mod TotalData
-pub mod TotalMoves
-pub mod TotalPredicates
 pub mod Total
 pub mod Untargeted
 pub mod Examples

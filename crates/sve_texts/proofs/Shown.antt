@@ -1,7 +1,9 @@
 -- Each word of a line has a pattern.
-use Rattle.std.proofs.Common.{◌≡◌, ℕ, Bool, true, Some, List, [], ◌∷◌, ◌++◌, refl}
+use Rattle.std.proofs.Common.{◌≡◌, ℕ, Bool, true, Some, List, [], ◌∷◌, ◌&&◌, refl}
+use Rattle.std.proofs.lemmas.Bool.{and_parts}
 use Rattle.emu_bits.specs.Rows.{Place, Line, Row, values, row_in}
 use Rattle.emu_bits.proofs.Encoding.{answer_of}
+use Rattle.sve_texts.specs.Entry.{Entry, texts_in}
 use Rattle.sve_insn.specs.declared.form.SveForm.{SveForm}
 use Rattle.text_model.specs.Reading.{Pattern}
 use Rattle.text_model.specs.Text.{chosen}
@@ -18,17 +20,19 @@ AreShown [] (l ∷ ls) = ⊥
 AreShown (qs ∷ qss) [] = ⊥
 AreShown (qs ∷ qss) (l ∷ ls) = IsShown qs l × AreShown qss ls
 
--- Where the places that choose a pattern have one whatever they hold.
-pub by_test : (qs : List Pattern) (l : Line SveForm) (fs : List Place) → is_total qs l fs (λ k vs. true) ≡ true → IsShown qs l
-by_test qs l fs h = record { at = λ w r e. total qs l fs (λ k vs. true) w r h e refl }
+abbrev pub are_total : List Entry → Bool
+are_total [] = true
+are_total (e ∷ es) = is_total e.texts e.line e.by e.known && are_total es
 
--- Where they have one if the line's condition holds.
-pub by_condition : (qs : List Pattern) (l : Line SveForm) (fs : List Place) (ok : ℕ → List ℕ → Bool) → is_total qs l fs ok ≡ true
-    → ((k w : ℕ) → l.holds k (values l.places w) ≡ true → ok k (values fs w) ≡ true) → IsShown qs l
-by_condition qs l fs ok h f = record { at = λ w r e. total qs l fs ok w r h e (f r.number w (answer_of l w r e).held) }
+abbrev pub lines_in : List Entry → List (Line SveForm)
+lines_in [] = []
+lines_in (e ∷ es) = e.line ∷ lines_in es
 
-pub both_shown : (qss rss : List (List Pattern)) (ls ms : List (Line SveForm)) → AreShown qss ls → AreShown rss ms → AreShown (qss ++ rss) (ls ++ ms)
-both_shown [] rss [] ms h k = k
-both_shown [] rss (l ∷ ls) ms h k = absurd h
-both_shown (qs ∷ qss) rss [] ms h k = absurd h
-both_shown (qs ∷ qss) rss (l ∷ ls) ms h k = (h.0, both_shown qss rss ls ms h.1 k)
+shown : (e : Entry) → is_total e.texts e.line e.by e.known ≡ true → IsShown e.texts e.line
+shown e h = record { at = λ w r i. total e.texts e.line e.by e.known w r h i (e.follows r.number w (answer_of e.line w r i).held) }
+
+pub shown_by_test : (es : List Entry) → are_total es ≡ true → AreShown (texts_in es) (lines_in es)
+shown_by_test [] h = tt
+shown_by_test (e ∷ es) h =
+    let h2 = and_parts (is_total e.texts e.line e.by e.known) (are_total es) h in
+    (shown e h2.0, shown_by_test es h2.1)

@@ -5,8 +5,7 @@ use Rattle.emu_bits.specs.Fields.{bit}
 use Rattle.emu_bits.specs.Rows.{decode, encode}
 use Rattle.sve_insn.specs.declared.form.SveForm.{SveForm}
 use Rattle.sve_insn.specs.declared.form.SveForm.TheVariants.{BitmaskZ}
-use Rattle.sve_insn.specs.Lines.{line_number}
-use Rattle.sve_insn.specs.Table.{row_of, sve_table}
+use Rattle.sve_insn.specs.Table.{line_number, row_of, sve_table}
 use Rattle.text_model.specs.Reading.{Pattern}
 use Rattle.text_model.specs.Statement.{reads_text}
 use Rattle.text_model.specs.Text.{text_of}

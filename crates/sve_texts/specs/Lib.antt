@@ -6,5 +6,6 @@ pub mod Lanes
 pub mod Folds
 pub mod Permutes
 pub mod Predicates
+pub mod Entry
 pub mod Table
 pub mod Law

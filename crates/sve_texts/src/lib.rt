@@ -49,6 +49,7 @@ ghost use Rattle.text_code.specs.Tables.{lines_of, patterns_of};
 ghost use Rattle.sve_texts.specs.Law.{in_table, is_canonical_form, IsReadBack};
 ghost use Rattle.sve_texts.specs.Table.{data_texts, memory_texts, move_texts, predicate_texts, sve_lines};
 
+use sve_insn::lines;
 use sve_rows::decode_sve;
 use text_code::{Pattern, Spot, Table, line_of};
 
@@ -192,14 +193,14 @@ fn predicate_lines() -> [&'static [Pattern]; 25]
 fn line_numbered(number: u8) -> &'static [Pattern]
     ensures { patterns_of result.now ≡ get_or sve_lines number [] }
 {
-    if number < 37 {
+    if number < lines::BINARY {
         line_of(&memory_lines(), number)
-    } else if number < 60 {
-        line_of(&data_lines(), number - 37)
-    } else if number < 79 {
-        line_of(&move_lines(), number - 60)
+    } else if number < lines::BITMASK_Z {
+        line_of(&data_lines(), number - lines::BINARY)
+    } else if number < lines::CMP_VEC {
+        line_of(&move_lines(), number - lines::BITMASK_Z)
     } else {
-        line_of(&predicate_lines(), number - 79)
+        line_of(&predicate_lines(), number - lines::CMP_VEC)
     }
 }
 

@@ -3,7 +3,7 @@ use Rattle.std.specs.Prelude.{ℕ, ◌==◌, if◌then◌else◌, List, [], ◌�
 use denote.Ref.{Bor}
 use Rattle.text_model.specs.declared.slots.Slot.{Slot}
 use Rattle.text_lists.specs.declared.slot_list.TheConstants.{SLOTS, NONE}
-use Rattle.text_lists.specs.declared.names.TheConstants.{NAMES}
+use Rattle.text_lists.specs.declared.name_list.TheConstants.{NAMES}
 
 abbrev pub texts_of : List (Bor (List ℕ)) → List (List ℕ)
 texts_of [] = []

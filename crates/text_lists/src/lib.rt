@@ -2,6 +2,8 @@
 //! place of pointers, and a program that has them starts without touching them.
 #![tactic(auto)]
 
+pub mod atomic_names;
+mod name_list;
 pub mod names;
 mod slot_list;
 pub mod slots;
@@ -10,7 +12,7 @@ ghost use Rattle.std.specs.Prelude.{◌≡◌, [], get_or};
 ghost use Rattle.text_lists.specs.Lists.{name_at, slot_at, texts_of};
 ghost use Rattle.text_lists.specs.declared.slot_list.TheConstants.{NONE};
 
-use names::NAMES;
+use name_list::NAMES;
 use slot_list::{NONE, SLOTS};
 use text_model::Slot;
 

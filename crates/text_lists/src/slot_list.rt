@@ -81,7 +81,7 @@ macro_rules! target {
 pub(crate) const NONE: Slot = mark!(Unknown);
 
 /// The slots in the order of their numbers.
-pub(crate) const SLOTS: [Slot; 229] = [
+pub(crate) const SLOTS: [Slot; 230] = [
     NONE,
     // marks, and words that are always the same
     mark!(Comma),
@@ -667,4 +667,6 @@ pub(crate) const SLOTS: [Slot; 229] = [
     target!(4, 1, at!(18, 5)),
     target!(1, 1, two!(23, 5, 30, 29)),
     target!(4096, 4096, two!(23, 5, 30, 29)),
+    // behind the others
+    told!(30, 30, General, Plain, at!(20, 16)),
 ];

@@ -706,3 +706,8 @@ pub const TARGET_23_5_30_29: u8 = 227;
 
 /// A target: bits 23 to 5 and bits 30 to 29 signed, times 4096, behind the instruction's address, which is rounded down to a multiple of 4096.
 pub const TARGET_23_5_30_29_BY_PAGE: u8 = 228;
+
+// ---- behind the others
+
+/// A `w` or `x` register, as bit 30 tells: bits 20 to 16.
+pub const RM_BY_30: u8 = 229;

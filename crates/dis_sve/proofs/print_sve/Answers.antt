@@ -1,5 +1,5 @@
 use Rattle.std.proofs.Common.{◌≡◌, ℕ, List, [], get_or, ap, ap₂, ◌∙◌}
-use Rattle.sve_insn.specs.Lines.{line_number}
+use Rattle.sve_insn.specs.Table.{line_number}
 use Rattle.sve_texts.specs.Table.{sve_lines}
 use Rattle.sve_texts.proofs.Checked.{lines_sound}
 use Rattle.text_model.specs.Reading.{Pattern}
@@ -15,6 +15,6 @@ print_word-requires-clause-room c = room c.line_number-number.result
 
 pub returns : goal.returns
 returns c =
-    let n : c.line_number-number.result ≡ line_number c.args.i.now = c.line_number-number.ensures.number ∙ ap line_number c.form.ensures.form in
+    let n : c.line_number-number.result ≡ line_number c.args.i.now = c.line_number-number.ensures ∙ ap line_number c.form.ensures.form in
     c.print_word.ensures
     ∙ ap₂ (λ (ps : List Pattern) (w : ℕ). text_of ps w 0) (one_line c.line_number-number.result ∙ ap (λ (k : ℕ). get_or sve_lines k []) n) c.encode_sve-word.ensures.table

@@ -4,4 +4,4 @@ use Rattle.insn_decode.proofs.Tables.{of_sve}
 use Rattle.insn_decode.proofs.decode_sve_word.Goals as goal
 
 pub returns-clause-table : goal.returns-clause-table
-returns-clause-table c = ap sve c.decode_sve.ensures.form ∙ of_sve c.args.w c.requires
+returns-clause-table c = ap sve c.decode_sve_here.ensures.form ∙ of_sve c.args.w c.requires
