@@ -1,0 +1,2 @@
+pub mod FourWords
+pub mod WordPlaces
