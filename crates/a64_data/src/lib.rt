@@ -20,34 +20,6 @@ ghost use Rattle.a64_effects.specs.Scalar.{is_data, scalar};
 use a64_insn::{A64, A64Form};
 use core_regs::{Core, Effect};
 
-/// Whether an instruction is in a data row: one that works on the scalar registers and the flags alone.
-pub fn is_data(i: &A64) -> bool
-    ensures { result ≡ is_data i.now }
-{
-    matches!(
-        *i.form(),
-        A64Form::Adr { .. }
-            | A64Form::AddImm { .. }
-            | A64Form::LogicImm { .. }
-            | A64Form::MoveWide { .. }
-            | A64Form::Bitfield { .. }
-            | A64Form::Extract { .. }
-            | A64Form::LogicReg { .. }
-            | A64Form::AddReg { .. }
-            | A64Form::AddExt { .. }
-            | A64Form::AddCarry { .. }
-            | A64Form::CondReg { .. }
-            | A64Form::CondImm { .. }
-            | A64Form::Select { .. }
-            | A64Form::MulAdd { .. }
-            | A64Form::MulLong { .. }
-            | A64Form::MulHigh { .. }
-            | A64Form::TwoSource { .. }
-            | A64Form::OneSource { .. }
-            | A64Form::Rev { .. }
-    )
-}
-
 /// Does an instruction of the data rows at 64 or 32 bits: sums, logical operations, moves, fields, shifts, products,
 /// quotients, conditional compares and selects. Only Rd and the flags change; the step goes on behind the instruction.
 pub fn exec(core: &mut Core, i: &A64) -> Effect

@@ -1,5 +1,5 @@
 -- Branches, exceptions, and the system's rows.
-use Rattle.std.specs.Prelude.{ℕ, ◌+◌, ◌*◌, ◌/◌, ◌%◌, ◌^◌, Bool, true, false, not, None, nat_eq, if◌then◌else◌, ℤ, pos, ◌+ℤ◌, ◌*ℤ◌}
+use Rattle.std.specs.Prelude.{ℕ, ◌+◌, ◌*◌, ◌/◌, ◌%◌, ◌^◌, Bool, not, None, nat_eq, if◌then◌else◌, ℤ, pos, ◌+ℤ◌, ◌*ℤ◌}
 use Rattle.a64_insn.specs.declared.form.A64Form.{A64Form}
 use Rattle.a64_insn.specs.declared.form.A64Form.TheVariants.{Branch, BranchCond, Compare, Test, BranchReg, Except, Hint, Barrier, ReadSys, WriteSys}
 use Rattle.a64_insn.specs.declared.ops.BranchOp.{BranchOp}
@@ -28,6 +28,8 @@ use Rattle.emu_model.specs.Access.{Memory, address}
 use Rattle.emu_model.specs.State.{Core, Vectors, read_x, with_x}
 use Rattle.emu_model.specs.Done.{Done, quietly, went_well, branches, traps}
 use Rattle.a64_effects.specs.Scalar.{operand}
+use Rattle.a64_effects.specs.declared.pages.Page.TheVariants.{Flow}
+use Rattle.a64_effects.specs.Pages.{page_of, same_page}
 
 -- ---- targets
 
@@ -88,17 +90,7 @@ with_system_value WriteNzcv v c = record c { flags = flags_of_number (v / 2 ^ 28
 
 -- the branches, exceptions, hints, barriers and moves of system registers
 abbrev pub is_flow : A64Form → Bool
-is_flow (Branch op imm26) = true
-is_flow (BranchCond imm19 cond) = true
-is_flow (Compare op sf imm19 rt) = true
-is_flow (Test op b5 b40 imm14 rt) = true
-is_flow (BranchReg op rn) = true
-is_flow (Except op imm16) = true
-is_flow (Hint n) = true
-is_flow (Barrier op n) = true
-is_flow (ReadSys op rt) = true
-is_flow (WriteSys op rt) = true
-is_flow form = false
+is_flow form = same_page Flow (page_of form)
 
 abbrev pub branched : BranchOp → Core → Vectors → Memory → ℕ → Done
 branched B c v m a = branches c v m a

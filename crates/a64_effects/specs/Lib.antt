@@ -1,9 +1,11 @@
+pub mod Atomic
 pub mod BitMoves
 pub mod Effects
 pub mod Flow
 pub mod LoadStore
 pub mod Pages
 pub mod Scalar
+pub mod SoundAtomic
 pub mod SoundBitMoves
 pub mod SoundEffects
 pub mod SoundFlow

@@ -1,7 +1,7 @@
 -- Loads and stores: their elements, their tests, and what they leave.
 use Rattle.std.specs.Prelude.{ℕ, ◌+◌, ◌*◌, ◌%◌, ◌^◌, Bool, true, false, not, ◌&&◌, ◌||◌, List, [], ◌∷◌, Option, Some, None, nat_eq, nat_le, if◌then◌else◌, pos, ◌*ℤ◌}
 use Rattle.a64_insn.specs.declared.form.A64Form.{A64Form}
-use Rattle.a64_insn.specs.declared.form.A64Form.TheVariants.{LsUnsigned, LsUnscaled, LsPost, LsPre, LsReg, LsLiteral, Pair, StoreEx, LoadEx, Ordered}
+use Rattle.a64_insn.specs.declared.form.A64Form.TheVariants.{LsUnsigned, LsUnscaled, LsPost, LsPre, LsReg, LsLiteral, Pair, StoreEx, LoadEx, Ordered, Atomic, CompareSwap}
 use Rattle.a64_insn.specs.declared.ops.OrderedOp.{OrderedOp}
 use Rattle.a64_insn.specs.declared.ops.OrderedOp.TheVariants.{Stlr, Ldar}
 use Rattle.emu_bits.specs.Fields.{bit}
@@ -16,7 +16,10 @@ use Rattle.a64_effects.specs.declared.transfer.Transfer.{Transfer}
 use Rattle.a64_effects.specs.declared.transfer.Transfer.TheVariants.{Store, Load, LoadSigned, LoadSigned32, Prefetch, StoreVector, LoadVector}
 use Rattle.emu_model.specs.Done.{Done, Registers, traps}
 use Rattle.emu_model.specs.Elements.{Element, Reach, reach, with_stored, accesses_of}
+use Rattle.a64_effects.specs.Atomic.{atomic, compare_swap}
 use Rattle.a64_effects.specs.Flow.{offset, target}
+use Rattle.a64_effects.specs.declared.pages.Page.TheVariants.{Accesses}
+use Rattle.a64_effects.specs.Pages.{page_of, same_page}
 
 -- ---- what is moved
 
@@ -150,6 +153,8 @@ has_sp_base (Pair opc v mode l imm7 rt2 rn rt) = nat_eq rn 31
 has_sp_base (StoreEx op size rs rn rt) = nat_eq rn 31
 has_sp_base (LoadEx op size rn rt) = nat_eq rn 31
 has_sp_base (Ordered op size rn rt) = nat_eq rn 31
+has_sp_base (Atomic op size acquires releases rs rn rt) = nat_eq rn 31
+has_sp_base (CompareSwap size acquires releases rs rn rt) = nat_eq rn 31
 has_sp_base form = false
 
 -- and SP isn't a multiple of 16
@@ -160,11 +165,13 @@ is_misaligned has c = has && not (nat_eq (c.sp % 16) 0)
 abbrev pub unless_multiple : ℕ → ℕ → Option ℕ
 unless_multiple a n = if nat_eq (a % n) 0 then None else Some a
 
--- exclusive and ordered accesses stand at multiples of their size; the others stand anywhere
+-- exclusive, ordered and atomic accesses stand at multiples of their size; the others stand anywhere
 abbrev pub misaligned : A64Form → Core → Option ℕ
 misaligned (StoreEx op size rs rn rt) c = unless_multiple (read_x_sp c rn) (2 ^ size)
 misaligned (LoadEx op size rn rt) c = unless_multiple (read_x_sp c rn) (2 ^ size)
 misaligned (Ordered op size rn rt) c = unless_multiple (read_x_sp c rn) (2 ^ size)
+misaligned (Atomic op size acquires releases rs rn rt) c = unless_multiple (read_x_sp c rn) (2 ^ size)
+misaligned (CompareSwap size acquires releases rs rn rt) c = unless_multiple (read_x_sp c rn) (2 ^ size)
 misaligned form c = None
 
 -- ---- what is left
@@ -247,19 +254,15 @@ unless_misaligned None c w m d = d
 abbrev pub tested : Bool → Option ℕ → Core → Vectors → Memory → Done → Done
 tested has at c w m d = if is_misaligned has c then traps c w m SpAlign c.sp else unless_misaligned at c w m d
 
+-- what comes after the tests: a load and a store as one step, or elements one after the other
+abbrev pub accessed : A64Form → Core → Vectors → Memory → Done
+accessed (Atomic op size acquires releases rs rn rt) c w m = atomic op (2 ^ size) rs rn rt c w m
+accessed (CompareSwap size acquires releases rs rn rt) c w m = compare_swap (2 ^ size) rs rn rt c w m
+accessed form c w m = transferred (transfer_of form) (elements form c) (behind form c) c w m
+
 abbrev pub access : A64Form → Core → Vectors → Memory → Done
-access form c w m = tested (has_sp_base form) (misaligned form c) c w m (transferred (transfer_of form) (elements form c) (behind form c) c w m)
+access form c w m = tested (has_sp_base form) (misaligned form c) c w m (accessed form c w m)
 
 -- the rows of this page
 abbrev pub is_load_store : A64Form → Bool
-is_load_store (LsUnsigned size v opc imm12 rn rt) = true
-is_load_store (LsUnscaled size v opc imm9 rn rt) = true
-is_load_store (LsPost size v opc imm9 rn rt) = true
-is_load_store (LsPre size v opc imm9 rn rt) = true
-is_load_store (LsReg size v opc rm ext s rn rt) = true
-is_load_store (LsLiteral opc v imm19 rt) = true
-is_load_store (Pair opc v mode l imm7 rt2 rn rt) = true
-is_load_store (StoreEx op size rs rn rt) = true
-is_load_store (LoadEx op size rn rt) = true
-is_load_store (Ordered op size rn rt) = true
-is_load_store form = false
+is_load_store form = same_page Accesses (page_of form)

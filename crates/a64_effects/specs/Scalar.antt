@@ -39,6 +39,8 @@ use Rattle.emu_bits.specs.Bitmask.{bitmask_of}
 use Rattle.emu_bits.specs.declared.flags.Flags.{Flags}
 use Rattle.emu_model.specs.State.{Core, read_x, read_x_sp, with_x, with_x_sp}
 use Rattle.emu_bits.specs.Operations.{complement, difference, flags_of_result, lsl, lsr, asr, ror, shifted, extracted, replaced, field_from, field_bits, field_to, signed_product, upper_product, signed_upper_product, unsigned_quotient, signed_quotient, reversed_bits, reversed_bytes, leading_zeros, leading_copies}
+use Rattle.a64_effects.specs.declared.pages.Page.TheVariants.{Data}
+use Rattle.a64_effects.specs.Pages.{page_of, same_page}
 
 -- the low w bits of a register; register 31 reads 0
 abbrev pub operand : ℕ → Core → ℕ → ℕ
@@ -227,26 +229,7 @@ byte_reversed Rev32 a = reversed_bytes 4 8 a
 
 -- the rows that work on the scalar registers and the flags alone
 abbrev pub is_data : A64Form → Bool
-is_data (Adr op immlo immhi rd) = true
-is_data (AddImm op sf sh imm rn rd) = true
-is_data (LogicImm op sf n immr imms rn rd) = true
-is_data (MoveWide op sf hw imm rd) = true
-is_data (Bitfield op sf n r s rn rd) = true
-is_data (Extract sf n rm s rn rd) = true
-is_data (LogicReg op sf shift rm amount rn rd) = true
-is_data (AddReg op sf shift rm amount rn rd) = true
-is_data (AddExt op sf rm ext a rn rd) = true
-is_data (AddCarry op sf rm rn rd) = true
-is_data (CondReg op sf rm cond rn f) = true
-is_data (CondImm op sf i cond rn f) = true
-is_data (Select op sf rm cond rn rd) = true
-is_data (MulAdd op sf rm ra rn rd) = true
-is_data (MulLong op rm ra rn rd) = true
-is_data (MulHigh op rm rn rd) = true
-is_data (TwoSource op sf rm rn rd) = true
-is_data (OneSource op sf rn rd) = true
-is_data (Rev op rn rd) = true
-is_data form = false
+is_data form = same_page Data (page_of form)
 
 -- The registers after an instruction of the data rows, which goes on behind it.
 abbrev pub scalar : A64Form → Core → Core

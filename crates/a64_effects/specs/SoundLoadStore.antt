@@ -2,7 +2,7 @@
 use Rattle.std.specs.Prelude.{ℕ, ◌*◌, ◌%◌, ◌^◌, Bool, true, false, not, List, [], ◌∷◌, Option, Some, None, IfSome, nat_eq, if◌then◌else◌}
 use Rattle.std.proofs.Common.{arith}
 use Rattle.a64_insn.specs.declared.form.A64Form.{A64Form}
-use Rattle.a64_insn.specs.declared.form.A64Form.TheVariants.{LsPost, LsPre, Pair, StoreEx, LoadEx, Ordered}
+use Rattle.a64_insn.specs.declared.form.A64Form.TheVariants.{LsPost, LsPre, Pair, StoreEx, LoadEx, Ordered, Atomic, CompareSwap}
 use Rattle.emu_bits.specs.Fields.{bit}
 use Rattle.emu_model.specs.declared.access.Kind.TheVariants.{Read as ReadKind, Write as WriteKind}
 use Rattle.emu_model.specs.declared.trap.TrapKind.TheVariants.{SpAlign, AccessAlign}
@@ -16,8 +16,9 @@ use Rattle.emu_model.specs.Elements.{Element, reach}
 use Rattle.emu_model.specs.SoundElements.{stop_is_word, with_stored_sound}
 use Rattle.a64_effects.specs.declared.transfer.Transfer.{Transfer}
 use Rattle.a64_effects.specs.declared.transfer.Transfer.TheVariants.{Store, Load, LoadSigned, LoadSigned32, Prefetch, StoreVector, LoadVector}
-use Rattle.a64_effects.specs.LoadStore.{transfer_of, near, pair_near, pair_bytes, writes_back, is_kept, elements, has_sp_base, is_misaligned, unless_multiple, misaligned, loaded_value, is_vector, with_element, with_loaded, stored_value, based, behind, store_as_far, went_with, load_as_far, stored_to, loaded_to, transferred, unless_misaligned, tested, access}
+use Rattle.a64_effects.specs.LoadStore.{transfer_of, near, pair_near, pair_bytes, writes_back, is_kept, elements, has_sp_base, is_misaligned, unless_multiple, misaligned, loaded_value, is_vector, with_element, with_loaded, stored_value, based, behind, store_as_far, went_with, load_as_far, stored_to, loaded_to, transferred, unless_misaligned, tested, accessed, access}
 use Rattle.emu_model.specs.SoundDone.{IsSoundDone, IsSoundRegisters, traps_sound}
+use Rattle.a64_effects.specs.SoundAtomic.{atomic_sound, compare_swap_sound}
 use Rattle.a64_effects.specs.SoundFlow.{read_x_sp_is_word}
 
 -- ---- what is loaded
@@ -96,6 +97,8 @@ module _ (c : Core) (x : Vectors) (m : Memory) (s : IsSoundCore c) (y : IsSoundV
   misaligned_is_word (StoreEx op size rs rn rt) = multiple_is_word (read_x_sp c rn) (2 ^ size) (read_x_sp_is_word c rn s)
   misaligned_is_word (LoadEx op size rn rt) = multiple_is_word (read_x_sp c rn) (2 ^ size) (read_x_sp_is_word c rn s)
   misaligned_is_word (Ordered op size rn rt) = multiple_is_word (read_x_sp c rn) (2 ^ size) (read_x_sp_is_word c rn s)
+  misaligned_is_word (Atomic op size acquires releases rs rn rt) = multiple_is_word (read_x_sp c rn) (2 ^ size) (read_x_sp_is_word c rn s)
+  misaligned_is_word (CompareSwap size acquires releases rs rn rt) = multiple_is_word (read_x_sp c rn) (2 ^ size) (read_x_sp_is_word c rn s)
   misaligned_is_word form = tt
 
   tested_sound : (has : Bool) (o : Option ℕ) (d : Done) → IfSome o IsWord → IsSoundDone d → IsSoundDone (tested has o c x m d)
@@ -104,7 +107,10 @@ module _ (c : Core) (x : Vectors) (m : Memory) (s : IsSoundCore c) (y : IsSoundV
     | false ↦ unless_sound o d w h
   ]
 
+  accessed_sound : (form : A64Form) → IsSoundDone (accessed form c x m)
+  accessed_sound (Atomic op size acquires releases rs rn rt) = atomic_sound c x m s y t op (2 ^ size) rs rn rt
+  accessed_sound (CompareSwap size acquires releases rs rn rt) = compare_swap_sound c x m s y t (2 ^ size) rs rn rt
+  accessed_sound form = transferred_sound (behind form c) (λ d u. behind_sound form c d s u) (transfer_of form) (elements form c)
+
   pub access_sound : (form : A64Form) → IsSoundDone (access form c x m)
-  access_sound form =
-      tested_sound (has_sp_base form) (misaligned form c) (transferred (transfer_of form) (elements form c) (behind form c) c x m) (misaligned_is_word form)
-      (transferred_sound (behind form c) (λ d u. behind_sound form c d s u) (transfer_of form) (elements form c))
+  access_sound form = tested_sound (has_sp_base form) (misaligned form c) (accessed form c x m) (misaligned_is_word form) (accessed_sound form)

@@ -3,6 +3,8 @@
 #![tactic(auto)]
 
 pub mod laws;
+pub mod pages;
 pub mod transfer;
 
+pub use pages::{Page, page_of};
 pub use transfer::Transfer;

@@ -1,7 +1,7 @@
 -- The loads and stores of general registers by how they find their address, and what they change beside it.
 use Rattle.std.specs.Prelude.{Bool, true, false}
 use Rattle.a64_insn.specs.declared.form.A64Form.{A64Form}
-use Rattle.a64_insn.specs.declared.form.A64Form.TheVariants.{LsUnsigned, LsUnscaled, LsPost, LsPre, LsReg, LsLiteral, StoreEx, LoadEx, Ordered}
+use Rattle.a64_insn.specs.declared.form.A64Form.TheVariants.{LsUnsigned, LsUnscaled, LsPost, LsPre, LsReg, LsLiteral, StoreEx, LoadEx, Ordered, Atomic, CompareSwap}
 
 -- one register from a base, which stays, or near PC
 abbrev pub is_at_offset : A64Form → Bool
@@ -23,3 +23,9 @@ is_exclusive (StoreEx op size rs rn rt) = true
 is_exclusive (LoadEx op size rn rt) = true
 is_exclusive (Ordered op size rn rt) = true
 is_exclusive form = false
+
+-- loads and stores as one step
+abbrev pub is_atomic : A64Form → Bool
+is_atomic (Atomic op size acquires releases rs rn rt) = true
+is_atomic (CompareSwap size acquires releases rs rn rt) = true
+is_atomic form = false

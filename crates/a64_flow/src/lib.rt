@@ -2,6 +2,7 @@
 #![tactic(auto)]
 
 mod alignment;
+mod atomic;
 mod branches;
 mod elements;
 mod exclusive;
@@ -21,35 +22,6 @@ use a64_insn::{A64, A64Form};
 use core_regs::{Core, Effect};
 use guest_mem::{AccessLog, Mem};
 use vec_regs::VecRegs;
-
-/// Whether an instruction is in a row of this crate: a branch or system row, or a load or store.
-pub fn is_own(i: &A64) -> bool
-    ensures { result ≡ (is_flow i.now || is_load_store i.now) }
-{
-    matches!(
-        *i.form(),
-        A64Form::Branch { .. }
-            | A64Form::BranchCond { .. }
-            | A64Form::Compare { .. }
-            | A64Form::Test { .. }
-            | A64Form::BranchReg { .. }
-            | A64Form::Except { .. }
-            | A64Form::Hint { .. }
-            | A64Form::Barrier { .. }
-            | A64Form::ReadSys { .. }
-            | A64Form::WriteSys { .. }
-            | A64Form::LsUnsigned { .. }
-            | A64Form::LsUnscaled { .. }
-            | A64Form::LsPost { .. }
-            | A64Form::LsPre { .. }
-            | A64Form::LsReg { .. }
-            | A64Form::LsLiteral { .. }
-            | A64Form::Pair { .. }
-            | A64Form::StoreEx { .. }
-            | A64Form::LoadEx { .. }
-            | A64Form::Ordered { .. }
-    )
-}
 
 /// Does an instruction of the branch and system rows, or a load or store of general or vector registers, and says how the step goes
 /// on. The elements that were loaded or stored are logged in order. A trap changes no register; a store that traps has

@@ -5,7 +5,7 @@ ghost use Rattle.a64_effects.specs.LoadStore as table;
 ghost use Rattle.a64_flow.specs.Ends.{ended};
 
 use crate::pairs::pair;
-use crate::{exclusive, indexed, offsets};
+use crate::{atomic, exclusive, indexed, offsets};
 use a64_insn::{A64, A64Form};
 use core_regs::{Core, Trap};
 use guest_mem::{AccessLog, Mem};
@@ -40,6 +40,7 @@ pub(crate) fn access(
         } => pair(core, vec, mem, log, opc, v, mode, l, imm7, rt2, rn, rt),
         A64Form::StoreEx { .. } | A64Form::LoadEx { .. } | A64Form::Ordered { .. } =>
             exclusive::exec(core, vec, mem, log, i),
+        A64Form::Atomic { .. } | A64Form::CompareSwap { .. } => atomic::exec(core, mem, log, i),
         _ => Ok(()),
     }
 }

@@ -13,13 +13,6 @@ use core_regs::{Core, Effect};
 use emu_bits::{Reg, U};
 use vec_regs::VecRegs;
 
-/// Whether an instruction is in a row of bit moves: `fmov`, `movi` or `mvni`.
-pub fn is_own(i: &A64) -> bool
-    ensures { result ≡ table.is_bit_move i.now }
-{
-    matches!(*i.form(), A64Form::FMove { .. } | A64Form::MoveImm { .. })
-}
-
 /// Does a bit move, and goes on behind it. Only Rd changes: a general register, or the low 32, 64 or 128 bits of a vector register,
 /// whose bits above are 0.
 pub fn exec(core: &mut Core, vec: &mut VecRegs, i: &A64) -> Effect

@@ -2,7 +2,6 @@ pub mod Advanced
 pub mod Breaks
 pub mod CallLaws
 pub mod Composed
-pub mod Gathered
 pub mod Laid
 pub mod Left
 pub mod Loading

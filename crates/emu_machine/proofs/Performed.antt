@@ -1,8 +1,8 @@
 -- An instruction that asks for a call is svc, and does nothing else.
-use Rattle.std.proofs.Common.{◌≡◌, ℕ, Bool, true, false, List, [], Option, Some, None, is_none, if◌then◌else◌, refl, ap, sym, ◌∙◌}
+use Rattle.std.proofs.Common.{◌≡◌, ℕ, ◌*◌, ◌^◌, ◌==◌, Bool, true, false, List, [], Option, Some, None, is_none, if◌then◌else◌, refl, ap, sym, ◌∙◌}
 use Rattle.std.specs.Prelude.{◌||◌, is_some}
 use Rattle.a64_insn.specs.declared.form.A64Form.{A64Form}
-use Rattle.a64_insn.specs.declared.form.A64Form.TheVariants.{Branch, BranchCond, Compare, Test, BranchReg, Except}
+use Rattle.a64_insn.specs.declared.form.A64Form.TheVariants.{Branch, BranchCond, Compare, Test, BranchReg, Except, Atomic, CompareSwap}
 use Rattle.a64_insn.specs.declared.ops.BranchOp.TheVariants.{B, Bl}
 use Rattle.a64_insn.specs.declared.ops.BranchRegOp.TheVariants.{Br, Blr, Ret}
 use Rattle.a64_insn.specs.declared.ops.ExceptOp.TheVariants.{Svc, Brk, Hlt}
@@ -13,27 +13,32 @@ use Rattle.emu_model.specs.declared.access.Kind.TheVariants.{Read as ReadKind, W
 use Rattle.emu_model.specs.declared.trap.TrapKind.TheVariants.{SpAlign}
 use Rattle.emu_model.specs.declared.trap.Effect.{Effect}
 use Rattle.emu_model.specs.declared.trap.Effect.TheVariants.{Call}
-use Rattle.emu_model.specs.Access.{Memory}
+use Rattle.emu_model.specs.Access.{Memory, refused, value}
 use Rattle.emu_model.specs.declared.program_break.Break.{Break}
 use Rattle.emu_model.specs.declared.trap.Ended.{Ended}
-use Rattle.emu_model.specs.State.{Core, Vectors, read_x}
+use Rattle.emu_model.specs.State.{Core, Vectors, read_x, read_x_sp, with_x}
 use Rattle.emu_run.specs.declared.insn.Insn.{Insn}
 use Rattle.emu_run.specs.declared.insn.Insn.TheVariants.{A64, Sve}
-use Rattle.a64_effects.specs.BitMoves.{bit_move}
+use Rattle.a64_effects.specs.declared.pages.Page as a64_page
+use Rattle.a64_effects.specs.declared.pages.Page.TheVariants as a64_pages
 use Rattle.a64_effects.specs.Effects as a64
+use Rattle.a64_effects.specs.Pages.{page_of as a64_page_of}
 use Rattle.sve_insn.specs.declared.form.SveForm.{SveForm}
+use Rattle.sve_effects.specs.declared.pages.Page.{Page}
+use Rattle.sve_effects.specs.declared.pages.Page.TheVariants.{Lanes, Permutes, Counts, Folds, Predicates, Loads, Stores, Gathers, Scatters, FirstFaults}
 use Rattle.sve_effects.specs.Effects as sve
 use Rattle.sve_effects.specs.FirstFault.{first_fault, first_fault_loaded, first_refused, is_non_fault, loaded_unless}
-use Rattle.sve_effects.specs.PredicateRows.{is_predicate, predicate}
+use Rattle.sve_effects.specs.Pages.{page_of}
 use Rattle.sve_effects.specs.VectorElements.{layout, elements_of}
 use Rattle.sve_effects.specs.VectorLoadStore as memory_rows
 use Rattle.a64_effects.specs.declared.transfer.Transfer.{Transfer}
 use Rattle.a64_effects.specs.declared.transfer.Transfer.TheVariants.{Store, Load, LoadSigned, LoadSigned32, Prefetch, StoreVector, LoadVector}
-use Rattle.emu_model.specs.Done.{Done, Registers, quietly, went_well, went_on_with, traps}
+use Rattle.emu_model.specs.Done.{Done, quietly, traps}
 use Rattle.emu_model.specs.Elements.{Element, reach}
-use Rattle.a64_effects.specs.Flow.{branches_if, is_flow, is_taken, is_taken_by, digit, tested_bit, target, flow}
-use Rattle.a64_effects.specs.LoadStore.{access, behind, elements, has_sp_base, is_load_store, is_misaligned, load_as_far, loaded_to, misaligned, store_as_far, stored_to, tested, transfer_of, transferred, unless_misaligned}
-use Rattle.a64_effects.specs.Scalar.{is_data, operand, scalar}
+use Rattle.a64_effects.specs.Flow.{branches_if, is_taken, is_taken_by, digit, tested_bit, target, flow}
+use Rattle.a64_effects.specs.Atomic.{low_bytes, updated, swapped, exchanged, unless_refused, one_step}
+use Rattle.a64_effects.specs.LoadStore.{access, accessed, behind, elements, has_sp_base, is_misaligned, load_as_far, loaded_to, misaligned, store_as_far, stored_to, tested, transfer_of, transferred, unless_misaligned}
+use Rattle.a64_effects.specs.Scalar.{operand}
 use Rattle.emu_run.specs.Step.{performed}
 use Rattle.emu_machine.specs.Machines.{MachineState, has_ended, is_svc}
 
@@ -78,9 +83,29 @@ module _ (c : Core) (v : Vectors) (m : Memory) where
     | false ↦ unless_is_other o d other
   ]
 
+  exchanged_is_other : (a n : ℕ) (new : Option ℕ) (d : Core) → IsOther (exchanged a n new d v m).effect
+  exchanged_is_other a n None d = λ h. cc
+  exchanged_is_other a n (Some x) d = λ h. cc
+
+  refused_is_other : (read written : Option ℕ) (d : Done) → IsOther d.effect → IsOther (unless_refused read written c v m d).effect
+  refused_is_other (Some a) written d other = λ h. cc
+  refused_is_other None (Some a) d other = λ h. cc
+  refused_is_other None None d other = other
+
+  one_step_is_other : (a n : ℕ) (new : ℕ → Option ℕ) (after : ℕ → Core) → IsOther (one_step a n new after c v m).effect
+  one_step_is_other a n new after =
+      let o : ℕ = value m a n in
+      refused_is_other (refused m a n ReadKind) (refused m a n WriteKind) (exchanged a n (new o) (after o) v m) (exchanged_is_other a n (new o) (after o))
+
+  accessed_is_other : (form : A64Form) → IsOther (accessed form c v m).effect
+  accessed_is_other (Atomic op size acquires releases rs rn rt) =
+      one_step_is_other (read_x_sp c rn) (2 ^ size) (λ o. Some (updated op (2 ^ size) o (low_bytes (2 ^ size) c rs))) (with_x c rt 64)
+  accessed_is_other (CompareSwap size acquires releases rs rn rt) =
+      one_step_is_other (read_x_sp c rn) (2 ^ size) (λ o. swapped (o == low_bytes (2 ^ size) c rs) (low_bytes (2 ^ size) c rt)) (with_x c rs 64)
+  accessed_is_other form = transferred_is_other (behind form c) (transfer_of form) (elements form c)
+
   access_is_other : (form : A64Form) → IsOther (access form c v m).effect
-  access_is_other form =
-      tested_is_other (has_sp_base form) (misaligned form c) (transferred (transfer_of form) (elements form c) (behind form c) c v m) (transferred_is_other (behind form c) (transfer_of form) (elements form c))
+  access_is_other form = tested_is_other (has_sp_base form) (misaligned form c) (accessed form c v m) (accessed_is_other form)
 
   -- ---- of the branches and system rows svc alone does
 
@@ -106,17 +131,14 @@ module _ (c : Core) (v : Vectors) (m : Memory) where
   flow_alone (Except Hlt imm16) = λ h. absurd (cc)
   flow_alone form = λ h. absurd (cc)
 
+  on_page_alone : (form : A64Form) (page : a64_page.Page) → AsksAlone (A64 form) (a64.performed_on page form c v m)
+  on_page_alone form a64_pages.Data = λ h. absurd (cc)
+  on_page_alone form a64_pages.Flow = flow_alone form
+  on_page_alone form a64_pages.Accesses = λ h. absurd (access_is_other form h)
+  on_page_alone form a64_pages.BitMoves = λ h. absurd (cc)
+
   a64_alone : (form : A64Form) → AsksAlone (A64 form) (a64.performed form c v m)
-  a64_alone form = elim (is_data form) as (λ b. AsksAlone (A64 form) (if b then went_well (scalar form c) v m else (if is_flow form then flow form c v m else (if is_load_store form then access form c v m else went_on_with (bit_move form c v) m)))) [
-    | true ↦ λ h. absurd (cc)
-    | false ↦ elim (is_flow form) as (λ b. AsksAlone (A64 form) (if b then flow form c v m else (if is_load_store form then access form c v m else went_on_with (bit_move form c v) m))) [
-      | true ↦ flow_alone form
-      | false ↦ elim (is_load_store form) as (λ b. AsksAlone (A64 form) (if b then access form c v m else went_on_with (bit_move form c v) m)) [
-        | true ↦ λ h. absurd (access_is_other form h)
-        | false ↦ λ h. absurd (cc)
-      ]
-    ]
-  ]
+  a64_alone form = on_page_alone form (a64_page_of form)
 
   -- ---- no SVE row does
 
@@ -134,13 +156,15 @@ module _ (c : Core) (v : Vectors) (m : Memory) where
     | false ↦ other
   ]
 
-  by_direction_is_other : (loads : Bool) (form : SveForm) → IsOther (if loads then memory_rows.vector_load form c v m else memory_rows.vector_store form c v m).effect
-  by_direction_is_other true form =
+  vector_load_is_other : (form : SveForm) → IsOther (memory_rows.vector_load form c v m).effect
+  vector_load_is_other form =
       let l = layout form c v in
       let r = reach m ReadKind (elements_of l) in
       unless_sp_is_other (memory_rows.has_sp_base form) (elements_of l) (memory_rows.loaded_to r (memory_rows.after_load form l m v) c v m)
       (vector_loaded_is_other r.stop r.done (memory_rows.after_load form l m v))
-  by_direction_is_other false form =
+
+  vector_store_is_other : (form : SveForm) → IsOther (memory_rows.vector_store form c v m).effect
+  vector_store_is_other form =
       let l = layout form c v in
       let r = reach m WriteKind (elements_of l) in
       unless_sp_is_other (memory_rows.has_sp_base form) (elements_of l) (memory_rows.stored_to r (memory_rows.element_stored form l v) c v m)
@@ -157,19 +181,20 @@ module _ (c : Core) (v : Vectors) (m : Memory) where
       let o : Option ℕ = if is_non_fault form then None else first_refused m (elements_of l) in
       unless_sp_is_other (memory_rows.has_sp_base form) (elements_of l) (loaded_unless o d c v m) (loaded_unless_is_other o d (λ h. cc))
 
-  by_page_is_other : (p₁ p₂ p₃ p₄ : Bool) (a b : Registers) (x y z : Done) → IsOther x.effect → IsOther y.effect → IsOther z.effect
-      → IsOther (if p₁ then went_on_with a m else (if p₂ then went_on_with b m else (if p₃ then x else (if p₄ then y else z)))).effect
-  by_page_is_other true p₂ p₃ p₄ a b x y z f g h = λ e. cc
-  by_page_is_other false true p₃ p₄ a b x y z f g h = λ e. cc
-  by_page_is_other false false true p₄ a b x y z f g h = f
-  by_page_is_other false false false true a b x y z f g h = g
-  by_page_is_other false false false false a b x y z f g h = h
+  on_page_is_other : (form : SveForm) (page : Page) → IsOther (sve.performed_on page form c v m).effect
+  on_page_is_other form Lanes = λ h. cc
+  on_page_is_other form Permutes = λ h. cc
+  on_page_is_other form Counts = λ h. cc
+  on_page_is_other form Folds = λ h. cc
+  on_page_is_other form Predicates = λ h. cc
+  on_page_is_other form Loads = vector_load_is_other form
+  on_page_is_other form Stores = vector_store_is_other form
+  on_page_is_other form Gathers = vector_load_is_other form
+  on_page_is_other form Scatters = vector_store_is_other form
+  on_page_is_other form FirstFaults = first_fault_is_other form
 
   sve_is_other : (form : SveForm) → IsOther (sve.performed form c v m).effect
-  sve_is_other form =
-      by_page_is_other (sve.is_data form) (is_predicate form) (memory_rows.is_contiguous form) (memory_rows.is_gather_scatter form)
-      (sve.after_data form c v) (predicate form c v) (memory_rows.contiguous form c v m) (memory_rows.gather_scatter form c v m) (first_fault form c v m)
-      (by_direction_is_other (memory_rows.is_contiguous_load form) form) (by_direction_is_other (memory_rows.is_gather form) form) (first_fault_is_other form)
+  sve_is_other form = on_page_is_other form (page_of form)
 
   performed_alone : (i : Insn) → AsksAlone i (performed i c v m)
   performed_alone (A64 form) = a64_alone form

@@ -7,7 +7,6 @@
 mod arguments;
 mod calls;
 mod ends;
-mod exec;
 mod load;
 mod machine;
 mod open;

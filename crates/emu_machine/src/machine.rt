@@ -14,12 +14,12 @@ ghost use Rattle.emu_machine.specs.Ends.{step_end, run_end, run_end_of, is_undon
 ghost use Rattle.emu_machine.specs.Machines.{has_ended, is_at_call, is_svc, MakesRead, MakesWrite};
 
 use crate::ends::{Progress, RunEnd, StepEnd, run_end_of, step_end};
-use crate::exec::{perform_a64, perform_sve};
 use a64_insn::A64;
 use core_regs::{Core, Effect};
 use emu_model::{Break, Ended, Kind, Trap, TrapKind};
 use guest_mem::{Access, AccessLog, Mem};
 use insn_decode::{decode_a64_word, decode_sve_word, may_be_sve};
+use insn_exec::{perform_a64, perform_sve};
 use io_gate::{Sink, Source};
 use std::marker::Model;
 use vec_regs::VecRegs;

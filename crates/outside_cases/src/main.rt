@@ -21,116 +21,28 @@ mod state;
 mod sve_names;
 mod words;
 
-ghost use Rattle.std.specs.Prelude.{◌≡◌, [], true, false};
-ghost use Rattle.sve_effects.specs.VectorLoadStore.{is_first_fault};
-
 use crate::state::State;
 use crate::words::line_agrees;
-use a64_insn::A64;
-use core_regs::{Core, Effect};
-use guest_mem::{AccessLog, Mem};
+use core_regs::Effect;
+use guest_mem::AccessLog;
 use insn_decode::{Insn, decode};
+use insn_exec::{load_listed, perform};
 use std::alloc::Global;
 use std::io;
-use sve_insn::{Sve, SveForm};
-use vec_regs::{Length, VecRegs};
+use vec_regs::Length;
 
-/// Does an instruction by the crate of its row. None where its row doesn't run.
-fn effect_of(state: &mut State, insn: &Insn) -> Option<Effect> {
-    match insn {
-        Insn::A64(insn) => a64_effect(state, insn),
-        Insn::Sve(insn) => sve_effect(state, insn),
-    }
-}
-
-fn a64_effect(state: &mut State, insn: &A64) -> Option<Effect> {
-    if a64_data::is_data(insn) {
-        return Some(a64_data::exec(&mut state.core, insn));
-    }
-    if a64_flow::is_own(insn) {
-        let mut log = AccessLog::new();
-        let (core, vec, memory) = (&mut state.core, &mut state.vec, &mut state.memory);
-        let effect = a64_flow::exec(core, vec, memory, &mut log, insn);
-        state.accesses = Some(log.as_slice().len());
-        return Some(effect);
-    }
-    if bit_moves::is_own(insn) {
-        return Some(bit_moves::exec(&mut state.core, &mut state.vec, insn));
-    }
-    None
-}
-
-fn sve_effect(state: &mut State, insn: &Sve) -> Option<Effect> {
-    if sve_data::is_own(insn) {
-        return Some(sve_data::exec(&mut state.core, &mut state.vec, insn));
-    }
-    if sve_pred::is_own(insn) {
-        return Some(sve_pred::exec(&mut state.core, &mut state.vec, insn));
-    }
-    memory_effect(state, insn)
-}
-
-fn memory_effect(state: &mut State, insn: &Sve) -> Option<Effect> {
-    let (core, vec, memory) = (&mut state.core, &mut state.vec, &mut state.memory);
+/// Does an instruction, counts the elements that it loads or stores, and says what it leaves to the step.
+fn effect_of(state: &mut State, insn: &Insn) -> Effect {
     let mut log = AccessLog::new();
-    let effect = if sve_loads::is_own(insn) {
-        sve_loads::exec(core, vec, memory, &mut log, insn)
-    } else if sve_gather::is_own(insn) {
-        sve_gather::exec(core, vec, memory, &mut log, insn)
-    } else if sve_ffr::is_own(insn) {
-        if load_unrefused(core, vec, memory, &mut log, insn) {
-            Effect::Next
-        } else {
-            load_listed(core, vec, memory, &mut log, insn)
-        }
-    } else {
-        return None;
-    };
+    let (core, vec, memory) = (&mut state.core, &mut state.vec, &mut state.memory);
+    let effect = perform(core, vec, memory, &mut log, insn);
     state.accesses = Some(log.as_slice().len());
-    Some(effect)
+    effect
 }
 
-/// Does a first-faulting or non-faulting load at once, and says whether it did.
-fn load_unrefused(
-    core: &Core,
-    vec: &mut VecRegs,
-    memory: &mut Mem,
-    log: &mut AccessLog,
-    insn: &Sve,
-) -> bool
-    requires own { is_first_fault insn.now ≡ true }
-    requires empty { log.old.items ≡ [] }
-    ensures unlogged { result ≡ false → log.new.items ≡ [] }
-{
-    match insn.form() {
-        SveForm::LoadFf { .. } | SveForm::LoadNf { .. } => {
-            sve_loads::load_unrefused(core, vec, memory, log, insn)
-        }
-        _ => sve_gather::load_unrefused(core, vec, memory, log, insn),
-    }
-}
-
-/// Does a first-faulting or non-faulting load element by element.
-fn load_listed(
-    core: &mut Core,
-    vec: &mut VecRegs,
-    memory: &mut Mem,
-    log: &mut AccessLog,
-    insn: &Sve,
-) -> Effect
-    requires own { is_first_fault insn.now ≡ true }
-    requires empty { log.old.items ≡ [] }
-{
-    let list = match insn.form() {
-        SveForm::LoadFf { .. } | SveForm::LoadNf { .. } => sve_loads::elements(core, vec, insn),
-        _ => sve_gather::elements(core, vec, insn),
-    };
-    sve_ffr::exec(core, vec, memory, log, insn, &list)
-}
-
-/// Does an instruction, and goes on as its effect says. None where its row doesn't run, or it is a call.
+/// Does an instruction, and goes on as its effect says. None where it is a call.
 fn step(state: &mut State, insn: &Insn) -> Option<()> {
-    let effect = effect_of(state, insn)?;
+    let effect = effect_of(state, insn);
     go_on(state, effect)
 }
 
@@ -179,7 +91,7 @@ fn wanted_after(
     Some(state)
 }
 
-/// Whether an instruction does what a case has. None where the line is no case of a row that runs.
+/// Whether an instruction does what a case has. None where the line is no case of an instruction that makes no call.
 fn agrees(alloc: Global, line: &str) -> Option<bool> {
     let mut columns = line.split('\t');
     let word = u32::from_str_radix(columns.next()?, 16).ok()?;

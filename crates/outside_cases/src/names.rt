@@ -73,6 +73,8 @@ fn memory_name(form: &A64Form) -> Option<&'static str> {
         A64Form::StoreEx { .. } => "StoreEx",
         A64Form::LoadEx { .. } => "LoadEx",
         A64Form::Ordered { .. } => "Ordered",
+        A64Form::Atomic { .. } => "Atomic",
+        A64Form::CompareSwap { .. } => "CompareSwap",
         A64Form::FMove { .. } => "FMove",
         A64Form::MoveImm { .. } => "MoveImm",
         _ => return None,

@@ -23,11 +23,6 @@ fn word_agrees(word: u32, form: &str) -> bool {
                 && encode(&insn) == word
                 && again(&insn).is_some_and(|same| encode(&same) == word)
         }
-        None => has_no_row(form),
+        None => form == "-",
     }
-}
-
-/// Whether words of a form are in no row. The rows of atomic instructions aren't in the table yet.
-fn has_no_row(form: &str) -> bool {
-    matches!(form, "-" | "Atomic" | "CompareSwap")
 }

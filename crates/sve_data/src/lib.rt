@@ -6,28 +6,28 @@ ghost use Rattle.emu_model.specs.declared.trap.Effect.{Effect};
 ghost use Rattle.sve_effects.specs.Effects.{is_data, after_data};
 
 use core_regs::{Core, Effect};
+use sve_effects::{Page, page_of};
 use sve_insn::Sve;
 use vec_regs::VecRegs;
 
-/// Whether an instruction is in a row of this crate.
-pub fn is_own(i: &Sve) -> bool
-    ensures { result ≡ is_data i.now }
-{
-    sve_lanes::is_own(i) || sve_permutes::is_own(i)
-}
-
 /// Does an instruction of the data rows: it writes its destination, a vector register of VL bits, a predicate or a general register,
 /// and nothing else. The step goes on behind the instruction.
+#[inline(always)]
 pub fn exec(core: &mut Core, vec: &mut VecRegs, i: &Sve) -> Effect
     requires { is_data i.now ≡ true }
     ensures registers { core.new ≡ (after_data i.now core.old vec.old).core }
     ensures vectors { vec.new ≡ (after_data i.now core.old vec.old).vectors }
     ensures effect { result ≡ Effect.Next }
 {
-    if sve_lanes::is_own(i) {
-        sve_lanes::exec(core, vec, i);
-    } else {
-        sve_permutes::exec(core, vec, i);
+    match page_of(i.form()) {
+        Page::Lanes => sve_lanes::exec(core, vec, i),
+        Page::Permutes | Page::Counts | Page::Folds => sve_permutes::exec(core, vec, i),
+        Page::Predicates
+        | Page::Loads
+        | Page::Stores
+        | Page::Gathers
+        | Page::Scatters
+        | Page::FirstFaults => {}
     }
     Effect::Next
 }

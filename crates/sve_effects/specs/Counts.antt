@@ -17,6 +17,8 @@ use Rattle.sve_effects.specs.Element.{element, extended_by}
 use Rattle.sve_effects.specs.ElementLoop.{lane_bits, lane_of, plain}
 use Rattle.sve_effects.specs.Pattern.{pattern_count}
 use Rattle.sve_effects.specs.PermuteRows.{lanes}
+use Rattle.sve_effects.specs.declared.pages.Page.TheVariants.{Counts}
+use Rattle.sve_effects.specs.Pages.{page_of, same_page}
 
 -- ---- counts
 
@@ -61,14 +63,7 @@ multiple imm6 bytes = signed imm6 6 *ℤ pos bytes
 -- ---- the rows
 
 abbrev pub is_count : SveForm → Bool
-is_count (Count size imm4 pattern rd) = true
-is_count (IncX op size imm4 pattern rdn) = true
-is_count (IncZ op size imm4 pattern zdn) = true
-is_count (SatX op size sf imm4 pattern rdn) = true
-is_count (SatZ op size imm4 pattern zdn) = true
-is_count (AddLength op rn imm6 rd) = true
-is_count (ReadLength imm6 rd) = true
-is_count form = false
+is_count form = same_page Counts (page_of form)
 
 -- The registers after an instruction of these rows, which goes on behind it.
 abbrev pub counted : SveForm → Core → Vectors → Registers

@@ -1,5 +1,5 @@
 -- Folds over the active lanes of a register, in the order of lanes.
-use Rattle.std.specs.Prelude.{ℕ, ◌-◌, ◌^◌, Bool, true, false}
+use Rattle.std.specs.Prelude.{ℕ, ◌-◌, ◌^◌, Bool}
 use Rattle.sve_insn.specs.declared.form.SveForm.{SveForm}
 use Rattle.sve_insn.specs.declared.form.SveForm.TheVariants.{Reduce}
 use Rattle.sve_insn.specs.declared.ops.ReduceOp.{ReduceOp}
@@ -11,6 +11,8 @@ use Rattle.emu_model.specs.State.{Core, Vectors}
 use Rattle.sve_effects.specs.Element.{element}
 use Rattle.sve_effects.specs.ElementLoop.{lane_bits, folding}
 use Rattle.vec_model.specs.Lanes.{with_low}
+use Rattle.sve_effects.specs.declared.pages.Page.TheVariants.{Folds}
+use Rattle.sve_effects.specs.Pages.{page_of, same_page}
 
 -- the next value, of the value so far and a lane of e bits; sums are of the signed or the unsigned lanes, modulo 2^64
 abbrev pub reduce_step : ReduceOp → ℕ → ℕ → ℕ → ℕ
@@ -43,8 +45,7 @@ reduce_bits Uaddv e = 64
 reduce_bits op e = e
 
 abbrev pub is_fold : SveForm → Bool
-is_fold (Reduce op size pg zn vd) = true
-is_fold form = false
+is_fold form = same_page Folds (page_of form)
 
 -- the low bits of Vd are the result
 abbrev pub reduced : ReduceOp → ℕ → ℕ → ℕ → ℕ → Vectors → Vectors

@@ -23,6 +23,8 @@ use Rattle.vec_model.specs.Lanes.{read_p, with_lanes, with_low, with_fields}
 use Rattle.sve_effects.specs.declared.places.Place.{Place}
 use Rattle.sve_effects.specs.declared.places.Place.TheVariants.{Scalar}
 use Rattle.sve_effects.specs.Permute.{taken, interleave_place, ext_place, rev_place, insr_place, indexed_place, half_place, copy_place, compact_place, splice_place, last_lane}
+use Rattle.sve_effects.specs.declared.pages.Page.TheVariants.{Permutes}
+use Rattle.sve_effects.specs.Pages.{page_of, same_page}
 
 -- ---- lanes and fields by places
 
@@ -113,23 +115,7 @@ last_value_or other after e pg zn v = if any_active (is_active e v pg) (lanes e 
 
 -- the permutes, the copies to lanes, and the lanes that a predicate's last active one names
 abbrev pub is_permute : SveForm → Bool
-is_permute (DupReg size rn zd) = true
-is_permute (DupLane imm2 tsz zn zd) = true
-is_permute (Insert op size src zdn) = true
-is_permute (RevZ size zn zd) = true
-is_permute (Unpack op size zn zd) = true
-is_permute (Table size zm zn zd) = true
-is_permute (Interleave op size zm zn zd) = true
-is_permute (InterleaveP op size pm pn pd) = true
-is_permute (UnpackP op pn pd) = true
-is_permute (RevP size pn pd) = true
-is_permute (Compact size pg zn zd) = true
-is_permute (Splice size pg zm zdn) = true
-is_permute (Ext imm8h imm8l zm zdn) = true
-is_permute (CopyReg op size pg rn zd) = true
-is_permute (Last op size pg zn rd) = true
-is_permute (CondLast op size pg zm zdn) = true
-is_permute form = false
+is_permute form = same_page Permutes (page_of form)
 
 -- the lane to a general register, with zeros above, or to a vector register
 abbrev pub after_last : LastOp → ℕ → ℕ → ℕ → Core → Vectors → Registers

@@ -46,6 +46,8 @@ use Rattle.sve_effects.specs.ElementLoop.{lane_bits, lane_of, covering_lane, is_
 use Rattle.vec_model.specs.Lanes.{read_p, with_p, with_ffr, with_lanes}
 use Rattle.sve_effects.specs.Pattern.{pattern_count}
 use Rattle.sve_effects.specs.Predicate.{is_set, fields, pred_test, logic, broken, broken_pair, broken_next, with_first, only_next, lanes_below, while_lanes, count_lanes}
+use Rattle.sve_effects.specs.declared.pages.Page.TheVariants.{Predicates}
+use Rattle.sve_effects.specs.Pages.{page_of, same_page}
 
 -- ---- results
 
@@ -183,29 +185,7 @@ termination_flags ends f = record { n = ends; z = f.z; c = f.c; v = not ends && 
 
 -- the rows that compare into predicates, or work on predicates and FFR
 abbrev pub is_predicate : SveForm → Bool
-is_predicate (CmpVec op size zm pg zn pd) = true
-is_predicate (CmpWide op size zm pg zn pd) = true
-is_predicate (CmpUImm op size imm7 pg zn pd) = true
-is_predicate (CmpSImm op size imm5 pg zn pd) = true
-is_predicate (LogicP op s pm pg pn pd) = true
-is_predicate (SelectP pm pg pn pd) = true
-is_predicate (Break op s pg pn m pd) = true
-is_predicate (BreakPair op s pm pg pn pd) = true
-is_predicate (BreakNext s pg pn pdm) = true
-is_predicate (Ptest pg pn) = true
-is_predicate (First pg pdn) = true
-is_predicate (Next size pg pdn) = true
-is_predicate (Ptrue op size pattern pd) = true
-is_predicate (Pfalse pd) = true
-is_predicate (ReadFfr op pg pd) = true
-is_predicate (ReadFfrAll pd) = true
-is_predicate (WriteFfr op pn) = true
-is_predicate (CountP size pg pn rd) = true
-is_predicate (IncP op size pm rdn) = true
-is_predicate (IncPZ op size pm zdn) = true
-is_predicate (While op size rm sf rn pd) = true
-is_predicate (Cterm op sf rm rn) = true
-is_predicate form = false
+is_predicate form = same_page Predicates (page_of form)
 
 -- The registers after an instruction of these rows, which goes on behind it.
 abbrev pub predicate : SveForm → Core → Vectors → Registers

@@ -14,6 +14,8 @@ use Rattle.emu_bits.specs.Numbers.{signed, unsigned_int}
 use Rattle.emu_model.specs.State.{Core, Vectors, read_x}
 use Rattle.sve_effects.specs.Element.{element, element_by, unary, multiply_by, subtracts_z, subtracts_d, dot_product, dot_signed, dot_indexed_signed, binary_element, binary_exchanged, shift_element, shift_imm_element, plain_element, logic_element, wide_imm_element, wide_imm_exchanged, min_max_element, min_max_signed, bitmask_element, extended_by}
 use Rattle.sve_effects.specs.ElementLoop.{lane_bits, lane_of, covering_lane, is_active, plain, merging, zeroing}
+use Rattle.sve_effects.specs.declared.pages.Page.TheVariants.{Lanes}
+use Rattle.sve_effects.specs.Pages.{page_of, same_page}
 
 -- ---- immediate shifts
 
@@ -97,28 +99,7 @@ with_second exchanged op e zn second v k = element_by exchanged op e (lane_of e 
 
 -- the rows that work lane by lane
 abbrev pub is_vector_data : SveForm → Bool
-is_vector_data (Binary op size pg zm zdn) = true
-is_vector_data (BinaryWide op size pg zm zdn) = true
-is_vector_data (ShiftImm op tszh pg tszl imm3 zdn) = true
-is_vector_data (Unary op size pg zn zd) = true
-is_vector_data (MulAddZ op size zm pg zn zda) = true
-is_vector_data (MulAddD op size zm pg za zdn) = true
-is_vector_data (Plain op size zm zn zd) = true
-is_vector_data (LogicZ op zm zn zd) = true
-is_vector_data (PlainWide op size zm zn zd) = true
-is_vector_data (PlainShift op tszh tszl imm3 zn zd) = true
-is_vector_data (Index op size y x zd) = true
-is_vector_data (Dot op size zm zn zda) = true
-is_vector_data (DotIndexed op i_zm zn zda) = true
-is_vector_data (WideImm op size sh imm8 zdn) = true
-is_vector_data (MinMaxImm op size imm8 zdn) = true
-is_vector_data (DupImm size sh imm8 zd) = true
-is_vector_data (BitmaskZ op n immr imms zdn) = true
-is_vector_data (CopyImm size pg m sh imm8 zd) = true
-is_vector_data (PrefixP size m pg zn zd) = true
-is_vector_data (Prefix zn zd) = true
-is_vector_data (SelectZ size zm pg zn zd) = true
-is_vector_data form = false
+is_vector_data form = same_page Lanes (page_of form)
 
 -- The vector registers after an instruction of these rows: the values of all operands are those before it.
 abbrev pub vector_data : SveForm → Core → Vectors → Vectors

@@ -1,7 +1,7 @@
 -- What SVE loads and stores leave, but for the first-faulting and non-faulting ones.
 use Rattle.std.specs.Prelude.{ℕ, zero, suc, ◌+◌, ◌*◌, ◌/◌, ◌%◌, ◌^◌, Bool, true, false, not, ◌&&◌, ◌||◌, List, [], ◌∷◌, get_or, Option, Some, None, nat_eq, if◌then◌else◌}
 use Rattle.sve_insn.specs.declared.form.SveForm.{SveForm}
-use Rattle.sve_insn.specs.declared.form.SveForm.TheVariants.{LoadImm, LoadReg, LoadFf, LoadNf, LoadNtImm, LoadNtReg, LoadQuadImm, LoadQuadReg, LoadManyImm, LoadManyReg, LoadOne, LoadZ, LoadP, StoreImm, StoreReg, StoreNtImm, StoreNtReg, StoreManyImm, StoreManyReg, StoreZ, StoreP, GatherSx, GatherSxScaled, GatherDx, GatherDxScaled, GatherD, GatherDScaled, GatherSv, GatherDv, ScatterSx, ScatterSxScaled, ScatterDx, ScatterDxScaled, ScatterD, ScatterDScaled, ScatterSv, ScatterDv}
+use Rattle.sve_insn.specs.declared.form.SveForm.TheVariants.{LoadImm, LoadReg, LoadFf, LoadNf, LoadNtImm, LoadNtReg, LoadQuadImm, LoadQuadReg, LoadManyImm, LoadManyReg, LoadOne, LoadZ, LoadP, StoreImm, StoreReg, StoreNtImm, StoreNtReg, StoreManyImm, StoreManyReg, StoreZ, StoreP, GatherSx, GatherSxScaled, GatherDx, GatherDxScaled, GatherD, GatherDScaled, GatherSv, GatherDv, ScatterSx, ScatterSxScaled, ScatterDx, ScatterDxScaled, ScatterD, ScatterDScaled}
 use Rattle.emu_bits.specs.Fields.{bit}
 use Rattle.emu_bits.specs.Operations.{number_of_bits}
 use Rattle.emu_model.specs.declared.access.Kind.TheVariants.{Read as ReadKind, Write as WriteKind}
@@ -16,6 +16,8 @@ use Rattle.vec_model.specs.Lanes.{lane, read_z, read_p, with_lanes, with_p}
 use Rattle.sve_effects.specs.Element.{extended_by}
 use Rattle.sve_effects.specs.ElementLoop.{is_active}
 use Rattle.sve_effects.specs.VectorElements.{Layout, register_at, dtype_signed, layout, elements_of}
+use Rattle.sve_effects.specs.declared.pages.Page.TheVariants.{Loads, Stores, Gathers, Scatters, FirstFaults}
+use Rattle.sve_effects.specs.Pages.{page_of, same_page}
 
 -- ---- what is loaded
 
@@ -161,66 +163,21 @@ vector_store form c v m =
 
 -- first-faulting and non-faulting
 abbrev pub is_first_fault : SveForm → Bool
-is_first_fault (LoadFf dtype rm pg rn zt) = true
-is_first_fault (LoadNf dtype imm4 pg rn zt) = true
-is_first_fault (GatherSx msz xs zm u ff pg rn zt) = ff
-is_first_fault (GatherSxScaled msz xs zm u ff pg rn zt) = ff
-is_first_fault (GatherDx msz xs zm u ff pg rn zt) = ff
-is_first_fault (GatherDxScaled msz xs zm u ff pg rn zt) = ff
-is_first_fault (GatherD msz zm u ff pg rn zt) = ff
-is_first_fault (GatherDScaled msz zm u ff pg rn zt) = ff
-is_first_fault (GatherSv msz imm5 u ff pg zn zt) = ff
-is_first_fault (GatherDv msz imm5 u ff pg zn zt) = ff
-is_first_fault form = false
+is_first_fault form = same_page FirstFaults (page_of form)
 
 -- contiguous, of whole registers, replicated and of structures
 abbrev pub is_contiguous_load : SveForm → Bool
-is_contiguous_load (LoadImm dtype imm4 pg rn zt) = true
-is_contiguous_load (LoadReg dtype rm pg rn zt) = true
-is_contiguous_load (LoadNtImm msz imm4 pg rn zt) = true
-is_contiguous_load (LoadNtReg msz rm pg rn zt) = true
-is_contiguous_load (LoadQuadImm msz imm4 pg rn zt) = true
-is_contiguous_load (LoadQuadReg msz rm pg rn zt) = true
-is_contiguous_load (LoadManyImm op msz imm4 pg rn zt) = true
-is_contiguous_load (LoadManyReg op msz rm pg rn zt) = true
-is_contiguous_load (LoadOne dtypeh imm6 dtypel pg rn zt) = true
-is_contiguous_load (LoadZ imm9h imm9l rn zt) = true
-is_contiguous_load (LoadP imm9h imm9l rn pt) = true
-is_contiguous_load form = false
+is_contiguous_load form = same_page Loads (page_of form)
 
 abbrev pub is_contiguous_store : SveForm → Bool
-is_contiguous_store (StoreImm msz size imm4 pg rn zt) = true
-is_contiguous_store (StoreReg msz size rm pg rn zt) = true
-is_contiguous_store (StoreNtImm msz imm4 pg rn zt) = true
-is_contiguous_store (StoreNtReg msz rm pg rn zt) = true
-is_contiguous_store (StoreManyImm op msz imm4 pg rn zt) = true
-is_contiguous_store (StoreManyReg op msz rm pg rn zt) = true
-is_contiguous_store (StoreZ imm9h imm9l rn zt) = true
-is_contiguous_store (StoreP imm9h imm9l rn pt) = true
-is_contiguous_store form = false
+is_contiguous_store form = same_page Stores (page_of form)
 
 -- gathers, but for the first-faulting ones
 abbrev pub is_gather : SveForm → Bool
-is_gather (GatherSx msz xs zm u ff pg rn zt) = not ff
-is_gather (GatherSxScaled msz xs zm u ff pg rn zt) = not ff
-is_gather (GatherDx msz xs zm u ff pg rn zt) = not ff
-is_gather (GatherDxScaled msz xs zm u ff pg rn zt) = not ff
-is_gather (GatherD msz zm u ff pg rn zt) = not ff
-is_gather (GatherDScaled msz zm u ff pg rn zt) = not ff
-is_gather (GatherSv msz imm5 u ff pg zn zt) = not ff
-is_gather (GatherDv msz imm5 u ff pg zn zt) = not ff
-is_gather form = false
+is_gather form = same_page Gathers (page_of form)
 
 abbrev pub is_scatter : SveForm → Bool
-is_scatter (ScatterSx msz zm xs pg rn zt) = true
-is_scatter (ScatterSxScaled msz zm xs pg rn zt) = true
-is_scatter (ScatterDx msz zm xs pg rn zt) = true
-is_scatter (ScatterDxScaled msz zm xs pg rn zt) = true
-is_scatter (ScatterD msz zm pg rn zt) = true
-is_scatter (ScatterDScaled msz zm pg rn zt) = true
-is_scatter (ScatterSv msz imm5 pg zn zt) = true
-is_scatter (ScatterDv msz imm5 pg zn zt) = true
-is_scatter form = false
+is_scatter form = same_page Scatters (page_of form)
 
 -- ---- by groups
 

@@ -15,25 +15,15 @@ ghost use Rattle.sve_ffr.specs.Taking.{lanes_of};
 
 use core_regs::{Core, Effect};
 use guest_mem::{AccessLog, ElementList, Mem};
-use sve_insn::{Sve, SveForm};
+use sve_effects::{Page, page_of};
+use sve_insn::Sve;
 use vec_regs::VecRegs;
 
 /// Whether an instruction is in a row of this crate: a first-faulting or non-faulting load, a gather among them.
 pub fn is_own(i: &Sve) -> bool
     ensures { result ≡ is_first_fault i.now }
 {
-    match *i.form() {
-        SveForm::LoadFf { .. } | SveForm::LoadNf { .. } => true,
-        SveForm::GatherSx { ff, .. }
-        | SveForm::GatherSxScaled { ff, .. }
-        | SveForm::GatherDx { ff, .. }
-        | SveForm::GatherDxScaled { ff, .. }
-        | SveForm::GatherD { ff, .. }
-        | SveForm::GatherDScaled { ff, .. }
-        | SveForm::GatherSv { ff, .. }
-        | SveForm::GatherDv { ff, .. } => ff,
-        _ => false,
-    }
+    matches!(page_of(i.form()), Page::FirstFaults)
 }
 
 /// Does a first-faulting or non-faulting load of the elements of a list, and says how the step goes on. The lanes of the list

@@ -1,11 +1,13 @@
 -- The plan of a gather or a scatter has its meaning.
-use Rattle.std.specs.Prelude.{◌≡◌, true, false}
+use Rattle.std.specs.Prelude.{◌≡◌, Bool, true, false}
 use Rattle.std.proofs.Common.{refl}
 use Rattle.std.proofs.lemmas.Bool.{both_ways}
 use Rattle.sve_insn.specs.declared.form.SveForm.{SveForm}
 use Rattle.sve_insn.specs.declared.form.SveForm.TheVariants.{GatherSx, GatherSxScaled, GatherDx, GatherDxScaled, GatherD, GatherDScaled, GatherSv, GatherDv, ScatterSx, ScatterSxScaled, ScatterDx, ScatterDxScaled, ScatterD, ScatterDScaled, ScatterSv, ScatterDv}
 use Rattle.emu_model.specs.Access.{Memory}
 use Rattle.emu_model.specs.State.{Core, Vectors}
+use Rattle.sve_effects.specs.declared.pages.Page.TheVariants.{Scatters}
+use Rattle.sve_effects.specs.Pages.{by_fault, same_page}
 use Rattle.sve_effects.specs.VectorElements.{layout}
 use Rattle.sve_effects.specs.VectorLoadStore.{vector_load, vector_store, is_gather, is_scatter, loads_signed}
 use Rattle.sve_effects.specs.FirstFault.{first_fault, is_non_fault}
@@ -25,6 +27,11 @@ gather_planned (GatherSv msz imm5 u ff pg zn zt) c v m h = refl
 gather_planned (GatherDv msz imm5 u ff pg zn zt) c v m h = refl
 gather_planned form c v m h = absurd (both_ways false refl h)
 
+-- gathers aren't scatters
+no_scatter : (ff : Bool) → same_page Scatters (by_fault ff) ≡ false
+no_scatter true = refl
+no_scatter false = refl
+
 pub scatter_planned : (form : SveForm) (c : Core) (v : Vectors) (m : Memory) → is_scatter form ≡ true → store_by (plan_of form c v) c v m ≡ vector_store form c v m
 scatter_planned (ScatterSx msz zm xs pg rn zt) c v m h = refl
 scatter_planned (ScatterSxScaled msz zm xs pg rn zt) c v m h = refl
@@ -34,19 +41,15 @@ scatter_planned (ScatterD msz zm pg rn zt) c v m h = refl
 scatter_planned (ScatterDScaled msz zm pg rn zt) c v m h = refl
 scatter_planned (ScatterSv msz imm5 pg zn zt) c v m h = refl
 scatter_planned (ScatterDv msz imm5 pg zn zt) c v m h = refl
+scatter_planned (GatherSx msz xs zm u ff pg rn zt) c v m h = absurd (both_ways (same_page Scatters (by_fault ff)) (no_scatter ff) h)
+scatter_planned (GatherSxScaled msz xs zm u ff pg rn zt) c v m h = absurd (both_ways (same_page Scatters (by_fault ff)) (no_scatter ff) h)
+scatter_planned (GatherDx msz xs zm u ff pg rn zt) c v m h = absurd (both_ways (same_page Scatters (by_fault ff)) (no_scatter ff) h)
+scatter_planned (GatherDxScaled msz xs zm u ff pg rn zt) c v m h = absurd (both_ways (same_page Scatters (by_fault ff)) (no_scatter ff) h)
+scatter_planned (GatherD msz zm u ff pg rn zt) c v m h = absurd (both_ways (same_page Scatters (by_fault ff)) (no_scatter ff) h)
+scatter_planned (GatherDScaled msz zm u ff pg rn zt) c v m h = absurd (both_ways (same_page Scatters (by_fault ff)) (no_scatter ff) h)
+scatter_planned (GatherSv msz imm5 u ff pg zn zt) c v m h = absurd (both_ways (same_page Scatters (by_fault ff)) (no_scatter ff) h)
+scatter_planned (GatherDv msz imm5 u ff pg zn zt) c v m h = absurd (both_ways (same_page Scatters (by_fault ff)) (no_scatter ff) h)
 scatter_planned form c v m h = absurd (both_ways false refl h)
-
--- a gather is no scatter
-pub no_gather_scatters : (form : SveForm) → is_gather form ≡ true → is_scatter form ≡ false
-no_gather_scatters (GatherSx msz xs zm u ff pg rn zt) h = refl
-no_gather_scatters (GatherSxScaled msz xs zm u ff pg rn zt) h = refl
-no_gather_scatters (GatherDx msz xs zm u ff pg rn zt) h = refl
-no_gather_scatters (GatherDxScaled msz xs zm u ff pg rn zt) h = refl
-no_gather_scatters (GatherD msz zm u ff pg rn zt) h = refl
-no_gather_scatters (GatherDScaled msz zm u ff pg rn zt) h = refl
-no_gather_scatters (GatherSv msz imm5 u ff pg zn zt) h = refl
-no_gather_scatters (GatherDv msz imm5 u ff pg zn zt) h = refl
-no_gather_scatters form h = absurd (both_ways false refl h)
 
 -- gathers, first-faulting ones and scatters are gathers or scatters
 pub gathers : (form : SveForm) → is_gather form ≡ true → has_gather_plan form ≡ true
@@ -69,6 +72,14 @@ scatters (ScatterD msz zm pg rn zt) h = refl
 scatters (ScatterDScaled msz zm pg rn zt) h = refl
 scatters (ScatterSv msz imm5 pg zn zt) h = refl
 scatters (ScatterDv msz imm5 pg zn zt) h = refl
+scatters (GatherSx msz xs zm u ff pg rn zt) h = absurd (both_ways (same_page Scatters (by_fault ff)) (no_scatter ff) h)
+scatters (GatherSxScaled msz xs zm u ff pg rn zt) h = absurd (both_ways (same_page Scatters (by_fault ff)) (no_scatter ff) h)
+scatters (GatherDx msz xs zm u ff pg rn zt) h = absurd (both_ways (same_page Scatters (by_fault ff)) (no_scatter ff) h)
+scatters (GatherDxScaled msz xs zm u ff pg rn zt) h = absurd (both_ways (same_page Scatters (by_fault ff)) (no_scatter ff) h)
+scatters (GatherD msz zm u ff pg rn zt) h = absurd (both_ways (same_page Scatters (by_fault ff)) (no_scatter ff) h)
+scatters (GatherDScaled msz zm u ff pg rn zt) h = absurd (both_ways (same_page Scatters (by_fault ff)) (no_scatter ff) h)
+scatters (GatherSv msz imm5 u ff pg zn zt) h = absurd (both_ways (same_page Scatters (by_fault ff)) (no_scatter ff) h)
+scatters (GatherDv msz imm5 u ff pg zn zt) h = absurd (both_ways (same_page Scatters (by_fault ff)) (no_scatter ff) h)
 scatters form h = absurd (both_ways false refl h)
 
 pub first_gathers : (form : SveForm) → is_first_gather form ≡ true → has_gather_plan form ≡ true

@@ -3,7 +3,7 @@
 
 mod plans;
 
-ghost use Rattle.std.specs.Prelude.{◌≡◌, ◌||◌, [], true, false};
+ghost use Rattle.std.specs.Prelude.{◌≡◌, [], true, false};
 ghost use Rattle.emu_model.specs.declared.trap.Effect.{Effect};
 ghost use Rattle.sve_effects.specs.FirstFault.{first_fault};
 ghost use Rattle.sve_effects.specs.VectorElements.{layout, vector_elements};
@@ -13,53 +13,12 @@ ghost use Rattle.sve_gather.specs.Plans.{is_first_gather};
 
 use core_regs::{Core, Effect};
 use guest_mem::{AccessLog, ElementList, Mem};
-use sve_insn::{Sve, SveForm};
+use sve_insn::Sve;
 use vec_regs::VecRegs;
 
-/// Whether an instruction is a gather, and no first-faulting one.
-fn is_load(i: &Sve) -> bool
-    ensures { result ≡ is_gather i.now }
-{
-    match *i.form() {
-        SveForm::GatherSx { ff, .. }
-        | SveForm::GatherSxScaled { ff, .. }
-        | SveForm::GatherDx { ff, .. }
-        | SveForm::GatherDxScaled { ff, .. }
-        | SveForm::GatherD { ff, .. }
-        | SveForm::GatherDScaled { ff, .. }
-        | SveForm::GatherSv { ff, .. }
-        | SveForm::GatherDv { ff, .. } => !ff,
-        _ => false,
-    }
-}
-
-/// Whether an instruction is a scatter.
-fn is_store(i: &Sve) -> bool
-    ensures { result ≡ is_scatter i.now }
-{
-    matches!(
-        i.form(),
-        SveForm::ScatterSx { .. }
-            | SveForm::ScatterSxScaled { .. }
-            | SveForm::ScatterDx { .. }
-            | SveForm::ScatterDxScaled { .. }
-            | SveForm::ScatterD { .. }
-            | SveForm::ScatterDScaled { .. }
-            | SveForm::ScatterSv { .. }
-            | SveForm::ScatterDv { .. }
-    )
-}
-
-/// Whether an instruction is in a row that `exec` does: a gather or a scatter, but no first-faulting gather.
-pub fn is_own(i: &Sve) -> bool
-    ensures { result ≡ (is_gather i.now || is_scatter i.now) }
-{
-    is_load(i) || is_store(i)
-}
-
-/// Does a gather.
+/// Does a gather, and says how the step goes on. The elements that were loaded are logged in order. A trap changes no register.
 #[tactic(auto, using(crate::specs::PlanLaws::gather_planned, crate::specs::PlanLaws::gathers))]
-fn load(core: &Core, vec: &mut VecRegs, mem: &mut Mem, log: &mut AccessLog, i: &Sve) -> Effect
+pub fn load(core: &Core, vec: &mut VecRegs, mem: &mut Mem, log: &mut AccessLog, i: &Sve) -> Effect
     requires own { is_gather i.now ≡ true }
     requires empty { log.old.items ≡ [] }
     ensures { vector_load i.now core.now vec.old mem.old
@@ -69,9 +28,10 @@ fn load(core: &Core, vec: &mut VecRegs, mem: &mut Mem, log: &mut AccessLog, i: &
     gather_loops::load(&plan, core, vec, mem, log)
 }
 
-/// Does a scatter.
+/// Does a scatter, and says how the step goes on. The elements that were stored are logged in order; one that traps has stored
+/// and logged the elements before the one that was refused.
 #[tactic(auto, using(crate::specs::PlanLaws::scatter_planned, crate::specs::PlanLaws::scatters))]
-fn store(core: &Core, vec: &VecRegs, mem: &mut Mem, log: &mut AccessLog, i: &Sve) -> Effect
+pub fn store(core: &Core, vec: &VecRegs, mem: &mut Mem, log: &mut AccessLog, i: &Sve) -> Effect
     requires own { is_scatter i.now ≡ true }
     requires empty { log.old.items ≡ [] }
     ensures { vector_store i.now core.now vec.now mem.old
@@ -79,30 +39,6 @@ fn store(core: &Core, vec: &VecRegs, mem: &mut Mem, log: &mut AccessLog, i: &Sve
 {
     let plan = plans::plan(core, vec, i);
     gather_loops::store(&plan, core, vec, mem, log)
-}
-
-/// Does an instruction of this crate's rows, and says how the step goes on. The elements that were loaded or stored are logged in
-/// order. A trap changes no register; a store that traps has stored and logged the elements before the one that was refused.
-#[tactic(auto, using(crate::specs::PlanLaws::no_gather_scatters))]
-pub fn exec(
-    core: &mut Core,
-    vec: &mut VecRegs,
-    mem: &mut Mem,
-    log: &mut AccessLog,
-    i: &Sve,
-) -> Effect
-    requires own { (is_gather i.now || is_scatter i.now) ≡ true }
-    requires empty { log.old.items ≡ [] }
-    ensures load { is_gather i.now ≡ true → vector_load i.now core.old vec.old mem.old
-        ≡ record { core = core.new; vectors = vec.new; memory = mem.new; accesses = log.new.items; effect = result } }
-    ensures store { is_scatter i.now ≡ true → vector_store i.now core.old vec.old mem.old
-        ≡ record { core = core.new; vectors = vec.new; memory = mem.new; accesses = log.new.items; effect = result } }
-{
-    if is_load(i) {
-        load(core, vec, mem, log, i)
-    } else {
-        store(core, vec, mem, log, i)
-    }
 }
 
 /// The elements of a first-faulting gather: the lanes and addresses of its active lanes, in order.

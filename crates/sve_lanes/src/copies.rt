@@ -15,6 +15,7 @@ use sve_insn::{Sve, SveForm};
 use vec_regs::VecRegs;
 
 /// Does a copy.
+#[inline(always)]
 pub(crate) fn exec(core: &Core, vec: &mut VecRegs, i: &Sve)
     requires { is_copy i.now ≡ true }
     ensures { vec.new ≡ table.vector_data i.now core.now vec.old }

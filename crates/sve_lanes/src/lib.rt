@@ -22,38 +22,9 @@ use core_regs::Core;
 use sve_insn::{Sve, SveForm};
 use vec_regs::VecRegs;
 
-/// Whether an instruction is in a row that works lane by lane.
-pub fn is_own(i: &Sve) -> bool
-    ensures { result ≡ is_vector_data i.now }
-{
-    matches!(
-        *i.form(),
-        SveForm::Binary { .. }
-            | SveForm::BinaryWide { .. }
-            | SveForm::ShiftImm { .. }
-            | SveForm::Unary { .. }
-            | SveForm::MulAddZ { .. }
-            | SveForm::MulAddD { .. }
-            | SveForm::Plain { .. }
-            | SveForm::LogicZ { .. }
-            | SveForm::PlainWide { .. }
-            | SveForm::PlainShift { .. }
-            | SveForm::Index { .. }
-            | SveForm::Dot { .. }
-            | SveForm::DotIndexed { .. }
-            | SveForm::WideImm { .. }
-            | SveForm::MinMaxImm { .. }
-            | SveForm::DupImm { .. }
-            | SveForm::BitmaskZ { .. }
-            | SveForm::CopyImm { .. }
-            | SveForm::PrefixP { .. }
-            | SveForm::Prefix { .. }
-            | SveForm::SelectZ { .. }
-    )
-}
-
 /// Does an instruction of the rows that work lane by lane: its destination has the lanes that the instruction makes of its
 /// operands, and in the merging rows the inactive lanes keep their value. Lanes have 8, 16, 32 or 64 bits (the manual's esize).
+#[inline(always)]
 pub fn exec(core: &Core, vec: &mut VecRegs, i: &Sve)
     requires { is_vector_data i.now ≡ true }
     ensures { vec.new ≡ vector_data i.now core.now vec.old }

@@ -19,6 +19,7 @@ use sve_insn::{BinaryOp, ShiftImmOp, ShiftOp, Sve, SveForm, UnaryOp};
 use vec_regs::VecRegs;
 
 /// Does a merging operation.
+#[inline(always)]
 pub(crate) fn exec(core: &Core, vec: &mut VecRegs, i: &Sve)
     requires { is_merging i.now ≡ true }
     ensures { vec.new ≡ table.vector_data i.now core.now vec.old }

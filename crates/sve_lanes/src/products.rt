@@ -17,6 +17,7 @@ use sve_insn::{DotIndexedOp, DotOp, MulAddDOp, MulAddZOp, Sve, SveForm};
 use vec_regs::VecRegs;
 
 /// Adds products to lanes, or subtracts them.
+#[inline(always)]
 pub(crate) fn exec(core: &Core, vec: &mut VecRegs, i: &Sve)
     requires { is_product i.now ≡ true }
     ensures { vec.new ≡ table.vector_data i.now core.now vec.old }

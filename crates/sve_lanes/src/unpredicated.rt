@@ -15,6 +15,7 @@ use sve_insn::{LogicZOp, PlainOp, ShiftOp, Sve, SveForm};
 use vec_regs::VecRegs;
 
 /// Does an operation of all lanes.
+#[inline(always)]
 pub(crate) fn exec(core: &Core, vec: &mut VecRegs, i: &Sve)
     requires { is_plain i.now ≡ true }
     ensures { vec.new ≡ table.vector_data i.now core.now vec.old }

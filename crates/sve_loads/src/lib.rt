@@ -7,7 +7,7 @@ mod plans;
 mod rows;
 mod shape;
 
-ghost use Rattle.std.specs.Prelude.{◌≡◌, ◌||◌, [], true, false};
+ghost use Rattle.std.specs.Prelude.{◌≡◌, [], true, false};
 ghost use Rattle.emu_model.specs.declared.trap.Effect.{Effect};
 ghost use Rattle.sve_effects.specs.FirstFault.{first_fault};
 ghost use Rattle.sve_effects.specs.VectorElements.{layout, vector_elements};
@@ -17,57 +17,12 @@ ghost use Rattle.sve_loads.specs.Plans.{is_first_contiguous};
 
 use core_regs::{Core, Effect};
 use guest_mem::{AccessLog, ElementList, Mem};
-use sve_insn::{Sve, SveForm};
+use sve_insn::Sve;
 use vec_regs::VecRegs;
 
-/// Whether an instruction is a load of this crate.
-fn is_load(i: &Sve) -> bool
-    ensures { result ≡ is_contiguous_load i.now }
-{
-    matches!(
-        i.form(),
-        SveForm::LoadImm { .. }
-            | SveForm::LoadReg { .. }
-            | SveForm::LoadNtImm { .. }
-            | SveForm::LoadNtReg { .. }
-            | SveForm::LoadQuadImm { .. }
-            | SveForm::LoadQuadReg { .. }
-            | SveForm::LoadManyImm { .. }
-            | SveForm::LoadManyReg { .. }
-            | SveForm::LoadOne { .. }
-            | SveForm::LoadZ { .. }
-            | SveForm::LoadP { .. }
-    )
-}
-
-/// Whether an instruction is a store of this crate.
-fn is_store(i: &Sve) -> bool
-    ensures { result ≡ is_contiguous_store i.now }
-{
-    matches!(
-        i.form(),
-        SveForm::StoreImm { .. }
-            | SveForm::StoreReg { .. }
-            | SveForm::StoreNtImm { .. }
-            | SveForm::StoreNtReg { .. }
-            | SveForm::StoreManyImm { .. }
-            | SveForm::StoreManyReg { .. }
-            | SveForm::StoreZ { .. }
-            | SveForm::StoreP { .. }
-    )
-}
-
-/// Whether an instruction is in a row that `exec` does: a load or store of consecutive elements, but no first-faulting or
-/// non-faulting one.
-pub fn is_own(i: &Sve) -> bool
-    ensures { result ≡ (is_contiguous_load i.now || is_contiguous_store i.now) }
-{
-    is_load(i) || is_store(i)
-}
-
-/// Does a load.
+/// Does a load, and says how the step goes on. The elements that were loaded are logged in order. A trap changes no register.
 #[tactic(auto, using(crate::specs::PlanLaws::load_planned))]
-fn load(core: &Core, vec: &mut VecRegs, mem: &mut Mem, log: &mut AccessLog, i: &Sve) -> Effect
+pub fn load(core: &Core, vec: &mut VecRegs, mem: &mut Mem, log: &mut AccessLog, i: &Sve) -> Effect
     requires own { is_contiguous_load i.now ≡ true }
     requires empty { log.old.items ≡ [] }
     ensures { vector_load i.now core.now vec.old mem.old
@@ -77,9 +32,10 @@ fn load(core: &Core, vec: &mut VecRegs, mem: &mut Mem, log: &mut AccessLog, i: &
     element_loops::load(&plan, core, vec, mem, log)
 }
 
-/// Does a store.
+/// Does a store, and says how the step goes on. The elements that were stored are logged in order; a store that traps has stored
+/// and logged the elements before the one that was refused.
 #[tactic(auto, using(crate::specs::PlanLaws::store_planned))]
-fn store(core: &Core, vec: &VecRegs, mem: &mut Mem, log: &mut AccessLog, i: &Sve) -> Effect
+pub fn store(core: &Core, vec: &VecRegs, mem: &mut Mem, log: &mut AccessLog, i: &Sve) -> Effect
     requires own { is_contiguous_store i.now ≡ true }
     requires empty { log.old.items ≡ [] }
     ensures { vector_store i.now core.now vec.now mem.old
@@ -87,30 +43,6 @@ fn store(core: &Core, vec: &VecRegs, mem: &mut Mem, log: &mut AccessLog, i: &Sve
 {
     let plan = rows::store_plan(core, vec, i);
     element_loops::store(&plan, core, vec, mem, log)
-}
-
-/// Does an instruction of this crate's rows, and says how the step goes on. The elements that were loaded or stored are logged in
-/// order. A trap changes no register; a store that traps has stored and logged the elements before the one that was refused.
-#[tactic(auto, using(crate::specs::PlanLaws::no_load_stores))]
-pub fn exec(
-    core: &mut Core,
-    vec: &mut VecRegs,
-    mem: &mut Mem,
-    log: &mut AccessLog,
-    i: &Sve,
-) -> Effect
-    requires own { (is_contiguous_load i.now || is_contiguous_store i.now) ≡ true }
-    requires empty { log.old.items ≡ [] }
-    ensures load { is_contiguous_load i.now ≡ true → vector_load i.now core.old vec.old mem.old
-        ≡ record { core = core.new; vectors = vec.new; memory = mem.new; accesses = log.new.items; effect = result } }
-    ensures store { is_contiguous_store i.now ≡ true → vector_store i.now core.old vec.old mem.old
-        ≡ record { core = core.new; vectors = vec.new; memory = mem.new; accesses = log.new.items; effect = result } }
-{
-    if is_load(i) {
-        load(core, vec, mem, log, i)
-    } else {
-        store(core, vec, mem, log, i)
-    }
 }
 
 /// The elements of a contiguous first-faulting or non-faulting load: the lanes and addresses of its active lanes, in order.

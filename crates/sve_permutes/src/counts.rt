@@ -18,6 +18,7 @@ use sve_insn::{AddLengthOp, IncOp, SatOp, Sve, SveForm};
 use vec_regs::VecRegs;
 
 /// Does a count, or a multiple of the vector length.
+#[inline(always)]
 pub(crate) fn exec(core: &mut Core, vec: &mut VecRegs, i: &Sve)
     requires { table.is_count i.now ≡ true }
     ensures core { core.new ≡ (table.counted i.now core.old vec.old).core }
@@ -52,6 +53,7 @@ pub(crate) fn exec(core: &mut Core, vec: &mut VecRegs, i: &Sve)
 }
 
 /// Does a count on the lanes of a vector register.
+#[inline(always)]
 fn of_lanes(core: &Core, vec: &mut VecRegs, i: &Sve)
     requires { is_count_of_lanes i.now ≡ true }
     ensures { vec.new ≡ (table.counted i.now core.now vec.old).vectors }

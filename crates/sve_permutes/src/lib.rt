@@ -24,41 +24,9 @@ use core_regs::Core;
 use sve_insn::{Sve, SveForm};
 use vec_regs::VecRegs;
 
-/// Whether an instruction is in a row that works across lanes: a permute, a count of lanes, or a fold.
-pub fn is_own(i: &Sve) -> bool
-    ensures { result ≡ is_across i.now }
-{
-    matches!(
-        *i.form(),
-        SveForm::Reduce { .. }
-            | SveForm::Count { .. }
-            | SveForm::IncX { .. }
-            | SveForm::IncZ { .. }
-            | SveForm::SatX { .. }
-            | SveForm::SatZ { .. }
-            | SveForm::AddLength { .. }
-            | SveForm::ReadLength { .. }
-            | SveForm::DupReg { .. }
-            | SveForm::DupLane { .. }
-            | SveForm::Insert { .. }
-            | SveForm::RevZ { .. }
-            | SveForm::Unpack { .. }
-            | SveForm::Table { .. }
-            | SveForm::Interleave { .. }
-            | SveForm::InterleaveP { .. }
-            | SveForm::UnpackP { .. }
-            | SveForm::RevP { .. }
-            | SveForm::Compact { .. }
-            | SveForm::Splice { .. }
-            | SveForm::Ext { .. }
-            | SveForm::CopyReg { .. }
-            | SveForm::Last { .. }
-            | SveForm::CondLast { .. }
-    )
-}
-
 /// Does an instruction of the rows that work across lanes. It writes its destination, a vector register, a predicate or a general
 /// register, and nothing else; lanes have 8, 16, 32 or 64 bits (the manual's esize), and those of a dup up to 128.
+#[inline(always)]
 pub fn exec(core: &mut Core, vec: &mut VecRegs, i: &Sve)
     requires { is_across i.now ≡ true }
     ensures core { core.new ≡ (across i.now core.old vec.old).core }

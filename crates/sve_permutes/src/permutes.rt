@@ -10,6 +10,7 @@ use sve_insn::{Sve, SveForm};
 use vec_regs::VecRegs;
 
 /// Does a permute.
+#[inline(always)]
 pub(crate) fn exec(core: &mut Core, vec: &mut VecRegs, i: &Sve)
     requires { table.is_permute i.now ≡ true }
     ensures core { core.new ≡ (table.permuted i.now core.old vec.old).core }
@@ -47,6 +48,7 @@ pub(crate) fn exec(core: &mut Core, vec: &mut VecRegs, i: &Sve)
 }
 
 /// Does a permute of lanes of vector registers by active lanes.
+#[inline(always)]
 fn by_active(core: &Core, vec: &mut VecRegs, i: &Sve)
     requires { is_of_active i.now ≡ true }
     ensures { vec.new ≡ (table.permuted i.now core.now vec.old).vectors }
@@ -66,6 +68,7 @@ fn by_active(core: &Core, vec: &mut VecRegs, i: &Sve)
 }
 
 /// Does a permute of lanes of vector registers without a predicate.
+#[inline(always)]
 fn of_lanes(core: &Core, vec: &mut VecRegs, i: &Sve)
     requires { is_of_lanes i.now ≡ true }
     ensures { vec.new ≡ (table.permuted i.now core.now vec.old).vectors }

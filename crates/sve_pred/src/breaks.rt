@@ -133,6 +133,7 @@ pub fn break_next(core: &mut Core, vec: &mut VecRegs, s: bool, pg: Pred, pn: Pre
 }
 
 /// Does an instruction of these rows.
+#[inline(always)]
 pub fn exec(core: &mut Core, vec: &mut VecRegs, i: &Sve)
     requires { is_by_bits i.now ≡ true }
     ensures registers { core.new ≡ (predicate i.now core.old vec.old).core }

@@ -315,6 +315,7 @@ pub fn signed(
 }
 
 /// Does an instruction of these rows.
+#[inline(always)]
 pub fn exec(core: &mut Core, vec: &mut VecRegs, i: &Sve)
     requires { is_compare i.now ≡ true }
     ensures registers { core.new ≡ (predicate i.now core.old vec.old).core }

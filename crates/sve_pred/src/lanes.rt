@@ -219,6 +219,7 @@ pub fn cterm(core: &mut Core, op: CtermOp, sf: bool, rm: Reg, rn: Reg)
 }
 
 /// Does an instruction of these rows.
+#[inline(always)]
 pub fn exec(core: &mut Core, vec: &mut VecRegs, i: &Sve)
     requires { is_by_lanes i.now ≡ true }
     ensures registers { core.new ≡ (predicate i.now core.old vec.old).core }

@@ -15,39 +15,9 @@ use core_regs::{Core, Effect};
 use sve_insn::{Sve, SveForm};
 use vec_regs::VecRegs;
 
-/// Whether an instruction is in a row of this crate: one that compares into a predicate, or works on predicates and FFR.
-pub fn is_own(i: &Sve) -> bool
-    ensures { result ≡ is_predicate i.now }
-{
-    matches!(
-        *i.form(),
-        SveForm::CmpVec { .. }
-            | SveForm::CmpWide { .. }
-            | SveForm::CmpUImm { .. }
-            | SveForm::CmpSImm { .. }
-            | SveForm::LogicP { .. }
-            | SveForm::SelectP { .. }
-            | SveForm::Break { .. }
-            | SveForm::BreakPair { .. }
-            | SveForm::BreakNext { .. }
-            | SveForm::Ptest { .. }
-            | SveForm::First { .. }
-            | SveForm::Next { .. }
-            | SveForm::Ptrue { .. }
-            | SveForm::Pfalse { .. }
-            | SveForm::ReadFfr { .. }
-            | SveForm::ReadFfrAll { .. }
-            | SveForm::WriteFfr { .. }
-            | SveForm::CountP { .. }
-            | SveForm::IncP { .. }
-            | SveForm::IncPZ { .. }
-            | SveForm::While { .. }
-            | SveForm::Cterm { .. }
-    )
-}
-
 /// Does an instruction of the rows on predicates: a predicate, FFR, a general register, the lanes of a Z register or the flags
 /// change; the step goes on behind the instruction.
+#[inline(always)]
 pub fn exec(core: &mut Core, vec: &mut VecRegs, i: &Sve) -> Effect
     requires { is_predicate i.now ≡ true }
     ensures registers { core.new ≡ (predicate i.now core.old vec.old).core }

@@ -91,6 +91,7 @@ pub fn ffr_written(vec: &mut VecRegs, op: WriteFfrOp, pn: Pred)
 }
 
 /// Does an instruction of these rows.
+#[inline(always)]
 pub fn exec(core: &mut Core, vec: &mut VecRegs, i: &Sve)
     requires { is_single i.now ≡ true }
     ensures registers { core.new ≡ (predicate i.now core.old vec.old).core }

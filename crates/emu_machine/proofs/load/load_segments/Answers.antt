@@ -17,4 +17,5 @@ loop-segment-preserved c =
     record {
       pages = segments_more c.args.file.now c.args.segments.now c.loop-segment.segment-index _ c.loop-segment.pages c.load_segment.new.pages (omega arith) now.pages has;
       limit = has.limit ∙ now.limit;
+      marks = has.marks ∙ now.marks;
     }

@@ -8,4 +8,5 @@ abbrev pub invariant-loop-segment : goal.invariant-loop-segment
 invariant-loop-segment l = record {
   pages : l.pages.pages ≡ from_entries (flat_map (segment_pages l.file) (take l.segment-index l.segments));
   limit : l.pages.limit ≡ l.fn.pages.limit;
+  marks : l.pages.marks ≡ l.fn.pages.marks;
 }

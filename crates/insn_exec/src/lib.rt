@@ -1,24 +1,52 @@
-//! What an instruction does to the registers and to memory, by the crate of its row.
+//! What an instruction does to the registers and to memory, by the page that its row is on.
+//!
+//! This is the one place that chooses the crate of a row: the machine does its instructions by it, and so do the programs of cases.
+#![tactic(auto)]
+
 ghost use Rattle.std.specs.Prelude.{◌≡◌, [], true, false};
 ghost use Rattle.emu_model.specs.declared.trap.Effect.{Effect};
+ghost use Rattle.emu_run.specs.Step.{performed};
 ghost use Rattle.a64_effects.specs.Effects as a64;
 ghost use Rattle.sve_effects.specs.Effects as sve;
+ghost use Rattle.sve_effects.specs.Pages.{page_of};
+ghost use Rattle.sve_effects.specs.declared.pages.Page.TheVariants as Page;
 ghost use Rattle.sve_effects.specs.VectorElements.{layout, vector_elements};
 ghost use Rattle.sve_effects.specs.FirstFault.{first_fault};
-ghost use Rattle.sve_effects.specs.VectorLoadStore.{contiguous, gather_scatter, is_contiguous, is_first_fault, is_gather_scatter, loads_signed};
+ghost use Rattle.sve_effects.specs.VectorLoadStore.{is_first_fault, loads_signed};
 ghost use Rattle.sve_loads.specs.Plans.{is_first_contiguous};
 ghost use Rattle.element_loops.specs.Listed.{listed};
 
+use a64_effects::Page as A64Page;
 use a64_insn::A64;
 use core_regs::{Core, Effect};
+use emu_run::Insn;
 use guest_mem::{AccessLog, ElementList, Mem};
+use sve_effects::Page;
 use sve_insn::{Sve, SveForm};
 use vec_regs::VecRegs;
 
+/// Does an instruction, logs the elements that it loads or stores, and says what it leaves to the step: to go on, to branch, to make
+/// a call, or to trap.
+#[inline(always)]
+pub fn perform(
+    core: &mut Core,
+    vec: &mut VecRegs,
+    memory: &mut Mem,
+    log: &mut AccessLog,
+    insn: &Insn,
+) -> Effect
+    requires { log.old.items ≡ [] }
+    ensures { performed insn.now core.old vec.old memory.old ≡ record { core = core.new; vectors = vec.new; memory = memory.new; accesses = log.new.items; effect = result } }
+{
+    match insn {
+        Insn::A64(insn) => perform_a64(core, vec, memory, log, insn),
+        Insn::Sve(insn) => perform_sve(core, vec, memory, log, insn),
+    }
+}
+
 /// Does an A64 instruction, logs the elements that it loads or stores, and says what it leaves to the step.
 #[inline(always)]
-#[tactic(auto, using(a64_effects::specs::Pages::others_are_bit_moves))]
-pub(crate) fn perform_a64(
+pub fn perform_a64(
     core: &mut Core,
     vec: &mut VecRegs,
     memory: &mut Mem,
@@ -28,19 +56,17 @@ pub(crate) fn perform_a64(
     requires { log.old.items ≡ [] }
     ensures { a64.performed insn.now core.old vec.old memory.old ≡ record { core = core.new; vectors = vec.new; memory = memory.new; accesses = log.new.items; effect = result } }
 {
-    if a64_data::is_data(insn) {
-        a64_data::exec(core, insn)
-    } else if a64_flow::is_own(insn) {
-        a64_flow::exec(core, vec, memory, log, insn)
-    } else {
-        bit_moves::exec(core, vec, insn)
+    match a64_effects::page_of(insn.form()) {
+        A64Page::Data => a64_data::exec(core, insn),
+        A64Page::Flow | A64Page::Accesses => a64_flow::exec(core, vec, memory, log, insn),
+        A64Page::BitMoves => bit_moves::exec(core, vec, insn),
     }
 }
 
 /// The same of an SVE instruction.
 #[inline(always)]
-#[tactic(auto, using(sve_effects::specs::Pages::others_are_first_fault))]
-pub(crate) fn perform_sve(
+#[tactic(auto, using(crate::proofs::OnPage::data_own, crate::proofs::OnPage::data_done, crate::proofs::OnPage::predicate_own, crate::proofs::OnPage::predicate_done, crate::proofs::OnPage::first_fault_own, crate::proofs::OnPage::first_fault_done))]
+pub fn perform_sve(
     core: &mut Core,
     vec: &mut VecRegs,
     memory: &mut Mem,
@@ -50,49 +76,94 @@ pub(crate) fn perform_sve(
     requires { log.old.items ≡ [] }
     ensures { sve.performed insn.now core.old vec.old memory.old ≡ record { core = core.new; vectors = vec.new; memory = memory.new; accesses = log.new.items; effect = result } }
 {
-    if sve_data::is_own(insn) {
-        sve_data::exec(core, vec, insn)
-    } else if sve_pred::is_own(insn) {
-        // its effect is this one, so that none is read back
-        sve_pred::exec(core, vec, insn);
-        Effect::Next
-    } else if sve_loads::is_own(insn) {
-        load_or_store(core, vec, memory, log, insn)
-    } else if sve_gather::is_own(insn) {
-        gather_or_scatter(core, vec, memory, log, insn)
-    } else {
-        load_first_fault(core, vec, memory, log, insn)
+    match sve_effects::page_of(insn.form()) {
+        Page::Lanes | Page::Permutes | Page::Counts | Page::Folds => {
+            sve_data::exec(core, vec, insn)
+        }
+        Page::Predicates => {
+            // its effect is this one, so that none is read back
+            sve_pred::exec(core, vec, insn);
+            Effect::Next
+        }
+        Page::Loads => load(core, vec, memory, log, insn),
+        Page::Stores => store(core, vec, memory, log, insn),
+        Page::Gathers => gather(core, vec, memory, log, insn),
+        Page::Scatters => scatter(core, vec, memory, log, insn),
+        Page::FirstFaults => load_first_fault(core, vec, memory, log, insn),
     }
 }
 
-/// Does a load or store of consecutive elements.
-fn load_or_store(
+/// Does a load of consecutive elements. The crates of loads and stores are handed a copy of the instruction, here and below,
+/// so that the form of the others needs no memory.
+#[inline(always)]
+#[tactic(auto, using(crate::proofs::OnPage::load_done, crate::proofs::OnPage::load_own))]
+fn load(
     core: &mut Core,
     vec: &mut VecRegs,
     memory: &mut Mem,
     log: &mut AccessLog,
     insn: &Sve,
 ) -> Effect
-    requires own { is_contiguous insn.now ≡ true }
+    requires page { page_of insn.now ≡ Page.Loads }
     requires empty { log.old.items ≡ [] }
-    ensures { contiguous insn.now core.old vec.old memory.old ≡ record { core = core.new; vectors = vec.new; memory = memory.new; accesses = log.new.items; effect = result } }
+    ensures { sve.performed insn.now core.old vec.old memory.old ≡ record { core = core.new; vectors = vec.new; memory = memory.new; accesses = log.new.items; effect = result } }
 {
-    sve_loads::exec(core, vec, memory, log, insn)
+    let insn = *insn;
+    sve_loads::load(core, vec, memory, log, &insn)
 }
 
-/// Does a gather or a scatter.
-fn gather_or_scatter(
+/// Does a store of consecutive elements.
+#[inline(always)]
+#[tactic(auto, using(crate::proofs::OnPage::store_done, crate::proofs::OnPage::store_own))]
+fn store(
     core: &mut Core,
     vec: &mut VecRegs,
     memory: &mut Mem,
     log: &mut AccessLog,
     insn: &Sve,
 ) -> Effect
-    requires own { is_gather_scatter insn.now ≡ true }
+    requires page { page_of insn.now ≡ Page.Stores }
     requires empty { log.old.items ≡ [] }
-    ensures { gather_scatter insn.now core.old vec.old memory.old ≡ record { core = core.new; vectors = vec.new; memory = memory.new; accesses = log.new.items; effect = result } }
+    ensures { sve.performed insn.now core.old vec.old memory.old ≡ record { core = core.new; vectors = vec.new; memory = memory.new; accesses = log.new.items; effect = result } }
 {
-    sve_gather::exec(core, vec, memory, log, insn)
+    let insn = *insn;
+    sve_loads::store(core, vec, memory, log, &insn)
+}
+
+/// Does a gather.
+#[inline(always)]
+#[tactic(auto, using(crate::proofs::OnPage::gather_done, crate::proofs::OnPage::gather_own))]
+fn gather(
+    core: &mut Core,
+    vec: &mut VecRegs,
+    memory: &mut Mem,
+    log: &mut AccessLog,
+    insn: &Sve,
+) -> Effect
+    requires page { page_of insn.now ≡ Page.Gathers }
+    requires empty { log.old.items ≡ [] }
+    ensures { sve.performed insn.now core.old vec.old memory.old ≡ record { core = core.new; vectors = vec.new; memory = memory.new; accesses = log.new.items; effect = result } }
+{
+    let insn = *insn;
+    sve_gather::load(core, vec, memory, log, &insn)
+}
+
+/// Does a scatter.
+#[inline(always)]
+#[tactic(auto, using(crate::proofs::OnPage::scatter_done, crate::proofs::OnPage::scatter_own))]
+fn scatter(
+    core: &mut Core,
+    vec: &mut VecRegs,
+    memory: &mut Mem,
+    log: &mut AccessLog,
+    insn: &Sve,
+) -> Effect
+    requires page { page_of insn.now ≡ Page.Scatters }
+    requires empty { log.old.items ≡ [] }
+    ensures { sve.performed insn.now core.old vec.old memory.old ≡ record { core = core.new; vectors = vec.new; memory = memory.new; accesses = log.new.items; effect = result } }
+{
+    let insn = *insn;
+    sve_gather::store(core, vec, memory, log, &insn)
 }
 
 /// Does a first-faulting or non-faulting load.
@@ -107,10 +178,11 @@ fn load_first_fault(
     requires empty { log.old.items ≡ [] }
     ensures { first_fault insn.now core.old vec.old memory.old ≡ record { core = core.new; vectors = vec.new; memory = memory.new; accesses = log.new.items; effect = result } }
 {
-    if load_unrefused(core, vec, memory, log, insn) {
+    let insn = *insn;
+    if load_unrefused(core, vec, memory, log, &insn) {
         return Effect::Next;
     }
-    load_listed(core, vec, memory, log, insn)
+    load_listed(core, vec, memory, log, &insn)
 }
 
 /// Does a first-faulting or non-faulting load at once, where FFR is all ones and it can be seen that no element is
@@ -141,7 +213,7 @@ fn load_unrefused(
 /// Does a first-faulting or non-faulting load element by element. It isn't inlined, so that its buffers take no time
 /// where they aren't used.
 #[inline(never)]
-fn load_listed(
+pub fn load_listed(
     core: &mut Core,
     vec: &mut VecRegs,
     memory: &mut Mem,
