@@ -28,6 +28,8 @@ OWN = {
 EXIT = re.compile(rb"exit ([0-9]+) after [0-9]+ steps\n")
 SPENT = re.compile(rb"spent after [0-9]+ steps\n")
 TRAP = re.compile(rb"trap ([a-z-]+) 0x[0-9a-f]{16} at 0x[0-9a-f]{16} after [0-9]+ steps\n")
+# A line of a sweep.
+LENGTH = re.compile(rb"vl [0-9]+ (exit [0-9]+|trap [a-z-]+ 0x[0-9a-f]{16} at 0x[0-9a-f]{16}|spent) after [0-9]+ steps out [0-9]+ err [0-9]+ (same|parts at [0-9]+)")
 SIGNALS = {
     b"undefined": 4, b"halt": 4, b"break": 5, b"pc-align": 7, b"sp-align": 7, b"access-align": 7,
     b"fetch": 11, b"read": 11, b"write": 11,
@@ -46,7 +48,7 @@ DIRECTIVES = [
     ".code", ".data", ".byte 1, 2", ".half -1", ".word 0x10", ".quad start", '.ascii "a\\n\\0"', ".zero 16", ".align 8",
     ".bss 64", ".entry start", "start:", "loop: nop", "b start", "cbz x0, loop", "adr x1, start", "// a comment",
 ]
-COMMANDS = ["run", "asm", "dis", "dbg"]
+COMMANDS = ["run", "asm", "dis", "dbg", "sweep"]
 SCRIPT = [
     "step {n}", "go", "break {a}", "watch {a} {l}", "regs", "zreg {k}", "preg {k}", "ffr", "vl", "lanes {k} {t}", "mem {a} {l}",
     "# a comment", "", "hop", "step",
@@ -118,9 +120,13 @@ def script(rng):
     return "\n".join(lines).encode() + b"\n"
 
 
-def options(rng):
-    words = ["--vl", str(128 * rng.randrange(1, 17)), "--budget", str(rng.choice((0, 1, 50, 1000, 20000)))]
+def limits(rng):
+    words = ["--budget", str(rng.choice((0, 1, 50, 1000, 20000)))]
     return words + (["--pages", str(rng.choice((257, 300, 16384)))] if rng.random() < 0.3 else [])
+
+
+def options(rng):
+    return ["--vl", str(128 * rng.randrange(1, 17)), *limits(rng)]
 
 
 def line(rng):
@@ -130,7 +136,7 @@ def line(rng):
 
 def case(rng):
     """Files by their names, and the words of a command line."""
-    kind = rng.randrange(6)
+    kind = rng.randrange(7)
     if kind == 0:
         return {"a.elf": image(rng, program(rng), rng.randbytes(rng.choice((0, 64))))}, ["run", "a.elf", *options(rng)]
     if kind == 1:
@@ -141,6 +147,8 @@ def case(rng):
         return {"a.elf": image(rng, program(rng)), "s": script(rng)}, ["dbg", "a.elf", "s", *options(rng)]
     if kind == 4:
         return {"a.elf": image(rng, program(rng))}, line(rng)
+    if kind == 5:
+        return {"a.elf": image(rng, program(rng), rng.randbytes(rng.choice((0, 64))))}, ["sweep", "a.elf", *limits(rng)]
     return {"a.elf": image(rng, b"".join(struct.pack("<I", near(rng)) for _ in range(300)))}, ["dis", "a.elf"]
 
 
@@ -160,6 +168,10 @@ def fault_of(words, done):
             return f"status {done.returncode}, though no stream failed"
     if done.returncode not in OWN or (command == "run" and done.returncode == 0):
         return f"status {done.returncode}"
+    if command == "sweep" and done.returncode == 0:
+        lines = done.stdout.splitlines()
+        if len(lines) != 16 or not all(LENGTH.fullmatch(found) for found in lines):
+            return f"{len(lines)} lines, from {done.stdout[:80]!r} on"
     if command != "dbg" and not re.fullmatch(OWN[done.returncode], done.stderr):
         return f"status {done.returncode} with {done.stderr[:80]!r}"
     return None

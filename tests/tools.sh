@@ -174,6 +174,15 @@ aarch64() {
     holds "on AArch64: the cases over real files" sh tests/cases.sh "$scratch/on-aarch64"
 }
 
+# The lying executables of image_cases, worked out anew.
+lying_images() {
+    if ! command -v python3 >/dev/null; then
+        skip "the table of lying executables" "there is no python3"
+        return
+    fi
+    holds "the table of lying executables" python3 tests/images.py --check
+}
+
 # A minute of random input, the same each time.
 random_input() {
     if ! command -v python3 >/dev/null; then
@@ -226,6 +235,7 @@ if [ "$failed" -eq 0 ]; then
     recipes
     . tests/pages.sh
     refused_memory
+    lying_images
     random_input
 fi
 echo "$passed passed, $failed failed, $skipped skipped"

@@ -21,17 +21,25 @@ struct Scene {
     errors: MemSink,
 }
 
-/// The first item of a case that isn't as the line has it, or isn't in its form.
-pub fn difference(alloc: Global, line: &str) -> Option<&str> {
-    let Some(mut scene) = Scene::of(alloc) else {
-        return Some(line);
-    };
-    for item in line.split(' ') {
-        if scene.meets(item) != Some(true) {
+/// The first of some items that isn't as they have it, or isn't in its form.
+fn unmet<'a>(scene: &mut Scene, items: &'a str) -> Option<&'a str> {
+    for item in items.split(' ') {
+        if !item.is_empty() && scene.meets(item) != Some(true) {
             return Some(item);
         }
     }
     None
+}
+
+/// The first item of a case that isn't as the line has it, or isn't in its form; the items of `start` come before those of the line.
+pub fn difference<'a>(alloc: Global, start: &'a str, line: &'a str) -> Option<&'a str> {
+    let Some(mut scene) = Scene::of(alloc) else {
+        return Some(line);
+    };
+    match unmet(&mut scene, start) {
+        Some(item) => Some(item),
+        None => unmet(&mut scene, line),
+    }
 }
 
 /// The machine of a file. None where the file is refused or memory is wanting.
@@ -152,11 +160,8 @@ impl Scene {
     /// Whether the file, the arguments, the output or the machine are so.
     fn has(&self, name: &str, value: &str) -> Option<bool> {
         match name {
-            "refused" => {
-                let fault = read(&self.file, self.pages).err()?;
-                let text = format!(in self.alloc; "{fault:?}").ok()?;
-                Some(text.as_str() == value)
-            }
+            "refused" => self.is_refused(&self.file, value),
+            "cuts" => self.has_cuts(value),
             "image" | "segment" => self.has_image(name, value),
             "taken" | "untaken" => {
                 let args = arguments(self.alloc, value).ok()?;
@@ -166,6 +171,29 @@ impl Scene {
             "errors" => Some(self.errors.kept() == value.as_bytes()),
             _ => is_so(self.alloc, self.machine.as_ref()?, name, value),
         }
+    }
+
+    /// Whether a file is refused by the fault of this name. None where it isn't refused.
+    fn is_refused(&self, file: &[u8], name: &str) -> Option<bool> {
+        let fault = read(file, self.pages).err()?;
+        let text = format!(in self.alloc; "{fault:?}").ok()?;
+        Some(text.as_str() == name)
+    }
+
+    /// Whether the file is refused by a fault where it is cut to any of these lengths.
+    fn has_cuts(&self, value: &str) -> Option<bool> {
+        let (least, rest) = value.split_once(',')?;
+        let (end, name) = rest.split_once(',')?;
+        for length in number(least)?..number(end)? {
+            let length = length as usize;
+            if length > self.file.len() {
+                return Some(false);
+            }
+            if !self.is_refused(&self.file[..length], name)? {
+                return Some(false);
+            }
+        }
+        Some(true)
     }
 
     /// Whether the image or a segment of it is so.

@@ -1,49 +1,39 @@
-//! Reads texts of instructions as another program writes them, and writes the lines that differ.
+//! Reads and prints texts of instructions, and assembles listings.
 //!
-//! A line has two columns, with a tab between them: a word of eight hexadecimal digits, and the text that GNU's `objdump` has for
-//! it with `-M no-aliases`. The lines are its instructions of the table whose text is in the syntax of listings, with ranges of
-//! registers written out. The others are: targets, which are aimed at later; extensions without an amount; barriers and prefetches by
-//! name; bitmasks whose rotation isn't the least, or at a lane's size; shifted immediates of lanes as one number; and counts behind
-//! which `mul #1` is left out.
+//! The input has sections, which lines of `====` part. The first line of a section says what the others are:
+//!
+//! - `texts`: a line has two columns, with a tab between them: a word of eight hexadecimal digits, and the text that GNU's `objdump`
+//!   has for it with `-M no-aliases`. The lines are its instructions of the tables whose text is in the syntax of listings, with ranges
+//!   of registers written out. The others are: targets, which are aimed at later; extensions without an amount; barriers and prefetches
+//!   by name; bitmasks whose rotation isn't the least, or at a lane's size; shifted immediates of lanes as one number; and counts behind
+//!   which `mul #1` is left out. The lines that differ are written, and how many were read.
+//! - `words`: a line has a word and the address that it stands at, in hexadecimal with a space between them. The text of each is written.
+//! - `listing`: a listing. The size of its file and the first words of its code are written; or why it is refused, and what its faulty
+//!   line is alone.
 #![tactic(auto)]
 
-use a64_rows::encode_a64;
-use asm_a64::read_a64;
-use asm_sve::read_sve;
-use std::alloc::Global;
+mod listings;
+mod texts;
+mod words;
+
 use std::io;
-use sve_rows::encode_sve;
 
-/// The word of a statement without a target.
-fn word_of(alloc: Global, text: &str) -> Option<u32> {
-    let (name, rest) = text.split_once(' ').unwrap_or((text, ""));
-    if let Ok(insn) = read_sve(name, rest) {
-        return Some(encode_sve(&insn));
+/// Writes what is to be said of a section.
+fn report(rt: HostRuntime, section: &str) -> io::Result<()> {
+    let (kind, lines) = section.split_once('\n').unwrap_or((section, ""));
+    match kind {
+        "texts" => texts::compare(rt, lines),
+        "words" => words::print_all(rt, lines),
+        "listing" => listings::report(rt, lines),
+        _ => println!(rt; "no kind of section: {kind}"),
     }
-    let line = read_a64(alloc, name, rest).ok()?;
-    if line.target.is_some() {
-        return None;
-    }
-    Some(encode_a64(&line.insn))
-}
-
-/// Whether the text of a line is read as its word.
-fn agrees(alloc: Global, line: &str) -> Option<bool> {
-    let (digits, text) = line.split_once('\t')?;
-    let word = u32::from_str_radix(digits, 16).ok()?;
-    Some(word_of(alloc, text) == Some(word))
 }
 
 fn main(rt: HostRuntime) -> io::Result<()> {
-    let mut texts = 0u64;
-    let mut differ = 0u64;
-    for line in rt.lines(rt.alloc()) {
-        let line = line?;
-        texts = texts.saturating_add(1);
-        if agrees(rt.alloc(), line.as_str()) != Some(true) {
-            differ = differ.saturating_add(1);
-            println!(rt; "differs: {line}")?;
-        }
+    let mut text = String::new(rt.alloc());
+    io::Read::read_to_string(&mut rt.stdin(), &mut text)?;
+    for section in text.split("====\n") {
+        report(rt, section)?;
     }
-    println!(rt; "{texts} texts, {differ} differ")
+    Ok(())
 }
