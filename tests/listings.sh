@@ -62,7 +62,7 @@ gnu_texts() {
     "$SVEMU" dis "$scratch/words.elf" | cut -d ' ' -f 3- | awk '$NF !~ /^0x/ || /#0x[0-9a-f]*$/' >"$scratch/texts.s"
     "$SVEMU" asm "$scratch/texts.s" >"$scratch/texts.elf"
     "$SVEMU" dis "$scratch/texts.elf" | cut -d ' ' -f 2 >"$scratch/ours"
-    aarch64-linux-gnu-as -march=armv8-a+sve -o "$scratch/texts.o" "$scratch/texts.s" 2>"$scratch/said"
+    aarch64-linux-gnu-as -march=armv8.1-a+sve -o "$scratch/texts.o" "$scratch/texts.s" 2>"$scratch/said"
     aarch64-linux-gnu-objcopy -O binary -j .text "$scratch/texts.o" "$scratch/texts.bin"
     od -An -v -t x4 -w4 "$scratch/texts.bin" | tr -d ' ' >"$scratch/theirs"
     holds "$(wc -l <"$scratch/ours") texts through GNU's assembler" cmp "$scratch/ours" "$scratch/theirs"
