@@ -56,7 +56,7 @@ lane_bit e t (inr (inl s)) h = rw s (omega arith)
 lane_bit e t (inr (inr (inl s))) h = rw s (omega arith)
 lane_bit e t (inr (inr (inr s))) h = rw s (omega arith)
 
-bit_within : (x s u : ℕ) → u < 8 → x / 2 ^ s % 256 / 2 ^ u % 2 ≡ x / 2 ^ (s + u) % 2
+pub bit_within : (x s u : ℕ) → u < 8 → x / 2 ^ s % 256 / 2 ^ u % 2 ≡ x / 2 ^ (s + u) % 2
 bit_within x s u h =
     let twice : x / 2 ^ s % 256 % 256 ≡ x / 2 ^ s % 256 = omega arith in
     same_part (x / 2 ^ s % 256) (x / 2 ^ s) 8 u 1 twice (omega arith) ∙ ap (λ y. y % 2) (shr-shr x s u)

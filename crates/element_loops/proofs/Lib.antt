@@ -7,6 +7,7 @@ pub mod Lists
 pub mod FieldBits
 pub mod Kept
 pub mod RunWords
+pub mod PredicateBytes
 pub mod RunNotes
 pub mod RunLoads
 pub mod RunStores

@@ -60,7 +60,7 @@ each_both a (suc b) f =
 
 -- ---- where the elements are
 
-one_place : (k r n : ℕ) → r ≡ 1 → n ≡ 1 → (k * r + 0) * n ≡ k
+pub one_place : (k r n : ℕ) → r ≡ 1 → n ≡ 1 → (k * r + 0) * n ≡ k
 one_place k r n one single = let e : (k * 1 + 0) * 1 ≡ k = omega arith in ap (λ r. (k * r + 0) * n) one ∙ ap (λ n. (k * 1 + 0) * n) single ∙ e
 
 pub placed_at : (base : ℕ) (p : Plan) (v : Vectors) → ArePlaced base p → (k j : ℕ) → j < p.registers → (layout_of p v).address k j ≡ address (base + (k * p.registers + j) * p.bytes)

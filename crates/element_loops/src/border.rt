@@ -14,6 +14,7 @@ fn copy_part(mem: &mut Mem, at: u64, most: usize, bytes: &mut [u8], place: usize
     ensures allowed { IfSome result (λ n. refused mem.old at n Kind.Read ≡ None) }
     ensures here { IfSome result (λ n. (j : ℕ) → j < n → get_or bytes.new (place + j) 0 ≡ get_or (bytes_at mem.old at n) j 0) }
     ensures before { (j : ℕ) → j < place → get_or bytes.new j 0 ≡ get_or bytes.old j 0 }
+    ensures behind { IfSome result (λ n. (j : ℕ) → place + n ≤ j → get_or bytes.new j 0 ≡ get_or bytes.old j 0) }
     ensures long { length bytes.new ≡ length bytes.old }
     ensures memory { mem.new ≡ mem.old }
 {
@@ -28,17 +29,21 @@ fn copy_part(mem: &mut Mem, at: u64, most: usize, bytes: &mut [u8], place: usize
 }
 
 /// Fills the first `total` places of a buffer with the bytes from an address on, which end in its page or in the next, and says whether
-/// they may be read.
+/// they may be read. The other places stay.
 pub(crate) fn joined(mem: &mut Mem, base: u64, total: usize, bytes: &mut [u8]) -> bool
     requires { total ≤ length bytes.old }
     ensures allowed { result ≡ true → refused mem.old base total Kind.Read ≡ None }
     ensures bytes { result ≡ true → (j : ℕ) → j < total → get_or bytes.new j 0 ≡ get_or (bytes_at mem.old base total) j 0 }
+    ensures behind { result ≡ true → (j : ℕ) → total ≤ j → get_or bytes.new j 0 ≡ get_or bytes.old j 0 }
     ensures long { length bytes.new ≡ length bytes.old }
     ensures memory { mem.new ≡ mem.old }
 {
     let Some(first) = copy_part(mem, base, total, bytes, 0) else {
         return false;
     };
+    if first == total {
+        return true;
+    }
     let at = base.wrapping_add(first as u64);
     let Some(rest) = copy_part(mem, at, total - first, bytes, first) else {
         return false;

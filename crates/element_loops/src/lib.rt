@@ -12,6 +12,7 @@ mod loading;
 mod noting;
 pub mod place;
 mod plan;
+mod predicates;
 mod repeated;
 mod run;
 mod run_store;

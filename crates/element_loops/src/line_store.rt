@@ -11,7 +11,8 @@ ghost use Rattle.element_loops.specs.declared.plan.Target.{Target};
 use crate::border::put_over;
 use crate::line::total_bytes;
 use crate::place::{most_elements, position, register_at};
-use crate::plan::Plan;
+use crate::plan::{Plan, Target};
+use crate::predicates::put_bits;
 use crate::run::{Run, line_of};
 use guest_mem::{AccessLog, Mem};
 use vec_regs::VecRegs;
@@ -134,7 +135,7 @@ fn store_all(plan: &Plan, vec: &VecRegs, mem: &mut Mem, log: &mut AccessLog, lin
 }
 
 /// The same, if the elements are one behind the other.
-pub(crate) fn store_line(plan: &Plan, vec: &VecRegs, mem: &mut Mem, log: &mut AccessLog) -> bool
+fn store_registers(plan: &Plan, vec: &VecRegs, mem: &mut Mem, log: &mut AccessLog) -> bool
     requires plan { IsPlan plan.now vec.now }
     requires empty { log.old.items ≡ [] }
     ensures stored { result ≡ true → let l = layout_of plan.now vec.now in AreStored (stored_by plan.now.target l vec.now) mem.old (elements_of l) mem.new log.new.items }
@@ -144,5 +145,19 @@ pub(crate) fn store_line(plan: &Plan, vec: &VecRegs, mem: &mut Mem, log: &mut Ac
     match line_of(plan, vec) {
         Some(line) => store_all(plan, vec, mem, log, &line),
         None => false,
+    }
+}
+
+/// The same of registers or of a predicate.
+pub(crate) fn store_line(plan: &Plan, vec: &VecRegs, mem: &mut Mem, log: &mut AccessLog) -> bool
+    requires plan { IsPlan plan.now vec.now }
+    requires empty { log.old.items ≡ [] }
+    ensures stored { result ≡ true → let l = layout_of plan.now vec.now in AreStored (stored_by plan.now.target l vec.now) mem.old (elements_of l) mem.new log.new.items }
+    ensures kept { result ≡ false → mem.new ≡ mem.old }
+    ensures unlogged { result ≡ false → log.new ≡ log.old }
+{
+    match plan.target {
+        Target::Predicate(pt) => put_bits(plan, vec, mem, log, pt),
+        _ => store_registers(plan, vec, mem, log),
     }
 }

@@ -11,6 +11,7 @@ ghost use Rattle.element_loops.specs.declared.plan.Target.{Target};
 use crate::fields::whole_words;
 use crate::line::take_line;
 use crate::plan::{OnLanes, Places, Plan, Target};
+use crate::predicates::take_bits;
 use crate::repeated::{take_one, take_quad};
 use emu_bits::Pred;
 use guest_mem::{AccessLog, Mem};
@@ -125,6 +126,6 @@ pub fn load_run(plan: &Plan, vec: &mut VecRegs, mem: &mut Mem, log: &mut AccessL
         Target::Registers => load_registers(plan, vec, mem, log),
         Target::Repeated => take_quad(plan, vec, mem, log),
         Target::Replicated(pg) => take_one(plan, vec, mem, log, pg),
-        Target::Predicate(_) => false,
+        Target::Predicate(pt) => take_bits(plan, vec, mem, log, pt),
     }
 }

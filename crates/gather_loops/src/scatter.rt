@@ -1,5 +1,5 @@
 //! Scatters.
-ghost use Rattle.std.specs.Prelude.{◌≡◌, ◌≤◌, ◌<◌, ◌+◌, ◌*◌, ◌/◌, [], MatchResult};
+ghost use Rattle.std.specs.Prelude.{◌≡◌, ◌≤◌, ◌<◌, ◌+◌, [], MatchResult};
 ghost use Rattle.arrayvec.specs.ArrayVec.{array_vec_len};
 ghost use Rattle.emu_model.specs.Access.{Memory};
 ghost use Rattle.sve_effects.specs.VectorElements.{elements_below, elements_of};
@@ -49,39 +49,9 @@ fn store_lane(
     }
 }
 
-/// Stores the elements of the lanes of word i of the register, n bytes each.
-#[inline(always)]
-fn store_word(
-    plan: &Plan,
-    vec: &VecRegs,
-    mem: &mut Mem,
-    log: &mut AccessLog,
-    i: u32,
-    n: u32,
-) -> Result<(), Trap>
-    requires plan { IsPlan plan.now vec.now }
-    requires gather { IsGather plan.now }
-    requires within { i < vec.now.bits / 64 }
-    requires bytes { n ≡ plan.now.bytes }
-    requires count { array_vec_len log.old ≤ i * (64 / plan.now.bits) }
-    ensures count { array_vec_len log.new ≤ (i + 1) * (64 / plan.now.bits) }
-    // whatever the memory was before the first store
-    ensures stored { (m : Memory) → let l = layout_of plan.now vec.now in
-        AreStored (stored_by plan.now.target l vec.now) m (elements_below l (i * (64 / plan.now.bits))) mem.old log.old.items
-        → MatchResult result (λ x. AreStored (stored_by plan.now.target l vec.now) m (elements_below l ((i + 1) * (64 / plan.now.bits))) mem.new log.new.items)
-        (λ trap. StopsStore (stored_by plan.now.target l vec.now) m (elements_of l) mem.new log.new.items trap) }
-{
-    let _length = vec.length();
-    if plan.bits == 64 {
-        return store_lane(plan, vec, mem, log, i, n);
-    }
-    store_lane(plan, vec, mem, log, 2 * i, n)?;
-    store_lane(plan, vec, mem, log, 2 * i + 1, n)
-}
-
 /// Stores all elements in order, n bytes each, or stops at the first that is refused.
 #[inline(always)]
-fn store_words(
+fn store_lanes(
     plan: &Plan,
     vec: &VecRegs,
     mem: &mut Mem,
@@ -97,8 +67,8 @@ fn store_words(
         (λ trap. StopsStore (stored_by plan.now.target l vec.now) mem.old (elements_of l) mem.new log.new.items trap) }
 {
     let plan = *plan;
-    for i in 0..vec.length().bits() / 64 {
-        store_word(&plan, vec, mem, log, i, n)?;
+    for k in 0..plan.lanes {
+        store_lane(&plan, vec, mem, log, k, n)?;
     }
     Ok(())
 }
@@ -113,11 +83,11 @@ fn store_all(plan: &Plan, vec: &VecRegs, mem: &mut Mem, log: &mut AccessLog) -> 
         (λ trap. StopsStore (stored_by plan.now.target l vec.now) mem.old (elements_of l) mem.new log.new.items trap) }
 {
     match plan.bytes {
-        1 => store_words(plan, vec, mem, log, 1),
-        2 => store_words(plan, vec, mem, log, 2),
-        4 => store_words(plan, vec, mem, log, 4),
-        8 => store_words(plan, vec, mem, log, 8),
-        n => store_words(plan, vec, mem, log, n),
+        1 => store_lanes(plan, vec, mem, log, 1),
+        2 => store_lanes(plan, vec, mem, log, 2),
+        4 => store_lanes(plan, vec, mem, log, 4),
+        8 => store_lanes(plan, vec, mem, log, 8),
+        n => store_lanes(plan, vec, mem, log, n),
     }
 }
 

@@ -1,14 +1,16 @@
 //! What gives the lanes of a register 128 bits at a time: registers, operations of their lanes, and choices by a predicate.
-ghost use Rattle.std.specs.Prelude.{◌≡◌, ◌<◌, ◌≤◌, ◌+◌, ◌*◌, ◌/◌, ◌%◌, ◌^◌, ℕ, map, get_or, if◌then◌else◌};
+ghost use Rattle.std.specs.Prelude.{◌≡◌, ◌<◌, ◌≤◌, ◌+◌, ◌*◌, ◌/◌, ◌%◌, ◌^◌, ℕ, map, get_or, if◌then◌else◌, refl};
+ghost use Rattle.std.proofs.Common.{ap, ap₂};
 ghost use Rattle.std.specs.Prelude.{[], ◌∷◌};
 ghost use Rattle.std.specs.Simd.Lanes.{digits_l, number_l};
+ghost use Rattle.lane_kernels.specs.Parts.{same_lane, same_active, same_choice};
 ghost use Rattle.lane_pack.specs.Bits.{is_set};
 ghost use Rattle.sve_effects.specs.ElementLoop.{is_active, lane_of};
 ghost use Rattle.vec_model.specs.Lanes.{IsLaneSize};
 
 use crate::kernels::{Op1, Op2, Op3};
 use crate::lane_wise::{LaneWise1, LaneWise2, LaneWise3};
-use crate::words::{Chunks, Gives};
+use crate::words::{Chunks, Gives, Local};
 use emu_bits::{Pred, Reg};
 use lane_pack::Quad;
 use std::simd::Simd;
@@ -22,6 +24,10 @@ pub struct LaneOf {
 
 impl Gives for LaneOf {
     ghost value = { λ s e v k. lane_of e v s.r k };
+}
+
+impl Local for LaneOf {
+    ghost local = { λ s e i k v w size at same. same_lane e i k s.r v w size at same };
 }
 
 impl<T: Quad<W>, const W: usize> Chunks<T, W> for LaneOf {
@@ -53,6 +59,10 @@ impl Gives for Number {
     ghost value = { λ s e v k. s.n };
 }
 
+impl Local for Number {
+    ghost local = { λ s e i k v w size at same. refl };
+}
+
 impl<T: Quad<W>, const W: usize> Chunks<T, W> for Number {
     #[inline(always)]
     fn chunk(&self, _vec: &VecRegs, _i: u32) -> [T; W] {
@@ -70,6 +80,10 @@ pub struct Map1<F> {
 
 impl<F: LaneWise1> Gives for Map1<F> {
     ghost value = { λ s e v k. F.entry s.op e (lane_of e v s.zn k) };
+}
+
+impl<F: LaneWise1> Local for Map1<F> {
+    ghost local = { λ s e i k v w size at same. ap (F.entry s.op e) (same_lane e i k s.zn v w size at same) };
 }
 
 impl<T: Quad<W>, F: LaneWise1, const W: usize> Chunks<T, W> for Map1<F> {
@@ -93,6 +107,10 @@ pub struct Map2<F> {
 
 impl<F: LaneWise2> Gives for Map2<F> {
     ghost value = { λ s e v k. F.entry s.op e (lane_of e v s.zn k) (lane_of e v s.zm k) };
+}
+
+impl<F: LaneWise2> Local for Map2<F> {
+    ghost local = { λ s e i k v w size at same. ap₂ (F.entry s.op e) (same_lane e i k s.zn v w size at same) (same_lane e i k s.zm v w size at same) };
 }
 
 impl<T: Quad<W>, F: LaneWise2, const W: usize> Chunks<T, W> for Map2<F> {
@@ -119,6 +137,10 @@ pub struct Map3<F> {
 
 impl<F: LaneWise3> Gives for Map3<F> {
     ghost value = { λ s e v k. F.entry s.op e (lane_of e v s.za k) (lane_of e v s.zn k) (lane_of e v s.zm k) };
+}
+
+impl<F: LaneWise3> Local for Map3<F> {
+    ghost local = { λ s e i k v w size at same. ap₂ (λ (f : ℕ → ℕ) (z : ℕ). f z) (ap₂ (F.entry s.op e) (same_lane e i k s.za v w size at same) (same_lane e i k s.zn v w size at same)) (same_lane e i k s.zm v w size at same) };
 }
 
 impl<T: Quad<W>, F: LaneWise3, const W: usize> Chunks<T, W> for Map3<F> {
@@ -153,6 +175,10 @@ impl Gives for Select {
     ghost value = { λ s e v k. if is_active e v s.pg k then lane_of e v s.zn k else lane_of e v s.zm k };
 }
 
+impl Local for Select {
+    ghost local = { λ s e i k v w size at same. same_choice (is_active e v s.pg k) (is_active e w s.pg k) (lane_of e v s.zn k) (lane_of e v s.zm k) (lane_of e w s.zn k) (lane_of e w s.zm k) (same_active e i k s.pg v w same) (same_lane e i k s.zn v w size at same) (same_lane e i k s.zm v w size at same) };
+}
+
 impl<T: Quad<W>, const W: usize> Chunks<T, W> for Select {
     #[inline(always)]
     fn chunk(&self, vec: &VecRegs, i: u32) -> [T; W] {
@@ -174,6 +200,10 @@ impl<L: Gives> Gives for Merged<L> {
     ghost value = { λ s e v k. if is_active e v s.pg k then L.value s.lanes e v k else lane_of e v s.zd k };
 }
 
+impl<L: Local> Local for Merged<L> {
+    ghost local = { λ s e i k v w size at same. same_choice (is_active e v s.pg k) (is_active e w s.pg k) (L.Gives.value s.lanes e v k) (lane_of e v s.zd k) (L.Gives.value s.lanes e w k) (lane_of e w s.zd k) (same_active e i k s.pg v w same) (L.local s.lanes e i k v w size at same) (same_lane e i k s.zd v w size at same) };
+}
+
 impl<T: Quad<W>, L: Chunks<T, W>, const W: usize> Chunks<T, W> for Merged<L> {
     #[inline(always)]
     fn chunk(&self, vec: &VecRegs, i: u32) -> [T; W] {
@@ -192,6 +222,10 @@ pub struct Zeroed<L> {
 
 impl<L: Gives> Gives for Zeroed<L> {
     ghost value = { λ s e v k. if is_active e v s.pg k then L.value s.lanes e v k else 0 };
+}
+
+impl<L: Local> Local for Zeroed<L> {
+    ghost local = { λ s e i k v w size at same. same_choice (is_active e v s.pg k) (is_active e w s.pg k) (L.Gives.value s.lanes e v k) 0 (L.Gives.value s.lanes e w k) 0 (same_active e i k s.pg v w same) (L.local s.lanes e i k v w size at same) refl };
 }
 
 impl<T: Quad<W>, L: Chunks<T, W>, const W: usize> Chunks<T, W> for Zeroed<L> {

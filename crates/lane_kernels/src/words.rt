@@ -1,7 +1,11 @@
 //! The kernels over the words of registers: 128 bits at a time, of which a vector length is always a multiple.
+//!
+//! Where each lane stands on its own 128 bits of the registers alone, the destination is written in place, though it
+//! may be a source; else its words are made first and then written.
 ghost use Rattle.std.specs.Prelude.{◌≡◌, ◌<◌, ◌≤◌, ◌+◌, ◌*◌, ◌/◌, ◌%◌, ◌^◌, ℕ, map, get_or};
 ghost use Rattle.emu_model.specs.Lists.{each};
 ghost use Rattle.emu_model.specs.State.{Vectors};
+ghost use Rattle.lane_kernels.specs.Parts.{SamePart};
 ghost use Rattle.sve_effects.specs.ElementLoop as model;
 ghost use Rattle.vec_model.specs.Lanes.{IsLaneSize};
 ghost use Rattle.vec_regs.specs.Packed.{packed};
@@ -27,6 +31,28 @@ pub trait Chunks<T: Quad<W>, const W: usize>: Gives {
         ensures { (j : ℕ) → j < W → get_or (map T.number result) j 0 ≡ Self.value self.now T.BITS vec.now (i * W + j) % 2 ^ T.BITS };
 }
 
+/// Gives lanes each of which stands on the same 128 bits of the registers alone, and on the predicates.
+pub trait Local: Gives {
+    ghost local: { (s : Self) (e i k : ℕ) (v w : Vectors) → IsLaneSize e → k * e / 128 ≡ i → SamePart i v w → Self.value s e v k ≡ Self.value s e w k };
+}
+
+/// Writes each lane of a register, 128 bits after 128 bits.
+#[inline(always)]
+fn fill_in_place<T: Quad<W>, L: Local + Chunks<T, W>, const W: usize>(
+    vec: &mut VecRegs,
+    zd: Reg,
+    lanes: &L,
+)
+    ensures { vec.new ≡ model.plain T.BITS (L.Gives.value lanes.now T.BITS vec.old) zd vec.old }
+{
+    let _length = vec.length();
+    let _words = vec.z_words(zd);
+    for i in 0..vec.length().bits() / 128 {
+        let pair = T::packed(lanes.chunk(vec, i));
+        vec.set_z_pair(zd, i, pair);
+    }
+}
+
 /// The words of a register whose lanes are given, over zeros.
 #[inline(always)]
 fn fill<T: Quad<W>, L: Chunks<T, W>, const W: usize>(
@@ -38,8 +64,8 @@ fn fill<T: Quad<W>, L: Chunks<T, W>, const W: usize>(
     ensures words { (i : ℕ) → i < vec.now.bits / 64 → get_or words.new i 0 ≡ packed T.BITS (each (64 / T.BITS) (λ j. L.value lanes.now T.BITS vec.now (i * (64 / T.BITS) + j))) }
     ensures above { AreZeroFrom (vec.now.bits / 64) words.new }
 {
-    let _length = vec.length();
-    for i in 0..vec.length().bits() / 128 {
+    let length = vec.length();
+    for i in 0..length.bits() / 128 {
         let pair = T::packed(lanes.chunk(vec, i));
         words[2 * i as usize] = pair[0];
         words[2 * i as usize + 1] = pair[1];
@@ -69,7 +95,26 @@ fn register_of<L: Chunks<u8, 16> + Chunks<u16, 8> + Chunks<u32, 4> + Chunks<u64,
 
 /// Writes each lane of e bits of register zd, of 8, 16, 32 or 64 bits.
 #[inline(always)]
-pub fn plain<L: Chunks<u8, 16> + Chunks<u16, 8> + Chunks<u32, 4> + Chunks<u64, 2>>(
+pub fn plain<L: Local + Chunks<u8, 16> + Chunks<u16, 8> + Chunks<u32, 4> + Chunks<u64, 2>>(
+    vec: &mut VecRegs,
+    e: u32,
+    zd: Reg,
+    lanes: &L,
+)
+    requires { IsLaneSize e }
+    ensures { vec.new ≡ model.plain e (L.Gives.value lanes.now e vec.old) zd vec.old }
+{
+    match e {
+        8 => fill_in_place::<u8, L, 16>(vec, zd, lanes),
+        16 => fill_in_place::<u16, L, 8>(vec, zd, lanes),
+        32 => fill_in_place::<u32, L, 4>(vec, zd, lanes),
+        _ => fill_in_place::<u64, L, 2>(vec, zd, lanes),
+    }
+}
+
+/// The same of lanes that may stand on any others, as those of a permutation do.
+#[inline(always)]
+pub fn permuted<L: Chunks<u8, 16> + Chunks<u16, 8> + Chunks<u32, 4> + Chunks<u64, 2>>(
     vec: &mut VecRegs,
     e: u32,
     zd: Reg,
@@ -86,7 +131,7 @@ pub fn plain<L: Chunks<u8, 16> + Chunks<u16, 8> + Chunks<u32, 4> + Chunks<u64, 2
 
 /// Writes the active lanes of e bits, and the others keep their value.
 #[inline(always)]
-pub fn merging<L: Chunks<u8, 16> + Chunks<u16, 8> + Chunks<u32, 4> + Chunks<u64, 2> + Copy>(
+pub fn merging<L: Local + Chunks<u8, 16> + Chunks<u16, 8> + Chunks<u32, 4> + Chunks<u64, 2> + Copy>(
     vec: &mut VecRegs,
     e: u32,
     pg: Pred,
@@ -101,7 +146,7 @@ pub fn merging<L: Chunks<u8, 16> + Chunks<u16, 8> + Chunks<u32, 4> + Chunks<u64,
 
 /// Writes the active lanes of e bits, and the others are 0.
 #[inline(always)]
-pub fn zeroing<L: Chunks<u8, 16> + Chunks<u16, 8> + Chunks<u32, 4> + Chunks<u64, 2> + Copy>(
+pub fn zeroing<L: Local + Chunks<u8, 16> + Chunks<u16, 8> + Chunks<u32, 4> + Chunks<u64, 2> + Copy>(
     vec: &mut VecRegs,
     e: u32,
     pg: Pred,

@@ -8,7 +8,6 @@
 mod by_active;
 mod by_number;
 mod pairs;
-pub mod places;
 mod runs;
 
 ghost use Rattle.std.specs.Prelude.{◌≡◌, length};

@@ -9,7 +9,7 @@ use crate::fields::wide_signed;
 use core_regs::Core;
 use emu_bits::{Pred, PredLow, Reg, U};
 use lane_kernels::sources::{LaneOf, Number, Select};
-use lane_kernels::words::{Chunks, merging, plain, zeroing};
+use lane_kernels::words::{Chunks, Local, merging, plain, zeroing};
 use sve_effects::lane_bits;
 use sve_insn::{Sve, SveForm};
 use vec_regs::VecRegs;
@@ -50,7 +50,7 @@ pub(crate) fn exec(core: &Core, vec: &mut VecRegs, i: &Sve)
 }
 
 /// Writes the active lanes; the others keep their value where `merges` is set (/m), else they are 0 (/z).
-fn copied<L: Chunks<u8, 16> + Chunks<u16, 8> + Chunks<u32, 4> + Chunks<u64, 2> + Copy>(
+fn copied<L: Local + Chunks<u8, 16> + Chunks<u16, 8> + Chunks<u32, 4> + Chunks<u64, 2> + Copy>(
     vec: &mut VecRegs,
     merges: bool,
     e: u32,

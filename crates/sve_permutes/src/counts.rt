@@ -2,15 +2,17 @@
 ghost use Rattle.std.specs.Prelude.{◌≡◌, ◌≤◌, ◌⊎◌, true};
 ghost use Rattle.sve_insn.specs.declared.form.SveForm.{SveForm};
 ghost use Rattle.sve_effects.specs.Counts as table;
-ghost use Rattle.sve_effects.specs.Element.{element};
-ghost use Rattle.sve_effects.specs.ElementLoop.{lane_of, plain};
+ghost use Rattle.sve_effects.specs.ElementLoop as loops;
+ghost use Rattle.sve_effects.specs.ElementLoop.{lane_of};
 ghost use Rattle.sve_permutes.specs.Groups.{is_count_of_lanes};
 ghost use Rattle.vec_model.specs.Lanes.{IsLaneSize};
 
-use crate::moves::MOST_LANES;
-use arrayvec::ArrayVec;
 use core_regs::Core;
 use emu_bits::{Reg, U, low_bits, sext, sign_extended};
+use lane_kernels::sources::Map1;
+use lane_kernels::words::plain;
+use lane_kernels::{LaneWise2, WithNumber};
+use lane_ops::{Add, SqaddAmount, SqsubAmount, Sub, Uqadd, Uqsub};
 use pred_bits::pattern_count;
 use sve_effects::{ElementOp, lane_bits};
 use sve_elements::apply;
@@ -95,8 +97,12 @@ fn inc_x(core: &mut Core, vec: &VecRegs, op: IncOp, size: U<2>, imm4: U<4>, patt
 fn inc_z(core: &Core, vec: &mut VecRegs, op: IncOp, size: U<2>, imm4: U<4>, pattern: U<5>, zdn: Reg)
     ensures { vec.new ≡ (table.counted (SveForm.IncZ op size imm4 pattern zdn) core.now vec.old).vectors }
 {
+    let e = lane_bits(size);
     let count = count_of(vec, size, imm4, pattern);
-    counted_lanes(vec, inc_element(op), lane_bits(size), count, zdn);
+    match op {
+        IncOp::Inc => counted_lanes(vec, e, zdn, count, Add),
+        IncOp::Dec => counted_lanes(vec, e, zdn, count, Sub),
+    }
 }
 
 fn sat_x(
@@ -120,8 +126,14 @@ fn sat_x(
 fn sat_z(core: &Core, vec: &mut VecRegs, op: SatOp, size: U<2>, imm4: U<4>, pattern: U<5>, zdn: Reg)
     ensures { vec.new ≡ (table.counted (SveForm.SatZ op size imm4 pattern zdn) core.now vec.old).vectors }
 {
+    let e = lane_bits(size);
     let count = count_of(vec, size, imm4, pattern);
-    counted_lanes(vec, sat_element(op), lane_bits(size), count, zdn);
+    match op {
+        SatOp::Sqinc => counted_lanes(vec, e, zdn, count, SqaddAmount),
+        SatOp::Uqinc => counted_lanes(vec, e, zdn, count, Uqadd),
+        SatOp::Sqdec => counted_lanes(vec, e, zdn, count, SqsubAmount),
+        SatOp::Uqdec => counted_lanes(vec, e, zdn, count, Uqsub),
+    }
 }
 
 fn add_length(core: &mut Core, vec: &VecRegs, op: AddLengthOp, rn: Reg, imm6: U<6>, rd: Reg)
@@ -149,17 +161,14 @@ fn count_of(vec: &VecRegs, size: U<2>, imm4: U<4>, pattern: U<5>) -> u64
     u64::from(pattern_count(pattern, n)) * u64::from(imm4.get() + 1)
 }
 
-/// Writes a function of each lane of zdn and a count to it.
-#[tactic(auto, using(emu_model::specs::Lists::each_rules))]
-fn counted_lanes(vec: &mut VecRegs, op: ElementOp, e: u32, count: u64, zdn: Reg)
+/// Writes what an operation makes of each lane of zdn and a count to it.
+#[inline(always)]
+fn counted_lanes<F: LaneWise2 + Copy>(vec: &mut VecRegs, e: u32, zdn: Reg, count: u64, op: F)
     requires { IsLaneSize e }
-    ensures { vec.new ≡ plain e (λ k. element op e (lane_of e vec.old zdn k) count) zdn vec.old }
+    ensures { vec.new ≡ loops.plain e (λ k. F.entry op e (lane_of e vec.old zdn k) count) zdn vec.old }
 {
-    let mut out: ArrayVec<u64, MOST_LANES> = ArrayVec::new();
-    for k in 0..vec.length().bits() / e {
-        out.push(apply(op, e, vec.lane(zdn, e, k), count));
-    }
-    vec.set_lanes(e, zdn, &out);
+    let op = WithNumber { op, n: count };
+    plain(vec, e, zdn, &Map1 { op, zn: zdn });
 }
 
 /// The low w bits of a number and a count, saturating, and extended to 64 bits.

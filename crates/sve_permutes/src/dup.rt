@@ -10,7 +10,7 @@ use crate::chunks::Turns;
 use crate::moves::{filled, indexed};
 use core_regs::Core;
 use emu_bits::{Reg, U};
-use lane_kernels::words::plain;
+use lane_kernels::words::permuted;
 use vec_regs::VecRegs;
 
 /// Does a dup of a lane of 8 to 128 bits.
@@ -73,5 +73,5 @@ fn dup_quad(vec: &mut VecRegs, i: u32, zn: Reg, zd: Reg)
 fn in_turn(vec: &mut VecRegs, low: u64, high: u64, zd: Reg)
     ensures { vec.new ≡ with_lanes 64 (λ k. if nat_eq (k % 2) 0 then low else high) zd vec.old }
 {
-    plain(vec, 64, zd, &Turns { low, high });
+    permuted(vec, 64, zd, &Turns { low, high });
 }

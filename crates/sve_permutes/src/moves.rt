@@ -1,5 +1,5 @@
 //! A number in the lanes of a register, in all of them or in the active ones.
-ghost use Rattle.std.specs.Prelude.{◌≡◌, ◌*◌, ◌/◌};
+ghost use Rattle.std.specs.Prelude.{◌≡◌, ◌≤◌, ◌*◌, ◌/◌};
 ghost use Rattle.emu_bits.specs.Fields.{bit};
 ghost use Rattle.sve_effects.specs.ElementLoop.{lane_of, is_active};
 ghost use Rattle.sve_effects.specs.Permute.{taken, indexed_place, copy_place};
@@ -10,9 +10,6 @@ use emu_bits::{Pred, Reg};
 use lane_kernels::sources::Number;
 use lane_kernels::words::{merging, plain};
 use vec_regs::VecRegs;
-
-/// The most lanes: those of 8 bits at the greatest vector length.
-pub(crate) const MOST_LANES: usize = 256;
 
 /// Writes a number to each lane of e bits of zd.
 pub(crate) fn filled(vec: &mut VecRegs, e: u32, x: u64, zd: Reg)
@@ -43,9 +40,10 @@ pub(crate) fn copied(vec: &mut VecRegs, e: u32, pg: Pred, scalar: u64, zd: Reg)
     merging(vec, e, pg, zd, Number { n: scalar });
 }
 
-/// The first lane of a half of n lanes.
-pub(crate) fn first_of_half(high: bool, n: u32) -> u32
-    ensures { result ≡ bit high * n }
+/// Where the first or the second of two parts of n begins.
+pub(crate) fn begin(second: bool, n: u32) -> u32
+    ensures value { result ≡ bit second * n }
+    ensures within { result ≤ n }
 {
-    if high { n } else { 0 }
+    if second { n } else { 0 }
 }

@@ -1,63 +1,105 @@
-//! Fields of a predicate that come from other places.
-ghost use Rattle.std.specs.Prelude.{◌≡◌, ◌<◌, ◌/◌, false};
-ghost use Rattle.sve_effects.specs.Permute.{taken};
+//! Fields of predicates in other places, by the words of the predicates.
+ghost use Rattle.std.specs.Prelude.{◌≡◌, ◌<◌, ◌≤◌, ◌+◌, ◌*◌, ◌/◌, ◌%◌, ℕ, false};
+ghost use Rattle.field_words.specs.Places.{IsField};
+ghost use Rattle.sve_effects.specs.Permute.{taken, interleave_place, zip_place, uzp_place, trn_place, rev_place};
 ghost use Rattle.sve_effects.specs.PermuteRows as model;
-ghost use Rattle.lane_permute.specs.Rules.{rule_place, IsFor, IsWithin};
-ghost use Rattle.vec_model.specs.Lanes.{IsLaneSize, read_p};
+ghost use Rattle.sve_permutes.specs.Fields.{bit_of_field};
+ghost use Rattle.vec_model.specs.Lanes.{IsLaneSize};
+ghost use Rattle.vec_regs.specs.Words.{bit_of, AreClearFrom};
 
-use crate::moves::{MOST_LANES, first_of_half};
-use arrayvec::ArrayVec;
+use crate::moves::begin;
 use emu_bits::Pred;
-use lane_permute::places::{Rule, place};
-use sve_effects::Place;
-use sve_insn::UnpackPOp;
+use field_words::{rev, trn, uzp, zip};
+use sve_insn::{InterleaveOp, UnpackPOp};
 use vec_regs::VecRegs;
 
-/// Writes the fields of pd for lanes of e bits, each the whole field that its place names, of pn and pm.
-#[tactic(auto, using(emu_model::specs::Lists::each_rules, crate::proofs::FieldPlaces::field_rules))]
-pub(crate) fn moved_fields(vec: &mut VecRegs, e: u32, rule: Rule, pn: Pred, pm: Pred, pd: Pred)
-    requires size { IsLaneSize e }
-    requires lanes { IsFor rule (vec.old.bits / e) }
-    ensures { vec.new ≡ model.moved_fields e (rule_place rule (vec.old.bits / e)) pn pm pd vec.old }
+/// The fields of w bits of two predicates of so many bits in turn: of their first halves, or of their second halves.
+fn zipped(second: bool, w: u32, bits: u32, a: &[u64; 4], b: &[u64; 4]) -> [u64; 4]
+    requires field { IsField w }
+    requires few { bits ≤ 256 }
+    requires whole { bits % 16 ≡ 0 }
+    requires first { AreClearFrom bits a.now }
+    requires second { AreClearFrom bits b.now }
+    ensures fields { (j : ℕ) → j < bits → bit_of result j ≡ taken (bit_of_field w (j % w) a.now) (bit_of_field w (j % w) b.now) false false (zip_place second (bits / w) (j / w)) }
+    ensures above { AreClearFrom bits result }
 {
-    let w = e / 8;
-    let n = vec.length().bits() / e;
-    let mut out: ArrayVec<bool, MOST_LANES> = ArrayVec::new();
-    for j in 0..vec.length().bits() / 8 {
-        let at = place(rule, n as usize, (j / w) as usize);
-        out.push(bit_named(vec, e, pn, pm, j % w, at));
-    }
-    vec.set_fields(8, pd, &out);
+    zip(a, b, begin(second, bits / 2), w, bits)
 }
 
-/// Bit i of the field that a place names.
-#[tactic(auto, using(crate::proofs::FieldPlaces::field_rules))]
-fn bit_named(vec: &VecRegs, e: u32, pn: Pred, pm: Pred, i: u32, at: Place) -> bool
-    requires size { IsLaneSize e }
-    requires bit { i < e / 8 }
-    requires within { IsWithin (vec.now.bits / e) at }
-    ensures { result ≡ taken (model.bit_of_field (e / 8) i (read_p vec.now pn)) (model.bit_of_field (e / 8) i (read_p vec.now pm)) false false at }
+/// The even fields of two predicates one after the other, or the odd fields.
+fn unzipped(second: bool, w: u32, bits: u32, a: &[u64; 4], b: &[u64; 4]) -> [u64; 4]
+    requires field { IsField w }
+    requires few { bits ≤ 256 }
+    requires whole { bits % 16 ≡ 0 }
+    requires first { AreClearFrom bits a.now }
+    requires second { AreClearFrom bits b.now }
+    ensures fields { (j : ℕ) → j < bits → bit_of result j ≡ taken (bit_of_field w (j % w) a.now) (bit_of_field w (j % w) b.now) false false (uzp_place second (bits / w) (j / w)) }
+    ensures above { AreClearFrom bits result }
 {
-    let _length = vec.length();
-    match at {
-        Place::FirstLane(k) => vec.p_bit(pn, k as u32 * (e / 8) + i),
-        Place::SecondLane(k) => vec.p_bit(pm, k as u32 * (e / 8) + i),
-        Place::Scalar | Place::Zero => false,
+    uzp(a, b, begin(second, w), w, bits)
+}
+
+/// The even fields of two predicates in turn, or the odd fields.
+fn transposed(second: bool, w: u32, bits: u32, a: &[u64; 4], b: &[u64; 4]) -> [u64; 4]
+    requires field { IsField w }
+    requires few { bits ≤ 256 }
+    requires whole { bits % 16 ≡ 0 }
+    requires first { AreClearFrom bits a.now }
+    requires second { AreClearFrom bits b.now }
+    ensures fields { (j : ℕ) → j < bits → bit_of result j ≡ taken (bit_of_field w (j % w) a.now) (bit_of_field w (j % w) b.now) false false (trn_place second (j / w)) }
+    ensures above { AreClearFrom bits result }
+{
+    trn(a, b, begin(second, w), w)
+}
+
+/// The fields of w bits of two predicates of so many bits, each where the name puts it.
+fn interleaved_words(op: InterleaveOp, w: u32, bits: u32, a: &[u64; 4], b: &[u64; 4]) -> [u64; 4]
+    requires field { IsField w }
+    requires few { bits ≤ 256 }
+    requires whole { bits % 16 ≡ 0 }
+    requires first { AreClearFrom bits a.now }
+    requires second { AreClearFrom bits b.now }
+    ensures fields { (j : ℕ) → j < bits → bit_of result j ≡ taken (bit_of_field w (j % w) a.now) (bit_of_field w (j % w) b.now) false false (interleave_place op (bits / w) (j / w)) }
+    ensures above { AreClearFrom bits result }
+{
+    match op {
+        InterleaveOp::Zip1 => zipped(false, w, bits, a, b),
+        InterleaveOp::Zip2 => zipped(true, w, bits, a, b),
+        InterleaveOp::Uzp1 => unzipped(false, w, bits, a, b),
+        InterleaveOp::Uzp2 => unzipped(true, w, bits, a, b),
+        InterleaveOp::Trn1 => transposed(false, w, bits, a, b),
+        InterleaveOp::Trn2 => transposed(true, w, bits, a, b),
     }
+}
+
+/// Writes the fields of pn and pm for lanes of e bits to pd, each where the name puts it.
+pub(crate) fn interleaved(vec: &mut VecRegs, op: InterleaveOp, e: u32, pn: Pred, pm: Pred, pd: Pred)
+    requires { IsLaneSize e }
+    ensures { vec.new ≡ model.moved_fields e (interleave_place op (vec.old.bits / e)) pn pm pd vec.old }
+{
+    let bits = vec.length().bits() / 8;
+    let words = interleaved_words(op, e / 8, bits, vec.p_words(pn), vec.p_words(pm));
+    vec.set_p_words(pd, &words);
+}
+
+/// Writes the fields of pn for lanes of e bits to pd in reverse order.
+pub(crate) fn reversed(vec: &mut VecRegs, e: u32, pn: Pred, pd: Pred)
+    requires { IsLaneSize e }
+    ensures { vec.new ≡ model.moved_fields e (rev_place (vec.old.bits / e)) pn pn pd vec.old }
+{
+    let bits = vec.length().bits() / 8;
+    let words = rev(vec.p_words(pn), e / 8, bits);
+    vec.set_p_words(pd, &words);
 }
 
 /// Writes the bits of a half of pn to the even bits of pd, and 0 to its odd bits.
-#[tactic(auto, using(emu_model::specs::Lists::each_rules))]
 pub(crate) fn unpacked(vec: &mut VecRegs, op: UnpackPOp, pn: Pred, pd: Pred)
     ensures { vec.new ≡ model.after_unpack_p op pn pd vec.old }
 {
-    let n = vec.length().bits() / 16;
-    let first = first_of_half(is_high(op), n);
-    let mut out: ArrayVec<bool, MOST_LANES> = ArrayVec::new();
-    for k in 0..n {
-        out.push(vec.is_active(pn, 8, first + k));
-    }
-    vec.set_fields(16, pd, &out);
+    let bits = vec.length().bits() / 8;
+    let from = begin(is_high(op), bits / 2);
+    let words = zip(vec.p_words(pn), &[0; 4], from, 1, bits);
+    vec.set_p_words(pd, &words);
 }
 
 fn is_high(op: UnpackPOp) -> bool

@@ -1,11 +1,9 @@
 //! The permutes that leave the general registers as they are.
-ghost use Rattle.std.specs.Prelude.{◌≡◌, ◌<◌, ◌%◌, ◌^◌, ℕ, true};
+ghost use Rattle.std.specs.Prelude.{◌≡◌, ◌<◌, ◌^◌, true};
 ghost use Rattle.sve_insn.specs.declared.form.SveForm.{SveForm};
 ghost use Rattle.sve_insn.specs.Conditions.{is_no_byte};
 ghost use Rattle.sve_effects.specs.ElementLoop.{lane_of};
-ghost use Rattle.sve_effects.specs.Permute.{interleave_place};
 ghost use Rattle.sve_effects.specs.PermuteRows as model;
-ghost use Rattle.lane_permute.specs.Rules.{rule_place, IsFor};
 ghost use Rattle.vec_model.specs.Lanes.{IsLaneSize};
 
 use crate::chunks::{Inserted, Reversed, Transposed, Unzipped, Zipped};
@@ -14,8 +12,7 @@ use crate::tables::table;
 use crate::{active, moves, predicates};
 use core_regs::Core;
 use emu_bits::{Pred, PredLow, Reg, U};
-use lane_kernels::words::plain;
-use lane_permute::places::Rule;
+use lane_kernels::words::permuted;
 use sve_effects::lane_bits;
 use sve_insn::{CopyRegOp, InsertOp, InterleaveOp, UnpackOp, UnpackPOp};
 use vec_regs::VecRegs;
@@ -31,13 +28,13 @@ pub(crate) fn insert(core: &Core, vec: &mut VecRegs, op: InsertOp, size: U<2>, s
 {
     let e = lane_bits(size);
     let scalar = insert_scalar(core, vec, op, e, src);
-    plain(vec, e, zdn, &Inserted { scalar, zn: zdn });
+    permuted(vec, e, zdn, &Inserted { scalar, zn: zdn });
 }
 
 pub(crate) fn rev_z(core: &Core, vec: &mut VecRegs, size: U<2>, zn: Reg, zd: Reg)
     ensures { vec.new ≡ (model.permuted (SveForm.RevZ size zn zd) core.now vec.old).vectors }
 {
-    plain(vec, lane_bits(size), zd, &Reversed { zn });
+    permuted(vec, lane_bits(size), zd, &Reversed { zn });
 }
 
 #[tactic(auto, unfolding(sve_insn::specs::Conditions::is_no_byte))]
@@ -72,7 +69,7 @@ pub(crate) fn interleave(
 {
     let e = lane_bits(size);
     match op {
-        InterleaveOp::Zip1 => plain(
+        InterleaveOp::Zip1 => permuted(
             vec,
             e,
             zd,
@@ -82,7 +79,7 @@ pub(crate) fn interleave(
                 zm,
             },
         ),
-        InterleaveOp::Zip2 => plain(
+        InterleaveOp::Zip2 => permuted(
             vec,
             e,
             zd,
@@ -92,7 +89,7 @@ pub(crate) fn interleave(
                 zm,
             },
         ),
-        InterleaveOp::Uzp1 => plain(
+        InterleaveOp::Uzp1 => permuted(
             vec,
             e,
             zd,
@@ -102,7 +99,7 @@ pub(crate) fn interleave(
                 zm,
             },
         ),
-        InterleaveOp::Uzp2 => plain(
+        InterleaveOp::Uzp2 => permuted(
             vec,
             e,
             zd,
@@ -112,7 +109,7 @@ pub(crate) fn interleave(
                 zm,
             },
         ),
-        InterleaveOp::Trn1 => plain(
+        InterleaveOp::Trn1 => permuted(
             vec,
             e,
             zd,
@@ -122,7 +119,7 @@ pub(crate) fn interleave(
                 zm,
             },
         ),
-        InterleaveOp::Trn2 => plain(
+        InterleaveOp::Trn2 => permuted(
             vec,
             e,
             zd,
@@ -135,7 +132,6 @@ pub(crate) fn interleave(
     }
 }
 
-#[tactic(auto, using(crate::proofs::FieldPlaces::even_lanes))]
 pub(crate) fn interleave_p(
     core: &Core,
     vec: &mut VecRegs,
@@ -147,9 +143,7 @@ pub(crate) fn interleave_p(
 )
     ensures { vec.new ≡ (model.permuted (SveForm.InterleaveP op size pm pn pd) core.now vec.old).vectors }
 {
-    let e = lane_bits(size);
-    let _length = vec.length();
-    predicates::moved_fields(vec, e, interleave_rule(op), pn, pm, pd);
+    predicates::interleaved(vec, op, lane_bits(size), pn, pm, pd);
 }
 
 pub(crate) fn unpack_p(core: &Core, vec: &mut VecRegs, op: UnpackPOp, pn: Pred, pd: Pred)
@@ -161,7 +155,7 @@ pub(crate) fn unpack_p(core: &Core, vec: &mut VecRegs, op: UnpackPOp, pn: Pred, 
 pub(crate) fn rev_p(core: &Core, vec: &mut VecRegs, size: U<2>, pn: Pred, pd: Pred)
     ensures { vec.new ≡ (model.permuted (SveForm.RevP size pn pd) core.now vec.old).vectors }
 {
-    predicates::moved_fields(vec, lane_bits(size), Rule::Rev, pn, pn, pd);
+    predicates::reversed(vec, lane_bits(size), pn, pd);
 }
 
 pub(crate) fn compact(core: &Core, vec: &mut VecRegs, size: U<2>, pg: PredLow, zn: Reg, zd: Reg)
@@ -229,19 +223,4 @@ pub(crate) fn low_lane(vec: &VecRegs, e: u32, r: Reg) -> u64
 {
     let _length = vec.length();
     vec.lane(r, e, 0)
-}
-
-/// The rule of a name.
-fn interleave_rule(op: InterleaveOp) -> Rule
-    ensures places { (n k : ℕ) → rule_place result n k ≡ interleave_place op n k }
-    ensures lanes { (n : ℕ) → n % 2 ≡ 0 → IsFor result n }
-{
-    match op {
-        InterleaveOp::Zip1 => Rule::Zip(false),
-        InterleaveOp::Zip2 => Rule::Zip(true),
-        InterleaveOp::Uzp1 => Rule::Uzp(false),
-        InterleaveOp::Uzp2 => Rule::Uzp(true),
-        InterleaveOp::Trn1 => Rule::Trn(false),
-        InterleaveOp::Trn2 => Rule::Trn(true),
-    }
 }

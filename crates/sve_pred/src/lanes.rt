@@ -12,9 +12,12 @@ ghost use Rattle.sve_pred.specs.Groups.{is_by_lanes};
 ghost use Rattle.vec_model.specs.Lanes.{IsLaneSize, read_p, with_lanes};
 
 use crate::registers::{bits, esize, read, test_all_lanes, test_lanes, write};
-use arrayvec::ArrayVec;
 use core_regs::Core;
 use emu_bits::{Flags, Pred, Reg, U, low_bits};
+use lane_kernels::sources::Map1;
+use lane_kernels::words::plain;
+use lane_kernels::{LaneWise2, WithNumber};
+use lane_ops::{Add, Sub};
 use pred_bits::{PredBits, WhileTest, lanes_below, next, pattern_count, while_bits};
 use sve_elements::{ElementOp, apply};
 use sve_insn::{CtermOp, IncPOp, PtrueOp, Sve, SveForm, WhileOp};
@@ -104,26 +107,26 @@ pub fn inc_p(core: &mut Core, vec: &VecRegs, op: IncPOp, size: U<2>, pm: Pred, r
     core.set_x(rdn, 64, sum);
 }
 
-/// `incp`, `decp` of each lane of a Z register.
-#[tactic(auto, using(emu_model::specs::Lists::each_rules))]
-pub fn inc_z(vec: &mut VecRegs, op: ElementOp, e: u32, n: u64, zdn: Reg)
+/// Writes what an operation makes of each lane of a Z register and a number to it.
+#[inline(always)]
+fn counted_lanes<F: LaneWise2 + Copy>(vec: &mut VecRegs, op: F, e: u32, n: u64, zdn: Reg)
     requires { IsLaneSize e }
-    ensures { vec.new ≡ with_lanes e (λ k. element op e (lane_of e vec.old zdn k) n) zdn vec.old }
+    ensures { vec.new ≡ with_lanes e (λ k. F.entry op e (lane_of e vec.old zdn k) n) zdn vec.old }
 {
-    let lanes = vec.length().bits() / e;
-    let mut sums: ArrayVec<u64, 256> = ArrayVec::new();
-    for k in 0..lanes {
-        sums.push(apply(op, e, vec.lane(zdn, e, k), n));
-    }
-    vec.set_lanes(e, zdn, &sums);
+    let op = WithNumber { op, n };
+    plain(vec, e, zdn, &Map1 { op, zn: zdn });
 }
 
 /// `incp`, `decp` of a Z register.
 pub fn inc_p_z(vec: &mut VecRegs, op: IncPOp, size: U<2>, pm: Pred, zdn: Reg)
     ensures { vec.new ≡ with_lanes (lane_bits size) (λ k. element (counted_by op) (lane_bits size) (lane_of (lane_bits size) vec.old zdn k) (set_lanes_of (lane_bits size) pm vec.old)) zdn vec.old }
 {
+    let e = esize(size).bits();
     let n = set_lanes(vec, size, pm);
-    inc_z(vec, counted_by(op), esize(size).bits(), n, zdn);
+    match op {
+        IncPOp::Incp => counted_lanes(vec, Add, e, n, zdn),
+        IncPOp::Decp => counted_lanes(vec, Sub, e, n, zdn),
+    }
 }
 
 /// The width of the registers: 64 bits where sf is 1, else 32.

@@ -78,7 +78,7 @@ byte_of_word w some c xs j inside at rest =
     ∙ ap (λ i. get_or xs i 0 / 2 ^ (8 * ((j % 8) % w)) % 256) at
     ∙ ap (λ i. get_or xs (j / w) 0 / 2 ^ (8 * i) % 256) rest
 
-byte_of_words : (e : ℕ) → IsLaneSize e → (xs : List ℕ) (j : ℕ) → word_of e xs (j / 8) / 2 ^ (8 * (j % 8)) % 256 ≡ byte_of (e / 8) xs j
+pub byte_of_words : (e : ℕ) → IsLaneSize e → (xs : List ℕ) (j : ℕ) → word_of e xs (j / 8) / 2 ^ (8 * (j % 8)) % 256 ≡ byte_of (e / 8) xs j
 byte_of_words e (inl s) xs j = let P : ℕ → Type 0 = λ e. word_of e xs (j / 8) / 2 ^ (8 * (j % 8)) % 256 ≡ byte_of (e / 8) xs j in subst P (sym s) (byte_of_word 1 (omega arith) 8 xs j (omega arith) (omega arith) (omega arith))
 byte_of_words e (inr (inl s)) xs j = let P : ℕ → Type 0 = λ e. word_of e xs (j / 8) / 2 ^ (8 * (j % 8)) % 256 ≡ byte_of (e / 8) xs j in subst P (sym s) (byte_of_word 2 (omega arith) 4 xs j (omega arith) (omega arith) (omega arith))
 byte_of_words e (inr (inr (inl s))) xs j = let P : ℕ → Type 0 = λ e. word_of e xs (j / 8) / 2 ^ (8 * (j % 8)) % 256 ≡ byte_of (e / 8) xs j in subst P (sym s) (byte_of_word 4 (omega arith) 2 xs j (omega arith) (omega arith) (omega arith))

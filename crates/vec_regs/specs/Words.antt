@@ -1,5 +1,5 @@
 -- The bytes and the bits of words of 64 bits.
-use Rattle.std.specs.Prelude.{◌≡◌, ◌≤◌, ℕ, ◌/◌, ◌%◌, ◌^◌, Bool, false, nat_eq, List, get_or}
+use Rattle.std.specs.Prelude.{◌≡◌, ◌≤◌, ℕ, ◌/◌, ◌%◌, ◌^◌, Bool, false, nat_eq, if◌then◌else◌, List, get_or}
 use Rattle.emu_model.specs.Lists.{each}
 use Rattle.vec_model.specs.Lanes.{byte_in}
 
@@ -17,6 +17,10 @@ bytes_of n words = each n (byte_of 8 words)
 
 abbrev pub bits_of : ℕ → List ℕ → List Bool
 bits_of n words = each n (bit_of words)
+
+-- byte j of bytes of which part i, of 128 bits, is a pair of words
+abbrev pub byte_with_pair : List ℕ → ℕ → List ℕ → ℕ → ℕ
+byte_with_pair bytes i pair j = if nat_eq (j / 16) i then byte_of 8 pair (j % 16) else get_or bytes j 0
 
 -- 0 from word n on, and from bit n on
 abbrev pub AreZeroFrom : ℕ → List ℕ → Type 0

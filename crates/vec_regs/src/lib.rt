@@ -19,7 +19,7 @@ ghost use Rattle.vec_model.specs.AfterCall.{cleared};
 ghost use Rattle.vec_model.specs.Lanes as model;
 ghost use Rattle.vec_model.specs.Lanes.{read_z, read_p, with_z, with_p, with_ffr, with_lanes, with_fields, with_ffr_fields, with_low, IsLaneSize};
 ghost use Rattle.vec_regs.specs.Packed.{IsLowSize};
-ghost use Rattle.vec_regs.specs.Words.{bytes_of, bits_of, AreZeroFrom, AreClearFrom};
+ghost use Rattle.vec_regs.specs.Words.{byte_with_pair, bytes_of, bits_of, AreZeroFrom, AreClearFrom};
 
 use emu_bits::{Pred, Reg};
 pub use emu_model::Length;
@@ -61,6 +61,19 @@ impl VecRegs {
             ffr: [0; 4],
             most: l,
             length: l,
+        }
+    }
+
+    /// The same registers once more.
+    pub fn copy(&self) -> VecRegs
+        ensures { result ≡ self.now }
+    {
+        VecRegs {
+            z: self.z,
+            p: self.p,
+            ffr: self.ffr,
+            most: self.most,
+            length: self.length,
         }
     }
 
@@ -207,6 +220,16 @@ impl VecRegs {
     {
         let n = r.get() as usize;
         self.z[n] = *w;
+    }
+
+    /// Writes part i of a Z register, its 128 bits from 128 * i on: a pair of words, the lower first.
+    pub fn set_z_pair(&mut self, r: Reg, i: u32, pair: [u64; 2])
+        requires { i < self.old.bits / 128 }
+        ensures { self.new ≡ with_z self.old r (each (self.old.bits / 8) (byte_with_pair (read_z self.old r) i pair)) }
+    {
+        let n = r.get() as usize;
+        let _bits = self.length.bits();
+        lower::put_pair(&mut self.z[n], i, pair);
     }
 
     /// The words of a predicate register, the lowest first: 0 from bit VL / 8 on.

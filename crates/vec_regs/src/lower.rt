@@ -1,5 +1,5 @@
-//! The lowest 128 bits of Z registers.
-ghost use Rattle.std.specs.Prelude.{◌≡◌, map};
+//! The lowest 128 bits of Z registers, and any 128 bits of one.
+ghost use Rattle.std.specs.Prelude.{◌≡◌, ◌<◌, ◌+◌, ◌*◌, get_or, map, set};
 ghost use Rattle.vec_regs.specs.Packed as model;
 ghost use Rattle.vec_regs.specs.Packed.{number_words};
 ghost use Rattle.vec_regs.specs.Words.{AreZeroFrom};
@@ -32,4 +32,14 @@ pub fn keep_low(z: &mut [[u64; 32]; 32])
     for r in 0..32 {
         z[r] = low_words(&z[r]);
     }
+}
+
+/// Writes words 2 * i and 2 * i + 1.
+pub fn put_pair(words: &mut [u64; 32], i: u32, pair: [u64; 2])
+    requires { i < 16 }
+    ensures { words.new ≡ set (set words.old (2 * i) (get_or pair 0 0)) (2 * i + 1) (get_or pair 1 0) }
+{
+    let at = 2 * i as usize;
+    words[at] = pair[0];
+    words[at + 1] = pair[1];
 }

@@ -1,7 +1,7 @@
 use Rattle.std.proofs.Common.{◌∙◌}
 use Rattle.vec_regs.proofs.Views.{zero_word}
 use Rattle.lane_kernels.proofs.RegisterWords.{register_is}
-use Rattle.lane_kernels.proofs.words.plain.Goals as goal
+use Rattle.lane_kernels.proofs.words.permuted.Goals as goal
 
 pub register_of-requires-clause-zeros : goal.register_of-requires-clause-zeros
 register_of-requires-clause-zeros g c k = zero_word 32 k
