@@ -61,6 +61,20 @@ impl Core {
         }
     }
 
+    /// The same registers once more.
+    pub fn copy(&self) -> Core
+        ensures { result ≡ self.now }
+    {
+        Core {
+            x: self.x,
+            sp: self.sp,
+            pc: self.pc,
+            flags: self.flags,
+            tpidr: self.tpidr,
+            monitor: self.monitor,
+        }
+    }
+
     /// The 64 bits of X register `r`. Register 31 reads 0.
     pub fn x(&self, r: Reg) -> u64
         ensures { result ≡ read_x self.now r }

@@ -11,8 +11,8 @@ ghost use Rattle.dbg_core.specs.Ends.{Leaves, Obeys, StandsIn, is_fault};
 
 use crate::ends::{SessionEnd, end_of_put};
 use crate::lines::put_shown;
-use crate::marks::Marks;
 use crate::moves::{go, step};
+use crate::points::Points;
 use dbg_model::{Command, Script};
 use emu_machine::Machine;
 use io_gate::{Sink, Source};
@@ -28,7 +28,7 @@ fn command_at(commands: &[Command], k: usize) -> &Command
 /// Obeys one command.
 fn obey<I: Source, O: Sink, E: Sink>(
     command: &Command,
-    marks: &Marks,
+    marks: &Points,
     machine: &mut Machine,
     budget: u64,
     input: &mut I,
@@ -86,14 +86,14 @@ pub fn session<I: Source, O: Sink, E: Sink>(
     ensures errors_named { result ≡ SessionEnd.ErrorsFault → MakesWrite machine.new.parts 2 }
 {
     let commands = script.commands();
-    let mut marks = Marks::new();
+    let mut marks = Points::new();
     'walk: for k in 0..commands.len() {
         let command = command_at(commands, k);
         match obey(command, &marks, machine, budget, input, output, errors) {
             SessionEnd::Done => {}
             end => return end,
         }
-        marks.add(command);
+        marks.add_if(command);
     }
     SessionEnd::Done
 }

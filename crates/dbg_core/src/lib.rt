@@ -6,11 +6,12 @@
 mod commands;
 mod ends;
 mod lines;
-mod marks;
 mod moves;
+mod points;
 
 pub use commands::session;
 pub use dbg_model::{Command, Script, ScriptFault, ScriptWhy};
 pub use dbg_scripts::{ScriptError, read_script};
 pub use ends::SessionEnd;
-pub use lines::put_ending;
+pub use lines::{put_ending, put_stop, show};
+pub use points::{Points, Stop};

@@ -5,8 +5,10 @@ ghost use Rattle.emu_run.specs.Reports.{ending_line};
 ghost use Rattle.emu_run.specs.Registers.{scalar_lines};
 ghost use Rattle.dbg_model.specs.Commands.{is_within};
 ghost use Rattle.dbg_model.specs.Session.{lanes_line, length_line, shown, stepped_text, stop_line};
+ghost use Rattle.dbg_core.specs.Stops.{HasEnded, line_of_stop, shown_behind};
 
-use dbg_model::{Command, Stop};
+use crate::points::Stop;
+use dbg_model::{Command, Stop as Met};
 use emu_bits::{Esize, Reg};
 use emu_machine::{Ended, Machine};
 use emu_report::{
@@ -45,14 +47,29 @@ pub fn put_stepped<S: Sink>(
     }
 }
 
-/// Puts where the machine stopped.
-pub fn put_stop<S: Sink>(stop: Stop, machine: &Machine, sink: &mut S) -> Result<(), Failed>
+/// Puts where the machine stopped at a watch or a break.
+pub fn put_met<S: Sink>(stop: Met, machine: &Machine, sink: &mut S) -> Result<(), Failed>
     ensures bytes { PutsAll (S.held sink.old) (S.held sink.new) (stop_line stop machine.now.parts) result }
     ensures cause { HasCause (S.faults sink.old) (S.faults sink.new) result }
 {
     match stop {
-        Stop::AtWatch(number) => put_watch(number, machine.steps(), machine.core().pc(), sink),
-        Stop::AtBreak => put_break(machine.steps(), machine.core().pc(), sink),
+        Met::AtWatch(number) => put_watch(number, machine.steps(), machine.core().pc(), sink),
+        Met::AtBreak => put_break(machine.steps(), machine.core().pc(), sink),
+    }
+}
+
+/// Puts the line of what stopped `go`: how the machine ended, that a watch was touched, that a break was reached, or that the
+/// budget is spent. Err is that the output failed, with a first part put.
+pub fn put_stop<O: Sink>(machine: &Machine, stop: &Stop, output: &mut O) -> Result<(), Failed>
+    requires { HasEnded stop.now machine.now.parts }
+    ensures bytes { PutsAll (O.held output.old) (O.held output.new) (line_of_stop stop.now machine.now.parts) result }
+    ensures cause { HasCause (O.faults output.old) (O.faults output.new) result }
+{
+    match stop {
+        Stop::Ended => put_ending(machine, output),
+        Stop::Watch(number) => put_met(Met::AtWatch(*number), machine, output),
+        Stop::Break => put_met(Met::AtBreak, machine, output),
+        Stop::Spent => put_spent(machine.steps(), output),
     }
 }
 
@@ -100,5 +117,18 @@ pub fn put_shown<S: Sink>(command: &Command, machine: &Machine, sink: &mut S) ->
         Command::Lanes(k, size) => put_machine_lanes(*k, *size, machine, sink),
         Command::Mem(address, count) => put_memory(*address, *count, machine.mem(), sink),
         Command::Step(_) | Command::Go | Command::Break(_) | Command::Watch(_, _) => Ok(()),
+    }
+}
+
+/// Puts what a command prints of a machine that it has moved no further than so: for `step` that its steps were counted, and
+/// nothing for `go`, a break or a watch. Err is that the output failed, with a first part put.
+pub fn show<O: Sink>(machine: &Machine, command: &Command, output: &mut O) -> Result<(), Failed>
+    requires { IsTrue (is_within command.now) }
+    ensures bytes { PutsAll (O.held output.old) (O.held output.new) (shown_behind command.now machine.now.parts) result }
+    ensures cause { HasCause (O.faults output.old) (O.faults output.new) result }
+{
+    match command {
+        Command::Step(_) => put_step(machine.steps(), machine.core().pc(), output),
+        shown => put_shown(shown, machine, output),
     }
 }

@@ -8,8 +8,8 @@ ghost use Rattle.dbg_model.specs.Session.{go, no_marks, stepped};
 ghost use Rattle.dbg_core.specs.Ends.{Leaves, Obeys, is_fault};
 
 use crate::ends::{SessionEnd, end_of_put, end_of_run, end_of_step};
-use crate::lines::{put_ending, put_stepped, put_stop};
-use crate::marks::Marks;
+use crate::lines::{put_ending, put_met, put_stepped};
+use crate::points::Points;
 use emu_machine::{Machine, StepEnd};
 use io_gate::{Sink, Source};
 
@@ -71,7 +71,7 @@ pub fn step<I: Source, O: Sink, E: Sink>(
 /// order behind each step, and puts which it was.
 pub fn go<I: Source, O: Sink, E: Sink>(
     machine: &mut Machine,
-    marks: &Marks,
+    marks: &Points,
     budget: u64,
     input: &mut I,
     output: &mut O,
@@ -121,7 +121,7 @@ fn go_free<I: Source, O: Sink, E: Sink>(
 /// `go` with breaks and watches.
 fn go_marked<I: Source, O: Sink, E: Sink>(
     machine: &mut Machine,
-    marks: &Marks,
+    marks: &Points,
     budget: u64,
     input: &mut I,
     output: &mut O,
@@ -150,9 +150,9 @@ fn go_marked<I: Source, O: Sink, E: Sink>(
                 };
             }
         }
-        match marks.met(machine) {
+        match marks.point_met(machine) {
             None => {}
-            Some(stop) => return end_of_put(put_stop(stop, machine, output)),
+            Some(stop) => return end_of_put(put_met(stop, machine, output)),
         }
     }
     end_of_put(put_ending(machine, output))

@@ -14,7 +14,7 @@ use Rattle.emu_system.specs.SystemCall.{call, quiet}
 use Rattle.emu_machine.specs.Advances.{EndsBy, MatchCall, left_by_effect, progress_by}
 use Rattle.emu_machine.specs.declared.ends.Progress.{Progress}
 use Rattle.emu_machine.specs.declared.ends.Progress.TheVariants.{GoesOn, AtCall}
-use Rattle.emu_machine.specs.Machines.{MachineState, has_ended, is_svc}
+use Rattle.emu_machine.specs.Machines.{MachineState, Saved, has_ended, is_svc}
 use Rattle.emu_machine.proofs.Performed.{AsksFor, asks_for, machine_of, not_failed, same_machine}
 use Rattle.emu_machine.proofs.Runs.{goes}
 
@@ -26,21 +26,23 @@ pub record HasDone (insn : Option Insn) (old new : MachineState) (r : Progress) 
   pub ended : EndsBy r new.parts
   pub counted : r ≡ GoesOn → new.parts.steps ≡ old.parts.steps + 1
   pub accesses : new.accesses ≡ executed_accesses old.parts insn
+  pub saved : new.saved ≡ old.saved
 
-abbrev state_of : Parts → List Access → Bool → MachineState
-state_of p l failed = record { parts = p; accesses = l; failed = failed }
+abbrev state_of : Parts → List Access → Bool → List Saved → MachineState
+state_of p l failed saved = record { parts = p; accesses = l; failed = failed; saved = saved }
 
-rebuilt : (p : Parts) (l : List Access) (failed : Bool) (m : MachineState) → m.parts ≡ p → m.accesses ≡ l → m.failed ≡ failed → state_of p l failed ≡ m
-rebuilt p l failed m parts log same =
-    ap (λ (x : Parts). state_of x l failed) (sym parts) ∙ ap (λ (x : List Access). state_of m.parts x failed) (sym log) ∙ ap (λ (x : Bool). state_of m.parts m.accesses x) (sym same)
+rebuilt : (p : Parts) (l : List Access) (failed : Bool) (saved : List Saved) (m : MachineState) → m.parts ≡ p → m.accesses ≡ l → m.failed ≡ failed → m.saved ≡ saved → state_of p l failed saved ≡ m
+rebuilt p l failed saved m parts log same kept =
+    ap (λ (x : Parts). state_of x l failed saved) (sym parts) ∙ ap (λ (x : List Access). state_of m.parts x failed saved) (sym log) ∙ ap (λ (x : Bool). state_of m.parts m.accesses x saved) (sym same)
+    ∙ ap (λ (x : List Saved). state_of m.parts m.accesses m.failed x) (sym kept)
 
-module _ (i : Insn) (c d : Core) (v w : Vectors) (m n : Memory) (brk : Break) (steps : ℕ) (ended : Option Ended) (k l : List Access) (failed : Bool) where
+module _ (i : Insn) (c d : Core) (v w : Vectors) (m n : Memory) (brk : Break) (steps : ℕ) (ended : Option Ended) (k l : List Access) (failed : Bool) (saved : List Saved) where
   -- the machine before the instruction, and what the instruction left
   abbrev before : MachineState
-  before = machine_of c v m brk steps ended k failed
+  before = machine_of c v m brk steps ended k failed saved
 
   abbrev left : Effect → MachineState
-  left e = state_of (left_by_effect e (machine_of d w n brk steps ended l failed).parts) l failed
+  left e = state_of (left_by_effect e (machine_of d w n brk steps ended l failed saved).parts) l failed saved
 
   module _ (clear : k ≡ []) (going : has_ended before ≡ false) where
     by_effect : (e : Effect) → performed i c v m ≡ record { core = d; vectors = w; memory = n; accesses = l; effect = e } → HasDone (Some i) before (left e) (progress_by e)
@@ -51,6 +53,7 @@ module _ (i : Insn) (c d : Core) (v w : Vectors) (m n : Memory) (brk : Break) (s
       ended = goes ended failed going;
       counted = λ h. refl;
       accesses = sym (ap (λ (x : Done). x.accesses) is);
+      saved = refl;
     }
     by_effect (Branch a) is = record {
       turn = λ input. ap (λ (x : Done). finish before.parts input x) is;
@@ -59,6 +62,7 @@ module _ (i : Insn) (c d : Core) (v w : Vectors) (m n : Memory) (brk : Break) (s
       ended = goes ended failed going;
       counted = λ h. refl;
       accesses = sym (ap (λ (x : Done). x.accesses) is);
+      saved = refl;
     }
     by_effect (Trap t) is = record {
       turn = λ input. ap (λ (x : Done). finish before.parts input x) is;
@@ -67,22 +71,24 @@ module _ (i : Insn) (c d : Core) (v w : Vectors) (m n : Memory) (brk : Break) (s
       ended = refl;
       counted = λ h. cc;
       accesses = sym (ap (λ (x : Done). x.accesses) is);
+      saved = refl;
     }
     by_effect Call is =
         let asked : AsksFor i c d v w m n l = asks_for i c d v w m n l Call is refl in
         record {
           turn = λ input. ap (λ (x : Done). finish before.parts input x) is;
-          kept = same_machine c d v w m n brk steps ended k l failed asked.core asked.vectors asked.memory (asked.none ∙ sym clear);
+          kept = same_machine c d v w m n brk steps ended k l failed saved asked.core asked.vectors asked.memory (asked.none ∙ sym clear);
           svc = λ h. asked.svc;
           ended = tt;
           counted = λ h. cc;
           accesses = sym (ap (λ (x : Done). x.accesses) is);
+          saved = refl;
         }
 
   pub done_by : (e : Effect) (r : Progress) (old new : MachineState) → before ≡ old → old.accesses ≡ [] → has_ended old ≡ false
-      → performed i c v m ≡ record { core = d; vectors = w; memory = n; accesses = l; effect = e } → r ≡ progress_by e → new.parts ≡ (left e).parts → new.accesses ≡ l → new.failed ≡ failed → HasDone (Some i) old new r
-  done_by e r old new view clear going is by parts log same =
-      let made : left e ≡ new = rebuilt (left e).parts l failed new parts log same in
+      → performed i c v m ≡ record { core = d; vectors = w; memory = n; accesses = l; effect = e } → r ≡ progress_by e → new.parts ≡ (left e).parts → new.accesses ≡ l → new.failed ≡ failed → new.saved ≡ saved → HasDone (Some i) old new r
+  done_by e r old new view clear going is by parts log same kept =
+      let made : left e ≡ new = rebuilt (left e).parts l failed saved new parts log same kept in
       let none : k ≡ [] = ap (λ (s : MachineState). s.accesses) view ∙ clear in
       let goes_on : has_ended before ≡ false = ap has_ended view ∙ going in
       subst (λ (x : MachineState). HasDone (Some i) x new r) view

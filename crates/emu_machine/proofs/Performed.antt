@@ -40,7 +40,7 @@ use Rattle.a64_effects.specs.Atomic.{low_bytes, updated, swapped, exchanged, unl
 use Rattle.a64_effects.specs.LoadStore.{access, accessed, behind, elements, has_sp_base, is_misaligned, load_as_far, loaded_to, misaligned, store_as_far, stored_to, tested, transfer_of, transferred, unless_misaligned}
 use Rattle.a64_effects.specs.Scalar.{operand}
 use Rattle.emu_run.specs.Step.{performed}
-use Rattle.emu_machine.specs.Machines.{MachineState, has_ended, is_svc}
+use Rattle.emu_machine.specs.Machines.{MachineState, Saved, has_ended, is_svc}
 
 -- this effect is no call
 abbrev IsOther : Effect → Type 0
@@ -223,12 +223,12 @@ asks_for i c d v w m n l e is call =
       none = ap (λ (x : Done). x.accesses) same;
     }
 
-abbrev pub machine_of : Core → Vectors → Memory → Break → ℕ → Option Ended → List Access → Bool → MachineState
-machine_of c vectors m brk steps ended l failed = record { parts = record { core = c; vectors = vectors; memory = m; brk = brk; steps = steps; ended = ended }; accesses = l; failed = failed }
+abbrev pub machine_of : Core → Vectors → Memory → Break → ℕ → Option Ended → List Access → Bool → List Saved → MachineState
+machine_of c vectors m brk steps ended l failed saved = record { parts = record { core = c; vectors = vectors; memory = m; brk = brk; steps = steps; ended = ended }; accesses = l; failed = failed; saved = saved }
 
-pub same_machine : (c d : Core) (v w : Vectors) (m n : Memory) (brk : Break) (steps : ℕ) (ended : Option Ended) (k l : List Access) (failed : Bool) → d ≡ c → w ≡ v → n ≡ m → l ≡ k
-    → machine_of d w n brk steps ended l failed ≡ machine_of c v m brk steps ended k failed
-same_machine c d v w m n brk steps ended k l failed core vectors memory accesses = cc
+pub same_machine : (c d : Core) (v w : Vectors) (m n : Memory) (brk : Break) (steps : ℕ) (ended : Option Ended) (k l : List Access) (failed : Bool) (saved : List Saved) → d ≡ c → w ≡ v → n ≡ m → l ≡ k
+    → machine_of d w n brk steps ended l failed saved ≡ machine_of c v m brk steps ended k failed saved
+same_machine c d v w m n brk steps ended k l failed saved core vectors memory accesses = cc
 
 -- a machine that hasn't ended hasn't failed
 pub not_failed : (m : MachineState) → has_ended m ≡ false → m.failed ≡ false

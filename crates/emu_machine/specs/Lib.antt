@@ -1,5 +1,6 @@
 pub mod Accesses
 pub mod Advances
+pub mod Contexts
 pub mod Ends
 pub mod Layouts
 pub mod Loads

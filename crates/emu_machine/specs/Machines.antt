@@ -1,36 +1,69 @@
--- A machine: its parts, the accesses of its last step, and whether a stream has failed.
-use Rattle.std.specs.Prelude.{◌≡◌, ℕ, Bool, true, false, ◌||◌, is_some, List, Option, Some}
+-- A machine: its parts, the accesses of its last step, whether a stream has failed, and what its marks keep.
+use Rattle.std.specs.Prelude.{◌≡◌, ℕ, Bool, true, false, ◌||◌, is_some, List, get_or, Option, Some, None, option_map}
+use Rattle.std.specs.Ordering.{nat_cmp}
+use Rattle.std.specs.FinMap.{FinMap}
 use Rattle.std.specs.Coded.{Coded, code_by, coded×, coded_ℕ, coded_list, coded_bool}
 use Rattle.std.proofs.Common.{refl}
 use Rattle.a64_insn.specs.declared.form.A64Form.TheVariants.{Except}
 use Rattle.a64_insn.specs.declared.ops.ExceptOp.TheVariants.{Svc}
 use Rattle.emu_model.specs.declared.access.Access.{Access}
-use Rattle.emu_model.specs.Access.{value}
-use Rattle.emu_model.specs.State.{Parts, State, coded_parts}
+use Rattle.emu_model.specs.declared.program_break.Break.{Break}
+use Rattle.emu_model.specs.Access.{Memory, Page, value}
+use Rattle.emu_model.specs.State.{Core, Vectors, Parts, State, coded_core, coded_parts, coded_vectors}
 use Rattle.emu_run.specs.declared.insn.Insn.{Insn}
 use Rattle.emu_run.specs.declared.insn.Insn.TheVariants.{A64}
 use Rattle.emu_run.specs.Step.{decode, taken_by}
 use Rattle.emu_system.specs.SystemCall.{call}
 use Rattle.linux_calls.specs.Names.{NamesRead, NamesWrite}
 
+-- what a mark keeps of a machine that hasn't ended, beside its pages: the memory keeps these, and says which marks are none
+pub record Saved : Type 0 where
+  pub core : Core
+  pub vectors : Vectors
+  pub brk : Break
+  pub steps : ℕ
+
 -- `accesses` are those of the last step, and none before the first; `failed` says that a stream failed in a step, which ends
--- the machine
+-- the machine; `saved` has one place for each mark, and none in a machine without marks
 pub record MachineState : Type 0 where
   pub parts : Parts
   pub accesses : List Access
   pub failed : Bool
+  pub saved : List Saved
 
 abbrev pub coded_access : Coded Access
 coded_access = code_by (ℕ × (ℕ × Bool)) (coded× coded_ℕ (coded× coded_ℕ coded_bool)) (λ a. (a.address, (a.bytes, a.write)))
     (λ t. record { address = t.0; bytes = t.1.0; write = t.1.1 }) (λ _. refl)
 
+abbrev pub coded_saved : Coded Saved
+coded_saved = code_by (Core × (Vectors × ((ℕ × ℕ) × ℕ))) (coded× coded_core (coded× coded_vectors (coded× (coded× coded_ℕ coded_ℕ) coded_ℕ)))
+    (λ s. (s.core, (s.vectors, ((s.brk.start, s.brk.now), s.steps))))
+    (λ t. record { core = t.0; vectors = t.1.0; brk = record { start = t.1.1.0.0; now = t.1.1.0.1 }; steps = t.1.1.1 }) (λ _. refl)
+
 abbrev pub coded_machine : Coded MachineState
-coded_machine = code_by (Parts × (List Access × Bool)) (coded× coded_parts (coded× (coded_list coded_access) coded_bool)) (λ m. (m.parts, (m.accesses, m.failed)))
-    (λ t. record { parts = t.0; accesses = t.1.0; failed = t.1.1 }) (λ _. refl)
+coded_machine =
+    code_by (Parts × (List Access × (Bool × List Saved))) (coded× coded_parts (coded× (coded_list coded_access) (coded× coded_bool (coded_list coded_saved))))
+    (λ m. (m.parts, (m.accesses, (m.failed, m.saved)))) (λ t. record { parts = t.0; accesses = t.1.0; failed = t.1.1.0; saved = t.1.1.1 }) (λ _. refl)
 
 -- by an exit, a trap or a fault of a stream
 abbrev pub has_ended : MachineState → Bool
 has_ended m = is_some m.parts.ended || m.failed
+
+-- ---- marks
+
+-- what a mark keeps of these parts beside their pages
+abbrev pub saved_of : Parts → Saved
+saved_of m = record { core = m.core; vectors = m.vectors; brk = m.brk; steps = m.steps }
+
+-- the parts of a machine that hasn't ended, with the limit and the marks of a memory
+abbrev pub parts_saved : Memory → Saved → FinMap nat_cmp Page → Parts
+parts_saved memory s pages = record { core = s.core; vectors = s.vectors; memory = record memory { pages = pages }; brk = s.brk; steps = s.steps; ended = None }
+
+-- mark k: none, or a machine that hasn't ended
+abbrev pub mark_at : MachineState → ℕ → Option Parts
+mark_at m k = option_map (parts_saved m.parts.memory (get_or m.saved k (saved_of m.parts))) (get_or m.parts.memory.marks.list k None)
+
+-- ---- calls
 
 -- what the call of a machine makes of it and of its streams
 abbrev pub call_made : State → State

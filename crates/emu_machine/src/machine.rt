@@ -14,6 +14,7 @@ ghost use Rattle.emu_machine.specs.Ends.{step_end, run_end, run_end_of, is_undon
 ghost use Rattle.emu_machine.specs.Machines.{has_ended, is_at_call, is_svc, MakesRead, MakesWrite};
 
 use crate::ends::{Progress, RunEnd, StepEnd, run_end_of, step_end};
+use crate::saved::Saved;
 use a64_insn::A64;
 use core_regs::{Core, Effect};
 use emu_model::{Break, Ended, Kind, Trap, TrapKind};
@@ -24,17 +25,20 @@ use io_gate::{Sink, Source};
 use std::marker::Model;
 use vec_regs::VecRegs;
 
-/// A machine. Contracts see its parts, the accesses of its last step, and whether a stream has failed in one of its steps.
+/// A machine. Contracts see its parts, the accesses of its last step, whether a stream has failed in one of its steps, and what
+/// its marks keep beside their pages.
 #[derive(Drop)]
 pub struct Machine {
     pub(crate) core: Core,
     pub(crate) vec: VecRegs,
     pub(crate) memory: Mem,
-    log: AccessLog,
+    pub(crate) log: AccessLog,
     pub(crate) brk: Break,
     pub(crate) steps: u64,
     pub(crate) ended: Option<Ended>,
     pub(crate) failed: bool,
+    // none, or sixteen
+    pub(crate) saved: Vec<Saved>,
 }
 
 impl Model for Machine {
@@ -48,6 +52,7 @@ impl Model for Machine {
       parts = record { core = a.core; vectors = a.vec; memory = a.memory; brk = a.brk; steps = a.steps; ended = a.ended };
       accesses = a.log.items;
       failed = a.failed;
+      saved = a.saved.items;
     } };
 
     ghost use Rattle.emu_model.specs.State.{IsSoundBreak};
@@ -57,9 +62,15 @@ impl Model for Machine {
 
 impl Machine {
     /// A machine before its first step.
-    pub(crate) fn at_start(core: Core, vec: VecRegs, memory: Mem, brk: Break) -> Machine
+    pub(crate) fn at_start(
+        core: Core,
+        vec: VecRegs,
+        memory: Mem,
+        brk: Break,
+        saved: Vec<Saved>,
+    ) -> Machine
         requires { IsSoundBreak brk }
-        ensures { result ≡ record { parts = record { core = core; vectors = vec; memory = memory; brk = brk; steps = 0; ended = None }; accesses = []; failed = false } }
+        ensures { result ≡ record { parts = record { core = core; vectors = vec; memory = memory; brk = brk; steps = 0; ended = None }; accesses = []; failed = false; saved = saved.items } }
     {
         Machine {
             core,
@@ -70,6 +81,7 @@ impl Machine {
             steps: 0,
             ended: None,
             failed: false,
+            saved,
         }
     }
 
@@ -128,6 +140,7 @@ impl Machine {
         ensures parts { self.new.parts ≡ model.trapped self.old.parts kind address }
         ensures accesses { self.new.accesses ≡ self.old.accesses }
         ensures failed { self.new.failed ≡ self.old.failed }
+        ensures saved { self.new.saved ≡ self.old.saved }
         ensures progress { result ≡ Progress.Trapped }
     {
         self.ended = Some(Ended::Trap(Trap { kind, address }));
@@ -140,6 +153,7 @@ impl Machine {
         ensures parts { self.new.parts ≡ went_on self.old.parts self.old.parts.core self.old.parts.vectors self.old.parts.memory address }
         ensures accesses { self.new.accesses ≡ self.old.accesses }
         ensures failed { self.new.failed ≡ self.old.failed }
+        ensures saved { self.new.saved ≡ self.old.saved }
     {
         self.core.set_pc(address);
         self.steps += 1;
@@ -152,6 +166,7 @@ impl Machine {
         ensures parts { self.new.parts ≡ left_by_effect effect self.old.parts }
         ensures accesses { self.new.accesses ≡ self.old.accesses }
         ensures failed { self.new.failed ≡ self.old.failed }
+        ensures saved { self.new.saved ≡ self.old.saved }
         ensures progress { result ≡ progress_by effect }
     {
         match effect {
@@ -181,6 +196,7 @@ impl Machine {
         ensures ended { EndsBy result self.new.parts }
         ensures counted { result ≡ Progress.GoesOn → self.new.parts.steps ≡ self.old.parts.steps + 1 }
         ensures accesses { self.new.accesses ≡ model.accesses self.old.parts }
+        ensures saved { self.new.saved ≡ self.old.saved }
     {
         let pc = self.core.pc();
         if pc % 4 != 0 {
@@ -211,6 +227,7 @@ impl Machine {
         ensures ended { EndsBy result self.new.parts }
         ensures counted { result ≡ Progress.GoesOn → self.new.parts.steps ≡ self.old.parts.steps + 1 }
         ensures accesses { self.new.accesses ≡ model.executed_accesses self.old.parts (model.a64 (Some insn.now)) }
+        ensures saved { self.new.saved ≡ self.old.saved }
     {
         let effect = perform_a64(
             &mut self.core,
@@ -235,6 +252,7 @@ impl Machine {
         ensures ended { EndsBy result self.new.parts }
         ensures counted { result ≡ Progress.GoesOn → self.new.parts.steps ≡ self.old.parts.steps + 1 }
         ensures accesses { self.new.accesses ≡ model.executed_accesses self.old.parts (model.decode word) }
+        ensures saved { self.new.saved ≡ self.old.saved }
     {
         match &decode_sve_word(word) {
             None => {
@@ -254,7 +272,7 @@ impl Machine {
         }
     }
 
-    /// Takes one step: the word at the program counter is fetched and decoded, and its instruction is done.
+    /// Takes one step: the word at the program counter is fetched and decoded, and its instruction is done. What marks keep stays.
     ///
     /// What a step that is done makes of the machine rests on the input only at a call that takes bytes of it, and how it ends never does.
     /// `Going` and `Exit` count the step, and `Trap` doesn't. A fault of a stream is answered exactly where that stream failed, and the
@@ -282,6 +300,7 @@ impl Machine {
         ensures accesses { self.new.accesses ≡ model.accesses self.old.parts }
         ensures undone { is_undone result ≡ true → self.new.accesses ≡ [] }
         ensures failed { self.new.failed ≡ is_undone result }
+        ensures saved { self.new.saved ≡ self.old.saved }
         ensures read_cause { Causes (result ≡ StepEnd.ReadFault) (I.faults input.old) (I.faults input.new) }
         ensures write_cause { Causes (result ≡ StepEnd.WriteFault) (O.faults output.old) (O.faults output.new) }
         ensures errors_cause { Causes (result ≡ StepEnd.ErrorsFault) (E.faults errors.old) (E.faults errors.new) }
@@ -302,6 +321,7 @@ impl Machine {
         requires within { self.old.parts.steps < until }
         ensures steps { Advances until self.old self.new result }
         ensures failed { self.new.failed ≡ false }
+        ensures saved { self.new.saved ≡ self.old.saved }
         ensures going { MatchCall result (has_ended self.new ≡ false) ⊤ }
         ensures below { MatchCall result (self.new.parts.steps < until) ⊤ }
     {
@@ -327,6 +347,7 @@ impl Machine {
         ensures counted { result ≡ Progress.GoesOn → self.new.parts.steps ≡ self.old.parts.steps + 1 }
         ensures accesses { self.new.accesses ≡ model.accesses self.old.parts }
         ensures failed { self.new.failed ≡ false }
+        ensures saved { self.new.saved ≡ self.old.saved }
     {
         let next = self.steps + 1;
         self.advance(next)
@@ -358,6 +379,7 @@ impl Machine {
         ensures unspent { is_broken_off result ≡ true → self.new.parts.steps < budget }
         ensures unended { is_broken_off result ≡ true → is_none self.new.parts.ended ≡ true }
         ensures failed { self.new.failed ≡ is_broken_off result }
+        ensures saved { self.new.saved ≡ self.old.saved }
         ensures read_cause { Causes (result ≡ RunEnd.ReadFault) (I.faults input.old) (I.faults input.new) }
         ensures write_cause { Causes (result ≡ RunEnd.WriteFault) (O.faults output.old) (O.faults output.new) }
         ensures errors_cause { Causes (result ≡ RunEnd.ErrorsFault) (E.faults errors.old) (E.faults errors.new) }

@@ -311,6 +311,21 @@ impl Pages {
         self.list.spare()
     }
 
+    /// The number of marks, whether they are none or not: none, or sixteen.
+    pub fn marks(&self) -> usize
+        ensures { result ≡ length self.now.marks.list }
+    {
+        self.list.marks()
+    }
+
+    /// Whether mark `k` isn't none.
+    pub fn is_marked(&self, k: u32) -> bool
+        requires { k < length self.now.marks.list }
+        ensures { result ≡ is_some (get_or self.now.marks.list k None) }
+    {
+        self.list.is_marked(k as usize)
+    }
+
     /// The number of marks that aren't none.
     pub fn marked(&self) -> u32
         ensures { result ≡ count_by is_some self.now.marks.list }

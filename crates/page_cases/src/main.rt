@@ -9,17 +9,23 @@
 //! - `find PAGE`; `seek PAGE`, which is `find` of the plain program; `free COUNT BELOW`; and `mapped`;
 //! - `load ADDRESS COUNT KIND` and `put ADDRESS COUNT VALUE`, a number of so many bytes, where KIND is `read`, `write` or `fetch`; `peek ADDRESS`;
 //!   `slice ADDRESS MOST KIND`, the bytes to the end of a page, and `fill ADDRESS MOST BYTE`, which replaces those that may be written;
-//! - `new LIMIT`: from here on no pages are mapped, and at most so many may be.
+//! - `new LIMIT`: from here on no pages are mapped, and at most so many may be; `marked LIMIT`: the same, with sixteen marks;
+//! - `mark K`, `drop K` and `restore K`. The plain program has no marks: it goes back by obeying anew the commands that led to a mark.
 //!
 //! Of a page that is found, its rights are written and the sum of its bytes, each times its place counted from 1, modulo 2^32.
 #![tactic(auto)]
 
+ghost use Rattle.std.specs.Prelude.{◌≤◌};
+
 mod answers;
 mod commands;
+mod marks;
 mod memory;
 mod programs;
 
+use crate::answers::Answer;
 use crate::commands::{command_of, number};
+use crate::marks::{Past, change_of, changed};
 use crate::memory::reply_of;
 use crate::programs::{by_list, by_plain_list};
 use guest_mem::Mem;
@@ -34,6 +40,7 @@ const LIMIT: u32 = 40;
 struct Both {
     memory: Mem,
     plain: plain_pages::Pages,
+    past: Past,
     commands: u64,
     differ: u64,
 }
@@ -44,9 +51,23 @@ impl Both {
         Ok(Both {
             memory: Mem::new(guest_pages::Pages::new(alloc, limit)?),
             plain: plain_pages::Pages::new(alloc, limit)?,
+            past: Past::new(alloc, limit)?,
             commands: 0,
             differ: 0,
         })
+    }
+
+    /// No pages from here on, of which at most so many may be mapped.
+    fn begin(
+        &mut self,
+        alloc: Global,
+        pages: guest_pages::Pages,
+        limit: u32,
+    ) -> Result<(), AllocError> {
+        self.memory = Mem::new(pages);
+        self.plain = plain_pages::Pages::new(alloc, limit)?;
+        self.past = Past::new(alloc, limit)?;
+        Ok(())
     }
 
     /// Obeys the command of a line, and writes what it answers.
@@ -55,12 +76,21 @@ impl Both {
             self.commands = self.commands.saturating_add(1);
             return println!(rt; "{line}: {reply:?}");
         }
+        if let Some(change) = change_of(line) {
+            self.commands = self.commands.saturating_add(1);
+            let answer = changed(self.memory.pages_mut(), change);
+            if answer == Answer::Done {
+                self.past.follow(&mut self.plain, change)?;
+            }
+            return println!(rt; "{line}: {answer:?}");
+        }
         let Some(command) = command_of(line) else {
             return println!(rt; "{line}: no command");
         };
         self.commands = self.commands.saturating_add(1);
         let answer = by_list(self.memory.pages_mut(), &command);
         let other = by_plain_list(&mut self.plain, &command);
+        self.past.add(command)?;
         if answer == other {
             return println!(rt; "{line}: {answer:?}");
         }
@@ -69,18 +99,35 @@ impl Both {
     }
 }
 
+/// The greatest number of pages that a word says, below 2^20.
+fn limit_of(word: &str) -> u32
+    ensures { result ≤ 1048576 }
+{
+    (number(Some(word)) % 1_048_576) as u32
+}
+
 fn main(rt: HostRuntime) -> io::Result<()> {
     let mut both = Both::new(rt.alloc(), LIMIT)?;
     for line in rt.lines(rt.alloc()) {
         let line = line?;
-        match line.strip_prefix("new ") {
-            Some(limit) => {
-                let limit = u32::try_from(number(Some(limit)) % 1_048_576).unwrap_or(0);
-                both.memory = Mem::new(guest_pages::Pages::new(rt.alloc(), limit)?);
-                both.plain = plain_pages::Pages::new(rt.alloc(), limit)?;
-                println!(rt; "{line}: Done")?;
-            }
-            None => both.obey(rt, line.as_str())?,
+        if let Some(limit) = line.strip_prefix("new ") {
+            let limit = limit_of(limit);
+            both.begin(
+                rt.alloc(),
+                guest_pages::Pages::new(rt.alloc(), limit)?,
+                limit,
+            )?;
+            println!(rt; "{line}: Done")?;
+        } else if let Some(limit) = line.strip_prefix("marked ") {
+            let limit = limit_of(limit);
+            both.begin(
+                rt.alloc(),
+                guest_pages::Pages::with_marks(rt.alloc(), limit)?,
+                limit,
+            )?;
+            println!(rt; "{line}: Done")?;
+        } else {
+            both.obey(rt, line.as_str())?;
         }
     }
     println!(rt; "{} commands, {} differ", both.commands, both.differ)

@@ -248,6 +248,21 @@ impl PageList {
         self.arena.spare()
     }
 
+    /// The number of marks, set or not: none, or sixteen.
+    pub fn marks(&self) -> usize
+        ensures { result ≡ length self.now.marks }
+    {
+        self.marks.len()
+    }
+
+    /// Whether mark `k` is set.
+    pub fn is_marked(&self, k: usize) -> bool
+        requires { k < length self.now.marks }
+        ensures { result ≡ is_some (get_or self.now.marks k None) }
+    {
+        self.marks[k].set
+    }
+
     /// The number of marks that are set.
     pub fn marked(&self) -> u32
         ensures { result ≡ count_by is_some self.now.marks }

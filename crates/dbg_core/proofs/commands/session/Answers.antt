@@ -39,8 +39,8 @@ obey-requires-clause-within g c =
     let same = ap length c.commands-commands.ensures.commands in
     command_in script c.walk.k c.command_at-command.result.now c.commands-commands.ensures.script.within here (omega (arith, same))
 
-pub add-requires : goal.add-requires
-add-requires g c =
+pub add_if-requires : goal.add_if-requires
+add_if-requires g c =
     let script = c.args.script.now in
     let k = c.walk.k in
     let command = c.command_at-command.result.now in
@@ -63,12 +63,12 @@ walk-preserved g c =
       failed = c.in-Done.ensures.done refl;
       leads = done_at script k command here within (session script c.args.budget) c.walk.marks c.args.budget c.args.machine.now.parts p q (g.I.Source.left c.args.input.now) (g.I.Source.left c.walk.input) (g.I.Source.left c.obey.new.input)
           (g.O.Sink.held c.args.output.now) (g.O.Sink.held c.walk.output) (g.O.Sink.held c.obey.new.output) (g.E.Sink.held c.args.errors.now) (g.E.Sink.held c.walk.errors) (g.E.Sink.held c.obey.new.errors)
-          c.walk.invariant.leads c.add.new.self c.add.ensures c.in-Done.ensures.obeys;
-      so_far = marks_next script k command here within c.walk.marks c.add.new.self c.add.ensures c.walk.invariant.so_far;
+          c.walk.invariant.leads c.add_if.new.self c.add_if.ensures c.in-Done.ensures.obeys;
+      so_far = marks_next script k command here within c.walk.marks c.add_if.new.self c.add_if.ensures c.walk.invariant.so_far;
       stood = stands_next script k command here within c.walk.marks c.walk.invariant.so_far c.args.budget c.args.machine.now.parts p (g.I.Source.left c.args.input.now) (g.I.Source.left c.walk.input) c.walk.invariant.stood
           q (g.I.Source.left c.obey.new.input) c.in-Done.ensures.obeys.state;
-      breaks = breaks_at script k command here within c.walk.marks c.add.new.self c.add.ensures c.walk.invariant.breaks;
-      watches = watches_at script k command here within c.walk.marks c.add.new.self c.add.ensures c.walk.invariant.watches;
+      breaks = breaks_at script k command here within c.walk.marks c.add_if.new.self c.add_if.ensures c.walk.invariant.breaks;
+      watches = watches_at script k command here within c.walk.marks c.add_if.new.self c.add_if.ensures c.walk.invariant.watches;
       read = c.in-Done.ensures.read_cause.kept (λ (h : Done ≡ ReadFault). cc) ∙ c.walk.invariant.read;
       write = c.in-Done.ensures.write_cause.kept (λ (h : Done ≡ WriteFault). cc) ∙ c.walk.invariant.write;
       errors = c.in-Done.ensures.errors_cause.kept (λ (h : Done ≡ ErrorsFault). cc) ∙ c.walk.invariant.errors;

@@ -67,7 +67,7 @@ walk-preserved g c =
       leads = go_goes c.args.marks.now c.args.budget c.args.machine.now.parts p q (g.I.Source.left c.args.input.now) (g.I.Source.left c.walk.input) (g.I.Source.left c.step.new.input)
           (g.O.Sink.held c.args.output.now) (g.O.Sink.held c.walk.output) (g.O.Sink.held c.step.new.output) (g.E.Sink.held c.args.errors.now) (g.E.Sink.held c.walk.errors) (g.E.Sink.held c.step.new.errors)
           c.walk.invariant.leads c.walk.invariant.going below counted
-          (ap (λ (made : List Access). mark_met c.args.marks.now made q) (sym c.step.ensures.accesses) ∙ sym c.met.ensures ∙ c.in-None.is)
+          (ap (λ (made : List Access). mark_met c.args.marks.now made q) (sym c.step.ensures.accesses) ∙ sym c.point_met.ensures ∙ c.in-None.is)
           (comes_step p q (g.I.Source.left c.walk.input) (g.I.Source.left c.step.new.input) (g.O.Sink.held c.walk.output) (g.O.Sink.held c.step.new.output) (g.E.Sink.held c.walk.errors) (g.E.Sink.held c.step.new.errors)
           (is_undone r) false fine c.step.ensures.state c.step.ensures.input c.step.ensures.output c.step.ensures.errors);
       came = at_next c.args.machine.now.parts p q (g.I.Source.left c.args.input.now) (g.I.Source.left c.walk.input) (g.I.Source.left c.step.new.input) c.walk.invariant.going
@@ -82,7 +82,7 @@ returns-in-Some g c =
     let p = c.walk.machine.parts in
     let q = c.step.new.self.parts in
     let r = c.step.result in
-    let put = c.put_stop.result in
+    let put = c.put_met.result in
     let is = c.end_of_put-in-Some.ensures in
     let fine : is_undone r ≡ false = ap is_undone c.in-Going.is in
     let now = c.steps.ensures in
@@ -92,22 +92,22 @@ returns-in-Some g c =
       obeys = obeys_as c.args.machine.now.parts q _ _ _ _ _ _ (go_at c.args.marks.now c.args.budget) (end_of_put put) c.end_of_put-in-Some.result is
           (go_stops c.args.marks.now c.args.budget c.args.machine.now.parts p q (g.I.Source.left c.args.input.now) (g.I.Source.left c.walk.input) (g.I.Source.left c.step.new.input)
           (g.O.Sink.held c.args.output.now) (g.O.Sink.held c.walk.output) (g.O.Sink.held c.step.new.output) (g.E.Sink.held c.args.errors.now) (g.E.Sink.held c.walk.errors) (g.E.Sink.held c.step.new.errors)
-          c.walk.invariant.leads c.walk.invariant.going below c.in-Some.stop (g.O.Sink.held c.put_stop.new.sink) put
-          (ap (λ (made : List Access). mark_met c.args.marks.now made q) (sym c.step.ensures.accesses) ∙ sym c.met.ensures ∙ c.in-Some.is)
+          c.walk.invariant.leads c.walk.invariant.going below c.in-Some.stop (g.O.Sink.held c.put_met.new.sink) put
+          (ap (λ (made : List Access). mark_met c.args.marks.now made q) (sym c.step.ensures.accesses) ∙ sym c.point_met.ensures ∙ c.in-Some.is)
           (comes_step p q (g.I.Source.left c.walk.input) (g.I.Source.left c.step.new.input) (g.O.Sink.held c.walk.output) (g.O.Sink.held c.step.new.output) (g.E.Sink.held c.walk.errors) (g.E.Sink.held c.step.new.errors)
           (is_undone r) false fine c.step.ensures.state c.step.ensures.input c.step.ensures.output c.step.ensures.errors)
-          c.put_stop.ensures.bytes);
+          c.put_met.ensures.bytes);
       leaves = leaves_line (go_at c.args.marks.now c.args.budget) c.args.budget c.args.machine.now.parts c.step.new.self (g.I.Source.left c.args.input.now) (g.I.Source.left c.step.new.input) put c.end_of_put-in-Some.result is
           (c.step.ensures.failed ∙ fine)
           (whole_stops c.args.marks.now c.args.budget c.args.machine.now.parts p q (g.I.Source.left c.args.input.now) (g.I.Source.left c.walk.input) (g.I.Source.left c.step.new.input)
           (g.O.Sink.held c.args.output.now) (g.O.Sink.held c.walk.output) (g.O.Sink.held c.step.new.output) (g.E.Sink.held c.args.errors.now) (g.E.Sink.held c.walk.errors) (g.E.Sink.held c.step.new.errors)
           c.walk.invariant.leads c.walk.invariant.going below c.in-Some.stop
-          (ap (λ (made : List Access). mark_met c.args.marks.now made q) (sym c.step.ensures.accesses) ∙ sym c.met.ensures ∙ c.in-Some.is)
+          (ap (λ (made : List Access). mark_met c.args.marks.now made q) (sym c.step.ensures.accesses) ∙ sym c.point_met.ensures ∙ c.in-Some.is)
           (comes_step p q (g.I.Source.left c.walk.input) (g.I.Source.left c.step.new.input) (g.O.Sink.held c.walk.output) (g.O.Sink.held c.step.new.output) (g.E.Sink.held c.walk.errors) (g.E.Sink.held c.step.new.errors)
           (is_undone r) false fine c.step.ensures.state c.step.ensures.input c.step.ensures.output c.step.ensures.errors));
       done = λ _. c.step.ensures.failed ∙ fine;
       read_cause = put_read put c.end_of_put-in-Some.result is _ _ (c.step.ensures.read_cause.kept (going_is_no r steps.ReadFault (λ (h : steps.Going ≡ steps.ReadFault). cc) c.in-Going.is) ∙ c.walk.invariant.read);
-      write_cause = put_write put c.end_of_put-in-Some.result is _ _ _ (c.step.ensures.write_cause.kept (going_is_no r steps.WriteFault (λ (h : steps.Going ≡ steps.WriteFault). cc) c.in-Going.is) ∙ c.walk.invariant.write) c.put_stop.ensures.cause;
+      write_cause = put_write put c.end_of_put-in-Some.result is _ _ _ (c.step.ensures.write_cause.kept (going_is_no r steps.WriteFault (λ (h : steps.Going ≡ steps.WriteFault). cc) c.in-Going.is) ∙ c.walk.invariant.write) c.put_met.ensures.cause;
       errors_cause = put_errs put c.end_of_put-in-Some.result is _ _ (c.step.ensures.errors_cause.kept (going_is_no r steps.ErrorsFault (λ (h : steps.Going ≡ steps.ErrorsFault). cc) c.in-Going.is) ∙ c.walk.invariant.errors);
       read_named = λ h. no_read put c.end_of_put-in-Some.result is _ h;
       errors_named = λ h. no_errs put c.end_of_put-in-Some.result is _ h;

@@ -22,6 +22,7 @@ loop-self-preserved c =
     record {
       going = going;
       within = omega (arith, counted, below);
+      saved = c.plain.ensures.saved ∙ ap (λ (s : MachineState). s.saved) c.self.view_is ∙ c.loop-self.invariant.saved;
       ahead = subst (λ (log : List Access). IsAhead c.args.self.now.parts q c.args.self.now.accesses log) (sym made)
           (ahead_on c.args.self.now.parts p q c.args.self.now.accesses c.loop-self.self.accesses c.loop-self.invariant.ahead turns counted c.in-GoesOn.ensures.ended);
     }

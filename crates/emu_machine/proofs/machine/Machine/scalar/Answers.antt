@@ -8,8 +8,8 @@ done : (c : After-leave_insn) → HasDone (Some (A64 c.args.insn.now)) c.args.se
 done c =
     let i = c.self.inside in
     let n = c.perform_a64-effect.new in
-    done_by (A64 c.args.insn.now) i.core n.core i.vec n.vec i.memory n.memory i.brk i.steps i.ended i.log.items n.log.items i.failed c.perform_a64-effect.result c.leave_insn.result c.args.self.now c.leave_insn.new.self
-    c.self.view_is c.requires.clear c.requires.going c.perform_a64-effect.ensures c.leave_insn.ensures.progress c.leave_insn.ensures.parts c.leave_insn.ensures.accesses c.leave_insn.ensures.failed
+    done_by (A64 c.args.insn.now) i.core n.core i.vec n.vec i.memory n.memory i.brk i.steps i.ended i.log.items n.log.items i.failed i.saved.items c.perform_a64-effect.result c.leave_insn.result c.args.self.now c.leave_insn.new.self
+    c.self.view_is c.requires.clear c.requires.going c.perform_a64-effect.ensures c.leave_insn.ensures.progress c.leave_insn.ensures.parts c.leave_insn.ensures.accesses c.leave_insn.ensures.failed c.leave_insn.ensures.saved
 
 pub returns : goal.returns
 returns c =
@@ -21,4 +21,5 @@ returns c =
       ended = d.ended;
       counted = d.counted;
       accesses = d.accesses;
+      saved = d.saved;
     }

@@ -37,6 +37,7 @@ returns-in_default g c =
       accesses = c.once.ensures.accesses;
       undone = λ h. not_both _ _ (done g c) h;
       failed = c.once.ensures.failed ∙ sym (done g c);
+      saved = c.once.ensures.saved;
       read_cause = causes_not _ _ _ refl (λ e. not_both _ _ (done g c) (ap is_undone e));
       write_cause = causes_not _ _ _ refl (λ e. not_both _ _ (done g c) (ap is_undone e));
       errors_cause = causes_not _ _ _ refl (λ e. not_both _ _ (done g c) (ap is_undone e));

@@ -12,8 +12,8 @@ done c =
     let n = c.perform_sve-effect.new in
     let is : Some (Sve c.in-Some.insn) ≡ decode c.args.word = ap sve (sym c.in-Some.is) ∙ c.decode_sve_word.ensures.table in
     subst (λ (o : Option Insn). HasDone o c.args.self.now c.leave_insn.new.self c.leave_insn.result) is
-    (done_by (Sve c.in-Some.insn) i.core n.core i.vec n.vec i.memory n.memory i.brk i.steps i.ended i.log.items n.log.items i.failed c.perform_sve-effect.result c.leave_insn.result c.args.self.now c.leave_insn.new.self
-    c.self-in-Some.view_is c.requires.clear c.requires.going c.perform_sve-effect.ensures c.leave_insn.ensures.progress c.leave_insn.ensures.parts c.leave_insn.ensures.accesses c.leave_insn.ensures.failed)
+    (done_by (Sve c.in-Some.insn) i.core n.core i.vec n.vec i.memory n.memory i.brk i.steps i.ended i.log.items n.log.items i.failed i.saved.items c.perform_sve-effect.result c.leave_insn.result c.args.self.now c.leave_insn.new.self
+    c.self-in-Some.view_is c.requires.clear c.requires.going c.perform_sve-effect.ensures c.leave_insn.ensures.progress c.leave_insn.ensures.parts c.leave_insn.ensures.accesses c.leave_insn.ensures.failed c.leave_insn.ensures.saved)
 
 pub returns-in-Some : goal.returns-in-Some
 returns-in-Some c =
@@ -25,4 +25,5 @@ returns-in-Some c =
       ended = d.ended;
       counted = d.counted;
       accesses = d.accesses;
+      saved = d.saved;
     }

@@ -1,7 +1,7 @@
 use Rattle.std.proofs.Common.{◌∙◌, ap}
 use Rattle.emu_system.specs.Start.{highest_page}
 use Rattle.emu_machine.proofs.Breaks.{start_break_sound}
-use Rattle.emu_machine.proofs.machine.Machine.open.Goals as goal
+use Rattle.emu_machine.proofs.machine.Machine.opened.Goals as goal
 
 pub at_start-requires : goal.at_start-requires
 at_start-requires c =

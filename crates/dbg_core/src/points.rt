@@ -1,12 +1,14 @@
 //! The breaks and the watches of a session.
-ghost use Rattle.std.specs.Prelude.{◌≡◌, nat_eq, position};
+ghost use Rattle.std.specs.Prelude.{◌≡◌, ◌||◌, true, nat_eq, position};
 ghost use Rattle.std.specs.List.{list_any};
 ghost use Rattle.std.specs.Bool.{OnTrue};
 ghost use Rattle.dbg_model.specs.Session.{Marks, break_met, is_touched, mark_met, marked, no_marks, shares};
+ghost use Rattle.dbg_model.specs.Commands.{is_break, is_watch};
 ghost use Rattle.dbg_core.specs.Ends.{TakesMark};
+ghost use Rattle.dbg_core.specs.Stops.{first_met, spent_met};
 
 use arrayvec::ArrayVec;
-use dbg_model::{Command, Stop, Watch};
+use dbg_model::{Command, Stop as Met, Watch};
 use emu_machine::Machine;
 use guest_mem::Access;
 use std::marker::Model;
@@ -14,14 +16,27 @@ use std::marker::Model;
 /// The most breaks, and the most watches.
 const MOST: usize = 64;
 
-/// The breaks and the watches so far.
+/// What stops `go`.
+#[derive(Clone, Copy, Debug, PartialEq, Eq)]
+pub enum Stop {
+    /// The machine has ended.
+    Ended,
+    /// The last step touched the watch of this number, counted from 0.
+    Watch(u64),
+    /// The program counter stands on a break.
+    Break,
+    /// The budget of steps is spent.
+    Spent,
+}
+
+/// The breaks and the watches so far. Contracts see them in the order in which they were added.
 #[derive(Drop)]
-pub struct Marks {
+pub struct Points {
     breaks: ArrayVec<u64, MOST>,
     watches: ArrayVec<Watch, MOST>,
 }
 
-impl Model for Marks {
+impl Model for Points {
     ghost use Rattle.dbg_model.specs.Session.{Marks};
 
     ghost Value = { Marks };
@@ -45,26 +60,35 @@ fn is_touched(accesses: &[Access], watch: &Watch) -> bool
     accesses.iter().any(|access| shares(watch, access))
 }
 
-impl Marks {
+impl Points {
     /// None.
-    pub fn new() -> Marks
+    pub fn new() -> Points
         ensures { result ≡ no_marks }
     {
-        Marks {
+        Points {
             breaks: ArrayVec::new(),
             watches: ArrayVec::new(),
         }
     }
 
     /// Whether there is neither a break nor a watch.
-    pub fn is_empty(&self) -> bool
+    pub(crate) fn is_empty(&self) -> bool
         ensures { OnTrue result (self.now ≡ no_marks) }
     {
         self.breaks.is_empty() && self.watches.is_empty()
     }
 
-    /// Adds the mark of a command, if it has one.
+    /// Adds the break or the watch of a command, which is one of the two. Fewer than 64 of its kind were added before.
     pub fn add(&mut self, command: &Command)
+        requires point { (is_break command.now || is_watch command.now) ≡ true }
+        requires room { TakesMark self.old command.now }
+        ensures { self.new ≡ marked command.now self.old }
+    {
+        self.add_if(command);
+    }
+
+    /// Adds the break or the watch of a command, if it is one.
+    pub(crate) fn add_if(&mut self, command: &Command)
         requires { TakesMark self.old command.now }
         ensures { self.new ≡ marked command.now self.old }
     {
@@ -95,11 +119,11 @@ impl Marks {
     }
 
     /// A break, where one stands at an address.
-    fn break_met(&self, pc: u64) -> Option<Stop>
+    fn break_met(&self, pc: u64) -> Option<Met>
         ensures { result ≡ break_met self.now pc }
     {
         if self.has_break(pc) {
-            Some(Stop::AtBreak)
+            Some(Met::AtBreak)
         } else {
             None
         }
@@ -107,15 +131,40 @@ impl Marks {
 
     /// What stops a machine that has taken a step: the least watch that the step touched, else a break. None where there is neither, or
     /// the machine has ended.
-    pub fn met(&self, machine: &Machine) -> Option<Stop>
+    pub(crate) fn point_met(&self, machine: &Machine) -> Option<Met>
         ensures { result ≡ mark_met self.now machine.now.accesses machine.now.parts }
     {
         if machine.ending().is_some() {
             return None;
         }
         match self.touched(machine.accesses()) {
-            Some(number) => Some(Stop::AtWatch(number as u64)),
+            Some(number) => Some(Met::AtWatch(number as u64)),
             None => self.break_met(machine.core().pc()),
         }
+    }
+
+    /// The first of the tests of `go` that holds of a machine behind a step. None exactly where none holds.
+    pub fn met(&self, machine: &Machine, budget: u64) -> Option<Stop>
+        ensures { result ≡ first_met self.now budget machine.now.accesses machine.now.parts }
+    {
+        if machine.ending().is_some() {
+            return Some(Stop::Ended);
+        }
+        match self.point_met(machine) {
+            Some(Met::AtWatch(number)) => Some(Stop::Watch(number)),
+            Some(Met::AtBreak) => Some(Stop::Break),
+            None => spent(machine.steps(), budget),
+        }
+    }
+}
+
+/// Whether so many steps are those of a budget, or more.
+fn spent(steps: u64, budget: u64) -> Option<Stop>
+    ensures { result ≡ spent_met steps budget }
+{
+    if budget <= steps {
+        Some(Stop::Spent)
+    } else {
+        None
     }
 }

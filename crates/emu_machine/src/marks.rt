@@ -1,0 +1,137 @@
+//! Marks of a machine: each is none, or keeps the machine as it once was.
+ghost use Rattle.std.specs.Prelude.{◌≡◌, ◌≤◌, ◌<◌, ◌+◌, length as len, set, get_or, is_some, IfOk, IsSome, Some, None, [], map, string_bytes, false};
+ghost use Rattle.std.specs.FinMap as finmap;
+ghost use Rattle.std.specs.List.{count_by};
+ghost use Rattle.emu_model.specs.Access.{fresh_marks};
+ghost use Rattle.emu_system.specs.Arguments.{AreArguments};
+ghost use Rattle.emu_system.specs.Start.{opening};
+ghost use Rattle.elf_image.specs.Images.{seen_image};
+ghost use Rattle.elf_image.specs.Loadable.{IsLoadable};
+ghost use Rattle.mark_laws.specs.Marked.{parts_with};
+ghost use Rattle.emu_machine.specs.Machines.{has_ended, mark_at, saved_of};
+
+use crate::machine::Machine;
+use crate::saved::Saved;
+use elf_image::Image;
+use emu_model::Length;
+use guest_pages::{OutOfMemory, Pages};
+use std::alloc::Global;
+
+impl Machine {
+    /// The machine of an image before its first step, as `open` makes it, with sixteen marks, which are none. Its memory has three
+    /// frames for each of the pages. The only error is want of memory, and no later call takes memory.
+    pub fn open_marked(
+        alloc: Global,
+        bytes: &[u8],
+        image: &Image,
+        args: &[String],
+        length: Length,
+        pages: u32,
+    ) -> Result<Machine, OutOfMemory>
+        requires loadable { IsLoadable bytes.now pages (seen_image image.now) }
+        requires arguments { AreArguments (map string_bytes args.now) }
+        requires few { pages ≤ 1048576 }
+        ensures parts { IfOk result (λ m. m.parts ≡ parts_with (opening bytes.now (seen_image image.now) (map string_bytes args.now) length pages) (fresh_marks pages)) }
+        ensures places { IfOk result (λ m. len m.saved ≡ 16) }
+        ensures accesses { IfOk result (λ m. m.accesses ≡ []) }
+        ensures failed { IfOk result (λ m. m.failed ≡ false) }
+    {
+        let saved = unset_marks(alloc, length)?;
+        let memory = Pages::with_marks(alloc, pages)?;
+        Ok(Machine::opened(memory, saved, bytes, image, args, length))
+    }
+
+    /// The greatest number of mapped pages.
+    pub fn limit(&self) -> u32
+        ensures { result ≡ self.now.parts.memory.limit }
+    {
+        self.memory.pages().limit()
+    }
+
+    /// The number of spare frames. There are no more of them than frames that no mark names, and no fewer but for one a
+    /// mapped page. In a machine with marks of which at most one isn't none, the machine can be marked.
+    pub fn spare(&self) -> u32
+        ensures most { result ≤ self.now.parts.memory.marks.unmarked }
+        ensures least { self.now.parts.memory.marks.unmarked ≤ result + finmap.len self.now.parts.memory.pages }
+        ensures one_mark { 0 < len self.now.parts.memory.marks.list → count_by is_some self.now.parts.memory.marks.list ≤ 1
+            → self.now.parts.memory.limit + finmap.len self.now.parts.memory.pages ≤ self.now.parts.memory.marks.unmarked }
+        ensures room { self.now.parts.memory.limit ≤ result + finmap.len self.now.parts.memory.pages }
+    {
+        self.memory.pages().spare()
+    }
+
+    /// The number of marks that aren't none.
+    pub fn marked(&self) -> u32
+        ensures { result ≡ count_by is_some self.now.parts.memory.marks.list }
+    {
+        self.memory.pages().marked()
+    }
+
+    /// Makes mark `k` the machine as it is.
+    pub fn mark(&mut self, k: u32)
+        requires going { has_ended self.old ≡ false }
+        requires index { k < len self.old.parts.memory.marks.list }
+        requires place { k < len self.old.saved }
+        requires none { get_or self.old.parts.memory.marks.list k None ≡ None }
+        requires room { self.old.parts.memory.limit + finmap.len self.old.parts.memory.pages ≤ self.old.parts.memory.marks.unmarked }
+        ensures parts { self.new.parts ≡ parts_with self.old.parts self.new.parts.memory.marks }
+        ensures pages { self.new.parts.memory.marks.list ≡ set self.old.parts.memory.marks.list k (Some self.old.parts.memory.pages) }
+        ensures saved { self.new.saved ≡ set self.old.saved k (saved_of self.old.parts) }
+        ensures accesses { self.new.accesses ≡ self.old.accesses }
+        ensures failed { self.new.failed ≡ self.old.failed }
+    {
+        self.memory.pages_mut().mark(k);
+        self.saved[k as usize] = Saved::of(&self.core, &self.vec, self.brk, self.steps);
+    }
+
+    /// Makes mark `k` none.
+    pub fn drop_mark(&mut self, k: u32)
+        requires { k < len self.old.parts.memory.marks.list }
+        ensures parts { self.new.parts ≡ parts_with self.old.parts self.new.parts.memory.marks }
+        ensures pages { self.new.parts.memory.marks.list ≡ set self.old.parts.memory.marks.list k None }
+        ensures saved { self.new.saved ≡ self.old.saved }
+        ensures accesses { self.new.accesses ≡ self.old.accesses }
+        ensures failed { self.new.failed ≡ self.old.failed }
+    {
+        self.memory.pages_mut().drop_mark(k);
+    }
+
+    /// Makes the machine that of mark `k`, which hadn't ended, with the number of steps that it had counted. A machine that has
+    /// ended, or in which a stream has failed, goes back too.
+    pub fn restore(&mut self, k: u32)
+        requires index { k < len self.old.parts.memory.marks.list }
+        requires place { k < len self.old.saved }
+        requires set { IsSome (get_or self.old.parts.memory.marks.list k None) }
+        requires few { count_by is_some self.old.parts.memory.marks.list ≤ 2 }
+        ensures machine { mark_at self.old k ≡ Some self.new.parts }
+        ensures saved { self.new.saved ≡ self.old.saved }
+        ensures accesses { self.new.accesses ≡ [] }
+        ensures failed { self.new.failed ≡ false }
+    {
+        let Saved {
+            core,
+            vec,
+            brk,
+            steps,
+        } = self.saved[k as usize].copy();
+        self.memory.pages_mut().restore(k);
+        self.core = core;
+        self.vec = vec;
+        self.brk = brk;
+        self.steps = steps;
+        self.ended = None;
+        self.failed = false;
+        self.log.clear();
+    }
+}
+
+/// Sixteen places for what marks keep.
+fn unset_marks(alloc: Global, length: Length) -> Result<Vec<Saved>, OutOfMemory>
+    ensures { IfOk result (λ saved. len saved.items ≡ 16) }
+{
+    let mut saved = Vec::with_capacity(alloc, 16)?;
+    for _turn in 0..16u32 {
+        saved.push_reserved(Saved::unset(length));
+    }
+    Ok(saved)
+}

@@ -1,0 +1,5 @@
+pub mod Calls
+pub mod Marked
+pub mod Scalar
+pub mod Steps
+pub mod Vector
