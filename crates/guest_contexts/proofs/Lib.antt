@@ -1,0 +1,4 @@
+pub mod Copied
+pub mod Found
+pub mod Laid
+pub mod Lists

@@ -1,0 +1,39 @@
+//! Copies of registers, with which a context starts.
+ghost use Rattle.std.specs.Prelude.{◌≡◌};
+ghost use Rattle.thread_model.specs.ThreadCall.{started_vectors};
+
+use core_regs::Core;
+use emu_bits::Reg;
+use vec_regs::VecRegs;
+
+/// The same scalar registers once more.
+pub fn copy_core(core: &Core) -> Core
+    ensures { result ≡ core.now }
+{
+    let pc = core.pc();
+    let mut copy = Core::new();
+    for number in 0..31u32 {
+        let r = Reg::at(number, 0);
+        copy.set_x(r, 64, core.x(r));
+    }
+    let sp = Reg::at(31, 0);
+    copy.set_x_sp(sp, 64, core.x_sp(sp));
+    copy.set_pc(pc);
+    copy.set_flags(core.flags());
+    copy.set_tpidr(core.tpidr());
+    copy.set_monitor(core.monitor());
+    copy
+}
+
+/// The vector registers that a context starts with, from those of its caller behind the call.
+pub fn copy_vectors(vec: &VecRegs) -> VecRegs
+    ensures { result ≡ started_vectors vec.now }
+{
+    let mut copy = VecRegs::new(vec.most());
+    copy.set_length(vec.length());
+    for number in 0..32u32 {
+        let r = Reg::at(number, 0);
+        copy.set_z_words(r, vec.z_words(r));
+    }
+    copy
+}

@@ -1,0 +1,14 @@
+//! Contexts of guest threads: each with the registers that it has while it isn't in the machine, and how it stands.
+#![tactic(auto)]
+
+mod context;
+mod copies;
+mod monitors;
+mod numbers;
+mod standings;
+
+pub use context::Context;
+pub use copies::{copy_core, copy_vectors};
+pub use monitors::{empty_monitors, note_accesses};
+pub use numbers::{error_answer, thread_call};
+pub use standings::{are_all_gone, is_some_ready, ready, set_clear, stand, wake};

@@ -1,0 +1,19 @@
+//! Guest threads: a world of contexts that share a machine's memory, and its run under a schedule.
+//!
+//! Contracts see a world as its definition in `thread_model`, and whether a stream has failed. Its machine has the registers of the
+//! context that took the last step, and those of the others are kept beside it.
+#![tactic(auto)]
+
+mod calls;
+mod clone;
+mod ends;
+mod futex;
+mod parts;
+mod places;
+mod run;
+mod step;
+mod svc;
+mod world;
+
+pub use ends::WorldEnd;
+pub use world::World;

@@ -1,0 +1,88 @@
+//! Where a run is in its schedule.
+ghost use Rattle.std.specs.Prelude.{◌≡◌, ◌<◌, ◌+◌, ◌^◌, ◌⊎◌, MatchOption, length, true, false};
+ghost use Rattle.guest_schedule.specs.Turns.{IsSchedule};
+ghost use Rattle.guest_threads.specs.Ends.{IsPlace, IsPicked, IsReadyAt};
+ghost use Rattle.thread_model.specs.Threads as model;
+ghost use Rattle.thread_model.specs.Worlds as worlds;
+
+use crate::world::World;
+use guest_contexts::ready;
+use thread_model::Place;
+
+impl World {
+    /// The context that takes the next step. None exactly where no context is ready.
+    pub(crate) fn pick(&self, turns: &[(u64, u64)], place: &Place) -> Option<usize>
+        requires { IsPlace self.now.world turns.now place.now }
+        ensures { MatchOption result (worlds.some_ready self.now.world ≡ false) (λ k. IsPicked self.now.world turns.now place.now k) }
+    {
+        if place.used != 0 {
+            return Some(place.held);
+        }
+        let numbers = ready(&self.contexts);
+        let count = numbers.len() as u64;
+        if count == 0 {
+            return None;
+        }
+        let at = turns[place.turn].0 % count;
+        Some(numbers[at as usize])
+    }
+
+    /// The place behind a step of a context.
+    pub(crate) fn next_place(&self, turns: &[(u64, u64)], place: &Place, k: usize) -> Place
+        requires turn { place.now.turn < length turns.now }
+        requires used { place.now.used < (model.turn_at turns.now place.now.turn).1 }
+        requires context { k ≡ self.now.world.last }
+        requires schedule { IsSchedule turns.now }
+        ensures place { result ≡ model.next_place self.now.world turns.now place.now k }
+        ensures is_place { IsPlace self.now.world turns.now result }
+    {
+        if self.is_over(turns, place, k) {
+            let next = place.turn + 1;
+            if next == turns.len() {
+                return Place {
+                    turn: 0,
+                    used: 0,
+                    held: 0,
+                };
+            }
+            return Place {
+                turn: next,
+                used: 0,
+                held: 0,
+            };
+        }
+        Place {
+            turn: place.turn,
+            used: place.used.wrapping_add(1),
+            held: k,
+        }
+    }
+
+    /// Whether a turn is over behind a step of a context.
+    fn is_over(&self, turns: &[(u64, u64)], place: &Place, k: usize) -> bool
+        requires turn { place.now.turn < length turns.now }
+        requires used { place.now.used < (model.turn_at turns.now place.now.turn).1 }
+        requires context { k ≡ self.now.world.last }
+        ensures over { result ≡ true → (place.now.used + 1 ≡ (model.turn_at turns.now place.now.turn).1) ⊎ (worlds.is_ready (worlds.context self.now.world k) ≡ false) }
+        ensures on { result ≡ false → place.now.used + 1 < (model.turn_at turns.now place.now.turn).1 }
+        ensures fits { result ≡ false → place.now.used + 1 < 2 ^ 64 }
+        ensures ready { result ≡ false → IsReadyAt self.now.world k }
+    {
+        let steps = turns[place.turn].1;
+        let last = steps.saturating_sub(1);
+        if place.used >= last {
+            return true;
+        }
+        !self.is_ready(k)
+    }
+
+    /// Whether the context whose registers the machine has is ready.
+    fn is_ready(&self, k: usize) -> bool
+        requires { k ≡ self.now.world.last }
+        ensures ready { result ≡ worlds.is_ready (worlds.context self.now.world k) }
+        ensures within { k < length self.now.world.contexts }
+    {
+        let context = &self.contexts[k];
+        context.is_ready()
+    }
+}

@@ -1,0 +1,120 @@
+//! The run of a world under a schedule.
+ghost use Rattle.std.specs.Prelude.{◌≡◌, ◌<◌, ◌≤◌, is_none, true, false};
+ghost use Rattle.guest_schedule.specs.Turns.{IsSchedule};
+ghost use Rattle.io_gate.specs.Streams.{Causes};
+ghost use Rattle.guest_threads.specs.Ends.{has_ended, end_of_world, world_end_of, is_broken_off, Becomes, TakesWithin, Puts};
+ghost use Rattle.thread_model.specs.Threads as model;
+
+use crate::ends::WorldEnd;
+use crate::world::World;
+use emu_machine::{Ended, StepEnd};
+use guest_contexts::is_some_ready;
+use guest_schedule::Schedule;
+use io_gate::{Sink, Source};
+use thread_model::Place;
+
+impl World {
+    /// Takes the steps that a schedule names, until the world has ended, no context is ready, or `budget` steps are counted in all.
+    ///
+    /// After a fault of a stream, which is answered exactly where that stream failed, the world has ended, with its last step not done.
+    /// No run wants memory.
+    pub fn run<I: Source, O: Sink, E: Sink>(
+        &mut self,
+        schedule: &Schedule,
+        budget: u64,
+        input: &mut I,
+        output: &mut O,
+        errors: &mut E,
+    ) -> WorldEnd
+        requires going { has_ended self.old ≡ false }
+        requires within { self.old.world.steps ≤ budget }
+        ensures state { Becomes (model.threads schedule.now budget) self.old.world self.new.world (I.left input.old) (I.left input.new) (is_broken_off result) }
+        ensures input { TakesWithin (model.threads schedule.now budget) self.old.world (I.left input.old) (I.left input.new) (is_broken_off result) }
+        ensures output { Puts (λ st. (model.threads schedule.now budget st).output) self.old.world (I.left input.old) (O.held output.old) (O.held output.new) (is_broken_off result) }
+        ensures errors { Puts (λ st. (model.threads schedule.now budget st).errors) self.old.world (I.left input.old) (E.held errors.old) (E.held errors.new) (is_broken_off result) }
+        ensures end { is_broken_off result ≡ false → result ≡ end_of_world self.new.world }
+        ensures spent { result ≡ WorldEnd.Spent → self.new.world.steps ≡ budget }
+        ensures unended { is_broken_off result ≡ true → is_none self.new.world.ended ≡ true }
+        ensures unspent { is_broken_off result ≡ true → self.new.world.steps < budget }
+        ensures failed { self.new.failed ≡ is_broken_off result }
+        ensures read_cause { Causes (result ≡ WorldEnd.ReadFault) (I.faults input.old) (I.faults input.new) }
+        ensures write_cause { Causes (result ≡ WorldEnd.WriteFault) (O.faults output.old) (O.faults output.new) }
+        ensures errors_cause { Causes (result ≡ WorldEnd.ErrorsFault) (E.faults errors.old) (E.faults errors.new) }
+    {
+        self.follow(schedule.turns(), budget, input, output, errors)
+    }
+
+    /// The same for the turns of a schedule.
+    fn follow<I: Source, O: Sink, E: Sink>(
+        &mut self,
+        schedule: &[(u64, u64)],
+        budget: u64,
+        input: &mut I,
+        output: &mut O,
+        errors: &mut E,
+    ) -> WorldEnd
+        requires going { has_ended self.old ≡ false }
+        requires within { self.old.world.steps ≤ budget }
+        requires schedule { IsSchedule schedule.now }
+        ensures state { Becomes (model.threads schedule.now budget) self.old.world self.new.world (I.left input.old) (I.left input.new) (is_broken_off result) }
+        ensures input { TakesWithin (model.threads schedule.now budget) self.old.world (I.left input.old) (I.left input.new) (is_broken_off result) }
+        ensures output { Puts (λ st. (model.threads schedule.now budget st).output) self.old.world (I.left input.old) (O.held output.old) (O.held output.new) (is_broken_off result) }
+        ensures errors { Puts (λ st. (model.threads schedule.now budget st).errors) self.old.world (I.left input.old) (E.held errors.old) (E.held errors.new) (is_broken_off result) }
+        ensures end { is_broken_off result ≡ false → result ≡ end_of_world self.new.world }
+        ensures spent { result ≡ WorldEnd.Spent → self.new.world.steps ≡ budget }
+        ensures unended { is_broken_off result ≡ true → is_none self.new.world.ended ≡ true }
+        ensures unspent { is_broken_off result ≡ true → self.new.world.steps < budget }
+        ensures failed { self.new.failed ≡ is_broken_off result }
+        ensures read_cause { Causes (result ≡ WorldEnd.ReadFault) (I.faults input.old) (I.faults input.new) }
+        ensures write_cause { Causes (result ≡ WorldEnd.WriteFault) (O.faults output.old) (O.faults output.new) }
+        ensures errors_cause { Causes (result ≡ WorldEnd.ErrorsFault) (E.faults errors.old) (E.faults errors.new) }
+    {
+        let mut place = Place {
+            turn: 0,
+            used: 0,
+            held: 0,
+        };
+        while self.steps() < budget {
+            let Some(k) = self.pick(schedule, &place) else {
+                return self.end();
+            };
+            match self.one(k, input, output, errors) {
+                StepEnd::Going => {}
+                end => return self.end_of(end),
+            }
+            place = self.next_place(schedule, &place, k);
+        }
+        self.end()
+    }
+
+    /// How a run of the world ends that stops here.
+    fn end(&self) -> WorldEnd
+        ensures { result ≡ end_of_world self.now.world }
+    {
+        match self.machine.ending() {
+            None => {
+                if is_some_ready(&self.contexts) {
+                    WorldEnd::Spent
+                } else {
+                    WorldEnd::Stuck
+                }
+            }
+            Some(Ended::Exit(code)) => WorldEnd::Exit(code),
+            Some(Ended::Trap(trap)) => WorldEnd::Trap(trap, self.machine.core().pc()),
+        }
+    }
+
+    /// The answer of a run by that of its last step.
+    fn end_of(&self, end: StepEnd) -> WorldEnd
+        ensures { result ≡ world_end_of self.now.world end }
+    {
+        match end {
+            StepEnd::Going => self.end(),
+            StepEnd::Exit(code) => WorldEnd::Exit(code),
+            StepEnd::Trap(trap) => WorldEnd::Trap(trap, self.machine.core().pc()),
+            StepEnd::ReadFault => WorldEnd::ReadFault,
+            StepEnd::WriteFault => WorldEnd::WriteFault,
+            StepEnd::ErrorsFault => WorldEnd::ErrorsFault,
+        }
+    }
+}
