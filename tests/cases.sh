@@ -1,5 +1,6 @@
 #!/bin/sh
-# Has a program of svemu do the stored runs of the crates svemu and command_cases over real files and streams, but for those of streams that fail:
+# Has a program of svemu do the stored runs of the crates svemu and command_cases over real files and streams, but for
+# those of streams that fail, and looks how it ends over files and streams of the system that fail:
 #   sh tests/cases.sh PROGRAM
 # The last line is 'N lines, M differ'.
 set -u
@@ -21,7 +22,7 @@ awk -v quote="'" '
     $1 == "file" { print "file " quoted($2) " <<" quote "." quote; open = 1; next }
     $1 == "bytes" || $1 == "fill" || $1 == "given" || $1 == "supply" { print $1 " " quoted(substr($0, length($1) + 2)); next }
     /^(images|input|output|errors) / { fails = 1; next }
-    $1 == "each" { print "forget"; next }
+    $1 == "each" { print "forget"; fails = 0; next }
     /^line / {
         text = substr($0, 6)
         kept = ""
@@ -128,6 +129,39 @@ if [ "$status" -ne "$(cat crates/svemu/status)" ] || ! cmp "$scratch/output" cra
     differ=$((differ + 1))
     echo "the stored run of svemu: status $status"
 fi
+
+# Has the shell do a line, in which $1 is the program, and compares its status.
+ends() {
+    done=$((done + 1))
+    (cd "$scratch/files" && sh -c "$2" sh "$program") <"$scratch/empty" >"$scratch/output" 2>"$scratch/errors"
+    status=$?
+    if [ "$status" -ne "$1" ]; then
+        differ=$((differ + 1))
+        echo "status $status, and not $1: $2"
+    fi
+}
+
+# Files and streams of the system that fail: FILE is a folder, the input is closed, the output or the errors are full.
+: >"$scratch/empty"
+ends 126 '"$1" run . --vl 128 --budget 10'
+ends 126 '"$1" asm .'
+ends 126 '"$1" dis .'
+ends 126 '"$1" dbg seven.elf . --vl 128 --budget 10'
+ends 126 '"$1" sweep . --budget 10'
+ends 124 '"$1" run copy.elf --vl 128 --budget 100 <&-'
+ends 124 '"$1" dbg copy.elf go.txt --vl 128 --budget 100 <&-'
+ends 124 '"$1" sweep copy.elf --budget 100 <&-'
+ends 125 '"$1" run write.elf --vl 128 --budget 20 >/dev/full'
+ends 125 '"$1" run write.elf --vl 128 --budget 20 2>/dev/full'
+ends 125 '"$1" run seven.elf --vl 192 --budget 10 2>/dev/full'
+ends 125 '"$1" asm four.s >/dev/full'
+ends 125 '"$1" asm operands.s 2>/dev/full'
+ends 125 '"$1" dis four.elf >/dev/full'
+ends 125 '"$1" dbg seven.elf stops.txt --vl 128 --budget 100 >/dev/full'
+ends 125 '"$1" sweep seven.elf --budget 10 >/dev/full'
+
+# A word of the command line that isn't text.
+ends 118 '"$1" run "$(printf "\\377")" --vl 128 --budget 10'
 
 echo "$done lines, $differ differ"
 [ "$differ" -eq 0 ]

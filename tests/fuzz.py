@@ -48,7 +48,7 @@ DIRECTIVES = [
     ".code", ".data", ".byte 1, 2", ".half -1", ".word 0x10", ".quad start", '.ascii "a\\n\\0"', ".zero 16", ".align 8",
     ".bss 64", ".entry start", "start:", "loop: nop", "b start", "cbz x0, loop", "adr x1, start", "// a comment",
 ]
-COMMANDS = ["run", "asm", "dis", "dbg", "sweep"]
+COMMANDS = ["run", "asm", "dis", "dbg", "load", "sweep"]
 SCRIPT = [
     "step {n}", "go", "break {a}", "watch {a} {l}", "regs", "zreg {k}", "preg {k}", "ffr", "vl", "lanes {k} {t}", "mem {a} {l}",
     "# a comment", "", "hop", "step",

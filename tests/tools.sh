@@ -183,6 +183,15 @@ lying_images() {
     holds "the table of lying executables" python3 tests/images.py --check
 }
 
+# The load programs of some numbers, whose lines a script works out.
+load_programs() {
+    if ! command -v python3 >/dev/null; then
+        skip "load programs" "there is no python3"
+        return
+    fi
+    holds "load programs" python3 tests/loads.py "$built"
+}
+
 # A minute of random input, the same each time.
 random_input() {
     if ! command -v python3 >/dev/null; then
@@ -235,6 +244,7 @@ if [ "$failed" -eq 0 ]; then
     recipes
     . tests/pages.sh
     refused_memory
+    load_programs
     lying_images
     random_input
 fi

@@ -11,14 +11,25 @@
 //! - `input MOST NUMBER ..`, and so `output` and `errors`: of the next command, the stream moves so many bytes by one call at most, 4,096 where it
 //!   isn't said, and these calls fail.
 //! - `line WORD ..`: a command line, with one space between two words. What it writes to the output is kept as a file where `> NAME` stands at the end.
+//! - `each OBJECT WORD ..`: a command line as it is, and then again for each call that it made of `images`, `input`,
+//!   `output` or `errors`, with this call failing.
 //!
 //! Of a command, its ending and its status are written, then what it put on the output and on the errors: how many bytes, and their lines where they
 //! are text, but those whose last word is four zeros or more, as most registers are; of other bytes each row of 16 that aren't all zero, behind its offset.
+//!
+//! Of `each`, how the command ends as it is; then how it ends by a fault of the object, how many calls there were, and
+//! of how many the ending is another, or the streams don't stand, byte by byte, as they stood when the command made this
+//! call without a failure. Then come, of each stream, how many bytes had been moved at the first of the calls and at the
+//! last, and how many there are.
 #![tactic(auto)]
 
+mod done;
+mod each;
 mod scene;
 mod shown;
+mod watched;
 
+use crate::each::do_each;
 use crate::scene::Scene;
 use crate::shown::show;
 use std::io;
@@ -29,12 +40,13 @@ fn play(rt: HostRuntime, scene: &mut Scene, line: &str) -> io::Result<()> {
         Some((line, name)) => (line, Some(name)),
         None => (line, None),
     };
-    let done = scene.done(rt.alloc(), line)?;
+    let done = scene.done(rt.alloc(), line, None)?;
+    scene.forget();
     println!(rt; "{:?}, status {}", done.ending, done.ending.status())?;
-    show(rt, "output", done.output.kept())?;
-    show(rt, "errors", done.errors.kept())?;
+    show(rt, "output", &done.output)?;
+    show(rt, "errors", &done.errors)?;
     if let Some(name) = kept {
-        scene.keep(rt.alloc(), name, done.output.kept())?;
+        scene.keep(rt.alloc(), name, &done.output)?;
     }
     Ok(())
 }
@@ -51,6 +63,9 @@ fn main(rt: HostRuntime) -> io::Result<()> {
         println!(rt; "{text}")?;
         if let Some(words) = text.strip_prefix("line ") {
             play(rt, &mut scene, words)?;
+        } else if let Some(text) = text.strip_prefix("each ") {
+            do_each(rt, &scene, text)?;
+            scene.forget();
         } else if !text.is_empty() && !text.starts_with('#') && !scene.set(rt.alloc(), text)? {
             println!(rt; "this is no line of cases")?;
         }

@@ -1,8 +1,8 @@
 //! The files and the streams that commands are done over.
 ghost use Rattle.std.specs.Prelude.{◌≤◌, IfOk};
 
-use commands::command;
-use emu_outcome::Ending;
+use crate::done::{Done, done_over};
+use crate::watched::Object;
 use io_gate::{MemImages, MemSink, MemSource};
 use std::alloc::{AllocError, Global};
 
@@ -22,12 +22,11 @@ pub struct Scene {
     errors: String,
 }
 
-/// How a command ended, and what it wrote.
-#[derive(Drop)]
-pub struct Done {
-    pub ending: Ending,
-    pub output: MemSink,
-    pub errors: MemSink,
+/// A call that is to fail: its object, and its number among those of the object, counted from 0.
+#[derive(Clone, Copy)]
+pub struct Fault {
+    pub object: Object,
+    pub call: u64,
 }
 
 /// The numbers among the words of a text.
@@ -41,8 +40,25 @@ fn numbers(alloc: Global, text: &str) -> Result<Vec<u64>, AllocError> {
     Ok(found)
 }
 
-/// The most bytes of a call and the calls that fail: `MOST NUMBER ..`.
-fn way(alloc: Global, text: &str) -> Result<(usize, Vec<u64>), AllocError>
+/// The number of the call that is to fail, where it is one of this object.
+fn call_of(fault: Option<Fault>, object: Object) -> Option<u64> {
+    match fault {
+        Some(fault) if fault.object == object => Some(fault.call),
+        _ => None,
+    }
+}
+
+/// The numbers among the words of a text, and one more.
+fn numbers_and(alloc: Global, text: &str, more: Option<u64>) -> Result<Vec<u64>, AllocError> {
+    let mut found = numbers(alloc, text)?;
+    if let Some(number) = more {
+        found.push(number)?;
+    }
+    Ok(found)
+}
+
+/// The most bytes of a call and the calls that fail, `MOST NUMBER ..`, and one more of these.
+fn way(alloc: Global, text: &str, more: Option<u64>) -> Result<(usize, Vec<u64>), AllocError>
     ensures { IfOk result (λ r. 1 ≤ r.0) }
 {
     let (most, fails) = text.split_once(' ').unwrap_or((text, ""));
@@ -50,7 +66,13 @@ fn way(alloc: Global, text: &str) -> Result<(usize, Vec<u64>), AllocError>
         Ok(most) if most > 0 => most,
         _ => MOST,
     };
-    Ok((most, numbers(alloc, fails)?))
+    Ok((most, numbers_and(alloc, fails, more)?))
+}
+
+/// A sink that does as a text says, with one call more that fails.
+fn sink_of(alloc: Global, text: &str, more: Option<u64>) -> Result<MemSink, AllocError> {
+    let (most, fails) = way(alloc, text, more)?;
+    Ok(MemSink::new(alloc, most, fails))
 }
 
 /// The words of a text that has one space between two; an empty text has none.
@@ -162,36 +184,50 @@ impl Scene {
         Ok(named)
     }
 
-    /// Does a command line; the streams of the next one don't fail.
-    pub fn done(&mut self, alloc: Global, line: &str) -> Result<Done, AllocError> {
-        let words = words_of(alloc, line)?;
-        let fails = numbers(alloc, self.images.as_str())?;
-        let mut files = MemImages::new(self.named_in(alloc, line)?, fails);
-        let (most, fails) = way(alloc, self.input.as_str())?;
+    /// What the next command may read.
+    pub fn given(&self) -> &[u8] {
+        &self.given
+    }
+
+    /// The files that a command line names.
+    fn files_of(
+        &self,
+        alloc: Global,
+        line: &str,
+        fault: Option<Fault>,
+    ) -> Result<MemImages, AllocError> {
+        let more = call_of(fault, Object::Images);
+        let fails = numbers_and(alloc, self.images.as_str(), more)?;
+        Ok(MemImages::new(self.named_in(alloc, line)?, fails))
+    }
+
+    /// What a command may read.
+    fn source(&self, alloc: Global, fault: Option<Fault>) -> Result<MemSource, AllocError> {
+        let more = call_of(fault, Object::Input);
+        let (most, fails) = way(alloc, self.input.as_str(), more)?;
         let given = Vec::from_slice(alloc, &self.given)?;
-        let mut input = MemSource::new(given, most, fails);
-        let (most, fails) = way(alloc, self.output.as_str())?;
-        let mut output = MemSink::new(alloc, most, fails);
-        let (most, fails) = way(alloc, self.errors.as_str())?;
-        let mut errors = MemSink::new(alloc, most, fails);
-        let ending = command(
-            alloc,
-            &words,
-            &mut files,
-            &mut input,
-            &mut output,
-            &mut errors,
-        );
-        self.forget();
-        Ok(Done {
-            ending,
-            output,
-            errors,
-        })
+        Ok(MemSource::new(given, most, fails))
+    }
+
+    /// Does a command line, with one call more that fails.
+    pub fn done(
+        &self,
+        alloc: Global,
+        line: &str,
+        fault: Option<Fault>,
+    ) -> Result<Done, AllocError> {
+        let words = words_of(alloc, line)?;
+        let files = self.files_of(alloc, line, fault)?;
+        let input = self.source(alloc, fault)?;
+        let more = call_of(fault, Object::Output);
+        let output = sink_of(alloc, self.output.as_str(), more)?;
+        let more = call_of(fault, Object::Errors);
+        let errors = sink_of(alloc, self.errors.as_str(), more)?;
+        done_over(alloc, &words, files, input, output, errors)
     }
 
     /// From here on no stream fails.
-    fn forget(&mut self) {
+    pub fn forget(&mut self) {
         self.given.clear();
         self.images.clear();
         self.input.clear();

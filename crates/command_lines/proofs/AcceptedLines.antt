@@ -9,16 +9,16 @@ use Rattle.std.proofs.lemmas.List.Elements.{All-append, All-cons, All-drop}
 use Rattle.std.proofs.lemmas.List.Sums.{list_all-from_AllPass, sum_by-cons, sum_by_more_le, sum_by-take-drop}
 use Rattle.emu_system.specs.Arguments.{AreArguments, is_free_of_zeros}
 use Rattle.command_model.specs.declared.command_line.Command.{Command}
-use Rattle.command_model.specs.declared.command_line.Command.TheVariants.{Run, Asm, Dis, Dbg, Sweep}
+use Rattle.command_model.specs.declared.command_line.Command.TheVariants.{Run, Asm, Dis, Dbg, Load, Sweep}
 use Rattle.command_model.specs.declared.command_line.Line.{Line}
-use Rattle.command_model.specs.declared.command_line.Line.TheVariants.{Run as RunLine, Asm as AsmLine, Dis as DisLine, Dbg as DbgLine, Sweep as SweepLine}
+use Rattle.command_model.specs.declared.command_line.Line.TheVariants.{Run as RunLine, Asm as AsmLine, Dis as DisLine, Dbg as DbgLine, Load as LoadLine, Sweep as SweepLine}
 use Rattle.command_model.specs.declared.command_line.OptionName.{OptionName}
 use Rattle.command_model.specs.declared.command_line.OptionName.TheVariants.{Vl, Budget, Pages}
 use Rattle.command_model.specs.declared.command_line.WordsFault.{WordsFault}
 use Rattle.command_model.specs.declared.command_line.WordsWhy.{WordsWhy}
 use Rattle.command_model.specs.declared.command_line.WordsWhy.TheVariants.{Repeated, MissingValue, ExtraWord, MissingWord}
 use Rattle.line_words.specs.Refusals.{and_then}
-use Rattle.command_model.specs.CommandLine.{Seen, args_of, command_of, end_of, first_too_long, first_with_zero, given, is_option, line_of, line_of_command, line_of_words, nothing_seen, option_of, plain_words_of, read_item, read_option, read_plain, read_value, read_word, read_words, refused, pages_of, takes_arguments, value_of_word, with_budget, with_machine, with_plain, with_value}
+use Rattle.command_model.specs.CommandLine.{Seen, args_of, command_of, end_of, first_too_long, first_with_zero, given, is_option, line_of, line_of_command, line_of_words, nothing_seen, number_of_word, option_of, plain_words_of, read_further, read_item, read_number, read_option, read_plain, read_value, read_word, read_words, refused, pages_of, takes_arguments, takes_number, value_of_word, with_budget, with_machine, with_plain, with_value, with_word}
 use Rattle.emu_outcome.specs.Outcome.{program_arguments}
 use Rattle.command_lines.specs.Places.{HasArguments, HasPlaces}
 use Rattle.command_lines.proofs.FirstWords.{none_too_long, none_with_zero}
@@ -78,20 +78,29 @@ arguments_begin : (args : Option ℕ) (places : List ℕ) (place : ℕ) → None
 arguments_begin None places place none all = (below_more place (place + 1) places (omega arith) all, omega arith)
 arguments_begin (Some args) places place none all = absurd (cc)
 
-within_plain : (command : Command) (seen : Seen) (place : ℕ) → None ≡ seen.args → IsWithin place seen → IfOk (read_plain command seen place) (IsWithin (place + 1))
-within_plain command seen place none within =
-    if_either (IsWithin (place + 1)) (nat_lt (length seen.plain) (plain_words_of command)) (Ok (record seen { plain = seen.plain ++ place ∷ [] })) (refused ExtraWord place)
-    (λ _. plain_more seen.args seen.plain place none within) (λ _. tt)
+within_number : (seen : Seen) (place : ℕ) (number : Option ℕ) → None ≡ seen.args → IsWithin place seen → IfOk (read_number seen place number) (IsWithin (place + 1))
+within_number seen place None none within = tt
+within_number seen place (Some number) none within = plain_more seen.args seen.plain place none within
+
+within_further : (command : Command) (seen : Seen) (place : ℕ) (word : List ℕ) → None ≡ seen.args → IsWithin place seen → IfOk (read_further command seen place word) (IsWithin (place + 1))
+within_further command seen place word none within =
+    if_either (IsWithin (place + 1)) (takes_number command) (read_number seen place (number_of_word word)) (Ok (with_word seen place))
+    (λ _. within_number seen place (number_of_word word) none within) (λ _. plain_more seen.args seen.plain place none within)
+
+within_plain : (command : Command) (seen : Seen) (place : ℕ) (word : List ℕ) → None ≡ seen.args → IsWithin place seen → IfOk (read_plain command seen place word) (IsWithin (place + 1))
+within_plain command seen place word none within =
+    if_either (IsWithin (place + 1)) (nat_lt (length seen.plain) (plain_words_of command)) (read_further command seen place word) (refused ExtraWord place)
+    (λ _. within_further command seen place word none within) (λ _. tt)
 
 within_item : (command : Command) (seen : Seen) (place : ℕ) (word : List ℕ) → None ≡ seen.args → IsWithin place seen → IfOk (read_item command seen place word) (IsWithin (place + 1))
 within_item command seen place word none within =
     let option : Result Seen WordsFault = read_option seen place (option_of command word) in
-    let plain : Result Seen WordsFault = read_plain command seen place in
+    let plain : Result Seen WordsFault = read_plain command seen place word in
     if_either (IsWithin (place + 1)) (takes_arguments command && bytes_eq word (codes "--")) (Ok (record seen { args = Some (place + 1) })) (cond (is_option word) option plain)
     (λ _. arguments_begin seen.args seen.plain place none within)
     (λ _. if_either (IsWithin (place + 1)) (is_option word) option plain
     (λ _. within_option seen place (option_of command word) within)
-    (λ _. within_plain command seen place none within))
+    (λ _. within_plain command seen place word none within))
 
 within_any : (command : Command) (seen : Seen) (place : ℕ) (word : List ℕ) (awaited : Option OptionName) → None ≡ seen.args → IsWithin place seen
     → IfOk (option_map_or (λ option. read_value seen place option (value_of_word option word)) awaited (read_item command seen place word)) (IsWithin (place + 1))
@@ -135,6 +144,11 @@ with_place : (P : Line → Type 0) (count : ℕ) (o : Option ℕ) (next : ℕ �
 with_place P count None next step = tt
 with_place P count (Some place) next step = step place refl
 
+-- a line that needs a number
+with_number : (P : Line → Type 0) (count : ℕ) (number : Option ℕ) (said : ℕ → Line) → ((n : ℕ) → P (said n)) → IfOk (option_map_or (λ n. Ok (said n)) number (refused MissingWord count)) P
+with_number P count None said holds = tt
+with_number P count (Some number) said holds = holds number
+
 -- a line that needs a vector length and a budget
 with_both : (P : Line → Type 0) (count : ℕ) (vl budget : Option ℕ) (said : ℕ → ℕ → Line) → ((bits steps : ℕ) → P (said bits steps)) → IfOk (with_machine count vl budget said) P
 with_both P count None budget said holds = tt
@@ -165,6 +179,7 @@ module _ (count : ℕ) (seen : Seen) (within : IsWithin count seen) where
       with_place (λ l. HasPlaces l count) count (slice_get seen.plain 1)
       (λ script. with_machine count seen.vl seen.budget (λ bits budget. DbgLine file script (args_of count seen) bits budget (pages_of seen))) (λ script also.
       with_both (λ l. HasPlaces l count) count seen.vl seen.budget (λ bits budget. DbgLine file script (args_of count seen) bits budget (pages_of seen)) (λ bits budget. (front 0 file got, front 1 script also, behind))))
+  line_places Load = with_number (λ l. HasPlaces l count) count seen.number (λ number. LoadLine number) (λ number. tt)
   line_places Sweep =
       with_place (λ l. HasPlaces l count) count (slice_get seen.plain 0) (λ file. with_budget count seen.budget (λ budget. SweepLine file (args_of count seen) budget (pages_of seen))) (λ file got.
       with_steps (λ l. HasPlaces l count) count seen.budget (λ budget. SweepLine file (args_of count seen) budget (pages_of seen)) (λ budget. (front 0 file got, behind)))
@@ -213,4 +228,5 @@ arguments_fit words few short free (Ok (RunLine file args bits budget pages)) (l
 arguments_fit words few short free (Ok (AsmLine listing)) lt = tt
 arguments_fit words few short free (Ok (DisLine file)) lt = tt
 arguments_fit words few short free (Ok (DbgLine file script args bits budget pages)) (lt, also, le) = given_words words few short free file args lt le
+arguments_fit words few short free (Ok (LoadLine number)) places = tt
 arguments_fit words few short free (Ok (SweepLine file args budget pages)) (lt, le) = given_words words few short free file args lt le

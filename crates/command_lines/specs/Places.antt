@@ -1,7 +1,7 @@
 -- The words that a line names by their places.
-use Rattle.std.specs.Prelude.{◌<◌, ◌≤◌, ℕ, List, [], get_or}
+use Rattle.std.specs.Prelude.{◌<◌, ◌≤◌, ℕ, List, [], get_or, Option, Some, None}
 use Rattle.command_model.specs.declared.command_line.Line.{Line}
-use Rattle.command_model.specs.declared.command_line.Line.TheVariants.{Run, Asm, Dis, Dbg, Sweep}
+use Rattle.command_model.specs.declared.command_line.Line.TheVariants.{Run, Asm, Dis, Dbg, Load, Sweep}
 use Rattle.emu_outcome.specs.Outcome.{program_arguments}
 use Rattle.emu_system.specs.Arguments.{AreArguments}
 
@@ -11,15 +11,17 @@ HasPlaces (Run file args bits budget pages) count = (file < args) × (args ≤ c
 HasPlaces (Asm listing) count = listing < count
 HasPlaces (Dis file) count = file < count
 HasPlaces (Dbg file script args bits budget pages) count = (file < args) × (script < args) × (args ≤ count)
+HasPlaces (Load number) count = Unit {0}
 HasPlaces (Sweep file args budget pages) count = (file < args) × (args ≤ count)
 
--- the word that names the file that is read first
-abbrev pub file_named : List (List ℕ) → Line → List ℕ
-file_named words (Run file args bits budget pages) = get_or words file []
-file_named words (Asm listing) = get_or words listing []
-file_named words (Dis file) = get_or words file []
-file_named words (Dbg file script args bits budget pages) = get_or words file []
-file_named words (Sweep file args budget pages) = get_or words file []
+-- the word that names the file that is read first, where one is
+abbrev pub file_named : List (List ℕ) → Line → Option (List ℕ)
+file_named words (Run file args bits budget pages) = Some (get_or words file [])
+file_named words (Asm listing) = Some (get_or words listing [])
+file_named words (Dis file) = Some (get_or words file [])
+file_named words (Dbg file script args bits budget pages) = Some (get_or words file [])
+file_named words (Load number) = None
+file_named words (Sweep file args budget pages) = Some (get_or words file [])
 
 -- the words of a program are such as it may be given
 abbrev pub HasArguments : List (List ℕ) → Line → Type 0
@@ -27,4 +29,5 @@ HasArguments words (Run file args bits budget pages) = AreArguments (program_arg
 HasArguments words (Asm listing) = Unit {0}
 HasArguments words (Dis file) = Unit {0}
 HasArguments words (Dbg file script args bits budget pages) = AreArguments (program_arguments words file args)
+HasArguments words (Load number) = Unit {0}
 HasArguments words (Sweep file args budget pages) = AreArguments (program_arguments words file args)

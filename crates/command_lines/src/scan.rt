@@ -1,9 +1,10 @@
 //! The words behind a command's name, read one after the other.
-ghost use Rattle.std.specs.Prelude.{◌≡◌, ◌≤◌, ℕ, drop, map, length, string_bytes, is_some, slice_get, MatchResult, Some, None, Err};
-ghost use Rattle.command_model.specs.CommandLine.{given, line_of, end_of, nothing_seen, option_of, read_item, read_option, read_plain, read_value, read_word, read_words, refused, value_of_word, with_machine};
+ghost use Rattle.std.specs.Prelude.{◌≡◌, ◌≤◌, ◌&&◌, ℕ, codes, drop, map, length, string_bytes, is_some, slice_get, MatchResult, Some, None, Err};
+ghost use Rattle.std.specs.Str.{bytes_eq};
+ghost use Rattle.command_model.specs.CommandLine.{given, is_option, line_of, end_of, nothing_seen, option_of, read_item, read_option, read_plain, read_value, read_word, read_words, refused, takes_arguments, value_of_word, with_machine};
 ghost use Rattle.command_lines.specs.Scan.{Leaves};
 
-use crate::values::{budget_of_word, length_of_word, pages_of_word};
+use crate::values::{budget_of_word, length_of_word, number_of_word, pages_of_word};
 use crate::words::word;
 use arrayvec::ArrayVec;
 use command_model::{Command, Line, OptionName, WordsFault, WordsWhy};
@@ -21,6 +22,8 @@ const DEFAULT_PAGES: u32 = 16_384;
 pub struct Seen {
     /// The places of the plain words.
     plain: ArrayVec<usize, MOST_PLAIN>,
+    /// The number of a plain word that is a number.
+    number: Option<u64>,
     length: Option<Length>,
     budget: Option<u64>,
     pages: Option<u32>,
@@ -35,7 +38,7 @@ impl Model for Seen {
 
     ghost Value = { Seen };
 
-    ghost view = { λ s. record { plain = s.plain.items; vl = s.length; budget = s.budget; pages = s.pages; awaited = s.awaited; args = s.args } };
+    ghost view = { λ s. record { plain = s.plain.items; number = s.number; vl = s.length; budget = s.budget; pages = s.pages; awaited = s.awaited; args = s.args } };
 }
 
 /// A refusal at a place.
@@ -57,6 +60,20 @@ fn placed<T>(value: Result<T, WordsWhy>, place: usize) -> Result<T, WordsFault>
     value.map_err(|why| fault(why, place))
 }
 
+/// Whether a word is `--`, and the command knows it.
+fn begins_arguments(command: Command, word: &str) -> bool
+    ensures { result ≡ (takes_arguments command && bytes_eq word.now (codes "--")) }
+{
+    command.takes_arguments() && word == "--"
+}
+
+/// Whether a word has the form of an option.
+fn is_option(word: &str) -> bool
+    ensures { result ≡ is_option word.now }
+{
+    word.starts_with("--")
+}
+
 /// The option of a command that a word gives. None exactly where there is none.
 fn option_of(command: Command, word: &str) -> Option<OptionName>
     ensures { result ≡ option_of command word.now }
@@ -75,6 +92,7 @@ impl Seen {
     {
         Seen {
             plain: ArrayVec::new(),
+            number: None,
             length: None,
             budget: None,
             pages: None,
@@ -124,12 +142,18 @@ impl Seen {
     }
 
     /// Reads a plain word.
-    fn read_plain(&mut self, command: Command, place: usize) -> Result<(), WordsFault>
+    fn read_plain(&mut self, command: Command, place: usize, word: &str) -> Result<(), WordsFault>
         requires { place ≤ 300 }
-        ensures { Leaves (read_plain command self.old place) self.new result }
+        ensures { Leaves (read_plain command self.old place word.now) self.new result }
     {
         if self.plain.len() >= command.plain_words() {
             return Err(fault(WordsWhy::ExtraWord, place));
+        }
+        if command.takes_number() {
+            let Some(number) = number_of_word(word) else {
+                return Err(fault(WordsWhy::BadNumber, place));
+            };
+            self.number = Some(number);
         }
         self.plain.push(place);
         Ok(())
@@ -140,14 +164,14 @@ impl Seen {
         requires { place ≤ 300 }
         ensures { Leaves (read_item command self.old place word.now) self.new result }
     {
-        if command.takes_arguments() && word == "--" {
+        if begins_arguments(command, word) {
             self.args = Some(place + 1);
             return Ok(());
         }
-        if word.starts_with("--") {
+        if is_option(word) {
             self.read_option(command, place, word)
         } else {
-            self.read_plain(command, place)
+            self.read_plain(command, place, word)
         }
     }
 
@@ -274,6 +298,12 @@ pub fn line_of(command: Command, count: usize, seen: &Seen) -> Result<Line, Word
             Ok(Line::Dis { file })
         }
         Command::Dbg => session_of(count, seen),
+        Command::Load => {
+            let Some(number) = seen.number else {
+                return Err(fault(WordsWhy::MissingWord, count));
+            };
+            Ok(Line::Load { number })
+        }
         Command::Sweep => sweep_of(count, seen),
     }
 }

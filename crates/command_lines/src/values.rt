@@ -1,4 +1,4 @@
-//! The values of options.
+//! The values of options, and words that are numbers.
 ghost use Rattle.std.specs.Prelude.{◌≡◌};
 ghost use Rattle.std.specs.List.{list_all};
 ghost use Rattle.command_model.specs.declared.command_line.OptionName.TheVariants.{Vl, Budget, Pages};
@@ -31,7 +31,7 @@ fn is_numeral(bytes: &[u8]) -> bool
 }
 
 /// The number that a word writes. None exactly where it isn't a number of at most 2^64 - 1.
-fn number_of_word(word: &str) -> Option<u64>
+pub fn number_of_word(word: &str) -> Option<u64>
     ensures { result ≡ number_of_word word.now }
 {
     if !is_numeral(word.as_bytes()) {

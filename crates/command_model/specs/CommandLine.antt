@@ -11,9 +11,9 @@ use Rattle.line_words.specs.Refusals.{and_then}
 use Rattle.emu_model.specs.Lengths.{is_vector_length}
 use Rattle.emu_system.specs.Arguments.{is_free_of_zeros}
 use Rattle.command_model.specs.declared.command_line.Command.{Command}
-use Rattle.command_model.specs.declared.command_line.Command.TheVariants.{Run, Asm, Dis, Dbg, Sweep}
+use Rattle.command_model.specs.declared.command_line.Command.TheVariants.{Run, Asm, Dis, Dbg, Load, Sweep}
 use Rattle.command_model.specs.declared.command_line.Line.{Line}
-use Rattle.command_model.specs.declared.command_line.Line.TheVariants.{Run as RunLine, Asm as AsmLine, Dis as DisLine, Dbg as DbgLine, Sweep as SweepLine}
+use Rattle.command_model.specs.declared.command_line.Line.TheVariants.{Run as RunLine, Asm as AsmLine, Dis as DisLine, Dbg as DbgLine, Load as LoadLine, Sweep as SweepLine}
 use Rattle.command_model.specs.declared.command_line.OptionName.{OptionName}
 use Rattle.command_model.specs.declared.command_line.OptionName.TheVariants.{Vl, Budget, Pages}
 use Rattle.command_model.specs.declared.command_line.WordsFault.{WordsFault}
@@ -31,7 +31,8 @@ command_of word =
     else (if bytes_eq word (codes "asm") then Some Asm
     else (if bytes_eq word (codes "dis") then Some Dis
     else (if bytes_eq word (codes "dbg") then Some Dbg
-    else (if bytes_eq word (codes "sweep") then Some Sweep else None))))
+    else (if bytes_eq word (codes "load") then Some Load
+    else (if bytes_eq word (codes "sweep") then Some Sweep else None)))))
 
 -- a command that runs a machine says how long its vectors are, how many steps it may take and how many pages it may have
 abbrev pub machine_options : List OptionName
@@ -46,6 +47,7 @@ options_of Run = machine_options
 options_of Asm = []
 options_of Dis = []
 options_of Dbg = machine_options
+options_of Load = []
 options_of Sweep = sweep_options
 
 -- how many plain words a command has
@@ -54,6 +56,7 @@ plain_words_of Run = 1
 plain_words_of Asm = 1
 plain_words_of Dis = 1
 plain_words_of Dbg = 2
+plain_words_of Load = 1
 plain_words_of Sweep = 1
 
 -- whether a command knows the word `--`
@@ -62,7 +65,17 @@ takes_arguments Run = true
 takes_arguments Asm = false
 takes_arguments Dis = false
 takes_arguments Dbg = true
+takes_arguments Load = false
 takes_arguments Sweep = true
+
+-- whether a plain word of a command is a number, and not the name of a file
+abbrev pub takes_number : Command → Bool
+takes_number Run = false
+takes_number Asm = false
+takes_number Dis = false
+takes_number Dbg = false
+takes_number Load = true
+takes_number Sweep = false
 
 abbrev pub option_text : OptionName → List ℕ
 option_text Vl = codes "--vl"
@@ -102,10 +115,11 @@ value_of_word option word = option_map_or (value_of option) (number_of_word word
 
 -- ---- the words behind the command's name, one after the other
 
--- what they said so far: the places of the plain words, the values of options, an option whose value is the next word, and the
--- place behind `--`
+-- what they said so far: the places of the plain words, the number of one that is a number, the values of options, an option whose
+-- value is the next word, and the place behind `--`
 pub record Seen : Type 0 where
   pub plain : List ℕ
+  pub number : Option ℕ
   pub vl : Option ℕ
   pub budget : Option ℕ
   pub pages : Option ℕ
@@ -113,7 +127,7 @@ pub record Seen : Type 0 where
   pub args : Option ℕ
 
 abbrev pub nothing_seen : Seen
-nothing_seen = record { plain = []; vl = None; budget = None; pages = None; awaited = None; args = None }
+nothing_seen = record { plain = []; number = None; vl = None; budget = None; pages = None; awaited = None; args = None }
 
 abbrev pub given : OptionName → Seen → Option ℕ
 given Vl seen = seen.vl
@@ -135,16 +149,29 @@ abbrev pub read_option : Seen → ℕ → Option OptionName → Result Seen Word
 read_option seen place None = refused UnknownOption place
 read_option seen place (Some option) = if is_some (given option seen) then refused Repeated place else Ok (record seen { awaited = Some option })
 
+-- one plain word more
+abbrev pub with_word : Seen → ℕ → Seen
+with_word seen place = record seen { plain = seen.plain ++ place ∷ [] }
+
+-- a plain word that has to be a number
+abbrev pub read_number : Seen → ℕ → Option ℕ → Result Seen WordsFault
+read_number seen place None = refused BadNumber place
+read_number seen place (Some number) = Ok (record (with_word seen place) { number = Some number })
+
+-- a plain word that isn't too many
+abbrev pub read_further : Command → Seen → ℕ → List ℕ → Result Seen WordsFault
+read_further command seen place word = if takes_number command then read_number seen place (number_of_word word) else Ok (with_word seen place)
+
 -- a plain word
-abbrev pub read_plain : Command → Seen → ℕ → Result Seen WordsFault
-read_plain command seen place =
-    if nat_lt (length seen.plain) (plain_words_of command) then Ok (record seen { plain = seen.plain ++ place ∷ [] }) else refused ExtraWord place
+abbrev pub read_plain : Command → Seen → ℕ → List ℕ → Result Seen WordsFault
+read_plain command seen place word =
+    if nat_lt (length seen.plain) (plain_words_of command) then read_further command seen place word else refused ExtraWord place
 
 -- `--`, an option or a plain word
 abbrev pub read_item : Command → Seen → ℕ → List ℕ → Result Seen WordsFault
 read_item command seen place word =
     if takes_arguments command && bytes_eq word (codes "--") then Ok (record seen { args = Some (place + 1) })
-    else (if is_option word then read_option seen place (option_of command word) else read_plain command seen place)
+    else (if is_option word then read_option seen place (option_of command word) else read_plain command seen place word)
 
 -- any word: behind `--` an argument, behind an option its value
 abbrev pub read_word : Command → Seen → ℕ → List ℕ → Result Seen WordsFault
@@ -190,6 +217,7 @@ line_of Asm count seen = with_plain count seen 0 (λ listing. Ok (AsmLine listin
 line_of Dis count seen = with_plain count seen 0 (λ file. Ok (DisLine file))
 line_of Dbg count seen =
     with_plain count seen 0 (λ file. with_plain count seen 1 (λ script. with_machine count seen.vl seen.budget (λ bits budget. DbgLine file script (args_of count seen) bits budget (pages_of seen))))
+line_of Load count seen = option_map_or (λ number. Ok (LoadLine number)) seen.number (refused MissingWord count)
 line_of Sweep count seen = with_plain count seen 0 (λ file. with_budget count seen.budget (λ budget. SweepLine file (args_of count seen) budget (pages_of seen)))
 
 -- an option that is the last word has no value

@@ -1,6 +1,6 @@
 //! The command line as a command with its values.
 ghost use Rattle.std.specs.Prelude.{◌≡◌, ◌≤◌, length};
-ghost use Rattle.command_model.specs.CommandLine.{command_of, option_text, options_of, plain_words_of, takes_arguments};
+ghost use Rattle.command_model.specs.CommandLine.{command_of, option_text, options_of, plain_words_of, takes_arguments, takes_number};
 
 use emu_model::Length;
 use thiserror::Error;
@@ -32,7 +32,7 @@ pub enum WordsWhy {
     OutOfRange,
     #[error("a word too many")]
     ExtraWord,
-    #[error("a file's name is missing")]
+    #[error("a file's name or a number is missing")]
     MissingWord,
     #[error("--vl is missing")]
     MissingLength,
@@ -83,6 +83,10 @@ pub enum Line {
         /// The greatest number of mapped pages.
         pages: u32,
     },
+    /// Runs the load program that a number makes at each vector length, and writes a line on each.
+    Load {
+        number: u64,
+    },
     /// Runs the program in the file that the word at `file` names at each vector length, and writes a line on each.
     Sweep {
         file: usize,
@@ -106,6 +110,8 @@ pub enum Command {
     Dis,
     /// `dbg FILE SCRIPT --vl N --budget B [--pages P] [-- ARG ..]`
     Dbg,
+    /// `load N`
+    Load,
     /// `sweep FILE --budget B [--pages P] [-- ARG ..]`
     Sweep,
 }
@@ -137,6 +143,7 @@ impl Command {
             "asm" => Some(Command::Asm),
             "dis" => Some(Command::Dis),
             "dbg" => Some(Command::Dbg),
+            "load" => Some(Command::Load),
             "sweep" => Some(Command::Sweep),
             _ => None,
         }
@@ -149,7 +156,7 @@ impl Command {
         match self {
             Command::Run | Command::Dbg => &MACHINE_OPTIONS,
             Command::Sweep => &SWEEP_OPTIONS,
-            Command::Asm | Command::Dis => &[],
+            Command::Asm | Command::Dis | Command::Load => &[],
         }
     }
 
@@ -159,7 +166,7 @@ impl Command {
         ensures few { result ≤ 2 }
     {
         match self {
-            Command::Run | Command::Asm | Command::Dis | Command::Sweep => 1,
+            Command::Run | Command::Asm | Command::Dis | Command::Load | Command::Sweep => 1,
             Command::Dbg => 2,
         }
     }
@@ -170,7 +177,17 @@ impl Command {
     {
         match self {
             Command::Run | Command::Dbg | Command::Sweep => true,
-            Command::Asm | Command::Dis => false,
+            Command::Asm | Command::Dis | Command::Load => false,
+        }
+    }
+
+    /// Whether a plain word of the command is a number, and not the name of a file.
+    pub fn takes_number(self) -> bool
+        ensures { result ≡ takes_number self }
+    {
+        match self {
+            Command::Load => true,
+            Command::Run | Command::Asm | Command::Dis | Command::Dbg | Command::Sweep => false,
         }
     }
 }

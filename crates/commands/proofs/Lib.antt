@@ -2,6 +2,7 @@ pub mod Assembling
 pub mod Copies
 pub mod Disassembling
 pub mod Lines
+pub mod LoadPrograms
 pub mod MayEnd
 pub mod Meetings
 pub mod NamedFiles

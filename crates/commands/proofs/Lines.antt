@@ -6,9 +6,12 @@ use Rattle.io_gate.specs.Streams.{PutsAll, Rose}
 use Rattle.command_model.specs.CommandLine.{line}
 use Rattle.command_model.specs.Refusals.{words_line}
 use Rattle.command_model.specs.declared.command_line.Line.{Line}
-use Rattle.command_model.specs.declared.command_line.Line.TheVariants.{Run, Asm, Dis, Dbg, Sweep}
+use Rattle.command_model.specs.declared.command_line.Line.TheVariants.{Run, Asm, Dis, Dbg, Load, Sweep}
 use Rattle.command_model.specs.declared.command_line.WordsFault.{WordsFault}
-use Rattle.emu_outcome.specs.Outcome.{Outcome, Files, outcome_of_line, result_of, refusal}
+use Rattle.emu_outcome.specs.Outcome.{Outcome, Files, outcome_of_line, outcome_of_load, result_of, refusal}
+use Rattle.insn_texts.specs.Statements.{statements}
+use Rattle.listing_model.specs.Image.{image_of}
+use Rattle.load_program.specs.Listing.{listing}
 use Rattle.emu_outcome.specs.declared.ending.Ending.{Ending}
 use Rattle.emu_outcome.specs.declared.ending.Ending.TheVariants.{WordsRefused, FileFault, ReadFault, ErrorsFault}
 use Rattle.commands.specs.Endings.{ended_by}
@@ -67,6 +70,11 @@ module _ (words : List (List ℕ)) (told : Option Files) (l m : Line) (place : �
       subst (λ (x : Line). EndsMissing (Ok x) result) (sym is)
       (ends (missing (misses_named next told words place (subst (λ (f : Files → List ℕ → Option Outcome). NamesNoFile f told) outcome_is names))))
 
+-- a line that names no file has an outcome
+pub names_none : (words : List (List ℕ)) (told : Option Files) (l : Line) (number : ℕ) → l ≡ Load number → NamesNoFile (outcome_over words l) told → ⊥
+names_none words told l number is n =
+    let e : Some (outcome_of_load (image_of statements (listing number))) ≡ None = sym (ap (λ (x : Line). outcome_over words x n.files []) is) ∙ n.missing [] in cc
+
 -- ---- the outcome of a line
 
 module _ (words : List (List ℕ)) (named : Option Files) (i o e : Option (List ℕ)) where
@@ -84,6 +92,7 @@ may_not_refuse (Run file args bits budget pages) fault = refl
 may_not_refuse (Asm listing) fault = refl
 may_not_refuse (Dis file) fault = refl
 may_not_refuse (Dbg file script args bits budget pages) fault = refl
+may_not_refuse (Load number) fault = refl
 may_not_refuse (Sweep file args budget pages) fault = refl
 
 no_refusal_of : (l : Line) (result : Ending) (fault : WordsFault) → may_end l result ≡ true → result ≡ WordsRefused fault → ⊥

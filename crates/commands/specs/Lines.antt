@@ -1,32 +1,44 @@
 -- What a command line promises beside its outcome: which lines are refused, for which input an outcome counts, how a line may end, and how it ends
 -- without its files.
-use Rattle.std.specs.Prelude.{◌≡◌, ◌⊎◌, ℕ, Bool, true, false, ◌||◌, nat_eq, List, Option, Result, Ok, Err, MatchBool, MatchResult}
+use Rattle.std.specs.Prelude.{◌≡◌, ◌⊎◌, ℕ, Bool, true, false, ◌||◌, nat_eq, List, Option, Result, Ok, Err, MatchBool, MatchOption, MatchResult}
 use Rattle.io_gate.specs.Images.{MissesNamed}
 use Rattle.command_lines.specs.Places.{file_named}
 use Rattle.command_model.specs.declared.command_line.Line.{Line}
-use Rattle.command_model.specs.declared.command_line.Line.TheVariants.{Run, Asm, Dis, Dbg, Sweep}
+use Rattle.command_model.specs.declared.command_line.Line.TheVariants.{Run, Asm, Dis, Dbg, Load, Sweep}
 use Rattle.command_model.specs.declared.command_line.WordsFault.{WordsFault}
 use Rattle.sweep_model.specs.Sweep.{stream_limit}
 use Rattle.emu_outcome.specs.Outcome.{Outcome, Files, file_limit}
 use Rattle.emu_outcome.specs.declared.ending.Ending.{Ending}
-use Rattle.emu_outcome.specs.declared.ending.Ending.TheVariants.{Exit, Trap, Spent, Done, WordsRefused, ImageRefused, ListingRefused, ScriptRefused, TooLong, FileFault, ErrorsFault, OutOfMemory}
+use Rattle.emu_outcome.specs.declared.ending.Ending.TheVariants.{Exit, Trap, Spent, Done, WordsRefused, ImageRefused, ListingRefused, ScriptRefused, TooLong, FileFault, WriteFault, ErrorsFault, OutOfMemory}
 use Rattle.commands.specs.Promises.{is_failure, CountsFor, MeetsBy, Now, Settles, SettlesSweep}
 
--- the line runs a machine
-abbrev pub runs_machine : Result Line WordsFault → Bool
-runs_machine (Ok (Run file args bits budget pages)) = true
-runs_machine (Ok (Asm listing)) = false
-runs_machine (Ok (Dis file)) = false
-runs_machine (Ok (Dbg file script args bits budget pages)) = true
-runs_machine (Ok (Sweep file args budget pages)) = true
-runs_machine (Err fault) = false
+-- the line runs a machine over the input
+abbrev pub takes_input : Result Line WordsFault → Bool
+takes_input (Ok (Run file args bits budget pages)) = true
+takes_input (Ok (Asm listing)) = false
+takes_input (Ok (Dis file)) = false
+takes_input (Ok (Dbg file script args bits budget pages)) = true
+takes_input (Ok (Load number)) = false
+takes_input (Ok (Sweep file args budget pages)) = true
+takes_input (Err fault) = false
 
--- the line runs one at each length
+-- the line names a file
+abbrev pub names_file : Result Line WordsFault → Bool
+names_file (Ok (Run file args bits budget pages)) = true
+names_file (Ok (Asm listing)) = true
+names_file (Ok (Dis file)) = true
+names_file (Ok (Dbg file script args bits budget pages)) = true
+names_file (Ok (Load number)) = false
+names_file (Ok (Sweep file args budget pages)) = true
+names_file (Err fault) = false
+
+-- the line runs the program of a file at each length
 abbrev pub sweeps : Result Line WordsFault → Bool
 sweeps (Ok (Run file args bits budget pages)) = false
 sweeps (Ok (Asm listing)) = false
 sweeps (Ok (Dis file)) = false
 sweeps (Ok (Dbg file script args bits budget pages)) = false
+sweeps (Ok (Load number)) = false
 sweeps (Ok (Sweep file args budget pages)) = true
 sweeps (Err fault) = false
 
@@ -36,15 +48,16 @@ SettlesLine (Ok (Run file args bits budget pages)) = Settles
 SettlesLine (Ok (Asm listing)) = Settles
 SettlesLine (Ok (Dis file)) = Settles
 SettlesLine (Ok (Dbg file script args bits budget pages)) = Settles
+SettlesLine (Ok (Load number)) = Settles
 SettlesLine (Ok (Sweep file args budget pages)) = SettlesSweep
 SettlesLine (Err fault) = Settles
 
 abbrev pub MeetsLine : Result Line WordsFault → (List ℕ → Option Outcome) → Ending → Now → Now → Type 0
 MeetsLine line outcome ending old new = MeetsBy (SettlesLine line) outcome ending old new
 
--- the outcome of a line for these bytes counts: the line runs no machine, or the input told them, or the outcome rests on none
+-- the outcome of a line for these bytes counts: the line takes no input, or the input told them, or the outcome rests on none
 abbrev pub IsOutcome : Result Line WordsFault → Option (List ℕ) → Option Outcome → List ℕ → Type 0
-IsOutcome line told outcome bytes = MatchBool (runs_machine line) (CountsFor told outcome bytes) (Unit {0})
+IsOutcome line told outcome bytes = MatchBool (takes_input line) (CountsFor told outcome bytes) (Unit {0})
 
 -- a refused line ends with its refusal, or with a fault of the errors; other lines don't end with one
 abbrev pub RefusesLine : Result Line WordsFault → Ending → Type 0
@@ -80,6 +93,16 @@ ends_dbg (ImageRefused fault) = true
 ends_dbg (ScriptRefused fault) = true
 ends_dbg ending = stops_any ending
 
+-- no file is read, and no input
+abbrev pub ends_load : Ending → Bool
+ends_load Done = true
+ends_load (ImageRefused fault) = true
+ends_load (ListingRefused fault) = true
+ends_load WriteFault = true
+ends_load ErrorsFault = true
+ends_load OutOfMemory = true
+ends_load ending = false
+
 -- the input, or the output or the errors of a run, may be too long
 abbrev pub ends_sweep : Ending → Bool
 ends_sweep Done = true
@@ -93,13 +116,14 @@ may_end (Run file args bits budget pages) ending = ends_run ending
 may_end (Asm listing) ending = ends_asm ending
 may_end (Dis file) ending = ends_dis ending
 may_end (Dbg file script args bits budget pages) ending = ends_dbg ending
+may_end (Load number) ending = ends_load ending
 may_end (Sweep file args budget pages) ending = ends_sweep ending
 
 -- ---- files that aren't there
 
 -- the files are told, and the first one that the line names isn't there
 abbrev pub MissesFirst : List (List ℕ) → Result Line WordsFault → Option Files → Type 0
-MissesFirst words (Ok l) told = MissesNamed told (file_named words l)
+MissesFirst words (Ok l) told = MatchOption (file_named words l) ⊥ (MissesNamed told)
 MissesFirst words (Err fault) told = ⊥
 
 -- a line that names a file that isn't there ends with a fault of the files; of `dbg`, memory may be wanting for the program's file

@@ -7,6 +7,7 @@ mod disassembly;
 mod files;
 mod line;
 mod listings;
+mod loading;
 mod program;
 mod run;
 mod sweeping;

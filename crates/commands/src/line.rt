@@ -1,12 +1,11 @@
 //! A command line, from its words to its ending.
 ghost use Rattle.std.specs.Prelude.{◌≡◌, ◌≢◌, ◌≤◌, ◌⊎◌, ℕ, List, Option, map, length, string_bytes, IfErr, IfOk, IfSome, Ok, true, false};
-ghost use Rattle.io_gate.specs.Images.{MissesNamed};
 ghost use Rattle.io_gate.specs.Streams.{Rose, Causes};
 ghost use Rattle.command_model.specs.CommandLine.{line};
 ghost use Rattle.command_model.specs.Refusals.{words_line};
 ghost use Rattle.emu_outcome.specs.Outcome.{result_of};
-ghost use Rattle.command_lines.specs.Places.{HasArguments, HasPlaces, file_named};
-ghost use Rattle.commands.specs.Lines.{runs_machine, may_end, sweeps, MeetsLine, RefusesLine, MissesFirst, EndsMissing};
+ghost use Rattle.command_lines.specs.Places.{HasArguments, HasPlaces};
+ghost use Rattle.commands.specs.Lines.{takes_input, names_file, may_end, sweeps, MeetsLine, RefusesLine, MissesFirst, EndsMissing};
 ghost use Rattle.commands.specs.Programs.{outcome_over};
 ghost use Rattle.emu_system.specs.Gained.{Gains};
 ghost use Rattle.commands.specs.Promises.{is_failure, is_silent, now, NamesNoFile};
@@ -15,6 +14,7 @@ use crate::debugger::debug_file;
 use crate::disassembly::disassemble_file;
 use crate::files::ending_after_line;
 use crate::listings::assemble_file;
+use crate::loading::load_number;
 use crate::program::Program;
 use crate::run::run_file;
 use crate::sweeping::{Swept, sweep_file};
@@ -38,13 +38,13 @@ fn run_line<F: Images, I: Source, O: Sink, E: Sink>(
     requires arguments { HasArguments (map string_bytes words.now) line.now }
     ensures outcome { IfSome (F.named files.old) (λ named. MeetsLine (Ok line.now) (outcome_over (map string_bytes words.now) line.now named) result
         (now (I.left input.old) (O.held output.old) (E.held errors.old)) (now (I.left input.new) (O.held output.new) (E.held errors.new))) }
-    ensures without_input { runs_machine (Ok line.now) ≡ false → (input : Option (List ℕ)) → IfSome (F.named files.old) (λ named. MeetsLine (Ok line.now) (outcome_over (map string_bytes words.now) line.now named) result
+    ensures without_input { takes_input (Ok line.now) ≡ false → (input : Option (List ℕ)) → IfSome (F.named files.old) (λ named. MeetsLine (Ok line.now) (outcome_over (map string_bytes words.now) line.now named) result
         (now input (O.held output.old) (E.held errors.old)) (now input (O.held output.new) (E.held errors.new))) }
     ensures file_cause { result ≡ Ending.FileFault → Rose (F.faults files.old) (F.faults files.new)
         ⊎ NamesNoFile (outcome_over (map string_bytes words.now) line.now) (F.named files.old) }
     ensures file_kept { result ≢ Ending.FileFault → F.faults files.new ≡ F.faults files.old }
     ensures missing { NamesNoFile (outcome_over (map string_bytes words.now) line.now) (F.named files.old) → EndsMissing (Ok line.now) result }
-    ensures missing_first { MissesNamed (F.named files.old) (file_named (map string_bytes words.now) line.now) → result ≡ Ending.FileFault }
+    ensures missing_first { MissesFirst (map string_bytes words.now) (Ok line.now) (F.named files.old) → result ≡ Ending.FileFault }
     ensures file_first { result ≡ Ending.FileFault → (input.new ≡ input.old) × (output.new ≡ output.old) × (errors.new ≡ errors.old) }
     ensures files_later { F.faults files.old ≤ F.faults files.new }
     ensures memory_first { sweeps (Ok line.now) ≡ false → result ≡ Ending.OutOfMemory → (input.new ≡ input.old) × (output.new ≡ output.old) × (errors.new ≡ errors.old) }
@@ -52,8 +52,9 @@ fn run_line<F: Images, I: Source, O: Sink, E: Sink>(
     ensures write_cause { Causes (result ≡ Ending.WriteFault) (O.faults output.old) (O.faults output.new) }
     ensures errors_cause { Causes (result ≡ Ending.ErrorsFault) (E.faults errors.old) (E.faults errors.new) }
     ensures kind { may_end line.now result ≡ true }
-    ensures no_input { runs_machine (Ok line.now) ≡ false → (input.new ≡ input.old) × (result ≢ Ending.ReadFault) }
-    ensures no_errors { runs_machine (Ok line.now) ≡ false → is_silent result ≡ true → errors.new ≡ errors.old }
+    ensures no_input { takes_input (Ok line.now) ≡ false → (input.new ≡ input.old) × (result ≢ Ending.ReadFault) }
+    ensures no_file { names_file (Ok line.now) ≡ false → (files.new ≡ files.old) × (result ≢ Ending.FileFault) }
+    ensures no_errors { takes_input (Ok line.now) ≡ false → is_silent result ≡ true → errors.new ≡ errors.old }
 {
     match *line {
         Line::Run {
@@ -63,13 +64,7 @@ fn run_line<F: Images, I: Source, O: Sink, E: Sink>(
             budget,
             pages,
         } => {
-            let program = Program {
-                file,
-                args,
-                length,
-                budget,
-                pages,
-            };
+            let program = Program::new(file, args, length, budget, pages);
             run_file(alloc, words, &program, files, input, output, errors)
         }
         Line::Asm { listing } => assemble_file(alloc, words, listing, files, output, errors),
@@ -82,28 +77,20 @@ fn run_line<F: Images, I: Source, O: Sink, E: Sink>(
             budget,
             pages,
         } => {
-            let program = Program {
-                file,
-                args,
-                length,
-                budget,
-                pages,
-            };
-            debug_file(alloc, words, &program, script, files, input, output, errors)
+            let debugged = Program::new(file, args, length, budget, pages);
+            debug_file(
+                alloc, words, &debugged, script, files, input, output, errors,
+            )
         }
+        Line::Load { number } => load_number(alloc, number, output, errors),
         Line::Sweep {
             file,
             args,
             budget,
             pages,
         } => {
-            let program = Swept {
-                file,
-                args,
-                budget,
-                pages,
-            };
-            sweep_file(alloc, words, &program, files, input, output, errors)
+            let swept = Swept::new(file, args, budget, pages);
+            sweep_file(alloc, words, &swept, files, input, output, errors)
         }
     }
 }
@@ -119,7 +106,7 @@ pub fn command<F: Images, I: Source, O: Sink, E: Sink>(
 ) -> Ending
     ensures outcome { IfSome (F.named files.old) (λ named. MeetsLine (line (map string_bytes words.now)) (result_of (map string_bytes words.now) named) result
         (now (I.left input.old) (O.held output.old) (E.held errors.old)) (now (I.left input.new) (O.held output.new) (E.held errors.new))) }
-    ensures without_input { runs_machine (line (map string_bytes words.now)) ≡ false → (input : Option (List ℕ)) → IfSome (F.named files.old) (λ named. MeetsLine (line (map string_bytes words.now)) (result_of (map string_bytes words.now) named) result
+    ensures without_input { takes_input (line (map string_bytes words.now)) ≡ false → (input : Option (List ℕ)) → IfSome (F.named files.old) (λ named. MeetsLine (line (map string_bytes words.now)) (result_of (map string_bytes words.now) named) result
         (now input (O.held output.old) (E.held errors.old)) (now input (O.held output.new) (E.held errors.new))) }
     ensures file_cause { result ≡ Ending.FileFault → Rose (F.faults files.old) (F.faults files.new)
         ⊎ NamesNoFile (result_of (map string_bytes words.now)) (F.named files.old) }
@@ -132,8 +119,9 @@ pub fn command<F: Images, I: Source, O: Sink, E: Sink>(
     ensures read_cause { Causes (result ≡ Ending.ReadFault) (I.faults input.old) (I.faults input.new) }
     ensures write_cause { Causes (result ≡ Ending.WriteFault) (O.faults output.old) (O.faults output.new) }
     ensures errors_cause { Causes (result ≡ Ending.ErrorsFault) (E.faults errors.old) (E.faults errors.new) }
-    ensures no_input { runs_machine (line (map string_bytes words.now)) ≡ false → (input.new ≡ input.old) × (result ≢ Ending.ReadFault) }
-    ensures no_errors { runs_machine (line (map string_bytes words.now)) ≡ false → is_silent result ≡ true → errors.new ≡ errors.old }
+    ensures no_input { takes_input (line (map string_bytes words.now)) ≡ false → (input.new ≡ input.old) × (result ≢ Ending.ReadFault) }
+    ensures no_file { names_file (line (map string_bytes words.now)) ≡ false → (files.new ≡ files.old) × (result ≢ Ending.FileFault) }
+    ensures no_errors { takes_input (line (map string_bytes words.now)) ≡ false → is_silent result ≡ true → errors.new ≡ errors.old }
     ensures kind { IfOk (line (map string_bytes words.now)) (λ l. may_end l result ≡ true) }
     ensures refused { RefusesLine (line (map string_bytes words.now)) result }
     ensures refused_output { IfErr (line (map string_bytes words.now)) (λ _. output.new ≡ output.old) }

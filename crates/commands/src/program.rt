@@ -27,6 +27,21 @@ pub struct Program {
     pub pages: u32,
 }
 
+impl Program {
+    /// The program that a line names, by its places and values.
+    pub fn new(file: usize, args: usize, length: Length, budget: u64, pages: u32) -> Program
+        ensures { result ≡ record { file = file; args = args; length = length; budget = budget; pages = pages } }
+    {
+        Program {
+            file,
+            args,
+            length,
+            budget,
+            pages,
+        }
+    }
+}
+
 /// The machine of an image before its first step, with its arguments. Err is want of memory.
 pub fn open_machine(
     alloc: Global,
@@ -39,7 +54,7 @@ pub fn open_machine(
     requires file { program.now.file < program.now.args }
     requires args { program.now.args ≤ length words.now }
     requires arguments { AreArguments (arguments_of (map string_bytes words.now) program.now) }
-    ensures { IfOk result (λ m. m ≡ record { parts = opening bytes.now (seen_image image.now) (arguments_of (map string_bytes words.now) program.now) program.now.length program.now.pages; accesses = []; failed = false }) }
+    ensures { IfOk result (λ m. m ≡ record { parts = opening bytes.now (seen_image image.now) (arguments_of (map string_bytes words.now) program.now) program.now.length program.now.pages; accesses = []; failed = false; saved = [] }) }
 {
     let args = arguments(alloc, words, program.file, program.args)?;
     Machine::open(alloc, bytes, image, &args, program.length, program.pages)

@@ -37,6 +37,20 @@ pub struct Swept {
     pub pages: u32,
 }
 
+impl Swept {
+    /// The program that a line names, by its places and values.
+    pub fn new(file: usize, args: usize, budget: u64, pages: u32) -> Swept
+        ensures { result ≡ record { file = file; args = args; budget = budget; pages = pages } }
+    {
+        Swept {
+            file,
+            args,
+            budget,
+            pages,
+        }
+    }
+}
+
 /// Runs an image at each length over the input, which was read.
 fn sweep_input<O: Sink, E: Sink>(
     alloc: Global,

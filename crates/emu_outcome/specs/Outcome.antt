@@ -6,7 +6,7 @@ use Rattle.std.specs.Cmp.Lexicographic.{slice_cmp}
 use Rattle.std.specs.FinMap.{FinMap, get}
 use Rattle.command_model.specs.declared.command_line.WordsFault.{WordsFault}
 use Rattle.command_model.specs.declared.command_line.Line.{Line}
-use Rattle.command_model.specs.declared.command_line.Line.TheVariants.{Run, Asm, Dis, Dbg, Sweep as SweepLine}
+use Rattle.command_model.specs.declared.command_line.Line.TheVariants.{Run, Asm, Dis, Dbg, Load, Sweep as SweepLine}
 use Rattle.command_model.specs.CommandLine.{line}
 use Rattle.command_model.specs.Refusals.{words_line, image_line, listing_line, script_line, too_long_line}
 use Rattle.dbg_model.specs.declared.script.Command.{Command}
@@ -24,7 +24,9 @@ use Rattle.emu_system.specs.Start.{opening, with_input}
 use Rattle.insn_texts.specs.Disassembly.{dis_of}
 use Rattle.insn_texts.specs.Statements.{statements}
 use Rattle.listing_model.specs.declared.fault.ListingFault.{ListingFault}
-use Rattle.listing_model.specs.Image.{image_of_bytes}
+use Rattle.listing_model.specs.Image.{image_of, image_of_bytes}
+use Rattle.load_model.specs.Load.{load_pages, load_text}
+use Rattle.load_program.specs.Listing.{listing}
 use Rattle.sweep_model.specs.Sweep.{Sweep, fits, stream_limit, sweep_text, text_before}
 use Rattle.emu_outcome.specs.declared.ending.Ending.{Ending}
 use Rattle.emu_outcome.specs.declared.ending.Ending.TheVariants.{Exit, Trap, Spent, Done, WordsRefused, ImageRefused, ListingRefused, ScriptRefused, TooLong}
@@ -127,6 +129,18 @@ outcome_of_debug file script args input bits budget pages (Ok image) =
     outcome_of_script input budget (with_input (opening file image args bits pages) input) (script_of_file script)
 outcome_of_debug file script args input bits budget pages (Err fault) = refusal (ImageRefused fault) (image_line fault)
 
+-- ---- load
+
+-- the lines of an image's sixteen runs, or its refusal
+abbrev pub outcome_of_loaded : List ℕ → Result Image ElfFault → Outcome
+outcome_of_loaded file (Ok image) = written (load_text file image)
+outcome_of_loaded file (Err fault) = refusal (ImageRefused fault) (image_line fault)
+
+-- the file that the listing makes, or the listing's refusal
+abbrev pub outcome_of_load : Result (List ℕ) ListingFault → Outcome
+outcome_of_load (Ok file) = outcome_of_loaded file (elf file load_pages)
+outcome_of_load (Err fault) = refusal (ListingRefused fault) (listing_line fault)
+
 -- ---- sweep
 
 -- the input, or the output or the errors of a run, are too long: the lines of the lengths before it
@@ -163,6 +177,7 @@ outcome_of_line words files input (Ok (Dis file)) =
 outcome_of_line words files input (Ok (Dbg file script args bits budget pages)) =
     with_file (file_at words files file) (λ bytes. with_file (file_at words files script) (λ text.
     Some (outcome_of_debug bytes text (program_arguments words file args) input bits budget pages (elf bytes pages))))
+outcome_of_line words files input (Ok (Load number)) = Some (outcome_of_load (image_of statements (listing number)))
 outcome_of_line words files input (Ok (SweepLine file args budget pages)) =
     with_file (file_at words files file) (λ bytes. Some (outcome_of_swept bytes (program_arguments words file args) input budget pages (elf bytes pages)))
 

@@ -17,7 +17,7 @@ pub enum Ending {
     Trap(Trap, u64),
     /// The step budget was spent.
     Spent,
-    /// `asm`, `dis`, `dbg` or `sweep` came to its end.
+    /// `asm`, `dis`, `dbg`, `load` or `sweep` came to its end.
     Done,
     /// The command line was refused.
     WordsRefused(WordsFault),
@@ -42,7 +42,8 @@ pub enum Ending {
 }
 
 impl Ending {
-    /// The status of the process: the program's own, 128 plus the signal of a trap, 0 where `asm`, `dis`, `dbg` or `sweep` came to its end, or one from 120 to 127.
+    /// The status of the process: the program's own, 128 plus the signal of a trap, 0 where `asm`, `dis`, `dbg`, `load` or `sweep`
+    /// came to its end, or one from 120 to 127.
     pub fn status(&self) -> u8
         ensures { result ≡ status_of self.now }
     {

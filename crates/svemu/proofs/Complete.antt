@@ -7,9 +7,9 @@ use Rattle.emu_outcome.specs.Outcome.{Outcome, Files, file_limit, result_of}
 use Rattle.emu_outcome.specs.declared.ending.Ending.{Ending}
 use Rattle.emu_outcome.specs.declared.ending.Ending.TheVariants.{Exit, Trap, Spent, Done, WordsRefused, ImageRefused, ListingRefused, ScriptRefused, TooLong, FileFault, ReadFault, WriteFault, ErrorsFault, OutOfMemory}
 use Rattle.command_model.specs.declared.command_line.Line.{Line}
-use Rattle.command_model.specs.declared.command_line.Line.TheVariants.{Run, Asm, Dis, Dbg, Sweep}
+use Rattle.command_model.specs.declared.command_line.Line.TheVariants.{Run, Asm, Dis, Dbg, Load, Sweep}
 use Rattle.command_model.specs.declared.command_line.WordsFault.{WordsFault}
-use Rattle.commands.specs.Lines.{runs_machine, IsOutcome, MeetsLine, SettlesLine}
+use Rattle.commands.specs.Lines.{takes_input, IsOutcome, MeetsLine, SettlesLine}
 use Rattle.emu_system.specs.Gained.{Gains}
 use Rattle.commands.specs.Promises.{is_failure, is_refusal, rests_on_none, settled_ending, output_of, errors_of, settled_sweep, now, CountsFor, EndsAs, NamesNoFile, Settles, SettlesSweep}
 use Rattle.svemu.specs.Headline.{Completes, IsQuiet}
@@ -77,6 +77,7 @@ module _ (words : List (List ℕ)) (result : Ending) (o0 e0 o1 e1 : Option (List
   rests_line (Ok (Asm listing)) o none settles = rests_ends o none settles
   rests_line (Ok (Dis file)) o none settles = rests_ends o none settles
   rests_line (Ok (Dbg file script args bits budget pages)) o none settles = rests_ends o none settles
+  rests_line (Ok (Load number)) o none settles = rests_ends o none settles
   rests_line (Ok (Sweep file args budget pages)) o none settles = rests_swept o none settles
   rests_line (Err fault) o none settles = rests_ends o none settles
 
@@ -107,11 +108,11 @@ module _ (words : List (List ℕ)) (result : Ending) (o0 e0 o1 e1 : Option (List
 
   pub meets_for : (named : Option Files) (l : Result Line WordsFault) (told left : Option (List ℕ))
       → IfSome named (λ files. MeetsLine l (result_of words files) result (now told o0 e0) (now left o1 e1))
-      → (runs_machine l ≡ false → (input : Option (List ℕ)) → IfSome named (λ files. MeetsLine l (result_of words files) result (now input o0 e0) (now input o1 e1)))
+      → (takes_input l ≡ false → (input : Option (List ℕ)) → IfSome named (λ files. MeetsLine l (result_of words files) result (now input o0 e0) (now input o1 e1)))
       → IfSome named (λ files. (bytes : List ℕ) → IsOutcome l told (result_of words files bytes) bytes → MeetsFor files bytes)
   meets_for None l told left meets without = tt
   meets_for (Some files) l told left meets without = λ bytes of.
-      elim (runs_machine l) as (λ b. runs_machine l ≡ b → MatchBool b (CountsFor told (result_of words files bytes) bytes) (Unit {0}) → MeetsFor files bytes) [
+      elim (takes_input l) as (λ b. takes_input l ≡ b → MatchBool b (CountsFor told (result_of words files bytes) bytes) (Unit {0}) → MeetsFor files bytes) [
         | true ↦ λ _ is. meets_machine l files bytes told left is meets
         | false ↦ λ still _. meets_told l files bytes (Some bytes) (without still (Some bytes))
       ] refl of

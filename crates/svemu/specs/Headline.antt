@@ -1,7 +1,10 @@
--- What the program promises beside what its commands promise: that it is complete.
-use Rattle.std.specs.Prelude.{◌≡◌, ◌⊎◌, ℕ, Option, Some, None}
+-- What the program promises beside what its commands promise: that it is complete, and which status it has.
+use Rattle.std.specs.Prelude.{◌≡◌, ◌⊎◌, ℕ, true, Option, Some, None}
 use Rattle.io_gate.specs.Streams.{Rose}
+use Rattle.command_model.specs.declared.command_line.Line.{Line}
+use Rattle.commands.specs.Lines.{may_end}
 use Rattle.emu_outcome.specs.Outcome.{Outcome}
+use Rattle.emu_outcome.specs.Statuses.{status_of}
 use Rattle.emu_outcome.specs.declared.ending.Ending.{Ending}
 use Rattle.emu_outcome.specs.declared.ending.Ending.TheVariants.{FileFault, OutOfMemory}
 
@@ -13,3 +16,12 @@ IsQuiet before after = Rose before after → ⊥
 abbrev pub Completes : Option Outcome → Ending → Type 0
 Completes None ending = (ending ≡ FileFault) ⊎ (ending ≡ OutOfMemory)
 Completes (Some outcome) ending = (ending ≡ outcome.ending) ⊎ (ending ≡ OutOfMemory)
+
+-- the status is that of the outcome's ending or of want of memory; where there is no outcome, of a missing file or of want of memory
+abbrev pub CompletesWith : Option Outcome → ℕ → Type 0
+CompletesWith None status = (status ≡ status_of FileFault) ⊎ (status ≡ status_of OutOfMemory)
+CompletesWith (Some outcome) status = (status ≡ status_of outcome.ending) ⊎ (status ≡ status_of OutOfMemory)
+
+-- the status is that of an ending which the line may have
+abbrev pub MayEndWith : Line → ℕ → Type 0
+MayEndWith l status = (ending : Ending) × (may_end l ending ≡ true) × (status ≡ status_of ending)

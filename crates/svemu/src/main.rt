@@ -1,5 +1,5 @@
 //! svemu: runs a static AArch64 program with the Scalable Vector Extension at a chosen vector length, by itself or in a debugger, or at
-//! each length; makes executables of listings, and shows the instructions of executables.
+//! each length; makes executables of listings, shows the instructions of executables, and runs a load program that it makes.
 #![tactic(auto)]
 
 ghost use Rattle.std.specs.Prelude.{◌≡◌, ◌≢◌};
@@ -10,10 +10,13 @@ use std::env;
 use std::io::ErrorKind;
 use std::process::ExitCode;
 
+mod status;
 mod top;
 
 pub use command_lines::{Line, WordsFault, WordsWhy, line_of_words};
 pub use emu_outcome::Ending;
+pub use load_program::{OutOfMemory, load_listing};
+pub use status::status_of;
 pub use top::svemu;
 
 /// The status where a word of the command line isn't text, or where the words can't be had.
@@ -54,13 +57,12 @@ fn main(rt: HostRuntime) -> ExitCode {
     let mut input = StdSource::new(rt.stdin());
     let mut output = StdSink::new(rt.stdout());
     let mut errors = StdSink::new(rt.stderr());
-    let ending = svemu(
+    ExitCode::from(status_of(
         rt.alloc(),
         &words,
         &mut files,
         &mut input,
         &mut output,
         &mut errors,
-    );
-    ExitCode::from(ending.status())
+    ))
 }

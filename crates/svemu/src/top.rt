@@ -4,7 +4,7 @@ ghost use Rattle.io_gate.specs.Streams.{Rose, Causes};
 ghost use Rattle.command_model.specs.CommandLine.{line};
 ghost use Rattle.command_model.specs.Refusals.{words_line};
 ghost use Rattle.emu_outcome.specs.Outcome.{result_of};
-ghost use Rattle.commands.specs.Lines.{runs_machine, may_end, sweeps, IsOutcome, RefusesLine, SettlesLine, MissesFirst, EndsMissing};
+ghost use Rattle.commands.specs.Lines.{takes_input, names_file, may_end, sweeps, IsOutcome, RefusesLine, SettlesLine, MissesFirst, EndsMissing};
 ghost use Rattle.emu_system.specs.Gained.{Gains};
 ghost use Rattle.commands.specs.Promises.{is_failure, is_silent, output_of, errors_of, taken_of, EndsAs, Loses, NamesNoFile};
 ghost use Rattle.svemu.specs.Headline.{IsQuiet, Completes};
@@ -16,7 +16,7 @@ use std::alloc::Global;
 
 /// Does what the words of the command line say: `words` are those after the program's name, `files` has the files that they
 /// name, and the guest reads `input` and writes to `output` and `errors`. A session's lines, the executable of a listing, the text of
-/// instructions and the lines of a sweep go to `output`. How a run ended, with its registers, and why a command was refused is put on `errors`.
+/// instructions and the lines of `load` and of a sweep go to `output`. How a run ended, with its registers, and why a command was refused is put on `errors`.
 ///
 /// Unless a file or a stream failed or memory was wanting, the ending and all that is written are those of the definitions' result. That is
 /// said where the files tell their bytes, and the input too where a machine is run; of what a sink gained where it tells its own. Each fault
@@ -64,6 +64,9 @@ pub fn svemu<F: Images, I: Source, O: Sink, E: Sink>(
     ensures file_first { result ≡ Ending.FileFault → (input.new ≡ input.old) × (output.new ≡ output.old) × (errors.new ≡ errors.old) }
     ensures files_later { F.faults files.old ≤ F.faults files.new }
 
+    // A line that names no file asks for none.
+    ensures no_file { names_file (line (map string_bytes words.now)) ≡ false → (files.new ≡ files.old) × (result ≢ Ending.FileFault) }
+
     // A stream is at fault where its own count rose, and only there.
     ensures read_cause { Causes (result ≡ Ending.ReadFault) (I.faults input.old) (I.faults input.new) }
     ensures write_cause { Causes (result ≡ Ending.WriteFault) (O.faults output.old) (O.faults output.new) }
@@ -72,9 +75,9 @@ pub fn svemu<F: Images, I: Source, O: Sink, E: Sink>(
     // Where memory was wanting, nothing was moved, but under `sweep`, which may want it at each length.
     ensures memory_first { sweeps (line (map string_bytes words.now)) ≡ false → result ≡ Ending.OutOfMemory → (input.new ≡ input.old) × (output.new ≡ output.old) × (errors.new ≡ errors.old) }
 
-    // A line that runs no machine takes no input, and puts nothing on the errors but the line of a refusal.
-    ensures no_input { runs_machine (line (map string_bytes words.now)) ≡ false → (input.new ≡ input.old) × (result ≢ Ending.ReadFault) }
-    ensures no_errors { runs_machine (line (map string_bytes words.now)) ≡ false → is_silent result ≡ true → errors.new ≡ errors.old }
+    // A line that runs no machine over the input takes none, and puts nothing on the errors but the line of a refusal.
+    ensures no_input { takes_input (line (map string_bytes words.now)) ≡ false → (input.new ≡ input.old) × (result ≢ Ending.ReadFault) }
+    ensures no_errors { takes_input (line (map string_bytes words.now)) ≡ false → is_silent result ≡ true → errors.new ≡ errors.old }
 
     // A line is refused exactly where the definitions refuse it; its line goes to the errors, and nothing to the output.
     ensures refused { RefusesLine (line (map string_bytes words.now)) result }

@@ -39,11 +39,14 @@ abbrev pub part_text : List ℕ → List ℕ → List ℕ
 part_text first output =
     if bytes_eq first output then codes "same" else codes "parts at " ++ decimal (common_prefix_len nat_eq first output)
 
+-- how a machine that has stopped ended, at a length, and its steps
+abbrev pub run_head : ℕ → Parts → List ℕ
+run_head bits m = codes "vl " ++ decimal bits ++ codes " " ++ ending_text m m.ended ++ codes " after " ++ decimal m.steps ++ codes " steps "
+
 -- the line of a machine that has stopped, which wrote this output and so many bytes of errors, beside the output at 128 bits
 abbrev pub run_line : ℕ → List ℕ → Parts → List ℕ → ℕ → List ℕ
 run_line bits first m output errors =
-    codes "vl " ++ decimal bits ++ codes " " ++ ending_text m m.ended ++ codes " after " ++ decimal m.steps ++ codes " steps out " ++ decimal (length output)
-    ++ codes " err " ++ decimal errors ++ codes " " ++ part_text first output ++ newline
+    run_head bits m ++ codes "out " ++ decimal (length output) ++ codes " err " ++ decimal errors ++ codes " " ++ part_text first output ++ newline
 
 -- the line of the run at a length
 abbrev pub line_at : Sweep → ℕ → List ℕ

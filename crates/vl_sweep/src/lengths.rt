@@ -47,7 +47,7 @@ fn is_stopped(end: SweepEnd) -> bool
 }
 
 /// The vector length in front of which stand so many shorter ones.
-fn length_behind(shorter: u32) -> Length
+pub fn length_behind(shorter: u32) -> Length
     requires { shorter < 16 }
     ensures { result ≡ 128 * (shorter + 1) }
 {

@@ -6,4 +6,5 @@ mod lengths;
 mod line;
 
 pub use bound_sink::BoundSink;
-pub use lengths::{SweepEnd, sweep};
+pub use lengths::{SweepEnd, length_behind, sweep};
+pub use line::push_head;

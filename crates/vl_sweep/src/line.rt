@@ -3,7 +3,7 @@ ghost use Rattle.std.specs.Prelude.{◌≡◌, ◌≤◌, ◌+◌, ◌++◌, len
 ghost use Rattle.std.specs.List.{common_prefix_len};
 ghost use Rattle.io_gate.specs.Streams.{HasCause, PutsAll};
 ghost use Rattle.emu_run.specs.Reports.{ending_text};
-ghost use Rattle.sweep_model.specs.Sweep.{part_text, run_line};
+ghost use Rattle.sweep_model.specs.Sweep.{part_text, run_head, run_line};
 
 use emu_machine::{Ended, Machine};
 use emu_report::{Text, push_exit, push_spent, push_trap};
@@ -20,6 +20,21 @@ fn push_ending(machine: &Machine, text: &mut Text)
         Some(Ended::Exit(code)) => push_exit(text, code),
         Some(Ended::Trap(trap)) => push_trap(text, &trap, machine.core().pc()),
     }
+}
+
+/// Appends the head of a line: the vector length in bits, how a machine that has stopped ended, and its steps.
+pub fn push_head(bits: u32, machine: &Machine, text: &mut Text)
+    requires { length text.old + 150 ≤ 2048 }
+    ensures text { text.new ≡ text.old ++ run_head bits machine.now.parts }
+    ensures len { length text.new ≤ length text.old + 150 }
+{
+    text.push(b"vl ");
+    text.push_decimal(u64::from(bits));
+    text.push(b" ");
+    push_ending(machine, text);
+    text.push(b" after ");
+    text.push_decimal(machine.steps());
+    text.push(b" steps ");
 }
 
 /// How many bytes two outputs share from their first on.
@@ -62,13 +77,8 @@ pub fn put_run_line<O: Sink>(
     ensures cause { HasCause (O.faults output.old) (O.faults output.new) result }
 {
     let mut text = Text::new();
-    text.push(b"vl ");
-    text.push_decimal(u64::from(bits));
-    text.push(b" ");
-    push_ending(machine, &mut text);
-    text.push(b" after ");
-    text.push_decimal(machine.steps());
-    text.push(b" steps out ");
+    push_head(bits, machine, &mut text);
+    text.push(b"out ");
     text.push_decimal(written.len() as u64);
     text.push(b" err ");
     text.push_decimal(errors as u64);

@@ -7,7 +7,7 @@ use Rattle.emu_outcome.specs.Outcome.{outcome_of_line}
 use Rattle.emu_outcome.specs.declared.ending.Ending.TheVariants.{FileFault, ReadFault, OutOfMemory}
 use Rattle.emu_system.specs.Gained.{Gains}
 use Rattle.commands.specs.Promises.{now, NamesNoFile, is_failure, is_silent}
-use Rattle.commands.specs.Lines.{EndsMissing, MeetsLine, MissesFirst, may_end, runs_machine, sweeps}
+use Rattle.commands.specs.Lines.{EndsMissing, MeetsLine, MissesFirst, may_end, names_file, takes_input, sweeps}
 use Rattle.commands.proofs.Lines.{refused_gains, refused_line, refused_names_none, refused_puts, done_refuses, line_refuses}
 use Rattle.commands.proofs.line.command.Goals as goal
 
@@ -58,7 +58,7 @@ returns-in-Ok-clause-outcome g c =
 
 pub returns-in-Ok-clause-without_input : goal.returns-in-Ok-clause-without_input
 returns-in-Ok-clause-without_input g c =
-    subst (λ (r : Result Line WordsFault). runs_machine r ≡ false → (told : Option (List ℕ)) → IfSome (g.F.Images.named c.args.files.now) (λ files. MeetsLine r (λ input. outcome_of_line (map string_bytes c.args.words.now) files input r) c.run_line.result
+    subst (λ (r : Result Line WordsFault). takes_input r ≡ false → (told : Option (List ℕ)) → IfSome (g.F.Images.named c.args.files.now) (λ files. MeetsLine r (λ input. outcome_of_line (map string_bytes c.args.words.now) files input r) c.run_line.result
     (now told (g.O.Sink.held c.args.output.now) (g.E.Sink.held c.args.errors.now)) (now told (g.O.Sink.held c.run_line.new.output) (g.E.Sink.held c.run_line.new.errors))))
     (sym c.in-Ok.is ∙ c.line_of_words-line.ensures.line) c.run_line.ensures.without_input
 
@@ -78,11 +78,15 @@ returns-in-Ok-clause-missing_first g c =
 
 pub returns-in-Ok-clause-no_input : goal.returns-in-Ok-clause-no_input
 returns-in-Ok-clause-no_input g c =
-    subst (λ (r : Result Line WordsFault). runs_machine r ≡ false → (c.run_line.new.input ≡ c.args.input.now) × (c.run_line.result ≡ ReadFault → ⊥)) (sym c.in-Ok.is ∙ c.line_of_words-line.ensures.line) c.run_line.ensures.no_input
+    subst (λ (r : Result Line WordsFault). takes_input r ≡ false → (c.run_line.new.input ≡ c.args.input.now) × (c.run_line.result ≡ ReadFault → ⊥)) (sym c.in-Ok.is ∙ c.line_of_words-line.ensures.line) c.run_line.ensures.no_input
+
+pub returns-in-Ok-clause-no_file : goal.returns-in-Ok-clause-no_file
+returns-in-Ok-clause-no_file g c =
+    subst (λ (r : Result Line WordsFault). names_file r ≡ false → (c.run_line.new.files ≡ c.args.files.now) × (c.run_line.result ≡ FileFault → ⊥)) (sym c.in-Ok.is ∙ c.line_of_words-line.ensures.line) c.run_line.ensures.no_file
 
 pub returns-in-Ok-clause-no_errors : goal.returns-in-Ok-clause-no_errors
 returns-in-Ok-clause-no_errors g c =
-    subst (λ (r : Result Line WordsFault). runs_machine r ≡ false → is_silent c.run_line.result ≡ true → c.run_line.new.errors ≡ c.args.errors.now) (sym c.in-Ok.is ∙ c.line_of_words-line.ensures.line) c.run_line.ensures.no_errors
+    subst (λ (r : Result Line WordsFault). takes_input r ≡ false → is_silent c.run_line.result ≡ true → c.run_line.new.errors ≡ c.args.errors.now) (sym c.in-Ok.is ∙ c.line_of_words-line.ensures.line) c.run_line.ensures.no_errors
 
 pub returns-in-Ok-clause-refused : goal.returns-in-Ok-clause-refused
 returns-in-Ok-clause-refused g c = done_refuses c.in-Ok.line _ c.run_line.result (sym c.in-Ok.is ∙ c.line_of_words-line.ensures.line) c.run_line.ensures.kind

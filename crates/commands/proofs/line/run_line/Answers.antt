@@ -1,25 +1,33 @@
-use Rattle.std.proofs.Common.{IfSome, Ok, map, string_bytes, refl, sym, subst, ap, ◌∙◌, ◌≡◌, false, true}
+use Rattle.std.proofs.Common.{◌≡◌, ◌⊎◌, IfSome, Ok, map, string_bytes, refl, sym, subst, ap, ◌∙◌, false, true}
+use Rattle.io_gate.specs.Streams.{Rose}
 use Rattle.command_model.specs.declared.command_line.Line.{Line}
-use Rattle.command_model.specs.declared.command_line.Line.TheVariants.{Run, Asm, Dis, Dbg, Sweep}
+use Rattle.command_model.specs.declared.command_line.Line.TheVariants.{Asm, Dis}
 use Rattle.emu_outcome.specs.Outcome.{most_pages, outcome_of_image, outcome_of_listing, outcome_of_swept, outcome_of_words, program_arguments}
+use Rattle.emu_outcome.specs.declared.ending.Ending.TheVariants.{FileFault}
 use Rattle.emu_system.specs.Image.{elf}
 use Rattle.insn_texts.specs.Statements.{statements}
 use Rattle.listing_model.specs.Image.{image_of_bytes}
-use Rattle.commands.specs.Promises.{now}
-use Rattle.commands.specs.Programs.{outcome_over}
-use Rattle.commands.proofs.Lines.{cause_of_line, missing_of_line}
-use Rattle.commands.specs.Lines.{may_end, sweeps, MeetsLine}
+use Rattle.commands.specs.Promises.{now, NamesNoFile}
+use Rattle.commands.specs.declared.program.Program.{Program}
+use Rattle.commands.specs.Programs.{outcome_over, debug_line_of, run_line_of, sweep_line_of}
+use Rattle.commands.proofs.Lines.{cause_of_line, missing_of_line, names_none}
+use Rattle.commands.specs.Lines.{may_end, sweeps, EndsMissing, MeetsLine, MissesFirst}
+use Rattle.commands.proofs.NamedFiles.{told_so}
 use Rattle.commands.proofs.line.run_line.Goals as goal
 
 pub returns-in-Run-clause-file_cause : goal.returns-in-Run-clause-file_cause
 returns-in-Run-clause-file_cause g c =
     let ws = map string_bytes c.args.words.now in
-    cause_of_line ws (g.F.Images.named c.args.files.now) c.args.line.now (Run c.in-Run.file c.in-Run.args c.in-Run.length c.in-Run.budget c.in-Run.pages) c.in-Run.file (λ files bytes i. outcome_of_image bytes (program_arguments ws c.in-Run.file c.in-Run.args) i c.in-Run.length c.in-Run.budget c.in-Run.pages (elf bytes c.in-Run.pages)) c.run_file.result c.in-Run.is refl _ _ c.run_file.ensures.file_cause
+    let p = c.new-program.result in
+    cause_of_line ws (g.F.Images.named c.args.files.now) c.args.line.now (run_line_of p) p.file (λ files bytes i. outcome_of_image bytes (program_arguments ws p.file p.args) i p.length p.budget p.pages (elf bytes p.pages)) c.run_file.result
+    (c.in-Run.is ∙ sym (ap run_line_of c.new-program.ensures)) refl _ _ c.run_file.ensures.file_cause
 
 pub returns-in-Run-clause-missing : goal.returns-in-Run-clause-missing
 returns-in-Run-clause-missing g c =
     let ws = map string_bytes c.args.words.now in
-    missing_of_line ws (g.F.Images.named c.args.files.now) c.args.line.now (Run c.in-Run.file c.in-Run.args c.in-Run.length c.in-Run.budget c.in-Run.pages) c.in-Run.file (λ files bytes i. outcome_of_image bytes (program_arguments ws c.in-Run.file c.in-Run.args) i c.in-Run.length c.in-Run.budget c.in-Run.pages (elf bytes c.in-Run.pages)) c.run_file.result c.in-Run.is refl c.run_file.ensures.missing (λ fault. fault)
+    let p = c.new-program.result in
+    missing_of_line ws (g.F.Images.named c.args.files.now) c.args.line.now (run_line_of p) p.file (λ files bytes i. outcome_of_image bytes (program_arguments ws p.file p.args) i p.length p.budget p.pages (elf bytes p.pages)) c.run_file.result
+    (c.in-Run.is ∙ sym (ap run_line_of c.new-program.ensures)) refl c.run_file.ensures.missing (λ fault. fault)
 
 pub returns-in-Asm-clause-outcome : goal.returns-in-Asm-clause-outcome
 returns-in-Asm-clause-outcome g c =
@@ -76,6 +84,31 @@ returns-in-Asm-clause-kind g c = subst (λ (l : Line). may_end l c.assemble_file
 pub returns-in-Dis-clause-kind : goal.returns-in-Dis-clause-kind
 returns-in-Dis-clause-kind g c = subst (λ (l : Line). may_end l c.disassemble_file.result ≡ true) (sym c.in-Dis.is) c.disassemble_file.ensures.kind
 
+pub returns-in-Dbg-clause-file_cause : goal.returns-in-Dbg-clause-file_cause
+returns-in-Dbg-clause-file_cause g c =
+    subst (λ (l : Line). c.debug_file.result ≡ FileFault → Rose (g.F.Images.faults c.args.files.now) (g.F.Images.faults c.debug_file.new.files) ⊎ NamesNoFile (outcome_over (map string_bytes c.args.words.now) l) (g.F.Images.named c.args.files.now))
+    (ap (λ (p : Program). debug_line_of p c.in-Dbg.script) c.new-debugged.ensures ∙ sym c.in-Dbg.is) c.debug_file.ensures.file_cause
+
+pub returns-in-Dbg-clause-missing : goal.returns-in-Dbg-clause-missing
+returns-in-Dbg-clause-missing g c =
+    subst (λ (l : Line). NamesNoFile (outcome_over (map string_bytes c.args.words.now) l) (g.F.Images.named c.args.files.now) → EndsMissing (Ok l) c.debug_file.result)
+    (ap (λ (p : Program). debug_line_of p c.in-Dbg.script) c.new-debugged.ensures ∙ sym c.in-Dbg.is) c.debug_file.ensures.missing
+
+pub returns-in-Dbg-clause-missing_first : goal.returns-in-Dbg-clause-missing_first
+returns-in-Dbg-clause-missing_first g c =
+    subst (λ (l : Line). MissesFirst (map string_bytes c.args.words.now) (Ok l) (g.F.Images.named c.args.files.now) → c.debug_file.result ≡ FileFault)
+    (ap (λ (p : Program). debug_line_of p c.in-Dbg.script) c.new-debugged.ensures ∙ sym c.in-Dbg.is) c.debug_file.ensures.missing_first
+
+pub returns-in-Run-clause-missing_first : goal.returns-in-Run-clause-missing_first
+returns-in-Run-clause-missing_first g c =
+    subst (λ (l : Line). MissesFirst (map string_bytes c.args.words.now) (Ok l) (g.F.Images.named c.args.files.now) → c.run_file.result ≡ FileFault)
+    (ap run_line_of c.new-program.ensures ∙ sym c.in-Run.is) c.run_file.ensures.missing
+
+pub returns-in-Sweep-clause-missing_first : goal.returns-in-Sweep-clause-missing_first
+returns-in-Sweep-clause-missing_first g c =
+    subst (λ (l : Line). MissesFirst (map string_bytes c.args.words.now) (Ok l) (g.F.Images.named c.args.files.now) → c.sweep_file.result ≡ FileFault)
+    (ap sweep_line_of c.new-swept.ensures ∙ sym c.in-Sweep.is) c.sweep_file.ensures.missing
+
 pub returns-in-Dbg-clause-kind : goal.returns-in-Dbg-clause-kind
 returns-in-Dbg-clause-kind g c = subst (λ (l : Line). may_end l c.debug_file.result ≡ true) (sym c.in-Dbg.is) c.debug_file.ensures.kind
 
@@ -83,31 +116,59 @@ pub returns-in-Run-clause-outcome : goal.returns-in-Run-clause-outcome
 returns-in-Run-clause-outcome g c =
     subst (λ (l : Line). IfSome (g.F.Images.named c.args.files.now) (λ files. MeetsLine (Ok l) (outcome_over (map string_bytes c.args.words.now) l files) c.run_file.result
     (now (g.I.Source.left c.args.input.now) (g.O.Sink.held c.args.output.now) (g.E.Sink.held c.args.errors.now)) (now (g.I.Source.left c.run_file.new.input) (g.O.Sink.held c.run_file.new.output) (g.E.Sink.held c.run_file.new.errors))))
-    (sym c.in-Run.is) c.run_file.ensures.outcome
+    (ap run_line_of c.new-program.ensures ∙ sym c.in-Run.is) c.run_file.ensures.outcome
 
 pub returns-in-Dbg-clause-outcome : goal.returns-in-Dbg-clause-outcome
 returns-in-Dbg-clause-outcome g c =
     subst (λ (l : Line). IfSome (g.F.Images.named c.args.files.now) (λ files. MeetsLine (Ok l) (outcome_over (map string_bytes c.args.words.now) l files) c.debug_file.result
     (now (g.I.Source.left c.args.input.now) (g.O.Sink.held c.args.output.now) (g.E.Sink.held c.args.errors.now)) (now (g.I.Source.left c.debug_file.new.input) (g.O.Sink.held c.debug_file.new.output) (g.E.Sink.held c.debug_file.new.errors))))
-    (sym c.in-Dbg.is) c.debug_file.ensures.outcome
+    (ap (λ (p : Program). debug_line_of p c.in-Dbg.script) c.new-debugged.ensures ∙ sym c.in-Dbg.is) c.debug_file.ensures.outcome
 
 pub returns-in-Sweep-clause-outcome : goal.returns-in-Sweep-clause-outcome
 returns-in-Sweep-clause-outcome g c =
     subst (λ (l : Line). IfSome (g.F.Images.named c.args.files.now) (λ files. MeetsLine (Ok l) (outcome_over (map string_bytes c.args.words.now) l files) c.sweep_file.result
     (now (g.I.Source.left c.args.input.now) (g.O.Sink.held c.args.output.now) (g.E.Sink.held c.args.errors.now)) (now (g.I.Source.left c.sweep_file.new.input) (g.O.Sink.held c.sweep_file.new.output) (g.E.Sink.held c.sweep_file.new.errors))))
-    (sym c.in-Sweep.is) c.sweep_file.ensures.outcome
+    (ap sweep_line_of c.new-swept.ensures ∙ sym c.in-Sweep.is) c.sweep_file.ensures.outcome
+
+-- ---- a load program
+
+pub returns-in-Load-clause-outcome : goal.returns-in-Load-clause-outcome
+returns-in-Load-clause-outcome g c =
+    let ws = map string_bytes c.args.words.now in
+    subst (λ (l : Line). IfSome (g.F.Images.named c.args.files.now) (λ files. MeetsLine (Ok l) (outcome_over ws l files) c.load_number.result
+    (now (g.I.Source.left c.args.input.now) (g.O.Sink.held c.args.output.now) (g.E.Sink.held c.args.errors.now)) (now (g.I.Source.left c.args.input.now) (g.O.Sink.held c.load_number.new.output) (g.E.Sink.held c.load_number.new.errors))))
+    (sym c.in-Load.is) (told_so (g.F.Images.named c.args.files.now) _ (λ files. c.load_number.ensures.outcome (g.I.Source.left c.args.input.now)))
+
+pub returns-in-Load-clause-without_input : goal.returns-in-Load-clause-without_input
+returns-in-Load-clause-without_input g c = λ _ input.
+    subst (λ (l : Line). IfSome (g.F.Images.named c.args.files.now) (λ files. MeetsLine (Ok l) (outcome_over (map string_bytes c.args.words.now) l files) c.load_number.result
+    (now input (g.O.Sink.held c.args.output.now) (g.E.Sink.held c.args.errors.now)) (now input (g.O.Sink.held c.load_number.new.output) (g.E.Sink.held c.load_number.new.errors))))
+    (sym c.in-Load.is) (told_so (g.F.Images.named c.args.files.now) _ (λ files. c.load_number.ensures.outcome input))
+
+pub returns-in-Load-clause-file_cause : goal.returns-in-Load-clause-file_cause
+returns-in-Load-clause-file_cause g c = λ fault. absurd (c.load_number.ensures.no_file fault)
+
+pub returns-in-Load-clause-missing : goal.returns-in-Load-clause-missing
+returns-in-Load-clause-missing g c = λ names. absurd (names_none (map string_bytes c.args.words.now) (g.F.Images.named c.args.files.now) c.args.line.now c.in-Load.number c.in-Load.is names)
+
+pub returns-in-Load-clause-kind : goal.returns-in-Load-clause-kind
+returns-in-Load-clause-kind g c = subst (λ (l : Line). may_end l c.load_number.result ≡ true) (sym c.in-Load.is) c.load_number.ensures.kind
 
 -- ---- a sweep
 
 pub returns-in-Sweep-clause-file_cause : goal.returns-in-Sweep-clause-file_cause
 returns-in-Sweep-clause-file_cause g c =
     let ws = map string_bytes c.args.words.now in
-    cause_of_line ws (g.F.Images.named c.args.files.now) c.args.line.now (Sweep c.in-Sweep.file c.in-Sweep.args c.in-Sweep.budget c.in-Sweep.pages) c.in-Sweep.file (λ files bytes i. outcome_of_swept bytes (program_arguments ws c.in-Sweep.file c.in-Sweep.args) i c.in-Sweep.budget c.in-Sweep.pages (elf bytes c.in-Sweep.pages)) c.sweep_file.result c.in-Sweep.is refl _ _ c.sweep_file.ensures.file_cause
+    let p = c.new-swept.result in
+    cause_of_line ws (g.F.Images.named c.args.files.now) c.args.line.now (sweep_line_of p) p.file (λ files bytes i. outcome_of_swept bytes (program_arguments ws p.file p.args) i p.budget p.pages (elf bytes p.pages)) c.sweep_file.result
+    (c.in-Sweep.is ∙ sym (ap sweep_line_of c.new-swept.ensures)) refl _ _ c.sweep_file.ensures.file_cause
 
 pub returns-in-Sweep-clause-missing : goal.returns-in-Sweep-clause-missing
 returns-in-Sweep-clause-missing g c =
     let ws = map string_bytes c.args.words.now in
-    missing_of_line ws (g.F.Images.named c.args.files.now) c.args.line.now (Sweep c.in-Sweep.file c.in-Sweep.args c.in-Sweep.budget c.in-Sweep.pages) c.in-Sweep.file (λ files bytes i. outcome_of_swept bytes (program_arguments ws c.in-Sweep.file c.in-Sweep.args) i c.in-Sweep.budget c.in-Sweep.pages (elf bytes c.in-Sweep.pages)) c.sweep_file.result c.in-Sweep.is refl c.sweep_file.ensures.missing (λ fault. fault)
+    let p = c.new-swept.result in
+    missing_of_line ws (g.F.Images.named c.args.files.now) c.args.line.now (sweep_line_of p) p.file (λ files bytes i. outcome_of_swept bytes (program_arguments ws p.file p.args) i p.budget p.pages (elf bytes p.pages)) c.sweep_file.result
+    (c.in-Sweep.is ∙ sym (ap sweep_line_of c.new-swept.ensures)) refl c.sweep_file.ensures.missing (λ fault. fault)
 
 pub returns-in-Sweep-clause-kind : goal.returns-in-Sweep-clause-kind
 returns-in-Sweep-clause-kind g c = subst (λ (l : Line). may_end l c.sweep_file.result ≡ true) (sym c.in-Sweep.is) c.sweep_file.ensures.kind
