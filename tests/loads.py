@@ -1,6 +1,8 @@
-"""Compares what `svemu load N` writes with what its program has to write, for some N, and the time that it takes: the sum, the greatest number and the
-steps at each length are worked out here, from the rule of the numbers. `python3 tests/loads.py PROGRAM`; the last line is 'N numbers, M differ, S seconds the
-longest'."""
+"""Compares what `svemu load N` writes with what its program has to write, for some N, and the time that it takes.
+
+The sum, the greatest number and the steps at each length are worked out here, from the rule of the numbers.
+`python3 tests/loads.py PROGRAM`; the last line is 'N numbers, M differ, S seconds the longest'.
+"""
 
 import resource
 import struct
@@ -34,11 +36,13 @@ def main():
     differ, longest = 0, 0.0
     for number in NUMBERS:
         before = seconds()
-        done = subprocess.run([sys.argv[1], "load", str(number)], stdin=subprocess.DEVNULL, capture_output=True, text=True, check=False)
+        words = [sys.argv[1], "load", str(number)]
+        done = subprocess.run(words, stdin=subprocess.DEVNULL, capture_output=True, text=True, check=False)
         longest = max(longest, seconds() - before)
         if (done.returncode, done.stdout, done.stderr) != (0, "".join(lines(number)), ""):
             differ += 1
-            print(f"load {number}: status {done.returncode}, output from {done.stdout[:80]!r} on, errors {done.stderr[:80]!r}")
+            print(f"load {number}: status {done.returncode}, output from {done.stdout[:80]!r} on")
+            print(f"  errors {done.stderr[:80]!r}")
     print(f"{len(NUMBERS)} numbers, {differ} differ, {longest:.2f} seconds the longest")
     sys.exit(differ > 0 or longest > LIMIT)
 
