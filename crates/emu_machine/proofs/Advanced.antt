@@ -1,6 +1,6 @@
 -- Steps that are no calls, one after the other, and what a run comes to by them.
 use Rattle.std.specs.Prelude.{⊤}
-use Rattle.std.proofs.Common.{◌≡◌, ◌<◌, ◌≤◌, ℕ, ◌+◌, ◌-◌, Bool, true, false, List, [], Option, Some, None, IfSome, is_none, refl, sym, ap, subst, ◌∙◌, arith}
+use Rattle.std.proofs.Common.{◌≡◌, ◌<◌, ◌≤◌, ℕ, suc, ◌+◌, ◌-◌, Bool, true, false, List, [], Option, Some, None, IfSome, is_none, refl, sym, ap, subst, ◌∙◌, arith}
 use Rattle.emu_model.specs.declared.access.Access.{Access}
 use Rattle.emu_model.specs.State.{Parts, State}
 use Rattle.emu_system.specs.Start.{with_input}
@@ -15,18 +15,23 @@ use Rattle.emu_machine.specs.declared.ends.Progress.{Progress}
 use Rattle.emu_machine.specs.declared.ends.Progress.TheVariants.{GoesOn, Trapped, AtCall}
 use Rattle.emu_machine.specs.declared.ends.StepEnd.TheVariants.{Going}
 use Rattle.emu_machine.specs.Ends.{step_end}
-use Rattle.emu_machine.specs.Machines.{MachineState, is_at_call}
+use Rattle.emu_machine.specs.Machines.{MachineState, is_at_call, makes_call}
 use Rattle.emu_machine.proofs.Logs.{Logs, last_none, log_one, log_spent, logs_end, logs_spent}
 use Rattle.emu_machine.proofs.Runs.{LeadsRun, Ran, not_ended, quietly_ran, run_spends, run_stops}
 use Rattle.emu_machine.proofs.Stands.{Stands}
 
 -- ---- how far the steps came
 
-pub ahead_on : (old p q : Parts) (before log : List Access) → IsAhead old p before log → ((input : List ℕ) → turn p input ≡ quiet q input) → q.steps ≡ p.steps + 1 → is_none q.ended ≡ true
+pub ahead_start : (old : Parts) (log : List Access) → is_none old.ended ≡ true → IsAhead old old log log
+ahead_start old log goes = record { alone = (0, refl); goes = goes; after = omega arith; first = λ e. refl; leads = λ b input h. refl; logs = λ b input h. refl }
+
+pub ahead_on : (old p q : Parts) (before log : List Access) → IsAhead old p before log → makes_call p ≡ false → ((input : List ℕ) → turn p input ≡ quiet q input) → q.steps ≡ p.steps + 1 → is_none q.ended ≡ true
     → IsAhead old q before (accesses p)
-ahead_on old p q before log a turns counted goes =
+ahead_on old p q before log a calls turns counted goes =
     let from = a.after in
+    let so_far = a.alone in
     record {
+      alone = (suc so_far.0, (p, (so_far.1, record { calls = calls; turns = turns; goes = goes; counted = counted })));
       goes = goes;
       after = omega (arith, from, counted);
       first = λ e. absurd (omega (arith, from, counted, e));

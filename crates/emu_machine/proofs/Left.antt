@@ -1,4 +1,5 @@
 -- What a step that does an instruction makes of the machine, by the instruction's effect.
+use Rattle.std.specs.Prelude.{⊤}
 use Rattle.std.proofs.Common.{◌≡◌, ℕ, ◌+◌, Bool, true, false, List, [], Option, Some, refl, ap, sym, subst, ◌∙◌}
 use Rattle.emu_model.specs.declared.access.Access.{Access}
 use Rattle.emu_model.specs.declared.program_break.Break.{Break}
@@ -15,7 +16,7 @@ use Rattle.emu_machine.specs.Advances.{EndsBy, MatchCall, left_by_effect, progre
 use Rattle.emu_machine.specs.declared.ends.Progress.{Progress}
 use Rattle.emu_machine.specs.declared.ends.Progress.TheVariants.{GoesOn, AtCall}
 use Rattle.emu_machine.specs.Machines.{MachineState, Saved, has_ended, is_svc}
-use Rattle.emu_machine.proofs.Performed.{AsksFor, asks_for, machine_of, not_failed, same_machine}
+use Rattle.emu_machine.proofs.Performed.{AsksFor, asks_for, machine_of, not_failed, not_svc, same_machine}
 use Rattle.emu_machine.proofs.Runs.{goes}
 
 -- the step of an instruction, or of a word that is none
@@ -23,6 +24,7 @@ pub record HasDone (insn : Option Insn) (old new : MachineState) (r : Progress) 
   pub turn : MatchCall r ((input : List ℕ) → executed old.parts input insn ≡ call old.parts input) ((input : List ℕ) → executed old.parts input insn ≡ quiet new.parts input)
   pub kept : MatchCall r (new ≡ old) (new.failed ≡ false)
   pub svc : r ≡ AtCall → is_svc insn ≡ true
+  pub alone : MatchCall r ⊤ (is_svc insn ≡ false)
   pub ended : EndsBy r new.parts
   pub counted : r ≡ GoesOn → new.parts.steps ≡ old.parts.steps + 1
   pub accesses : new.accesses ≡ executed_accesses old.parts insn
@@ -50,6 +52,7 @@ module _ (i : Insn) (c d : Core) (v w : Vectors) (m n : Memory) (brk : Break) (s
       turn = λ input. ap (λ (x : Done). finish before.parts input x) is;
       kept = not_failed before going;
       svc = λ h. cc;
+      alone = not_svc i c v m Next (ap (λ (x : Done). x.effect) is) (λ h. cc);
       ended = goes ended failed going;
       counted = λ h. refl;
       accesses = sym (ap (λ (x : Done). x.accesses) is);
@@ -59,6 +62,7 @@ module _ (i : Insn) (c d : Core) (v w : Vectors) (m n : Memory) (brk : Break) (s
       turn = λ input. ap (λ (x : Done). finish before.parts input x) is;
       kept = not_failed before going;
       svc = λ h. cc;
+      alone = not_svc i c v m (Branch a) (ap (λ (x : Done). x.effect) is) (λ h. cc);
       ended = goes ended failed going;
       counted = λ h. refl;
       accesses = sym (ap (λ (x : Done). x.accesses) is);
@@ -68,6 +72,7 @@ module _ (i : Insn) (c d : Core) (v w : Vectors) (m n : Memory) (brk : Break) (s
       turn = λ input. ap (λ (x : Done). finish before.parts input x) is;
       kept = not_failed before going;
       svc = λ h. cc;
+      alone = not_svc i c v m (Trap t) (ap (λ (x : Done). x.effect) is) (λ h. cc);
       ended = refl;
       counted = λ h. cc;
       accesses = sym (ap (λ (x : Done). x.accesses) is);
@@ -79,6 +84,7 @@ module _ (i : Insn) (c d : Core) (v w : Vectors) (m n : Memory) (brk : Break) (s
           turn = λ input. ap (λ (x : Done). finish before.parts input x) is;
           kept = same_machine c d v w m n brk steps ended k l failed saved asked.core asked.vectors asked.memory (asked.none ∙ sym clear);
           svc = λ h. asked.svc;
+          alone = tt;
           ended = tt;
           counted = λ h. cc;
           accesses = sym (ap (λ (x : Done). x.accesses) is);

@@ -209,6 +209,19 @@ pub record AsksFor (i : Insn) (c d : Core) (v w : Vectors) (m n : Memory) (acces
   pub memory : n ≡ m
   pub none : accesses ≡ []
 
+-- svc asks for a call
+svc_asks : (i : Insn) (c : Core) (v : Vectors) (m : Memory) → is_svc (Some i) ≡ true → (performed i c v m).effect ≡ Call
+svc_asks (A64 (Except Svc imm16)) c v m h = refl
+svc_asks i c v m h = cc
+
+-- so an instruction that asks for none isn't svc
+pub not_svc : (i : Insn) (c : Core) (v : Vectors) (m : Memory) (e : Effect) → (performed i c v m).effect ≡ e → (e ≡ Call → ⊥) → is_svc (Some i) ≡ false
+not_svc i c v m e is other =
+    elim (is_svc (Some i)) as (λ b. is_svc (Some i) ≡ b → b ≡ false) [
+      | true ↦ λ h. absurd (other (sym is ∙ svc_asks i c v m h))
+      | false ↦ λ h. refl
+    ] refl
+
 pub asks_for : (i : Insn) (c d : Core) (v w : Vectors) (m n : Memory) (l : List Access) (e : Effect)
     → performed i c v m ≡ record { core = d; vectors = w; memory = n; accesses = l; effect = e } → e ≡ Call → AsksFor i c d v w m n l
 asks_for i c d v w m n l e is call =

@@ -1,5 +1,5 @@
 -- Steps that are no calls, one after the other.
-use Rattle.std.specs.Prelude.{◌≡◌, ◌<◌, ◌≤◌, ℕ, ◌+◌, List, ⊤, true, false, is_none}
+use Rattle.std.specs.Prelude.{◌≡◌, ◌<◌, ◌≤◌, ℕ, zero, suc, ◌+◌, List, ⊤, true, false, is_none}
 use Rattle.emu_model.specs.declared.access.Access.{Access}
 use Rattle.emu_model.specs.declared.trap.Effect.{Effect}
 use Rattle.emu_model.specs.declared.trap.Effect.TheVariants.{Next, Branch, Call, Trap}
@@ -12,7 +12,7 @@ use Rattle.emu_run.specs.Step.{accesses, trapped, turn}
 use Rattle.emu_machine.specs.Accesses.{run_accesses}
 use Rattle.emu_machine.specs.declared.ends.Progress.{Progress}
 use Rattle.emu_machine.specs.declared.ends.Progress.TheVariants.{GoesOn, Trapped, AtCall}
-use Rattle.emu_machine.specs.Machines.{MachineState, is_at_call}
+use Rattle.emu_machine.specs.Machines.{MachineState, is_at_call, makes_call}
 
 -- a fact where the next step makes a call, and one where none does
 abbrev pub MatchCall : Progress → Type 0 → Type 0 → Type 0
@@ -41,10 +41,25 @@ left_by_effect (Branch a) m = went_on m m.core m.vectors m.memory a
 left_by_effect (Trap t) m = trapped m t.kind t.address
 left_by_effect Call m = m
 
+-- ---- steps one after the other
+
+-- a step that makes no call makes `now` of `old`, which goes on
+pub record IsAlone (old now : Parts) : Type 0 where
+  pub calls : makes_call old ≡ false
+  pub turns : (input : List ℕ) → turn old input ≡ quiet now input
+  pub goes : is_none now.ended ≡ true
+  pub counted : now.steps ≡ old.steps + 1
+
+-- and so do so many
+abbrev pub AreAlone : ℕ → Parts → Parts → Type 0
+AreAlone zero old now = now ≡ old
+AreAlone (suc n) old now = (p : Parts) × (AreAlone n old p × IsAlone p now)
+
 -- ---- steps up to a budget
 
 -- what remains of any run that goes on behind `now` ends as the whole does, with no byte of a stream moved, and so do its accesses
 pub record IsAhead (old now : Parts) (before log : List Access) : Type 0 where
+  pub alone : (n : ℕ) × AreAlone n old now
   pub goes : is_none now.ended ≡ true
   pub after : old.steps ≤ now.steps
   pub first : now.steps ≡ old.steps → now ≡ old
@@ -62,6 +77,7 @@ pub record IsLast (budget : ℕ) (old new : MachineState) : Type 0 where
   pub log : List Access
   pub ahead : IsAhead old.parts at old.accesses log
   pub below : at.steps < budget
+  pub alone : makes_call at ≡ false
   pub turns : (input : List ℕ) → turn at input ≡ quiet new.parts input
   pub accesses : new.accesses ≡ accesses at
   pub ended : is_none new.parts.ended ≡ false

@@ -1,5 +1,5 @@
 -- A machine: its parts, the accesses of its last step, whether a stream has failed, and what its marks keep.
-use Rattle.std.specs.Prelude.{◌≡◌, ℕ, Bool, true, false, ◌||◌, is_some, List, get_or, Option, Some, None, option_map}
+use Rattle.std.specs.Prelude.{◌≡◌, ℕ, ◌%◌, Bool, true, false, ◌||◌, ◌&&◌, is_none, is_some, List, get_or, nat_eq, Option, Some, None, option_map}
 use Rattle.std.specs.Ordering.{nat_cmp}
 use Rattle.std.specs.FinMap.{FinMap}
 use Rattle.std.specs.Coded.{Coded, code_by, coded×, coded_ℕ, coded_list, coded_bool}
@@ -8,7 +8,8 @@ use Rattle.a64_insn.specs.declared.form.A64Form.TheVariants.{Except}
 use Rattle.a64_insn.specs.declared.ops.ExceptOp.TheVariants.{Svc}
 use Rattle.emu_model.specs.declared.access.Access.{Access}
 use Rattle.emu_model.specs.declared.program_break.Break.{Break}
-use Rattle.emu_model.specs.Access.{Memory, Page, value}
+use Rattle.emu_model.specs.declared.access.Kind.TheVariants.{Fetch}
+use Rattle.emu_model.specs.Access.{Memory, Page, refused, value}
 use Rattle.emu_model.specs.State.{Core, Vectors, Parts, State, coded_core, coded_parts, coded_vectors}
 use Rattle.emu_run.specs.declared.insn.Insn.{Insn}
 use Rattle.emu_run.specs.declared.insn.Insn.TheVariants.{A64}
@@ -78,6 +79,10 @@ is_svc insn = false
 -- the word at the program counter is svc
 abbrev pub is_at_call : Parts → Bool
 is_at_call m = is_svc (decode (value m.memory m.core.pc 4))
+
+-- it can be fetched, too: the next step makes a call
+abbrev pub makes_call : Parts → Bool
+makes_call m = nat_eq (m.core.pc % 4) 0 && is_none (refused m.memory m.core.pc 4 Fetch) && is_at_call m
 
 -- the next instruction is a call that reads the input
 pub record MakesRead (m : Parts) : Type 0 where

@@ -22,8 +22,8 @@ pub enum StepEnd {
 }
 
 /// How far steps that make no call came.
-#[derive(Clone, Copy)]
-pub(crate) enum Progress {
+#[derive(Clone, Copy, Debug, PartialEq, Eq)]
+pub enum Progress {
     /// They were done, and the machine goes on.
     GoesOn,
     /// The last one trapped, which ended the machine.
@@ -50,7 +50,7 @@ pub enum RunEnd {
 }
 
 /// The answer of a step that was done, by how the machine ended.
-pub(crate) fn step_end(ended: Option<Ended>) -> StepEnd
+pub fn step_end(ended: Option<Ended>) -> StepEnd
     ensures { result ≡ ends.step_end ended }
 {
     match ended {

@@ -18,5 +18,5 @@ mod stack;
 
 pub use arguments::are_arguments;
 pub use emu_model::{Ended, Length, Trap, TrapKind};
-pub use ends::{RunEnd, StepEnd};
+pub use ends::{Progress, RunEnd, StepEnd, step_end};
 pub use machine::Machine;

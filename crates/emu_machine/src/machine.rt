@@ -11,15 +11,16 @@ ghost use Rattle.emu_machine.specs.Accesses.{run_accesses};
 ghost use Rattle.emu_machine.specs.Advances.{Advances, EndsBy, MatchCall, left_by_effect, progress_by};
 ghost use Rattle.linux_calls.specs.Names.{NamesRead};
 ghost use Rattle.emu_machine.specs.Ends.{step_end, run_end, run_end_of, is_undone, is_unput, is_broken_off, Becomes, OfStep, TakesWithin, Puts, PutsAlways, IsKept};
-ghost use Rattle.emu_machine.specs.Machines.{has_ended, is_at_call, is_svc, MakesRead, MakesWrite};
+ghost use Rattle.emu_machine.specs.Machines.{has_ended, is_at_call, is_svc, makes_call, MakesRead, MakesWrite};
 
 use crate::ends::{Progress, RunEnd, StepEnd, run_end_of, step_end};
 use crate::saved::Saved;
 use a64_insn::A64;
 use core_regs::{Core, Effect};
+use decoded_words::DecodedWords;
 use emu_model::{Break, Ended, Kind, Trap, TrapKind};
 use guest_mem::{Access, AccessLog, Mem};
-use insn_decode::{decode_a64_word, decode_sve_word, may_be_sve};
+use insn_decode::{decode_a64_word, may_be_sve};
 use insn_exec::{perform_a64, perform_sve};
 use io_gate::{Sink, Source};
 use std::marker::Model;
@@ -33,6 +34,8 @@ pub struct Machine {
     pub(crate) vec: VecRegs,
     pub(crate) memory: Mem,
     pub(crate) log: AccessLog,
+    // no part of what contracts see: a step does the same whatever it has
+    pub(crate) words: DecodedWords,
     pub(crate) brk: Break,
     pub(crate) steps: u64,
     pub(crate) ended: Option<Ended>,
@@ -77,6 +80,7 @@ impl Machine {
             vec,
             memory,
             log: AccessLog::new(),
+            words: DecodedWords::new(),
             brk,
             steps: 0,
             ended: None,
@@ -193,6 +197,7 @@ impl Machine {
         ensures turn { MatchCall result ((input : List ℕ) → model.turn self.old.parts input ≡ call self.old.parts input) ((input : List ℕ) → model.turn self.old.parts input ≡ quiet self.new.parts input) }
         ensures kept { MatchCall result (self.new ≡ self.old) (self.new.failed ≡ false) }
         ensures svc { result ≡ Progress.AtCall → is_at_call self.old.parts ≡ true }
+        ensures alone { MatchCall result ⊤ (makes_call self.old.parts ≡ false) }
         ensures ended { EndsBy result self.new.parts }
         ensures counted { result ≡ Progress.GoesOn → self.new.parts.steps ≡ self.old.parts.steps + 1 }
         ensures accesses { self.new.accesses ≡ model.accesses self.old.parts }
@@ -224,6 +229,7 @@ impl Machine {
         ensures turn { MatchCall result ((input : List ℕ) → model.executed self.old.parts input (model.a64 (Some insn.now)) ≡ call self.old.parts input) ((input : List ℕ) → model.executed self.old.parts input (model.a64 (Some insn.now)) ≡ quiet self.new.parts input) }
         ensures kept { MatchCall result (self.new ≡ self.old) (self.new.failed ≡ false) }
         ensures svc { result ≡ Progress.AtCall → is_svc (model.a64 (Some insn.now)) ≡ true }
+        ensures alone { MatchCall result ⊤ (is_svc (model.a64 (Some insn.now)) ≡ false) }
         ensures ended { EndsBy result self.new.parts }
         ensures counted { result ≡ Progress.GoesOn → self.new.parts.steps ≡ self.old.parts.steps + 1 }
         ensures accesses { self.new.accesses ≡ model.executed_accesses self.old.parts (model.a64 (Some insn.now)) }
@@ -249,12 +255,13 @@ impl Machine {
         ensures turn { MatchCall result ((input : List ℕ) → model.executed self.old.parts input (model.decode word) ≡ call self.old.parts input) ((input : List ℕ) → model.executed self.old.parts input (model.decode word) ≡ quiet self.new.parts input) }
         ensures kept { MatchCall result (self.new ≡ self.old) (self.new.failed ≡ false) }
         ensures svc { result ≡ Progress.AtCall → is_svc (model.decode word) ≡ true }
+        ensures alone { MatchCall result ⊤ (is_svc (model.decode word) ≡ false) }
         ensures ended { EndsBy result self.new.parts }
         ensures counted { result ≡ Progress.GoesOn → self.new.parts.steps ≡ self.old.parts.steps + 1 }
         ensures accesses { self.new.accesses ≡ model.executed_accesses self.old.parts (model.decode word) }
         ensures saved { self.new.saved ≡ self.old.saved }
     {
-        match &decode_sve_word(word) {
+        match self.words.find(word) {
             None => {
                 let pc = self.core.pc();
                 self.trap(TrapKind::Undefined, pc)
@@ -316,7 +323,7 @@ impl Machine {
 
     /// Takes steps until the next one makes a call, `until` steps are counted in all, or one ends the machine.
     #[inline(never)]
-    fn advance(&mut self, until: u64) -> Progress
+    pub fn advance(&mut self, until: u64) -> Progress
         requires going { has_ended self.old ≡ false }
         requires within { self.old.parts.steps < until }
         ensures steps { Advances until self.old self.new result }

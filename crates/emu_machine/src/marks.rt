@@ -81,7 +81,7 @@ impl Machine {
         ensures failed { self.new.failed ≡ self.old.failed }
     {
         self.memory.pages_mut().mark(k);
-        self.saved[k as usize] = Saved::of(&self.core, &self.vec, self.brk, self.steps);
+        self.saved[k as usize].set(&self.core, &self.vec, self.brk, self.steps);
     }
 
     /// Makes mark `k` none.

@@ -43,6 +43,18 @@ impl Saved {
         }
     }
 
+    /// Becomes what a mark keeps of a machine with these, where it stands.
+    #[inline(always)]
+    pub(crate) fn set(&mut self, core: &Core, vec: &VecRegs, brk: Break, steps: u64)
+        requires { IsSoundBreak brk }
+        ensures { self.new ≡ record { core = core.now; vectors = vec.now; brk = brk; steps = steps } }
+    {
+        self.core = core.copy();
+        self.vec = vec.copy();
+        self.brk = brk;
+        self.steps = steps;
+    }
+
     /// What a mark keeps that is none: any registers of a vector length.
     pub(crate) fn unset(length: Length) -> Saved {
         let brk = Break {

@@ -1,7 +1,6 @@
 -- What a row does, where its page is known.
 use Rattle.std.proofs.Common.{◌≡◌, Bool, true, false, ◌||◌, ◌⊎◌, inl, inr, if◌then◌else◌, refl, ap}
 use Rattle.std.proofs.lemmas.Bool.{both_ways}
-use Rattle.a64_insn.specs.declared.form.A64Form.{A64Form}
 use Rattle.sve_insn.specs.declared.form.SveForm.{SveForm}
 use Rattle.emu_model.specs.Access.{Memory}
 use Rattle.emu_model.specs.Done.{leaves, went_on_with}
@@ -75,8 +74,10 @@ first_fault_own form e = ap (λ (p : Page). same_page FirstFaults p) e
 pub predicate_own : (form : SveForm) → page_of form ≡ Predicates → is_predicate form ≡ true
 predicate_own form e = ap (λ (p : Page). same_page Predicates p) e
 
-pub data_own : (form : SveForm) → (page_of form ≡ Lanes) ⊎ ((page_of form ≡ Permutes) ⊎ ((page_of form ≡ Counts) ⊎ (page_of form ≡ Folds))) → is_data form ≡ true
-data_own form (inl e) = ap (λ (p : Page). is_data_page p) e
-data_own form (inr (inl e)) = ap (λ (p : Page). is_data_page p) e
-data_own form (inr (inr (inl e))) = ap (λ (p : Page). is_data_page p) e
-data_own form (inr (inr (inr e))) = ap (λ (p : Page). is_data_page p) e
+pub lanes_own : (form : SveForm) → page_of form ≡ Lanes → is_data form ≡ true
+lanes_own form e = ap (λ (p : Page). is_data_page p) e
+
+pub across_own : (form : SveForm) → (page_of form ≡ Permutes) ⊎ ((page_of form ≡ Counts) ⊎ (page_of form ≡ Folds)) → is_data form ≡ true
+across_own form (inl e) = ap (λ (p : Page). is_data_page p) e
+across_own form (inr (inl e)) = ap (λ (p : Page). is_data_page p) e
+across_own form (inr (inr e)) = ap (λ (p : Page). is_data_page p) e

@@ -65,7 +65,7 @@ pub fn perform_a64(
 
 /// The same of an SVE instruction.
 #[inline(always)]
-#[tactic(auto, using(crate::proofs::OnPage::data_own, crate::proofs::OnPage::data_done, crate::proofs::OnPage::predicate_own, crate::proofs::OnPage::predicate_done, crate::proofs::OnPage::first_fault_own, crate::proofs::OnPage::first_fault_done))]
+#[tactic(auto, using(crate::proofs::OnPage::lanes_own, crate::proofs::OnPage::across_own, crate::proofs::OnPage::data_done, crate::proofs::OnPage::predicate_own, crate::proofs::OnPage::predicate_done, crate::proofs::OnPage::first_fault_own, crate::proofs::OnPage::first_fault_done))]
 pub fn perform_sve(
     core: &mut Core,
     vec: &mut VecRegs,
@@ -77,9 +77,9 @@ pub fn perform_sve(
     ensures { sve.performed insn.now core.old vec.old memory.old ≡ record { core = core.new; vectors = vec.new; memory = memory.new; accesses = log.new.items; effect = result } }
 {
     match sve_effects::page_of(insn.form()) {
-        Page::Lanes | Page::Permutes | Page::Counts | Page::Folds => {
-            sve_data::exec(core, vec, insn)
-        }
+        // apart, so that each chooses its crate by the page that is known here
+        Page::Lanes => sve_data::exec(core, vec, insn),
+        Page::Permutes | Page::Counts | Page::Folds => sve_data::exec(core, vec, insn),
         Page::Predicates => {
             // its effect is this one, so that none is read back
             sve_pred::exec(core, vec, insn);
@@ -93,8 +93,7 @@ pub fn perform_sve(
     }
 }
 
-/// Does a load of consecutive elements. The crates of loads and stores are handed a copy of the instruction, here and below,
-/// so that the form of the others needs no memory.
+/// Does a load of consecutive elements.
 #[inline(always)]
 #[tactic(auto, using(crate::proofs::OnPage::load_done, crate::proofs::OnPage::load_own))]
 fn load(
@@ -108,8 +107,7 @@ fn load(
     requires empty { log.old.items ≡ [] }
     ensures { sve.performed insn.now core.old vec.old memory.old ≡ record { core = core.new; vectors = vec.new; memory = memory.new; accesses = log.new.items; effect = result } }
 {
-    let insn = *insn;
-    sve_loads::load(core, vec, memory, log, &insn)
+    sve_loads::load(core, vec, memory, log, insn)
 }
 
 /// Does a store of consecutive elements.
@@ -126,8 +124,7 @@ fn store(
     requires empty { log.old.items ≡ [] }
     ensures { sve.performed insn.now core.old vec.old memory.old ≡ record { core = core.new; vectors = vec.new; memory = memory.new; accesses = log.new.items; effect = result } }
 {
-    let insn = *insn;
-    sve_loads::store(core, vec, memory, log, &insn)
+    sve_loads::store(core, vec, memory, log, insn)
 }
 
 /// Does a gather.
@@ -144,8 +141,7 @@ fn gather(
     requires empty { log.old.items ≡ [] }
     ensures { sve.performed insn.now core.old vec.old memory.old ≡ record { core = core.new; vectors = vec.new; memory = memory.new; accesses = log.new.items; effect = result } }
 {
-    let insn = *insn;
-    sve_gather::load(core, vec, memory, log, &insn)
+    sve_gather::load(core, vec, memory, log, insn)
 }
 
 /// Does a scatter.
@@ -162,8 +158,7 @@ fn scatter(
     requires empty { log.old.items ≡ [] }
     ensures { sve.performed insn.now core.old vec.old memory.old ≡ record { core = core.new; vectors = vec.new; memory = memory.new; accesses = log.new.items; effect = result } }
 {
-    let insn = *insn;
-    sve_gather::store(core, vec, memory, log, &insn)
+    sve_gather::store(core, vec, memory, log, insn)
 }
 
 /// Does a first-faulting or non-faulting load.
@@ -178,11 +173,10 @@ fn load_first_fault(
     requires empty { log.old.items ≡ [] }
     ensures { first_fault insn.now core.old vec.old memory.old ≡ record { core = core.new; vectors = vec.new; memory = memory.new; accesses = log.new.items; effect = result } }
 {
-    let insn = *insn;
-    if load_unrefused(core, vec, memory, log, &insn) {
+    if load_unrefused(core, vec, memory, log, insn) {
         return Effect::Next;
     }
-    load_listed(core, vec, memory, log, &insn)
+    load_listed(core, vec, memory, log, insn)
 }
 
 /// Does a first-faulting or non-faulting load at once, where FFR is all ones and it can be seen that no element is

@@ -1,19 +1,29 @@
-use Rattle.std.proofs.Common.{◌≡◌, ◌<◌, ◌+◌, ℕ, List, false, ap, sym, subst, ◌∙◌, arith}
+use Rattle.std.proofs.Common.{◌≡◌, ◌<◌, ◌+◌, ℕ, List, false, refl, ap, sym, subst, ◌∙◌, arith}
 use Rattle.emu_model.specs.declared.access.Access.{Access}
 use Rattle.emu_model.specs.State.{Parts}
 use Rattle.emu_system.specs.SystemCall.{call, quiet}
 use Rattle.emu_run.specs.Step.{accesses, turn}
 use Rattle.emu_machine.specs.Advances.{IsAhead}
-use Rattle.emu_machine.specs.Machines.{MachineState, has_ended, is_at_call}
-use Rattle.emu_machine.proofs.Advanced.{ahead_on}
+use Rattle.emu_machine.specs.Machines.{MachineState, has_ended, is_at_call, makes_call}
+use Rattle.emu_machine.proofs.Advanced.{ahead_on, ahead_start}
 use Rattle.emu_machine.proofs.Performed.{not_failed, still_goes}
+use Rattle.emu_machine.proofs.Runs.{goes}
 use Rattle.emu_machine.proofs.machine.Machine.advance.Goals as goal
+
+pub loop-self-init : goal.loop-self-init
+loop-self-init c = record {
+  going = c.requires.going;
+  within = let within = c.requires.within in omega arith;
+  saved = refl;
+  ahead = ahead_start c.args.self.now.parts c.args.self.now.accesses (goes c.args.self.now.parts.ended c.args.self.now.failed c.requires.going);
+}
 
 pub loop-self-preserved : goal.loop-self-preserved
 loop-self-preserved c =
     let p = c.loop-self.self.parts in
     let q = c.plain.new.self.parts in
     let turns : (input : List ℕ) → turn p input ≡ quiet q input = λ input. ap (λ (s : MachineState). turn s.parts input) (sym c.self.view_is) ∙ c.in-GoesOn.ensures.turn input in
+    let calls : makes_call p ≡ false = ap (λ (s : MachineState). makes_call s.parts) (sym c.self.view_is) ∙ c.in-GoesOn.ensures.alone in
     let counted : q.steps ≡ p.steps + 1 = c.plain.ensures.counted c.in-GoesOn.is ∙ ap (λ (s : MachineState). s.parts.steps + 1) c.self.view_is in
     let going : has_ended c.plain.new.self ≡ false = still_goes c.plain.new.self c.in-GoesOn.ensures.ended c.in-GoesOn.ensures.kept in
     let made : c.plain.new.self.accesses ≡ accesses p = c.plain.ensures.accesses ∙ ap (λ (s : MachineState). accesses s.parts) c.self.view_is in
@@ -24,7 +34,7 @@ loop-self-preserved c =
       within = omega (arith, counted, below);
       saved = c.plain.ensures.saved ∙ ap (λ (s : MachineState). s.saved) c.self.view_is ∙ c.loop-self.invariant.saved;
       ahead = subst (λ (log : List Access). IsAhead c.args.self.now.parts q c.args.self.now.accesses log) (sym made)
-          (ahead_on c.args.self.now.parts p q c.args.self.now.accesses c.loop-self.self.accesses c.loop-self.invariant.ahead turns counted c.in-GoesOn.ensures.ended);
+          (ahead_on c.args.self.now.parts p q c.args.self.now.accesses c.loop-self.self.accesses c.loop-self.invariant.ahead calls turns counted c.in-GoesOn.ensures.ended);
     }
 
 pub returns-in-AtCall-clause-steps : goal.returns-in-AtCall-clause-steps
@@ -59,6 +69,7 @@ returns-in-Trapped-clause-steps c =
       log = c.loop-self.self.accesses;
       ahead = c.loop-self.invariant.ahead;
       below = omega (arith, steps);
+      alone = ap (λ (s : MachineState). makes_call s.parts) (sym c.self.view_is) ∙ c.in-Trapped.ensures.alone;
       turns = λ input. ap (λ (s : MachineState). turn s.parts input) (sym c.self.view_is) ∙ c.in-Trapped.ensures.turn input;
       accesses = c.plain.ensures.accesses ∙ ap (λ (s : MachineState). accesses s.parts) c.self.view_is;
       ended = c.in-Trapped.ensures.ended;

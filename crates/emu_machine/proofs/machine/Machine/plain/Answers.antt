@@ -7,8 +7,8 @@ use Rattle.emu_model.specs.State.{Core, Parts, Vectors}
 use Rattle.emu_run.specs.declared.insn.Insn.{Insn}
 use Rattle.emu_run.specs.declared.insn.Insn.TheVariants.{A64}
 use Rattle.emu_run.specs.Step.{a64, decode, executed, executed_accesses}
-use Rattle.emu_machine.specs.Machines.{MachineState, is_svc}
-use Rattle.emu_machine.proofs.Turns.{HasFetched, turn_executes, accesses_of_word, call_of_word, executed_as}
+use Rattle.emu_machine.specs.Machines.{MachineState, is_svc, makes_call}
+use Rattle.emu_machine.proofs.Turns.{HasFetched, turn_executes, accesses_of_word, call_of_word, executed_as, alone_as, makes_of_word}
 use Rattle.emu_machine.proofs.machine.Machine.plain.Goals.{After-vector, After-scalar}
 use Rattle.emu_machine.proofs.machine.Machine.plain.Goals as goal
 
@@ -78,3 +78,13 @@ returns-in-Some-clause-accesses c =
 
 pub returns-in-Some-clause-svc : goal.returns-in-Some-clause-svc
 returns-in-Some-clause-svc c = λ h. sym (call_of_word c.args.self.now.parts c.in-Ok.word (fetched_e c)) ∙ ap is_svc (sym (insn_is c)) ∙ c.scalar.ensures.svc h
+
+-- ---- whether it makes a call
+
+pub returns-then-may_be_sve-clause-alone : goal.returns-then-may_be_sve-clause-alone
+returns-then-may_be_sve-clause-alone c =
+    alone_as c.vector.result (is_svc (decode c.in-Ok.word)) (makes_call c.args.self.now.parts) (makes_of_word c.args.self.now.parts c.in-Ok.word (fetched_v c)) c.vector.ensures.alone
+
+pub returns-in-Some-clause-alone : goal.returns-in-Some-clause-alone
+returns-in-Some-clause-alone c =
+    alone_as c.scalar.result (is_svc (Some (A64 c.in-Some.insn))) (makes_call c.args.self.now.parts) (ap is_svc (insn_is c) ∙ makes_of_word c.args.self.now.parts c.in-Ok.word (fetched_e c)) c.scalar.ensures.alone

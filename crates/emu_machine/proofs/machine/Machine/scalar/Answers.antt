@@ -18,6 +18,7 @@ returns c =
       turn = d.turn;
       kept = d.kept;
       svc = d.svc;
+      alone = d.alone;
       ended = d.ended;
       counted = d.counted;
       accesses = d.accesses;

@@ -1,19 +1,19 @@
-use Rattle.std.proofs.Common.{◌≡◌, Some, Option, ap, sym, ◌∙◌, subst}
+use Rattle.std.proofs.Common.{◌≡◌, Some, Option, subst}
 use Rattle.emu_run.specs.declared.insn.Insn.{Insn}
 use Rattle.emu_run.specs.declared.insn.Insn.TheVariants.{Sve}
-use Rattle.emu_run.specs.Step.{sve, decode}
+use Rattle.emu_run.specs.Step.{decode}
 use Rattle.emu_machine.proofs.Left.{HasDone, done_by}
 use Rattle.emu_machine.proofs.machine.Machine.vector.Goals.{After-leave_insn}
 use Rattle.emu_machine.proofs.machine.Machine.vector.Goals as goal
 
 done : (c : After-leave_insn) → HasDone (decode c.args.word) c.args.self.now c.leave_insn.new.self c.leave_insn.result
 done c =
-    let i = c.self-in-Some.inside in
+    let i = c.self.inside in
     let n = c.perform_sve-effect.new in
-    let is : Some (Sve c.in-Some.insn) ≡ decode c.args.word = ap sve (sym c.in-Some.is) ∙ c.decode_sve_word.ensures.table in
+    let is : Some (Sve c.in-Some.insn.now) ≡ decode c.args.word = c.in-Some.ensures in
     subst (λ (o : Option Insn). HasDone o c.args.self.now c.leave_insn.new.self c.leave_insn.result) is
-    (done_by (Sve c.in-Some.insn) i.core n.core i.vec n.vec i.memory n.memory i.brk i.steps i.ended i.log.items n.log.items i.failed i.saved.items c.perform_sve-effect.result c.leave_insn.result c.args.self.now c.leave_insn.new.self
-    c.self-in-Some.view_is c.requires.clear c.requires.going c.perform_sve-effect.ensures c.leave_insn.ensures.progress c.leave_insn.ensures.parts c.leave_insn.ensures.accesses c.leave_insn.ensures.failed c.leave_insn.ensures.saved)
+    (done_by (Sve c.in-Some.insn.now) i.core n.core i.vec n.vec i.memory n.memory i.brk i.steps i.ended i.log.items n.log.items i.failed i.saved.items c.perform_sve-effect.result c.leave_insn.result c.args.self.now c.leave_insn.new.self
+    c.self.view_is c.requires.clear c.requires.going c.perform_sve-effect.ensures c.leave_insn.ensures.progress c.leave_insn.ensures.parts c.leave_insn.ensures.accesses c.leave_insn.ensures.failed c.leave_insn.ensures.saved)
 
 pub returns-in-Some : goal.returns-in-Some
 returns-in-Some c =
@@ -22,6 +22,7 @@ returns-in-Some c =
       turn = d.turn;
       kept = d.kept;
       svc = d.svc;
+      alone = d.alone;
       ended = d.ended;
       counted = d.counted;
       accesses = d.accesses;
