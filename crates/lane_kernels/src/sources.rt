@@ -35,8 +35,19 @@ impl<T: Quad<W>, const W: usize> Chunks<T, W> for LaneOf {
     fn chunk(&self, vec: &VecRegs, i: u32) -> [T; W] {
         let _length = vec.length();
         let words = vec.z_words(self.r);
-        lanes_of(words[2 * i as usize], words[2 * i as usize + 1])
+        let pair = pair_of(words, i);
+        lanes_of(pair[0], pair[1])
     }
+}
+
+/// The two words of part i of a register, its 128 bits from 128 * i on, by one load of both.
+#[inline(always)]
+fn pair_of(words: &[u64; 32], i: u32) -> [u64; 2]
+    requires { i < 16 }
+    ensures low { get_or result 0 0 ≡ get_or words.now (2 * i) 0 }
+    ensures high { get_or result 1 0 ≡ get_or words.now (2 * i + 1) 0 }
+{
+    Simd::<u64, 2>::from_slice(&words[2 * i as usize..]).to_array()
 }
 
 /// The lanes of two words, the first the lower.

@@ -203,6 +203,7 @@ fn words_told<T: Quad<W>, L: ToldChunks<T, W>, const W: usize>(vec: &VecRegs, la
 
 /// The words of a predicate whose lanes of e bits are told, of 8, 16, 32 or 64 bits: the lowest bit of a lane's field is 1 where
 /// told, and all others are 0.
+#[inline(always)]
 pub fn told<L: ToldChunks<u8, 16> + ToldChunks<u16, 8> + ToldChunks<u32, 4> + ToldChunks<u64, 2>>(
     vec: &VecRegs,
     e: u32,

@@ -50,6 +50,29 @@ module _ {T : Type 0} (f : T → ℕ) where
       ∙ ap (λ (xs : List ℕ). get_or xs k 0) (mapped_run a b from count (n - count))
       ∙ run_lane (map f a) (map f b) from count (n - count) (nat_lt k count) k refl inside within
 
+  -- as many lanes of two sources one after the other as each has
+  pub window_is : (a b above out : List T) (from n : ℕ) → length a ≡ n → length b ≡ n → from ≤ n → out ≡ take n (drop from (a ++ (b ++ above)))
+      → (k : ℕ) → k < n → number_at f out k ≡ taken (number_at f a) (number_at f b) 0 0 (joined n (from + k))
+  window_is a b above out from n count_a count_b room is k h =
+      let all : map f (a ++ (b ++ above)) ≡ map f a ++ (map f b ++ map f above)
+      = map-append f a (b ++ above) ∙ ap (λ (x : List ℕ). map f a ++ x) (map-append f b above) in
+      ap (λ (xs : List T). number_at f xs k) is
+      ∙ ap (λ (xs : List ℕ). get_or xs k 0) (sym (ap (λ (x : List ℕ). take n x) (drop-map f from (a ++ (b ++ above))) ∙ take-map f n (drop from (a ++ (b ++ above)))))
+      ∙ get_or-take n (drop from (map f (a ++ (b ++ above)))) k 0 h ∙ get_or-drop from (map f (a ++ (b ++ above))) k 0
+      ∙ ap (λ (xs : List ℕ). get_or xs (from + k) 0) all
+      ∙ by_test (nat_lt (from + k) n) refl where
+        by_test : (t : Bool) → nat_lt (from + k) n ≡ t
+            → get_or (map f a ++ (map f b ++ map f above)) (from + k) 0 ≡ taken (number_at f a) (number_at f b) 0 0 (if t then FirstLane (from + k) else SecondLane (from + k - n))
+        by_test true e =
+            let below : from + k < n = grind (arith, nat_tests) in
+            let there : from + k < length (map f a) = omega (arith, length-map a f) in
+            get_or-append (map f a) (map f b ++ map f above) 0 (from + k) there
+        by_test false e =
+            let least : n ≤ from + k = grind (arith, nat_tests) in
+            let long : length (map f a) ≡ n = omega (arith, length-map a f) in
+            let there : from + k - n < length (map f b) = omega (arith, length-map b f) in
+            get_or-append_right (map f a) (map f b ++ map f above) n (from + k) 0 long least ∙ get_or-append (map f b) (map f above) 0 (from + k - n) there
+
   pub one_written : (xs : List T) (low : T) → length xs ≡ 1 → set xs 0 low ≡ low ∷ []
   one_written [] low h = absurd (omega arith)
   one_written (x ∷ []) low h = refl

@@ -18,7 +18,7 @@ pub use by_active::{compact, last, splice};
 pub use by_number::{chosen, tbl, widen};
 use lane_pack::Lane;
 pub use pairs::{trn, uzp, zip};
-pub use runs::{ext, insr, spliced};
+pub use runs::{ext, insr, spliced, window};
 
 /// The lanes in reverse order (rev).
 #[inline(always)]

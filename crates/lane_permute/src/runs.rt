@@ -1,6 +1,6 @@
 //! Permutes that keep runs of lanes together.
-ghost use Rattle.std.specs.Prelude.{◌≡◌, ◌≤◌, ◌+◌, length};
-ghost use Rattle.sve_effects.specs.Permute.{ext_place, insr_place};
+ghost use Rattle.std.specs.Prelude.{◌≡◌, ◌<◌, ◌≤◌, ◌+◌, ℕ, length};
+ghost use Rattle.sve_effects.specs.Permute.{taken, joined, ext_place, insr_place};
 ghost use Rattle.sve_effects.specs.Permute as model;
 ghost use Rattle.lane_permute.specs.Slices.{IsPermuted, number_at};
 
@@ -31,6 +31,25 @@ pub fn spliced<T: Lane>(a: &[T], b: &[T], from: usize, count: usize, out: &mut [
     let (front, back) = out.split_at_mut(count);
     front.copy_from_slice(&a[from..from + count]);
     back.copy_from_slice(&b[..n - count]);
+}
+
+/// The lanes from lane `from` on of both sources one after the other: as many as each has, which are at most 16.
+#[inline(always)]
+pub fn window<T: Lane, const W: usize>(a: &[T; W], b: &[T; W], from: usize) -> [T; W]
+    requires few { W ≤ 16 }
+    requires within { from ≤ W }
+    ensures { (k : ℕ) → k < W → number_at T.number result k
+        ≡ taken (number_at T.number a.now) (number_at T.number b.now) 0 0 (joined W (from + k)) }
+{
+    let mut both = [T::from_u64(0); 32];
+    let (first, rest) = both.split_at_mut(W);
+    let (second, _above) = rest.split_at_mut(W);
+    first.copy_from_slice(a);
+    second.copy_from_slice(b);
+    let all = &both[..];
+    let mut out = *a;
+    out.copy_from_slice(&all[from..from + W]);
+    out
 }
 
 /// Lanes move up by one, and lane 0 is `low` (insr).

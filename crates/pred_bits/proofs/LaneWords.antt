@@ -1,5 +1,5 @@
 -- Lanes by the lowest bits of their fields.
-use Rattle.std.proofs.Common.{◌≡◌, ◌<◌, ◌≤◌, ◌+◌, ◌-◌, ◌*◌, ◌/◌, ◌%◌, ℕ, suc, Bool, true, false, not, ◌&&◌, nat_eq, nat_lt, if◌then◌else◌, Option, Some, None, IfSome, List, get_or, inl, inr, refl, sym, ap, ap₂, ◌∙◌, arith}
+use Rattle.std.proofs.Common.{◌≡◌, ◌<◌, ◌≤◌, ◌+◌, ◌-◌, ◌*◌, ◌/◌, ◌%◌, ℕ, suc, Bool, true, false, not, ◌&&◌, nat_eq, nat_lt, if◌then◌else◌, Option, Some, None, IfSome, List, get_or, is_none, inl, inr, refl, sym, ap, ap₂, ◌∙◌, arith}
 use Rattle.std.proofs.Math.Nat.{mul-le-mul_right, mul-mod_left, mod-lt}
 use Rattle.std.proofs.lemmas.Bool.{cases_lt, cases_eq, lt-ltb, le-ltb, and_parts, both_ways}
 use Rattle.std.proofs.lemmas.Bool.Decides.{nat_tests}
@@ -7,12 +7,15 @@ use Rattle.std.proofs.lemmas.Nat.{div-add-mod', div-mul-add}
 use Rattle.vec_model.proofs.FieldBits.{at_start, between}
 use Rattle.vec_model.specs.Lanes.{field_bit}
 use Rattle.vec_regs.specs.Words.{bit_of, AreClearFrom}
-use Rattle.sve_effects.specs.FirstLast.{IsFirstWhere, IsLastWhere}
+use Rattle.emu_bits.specs.declared.flags.Flags.{Flags}
+use Rattle.sve_effects.proofs.Found.{first_found, first_is, first_same, last_found, last_is, last_same}
+use Rattle.sve_effects.specs.FirstLast.{first_where, last_where, answer_at, IsFirstWhere, IsLastWhere}
+use Rattle.sve_effects.specs.Predicate.{test_flags}
 use Rattle.pred_bits.specs.LaneBits.{among, lane_at}
 
 -- ---- truth values
 
-and_true : (x : Bool) → (x && true) ≡ x
+pub and_true : (x : Bool) → (x && true) ≡ x
 and_true true = refl
 and_true false = refl
 
@@ -20,24 +23,14 @@ and_false : (x : Bool) → (x && false) ≡ false
 and_false true = refl
 and_false false = refl
 
-turned : (x y : Bool) → (x && y) ≡ (y && x)
-turned true true = refl
-turned true false = refl
-turned false true = refl
-turned false false = refl
-
 pub twice : (x : Bool) → (x && x) ≡ x
 twice true = refl
 twice false = refl
 
-pub twice_or_all : (x : Bool) → (x && x) ≡ (x && true)
-twice_or_all true = refl
-twice_or_all false = refl
-
 -- ---- words whose bits are the lowest of lanes' fields
 
 -- a place with no lane's field beginning has no bit
-not_start : (r : ℕ) → 0 < r → nat_eq r 0 ≡ false
+pub not_start : (r : ℕ) → 0 < r → nat_eq r 0 ≡ false
 not_start r h = grind (arith, nat_tests)
 
 one_less : (k n w : ℕ) → k < n → 0 < w → k * w < n * w
@@ -84,7 +77,13 @@ module _ (w n : ℕ) (test bits : ℕ → Bool) (some : 0 < w) (room : n * w ≤
     | inr other ↦ let off : 0 < b % w = omega arith in absurd (both_ways (bits b) (shows b ∙ between w b (among n test) off) on)
   ]
 
-  is_lane : (b : ℕ) → bits b ≡ true → (b / w < n) × (test (b / w) ≡ true)
+  pub starts_lane : (b : ℕ) → bits b ≡ true → b % w ≡ 0
+  starts_lane b on = elim (cases_eq (b % w) 0) [
+    | inl start ↦ start
+    | inr other ↦ let off : 0 < b % w = omega arith in absurd (both_ways (bits b) (shows b ∙ between w b (among n test) off) on)
+  ]
+
+  pub is_lane : (b : ℕ) → bits b ≡ true → (b / w < n) × (test (b / w) ≡ true)
   is_lane b on =
       let both : (nat_lt (b / w) n ≡ true) × (test (b / w) ≡ true) = and_parts (nat_lt (b / w) n) (test (b / w)) (start_of b on) in
       elim (cases_lt (b / w) n) [
@@ -132,6 +131,77 @@ pub last_within : (n : ℕ) (test : ℕ → Bool) (lane : Option ℕ) → IsLast
 last_within n test None h = tt
 last_within n test (Some k) h = h.within
 
+-- ---- the predicate test
+
+none_at : (w : ℕ) (place : Option ℕ) → is_none (lane_at w place) ≡ is_none place
+none_at w None = refl
+none_at w (Some p) = refl
+
+-- the words of the active lanes
+module _ (w n : ℕ) (g on : ℕ → Bool) (some : 0 < w) (room : n * w ≤ 256) (on_shows : (b : ℕ) → on b ≡ field_bit w (among n (λ k. g k && g k)) b) where
+  first_lane_is : lane_at w (first_where 256 on) ≡ first_where n g
+  first_lane_is =
+      sym (first_is n (λ k. g k && g k) (lane_at w (first_where 256 on)) (first_of_words w n (λ k. g k && g k) on some room on_shows (first_where 256 on) (first_found 256 on)))
+      ∙ first_same n (λ k. g k && g k) g (λ k q. twice (g k))
+
+  pub last_lane_is : lane_at w (last_where 256 on) ≡ last_where n g
+  last_lane_is =
+      sym (last_is n (λ k. g k && g k) (lane_at w (last_where 256 on)) (last_of_words w n (λ k. g k && g k) on some room on_shows (last_where 256 on) (last_found 256 on)))
+      ∙ last_same n (λ k. g k && g k) g (λ k q. twice (g k))
+
+-- the words of those that are set too, made of the words of the active ones
+pub set_among : (w n : ℕ) (g a on at set : ℕ → Bool) → 0 < w → ((b : ℕ) → on b ≡ field_bit w (among n (λ k. g k && g k)) b) → ((k : ℕ) → k < n → at (k * w) ≡ a k) → ((b : ℕ) → set b ≡ (on b && at b))
+    → (b : ℕ) → set b ≡ field_bit w (among n (λ k. g k && a k)) b
+set_among w n g a on at set some shows reads made = lanes_shown w n (λ k. g k && a k) set off here past where
+  off : (b : ℕ) → 0 < b % w → set b ≡ false
+  off b h = made b ∙ ap (λ t. t && at b) (shows b ∙ between w b (among n (λ k. g k && g k)) h)
+
+  is_on : (k : ℕ) → on (k * w) ≡ (nat_lt k n && (g k && g k))
+  is_on k = shows (k * w) ∙ at_start k w (among n (λ k. g k && g k)) some
+
+  here : (k : ℕ) → k < n → set (k * w) ≡ (g k && a k)
+  here k h = made (k * w) ∙ ap₂ (λ x y. x && y) (is_on k ∙ ap (λ t. t && (g k && g k)) (lt-ltb k n h) ∙ twice (g k)) (reads k h)
+
+  past : (k : ℕ) → n ≤ k → set (k * w) ≡ false
+  past k h = made (k * w) ∙ ap (λ t. t && at (k * w)) (is_on k ∙ ap (λ t. t && (g k && g k)) (le-ltb k n h))
+
+-- the words of the active lanes, and of those that are set too
+module _ (w n : ℕ) (g a on set : ℕ → Bool) (some : 0 < w) (room : n * w ≤ 256)
+    (on_shows : (b : ℕ) → on b ≡ field_bit w (among n (λ k. g k && g k)) b) (set_shows : (b : ℕ) → set b ≡ field_bit w (among n (λ k. g k && a k)) b) where
+  set_at : (p : ℕ) → on p ≡ true → set p ≡ a (p / w)
+  set_at p h =
+      let is : (p / w < n) × ((g (p / w) && g (p / w)) ≡ true) = is_lane w n (λ k. g k && g k) on some room on_shows p h in
+      let active : (g (p / w) ≡ true) × (g (p / w) ≡ true) = and_parts (g (p / w)) (g (p / w)) is.1 in
+      set_shows p ∙ ap (λ x. if nat_eq x 0 then among n (λ k. g k && a k) (p / w) else false) (starts_lane w n (λ k. g k && g k) on some room on_shows p h)
+      ∙ ap (λ t. t && (g (p / w) && a (p / w))) (lt-ltb (p / w) n is.0) ∙ ap (λ t. t && a (p / w)) active.0
+
+  at_first : (place : Option ℕ) → IsFirstWhere 256 on place → answer_at place set ≡ answer_at (lane_at w place) a
+  at_first None h = refl
+  at_first (Some p) h = set_at p h.meets
+
+  at_last : (place : Option ℕ) → IsLastWhere 256 on place → answer_at place set ≡ answer_at (lane_at w place) a
+  at_last None h = refl
+  at_last (Some p) h = set_at p h.meets
+
+  first_answer : answer_at (first_where 256 on) set ≡ answer_at (first_where n g) a
+  first_answer = at_first (first_where 256 on) (first_found 256 on) ∙ ap (λ (o : Option ℕ). answer_at o a) (first_lane_is w n g on some room on_shows)
+
+  pub last_answer : answer_at (last_where 256 on) set ≡ answer_at (last_where n g) a
+  last_answer = at_last (last_where 256 on) (last_found 256 on) ∙ ap (λ (o : Option ℕ). answer_at o a) (last_lane_is w n g on some room on_shows)
+
+  none_set : is_none (first_where 256 set) ≡ is_none (first_where n (λ k. g k && a k))
+  none_set =
+      sym (none_at w (first_where 256 set))
+      ∙ ap (λ (o : Option ℕ). is_none o)
+      (sym (first_is n (λ k. g k && a k) (lane_at w (first_where 256 set)) (first_of_words w n (λ k. g k && a k) set some room set_shows (first_where 256 set) (first_found 256 set))))
+
+  pub tested : (x y z : Bool) → x ≡ answer_at (first_where 256 on) set → y ≡ is_none (first_where 256 set) → z ≡ answer_at (last_where 256 on) set
+      → (let f : Flags = record { n = x; z = y; c = not z; v = false } in f) ≡ test_flags n g a
+  tested x y z is_x is_y is_z =
+      let flags : Bool → Bool → Bool → Flags = λ x y z. record { n = x; z = y; c = not z; v = false } in
+      ap (λ x. flags x y z) (is_x ∙ first_answer) ∙ ap (λ y. flags (answer_at (first_where n g) a) y z) (is_y ∙ none_set)
+      ∙ ap (λ z. flags (answer_at (first_where n g) a) (is_none (first_where n (λ k. g k && a k))) z) (is_z ∙ last_answer)
+
 -- ---- words of both
 
 module _ (w m : ℕ) (gs ks set : List ℕ) (g a : List Bool) (some : 0 < w)
@@ -178,30 +248,3 @@ module _ (w m : ℕ) (gs ks set : List ℕ) (g a : List Bool) (some : 0 < w)
     past k h =
         let most : end ≤ k * w = omega (arith, not_less (m / w) k w h, div-add-mod' m w) in
         at k ∙ ap (λ t. bit_of set (k * w) && t) (le-ltb (k * w) end most) ∙ and_false (bit_of set (k * w))
-
--- ---- lanes behind one
-
-pub behind_lanes : (w n k : ℕ) (test bits kept : ℕ → Bool) → 0 < w → ((b : ℕ) → bits b ≡ field_bit w (among n test) b) → ((b : ℕ) → kept b ≡ (not (nat_lt b ((k + 1) * w)) && bits b))
-    → (b : ℕ) → kept b ≡ field_bit w (among n (λ j. test j && nat_lt k j)) b
-behind_lanes w n k test bits kept some shows is = lanes_shown w n (λ j. test j && nat_lt k j) kept off on past where
-  off : (b : ℕ) → 0 < b % w → kept b ≡ false
-  off b h = is b ∙ ap (λ t. not (nat_lt b ((k + 1) * w)) && t) (shows b ∙ between w b (among n test) h) ∙ and_false (not (nat_lt b ((k + 1) * w)))
-
-  order : (j : ℕ) → not (nat_lt (j * w) ((k + 1) * w)) ≡ nat_lt k j
-  order j = elim (cases_lt k j) [
-    | inl h ↦
-        let most : (k + 1) * w ≤ j * w = not_less (k + 1) j w (omega arith) in
-        ap not (le-ltb (j * w) ((k + 1) * w) most) ∙ sym (lt-ltb k j h)
-    | inr h ↦
-        let less : j * w < (k + 1) * w = one_less j (k + 1) w (omega arith) some in
-        ap not (lt-ltb (j * w) ((k + 1) * w) less) ∙ sym (le-ltb k j h)
-  ]
-
-  at : (j : ℕ) → kept (j * w) ≡ (nat_lt k j && (nat_lt j n && test j))
-  at j = is (j * w) ∙ ap₂ (λ x y. x && y) (order j) (shows (j * w) ∙ at_start j w (among n test) some)
-
-  on : (j : ℕ) → j < n → kept (j * w) ≡ (test j && nat_lt k j)
-  on j h = at j ∙ ap (λ t. nat_lt k j && (t && test j)) (lt-ltb j n h) ∙ turned (nat_lt k j) (test j)
-
-  past : (j : ℕ) → n ≤ j → kept (j * w) ≡ false
-  past j h = at j ∙ ap (λ t. nat_lt k j && (t && test j)) (le-ltb j n h) ∙ and_false (nat_lt k j)

@@ -7,6 +7,7 @@ pub mod LaneWords
 pub mod LogicWords
 pub mod Loops
 pub mod Made
+pub mod NextLane
 pub mod Places
 pub mod Powers
 pub mod Views

@@ -1,7 +1,8 @@
 -- Words with the bits below a number, and with the bits at which fields begin.
-use Rattle.std.proofs.Common.{◌≡◌, ◌<◌, ◌≤◌, ◌+◌, ◌-◌, ◌*◌, ◌/◌, ◌%◌, ◌^◌, ℕ, Bool, true, false, not, ◌&&◌, nat_eq, nat_lt, bit_and, w64, inl, inr, refl, sym, ap, ◌∙◌, arith}
+use Rattle.std.proofs.Common.{◌≡◌, ◌≢◌, ◌<◌, ◌≤◌, ◌+◌, ◌-◌, ◌*◌, ◌/◌, ◌%◌, ◌^◌, ℕ, zero, suc, Bool, true, false, not, ◌&&◌, if◌then◌else◌, nat_eq, nat_lt, List, get_or, bit_and, w64, inl, inr, refl, sym, ap, ◌∙◌, arith}
 use Rattle.std.specs.Int.{bit_at, bit_not}
-use Rattle.std.proofs.lemmas.Bool.{cases_lt, lt-ltb, le-ltb}
+use Rattle.std.proofs.lemmas.Bool.{cases_lt, cases_eq, lt-ltb, le-ltb}
+use Rattle.std.proofs.lemmas.Bool.Decides.{nat_tests}
 use Rattle.std.proofs.lemmas.Nat.Bits.{bit_at_ones, bit_at_ones_above, bit_at-zero}
 use Rattle.emu_bits.specs.Flags.{size_of}
 use Rattle.emu_bits.specs.declared.flags.Esize.{Esize}
@@ -18,21 +19,11 @@ ones_bit m s = elim (cases_lt s m) [
   | inr h ↦ ap (λ x. nat_eq x 1) (bit_at_ones_above m s h) ∙ sym (le-ltb s m h)
 ]
 
-pub whole_word : (n i s : ℕ) → i < n / 64 → s < 64 → nat_eq (bit_at 18446744073709551615 s) 1 ≡ nat_lt (64 * i + s) n
-whole_word n i s q h =
-    let inside : 64 * i + s < n = omega arith in
-    ap (λ x. nat_eq x 1) (bit_at_ones 64 s h) ∙ sym (lt-ltb (64 * i + s) n inside)
-
 pub part_word : (n i s p : ℕ) → i ≡ n / 64 → p ≡ 2 ^ (n % 64) → s < 64 → nat_eq (bit_at (p - 1) s) 1 ≡ nat_lt (64 * i + s) n
 part_word n i s p q e h = ap (λ x. nat_eq (bit_at (x - 1) s) 1) e ∙ ones_bit (n % 64) s ∙ elim (cases_lt s (n % 64)) [
   | inl less ↦ lt-ltb s (n % 64) less ∙ sym (lt-ltb (64 * i + s) n (omega arith))
   | inr most ↦ le-ltb s (n % 64) most ∙ sym (le-ltb (64 * i + s) n (omega arith))
 ]
-
-pub no_word : (n i s : ℕ) → n / 64 < i → nat_eq (bit_at 0 s) 1 ≡ nat_lt (64 * i + s) n
-no_word n i s q =
-    let outside : n ≤ 64 * i + s = omega arith in
-    ap (λ x. nat_eq x 1) (bit_at-zero s) ∙ sym (le-ltb (64 * i + s) n outside)
 
 -- ---- the bits at which fields begin
 
@@ -79,7 +70,82 @@ pub start_and : (e : Esize) (starts i s x : ℕ) (t : Bool) → nat_eq (bit_at s
 start_and e starts i s x t begin is =
     and_bit starts x s ∙ ap (λ b. b && nat_eq (bit_at x s) 1) (begin ∙ start_again e i s) ∙ ap (λ b. nat_eq ((64 * i + s) % (size_of e / 8)) 0 && b) is
 
-pub not_below_and : (low x s : ℕ) (t u : Bool) → low < 2 ^ 64 → s < 64 → nat_eq (bit_at low s) 1 ≡ t → nat_eq (bit_at x s) 1 ≡ u
-    → nat_eq (bit_at (bit_and (bit_not w64 low) x) s) 1 ≡ (not t && u)
-not_below_and low x s t u small h is same =
-    and_bit (bit_not w64 low) x s ∙ ap (λ b. b && nat_eq (bit_at x s) 1) (not_bit low s small h ∙ ap not is) ∙ ap (λ b. not t && b) same
+-- ---- the words below a number
+
+pub each_of_four : (P : ℕ → Type 0) → P 0 → P 1 → P 2 → P 3 → (i : ℕ) → i < 4 → P i
+each_of_four P a b c d zero h = a
+each_of_four P a b c d (suc zero) h = b
+each_of_four P a b c d (suc (suc zero)) h = c
+each_of_four P a b c d (suc (suc (suc zero))) h = d
+each_of_four P a b c d (suc (suc (suc (suc i)))) h = absurd (omega arith)
+
+kept : (t u : Bool) → u ≡ true → t ≡ (t && u)
+kept true u e = sym e
+kept false u e = refl
+
+dropped : (t u : Bool) → u ≡ false → false ≡ (t && u)
+dropped true u e = sym e
+dropped false u e = refl
+
+pub is_equal : (j k : ℕ) → j ≡ k → nat_eq j k ≡ true
+is_equal j k e = grind (arith, nat_tests)
+
+pub is_other : (j k : ℕ) → j ≢ k → nat_eq j k ≡ false
+is_other j k e = grind (arith, nat_tests)
+
+-- whole words, then a part of one, and zeros behind
+pub run_bit : (e : Esize) (starts p n : ℕ) (words : List ℕ) → ((s : ℕ) → s < 64 → nat_eq (bit_at starts s) 1 ≡ nat_eq (s % (size_of e / 8)) 0) → p ≡ 2 ^ (n % 64)
+    → ((i : ℕ) → i < 4 → get_or words i 0 ≡ (if nat_lt i (n / 64) then starts else if nat_eq i (n / 64) then bit_and starts (p - 1) else 0))
+    → (j s : ℕ) → j < 4 → s < 64 → nat_eq (bit_at (get_or words j 0) s) 1 ≡ (nat_eq ((64 * j + s) % (size_of e / 8)) 0 && nat_lt (64 * j + s) n)
+run_bit e starts p n words begin is made j s q h = ap (λ x. nat_eq (bit_at x s) 1) (made j q) ∙ elim (cases_lt j (n / 64)) [
+  | inl less ↦
+      let inside : 64 * j + s < n = omega arith in
+      ap (λ t. nat_eq (bit_at (if t then starts else if nat_eq j (n / 64) then bit_and starts (p - 1) else 0) s) 1) (lt-ltb j (n / 64) less)
+      ∙ begin s h ∙ start_again e j s ∙ kept (nat_eq ((64 * j + s) % (size_of e / 8)) 0) (nat_lt (64 * j + s) n) (lt-ltb (64 * j + s) n inside)
+  | inr most ↦
+      ap (λ t. nat_eq (bit_at (if t then starts else if nat_eq j (n / 64) then bit_and starts (p - 1) else 0) s) 1) (le-ltb j (n / 64) most)
+      ∙ elim (cases_eq j (n / 64)) [
+        | inl same ↦
+            ap (λ t. nat_eq (bit_at (if t then bit_and starts (p - 1) else 0) s) 1) (is_equal j (n / 64) same)
+            ∙ start_and e starts j s (p - 1) (nat_lt (64 * j + s) n) (begin s h) (part_word n j s p same is h)
+        | inr other ↦
+            let outside : n ≤ 64 * j + s = omega arith in
+            ap (λ t. nat_eq (bit_at (if t then bit_and starts (p - 1) else 0) s) 1) (is_other j (n / 64) other)
+            ∙ ap (λ x. nat_eq x 1) (bit_at-zero s) ∙ dropped (nat_eq ((64 * j + s) % (size_of e / 8)) 0) (nat_lt (64 * j + s) n) (le-ltb (64 * j + s) n outside)
+      ]
+]
+
+-- ---- the bits behind a place
+
+behind_spot : (p i s : ℕ) → i ≡ p / 64 → s < 64 → not (nat_lt s (p % 64 + 1)) ≡ nat_lt p (64 * i + s)
+behind_spot p i s at h = elim (cases_lt s (p % 64 + 1)) [
+  | inl less ↦ let upto : 64 * i + s ≤ p = omega arith in ap not (lt-ltb s (p % 64 + 1) less) ∙ sym (le-ltb p (64 * i + s) upto)
+  | inr most ↦ let past : p < 64 * i + s = omega arith in ap not (le-ltb s (p % 64 + 1) most) ∙ sym (lt-ltb p (64 * i + s) past)
+]
+
+behind_part : (p i s x upto : ℕ) → i ≡ p / 64 → upto ≡ 2 ^ (p % 64 + 1) - 1 → upto < 2 ^ 64 → s < 64 → nat_eq (bit_at (bit_and x (bit_not w64 upto)) s) 1 ≡ (nat_eq (bit_at x s) 1 && nat_lt p (64 * i + s))
+behind_part p i s x upto at is small h =
+    and_bit x (bit_not w64 upto) s
+    ∙ ap (λ t. nat_eq (bit_at x s) 1 && t)
+    (not_bit upto s small h ∙ ap not (ap (λ y. nat_eq (bit_at y s) 1) is ∙ ones_bit (p % 64 + 1) s) ∙ behind_spot p i s at h)
+
+pub behind_bit : (p upto : ℕ) (words made : List ℕ) → upto ≡ 2 ^ (p % 64 + 1) - 1 → upto < 2 ^ 64
+    → ((i : ℕ) → i < 4 → get_or made i 0 ≡ (if nat_lt i (p / 64) then 0 else if nat_eq i (p / 64) then bit_and (get_or words i 0) (bit_not w64 upto) else get_or words i 0))
+    → (j s : ℕ) → j < 4 → s < 64 → nat_eq (bit_at (get_or made j 0) s) 1 ≡ (nat_eq (bit_at (get_or words j 0) s) 1 && nat_lt p (64 * j + s))
+behind_bit p upto words made is small at j s q h = ap (λ x. nat_eq (bit_at x s) 1) (at j q) ∙ elim (cases_lt j (p / 64)) [
+  | inl less ↦
+      let before : 64 * j + s ≤ p = omega arith in
+      ap (λ t. nat_eq (bit_at (if t then 0 else if nat_eq j (p / 64) then bit_and (get_or words j 0) (bit_not w64 upto) else get_or words j 0) s) 1) (lt-ltb j (p / 64) less)
+      ∙ ap (λ x. nat_eq x 1) (bit_at-zero s) ∙ dropped (nat_eq (bit_at (get_or words j 0) s) 1) (nat_lt p (64 * j + s)) (le-ltb p (64 * j + s) before)
+  | inr most ↦
+      ap (λ t. nat_eq (bit_at (if t then 0 else if nat_eq j (p / 64) then bit_and (get_or words j 0) (bit_not w64 upto) else get_or words j 0) s) 1) (le-ltb j (p / 64) most)
+      ∙ elim (cases_eq j (p / 64)) [
+        | inl same ↦
+            ap (λ t. nat_eq (bit_at (if t then bit_and (get_or words j 0) (bit_not w64 upto) else get_or words j 0) s) 1) (is_equal j (p / 64) same)
+            ∙ behind_part p j s (get_or words j 0) upto same is small h
+        | inr other ↦
+            let past : p < 64 * j + s = omega arith in
+            ap (λ t. nat_eq (bit_at (if t then bit_and (get_or words j 0) (bit_not w64 upto) else get_or words j 0) s) 1) (is_other j (p / 64) other)
+            ∙ kept (nat_eq (bit_at (get_or words j 0) s) 1) (nat_lt p (64 * j + s)) (lt-ltb p (64 * j + s) past)
+      ]
+]

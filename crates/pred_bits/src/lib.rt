@@ -17,7 +17,9 @@ ghost use Rattle.sve_effects.specs.Predicate.{lanes_of};
 ghost use Rattle.vec_regs.specs.Words.{bits_of, AreClearFrom};
 
 use emu_bits::Esize;
-pub use lanes::{count, lanes_below, next, pred_test, test_all, while_bits};
+pub use lanes::{
+    count, first_lanes, lanes_below, next, pred_test, test_all, while_bits, while_tested,
+};
 pub use patterns::pattern_count;
 use std::marker::Model;
 pub use sve_effects::predicates::{LogicOp, WhileTest};

@@ -5,6 +5,7 @@ ghost use Rattle.sve_effects.specs.Pattern as model;
 use emu_bits::U;
 
 /// The greatest power of two up to a number.
+#[inline(always)]
 fn greatest_power(n: u32) -> u32
     requires { 1 ≤ n }
     ensures value { result ≡ model.greatest_power n }
@@ -14,6 +15,7 @@ fn greatest_power(n: u32) -> u32
 }
 
 /// That many, or none where there are fewer.
+#[inline(always)]
 fn so_many(count: u32, n: u32) -> u32
     ensures value { result ≡ model.so_many count n }
     ensures within { result ≤ n }
@@ -22,6 +24,7 @@ fn so_many(count: u32, n: u32) -> u32
 }
 
 /// How many of at least one lane a pattern names: pow2, vl1 to vl256, mul4, mul3 and all; the others name none.
+#[inline(always)]
 pub fn pattern_count(pattern: U<5>, lanes: u32) -> u32
     requires { 1 ≤ lanes }
     ensures value { result ≡ model.pattern_count pattern lanes }

@@ -9,6 +9,7 @@ use crate::{LogicOp, PredBits, words};
 use emu_bits::Esize;
 
 /// A logical operation on each bit; but for sel, an inactive bit is 0.
+#[inline(always)]
 pub fn logic(op: LogicOp, g: &PredBits, a: &PredBits, b: &PredBits) -> PredBits
     requires first { length a.now ≡ length g.now }
     requires second { length b.now ≡ length g.now }
@@ -25,6 +26,7 @@ pub fn logic(op: LogicOp, g: &PredBits, a: &PredBits, b: &PredBits) -> PredBits
 }
 
 /// The number of bits up to a place, which itself counts where `inclusive`; all where there is none.
+#[inline(always)]
 fn limit(inclusive: bool, place: Option<u32>, bits: u32) -> u32
     requires { IfSome place (λ k. k < bits) }
     ensures { (k : ℕ) → k < bits → nat_lt k result ≡ is_upto inclusive place k }
@@ -36,6 +38,7 @@ fn limit(inclusive: bool, place: Option<u32>, bits: u32) -> u32
 }
 
 /// The bits up to a place, which itself counts where `inclusive`; all where there is none.
+#[inline(always)]
 fn upto(inclusive: bool, place: Option<u32>, bits: u32) -> PredBits
     requires few { bits ≤ 256 }
     requires within { IfSome place (λ k. k < bits) }
@@ -45,6 +48,7 @@ fn upto(inclusive: bool, place: Option<u32>, bits: u32) -> PredBits
 }
 
 /// So many bits, at most 256, all true.
+#[inline(always)]
 pub fn ones(bits: u32) -> PredBits
     requires { bits ≤ 256 }
     ensures { result ≡ each bits (λ k. true) }
@@ -54,6 +58,7 @@ pub fn ones(bits: u32) -> PredBits
 
 /// The active bits up to the first of them that is 1 in `a`, which itself counts where `after` (brka), and does not else (brkb).
 /// Inactive bits are those of `before` where `keep`, else 0.
+#[inline(always)]
 pub fn brk(after: bool, keep: bool, g: &PredBits, a: &PredBits, before: &PredBits) -> PredBits
     requires first { length a.now ≡ length g.now }
     requires second { length before.now ≡ length g.now }
@@ -69,6 +74,7 @@ pub fn brk(after: bool, keep: bool, g: &PredBits, a: &PredBits, before: &PredBit
 
 /// The active bits up to the first of them that is 1 in `b`, as `brk`, where `a` is 1 at the last active bit (brkpa, brkpb);
 /// else 0.
+#[inline(always)]
 pub fn brkp(after: bool, g: &PredBits, a: &PredBits, b: &PredBits) -> PredBits
     requires first { length a.now ≡ length g.now }
     requires second { length b.now ≡ length g.now }
@@ -82,6 +88,7 @@ pub fn brkp(after: bool, g: &PredBits, a: &PredBits, b: &PredBits) -> PredBits
 }
 
 /// The bits of `before` where `a` is 1 at the last active bit (brkn), else 0.
+#[inline(always)]
 pub fn brkn(g: &PredBits, a: &PredBits, before: &PredBits) -> PredBits
     requires first { length a.now ≡ length g.now }
     requires second { length before.now ≡ length g.now }
@@ -95,6 +102,7 @@ pub fn brkn(g: &PredBits, a: &PredBits, before: &PredBits) -> PredBits
 }
 
 /// The bits of `before`, and the first active bit (pfirst).
+#[inline(always)]
 pub fn first(g: &PredBits, before: &PredBits) -> PredBits
     requires { length before.now ≡ length g.now }
     ensures { result ≡ with_first (length g.now) g.now before.now }

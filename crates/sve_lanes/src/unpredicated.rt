@@ -6,7 +6,7 @@ ghost use Rattle.sve_lanes.specs.Groups.{is_plain};
 
 use crate::fields::{shift_amount, shift_bits, tsz_of};
 use crate::names::shift_element;
-use crate::operations::{plain_covered, plain_number, plain_two};
+use crate::operations::{plain_covered, plain_number, plain_two, plain_two_apart};
 use core_regs::Core;
 use emu_bits::{Reg, U};
 use lane_ops::{Add, And, Asr, Bic, Eor, Lsl, Lsr, Orr, Sqadd, Sqsub, Sub, Uqadd, Uqsub};
@@ -51,14 +51,13 @@ pub(crate) fn exec(core: &Core, vec: &mut VecRegs, i: &Sve)
 fn sum(core: &Core, vec: &mut VecRegs, op: PlainOp, size: U<2>, zm: Reg, zn: Reg, zd: Reg)
     ensures { vec.new ≡ table.vector_data (SveForm.Plain op size zm zn zd) core.now vec.old }
 {
-    let e = lane_bits(size);
     match op {
-        PlainOp::Add => plain_two(vec, e, zd, zn, zm, Add),
-        PlainOp::Sub => plain_two(vec, e, zd, zn, zm, Sub),
-        PlainOp::Sqadd => plain_two(vec, e, zd, zn, zm, Sqadd),
-        PlainOp::Uqadd => plain_two(vec, e, zd, zn, zm, Uqadd),
-        PlainOp::Sqsub => plain_two(vec, e, zd, zn, zm, Sqsub),
-        PlainOp::Uqsub => plain_two(vec, e, zd, zn, zm, Uqsub),
+        PlainOp::Add => plain_two(vec, lane_bits(size), zd, zn, zm, Add),
+        PlainOp::Sub => plain_two(vec, lane_bits(size), zd, zn, zm, Sub),
+        PlainOp::Sqadd => plain_two_apart(vec, lane_bits(size), zd, zn, zm, Sqadd),
+        PlainOp::Uqadd => plain_two_apart(vec, lane_bits(size), zd, zn, zm, Uqadd),
+        PlainOp::Sqsub => plain_two_apart(vec, lane_bits(size), zd, zn, zm, Sqsub),
+        PlainOp::Uqsub => plain_two_apart(vec, lane_bits(size), zd, zn, zm, Uqsub),
     }
 }
 

@@ -1,6 +1,8 @@
 -- Permutes of 128 bits among those of whole registers: lane j of the i-th w lanes is lane i * w + j.
 use Rattle.std.proofs.Common.{◌≡◌, ◌<◌, ◌≤◌, ◌+◌, ◌-◌, ◌*◌, ◌/◌, ◌%◌, ℕ, zero, suc, Bool, true, false, nat_eq, nat_lt, if◌then◌else◌, inl, inr, refl, sym, ap, subst, ◌∙◌, arith}
+use Rattle.std.proofs.Math.Nat.{mod-lt}
 use Rattle.std.proofs.lemmas.Bool.Decides.{nat_tests}
+use Rattle.std.proofs.lemmas.Nat.{div-add-mod', div_below}
 use Rattle.emu_bits.specs.Fields.{bit}
 use Rattle.emu_model.specs.Lengths.{IsVectorLength}
 use Rattle.sve_effects.specs.declared.places.Place.TheVariants.{FirstLane, SecondLane, Scalar}
@@ -24,6 +26,19 @@ quads_of_lanes e w bits (inl s) whole l = let m : bits % 128 ≡ 0 = l.multiple 
 quads_of_lanes e w bits (inr (inl s)) whole l = let m : bits % 128 ≡ 0 = l.multiple in let q : w * 16 ≡ 128 = rw s at whole in let t : w ≡ 8 = omega arith in rw (s, t) (omega arith)
 quads_of_lanes e w bits (inr (inr (inl s))) whole l = let m : bits % 128 ≡ 0 = l.multiple in let q : w * 32 ≡ 128 = rw s at whole in let t : w ≡ 4 = omega arith in rw (s, t) (omega arith)
 quads_of_lanes e w bits (inr (inr (inr s))) whole l = let m : bits % 128 ≡ 0 = l.multiple in let q : w * 64 ≡ 128 = rw s at whole in let t : w ≡ 2 = omega arith in rw (s, t) (omega arith)
+
+pub some_lanes : (w e : ℕ) → w * e ≡ 128 → 0 < w
+some_lanes zero e h = absurd (omega arith)
+some_lanes (suc w) e h = omega arith
+
+pub some_product : (q w : ℕ) → 0 < q → 0 < w → 0 < q * w
+some_product zero w p q = absurd (omega arith)
+some_product (suc q) zero p r = absurd (omega arith)
+some_product (suc q) (suc w) p r = omega arith
+
+-- 128 bits that begin in the first of two registers, and those behind them
+pub quad_below : (w q i start : ℕ) → 0 < w → start < q * w → i < q → i + start / w + 1 < 2 * q
+quad_below w q i start some h b = let part : start / w < q = div_below start w q some h in omega arith
 
 -- ---- lanes in turn
 
@@ -119,6 +134,24 @@ module _ (v x y : ℕ → ℕ) (m : ℕ) where
         let room : 2 * j + bit second - w < w = omega (arith, bit_small second) in
         let spot : (2 * i + 1) * w + (2 * j + bit second - w) ≡ 2 * (i * w + j) + bit second = omega arith in
         ys (2 * j + bit second - w) room ∙ ap (λ u. v u % m) spot
+
+  pub ext_chunk : (w i start j : ℕ) → ((t : ℕ) → t < w → x t ≡ v ((i + start / w) * w + t) % m) → ((t : ℕ) → t < w → y t ≡ v ((i + start / w + 1) * w + t) % m) → j < w
+      → taken x y 0 0 (joined w (start % w + j)) ≡ v (start + (i * w + j)) % m
+  ext_chunk w i start j xs ys within = by_test (nat_lt (start % w + j) w) refl where
+    all : start / w * w + start % w ≡ start
+    all = div-add-mod' start w
+
+    by_test : (t : Bool) → nat_lt (start % w + j) w ≡ t → taken x y 0 0 (if t then FirstLane (start % w + j) else SecondLane (start % w + j - w)) ≡ v (start + (i * w + j)) % m
+    by_test true e =
+        let below : start % w + j < w = grind (arith, nat_tests) in
+        let spot : (i + start / w) * w + (start % w + j) ≡ start + (i * w + j) = omega (arith, all) in
+        xs (start % w + j) below ∙ ap (λ u. v u % m) spot
+    by_test false e =
+        let above : w ≤ start % w + j = grind (arith, nat_tests) in
+        let some : 0 < w = omega arith in
+        let room : start % w + j - w < w = omega (arith, mod-lt start some) in
+        let spot : (i + start / w + 1) * w + (start % w + j - w) ≡ start + (i * w + j) = omega (arith, all) in
+        ys (start % w + j - w) room ∙ ap (λ u. v u % m) spot
 
 module _ (a b : ℕ → ℕ) where
   pub joined_low : (n k : ℕ) → k < n → a k ≡ taken a b 0 0 (joined n k)

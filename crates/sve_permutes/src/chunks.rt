@@ -1,14 +1,14 @@
 //! Permutes of which 128 bits of each source, or of both, make 128 bits of the result.
-ghost use Rattle.std.specs.Prelude.{◌≡◌, ◌<◌, ◌≤◌, ◌+◌, ◌*◌, ◌/◌, ◌%◌, ◌^◌, ℕ, map, get_or, nat_eq, if◌then◌else◌};
+ghost use Rattle.std.specs.Prelude.{◌≡◌, ◌<◌, ◌≤◌, ◌+◌, ◌*◌, ◌/◌, ◌%◌, ◌^◌, ℕ, map, get_or, nat_eq, nat_lt, if◌then◌else◌};
 ghost use Rattle.emu_bits.specs.Fields.{bit};
 ghost use Rattle.sve_effects.specs.ElementLoop.{lane_of};
-ghost use Rattle.sve_effects.specs.Permute.{taken, joined, zip_place, uzp_place, trn_place, rev_place, insr_place};
+ghost use Rattle.sve_effects.specs.Permute.{taken, joined, zip_place, uzp_place, trn_place, rev_place, insr_place, ext_place};
 
 use emu_bits::Reg;
 use lane_kernels::sources::{LaneOf, Number};
 use lane_kernels::words::{Chunks, Gives};
 use lane_pack::{Lane, Quad};
-use lane_permute::{insr, rev, trn, uzp, zip};
+use lane_permute::{insr, rev, trn, uzp, window, zip};
 use vec_regs::VecRegs;
 
 /// The lanes of two registers in turn: of their low halves, or of their high halves where `second` is true.
@@ -125,6 +125,29 @@ impl<T: Quad<W>, const W: usize> Chunks<T, W> for Inserted {
     }
 }
 
+/// The lanes from lane `from` on of two registers one after the other; from lane 0 on where there is no such lane.
+#[derive(Clone, Copy)]
+pub(crate) struct Extracted {
+    pub(crate) from: u32,
+    pub(crate) zn: Reg,
+    pub(crate) zm: Reg,
+}
+
+impl Gives for Extracted {
+    ghost value = { λ s e v k. taken (lane_of e v s.zn) (lane_of e v s.zm) 0 0 (ext_place s.from (v.bits / e) k) };
+}
+
+impl<T: Quad<W>, const W: usize> Chunks<T, W> for Extracted {
+    #[inline(always)]
+    fn chunk(&self, vec: &VecRegs, i: u32) -> [T; W] {
+        let start = start_of(self.from, vec.length().bits() / T::BITS);
+        let at = i + start / W as u32;
+        let a: [T; W] = joined_quad(vec, self.zn, self.zm, at);
+        let b: [T; W] = joined_quad(vec, self.zn, self.zm, at + 1);
+        window(&a, &b, start as usize % W)
+    }
+}
+
 /// Two numbers in turn.
 #[derive(Clone, Copy)]
 pub(crate) struct Turns {
@@ -156,6 +179,16 @@ fn half_of(second: bool, quads: u32, i: u32) -> u32
     ensures within { result / 2 < quads }
 {
     if second { quads + i } else { i }
+}
+
+/// A number of a lane of n, or 0 where there is no such lane.
+#[inline(always)]
+fn start_of(from: u32, n: u32) -> u32
+    requires { 0 < n }
+    ensures value { result ≡ (if nat_lt from n then from else 0) }
+    ensures within { result < n }
+{
+    if from < n { from } else { 0 }
 }
 
 /// The lanes of 128 bits of two registers one after the other.

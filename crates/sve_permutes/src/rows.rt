@@ -6,8 +6,8 @@ ghost use Rattle.sve_effects.specs.ElementLoop.{lane_of};
 ghost use Rattle.sve_effects.specs.PermuteRows as model;
 ghost use Rattle.vec_model.specs.Lanes.{IsLaneSize};
 
-use crate::chunks::{Inserted, Reversed, Transposed, Unzipped, Zipped};
-use crate::slices::{extracted, widened_lanes};
+use crate::chunks::{Extracted, Inserted, Reversed, Transposed, Unzipped, Zipped};
+use crate::slices::widened_lanes;
 use crate::tables::table;
 use crate::{active, moves, predicates};
 use core_regs::Core;
@@ -174,7 +174,7 @@ pub(crate) fn ext(core: &Core, vec: &mut VecRegs, imm8h: U<5>, imm8l: U<3>, zm: 
     ensures { vec.new ≡ (model.permuted (SveForm.Ext imm8h imm8l zm zdn) core.now vec.old).vectors }
 {
     let from = imm8h.get() * 8 + imm8l.get();
-    extracted(vec, from as usize, zm, zdn);
+    permuted(vec, 8, zdn, &Extracted { from, zn: zdn, zm });
 }
 
 pub(crate) fn copy_reg(

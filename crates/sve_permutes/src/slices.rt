@@ -1,7 +1,7 @@
 //! Registers as arrays of lanes, for the permutes that move runs of lanes, or gather active ones.
 ghost use Rattle.std.specs.Prelude.{◌≡◌, ◌<◌, ◌≤◌, ◌+◌, ◌*◌, ◌/◌, ◌%◌, ◌^◌, ℕ, map, get_or, length, false};
 ghost use Rattle.sve_effects.specs.ElementLoop.{lane_of, is_active};
-ghost use Rattle.sve_effects.specs.Permute.{ext_place, spliced, compact_place};
+ghost use Rattle.sve_effects.specs.Permute.{spliced, compact_place};
 ghost use Rattle.sve_effects.specs.PermuteRows as model;
 ghost use Rattle.vec_model.specs.Lanes.{IsLaneSize, with_lanes};
 
@@ -58,19 +58,6 @@ fn set_lanes<T: Lane>(vec: &mut VecRegs, zd: Reg, lanes: &[T])
     let mut words = [0; 32];
     pack(lanes, &mut words);
     vec.set_z_words(zd, &words);
-}
-
-/// Writes the bytes of zdn and zm one after the other, from a byte on, to zdn.
-pub(crate) fn extracted(vec: &mut VecRegs, from: usize, zm: Reg, zdn: Reg)
-    ensures { vec.new ≡ model.moved 8 (ext_place from (vec.old.bits / 8)) zdn zm 0 zdn vec.old }
-{
-    let n = vec.length().bits() as usize / 8;
-    let a: [u8; 256] = lanes_in(vec, zdn);
-    let b: [u8; 256] = lanes_in(vec, zm);
-    let mut out = a;
-    let (front, _above) = out.split_at_mut(n);
-    lane_permute::ext(&a[..n], &b[..n], from, front);
-    set_lanes(vec, zdn, front);
 }
 
 /// Writes a run of lanes of zdn, then those of zm, to zdn.

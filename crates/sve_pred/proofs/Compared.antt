@@ -1,5 +1,5 @@
 -- Compares into a predicate, by the lanes that are told.
-use Rattle.std.proofs.Common.{◌≡◌, ◌<◌, ◌≤◌, ◌*◌, ◌/◌, ◌%◌, ◌^◌, ℕ, Bool, true, false, not, ◌&&◌, nat_eq, nat_lt, if◌then◌else◌, List, get_or, inl, inr, refl, sym, ap, ◌∙◌, arith}
+use Rattle.std.proofs.Common.{◌≡◌, ◌<◌, ◌≤◌, ◌*◌, ◌/◌, ◌%◌, ◌^◌, ℕ, Bool, true, false, not, ◌&&◌, nat_eq, nat_lt, if◌then◌else◌, List, get_or, inl, inr, refl, sym, ap, subst, ◌∙◌, arith}
 use Rattle.std.proofs.Math.Nat.{mod-eq_of_lt}
 use Rattle.std.proofs.lemmas.Bool.{cases_eq, lt-ltb, le-ltb}
 use Rattle.std.proofs.lemmas.Nat.{div-add-mod'}
@@ -14,7 +14,7 @@ use Rattle.sve_effects.specs.declared.predicates.LogicOp.TheVariants.{And}
 use Rattle.sve_effects.specs.Element.{element_test}
 use Rattle.sve_effects.specs.Predicate.{logic}
 use Rattle.sve_effects.specs.PredicateRows.{put_compared, is_unsigned}
-use Rattle.sve_pred.specs.Compares.{answer, told, IsOfLane}
+use Rattle.sve_pred.specs.Compares.{answer, told, IsTold, IsOfLane}
 use Rattle.sve_pred.specs.declared.compares.Operand.{Operand}
 use Rattle.sve_pred.specs.declared.compares.Operand.TheVariants.{Lane, Covering, Number}
 
@@ -66,3 +66,7 @@ same_compared e pg pn pd zn t u a b c v g s o =
     ap (λ (p : ℕ). put_compared e p pd (answer t e v zn a) c v) g
     ∙ ap (λ (s : ElementTest). put_compared e pn pd (answer s e v zn a) c v) s
     ∙ ap (λ (o : Operand). put_compared e pn pd (answer u e v zn o) c v) o
+
+pub same_told : (e f zn : ℕ) (t u : ElementTest) (a b : Operand) (v : Vectors) (words : List ℕ) → e ≡ f → t ≡ u → a ≡ b → IsTold e t v zn a words → IsTold f u v zn b words
+same_told e f zn t u a b v words p q r h =
+    subst (λ (e : ℕ). IsTold e u v zn b words) p (subst (λ (t : ElementTest). IsTold e t v zn b words) q (subst (λ (a : Operand). IsTold e t v zn a words) r h))

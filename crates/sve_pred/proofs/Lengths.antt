@@ -20,6 +20,13 @@ whole_fields H bits m h is = let w : bits % 128 ≡ 0 = h.multiple in omega arit
 whole_fields S bits m h is = let w : bits % 128 ≡ 0 = h.multiple in omega arith
 whole_fields D bits m h is = let w : bits % 128 ≡ 0 = h.multiple in omega arith
 
+-- and have a field for each lane
+pub lanes_fit : (e : Esize) (bits m : ℕ) → IsVectorLength bits → m ≡ bits / 8 → bits / size_of e ≤ lanes_of (size_of e) m
+lanes_fit B bits m h is = omega arith
+lanes_fit H bits m h is = omega arith
+lanes_fit S bits m h is = omega arith
+lanes_fit D bits m h is = omega arith
+
 -- eight bits are a lane of each size
 pub some_lane : (e : Esize) (m : ℕ) → 8 ≤ m → 0 < lanes_of (size_of e) m
 some_lane B m h = omega arith

@@ -1,10 +1,12 @@
 -- The answers of compares, by their second operand: private functions alone cite this.
-use Rattle.std.specs.Prelude.{◌<◌, ℕ, ◌%◌, ◌^◌, Bool, not}
+use Rattle.std.specs.Prelude.{◌≡◌, ◌<◌, ℕ, ◌/◌, ◌%◌, ◌^◌, ◌&&◌, Bool, not, nat_lt, List}
 use Rattle.emu_model.specs.State.{Vectors}
 use Rattle.sve_effects.specs.declared.elements.ElementTest.{ElementTest}
 use Rattle.sve_effects.specs.Element.{element_test, extended_by}
 use Rattle.sve_effects.specs.ElementLoop.{lane_of, covering_lane}
 use Rattle.sve_effects.specs.PredicateRows.{is_unsigned}
+use Rattle.vec_model.specs.Lanes.{field_bit}
+use Rattle.vec_regs.specs.Words.{bit_of}
 use Rattle.sve_pred.specs.declared.compares.Operand.{Operand}
 use Rattle.sve_pred.specs.declared.compares.Operand.TheVariants.{Lane, Covering, Number}
 
@@ -19,6 +21,13 @@ abbrev pub told : (ℕ → ℕ → ℕ → Bool) → Bool → ℕ → Vectors �
 told entry signed e v zn (Lane zm) k = entry e (lane_of e v zn k) (lane_of e v zm k)
 told entry signed e v zn (Covering zm) k = entry 64 (extended_by signed 64 e (lane_of e v zn k)) (covering_lane e v zm k)
 told entry signed e v zn (Number n) k = entry e (lane_of e v zn k) (n % 2 ^ e)
+
+-- words are those of a predicate that has the lanes of which a test tells
+abbrev pub IsTold : ℕ → ElementTest → Vectors → ℕ → Operand → List ℕ → Type 0
+IsTold e test v zn operand words = (b : ℕ)
+    → bit_of words b
+    ≡ (nat_lt b (v.bits / 8)
+    && field_bit (e / 8) (told (element_test test) (not (is_unsigned test)) e v zn operand) b)
 
 -- a number has the bits of a lane
 abbrev pub IsOfLane : ℕ → Operand → Type 0

@@ -1,2 +1,3 @@
 pub mod Compares
 pub mod Groups
+pub mod Patterns

@@ -1,5 +1,5 @@
 //! Logical operations and breaks of predicates.
-ghost use Rattle.std.specs.Prelude.{◌≡◌, true};
+ghost use Rattle.std.specs.Prelude.{◌≡◌, true, length};
 ghost use Rattle.sve_effects.specs.declared.predicates.LogicOp.{LogicOp};
 ghost use Rattle.sve_effects.specs.Predicate as model;
 ghost use Rattle.sve_effects.specs.PredicateRows.{predicate, predicate_bits, logic_of, break_after, pair_after};
@@ -7,14 +7,15 @@ ghost use Rattle.sve_insn.specs.declared.form.SveForm.TheVariants as form;
 ghost use Rattle.sve_pred.specs.Groups.{is_by_bits};
 ghost use Rattle.vec_model.specs.Lanes.{read_p, with_p};
 
-use crate::registers::{bits, read, test, write};
+use crate::registers::{put, read, test_all_bits, write};
 use core_regs::Core;
-use emu_bits::{Esize, Pred};
-use pred_bits::{LogicOp, brk, brkn, brkp, ones};
+use emu_bits::Pred;
+use pred_bits::{LogicOp, PredBits, brk, brkn, brkp};
 use sve_insn::{BreakOp, BreakPairOp, LogicPOp, Sve, SveForm};
 use vec_regs::VecRegs;
 
 /// The operation of a name.
+#[inline(always)]
 fn operation(op: LogicPOp) -> LogicOp
     ensures { result ≡ logic_of op }
 {
@@ -29,8 +30,23 @@ fn operation(op: LogicPOp) -> LogicOp
     }
 }
 
-/// `and`, `bic`, `eor`, `orr`, `orn`, `nor`, `nand` under a predicate.
+/// The result of a logical operation.
+#[inline(always)]
 #[tactic(auto, using(crate::proofs::Lengths::length_given))]
+fn logic_bits(vec: &VecRegs, op: LogicPOp, pm: Pred, pg: Pred, pn: Pred) -> PredBits
+    ensures value { result ≡ model.logic (logic_of op) (predicate_bits vec.now)
+        (read_p vec.now pg) (read_p vec.now pn) (read_p vec.now pm) }
+    ensures length { length result ≡ predicate_bits vec.now }
+{
+    pred_bits::logic(
+        operation(op),
+        &read(vec, pg),
+        &read(vec, pn),
+        &read(vec, pm),
+    )
+}
+
+/// `and`, `bic`, `eor`, `orr`, `orn`, `nor`, `nand` under a predicate.
 pub fn logic(
     core: &mut Core,
     vec: &mut VecRegs,
@@ -44,10 +60,8 @@ pub fn logic(
     ensures registers { core.new ≡ (predicate (form.LogicP op s pm pg pn pd) core.old vec.old).core }
     ensures vectors { vec.new ≡ (predicate (form.LogicP op s pm pg pn pd) core.old vec.old).vectors }
 {
-    let g = read(vec, pg);
-    let bits = pred_bits::logic(operation(op), &g, &read(vec, pn), &read(vec, pm));
-    test(core, s, &g, &bits, Esize::B);
-    write(vec, pd, &bits);
+    let bits = logic_bits(vec, op, pm, pg, pn);
+    put(core, vec, s, pg, pd, &bits);
 }
 
 /// `sel`.
@@ -60,6 +74,7 @@ pub fn select(vec: &mut VecRegs, pm: Pred, pg: Pred, pn: Pred, pd: Pred)
 }
 
 /// Whether the break counts the first set bit itself.
+#[inline(always)]
 fn break_after(op: BreakOp) -> bool
     ensures { result ≡ break_after op }
 {
@@ -69,8 +84,24 @@ fn break_after(op: BreakOp) -> bool
     }
 }
 
-/// `brka`, `brkb`.
+/// The result of `brka` and `brkb`.
+#[inline(always)]
 #[tactic(auto, using(crate::proofs::Lengths::length_given))]
+fn broken_bits(vec: &VecRegs, op: BreakOp, pg: Pred, pn: Pred, m: bool, pd: Pred) -> PredBits
+    ensures value { result ≡ model.broken (break_after op) m (predicate_bits vec.now)
+        (read_p vec.now pg) (read_p vec.now pn) (read_p vec.now pd) }
+    ensures length { length result ≡ predicate_bits vec.now }
+{
+    brk(
+        break_after(op),
+        m,
+        &read(vec, pg),
+        &read(vec, pn),
+        &read(vec, pd),
+    )
+}
+
+/// `brka`, `brkb`.
 pub fn break_first(
     core: &mut Core,
     vec: &mut VecRegs,
@@ -84,13 +115,12 @@ pub fn break_first(
     ensures registers { core.new ≡ (predicate (form.Break op s pg pn m pd) core.old vec.old).core }
     ensures vectors { vec.new ≡ (predicate (form.Break op s pg pn m pd) core.old vec.old).vectors }
 {
-    let g = read(vec, pg);
-    let bits = brk(break_after(op), m, &g, &read(vec, pn), &read(vec, pd));
-    test(core, s, &g, &bits, Esize::B);
-    write(vec, pd, &bits);
+    let bits = broken_bits(vec, op, pg, pn, m, pd);
+    put(core, vec, s, pg, pd, &bits);
 }
 
 /// Whether the break of a pair counts the first set bit itself.
+#[inline(always)]
 fn pair_after(op: BreakPairOp) -> bool
     ensures { result ≡ pair_after op }
 {
@@ -100,8 +130,23 @@ fn pair_after(op: BreakPairOp) -> bool
     }
 }
 
-/// `brkpa`, `brkpb`.
+/// The result of `brkpa` and `brkpb`.
+#[inline(always)]
 #[tactic(auto, using(crate::proofs::Lengths::length_given))]
+fn pair_bits(vec: &VecRegs, op: BreakPairOp, pm: Pred, pg: Pred, pn: Pred) -> PredBits
+    ensures value { result ≡ model.broken_pair (pair_after op) (predicate_bits vec.now)
+        (read_p vec.now pg) (read_p vec.now pn) (read_p vec.now pm) }
+    ensures length { length result ≡ predicate_bits vec.now }
+{
+    brkp(
+        pair_after(op),
+        &read(vec, pg),
+        &read(vec, pn),
+        &read(vec, pm),
+    )
+}
+
+/// `brkpa`, `brkpb`.
 pub fn break_pair(
     core: &mut Core,
     vec: &mut VecRegs,
@@ -115,10 +160,8 @@ pub fn break_pair(
     ensures registers { core.new ≡ (predicate (form.BreakPair op s pm pg pn pd) core.old vec.old).core }
     ensures vectors { vec.new ≡ (predicate (form.BreakPair op s pm pg pn pd) core.old vec.old).vectors }
 {
-    let g = read(vec, pg);
-    let bits = brkp(pair_after(op), &g, &read(vec, pn), &read(vec, pm));
-    test(core, s, &g, &bits, Esize::B);
-    write(vec, pd, &bits);
+    let bits = pair_bits(vec, op, pm, pg, pn);
+    put(core, vec, s, pg, pd, &bits);
 }
 
 /// `brkn`: its flags are by the test of all bits.
@@ -127,8 +170,9 @@ pub fn break_next(core: &mut Core, vec: &mut VecRegs, s: bool, pg: Pred, pn: Pre
     ensures registers { core.new ≡ (predicate (form.BreakNext s pg pn pdm) core.old vec.old).core }
     ensures vectors { vec.new ≡ (predicate (form.BreakNext s pg pn pdm) core.old vec.old).vectors }
 {
+    let _length = vec.length().bits();
     let result = brkn(&read(vec, pg), &read(vec, pn), &read(vec, pdm));
-    test(core, s, &ones(bits(vec)), &result, Esize::B);
+    test_all_bits(core, s, &result);
     write(vec, pdm, &result);
 }
 

@@ -1,28 +1,29 @@
 //! Compares of lanes into predicates.
-ghost use Rattle.std.specs.Prelude.{◌≡◌, ◌<◌, ◌/◌, ◌^◌, ◌&&◌, ℕ, true, not, nat_lt, length};
+ghost use Rattle.std.specs.Prelude.{◌≡◌, ◌<◌, ◌^◌, true, length};
 ghost use Rattle.emu_bits.specs.Flags.{size_of};
 ghost use Rattle.emu_bits.specs.Numbers.{sign_extended};
-ghost use Rattle.sve_effects.specs.Element.{element_test};
 ghost use Rattle.sve_effects.specs.ElementLoop.{lane_bits};
 ghost use Rattle.sve_effects.specs.PredicateRows as table;
-ghost use Rattle.sve_effects.specs.PredicateRows.{predicate, predicate_bits, put_compared, vector_test, wide_test, unsigned_test, signed_test, is_unsigned};
+ghost use Rattle.sve_effects.specs.PredicateRows.{predicate, predicate_bits, put_compared};
+ghost use Rattle.sve_effects.specs.PredicateRows.{vector_test, wide_test, unsigned_test, signed_test};
 ghost use Rattle.sve_insn.specs.declared.form.SveForm.TheVariants as form;
 ghost use Rattle.sve_pred.specs.Compares as model;
+ghost use Rattle.sve_pred.specs.declared.compares.Operand.TheVariants as second;
 ghost use Rattle.sve_pred.specs.Groups.{is_compare};
-ghost use Rattle.vec_model.specs.Lanes.{field_bit, IsLaneSize};
-ghost use Rattle.vec_regs.specs.Words.{bit_of};
+ghost use Rattle.vec_model.specs.Lanes.{IsLaneSize};
 
-use crate::registers::{bits, esize, read, test_lanes, write};
+use crate::registers::{bits, esize, read, set_test_lanes, write};
 use core_regs::Core;
 use emu_bits::{Esize, Pred, PredLow, Reg, U, sign_extended};
-use lane_kernels::LaneWiseTest2;
 use lane_kernels::told::{Compared, ComparedNumber, ComparedWide, told};
 use pred_bits::{LogicOp, PredBits};
+use sve_effects::lane_bits;
 use sve_elements::ElementTest;
 use sve_insn::{CmpSImmOp, CmpUImmOp, CmpVecOp, CmpWideOp, Sve, SveForm};
 use vec_regs::VecRegs;
 
 /// The test of a name, of two lanes.
+#[inline(always)]
 fn vector_test(op: CmpVecOp) -> ElementTest
     ensures { result ≡ vector_test op }
 {
@@ -37,6 +38,7 @@ fn vector_test(op: CmpVecOp) -> ElementTest
 }
 
 /// The test of a name, of a lane and a 64-bit lane.
+#[inline(always)]
 fn wide_test(op: CmpWideOp) -> ElementTest
     ensures { result ≡ wide_test op }
 {
@@ -55,6 +57,7 @@ fn wide_test(op: CmpWideOp) -> ElementTest
 }
 
 /// The test of a name, of a lane and an unsigned immediate.
+#[inline(always)]
 fn unsigned_test(op: CmpUImmOp) -> ElementTest
     ensures { result ≡ unsigned_test op }
 {
@@ -67,6 +70,7 @@ fn unsigned_test(op: CmpUImmOp) -> ElementTest
 }
 
 /// The test of a name, of a lane and a signed immediate.
+#[inline(always)]
 fn signed_test(op: CmpSImmOp) -> ElementTest
     ensures { result ≡ signed_test op }
 {
@@ -80,23 +84,6 @@ fn signed_test(op: CmpSImmOp) -> ElementTest
     }
 }
 
-/// Whether a test reads its lanes as unsigned.
-fn is_unsigned(test: ElementTest) -> bool
-    ensures { result ≡ is_unsigned test }
-{
-    matches!(
-        test,
-        ElementTest::Hs | ElementTest::Hi | ElementTest::Lo | ElementTest::Ls
-    )
-}
-
-/// Whether a test extends lanes by their sign to the width of wider ones.
-fn is_signed(test: ElementTest) -> bool
-    ensures { result ≡ not (is_unsigned test) }
-{
-    if is_unsigned(test) { false } else { true }
-}
-
 /// The second operand of a compare.
 #[derive(Clone, Copy)]
 enum Operand {
@@ -108,46 +95,292 @@ enum Operand {
     Number(u64),
 }
 
-/// The words of a predicate that has the lanes of which an operation tells, a number taken modulo 2^e.
-fn told_by<F: LaneWiseTest2 + Copy>(
-    vec: &VecRegs,
-    op: F,
-    signed: bool,
-    e: u32,
-    zn: Reg,
-    operand: &Operand,
-) -> [u64; 4]
+/// The words of a predicate that has the lanes of which a compare of two registers' lanes tells.
+#[inline(always)]
+fn vectors_told(vec: &VecRegs, op: CmpVecOp, e: u32, zn: Reg, zm: Reg) -> [u64; 4]
     requires { IsLaneSize e }
-    ensures { (b : ℕ) → bit_of result b ≡ (nat_lt b (vec.now.bits / 8) && field_bit (e / 8) (model.told (F.entry op) signed e vec.now zn operand.now) b) }
+    ensures { model.IsTold e (vector_test op) vec.now zn (second.Lane zm) result }
 {
-    match *operand {
-        Operand::Lane(zm) => told(vec, e, &Compared { op, zn, zm }),
-        Operand::Covering(zm) => told(vec, e, &ComparedWide { op, zn, zm, signed }),
-        Operand::Number(n) => told(vec, e, &ComparedNumber { op, zn, n }),
+    match op {
+        CmpVecOp::Cmphs => told(
+            vec,
+            e,
+            &Compared {
+                op: lane_tests::Hs,
+                zn,
+                zm,
+            },
+        ),
+        CmpVecOp::Cmphi => told(
+            vec,
+            e,
+            &Compared {
+                op: lane_tests::Hi,
+                zn,
+                zm,
+            },
+        ),
+        CmpVecOp::Cmpge => told(
+            vec,
+            e,
+            &Compared {
+                op: lane_tests::Ge,
+                zn,
+                zm,
+            },
+        ),
+        CmpVecOp::Cmpgt => told(
+            vec,
+            e,
+            &Compared {
+                op: lane_tests::Gt,
+                zn,
+                zm,
+            },
+        ),
+        CmpVecOp::Cmpeq => told(
+            vec,
+            e,
+            &Compared {
+                op: lane_tests::Eq,
+                zn,
+                zm,
+            },
+        ),
+        CmpVecOp::Cmpne => told(
+            vec,
+            e,
+            &Compared {
+                op: lane_tests::Ne,
+                zn,
+                zm,
+            },
+        ),
     }
 }
 
-/// The same, of a test by its name.
-fn words_told(vec: &VecRegs, test: ElementTest, e: u32, zn: Reg, operand: &Operand) -> [u64; 4]
+/// The words of a predicate that has the lanes of which a compare with 64-bit lanes tells.
+#[inline(always)]
+fn wide_told(vec: &VecRegs, op: CmpWideOp, e: u32, zn: Reg, zm: Reg) -> [u64; 4]
     requires { IsLaneSize e }
-    ensures { (b : ℕ) → bit_of result b ≡ (nat_lt b (vec.now.bits / 8) && field_bit (e / 8) (model.told (element_test test) (not (is_unsigned test)) e vec.now zn operand.now) b) }
+    ensures { model.IsTold e (wide_test op) vec.now zn (second.Covering zm) result }
 {
-    let signed = is_signed(test);
-    match test {
-        ElementTest::Eq => told_by(vec, lane_tests::Eq, signed, e, zn, operand),
-        ElementTest::Ne => told_by(vec, lane_tests::Ne, signed, e, zn, operand),
-        ElementTest::Ge => told_by(vec, lane_tests::Ge, signed, e, zn, operand),
-        ElementTest::Gt => told_by(vec, lane_tests::Gt, signed, e, zn, operand),
-        ElementTest::Lt => told_by(vec, lane_tests::Lt, signed, e, zn, operand),
-        ElementTest::Le => told_by(vec, lane_tests::Le, signed, e, zn, operand),
-        ElementTest::Hs => told_by(vec, lane_tests::Hs, signed, e, zn, operand),
-        ElementTest::Hi => told_by(vec, lane_tests::Hi, signed, e, zn, operand),
-        ElementTest::Lo => told_by(vec, lane_tests::Lo, signed, e, zn, operand),
-        ElementTest::Ls => told_by(vec, lane_tests::Ls, signed, e, zn, operand),
+    match op {
+        CmpWideOp::Cmpeq => told(
+            vec,
+            e,
+            &ComparedWide {
+                op: lane_tests::Eq,
+                zn,
+                zm,
+                signed: true,
+            },
+        ),
+        CmpWideOp::Cmpne => told(
+            vec,
+            e,
+            &ComparedWide {
+                op: lane_tests::Ne,
+                zn,
+                zm,
+                signed: true,
+            },
+        ),
+        CmpWideOp::Cmpge => told(
+            vec,
+            e,
+            &ComparedWide {
+                op: lane_tests::Ge,
+                zn,
+                zm,
+                signed: true,
+            },
+        ),
+        CmpWideOp::Cmpgt => told(
+            vec,
+            e,
+            &ComparedWide {
+                op: lane_tests::Gt,
+                zn,
+                zm,
+                signed: true,
+            },
+        ),
+        CmpWideOp::Cmplt => told(
+            vec,
+            e,
+            &ComparedWide {
+                op: lane_tests::Lt,
+                zn,
+                zm,
+                signed: true,
+            },
+        ),
+        CmpWideOp::Cmple => told(
+            vec,
+            e,
+            &ComparedWide {
+                op: lane_tests::Le,
+                zn,
+                zm,
+                signed: true,
+            },
+        ),
+        CmpWideOp::Cmphs => told(
+            vec,
+            e,
+            &ComparedWide {
+                op: lane_tests::Hs,
+                zn,
+                zm,
+                signed: false,
+            },
+        ),
+        CmpWideOp::Cmphi => told(
+            vec,
+            e,
+            &ComparedWide {
+                op: lane_tests::Hi,
+                zn,
+                zm,
+                signed: false,
+            },
+        ),
+        CmpWideOp::Cmplo => told(
+            vec,
+            e,
+            &ComparedWide {
+                op: lane_tests::Lo,
+                zn,
+                zm,
+                signed: false,
+            },
+        ),
+        CmpWideOp::Cmpls => told(
+            vec,
+            e,
+            &ComparedWide {
+                op: lane_tests::Ls,
+                zn,
+                zm,
+                signed: false,
+            },
+        ),
+    }
+}
+
+/// The words of a predicate that has the lanes of which a compare with an unsigned immediate tells.
+#[inline(always)]
+fn unsigned_told(vec: &VecRegs, op: CmpUImmOp, e: u32, zn: Reg, n: u64) -> [u64; 4]
+    requires { IsLaneSize e }
+    ensures { model.IsTold e (unsigned_test op) vec.now zn (second.Number n) result }
+{
+    match op {
+        CmpUImmOp::Cmphs => told(
+            vec,
+            e,
+            &ComparedNumber {
+                op: lane_tests::Hs,
+                zn,
+                n,
+            },
+        ),
+        CmpUImmOp::Cmphi => told(
+            vec,
+            e,
+            &ComparedNumber {
+                op: lane_tests::Hi,
+                zn,
+                n,
+            },
+        ),
+        CmpUImmOp::Cmplo => told(
+            vec,
+            e,
+            &ComparedNumber {
+                op: lane_tests::Lo,
+                zn,
+                n,
+            },
+        ),
+        CmpUImmOp::Cmpls => told(
+            vec,
+            e,
+            &ComparedNumber {
+                op: lane_tests::Ls,
+                zn,
+                n,
+            },
+        ),
+    }
+}
+
+/// The words of a predicate that has the lanes of which a compare with a signed immediate tells.
+#[inline(always)]
+fn signed_told(vec: &VecRegs, op: CmpSImmOp, e: u32, zn: Reg, n: u64) -> [u64; 4]
+    requires { IsLaneSize e }
+    ensures { model.IsTold e (signed_test op) vec.now zn (second.Number n) result }
+{
+    match op {
+        CmpSImmOp::Cmpge => told(
+            vec,
+            e,
+            &ComparedNumber {
+                op: lane_tests::Ge,
+                zn,
+                n,
+            },
+        ),
+        CmpSImmOp::Cmpgt => told(
+            vec,
+            e,
+            &ComparedNumber {
+                op: lane_tests::Gt,
+                zn,
+                n,
+            },
+        ),
+        CmpSImmOp::Cmplt => told(
+            vec,
+            e,
+            &ComparedNumber {
+                op: lane_tests::Lt,
+                zn,
+                n,
+            },
+        ),
+        CmpSImmOp::Cmple => told(
+            vec,
+            e,
+            &ComparedNumber {
+                op: lane_tests::Le,
+                zn,
+                n,
+            },
+        ),
+        CmpSImmOp::Cmpeq => told(
+            vec,
+            e,
+            &ComparedNumber {
+                op: lane_tests::Eq,
+                zn,
+                n,
+            },
+        ),
+        CmpSImmOp::Cmpne => told(
+            vec,
+            e,
+            &ComparedNumber {
+                op: lane_tests::Ne,
+                zn,
+                n,
+            },
+        ),
     }
 }
 
 /// The active lanes whose compare holds.
+#[inline(always)]
 fn compared(
     vec: &VecRegs,
     test: ElementTest,
@@ -155,17 +388,19 @@ fn compared(
     pg: Pred,
     zn: Reg,
     operand: &Operand,
+    words: &[u64; 4],
 ) -> PredBits
-    requires { model.IsOfLane (size_of e) operand.now }
+    requires fits { model.IsOfLane (size_of e) operand.now }
+    requires told { model.IsTold (size_of e) test vec.now zn operand.now words.now }
     ensures { result ≡ table.compared (size_of e) pg (model.answer test (size_of e) vec.now zn operand.now) vec.now }
 {
     let _length = vec.length().bits();
-    let words = words_told(vec, test, e.bits(), zn, operand);
-    let told = PredBits::of_words(bits(vec), &words);
+    let told = PredBits::of_words(bits(vec), words);
     pred_bits::logic(LogicOp::And, &read(vec, pg), &told, &told)
 }
 
 /// The same, with the size of lanes that a field names.
+#[inline(always)]
 #[tactic(auto, using(crate::proofs::Lengths::lengths))]
 fn compared_lanes(
     vec: &VecRegs,
@@ -174,15 +409,18 @@ fn compared_lanes(
     pg: Pred,
     zn: Reg,
     operand: &Operand,
+    words: &[u64; 4],
 ) -> PredBits
-    requires { model.IsOfLane (lane_bits size) operand.now }
+    requires fits { model.IsOfLane (lane_bits size) operand.now }
+    requires told { model.IsTold (lane_bits size) test vec.now zn operand.now words.now }
     ensures value { result ≡ table.compared (lane_bits size) pg (model.answer test (lane_bits size) vec.now zn operand.now) vec.now }
     ensures length { length result ≡ predicate_bits vec.now }
 {
-    compared(vec, test, esize(size), pg, zn, operand)
+    compared(vec, test, esize(size), pg, zn, operand, words)
 }
 
 /// Writes the active lanes whose compare holds, and sets the flags by the predicate test of them.
+#[inline(always)]
 fn compare(
     core: &mut Core,
     vec: &mut VecRegs,
@@ -191,14 +429,16 @@ fn compare(
     pg: Pred,
     zn: Reg,
     operand: &Operand,
+    words: &[u64; 4],
     pd: Pred,
 )
-    requires { model.IsOfLane (lane_bits size) operand.now }
+    requires fits { model.IsOfLane (lane_bits size) operand.now }
+    requires told { model.IsTold (lane_bits size) test vec.old zn operand.now words.now }
     ensures registers { core.new ≡ (put_compared (lane_bits size) pg pd (model.answer test (lane_bits size) vec.old zn operand.now) core.old vec.old).core }
     ensures vectors { vec.new ≡ (put_compared (lane_bits size) pg pd (model.answer test (lane_bits size) vec.old zn operand.now) core.old vec.old).vectors }
 {
-    let bits = compared_lanes(vec, test, size, pg, zn, operand);
-    test_lanes(core, true, &read(vec, pg), &bits, size);
+    let bits = compared_lanes(vec, test, size, pg, zn, operand, words);
+    set_test_lanes(core, &read(vec, pg), &bits, size);
     write(vec, pd, &bits);
 }
 
@@ -216,6 +456,7 @@ pub fn vectors(
     ensures registers { core.new ≡ (predicate (form.CmpVec op size zm pg zn pd) core.old vec.old).core }
     ensures vectors { vec.new ≡ (predicate (form.CmpVec op size zm pg zn pd) core.old vec.old).vectors }
 {
+    let words = vectors_told(vec, op, lane_bits(size), zn, zm);
     compare(
         core,
         vec,
@@ -224,6 +465,7 @@ pub fn vectors(
         pg.register(),
         zn,
         &Operand::Lane(zm),
+        &words,
         pd,
     );
 }
@@ -242,6 +484,7 @@ pub fn wide(
     ensures registers { core.new ≡ (predicate (form.CmpWide op size zm pg zn pd) core.old vec.old).core }
     ensures vectors { vec.new ≡ (predicate (form.CmpWide op size zm pg zn pd) core.old vec.old).vectors }
 {
+    let words = wide_told(vec, op, lane_bits(size), zn, zm);
     compare(
         core,
         vec,
@@ -250,8 +493,18 @@ pub fn wide(
         pg.register(),
         zn,
         &Operand::Covering(zm),
+        &words,
         pd,
     );
+}
+
+/// An unsigned immediate.
+#[inline(always)]
+fn unsigned_immediate(imm7: U<7>) -> u64
+    ensures value { result ≡ imm7 }
+    ensures small { result < 2 ^ 7 }
+{
+    imm7.get() as u64
 }
 
 /// Compares with an unsigned immediate.
@@ -268,6 +521,8 @@ pub fn unsigned(
     ensures registers { core.new ≡ (predicate (form.CmpUImm op size imm7 pg zn pd) core.old vec.old).core }
     ensures vectors { vec.new ≡ (predicate (form.CmpUImm op size imm7 pg zn pd) core.old vec.old).vectors }
 {
+    let n = unsigned_immediate(imm7);
+    let words = unsigned_told(vec, op, lane_bits(size), zn, n);
     compare(
         core,
         vec,
@@ -275,12 +530,14 @@ pub fn unsigned(
         size,
         pg.register(),
         zn,
-        &Operand::Number(imm7.get() as u64),
+        &Operand::Number(n),
+        &words,
         pd,
     );
 }
 
 /// A signed immediate, extended to a lane.
+#[inline(always)]
 fn immediate(size: U<2>, imm5: U<5>) -> u64
     ensures value { result ≡ sign_extended (lane_bits size) 5 imm5 }
     ensures small { result < 2 ^ lane_bits size }
@@ -302,6 +559,8 @@ pub fn signed(
     ensures registers { core.new ≡ (predicate (form.CmpSImm op size imm5 pg zn pd) core.old vec.old).core }
     ensures vectors { vec.new ≡ (predicate (form.CmpSImm op size imm5 pg zn pd) core.old vec.old).vectors }
 {
+    let n = immediate(size, imm5);
+    let words = signed_told(vec, op, lane_bits(size), zn, n);
     compare(
         core,
         vec,
@@ -309,7 +568,8 @@ pub fn signed(
         size,
         pg.register(),
         zn,
-        &Operand::Number(immediate(size, imm5)),
+        &Operand::Number(n),
+        &words,
         pd,
     );
 }

@@ -4,26 +4,28 @@ ghost use Rattle.emu_bits.specs.Numbers.{width_of};
 ghost use Rattle.emu_model.specs.State.{read_x};
 ghost use Rattle.sve_effects.specs.Element.{element};
 ghost use Rattle.sve_effects.specs.ElementLoop.{lane_bits, lane_of};
-ghost use Rattle.sve_effects.specs.PredicateRows.{predicate, predicate_bits, set_lanes_of, ptrue_flags, while_of, while_result, counted_by, terminates, termination_flags};
+ghost use Rattle.sve_effects.specs.PredicateRows.{predicate, predicate_bits, set_lanes_of, ptrue_flags, ones, while_of, while_result, counted_by, terminates, termination_flags};
 ghost use Rattle.sve_effects.specs.Pattern.{pattern_count};
-ghost use Rattle.sve_effects.specs.Predicate.{only_next, lanes_below};
+ghost use Rattle.sve_effects.specs.Predicate.{only_next, lanes_below, pred_test};
 ghost use Rattle.sve_insn.specs.declared.form.SveForm.TheVariants as form;
 ghost use Rattle.sve_pred.specs.Groups.{is_by_lanes};
+ghost use Rattle.sve_pred.specs.Patterns as model;
 ghost use Rattle.vec_model.specs.Lanes.{IsLaneSize, read_p, with_lanes};
 
-use crate::registers::{bits, esize, read, test_all_lanes, test_lanes, write};
+use crate::registers::{bits, esize, read, set_test_lanes, write};
 use core_regs::Core;
 use emu_bits::{Flags, Pred, Reg, U, low_bits};
 use lane_kernels::sources::Map1;
 use lane_kernels::words::plain;
 use lane_kernels::{LaneWise2, WithNumber};
 use lane_ops::{Add, Sub};
-use pred_bits::{PredBits, WhileTest, lanes_below, next, pattern_count, while_bits};
+use pred_bits::{PredBits, WhileTest, first_lanes, next, pattern_count, while_tested};
 use sve_elements::{ElementOp, apply};
 use sve_insn::{CtermOp, IncPOp, PtrueOp, Sve, SveForm, WhileOp};
 use vec_regs::VecRegs;
 
 /// The result of `pnext`.
+#[inline(always)]
 #[tactic(auto, using(crate::proofs::Lengths::lengths))]
 fn next_bits(vec: &VecRegs, size: U<2>, pg: Pred, pdn: Pred) -> PredBits
     ensures value { result ≡ only_next (lane_bits size) (predicate_bits vec.now) (read_p vec.now pg) (read_p vec.now pdn) }
@@ -38,7 +40,7 @@ pub fn next_lane(core: &mut Core, vec: &mut VecRegs, size: U<2>, pg: Pred, pdn: 
     ensures vectors { vec.new ≡ (predicate (form.Next size pg pdn) core.old vec.old).vectors }
 {
     let bits = next_bits(vec, size, pg, pdn);
-    test_lanes(core, true, &read(vec, pg), &bits, size);
+    set_test_lanes(core, &read(vec, pg), &bits, size);
     write(vec, pdn, &bits);
 }
 
@@ -51,6 +53,7 @@ pub fn count_p(core: &mut Core, vec: &VecRegs, size: U<2>, pg: Pred, pn: Pred, r
 }
 
 /// Whether the flags are set.
+#[inline(always)]
 fn ptrue_flags(op: PtrueOp) -> bool
     ensures { result ≡ ptrue_flags op }
 {
@@ -61,13 +64,39 @@ fn ptrue_flags(op: PtrueOp) -> bool
 }
 
 /// The result of `ptrue`.
+#[inline(always)]
 #[tactic(auto, using(crate::proofs::Lengths::lengths))]
 fn ptrue_bits(vec: &VecRegs, size: U<2>, pattern: U<5>) -> PredBits
     ensures value { result ≡ lanes_below (lane_bits size) (predicate_bits vec.now) (pattern_count pattern (vec.now.bits / lane_bits size)) }
     ensures length { length result ≡ predicate_bits vec.now }
 {
     let e = esize(size);
-    lanes_below(pattern_count(pattern, vec.length().lanes(e)), e, bits(vec))
+    first_lanes(pattern_count(pattern, vec.length().lanes(e)), e, bits(vec))
+}
+
+/// Writes the lanes of a pattern, with the flags of their test. In code of its own, since few instructions set flags.
+#[inline(never)]
+fn put_pattern_tested(core: &mut Core, vec: &mut VecRegs, size: U<2>, pattern: U<5>, pd: Pred)
+    ensures registers { core.new ≡ (model.put_pattern true (lane_bits size) pattern pd core.old vec.old).core }
+    ensures vectors { vec.new ≡ (model.put_pattern true (lane_bits size) pattern pd core.old vec.old).vectors }
+{
+    let bits = ptrue_bits(vec, size, pattern);
+    set_test_lanes(core, &bits, &bits, size);
+    write(vec, pd, &bits);
+}
+
+/// Writes the lanes of a pattern, with the flags of their test, if they are set.
+#[inline(always)]
+fn put_pattern(core: &mut Core, vec: &mut VecRegs, sets: bool, size: U<2>, pattern: U<5>, pd: Pred)
+    ensures registers { core.new ≡ (model.put_pattern sets (lane_bits size) pattern pd core.old vec.old).core }
+    ensures vectors { vec.new ≡ (model.put_pattern sets (lane_bits size) pattern pd core.old vec.old).vectors }
+{
+    if sets {
+        put_pattern_tested(core, vec, size, pattern, pd);
+    } else {
+        let bits = ptrue_bits(vec, size, pattern);
+        write(vec, pd, &bits);
+    }
 }
 
 /// `ptrue`, `ptrues`.
@@ -75,12 +104,11 @@ pub fn ptrue(core: &mut Core, vec: &mut VecRegs, op: PtrueOp, size: U<2>, patter
     ensures registers { core.new ≡ (predicate (form.Ptrue op size pattern pd) core.old vec.old).core }
     ensures vectors { vec.new ≡ (predicate (form.Ptrue op size pattern pd) core.old vec.old).vectors }
 {
-    let bits = ptrue_bits(vec, size, pattern);
-    test_lanes(core, ptrue_flags(op), &bits, &bits, size);
-    write(vec, pd, &bits);
+    put_pattern(core, vec, ptrue_flags(op), size, pattern, pd);
 }
 
 /// How many lanes of a predicate are set.
+#[inline(always)]
 fn set_lanes(vec: &VecRegs, size: U<2>, pm: Pred) -> u64
     ensures { result ≡ set_lanes_of (lane_bits size) pm vec.now }
 {
@@ -130,6 +158,7 @@ pub fn inc_p_z(vec: &mut VecRegs, op: IncPOp, size: U<2>, pm: Pred, zdn: Reg)
 }
 
 /// The width of the registers: 64 bits where sf is 1, else 32.
+#[inline(always)]
 fn width(sf: bool) -> u32
     ensures value { result ≡ width_of sf }
     ensures either { (result ≡ 32) ⊎ (result ≡ 64) }
@@ -138,6 +167,7 @@ fn width(sf: bool) -> u32
 }
 
 /// The condition of a name.
+#[inline(always)]
 fn condition(op: WhileOp) -> WhileTest
     ensures { result ≡ while_of op }
 {
@@ -149,9 +179,10 @@ fn condition(op: WhileOp) -> WhileTest
     }
 }
 
-/// The result of a loop.
+/// The result of a loop, and its flags: those of the test of all lanes.
+#[inline(always)]
 #[tactic(auto, using(crate::proofs::Lengths::lengths))]
-fn loop_bits(
+fn looped(
     core: &Core,
     vec: &VecRegs,
     op: WhileOp,
@@ -159,12 +190,14 @@ fn loop_bits(
     rm: Reg,
     sf: bool,
     rn: Reg,
-) -> PredBits
-    ensures value { result ≡ while_result op (lane_bits size) sf rn rm core.now vec.now }
-    ensures length { length result ≡ predicate_bits vec.now }
+) -> (PredBits, Flags)
+    ensures value { result.0 ≡ while_result op (lane_bits size) sf rn rm core.now vec.now }
+    ensures length { length result.0 ≡ predicate_bits vec.now }
+    ensures flags { result.1 ≡ pred_test (lane_bits size) (predicate_bits vec.now) (ones (predicate_bits vec.now))
+        (while_result op (lane_bits size) sf rn rm core.now vec.now) }
 {
     let _length = vec.length().bits();
-    while_bits(
+    while_tested(
         condition(op),
         core.x(rn),
         core.x(rm),
@@ -175,7 +208,6 @@ fn loop_bits(
 }
 
 /// `whilelt`, `whilele`, `whilelo`, `whilels`: the flags are by the test of all bits.
-#[tactic(auto, using(crate::proofs::Lengths::length_given))]
 pub fn while_lanes(
     core: &mut Core,
     vec: &mut VecRegs,
@@ -189,9 +221,8 @@ pub fn while_lanes(
     ensures registers { core.new ≡ (predicate (form.While op size rm sf rn pd) core.old vec.old).core }
     ensures vectors { vec.new ≡ (predicate (form.While op size rm sf rn pd) core.old vec.old).vectors }
 {
-    let _length = vec.length().bits();
-    let set = loop_bits(core, vec, op, size, rm, sf, rn);
-    test_all_lanes(core, &set, size);
+    let (set, flags) = looped(core, vec, op, size, rm, sf, rn);
+    core.set_flags(flags);
     write(vec, pd, &set);
 }
 

@@ -1,11 +1,13 @@
 //! Single predicates: tests, the first active bit, no bit, and FFR.
 ghost use Rattle.std.specs.Prelude.{◌≡◌, replicate, true, false, length};
+ghost use Rattle.sve_effects.specs.declared.predicates.LogicOp.{LogicOp};
+ghost use Rattle.sve_effects.specs.Predicate as model;
 ghost use Rattle.sve_effects.specs.PredicateRows.{predicate, predicate_bits, after_test, read_ffr_flags, written_ffr};
 ghost use Rattle.sve_insn.specs.declared.form.SveForm.TheVariants as form;
 ghost use Rattle.sve_pred.specs.Groups.{is_single};
 ghost use Rattle.vec_model.specs.Lanes.{read_p, with_p, with_ffr};
 
-use crate::registers::{bits, read, read_ffr, test, write, write_ffr};
+use crate::registers::{bits, put, read, read_ffr, set_test, write, write_ffr};
 use core_regs::Core;
 use emu_bits::{Esize, Pred};
 use pred_bits::{LogicOp, PredBits, ones};
@@ -16,7 +18,7 @@ use vec_regs::VecRegs;
 pub fn ptest(core: &mut Core, vec: &VecRegs, pg: Pred, pn: Pred)
     ensures { core.new ≡ after_test true 8 (predicate_bits vec.now) (read_p vec.now pg) (read_p vec.now pn) core.old }
 {
-    test(core, true, &read(vec, pg), &read(vec, pn), Esize::B);
+    set_test(core, &read(vec, pg), &read(vec, pn), Esize::B);
 }
 
 /// `pfirst`.
@@ -27,7 +29,7 @@ pub fn first(core: &mut Core, vec: &mut VecRegs, pg: Pred, pdn: Pred)
 {
     let g = read(vec, pg);
     let bits = pred_bits::first(&g, &read(vec, pdn));
-    test(core, true, &g, &bits, Esize::B);
+    set_test(core, &g, &bits, Esize::B);
     write(vec, pdn, &bits);
 }
 
@@ -40,6 +42,7 @@ pub fn pfalse(vec: &mut VecRegs, pd: Pred)
 }
 
 /// Whether the flags are set.
+#[inline(always)]
 fn read_ffr_flags(op: ReadFfrOp) -> bool
     ensures { result ≡ read_ffr_flags op }
 {
@@ -49,17 +52,25 @@ fn read_ffr_flags(op: ReadFfrOp) -> bool
     }
 }
 
-/// `rdffr`, `rdffrs` under a predicate.
+/// The result of `rdffr` and `rdffrs` under a predicate.
+#[inline(always)]
 #[tactic(auto, using(crate::proofs::Lengths::length_given))]
+fn ffr_bits(vec: &VecRegs, pg: Pred) -> PredBits
+    ensures value { result ≡ model.logic LogicOp.And (predicate_bits vec.now)
+        (read_p vec.now pg) vec.now.ffr vec.now.ffr }
+    ensures length { length result ≡ predicate_bits vec.now }
+{
+    let ffr = read_ffr(vec);
+    pred_bits::logic(LogicOp::And, &read(vec, pg), &ffr, &ffr)
+}
+
+/// `rdffr`, `rdffrs` under a predicate.
 pub fn ffr_under(core: &mut Core, vec: &mut VecRegs, op: ReadFfrOp, pg: Pred, pd: Pred)
     ensures registers { core.new ≡ (predicate (form.ReadFfr op pg pd) core.old vec.old).core }
     ensures vectors { vec.new ≡ (predicate (form.ReadFfr op pg pd) core.old vec.old).vectors }
 {
-    let g = read(vec, pg);
-    let ffr = read_ffr(vec);
-    let bits = pred_bits::logic(LogicOp::And, &g, &ffr, &ffr);
-    test(core, read_ffr_flags(op), &g, &bits, Esize::B);
-    write(vec, pd, &bits);
+    let bits = ffr_bits(vec, pg);
+    put(core, vec, read_ffr_flags(op), pg, pd, &bits);
 }
 
 /// `rdffr`.

@@ -25,5 +25,5 @@ returns-else-rest-eq0 c b =
     (λ k h. let in_g : k < length c.args.g.now = omega arith in get_shown c.g.inside.bits c.g.inside.words c.args.g.now k c.g.view_is in_g)
     (λ k h. let in_a : k < length c.args.a.now = omega (arith, c.requires) in get_shown c.a.inside.bits c.a.inside.words c.args.a.now k c.a.view_is in_a)
     c.g.invariant.above c.starts_in_both-words.ensures
-    c.starts_below.result c.starts_in_both.result (c.g.inside.bits - c.g.inside.bits % (c.bits.result / 8)) end c.starts_below.ensures c.starts_in_both.ensures b
+    c.starts_below_apart.result c.starts_in_both.result (c.g.inside.bits - c.g.inside.bits % (c.bits.result / 8)) end c.starts_below_apart.ensures c.starts_in_both.ensures b
     ∙ ap (λ m. field_bit (size_of c.args.e / 8) (among (m / (size_of c.args.e / 8)) (λ k. get_or c.args.g.now (k * (size_of c.args.e / 8)) false && get_or c.args.a.now (k * (size_of c.args.e / 8)) false)) b) (sym lg)

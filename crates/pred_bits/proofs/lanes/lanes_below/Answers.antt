@@ -1,14 +1,16 @@
-use Rattle.std.proofs.Common.{◌≡◌, ◌≤◌, ◌*◌, ◌/◌, min, ap, ◌∙◌, arith}
+use Rattle.std.proofs.Common.{◌≡◌, ◌≤◌, ◌/◌, min, nat_lt, sym, ap, subst, ◌∙◌, arith}
 use Rattle.emu_bits.specs.Flags.{size_of}
-use Rattle.pred_bits.proofs.Fields.{below_clear, below_fields}
+use Rattle.sve_effects.specs.Predicate.{lanes_of}
+use Rattle.sve_effects.specs.Predicate as model
+use Rattle.pred_bits.proofs.Fields.{fields_same, cut_count}
 use Rattle.pred_bits.proofs.lanes.lanes_below.Goals as goal
 
-pub of_words-requires-clause-above : goal.of_words-requires-clause-above
-of_words-requires-clause-above c =
-    let end : c.min-end.result ≤ c.args.bits = omega (arith, c.min-end.ensures) in
-    below_clear c.args.e c.args.bits c.min-end.result c.starts_below.result end c.starts_below.ensures
+pub first_lanes-requires-clause-lanes : goal.first_lanes-requires-clause-lanes
+first_lanes-requires-clause-lanes c = subst (λ e. c.min.result ≤ c.args.bits / (e / 8)) c.bits.ensures (omega (arith, c.min.ensures))
 
 pub returns : goal.returns
 returns c =
-    let end : c.min-end.result ≡ min (min c.args.count 256 * (size_of c.args.e / 8)) c.args.bits = c.min-end.ensures ∙ ap (λ n. min n c.args.bits) (ap (λ n. n * (c.bits.result / 8)) c.min.ensures ∙ ap (λ e. min c.args.count 256 * (e / 8)) c.bits.ensures) in
-    c.of_words.ensures ∙ below_fields c.args.e c.args.bits c.args.count c.min-end.result c.starts_below.result c.requires.few end c.starts_below.ensures
+    let n = lanes_of (size_of c.args.e) c.args.bits in
+    let count : c.min.result ≡ min c.args.count (lanes_of (size_of c.args.e) c.args.bits) = c.min.ensures ∙ ap (λ e. min c.args.count (c.args.bits / (e / 8))) c.bits.ensures in
+    c.first_lanes.ensures ∙ ap (model.lanes_below (size_of c.args.e) c.args.bits) count
+    ∙ fields_same c.args.e c.args.bits (λ k. nat_lt k (min c.args.count n)) (λ k. nat_lt k c.args.count) c.requires.whole (cut_count n c.args.count)
