@@ -5,6 +5,8 @@ pub mod Stores
 pub mod Nonempty
 pub mod Lists
 pub mod FieldBits
+pub mod LaneBits
+pub mod InParts
 pub mod Kept
 pub mod RunWords
 pub mod PredicateBytes

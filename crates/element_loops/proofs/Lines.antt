@@ -1,5 +1,5 @@
 -- Elements one behind the other that are read as bytes.
-use Rattle.std.proofs.Common.{◌≡◌, ◌<◌, ◌≤◌, ◌+◌, ◌*◌, ◌/◌, ◌%◌, ◌^◌, ℕ, zero, suc, Bool, true, false, if◌then◌else◌, List, [], ◌∷◌, ◌++◌, length, take, drop, get_or, None, refl, sym, ap, subst, ◌∙◌, add-one, inl, inr, arith}
+use Rattle.std.proofs.Common.{◌≡◌, ◌<◌, ◌≤◌, ◌+◌, ◌-◌, ◌*◌, ◌/◌, ◌%◌, ◌^◌, ℕ, zero, suc, Bool, true, false, if◌then◌else◌, List, [], ◌∷◌, ◌++◌, length, take, drop, get_or, None, refl, sym, ap, subst, ◌∙◌, add-one, inl, inr, arith}
 use Rattle.std.specs.Int.{bytes_low_first}
 use Rattle.std.proofs.Math.Nat.{mul-le-mul_right, zero-div}
 use Rattle.std.proofs.lemmas.Bool.{cases_lt}
@@ -11,7 +11,7 @@ use Rattle.emu_model.specs.declared.access.Kind.{Kind}
 use Rattle.emu_model.specs.declared.access.Kind.TheVariants.{Write}
 use Rattle.emu_model.specs.Access.{Memory, address, refused, stored, value}
 use Rattle.emu_model.specs.AccessLaws.{with_bytes_split}
-use Rattle.emu_model.specs.Elements.{Element, accesses_of, reach}
+use Rattle.emu_model.specs.Elements.{Element, reach}
 use Rattle.emu_model.specs.Lists.{each, each_same, each-more}
 use Rattle.emu_model.specs.Pages.{bytes_at, with_bytes}
 use Rattle.emu_model.specs.State.{Vectors}
@@ -21,10 +21,11 @@ use Rattle.vec_model.specs.Lanes.{IsLaneSize, byte_in}
 use Rattle.vec_regs.specs.Words.{byte_of, bytes_of}
 use Rattle.vec_regs.proofs.PackedLanes.{below_quotient}
 use Rattle.element_words.specs.Placed.{lane_at}
+use Rattle.element_words.proofs.Words.{copied_lanes}
 use Rattle.sve_effects.specs.Element.{extended_by}
 use Rattle.sve_effects.specs.VectorElements.{Layout, elements_below, elements_of}
 use Rattle.sve_effects.specs.VectorLoadStore.{loaded_lane, with_loaded}
-use Rattle.element_access.specs.ReachLaws.{AreStored, all_of, accesses_append, refused_with_stored}
+use Rattle.element_access.specs.ReachLaws.{AreStored, all_of, refused_with_stored}
 use Rattle.element_loops.specs.declared.plan.Plan.{Plan}
 use Rattle.element_loops.specs.Layouts.{layout_of}
 use Rattle.element_loops.specs.Runs.{AreFilled, IsLine, is_kept, lane_in, stored_in_turn}
@@ -36,7 +37,7 @@ use Rattle.element_loops.proofs.RunLoads.{part_allowed, element_value, all_reach
 use Rattle.element_loops.proofs.RunNotes.{placed_at}
 use Rattle.element_loops.proofs.RunStores.{again, bytes_same, nothing_taken, slice_each, take_both}
 use Rattle.element_loops.proofs.Stores.{stores_begin, lane_begins, lane_goes_on}
-use Rattle.element_loops.proofs.Turns.{below_none, within_none, within_more, within_all, taken_is_loaded, given_by_itself}
+use Rattle.element_loops.proofs.Turns.{within_all, taken_is_loaded, given_by_itself}
 
 pub element_fits : (k j r lanes n : ℕ) → k < lanes → j < r → (k * r + j) * n + n ≤ lanes * r * n
 element_fits k j r lanes n h i =
@@ -212,6 +213,29 @@ lanes_written pg whole p v size long bs before words at step f all kept given =
     ∙ ap (λ y. if is_kept whole pg p.bits v k then y else 0) (all i b)
     ∙ where_byte (is_kept whole pg p.bits v k) (lane_at p.is_signed p.bits p.bytes bs at step k) d
     ∙ ap (λ y. y / d % 256) (sym (given k (below_quotient p.bits v.bits i size long b))))
+
+-- the same of lanes that have elements as they stand
+pub lanes_copied : (pg whole : ℕ) (p : Plan) (v : Vectors) → IsLaneSize p.bits → IsVectorLength v.bits → (bs : List ℕ) (at step : ℕ) (f : ℕ → ℕ)
+    → ((k : ℕ) → get_or bs k 0 < 256) → p.is_signed ≡ false → p.bits ≡ 8 * p.bytes → step ≡ p.bytes
+    → ((k : ℕ) → k < v.bits / p.bits → f k ≡ (if is_kept whole pg p.bits v k then lane_at p.is_signed p.bits p.bytes bs at step k else 0))
+    → each (v.bits / 8) (λ i. if is_kept whole pg p.bits v (i / (p.bits / 8)) then get_or bs (at + i) 0 else 0) ≡ each (v.bits / 8) (byte_in (p.bits / 8) f)
+lanes_copied pg whole p v size long bs at step f small unsigned same next given =
+    let g : ℕ → ℕ = λ i. if is_kept whole pg p.bits v (i / (p.bits / 8)) then get_or bs (at + i) 0 else 0 in
+    each_same (v.bits / 8) g (byte_in (p.bits / 8) f) 0 (λ i b.
+    let k : ℕ = i / (p.bits / 8) in
+    let d : ℕ = 2 ^ (8 * (i % (p.bits / 8))) in
+    ap (λ y. if is_kept whole pg p.bits v k then y else 0) (copied_lanes p.bits p.bytes at i bs size same small)
+    ∙ where_byte (is_kept whole pg p.bits v k) (lane_at false p.bits p.bytes bs at p.bytes k) d
+    ∙ ap (λ (s : Bool). (if is_kept whole pg p.bits v k then lane_at s p.bits p.bytes bs at p.bytes k else 0) / d % 256) (sym unsigned)
+    ∙ ap (λ n. (if is_kept whole pg p.bits v k then lane_at p.is_signed p.bits p.bytes bs at n k else 0) / d % 256) (sym next)
+    ∙ ap (λ y. y / d % 256) (sym (given k (below_quotient p.bits v.bits i size long b))))
+
+-- the bytes of all lanes are there
+pub copy_room : (e n bits at long : ℕ) → IsLaneSize e → IsVectorLength bits → e ≡ 8 * n → ((k : ℕ) → k < bits / e → at + k * n + n ≤ long) → at + bits / 8 ≤ long
+copy_room e n bits at long (inl s) l same h = let w : n ≡ 1 = omega arith in let last : at + (bits / 8 - 1) * n + n ≤ long = h (bits / 8 - 1) (rw s (omega (arith, l.least))) in let here : at + (bits / 8 - 1) * 1 + 1 ≤ long = subst (λ n. at + (bits / 8 - 1) * n + n ≤ long) w last in omega (arith, here, l.least)
+copy_room e n bits at long (inr (inl s)) l same h = let w : n ≡ 2 = omega arith in let last : at + (bits / 16 - 1) * n + n ≤ long = h (bits / 16 - 1) (rw s (omega (arith, l.least))) in let here : at + (bits / 16 - 1) * 2 + 2 ≤ long = subst (λ n. at + (bits / 16 - 1) * n + n ≤ long) w last in omega (arith, here, l.least, l.multiple)
+copy_room e n bits at long (inr (inr (inl s))) l same h = let w : n ≡ 4 = omega arith in let last : at + (bits / 32 - 1) * n + n ≤ long = h (bits / 32 - 1) (rw s (omega (arith, l.least))) in let here : at + (bits / 32 - 1) * 4 + 4 ≤ long = subst (λ n. at + (bits / 32 - 1) * n + n ≤ long) w last in omega (arith, here, l.least, l.multiple)
+copy_room e n bits at long (inr (inr (inr s))) l same h = let w : n ≡ 8 = omega arith in let last : at + (bits / 64 - 1) * n + n ≤ long = h (bits / 64 - 1) (rw s (omega (arith, l.least))) in let here : at + (bits / 64 - 1) * 8 + 8 ≤ long = subst (λ n. at + (bits / 64 - 1) * n + n ≤ long) w last in omega (arith, here, l.least, l.multiple)
 
 -- ---- lanes of other vectors with the same predicates
 

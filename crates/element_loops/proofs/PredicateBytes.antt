@@ -1,6 +1,6 @@
 -- The bytes of predicates, each of eight bits.
-use Rattle.std.proofs.Common.{◌≡◌, ◌<◌, ◌≤◌, ◌+◌, ◌*◌, ◌/◌, ◌%◌, ◌^◌, ℕ, zero, suc, Bool, true, false, nat_eq, List, [], ◌∷◌, ◌++◌, get_or, take, length, inl, inr, refl, sym, ap, subst, ◌∙◌, add-one, arith}
-use Rattle.std.specs.Int.{bytes_low_first, byte_at}
+use Rattle.std.proofs.Common.{◌≡◌, ◌<◌, ◌≤◌, ◌+◌, ◌*◌, ◌/◌, ◌%◌, ◌^◌, ℕ, zero, suc, Bool, true, false, nat_eq, List, [], ◌++◌, get_or, take, length, inl, inr, refl, sym, ap, ◌∙◌, arith}
+use Rattle.std.specs.Int.{bytes_low_first}
 use Rattle.std.proofs.lemmas.Nat.{mod-pow-add}
 use Rattle.std.proofs.lemmas.Bool.{cases_lt}
 use Rattle.std.proofs.lemmas.List.{get_or_past}
@@ -9,7 +9,7 @@ use Rattle.emu_bits.specs.Fields.{bit}
 use Rattle.emu_bits.specs.Operations.{number_of_bits}
 use Rattle.emu_model.specs.declared.access.Access.{Access}
 use Rattle.emu_model.specs.Access.{Memory, address, value}
-use Rattle.emu_model.specs.Elements.{Element, accesses_of}
+use Rattle.emu_model.specs.Elements.{accesses_of}
 use Rattle.emu_model.specs.Lengths.{IsVectorLength}
 use Rattle.emu_model.specs.Lists.{each, each_same, get_or-each}
 use Rattle.emu_model.specs.Pages.{bytes_at}
@@ -17,17 +17,15 @@ use Rattle.emu_model.specs.State.{Vectors}
 use Rattle.emu_model.specs.WithinPage.{number_in}
 use Rattle.vec_model.specs.Lanes.{read_p, with_p, byte_in}
 use Rattle.vec_regs.specs.Words.{bit_of, bits_of, byte_of, AreClearFrom}
-use Rattle.sve_effects.specs.VectorElements.{Layout, elements_of, register_at}
-use Rattle.sve_effects.specs.VectorLoadStore.{with_loaded_bits, bits_stored}
+use Rattle.sve_effects.specs.VectorElements.{elements_of}
+use Rattle.sve_effects.specs.VectorLoadStore.{with_loaded_bits}
 use Rattle.element_words.specs.Placed.{lane_at}
 use Rattle.element_loops.specs.declared.plan.Plan.{Plan}
 use Rattle.element_loops.specs.declared.plan.OnLanes.{OnLanes}
-use Rattle.element_loops.specs.declared.plan.Target.{Target}
 use Rattle.element_loops.specs.declared.plan.Target.TheVariants.{Predicate}
 use Rattle.element_loops.specs.Layouts.{IsPredicate, is_on_of, layout_of}
 use Rattle.element_loops.specs.Planned.{stored_by}
-use Rattle.element_loops.specs.Runs.{ArePlaced, IsLine, AreFilled, stored_in_turn}
-use Rattle.element_loops.specs.SoFar.{element_of_lane}
+use Rattle.element_loops.specs.Runs.{IsLine, AreFilled, stored_in_turn}
 use Rattle.element_loops.proofs.FieldBits.{bit_within}
 use Rattle.element_loops.proofs.RunLoads.{element_value}
 use Rattle.element_loops.proofs.RunNotes.{placed_at, one_place, noted_below}

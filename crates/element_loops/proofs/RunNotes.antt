@@ -1,10 +1,10 @@
 -- The log of elements that are one behind the other.
-use Rattle.std.proofs.Common.{◌≡◌, ◌<◌, ◌≤◌, ◌+◌, ◌*◌, ◌/◌, ◌%◌, ◌^◌, ℕ, zero, suc, Bool, true, false, List, [], ◌∷◌, ◌++◌, inl, inr, refl, sym, ap, subst, ◌∙◌, add-one, append_assoc, arith}
+use Rattle.std.proofs.Common.{◌≡◌, ◌<◌, ◌≤◌, ◌+◌, ◌*◌, ◌/◌, ℕ, zero, suc, Bool, true, false, List, [], ◌∷◌, ◌++◌, inl, inr, sym, ap, subst, ◌∙◌, add-one, append_assoc, arith}
 use Rattle.std.proofs.Math.Nat.{mul-le-mul_right}
 use Rattle.std.proofs.lemmas.List.{append-nil}
 use Rattle.emu_model.specs.declared.access.Access.{Access}
 use Rattle.emu_model.specs.Access.{address}
-use Rattle.emu_model.specs.Elements.{Element, accesses_of}
+use Rattle.emu_model.specs.Elements.{accesses_of}
 use Rattle.emu_model.specs.Lists.{each, each-more, each_same}
 use Rattle.emu_model.specs.State.{Vectors}
 use Rattle.sve_effects.specs.VectorElements.{Layout, elements_below}
@@ -23,11 +23,11 @@ use Rattle.element_loops.proofs.Turns.{below_none, within_none, within_more, wit
 further : (base x y at : ℕ) → at ≡ address (base + x) → address (at + y) ≡ address (base + (x + y))
 further base x y at is = omega (arith, is)
 
--- one lane on
-pub next_lane : (base r n k at next step : ℕ) → at ≡ address (base + k * r * n) → step ≡ r * n → next ≡ address (at + step) → next ≡ address (base + (k + 1) * r * n)
-next_lane base r n k at next step is size more =
-    let e : k * r * n + r * n ≡ (k + 1) * r * n = omega arith in
-    more ∙ ap (λ s. address (at + s)) size ∙ further base (k * r * n) (r * n) at is ∙ ap (λ x. address (base + x)) e
+-- so many lanes on
+pub next_lanes : (base r n k d at next step : ℕ) → at ≡ address (base + k * r * n) → step ≡ r * n → next ≡ address (at + d * step) → next ≡ address (base + (k + d) * r * n)
+next_lanes base r n k d at next step is size more =
+    let e : k * r * n + d * (r * n) ≡ (k + d) * r * n = omega arith in
+    more ∙ ap (λ s. address (at + d * s)) size ∙ further base (k * r * n) (d * (r * n)) at is ∙ ap (λ x. address (base + x)) e
 
 pub lane_count : (k r lanes : ℕ) → k < lanes → k * r + r ≤ lanes * r
 lane_count k r lanes h =
@@ -112,6 +112,14 @@ module _ (base pg whole : ℕ) (p : Plan) (v : Vectors) (line : IsLine base pg w
 
   pub noted_skipped : (w : Bool) (k : ℕ) → (layout_of p v).is_on k ≡ false → accesses_of w (elements_below (layout_of p v) k) ≡ accesses_of w (elements_below (layout_of p v) (k + 1))
   noted_skipped w k off = ap (accesses_of w) (sym (skipped (layout_of p v) k off))
+
+  pub noted_idle : (w : Bool) (k d : ℕ) → ((i : ℕ) → k ≤ i → i < k + d → (layout_of p v).is_on i ≡ false) → accesses_of w (elements_below (layout_of p v) k) ≡ accesses_of w (elements_below (layout_of p v) (k + d))
+  noted_idle w k zero off = let e : k ≡ k + 0 = omega arith in ap (λ n. accesses_of w (elements_below (layout_of p v) n)) e
+  noted_idle w k (suc d) off =
+      let e : k + d + 1 ≡ k + suc d = omega arith in
+      noted_idle w k d (λ i lo hi. off i lo (omega arith))
+      ∙ noted_skipped w (k + d) (off (k + d) (omega arith) (omega arith))
+      ∙ ap (λ n. accesses_of w (elements_below (layout_of p v) n)) e
 
   -- all of the first n lanes are on
   pub noted_below : (w : Bool) (n : ℕ) → ((k : ℕ) → k < n → (layout_of p v).is_on k ≡ true)

@@ -1,7 +1,7 @@
 -- A run that is written as bytes.
-use Rattle.std.proofs.Common.{◌≡◌, ◌<◌, ◌≤◌, ◌+◌, ◌-◌, ◌*◌, ◌/◌, ◌%◌, ◌^◌, ℕ, zero, suc, Bool, true, List, [], ◌∷◌, ◌++◌, length, take, drop, get_or, None, inl, inr, refl, sym, ap, subst, ◌∙◌, add-one, append_assoc, arith}
+use Rattle.std.proofs.Common.{◌≡◌, ◌<◌, ◌≤◌, ◌+◌, ◌-◌, ◌*◌, ◌/◌, ◌%◌, ◌^◌, ℕ, zero, suc, true, List, [], ◌∷◌, ◌++◌, length, take, drop, get_or, None, inl, inr, refl, sym, ap, subst, ◌∙◌, add-one, append_assoc, arith}
 use Rattle.std.specs.Int.{bytes_low_first, byte_at}
-use Rattle.std.proofs.Math.Nat.{pow-suc, div-div-eq-div-mul, mul-le-mul_right}
+use Rattle.std.proofs.Math.Nat.{pow-suc, div-div-eq-div-mul}
 use Rattle.std.proofs.lemmas.List.{append-nil, get_or-take, get_or-drop, get_or_past, length-take, length-drop, take_all, take-append-drop}
 use Rattle.std.proofs.lemmas.Bool.{cases_lt}
 use Rattle.std.proofs.lemmas.List.FromFn.{fill_by_all}
@@ -26,8 +26,7 @@ use Rattle.element_loops.specs.Layouts.{layout_of}
 use Rattle.element_loops.specs.Runs.{IsRun}
 use Rattle.element_loops.specs.SoFar.{element_of_lane, elements_within}
 use Rattle.element_loops.proofs.RunNotes.{run_address}
-use Rattle.element_loops.proofs.FieldBits.{lane_again}
-use Rattle.element_loops.proofs.RunLoads.{part_allowed, some_bytes}
+use Rattle.element_loops.proofs.RunLoads.{part_allowed}
 use Rattle.element_loops.proofs.Stores.{lane_begins, lane_goes_on, lane_ends}
 
 -- ---- bytes of numbers

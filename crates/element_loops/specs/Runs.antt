@@ -1,5 +1,5 @@
 -- Elements one behind the other in memory; and runs, whose elements are as large as their lanes, of one register.
-use Rattle.std.specs.Prelude.{◌≡◌, ◌⊎◌, ◌<◌, ◌≤◌, ℕ, ◌+◌, ◌*◌, ◌/◌, ◌%◌, ◌^◌, Bool, false, ◌||◌, List, take, get_or, nat_eq, nat_lt, if◌then◌else◌}
+use Rattle.std.specs.Prelude.{◌≡◌, ◌⊎◌, ◌<◌, ◌≤◌, ℕ, ◌+◌, ◌*◌, ◌/◌, ◌%◌, ◌^◌, Bool, true, false, ◌||◌, List, take, get_or, nat_eq, nat_lt, if◌then◌else◌}
 use Rattle.std.specs.Int.{bytes_low_first}
 use Rattle.emu_model.specs.Elements.{Element}
 use Rattle.emu_model.specs.State.{Vectors}
@@ -33,6 +33,11 @@ pub record IsRun (base pg whole : ℕ) (p : Plan) (v : Vectors) : Type 0 where
   pub one : p.registers ≡ 1
   pub same : p.bits ≡ 8 * p.bytes
   pub unsigned : p.is_signed ≡ false
+
+-- All lanes before the front are on.
+pub record IsFront (front : ℕ) (p : Plan) (v : Vectors) : Type 0 where
+  pub few : front ≤ p.lanes
+  pub on : (k : ℕ) → k < front → is_on_of p.on p.bits v k ≡ true
 
 -- what lane k of the j-th register gets of bytes that elements of all lanes make
 abbrev pub lane_in : List ℕ → Plan → ℕ → ℕ → Vectors → ℕ → ℕ → ℕ

@@ -1,5 +1,5 @@
 //! The bits of a predicate that stand for a word of 64 bits.
-ghost use Rattle.std.specs.Prelude.{◌≡◌, ◌≤◌, ◌<◌, ◌+◌, ◌*◌, ◌/◌, ◌%◌, ◌^◌, ℕ, true};
+ghost use Rattle.std.specs.Prelude.{◌≡◌, ◌≤◌, ◌<◌, ◌+◌, ◌*◌, ◌/◌, ◌%◌, ◌^◌, ℕ, true, false};
 ghost use Rattle.vec_model.specs.Lanes.{IsLaneSize};
 ghost use Rattle.sve_effects.specs.ElementLoop.{is_active};
 ghost use Rattle.element_loops.specs.Runs.{keeps};
@@ -23,7 +23,7 @@ pub(crate) fn lanes_of_word(e: u32) -> u32
 }
 
 /// How many whole words so many lanes make.
-fn words_of_lanes(e: u32, lanes: u32) -> u32
+pub(crate) fn words_of_lanes(e: u32, lanes: u32) -> u32
     requires { IsLaneSize e }
     ensures { result ≡ lanes / (64 / e) }
 {
@@ -35,16 +35,16 @@ fn words_of_lanes(e: u32, lanes: u32) -> u32
     }
 }
 
-/// The place of a lane in its word.
-fn place_in_word(e: u32, k: u32) -> u32
+/// How many whole lanes so many bytes make.
+fn lanes_of_bytes(e: u32, bytes: u32) -> u32
     requires { IsLaneSize e }
-    ensures { result ≡ k % (64 / e) }
+    ensures { result ≡ bytes / (e / 8) }
 {
     match e {
-        8 => k % 8,
-        16 => k % 4,
-        32 => k % 2,
-        _ => 0,
+        8 => bytes,
+        16 => bytes / 2,
+        32 => bytes / 4,
+        _ => bytes / 8,
     }
 }
 
@@ -72,99 +72,87 @@ pub(crate) fn is_whole(e: u32, field: u64) -> bool
     }
 }
 
-/// The same of eight words, by the 64 bits that stand for them.
-fn are_whole(e: u32, bits: u64) -> bool
+/// The bits of a predicate, of 64, that no lane looks at: those behind the lowest of each field.
+fn bits_between(e: u32) -> u64
     requires { IsLaneSize e }
-    ensures { result ≡ true → (u t : ℕ) → u < 8 → t < 8 → keeps (e / 8) (bits / 2 ^ (8 * u) % 256) t ≡ true }
+    ensures { (q : ℕ) → q * (e / 8) < 64 → result / 2 ^ (q * (e / 8)) % 2 ≡ 0 }
 {
     match e {
-        8 => bits == 0xffff_ffff_ffff_ffff,
-        16 => bits == 0x5555_5555_5555_5555 || bits == 0xffff_ffff_ffff_ffff,
-        32 => bits == 0x1111_1111_1111_1111 || bits == 0xffff_ffff_ffff_ffff,
-        _ => bits == 0x0101_0101_0101_0101 || bits == 0xffff_ffff_ffff_ffff,
+        8 => 0,
+        16 => 0xaaaa_aaaa_aaaa_aaaa,
+        32 => 0xeeee_eeee_eeee_eeee,
+        _ => 0xfefe_fefe_fefe_fefe,
     }
 }
 
-/// How many words, all of whose lanes are on, are seen at once from word i on: eight, one or none.
-fn whole_at(vec: &VecRegs, pg: Pred, e: u32, i: u32, most: u32) -> u32
-    requires size { IsLaneSize e }
-    requires some { 1 ≤ most }
-    requires within { i + most ≤ vec.now.bits / 64 }
-    ensures on { (j : ℕ) → 8 * i ≤ j → j < 8 * (i + result) → is_active e vec.now pg (j / (e / 8)) ≡ true }
-    ensures few { result ≤ most }
+/// How many bits are 1, before the lowest that is 0.
+#[inline(always)]
+fn ones(bits: u64) -> u32
+    ensures ones { (i : ℕ) → i < result → bits / 2 ^ i % 2 ≡ 1 }
+    ensures few { result ≤ 64 }
 {
-    let _length = vec.length();
-    let words = vec.p_words(pg);
-    if i % 8 == 0 && most >= 8 && are_whole(e, words[i as usize / 8]) {
-        return 8;
-    }
-    if is_whole(e, field(vec, pg, i)) {
-        return 1;
-    }
-    0
+    bits.trailing_ones()
 }
 
-/// How many of at most so many words from word i on have all their lanes on, where the bits are so.
-pub(crate) fn whole_words(vec: &VecRegs, pg: Pred, e: u32, i: u32, most: u32) -> u32
-    requires size { IsLaneSize e }
-    requires within { i + most ≤ vec.now.bits / 64 }
-    ensures on { (j : ℕ) → 8 * i ≤ j → j < 8 * (i + result) → is_active e vec.now pg (j / (e / 8)) ≡ true }
-    ensures few { result ≤ most }
+/// How many bits are 0, before the lowest that is 1.
+#[inline(always)]
+fn zeros(bits: u64) -> u32
+    ensures zeros { (i : ℕ) → i < result → bits / 2 ^ i % 2 ≡ 0 }
+    ensures few { result ≤ 64 }
 {
-    let _length = vec.length();
-    let mut d = 0;
-    while d < most {
-        let more = whole_at(vec, pg, e, i + d, most - d);
-        if more == 0 {
-            return d;
-        }
-        d += more;
-    }
-    d
+    bits.trailing_zeros()
 }
 
-/// How many of at most so many lanes from lane k on are active, before the first that isn't.
-fn active_lanes(vec: &VecRegs, pg: Pred, e: u32, k: u32, most: u32) -> u32
-    requires size { IsLaneSize e }
-    requires within { k + most ≤ vec.now.bits / e }
-    ensures on { (i : ℕ) → k ≤ i → i < k + result → is_active e vec.now pg i ≡ true }
-    ensures few { result ≤ most }
-{
-    let _length = vec.length();
-    for d in 0..most {
-        if !vec.is_active(pg, e, k + d) {
-            return d;
-        }
-    }
-    most
-}
-
-/// The same of the lanes of whole words, from a lane on that begins a word.
-fn active_words(vec: &VecRegs, pg: Pred, e: u32, k: u32, most: u32) -> u32
-    requires size { IsLaneSize e }
-    requires within { k + most ≤ vec.now.bits / e }
-    requires start { k % (64 / e) ≡ 0 }
-    ensures on { (i : ℕ) → k ≤ i → i < k + result → is_active e vec.now pg i ≡ true }
-    ensures few { result ≤ most }
-{
-    let _length = vec.length();
-    whole_words(vec, pg, e, words_of_lanes(e, k), words_of_lanes(e, most)) * lanes_of_word(e)
-}
-
-/// How many of at most so many lanes from lane k on are active, before the first that isn't. Where lane k begins a word, the lanes are
-/// looked at by words, and else no further than to the end of its word.
+/// How many of at most so many lanes from lane k on are active, before the first that isn't, or as far as the 64 bits
+/// of the predicate go that have its bit.
 pub(crate) fn active_from(vec: &VecRegs, pg: Pred, e: u32, k: u32, most: u32) -> u32
     requires size { IsLaneSize e }
+    requires lane { k < vec.now.bits / e }
     requires within { k + most ≤ vec.now.bits / e }
     ensures on { (i : ℕ) → k ≤ i → i < k + result → is_active e vec.now pg i ≡ true }
     ensures few { result ≤ most }
 {
     let _length = vec.length();
-    let lanes = lanes_of_word(e);
-    let rest = place_in_word(e, k);
-    if rest != 0 {
-        return active_lanes(vec, pg, e, k, most.min(lanes - rest));
+    let at = k * (e / 8);
+    let words = vec.p_words(pg);
+    let rest = words[at as usize / 64] >> (at % 64);
+    let bytes = ones(rest | bits_between(e)).min(64 - at % 64);
+    lanes_of_bytes(e, bytes).min(most)
+}
+
+/// How many of at most so many lanes from lane k on, which isn't active, aren't, before the first that is, or as far as
+/// the 64 bits of the predicate go that have its bit.
+pub(crate) fn idle_from(vec: &VecRegs, pg: Pred, e: u32, k: u32, most: u32) -> u32
+    requires size { IsLaneSize e }
+    requires some { 1 ≤ most }
+    requires within { k + most ≤ vec.now.bits / e }
+    requires off { is_active e vec.now pg k ≡ false }
+    ensures off { (i : ℕ) → k ≤ i → i < k + result → is_active e vec.now pg i ≡ false }
+    ensures some { 1 ≤ result }
+    ensures few { result ≤ most }
+{
+    let _length = vec.length();
+    let at = k * (e / 8);
+    let words = vec.p_words(pg);
+    let bytes = zeros(words[at as usize / 64] >> (at % 64)).min(64 - at % 64);
+    lanes_of_bytes(e, bytes).max(1).min(most)
+}
+
+/// How many lanes are active, before the first that isn't.
+pub(crate) fn front_lanes(vec: &VecRegs, pg: Pred, e: u32) -> u32
+    requires { IsLaneSize e }
+    ensures on { (k : ℕ) → k < result → is_active e vec.now pg k ≡ true }
+    ensures few { result ≤ vec.now.bits / e }
+{
+    let lanes = vec.length().bits() / e;
+    let most = lanes_of_bytes(e, 64);
+    let mut k = 0;
+    while k < lanes {
+        let d = active_from(vec, pg, e, k, lanes - k);
+        k += d;
+        if d < most {
+            return k;
+        }
     }
-    let first = active_words(vec, pg, e, k, most);
-    first + active_lanes(vec, pg, e, k + first, most - first)
+    k
 }

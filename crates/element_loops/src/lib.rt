@@ -10,6 +10,7 @@ mod line_store;
 mod listing;
 mod loading;
 mod noting;
+mod parts;
 pub mod place;
 mod plan;
 mod predicates;

@@ -7,12 +7,13 @@ ghost use Rattle.element_access.specs.ReachLaws.{AreLoaded};
 ghost use Rattle.element_words.specs.Placed.{lane_at};
 ghost use Rattle.element_loops.specs.Layouts.{IsPlan, layout_of};
 ghost use Rattle.element_loops.specs.Planned.{loaded_by};
-ghost use Rattle.element_loops.specs.Runs.{IsLine, is_kept, lane_in};
+ghost use Rattle.element_loops.specs.Runs.{IsFront, IsLine, is_kept, lane_in};
 ghost use Rattle.element_loops.specs.Values.{with_taken};
 ghost use Rattle.element_loops.specs.declared.plan.Target.{Target};
 
 use crate::border::joined;
 use crate::noting::note;
+use crate::parts::{set_copied, set_words};
 use crate::place::register_at;
 use crate::plan::Plan;
 use crate::run::Run;
@@ -22,8 +23,8 @@ use emu_bits::{Pred, Reg};
 use guest_mem::{AccessLog, Kind, Mem};
 use vec_regs::VecRegs;
 
-/// Writes a register whose lane k is the element at place `at + k * step` among bytes, or 0 where the lane isn't kept.
-pub(crate) fn set_placed(
+/// Writes a register whose lane k is made of the element at place `at + k * step` among bytes, or 0 where the lane isn't kept.
+fn set_made(
     plan: &Plan,
     vec: &mut VecRegs,
     bytes: &[u8],
@@ -53,7 +54,43 @@ pub(crate) fn set_placed(
         &mut words,
     );
     keep_active(vec, pg, plan.bits, whole, count, &mut words);
-    vec.set_z_words(zd, &words);
+    set_words(vec, zd, &words);
+}
+
+/// Whether lanes have elements as they stand, one behind the other.
+fn are_copied(plan: &Plan, step: usize) -> bool
+    requires { plan.now.bytes ≤ 8 }
+    ensures unsigned { result ≡ true → plan.now.is_signed ≡ false }
+    ensures same { result ≡ true → plan.now.bits ≡ 8 * plan.now.bytes }
+    ensures next { result ≡ true → step ≡ plan.now.bytes }
+{
+    !plan.is_signed && plan.bits == 8 * plan.bytes && step == plan.bytes as usize
+}
+
+/// Writes a register whose lane k is the element at place `at + k * step` among bytes, or 0 where the lane isn't kept.
+pub(crate) fn set_placed(
+    plan: &Plan,
+    vec: &mut VecRegs,
+    bytes: &[u8],
+    pg: Pred,
+    whole: u32,
+    at: usize,
+    step: usize,
+    zd: Reg,
+)
+    requires plan { IsPlan plan.now vec.old }
+    requires few { whole ≤ vec.old.bits / 64 }
+    requires room { (k : ℕ) → k < vec.old.bits / plan.now.bits → at + k * step + plan.now.bytes ≤ length bytes.now }
+    // whatever function gives the lanes
+    ensures { (f : ℕ → ℕ) → ((k : ℕ) → k < vec.old.bits / plan.now.bits → f k ≡ (if is_kept whole pg plan.now.bits vec.old k then lane_at plan.now.is_signed plan.now.bits plan.now.bytes bytes.now at step k else 0))
+        → vec.new ≡ with_lanes plan.now.bits f zd vec.old }
+{
+    let _length = vec.length();
+    if are_copied(plan, step) {
+        set_copied(vec, zd, plan.bits, pg, whole, bytes, at);
+    } else {
+        set_made(plan, vec, bytes, pg, whole, at, step, zd);
+    }
 }
 
 /// Writes the j-th register from the bytes of all elements.
@@ -110,6 +147,7 @@ pub(crate) fn total_bytes(plan: &Plan, vec: &VecRegs) -> usize
 fn take_bytes(plan: &Plan, vec: &mut VecRegs, bytes: &[u8], log: &mut AccessLog, line: &Run)
     requires plan { IsPlan plan.now vec.old }
     requires line { IsLine line.now.base line.now.pg line.now.whole plan.now vec.old }
+    requires front { IsFront line.now.front plan.now vec.old }
     requires target { plan.now.target ≡ Target.Registers }
     requires room { plan.now.lanes * plan.now.registers * plan.now.bytes ≤ length bytes.now }
     requires empty { log.old.items ≡ [] }
@@ -135,6 +173,7 @@ fn take_across(
 ) -> bool
     requires plan { IsPlan plan.now vec.old }
     requires line { IsLine line.now.base line.now.pg line.now.whole plan.now vec.old }
+    requires front { IsFront line.now.front plan.now vec.old }
     requires target { plan.now.target ≡ Target.Registers }
     requires empty { log.old.items ≡ [] }
     ensures loaded { result ≡ true → AreLoaded mem.old (elements_of (layout_of plan.now vec.old)) log.new.items }
@@ -166,6 +205,7 @@ pub(crate) fn take_line(
 ) -> bool
     requires plan { IsPlan plan.now vec.old }
     requires line { IsLine line.now.base line.now.pg line.now.whole plan.now vec.old }
+    requires front { IsFront line.now.front plan.now vec.old }
     requires target { plan.now.target ≡ Target.Registers }
     requires empty { log.old.items ≡ [] }
     ensures loaded { result ≡ true → AreLoaded mem.old (elements_of (layout_of plan.now vec.old)) log.new.items }

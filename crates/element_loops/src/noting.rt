@@ -1,17 +1,16 @@
 //! The log of elements that are one behind the other.
-ghost use Rattle.std.specs.Prelude.{◌≡◌, ◌≤◌, ◌+◌, ◌*◌, ◌/◌, ◌++◌, []};
+ghost use Rattle.std.specs.Prelude.{◌≡◌, ◌≤◌, ◌<◌, ◌+◌, ◌*◌, ◌++◌, []};
 ghost use Rattle.arrayvec.specs.ArrayVec.{array_vec_len};
 ghost use Rattle.emu_model.specs.Access.{address};
 ghost use Rattle.emu_model.specs.Elements.{accesses_of};
 ghost use Rattle.emu_model.specs.Lists.{each};
 ghost use Rattle.sve_effects.specs.VectorElements.{elements_below, elements_of};
 ghost use Rattle.element_loops.specs.Layouts.{IsPlan, layout_of};
-ghost use Rattle.element_loops.specs.Runs.{IsLine};
+ghost use Rattle.element_loops.specs.Runs.{IsFront, IsLine};
 
-use crate::fields::lanes_of_word;
-use crate::place::{is_on, position};
+use crate::place::{is_on, most_elements, position};
 use crate::plan::Plan;
-use crate::run::Run;
+use crate::run::{Run, idle_lanes};
 use guest_mem::{Access, AccessLog};
 use vec_regs::VecRegs;
 
@@ -33,32 +32,55 @@ fn note_lane(plan: &Plan, log: &mut AccessLog, at: u64, write: bool)
     }
 }
 
-/// Notes the elements of the lanes from `first` on that are on, one after the other; `at` is where the first of these lanes is.
-fn note_some(
+/// Notes the elements of lane k, the first of which is at an address, if it has some, and answers how many lanes are done:
+/// where it has none, all of those that are seen at once to have none.
+fn note_next(
     plan: &Plan,
     vec: &VecRegs,
     run: &Run,
     log: &mut AccessLog,
-    first: u32,
+    k: u32,
     at: u64,
     write: bool,
-)
+) -> u32
     requires plan { IsPlan plan.now vec.now }
     requires run { IsLine run.now.base run.now.pg run.now.whole plan.now vec.now }
-    requires within { first ≤ plan.now.lanes }
-    requires noted { log.old.items ≡ accesses_of write (elements_below (layout_of plan.now vec.now) first) }
-    requires count { array_vec_len log.old ≤ first * plan.now.registers }
-    requires at { at ≡ address (run.now.base + first * plan.now.registers * plan.now.bytes) }
+    requires within { k < plan.now.lanes }
+    requires noted { log.old.items ≡ accesses_of write (elements_below (layout_of plan.now vec.now) k) }
+    requires count { array_vec_len log.old ≤ k * plan.now.registers }
+    requires at { at ≡ address (run.now.base + k * plan.now.registers * plan.now.bytes) }
+    ensures some { 1 ≤ result }
+    ensures few { k + result ≤ plan.now.lanes }
+    ensures noted { log.new.items ≡ accesses_of write (elements_below (layout_of plan.now vec.now) (k + result)) }
+    ensures count { array_vec_len log.new ≤ (k + result) * plan.now.registers }
+{
+    let _room = position(plan, vec, k, 0);
+    if is_on(plan, vec, k) {
+        note_lane(plan, log, at, write);
+        return 1;
+    }
+    idle_lanes(plan, vec, run, k)
+}
+
+/// Notes the elements of the lanes from the front on that are on, one after the other; `at` is where the first of these
+/// lanes is.
+fn note_some(plan: &Plan, vec: &VecRegs, run: &Run, log: &mut AccessLog, at: u64, write: bool)
+    requires plan { IsPlan plan.now vec.now }
+    requires run { IsLine run.now.base run.now.pg run.now.whole plan.now vec.now }
+    requires within { run.now.front ≤ plan.now.lanes }
+    requires noted { log.old.items ≡ accesses_of write (elements_below (layout_of plan.now vec.now) run.now.front) }
+    requires count { array_vec_len log.old ≤ run.now.front * plan.now.registers }
+    requires at { at ≡ address (run.now.base + run.now.front * plan.now.registers * plan.now.bytes) }
     ensures { log.new.items ≡ accesses_of write (elements_of (layout_of plan.now vec.now)) }
 {
+    let _length = vec.length();
     let step = plan.registers * plan.bytes;
     let mut at = at;
-    for k in first..plan.lanes {
-        let _room = position(plan, vec, k, 0);
-        if is_on(plan, vec, k) {
-            note_lane(plan, log, at, write);
-        }
-        at = at.wrapping_add(u64::from(step));
+    let mut k = run.front;
+    while k < plan.lanes {
+        let d = note_next(plan, vec, run, log, k, at, write);
+        k += d;
+        at = at.wrapping_add(u64::from(d * step));
     }
 }
 
@@ -66,14 +88,13 @@ fn note_some(
 pub(crate) fn note(plan: &Plan, vec: &VecRegs, run: &Run, log: &mut AccessLog, write: bool)
     requires plan { IsPlan plan.now vec.now }
     requires run { IsLine run.now.base run.now.pg run.now.whole plan.now vec.now }
-    requires within { run.now.whole * (64 / plan.now.bits) ≤ plan.now.lanes }
+    requires front { IsFront run.now.front plan.now vec.now }
     requires empty { log.old.items ≡ [] }
     ensures { log.new.items ≡ accesses_of write (elements_of (layout_of plan.now vec.now)) }
 {
-    let _length = vec.length();
-    let lanes = run.whole * lanes_of_word(plan.bits);
-    let count = lanes * plan.registers;
+    let _most = most_elements(plan, vec);
+    let count = run.front * plan.registers;
     log.push_run(run.base, plan.bytes, count, write);
     let at = run.base.wrapping_add(u64::from(count * plan.bytes));
-    note_some(plan, vec, run, log, lanes, at, write);
+    note_some(plan, vec, run, log, at, write);
 }

@@ -28,6 +28,7 @@ fn line_of_bytes(plan: &Plan, vec: &VecRegs, pt: Pred) -> Option<Run>
         base,
         pg: pt,
         whole,
+        front: plan.lanes,
     })
 }
 

@@ -5,11 +5,11 @@ ghost use Rattle.sve_effects.specs.VectorElements.{elements_of};
 ghost use Rattle.element_access.specs.ReachLaws.{AreLoaded};
 ghost use Rattle.element_loops.specs.Layouts.{IsPlan, IsReplicated, layout_of};
 ghost use Rattle.element_loops.specs.Planned.{loaded_by};
-ghost use Rattle.element_loops.specs.Runs.{IsLine};
+ghost use Rattle.element_loops.specs.Runs.{IsFront, IsLine};
 ghost use Rattle.element_loops.specs.declared.plan.OnLanes.{OnLanes};
 ghost use Rattle.element_loops.specs.declared.plan.Target.{Target};
 
-use crate::fields::whole_words;
+use crate::fields::{front_lanes, words_of_lanes};
 use crate::line::{set_placed, total_bytes};
 use crate::noting::note;
 use crate::place::address;
@@ -44,7 +44,7 @@ fn take_found(
     ensures unlogged { result ≡ false → log.new ≡ log.old }
     ensures memory { mem.new ≡ mem.old }
 {
-    let words = vec.length().bits() / 64;
+    let _length = vec.length();
     let at = address(plan, vec, k, 0);
     let n = plan.bytes as usize;
     match mem.slice_at(at, n, Kind::Read) {
@@ -54,7 +54,8 @@ fn take_found(
                 bytes: plan.bytes,
                 write: false,
             });
-            let whole = whole_words(vec, pg, plan.bits, 0, words);
+            let front = front_lanes(vec, pg, plan.bits);
+            let whole = words_of_lanes(plan.bits, front);
             set_placed(plan, vec, bytes, pg, whole, 0, 0, plan.register);
             true
         }
@@ -103,10 +104,17 @@ fn quad_of(plan: &Plan, vec: &VecRegs) -> Option<Run>
     requires { IsPlan plan.now vec.now }
     ensures line { IfSome result (λ run. IsLine run.base run.pg run.whole plan.now vec.now) }
     ensures none { IfSome result (λ run. run.whole ≡ 0) }
+    ensures front { IfSome result (λ run. IsFront run.front plan.now vec.now) }
 {
     let base = base_of(plan)?;
     let pg = predicate(plan.on)?;
-    Some(Run { base, pg, whole: 0 })
+    let front = front_lanes(vec, pg, plan.bits).min(plan.lanes);
+    Some(Run {
+        base,
+        pg,
+        whole: 0,
+        front,
+    })
 }
 
 /// Loads 128 bits of elements and writes them again and again, where they are in a page that may be read, and says whether it did. Else
@@ -122,6 +130,7 @@ fn take_first(
     requires target { plan.now.target ≡ Target.Repeated }
     requires line { IsLine line.now.base line.now.pg line.now.whole plan.now vec.old }
     requires none { line.now.whole ≡ 0 }
+    requires front { IsFront line.now.front plan.now vec.old }
     requires empty { log.old.items ≡ [] }
     ensures loaded { result ≡ true → AreLoaded mem.old (elements_of (layout_of plan.now vec.old)) log.new.items }
     ensures registers { result ≡ true → vec.new ≡ loaded_by plan.now.target plan.now.is_signed (layout_of plan.now vec.old) mem.old vec.old }

@@ -1,14 +1,14 @@
 //! Elements that are one behind the other, by a plan.
-ghost use Rattle.std.specs.Prelude.{◌≡◌, ◌≤◌, ◌/◌, [], IfSome, true, false};
+ghost use Rattle.std.specs.Prelude.{◌≡◌, ◌≤◌, ◌<◌, ◌+◌, ◌/◌, ℕ, [], IfSome, true, false};
 ghost use Rattle.sve_effects.specs.VectorElements.{elements_of};
 ghost use Rattle.element_access.specs.ReachLaws.{AreLoaded};
 ghost use Rattle.element_loops.specs.Layouts.{IsPlan, layout_of};
 ghost use Rattle.element_loops.specs.Planned.{loaded_by};
-ghost use Rattle.element_loops.specs.Runs.{ArePlaced, IsLine, IsRun};
+ghost use Rattle.element_loops.specs.Runs.{ArePlaced, IsFront, IsLine, IsRun};
 ghost use Rattle.element_loops.specs.declared.plan.OnLanes.{OnLanes};
 ghost use Rattle.element_loops.specs.declared.plan.Target.{Target};
 
-use crate::fields::whole_words;
+use crate::fields::{front_lanes, idle_from, words_of_lanes};
 use crate::line::take_line;
 use crate::plan::{OnLanes, Places, Plan, Target};
 use crate::predicates::take_bits;
@@ -17,13 +17,14 @@ use emu_bits::Pred;
 use guest_mem::{AccessLog, Mem};
 use vec_regs::VecRegs;
 
-/// Where elements begin, how many words have an element in all of their lanes, before the first that may not, and the predicate of the
-/// lanes behind these.
+/// Where elements begin, how many lanes have one, before the first that may not, how many words have one in all of their
+/// lanes, before the first that may not, and the predicate of the lanes behind these words.
 #[derive(Clone, Copy)]
 pub struct Run {
     pub base: u64,
     pub pg: Pred,
     pub whole: u32,
+    pub front: u32,
 }
 
 /// The predicate of the lanes, if they are those that are active.
@@ -65,6 +66,7 @@ fn is_registers(target: Target) -> bool
 pub(crate) fn line_of(plan: &Plan, vec: &VecRegs) -> Option<Run>
     requires { IsPlan plan.now vec.now }
     ensures line { IfSome result (λ run. IsLine run.base run.pg run.whole plan.now vec.now) }
+    ensures front { IfSome result (λ run. IsFront run.front plan.now vec.now) }
     ensures target { IfSome result (λ run. plan.now.target ≡ Target.Registers) }
 {
     if !is_registers(plan.target) {
@@ -77,17 +79,39 @@ pub(crate) fn line_of(plan: &Plan, vec: &VecRegs) -> Option<Run>
             base,
             pg: Pred::at(0, 0),
             whole: words,
+            front: plan.lanes,
         });
     }
     let pg = predicate(plan.on)?;
-    let whole = whole_words(vec, pg, plan.bits, 0, words);
-    Some(Run { base, pg, whole })
+    let front = front_lanes(vec, pg, plan.bits);
+    let whole = words_of_lanes(plan.bits, front);
+    Some(Run {
+        base,
+        pg,
+        whole,
+        front,
+    })
+}
+
+/// How many lanes from lane k on, which has no element, have none, as far as it is seen at once.
+pub(crate) fn idle_lanes(plan: &Plan, vec: &VecRegs, run: &Run, k: u32) -> u32
+    requires plan { IsPlan plan.now vec.now }
+    requires run { IsLine run.now.base run.now.pg run.now.whole plan.now vec.now }
+    requires within { k < plan.now.lanes }
+    requires off { let l = layout_of plan.now vec.now in l.is_on k ≡ false }
+    ensures off { let l = layout_of plan.now vec.now in (i : ℕ) → k ≤ i → i < k + result → l.is_on i ≡ false }
+    ensures some { 1 ≤ result }
+    ensures few { k + result ≤ plan.now.lanes }
+{
+    let pg = run.pg;
+    idle_from(vec, pg, plan.bits, k, plan.lanes - k)
 }
 
 /// The run of a plan, if it is one.
 pub(crate) fn run_of(plan: &Plan, vec: &VecRegs) -> Option<Run>
     requires { IsPlan plan.now vec.now }
-    ensures { IfSome result (λ run. IsRun run.base run.pg run.whole plan.now vec.now) }
+    ensures run { IfSome result (λ run. IsRun run.base run.pg run.whole plan.now vec.now) }
+    ensures front { IfSome result (λ run. IsFront run.front plan.now vec.now) }
 {
     if plan.registers != 1 || plan.is_signed || plan.bits != 8 * plan.bytes {
         return None;

@@ -2,18 +2,18 @@
 ghost use Rattle.std.specs.Prelude.{◌≡◌, ◌≤◌, ◌<◌, ◌+◌, ◌*◌, ◌/◌, ◌%◌, ℕ, [], IfOk, MatchResult, true, get_or, length};
 ghost use Rattle.arrayvec.specs.ArrayVec.{array_vec_len};
 ghost use Rattle.emu_model.specs.Access.{Memory, address};
-ghost use Rattle.vec_model.specs.Lanes.{IsLaneSize, read_z};
+ghost use Rattle.vec_model.specs.Lanes.{read_z};
 ghost use Rattle.sve_effects.specs.VectorElements.{elements_below, elements_of};
 ghost use Rattle.element_access.specs.ReachLaws.{AreStored, StopsStore};
 ghost use Rattle.element_loops.specs.Layouts.{IsPlan, layout_of};
 ghost use Rattle.element_loops.specs.Planned.{stored_by};
-ghost use Rattle.element_loops.specs.Runs.{IsRun};
+ghost use Rattle.element_loops.specs.Runs.{IsFront, IsRun};
 
 use crate::border::put_bytes;
-use crate::fields::{active_from, lanes_of_word};
+use crate::fields::active_from;
 use crate::place::{is_on, register_at};
 use crate::plan::Plan;
-use crate::run::Run;
+use crate::run::{Run, idle_lanes};
 use crate::storing::put_lane;
 use core_regs::Trap;
 use emu_bits::Reg;
@@ -86,30 +86,22 @@ fn lanes_in_page(at: u64, n: u32, lanes: u32) -> u32
     (((4096 - at % 4096) / u64::from(n)) as u32).min(lanes)
 }
 
-/// How many of at most so many lanes from lane k on are of the first words, so many.
-fn front_lanes(e: u32, whole: u32, k: u32, most: u32) -> u32
-    requires size { IsLaneSize e }
-    requires words { whole ≤ 32 }
-    ensures few { result ≤ most }
-    ensures before { 0 < result → k + result ≤ whole * (64 / e) }
-    ensures behind { result < most → whole * (64 / e) ≤ k + result }
-{
-    let front = whole * lanes_of_word(e);
-    if k < front { most.min(front - k) } else { 0 }
-}
-
 /// How many of at most so many lanes from lane k on have an element, before the first that may have none.
 fn lanes_on(plan: &Plan, vec: &VecRegs, run: &Run, k: u32, most: u32) -> u32
     requires plan { IsPlan plan.now vec.now }
     requires run { IsRun run.now.base run.now.pg run.now.whole plan.now vec.now }
+    requires front { IsFront run.now.front plan.now vec.now }
+    requires lane { k < plan.now.lanes }
     requires within { k + most ≤ plan.now.lanes }
     ensures on { (i : ℕ) → k ≤ i → i < k + result → let l = layout_of plan.now vec.now in l.is_on i ≡ true }
     ensures few { result ≤ most }
 {
     let _length = vec.length();
     let pg = run.pg;
-    let first = front_lanes(plan.bits, run.whole, k, most);
-    first + active_from(vec, pg, plan.bits, k + first, most - first)
+    if k < run.front {
+        return most.min(run.front - k);
+    }
+    active_from(vec, pg, plan.bits, k, most)
 }
 
 /// Stores the lanes of a register from lane k on up to the first that isn't on, as far as they are in one page, where it may be
@@ -125,6 +117,7 @@ fn put_some(
 ) -> u32
     requires plan { IsPlan plan.now vec.now }
     requires run { IsRun run.now.base run.now.pg run.now.whole plan.now vec.now }
+    requires front { IsFront run.now.front plan.now vec.now }
     requires within { k < plan.now.lanes }
     requires bytes { (j : ℕ) → j < vec.now.bits / 8 → get_or bytes.now j 0 ≡ get_or (read_z vec.now ((plan.now.register + 0) % 32)) j 0 }
     requires whole { length (read_z vec.now ((plan.now.register + 0) % 32)) ≡ vec.now.bits / 8 }
@@ -160,6 +153,7 @@ fn put_next(
 ) -> Result<u32, Trap>
     requires plan { IsPlan plan.now vec.now }
     requires run { IsRun run.now.base run.now.pg run.now.whole plan.now vec.now }
+    requires front { IsFront run.now.front plan.now vec.now }
     requires within { k < plan.now.lanes }
     requires bytes { (j : ℕ) → j < vec.now.bits / 8 → get_or bytes.now j 0 ≡ get_or (read_z vec.now ((plan.now.register + 0) % 32)) j 0 }
     requires whole { length (read_z vec.now ((plan.now.register + 0) % 32)) ≡ vec.now.bits / 8 }
@@ -174,7 +168,7 @@ fn put_next(
         (λ trap. StopsStore (stored_by plan.now.target l vec.now) m (elements_of l) mem.new log.new.items trap) }
 {
     if !is_on(plan, vec, k) {
-        return Ok(1);
+        return Ok(idle_lanes(plan, vec, run, k));
     }
     let lanes = put_some(plan, vec, mem, log, run, bytes, k);
     if lanes > 0 {
@@ -196,6 +190,7 @@ pub(crate) fn store_run(
 ) -> Result<(), Trap>
     requires plan { IsPlan plan.now vec.now }
     requires run { IsRun run.now.base run.now.pg run.now.whole plan.now vec.now }
+    requires front { IsFront run.now.front plan.now vec.now }
     requires empty { log.old.items ≡ [] }
     ensures { let l = layout_of plan.now vec.now in MatchResult result
         (λ x. AreStored (stored_by plan.now.target l vec.now) mem.old (elements_of l) mem.new log.new.items)

@@ -8,7 +8,7 @@ use Rattle.emu_model.specs.Access.{Memory}
 use Rattle.emu_model.specs.Lengths.{IsVectorLength}
 use Rattle.emu_model.specs.State.{Vectors}
 use Rattle.vec_model.specs.Lanes.{IsLaneSize, with_z, with_lanes}
-use Rattle.vec_regs.specs.Words.{AreZeroFrom, bytes_of}
+use Rattle.vec_regs.specs.Words.{bytes_of}
 use Rattle.vec_regs.proofs.PackedLanes.{filled, still, with_packed, lanes_given, words_count}
 use Rattle.vec_regs.specs.Packed.{packed, word_of}
 use Rattle.vec_regs.proofs.Views.{zero_word}

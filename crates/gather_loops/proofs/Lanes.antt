@@ -1,5 +1,5 @@
 -- One lane of a gather or of a scatter.
-use Rattle.std.proofs.Common.{◌≡◌, ◌≤◌, ◌<◌, ℕ, ◌+◌, ◌*◌, ◌%◌, true, false, List, [], ◌∷◌, ◌++◌, length, Some, None, inl, inr, refl, sym, ap, subst, ◌∙◌, arith}
+use Rattle.std.proofs.Common.{◌≡◌, ◌≤◌, ◌<◌, ℕ, ◌+◌, ◌*◌, ◌%◌, true, false, List, [], ◌∷◌, ◌++◌, length, Some, None, sym, ap, subst, ◌∙◌, arith}
 use Rattle.emu_model.specs.declared.access.Access.{Access}
 use Rattle.emu_model.specs.declared.access.Kind.TheVariants.{Read, Write}
 use Rattle.emu_model.specs.declared.trap.Trap.{Trap}

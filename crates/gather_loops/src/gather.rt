@@ -14,6 +14,7 @@ ghost use Rattle.element_loops.specs.Planned.{load_by, loaded_by};
 ghost use Rattle.vec_regs.specs.Words.{AreZeroFrom};
 ghost use Rattle.gather_loops.specs.Gathers.{AreWords, IsGather, lane_value, word_of_lanes};
 
+use crate::constant::with_sizes;
 use core_regs::{Core, Effect, Trap};
 use element_access::{extended, load_here, test_sp};
 use element_loops::place::{address, is_on, position, register_at};
@@ -148,7 +149,65 @@ fn load_words(
     Ok(())
 }
 
-/// The same, with the usual numbers of bytes as constants in the loop.
+/// The same, with lanes of e bits: both sizes are constants in the loop where it is called so.
+#[inline(always)]
+fn load_sized(
+    plan: &Plan,
+    vec: &VecRegs,
+    mem: &mut Mem,
+    log: &mut AccessLog,
+    words: &mut [u64; 32],
+    e: u32,
+    n: u32,
+) -> Result<(), Trap>
+    requires plan { IsPlan plan.now vec.now }
+    requires gather { IsGather plan.now }
+    requires bits { e ≡ plan.now.bits }
+    requires bytes { n ≡ plan.now.bytes }
+    requires zero { AreWords plan.now vec.now mem.old 0 words.old }
+    requires empty { log.old.items ≡ [] }
+    ensures loaded { let l = layout_of plan.now vec.now in MatchResult result
+        (λ x. AreLoaded mem.old (elements_of l) log.new.items)
+        (λ trap. StopsLoad mem.old (elements_of l) log.new.items trap) }
+    ensures words { MatchResult result (λ x. AreWords plan.now vec.now mem.old (vec.now.bits / 64) words.new) (λ trap. ⊤) }
+    ensures memory { mem.new ≡ mem.old }
+{
+    load_words(&with_sizes(plan, e, n), vec, mem, log, words, n)
+}
+
+/// The same, with the usual numbers of bytes told apart.
+#[inline(always)]
+fn load_each(
+    plan: &Plan,
+    vec: &VecRegs,
+    mem: &mut Mem,
+    log: &mut AccessLog,
+    words: &mut [u64; 32],
+    e: u32,
+) -> Result<(), Trap>
+    requires plan { IsPlan plan.now vec.now }
+    requires gather { IsGather plan.now }
+    requires bits { e ≡ plan.now.bits }
+    requires zero { AreWords plan.now vec.now mem.old 0 words.old }
+    requires empty { log.old.items ≡ [] }
+    ensures loaded { let l = layout_of plan.now vec.now in MatchResult result
+        (λ x. AreLoaded mem.old (elements_of l) log.new.items)
+        (λ trap. StopsLoad mem.old (elements_of l) log.new.items trap) }
+    ensures words { MatchResult result (λ x. AreWords plan.now vec.now mem.old (vec.now.bits / 64) words.new) (λ trap. ⊤) }
+    ensures memory { mem.new ≡ mem.old }
+{
+    match plan.bytes {
+        1 => load_sized(plan, vec, mem, log, words, e, 1),
+        2 => load_sized(plan, vec, mem, log, words, e, 2),
+        4 => load_sized(plan, vec, mem, log, words, e, 4),
+        8 => load_sized(plan, vec, mem, log, words, e, 8),
+        n => load_sized(plan, vec, mem, log, words, e, n),
+    }
+}
+
+/// The same, with lanes of 32 and of 64 bits told apart. It isn't inlined, so that its loops have the processor's
+/// registers to themselves.
+#[inline(never)]
 fn load_all(
     plan: &Plan,
     vec: &VecRegs,
@@ -166,12 +225,10 @@ fn load_all(
     ensures words { MatchResult result (λ x. AreWords plan.now vec.now mem.old (vec.now.bits / 64) words.new) (λ trap. ⊤) }
     ensures memory { mem.new ≡ mem.old }
 {
-    match plan.bytes {
-        1 => load_words(plan, vec, mem, log, words, 1),
-        2 => load_words(plan, vec, mem, log, words, 2),
-        4 => load_words(plan, vec, mem, log, words, 4),
-        8 => load_words(plan, vec, mem, log, words, 8),
-        n => load_words(plan, vec, mem, log, words, n),
+    if plan.bits == 64 {
+        load_each(plan, vec, mem, log, words, 64)
+    } else {
+        load_each(plan, vec, mem, log, words, 32)
     }
 }
 

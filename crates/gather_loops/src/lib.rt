@@ -1,6 +1,7 @@
 //! Gathers and scatters in one pass over their lanes: the words of a register are made as the elements come.
 #![tactic(auto)]
 
+mod constant;
 mod gather;
 mod scatter;
 

@@ -8,6 +8,7 @@ ghost use Rattle.element_loops.specs.Layouts.{IsPlan, layout_of};
 ghost use Rattle.element_loops.specs.Planned.{store_by, stored_by};
 ghost use Rattle.gather_loops.specs.Gathers.{IsGather};
 
+use crate::constant::with_sizes;
 use core_regs::{Core, Effect, Trap};
 use element_access::{store_here, test_sp};
 use element_loops::place::{address, is_on, position, register_at};
@@ -73,7 +74,57 @@ fn store_lanes(
     Ok(())
 }
 
-/// The same, with the usual numbers of bytes as constants in the loop.
+/// The same, with lanes of e bits: both sizes are constants in the loop where it is called so.
+#[inline(always)]
+fn store_sized(
+    plan: &Plan,
+    vec: &VecRegs,
+    mem: &mut Mem,
+    log: &mut AccessLog,
+    e: u32,
+    n: u32,
+) -> Result<(), Trap>
+    requires plan { IsPlan plan.now vec.now }
+    requires gather { IsGather plan.now }
+    requires bits { e ≡ plan.now.bits }
+    requires bytes { n ≡ plan.now.bytes }
+    requires empty { log.old.items ≡ [] }
+    ensures { let l = layout_of plan.now vec.now in MatchResult result
+        (λ x. AreStored (stored_by plan.now.target l vec.now) mem.old (elements_of l) mem.new log.new.items)
+        (λ trap. StopsStore (stored_by plan.now.target l vec.now) mem.old (elements_of l) mem.new log.new.items trap) }
+{
+    store_lanes(&with_sizes(plan, e, n), vec, mem, log, n)
+}
+
+/// The same, with the usual numbers of bytes told apart.
+#[inline(always)]
+fn store_each(
+    plan: &Plan,
+    vec: &VecRegs,
+    mem: &mut Mem,
+    log: &mut AccessLog,
+    e: u32,
+) -> Result<(), Trap>
+    requires plan { IsPlan plan.now vec.now }
+    requires gather { IsGather plan.now }
+    requires bits { e ≡ plan.now.bits }
+    requires empty { log.old.items ≡ [] }
+    ensures { let l = layout_of plan.now vec.now in MatchResult result
+        (λ x. AreStored (stored_by plan.now.target l vec.now) mem.old (elements_of l) mem.new log.new.items)
+        (λ trap. StopsStore (stored_by plan.now.target l vec.now) mem.old (elements_of l) mem.new log.new.items trap) }
+{
+    match plan.bytes {
+        1 => store_sized(plan, vec, mem, log, e, 1),
+        2 => store_sized(plan, vec, mem, log, e, 2),
+        4 => store_sized(plan, vec, mem, log, e, 4),
+        8 => store_sized(plan, vec, mem, log, e, 8),
+        n => store_sized(plan, vec, mem, log, e, n),
+    }
+}
+
+/// The same, with lanes of 32 and of 64 bits told apart. It isn't inlined, so that its loops have the processor's
+/// registers to themselves.
+#[inline(never)]
 fn store_all(plan: &Plan, vec: &VecRegs, mem: &mut Mem, log: &mut AccessLog) -> Result<(), Trap>
     requires plan { IsPlan plan.now vec.now }
     requires gather { IsGather plan.now }
@@ -82,12 +133,10 @@ fn store_all(plan: &Plan, vec: &VecRegs, mem: &mut Mem, log: &mut AccessLog) -> 
         (λ x. AreStored (stored_by plan.now.target l vec.now) mem.old (elements_of l) mem.new log.new.items)
         (λ trap. StopsStore (stored_by plan.now.target l vec.now) mem.old (elements_of l) mem.new log.new.items trap) }
 {
-    match plan.bytes {
-        1 => store_lanes(plan, vec, mem, log, 1),
-        2 => store_lanes(plan, vec, mem, log, 2),
-        4 => store_lanes(plan, vec, mem, log, 4),
-        8 => store_lanes(plan, vec, mem, log, 8),
-        n => store_lanes(plan, vec, mem, log, n),
+    if plan.bits == 64 {
+        store_each(plan, vec, mem, log, 64)
+    } else {
+        store_each(plan, vec, mem, log, 32)
     }
 }
 

@@ -1,7 +1,7 @@
-use Rattle.std.proofs.Common.{◌≡◌, ◌<◌, ◌≤◌, ◌+◌, ◌-◌, ◌%◌, ◌^◌, ℕ, true, None, List, take, drop, get_or, length, inl, inr, refl, sym, ap, subst, ◌∙◌, arith}
+use Rattle.std.proofs.Common.{◌≡◌, ◌<◌, ◌≤◌, ◌+◌, ◌-◌, ◌%◌, ◌^◌, ℕ, true, None, List, take, drop, length, refl, sym, ap, subst, ◌∙◌, arith}
 use Rattle.std.proofs.lemmas.List.{length-take, length-drop, take_all}
 use Rattle.emu_model.specs.declared.access.Kind.TheVariants.{Write}
-use Rattle.emu_model.specs.Access.{Memory, address, refused}
+use Rattle.emu_model.specs.Access.{Memory, refused}
 use Rattle.emu_model.specs.Pages.{with_bytes}
 use Rattle.emu_model.specs.WithinPage.{none_refused_within}
 use Rattle.element_loops.proofs.RunLoads.{joined_allowed}

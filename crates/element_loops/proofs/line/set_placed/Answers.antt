@@ -1,26 +1,16 @@
-use Rattle.std.proofs.Common.{◌≡◌, ◌<◌, ◌*◌, ◌/◌, List, ℕ, length, ap, sym, subst, ◌∙◌, arith}
+use Rattle.std.proofs.Common.{◌≤◌, ◌+◌, ◌*◌, List, ℕ, length, ap, subst, ◌∙◌}
 use Rattle.vec_model.specs.Lanes.{with_z}
-use Rattle.vec_regs.proofs.Views.{zero_word}
-use Rattle.element_loops.proofs.Kept.{all_words}
-use Rattle.element_loops.proofs.Lines.{lanes_written}
+use Rattle.element_loops.proofs.Lines.{copy_room, lanes_copied}
 use Rattle.element_loops.proofs.line.set_placed.Goals as goal
 
-pub put_words-requires-clause-room : goal.put_words-requires-clause-room
-put_words-requires-clause-room c = λ k b.
-    let words : c.bits-count.result / 64 ≡ c.args.vec.now.bits / 64 = ap (λ n. n / 64) (c.bits-count.ensures.value ∙ c.length.ensures.value) in
-    let all : c.bits-count.result / 64 * (64 / c.args.plan.now.bits) ≡ c.args.vec.now.bits / c.args.plan.now.bits
-    = ap (λ n. n * (64 / c.args.plan.now.bits)) words ∙ all_words c.args.plan.now.bits c.args.vec.now.bits c.requires.plan.size c.length.ensures.length in
-    c.requires.room k (subst (λ n. k < n) all b)
+pub set_copied-requires-clause-room : goal.set_copied-requires-clause-room
+set_copied-requires-clause-room c =
+    copy_room c.args.plan.now.bits c.args.plan.now.bytes c.args.vec.now.bits c.args.at (length c.args.bytes.now) c.requires.plan.size c.length-length.ensures.length (c.are_copied.ensures.same c.if-are_copied.true)
+    (λ k b. subst (λ s. c.args.at + k * s + c.args.plan.now.bytes ≤ length c.args.bytes.now) (c.are_copied.ensures.next c.if-are_copied.true) (c.requires.room k b))
 
-pub set_z_words-requires : goal.set_z_words-requires
-set_z_words-requires c = λ k h.
-    let words : c.bits-count.result / 64 ≡ c.args.vec.now.bits / 64 = ap (λ n. n / 64) (c.bits-count.ensures.value ∙ c.length.ensures.value) in
-    c.keep_active.ensures.above k (omega (arith, h, words)) ∙ c.put_words.ensures.above k (omega (arith, h, words)) ∙ zero_word 32 k
-
-pub returns : goal.returns
-returns c = λ f given.
-    let words : c.bits-count.result / 64 ≡ c.args.vec.now.bits / 64 = ap (λ n. n / 64) (c.bits-count.ensures.value ∙ c.length.ensures.value) in
-    c.set_z_words.ensures
+pub returns-then-are_copied : goal.returns-then-are_copied
+returns-then-are_copied c = λ f given.
+    c.set_copied.ensures
     ∙ ap (λ (bs : List ℕ). with_z c.args.vec.now c.args.zd bs)
-    (lanes_written c.args.pg c.args.whole c.args.plan.now c.args.vec.now c.requires.plan.size c.length.ensures.length c.args.bytes.now c.put_words.new.words c.keep_active.new.words c.args.at c.args.step f
-    (λ i b. c.put_words.ensures.bytes i (omega (arith, b, words, c.length.ensures.length.multiple))) (λ i b. c.keep_active.ensures.bytes i (omega (arith, b, words, c.length.ensures.length.multiple))) given)
+    (lanes_copied c.args.pg c.args.whole c.args.plan.now c.args.vec.now c.requires.plan.size c.length-length.ensures.length c.args.bytes.now c.args.at c.args.step f (λ k. (c.type_inv.bytes k).fits)
+    (c.are_copied.ensures.unsigned c.if-are_copied.true) (c.are_copied.ensures.same c.if-are_copied.true) (c.are_copied.ensures.next c.if-are_copied.true) given)

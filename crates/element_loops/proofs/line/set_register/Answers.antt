@@ -1,4 +1,4 @@
-use Rattle.std.proofs.Common.{◌≡◌, ◌<◌, ◌≤◌, ◌+◌, ◌*◌, ◌/◌, ◌%◌, ℕ, length, refl, if◌then◌else◌, ap, sym, subst, ◌∙◌, arith}
+use Rattle.std.proofs.Common.{◌≡◌, ◌<◌, ◌+◌, ◌*◌, refl, if◌then◌else◌, ap, sym, subst, ◌∙◌, arith}
 use Rattle.emu_model.specs.WithinPage.{number_in}
 use Rattle.sve_effects.specs.Element.{extended_by}
 use Rattle.vec_model.specs.Lanes.{with_lanes}

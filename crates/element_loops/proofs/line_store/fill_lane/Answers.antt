@@ -1,4 +1,4 @@
-use Rattle.std.proofs.Common.{◌≡◌, ◌≤◌, ◌+◌, ◌*◌, ◌%◌, ℕ, sym, ap, subst, ◌∙◌, arith}
+use Rattle.std.proofs.Common.{◌≡◌, ◌≤◌, ◌+◌, ◌*◌, ℕ, sym, ap, subst, ◌∙◌, arith}
 use Rattle.emu_model.specs.Elements.{Element}
 use Rattle.vec_model.specs.Lanes.{lane, read_z}
 use Rattle.element_loops.specs.declared.plan.Target.{Target}

@@ -1,4 +1,3 @@
-use Rattle.std.proofs.Common.{arith}
 use Rattle.element_loops.proofs.PredicateBytes.{bits_of_placed}
 use Rattle.element_loops.proofs.predicates.bits_of_bytes.Goals as goal
 

@@ -1,4 +1,4 @@
-use Rattle.std.proofs.Common.{◌<◌, ◌≤◌, ◌*◌, arith}
+use Rattle.std.proofs.Common.{arith}
 use Rattle.element_loops.proofs.predicates.bytes_of_words.Goals as goal
 
 pub returns : goal.returns

@@ -1,4 +1,4 @@
-use Rattle.std.proofs.Common.{◌≡◌, ◌≤◌, ◌++◌, ◌+◌, ◌*◌, ◌/◌, ◌%◌, List, ℕ, None, length, get_or, sym, ap, subst, ◌∙◌, arith}
+use Rattle.std.proofs.Common.{◌≡◌, ◌++◌, ◌+◌, ◌*◌, ◌/◌, ◌%◌, ℕ, None, length, get_or, sym, ap, subst, ◌∙◌, arith}
 use Rattle.std.proofs.Common.{false}
 use Rattle.vec_regs.proofs.Views.{zero_word}
 use Rattle.emu_model.specs.declared.access.Access.{Access}
@@ -6,8 +6,6 @@ use Rattle.emu_model.specs.declared.access.Kind.TheVariants.{Read}
 use Rattle.emu_model.specs.Access.{address, refused}
 use Rattle.emu_model.specs.Lists.{each}
 use Rattle.emu_model.specs.Pages.{bytes_at}
-use Rattle.vec_model.specs.Lanes.{with_p}
-use Rattle.vec_regs.specs.Words.{bits_of, AreClearFrom}
 use Rattle.element_loops.specs.declared.plan.Target.{Target}
 use Rattle.element_loops.specs.Layouts.{IsPredicate, IsTarget, layout_of}
 use Rattle.element_loops.specs.Planned.{loaded_by}

@@ -1,4 +1,4 @@
-use Rattle.std.proofs.Common.{◌≡◌, ◌<◌, ◌≤◌, ◌+◌, ◌*◌, ◌/◌, ◌%◌, ℕ, Bool, false, List, length, None, if◌then◌else◌, sym, ap, subst, ◌∙◌, arith}
+use Rattle.std.proofs.Common.{◌≡◌, ◌≤◌, ◌*◌, ℕ, false, List, length, None, sym, ap, subst, ◌∙◌, arith}
 use Rattle.emu_model.specs.declared.access.Kind.TheVariants.{Read}
 use Rattle.emu_model.specs.Access.{refused}
 use Rattle.emu_model.specs.Pages.{bytes_at}
@@ -14,11 +14,6 @@ use Rattle.element_loops.specs.Runs.{is_kept}
 use Rattle.element_loops.proofs.Lines.{line_reached}
 use Rattle.element_loops.proofs.Repeats.{quad_room, quad_lane, repeated_bytes}
 use Rattle.element_loops.proofs.repeated.take_first.Goals as goal
-
-pub note-requires-clause-within : goal.note-requires-clause-within
-note-requires-clause-within c =
-    let zero : 0 * (64 / c.args.plan.now.bits) ≡ 0 = omega arith in
-    subst (λ n. n * (64 / c.args.plan.now.bits) ≤ c.args.plan.now.lanes) (sym c.requires.none) (omega (arith, zero))
 
 pub put_words-requires-clause-room : goal.put_words-requires-clause-room
 put_words-requires-clause-room c = λ k b.

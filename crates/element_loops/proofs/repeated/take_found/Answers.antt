@@ -1,4 +1,4 @@
-use Rattle.std.proofs.Common.{◌≡◌, ◌<◌, ◌≤◌, ◌+◌, ◌*◌, ◌/◌, ◌^◌, ◌++◌, ◌∷◌, [], ℕ, Bool, false, List, length, None, Some, nat_eq, if◌then◌else◌, refl, sym, ap, subst, ◌∙◌, arith}
+use Rattle.std.proofs.Common.{◌≡◌, ◌<◌, ◌≤◌, ◌*◌, ◌/◌, ◌^◌, ◌++◌, ◌∷◌, [], ℕ, Bool, false, List, None, nat_eq, if◌then◌else◌, sym, ap, subst, ◌∙◌, arith}
 use Rattle.emu_model.specs.declared.access.Access.{Access}
 use Rattle.emu_model.specs.declared.access.Kind.TheVariants.{Read}
 use Rattle.emu_model.specs.Access.{refused, value}
@@ -14,11 +14,15 @@ use Rattle.element_loops.specs.Layouts.{is_on_of, layout_of}
 use Rattle.element_loops.specs.Planned.{loaded_by}
 use Rattle.element_loops.specs.Runs.{is_kept}
 use Rattle.element_loops.specs.SoFar.{element_of_lane}
-use Rattle.element_loops.proofs.Kept.{active_kept}
+use Rattle.element_loops.proofs.Kept.{front_few, front_kept}
 use Rattle.element_loops.proofs.Repeats.{only_element, found_lane}
 use Rattle.element_loops.proofs.RunLoads.{reach_single}
 use Rattle.element_loops.proofs.Writes.{same_place}
 use Rattle.element_loops.proofs.repeated.take_found.Goals as goal
+
+pub set_placed-requires-clause-few : goal.set_placed-requires-clause-few
+set_placed-requires-clause-few c =
+    subst (λ n. n ≤ c.args.vec.now.bits / 64) (sym c.words_of_lanes-whole.ensures) (front_few c.args.plan.now.bits c.args.vec.now.bits c.front_lanes-front.result c.requires.plan.size c.front_lanes-front.ensures.few)
 
 pub set_placed-requires-clause-room : goal.set_placed-requires-clause-room
 set_placed-requires-clause-room c = λ k b. let none : k * 0 ≡ 0 = omega arith in omega (arith, none, c.if-bytes-n.true)
@@ -44,8 +48,8 @@ returns-in-Some-clause-registers c = λ is.
     c.set_placed.ensures (λ k. if is_active c.args.plan.now.bits c.args.vec.now c.args.pg k then extended_by c.args.plan.now.is_signed c.args.plan.now.bits (8 * c.args.plan.now.bytes) (value c.args.mem.now ((layout_of c.args.plan.now c.args.vec.now).address k 0) c.args.plan.now.bytes) else 0)
     (λ k b.
     ap (λ (t : Bool). if t then extended_by c.args.plan.now.is_signed c.args.plan.now.bits (8 * c.args.plan.now.bytes) (value c.args.mem.now ((layout_of c.args.plan.now c.args.vec.now).address k 0) c.args.plan.now.bytes) else 0)
-    (active_kept c.whole_words-whole.result c.args.pg c.args.plan.now.bits c.args.vec.now c.requires.plan.size c.whole_words-whole.ensures.on k)
-    ∙ ap (λ x. if is_kept c.whole_words-whole.result c.args.pg c.args.plan.now.bits c.args.vec.now k then extended_by c.args.plan.now.is_signed c.args.plan.now.bits (8 * c.args.plan.now.bytes) x else 0)
+    (front_kept c.args.plan.now.bits c.args.pg c.front_lanes-front.result c.words_of_lanes-whole.result c.args.vec.now c.requires.plan.size c.words_of_lanes-whole.ensures c.front_lanes-front.ensures.on k)
+    ∙ ap (λ x. if is_kept c.words_of_lanes-whole.result c.args.pg c.args.plan.now.bits c.args.vec.now k then extended_by c.args.plan.now.is_signed c.args.plan.now.bits (8 * c.args.plan.now.bytes) x else 0)
     (ap (λ a. value c.args.mem.now a c.args.plan.now.bytes) (same_place c.args.plan.now.places c.args.plan.now.bits c.args.plan.now.bytes c.args.plan.now.registers c.args.vec.now k c.args.k c.requires.replicated.single ∙ sym c.address-at.ensures)
     ∙ found_lane c.args.mem.now c.address-at.result c.args.plan.now.bytes c.in-Some.bytes.now word are k))
     ∙ ap (λ (t : Target). loaded_by t c.args.plan.now.is_signed (layout_of c.args.plan.now c.args.vec.now) c.args.mem.now c.args.vec.now) (sym c.requires.target)

@@ -1,7 +1,8 @@
-use Rattle.std.proofs.Common.{◌≡◌, ◌<◌, ◌≤◌, ◌*◌, ◌/◌, Bool, true, sym, ap, subst, ◌∙◌, arith}
+use Rattle.std.proofs.Common.{◌≡◌, ◌<◌, ◌≤◌, ◌*◌, ◌/◌, sym, ap, subst, ◌∙◌, arith}
 use Rattle.element_loops.specs.declared.plan.OnLanes.{OnLanes}
-use Rattle.element_loops.specs.Layouts.{is_on_of}
-use Rattle.element_loops.proofs.Kept.{active_kept, all_words, kept_front}
+use Rattle.element_loops.specs.declared.plan.Target.{Target}
+use Rattle.element_loops.specs.Layouts.{IsTarget, is_on_of}
+use Rattle.element_loops.proofs.Kept.{all_words, front_few, front_kept, kept_front}
 use Rattle.element_loops.proofs.run.line_of.Goals as goal
 
 pub returns-then-is_all-clause-line : goal.returns-then-is_all-clause-line
@@ -18,11 +19,25 @@ returns-then-is_all-clause-line c =
       few = omega (arith, words);
     }
 
+pub returns-then-is_all-clause-front : goal.returns-then-is_all-clause-front
+returns-then-is_all-clause-front c = record {
+  few = omega arith;
+  on = λ k h. ap (λ (o : OnLanes). is_on_of o c.args.plan.now.bits c.args.vec.now k) (c.is_all.ensures c.if-is_all.true);
+}
+
 pub returns-clause-line : goal.returns-clause-line
 returns-clause-line c = record {
   placed = c.in_ok-base.ensures;
   on = λ k h.
       ap (λ (o : OnLanes). is_on_of o c.args.plan.now.bits c.args.vec.now k) c.in_ok-pg.ensures
-      ∙ active_kept c.whole_words-whole.result c.in_ok-pg.pg c.args.plan.now.bits c.args.vec.now c.requires.size c.whole_words-whole.ensures.on k;
-  few = omega (arith, c.whole_words-whole.ensures.few, c.bits-words.ensures.value, c.length.ensures.value);
+      ∙ front_kept c.args.plan.now.bits c.in_ok-pg.pg c.front_lanes-front.result c.words_of_lanes-whole.result c.args.vec.now c.requires.size c.words_of_lanes-whole.ensures c.front_lanes-front.ensures.on k;
+  few = subst (λ n. n ≤ c.args.vec.now.bits / 64) (sym c.words_of_lanes-whole.ensures) (front_few c.args.plan.now.bits c.args.vec.now.bits c.front_lanes-front.result c.requires.size c.front_lanes-front.ensures.few);
 }
+
+pub returns-clause-front : goal.returns-clause-front
+returns-clause-front c =
+    let lanes : c.args.plan.now.lanes ≡ c.args.vec.now.bits / c.args.plan.now.bits = subst (λ (t : Target). IsTarget t c.args.plan.now c.args.vec.now) (c.is_registers.ensures c.if-not-is_registers.false) c.requires.target in
+    record {
+      few = omega (arith, lanes, c.front_lanes-front.ensures.few);
+      on = λ k h. ap (λ (o : OnLanes). is_on_of o c.args.plan.now.bits c.args.vec.now k) c.in_ok-pg.ensures ∙ c.front_lanes-front.ensures.on k h;
+    }

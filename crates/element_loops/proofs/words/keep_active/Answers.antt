@@ -1,4 +1,4 @@
-use Rattle.std.proofs.Common.{◌<◌, ◌≤◌, ◌+◌, ◌*◌, ◌/◌, ◌∙◌, length, refl, sym, arith}
+use Rattle.std.proofs.Common.{◌<◌, ◌+◌, ◌*◌, ◌/◌, ◌∙◌, length, refl, sym, arith}
 use Rattle.element_loops.specs.Runs.{is_kept}
 use Rattle.element_loops.proofs.Kept.{front_lane, later_lane, kept_front, kept_later}
 use Rattle.element_loops.proofs.RunWords.{one_more_kept, kept_above, none_masked}

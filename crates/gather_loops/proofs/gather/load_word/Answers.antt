@@ -1,10 +1,10 @@
-use Rattle.std.proofs.Common.{◌≡◌, ◌<◌, ◌≤◌, ◌+◌, ◌*◌, ◌/◌, ℕ, ap, sym, subst, ◌∙◌, arith}
+use Rattle.std.proofs.Common.{◌+◌, ◌*◌, ℕ, ap, sym, subst, ◌∙◌}
 use Rattle.emu_model.specs.Access.{Memory}
-use Rattle.sve_effects.specs.VectorElements.{Layout, elements_below}
+use Rattle.sve_effects.specs.VectorElements.{elements_below}
 use Rattle.element_access.specs.ReachLaws.{AreLoaded}
 use Rattle.element_loops.specs.Layouts.{layout_of}
 use Rattle.gather_loops.specs.Gathers.{lane_value, word_of_lanes}
-use Rattle.gather_loops.proofs.GatheredWords.{lanes_are, wide_within, narrow_within, wide_place, narrow, narrow_place, next_place}
+use Rattle.gather_loops.proofs.GatheredWords.{lanes_are, wide_within, wide_place, narrow, next_place}
 use Rattle.gather_loops.proofs.gather.load_word.Goals as goal
 
 -- lanes of 64 bits

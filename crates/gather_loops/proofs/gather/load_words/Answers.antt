@@ -1,6 +1,5 @@
 use Rattle.std.proofs.Common.{◌≡◌, ◌<◌, ◌+◌, ◌*◌, ◌/◌, length, refl, ap, sym, subst, ◌∙◌, arith}
 use Rattle.emu_model.specs.Access.{Memory}
-use Rattle.emu_model.specs.Elements.{Element}
 use Rattle.sve_effects.specs.VectorElements.{Layout, elements_below}
 use Rattle.element_access.specs.ReachLaws.{AreLoaded}
 use Rattle.element_loops.specs.Layouts.{layout_of}

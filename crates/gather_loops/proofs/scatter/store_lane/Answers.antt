@@ -1,9 +1,8 @@
-use Rattle.std.proofs.Common.{◌≡◌, ◌≤◌, ◌<◌, ◌+◌, ◌*◌, ◌++◌, ◌∷◌, [], ℕ, None, Some, true, false, length, length-append, ap, sym, ◌∙◌, arith}
+use Rattle.std.proofs.Common.{◌≡◌, ◌+◌, ◌*◌, ◌++◌, ◌∷◌, [], ℕ, None, Some, true, length, length-append, ap, sym, ◌∙◌, arith}
 use Rattle.emu_model.specs.declared.access.Kind.TheVariants.{Write}
 use Rattle.emu_model.specs.Access.{refused, stored}
 use Rattle.emu_model.specs.Elements.{Element}
 use Rattle.sve_effects.specs.VectorElements.{Layout}
-use Rattle.element_loops.specs.declared.plan.Target.{Target}
 use Rattle.element_loops.specs.Layouts.{layout_of}
 use Rattle.element_loops.specs.Planned.{stored_by}
 use Rattle.element_loops.specs.SoFar.{element_of_lane}

@@ -1,5 +1,4 @@
-use Rattle.std.proofs.Common.{◌≡◌, ◌≤◌, length, ap, subst, arith}
-use Rattle.emu_model.specs.Elements.{Element}
+use Rattle.std.proofs.Common.{◌≡◌, length, ap, subst, arith}
 use Rattle.sve_effects.specs.VectorElements.{Layout, elements_below}
 use Rattle.element_access.specs.ReachLaws.{AreStored}
 use Rattle.element_loops.specs.Layouts.{layout_of}
