@@ -1,5 +1,5 @@
 -- A world whose machine has the registers of one of its contexts, and what changes of its machine and of its contexts make of it.
-use Rattle.std.proofs.Common.{◌≡◌, ◌<◌, ◌≤◌, ℕ, zero, suc, ◌+◌, ◌-◌, Bool, true, false, ◌&&◌, List, [], ◌∷◌, ◌++◌, length, get_or, set, map, Option, Some, None, nat_lt, if◌then◌else◌, refl, sym, ap, subst, ◌∙◌, arith}
+use Rattle.std.proofs.Common.{◌≡◌, ◌<◌, ◌≤◌, ℕ, zero, suc, ◌+◌, ◌-◌, Bool, true, false, ◌&&◌, ◌||◌, is_some, List, [], ◌∷◌, ◌++◌, length, get_or, set, map, Option, Some, None, nat_lt, if◌then◌else◌, refl, sym, ap, subst, ◌∙◌, arith}
 use Rattle.std.proofs.lemmas.List.{get_or-set_same, length-set, set-set, set-get_or, map-set}
 use Rattle.std.specs.Prelude.{filter, min}
 use Rattle.std.specs.List.{list_any, list_all, range_with_len}
@@ -9,9 +9,9 @@ use Rattle.emu_system.specs.SystemCall.{returned}
 use Rattle.thread_model.specs.declared.thread.Standing.{Standing}
 use Rattle.thread_model.specs.declared.thread.Standing.TheVariants.{Ready, Waiting, Gone}
 use Rattle.thread_model.specs.ThreadCall.{answered, with_started}
-use Rattle.thread_model.specs.Worlds.{World, Context, context, no_context, is_ready, is_gone, waits_at, some_ready, ready, joined, apart, with_context, taken_by_context, woken, woken_context, with_woken, wake_count, with_monitor, behind_accesses, others_behind, without_monitors}
+use Rattle.thread_model.specs.Worlds.{World, Context, context, no_context, is_ready, is_gone, waits_at, some_ready, ready, joined, apart, with_context, taken_by_context, woken, woken_context, with_woken, wake_count, with_monitor, monitor_behind, behind_accesses, others_behind, without_monitors}
 use Rattle.guest_contexts.specs.Laid.{with_machine, laid, world_of}
-use Rattle.guest_contexts.specs.Standings.{ready_among}
+use Rattle.guest_contexts.specs.Standings.{has_monitor, ready_among}
 use Rattle.guest_contexts.proofs.Lists.{count_same, same_at, same_any, same_all, filter_same, set_pushed, get_pushed}
 
 -- ---- registers that are exchanged with those of another context
@@ -162,6 +162,23 @@ module _ (m : Parts) (last : ℕ) (cs : List Context) (within : last < length cs
       ap (λ (c : Context). set (map (with_monitor None) cs) last (with_machine c (record m { core = record m.core { monitor = None } }))) (mapped (with_monitor None))
       ∙ sym (map-set (with_monitor None) cs last own))
 
+-- ---- where no context has a monitor, none is changed by accesses
+
+kept_monitor : (made : List Access) (c : Context) (monitor : Option (ℕ × ℕ)) → c.core.monitor ≡ monitor → is_some monitor ≡ false → behind_accesses made c ≡ c
+kept_monitor made c None is none = ap (λ (x : Option (ℕ × ℕ)). with_monitor (monitor_behind made x) c) is ∙ ap (λ (x : Option (ℕ × ℕ)). with_monitor x c) (sym is)
+kept_monitor made c (Some monitor) is none = cc
+
+neither : (a b : Bool) → (a || b) ≡ false → (a ≡ false) × (b ≡ false)
+neither true b h = cc
+neither false b h = (refl, h)
+
+pub unwatched : (made : List Access) (cs : List Context) → list_any has_monitor cs ≡ false → map (behind_accesses made) cs ≡ cs
+unwatched made [] h = refl
+unwatched made (c ∷ cs) h =
+    let both = neither (has_monitor c) (list_any has_monitor cs) h in
+    ap (λ (d : Context). d ∷ map (behind_accesses made) cs) (kept_monitor made c c.core.monitor refl both.0)
+    ∙ ap (λ (l : List Context). c ∷ l) (unwatched made cs both.1)
+
 -- ---- waking
 
 module _ (a : ℕ) (m : Parts) where
@@ -181,14 +198,6 @@ module _ (a : ℕ) (m : Parts) where
 
   pub woken_is : (n last : ℕ) (cs : List Context) → world_of m last (woken a n cs) ≡ with_woken (world_of m last cs) a n
   woken_is n last cs = ap (λ (x : List Context). record (world_of m last cs) { contexts = x }) (sym (woken_laid n last cs))
-
-pub woken_length : (a n : ℕ) (cs : List Context) → length (woken a n cs) ≡ length cs
-woken_length a n [] = refl
-woken_length a n (c ∷ cs) =
-    elim (waits_at a c && nat_lt 0 n) as (λ b. length (if b then woken_context c ∷ woken a (n - 1) cs else c ∷ woken a n cs) ≡ suc (length cs)) [
-      | true ↦ ap (λ (k : ℕ). suc k) (woken_length a (n - 1) cs)
-      | false ↦ ap (λ (k : ℕ). suc k) (woken_length a n cs)
-    ]
 
 -- one that is ready stays so
 pub woken_ready : (a n k : ℕ) (cs : List Context) → (get_or cs k no_context).standing ≡ Ready → (get_or (woken a n cs) k no_context).standing ≡ Ready

@@ -1,5 +1,5 @@
--- The numbers of contexts by how they stand.
-use Rattle.std.specs.Prelude.{◌≡◌, ◌<◌, ℕ, true, List, length, get_or, filter}
+-- The numbers of contexts by how they stand, and whether they have a monitor.
+use Rattle.std.specs.Prelude.{◌≡◌, ◌<◌, ℕ, Bool, true, is_some, List, length, get_or, filter}
 use Rattle.std.specs.List.{range_with_len}
 use Rattle.thread_model.specs.Worlds.{Context, is_ready, no_context}
 
@@ -11,3 +11,6 @@ ready_among contexts = filter (λ k. is_ready (get_or contexts k no_context)) (r
 pub record IsReadyIn (contexts : List Context) (k : ℕ) : Type 0 where
   pub within : k < length contexts
   pub ready : is_ready (get_or contexts k no_context) ≡ true
+
+abbrev pub has_monitor : Context → Bool
+has_monitor c = is_some c.core.monitor

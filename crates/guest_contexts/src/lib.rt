@@ -9,6 +9,6 @@ mod standings;
 
 pub use context::Context;
 pub use copies::{copy_core, copy_vectors};
-pub use monitors::{empty_monitors, note_accesses};
+pub use monitors::{empty_monitors, is_some_watching, note_accesses};
 pub use numbers::{error_answer, thread_call};
 pub use standings::{are_all_gone, is_some_ready, ready, set_clear, stand, wake};

@@ -1,6 +1,7 @@
 //! What the accesses and the calls of a context make of the exclusive monitors of others.
 ghost use Rattle.std.specs.Prelude.{◌≡◌, None, map};
 ghost use Rattle.std.specs.List.{list_any};
+ghost use Rattle.guest_contexts.specs.Standings.{has_monitor};
 ghost use Rattle.thread_model.specs.Worlds as worlds;
 
 use crate::context::Context;
@@ -55,4 +56,13 @@ pub fn empty_monitors(contexts: &mut [Context])
     for context in contexts.iter_mut() {
         context.core.set_monitor(None);
     }
+}
+
+/// Whether a context has a monitor.
+pub fn is_some_watching(contexts: &[Context]) -> bool
+    ensures { result ≡ list_any has_monitor contexts.now }
+{
+    contexts
+        .iter()
+        .any(|context| context.core.monitor().is_some())
 }

@@ -1,6 +1,9 @@
 pub mod Composed
 pub mod Made
 pub mod Picked
+pub mod Quiet
 pub mod Runs
+pub mod Stands
 pub mod Steps
+pub mod Stood
 pub mod Views

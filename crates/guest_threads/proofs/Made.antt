@@ -20,7 +20,8 @@ use Rattle.thread_model.specs.declared.thread.ThreadCall.{ThreadCall}
 use Rattle.thread_model.specs.ThreadCall.{action, action_of, thread_call, started, started_core, started_vectors, clears_child, parent_told, with_started, starting, sets_parent, has_flag, needed_flags, known_flags, most_contexts, futex, waiting, operation, ThreadAction, fails, answers, starts, waits, wakes, clears, leaves, alone, thread_id, answered, error_answer, wait_made, wake_made, clear_made, leave_made, start_made, cleared, with_gone, all_gone, ended_by}
 use Rattle.thread_model.specs.Threads.{done_by, quietly}
 use Rattle.thread_model.specs.Worlds.{World, Context, context, no_context, joined, apart, with_context, with_woken, woken, wake_count}
-use Rattle.guest_contexts.proofs.Laid.{woken_length, woken_ready}
+use Rattle.guest_contexts.proofs.Laid.{woken_ready}
+use Rattle.thread_model.specs.Living.{woken_length}
 use Rattle.emu_machine.specs.Contexts.{ended_with}
 use Rattle.guest_threads.specs.Calls.{IsCalling, IsMade, are_unknown, is_parent_refused}
 use Rattle.guest_threads.specs.Started.{started_context}

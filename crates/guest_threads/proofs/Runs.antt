@@ -10,12 +10,13 @@ use Rattle.emu_system.specs.Gained.{Gains}
 use Rattle.thread_model.specs.declared.thread.Place.{Place}
 use Rattle.thread_model.specs.declared.thread.WorldEnding.{WorldEnding}
 use Rattle.thread_model.specs.declared.thread.WorldEnding.TheVariants.{Exit as Exited, Trap as Trapped, Spent as IsSpent, Stuck as IsStuck}
+use Rattle.thread_model.specs.Living.{IsLiving, some_waits}
 use Rattle.thread_model.specs.Worlds.{World, some_ready}
 use Rattle.thread_model.specs.Threads.{WorldState, first_place, stepped, pick, next_place, goes_on, threads, threads_from, ending}
 use Rattle.thread_model.specs.ThreadLaws.{Moves, with_input, moves_not, stepped_moves, from_over, from_moves, rest_of, rest_on, rest_ended, rest_spent, rest_moves, rest_behind}
 use Rattle.guest_threads.specs.declared.ends.WorldEnd.{WorldEnd}
 use Rattle.guest_threads.specs.declared.ends.WorldEnd.TheVariants.{Exit as WorldExit, Trap as WorldTrap, Spent, Stuck, ReadFault as WorldReadFault, WriteFault as WorldWriteFault, ErrorsFault as WorldErrorsFault}
-use Rattle.guest_threads.specs.Ends.{WorldHeld, has_ended, Becomes, TakesWithin, Puts, PutsAlways, world_end, end_of_world, world_end_of, is_broken_off}
+use Rattle.guest_threads.specs.Ends.{WorldHeld, has_ended, AllWait, Becomes, IsKept, TakesWithin, Puts, PutsAlways, world_end, end_of_world, world_end_of, is_broken_off}
 use Rattle.guest_threads.proofs.Composed.{Blind, Moving, Came, Comes, Led, Leads, came_at, comes_by, comes_cut, comes_same, comes_still, leads_on, leads_end}
 
 -- ---- the clauses of a step and a run, together
@@ -69,16 +70,21 @@ module _ (schedule : List (ℕ × ℕ)) (budget : ℕ) (place : Place) where
   rest_moving : Moving (λ s. rest_of schedule budget place s)
   rest_moving st = from_moves schedule (budget - st.world.steps) place st
 
+-- what remains of a run, by a step that counts
+pub one_on : (schedule : List (ℕ × ℕ)) (budget : ℕ) (place : Place) (p q : World) (k : ℕ) (input : List ℕ) → goes_on p ≡ true → p.steps < budget → k ≡ pick p schedule place → q.steps ≡ p.steps + 1
+    → q ≡ (stepped (with_input p input) k).world → rest_of schedule budget place (with_input p input) ≡ rest_of schedule budget (next_place q schedule place k) (stepped (with_input p input) k)
+one_on schedule budget place p q k input going below picked counted is =
+    subst (λ (n : ℕ). (q ≡ (stepped (with_input p input) n).world → rest_of schedule budget place (with_input p input) ≡ rest_of schedule budget (next_place q schedule place n) (stepped (with_input p input) n))) (sym picked)
+    (λ same. rest_on schedule budget place (with_input p input) going below (ap (λ (w : World). w.steps) (sym same) ∙ counted)
+    ∙ ap (λ (w : World). rest_of schedule budget (next_place w schedule place (pick p schedule place)) (stepped (with_input p input) (pick p schedule place))) (sym same)) is
+
 module _ (schedule : List (ℕ × ℕ)) (budget : ℕ) (place : Place) (old p q : World) (told left_p left_q ho hp hq eo ep eq : Option (List ℕ)) (led : LeadsRun schedule budget place old p told left_p ho hp eo ep) (going : goes_on p ≡ true) (below : p.steps < budget) (k : ℕ) (picked : k ≡ pick p schedule place) where
   -- the step counted
   pub run_counts : q.steps ≡ p.steps + 1 → Ran (λ st. stepped st k) p q left_p left_q hp hq ep eq false → LeadsRun schedule budget (next_place q schedule place k) old q told left_q ho hq eo eq
   run_counts counted r =
       leads_on (λ s. threads schedule budget s) (λ s. rest_of schedule budget place s) old p q left_p left_q ho hp hq eo ep eq told (λ st. stepped st k) (λ s. rest_of schedule budget (next_place q schedule place k) s)
       (rest_blind schedule budget (next_place q schedule place k)) (stepped_moving k)
-      (λ input is.
-      subst (λ (n : ℕ). (q ≡ (stepped (with_input p input) n).world → rest_of schedule budget place (with_input p input) ≡ rest_of schedule budget (next_place q schedule place n) (stepped (with_input p input) n))) (sym picked)
-      (λ same. rest_on schedule budget place (with_input p input) going below (ap (λ (w : World). w.steps) (sym same) ∙ counted)
-      ∙ ap (λ (w : World). rest_of schedule budget (next_place w schedule place (pick p schedule place)) (stepped (with_input p input) (pick p schedule place))) (sym same)) is)
+      (λ input is. one_on schedule budget place p q k input going below picked counted is)
       led (ran_by (λ st. stepped st k) p q left_p left_q hp hq ep eq false r)
 
   -- the world doesn't go on
@@ -240,3 +246,27 @@ causes_from P Q a b c stayed cause named names = record {
   rose = λ q. let rose : Rose b c = cause.rose (named q) in omega arith;
   kept = λ none. cause.kept (λ p. none (names p)) ∙ stayed;
 }
+
+-- a world that isn't left without a context behind a step, also where that wasn't done
+pub lives_on : (p q : World) (k : ℕ) (r : StepEnd) (told left : Option (List ℕ)) → (is_undone r ≡ false → IsLiving q) → (is_undone r ≡ true → IsKept p q k told left) → IsLiving p → IsLiving q
+lives_on p q k r told left done kept living =
+    elim (is_undone r) as (λ b. (b ≡ false → IsLiving q) → (b ≡ true → IsKept p q k told left) → IsLiving q) [
+      | true ↦ λ f g. subst (λ (w : World). IsLiving w) (sym (g refl).is) living
+      | false ↦ λ f g. f refl
+    ] done kept
+
+-- ---- stuck
+
+all_wait_by : (w : World) (e : Option Ended) (b : Bool) → w.ended ≡ e → some_ready w ≡ b → IsLiving w → Stuck ≡ world_end (cond (is_none e) (cond b IsSpent IsStuck) (ending w e)) → AllWait w
+all_wait_by w None true ended ready living is = cc
+all_wait_by w None false ended ready living is = record { none = ready; one = some_waits w living (ap is_none ended) ready }
+all_wait_by w (Some (Exit code)) b ended ready living is = cc
+all_wait_by w (Some (Trap t)) b ended ready living is = cc
+
+ending_by : (w : World) (e : Option Ended) → ending w e ≡ cond (is_none e) (cond (some_ready w) IsSpent IsStuck) (ending w e)
+ending_by w None = refl
+ending_by w (Some (Exit code)) = refl
+ending_by w (Some (Trap t)) = refl
+
+pub all_wait : (w : World) → IsLiving w → Stuck ≡ end_of_world w → AllWait w
+all_wait w living is = all_wait_by w w.ended (some_ready w) refl refl living (is ∙ ap world_end (ending_by w w.ended))

@@ -1,5 +1,6 @@
 -- One step of a context, by that of the machine that has its registers.
 use Rattle.std.proofs.Common.{◌≡◌, ◌<◌, ◌≤◌, ℕ, ◌+◌, ◌%◌, Bool, true, false, List, [], ◌++◌, length, get_or, set, Option, Some, None, IfSome, is_none, is_some, inl, inr, nat_eq, ◌||◌, if◌then◌else◌, refl, sym, ap, subst, ◌∙◌}
+use Rattle.emu_model.specs.declared.access.Access.{Access}
 use Rattle.emu_model.specs.declared.access.Kind.TheVariants.{Write as ToWrite}
 use Rattle.emu_model.specs.Access.{refused, stored}
 use Rattle.emu_model.specs.State.{Parts}
@@ -9,15 +10,16 @@ use Rattle.emu_run.specs.Step.{accesses, step, turn}
 use Rattle.emu_machine.specs.Ends as machine
 use Rattle.emu_machine.specs.Ends.{LeftOf}
 use Rattle.thread_model.specs.declared.thread.Standing.TheVariants.{Ready}
-use Rattle.thread_model.specs.ThreadCall.{ThreadAction, fails, answers, starts, waits, wakes, clears, leaves, alone, action, action_of, thread_call, with_gone, ended_by}
+use Rattle.thread_model.specs.ThreadCall.{ThreadAction, fails, answers, starts, waits, wakes, clears, leaves, alone, action, action_of, all_gone, thread_call, with_gone, ended_by}
 use Rattle.emu_system.specs.SystemCall.{Turn, argument}
 use Rattle.thread_model.specs.declared.thread.ThreadCall.{ThreadCall}
 use Rattle.thread_model.specs.declared.thread.ThreadCall.TheVariants.{Clone, Futex, Exit as ExitCall, SetTidAddress, Gettid, Alone}
+use Rattle.thread_model.specs.Living.{IsLiving, emptied_gone, noted_living, stays_living}
 use Rattle.thread_model.specs.Threads.{WorldTurn, WorldState, done_by, makes_call, one, quietly, stepped, stepped_alone, taken_by, with_world}
 use Rattle.thread_model.specs.ThreadLaws.{with_input}
-use Rattle.thread_model.specs.Worlds.{World, Context, context, joined, apart, with_woken, others_behind, taken_by_context, without_monitors}
+use Rattle.thread_model.specs.Worlds.{World, Context, context, is_gone, is_standing_gone, joined, apart, with_woken, others_behind, taken_by_context, without_monitors}
 use Rattle.guest_contexts.specs.Laid.{world_of}
-use Rattle.guest_contexts.proofs.Laid.{joined_is, stepped_is}
+use Rattle.guest_contexts.proofs.Laid.{joined_is, laid_length, standing_is, stepped_is}
 use Rattle.emu_model.specs.declared.trap.Ended.{Ended}
 use Rattle.emu_model.specs.declared.trap.Ended.TheVariants.{Exit as Exited, Trap as Trapped}
 use Rattle.emu_system.specs.SystemCall.{action as machine_action}
@@ -254,3 +256,20 @@ end_done (Some (Trapped t)) = refl
 
 pub end_is_done : (end : StepEnd) (e : Option Ended) → end ≡ step_end e → is_undone end ≡ false
 end_is_done end e is = ap is_undone is ∙ end_done e
+
+-- ---- a machine's step leaves its context where it is
+
+module _ (m q : Parts) (last : ℕ) (cs : List Context) (within : last < length cs) (ready : (context (world_of m last cs) last).standing ≡ Ready) where
+  stays : is_gone (context (world_of q last cs) last) ≡ false
+  stays = ap is_standing_gone (standing_is q last cs within ∙ sym (standing_is m last cs within) ∙ ready)
+
+  within_laid : last < length (world_of q last cs).contexts
+  within_laid = subst (λ (n : ℕ). last < n) (sym (laid_length q last cs)) within
+
+  -- it makes a call, which empties all monitors
+  pub lives_called : (new : World) → new ≡ without_monitors (world_of q last cs) → IsLiving new
+  lives_called new is = λ _. ap all_gone is ∙ emptied_gone (world_of q last cs) ∙ stays_living (world_of q last cs) last within_laid stays
+
+  -- it makes none
+  pub lives_noted : (made : List Access) (new : World) → new ≡ others_behind made last (world_of q last cs) → IsLiving new
+  lives_noted made new is = λ _. ap all_gone is ∙ noted_living (world_of q last cs) last within_laid made stays

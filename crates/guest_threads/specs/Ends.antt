@@ -14,7 +14,7 @@ use Rattle.thread_model.specs.declared.thread.WorldEnding.{WorldEnding}
 use Rattle.thread_model.specs.declared.thread.WorldEnding.TheVariants.{Exit as Exited, Trap as Trapped, Spent as IsSpent, Stuck as IsStuck}
 use Rattle.thread_model.specs.declared.thread.Place.{Place}
 use Rattle.thread_model.specs.declared.thread.Standing.TheVariants.{Ready}
-use Rattle.thread_model.specs.Worlds.{World, Context, context, joined, some_ready}
+use Rattle.thread_model.specs.Worlds.{World, Context, context, joined, some_ready, some_waiting}
 use Rattle.thread_model.specs.Threads.{WorldState, ending, pick, turn_at}
 use Rattle.thread_model.specs.ThreadLaws.{with_input}
 use Rattle.guest_threads.specs.declared.ends.WorldEnd.{WorldEnd}
@@ -67,6 +67,15 @@ is_broken_off ReadFault = true
 is_broken_off WriteFault = true
 is_broken_off ErrorsFault = true
 
+-- the machine of the context that took the last step
+abbrev pub last_machine : World → Parts
+last_machine w = joined w (context w w.last)
+
+-- no context is ready, and one waits
+pub record AllWait (w : World) : Type 0 where
+  pub none : some_ready w ≡ false
+  pub one : some_waiting w ≡ true
+
 -- ---- a place in a schedule
 
 -- the context is one of the world's, and ready
@@ -90,6 +99,10 @@ pub record IsPicked (w : World) (schedule : List (ℕ × ℕ)) (p : Place) (k : 
 pub record IsKept (old new : World) (k : ℕ) (told left : Option (List ℕ)) : Type 0 where
   pub is : new ≡ record old { memory = new.memory; last = k }
   pub stored : Stores (action (joined old (context old k))) old.memory new.memory told left
+
+-- the same of a world that stood so, and whose context of the step is now the last
+abbrev pub IsKeptAt : WorldState → World → Option (List ℕ) → Type 0
+IsKeptAt st new left = IsKept st.world new new.last (Some st.input) left
 
 -- ---- what f makes of a world and of its streams. It is broken off where a step of it wasn't done.
 

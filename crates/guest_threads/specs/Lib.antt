@@ -1,4 +1,5 @@
 pub mod Calls
 pub mod Ends
+pub mod Quiet
 pub mod Started
 pub mod Steps

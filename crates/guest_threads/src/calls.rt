@@ -4,12 +4,12 @@ ghost use Rattle.guest_threads.specs.Calls.{IsCalling, IsMade};
 ghost use Rattle.thread_model.specs.ThreadCall as model;
 ghost use Rattle.thread_model.specs.Worlds as worlds;
 
-use crate::world::World;
+use crate::held::Held;
 use emu_machine::StepEnd;
 use guest_contexts::error_answer;
 use thread_model::{Standing, ThreadCall, ThreadErrno};
 
-impl World {
+impl Held {
     /// Makes the call of the context whose registers the machine has, where it makes one and that speaks of contexts. None exactly
     /// where it doesn't, and then nothing is changed.
     pub(crate) fn call(&mut self, calls: bool) -> Option<StepEnd>

@@ -4,8 +4,8 @@ ghost use Rattle.guest_threads.specs.Calls.{IsCalling, IsMade, are_unknown, is_p
 ghost use Rattle.thread_model.specs.ThreadCall as model;
 ghost use Rattle.thread_model.specs.Worlds as worlds;
 
+use crate::held::Held;
 use crate::parts::has_flag;
-use crate::world::World;
 use emu_machine::StepEnd;
 use thread_model::ThreadErrno;
 
@@ -22,7 +22,7 @@ fn are_unknown(flags: u64) -> bool
     !has_flag(NEEDED, flags) || flags & (u64::MAX - KNOWN) != 0
 }
 
-impl World {
+impl Held {
     /// The call of flags, a stack, the address of a word, a thread pointer and a clear address.
     pub(crate) fn clone_context(&mut self) -> StepEnd
         requires { IsCalling self.old }

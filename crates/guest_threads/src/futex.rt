@@ -4,7 +4,7 @@ ghost use Rattle.guest_threads.specs.Calls.{IsCalling, IsMade};
 ghost use Rattle.thread_model.specs.ThreadCall as model;
 ghost use Rattle.thread_model.specs.Worlds as worlds;
 
-use crate::world::World;
+use crate::held::Held;
 use emu_machine::StepEnd;
 use thread_model::{Standing, ThreadErrno};
 
@@ -15,7 +15,7 @@ fn operation(op: u64) -> u64
     (op % 0x1_0000_0000) & 0xFFFF_FF7F
 }
 
-impl World {
+impl Held {
     /// The call of an address, an operation, a number and a time.
     pub(crate) fn futex(&mut self) -> StepEnd
         requires { IsCalling self.old }

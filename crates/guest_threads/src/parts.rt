@@ -8,7 +8,7 @@ ghost use Rattle.guest_threads.specs.Started.{started_context};
 ghost use Rattle.thread_model.specs.ThreadCall as model;
 ghost use Rattle.thread_model.specs.Worlds as worlds;
 
-use crate::world::{MOST_CONTEXTS, World};
+use crate::held::{Held, MOST_CONTEXTS};
 use core_regs::Core;
 use emu_bits::Reg;
 use emu_model::Kind;
@@ -18,7 +18,7 @@ use guest_contexts::{
 };
 use thread_model::{Standing, ThreadCall};
 
-impl World {
+impl Held {
     /// The call whose number is in x8.
     pub(crate) fn name(&self) -> ThreadCall
         ensures { result ≡ model.thread_call (worlds.context self.now.world self.now.world.last).core }

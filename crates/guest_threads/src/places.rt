@@ -1,15 +1,46 @@
 //! Where a run is in its schedule.
-ghost use Rattle.std.specs.Prelude.{◌≡◌, ◌<◌, ◌+◌, ◌^◌, ◌⊎◌, MatchOption, length, true, false};
+ghost use Rattle.std.specs.Prelude.{◌≡◌, ◌<◌, ◌≤◌, ◌+◌, ◌-◌, ◌^◌, ◌⊎◌, MatchOption, length, true, false};
 ghost use Rattle.guest_schedule.specs.Turns.{IsSchedule};
 ghost use Rattle.guest_threads.specs.Ends.{IsPlace, IsPicked, IsReadyAt};
 ghost use Rattle.thread_model.specs.Threads as model;
 ghost use Rattle.thread_model.specs.Worlds as worlds;
 
-use crate::world::World;
+use crate::held::Held;
 use guest_contexts::ready;
 use thread_model::Place;
 
-impl World {
+/// The number of steps that are counted in all when the turn of a place, or the budget, is used up.
+pub(crate) fn turn_until(turns: &[(u64, u64)], place: &Place, steps: u64, budget: u64) -> u64
+    requires turn { place.now.turn < length turns.now }
+    requires used { place.now.used < (model.turn_at turns.now place.now.turn).1 }
+    requires below { steps < budget }
+    ensures below { steps < result }
+    ensures within { result ≤ budget }
+    ensures turn { result + place.now.used ≤ steps + (model.turn_at turns.now place.now.turn).1 }
+    ensures fits { place.now.used + (result - steps) < 2 ^ 64 }
+{
+    let whole = turns[place.turn].1;
+    let left = whole.saturating_sub(place.used);
+    if left < budget - steps {
+        return steps + left;
+    }
+    budget
+}
+
+/// The place of the last of the steps of a context by which the count of steps came from `before` to `after`, all in one turn.
+pub(crate) fn place_behind(place: &Place, before: u64, after: u64, k: usize) -> Place
+    requires some { before < after }
+    requires fits { place.now.used + (after - before - 1) < 2 ^ 64 }
+    ensures { result ≡ record { turn = place.now.turn; used = place.now.used + (after - before - 1); held = k } }
+{
+    Place {
+        turn: place.turn,
+        used: place.used + (after - before - 1),
+        held: k,
+    }
+}
+
+impl Held {
     /// The context that takes the next step. None exactly where no context is ready.
     pub(crate) fn pick(&self, turns: &[(u64, u64)], place: &Place) -> Option<usize>
         requires { IsPlace self.now.world turns.now place.now }

@@ -1,51 +1,26 @@
 //! The run of a world under a schedule.
-ghost use Rattle.std.specs.Prelude.{◌≡◌, ◌<◌, ◌≤◌, is_none, true, false};
+ghost use Rattle.std.specs.Prelude.{◌≡◌, ◌<◌, ◌≤◌, IfSome, is_none, true, false};
+ghost use Rattle.emu_machine.specs.Machines.{MakesWrite};
 ghost use Rattle.guest_schedule.specs.Turns.{IsSchedule};
+ghost use Rattle.guest_threads.specs.Ends.{has_ended, end_of_world, world_end_of, is_broken_off, last_machine, Becomes, IsKeptAt, TakesWithin, Puts};
 ghost use Rattle.io_gate.specs.Streams.{Causes};
-ghost use Rattle.guest_threads.specs.Ends.{has_ended, end_of_world, world_end_of, is_broken_off, Becomes, TakesWithin, Puts};
+ghost use Rattle.linux_calls.specs.Names.{NamesRead};
+ghost use Rattle.thread_model.specs.Living.{IsLiving};
 ghost use Rattle.thread_model.specs.Threads as model;
+ghost use Rattle.thread_model.specs.ThreadLaws.{with_input};
 
 use crate::ends::WorldEnd;
-use crate::world::World;
+use crate::held::Held;
+use crate::places::{place_behind, turn_until};
 use emu_machine::{Ended, StepEnd};
 use guest_contexts::is_some_ready;
-use guest_schedule::Schedule;
 use io_gate::{Sink, Source};
 use thread_model::Place;
 
-impl World {
-    /// Takes the steps that a schedule names, until the world has ended, no context is ready, or `budget` steps are counted in all.
-    ///
-    /// After a fault of a stream, which is answered exactly where that stream failed, the world has ended, with its last step not done.
-    /// No run wants memory.
-    pub fn run<I: Source, O: Sink, E: Sink>(
-        &mut self,
-        schedule: &Schedule,
-        budget: u64,
-        input: &mut I,
-        output: &mut O,
-        errors: &mut E,
-    ) -> WorldEnd
-        requires going { has_ended self.old ≡ false }
-        requires within { self.old.world.steps ≤ budget }
-        ensures state { Becomes (model.threads schedule.now budget) self.old.world self.new.world (I.left input.old) (I.left input.new) (is_broken_off result) }
-        ensures input { TakesWithin (model.threads schedule.now budget) self.old.world (I.left input.old) (I.left input.new) (is_broken_off result) }
-        ensures output { Puts (λ st. (model.threads schedule.now budget st).output) self.old.world (I.left input.old) (O.held output.old) (O.held output.new) (is_broken_off result) }
-        ensures errors { Puts (λ st. (model.threads schedule.now budget st).errors) self.old.world (I.left input.old) (E.held errors.old) (E.held errors.new) (is_broken_off result) }
-        ensures end { is_broken_off result ≡ false → result ≡ end_of_world self.new.world }
-        ensures spent { result ≡ WorldEnd.Spent → self.new.world.steps ≡ budget }
-        ensures unended { is_broken_off result ≡ true → is_none self.new.world.ended ≡ true }
-        ensures unspent { is_broken_off result ≡ true → self.new.world.steps < budget }
-        ensures failed { self.new.failed ≡ is_broken_off result }
-        ensures read_cause { Causes (result ≡ WorldEnd.ReadFault) (I.faults input.old) (I.faults input.new) }
-        ensures write_cause { Causes (result ≡ WorldEnd.WriteFault) (O.faults output.old) (O.faults output.new) }
-        ensures errors_cause { Causes (result ≡ WorldEnd.ErrorsFault) (E.faults errors.old) (E.faults errors.new) }
-    {
-        self.follow(schedule.turns(), budget, input, output, errors)
-    }
-
-    /// The same for the turns of a schedule.
-    fn follow<I: Source, O: Sink, E: Sink>(
+impl Held {
+    /// Takes the steps that the turns of a schedule name, until the world has ended, no context is ready, or `budget` steps are
+    /// counted in all.
+    pub(crate) fn follow<I: Source, O: Sink, E: Sink>(
         &mut self,
         schedule: &[(u64, u64)],
         budget: u64,
@@ -62,12 +37,17 @@ impl World {
         ensures errors { Puts (λ st. (model.threads schedule.now budget st).errors) self.old.world (I.left input.old) (E.held errors.old) (E.held errors.new) (is_broken_off result) }
         ensures end { is_broken_off result ≡ false → result ≡ end_of_world self.new.world }
         ensures spent { result ≡ WorldEnd.Spent → self.new.world.steps ≡ budget }
+        ensures living { IsLiving self.old.world → IsLiving self.new.world }
+        ensures kept { IfSome (I.left input.old) (λ bytes. is_broken_off result ≡ true → IsKeptAt (model.threads schedule.now self.new.world.steps (with_input self.old.world bytes)) self.new.world (I.left input.new)) }
         ensures unended { is_broken_off result ≡ true → is_none self.new.world.ended ≡ true }
         ensures unspent { is_broken_off result ≡ true → self.new.world.steps < budget }
         ensures failed { self.new.failed ≡ is_broken_off result }
         ensures read_cause { Causes (result ≡ WorldEnd.ReadFault) (I.faults input.old) (I.faults input.new) }
         ensures write_cause { Causes (result ≡ WorldEnd.WriteFault) (O.faults output.old) (O.faults output.new) }
         ensures errors_cause { Causes (result ≡ WorldEnd.ErrorsFault) (E.faults errors.old) (E.faults errors.new) }
+        ensures read_named { result ≡ WorldEnd.ReadFault → NamesRead (last_machine self.new.world).core }
+        ensures write_named { result ≡ WorldEnd.WriteFault → MakesWrite (last_machine self.new.world) 1 }
+        ensures errors_named { result ≡ WorldEnd.ErrorsFault → MakesWrite (last_machine self.new.world) 2 }
     {
         let mut place = Place {
             turn: 0,
@@ -78,11 +58,14 @@ impl World {
             let Some(k) = self.pick(schedule, &place) else {
                 return self.end();
             };
-            match self.one(k, input, output, errors) {
+            let before = self.steps();
+            let until = turn_until(schedule, &place, before, budget);
+            match self.go(k, until, input, output, errors) {
                 StepEnd::Going => {}
                 end => return self.end_of(end),
             }
-            place = self.next_place(schedule, &place, k);
+            let last = place_behind(&place, before, self.steps(), k);
+            place = self.next_place(schedule, &last, k);
         }
         self.end()
     }

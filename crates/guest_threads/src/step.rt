@@ -1,21 +1,24 @@
 //! One step of a context.
 ghost use Rattle.std.specs.Prelude.{◌≡◌, ◌<◌, ◌+◌, ◌-◌, ◌^◌, length, true, false};
-ghost use Rattle.io_gate.specs.Streams.{Causes};
 ghost use Rattle.emu_machine.specs.Ends.{step_end, is_undone};
+ghost use Rattle.emu_machine.specs.Machines.{MakesWrite};
 ghost use Rattle.guest_threads.specs.Calls.{IsCalling};
-ghost use Rattle.guest_threads.specs.Ends.{has_ended, Becomes, TakesWithin, PutsAlways, IsKept};
+ghost use Rattle.guest_threads.specs.Ends.{has_ended, last_machine, Becomes, TakesWithin, PutsAlways, IsKept};
 ghost use Rattle.guest_threads.specs.Steps.{stepped_as};
+ghost use Rattle.io_gate.specs.Streams.{Causes};
+ghost use Rattle.linux_calls.specs.Names.{NamesRead};
 ghost use Rattle.thread_model.specs.declared.thread.Standing.TheVariants as standing;
+ghost use Rattle.thread_model.specs.Living.{IsLiving};
 ghost use Rattle.thread_model.specs.Threads as model;
 ghost use Rattle.thread_model.specs.Worlds as worlds;
 
+use crate::held::Held;
 use crate::svc::makes_call;
-use crate::world::World;
 use emu_machine::StepEnd;
 use guest_contexts::note_accesses;
 use io_gate::{Sink, Source};
 
-impl World {
+impl Held {
     /// Takes one step of a context, which is ready.
     ///
     /// After a fault of a stream, which is answered exactly where that stream failed, the world has ended with the step not done: it
@@ -40,9 +43,13 @@ impl World {
         ensures kept { is_undone result ≡ true → IsKept self.old.world self.new.world k (I.left input.old) (I.left input.new) }
         ensures failed { self.new.failed ≡ is_undone result }
         ensures last { self.new.world.last ≡ k }
+        ensures living { is_undone result ≡ false → IsLiving self.new.world }
         ensures read_cause { Causes (result ≡ StepEnd.ReadFault) (I.faults input.old) (I.faults input.new) }
         ensures write_cause { Causes (result ≡ StepEnd.WriteFault) (O.faults output.old) (O.faults output.new) }
         ensures errors_cause { Causes (result ≡ StepEnd.ErrorsFault) (E.faults errors.old) (E.faults errors.new) }
+        ensures read_named { result ≡ StepEnd.ReadFault → NamesRead (last_machine self.new.world).core }
+        ensures write_named { result ≡ StepEnd.WriteFault → MakesWrite (last_machine self.new.world) 1 }
+        ensures errors_named { result ≡ StepEnd.ErrorsFault → MakesWrite (last_machine self.new.world) 2 }
     {
         self.bring(k);
         let calls = self.is_calling();
@@ -82,9 +89,13 @@ impl World {
         ensures kept { is_undone result ≡ true → IsKept self.old.world self.new.world self.old.world.last (I.left input.old) (I.left input.new) }
         ensures failed { self.new.failed ≡ is_undone result }
         ensures last { self.new.world.last ≡ self.old.world.last }
+        ensures living { is_undone result ≡ false → IsLiving self.new.world }
         ensures read_cause { Causes (result ≡ StepEnd.ReadFault) (I.faults input.old) (I.faults input.new) }
         ensures write_cause { Causes (result ≡ StepEnd.WriteFault) (O.faults output.old) (O.faults output.new) }
         ensures errors_cause { Causes (result ≡ StepEnd.ErrorsFault) (E.faults errors.old) (E.faults errors.new) }
+        ensures read_named { result ≡ StepEnd.ReadFault → NamesRead (last_machine self.new.world).core }
+        ensures write_named { result ≡ StepEnd.WriteFault → MakesWrite (last_machine self.new.world) 1 }
+        ensures errors_named { result ≡ StepEnd.ErrorsFault → MakesWrite (last_machine self.new.world) 2 }
     {
         let end = self.machine.step(input, output, errors);
         if is_fault(end) {

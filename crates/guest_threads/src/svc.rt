@@ -4,7 +4,7 @@ ghost use Rattle.emu_run.specs.declared.insn.Insn.TheVariants as model_insn;
 ghost use Rattle.emu_run.specs.Step as model;
 ghost use Rattle.thread_model.specs.Threads as threads;
 
-use crate::world::World;
+use crate::held::Held;
 use a64_insn::{A64Form, ExceptOp};
 use emu_machine::Machine;
 use emu_model::Kind;
@@ -17,7 +17,7 @@ fn is_svc(word: u32) -> bool
     if may_be_sve(word) {
         return false;
     }
-    match decode_a64_word::<World>(word) {
+    match decode_a64_word::<Held>(word) {
         None => false,
         Some(insn) => is_svc_form(insn.form()),
     }

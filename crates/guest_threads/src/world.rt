@@ -1,54 +1,42 @@
-//! A world of contexts, its readers, and the exchange of their registers with the machine's.
-ghost use Rattle.std.specs.Prelude.{◌≡◌, ◌<◌, ◌≤◌, ℕ, IfOk, get_or, set, length, false};
-ghost use Rattle.std.specs.Vec.{vec_capacity};
-ghost use Rattle.emu_machine.specs.Machines.{has_ended as machine_has_ended};
-ghost use Rattle.guest_contexts.specs.Laid.{with_machine};
+//! A world of guest threads: it is opened from a machine, runs under a schedule, and shows its contexts.
+ghost use Rattle.std.specs.Prelude.{◌≡◌, ◌<◌, ◌≤◌, IfOk, IfSome, is_none, length, true, false};
+ghost use Rattle.emu_machine.specs.Machines.{has_ended as machine_has_ended, MakesWrite};
+ghost use Rattle.guest_threads.specs.Ends.{has_ended, end_of_world, is_broken_off, last_machine, AllWait, Becomes, IsKeptAt, TakesWithin, Puts};
+ghost use Rattle.io_gate.specs.Streams.{Causes};
+ghost use Rattle.linux_calls.specs.Names.{NamesRead};
+ghost use Rattle.thread_model.specs.Threads as model;
+ghost use Rattle.thread_model.specs.ThreadLaws.{with_input};
 ghost use Rattle.thread_model.specs.Worlds as worlds;
 
+use crate::ends::WorldEnd;
+use crate::held::Held;
 use core_regs::Core;
 use emu_machine::Machine;
-use guest_contexts::Context;
 use guest_pages::OutOfMemory;
+use guest_schedule::Schedule;
+use io_gate::{Sink, Source};
 use std::alloc::Global;
 use std::marker::Model;
-use thread_model::Standing;
 use vec_regs::VecRegs;
 
-/// The most contexts of a world, those that have left included.
-pub const MOST_CONTEXTS: usize = 64;
-
-/// A world. Contracts see what its contexts share, the contexts, and whether a stream has failed in one of its steps.
+/// A world. Contracts see what its contexts share, the contexts, and whether a stream has failed in one of its steps. A world that
+/// hasn't ended has a context that hasn't left.
 #[derive(Drop)]
 pub struct World {
-    pub(crate) machine: Machine,
-    pub(crate) contexts: Vec<Context>,
-    /// The context whose registers the machine has.
-    pub(crate) last: usize,
+    held: Held,
 }
 
 impl Model for World {
-    ghost use Rattle.std.specs.Vec.{vec_capacity};
-    ghost use Rattle.guest_contexts.specs.Laid.{world_of};
-    ghost use Rattle.guest_threads.specs.Ends.{WorldHeld, coded_held, IsInside};
+    ghost use Rattle.guest_threads.specs.Ends.{WorldHeld, coded_held};
+    ghost use Rattle.thread_model.specs.Living.{IsLiving};
 
     ghost Value = { WorldHeld };
 
     ghost coded = { coded_held };
 
-    ghost view = { λ a. record { world = world_of a.machine.parts a.last a.contexts.items; failed = a.machine.failed } };
+    ghost view = { λ a. a.held };
 
-    ghost invariant = { λ a. IsInside a.last a.contexts.items (vec_capacity a.contexts) };
-}
-
-/// Exchanges the machine's registers with those of the context at a place.
-fn exchange(machine: &mut Machine, contexts: &mut Vec<Context>, k: usize)
-    requires { k < length contexts.old.items }
-    ensures machine { machine.new ≡ record machine.old { parts = record machine.old.parts { core = (get_or contexts.old.items k worlds.no_context).core; vectors = (get_or contexts.old.items k worlds.no_context).vectors } } }
-    ensures contexts { contexts.new.items ≡ set contexts.old.items k (with_machine (get_or contexts.old.items k worlds.no_context) machine.old.parts) }
-    ensures room { vec_capacity contexts.new ≡ vec_capacity contexts.old }
-{
-    let context = &mut contexts[k];
-    machine.swap(&mut context.core, &mut context.vec);
+    ghost invariant = { λ a. IsLiving a.held.world };
 }
 
 impl World {
@@ -58,25 +46,15 @@ impl World {
         requires { machine_has_ended machine ≡ false }
         ensures { IfOk result (λ w. w ≡ record { world = worlds.opened machine.parts; failed = false }) }
     {
-        let mut contexts = Vec::with_capacity(alloc, MOST_CONTEXTS)?;
-        contexts.push_reserved(Context {
-            core: Core::new(),
-            vec: VecRegs::new(machine.vec().most()),
-            clear: 0,
-            standing: Standing::Ready,
-        });
-        Ok(World {
-            machine,
-            contexts,
-            last: 0,
-        })
+        let held = Held::open(alloc, machine)?;
+        Ok(World { held })
     }
 
     /// The number of steps that were counted: each but those that trapped or failed.
     pub fn steps(&self) -> u64
         ensures { result ≡ self.now.world.steps }
     {
-        self.machine.steps()
+        self.held.steps()
     }
 
     /// The number of contexts, those that have left included: at least one.
@@ -85,7 +63,7 @@ impl World {
         ensures some { 1 ≤ result }
         ensures most { result ≤ 64 }
     {
-        self.contexts.len() as u32
+        self.held.contexts()
     }
 
     /// The registers of a context: those that it left with, where it has left.
@@ -94,23 +72,43 @@ impl World {
         ensures core { result.0.now ≡ (worlds.context self.now.world k).core }
         ensures vectors { result.1.now ≡ (worlds.context self.now.world k).vectors }
     {
-        if k as usize == self.last {
-            return (self.machine.core(), self.machine.vec());
-        }
-        let context = &self.contexts[k as usize];
-        (&context.core, &context.vec)
+        self.held.context(k)
     }
 
-    /// Brings the registers of a context into the machine, and those that the machine had back to theirs.
-    pub(crate) fn bring(&mut self, k: usize)
-        requires { k < length self.old.world.contexts }
-        ensures { self.new ≡ record self.old { world = worlds.taken_by_context k self.old.world } }
+    /// Takes the steps that a schedule names, until the world has ended, no context is ready, or `budget` steps are counted in all.
+    ///
+    /// After a fault of a stream, which is answered exactly where that stream failed, the world has ended. It then stands before the
+    /// step that wasn't done: it is what a run with a budget of the steps counted so far leaves, but that bytes which the call took are
+    /// stored, and that the context of that step is the last. No run wants memory.
+    pub fn run<I: Source, O: Sink, E: Sink>(
+        &mut self,
+        schedule: &Schedule,
+        budget: u64,
+        input: &mut I,
+        output: &mut O,
+        errors: &mut E,
+    ) -> WorldEnd
+        requires going { has_ended self.old ≡ false }
+        requires within { self.old.world.steps ≤ budget }
+        ensures state { Becomes (model.threads schedule.now budget) self.old.world self.new.world (I.left input.old) (I.left input.new) (is_broken_off result) }
+        ensures input { TakesWithin (model.threads schedule.now budget) self.old.world (I.left input.old) (I.left input.new) (is_broken_off result) }
+        ensures output { Puts (λ st. (model.threads schedule.now budget st).output) self.old.world (I.left input.old) (O.held output.old) (O.held output.new) (is_broken_off result) }
+        ensures errors { Puts (λ st. (model.threads schedule.now budget st).errors) self.old.world (I.left input.old) (E.held errors.old) (E.held errors.new) (is_broken_off result) }
+        ensures end { is_broken_off result ≡ false → result ≡ end_of_world self.new.world }
+        ensures spent { result ≡ WorldEnd.Spent → self.new.world.steps ≡ budget }
+        ensures stuck { result ≡ WorldEnd.Stuck → AllWait self.new.world }
+        ensures kept { IfSome (I.left input.old) (λ bytes. is_broken_off result ≡ true → IsKeptAt (model.threads schedule.now self.new.world.steps (with_input self.old.world bytes)) self.new.world (I.left input.new)) }
+        ensures unended { is_broken_off result ≡ true → is_none self.new.world.ended ≡ true }
+        ensures unspent { is_broken_off result ≡ true → self.new.world.steps < budget }
+        ensures failed { self.new.failed ≡ is_broken_off result }
+        ensures read_cause { Causes (result ≡ WorldEnd.ReadFault) (I.faults input.old) (I.faults input.new) }
+        ensures write_cause { Causes (result ≡ WorldEnd.WriteFault) (O.faults output.old) (O.faults output.new) }
+        ensures errors_cause { Causes (result ≡ WorldEnd.ErrorsFault) (E.faults errors.old) (E.faults errors.new) }
+        ensures read_named { result ≡ WorldEnd.ReadFault → NamesRead (last_machine self.new.world).core }
+        ensures write_named { result ≡ WorldEnd.WriteFault → MakesWrite (last_machine self.new.world) 1 }
+        ensures errors_named { result ≡ WorldEnd.ErrorsFault → MakesWrite (last_machine self.new.world) 2 }
     {
-        let last = self.last;
-        if k != last {
-            exchange(&mut self.machine, &mut self.contexts, last);
-            exchange(&mut self.machine, &mut self.contexts, k);
-            self.last = k;
-        }
+        self.held
+            .follow(schedule.turns(), budget, input, output, errors)
     }
 }

@@ -1,0 +1,73 @@
+-- Where a run of a world stands before a step of a context, and how steps that move no byte of a stream bring it on within a turn.
+use Rattle.std.proofs.Common.{◌≡◌, ◌<◌, ◌≤◌, ℕ, zero, suc, ◌+◌, Bool, true, false, ◌&&◌, List, Option, is_none, if◌then◌else◌, refl, sym, ap, subst, ◌∙◌, arith}
+use Rattle.std.proofs.lemmas.Bool.{ne_eqb}
+use Rattle.thread_model.specs.declared.thread.Place.{Place}
+use Rattle.thread_model.specs.Threads.{goes_on, next_place, pick, ready_at, stepped, turn_at}
+use Rattle.thread_model.specs.Worlds.{World, is_standing_ready, some_ready}
+use Rattle.guest_threads.specs.Ends.{IsReadyAt}
+use Rattle.guest_threads.specs.Quiet.{AreQuiet, IsQuiet}
+use Rattle.guest_threads.proofs.Picked.{place_at, some_by, stays_on}
+use Rattle.guest_threads.proofs.Quiet.{quiet_steps}
+use Rattle.guest_threads.proofs.Runs.{LeadsRun, Ran, ran_step, run_counts}
+use Rattle.guest_threads.proofs.Stands.{Stands, stands_on}
+use Rattle.guest_threads.proofs.Steps.{quiet_becomes, quiet_errors, quiet_output, quiet_takes}
+
+-- the place of a context's next step behind so many steps of it, all in one turn
+abbrev pub moved : Place → ℕ → ℕ → Place
+moved p k zero = p
+moved p k (suc n) = place_at p.turn (p.used + suc n) k
+
+moved_turn : (p : Place) (k n : ℕ) → (moved p k n).turn ≡ p.turn
+moved_turn p k zero = refl
+moved_turn p k (suc n) = refl
+
+moved_used : (p : Place) (k n : ℕ) → (moved p k n).used ≡ p.used + n
+moved_used p k zero = omega arith
+moved_used p k (suc n) = refl
+
+-- the place behind the next one doesn't rest on the context that the place holds
+pub next_moved : (w : World) (schedule : List (ℕ × ℕ)) (p : Place) (k n : ℕ) (last : Place) → last ≡ place_at p.turn (p.used + n) k → next_place w schedule (moved p k n) k ≡ next_place w schedule last k
+next_moved w schedule p k n last is =
+    ap (λ (t : ℕ). next_place w schedule (place_at t (moved p k n).used k) k) (moved_turn p k n)
+    ∙ ap (λ (u : ℕ). next_place w schedule (place_at p.turn u k) k) (moved_used p k n)
+    ∙ ap (λ (x : Place). next_place w schedule x k) (sym is)
+
+module _ (schedule : List (ℕ × ℕ)) (budget k : ℕ) (old : World) (told left ho hp eo ep : Option (List ℕ)) where
+  pub record Stood (place : Place) (now : World) : Type 0 where
+    pub leads : LeadsRun schedule budget place old now told left ho hp eo ep
+    pub stands : Stands schedule old told place now left
+    pub picked : k ≡ pick now schedule place
+    pub at : IsReadyAt now k
+    pub goes : is_none now.ended ≡ true
+
+  pub stood_goes : (place : Place) (now : World) → Stood place now → goes_on now ≡ true
+  stood_goes place now s = ap (λ (b : Bool). b && some_ready now) s.goes ∙ some_by now k s.at
+
+  stood_one : (place : Place) (p q : World) → Stood place p → IsQuiet k p q → place.used + 1 < (turn_at schedule place.turn).1 → p.steps < budget → Stood (place_at place.turn (place.used + 1) k) q
+  stood_one place p q s one more below =
+      let r : Ran (λ st. stepped st k) p q left left hp hp ep ep false =
+      ran_step k p q left left hp hp ep ep false (quiet_becomes p q k one.is left false) (quiet_takes p q k one.is left false refl) (quiet_output p q k one.is hp false) (quiet_errors p q k one.is ep false) in
+      let next : next_place q schedule place k ≡ place_at place.turn (place.used + 1) k = sym (stays_on q schedule place k (λ e. omega (arith, e, more)) (ap is_standing_ready one.at.ready)) in
+      let goes : goes_on p ≡ true = stood_goes place p s in
+      record {
+        leads = subst (λ (x : Place). LeadsRun schedule budget x old q told left ho hp eo ep) next
+            (run_counts schedule budget place old p q told left left ho hp hp eo ep ep s.leads goes below k s.picked one.counted r);
+        stands = subst (λ (x : Place). Stands schedule old told x q left) next
+            (stands_on schedule budget place old p left ho hp eo ep q k left hp ep told s.leads r goes s.picked one.counted s.stands);
+        picked = sym (ap (λ (b : Bool). if b then ready_at q (turn_at schedule place.turn).0 else k) (ne_eqb (place.used + 1) 0 (λ e. omega (arith, e))));
+        at = one.at;
+        goes = one.goes;
+      }
+
+  pub stood_on : (n : ℕ) (place : Place) (w u : World) → Stood place w → AreQuiet n k w u → place.used + n < (turn_at schedule place.turn).1 → u.steps < budget → Stood (moved place k n) u
+  stood_on zero place w u s same more below = subst (λ (x : World). Stood place x) (sym same) s
+  stood_on (suc n) place w u s (x, (so_far, one)) more below =
+      let counted = one.counted in
+      let p : Place = moved place k n in
+      let used : p.used ≡ place.used + n = moved_used place k n in
+      let turn : p.turn ≡ place.turn = moved_turn place k n in
+      let before : Stood p x = stood_on n place w x s so_far (omega (arith, more)) (omega (arith, counted, below)) in
+      let room : p.used + 1 < (turn_at schedule p.turn).1 = subst (λ (t : ℕ). p.used + 1 < (turn_at schedule t).1) (sym turn) (omega (arith, used, more)) in
+      let here : Stood (place_at p.turn (p.used + 1) k) u = stood_one p x u before one room (omega (arith, counted, below)) in
+      let one_more : p.used + 1 ≡ place.used + suc n = omega (arith, used) in
+      subst (λ (m : ℕ). Stood (place_at place.turn m k) u) one_more (subst (λ (t : ℕ). Stood (place_at t (p.used + 1) k) u) turn here)

@@ -1,0 +1,15 @@
+use Rattle.std.proofs.Common.{◌≡◌, ℕ, List, ap, refl, sym, ◌∙◌}
+use Rattle.emu_machine.specs.Machines.{MachineState}
+use Rattle.thread_model.specs.Worlds.{World, Context, context, with_context, with_woken, without_monitors}
+use Rattle.guest_contexts.specs.Laid.{world_of}
+use Rattle.thread_model.specs.ThreadCall.{with_started}
+use Rattle.guest_contexts.proofs.Laid.{pushed_is}
+use Rattle.guest_threads.proofs.Views.{held_as}
+use Rattle.guest_threads.proofs.held.Held.add.Goals as goal
+
+pub returns : goal.returns
+returns c =
+    held_as c.self.inside.machine c.self.inside.last c.self.inside.contexts.items c.args.self.now c.self.view_is c.self.inside.machine c.self.inside.last c.push_reserved.new.self.items (λ (w : World). with_started w c.args.context)
+    refl
+    (ap (λ (x : List Context). world_of c.self.inside.machine.parts c.self.inside.last x) c.push_reserved.ensures.items
+    ∙ pushed_is c.self.inside.machine.parts c.self.inside.last c.self.inside.contexts.items c.self.invariant.last c.args.context)

@@ -1,0 +1,18 @@
+use Rattle.std.proofs.Common.{◌≡◌, List, ap, sym, ◌∙◌}
+use Rattle.std.specs.List.{list_any}
+use Rattle.thread_model.specs.Worlds.{World, Context, is_ready, some_ready}
+use Rattle.guest_contexts.proofs.Laid.{some_ready_same}
+use Rattle.guest_threads.specs.Ends.{WorldHeld}
+use Rattle.guest_threads.proofs.Picked.{spent_of, stuck_of}
+use Rattle.guest_threads.proofs.Views.{world_is}
+use Rattle.guest_threads.proofs.held.Held.end.Goals as goal
+
+pub returns-then-is_some_ready : goal.returns-then-is_some_ready
+returns-then-is_some_ready c =
+    let some = c.is_some_ready.ensures ∙ ap (λ (x : List Context). list_any is_ready x) c.deref.ensures.value ∙ sym (some_ready_same c.self.inside.machine.parts c.self.inside.last c.self.inside.contexts.items) ∙ ap (λ (w : World). some_ready w) (world_is c.self.inside.machine c.self.inside.last c.self.inside.contexts.items c.args.self.now c.self.view_is) in
+    spent_of c.args.self.now.world (ap (λ (w : World). w.ended) (sym (world_is c.self.inside.machine c.self.inside.last c.self.inside.contexts.items c.args.self.now c.self.view_is)) ∙ sym c.ending.ensures ∙ c.in-None.is) (sym some ∙ c.if-is_some_ready.true)
+
+pub returns-else-is_some_ready : goal.returns-else-is_some_ready
+returns-else-is_some_ready c =
+    let some = c.is_some_ready.ensures ∙ ap (λ (x : List Context). list_any is_ready x) c.deref.ensures.value ∙ sym (some_ready_same c.self.inside.machine.parts c.self.inside.last c.self.inside.contexts.items) ∙ ap (λ (w : World). some_ready w) (world_is c.self.inside.machine c.self.inside.last c.self.inside.contexts.items c.args.self.now c.self.view_is) in
+    stuck_of c.args.self.now.world (ap (λ (w : World). w.ended) (sym (world_is c.self.inside.machine c.self.inside.last c.self.inside.contexts.items c.args.self.now c.self.view_is)) ∙ sym c.ending.ensures ∙ c.in-None.is) (sym some ∙ c.if-is_some_ready.false)

@@ -1,0 +1,29 @@
+use Rattle.std.proofs.Common.{◌≡◌, ◌<◌, ◌+◌, ℕ, inl, inr, true, false, refl, ap, sym, ◌∙◌, arith}
+use Rattle.guest_threads.proofs.Picked.{not_true, not_false, standing_of, turn_same}
+use Rattle.guest_threads.proofs.held.Held.is_over.Goals as goal
+
+pub returns-then-place-last : goal.returns-then-place-last
+returns-then-place-last c =
+    let steps = turn_same c.args.turns.now c.args.place.now.turn c.requires.turn in
+    let last = c.saturating_sub-last.ensures in
+    record {
+      over = λ _. inl (omega (arith, c.if-place-last.true, c.requires.used, last, steps));
+      on = λ h. cc;
+      fits = λ h. cc;
+      ready = λ h. cc;
+    }
+
+pub returns-clause-over : goal.returns-clause-over
+returns-clause-over c = λ h. inr (sym c.is_ready.ensures.ready ∙ not_true c.is_ready.result h)
+
+pub returns-clause-on : goal.returns-clause-on
+returns-clause-on c = λ h.
+    let steps = turn_same c.args.turns.now c.args.place.now.turn c.requires.turn in
+    let last = c.saturating_sub-last.ensures in
+    omega (arith, c.if-place-last.false, last, steps)
+
+pub returns-clause-ready : goal.returns-clause-ready
+returns-clause-ready c = λ h. record {
+  within = c.is_ready.ensures.within;
+  ready = standing_of _ (sym c.is_ready.ensures.ready ∙ not_false c.is_ready.result h);
+}

@@ -1,0 +1,51 @@
+-- Steps of one context that move no byte of a stream, one after the other.
+use Rattle.std.specs.Prelude.{◌≡◌, ◌<◌, ◌≤◌, ℕ, zero, suc, ◌+◌, List, Option, true, false, is_none}
+use Rattle.emu_machine.specs.declared.ends.StepEnd.{StepEnd}
+use Rattle.emu_machine.specs.declared.ends.StepEnd.TheVariants.{Going}
+use Rattle.emu_machine.specs.Ends.{is_undone, step_end}
+use Rattle.thread_model.specs.Threads.{one, quietly, stepped}
+use Rattle.thread_model.specs.Worlds.{World}
+use Rattle.guest_threads.specs.Ends.{Becomes, IsKept, IsReadyAt, PutsAlways, TakesWithin}
+
+-- a step of context k makes `v` of `w`, and both go on
+pub record IsQuiet (k : ℕ) (w v : World) : Type 0 where
+  pub is : (input : List ℕ) → one w k input ≡ quietly v input
+  pub goes : is_none v.ended ≡ true
+  pub counted : v.steps ≡ w.steps + 1
+  pub at : IsReadyAt v k
+
+-- and so do so many
+abbrev pub AreQuiet : ℕ → ℕ → World → World → Type 0
+AreQuiet zero k w v = v ≡ w
+AreQuiet (suc n) k w v = (u : World) × (AreQuiet n k w u × IsQuiet k u v)
+
+-- ---- how far the steps of the last context came that make no call
+
+pub record AdvancesOn (until : ℕ) (w v : World) : Type 0 where
+  pub count : ℕ
+  pub quiet : AreQuiet count w.last w v
+  pub most : v.steps ≤ until
+
+-- the last of them ends the world
+pub record AdvancesToEnd (until : ℕ) (w v : World) : Type 0 where
+  pub count : ℕ
+  pub at : World
+  pub quiet : AreQuiet count w.last w at
+  pub below : at.steps < until
+  pub is : (input : List ℕ) → one at w.last input ≡ quietly v input
+  pub ended : is_none v.ended ≡ false
+
+-- ---- steps of context k of which all but the last are quiet
+
+pub record TakesSteps (k until : ℕ) (w v : World) (end : StepEnd) (told left held_old held_new errs_old errs_new : Option (List ℕ)) : Type 0 where
+  pub count : ℕ
+  pub at : World
+  pub quiet : AreQuiet count k w at
+  pub below : at.steps < until
+  pub state : Becomes (λ st. stepped st k) at v told left (is_undone end)
+  pub input : TakesWithin (λ st. stepped st k) at told left (is_undone end)
+  pub output : PutsAlways (λ st. (stepped st k).output) at held_old held_new (is_undone end)
+  pub errors : PutsAlways (λ st. (stepped st k).errors) at errs_old errs_new (is_undone end)
+  pub ends : is_undone end ≡ false → end ≡ step_end v.ended
+  pub counted : end ≡ Going → v.steps ≡ at.steps + 1
+  pub kept : is_undone end ≡ true → IsKept at v k told left

@@ -1,0 +1,82 @@
+//! Steps of one context, one after the other.
+ghost use Rattle.std.specs.Prelude.{◌≡◌, ◌<◌, ◌≤◌, ◌+◌, ◌-◌, ◌^◌, MatchBool, length, true, false};
+ghost use Rattle.emu_machine.specs.Ends.{is_undone, step_end};
+ghost use Rattle.emu_machine.specs.Machines.{MakesWrite};
+ghost use Rattle.guest_threads.specs.Calls.{IsCalling};
+ghost use Rattle.guest_threads.specs.Ends.{has_ended, last_machine};
+ghost use Rattle.guest_threads.specs.Quiet.{AdvancesOn, AdvancesToEnd, TakesSteps};
+ghost use Rattle.io_gate.specs.Streams.{Causes};
+ghost use Rattle.linux_calls.specs.Names.{NamesRead};
+ghost use Rattle.thread_model.specs.declared.thread.Standing.TheVariants as standing;
+ghost use Rattle.thread_model.specs.Living.{IsLiving};
+ghost use Rattle.thread_model.specs.Worlds as worlds;
+
+use crate::held::Held;
+use emu_machine::{Progress, StepEnd, step_end};
+use guest_contexts::is_some_watching;
+use io_gate::{Sink, Source};
+
+impl Held {
+    /// Takes steps of a context, which is ready: at least one, and more until `until` are counted in all, the next one makes a call, or
+    /// one ends the world. Where another context has a monitor, which each store may empty, it takes one alone.
+    pub(crate) fn go<I: Source, O: Sink, E: Sink>(
+        &mut self,
+        k: usize,
+        until: u64,
+        input: &mut I,
+        output: &mut O,
+        errors: &mut E,
+    ) -> StepEnd
+        requires going { has_ended self.old ≡ false }
+        requires below { self.old.world.steps < until }
+        requires within { k < length self.old.world.contexts }
+        requires ready { (worlds.context self.old.world k).standing ≡ standing.Ready }
+        ensures steps { TakesSteps k until self.old.world self.new.world result (I.left input.old) (I.left input.new) (O.held output.old) (O.held output.new) (E.held errors.old) (E.held errors.new) }
+        ensures failed { self.new.failed ≡ is_undone result }
+        ensures last { self.new.world.last ≡ k }
+        ensures living { is_undone result ≡ false → IsLiving self.new.world }
+        ensures read_cause { Causes (result ≡ StepEnd.ReadFault) (I.faults input.old) (I.faults input.new) }
+        ensures write_cause { Causes (result ≡ StepEnd.WriteFault) (O.faults output.old) (O.faults output.new) }
+        ensures errors_cause { Causes (result ≡ StepEnd.ErrorsFault) (E.faults errors.old) (E.faults errors.new) }
+        ensures read_named { result ≡ StepEnd.ReadFault → NamesRead (last_machine self.new.world).core }
+        ensures write_named { result ≡ StepEnd.WriteFault → MakesWrite (last_machine self.new.world) 1 }
+        ensures errors_named { result ≡ StepEnd.ErrorsFault → MakesWrite (last_machine self.new.world) 2 }
+    {
+        self.bring(k);
+        let before = self.steps();
+        if self.advance(until) {
+            return self.last_end();
+        }
+        let after = self.steps();
+        if after != before {
+            return StepEnd::Going;
+        }
+        self.one(k, input, output, errors)
+    }
+
+    /// How the last step ended, which was done.
+    fn last_end(&self) -> StepEnd
+        ensures { result ≡ step_end self.now.world.ended }
+    {
+        step_end(self.machine.ending())
+    }
+
+    /// Takes steps of the context whose registers the machine has, until the next one makes a call, `until` are counted in all, or
+    /// one ends the world, and says whether one has. Where a context has a monitor it takes none.
+    fn advance(&mut self, until: u64) -> bool
+        requires calling { IsCalling self.old }
+        requires below { self.old.world.steps < until }
+        ensures steps { MatchBool result (AdvancesToEnd until self.old.world self.new.world) (AdvancesOn until self.old.world self.new.world) }
+        ensures failed { self.new.failed ≡ false }
+    {
+        if is_some_watching(&self.contexts) {
+            return false;
+        }
+        match self.machine.advance(until) {
+            Progress::Trapped => return true,
+            Progress::GoesOn => return false,
+            Progress::AtCall => {}
+        }
+        false
+    }
+}
