@@ -1,18 +1,23 @@
 //! Runs debugger sessions: writes what each writes, and then how it ended.
 //!
-//! A line of standard input has a vector length in bits and a budget of steps; behind `|` the words of a program in hexadecimal; and behind
-//! another `|` the lines of a script, with `;` between them. The words stand at 0x400000, where they may be read and executed. A page at
-//! 0x402000 may be read and written, and a page at 0x403000 may be read.
+//! A line of standard input has a vector length in bits and a budget of steps; behind `|` the words of a program in
+//! hexadecimal; behind another `|` the lines of a script, with `;` between them; and behind a third one, if there is
+//! one, the input of the program. The words stand at 0x400000, where they may be read and executed. A page at 0x402000
+//! may be read and written, and a page at 0x403000 may be read.
 #![tactic(auto)]
 
-ghost use Rattle.std.specs.Prelude.{◌≡◌, IfOk, false};
+ghost use Rattle.std.specs.Prelude.{◌≡◌, IfOk, false, is_some, length};
+ghost use Rattle.std.specs.List.{count_by};
+ghost use Rattle.dbg_model.specs.Commands.{has_back};
+ghost use Rattle.emu_machine.specs.Machines.{has_ended};
 
 mod image;
 
-use dbg_core::{ScriptError, read_script, session};
+use dbg_back::{BackEnd, session_back};
+use dbg_core::{Script, ScriptError, SessionEnd, read_script, session};
 use elf_image::read;
 use emu_machine::{Length, Machine};
-use io_gate::{NoFaultSource, StdSink};
+use io_gate::{Sink, SliceSource, StdSink};
 use std::alloc::{AllocError, Global};
 use std::io;
 
@@ -26,6 +31,7 @@ struct Case<'a> {
     budget: u64,
     words: &'a str,
     script: &'a str,
+    input: &'a str,
 }
 
 /// What a line asks for. None where it isn't of that form.
@@ -36,11 +42,13 @@ fn case_of(line: &str) -> Option<Case<'_>> {
     let budget = numbers.next()?.parse::<u64>().ok()?;
     let words = parts.next()?;
     let script = parts.next()?;
+    let input = parts.next().unwrap_or("");
     Some(Case {
         length,
         budget,
         words,
         script,
+        input,
     })
 }
 
@@ -66,6 +74,86 @@ fn machine_of(alloc: Global, case: &Case) -> Result<Machine, AllocError>
     }
 }
 
+/// The machine of a program's words, with marks, which are none. Err is want of memory, or words that can't be read.
+fn marked_machine_of(alloc: Global, case: &Case) -> Result<Machine, AllocError>
+    ensures marks { IfOk result (λ m. length m.parts.memory.marks.list ≡ 16) }
+    ensures places { IfOk result (λ m. length m.saved ≡ 16) }
+    ensures none { IfOk result (λ m. count_by is_some m.parts.memory.marks.list ≡ 0) }
+    ensures steps { IfOk result (λ m. m.parts.steps ≡ 0) }
+    ensures going { IfOk result (λ m. has_ended m ≡ false) }
+{
+    let file = image::file_of(alloc, case.words)?;
+    let args = Vec::new(alloc);
+    match read(&file, PAGES) {
+        Ok(image) => Machine::open_marked(alloc, &file, &image, &args, case.length, PAGES),
+        Err(_) => Err(AllocError),
+    }
+}
+
+/// The name of how a session ended.
+fn name_of_end(end: SessionEnd) -> &'static str {
+    match end {
+        SessionEnd::Done => "Done",
+        SessionEnd::ReadFault => "ReadFault",
+        SessionEnd::WriteFault => "WriteFault",
+        SessionEnd::ErrorsFault => "ErrorsFault",
+    }
+}
+
+/// The name of how a session that goes back ended.
+fn name_of_back_end(end: BackEnd) -> &'static str {
+    match end {
+        BackEnd::Done => "Done",
+        BackEnd::WriteFault => "WriteFault",
+        BackEnd::ErrorsFault => "ErrorsFault",
+    }
+}
+
+/// Runs the session of a script that goes forward, and says how it ended.
+fn forward<O: Sink, E: Sink>(
+    alloc: Global,
+    case: &Case,
+    script: &Script,
+    output: &mut O,
+    errors: &mut E,
+) -> &'static str
+    requires { has_back script.now ≡ false }
+{
+    let Ok(mut machine) = machine_of(alloc, case) else {
+        return "no machine";
+    };
+    let mut input = SliceSource::new(case.input.as_bytes());
+    name_of_end(session(
+        &mut machine,
+        script,
+        case.budget,
+        &mut input,
+        output,
+        errors,
+    ))
+}
+
+/// Runs the session of a script that may go back, and says how it ended.
+fn back<O: Sink, E: Sink>(
+    alloc: Global,
+    case: &Case,
+    script: &Script,
+    output: &mut O,
+    errors: &mut E,
+) -> &'static str {
+    let Ok(mut machine) = marked_machine_of(alloc, case) else {
+        return "no machine";
+    };
+    name_of_back_end(session_back(
+        &mut machine,
+        script,
+        case.budget,
+        case.input.as_bytes(),
+        output,
+        errors,
+    ))
+}
+
 fn main(rt: HostRuntime) -> io::Result<()> {
     for line in rt.lines(rt.alloc()) {
         let line = line?;
@@ -88,22 +176,14 @@ fn main(rt: HostRuntime) -> io::Result<()> {
                 continue;
             }
         };
-        let Ok(mut machine) = machine_of(rt.alloc(), &case) else {
-            println!(rt; "no machine: {line}")?;
-            continue;
-        };
-        let mut input = NoFaultSource::new(Vec::new(rt.alloc()), 1);
         let mut output = StdSink::new(rt.stdout());
         let mut errors = StdSink::new(rt.stderr());
-        let end = session(
-            &mut machine,
-            &script,
-            case.budget,
-            &mut input,
-            &mut output,
-            &mut errors,
-        );
-        println!(rt; "{end:?}")?;
+        let end = if script.has_back() {
+            back(rt.alloc(), &case, &script, &mut output, &mut errors)
+        } else {
+            forward(rt.alloc(), &case, &script, &mut output, &mut errors)
+        };
+        println!(rt; "{end}")?;
     }
     Ok(())
 }

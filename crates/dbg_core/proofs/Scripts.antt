@@ -9,7 +9,7 @@ use Rattle.std.proofs.lemmas.Option.{get_or_from_slice_get}
 use Rattle.emu_model.specs.State.{Parts, State}
 use Rattle.emu_system.specs.Start.{with_input}
 use Rattle.dbg_model.specs.declared.script.Command.{Command}
-use Rattle.dbg_model.specs.declared.script.Command.TheVariants.{Step, Go, Break, Watch, Regs, Vl, Zreg, Preg, Ffr, Lanes, Mem}
+use Rattle.dbg_model.specs.declared.script.Command.TheVariants.{Step, Go, Break, Watch, Regs, Vl, Zreg, Preg, Ffr, Lanes, Mem, Back}
 use Rattle.dbg_model.specs.Commands.{is_break, is_watch, is_within}
 use Rattle.dbg_model.specs.Session.{Marks, marked, obeyed, obeyed_all, shown}
 use Rattle.dbg_core.specs.declared.ends.SessionEnd.{SessionEnd}
@@ -55,6 +55,7 @@ room_left marks (Preg k) rest b w = tt
 room_left marks Ffr rest b w = tt
 room_left marks (Lanes k size) rest b w = tt
 room_left marks (Mem address count) rest b w = tt
+room_left marks (Back k) rest b w = tt
 
 pub breaks_left : (marks : Marks) (command : Command) (rest : List Command) → length marks.breaks + count_by is_break (command ∷ rest) ≤ 64 → length (marked command marks).breaks + count_by is_break rest ≤ 64
 breaks_left marks (Step n) rest b = b
@@ -70,6 +71,7 @@ breaks_left marks (Preg k) rest b = b
 breaks_left marks Ffr rest b = b
 breaks_left marks (Lanes k size) rest b = b
 breaks_left marks (Mem address count) rest b = b
+breaks_left marks (Back k) rest b = b
 
 pub watches_left : (marks : Marks) (command : Command) (rest : List Command) → length marks.watches + count_by is_watch (command ∷ rest) ≤ 64 → length (marked command marks).watches + count_by is_watch rest ≤ 64
 watches_left marks (Step n) rest w = w
@@ -85,6 +87,7 @@ watches_left marks (Preg k) rest w = w
 watches_left marks Ffr rest w = w
 watches_left marks (Lanes k size) rest w = w
 watches_left marks (Mem address count) rest w = w
+watches_left marks (Back k) rest w = w
 
 -- ---- the loop
 
@@ -169,3 +172,4 @@ shows (Preg k) marks budget no_step no_go st = refl
 shows Ffr marks budget no_step no_go st = refl
 shows (Lanes k size) marks budget no_step no_go st = refl
 shows (Mem address count) marks budget no_step no_go st = refl
+shows (Back k) marks budget no_step no_go st = refl

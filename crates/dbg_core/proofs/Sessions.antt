@@ -8,7 +8,7 @@ use Rattle.emu_run.specs.Run.{goes_on, until_end, run}
 use Rattle.emu_run.specs.Reports.{ending_line}
 use Rattle.emu_run.specs.RunLaws.{rest_all, Moves, moves_not, moves_trans, prefix_refl, step_moves, until_end_none, until_end_one, until_end_over, behind, run_behind, step_behind}
 use Rattle.dbg_model.specs.declared.script.Command.{Command}
-use Rattle.dbg_model.specs.declared.script.Command.TheVariants.{Step, Go, Break, Watch, Regs, Vl, Zreg, Preg, Ffr, Lanes, Mem}
+use Rattle.dbg_model.specs.declared.script.Command.TheVariants.{Step, Go, Break, Watch, Regs, Vl, Zreg, Preg, Ffr, Lanes, Mem, Back}
 use Rattle.dbg_model.specs.declared.script.Stop.{Stop}
 use Rattle.dbg_model.specs.Session.{Marks, no_marks, marked, is_touched, mark_met, watch_met, shown, stop_line, printed, ending_printed, stepped_text, stepped, stopped_or, go, go-zero, go-suc, obeyed, obeyed_all}
 use Rattle.emu_machine.proofs.Composed.{Blind, Moving}
@@ -113,6 +113,7 @@ obeyed_blind (Preg k) marks budget o e st = prints_blind (shown (Preg k)) o e st
 obeyed_blind Ffr marks budget o e st = prints_blind (shown Ffr) o e st
 obeyed_blind (Lanes k size) marks budget o e st = prints_blind (shown (Lanes k size)) o e st
 obeyed_blind (Mem address count) marks budget o e st = prints_blind (shown (Mem address count)) o e st
+obeyed_blind (Back k) marks budget o e st = prints_blind (shown (Back k)) o e st
 
 pub obeyed_moving : (command : Command) (marks : Marks) (budget : ℕ) → Moving (obeyed command marks budget)
 obeyed_moving (Step n) marks budget st = stepped_moving (st.parts.steps + n) budget st
@@ -126,6 +127,7 @@ obeyed_moving (Preg k) marks budget st = prints_moving (shown (Preg k)) st
 obeyed_moving Ffr marks budget st = prints_moving (shown Ffr) st
 obeyed_moving (Lanes k size) marks budget st = prints_moving (shown (Lanes k size)) st
 obeyed_moving (Mem address count) marks budget st = prints_moving (shown (Mem address count)) st
+obeyed_moving (Back k) marks budget st = prints_moving (shown (Back k)) st
 
 pub all_blind : (commands : List Command) (marks : Marks) (budget : ℕ) → Blind (obeyed_all commands marks budget)
 all_blind [] marks budget o e st = refl

@@ -5,7 +5,7 @@ ghost use Rattle.emu_system.specs.Start.{with_input};
 ghost use Rattle.linux_calls.specs.Names.{NamesRead};
 ghost use Rattle.emu_machine.specs.Machines.{MakesWrite};
 ghost use Rattle.emu_machine.specs.Ends.{Becomes, TakesWithin, Puts};
-ghost use Rattle.dbg_model.specs.Commands.{is_within};
+ghost use Rattle.dbg_model.specs.Commands.{has_back, is_within};
 ghost use Rattle.dbg_model.specs.Session as model;
 ghost use Rattle.dbg_core.specs.Ends.{Leaves, Obeys, StandsIn, is_fault};
 
@@ -53,8 +53,8 @@ fn obey<I: Source, O: Sink, E: Sink>(
     }
 }
 
-/// Obeys the commands of a script, by a machine with a budget of steps. What the commands print goes to `output`, between the bytes that the
-/// program writes there.
+/// Obeys the commands of a script, of which none goes back, by a machine with a budget of steps. What the commands print goes
+/// to `output`, between the bytes that the program writes there.
 ///
 /// A fault is answered only where that stream failed, and then the session is broken off: what was put are first bytes of what the whole
 /// session puts, and no more was taken. `WriteFault` also stands for the session's own lines: the machine is then as the commands leave it,
@@ -68,7 +68,8 @@ pub fn session<I: Source, O: Sink, E: Sink>(
     output: &mut O,
     errors: &mut E,
 ) -> SessionEnd
-    requires { machine.old.failed ≡ false }
+    requires failed { machine.old.failed ≡ false }
+    requires forward { has_back script.now ≡ false }
     ensures state { Becomes (model.session script.now budget) machine.old.parts machine.new.parts (I.left input.old) (I.left input.new) (is_fault result) }
     ensures input { TakesWithin (model.session script.now budget) machine.old.parts (I.left input.old) (I.left input.new) (is_fault result) }
     ensures output { Puts (λ st. (model.session script.now budget st).output) machine.old.parts (I.left input.old) (O.held output.old) (O.held output.new) (is_fault result) }

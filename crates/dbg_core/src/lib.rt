@@ -13,5 +13,5 @@ pub use commands::session;
 pub use dbg_model::{Command, Script, ScriptFault, ScriptWhy};
 pub use dbg_scripts::{ScriptError, read_script};
 pub use ends::SessionEnd;
-pub use lines::{put_ending, put_stop, show};
+pub use lines::{put_ending, put_stepped, put_stop, show};
 pub use points::{Points, Stop};

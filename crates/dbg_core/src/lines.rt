@@ -29,7 +29,8 @@ pub fn put_ending<S: Sink>(machine: &Machine, sink: &mut S) -> Result<(), Failed
     }
 }
 
-/// Puts what comes of `n` steps of a machine that had counted `steps`: that they were counted, or how the machine ended.
+/// Puts what comes of `n` steps of a machine that had counted `steps`: that they were counted, or how the machine ended. Err is
+/// that the sink failed, with a first part put.
 pub fn put_stepped<S: Sink>(
     steps: u64,
     n: u64,
@@ -116,12 +117,16 @@ pub fn put_shown<S: Sink>(command: &Command, machine: &Machine, sink: &mut S) ->
         Command::Ffr => put_ffr(machine.vec(), sink),
         Command::Lanes(k, size) => put_machine_lanes(*k, *size, machine, sink),
         Command::Mem(address, count) => put_memory(*address, *count, machine.mem(), sink),
-        Command::Step(_) | Command::Go | Command::Break(_) | Command::Watch(_, _) => Ok(()),
+        Command::Step(_)
+        | Command::Go
+        | Command::Break(_)
+        | Command::Watch(_, _)
+        | Command::Back(_) => Ok(()),
     }
 }
 
 /// Puts what a command prints of a machine that it has moved no further than so: for `step` that its steps were counted, and
-/// nothing for `go`, a break or a watch. Err is that the output failed, with a first part put.
+/// nothing for `go`, `back`, a break or a watch. Err is that the output failed, with a first part put.
 pub fn show<O: Sink>(machine: &Machine, command: &Command, output: &mut O) -> Result<(), Failed>
     requires { IsTrue (is_within command.now) }
     ensures bytes { PutsAll (O.held output.old) (O.held output.new) (shown_behind command.now machine.now.parts) result }

@@ -72,7 +72,7 @@ impl Points {
     }
 
     /// Whether there is neither a break nor a watch.
-    pub(crate) fn is_empty(&self) -> bool
+    pub fn is_empty(&self) -> bool
         ensures { OnTrue result (self.now ≡ no_marks) }
     {
         self.breaks.is_empty() && self.watches.is_empty()
@@ -88,7 +88,7 @@ impl Points {
     }
 
     /// Adds the break or the watch of a command, if it is one.
-    pub(crate) fn add_if(&mut self, command: &Command)
+    pub fn add_if(&mut self, command: &Command)
         requires { TakesMark self.old command.now }
         ensures { self.new ≡ marked command.now self.old }
     {

@@ -1,8 +1,8 @@
 -- The commands of a script, and what a script keeps of them.
 use Rattle.std.specs.Prelude.{◌≤◌, ◌<◌, ◌^◌, ℕ, Bool, true, false, ◌&&◌, List, count_by, IsTrue, nat_le, nat_lt}
-use Rattle.std.specs.List.{list_all}
+use Rattle.std.specs.List.{list_all, list_any}
 use Rattle.dbg_model.specs.declared.script.Command.{Command}
-use Rattle.dbg_model.specs.declared.script.Command.TheVariants.{Step, Break, Watch, Mem}
+use Rattle.dbg_model.specs.declared.script.Command.TheVariants.{Step, Break, Watch, Mem, Back}
 
 abbrev pub is_break : Command → Bool
 is_break (Break address) = true
@@ -11,6 +11,14 @@ is_break command = false
 abbrev pub is_watch : Command → Bool
 is_watch (Watch address count) = true
 is_watch command = false
+
+abbrev pub is_back : Command → Bool
+is_back (Back steps) = true
+is_back command = false
+
+-- one of the commands goes back
+abbrev pub has_back : List Command → Bool
+has_back commands = list_any is_back commands
 
 -- at most so many breaks, and so many watches
 abbrev pub most_marks : ℕ
@@ -25,6 +33,7 @@ abbrev pub is_within : Command → Bool
 is_within (Step steps) = nat_le 1 steps
 is_within (Watch address count) = is_count count
 is_within (Mem address count) = nat_lt address (2 ^ 47) && is_count count
+is_within (Back steps) = nat_le 1 steps
 is_within command = true
 
 pub record IsScript (commands : List Command) : Type 0 where

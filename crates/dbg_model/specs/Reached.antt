@@ -7,7 +7,7 @@ use Rattle.emu_run.specs.Step.{accesses, step}
 use Rattle.emu_run.specs.Run.{goes_on, until_end, run}
 use Rattle.emu_run.specs.RunLaws.{behind, step_counts, until_end_none, until_end_one, until_end_over, until_end_behind}
 use Rattle.dbg_model.specs.declared.script.Command.{Command}
-use Rattle.dbg_model.specs.declared.script.Command.TheVariants.{Step, Go, Break, Watch, Regs, Vl, Zreg, Preg, Ffr, Lanes, Mem}
+use Rattle.dbg_model.specs.declared.script.Command.TheVariants.{Step, Go, Break, Watch, Regs, Vl, Zreg, Preg, Ffr, Lanes, Mem, Back}
 use Rattle.dbg_model.specs.declared.script.Stop.{Stop}
 use Rattle.dbg_model.specs.Session.{Marks, no_marks, marked, mark_met, printed, stopped_or, go, go-zero, go-suc, obeyed, obeyed_all, session, ending_printed}
 
@@ -20,7 +20,7 @@ pub record IsReached (limit : ℕ) (old new : State) : Type 0 where
 
 -- ---- steps and then steps
 
-until_end_added : (j k : ℕ) (st : State) → until_end (until_end st j) k ≡ until_end st (j + k)
+pub until_end_added : (j k : ℕ) (st : State) → until_end (until_end st j) k ≡ until_end st (j + k)
 until_end_added zero k st = ap (λ (s : State). until_end s k) (until_end_none st) ∙ ap (until_end st) (sym (zero-add k))
 until_end_added (suc j) k st =
     elim (goes_on st) as (λ b. goes_on st ≡ b → until_end (until_end st (suc j)) k ≡ until_end st (suc j + k)) [
@@ -31,14 +31,14 @@ until_end_added (suc j) k st =
     ] refl
 
 -- the machine has ended, or has counted each of so many steps
-abbrev EndsOrCounts : ℕ → State → State → Type 0
+abbrev pub EndsOrCounts : ℕ → State → State → Type 0
 EndsOrCounts k old new = (goes_on new ≡ false) ⊎ (new.parts.steps ≡ old.parts.steps + k)
 
 one_more : (k : ℕ) (st new : State) → (step st).parts.steps ≡ st.parts.steps + 1 → EndsOrCounts k (step st) new → EndsOrCounts (suc k) st new
 one_more k st new one (inl over) = inl over
 one_more k st new one (inr more) = inr (omega arith)
 
-until_end_counts : (k : ℕ) (st : State) → EndsOrCounts k st (until_end st k)
+pub until_end_counts : (k : ℕ) (st : State) → EndsOrCounts k st (until_end st k)
 until_end_counts zero st = rw (until_end_none st) (inr (omega arith))
 until_end_counts (suc k) st =
     elim (goes_on st) as (λ b. goes_on st ≡ b → EndsOrCounts (suc k) st (until_end st (suc k))) [
@@ -57,14 +57,14 @@ from_nothing s = simp append-nil
 seen_until : (s : State) (k : ℕ) → until_end s k ≡ behind s.output s.errors (until_end (with_input s.parts s.input) k)
 seen_until s k = ap (λ (t : State). until_end t k) (from_nothing s) ∙ until_end_behind s.output s.errors (with_input s.parts s.input) k
 
-same_seen : (a b : State) → a.parts ≡ b.parts → a.input ≡ b.input → with_input a.parts a.input ≡ with_input b.parts b.input
+pub same_seen : (a b : State) → a.parts ≡ b.parts → a.input ≡ b.input → with_input a.parts a.input ≡ with_input b.parts b.input
 same_seen a b parts input = ap (λ (m : Parts). with_input m a.input) parts ∙ ap (λ (i : List ℕ). with_input b.parts i) input
 
-same_parts : (a b : State) (k : ℕ) → with_input a.parts a.input ≡ with_input b.parts b.input → (until_end a k).parts ≡ (until_end b k).parts
+pub same_parts : (a b : State) (k : ℕ) → with_input a.parts a.input ≡ with_input b.parts b.input → (until_end a k).parts ≡ (until_end b k).parts
 same_parts a b k same =
     ap (λ (s : State). s.parts) (seen_until a k) ∙ ap (λ (s : State). (until_end s k).parts) same ∙ sym (ap (λ (s : State). s.parts) (seen_until b k))
 
-same_input : (a b : State) (k : ℕ) → with_input a.parts a.input ≡ with_input b.parts b.input → (until_end a k).input ≡ (until_end b k).input
+pub same_input : (a b : State) (k : ℕ) → with_input a.parts a.input ≡ with_input b.parts b.input → (until_end a k).input ≡ (until_end b k).input
 same_input a b k same =
     ap (λ (s : State). s.input) (seen_until a k) ∙ ap (λ (s : State). (until_end s k).input) same ∙ sym (ap (λ (s : State). s.input) (seen_until b k))
 
@@ -144,6 +144,7 @@ reached_obeyed (Preg k) marks budget st = reached_shown _ _ st
 reached_obeyed Ffr marks budget st = reached_shown _ _ st
 reached_obeyed (Lanes k size) marks budget st = reached_shown _ _ st
 reached_obeyed (Mem address count) marks budget st = reached_shown _ _ st
+reached_obeyed (Back k) marks budget st = reached_shown _ _ st
 
 -- ---- the commands one after the other
 

@@ -9,7 +9,7 @@ use Rattle.emu_bits.specs.declared.flags.Esize.TheVariants.{B, H, S, D}
 use Rattle.line_words.specs.Lines.{lines, words, is_skipped, number_of_word, line_of_bad_byte}
 use Rattle.line_words.specs.Refusals.{and_then}
 use Rattle.dbg_model.specs.declared.script.Command.{Command}
-use Rattle.dbg_model.specs.declared.script.Command.TheVariants.{Step, Go, Break, Watch, Regs, Vl, Zreg, Preg, Ffr, Lanes, Mem}
+use Rattle.dbg_model.specs.declared.script.Command.TheVariants.{Step, Go, Break, Watch, Regs, Vl, Zreg, Preg, Ffr, Lanes, Mem, Back}
 use Rattle.dbg_model.specs.declared.script.ScriptFault.{ScriptFault}
 use Rattle.dbg_model.specs.declared.script.ScriptWhy.{ScriptWhy}
 use Rattle.dbg_model.specs.declared.script.ScriptWhy.TheVariants.{NotUtf8, TooManyLines, UnknownCommand, MissingWord, BadNumber, OutOfRange, ExtraWord, TooMany}
@@ -68,6 +68,9 @@ lanes_of words = and_then (argument words 1 0 31) (λ k. and_then (size_argument
 abbrev pub mem_of : List (List ℕ) → Result Command ScriptWhy
 mem_of words = and_then (argument words 1 0 (2 ^ 47 - 1)) (λ address. and_then (argument words 2 1 4096) (λ count. whole words 3 (Mem address count)))
 
+abbrev pub back_of : List (List ℕ) → Result Command ScriptWhy
+back_of words = and_then (argument words 1 1 most_number) (λ steps. whole words 2 (Back steps))
+
 abbrev pub command_named : List ℕ → List (List ℕ) → Result Command ScriptWhy
 command_named name words =
     if bytes_eq name (codes "step") then step_of words
@@ -80,7 +83,8 @@ command_named name words =
     else (if bytes_eq name (codes "preg") then preg_of words
     else (if bytes_eq name (codes "ffr") then whole words 1 Ffr
     else (if bytes_eq name (codes "lanes") then lanes_of words
-    else (if bytes_eq name (codes "mem") then mem_of words else Err UnknownCommand))))))))))
+    else (if bytes_eq name (codes "mem") then mem_of words
+    else (if bytes_eq name (codes "back") then back_of words else Err UnknownCommand)))))))))))
 
 abbrev pub command_of : List (List ℕ) → Result Command ScriptWhy
 command_of words = command_named (get_or words 0 []) words

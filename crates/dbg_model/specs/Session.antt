@@ -1,4 +1,5 @@
--- A debugger session: what the commands of a script make of a machine. `session`, at the end, is the whole of it.
+-- A debugger session that only goes forward: what the commands of a script without `back` make of a machine. `session`, at the
+-- end, is the whole of it.
 --
 -- The machine moves by steps alone, and stands still once it has ended or has counted its budget. What commands print goes to the
 -- output, behind what the program has written there.

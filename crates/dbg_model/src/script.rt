@@ -1,6 +1,6 @@
 //! A script of the debugger: its commands, and why a script is refused.
 ghost use Rattle.std.specs.Prelude.{◌≡◌, ◌<◌, [], ◌∷◌, ◌++◌, IsTrue, OnErr, OnOk};
-ghost use Rattle.dbg_model.specs.Commands.{HasRoom, IsScript, is_within};
+ghost use Rattle.dbg_model.specs.Commands.{HasRoom, IsScript, has_back, is_back, is_within};
 
 use emu_bits::{Esize, Pred, Reg};
 use std::alloc::{AllocError, Global};
@@ -77,6 +77,15 @@ pub enum Command {
     Lanes(Reg, Esize),
     /// `mem A L`: prints L bytes, 1 to 4,096, from an address below 2^47 on.
     Mem(u64, u64),
+    /// `back K`: goes to the machine with K counted steps fewer, at least 1, or to the start where there were no more.
+    Back(u64),
+}
+
+/// Whether a command goes back.
+fn is_back(command: &Command) -> bool
+    ensures { result ≡ is_back command.now }
+{
+    matches!(command, Command::Back(_))
 }
 
 /// The commands of a script, in order. The numbers of each are in its ranges, at most 64 are breaks and at most 64 are watches.
@@ -116,7 +125,15 @@ impl Script {
         self.commands.as_slice()
     }
 
-    /// Appends a command whose numbers are in their ranges; a Break or Watch is one of fewer than 64 before it. Err is want of memory, and leaves the script as it was.
+    /// Whether a command goes back.
+    pub fn has_back(&self) -> bool
+        ensures { result ≡ has_back self.now }
+    {
+        self.commands.iter().any(|command| is_back(command))
+    }
+
+    /// Appends a command whose numbers are in their ranges; a Break or Watch is one of fewer than 64 before it. Err is want
+    /// of memory, and leaves the script as it was.
     pub fn push(&mut self, command: Command) -> Result<(), AllocError>
         requires within { IsTrue (is_within command) }
         requires room { HasRoom self.old command }

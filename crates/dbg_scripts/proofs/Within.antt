@@ -6,13 +6,13 @@ use Rattle.std.specs.Str.{bytes_eq}
 use Rattle.std.proofs.lemmas.Bool.Decides.{nat_tests}
 use Rattle.emu_bits.specs.declared.flags.Esize.{Esize}
 use Rattle.dbg_model.specs.declared.script.Command.{Command}
-use Rattle.dbg_model.specs.declared.script.Command.TheVariants.{Step, Go, Break, Watch, Regs, Vl, Zreg, Preg, Ffr, Lanes, Mem}
+use Rattle.dbg_model.specs.declared.script.Command.TheVariants.{Step, Go, Break, Watch, Regs, Vl, Zreg, Preg, Ffr, Lanes, Mem, Back}
 use Rattle.dbg_model.specs.declared.script.ScriptWhy.{ScriptWhy}
 use Rattle.dbg_model.specs.declared.script.ScriptWhy.TheVariants.{MissingWord, BadNumber, OutOfRange, ExtraWord, UnknownCommand}
 use Rattle.dbg_model.specs.Commands.{is_within}
 use Rattle.line_words.specs.Lines.{number_of_word}
 use Rattle.line_words.specs.Refusals.{and_then}
-use Rattle.dbg_model.specs.Script.{in_range, number_within, argument, size_argument, whole, step_of, break_of, watch_of, zreg_of, preg_of, lanes_of, mem_of, command_named, command_of, most_number}
+use Rattle.dbg_model.specs.Script.{in_range, number_within, argument, size_argument, whole, step_of, break_of, watch_of, zreg_of, preg_of, lanes_of, mem_of, back_of, command_named, command_of, most_number}
 
 -- an answer that keeps its ranges
 abbrev pub Keeps : Result Command ScriptWhy → Type 0
@@ -101,6 +101,10 @@ mem_keeps words =
     then_keeps 1 4096 (argument words 2 1 4096) _ (argument_range words 2 1 4096) (λ count h.
     keeps_whole words 3 (Mem address count) (both_true (nat_lt address (2 ^ 47)) (nat_le 1 count && nat_le count 4096) (below_is address below) h)))
 
+back_keeps : (words : List (List ℕ)) → Keeps (back_of words)
+back_keeps words =
+    then_keeps 1 most_number (argument words 1 1 most_number) _ (argument_range words 1 1 most_number) (λ n h. keeps_whole words 2 (Back n) (first_true (nat_le 1 n) (nat_le n most_number) h))
+
 named_keeps : (name : List ℕ) (words : List (List ℕ)) → Keeps (command_named name words)
 named_keeps name words =
     either (bytes_eq name (codes "step")) _ _ (step_keeps words)
@@ -113,7 +117,8 @@ named_keeps name words =
     (either (bytes_eq name (codes "preg")) _ _ (preg_keeps words)
     (either (bytes_eq name (codes "ffr")) _ _ (keeps_whole words 1 Ffr refl)
     (either (bytes_eq name (codes "lanes")) _ _ (lanes_keeps words)
-    (either (bytes_eq name (codes "mem")) _ _ (mem_keeps words) (refuses UnknownCommand)))))))))))
+    (either (bytes_eq name (codes "mem")) _ _ (mem_keeps words)
+    (either (bytes_eq name (codes "back")) _ _ (back_keeps words) (refuses UnknownCommand))))))))))))
 
 pub command_within : (words : List (List ℕ)) (c : Command) → command_of words ≡ Ok c → is_within c ≡ true
 command_within words c is = named_keeps (get_or words 0 []) words c is

@@ -1,6 +1,6 @@
 //! The command that the words of a line are.
 ghost use Rattle.std.specs.Prelude.{◌≡◌, ◌<◌, map, length, IfOk};
-ghost use Rattle.dbg_model.specs.Script.{break_of, command_of, lanes_of, mem_of, preg_of, step_of, watch_of, whole, zreg_of};
+ghost use Rattle.dbg_model.specs.Script.{back_of, break_of, command_of, lanes_of, mem_of, preg_of, step_of, watch_of, whole, zreg_of};
 
 use crate::arguments::{argument, size_argument};
 use dbg_model::{Command, ScriptWhy};
@@ -75,6 +75,13 @@ fn mem_of(words: &[&str]) -> Result<Command, ScriptWhy>
     whole(words, 3, Command::Mem(address, count))
 }
 
+fn back_of(words: &[&str]) -> Result<Command, ScriptWhy>
+    ensures { result ≡ back_of (map (λ word. word.now) words.now) }
+{
+    let steps = argument(words, 1, 1, u64::MAX)?;
+    whole(words, 2, Command::Back(steps))
+}
+
 /// The Z register of a number.
 fn register(k: u64) -> Reg
     requires { k < 32 }
@@ -120,6 +127,8 @@ pub fn command_of(words: &[&str]) -> Result<Command, ScriptWhy>
         lanes_of(words)
     } else if name == "mem" {
         mem_of(words)
+    } else if name == "back" {
+        back_of(words)
     } else {
         Err(ScriptWhy::UnknownCommand)
     }

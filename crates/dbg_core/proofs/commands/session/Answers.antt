@@ -19,7 +19,7 @@ walk-init g c =
     let b = c.commands-commands.ensures.script.breaks in
     let w = c.commands-commands.ensures.script.watches in
     record {
-      failed = c.requires;
+      failed = c.requires.failed;
       leads = subst (λ (m : Marks). Leads (session script c.args.budget) (obeyed_all (drop 0 script) m c.args.budget) c.args.machine.now.parts c.args.machine.now.parts (g.I.Source.left c.args.input.now) (g.I.Source.left c.args.input.now)
           (g.O.Sink.held c.args.output.now) (g.O.Sink.held c.args.output.now) (g.E.Sink.held c.args.errors.now) (g.E.Sink.held c.args.errors.now)) none
           (leads_start (session script c.args.budget) c.args.machine.now.parts (g.I.Source.left c.args.input.now) (g.O.Sink.held c.args.output.now) (g.E.Sink.held c.args.errors.now));

@@ -1,0 +1,16 @@
+//! A debugger session that may go back.
+//!
+//! It goes back by marks of its machine, which keep the machine of the start and of each 4,096 steps while there is
+//! room for them. Contracts cite the definitions of `back_model`. No call takes memory.
+#![tactic(auto)]
+
+mod back;
+mod dropped;
+mod ends;
+mod marks;
+mod moves;
+mod session;
+mod trail;
+
+pub use ends::BackEnd;
+pub use session::session_back;
