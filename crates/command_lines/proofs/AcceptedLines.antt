@@ -1,26 +1,28 @@
 -- An accepted line: the places that it names are those of its words, and the arguments are such as a program may be given.
-use Rattle.std.proofs.Common.{◌≡◌, ◌<◌, ◌≤◌, ℕ, zero, suc, ◌+◌, ◌-◌, Bool, true, false, ◌&&◌, cond, List, [], ◌∷◌, ◌++◌, codes, length, get_or, take, drop, Option, Some, None, is_some, unwrap_or, Result, Ok, Err, IfOk, refl, sym, ap, subst, arith, nat_lt}
+use Rattle.std.proofs.Common.{◌≡◌, ◌<◌, ◌≤◌, ℕ, zero, suc, ◌+◌, ◌-◌, Bool, true, false, ◌&&◌, cond, List, [], ◌∷◌, ◌++◌, codes, length, get_or, take, drop, Option, Some, None, is_some, unwrap_or, Result, Ok, Err, IfOk, IfSome, refl, sym, ap, subst, arith, nat_le, nat_lt}
 use Rattle.std.specs.List.{All, slice_get}
 use Rattle.std.specs.Option.{option_map_or}
 use Rattle.std.specs.Str.{bytes_eq}
+use Rattle.std.proofs.lemmas.Bool.Decides.{nat_tests}
 use Rattle.std.proofs.lemmas.Option.{get_or_from_slice_get, slice_get_within}
 use Rattle.std.proofs.lemmas.List.{get_or-take, length-drop, length-take}
 use Rattle.std.proofs.lemmas.List.Elements.{All-append, All-cons, All-drop}
 use Rattle.std.proofs.lemmas.List.Sums.{list_all-from_AllPass, sum_by-cons, sum_by_more_le, sum_by-take-drop}
+use Rattle.emu_model.specs.Lengths.{is_vector_length}
 use Rattle.emu_system.specs.Arguments.{AreArguments, is_free_of_zeros}
 use Rattle.command_model.specs.declared.command_line.Command.{Command}
-use Rattle.command_model.specs.declared.command_line.Command.TheVariants.{Run, Asm, Dis, Dbg, Load, Sweep}
+use Rattle.command_model.specs.declared.command_line.Command.TheVariants.{Run, Asm, Dis, Dbg, Load, Sweep, Threads}
 use Rattle.command_model.specs.declared.command_line.Line.{Line}
-use Rattle.command_model.specs.declared.command_line.Line.TheVariants.{Run as RunLine, Asm as AsmLine, Dis as DisLine, Dbg as DbgLine, Load as LoadLine, Sweep as SweepLine}
+use Rattle.command_model.specs.declared.command_line.Line.TheVariants.{Run as RunLine, Asm as AsmLine, Dis as DisLine, Dbg as DbgLine, Load as LoadLine, Sweep as SweepLine, Threads as ThreadsLine}
 use Rattle.command_model.specs.declared.command_line.OptionName.{OptionName}
 use Rattle.command_model.specs.declared.command_line.OptionName.TheVariants.{Vl, Budget, Pages}
 use Rattle.command_model.specs.declared.command_line.WordsFault.{WordsFault}
 use Rattle.command_model.specs.declared.command_line.WordsWhy.{WordsWhy}
-use Rattle.command_model.specs.declared.command_line.WordsWhy.TheVariants.{Repeated, MissingValue, ExtraWord, MissingWord}
+use Rattle.command_model.specs.declared.command_line.WordsWhy.TheVariants.{Repeated, MissingValue, BadNumber, BadLength, OutOfRange, ExtraWord, MissingWord}
 use Rattle.line_words.specs.Refusals.{and_then}
-use Rattle.command_model.specs.CommandLine.{Seen, args_of, command_of, end_of, first_too_long, first_with_zero, given, is_option, line_of, line_of_command, line_of_words, nothing_seen, number_of_word, option_of, plain_words_of, read_further, read_item, read_number, read_option, read_plain, read_value, read_word, read_words, refused, pages_of, takes_arguments, takes_number, value_of_word, with_budget, with_machine, with_plain, with_value, with_word}
+use Rattle.command_model.specs.CommandLine.{Seen, args_of, command_of, end_of, first_too_long, first_with_zero, given, is_option, line_of, line_of_command, line_of_words, nothing_seen, number_of_word, option_of, plain_words_of, read_further, read_item, read_number, read_option, read_plain, read_value, read_word, read_words, refused, pages_of, takes_arguments, takes_number, value_of, value_of_word, with_budget, with_machine, with_plain, with_value, with_word}
 use Rattle.emu_outcome.specs.Outcome.{program_arguments}
-use Rattle.command_lines.specs.Places.{HasArguments, HasPlaces}
+use Rattle.command_lines.specs.Places.{HasArguments, HasLimit, HasPlaces}
 use Rattle.command_lines.proofs.FirstWords.{none_too_long, none_with_zero}
 
 -- ---- answers
@@ -160,6 +162,14 @@ with_steps : (P : Line → Type 0) (count : ℕ) (budget : Option ℕ) (said : �
 with_steps P count None said holds = tt
 with_steps P count (Some steps) said holds = holds steps
 
+-- a line of two files
+two_files : (P : Line → Type 0) (count : ℕ) (seen : Seen) (said : ℕ → ℕ → ℕ → ℕ → Line) → ((file other bits budget : ℕ) → slice_get seen.plain 0 ≡ Some file → slice_get seen.plain 1 ≡ Some other → P (said file other bits budget))
+    → IfOk (with_plain count seen 0 (λ file. with_plain count seen 1 (λ other. with_machine count seen.vl seen.budget (said file other)))) P
+two_files P count seen said holds =
+    with_place P count (slice_get seen.plain 0) (λ file. with_plain count seen 1 (λ other. with_machine count seen.vl seen.budget (said file other))) (λ file got.
+    with_place P count (slice_get seen.plain 1) (λ other. with_machine count seen.vl seen.budget (said file other)) (λ other also.
+    with_both P count seen.vl seen.budget (said file other) (λ bits budget. holds file other bits budget got also)))
+
 module _ (count : ℕ) (seen : Seen) (within : IsWithin count seen) where
   front : (k place : ℕ) → slice_get seen.plain k ≡ Some place → place < args_of count seen
   front k place got = got_below (args_of count seen) seen.plain k place (all_in_front seen.args seen.plain count within) got
@@ -167,22 +177,22 @@ module _ (count : ℕ) (seen : Seen) (within : IsWithin count seen) where
   behind : args_of count seen ≤ count
   behind = args_within seen.args seen.plain count within
 
+  two_places : (said : ℕ → ℕ → ℕ → ℕ → Line) → ((file other bits budget : ℕ) → file < args_of count seen → other < args_of count seen → HasPlaces (said file other bits budget) count)
+      → IfOk (with_plain count seen 0 (λ file. with_plain count seen 1 (λ other. with_machine count seen.vl seen.budget (said file other)))) (λ l. HasPlaces l count)
+  two_places said holds = two_files (λ l. HasPlaces l count) count seen said (λ file other bits budget got also. holds file other bits budget (front 0 file got) (front 1 other also))
+
   line_places : (command : Command) → IfOk (line_of command count seen) (λ l. HasPlaces l count)
   line_places Run =
       with_place (λ l. HasPlaces l count) count (slice_get seen.plain 0) (λ file. with_machine count seen.vl seen.budget (λ bits budget. RunLine file (args_of count seen) bits budget (pages_of seen))) (λ file got.
       with_both (λ l. HasPlaces l count) count seen.vl seen.budget (λ bits budget. RunLine file (args_of count seen) bits budget (pages_of seen)) (λ bits budget. (front 0 file got, behind)))
   line_places Asm = with_place (λ l. HasPlaces l count) count (slice_get seen.plain 0) (λ listing. Ok (AsmLine listing)) (λ listing got. let lt = front 0 listing got in let le = behind in omega arith)
   line_places Dis = with_place (λ l. HasPlaces l count) count (slice_get seen.plain 0) (λ file. Ok (DisLine file)) (λ file got. let lt = front 0 file got in let le = behind in omega arith)
-  line_places Dbg =
-      with_place (λ l. HasPlaces l count) count (slice_get seen.plain 0)
-      (λ file. with_plain count seen 1 (λ script. with_machine count seen.vl seen.budget (λ bits budget. DbgLine file script (args_of count seen) bits budget (pages_of seen)))) (λ file got.
-      with_place (λ l. HasPlaces l count) count (slice_get seen.plain 1)
-      (λ script. with_machine count seen.vl seen.budget (λ bits budget. DbgLine file script (args_of count seen) bits budget (pages_of seen))) (λ script also.
-      with_both (λ l. HasPlaces l count) count seen.vl seen.budget (λ bits budget. DbgLine file script (args_of count seen) bits budget (pages_of seen)) (λ bits budget. (front 0 file got, front 1 script also, behind))))
+  line_places Dbg = two_places (λ file script bits budget. DbgLine file script (args_of count seen) bits budget (pages_of seen)) (λ file script bits budget lt also. (lt, also, behind))
   line_places Load = with_number (λ l. HasPlaces l count) count seen.number (λ number. LoadLine number) (λ number. tt)
   line_places Sweep =
       with_place (λ l. HasPlaces l count) count (slice_get seen.plain 0) (λ file. with_budget count seen.budget (λ budget. SweepLine file (args_of count seen) budget (pages_of seen))) (λ file got.
       with_steps (λ l. HasPlaces l count) count seen.budget (λ budget. SweepLine file (args_of count seen) budget (pages_of seen)) (λ budget. (front 0 file got, behind)))
+  line_places Threads = two_places (λ file schedule bits budget. ThreadsLine file schedule (args_of count seen) bits budget (pages_of seen)) (λ file schedule bits budget lt also. (lt, also, behind))
 
 places_of : (command : Command) (count : ℕ) (seen : Seen) → IsWithin count seen → IfOk (end_of command count seen) (λ l. HasPlaces l count)
 places_of command count seen within =
@@ -198,6 +208,107 @@ command_places words (Some command) some =
 pub words_places : (words : List (List ℕ)) → IfOk (line_of_words words) (λ l. HasPlaces l (length words))
 words_places [] = tt
 words_places (name ∷ words) = command_places (name ∷ words) (command_of name) (omega arith)
+
+-- ---- the pages of a line
+
+-- a value of this option
+abbrev IsValue : OptionName → ℕ → Type 0
+IsValue Vl value = Unit {0}
+IsValue Budget value = Unit {0}
+IsValue Pages value = value ≤ 1048576
+
+few_pages : (n : ℕ) → (nat_le 1 n && nat_le n 1048576) ≡ true → n ≤ 1048576
+few_pages n h = grind (arith, nat_tests)
+
+value_fits : (option : OptionName) (n : ℕ) → IfOk (value_of option n) (IsValue option)
+value_fits Vl n = if_either (IsValue Vl) (is_vector_length n) (Ok n) (Err BadLength) (λ _. tt) (λ _. tt)
+value_fits Budget n = tt
+value_fits Pages n = if_either (IsValue Pages) (nat_le 1 n && nat_le n 1048576) (Ok n) (Err OutOfRange) (few_pages n) (λ _. tt)
+
+number_fits : (option : OptionName) (number : Option ℕ) → IfOk (option_map_or (value_of option) number (Err BadNumber)) (IsValue option)
+number_fits option None = tt
+number_fits option (Some n) = value_fits option n
+
+abbrev Fits : Seen → Type 0
+Fits seen = IfSome seen.pages (λ pages. pages ≤ 1048576)
+
+kept_fits : (option : OptionName) (value : ℕ) (seen : Seen) → IsValue option value → Fits seen → Fits (with_value option value seen)
+kept_fits Vl value seen is fits = fits
+kept_fits Budget value seen is fits = fits
+kept_fits Pages value seen is fits = is
+
+value_read_fits : (seen : Seen) (place : ℕ) (option : OptionName) (value : Result ℕ WordsWhy) → IfOk value (IsValue option) → Fits seen → IfOk (read_value seen place option value) Fits
+value_read_fits seen place option (Ok value) is fits = kept_fits option value seen is fits
+value_read_fits seen place option (Err why) is fits = tt
+
+option_fits : (seen : Seen) (place : ℕ) (option : Option OptionName) → Fits seen → IfOk (read_option seen place option) Fits
+option_fits seen place None fits = tt
+option_fits seen place (Some option) fits = if_either Fits (is_some (given option seen)) (refused Repeated place) (Ok (record seen { awaited = Some option })) (λ _. tt) (λ _. fits)
+
+number_read_fits : (seen : Seen) (place : ℕ) (number : Option ℕ) → Fits seen → IfOk (read_number seen place number) Fits
+number_read_fits seen place None fits = tt
+number_read_fits seen place (Some number) fits = fits
+
+plain_fits : (command : Command) (seen : Seen) (place : ℕ) (word : List ℕ) → Fits seen → IfOk (read_plain command seen place word) Fits
+plain_fits command seen place word fits =
+    if_either Fits (nat_lt (length seen.plain) (plain_words_of command)) (read_further command seen place word) (refused ExtraWord place)
+    (λ _. if_either Fits (takes_number command) (read_number seen place (number_of_word word)) (Ok (with_word seen place)) (λ _. number_read_fits seen place (number_of_word word) fits) (λ _. fits))
+    (λ _. tt)
+
+item_fits : (command : Command) (seen : Seen) (place : ℕ) (word : List ℕ) → Fits seen → IfOk (read_item command seen place word) Fits
+item_fits command seen place word fits =
+    let option : Result Seen WordsFault = read_option seen place (option_of command word) in
+    let plain : Result Seen WordsFault = read_plain command seen place word in
+    if_either Fits (takes_arguments command && bytes_eq word (codes "--")) (Ok (record seen { args = Some (place + 1) })) (cond (is_option word) option plain) (λ _. fits)
+    (λ _. if_either Fits (is_option word) option plain (λ _. option_fits seen place (option_of command word) fits) (λ _. plain_fits command seen place word fits))
+
+any_fits : (command : Command) (seen : Seen) (place : ℕ) (word : List ℕ) (awaited : Option OptionName) → Fits seen
+    → IfOk (option_map_or (λ option. read_value seen place option (value_of_word option word)) awaited (read_item command seen place word)) Fits
+any_fits command seen place word None fits = item_fits command seen place word fits
+any_fits command seen place word (Some option) fits = value_read_fits seen place option (value_of_word option word) (number_fits option (number_of_word word)) fits
+
+word_fits : (command : Command) (seen : Seen) (place : ℕ) (word : List ℕ) → Fits seen → IfOk (read_word command seen place word) Fits
+word_fits command seen place word fits =
+    if_either Fits (is_some seen.args) (Ok seen) (option_map_or (λ option. read_value seen place option (value_of_word option word)) seen.awaited (read_item command seen place word))
+    (λ _. fits) (λ _. any_fits command seen place word seen.awaited fits)
+
+words_fit : (command : Command) (seen : Seen) (place : ℕ) (words : List (List ℕ)) → Fits seen → IfOk (read_words command seen place words) Fits
+words_fit command seen place [] fits = fits
+words_fit command seen place (word ∷ words) fits =
+    then_so Fits Fits (read_word command seen place word) (λ more. read_words command more (place + 1) words) (word_fits command seen place word fits) (λ more here. words_fit command more (place + 1) words here)
+
+pages_fit : (pages : Option ℕ) → IfSome pages (λ n. n ≤ 1048576) → unwrap_or pages 16384 ≤ 1048576
+pages_fit None fits = omega arith
+pages_fit (Some pages) fits = fits
+
+module _ (count : ℕ) (seen : Seen) (fits : Fits seen) where
+  few : pages_of seen ≤ 1048576
+  few = pages_fit seen.pages fits
+
+  line_limit : (command : Command) → IfOk (line_of command count seen) HasLimit
+  line_limit Run =
+      with_place HasLimit count (slice_get seen.plain 0) (λ file. with_machine count seen.vl seen.budget (λ bits budget. RunLine file (args_of count seen) bits budget (pages_of seen))) (λ file _.
+      with_both HasLimit count seen.vl seen.budget (λ bits budget. RunLine file (args_of count seen) bits budget (pages_of seen)) (λ bits budget. few))
+  line_limit Asm = with_place HasLimit count (slice_get seen.plain 0) (λ listing. Ok (AsmLine listing)) (λ listing _. tt)
+  line_limit Dis = with_place HasLimit count (slice_get seen.plain 0) (λ file. Ok (DisLine file)) (λ file _. tt)
+  line_limit Dbg = two_files HasLimit count seen (λ file script bits budget. DbgLine file script (args_of count seen) bits budget (pages_of seen)) (λ file script bits budget _ _. few)
+  line_limit Load = with_number HasLimit count seen.number (λ number. LoadLine number) (λ number. tt)
+  line_limit Sweep =
+      with_place HasLimit count (slice_get seen.plain 0) (λ file. with_budget count seen.budget (λ budget. SweepLine file (args_of count seen) budget (pages_of seen))) (λ file _.
+      with_steps HasLimit count seen.budget (λ budget. SweepLine file (args_of count seen) budget (pages_of seen)) (λ budget. few))
+  line_limit Threads = two_files HasLimit count seen (λ file schedule bits budget. ThreadsLine file schedule (args_of count seen) bits budget (pages_of seen)) (λ file schedule bits budget _ _. few)
+
+limit_of : (command : Command) (count : ℕ) (seen : Seen) → Fits seen → IfOk (end_of command count seen) HasLimit
+limit_of command count seen fits = if_either HasLimit (is_some seen.awaited) (refused MissingValue (count - 1)) (line_of command count seen) (λ _. tt) (λ _. line_limit count seen fits command)
+
+command_limit : (words : List (List ℕ)) (command : Option Command) → IfOk (line_of_command words command) HasLimit
+command_limit words None = tt
+command_limit words (Some command) =
+    then_so Fits HasLimit (read_words command nothing_seen 1 (drop 1 words)) (end_of command (length words)) (words_fit command nothing_seen 1 (drop 1 words) tt) (λ seen fits. limit_of command (length words) seen fits)
+
+pub words_limit : (words : List (List ℕ)) → IfOk (line_of_words words) HasLimit
+words_limit [] = tt
+words_limit (name ∷ words) = command_limit (name ∷ words) (command_of name)
 
 -- ---- the arguments of a line
 
@@ -230,3 +341,4 @@ arguments_fit words few short free (Ok (DisLine file)) lt = tt
 arguments_fit words few short free (Ok (DbgLine file script args bits budget pages)) (lt, also, le) = given_words words few short free file args lt le
 arguments_fit words few short free (Ok (LoadLine number)) places = tt
 arguments_fit words few short free (Ok (SweepLine file args budget pages)) (lt, le) = given_words words few short free file args lt le
+arguments_fit words few short free (Ok (ThreadsLine file schedule args bits budget pages)) (lt, also, le) = given_words words few short free file args lt le

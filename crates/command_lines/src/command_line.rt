@@ -1,7 +1,7 @@
 //! The command line: its words, or why they are refused.
 ghost use Rattle.std.specs.Prelude.{◌≡◌, ◌≤◌, map, length, string_bytes, IfOk};
 ghost use Rattle.command_model.specs.CommandLine.{line, line_of_words};
-ghost use Rattle.command_lines.specs.Places.{HasArguments, HasPlaces};
+ghost use Rattle.command_lines.specs.Places.{HasArguments, HasLimit, HasPlaces};
 
 use crate::scan::{fault, line_of, read_words};
 use crate::words::{first_too_long, first_with_zero, word};
@@ -15,6 +15,7 @@ pub fn line_of_words(words: &[String]) -> Result<Line, WordsFault>
     ensures line { result ≡ line (map string_bytes words.now) }
     ensures places { IfOk result (λ line. HasPlaces line (length words.now)) }
     ensures arguments { IfOk result (HasArguments (map string_bytes words.now)) }
+    ensures limit { IfOk result HasLimit }
 {
     if words.len() > MOST_WORDS {
         return Err(fault(WordsWhy::TooManyWords, MOST_WORDS));

@@ -261,6 +261,24 @@ fn session_of(count: usize, seen: &Seen) -> Result<Line, WordsFault>
     })
 }
 
+/// The run of contexts under a schedule that so many words say.
+fn threads_of(count: usize, seen: &Seen) -> Result<Line, WordsFault>
+    requires { count ≤ 300 }
+    ensures { result ≡ line_of Command.Threads count seen.now }
+{
+    let file = plain_word(seen, 0, count)?;
+    let schedule = plain_word(seen, 1, count)?;
+    let (length, budget) = length_and_budget(seen, count)?;
+    Ok(Line::Threads {
+        file,
+        schedule,
+        args: seen.args.unwrap_or(count),
+        length,
+        budget,
+        pages: seen.pages.unwrap_or(DEFAULT_PAGES),
+    })
+}
+
 /// The sweep that so many words say.
 fn sweep_of(count: usize, seen: &Seen) -> Result<Line, WordsFault>
     requires { count ≤ 300 }
@@ -305,5 +323,6 @@ pub fn line_of(command: Command, count: usize, seen: &Seen) -> Result<Line, Word
             Ok(Line::Load { number })
         }
         Command::Sweep => sweep_of(count, seen),
+        Command::Threads => threads_of(count, seen),
     }
 }

@@ -11,9 +11,9 @@ use Rattle.line_words.specs.Refusals.{and_then}
 use Rattle.emu_model.specs.Lengths.{is_vector_length}
 use Rattle.emu_system.specs.Arguments.{is_free_of_zeros}
 use Rattle.command_model.specs.declared.command_line.Command.{Command}
-use Rattle.command_model.specs.declared.command_line.Command.TheVariants.{Run, Asm, Dis, Dbg, Load, Sweep}
+use Rattle.command_model.specs.declared.command_line.Command.TheVariants.{Run, Asm, Dis, Dbg, Load, Sweep, Threads}
 use Rattle.command_model.specs.declared.command_line.Line.{Line}
-use Rattle.command_model.specs.declared.command_line.Line.TheVariants.{Run as RunLine, Asm as AsmLine, Dis as DisLine, Dbg as DbgLine, Load as LoadLine, Sweep as SweepLine}
+use Rattle.command_model.specs.declared.command_line.Line.TheVariants.{Run as RunLine, Asm as AsmLine, Dis as DisLine, Dbg as DbgLine, Load as LoadLine, Sweep as SweepLine, Threads as ThreadsLine}
 use Rattle.command_model.specs.declared.command_line.OptionName.{OptionName}
 use Rattle.command_model.specs.declared.command_line.OptionName.TheVariants.{Vl, Budget, Pages}
 use Rattle.command_model.specs.declared.command_line.WordsFault.{WordsFault}
@@ -32,7 +32,8 @@ command_of word =
     else (if bytes_eq word (codes "dis") then Some Dis
     else (if bytes_eq word (codes "dbg") then Some Dbg
     else (if bytes_eq word (codes "load") then Some Load
-    else (if bytes_eq word (codes "sweep") then Some Sweep else None)))))
+    else (if bytes_eq word (codes "sweep") then Some Sweep
+    else (if bytes_eq word (codes "threads") then Some Threads else None))))))
 
 -- a command that runs a machine says how long its vectors are, how many steps it may take and how many pages it may have
 abbrev pub machine_options : List OptionName
@@ -49,6 +50,7 @@ options_of Dis = []
 options_of Dbg = machine_options
 options_of Load = []
 options_of Sweep = sweep_options
+options_of Threads = machine_options
 
 -- how many plain words a command has
 abbrev pub plain_words_of : Command → ℕ
@@ -58,6 +60,7 @@ plain_words_of Dis = 1
 plain_words_of Dbg = 2
 plain_words_of Load = 1
 plain_words_of Sweep = 1
+plain_words_of Threads = 2
 
 -- whether a command knows the word `--`
 abbrev pub takes_arguments : Command → Bool
@@ -67,6 +70,7 @@ takes_arguments Dis = false
 takes_arguments Dbg = true
 takes_arguments Load = false
 takes_arguments Sweep = true
+takes_arguments Threads = true
 
 -- whether a plain word of a command is a number, and not the name of a file
 abbrev pub takes_number : Command → Bool
@@ -76,6 +80,7 @@ takes_number Dis = false
 takes_number Dbg = false
 takes_number Load = true
 takes_number Sweep = false
+takes_number Threads = false
 
 abbrev pub option_text : OptionName → List ℕ
 option_text Vl = codes "--vl"
@@ -219,6 +224,8 @@ line_of Dbg count seen =
     with_plain count seen 0 (λ file. with_plain count seen 1 (λ script. with_machine count seen.vl seen.budget (λ bits budget. DbgLine file script (args_of count seen) bits budget (pages_of seen))))
 line_of Load count seen = option_map_or (λ number. Ok (LoadLine number)) seen.number (refused MissingWord count)
 line_of Sweep count seen = with_plain count seen 0 (λ file. with_budget count seen.budget (λ budget. SweepLine file (args_of count seen) budget (pages_of seen)))
+line_of Threads count seen =
+    with_plain count seen 0 (λ file. with_plain count seen 1 (λ schedule. with_machine count seen.vl seen.budget (λ bits budget. ThreadsLine file schedule (args_of count seen) bits budget (pages_of seen))))
 
 -- an option that is the last word has no value
 abbrev pub end_of : Command → ℕ → Seen → Result Line WordsFault

@@ -5,6 +5,9 @@ use Rattle.dbg_model.specs.declared.script.ScriptFault.{ScriptFault}
 use Rattle.dbg_model.specs.declared.script.ScriptWhy.{ScriptWhy}
 use Rattle.dbg_model.specs.declared.script.ScriptWhy.TheVariants as script
 use Rattle.emu_run.specs.Text.{newline}
+use Rattle.guest_schedule.specs.declared.schedule.ScheduleFault.{ScheduleFault}
+use Rattle.guest_schedule.specs.declared.schedule.ScheduleWhy.{ScheduleWhy}
+use Rattle.guest_schedule.specs.declared.schedule.ScheduleWhy.TheVariants as schedule
 use Rattle.emu_system.specs.declared.image.ElfFault.{ElfFault}
 use Rattle.emu_system.specs.declared.image.ElfFault.TheVariants.{TooShort, BadMagic, BadClass, BadData, BadVersion, BadType, BadMachine, BadHeaderSize, TooManySegments, HeadersOutside, Interpreter, SegmentOutside, FileOverMemory, AddressOutside, NotCongruent, Overlap, NoSegments, TooManyPages}
 use Rattle.listing_model.specs.declared.fault.ListingFault.{ListingFault}
@@ -74,7 +77,7 @@ fault_index (Overlap i) = Some i
 fault_index NoSegments = None
 fault_index TooManyPages = None
 
--- ---- listings and scripts
+-- ---- listings, scripts and schedules
 
 abbrev pub listing_name : ListingWhy → List ℕ
 listing_name listing.NotUtf8 = codes "NotUtf8"
@@ -103,6 +106,15 @@ script_name script.OutOfRange = codes "OutOfRange"
 script_name script.ExtraWord = codes "ExtraWord"
 script_name script.TooMany = codes "TooMany"
 
+abbrev pub schedule_name : ScheduleWhy → List ℕ
+schedule_name schedule.NotUtf8 = codes "NotUtf8"
+schedule_name schedule.TooManyLines = codes "TooManyLines"
+schedule_name schedule.MissingWord = codes "MissingWord"
+schedule_name schedule.BadNumber = codes "BadNumber"
+schedule_name schedule.OutOfRange = codes "OutOfRange"
+schedule_name schedule.ExtraWord = codes "ExtraWord"
+schedule_name schedule.NoTurn = codes "NoTurn"
+
 -- ---- the lines
 
 abbrev pub at_place : ℕ → List ℕ
@@ -118,7 +130,7 @@ words_line f = codes "refused words " ++ words_name f.why ++ at_place f.place ++
 abbrev pub image_line : ElfFault → List ℕ
 image_line f = codes "refused image " ++ fault_name f ++ at_index (fault_index f) ++ newline
 
--- the place of a line, counted from 1; of a listing without code it is 0
+-- the place of a line, counted from 1; of a listing without code, and of a schedule without a turn, it is 0
 abbrev pub at_line : ℕ → List ℕ
 at_line number = codes " at line " ++ decimal number
 
@@ -127,6 +139,9 @@ listing_line f = codes "refused listing " ++ listing_name f.why ++ at_line f.lin
 
 abbrev pub script_line : ScriptFault → List ℕ
 script_line f = codes "refused script " ++ script_name f.why ++ at_line f.line ++ newline
+
+abbrev pub schedule_line : ScheduleFault → List ℕ
+schedule_line f = codes "refused schedule " ++ schedule_name f.why ++ at_line f.line ++ newline
 
 -- a file that is longer than so many bytes
 abbrev pub too_long_line : ℕ → List ℕ

@@ -97,6 +97,18 @@ pub enum Line {
         /// The greatest number of mapped pages at each length.
         pages: u32,
     },
+    /// Runs the contexts of a program, as `Run` runs it, under the schedule in the file that the word at `schedule` names.
+    Threads {
+        file: usize,
+        schedule: usize,
+        /// The place of the program's first argument behind its name, or the number of words.
+        args: usize,
+        length: Length,
+        /// The greatest number of steps of all contexts together.
+        budget: u64,
+        /// The greatest number of mapped pages.
+        pages: u32,
+    },
 }
 
 /// The commands by their names.
@@ -114,6 +126,8 @@ pub enum Command {
     Load,
     /// `sweep FILE --budget B [--pages P] [-- ARG ..]`
     Sweep,
+    /// `threads FILE SCHEDULE --vl N --budget B [--pages P] [-- ARG ..]`
+    Threads,
 }
 
 /// The options of commands. Each has a value.
@@ -145,6 +159,7 @@ impl Command {
             "dbg" => Some(Command::Dbg),
             "load" => Some(Command::Load),
             "sweep" => Some(Command::Sweep),
+            "threads" => Some(Command::Threads),
             _ => None,
         }
     }
@@ -154,7 +169,7 @@ impl Command {
         ensures { result.now ≡ options_of self }
     {
         match self {
-            Command::Run | Command::Dbg => &MACHINE_OPTIONS,
+            Command::Run | Command::Dbg | Command::Threads => &MACHINE_OPTIONS,
             Command::Sweep => &SWEEP_OPTIONS,
             Command::Asm | Command::Dis | Command::Load => &[],
         }
@@ -167,7 +182,7 @@ impl Command {
     {
         match self {
             Command::Run | Command::Asm | Command::Dis | Command::Load | Command::Sweep => 1,
-            Command::Dbg => 2,
+            Command::Dbg | Command::Threads => 2,
         }
     }
 
@@ -176,7 +191,7 @@ impl Command {
         ensures { result ≡ takes_arguments self }
     {
         match self {
-            Command::Run | Command::Dbg | Command::Sweep => true,
+            Command::Run | Command::Dbg | Command::Sweep | Command::Threads => true,
             Command::Asm | Command::Dis | Command::Load => false,
         }
     }
@@ -187,7 +202,8 @@ impl Command {
     {
         match self {
             Command::Load => true,
-            Command::Run | Command::Asm | Command::Dis | Command::Dbg | Command::Sweep => false,
+            Command::Run | Command::Asm | Command::Dis | Command::Dbg => false,
+            Command::Sweep | Command::Threads => false,
         }
     }
 }

@@ -9,5 +9,9 @@ pub mod NamedFiles
 pub mod RunEnds
 pub mod Runs
 pub mod Sessions
+pub mod Settled
 pub mod Sweeps
 pub mod TextFiles
+pub mod TwoFiles
+pub mod WholeInputs
+pub mod Worlds

@@ -6,7 +6,7 @@ use Rattle.io_gate.specs.Streams.{PutsAll, Rose}
 use Rattle.command_model.specs.CommandLine.{line}
 use Rattle.command_model.specs.Refusals.{words_line}
 use Rattle.command_model.specs.declared.command_line.Line.{Line}
-use Rattle.command_model.specs.declared.command_line.Line.TheVariants.{Run, Asm, Dis, Dbg, Load, Sweep}
+use Rattle.command_model.specs.declared.command_line.Line.TheVariants.{Run, Asm, Dis, Dbg, Load, Sweep, Threads}
 use Rattle.command_model.specs.declared.command_line.WordsFault.{WordsFault}
 use Rattle.emu_outcome.specs.Outcome.{Outcome, Files, outcome_of_line, outcome_of_load, result_of, refusal}
 use Rattle.insn_texts.specs.Statements.{statements}
@@ -80,10 +80,10 @@ names_none words told l number is n =
 module _ (words : List (List ℕ)) (named : Option Files) (i o e : Option (List ℕ)) where
   -- a refused line
   pub refused_line : {T E : Type 0} (fault : WordsFault) (e2 : Option (List ℕ)) (put : Result T E) (result : Ending) → Err fault ≡ line words → result ≡ ended_by put (WordsRefused fault) → PutsAll e e2 (words_line fault) put
-      → IfSome named (λ files. MeetsLine (line words) (result_of words files) result (now i o e) (now i o e2))
+      → IfSome named (λ files. MeetsLine words files (line words) (result_of words files) result (now i o e) (now i o e2))
   refused_line fault e2 put result is by puts = told_so named _ (λ files.
-      subst (λ (x : Ending). MeetsLine (line words) (result_of words files) x (now i o e) (now i o e2)) (sym by)
-      (subst (λ (r : Result Line WordsFault). MeetsLine r (λ input. outcome_of_line words files input r) (ended_by put (WordsRefused fault)) (now i o e) (now i o e2)) is
+      subst (λ (x : Ending). MeetsLine words files (line words) (result_of words files) x (now i o e) (now i o e2)) (sym by)
+      (subst (λ (r : Result Line WordsFault). MeetsLine words files r (λ input. outcome_of_line words files input r) (ended_by put (WordsRefused fault)) (now i o e) (now i o e2)) is
       (line_meets (WordsRefused fault) (words_line fault) i o e e2 put refl puts)))
 
 -- no line but a refused one ends with a refusal of its words
@@ -94,6 +94,7 @@ may_not_refuse (Dis file) fault = refl
 may_not_refuse (Dbg file script args bits budget pages) fault = refl
 may_not_refuse (Load number) fault = refl
 may_not_refuse (Sweep file args budget pages) fault = refl
+may_not_refuse (Threads file schedule args bits budget pages) fault = refl
 
 no_refusal_of : (l : Line) (result : Ending) (fault : WordsFault) → may_end l result ≡ true → result ≡ WordsRefused fault → ⊥
 no_refusal_of l result fault kind e = let t : false ≡ true = sym (may_not_refuse l fault) ∙ sym (ap (may_end l) e) ∙ kind in cc

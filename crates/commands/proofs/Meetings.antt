@@ -125,32 +125,27 @@ output_meets text input output errors new (Err failed) puts = record {
 
 -- ---- a run and its report
 
--- the state in which the run of a machine with this input stops
-abbrev stop : Parts → ℕ → List ℕ → State
-stop m budget i = run (with_input m i) budget
+-- the ending of a run: it rests on the input, and is neither a refusal nor a failure
+pub record IsStop (ending : Ending) : Type 0 where
+  pub settles : settled_ending ending ≡ None
+  pub accepts : is_refusal ending ≡ false
+  pub whole : is_failure ending ≡ false
+
+-- what a run comes to: what it put on the output and on the errors, what it left of the input, the text of its report and its ending
+pub record Stopped : Type 0 where
+  pub output : List ℕ
+  pub errors : List ℕ
+  pub rest : List ℕ
+  pub text : List ℕ
+  pub ending : Ending
+
+abbrev pub outcome_of_stop : List ℕ → Stopped → Outcome
+outcome_of_stop i s = record { ending = s.ending; output = s.output; errors = s.errors ++ s.text; taken = length i - length s.rest }
 
 rest_is : (old new : List ℕ) → IsRest old new → new ≡ drop (length old - length new) old
 rest_is old new r =
     let count : length old - length new ≡ r.taken = (let e : length new ≡ length old - r.taken = ap length r.is ∙ length-drop r.taken old in let w = r.within in omega arith) in
     r.is ∙ ap (λ n. drop n old) (sym count)
-
-left_is : (m : Parts) (budget : ℕ) (i : List ℕ) → (stop m budget i).input ≡ drop (length i - length (stop m budget i).input) i
-left_is m budget i = rest_is i (stop m budget i).input (until_end_moves (with_input m i) (budget - m.steps)).input
-
--- a run ends with no refusal, and with an ending of a run
-run_refuses_none : (m : Parts) (ended : Option Ended) → is_refusal (ending_of m ended) ≡ false
-run_refuses_none m None = refl
-run_refuses_none m (Some (Exited code)) = refl
-run_refuses_none m (Some (Trapped trap)) = refl
-
-ends_as_run : (m : Parts) (ended : Option Ended) → settled_ending (ending_of m ended) ≡ None
-ends_as_run m None = refl
-ends_as_run m (Some (Exited code)) = refl
-ends_as_run m (Some (Trapped trap)) = refl
-
--- so its outcome is for the bytes that the input told
-of_told : (i0 : Option (List ℕ)) (i : List ℕ) (st : State) → CountsFor i0 (Some (outcome_of_run i st)) i → i0 ≡ Some i
-of_told i0 i st of = subst (λ (b : Bool). MatchBool b (Unit {0}) (i0 ≡ Some i)) (run_refuses_none st.parts st.parts.ended) of
 
 -- what a sink gained, and after it the first bytes of a text
 gained_then : (had first text : List ℕ) (n : ℕ) (held : Option (List ℕ)) → held ≡ Some ((had ++ first) ++ take n text) → GainedFirst held had (first ++ text)
@@ -170,71 +165,96 @@ first_then held had first text h = record { gained = h.gained; is = h.is; first 
 lost_of : (bytes : List ℕ) (least : ℕ) (left : Option (List ℕ)) → LeftOf bytes least left → LostAtMost left bytes (length bytes - least)
 lost_of bytes least left l = record { taken = l.taken; within = l.most; is = l.is }
 
-module _ (m n : Parts) (budget : ℕ) where
+-- what a run comes to by the bytes of its input
+module _ (at : List ℕ → Stopped) (moves : (i : List ℕ) → IsRest i (at i).rest) (stops : (i : List ℕ) → IsStop (at i).ending) where
   abbrev outcome : List ℕ → Option Outcome
-  outcome i = Some (outcome_of_run i (stop m budget i))
+  outcome i = Some (outcome_of_stop i (at i))
+
+  -- its outcome is for the bytes that the input told
+  of_told : (i0 : Option (List ℕ)) (i : List ℕ) → CountsFor i0 (outcome i) i → i0 ≡ Some i
+  of_told i0 i of = subst (λ (b : Bool). MatchBool b (Unit {0}) (i0 ≡ Some i)) (stops i).accepts of
+
+  left_is : (i : List ℕ) → (at i).rest ≡ drop (length i - length (at i).rest) i
+  left_is i = rest_is i (at i).rest (moves i)
 
   -- what the errors gained by the run and by its report, whole and in part
-  reported : (i0 i1 e0 e1 e2 : Option (List ℕ)) (ending : Ending)
-      → Becomes (λ st. run st budget) m n i0 i1 false → Puts (λ st. (run st budget).errors) m i0 e0 e1 false → is_failure ending ≡ false → IfSome e1 (λ was. e2 ≡ Some (was ++ report n))
-      → IfSome i0 (λ i. IfSome e0 (λ had. Gains (is_failure ending) e2 had (errors_of (outcome i))))
-  reported None i1 e0 e1 e2 ending becomes errs fine puts = tt
-  reported (Some i) i1 e0 e1 e2 ending becomes errs fine puts = IfSome_then e0 errs (λ had held.
-      let at : e2 ≡ Some ((had ++ (stop m budget i).errors) ++ report n) = subst (λ (h : Option (List ℕ)). IfSome h (λ was. e2 ≡ Some (was ++ report n))) held puts in
-      gains_all ending e2 had ((stop m budget i).errors ++ report (stop m budget i).parts) fine
-      (at ∙ ap (λ (x : Parts). Some ((had ++ (stop m budget i).errors) ++ report x)) (becomes refl).0 ∙ ap (λ (xs : List ℕ). Some xs) (append_assoc had (stop m budget i).errors (report (stop m budget i).parts))))
+  reported : (i0 e0 e1 e2 : Option (List ℕ)) (shown : List ℕ) → IfSome i0 (λ i. shown ≡ (at i).text) → IfSome i0 (λ i. IfSome e0 (λ had. e1 ≡ Some (had ++ (at i).errors)))
+      → IfSome e1 (λ was. e2 ≡ Some (was ++ shown)) → IfSome i0 (λ i. IfSome e0 (λ had. e2 ≡ Some (had ++ ((at i).errors ++ (at i).text))))
+  reported None e0 e1 e2 shown is errs puts = tt
+  reported (Some i) e0 e1 e2 shown is errs puts = IfSome_then e0 errs (λ had held.
+      let whole : e2 ≡ Some ((had ++ (at i).errors) ++ shown) = subst (λ (h : Option (List ℕ)). IfSome h (λ was. e2 ≡ Some (was ++ shown))) held puts in
+      whole ∙ ap (λ (xs : List ℕ). Some ((had ++ (at i).errors) ++ xs)) is ∙ ap (λ (xs : List ℕ). Some xs) (append_assoc had (at i).errors (at i).text))
 
-  reported_first : (i0 i1 e0 e1 e2 : Option (List ℕ))
-      → Becomes (λ st. run st budget) m n i0 i1 false → Puts (λ st. (run st budget).errors) m i0 e0 e1 false → IfSome e1 (λ was. (k : ℕ) × (e2 ≡ Some (was ++ take k (report n))))
-      → IfSome i0 (λ i. IfSome e0 (λ had. GainedFirst e2 had (errors_of (outcome i))))
-  reported_first None i1 e0 e1 e2 becomes errs puts = tt
-  reported_first (Some i) i1 e0 e1 e2 becomes errs puts = IfSome_then e0 errs (λ had held.
-      let at : (k : ℕ) × (e2 ≡ Some ((had ++ (stop m budget i).errors) ++ take k (report n))) = subst (λ (h : Option (List ℕ)). IfSome h (λ was. (k : ℕ) × (e2 ≡ Some (was ++ take k (report n))))) held puts in
-      gained_then had (stop m budget i).errors (report (stop m budget i).parts) at.0 e2 (at.1 ∙ ap (λ (x : Parts). Some ((had ++ (stop m budget i).errors) ++ take at.0 (report x))) (becomes refl).0))
+  reported_first : (i0 e0 e1 e2 : Option (List ℕ)) (shown : List ℕ) → IfSome i0 (λ i. shown ≡ (at i).text) → IfSome i0 (λ i. IfSome e0 (λ had. e1 ≡ Some (had ++ (at i).errors)))
+      → IfSome e1 (λ was. (k : ℕ) × (e2 ≡ Some (was ++ take k shown))) → IfSome i0 (λ i. IfSome e0 (λ had. GainedFirst e2 had ((at i).errors ++ (at i).text)))
+  reported_first None e0 e1 e2 shown is errs puts = tt
+  reported_first (Some i) e0 e1 e2 shown is errs puts = IfSome_then e0 errs (λ had held.
+      let part : (k : ℕ) × (e2 ≡ Some ((had ++ (at i).errors) ++ take k shown)) = subst (λ (h : Option (List ℕ)). IfSome h (λ was. (k : ℕ) × (e2 ≡ Some (was ++ take k shown)))) held puts in
+      gained_then had (at i).errors (at i).text part.0 e2 (part.1 ∙ ap (λ (xs : List ℕ). Some ((had ++ (at i).errors) ++ take part.0 xs)) is))
 
   -- the run stopped, and its report was put
-  pub run_meets : {T E : Type 0} (i0 i1 o0 o1 e0 e1 e2 : Option (List ℕ)) (ending : Ending) (put : Result T E)
-      → Becomes (λ st. run st budget) m n i0 i1 false → Puts (λ st. (run st budget).output) m i0 o0 o1 false → Puts (λ st. (run st budget).errors) m i0 e0 e1 false
-      → ending ≡ ending_of n n.ended → is_failure ending ≡ false → PutsAll e1 e2 (report n) put
-      → Meets outcome (ended_by put ending) (now i0 o0 e0) (now i1 o1 e2)
-  run_meets i0 i1 o0 o1 e0 e1 e2 ending (Ok done) becomes outs errs is fine puts = record {
-    ends = IfSome_then i0 becomes (λ i b _. is ∙ ap (λ (x : Parts). ending_of x x.ended) (b refl).0);
-    settled = λ _ i. ap settled_ending is ∙ ends_as_run n n.ended ∙ sym (ends_as_run (stop m budget i).parts (stop m budget i).parts.ended);
-    output = λ i of. IfSome_then o0 (at_told i0 _ i outs (of_told i0 i (stop m budget i) of)) (λ had held. gains_all ending o1 had (stop m budget i).output fine held);
-    errors = λ i of. at_told i0 _ i (reported i0 i1 e0 e1 e2 ending becomes errs fine puts) (of_told i0 i (stop m budget i) of);
-    input = IfSome_then i0 becomes (λ i b. loses_just ending i1 i (length i - length (stop m budget i).input) fine ((b refl).1 ∙ ap (λ (xs : List ℕ). Some xs) (left_is m budget i)));
+  pub stopped_meets : {T E : Type 0} (i0 i1 o0 o1 e0 e1 e2 : Option (List ℕ)) (shown : List ℕ) (ending : Ending) (put : Result T E)
+      → IfSome i0 (λ i. (shown ≡ (at i).text) × (ending ≡ (at i).ending) × (i1 ≡ Some (at i).rest))
+      → IfSome i0 (λ i. IfSome o0 (λ had. o1 ≡ Some (had ++ (at i).output))) → IfSome i0 (λ i. IfSome e0 (λ had. e1 ≡ Some (had ++ (at i).errors)))
+      → IsStop ending → PutsAll e1 e2 shown put → Meets outcome (ended_by put ending) (now i0 o0 e0) (now i1 o1 e2)
+  stopped_meets i0 i1 o0 o1 e0 e1 e2 shown ending (Ok done) becomes outs errs is puts = record {
+    ends = IfSome_then i0 becomes (λ i b _. b.1);
+    settled = λ _ i. is.settles ∙ sym (stops i).settles;
+    output = λ i of. IfSome_then o0 (at_told i0 _ i outs (of_told i0 i of)) (λ had held. gains_all ending o1 had (at i).output is.whole held);
+    errors = λ i of. IfSome_then e0 (at_told i0 _ i (reported i0 e0 e1 e2 shown (IfSome_then i0 becomes (λ i b. b.0)) errs puts) (of_told i0 i of))
+        (λ had held. gains_all ending e2 had ((at i).errors ++ (at i).text) is.whole held);
+    input = IfSome_then i0 becomes (λ i b. loses_just ending i1 i (length i - length (at i).rest) is.whole (b.2 ∙ ap (λ (xs : List ℕ). Some xs) (left_is i)));
   }
-  run_meets i0 i1 o0 o1 e0 e1 e2 ending (Err failed) becomes outs errs is fine puts = record {
+  stopped_meets i0 i1 o0 o1 e0 e1 e2 shown ending (Err failed) becomes outs errs is puts = record {
     ends = told i0 (λ _ whole. never ErrorsFault refl whole);
     settled = λ whole _. never ErrorsFault refl whole;
-    output = λ i of. IfSome_then o0 (at_told i0 _ i outs (of_told i0 i (stop m budget i) of)) (λ had held. all_gained had (stop m budget i).output o1 held);
-    errors = λ i of. at_told i0 _ i (reported_first i0 i1 e0 e1 e2 becomes errs puts) (of_told i0 i (stop m budget i) of);
-    input = IfSome_then i0 becomes (λ i b. record { taken = length i - length (stop m budget i).input; within = omega arith; is = (b refl).1 ∙ ap (λ (xs : List ℕ). Some xs) (left_is m budget i) });
+    output = λ i of. IfSome_then o0 (at_told i0 _ i outs (of_told i0 i of)) (λ had held. all_gained had (at i).output o1 held);
+    errors = λ i of. at_told i0 _ i (reported_first i0 e0 e1 e2 shown (IfSome_then i0 becomes (λ i b. b.0)) errs puts) (of_told i0 i of);
+    input = IfSome_then i0 becomes (λ i b. record { taken = length i - length (at i).rest; within = omega arith; is = b.2 ∙ ap (λ (xs : List ℕ). Some xs) (left_is i) });
   }
 
   -- the run was broken off
   pub broken_meets : (i0 i1 o0 o1 e0 e1 : Option (List ℕ)) (ending : Ending)
-      → TakesWithin (λ st. run st budget) m i0 i1 true → Puts (λ st. (run st budget).output) m i0 o0 o1 true → Puts (λ st. (run st budget).errors) m i0 e0 e1 true → is_failure ending ≡ true
+      → IfSome i0 (λ i. true ≡ true → LeftOf i (length (at i).rest) i1) → IfSome i0 (λ i. IfSome o0 (λ had. GainedFirst o1 had (at i).output))
+      → IfSome i0 (λ i. IfSome e0 (λ had. GainedFirst e1 had (at i).errors)) → is_failure ending ≡ true
       → Meets outcome ending (now i0 o0 e0) (now i1 o1 e1)
   broken_meets i0 i1 o0 o1 e0 e1 ending takes outs errs failed = record {
     ends = told i0 (λ _ whole. never ending failed whole);
     settled = λ whole _. never ending failed whole;
-    output = λ i of. IfSome_then o0 (at_told i0 _ i outs (of_told i0 i (stop m budget i) of)) (λ had first. gains_first ending o1 had (stop m budget i).output failed first);
-    errors = λ i of. IfSome_then e0 (at_told i0 _ i errs (of_told i0 i (stop m budget i) of))
-        (λ had first. gains_first ending e1 had ((stop m budget i).errors ++ report (stop m budget i).parts) failed (first_then e1 had (stop m budget i).errors (report (stop m budget i).parts) first));
-    input = IfSome_then i0 takes (λ i t. loses_within ending i1 i (length i - length (stop m budget i).input) failed (lost_of i (length (stop m budget i).input) i1 (t refl)));
+    output = λ i of. IfSome_then o0 (at_told i0 _ i outs (of_told i0 i of)) (λ had first. gains_first ending o1 had (at i).output failed first);
+    errors = λ i of. IfSome_then e0 (at_told i0 _ i errs (of_told i0 i of))
+        (λ had first. gains_first ending e1 had ((at i).errors ++ (at i).text) failed (first_then e1 had (at i).errors (at i).text first));
+    input = IfSome_then i0 takes (λ i t. loses_within ending i1 i (length i - length (at i).rest) failed (lost_of i (length (at i).rest) i1 (t refl)));
   }
 
--- ---- the same by the answer of a run
+-- ---- a run of a machine, by its answer
+
+-- the state in which the run of a machine with this input stops
+abbrev stop : Parts → ℕ → List ℕ → State
+stop m budget i = run (with_input m i) budget
+
+abbrev stopped_at : State → Stopped
+stopped_at st = record { output = st.output; errors = st.errors; rest = st.input; text = report st.parts; ending = ending_of st.parts st.parts.ended }
+
+ends_as_run : (m : Parts) (ended : Option Ended) → IsStop (ending_of m ended)
+ends_as_run m None = record { settles = refl; accepts = refl; whole = refl }
+ends_as_run m (Some (Exited code)) = record { settles = refl; accepts = refl; whole = refl }
+ends_as_run m (Some (Trapped trap)) = record { settles = refl; accepts = refl; whole = refl }
 
 module _ (m n : Parts) (budget : ℕ) (end : RunEnd) (pc : ℕ) where
+  moves : (i : List ℕ) → IsRest i (stop m budget i).input
+  moves i = (until_end_moves (with_input m i) (budget - m.steps)).input
+
+  stops : (i : List ℕ) → IsStop (stopped_at (stop m budget i)).ending
+  stops i = ends_as_run (stop m budget i).parts (stop m budget i).parts.ended
+
   -- a run that was broken off
   pub broken_run : (i0 i1 o0 o1 e0 e1 : Option (List ℕ)) (ending : Ending) → ending ≡ ending_by end pc → is_failure ending ≡ true
       → TakesWithin (λ st. run st budget) m i0 i1 (is_broken_off end) → Puts (λ st. (run st budget).output) m i0 o0 o1 (is_broken_off end) → Puts (λ st. (run st budget).errors) m i0 e0 e1 (is_broken_off end)
       → Meets (λ i. Some (outcome_of_run i (run (with_input m i) budget))) ending (now i0 o0 e0) (now i1 o1 e1)
   broken_run i0 i1 o0 o1 e0 e1 ending is failed takes outs errs =
       let broken : is_broken_off end ≡ true = sym (broken_is end pc) ∙ ap is_failure (sym is) ∙ failed in
-      broken_meets m n budget i0 i1 o0 o1 e0 e1 ending
+      broken_meets (λ i. stopped_at (stop m budget i)) moves stops i0 i1 o0 o1 e0 e1 ending
       (subst (λ (b : Bool). TakesWithin (λ st. run st budget) m i0 i1 b) broken takes)
       (subst (λ (b : Bool). Puts (λ st. (run st budget).output) m i0 o0 o1 b) broken outs)
       (subst (λ (b : Bool). Puts (λ st. (run st budget).errors) m i0 e0 e1 b) broken errs) failed
@@ -248,10 +268,12 @@ module _ (m n : Parts) (budget : ℕ) (end : RunEnd) (pc : ℕ) where
       let whole : is_broken_off end ≡ false = sym (broken_is end pc) ∙ ap is_failure (sym is) ∙ fine in
       let of_machine : ending ≡ ending_of n n.ended = is ∙ ap (λ (x : RunEnd). ending_by x pc) (ends whole) ∙ ap (λ (a : ℕ). ending_by (run_end n.ended) a) at ∙ ending_is n n.ended in
       subst (λ (r : Ending). Meets (λ i. Some (outcome_of_run i (run (with_input m i) budget))) r (now i0 o0 e0) (now i1 o1 e2)) (sym by)
-      (run_meets m n budget i0 i1 o0 o1 e0 e1 e2 ending put
-      (subst (λ (b : Bool). Becomes (λ st. run st budget) m n i0 i1 b) whole becomes)
+      (stopped_meets (λ i. stopped_at (stop m budget i)) moves stops i0 i1 o0 o1 e0 e1 e2 (report n) ending put
+      (IfSome_then i0 (subst (λ (b : Bool). Becomes (λ st. run st budget) m n i0 i1 b) whole becomes)
+      (λ i b. (ap report (b refl).0, of_machine ∙ ap (λ (x : Parts). ending_of x x.ended) (b refl).0, (b refl).1)))
       (subst (λ (b : Bool). Puts (λ st. (run st budget).output) m i0 o0 o1 b) whole outs)
-      (subst (λ (b : Bool). Puts (λ st. (run st budget).errors) m i0 e0 e1 b) whole errs) of_machine fine puts)
+      (subst (λ (b : Bool). Puts (λ st. (run st budget).errors) m i0 e0 e1 b) whole errs)
+      (subst (λ (e : Ending). IsStop e) (sym of_machine) (ends_as_run n n.ended)) puts)
 
 -- ---- a session
 

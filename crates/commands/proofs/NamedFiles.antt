@@ -121,19 +121,19 @@ abbrev pub over : (Files → List ℕ → List ℕ → Option Outcome) → List 
 over next words place files i = with_file (file_at words files place) (λ bytes. next files bytes i)
 
 -- the file was read, which put nothing
-pub found_file_by : (settles : Option Outcome → Ending → Type 0) (next : Files → List ℕ → List ℕ → Option Outcome) (told : Option Files) (words : List (List ℕ)) (place : ℕ) (name bytes items : List ℕ) (i o e still : Option (List ℕ)) (new : Now) (result : Ending)
+pub found_file_by : (settles : Files → Option Outcome → Ending → Type 0) (next : Files → List ℕ → List ℕ → Option Outcome) (told : Option Files) (words : List (List ℕ)) (place : ℕ) (name bytes items : List ℕ) (i o e still : Option (List ℕ)) (new : Now) (result : Ending)
     → name ≡ get_or words place [] → bytes ≡ items → still ≡ e → IfSome told (λ files. whole_file (get files name) file_limit ≡ Ok items)
-    → IfSome told (λ files. MeetsBy settles (next files bytes) result (now i o still) new) → IfSome told (λ files. MeetsBy settles (over next words place files) result (now i o e) new)
+    → IfSome told (λ files. MeetsBy (settles files) (next files bytes) result (now i o still) new) → IfSome told (λ files. MeetsBy (settles files) (over next words place files) result (now i o e) new)
 found_file_by settles next None words place name bytes items i o e still new result named are kept found meets = tt
 found_file_by settles next (Some files) words place name bytes items i o e still new result named are kept found meets =
     let whole : whole_file (get files (get_or words place [])) file_limit ≡ Ok bytes = ap (λ (n : List ℕ). whole_file (get files n) file_limit) (sym named) ∙ found ∙ ap (λ (xs : List ℕ). Ok xs) (sym are) in
     same_outcome (next files bytes) (over next words place files) result (now i o e) new (λ input. sym (with_found (file_at words files place) bytes (λ b. next files b input) whole))
-    (subst (λ (held : Option (List ℕ)). MeetsBy settles (next files bytes) result (now i o held) new) kept meets)
+    (subst (λ (held : Option (List ℕ)). MeetsBy (settles files) (next files bytes) result (now i o held) new) kept meets)
 
 pub found_file : (next : Files → List ℕ → List ℕ → Option Outcome) (told : Option Files) (words : List (List ℕ)) (place : ℕ) (name bytes items : List ℕ) (i o e still : Option (List ℕ)) (new : Now) (result : Ending)
     → name ≡ get_or words place [] → bytes ≡ items → still ≡ e → IfSome told (λ files. whole_file (get files name) file_limit ≡ Ok items)
     → IfSome told (λ files. Meets (next files bytes) result (now i o still) new) → IfSome told (λ files. Meets (over next words place files) result (now i o e) new)
-found_file next told words place name bytes items i o e still new result named are kept found meets = found_file_by Settles next told words place name bytes items i o e still new result named are kept found meets
+found_file next told words place name bytes items i o e still new result named are kept found meets = found_file_by (λ _. Settles) next told words place name bytes items i o e still new result named are kept found meets
 
 -- it wasn't
 pub unread_file : (next : Files → List ℕ → List ℕ → Option Outcome) (told : Option Files) (words : List (List ℕ)) (place : ℕ) (name : List ℕ) (ending : Ending) (input output old new : Option (List ℕ))

@@ -1,60 +1,106 @@
--- What the parts of a debugger session promise, put together: its script, its image and its files.
-use Rattle.std.proofs.Common.{◌≡◌, ℕ, List, Option, Some, Result, Ok, Err, refl, sym, subst}
-use Rattle.io_gate.specs.Streams.{PutsAll}
+-- What the parts of a debugger session promise, put together: its script and its machine.
+use Rattle.std.proofs.Common.{◌≡◌, ℕ, Bool, true, false, List, length, Option, Some, None, Result, Ok, Err, IfSome, refl, sym, ap, subst, ◌∙◌, cond}
+use Rattle.back_model.specs.SessionBack.{session_back}
+use Rattle.command_model.specs.Refusals.{script_line}
+use Rattle.dbg_back.specs.Ends.{is_fault}
+use Rattle.dbg_back.specs.declared.ends.BackEnd.{BackEnd}
+use Rattle.dbg_back.specs.declared.ends.BackEnd.TheVariants as backs
+use Rattle.dbg_model.specs.Commands.{has_back}
+use Rattle.dbg_model.specs.Session.{session}
 use Rattle.dbg_model.specs.declared.script.Command.{Command}
 use Rattle.dbg_model.specs.declared.script.ScriptFault.{ScriptFault}
-use Rattle.dbg_model.specs.Script.{script_of_file}
 use Rattle.dbg_scripts.specs.Reading.{IsErrorOf}
 use Rattle.dbg_scripts.specs.declared.reader.ScriptError.{ScriptError}
 use Rattle.dbg_scripts.specs.declared.reader.ScriptError.TheVariants.{Refused}
-use Rattle.dbg_model.specs.Session.{session}
+use Rattle.emu_model.specs.Access.{Marks, fresh_marks, no_marks}
 use Rattle.emu_model.specs.State.{Parts}
-use Rattle.emu_system.specs.Image.{Image}
-use Rattle.emu_system.specs.Start.{opening, with_input}
-use Rattle.emu_system.specs.declared.image.ElfFault.{ElfFault}
-use Rattle.command_model.specs.Refusals.{image_line, script_line}
-use Rattle.emu_outcome.specs.Outcome.{Outcome, outcome_of_debug, outcome_of_script, outcome_of_session}
+use Rattle.emu_outcome.specs.Outcome.{Outcome, outcome_of_commands, outcome_of_script, outcome_of_session, outcome_of_session_back, over_whole}
 use Rattle.emu_outcome.specs.declared.ending.Ending.{Ending}
-use Rattle.emu_outcome.specs.declared.ending.Ending.TheVariants.{ImageRefused, ScriptRefused}
-use Rattle.commands.specs.Endings.{ended_by}
-use Rattle.commands.specs.Promises.{Now, now, Meets}
-use Rattle.commands.proofs.Meetings.{line_meets}
+use Rattle.emu_outcome.specs.declared.ending.Ending.TheVariants.{Done, ScriptRefused, WriteFault, ErrorsFault}
+use Rattle.emu_system.specs.Gained.{Gains}
+use Rattle.emu_system.specs.Start.{with_input}
+use Rattle.io_gate.specs.Streams.{PutsAll}
+use Rattle.mark_laws.specs.Marked.{parts_with}
+use Rattle.commands.specs.Endings.{ended_by, ending_of_back}
+use Rattle.commands.specs.Lines.{script_goes_back}
+use Rattle.commands.specs.Promises.{Now, now, is_refusal, settled_sweep, settles_by, Meets, MeetsBy, MeetsSweep}
+use Rattle.commands.specs.Sweeping.{ends_swept, Writes}
+use Rattle.commands.proofs.Meetings.{line_meets, never}
 
 -- ---- the script
 
 pub is_refused : (r : Result (List Command) ScriptFault) (error : ScriptError) (fault : ScriptFault) → error ≡ Refused fault → IsErrorOf r error → r ≡ Err fault
 is_refused r error fault is told = subst (λ (e : ScriptError). IsErrorOf r e) is told
 
-module _ (budget : ℕ) (opened : Parts) (r : Result (List Command) ScriptFault) (old : Now) where
+module _ (budget : ℕ) (m : Parts) (r : Result (List Command) ScriptFault) (old : Now) where
   abbrev pub of_script : List ℕ → Option Outcome
-  of_script i = Some (outcome_of_script i budget (with_input opened i) r)
+  of_script i = Some (outcome_of_script i budget m r)
 
   pub refused_script : {T E : Type 0} (fault : ScriptFault) (new : Option (List ℕ)) (put : Result T E) (result : Ending) → r ≡ Err fault → result ≡ ended_by put (ScriptRefused fault) → PutsAll old.errors new (script_line fault) put
-      → Meets of_script result old (now old.input old.output new)
+      → MeetsBy (settles_by (script_goes_back r)) of_script result old (now old.input old.output new)
   refused_script fault new put result is by puts =
-      subst (λ (x : Ending). Meets of_script x old (now old.input old.output new)) (sym by)
-      (subst (λ (x : Result (List Command) ScriptFault). Meets (λ i. Some (outcome_of_script i budget (with_input opened i) x)) (ended_by put (ScriptRefused fault)) old (now old.input old.output new)) (sym is)
+      subst (λ (x : Ending). MeetsBy (settles_by (script_goes_back r)) of_script x old (now old.input old.output new)) (sym by)
+      (subst (λ (x : Result (List Command) ScriptFault). MeetsBy (settles_by (script_goes_back x)) (λ i. Some (outcome_of_script i budget m x)) (ended_by put (ScriptRefused fault)) old (now old.input old.output new)) (sym is)
       (line_meets (ScriptRefused fault) (script_line fault) old.input old.output old.errors new put refl puts))
 
-  pub obeyed_script : (commands : List Command) (m : Parts) (new : Now) (result : Ending) → r ≡ Ok commands → m ≡ opened
-      → Meets (λ i. Some (outcome_of_session i (session commands budget (with_input m i)))) result old new → Meets of_script result old new
-  obeyed_script commands m new result is of meets =
-      subst (λ (x : Result (List Command) ScriptFault). Meets (λ i. Some (outcome_of_script i budget (with_input opened i) x)) result old new) (sym is)
-      (subst (λ (x : Parts). Meets (λ i. Some (outcome_of_session i (session commands budget (with_input x i)))) result old new) of meets)
+  pub obeyed_script : (commands : List Command) (new : Now) (result : Ending) → r ≡ Ok commands
+      → MeetsBy (settles_by (has_back commands)) (λ i. Some (outcome_of_commands i budget m commands)) result old new → MeetsBy (settles_by (script_goes_back r)) of_script result old new
+  obeyed_script commands new result is meets =
+      subst (λ (x : Result (List Command) ScriptFault). MeetsBy (settles_by (script_goes_back x)) (λ i. Some (outcome_of_script i budget m x)) result old new) (sym is) meets
 
--- ---- the image
+pub forward_script : (r : Result (List Command) ScriptFault) (commands : List Command) → r ≡ Ok commands → script_goes_back r ≡ false → has_back commands ≡ false
+forward_script r commands is forward = sym (ap script_goes_back is) ∙ forward
 
-module _ (file script : List ℕ) (args : List (List ℕ)) (bits budget pages : ℕ) (r : Result Image ElfFault) (old : Now) where
-  abbrev pub of_debug : List ℕ → Option Outcome
-  of_debug i = Some (outcome_of_debug file script args i bits budget pages r)
+-- ---- forward and back
 
-  pub refused_program : {T E : Type 0} (fault : ElfFault) (new : Option (List ℕ)) (put : Result T E) (result : Ending) → Err fault ≡ r → result ≡ ended_by put (ImageRefused fault) → PutsAll old.errors new (image_line fault) put
-      → Meets of_debug result old (now old.input old.output new)
-  refused_program fault new put result is by puts =
-      subst (λ (x : Ending). Meets of_debug x old (now old.input old.output new)) (sym by)
-      (subst (λ (x : Result Image ElfFault). Meets (λ i. Some (outcome_of_debug file script args i bits budget pages x)) (ended_by put (ImageRefused fault)) old (now old.input old.output new)) is
-      (line_meets (ImageRefused fault) (image_line fault) old.input old.output old.errors new put refl puts))
+-- by whether a command goes back
+module _ (budget : ℕ) (m : Parts) (commands : List Command) (old new : Now) (result : Ending) where
+  abbrev either : Bool → List ℕ → Option Outcome
+  either b i = Some (cond b (over_whole (outcome_of_session_back commands budget m) i) (outcome_of_session i (session commands budget (with_input m i))))
 
-  pub accepted_program : (image : Image) (new : Now) (result : Ending) → Ok image ≡ r
-      → Meets (λ i. Some (outcome_of_script i budget (with_input (opening file image args bits pages) i) (script_of_file script))) result old new → Meets of_debug result old new
-  accepted_program image new result is meets = subst (λ (x : Result Image ElfFault). Meets (λ i. Some (outcome_of_debug file script args i bits budget pages x)) result old new) is meets
+  pub gone_forward : has_back commands ≡ false → Meets (λ i. Some (outcome_of_session i (session commands budget (with_input m i)))) result old new
+      → MeetsBy (settles_by (has_back commands)) (λ i. Some (outcome_of_commands i budget m commands)) result old new
+  gone_forward is meets = subst (λ (b : Bool). MeetsBy (settles_by b) (either b) result old new) (sym is) meets
+
+  pub gone_back : has_back commands ≡ true → MeetsSweep (λ i. Some (over_whole (outcome_of_session_back commands budget m) i)) result old new
+      → MeetsBy (settles_by (has_back commands)) (λ i. Some (outcome_of_commands i budget m commands)) result old new
+  gone_back is meets = subst (λ (b : Bool). MeetsBy (settles_by b) (either b) result old new) (sym is) meets
+
+pub session_of : (commands : List Command) (budget : ℕ) (m opened : Parts) (old new : Now) (result : Ending) → m ≡ opened
+    → Meets (λ i. Some (outcome_of_session i (session commands budget (with_input m i)))) result old new → Meets (λ i. Some (outcome_of_session i (session commands budget (with_input opened i)))) result old new
+session_of commands budget m opened old new result of meets = subst (λ (x : Parts). Meets (λ i. Some (outcome_of_session i (session commands budget (with_input x i)))) result old new) of meets
+
+-- what a session wrote that may go back
+back_writes : (outcome : Outcome) (o0 o1 e0 e1 : Option (List ℕ)) (end : BackEnd) → outcome.ending ≡ Done → IfSome o0 (λ had. Gains (is_fault end) o1 had outcome.output) → IfSome e0 (λ had. Gains (is_fault end) e1 had outcome.errors)
+    → Writes outcome (ending_of_back end) o0 o1 e0 e1
+back_writes outcome o0 o1 e0 e1 backs.Done is outs errs = record { ends = λ _. sym is; output = outs; errors = errs }
+back_writes outcome o0 o1 e0 e1 backs.WriteFault is outs errs = record { ends = λ fine. never WriteFault refl fine; output = outs; errors = errs }
+back_writes outcome o0 o1 e0 e1 backs.ErrorsFault is outs errs = record { ends = λ fine. never ErrorsFault refl fine; output = outs; errors = errs }
+
+pub kind_back : (end : BackEnd) → ends_swept (ending_of_back end) ≡ true
+kind_back backs.Done = refl
+kind_back backs.WriteFault = refl
+kind_back backs.ErrorsFault = refl
+
+-- the machine has marks, of which the definitions' start has none: what it writes doesn't rest on them
+pub back_wrote : (commands : List Command) (budget pages : ℕ) (m opened : Parts) (input : List ℕ) (o0 o1 e0 e1 : Option (List ℕ)) (end : BackEnd) (result : Ending)
+    → m ≡ parts_with opened (fresh_marks pages) → parts_with opened (no_marks pages) ≡ opened → result ≡ ending_of_back end
+    → ((marks : Marks) → IfSome o0 (λ had. Gains (is_fault end) o1 had (session_back commands budget (with_input (parts_with m marks) input)).output))
+    → ((marks : Marks) → IfSome e0 (λ had. Gains (is_fault end) e1 had (session_back commands budget (with_input (parts_with m marks) input)).errors))
+    → Writes (outcome_of_session_back commands budget opened input) result o0 o1 e0 e1
+back_wrote commands budget pages m opened input o0 o1 e0 e1 end result marked plain by outs errs =
+    let same : parts_with m (no_marks pages) ≡ opened = ap (λ (x : Parts). parts_with x (no_marks pages)) marked ∙ plain in
+    subst (λ (x : Ending). Writes (outcome_of_session_back commands budget opened input) x o0 o1 e0 e1) (sym by)
+    (back_writes (outcome_of_session_back commands budget opened input) o0 o1 e0 e1 end refl
+    (subst (λ (x : Parts). IfSome o0 (λ had. Gains (is_fault end) o1 had (session_back commands budget (with_input x input)).output)) same (outs (no_marks pages)))
+    (subst (λ (x : Parts). IfSome e0 (λ had. Gains (is_fault end) e1 had (session_back commands budget (with_input x input)).errors)) same (errs (no_marks pages))))
+
+-- an input that was read is all of it
+pub back_takes : (commands : List Command) (budget : ℕ) (m : Parts) (i : List ℕ) → (outcome_of_session_back commands budget m i).taken ≡ length i
+back_takes commands budget m i = refl
+
+pub back_settles : (commands : List Command) (budget : ℕ) (m : Parts) (i : List ℕ) → settled_sweep (outcome_of_session_back commands budget m i).ending ≡ None
+back_settles commands budget m i = refl
+
+pub back_accepts : (commands : List Command) (budget : ℕ) (m : Parts) (i : List ℕ) → is_refusal (outcome_of_session_back commands budget m i).ending ≡ false
+back_accepts commands budget m i = refl

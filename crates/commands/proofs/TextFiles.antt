@@ -6,6 +6,9 @@ use Rattle.std.proofs.lemmas.Str.{IsUtf8-from_is_utf8, is_utf8-from_IsUtf8}
 use Rattle.dbg_model.specs.declared.script.Command.{Command}
 use Rattle.dbg_model.specs.declared.script.ScriptFault.{ScriptFault}
 use Rattle.dbg_model.specs.declared.script.ScriptWhy.TheVariants.{NotUtf8}
+use Rattle.guest_schedule.specs.declared.schedule.ScheduleFault.{ScheduleFault}
+use Rattle.guest_schedule.specs.declared.schedule.ScheduleWhy.TheVariants as schedules
+use Rattle.guest_schedule.specs.Schedule.{schedule, schedule_of_file}
 use Rattle.line_words.specs.Lines.{is_newline}
 use Rattle.dbg_model.specs.Script.{script, script_of_file}
 
@@ -31,3 +34,16 @@ pub no_script : (bytes : List ℕ) (place : ℕ) → place ≡ utf8_valid_len by
 no_script bytes place at none =
     of_no_text bytes (script bytes) (bad_script (1 + count_by is_newline (take (utf8_valid_len bytes) bytes))) none
     ∙ ap (λ (n : ℕ). bad_script (1 + count_by is_newline (take n bytes))) (sym at)
+
+-- ---- schedules
+
+abbrev pub bad_schedule : ℕ → Result (List (ℕ × ℕ)) ScheduleFault
+bad_schedule line = Err (record { line = line; why = schedules.NotUtf8 })
+
+pub text_schedule : (bytes text : List ℕ) → text ≡ bytes → IsUtf8 bytes → schedule text ≡ schedule_of_file bytes
+text_schedule bytes text same is = ap schedule same ∙ sym (of_text bytes (schedule bytes) (bad_schedule (1 + count_by is_newline (take (utf8_valid_len bytes) bytes))) is)
+
+pub no_schedule : (bytes : List ℕ) (place : ℕ) → place ≡ utf8_valid_len bytes → (IsUtf8 bytes → ⊥) → schedule_of_file bytes ≡ bad_schedule (1 + count_by is_newline (take place bytes))
+no_schedule bytes place at none =
+    of_no_text bytes (schedule bytes) (bad_schedule (1 + count_by is_newline (take (utf8_valid_len bytes) bytes))) none
+    ∙ ap (λ (n : ℕ). bad_schedule (1 + count_by is_newline (take n bytes))) (sym at)

@@ -3,4 +3,5 @@ pub mod Lines
 pub mod Programs
 pub mod Promises
 pub mod Reading
+pub mod SecondFiles
 pub mod Sweeping

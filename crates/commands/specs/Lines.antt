@@ -1,16 +1,21 @@
 -- What a command line promises beside its outcome: which lines are refused, for which input an outcome counts, how a line may end, and how it ends
 -- without its files.
-use Rattle.std.specs.Prelude.{◌≡◌, ◌⊎◌, ℕ, Bool, true, false, ◌||◌, nat_eq, List, Option, Result, Ok, Err, MatchBool, MatchOption, MatchResult}
+use Rattle.std.specs.Prelude.{◌≡◌, ◌⊎◌, ℕ, Bool, true, false, ◌||◌, nat_eq, List, [], get_or, Option, Some, None, Result, Ok, Err, MatchBool, MatchOption, MatchResult}
+use Rattle.std.specs.FinMap.{get}
 use Rattle.io_gate.specs.Images.{MissesNamed}
 use Rattle.command_lines.specs.Places.{file_named}
 use Rattle.command_model.specs.declared.command_line.Line.{Line}
-use Rattle.command_model.specs.declared.command_line.Line.TheVariants.{Run, Asm, Dis, Dbg, Load, Sweep}
+use Rattle.command_model.specs.declared.command_line.Line.TheVariants.{Run, Asm, Dis, Dbg, Load, Sweep, Threads}
 use Rattle.command_model.specs.declared.command_line.WordsFault.{WordsFault}
+use Rattle.dbg_model.specs.Commands.{has_back}
+use Rattle.dbg_model.specs.Script.{script_of_file}
+use Rattle.dbg_model.specs.declared.script.Command.{Command}
+use Rattle.dbg_model.specs.declared.script.ScriptFault.{ScriptFault}
 use Rattle.sweep_model.specs.Sweep.{stream_limit}
-use Rattle.emu_outcome.specs.Outcome.{Outcome, Files, file_limit}
+use Rattle.emu_outcome.specs.Outcome.{Outcome, Files, file_at, file_limit}
 use Rattle.emu_outcome.specs.declared.ending.Ending.{Ending}
-use Rattle.emu_outcome.specs.declared.ending.Ending.TheVariants.{Exit, Trap, Spent, Done, WordsRefused, ImageRefused, ListingRefused, ScriptRefused, TooLong, FileFault, WriteFault, ErrorsFault, OutOfMemory}
-use Rattle.commands.specs.Promises.{is_failure, CountsFor, MeetsBy, Now, Settles, SettlesSweep}
+use Rattle.emu_outcome.specs.declared.ending.Ending.TheVariants.{Exit, Trap, Spent, Stuck, Done, WordsRefused, ImageRefused, ListingRefused, ScriptRefused, ScheduleRefused, TooLong, FileFault, WriteFault, ErrorsFault, OutOfMemory}
+use Rattle.commands.specs.Promises.{is_failure, settles_by, CountsFor, MeetsBy, Now}
 
 -- the line runs a machine over the input
 abbrev pub takes_input : Result Line WordsFault → Bool
@@ -20,6 +25,7 @@ takes_input (Ok (Dis file)) = false
 takes_input (Ok (Dbg file script args bits budget pages)) = true
 takes_input (Ok (Load number)) = false
 takes_input (Ok (Sweep file args budget pages)) = true
+takes_input (Ok (Threads file schedule args bits budget pages)) = true
 takes_input (Err fault) = false
 
 -- the line names a file
@@ -30,6 +36,7 @@ names_file (Ok (Dis file)) = true
 names_file (Ok (Dbg file script args bits budget pages)) = true
 names_file (Ok (Load number)) = false
 names_file (Ok (Sweep file args budget pages)) = true
+names_file (Ok (Threads file schedule args bits budget pages)) = true
 names_file (Err fault) = false
 
 -- the line runs the program of a file at each length
@@ -40,20 +47,53 @@ sweeps (Ok (Dis file)) = false
 sweeps (Ok (Dbg file script args bits budget pages)) = false
 sweeps (Ok (Load number)) = false
 sweeps (Ok (Sweep file args budget pages)) = true
+sweeps (Ok (Threads file schedule args bits budget pages)) = false
 sweeps (Err fault) = false
 
--- what the ending of the line and its outcome share whatever the input has
-abbrev pub SettlesLine : Result Line WordsFault → Option Outcome → Ending → Type 0
-SettlesLine (Ok (Run file args bits budget pages)) = Settles
-SettlesLine (Ok (Asm listing)) = Settles
-SettlesLine (Ok (Dis file)) = Settles
-SettlesLine (Ok (Dbg file script args bits budget pages)) = Settles
-SettlesLine (Ok (Load number)) = Settles
-SettlesLine (Ok (Sweep file args budget pages)) = SettlesSweep
-SettlesLine (Err fault) = Settles
+-- a script goes back, by what it says, by its text and by the file that has it
+abbrev pub script_goes_back : Result (List Command) ScriptFault → Bool
+script_goes_back (Ok commands) = has_back commands
+script_goes_back (Err fault) = false
 
-abbrev pub MeetsLine : Result Line WordsFault → (List ℕ → Option Outcome) → Ending → Now → Now → Type 0
-MeetsLine line outcome ending old new = MeetsBy (SettlesLine line) outcome ending old new
+abbrev pub text_goes_back : List ℕ → Bool
+text_goes_back text = script_goes_back (script_of_file text)
+
+abbrev pub file_goes_back : Option (List ℕ) → Bool
+file_goes_back None = false
+file_goes_back (Some text) = text_goes_back text
+
+-- the input is read to its end before anything is run: by a sweep, and by a session that goes back
+abbrev pub reads_first : List (List ℕ) → Files → Result Line WordsFault → Bool
+reads_first words files (Ok (Run file args bits budget pages)) = false
+reads_first words files (Ok (Asm listing)) = false
+reads_first words files (Ok (Dis file)) = false
+reads_first words files (Ok (Dbg file script args bits budget pages)) = file_goes_back (file_at words files script)
+reads_first words files (Ok (Load number)) = false
+reads_first words files (Ok (Sweep file args budget pages)) = true
+reads_first words files (Ok (Threads file schedule args bits budget pages)) = false
+reads_first words files (Err fault) = false
+
+-- what the ending of the line and its outcome share whatever the input has
+abbrev pub SettlesLine : List (List ℕ) → Files → Result Line WordsFault → Option Outcome → Ending → Type 0
+SettlesLine words files line = settles_by (reads_first words files line)
+
+abbrev pub MeetsLine : List (List ℕ) → Files → Result Line WordsFault → (List ℕ → Option Outcome) → Ending → Now → Now → Type 0
+MeetsLine words files line outcome ending old new = MeetsBy (SettlesLine words files line) outcome ending old new
+
+-- nothing is taken where memory is wanting: not of a sweep, and of a session only where the files are told and its script goes only forward
+abbrev pub IsForward : Option Files → List ℕ → Type 0
+IsForward None name = ⊥
+IsForward (Some files) name = file_goes_back (get files name) ≡ false
+
+abbrev pub TakesLast : List (List ℕ) → Result Line WordsFault → Option Files → Type 0
+TakesLast words (Ok (Run file args bits budget pages)) told = Unit {0}
+TakesLast words (Ok (Asm listing)) told = Unit {0}
+TakesLast words (Ok (Dis file)) told = Unit {0}
+TakesLast words (Ok (Dbg file script args bits budget pages)) told = IsForward told (get_or words script [])
+TakesLast words (Ok (Load number)) told = Unit {0}
+TakesLast words (Ok (Sweep file args budget pages)) told = ⊥
+TakesLast words (Ok (Threads file schedule args bits budget pages)) told = Unit {0}
+TakesLast words (Err fault) told = Unit {0}
 
 -- the outcome of a line for these bytes counts: the line takes no input, or the input told them, or the outcome rests on none
 abbrev pub IsOutcome : Result Line WordsFault → Option (List ℕ) → Option Outcome → List ℕ → Type 0
@@ -87,11 +127,18 @@ ends_dis Done = true
 ends_dis (ImageRefused fault) = true
 ends_dis ending = stops_any ending
 
+-- the input of a session that goes back may be too long
 abbrev pub ends_dbg : Ending → Bool
 ends_dbg Done = true
 ends_dbg (ImageRefused fault) = true
 ends_dbg (ScriptRefused fault) = true
+ends_dbg (TooLong limit) = nat_eq limit stream_limit || stops_any (TooLong limit)
 ends_dbg ending = stops_any ending
+
+abbrev pub ends_threads : Ending → Bool
+ends_threads Stuck = true
+ends_threads (ScheduleRefused fault) = true
+ends_threads ending = ends_run ending
 
 -- no file is read, and no input
 abbrev pub ends_load : Ending → Bool
@@ -118,6 +165,7 @@ may_end (Dis file) ending = ends_dis ending
 may_end (Dbg file script args bits budget pages) ending = ends_dbg ending
 may_end (Load number) ending = ends_load ending
 may_end (Sweep file args budget pages) ending = ends_sweep ending
+may_end (Threads file schedule args bits budget pages) ending = ends_threads ending
 
 -- ---- files that aren't there
 
@@ -126,8 +174,9 @@ abbrev pub MissesFirst : List (List ℕ) → Result Line WordsFault → Option F
 MissesFirst words (Ok l) told = MatchOption (file_named words l) ⊥ (MissesNamed told)
 MissesFirst words (Err fault) told = ⊥
 
--- a line that names a file that isn't there ends with a fault of the files; of `dbg`, memory may be wanting for the program's file
--- before the script is looked for
+-- a line that names a file that isn't there ends with a fault of the files; of `dbg` and `threads`, memory may be wanting for the
+-- program's file before the script or the schedule is looked for
 abbrev pub EndsMissing : Result Line WordsFault → Ending → Type 0
 EndsMissing (Ok (Dbg file script args bits budget pages)) ending = (ending ≡ FileFault) ⊎ (ending ≡ OutOfMemory)
+EndsMissing (Ok (Threads file schedule args bits budget pages)) ending = (ending ≡ FileFault) ⊎ (ending ≡ OutOfMemory)
 EndsMissing line ending = ending ≡ FileFault

@@ -1,11 +1,11 @@
 -- What a command promises: its result by the definitions, or, where something failed, nothing beyond it. Each fact rests on what the files told, and on
 -- the input and the sinks that it names, where these tell their bytes.
-use Rattle.std.specs.Prelude.{◌≡◌, ◌≤◌, ℕ, Bool, true, false, nat_eq, List, [], ◌++◌, drop, Option, Some, None, IfSome, MatchBool, if◌then◌else◌}
+use Rattle.std.specs.Prelude.{◌≡◌, ◌≤◌, ℕ, Bool, true, false, nat_eq, List, [], drop, Option, Some, None, IfSome, MatchBool, if◌then◌else◌}
 use Rattle.emu_system.specs.Gained.{Gains}
 use Rattle.sweep_model.specs.Sweep.{stream_limit}
 use Rattle.emu_outcome.specs.Outcome.{Outcome, Files, file_limit}
 use Rattle.emu_outcome.specs.declared.ending.Ending.{Ending}
-use Rattle.emu_outcome.specs.declared.ending.Ending.TheVariants.{Exit, Trap, Spent, Done, WordsRefused, ImageRefused, ListingRefused, ScriptRefused, TooLong, FileFault, ReadFault, WriteFault, ErrorsFault, OutOfMemory}
+use Rattle.emu_outcome.specs.declared.ending.Ending.TheVariants.{Exit, Trap, Spent, Stuck, Done, WordsRefused, ImageRefused, ListingRefused, ScriptRefused, ScheduleRefused, TooLong, FileFault, ReadFault, WriteFault, ErrorsFault, OutOfMemory}
 
 -- a file or a stream failed, or memory was wanting
 abbrev pub is_failure : Ending → Bool
@@ -25,13 +25,14 @@ is_silent WriteFault = true
 is_silent OutOfMemory = true
 is_silent ending = false
 
--- the line, a file, an image, a listing or a script is refused; a stream of a sweep that is too long isn't, since that rests on the input
+-- the line, a file, an image, a listing, a script or a schedule is refused; a stream that is too long isn't, since that rests on the input
 abbrev pub is_refusal : Ending → Bool
 is_refusal (WordsRefused fault) = true
 is_refusal (TooLong limit) = nat_eq limit file_limit
 is_refusal (ImageRefused fault) = true
 is_refusal (ListingRefused fault) = true
 is_refusal (ScriptRefused fault) = true
+is_refusal (ScheduleRefused fault) = true
 is_refusal ending = false
 
 -- the ending, where it rests on no input: any but the end of a run
@@ -39,6 +40,7 @@ abbrev pub settled_ending : Ending → Option Ending
 settled_ending (Exit code) = None
 settled_ending (Trap trap pc) = None
 settled_ending Spent = None
+settled_ending Stuck = None
 settled_ending ending = Some ending
 
 -- ---- an outcome, if there is one; where there is none, nothing is moved
@@ -53,16 +55,22 @@ abbrev pub Settles : Option Outcome → Ending → Type 0
 Settles None ending = ⊥
 Settles (Some outcome) ending = settled_ending ending ≡ settled_ending outcome.ending
 
--- the ending of a sweep, where it rests on no input: any but that it came to its end, or that a stream was too long for it
+-- the ending of a command that reads its input to the end before anything is run, where it rests on no input: any but that the
+-- command came to its end, or that a stream was too long for it
 abbrev pub settled_sweep : Ending → Option Ending
 settled_sweep Done = None
 settled_sweep (TooLong limit) = if nat_eq limit stream_limit then None else Some (TooLong limit)
 settled_sweep ending = Some ending
 
--- the sweep ends as its outcome says, or both end as a sweep does that read its input
+-- the command ends as its outcome says, or both end as such a command does that read its input
 abbrev pub SettlesSweep : Option Outcome → Ending → Type 0
 SettlesSweep None ending = ⊥
 SettlesSweep (Some outcome) ending = settled_sweep ending ≡ settled_sweep outcome.ending
+
+-- by whether the input is read so
+abbrev pub settles_by : Bool → Option Outcome → Ending → Type 0
+settles_by true = SettlesSweep
+settles_by false = Settles
 
 -- the outcome rests on no input: there is none, or it is a refusal
 abbrev pub rests_on_none : Option Outcome → Bool

@@ -1,33 +1,34 @@
-//! The command `dbg`: from the files of a program and of a script to the end of the session.
-ghost use Rattle.std.specs.Prelude.{◌≡◌, ◌≢◌, ◌<◌, ◌≤◌, ◌⊎◌, [], map, length, string_bytes, get_or, IfSome, MatchResult, Some, Ok, false, true};
-ghost use Rattle.io_gate.specs.Images.{MissesNamed};
-ghost use Rattle.io_gate.specs.Streams.{Rose, Causes};
+//! The command `dbg`: from the image of a program and the text of a script to the end of the session.
+ghost use Rattle.std.specs.Prelude.{◌≡◌, ◌≢◌, ◌<◌, ◌≤◌, map, length, string_bytes, MatchResult, Some, Ok, false, true};
+ghost use Rattle.io_gate.specs.Streams.{Causes};
 ghost use Rattle.elf_image.specs.Images.{seen_image};
 ghost use Rattle.elf_image.specs.Loadable.{IsLoadable};
 ghost use Rattle.emu_system.specs.Arguments.{AreArguments};
-ghost use Rattle.emu_system.specs.Image.{elf};
-ghost use Rattle.emu_system.specs.Start.{opening, with_input};
+ghost use Rattle.emu_system.specs.Start.{with_input};
+ghost use Rattle.dbg_model.specs.Commands.{has_back};
 ghost use Rattle.dbg_model.specs.Script.{script_of_file};
 ghost use Rattle.dbg_model.specs.Session as model;
 ghost use Rattle.dbg_scripts.specs.Reading.{IsErrorOf};
-ghost use Rattle.emu_outcome.specs.Outcome.{file_at, outcome_of_debug, outcome_of_script, outcome_of_session, with_file};
-ghost use Rattle.commands.specs.Endings.{ending_of_session};
-ghost use Rattle.commands.specs.Lines.{ends_dbg};
-ghost use Rattle.commands.specs.Programs.{arguments_of, debug_line_of, outcome_over};
-ghost use Rattle.commands.specs.Promises.{now, Meets, NamesNoFile};
+ghost use Rattle.emu_outcome.specs.Outcome.{outcome_of_commands, outcome_of_script, outcome_of_session, outcome_of_session_back, over_whole};
+ghost use Rattle.commands.specs.Endings.{ending_of_back, ending_of_session};
+ghost use Rattle.commands.specs.Lines.{ends_dbg, text_goes_back};
+ghost use Rattle.commands.specs.Programs.{arguments_of, opening_of};
+ghost use Rattle.commands.specs.Promises.{now, settles_by, Meets, MeetsBy, MeetsSweep};
+ghost use Rattle.commands.specs.Sweeping.{ends_swept, Writes};
 
-use crate::files::{ending_after_line, file_bytes};
-use crate::program::{Program, open_machine};
+use crate::files::ending_after_line;
+use crate::program::{Program, open_machine, open_marked};
 use crate::texts::line_of_place;
-use command_lines::word;
+use dbg_back::{BackEnd, session_back};
 use dbg_core::{Script, ScriptError, ScriptFault, ScriptWhy, SessionEnd, read_script, session};
-use elf_image::{Image, read};
+use elf_image::Image;
 use emu_machine::Machine;
 use emu_outcome::Ending;
-use emu_report::{put_image_refusal, put_script_refusal};
-use io_gate::{Images, Sink, Source};
+use emu_report::{put_script_refusal, put_too_long};
+use io_gate::{ReadEnd, Sink, Source, read_all};
 use std::alloc::Global;
 use std::str;
+use sweep_model::STREAM_LIMIT;
 
 /// The script of a file's bytes. Err is its first refusal, or want of memory.
 fn script_of(alloc: Global, bytes: &[u8]) -> Result<Script, ScriptError>
@@ -55,7 +56,18 @@ fn ending_of_session(end: SessionEnd) -> Ending
     }
 }
 
-/// Obeys a script by a machine.
+/// The ending of a session that goes back.
+fn ending_of_back(end: BackEnd) -> Ending
+    ensures { result ≡ ending_of_back end }
+{
+    match end {
+        BackEnd::Done => Ending::Done,
+        BackEnd::WriteFault => Ending::WriteFault,
+        BackEnd::ErrorsFault => Ending::ErrorsFault,
+    }
+}
+
+/// Obeys a script, which goes only forward, by a machine.
 fn debug_machine<I: Source, O: Sink, E: Sink>(
     machine: &mut Machine,
     script: &Script,
@@ -64,9 +76,11 @@ fn debug_machine<I: Source, O: Sink, E: Sink>(
     output: &mut O,
     errors: &mut E,
 ) -> Ending
-    requires { machine.old.failed ≡ false }
+    requires failed { machine.old.failed ≡ false }
+    requires forward { has_back script.now ≡ false }
     ensures outcome { Meets (λ i. Some (outcome_of_session i (model.session script.now budget (with_input machine.old.parts i)))) result
-        (now (I.left input.old) (O.held output.old) (E.held errors.old)) (now (I.left input.new) (O.held output.new) (E.held errors.new)) }
+        (now (I.left input.old) (O.held output.old) (E.held errors.old))
+        (now (I.left input.new) (O.held output.new) (E.held errors.new)) }
     ensures read_cause { Causes (result ≡ Ending.ReadFault) (I.faults input.old) (I.faults input.new) }
     ensures write_cause { Causes (result ≡ Ending.WriteFault) (O.faults output.old) (O.faults output.new) }
     ensures errors_cause { Causes (result ≡ Ending.ErrorsFault) (E.faults errors.old) (E.faults errors.new) }
@@ -77,8 +91,167 @@ fn debug_machine<I: Source, O: Sink, E: Sink>(
     ending_of_session(session(machine, script, budget, input, output, errors))
 }
 
-/// Runs a session over an image, or refuses its script.
-fn debug_image<I: Source, O: Sink, E: Sink>(
+/// Runs the session of a script, which goes only forward, over an image.
+fn debug_forward<I: Source, O: Sink, E: Sink>(
+    alloc: Global,
+    bytes: &[u8],
+    image: &Image,
+    words: &[String],
+    script: &Script,
+    program: &Program,
+    input: &mut I,
+    output: &mut O,
+    errors: &mut E,
+) -> Ending
+    requires loadable { IsLoadable bytes.now program.now.pages (seen_image image.now) }
+    requires file { program.now.file < program.now.args }
+    requires args { program.now.args ≤ length words.now }
+    requires arguments { AreArguments (arguments_of (map string_bytes words.now) program.now) }
+    requires forward { has_back script.now ≡ false }
+    ensures outcome { Meets (λ i. Some (outcome_of_session i (model.session script.now program.now.budget
+        (with_input (opening_of bytes.now (seen_image image.now) (map string_bytes words.now) program.now) i)))) result
+        (now (I.left input.old) (O.held output.old) (E.held errors.old))
+        (now (I.left input.new) (O.held output.new) (E.held errors.new)) }
+    ensures read_cause { Causes (result ≡ Ending.ReadFault) (I.faults input.old) (I.faults input.new) }
+    ensures write_cause { Causes (result ≡ Ending.WriteFault) (O.faults output.old) (O.faults output.new) }
+    ensures errors_cause { Causes (result ≡ Ending.ErrorsFault) (E.faults errors.old) (E.faults errors.new) }
+    ensures no_file { result ≢ Ending.FileFault }
+    ensures memory_first { result ≡ Ending.OutOfMemory → (input.new ≡ input.old) × (output.new ≡ output.old) × (errors.new ≡ errors.old) }
+    ensures kind { ends_dbg result ≡ true }
+{
+    match open_machine(alloc, bytes, image, words, program) {
+        Err(_) => Ending::OutOfMemory,
+        Ok(mut machine) => debug_machine(
+            &mut machine,
+            script,
+            program.budget,
+            input,
+            output,
+            errors,
+        ),
+    }
+}
+
+/// Runs the session of a script that may go back over an image and its whole input.
+fn debug_input<O: Sink, E: Sink>(
+    alloc: Global,
+    bytes: &[u8],
+    image: &Image,
+    words: &[String],
+    script: &Script,
+    program: &Program,
+    input: &[u8],
+    output: &mut O,
+    errors: &mut E,
+) -> Ending
+    requires loadable { IsLoadable bytes.now program.now.pages (seen_image image.now) }
+    requires file { program.now.file < program.now.args }
+    requires args { program.now.args ≤ length words.now }
+    requires arguments { AreArguments (arguments_of (map string_bytes words.now) program.now) }
+    requires pages { program.now.pages ≤ 1048576 }
+    ensures outcome { Writes (outcome_of_session_back script.now program.now.budget (opening_of bytes.now (seen_image image.now) (map string_bytes words.now) program.now) input.now) result
+        (O.held output.old) (O.held output.new) (E.held errors.old) (E.held errors.new) }
+    ensures write_cause { Causes (result ≡ Ending.WriteFault) (O.faults output.old) (O.faults output.new) }
+    ensures errors_cause { Causes (result ≡ Ending.ErrorsFault) (E.faults errors.old) (E.faults errors.new) }
+    ensures memory_first { result ≡ Ending.OutOfMemory → (output.new ≡ output.old) × (errors.new ≡ errors.old) }
+    ensures kind { ends_swept result ≡ true }
+{
+    match open_marked(alloc, bytes, image, words, program) {
+        Err(_) => Ending::OutOfMemory,
+        Ok(mut machine) => ending_of_back(session_back(
+            &mut machine,
+            script,
+            program.budget,
+            input,
+            output,
+            errors,
+        )),
+    }
+}
+
+/// Reads the input, and runs the session of a script that may go back over an image.
+fn debug_back<I: Source, O: Sink, E: Sink>(
+    alloc: Global,
+    bytes: &[u8],
+    image: &Image,
+    words: &[String],
+    script: &Script,
+    program: &Program,
+    input: &mut I,
+    output: &mut O,
+    errors: &mut E,
+) -> Ending
+    requires loadable { IsLoadable bytes.now program.now.pages (seen_image image.now) }
+    requires file { program.now.file < program.now.args }
+    requires args { program.now.args ≤ length words.now }
+    requires arguments { AreArguments (arguments_of (map string_bytes words.now) program.now) }
+    requires pages { program.now.pages ≤ 1048576 }
+    ensures outcome { MeetsSweep (λ i. Some (over_whole (outcome_of_session_back script.now program.now.budget (opening_of bytes.now (seen_image image.now) (map string_bytes words.now) program.now)) i)) result
+        (now (I.left input.old) (O.held output.old) (E.held errors.old))
+        (now (I.left input.new) (O.held output.new) (E.held errors.new)) }
+    ensures read_cause { Causes (result ≡ Ending.ReadFault) (I.faults input.old) (I.faults input.new) }
+    ensures write_cause { Causes (result ≡ Ending.WriteFault) (O.faults output.old) (O.faults output.new) }
+    ensures errors_cause { Causes (result ≡ Ending.ErrorsFault) (E.faults errors.old) (E.faults errors.new) }
+    ensures no_file { result ≢ Ending.FileFault }
+    ensures memory_first { result ≡ Ending.OutOfMemory → (output.new ≡ output.old) × (errors.new ≡ errors.old) }
+    ensures kind { ends_dbg result ≡ true }
+{
+    match read_all(alloc, input, STREAM_LIMIT as usize) {
+        Ok(given) => debug_input(
+            alloc, bytes, image, words, script, program, &given, output, errors,
+        ),
+        Err(ReadEnd::TooLong) => ending_after_line(
+            put_too_long(STREAM_LIMIT, errors),
+            Ending::TooLong(STREAM_LIMIT),
+        ),
+        Err(ReadEnd::Failed) => Ending::ReadFault,
+        Err(ReadEnd::OutOfMemory) => Ending::OutOfMemory,
+    }
+}
+
+/// Runs the session of a script over an image. Where the script goes back, the input is read to its end before the machine is opened.
+fn debug_script<I: Source, O: Sink, E: Sink>(
+    alloc: Global,
+    bytes: &[u8],
+    image: &Image,
+    words: &[String],
+    script: &Script,
+    program: &Program,
+    input: &mut I,
+    output: &mut O,
+    errors: &mut E,
+) -> Ending
+    requires loadable { IsLoadable bytes.now program.now.pages (seen_image image.now) }
+    requires file { program.now.file < program.now.args }
+    requires args { program.now.args ≤ length words.now }
+    requires arguments { AreArguments (arguments_of (map string_bytes words.now) program.now) }
+    requires pages { program.now.pages ≤ 1048576 }
+    ensures outcome { MeetsBy (settles_by (has_back script.now)) (λ i. Some (outcome_of_commands i program.now.budget (opening_of bytes.now (seen_image image.now) (map string_bytes words.now) program.now) script.now)) result
+        (now (I.left input.old) (O.held output.old) (E.held errors.old))
+        (now (I.left input.new) (O.held output.new) (E.held errors.new)) }
+    ensures read_cause { Causes (result ≡ Ending.ReadFault) (I.faults input.old) (I.faults input.new) }
+    ensures write_cause { Causes (result ≡ Ending.WriteFault) (O.faults output.old) (O.faults output.new) }
+    ensures errors_cause { Causes (result ≡ Ending.ErrorsFault) (E.faults errors.old) (E.faults errors.new) }
+    ensures no_file { result ≢ Ending.FileFault }
+    ensures memory_first { has_back script.now ≡ false → result ≡ Ending.OutOfMemory → input.new ≡ input.old }
+    ensures memory_unwritten { result ≡ Ending.OutOfMemory → (output.new ≡ output.old) × (errors.new ≡ errors.old) }
+    ensures kind { ends_dbg result ≡ true }
+{
+    if script.has_back() {
+        debug_back(
+            alloc, bytes, image, words, script, program, input, output, errors,
+        )
+    } else {
+        debug_forward(
+            alloc, bytes, image, words, script, program, input, output, errors,
+        )
+    }
+}
+
+/// Runs the session of a script's bytes over an image, or refuses the script. Done where the session came to its end; ScriptRefused, and
+/// where the script goes back TooLong where the input has more than 16,777,216 bytes, each behind its line on the errors, a fault of a
+/// stream, or OutOfMemory before anything is written, and before anything is taken where the script goes only forward.
+pub fn debug_image<I: Source, O: Sink, E: Sink>(
     alloc: Global,
     bytes: &[u8],
     text: &[u8],
@@ -94,13 +267,16 @@ fn debug_image<I: Source, O: Sink, E: Sink>(
     requires file { program.now.file < program.now.args }
     requires args { program.now.args ≤ length words.now }
     requires arguments { AreArguments (arguments_of (map string_bytes words.now) program.now) }
-    ensures outcome { Meets (λ i. Some (outcome_of_script i program.now.budget (with_input (opening bytes.now (seen_image image.now) (arguments_of (map string_bytes words.now) program.now) program.now.length program.now.pages) i) (script_of_file text.now))) result
-        (now (I.left input.old) (O.held output.old) (E.held errors.old)) (now (I.left input.new) (O.held output.new) (E.held errors.new)) }
+    requires pages { program.now.pages ≤ 1048576 }
+    ensures outcome { MeetsBy (settles_by (text_goes_back text.now)) (λ i. Some (outcome_of_script i program.now.budget (opening_of bytes.now (seen_image image.now) (map string_bytes words.now) program.now) (script_of_file text.now))) result
+        (now (I.left input.old) (O.held output.old) (E.held errors.old))
+        (now (I.left input.new) (O.held output.new) (E.held errors.new)) }
     ensures read_cause { Causes (result ≡ Ending.ReadFault) (I.faults input.old) (I.faults input.new) }
     ensures write_cause { Causes (result ≡ Ending.WriteFault) (O.faults output.old) (O.faults output.new) }
     ensures errors_cause { Causes (result ≡ Ending.ErrorsFault) (E.faults errors.old) (E.faults errors.new) }
     ensures no_file { result ≢ Ending.FileFault }
-    ensures memory_first { result ≡ Ending.OutOfMemory → (input.new ≡ input.old) × (output.new ≡ output.old) × (errors.new ≡ errors.old) }
+    ensures memory_first { text_goes_back text.now ≡ false → result ≡ Ending.OutOfMemory → input.new ≡ input.old }
+    ensures memory_unwritten { result ≡ Ending.OutOfMemory → (output.new ≡ output.old) × (errors.new ≡ errors.old) }
     ensures kind { ends_dbg result ≡ true }
 {
     match script_of(alloc, text) {
@@ -109,129 +285,8 @@ fn debug_image<I: Source, O: Sink, E: Sink>(
             Ending::ScriptRefused(fault),
         ),
         Err(ScriptError::OutOfMemory) => Ending::OutOfMemory,
-        Ok(script) => match open_machine(alloc, bytes, image, words, program) {
-            Err(_) => Ending::OutOfMemory,
-            Ok(mut machine) => debug_machine(
-                &mut machine,
-                &script,
-                program.budget,
-                input,
-                output,
-                errors,
-            ),
-        },
-    }
-}
-
-/// Runs a session over the program of a file's bytes, or refuses the program or the script.
-fn debug_bytes<I: Source, O: Sink, E: Sink>(
-    alloc: Global,
-    bytes: &[u8],
-    text: &[u8],
-    words: &[String],
-    program: &Program,
-    input: &mut I,
-    output: &mut O,
-    errors: &mut E,
-) -> Ending
-    requires text { length text.now ≤ 67108864 }
-    requires file { program.now.file < program.now.args }
-    requires args { program.now.args ≤ length words.now }
-    requires arguments { AreArguments (arguments_of (map string_bytes words.now) program.now) }
-    ensures outcome { Meets (λ i. Some (outcome_of_debug bytes.now text.now (arguments_of (map string_bytes words.now) program.now) i program.now.length program.now.budget program.now.pages (elf bytes.now program.now.pages))) result
-        (now (I.left input.old) (O.held output.old) (E.held errors.old)) (now (I.left input.new) (O.held output.new) (E.held errors.new)) }
-    ensures read_cause { Causes (result ≡ Ending.ReadFault) (I.faults input.old) (I.faults input.new) }
-    ensures write_cause { Causes (result ≡ Ending.WriteFault) (O.faults output.old) (O.faults output.new) }
-    ensures errors_cause { Causes (result ≡ Ending.ErrorsFault) (E.faults errors.old) (E.faults errors.new) }
-    ensures no_file { result ≢ Ending.FileFault }
-    ensures memory_first { result ≡ Ending.OutOfMemory → (input.new ≡ input.old) × (output.new ≡ output.old) × (errors.new ≡ errors.old) }
-    ensures kind { ends_dbg result ≡ true }
-{
-    match read(bytes, program.pages) {
-        Err(fault) => ending_after_line(
-            put_image_refusal(&fault, errors),
-            Ending::ImageRefused(fault),
+        Ok(script) => debug_script(
+            alloc, bytes, image, words, &script, program, input, output, errors,
         ),
-        Ok(image) => debug_image(
-            alloc, bytes, text, &image, words, program, input, output, errors,
-        ),
-    }
-}
-
-/// Reads the file of the script, and runs a session over the program of a file's bytes.
-fn debug_with_script<F: Images, I: Source, O: Sink, E: Sink>(
-    alloc: Global,
-    bytes: &[u8],
-    words: &[String],
-    program: &Program,
-    script: usize,
-    files: &mut F,
-    input: &mut I,
-    output: &mut O,
-    errors: &mut E,
-) -> Ending
-    requires file { program.now.file < program.now.args }
-    requires script { script < program.now.args }
-    requires args { program.now.args ≤ length words.now }
-    requires arguments { AreArguments (arguments_of (map string_bytes words.now) program.now) }
-    ensures outcome { IfSome (F.named files.old) (λ named. Meets
-        (λ i. with_file (file_at (map string_bytes words.now) named script) (λ text. Some (outcome_of_debug bytes.now text (arguments_of (map string_bytes words.now) program.now) i program.now.length program.now.budget program.now.pages (elf bytes.now program.now.pages)))) result
-        (now (I.left input.old) (O.held output.old) (E.held errors.old)) (now (I.left input.new) (O.held output.new) (E.held errors.new))) }
-    ensures file_cause { result ≡ Ending.FileFault → Rose (F.faults files.old) (F.faults files.new)
-        ⊎ MissesNamed (F.named files.old) (get_or (map string_bytes words.now) script []) }
-    ensures file_kept { result ≢ Ending.FileFault → F.faults files.new ≡ F.faults files.old }
-    ensures missing { MissesNamed (F.named files.old) (get_or (map string_bytes words.now) script []) → result ≡ Ending.FileFault }
-    ensures file_first { result ≡ Ending.FileFault → (input.new ≡ input.old) × (output.new ≡ output.old) × (errors.new ≡ errors.old) }
-    ensures files_later { F.faults files.old ≤ F.faults files.new }
-    ensures memory_first { result ≡ Ending.OutOfMemory → (input.new ≡ input.old) × (output.new ≡ output.old) × (errors.new ≡ errors.old) }
-    ensures read_cause { Causes (result ≡ Ending.ReadFault) (I.faults input.old) (I.faults input.new) }
-    ensures write_cause { Causes (result ≡ Ending.WriteFault) (O.faults output.old) (O.faults output.new) }
-    ensures errors_cause { Causes (result ≡ Ending.ErrorsFault) (E.faults errors.old) (E.faults errors.new) }
-    ensures kind { ends_dbg result ≡ true }
-{
-    match file_bytes(alloc, word(words, script), files, errors) {
-        Ok(text) => debug_bytes(alloc, bytes, &text, words, program, input, output, errors),
-        Err(ending) => ending,
-    }
-}
-
-/// Reads the file of a program, then that of a script, whose name is the word at `script`, and runs the session of the script over the program, which `program` says as for
-/// `run_file`. Done where the session came to its end; FileFault where reading failed or no file has one of the names, TooLong over 67,108,864 bytes, ImageRefused and ScriptRefused,
-/// each refusal behind its line on the errors, a fault of a stream, or OutOfMemory before anything is taken or written.
-pub fn debug_file<F: Images, I: Source, O: Sink, E: Sink>(
-    alloc: Global,
-    words: &[String],
-    program: &Program,
-    script: usize,
-    files: &mut F,
-    input: &mut I,
-    output: &mut O,
-    errors: &mut E,
-) -> Ending
-    requires file { program.now.file < program.now.args }
-    requires script { script < program.now.args }
-    requires args { program.now.args ≤ length words.now }
-    requires arguments { AreArguments (arguments_of (map string_bytes words.now) program.now) }
-    ensures outcome { IfSome (F.named files.old) (λ named. Meets (outcome_over (map string_bytes words.now) (debug_line_of program.now script) named) result
-        (now (I.left input.old) (O.held output.old) (E.held errors.old)) (now (I.left input.new) (O.held output.new) (E.held errors.new))) }
-    ensures file_cause { result ≡ Ending.FileFault → Rose (F.faults files.old) (F.faults files.new)
-        ⊎ NamesNoFile (outcome_over (map string_bytes words.now) (debug_line_of program.now script)) (F.named files.old) }
-    ensures file_kept { result ≢ Ending.FileFault → F.faults files.new ≡ F.faults files.old }
-    ensures missing { NamesNoFile (outcome_over (map string_bytes words.now) (debug_line_of program.now script)) (F.named files.old)
-        → (result ≡ Ending.FileFault) ⊎ (result ≡ Ending.OutOfMemory) }
-    ensures missing_first { MissesNamed (F.named files.old) (get_or (map string_bytes words.now) program.now.file []) → result ≡ Ending.FileFault }
-    ensures file_first { result ≡ Ending.FileFault → (input.new ≡ input.old) × (output.new ≡ output.old) × (errors.new ≡ errors.old) }
-    ensures files_later { F.faults files.old ≤ F.faults files.new }
-    ensures memory_first { result ≡ Ending.OutOfMemory → (input.new ≡ input.old) × (output.new ≡ output.old) × (errors.new ≡ errors.old) }
-    ensures read_cause { Causes (result ≡ Ending.ReadFault) (I.faults input.old) (I.faults input.new) }
-    ensures write_cause { Causes (result ≡ Ending.WriteFault) (O.faults output.old) (O.faults output.new) }
-    ensures errors_cause { Causes (result ≡ Ending.ErrorsFault) (E.faults errors.old) (E.faults errors.new) }
-    ensures kind { ends_dbg result ≡ true }
-{
-    match file_bytes(alloc, word(words, program.file), files, errors) {
-        Ok(bytes) => debug_with_script(
-            alloc, &bytes, words, program, script, files, input, output, errors,
-        ),
-        Err(ending) => ending,
     }
 }

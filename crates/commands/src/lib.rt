@@ -12,5 +12,7 @@ mod program;
 mod run;
 mod sweeping;
 mod texts;
+mod threads;
+mod two_files;
 
 pub use line::command;

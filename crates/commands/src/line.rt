@@ -4,13 +4,12 @@ ghost use Rattle.io_gate.specs.Streams.{Rose, Causes};
 ghost use Rattle.command_model.specs.CommandLine.{line};
 ghost use Rattle.command_model.specs.Refusals.{words_line};
 ghost use Rattle.emu_outcome.specs.Outcome.{result_of};
-ghost use Rattle.command_lines.specs.Places.{HasArguments, HasPlaces};
-ghost use Rattle.commands.specs.Lines.{takes_input, names_file, may_end, sweeps, MeetsLine, RefusesLine, MissesFirst, EndsMissing};
+ghost use Rattle.command_lines.specs.Places.{HasArguments, HasLimit, HasPlaces};
+ghost use Rattle.commands.specs.Lines.{takes_input, names_file, may_end, sweeps, MeetsLine, RefusesLine, MissesFirst, EndsMissing, TakesLast};
 ghost use Rattle.commands.specs.Programs.{outcome_over};
 ghost use Rattle.emu_system.specs.Gained.{Gains};
 ghost use Rattle.commands.specs.Promises.{is_failure, is_silent, now, NamesNoFile};
 
-use crate::debugger::debug_file;
 use crate::disassembly::disassemble_file;
 use crate::files::ending_after_line;
 use crate::listings::assemble_file;
@@ -18,6 +17,7 @@ use crate::loading::load_number;
 use crate::program::Program;
 use crate::run::run_file;
 use crate::sweeping::{Swept, sweep_file};
+use crate::two_files::{SecondFile, obey_files};
 use command_lines::{Line, line_of_words};
 use emu_outcome::Ending;
 use emu_report::put_words_refusal;
@@ -36,9 +36,10 @@ fn run_line<F: Images, I: Source, O: Sink, E: Sink>(
 ) -> Ending
     requires places { HasPlaces line.now (length words.now) }
     requires arguments { HasArguments (map string_bytes words.now) line.now }
-    ensures outcome { IfSome (F.named files.old) (λ named. MeetsLine (Ok line.now) (outcome_over (map string_bytes words.now) line.now named) result
+    requires limit { HasLimit line.now }
+    ensures outcome { IfSome (F.named files.old) (λ named. MeetsLine (map string_bytes words.now) named (Ok line.now) (outcome_over (map string_bytes words.now) line.now named) result
         (now (I.left input.old) (O.held output.old) (E.held errors.old)) (now (I.left input.new) (O.held output.new) (E.held errors.new))) }
-    ensures without_input { takes_input (Ok line.now) ≡ false → (input : Option (List ℕ)) → IfSome (F.named files.old) (λ named. MeetsLine (Ok line.now) (outcome_over (map string_bytes words.now) line.now named) result
+    ensures without_input { takes_input (Ok line.now) ≡ false → (input : Option (List ℕ)) → IfSome (F.named files.old) (λ named. MeetsLine (map string_bytes words.now) named (Ok line.now) (outcome_over (map string_bytes words.now) line.now named) result
         (now input (O.held output.old) (E.held errors.old)) (now input (O.held output.new) (E.held errors.new))) }
     ensures file_cause { result ≡ Ending.FileFault → Rose (F.faults files.old) (F.faults files.new)
         ⊎ NamesNoFile (outcome_over (map string_bytes words.now) line.now) (F.named files.old) }
@@ -47,7 +48,8 @@ fn run_line<F: Images, I: Source, O: Sink, E: Sink>(
     ensures missing_first { MissesFirst (map string_bytes words.now) (Ok line.now) (F.named files.old) → result ≡ Ending.FileFault }
     ensures file_first { result ≡ Ending.FileFault → (input.new ≡ input.old) × (output.new ≡ output.old) × (errors.new ≡ errors.old) }
     ensures files_later { F.faults files.old ≤ F.faults files.new }
-    ensures memory_first { sweeps (Ok line.now) ≡ false → result ≡ Ending.OutOfMemory → (input.new ≡ input.old) × (output.new ≡ output.old) × (errors.new ≡ errors.old) }
+    ensures memory_first { TakesLast (map string_bytes words.now) (Ok line.now) (F.named files.old) → result ≡ Ending.OutOfMemory → input.new ≡ input.old }
+    ensures memory_unwritten { sweeps (Ok line.now) ≡ false → result ≡ Ending.OutOfMemory → (output.new ≡ output.old) × (errors.new ≡ errors.old) }
     ensures read_cause { Causes (result ≡ Ending.ReadFault) (I.faults input.old) (I.faults input.new) }
     ensures write_cause { Causes (result ≡ Ending.WriteFault) (O.faults output.old) (O.faults output.new) }
     ensures errors_cause { Causes (result ≡ Ending.ErrorsFault) (E.faults errors.old) (E.faults errors.new) }
@@ -78,8 +80,9 @@ fn run_line<F: Images, I: Source, O: Sink, E: Sink>(
             pages,
         } => {
             let debugged = Program::new(file, args, length, budget, pages);
-            debug_file(
-                alloc, words, &debugged, script, files, input, output, errors,
+            let second = SecondFile::Script;
+            obey_files(
+                alloc, words, &debugged, second, script, files, input, output, errors,
             )
         }
         Line::Load { number } => load_number(alloc, number, output, errors),
@@ -91,6 +94,20 @@ fn run_line<F: Images, I: Source, O: Sink, E: Sink>(
         } => {
             let swept = Swept::new(file, args, budget, pages);
             sweep_file(alloc, words, &swept, files, input, output, errors)
+        }
+        Line::Threads {
+            file,
+            schedule,
+            args,
+            length,
+            budget,
+            pages,
+        } => {
+            let threaded = Program::new(file, args, length, budget, pages);
+            let second = SecondFile::Schedule;
+            obey_files(
+                alloc, words, &threaded, second, schedule, files, input, output, errors,
+            )
         }
     }
 }
@@ -104,9 +121,9 @@ pub fn command<F: Images, I: Source, O: Sink, E: Sink>(
     output: &mut O,
     errors: &mut E,
 ) -> Ending
-    ensures outcome { IfSome (F.named files.old) (λ named. MeetsLine (line (map string_bytes words.now)) (result_of (map string_bytes words.now) named) result
+    ensures outcome { IfSome (F.named files.old) (λ named. MeetsLine (map string_bytes words.now) named (line (map string_bytes words.now)) (result_of (map string_bytes words.now) named) result
         (now (I.left input.old) (O.held output.old) (E.held errors.old)) (now (I.left input.new) (O.held output.new) (E.held errors.new))) }
-    ensures without_input { takes_input (line (map string_bytes words.now)) ≡ false → (input : Option (List ℕ)) → IfSome (F.named files.old) (λ named. MeetsLine (line (map string_bytes words.now)) (result_of (map string_bytes words.now) named) result
+    ensures without_input { takes_input (line (map string_bytes words.now)) ≡ false → (input : Option (List ℕ)) → IfSome (F.named files.old) (λ named. MeetsLine (map string_bytes words.now) named (line (map string_bytes words.now)) (result_of (map string_bytes words.now) named) result
         (now input (O.held output.old) (E.held errors.old)) (now input (O.held output.new) (E.held errors.new))) }
     ensures file_cause { result ≡ Ending.FileFault → Rose (F.faults files.old) (F.faults files.new)
         ⊎ NamesNoFile (result_of (map string_bytes words.now)) (F.named files.old) }
@@ -115,7 +132,8 @@ pub fn command<F: Images, I: Source, O: Sink, E: Sink>(
     ensures missing_first { MissesFirst (map string_bytes words.now) (line (map string_bytes words.now)) (F.named files.old) → result ≡ Ending.FileFault }
     ensures file_first { result ≡ Ending.FileFault → (input.new ≡ input.old) × (output.new ≡ output.old) × (errors.new ≡ errors.old) }
     ensures files_later { F.faults files.old ≤ F.faults files.new }
-    ensures memory_first { sweeps (line (map string_bytes words.now)) ≡ false → result ≡ Ending.OutOfMemory → (input.new ≡ input.old) × (output.new ≡ output.old) × (errors.new ≡ errors.old) }
+    ensures memory_first { TakesLast (map string_bytes words.now) (line (map string_bytes words.now)) (F.named files.old) → result ≡ Ending.OutOfMemory → input.new ≡ input.old }
+    ensures memory_unwritten { sweeps (line (map string_bytes words.now)) ≡ false → result ≡ Ending.OutOfMemory → (output.new ≡ output.old) × (errors.new ≡ errors.old) }
     ensures read_cause { Causes (result ≡ Ending.ReadFault) (I.faults input.old) (I.faults input.new) }
     ensures write_cause { Causes (result ≡ Ending.WriteFault) (O.faults output.old) (O.faults output.new) }
     ensures errors_cause { Causes (result ≡ Ending.ErrorsFault) (E.faults errors.old) (E.faults errors.new) }

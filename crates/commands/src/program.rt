@@ -1,10 +1,12 @@
 //! The program that a line names, and its machine before the first step.
 ghost use Rattle.std.specs.Prelude.{◌≡◌, ◌<◌, ◌≤◌, [], map, length, string_bytes, IfOk, false};
+ghost use Rattle.emu_model.specs.Access.{fresh_marks};
+ghost use Rattle.mark_laws.specs.Marked.{parts_with};
 ghost use Rattle.elf_image.specs.Images.{seen_image};
 ghost use Rattle.elf_image.specs.Loadable.{IsLoadable};
 ghost use Rattle.emu_system.specs.Arguments.{AreArguments};
 ghost use Rattle.emu_system.specs.Start.{opening};
-ghost use Rattle.commands.specs.Programs.{arguments_of};
+ghost use Rattle.commands.specs.Programs.{arguments_of, opening_of};
 
 use crate::arguments::arguments;
 use elf_image::Image;
@@ -58,4 +60,25 @@ pub fn open_machine(
 {
     let args = arguments(alloc, words, program.file, program.args)?;
     Machine::open(alloc, bytes, image, &args, program.length, program.pages)
+}
+
+/// The same machine with marks, which are none, for a session that goes back. Err is want of memory.
+pub fn open_marked(
+    alloc: Global,
+    bytes: &[u8],
+    image: &Image,
+    words: &[String],
+    program: &Program,
+) -> Result<Machine, AllocError>
+    requires loadable { IsLoadable bytes.now program.now.pages (seen_image image.now) }
+    requires file { program.now.file < program.now.args }
+    requires args { program.now.args ≤ length words.now }
+    requires arguments { AreArguments (arguments_of (map string_bytes words.now) program.now) }
+    requires pages { program.now.pages ≤ 1048576 }
+    ensures parts { IfOk result (λ m. m.parts ≡ parts_with (opening_of bytes.now (seen_image image.now) (map string_bytes words.now) program.now) (fresh_marks program.now.pages)) }
+    ensures places { IfOk result (λ m. length m.saved ≡ 16) }
+    ensures failed { IfOk result (λ m. m.failed ≡ false) }
+{
+    let args = arguments(alloc, words, program.file, program.args)?;
+    Machine::open_marked(alloc, bytes, image, &args, program.length, program.pages)
 }

@@ -6,6 +6,7 @@ use command_model::WordsFault;
 use dbg_model::ScriptFault;
 use emu_model::Trap;
 use emu_system::ElfFault;
+use guest_schedule::ScheduleFault;
 use listing_model::ListingFault;
 
 /// How a command ended.
@@ -17,6 +18,8 @@ pub enum Ending {
     Trap(Trap, u64),
     /// The step budget was spent.
     Spent,
+    /// No context of the program was ready.
+    Stuck,
     /// `asm`, `dis`, `dbg`, `load` or `sweep` came to its end.
     Done,
     /// The command line was refused.
@@ -27,7 +30,10 @@ pub enum Ending {
     ListingRefused(ListingFault),
     /// The script was refused.
     ScriptRefused(ScriptFault),
-    /// A file is longer than this many bytes; or, of `sweep`, the input, or the output or the errors of a run are.
+    /// The schedule was refused.
+    ScheduleRefused(ScheduleFault),
+    /// A file is longer than this many bytes; or, of `sweep` and of a session that goes back, the input is, or, of `sweep`, the output
+    /// or the errors of a run are.
     TooLong(u64),
     /// A file couldn't be read, or there is none of its name.
     FileFault,
@@ -43,7 +49,7 @@ pub enum Ending {
 
 impl Ending {
     /// The status of the process: the program's own, 128 plus the signal of a trap, 0 where `asm`, `dis`, `dbg`, `load` or `sweep`
-    /// came to its end, or one from 120 to 127.
+    /// came to its end, or one from 119 to 127.
     pub fn status(&self) -> u8
         ensures { result ≡ status_of self.now }
     {
@@ -52,8 +58,10 @@ impl Ending {
             Ending::Trap(trap, _) => 128 + trap.signal(),
             Ending::Done => 0,
             Ending::Spent => 123,
+            Ending::Stuck => 119,
             Ending::WordsRefused(_) => 121,
-            Ending::ImageRefused(_) | Ending::ListingRefused(_) | Ending::ScriptRefused(_) => 122,
+            Ending::ImageRefused(_) | Ending::ListingRefused(_) => 122,
+            Ending::ScriptRefused(_) | Ending::ScheduleRefused(_) => 122,
             Ending::TooLong(_) => 127,
             Ending::FileFault => 126,
             Ending::ReadFault => 124,

@@ -1,6 +1,7 @@
-//! The line of a run's ending.
+//! The line of a run's ending, of a machine or of a world of contexts.
 ghost use Rattle.std.specs.Prelude.{◌≡◌, ◌≤◌, ◌+◌, ◌++◌, length};
 ghost use Rattle.io_gate.specs.Streams.{HasCause, PutsAll};
+ghost use Rattle.command_model.specs.WorldReports.{stuck_line};
 ghost use Rattle.emu_run.specs.Reports.{address_text, after_steps, exit_line, exit_text, spent_line, spent_text, trap_line, trap_text};
 
 use crate::names::trap_name;
@@ -38,6 +39,17 @@ pub fn put_spent<S: Sink>(steps: u64, sink: &mut S) -> Result<(), Failed>
 {
     let mut text = Text::new();
     push_spent(&mut text);
+    push_after_steps(&mut text, steps);
+    text.put(sink)
+}
+
+/// Puts the line of a program of which no context is ready, as `stuck after 6 steps`.
+pub fn put_stuck<S: Sink>(steps: u64, sink: &mut S) -> Result<(), Failed>
+    ensures bytes { PutsAll (S.held sink.old) (S.held sink.new) (stuck_line steps) result }
+    ensures cause { HasCause (S.faults sink.old) (S.faults sink.new) result }
+{
+    let mut text = Text::new();
+    text.push(b"stuck");
     push_after_steps(&mut text, steps);
     text.put(sink)
 }

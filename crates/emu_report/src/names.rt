@@ -1,12 +1,13 @@
 //! The names of traps and of refusals as they are printed.
 ghost use Rattle.std.specs.Prelude.{◌≡◌, ◌≤◌, length};
 ghost use Rattle.emu_run.specs.Reports.{trap_name};
-ghost use Rattle.command_model.specs.Refusals.{fault_index, fault_name, listing_name, script_name, words_name};
+ghost use Rattle.command_model.specs.Refusals.{fault_index, fault_name, listing_name, schedule_name, script_name, words_name};
 
 use command_model::WordsWhy;
 use dbg_model::ScriptWhy;
 use emu_model::TrapKind;
 use emu_system::ElfFault;
+use guest_schedule::ScheduleWhy;
 use listing_model::ListingWhy;
 
 /// A trap's kind.
@@ -131,5 +132,21 @@ pub fn script_name(why: ScriptWhy) -> &'static str
         ScriptWhy::OutOfRange => "OutOfRange",
         ScriptWhy::ExtraWord => "ExtraWord",
         ScriptWhy::TooMany => "TooMany",
+    }
+}
+
+/// Why a schedule is refused.
+pub fn schedule_name(why: ScheduleWhy) -> &'static str
+    ensures name { result.now ≡ schedule_name why }
+    ensures short { length result.now ≤ 17 }
+{
+    match why {
+        ScheduleWhy::NotUtf8 => "NotUtf8",
+        ScheduleWhy::TooManyLines => "TooManyLines",
+        ScheduleWhy::MissingWord => "MissingWord",
+        ScheduleWhy::BadNumber => "BadNumber",
+        ScheduleWhy::OutOfRange => "OutOfRange",
+        ScheduleWhy::ExtraWord => "ExtraWord",
+        ScheduleWhy::NoTurn => "NoTurn",
     }
 }

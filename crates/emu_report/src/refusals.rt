@@ -2,13 +2,14 @@
 ghost use Rattle.std.specs.Prelude.{◌≡◌, ◌≤◌, ◌+◌, ◌++◌, length};
 ghost use Rattle.io_gate.specs.Streams.{HasCause, PutsAll};
 ghost use Rattle.emu_run.specs.Text.{newline};
-ghost use Rattle.command_model.specs.Refusals.{at_index, at_line, at_place, image_line, listing_line, script_line, too_long_line, words_line};
+ghost use Rattle.command_model.specs.Refusals.{at_index, at_line, at_place, image_line, listing_line, schedule_line, script_line, too_long_line, words_line};
 
-use crate::names::{fault_index, fault_name, listing_name, script_name, words_name};
+use crate::names::{fault_index, fault_name, listing_name, schedule_name, script_name, words_name};
 use crate::text::Text;
 use command_model::WordsFault;
 use dbg_model::ScriptFault;
 use emu_system::ElfFault;
+use guest_schedule::ScheduleFault;
 use io_gate::{Failed, Sink};
 use listing_model::ListingFault;
 
@@ -58,6 +59,18 @@ pub fn put_script_refusal<S: Sink>(f: &ScriptFault, sink: &mut S) -> Result<(), 
     let mut text = Text::new();
     text.push(b"refused script ");
     text.push(script_name(f.why).as_bytes());
+    push_line_number(&mut text, f.line);
+    text.put(sink)
+}
+
+/// Puts the line of a refused schedule, as `refused schedule NoTurn at line 0`.
+pub fn put_schedule_refusal<S: Sink>(f: &ScheduleFault, sink: &mut S) -> Result<(), Failed>
+    ensures bytes { PutsAll (S.held sink.old) (S.held sink.new) (schedule_line f.now) result }
+    ensures cause { HasCause (S.faults sink.old) (S.faults sink.new) result }
+{
+    let mut text = Text::new();
+    text.push(b"refused schedule ");
+    text.push(schedule_name(f.why).as_bytes());
     push_line_number(&mut text, f.line);
     text.put(sink)
 }

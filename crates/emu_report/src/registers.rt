@@ -1,6 +1,7 @@
 //! The lines of the registers.
 ghost use Rattle.std.specs.Prelude.{◌≡◌, ◌<◌, ◌≤◌, ◌+◌, ◌*◌, ◌++◌, length, codes, get_or};
 ghost use Rattle.std.specs.Fmt.{decimal};
+ghost use Rattle.command_model.specs.WorldReports.{context_lines, thread_line};
 ghost use Rattle.emu_bits.specs.Fields.{bit};
 ghost use Rattle.emu_run.specs.Text.{hex, space, newline};
 ghost use Rattle.emu_run.specs.Registers.{bit_digits, flag_digits, lines_of, numbered, register_line, scalar_lines, vector_lines, word_line};
@@ -31,6 +32,26 @@ pub fn put_registers<S: Sink>(core: &Core, vec: &VecRegs, sink: &mut S) -> Resul
 {
     put_scalars(core, vec, sink)?;
     put_vectors(vec, sink)
+}
+
+/// Puts the lines of all registers of context `k`, behind one of its number, as `thread 1`.
+pub fn put_context<S: Sink>(k: u32, core: &Core, vec: &VecRegs, sink: &mut S) -> Result<(), Failed>
+    ensures bytes { PutsAll (S.held sink.old) (S.held sink.new) (context_lines k core.now vec.now) result }
+    ensures cause { HasCause (S.faults sink.old) (S.faults sink.new) result }
+{
+    put_thread(k, sink)?;
+    put_registers(core, vec, sink)
+}
+
+/// Puts the line of a context's number.
+fn put_thread<S: Sink>(k: u32, sink: &mut S) -> Result<(), Failed>
+    ensures bytes { PutsAll (S.held sink.old) (S.held sink.new) (thread_line k) result }
+    ensures cause { HasCause (S.faults sink.old) (S.faults sink.new) result }
+{
+    let mut text = Text::new();
+    push_name(&mut text, b"thread ", k);
+    text.push(b"\n");
+    text.put(sink)
 }
 
 /// Puts the lines of the scalar registers: `x0` to `x30`, `sp`, `pc`, `nzcv`, `tpidr`, and of the vector length in bits, `vl`.

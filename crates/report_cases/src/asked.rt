@@ -1,12 +1,15 @@
 //! The lines of endings and of refusals that are asked for.
-use crate::names::{image_fault, listing_why, script_why, segment_fault, trap_kind, words_why};
+use crate::names::{
+    image_fault, listing_why, schedule_why, script_why, segment_fault, trap_kind, words_why,
+};
 use command_model::WordsFault;
 use dbg_model::ScriptFault;
 use emu_model::Trap;
 use emu_report::{
-    put_exit, put_image_refusal, put_listing_refusal, put_script_refusal, put_spent, put_too_long,
-    put_trap, put_words_refusal,
+    put_exit, put_image_refusal, put_listing_refusal, put_schedule_refusal, put_script_refusal,
+    put_spent, put_stuck, put_too_long, put_trap, put_words_refusal,
 };
+use guest_schedule::ScheduleFault;
 use io_gate::{Sink, put_all};
 use listing_model::ListingFault;
 
@@ -36,6 +39,7 @@ pub fn line_of<S: Sink>(name: &str, rest: &str, sink: &mut S) -> Option<bool> {
     let done = match name {
         "exit" => put_exit(u8::try_from(number(first)?).ok()?, number(more)?, sink),
         "spent" => put_spent(number(first)?, sink),
+        "stuck" => put_stuck(number(first)?, sink),
         "too-long" => put_too_long(number(first)?, sink),
         "trap" => {
             let [address, pc, steps] = numbers(more)?;
@@ -79,6 +83,10 @@ fn refusal<S: Sink>(name: &str, why: &str, more: &str, sink: &mut S) -> Option<b
         "script" => {
             let why = script_why(why)?;
             put_script_refusal(&ScriptFault { line, why }, sink)
+        }
+        "schedule" => {
+            let why = schedule_why(why)?;
+            put_schedule_refusal(&ScheduleFault { line, why }, sink)
         }
         _ => return None,
     };

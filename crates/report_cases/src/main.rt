@@ -3,8 +3,9 @@
 //! A line has words with a space between them. A number is decimal, or hexadecimal behind `0x`. An empty line and one that begins with `#` are
 //! left out:
 //!
-//! - `exit CODE STEPS`, `trap KIND ADDRESS PC STEPS`, `spent STEPS`, and `too-long LIMIT`;
-//! - `words WHY PLACE`, `image FAULT`, `segment FAULT INDEX`, `listing WHY LINE` and `script WHY LINE`, refusals by the names of their types;
+//! - `exit CODE STEPS`, `trap KIND ADDRESS PC STEPS`, `spent STEPS`, `stuck STEPS`, and `too-long LIMIT`;
+//! - `words WHY PLACE`, `image FAULT`, `segment FAULT INDEX`, `listing WHY LINE`, `script WHY LINE` and `schedule WHY LINE`, refusals by the names of
+//!   their types;
 //! - `signal KIND`: the number of a trap's signal;
 //! - `registers BITS ITEM ..` and `scalars BITS ITEM ..`: those of a vector length, all 0 but the items, `NAME=DIGITS` in hexadecimal, of which a
 //!   register has 32 at most, and NZCV four binary ones;

@@ -3,6 +3,7 @@ use command_model::WordsWhy;
 use dbg_model::ScriptWhy;
 use emu_model::TrapKind;
 use emu_system::ElfFault;
+use guest_schedule::ScheduleWhy;
 use listing_model::ListingWhy;
 
 /// A trap's kind.
@@ -108,6 +109,20 @@ pub fn script_why(name: &str) -> Option<ScriptWhy> {
         "OutOfRange" => ScriptWhy::OutOfRange,
         "ExtraWord" => ScriptWhy::ExtraWord,
         "TooMany" => ScriptWhy::TooMany,
+        _ => return None,
+    })
+}
+
+/// Why a schedule is refused.
+pub fn schedule_why(name: &str) -> Option<ScheduleWhy> {
+    Some(match name {
+        "NotUtf8" => ScheduleWhy::NotUtf8,
+        "TooManyLines" => ScheduleWhy::TooManyLines,
+        "MissingWord" => ScheduleWhy::MissingWord,
+        "BadNumber" => ScheduleWhy::BadNumber,
+        "OutOfRange" => ScheduleWhy::OutOfRange,
+        "ExtraWord" => ScheduleWhy::ExtraWord,
+        "NoTurn" => ScheduleWhy::NoTurn,
         _ => return None,
     })
 }

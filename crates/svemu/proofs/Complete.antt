@@ -1,45 +1,18 @@
 -- What a line promises where its input told its bytes, and where it rests on none; and that the program is complete.
-use Rattle.std.proofs.Common.{◌≡◌, ◌⊎◌, inl, inr, ℕ, Bool, true, false, List, Option, Some, None, Result, Ok, Err, IfSome, MatchBool, cond, nat_eq, arith, refl, sym, ap, subst, ◌∙◌}
+use Rattle.std.proofs.Common.{◌≡◌, ◌⊎◌, inl, inr, ℕ, Bool, true, false, List, Option, Some, None, Result, IfSome, MatchBool, refl, sym, ap, subst, ◌∙◌}
 use Rattle.io_gate.specs.Streams.{Rose}
-use Rattle.std.proofs.lemmas.Bool.Decides.{nat_tests}
-use Rattle.sweep_model.specs.Sweep.{stream_limit}
-use Rattle.emu_outcome.specs.Outcome.{Outcome, Files, file_limit, result_of}
+use Rattle.emu_outcome.specs.Outcome.{Outcome, Files, result_of}
 use Rattle.emu_outcome.specs.declared.ending.Ending.{Ending}
-use Rattle.emu_outcome.specs.declared.ending.Ending.TheVariants.{Exit, Trap, Spent, Done, WordsRefused, ImageRefused, ListingRefused, ScriptRefused, TooLong, FileFault, ReadFault, WriteFault, ErrorsFault, OutOfMemory}
+use Rattle.emu_outcome.specs.declared.ending.Ending.TheVariants.{FileFault, ReadFault, WriteFault, ErrorsFault, OutOfMemory}
 use Rattle.command_model.specs.declared.command_line.Line.{Line}
-use Rattle.command_model.specs.declared.command_line.Line.TheVariants.{Run, Asm, Dis, Dbg, Load, Sweep}
 use Rattle.command_model.specs.declared.command_line.WordsFault.{WordsFault}
-use Rattle.commands.specs.Lines.{takes_input, IsOutcome, MeetsLine, SettlesLine}
+use Rattle.commands.specs.Lines.{reads_first, takes_input, IsOutcome, MeetsLine}
+use Rattle.commands.proofs.Settled.{rests_ends}
 use Rattle.emu_system.specs.Gained.{Gains}
-use Rattle.commands.specs.Promises.{is_failure, is_refusal, rests_on_none, settled_ending, output_of, errors_of, settled_sweep, now, CountsFor, EndsAs, NamesNoFile, Settles, SettlesSweep}
+use Rattle.commands.specs.Promises.{is_failure, rests_on_none, output_of, errors_of, now, CountsFor, EndsAs, NamesNoFile}
 use Rattle.svemu.specs.Headline.{Completes, IsQuiet}
 
 -- ---- for the input that was told, and for any where the line rests on none
-
--- a refusal isn't the end of a run
-refusal_is : (e : Ending) → is_refusal e ≡ true → settled_ending e ≡ Some e
-refusal_is (WordsRefused fault) is = refl
-refusal_is (TooLong limit) is = refl
-refusal_is (ImageRefused fault) is = refl
-refusal_is (ListingRefused fault) is = refl
-refusal_is (ScriptRefused fault) is = refl
-refusal_is e is = cc
-
-cond_some : (b : Bool) (e r : Ending) → cond b None (Some e) ≡ Some r → e ≡ r
-cond_some true e r is = cc
-cond_some false e r is = cc
-
-at_limit : (limit : ℕ) → nat_eq limit file_limit ≡ true → limit ≡ file_limit
-at_limit limit e = grind (arith, nat_tests)
-
--- nor is it that of a sweep that read its input
-refusal_swept : (e : Ending) → is_refusal e ≡ true → settled_sweep e ≡ Some e
-refusal_swept (WordsRefused fault) is = refl
-refusal_swept (TooLong limit) is = subst (λ (n : ℕ). settled_sweep (TooLong n) ≡ Some (TooLong n)) (sym (at_limit limit is)) refl
-refusal_swept (ImageRefused fault) is = refl
-refusal_swept (ListingRefused fault) is = refl
-refusal_swept (ScriptRefused fault) is = refl
-refusal_swept e is = cc
 
 is_of : (o : Option Outcome) (bytes : List ℕ) → CountsFor (Some bytes) o bytes
 is_of o bytes = elim (rests_on_none o) as (λ b. MatchBool b (Unit {0}) (Some bytes ≡ Some bytes)) [ true ↦ record {} | false ↦ refl ]
@@ -51,37 +24,7 @@ module _ (words : List (List ℕ)) (result : Ending) (o0 e0 o1 e1 : Option (List
     pub output : IfSome o0 (λ had. Gains (is_failure result) o1 had (output_of (result_of words files bytes)))
     pub errors : IfSome e0 (λ had. Gains (is_failure result) e1 had (errors_of (result_of words files bytes)))
 
-  -- an ending that isn't a run's is the outcome's
-  ends_so : (e r : Ending) → settled_ending e ≡ Some r → e ≡ r
-  ends_so (Exit code) r is = cc
-  ends_so (Trap trap pc) r is = cc
-  ends_so Spent r is = cc
-  ends_so e r is = cc
-
-  rests_ends : (o : Option Outcome) → rests_on_none o ≡ true → Settles o result → EndsAs o result
-  rests_ends None none settles = settles
-  rests_ends (Some outcome) none settles = ends_so result outcome.ending (settles ∙ refusal_is outcome.ending none)
-
-  swept_so : (e r : Ending) → settled_sweep e ≡ Some r → e ≡ r
-  swept_so Done r is = cc
-  swept_so (TooLong limit) r is = cond_some (nat_eq limit stream_limit) (TooLong limit) r is
-  swept_so e r is = cc
-
-  rests_swept : (o : Option Outcome) → rests_on_none o ≡ true → SettlesSweep o result → EndsAs o result
-  rests_swept None none settles = settles
-  rests_swept (Some outcome) none settles = swept_so result outcome.ending (settles ∙ refusal_swept outcome.ending none)
-
-  -- an outcome that rests on no input is that of the line
-  rests_line : (l : Result Line WordsFault) (o : Option Outcome) → rests_on_none o ≡ true → SettlesLine l o result → EndsAs o result
-  rests_line (Ok (Run file args bits budget pages)) o none settles = rests_ends o none settles
-  rests_line (Ok (Asm listing)) o none settles = rests_ends o none settles
-  rests_line (Ok (Dis file)) o none settles = rests_ends o none settles
-  rests_line (Ok (Dbg file script args bits budget pages)) o none settles = rests_ends o none settles
-  rests_line (Ok (Load number)) o none settles = rests_ends o none settles
-  rests_line (Ok (Sweep file args budget pages)) o none settles = rests_swept o none settles
-  rests_line (Err fault) o none settles = rests_ends o none settles
-
-  meets_told : (l : Result Line WordsFault) (files : Files) (bytes : List ℕ) (left : Option (List ℕ)) → MeetsLine l (result_of words files) result (now (Some bytes) o0 e0) (now left o1 e1) → MeetsFor files bytes
+  meets_told : (l : Result Line WordsFault) (files : Files) (bytes : List ℕ) (left : Option (List ℕ)) → MeetsLine words files l (result_of words files) result (now (Some bytes) o0 e0) (now left o1 e1) → MeetsFor files bytes
   meets_told l files bytes left m = record {
     ends = m.ends;
     output = m.output bytes (is_of (result_of words files bytes) bytes);
@@ -89,26 +32,26 @@ module _ (words : List (List ℕ)) (result : Ending) (o0 e0 o1 e1 : Option (List
   }
 
   meets_resting : (l : Result Line WordsFault) (files : Files) (bytes : List ℕ) (old left : Option (List ℕ)) → rests_on_none (result_of words files bytes) ≡ true
-      → MeetsLine l (result_of words files) result (now old o0 e0) (now left o1 e1) → MeetsFor files bytes
+      → MeetsLine words files l (result_of words files) result (now old o0 e0) (now left o1 e1) → MeetsFor files bytes
   meets_resting l files bytes old left none m =
       let of : CountsFor old (result_of words files bytes) bytes = subst (λ (b : Bool). MatchBool b (Unit {0}) (old ≡ Some bytes)) (sym none) (record {}) in
       record {
-        ends = λ fine. rests_line l (result_of words files bytes) none (m.settled fine bytes);
+        ends = λ fine. rests_ends (reads_first words files l) (result_of words files bytes) result none (m.settled fine bytes);
         output = m.output bytes of;
         errors = m.errors bytes of;
       }
 
   meets_machine : (l : Result Line WordsFault) (files : Files) (bytes : List ℕ) (old left : Option (List ℕ)) → CountsFor old (result_of words files bytes) bytes
-      → MeetsLine l (result_of words files) result (now old o0 e0) (now left o1 e1) → MeetsFor files bytes
+      → MeetsLine words files l (result_of words files) result (now old o0 e0) (now left o1 e1) → MeetsFor files bytes
   meets_machine l files bytes old left of m =
       elim (rests_on_none (result_of words files bytes)) as (λ b. rests_on_none (result_of words files bytes) ≡ b → MatchBool b (Unit {0}) (old ≡ Some bytes) → MeetsFor files bytes) [
         | true ↦ λ none _. meets_resting l files bytes old left none m
-        | false ↦ λ _ told. meets_told l files bytes left (subst (λ (t : Option (List ℕ)). MeetsLine l (result_of words files) result (now t o0 e0) (now left o1 e1)) told m)
+        | false ↦ λ _ told. meets_told l files bytes left (subst (λ (t : Option (List ℕ)). MeetsLine words files l (result_of words files) result (now t o0 e0) (now left o1 e1)) told m)
       ] refl of
 
   pub meets_for : (named : Option Files) (l : Result Line WordsFault) (told left : Option (List ℕ))
-      → IfSome named (λ files. MeetsLine l (result_of words files) result (now told o0 e0) (now left o1 e1))
-      → (takes_input l ≡ false → (input : Option (List ℕ)) → IfSome named (λ files. MeetsLine l (result_of words files) result (now input o0 e0) (now input o1 e1)))
+      → IfSome named (λ files. MeetsLine words files l (result_of words files) result (now told o0 e0) (now left o1 e1))
+      → (takes_input l ≡ false → (input : Option (List ℕ)) → IfSome named (λ files. MeetsLine words files l (result_of words files) result (now input o0 e0) (now input o1 e1)))
       → IfSome named (λ files. (bytes : List ℕ) → IsOutcome l told (result_of words files bytes) bytes → MeetsFor files bytes)
   meets_for None l told left meets without = tt
   meets_for (Some files) l told left meets without = λ bytes of.

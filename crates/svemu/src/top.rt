@@ -4,7 +4,7 @@ ghost use Rattle.io_gate.specs.Streams.{Rose, Causes};
 ghost use Rattle.command_model.specs.CommandLine.{line};
 ghost use Rattle.command_model.specs.Refusals.{words_line};
 ghost use Rattle.emu_outcome.specs.Outcome.{result_of};
-ghost use Rattle.commands.specs.Lines.{takes_input, names_file, may_end, sweeps, IsOutcome, RefusesLine, SettlesLine, MissesFirst, EndsMissing};
+ghost use Rattle.commands.specs.Lines.{takes_input, names_file, may_end, sweeps, IsOutcome, RefusesLine, SettlesLine, MissesFirst, EndsMissing, TakesLast};
 ghost use Rattle.emu_system.specs.Gained.{Gains};
 ghost use Rattle.commands.specs.Promises.{is_failure, is_silent, output_of, errors_of, taken_of, EndsAs, Loses, NamesNoFile};
 ghost use Rattle.svemu.specs.Headline.{IsQuiet, Completes};
@@ -16,7 +16,7 @@ use std::alloc::Global;
 
 /// Does what the words of the command line say: `words` are those after the program's name, `files` has the files that they
 /// name, and the guest reads `input` and writes to `output` and `errors`. A session's lines, the executable of a listing, the text of
-/// instructions and the lines of `load` and of a sweep go to `output`. How a run ended, with its registers, and why a command was refused is put on `errors`.
+/// instructions and the lines of `load` and of a sweep go to `output`. How a run ended, with its registers or those of its contexts, and why a command was refused is put on `errors`.
 ///
 /// Unless a file or a stream failed or memory was wanting, the ending and all that is written are those of the definitions' result. That is
 /// said where the files tell their bytes, and the input too where a machine is run; of what a sink gained where it tells its own. Each fault
@@ -29,12 +29,12 @@ pub fn svemu<F: Images, I: Source, O: Sink, E: Sink>(
     output: &mut O,
     errors: &mut E,
 ) -> Ending
-    // The ending is that of the command's result; and one that isn't the end of a run, or of a sweep that read its input, is so whatever
-    // the input has or tells.
+    // The ending is that of the command's result; and one that isn't the end of a run, or of a sweep or a session that read its input
+    // first, is so whatever the input has or tells.
     ensures ending { IfSome (F.named files.old) (λ named. (bytes : List ℕ) → IsOutcome (line (map string_bytes words.now)) (I.left input.old) (result_of (map string_bytes words.now) named bytes) bytes
         → is_failure result ≡ false → EndsAs (result_of (map string_bytes words.now) named bytes) result) }
     ensures settled { IfSome (F.named files.old) (λ named. is_failure result ≡ false → (bytes : List ℕ)
-        → SettlesLine (line (map string_bytes words.now)) (result_of (map string_bytes words.now) named bytes) result) }
+        → SettlesLine (map string_bytes words.now) named (line (map string_bytes words.now)) (result_of (map string_bytes words.now) named bytes) result) }
 
     // The output and the errors gained just the bytes of the result, and the input lost just as many as it takes; after a failure they gained
     // first bytes of these, and it lost no more.
@@ -72,8 +72,10 @@ pub fn svemu<F: Images, I: Source, O: Sink, E: Sink>(
     ensures write_cause { Causes (result ≡ Ending.WriteFault) (O.faults output.old) (O.faults output.new) }
     ensures errors_cause { Causes (result ≡ Ending.ErrorsFault) (E.faults errors.old) (E.faults errors.new) }
 
-    // Where memory was wanting, nothing was moved, but under `sweep`, which may want it at each length.
-    ensures memory_first { sweeps (line (map string_bytes words.now)) ≡ false → result ≡ Ending.OutOfMemory → (input.new ≡ input.old) × (output.new ≡ output.old) × (errors.new ≡ errors.old) }
+    // Where memory was wanting, nothing was written, but under `sweep`, which may want it at each length; and nothing was taken, but by
+    // what reads its input first: a sweep, and a session whose script goes back.
+    ensures memory_first { TakesLast (map string_bytes words.now) (line (map string_bytes words.now)) (F.named files.old) → result ≡ Ending.OutOfMemory → input.new ≡ input.old }
+    ensures memory_unwritten { sweeps (line (map string_bytes words.now)) ≡ false → result ≡ Ending.OutOfMemory → (output.new ≡ output.old) × (errors.new ≡ errors.old) }
 
     // A line that runs no machine over the input takes none, and puts nothing on the errors but the line of a refusal.
     ensures no_input { takes_input (line (map string_bytes words.now)) ≡ false → (input.new ≡ input.old) × (result ≢ Ending.ReadFault) }

@@ -3,8 +3,8 @@ use Rattle.std.proofs.lemmas.List.{length-map}
 use Rattle.command_model.specs.declared.command_line.Line.{Line}
 use Rattle.command_model.specs.declared.command_line.WordsFault.{WordsFault}
 use Rattle.command_model.specs.CommandLine.{line_of_words}
-use Rattle.command_lines.specs.Places.{HasArguments, HasPlaces}
-use Rattle.command_lines.proofs.AcceptedLines.{arguments_fit, words_places}
+use Rattle.command_lines.specs.Places.{HasArguments, HasLimit, HasPlaces}
+use Rattle.command_lines.proofs.AcceptedLines.{arguments_fit, words_limit, words_places}
 use Rattle.command_lines.proofs.command_line.line_of_words.Goals as goal
 
 pub returns-clause-places : goal.returns-clause-places
@@ -19,3 +19,6 @@ returns-clause-arguments c =
     (arguments_fit ws (omega (arith, length-map c.args.words.now string_bytes))
     (sym c.in_default.is ∙ c.first_too_long.ensures.place) (sym c.in_default-first_with_zero.is ∙ c.first_with_zero.ensures.place)
     (line_of_words ws) (words_places ws))
+
+pub returns-clause-limit : goal.returns-clause-limit
+returns-clause-limit c = subst (λ (r : Result Line WordsFault). IfOk r HasLimit) (sym c.command_of_words.ensures) (words_limit (map string_bytes c.args.words.now))

@@ -7,7 +7,7 @@ use Rattle.emu_outcome.specs.Outcome.{outcome_of_line}
 use Rattle.emu_outcome.specs.declared.ending.Ending.TheVariants.{FileFault, ReadFault, OutOfMemory}
 use Rattle.emu_system.specs.Gained.{Gains}
 use Rattle.commands.specs.Promises.{now, NamesNoFile, is_failure, is_silent}
-use Rattle.commands.specs.Lines.{EndsMissing, MeetsLine, MissesFirst, may_end, names_file, takes_input, sweeps}
+use Rattle.commands.specs.Lines.{EndsMissing, MeetsLine, MissesFirst, TakesLast, may_end, names_file, takes_input, sweeps}
 use Rattle.commands.proofs.Lines.{refused_gains, refused_line, refused_names_none, refused_puts, done_refuses, line_refuses}
 use Rattle.commands.proofs.line.command.Goals as goal
 
@@ -52,13 +52,13 @@ returns-in-Err-clause-refused_errors g c =
 
 pub returns-in-Ok-clause-outcome : goal.returns-in-Ok-clause-outcome
 returns-in-Ok-clause-outcome g c =
-    subst (λ (r : Result Line WordsFault). IfSome (g.F.Images.named c.args.files.now) (λ files. MeetsLine r (λ input. outcome_of_line (map string_bytes c.args.words.now) files input r) c.run_line.result
+    subst (λ (r : Result Line WordsFault). IfSome (g.F.Images.named c.args.files.now) (λ files. MeetsLine (map string_bytes c.args.words.now) files r (λ input. outcome_of_line (map string_bytes c.args.words.now) files input r) c.run_line.result
     (now (g.I.Source.left c.args.input.now) (g.O.Sink.held c.args.output.now) (g.E.Sink.held c.args.errors.now)) (now (g.I.Source.left c.run_line.new.input) (g.O.Sink.held c.run_line.new.output) (g.E.Sink.held c.run_line.new.errors))))
     (sym c.in-Ok.is ∙ c.line_of_words-line.ensures.line) c.run_line.ensures.outcome
 
 pub returns-in-Ok-clause-without_input : goal.returns-in-Ok-clause-without_input
 returns-in-Ok-clause-without_input g c =
-    subst (λ (r : Result Line WordsFault). takes_input r ≡ false → (told : Option (List ℕ)) → IfSome (g.F.Images.named c.args.files.now) (λ files. MeetsLine r (λ input. outcome_of_line (map string_bytes c.args.words.now) files input r) c.run_line.result
+    subst (λ (r : Result Line WordsFault). takes_input r ≡ false → (told : Option (List ℕ)) → IfSome (g.F.Images.named c.args.files.now) (λ files. MeetsLine (map string_bytes c.args.words.now) files r (λ input. outcome_of_line (map string_bytes c.args.words.now) files input r) c.run_line.result
     (now told (g.O.Sink.held c.args.output.now) (g.E.Sink.held c.args.errors.now)) (now told (g.O.Sink.held c.run_line.new.output) (g.E.Sink.held c.run_line.new.errors))))
     (sym c.in-Ok.is ∙ c.line_of_words-line.ensures.line) c.run_line.ensures.without_input
 
@@ -105,5 +105,10 @@ returns-in-Ok-clause-refused_errors g c =
 
 pub returns-in-Ok-clause-memory_first : goal.returns-in-Ok-clause-memory_first
 returns-in-Ok-clause-memory_first g c =
-    subst (λ (r : Result Line WordsFault). sweeps r ≡ false → c.run_line.result ≡ OutOfMemory → (c.run_line.new.input ≡ c.args.input.now) × (c.run_line.new.output ≡ c.args.output.now) × (c.run_line.new.errors ≡ c.args.errors.now))
+    subst (λ (r : Result Line WordsFault). TakesLast (map string_bytes c.args.words.now) r (g.F.Images.named c.args.files.now) → c.run_line.result ≡ OutOfMemory → c.run_line.new.input ≡ c.args.input.now)
     (sym c.in-Ok.is ∙ c.line_of_words-line.ensures.line) c.run_line.ensures.memory_first
+
+pub returns-in-Ok-clause-memory_unwritten : goal.returns-in-Ok-clause-memory_unwritten
+returns-in-Ok-clause-memory_unwritten g c =
+    subst (λ (r : Result Line WordsFault). sweeps r ≡ false → c.run_line.result ≡ OutOfMemory → (c.run_line.new.output ≡ c.args.output.now) × (c.run_line.new.errors ≡ c.args.errors.now))
+    (sym c.in-Ok.is ∙ c.line_of_words-line.ensures.line) c.run_line.ensures.memory_unwritten

@@ -9,9 +9,9 @@ use Rattle.insn_texts.specs.Statements.{statements}
 use Rattle.listing_model.specs.Image.{image_of_bytes}
 use Rattle.commands.specs.Promises.{now, NamesNoFile}
 use Rattle.commands.specs.declared.program.Program.{Program}
-use Rattle.commands.specs.Programs.{outcome_over, debug_line_of, run_line_of, sweep_line_of}
+use Rattle.commands.specs.Programs.{outcome_over, debug_line_of, run_line_of, sweep_line_of, threads_line_of}
 use Rattle.commands.proofs.Lines.{cause_of_line, missing_of_line, names_none}
-use Rattle.commands.specs.Lines.{may_end, sweeps, EndsMissing, MeetsLine, MissesFirst}
+use Rattle.commands.specs.Lines.{may_end, sweeps, EndsMissing, MeetsLine, MissesFirst, TakesLast}
 use Rattle.commands.proofs.NamedFiles.{told_so}
 use Rattle.commands.proofs.line.run_line.Goals as goal
 
@@ -32,13 +32,13 @@ returns-in-Run-clause-missing g c =
 pub returns-in-Asm-clause-outcome : goal.returns-in-Asm-clause-outcome
 returns-in-Asm-clause-outcome g c =
     let ws = map string_bytes c.args.words.now in
-    subst (λ (l : Line). IfSome (g.F.Images.named c.args.files.now) (λ files. MeetsLine (Ok l) (outcome_over ws l files) c.assemble_file.result
+    subst (λ (l : Line). IfSome (g.F.Images.named c.args.files.now) (λ files. MeetsLine ws files (Ok l) (outcome_over ws l files) c.assemble_file.result
     (now (g.I.Source.left c.args.input.now) (g.O.Sink.held c.args.output.now) (g.E.Sink.held c.args.errors.now)) (now (g.I.Source.left c.args.input.now) (g.O.Sink.held c.assemble_file.new.output) (g.E.Sink.held c.assemble_file.new.errors))))
     (sym c.in-Asm.is) (c.assemble_file.ensures.outcome (g.I.Source.left c.args.input.now))
 
 pub returns-in-Asm-clause-without_input : goal.returns-in-Asm-clause-without_input
 returns-in-Asm-clause-without_input g c = λ _ input.
-    subst (λ (l : Line). IfSome (g.F.Images.named c.args.files.now) (λ files. MeetsLine (Ok l) (outcome_over (map string_bytes c.args.words.now) l files) c.assemble_file.result
+    subst (λ (l : Line). IfSome (g.F.Images.named c.args.files.now) (λ files. MeetsLine (map string_bytes c.args.words.now) files (Ok l) (outcome_over (map string_bytes c.args.words.now) l files) c.assemble_file.result
     (now input (g.O.Sink.held c.args.output.now) (g.E.Sink.held c.args.errors.now)) (now input (g.O.Sink.held c.assemble_file.new.output) (g.E.Sink.held c.assemble_file.new.errors))))
     (sym c.in-Asm.is) (c.assemble_file.ensures.outcome input)
 
@@ -55,13 +55,13 @@ returns-in-Asm-clause-missing g c =
 pub returns-in-Dis-clause-outcome : goal.returns-in-Dis-clause-outcome
 returns-in-Dis-clause-outcome g c =
     let ws = map string_bytes c.args.words.now in
-    subst (λ (l : Line). IfSome (g.F.Images.named c.args.files.now) (λ files. MeetsLine (Ok l) (outcome_over ws l files) c.disassemble_file.result
+    subst (λ (l : Line). IfSome (g.F.Images.named c.args.files.now) (λ files. MeetsLine ws files (Ok l) (outcome_over ws l files) c.disassemble_file.result
     (now (g.I.Source.left c.args.input.now) (g.O.Sink.held c.args.output.now) (g.E.Sink.held c.args.errors.now)) (now (g.I.Source.left c.args.input.now) (g.O.Sink.held c.disassemble_file.new.output) (g.E.Sink.held c.disassemble_file.new.errors))))
     (sym c.in-Dis.is) (c.disassemble_file.ensures.outcome (g.I.Source.left c.args.input.now))
 
 pub returns-in-Dis-clause-without_input : goal.returns-in-Dis-clause-without_input
 returns-in-Dis-clause-without_input g c = λ _ input.
-    subst (λ (l : Line). IfSome (g.F.Images.named c.args.files.now) (λ files. MeetsLine (Ok l) (outcome_over (map string_bytes c.args.words.now) l files) c.disassemble_file.result
+    subst (λ (l : Line). IfSome (g.F.Images.named c.args.files.now) (λ files. MeetsLine (map string_bytes c.args.words.now) files (Ok l) (outcome_over (map string_bytes c.args.words.now) l files) c.disassemble_file.result
     (now input (g.O.Sink.held c.args.output.now) (g.E.Sink.held c.args.errors.now)) (now input (g.O.Sink.held c.disassemble_file.new.output) (g.E.Sink.held c.disassemble_file.new.errors))))
     (sym c.in-Dis.is) (c.disassemble_file.ensures.outcome input)
 
@@ -86,18 +86,18 @@ returns-in-Dis-clause-kind g c = subst (λ (l : Line). may_end l c.disassemble_f
 
 pub returns-in-Dbg-clause-file_cause : goal.returns-in-Dbg-clause-file_cause
 returns-in-Dbg-clause-file_cause g c =
-    subst (λ (l : Line). c.debug_file.result ≡ FileFault → Rose (g.F.Images.faults c.args.files.now) (g.F.Images.faults c.debug_file.new.files) ⊎ NamesNoFile (outcome_over (map string_bytes c.args.words.now) l) (g.F.Images.named c.args.files.now))
-    (ap (λ (p : Program). debug_line_of p c.in-Dbg.script) c.new-debugged.ensures ∙ sym c.in-Dbg.is) c.debug_file.ensures.file_cause
+    subst (λ (l : Line). c.obey_files.result ≡ FileFault → Rose (g.F.Images.faults c.args.files.now) (g.F.Images.faults c.obey_files.new.files) ⊎ NamesNoFile (outcome_over (map string_bytes c.args.words.now) l) (g.F.Images.named c.args.files.now))
+    (ap (λ (p : Program). debug_line_of p c.in-Dbg.script) c.new-debugged.ensures ∙ sym c.in-Dbg.is) c.obey_files.ensures.file_cause
 
 pub returns-in-Dbg-clause-missing : goal.returns-in-Dbg-clause-missing
 returns-in-Dbg-clause-missing g c =
-    subst (λ (l : Line). NamesNoFile (outcome_over (map string_bytes c.args.words.now) l) (g.F.Images.named c.args.files.now) → EndsMissing (Ok l) c.debug_file.result)
-    (ap (λ (p : Program). debug_line_of p c.in-Dbg.script) c.new-debugged.ensures ∙ sym c.in-Dbg.is) c.debug_file.ensures.missing
+    subst (λ (l : Line). NamesNoFile (outcome_over (map string_bytes c.args.words.now) l) (g.F.Images.named c.args.files.now) → EndsMissing (Ok l) c.obey_files.result)
+    (ap (λ (p : Program). debug_line_of p c.in-Dbg.script) c.new-debugged.ensures ∙ sym c.in-Dbg.is) c.obey_files.ensures.missing
 
 pub returns-in-Dbg-clause-missing_first : goal.returns-in-Dbg-clause-missing_first
 returns-in-Dbg-clause-missing_first g c =
-    subst (λ (l : Line). MissesFirst (map string_bytes c.args.words.now) (Ok l) (g.F.Images.named c.args.files.now) → c.debug_file.result ≡ FileFault)
-    (ap (λ (p : Program). debug_line_of p c.in-Dbg.script) c.new-debugged.ensures ∙ sym c.in-Dbg.is) c.debug_file.ensures.missing_first
+    subst (λ (l : Line). MissesFirst (map string_bytes c.args.words.now) (Ok l) (g.F.Images.named c.args.files.now) → c.obey_files.result ≡ FileFault)
+    (ap (λ (p : Program). debug_line_of p c.in-Dbg.script) c.new-debugged.ensures ∙ sym c.in-Dbg.is) c.obey_files.ensures.missing_first
 
 pub returns-in-Run-clause-missing_first : goal.returns-in-Run-clause-missing_first
 returns-in-Run-clause-missing_first g c =
@@ -110,23 +110,23 @@ returns-in-Sweep-clause-missing_first g c =
     (ap sweep_line_of c.new-swept.ensures ∙ sym c.in-Sweep.is) c.sweep_file.ensures.missing
 
 pub returns-in-Dbg-clause-kind : goal.returns-in-Dbg-clause-kind
-returns-in-Dbg-clause-kind g c = subst (λ (l : Line). may_end l c.debug_file.result ≡ true) (sym c.in-Dbg.is) c.debug_file.ensures.kind
+returns-in-Dbg-clause-kind g c = subst (λ (l : Line). may_end l c.obey_files.result ≡ true) (sym c.in-Dbg.is) c.obey_files.ensures.kind
 
 pub returns-in-Run-clause-outcome : goal.returns-in-Run-clause-outcome
 returns-in-Run-clause-outcome g c =
-    subst (λ (l : Line). IfSome (g.F.Images.named c.args.files.now) (λ files. MeetsLine (Ok l) (outcome_over (map string_bytes c.args.words.now) l files) c.run_file.result
+    subst (λ (l : Line). IfSome (g.F.Images.named c.args.files.now) (λ files. MeetsLine (map string_bytes c.args.words.now) files (Ok l) (outcome_over (map string_bytes c.args.words.now) l files) c.run_file.result
     (now (g.I.Source.left c.args.input.now) (g.O.Sink.held c.args.output.now) (g.E.Sink.held c.args.errors.now)) (now (g.I.Source.left c.run_file.new.input) (g.O.Sink.held c.run_file.new.output) (g.E.Sink.held c.run_file.new.errors))))
     (ap run_line_of c.new-program.ensures ∙ sym c.in-Run.is) c.run_file.ensures.outcome
 
 pub returns-in-Dbg-clause-outcome : goal.returns-in-Dbg-clause-outcome
 returns-in-Dbg-clause-outcome g c =
-    subst (λ (l : Line). IfSome (g.F.Images.named c.args.files.now) (λ files. MeetsLine (Ok l) (outcome_over (map string_bytes c.args.words.now) l files) c.debug_file.result
-    (now (g.I.Source.left c.args.input.now) (g.O.Sink.held c.args.output.now) (g.E.Sink.held c.args.errors.now)) (now (g.I.Source.left c.debug_file.new.input) (g.O.Sink.held c.debug_file.new.output) (g.E.Sink.held c.debug_file.new.errors))))
-    (ap (λ (p : Program). debug_line_of p c.in-Dbg.script) c.new-debugged.ensures ∙ sym c.in-Dbg.is) c.debug_file.ensures.outcome
+    subst (λ (l : Line). IfSome (g.F.Images.named c.args.files.now) (λ files. MeetsLine (map string_bytes c.args.words.now) files (Ok l) (outcome_over (map string_bytes c.args.words.now) l files) c.obey_files.result
+    (now (g.I.Source.left c.args.input.now) (g.O.Sink.held c.args.output.now) (g.E.Sink.held c.args.errors.now)) (now (g.I.Source.left c.obey_files.new.input) (g.O.Sink.held c.obey_files.new.output) (g.E.Sink.held c.obey_files.new.errors))))
+    (ap (λ (p : Program). debug_line_of p c.in-Dbg.script) c.new-debugged.ensures ∙ sym c.in-Dbg.is) c.obey_files.ensures.outcome
 
 pub returns-in-Sweep-clause-outcome : goal.returns-in-Sweep-clause-outcome
 returns-in-Sweep-clause-outcome g c =
-    subst (λ (l : Line). IfSome (g.F.Images.named c.args.files.now) (λ files. MeetsLine (Ok l) (outcome_over (map string_bytes c.args.words.now) l files) c.sweep_file.result
+    subst (λ (l : Line). IfSome (g.F.Images.named c.args.files.now) (λ files. MeetsLine (map string_bytes c.args.words.now) files (Ok l) (outcome_over (map string_bytes c.args.words.now) l files) c.sweep_file.result
     (now (g.I.Source.left c.args.input.now) (g.O.Sink.held c.args.output.now) (g.E.Sink.held c.args.errors.now)) (now (g.I.Source.left c.sweep_file.new.input) (g.O.Sink.held c.sweep_file.new.output) (g.E.Sink.held c.sweep_file.new.errors))))
     (ap sweep_line_of c.new-swept.ensures ∙ sym c.in-Sweep.is) c.sweep_file.ensures.outcome
 
@@ -135,13 +135,13 @@ returns-in-Sweep-clause-outcome g c =
 pub returns-in-Load-clause-outcome : goal.returns-in-Load-clause-outcome
 returns-in-Load-clause-outcome g c =
     let ws = map string_bytes c.args.words.now in
-    subst (λ (l : Line). IfSome (g.F.Images.named c.args.files.now) (λ files. MeetsLine (Ok l) (outcome_over ws l files) c.load_number.result
+    subst (λ (l : Line). IfSome (g.F.Images.named c.args.files.now) (λ files. MeetsLine ws files (Ok l) (outcome_over ws l files) c.load_number.result
     (now (g.I.Source.left c.args.input.now) (g.O.Sink.held c.args.output.now) (g.E.Sink.held c.args.errors.now)) (now (g.I.Source.left c.args.input.now) (g.O.Sink.held c.load_number.new.output) (g.E.Sink.held c.load_number.new.errors))))
     (sym c.in-Load.is) (told_so (g.F.Images.named c.args.files.now) _ (λ files. c.load_number.ensures.outcome (g.I.Source.left c.args.input.now)))
 
 pub returns-in-Load-clause-without_input : goal.returns-in-Load-clause-without_input
 returns-in-Load-clause-without_input g c = λ _ input.
-    subst (λ (l : Line). IfSome (g.F.Images.named c.args.files.now) (λ files. MeetsLine (Ok l) (outcome_over (map string_bytes c.args.words.now) l files) c.load_number.result
+    subst (λ (l : Line). IfSome (g.F.Images.named c.args.files.now) (λ files. MeetsLine (map string_bytes c.args.words.now) files (Ok l) (outcome_over (map string_bytes c.args.words.now) l files) c.load_number.result
     (now input (g.O.Sink.held c.args.output.now) (g.E.Sink.held c.args.errors.now)) (now input (g.O.Sink.held c.load_number.new.output) (g.E.Sink.held c.load_number.new.errors))))
     (sym c.in-Load.is) (told_so (g.F.Images.named c.args.files.now) _ (λ files. c.load_number.ensures.outcome input))
 
@@ -174,4 +174,37 @@ pub returns-in-Sweep-clause-kind : goal.returns-in-Sweep-clause-kind
 returns-in-Sweep-clause-kind g c = subst (λ (l : Line). may_end l c.sweep_file.result ≡ true) (sym c.in-Sweep.is) c.sweep_file.ensures.kind
 
 pub returns-in-Sweep-clause-memory_first : goal.returns-in-Sweep-clause-memory_first
-returns-in-Sweep-clause-memory_first g c = λ other. absurd (let t : true ≡ false = sym (ap (λ (l : Line). sweeps (Ok l)) c.in-Sweep.is) ∙ other in cc)
+returns-in-Sweep-clause-memory_first g c = λ last. absurd (subst (λ (l : Line). TakesLast (map string_bytes c.args.words.now) (Ok l) (g.F.Images.named c.args.files.now)) c.in-Sweep.is last)
+
+pub returns-in-Sweep-clause-memory_unwritten : goal.returns-in-Sweep-clause-memory_unwritten
+returns-in-Sweep-clause-memory_unwritten g c = λ other. absurd (let t : true ≡ false = sym (ap (λ (l : Line). sweeps (Ok l)) c.in-Sweep.is) ∙ other in cc)
+
+pub returns-in-Dbg-clause-memory_first : goal.returns-in-Dbg-clause-memory_first
+returns-in-Dbg-clause-memory_first g c = λ last.
+    c.obey_files.ensures.memory_first (subst (λ (l : Line). TakesLast (map string_bytes c.args.words.now) (Ok l) (g.F.Images.named c.args.files.now)) c.in-Dbg.is last)
+
+-- ---- a run of contexts
+
+pub returns-in-Threads-clause-outcome : goal.returns-in-Threads-clause-outcome
+returns-in-Threads-clause-outcome g c =
+    subst (λ (l : Line). IfSome (g.F.Images.named c.args.files.now) (λ files. MeetsLine (map string_bytes c.args.words.now) files (Ok l) (outcome_over (map string_bytes c.args.words.now) l files) c.obey_files-in-Threads.result
+    (now (g.I.Source.left c.args.input.now) (g.O.Sink.held c.args.output.now) (g.E.Sink.held c.args.errors.now)) (now (g.I.Source.left c.obey_files-in-Threads.new.input) (g.O.Sink.held c.obey_files-in-Threads.new.output) (g.E.Sink.held c.obey_files-in-Threads.new.errors))))
+    (ap (λ (p : Program). threads_line_of p c.in-Threads.schedule) c.new-threaded.ensures ∙ sym c.in-Threads.is) c.obey_files-in-Threads.ensures.outcome
+
+pub returns-in-Threads-clause-file_cause : goal.returns-in-Threads-clause-file_cause
+returns-in-Threads-clause-file_cause g c =
+    subst (λ (l : Line). c.obey_files-in-Threads.result ≡ FileFault → Rose (g.F.Images.faults c.args.files.now) (g.F.Images.faults c.obey_files-in-Threads.new.files) ⊎ NamesNoFile (outcome_over (map string_bytes c.args.words.now) l) (g.F.Images.named c.args.files.now))
+    (ap (λ (p : Program). threads_line_of p c.in-Threads.schedule) c.new-threaded.ensures ∙ sym c.in-Threads.is) c.obey_files-in-Threads.ensures.file_cause
+
+pub returns-in-Threads-clause-missing : goal.returns-in-Threads-clause-missing
+returns-in-Threads-clause-missing g c =
+    subst (λ (l : Line). NamesNoFile (outcome_over (map string_bytes c.args.words.now) l) (g.F.Images.named c.args.files.now) → EndsMissing (Ok l) c.obey_files-in-Threads.result)
+    (ap (λ (p : Program). threads_line_of p c.in-Threads.schedule) c.new-threaded.ensures ∙ sym c.in-Threads.is) c.obey_files-in-Threads.ensures.missing
+
+pub returns-in-Threads-clause-missing_first : goal.returns-in-Threads-clause-missing_first
+returns-in-Threads-clause-missing_first g c =
+    subst (λ (l : Line). MissesFirst (map string_bytes c.args.words.now) (Ok l) (g.F.Images.named c.args.files.now) → c.obey_files-in-Threads.result ≡ FileFault)
+    (ap (λ (p : Program). threads_line_of p c.in-Threads.schedule) c.new-threaded.ensures ∙ sym c.in-Threads.is) c.obey_files-in-Threads.ensures.missing_first
+
+pub returns-in-Threads-clause-kind : goal.returns-in-Threads-clause-kind
+returns-in-Threads-clause-kind g c = subst (λ (l : Line). may_end l c.obey_files-in-Threads.result ≡ true) (sym c.in-Threads.is) c.obey_files-in-Threads.ensures.kind

@@ -1,4 +1,4 @@
-use Rattle.std.proofs.Common.{◌≡◌, ℕ, List, ◌++◌, Option, Some, IfSome, map, string_bytes, refl, sym, ap, subst, ◌∙◌, true}
+use Rattle.std.proofs.Common.{◌≡◌, ℕ, List, IfSome, map, string_bytes, refl, sym, ap, subst, ◌∙◌, true}
 use Rattle.elf_image.specs.Images.{seen_image}
 use Rattle.emu_system.specs.Gained.{Gains}
 use Rattle.sweep_model.specs.Sweep.{stream_limit, text_before}
@@ -10,11 +10,12 @@ use Rattle.emu_outcome.specs.declared.ending.Ending.{Ending}
 use Rattle.emu_outcome.specs.declared.ending.Ending.TheVariants.{Done, OutOfMemory, TooLong, WriteFault}
 use Rattle.commands.specs.Sweeping.{ends_swept, Writes}
 use Rattle.commands.proofs.MayEnd.{kind_put}
-use Rattle.commands.proofs.Sweeps.{broken_writes, none_writes, too_long_writes, whole_writes}
+use Rattle.commands.proofs.Sweeps.{broken_writes, too_long_writes, whole_writes}
+use Rattle.commands.proofs.WholeInputs.{nothing_written}
 use Rattle.commands.proofs.sweeping.sweep_input.Goals as goal
 
 pub returns-in_default-clause-outcome : goal.returns-in_default-clause-outcome
-returns-in_default-clause-outcome g c = none_writes (sweep_of c.args.bytes.now (seen_image c.args.image.now) (program_arguments (map string_bytes c.args.words.now) c.args.program.now.file c.args.program.now.args) c.args.program.now.pages c.args.program.now.budget c.args.input.now) (g.O.Sink.held c.args.output.now) (g.E.Sink.held c.args.errors.now) OutOfMemory refl
+returns-in_default-clause-outcome g c = nothing_written (outcome_of_sweep (sweep_of c.args.bytes.now (seen_image c.args.image.now) (program_arguments (map string_bytes c.args.words.now) c.args.program.now.file c.args.program.now.args) c.args.program.now.pages c.args.program.now.budget c.args.input.now)) OutOfMemory (g.O.Sink.held c.args.output.now) (g.E.Sink.held c.args.errors.now) refl
 
 pub returns-in-Done-clause-outcome : goal.returns-in-Done-clause-outcome
 returns-in-Done-clause-outcome g c =

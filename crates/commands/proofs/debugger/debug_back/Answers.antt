@@ -1,0 +1,60 @@
+use Rattle.std.proofs.Common.{◌≡◌, ℕ, List, [], Some, IfSome, map, string_bytes, refl, sym, subst, arith, true}
+use Rattle.std.proofs.lemmas.Grind.{common_steps}
+use Rattle.elf_image.specs.Images.{seen_image}
+use Rattle.io_gate.specs.declared.whole_source.ReadEnd.TheVariants as reads
+use Rattle.emu_outcome.specs.Outcome.{outcome_of_session_back}
+use Rattle.emu_outcome.specs.declared.ending.Ending.{Ending}
+use Rattle.emu_outcome.specs.declared.ending.Ending.TheVariants.{TooLong, ReadFault, OutOfMemory}
+use Rattle.sweep_model.specs.Sweep.{stream_limit}
+use Rattle.commands.specs.Lines.{ends_dbg}
+use Rattle.commands.specs.Programs.{opening_of}
+use Rattle.commands.proofs.MayEnd.{kind_put, swept_dbg}
+use Rattle.commands.proofs.Sessions.{back_accepts, back_settles, back_takes}
+use Rattle.commands.proofs.WholeInputs.{long_meets, read_meets, stops_as, unread_meets}
+use Rattle.commands.proofs.debugger.debug_back.Goals as goal
+
+pub returns-in-Ok-clause-outcome : goal.returns-in-Ok-clause-outcome
+returns-in-Ok-clause-outcome g c =
+    let given : c.deref.result.now ≡ c.in-Ok.given.items = c.deref.ensures.value in
+    read_meets (outcome_of_session_back c.args.script.now c.args.program.now.budget (opening_of c.args.bytes.now (seen_image c.args.image.now) (map string_bytes c.args.words.now) c.args.program.now))
+    (back_takes c.args.script.now c.args.program.now.budget (opening_of c.args.bytes.now (seen_image c.args.image.now) (map string_bytes c.args.words.now) c.args.program.now))
+    (back_settles c.args.script.now c.args.program.now.budget (opening_of c.args.bytes.now (seen_image c.args.image.now) (map string_bytes c.args.words.now) c.args.program.now))
+    (back_accepts c.args.script.now c.args.program.now.budget (opening_of c.args.bytes.now (seen_image c.args.image.now) (map string_bytes c.args.words.now) c.args.program.now))
+    c.deref.result.now (g.I.Source.left c.args.input.now) (g.I.Source.left c.read_all.new.input) (g.O.Sink.held c.args.output.now) _ (g.E.Sink.held c.args.errors.now) _ c.debug_input.result
+    (subst (λ (xs : List ℕ). IfSome (g.I.Source.left c.args.input.now) (λ left. (xs ≡ left) × (g.I.Source.left c.read_all.new.input ≡ Some []))) (sym given) c.in-Ok.ensures.content)
+    (grind (arith, common_steps, c.in-Ok.ensures, c.deref.ensures))
+    c.debug_input.ensures.outcome c.debug_input.ensures.kind
+
+pub returns-in-Err-TooLong-clause-outcome : goal.returns-in-Err-TooLong-clause-outcome
+returns-in-Err-TooLong-clause-outcome g c =
+    long_meets (outcome_of_session_back c.args.script.now c.args.program.now.budget (opening_of c.args.bytes.now (seen_image c.args.image.now) (map string_bytes c.args.words.now) c.args.program.now))
+    (back_takes c.args.script.now c.args.program.now.budget (opening_of c.args.bytes.now (seen_image c.args.image.now) (map string_bytes c.args.words.now) c.args.program.now))
+    (back_settles c.args.script.now c.args.program.now.budget (opening_of c.args.bytes.now (seen_image c.args.image.now) (map string_bytes c.args.words.now) c.args.program.now))
+    (back_accepts c.args.script.now c.args.program.now.budget (opening_of c.args.bytes.now (seen_image c.args.image.now) (map string_bytes c.args.words.now) c.args.program.now))
+    (g.I.Source.left c.args.input.now) (g.I.Source.left c.read_all.new.input)
+    (stops_as _ _ stream_limit c.read_all.result c.in-Err-TooLong.field-0 reads.TooLong c.in-Err-TooLong.is c.in-Err-TooLong.field-0-is c.read_all.ensures.content)
+    (g.O.Sink.held c.args.output.now) (g.E.Sink.held c.args.errors.now) _ c.put_too_long.result c.ending_after_line.result c.put_too_long.ensures.bytes c.ending_after_line.ensures
+
+pub returns-in-Err-Failed-clause-outcome : goal.returns-in-Err-Failed-clause-outcome
+returns-in-Err-Failed-clause-outcome g c =
+    unread_meets (outcome_of_session_back c.args.script.now c.args.program.now.budget (opening_of c.args.bytes.now (seen_image c.args.image.now) (map string_bytes c.args.words.now) c.args.program.now))
+    (back_takes c.args.script.now c.args.program.now.budget (opening_of c.args.bytes.now (seen_image c.args.image.now) (map string_bytes c.args.words.now) c.args.program.now))
+    (back_settles c.args.script.now c.args.program.now.budget (opening_of c.args.bytes.now (seen_image c.args.image.now) (map string_bytes c.args.words.now) c.args.program.now))
+    (back_accepts c.args.script.now c.args.program.now.budget (opening_of c.args.bytes.now (seen_image c.args.image.now) (map string_bytes c.args.words.now) c.args.program.now))
+    (g.I.Source.left c.args.input.now) (g.I.Source.left c.read_all.new.input) (g.O.Sink.held c.args.output.now) (g.E.Sink.held c.args.errors.now) ReadFault
+    (stops_as _ _ stream_limit c.read_all.result c.in-Err-Failed.field-0 reads.Failed c.in-Err-Failed.is c.in-Err-Failed.field-0-is c.read_all.ensures.content) refl
+
+pub returns-in-Err-OutOfMemory-clause-outcome : goal.returns-in-Err-OutOfMemory-clause-outcome
+returns-in-Err-OutOfMemory-clause-outcome g c =
+    unread_meets (outcome_of_session_back c.args.script.now c.args.program.now.budget (opening_of c.args.bytes.now (seen_image c.args.image.now) (map string_bytes c.args.words.now) c.args.program.now))
+    (back_takes c.args.script.now c.args.program.now.budget (opening_of c.args.bytes.now (seen_image c.args.image.now) (map string_bytes c.args.words.now) c.args.program.now))
+    (back_settles c.args.script.now c.args.program.now.budget (opening_of c.args.bytes.now (seen_image c.args.image.now) (map string_bytes c.args.words.now) c.args.program.now))
+    (back_accepts c.args.script.now c.args.program.now.budget (opening_of c.args.bytes.now (seen_image c.args.image.now) (map string_bytes c.args.words.now) c.args.program.now))
+    (g.I.Source.left c.args.input.now) (g.I.Source.left c.read_all.new.input) (g.O.Sink.held c.args.output.now) (g.E.Sink.held c.args.errors.now) OutOfMemory
+    (stops_as _ _ stream_limit c.read_all.result c.in-Err-OutOfMemory.field-0 reads.OutOfMemory c.in-Err-OutOfMemory.is c.in-Err-OutOfMemory.field-0-is c.read_all.ensures.content) refl
+
+pub returns-in-Ok-clause-kind : goal.returns-in-Ok-clause-kind
+returns-in-Ok-clause-kind g c = swept_dbg c.debug_input.result c.debug_input.ensures.kind
+
+pub returns-in-Err-TooLong-clause-kind : goal.returns-in-Err-TooLong-clause-kind
+returns-in-Err-TooLong-clause-kind g c = subst (λ (x : Ending). ends_dbg x ≡ true) (sym c.ending_after_line.ensures) (kind_put ends_dbg c.put_too_long.result (TooLong stream_limit) refl refl)

@@ -1,0 +1,40 @@
+use Rattle.std.proofs.Common.{◌≡◌, Err, map, string_bytes, ap, refl, sym, ◌∙◌, true, subst}
+use Rattle.elf_image.specs.Images.{seen_image}
+use Rattle.emu_outcome.specs.declared.ending.Ending.{Ending}
+use Rattle.emu_outcome.specs.declared.ending.Ending.TheVariants.{OutOfMemory}
+use Rattle.guest_schedule.specs.Schedule.{schedule_of_file}
+use Rattle.guest_schedule.specs.declared.schedule.ScheduleFault.{ScheduleFault}
+use Rattle.guest_threads.specs.Ends.{WorldHeld}
+use Rattle.thread_model.specs.Worlds.{opened}
+use Rattle.commands.specs.Lines.{ends_threads}
+use Rattle.commands.specs.Programs.{opening_of}
+use Rattle.commands.specs.Promises.{now}
+use Rattle.commands.proofs.MayEnd.{kind_put}
+use Rattle.commands.proofs.Meetings.{nothing_meets}
+use Rattle.commands.proofs.Worlds.{followed_schedule, is_refused, of_schedule, refused_schedule}
+use Rattle.commands.proofs.threads.thread_image.Goals as goal
+
+pub returns-in-Err-Refused-clause-outcome : goal.returns-in-Err-Refused-clause-outcome
+returns-in-Err-Refused-clause-outcome g c =
+    refused_schedule c.args.program.now.budget (opened (opening_of c.args.bytes.now (seen_image c.args.image.now) (map string_bytes c.args.words.now) c.args.program.now)) (schedule_of_file c.args.text.now)
+    (now (g.I.Source.left c.args.input.now) (g.O.Sink.held c.args.output.now) (g.E.Sink.held c.args.errors.now)) _ _ c.put_schedule_refusal.result c.ending_after_line.result
+    (is_refused (schedule_of_file c.args.text.now) c.in-Err-Refused.field-0 c.in-Err-Refused.fault c.in-Err-Refused.field-0-is c.in-Err-Refused.ensures ∙ ap (λ (f : ScheduleFault). Err f) (sym c.in-Err-Refused.fault-is)) c.ending_after_line.ensures c.put_schedule_refusal.ensures.bytes
+
+pub returns-in-Err-OutOfMemory-clause-outcome : goal.returns-in-Err-OutOfMemory-clause-outcome
+returns-in-Err-OutOfMemory-clause-outcome g c =
+    nothing_meets (of_schedule c.args.program.now.budget (opened (opening_of c.args.bytes.now (seen_image c.args.image.now) (map string_bytes c.args.words.now) c.args.program.now)) (schedule_of_file c.args.text.now)
+    (now (g.I.Source.left c.args.input.now) (g.O.Sink.held c.args.output.now) (g.E.Sink.held c.args.errors.now))) OutOfMemory (g.I.Source.left c.args.input.now) (g.O.Sink.held c.args.output.now) (g.E.Sink.held c.args.errors.now) refl
+
+pub returns-in-Err-clause-outcome : goal.returns-in-Err-clause-outcome
+returns-in-Err-clause-outcome g c =
+    nothing_meets (of_schedule c.args.program.now.budget (opened (opening_of c.args.bytes.now (seen_image c.args.image.now) (map string_bytes c.args.words.now) c.args.program.now)) (schedule_of_file c.args.text.now)
+    (now (g.I.Source.left c.args.input.now) (g.O.Sink.held c.args.output.now) (g.E.Sink.held c.args.errors.now))) OutOfMemory (g.I.Source.left c.args.input.now) (g.O.Sink.held c.args.output.now) (g.E.Sink.held c.args.errors.now) refl
+
+pub returns-clause-outcome : goal.returns-clause-outcome
+returns-clause-outcome g c =
+    followed_schedule c.args.program.now.budget (opened (opening_of c.args.bytes.now (seen_image c.args.image.now) (map string_bytes c.args.words.now) c.args.program.now)) (schedule_of_file c.args.text.now)
+    (now (g.I.Source.left c.args.input.now) (g.O.Sink.held c.args.output.now) (g.E.Sink.held c.args.errors.now)) c.in-Ok.schedule c.in-Ok-open_world.world.world _ c.run_world.result
+    c.in-Ok.ensures (ap (λ (x : WorldHeld). x.world) c.in-Ok-open_world.ensures) c.run_world.ensures.outcome
+
+pub returns-in-Err-Refused-clause-kind : goal.returns-in-Err-Refused-clause-kind
+returns-in-Err-Refused-clause-kind g c = subst (λ (x : Ending). ends_threads x ≡ true) (sym c.ending_after_line.ensures) (kind_put ends_threads c.put_schedule_refusal.result _ refl refl)

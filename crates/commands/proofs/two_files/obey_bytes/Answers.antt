@@ -1,0 +1,24 @@
+use Rattle.std.proofs.Common.{◌≡◌, map, string_bytes, sym, ap, subst, ◌∙◌, true}
+use Rattle.elf_image.specs.Images.{seen, seen_image}
+use Rattle.emu_outcome.specs.declared.ending.Ending.{Ending}
+use Rattle.emu_system.specs.Image.{elf}
+use Rattle.commands.specs.Programs.{arguments_of}
+use Rattle.commands.specs.Promises.{now}
+use Rattle.commands.specs.SecondFiles.{ends_by, text_reads_first}
+use Rattle.commands.proofs.TwoFiles.{accepted_by, refused_by, refuses_kind}
+use Rattle.commands.proofs.two_files.obey_bytes.Goals as goal
+
+pub returns-in-Err-clause-outcome : goal.returns-in-Err-clause-outcome
+returns-in-Err-clause-outcome g c =
+    refused_by c.args.bytes.now c.args.text.now (arguments_of (map string_bytes c.args.words.now) c.args.program.now) c.args.program.now c.args.second (text_reads_first c.args.second c.args.text.now) (elf c.args.bytes.now c.args.program.now.pages)
+    (now (g.I.Source.left c.args.input.now) (g.O.Sink.held c.args.output.now) (g.E.Sink.held c.args.errors.now)) c.in-Err.fault _ c.put_image_refusal.result c.ending_after_line.result
+    (ap seen (sym c.in-Err.is) ∙ c.read.ensures.image) c.ending_after_line.ensures c.put_image_refusal.ensures.bytes
+
+pub returns-in-Ok-clause-outcome : goal.returns-in-Ok-clause-outcome
+returns-in-Ok-clause-outcome g c =
+    accepted_by c.args.bytes.now c.args.text.now (arguments_of (map string_bytes c.args.words.now) c.args.program.now) c.args.program.now c.args.second (text_reads_first c.args.second c.args.text.now) (elf c.args.bytes.now c.args.program.now.pages)
+    (now (g.I.Source.left c.args.input.now) (g.O.Sink.held c.args.output.now) (g.E.Sink.held c.args.errors.now)) (seen_image c.in-Ok.image) _ c.obey_text.result
+    (ap seen (sym c.in-Ok.is) ∙ c.read.ensures.image) c.obey_text.ensures.outcome
+
+pub returns-in-Err-clause-kind : goal.returns-in-Err-clause-kind
+returns-in-Err-clause-kind g c = subst (λ (x : Ending). ends_by c.args.second x ≡ true) (sym c.ending_after_line.ensures) (refuses_kind c.args.second c.put_image_refusal.result c.in-Err.fault)

@@ -1,0 +1,39 @@
+use Rattle.std.proofs.Common.{ℕ, List, Option, Some, map, string_bytes, ap}
+use Rattle.emu_outcome.specs.Outcome.{Outcome, Files, file_at}
+use Rattle.emu_system.specs.Image.{elf}
+use Rattle.commands.specs.Programs.{arguments_of}
+use Rattle.commands.specs.Promises.{now}
+use Rattle.commands.specs.SecondFiles.{file_reads_first, outcome_by}
+use Rattle.commands.specs.declared.program.Program.{Program}
+use Rattle.commands.specs.declared.two_files.SecondFile.{SecondFile}
+use Rattle.commands.proofs.NamedFiles.{over, told_so, unread_file}
+use Rattle.commands.proofs.Settled.{unread_either}
+use Rattle.commands.proofs.TwoFiles.{found_second, read_later}
+use Rattle.commands.proofs.MayEnd.{stops_by}
+use Rattle.commands.proofs.two_files.obey_second.Goals as goal
+
+-- what comes of the bytes of the second file
+abbrev next : SecondFile → List ℕ → List (List ℕ) → Program → Files → List ℕ → List ℕ → Option Outcome
+next second bytes words p files text i = Some (outcome_by second bytes text (arguments_of words p) i p (elf bytes p.pages))
+
+pub returns-in-Ok-clause-outcome : goal.returns-in-Ok-clause-outcome
+returns-in-Ok-clause-outcome g c =
+    found_second c.args.second (next c.args.second c.args.bytes.now (map string_bytes c.args.words.now) c.args.program.now) (g.F.Images.named c.args.files.now) (map string_bytes c.args.words.now) c.args.place c.word.result.now c.deref.result.now c.in-Ok.text.items
+    (g.I.Source.left c.args.input.now) (g.O.Sink.held c.args.output.now) (g.E.Sink.held c.args.errors.now) _ _ c.obey_bytes.result
+    c.word.ensures c.deref.ensures.value (ap g.E.Sink.held c.in-Ok.ensures.read_still) c.in-Ok.ensures.content (told_so (g.F.Images.named c.args.files.now) _ (λ _. c.obey_bytes.ensures.outcome))
+
+pub returns-in-Err-clause-outcome : goal.returns-in-Err-clause-outcome
+returns-in-Err-clause-outcome g c =
+    unread_either (g.F.Images.named c.args.files.now) (λ files. file_reads_first c.args.second (file_at (map string_bytes c.args.words.now) files c.args.place))
+    (over (next c.args.second c.args.bytes.now (map string_bytes c.args.words.now) c.args.program.now) (map string_bytes c.args.words.now) c.args.place) c.in-Err.ending
+    (now (g.I.Source.left c.args.input.now) (g.O.Sink.held c.args.output.now) (g.E.Sink.held c.args.errors.now)) _ c.in-Err.ensures.kind
+    (unread_file (next c.args.second c.args.bytes.now (map string_bytes c.args.words.now) c.args.program.now) (g.F.Images.named c.args.files.now) (map string_bytes c.args.words.now) c.args.place c.word.result.now c.in-Err.ending
+    (g.I.Source.left c.args.input.now) (g.O.Sink.held c.args.output.now) (g.E.Sink.held c.args.errors.now) _ c.word.ensures c.in-Err.ensures.content)
+
+pub returns-in-Ok-clause-memory_first : goal.returns-in-Ok-clause-memory_first
+returns-in-Ok-clause-memory_first g c = λ later.
+    c.obey_bytes.ensures.memory_first
+    (read_later c.args.second (g.F.Images.named c.args.files.now) (map string_bytes c.args.words.now) c.args.place c.word.result.now c.deref.result.now c.in-Ok.text.items c.word.ensures c.deref.ensures.value c.in-Ok.ensures.content later)
+
+pub returns-in-Err-clause-kind : goal.returns-in-Err-clause-kind
+returns-in-Err-clause-kind g c = stops_by c.args.second c.in-Err.ending c.in-Err.ensures.kind
