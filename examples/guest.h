@@ -3,6 +3,12 @@
 #ifndef GUEST_H
 #define GUEST_H
 
+// What a system call changes beside its answer: memory, and of the vector registers all but the low 128 bits.
+#define CHANGED_BY_CALLS \
+    "memory", "p0", "p1", "p2", "p3", "p4", "p5", "p6", "p7", "p8", "p9", "p10", "p11", "p12", "p13", "p14", "p15", \
+    "z0", "z1", "z2", "z3", "z4", "z5", "z6", "z7", "z8", "z9", "z10", "z11", "z12", "z13", "z14", "z15", \
+    "z16", "z17", "z18", "z19", "z20", "z21", "z22", "z23", "z24", "z25", "z26", "z27", "z28", "z29", "z30", "z31"
+
 // The answer of the system call of this number. A negative one is an error's number.
 static inline long system_call(long number, long first, long second, long third)
 {
@@ -11,10 +17,7 @@ static inline long system_call(long number, long first, long second, long third)
     register long x1 __asm__("x1") = second;
     register long x2 __asm__("x2") = third;
 
-    __asm__ volatile("svc #0" : "+r"(x0) : "r"(x8), "r"(x1), "r"(x2)
-                     : "memory", "p0", "p1", "p2", "p3", "p4", "p5", "p6", "p7", "p8", "p9", "p10", "p11", "p12", "p13", "p14", "p15",
-                       "z0", "z1", "z2", "z3", "z4", "z5", "z6", "z7", "z8", "z9", "z10", "z11", "z12", "z13", "z14", "z15",
-                       "z16", "z17", "z18", "z19", "z20", "z21", "z22", "z23", "z24", "z25", "z26", "z27", "z28", "z29", "z30", "z31");
+    __asm__ volatile("svc #0" : "+r"(x0) : "r"(x8), "r"(x1), "r"(x2) : CHANGED_BY_CALLS);
     return x0;
 }
 

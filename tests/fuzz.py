@@ -20,13 +20,14 @@ OWN = {
     0: rb"",
     120: rb"",
     121: rb"refused words [A-Za-z]+ at [0-9]+\n",
-    122: rb"refused (image|listing|script) [A-Za-z0-9]+( at( line)? [0-9]+)?\n",
+    122: rb"refused (image|listing|script|schedule) [A-Za-z0-9]+( at( line)? [0-9]+)?\n",
     126: rb"",
     127: rb"too long [0-9]+\n",
 }
 # How a run ends by itself, with its status; the registers follow.
 EXIT = re.compile(rb"exit ([0-9]+) after [0-9]+ steps\n")
 SPENT = re.compile(rb"spent after [0-9]+ steps\n")
+STUCK = re.compile(rb"stuck after [0-9]+ steps\n")
 TRAP = re.compile(rb"trap ([a-z-]+) 0x[0-9a-f]{16} at 0x[0-9a-f]{16} after [0-9]+ steps\n")
 # A line of a sweep.
 LENGTH = re.compile(rb"vl [0-9]+ (exit [0-9]+|trap [a-z-]+ 0x[0-9a-f]{16} at 0x[0-9a-f]{16}|spent) after [0-9]+ steps out [0-9]+ err [0-9]+ (same|parts at [0-9]+)")
@@ -48,7 +49,7 @@ DIRECTIVES = [
     ".code", ".data", ".byte 1, 2", ".half -1", ".word 0x10", ".quad start", '.ascii "a\\n\\0"', ".zero 16", ".align 8",
     ".bss 64", ".entry start", "start:", "loop: nop", "b start", "cbz x0, loop", "adr x1, start", "// a comment",
 ]
-COMMANDS = ["run", "asm", "dis", "dbg", "load", "sweep"]
+COMMANDS = ["run", "asm", "dis", "dbg", "load", "sweep", "threads"]
 SCRIPT = [
     "step {n}", "go", "break {a}", "watch {a} {l}", "regs", "zreg {k}", "preg {k}", "ffr", "vl", "lanes {k} {t}", "mem {a} {l}",
     "# a comment", "", "hop", "step",
@@ -120,6 +121,19 @@ def script(rng):
     return "\n".join(lines).encode() + b"\n"
 
 
+def schedule(rng):
+    turns = ["{t} {n}"] * 8 + ["# a comment", "", "{t}", "{t} {n} 1"]
+    lines = []
+    for _ in range(rng.randrange(0, 12)):
+        values = {"t": rng.choice((0, 1, 2, 7, 2**64 - 1)), "n": rng.choice((1, 1, 2, 5, 100, "0x10", 0))}
+        lines.append(turned(rng, rng.choice(turns).format(**values)))
+    return "\n".join(lines).encode() + b"\n"
+
+
+# Starts a context on a stack of its own, which both go on behind.
+CLONE = [0xD281E000, 0xF2A00020, 0xD11003E1, 0xD2801B88, 0xD4000001]
+
+
 def limits(rng):
     words = ["--budget", str(rng.choice((0, 1, 50, 1000, 20000)))]
     return words + (["--pages", str(rng.choice((257, 300, 16384)))] if rng.random() < 0.3 else [])
@@ -136,7 +150,7 @@ def line(rng):
 
 def case(rng):
     """Files by their names, and the words of a command line."""
-    kind = rng.randrange(7)
+    kind = rng.randrange(8)
     if kind == 0:
         return {"a.elf": image(rng, program(rng), rng.randbytes(rng.choice((0, 64))))}, ["run", "a.elf", *options(rng)]
     if kind == 1:
@@ -149,6 +163,9 @@ def case(rng):
         return {"a.elf": image(rng, program(rng))}, line(rng)
     if kind == 5:
         return {"a.elf": image(rng, program(rng), rng.randbytes(rng.choice((0, 64))))}, ["sweep", "a.elf", *limits(rng)]
+    if kind == 6:
+        code = b"".join(struct.pack("<I", word) for word in CLONE * rng.randrange(3)) + program(rng)
+        return {"a.elf": image(rng, code, rng.randbytes(64)), "t": schedule(rng)}, ["threads", "a.elf", "t", *options(rng)]
     return {"a.elf": image(rng, b"".join(struct.pack("<I", near(rng)) for _ in range(300)))}, ["dis", "a.elf"]
 
 
@@ -157,16 +174,18 @@ def fault_of(words, done):
     if done.returncode < 0:
         return f"ended by signal {-done.returncode}"
     command = words[0] if words else ""
-    if command == "run":
+    if command in ("run", "threads"):
         tail = done.stderr[-200000:]
         trap, spent = TRAP.search(tail), SPENT.search(tail)
         if trap and done.returncode == 128 + SIGNALS.get(trap[1], 0):
+            return None
+        if command == "threads" and done.returncode == 119 and STUCK.search(tail):
             return None
         if (spent and done.returncode == 123) or any(int(found) == done.returncode for found in EXIT.findall(tail)):
             return None
         if done.returncode in (124, 125):
             return f"status {done.returncode}, though no stream failed"
-    if done.returncode not in OWN or (command == "run" and done.returncode == 0):
+    if done.returncode not in OWN or (command in ("run", "threads") and done.returncode == 0):
         return f"status {done.returncode}"
     if command == "sweep" and done.returncode == 0:
         lines = done.stdout.splitlines()

@@ -27,12 +27,20 @@ listings() {
     holds "a session over lane_sum ends" [ "$status" -eq 0 ]
     holds "it shows what it should" cmp "$scratch/output" examples/lane_sum.session
     holds "and writes no errors" [ ! -s "$scratch/errors" ]
-    # The manual has the script and the session too, behind four blanks.
-    sed 's/^/    /' examples/lane_sum.script examples/lane_sum.session >"$scratch/shown"
-    awk 'FNR == NR { wanted[++count] = $0; next }
-         at < count && $0 == wanted[at + 1] { at++ }
-         END { exit at != count }' "$scratch/shown" docs/MANUAL.md
-    holds "the script and the session of the manual" [ "$?" -eq 0 ]
+    run "$SVEMU" asm examples/overrun.s
+    cp "$scratch/output" "$scratch/overrun.elf"
+    run "$SVEMU" dbg "$scratch/overrun.elf" examples/overrun.script --vl 256 --budget 1000
+    holds "a session over overrun that goes back ends" [ "$status" -eq 0 ]
+    holds "it shows what it should" cmp "$scratch/output" examples/overrun.session
+    holds "and writes no errors" [ ! -s "$scratch/errors" ]
+    # The manual has the scripts and the sessions too, behind four blanks.
+    for example in lane_sum overrun; do
+        sed 's/^/    /' "examples/$example.script" "examples/$example.session" >"$scratch/shown"
+        awk 'FNR == NR { wanted[++count] = $0; next }
+             at < count && $0 == wanted[at + 1] { at++ }
+             END { exit at != count }' "$scratch/shown" docs/MANUAL.md
+        holds "the script and the session of $example in the manual" [ "$?" -eq 0 ]
+    done
 }
 
 listing_refusals() {

@@ -31,7 +31,7 @@ recipe() {
 recipes() {
     gcc=$(command -v aarch64-linux-gnu-gcc)
     if [ -z "$gcc" ]; then
-        for name in "a first program by gcc" "reading a trap" make CMake lit; do
+        for name in "a first program by gcc" "reading a trap" "trying schedules" make CMake lit; do
             skip "$name" "aarch64-linux-gnu-gcc isn't on this machine"
         done
     else
@@ -39,6 +39,7 @@ recipes() {
         seeing_the_lengths
         seeing_the_lanes
         reading_a_trap
+        trying_schedules
         recipe make "Run with make:" Makefile sum.c
         holds "make" sh -c "[ $status -eq 0 ] && [ \"\$(grep -cx 'sum 500500' '$scratch/output')\" -eq 3 ] && [ \"\$(grep -c '^vl .* out 11 err 0 same$' '$scratch/output')\" -eq 16 ]"
         cmake_recipe
@@ -64,6 +65,20 @@ first_program() {
     run env SVEMU_TOP="$top" sh -eu "$scratch/commands"
     cd "$top" || exit 1
     holds "a first program by $1 runs" awk 'NR == 1 ? $0 != "sum 500500" : !/^vl [0-9]+ exit 0 after [0-9]+ steps out 11 err 0 same$/ { bad = 1 } END { exit bad || NR != 17 }' "$scratch/output"
+}
+
+# A stack without a lock, which some schedules break, and one that none does.
+trying_schedules() {
+    if ! command -v python3 >/dev/null; then
+        skip "trying schedules" "python3 isn't on this machine"
+        return
+    fi
+    recipe "trying schedules" "Try schedules of the stack:" stack.c
+    holds "some schedules of the stack part" sh -c '[ "$1" -eq 1 ] && [ "$(wc -l <"$2")" -gt 2 ]' sh "$status" "$scratch/output"
+    holds "schedules of the stack are kept" sh -c 'ls "$1"/schedules/*.schedule | wc -l | grep -qx 2' sh "$scratch/recipe"
+    recipe "trying schedules" "Try schedules of the stack that counts changes:" stack.c
+    holds "no schedule of the counted stack parts" [ "$status" -eq 0 ]
+    holds "its lines" sh -c '[ "$(tail -n 1 "$1")" = "300 schedules, 0 part" ]' sh "$scratch/output"
 }
 
 # Of the program that was built last.

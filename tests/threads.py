@@ -2,6 +2,7 @@
 """Programs of several contexts, and what they come to under schedules, by an interpreter of its own.
 
 usage: threads.py --write FOLDER    writes FOLDER/stdin and FOLDER/stdout
+       threads.py --check FOLDER    compares them with what it would write
        threads.py --show NAME       prints the words of a program
 
 It shares nothing with svemu: words are made and read here by the Arm manual, and contexts, calls and schedules are as
@@ -722,20 +723,28 @@ def cases(sp):
     return lines, answers
 
 
-def main():
-    if sys.argv[1:2] == ["--show"]:
-        print(" ".join(f"{w:08X}" for w in PROGRAMS[sys.argv[2]][0]))
-        return
-    if sys.argv[1:2] != ["--write"] or len(sys.argv) != 3:
+def main(words):
+    if words[:1] == ["--show"]:
+        print(" ".join(f"{w:08X}" for w in PROGRAMS[words[1]][0]))
+        return 0
+    if words[:1] not in (["--write"], ["--check"]) or len(words) != 2:
         raise SystemExit(__doc__)
     lines, answers = cases(SP_AT_START)
     for name, text in (("stdin", lines), ("stdout", answers)):
-        with open(f"{sys.argv[2]}/{name}", "w") as f:
-            f.write("\n".join(text) + "\n")
+        file, made = f"{words[1]}/{name}", "\n".join(text) + "\n"
+        if words[0] == "--write":
+            with open(file, "w", encoding="utf-8") as stands:
+                stands.write(made)
+            continue
+        with open(file, encoding="utf-8") as stands:
+            if stands.read() != made:
+                print(f"{file} isn't what tests/threads.py works out")
+                return 1
     print(answers[-1])
+    return 0
 
 
 SP_AT_START = STACK_END - 256
 
 if __name__ == "__main__":
-    main()
+    sys.exit(main(sys.argv[1:]))

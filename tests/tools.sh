@@ -1,8 +1,8 @@
 #!/bin/sh
-# Tests what stands beside the proved program: its start and its release, the cases over real files, the examples, the
-# listings, what the documents show, the runner, the manual page, the installation, the recipes of
-# docs/TESTING_YOUR_CODE.md, refused memory and random input. The program is the one that SVEMU names, else the one that
-# ./svemu runs; no kit is needed. The last line is 'N passed, M failed, K skipped'.
+# Tests what stands beside the proved program: its start and its release, the cases over real files, the examples, those
+# of several threads under schedules, the listings, what the documents show, the runner, the manual page, the
+# installation, the recipes of docs/TESTING_YOUR_CODE.md, refused memory and random input. The program is the one that
+# SVEMU names, else the one that ./svemu runs; no kit is needed. The last line is 'N passed, M failed, K skipped'.
 set -u
 
 cd "$(dirname "$0")/.." || exit 1
@@ -118,6 +118,7 @@ builds() {
         rm "$scratch"/examples/*.elf
         holds "examples built by $compiler" make -C "$scratch/examples" CC="$compiler"
         examples "$scratch/examples" "built by $compiler:"
+        threaded "$scratch/examples" "built by $compiler:"
     done
 }
 
@@ -192,6 +193,15 @@ load_programs() {
     holds "load programs" python3 tests/loads.py "$built"
 }
 
+# Sessions that go back, each line of which a script takes from a session that doesn't.
+sessions_back() {
+    if ! command -v python3 >/dev/null; then
+        skip "sessions that go back" "there is no python3"
+        return
+    fi
+    holds "sessions that go back" python3 tests/back.py "$built"
+}
+
 # A minute of random input, the same each time.
 random_input() {
     if ! command -v python3 >/dev/null; then
@@ -219,6 +229,7 @@ refused_memory() {
 . tests/recipes.sh
 . tests/listings.sh
 . tests/documents.sh
+. tests/threads.sh
 
 run "$SVEMU" run crates/svemu/data/exit7.elf --vl 128 --budget 10
 holds "svemu is there" [ "$status" -eq 7 ]
@@ -227,6 +238,7 @@ if [ "$failed" -eq 0 ]; then
     holds "the cases over real files" sh tests/cases.sh "$built"
     aarch64
     examples "$top/examples" "checked in:"
+    threads
     builds
     listings
     listing_refusals
@@ -245,6 +257,7 @@ if [ "$failed" -eq 0 ]; then
     . tests/pages.sh
     refused_memory
     load_programs
+    sessions_back
     lying_images
     random_input
 fi

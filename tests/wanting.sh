@@ -86,11 +86,15 @@ mem 0x400000 4
 go
 go
 SCRIPT
+printf '0 1\n# turns\n1 0x10\n' >"$scratch/turns.txt"
+printf 'step 2\nback 1\ngo\n' >"$scratch/back.txt"
 "$program" asm "$scratch/all.s" >"$scratch/all.elf" || exit 1
 
 wanting 100000 run crates/svemu/data/exit7.elf --vl 128 --budget 10
 wanting 100000 run crates/svemu/data/hi.elf --vl 256 --budget 20 --pages 300 -- one two
 wanting 100000 dbg crates/svemu/data/exit7.elf "$scratch/stops.txt" --vl 128 --budget 100
+wanting 100000 dbg crates/svemu/data/exit7.elf "$scratch/back.txt" --vl 128 --budget 100
+wanting 100000 threads crates/svemu/data/exit7.elf "$scratch/turns.txt" --vl 128 --budget 10
 wanting 100000 asm "$scratch/all.s"
 wanting 100000 dis "$scratch/all.elf"
 wanting 100000 run "$scratch/all.elf" --vl 192 --budget 10

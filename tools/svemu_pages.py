@@ -1,4 +1,4 @@
-"""What the tools that draw pages share: words of a command line, svemu and its sessions, and the frame of a page."""
+"""What the tools in Python share: words of a command line, svemu and its sessions, and the frame of a page."""
 
 import json
 import os
@@ -26,7 +26,7 @@ WHY = {118: "a word isn't text", 120: "there is no memory", 124: "the input coul
 
 
 class Failure(Exception):
-    """Why there is no page, in one line."""
+    """Why a tool has no answer, in one line."""
 
 
 def run(tool, main):
@@ -110,12 +110,16 @@ class Run:
         done = self.ended(*words, given=given)
         if done.returncode == 0:
             return done.stdout
+        raise self.failure(done, words[1])
+
+    def failure(self, done, name):
+        """Why a call of svemu has no answer, whose first file has this name."""
         said = done.stderr.decode(errors="replace").strip().splitlines()
         if done.returncode == 126:
-            raise Failure(f"{words[1]} couldn't be read")
+            return Failure(f"{name} couldn't be read")
         if said[-1:] == [f"too long {STREAM_BYTES}"]:
-            raise Failure(f"the input, or what the program writes at one of the lengths, has more than {STREAM_BYTES} bytes")
-        raise Failure(WHY.get(done.returncode) or (f"svemu says: {said[-1]}" if said else f"svemu ended with {done.returncode}"))
+            return Failure(f"the input, or what the program writes at one of the lengths, has more than {STREAM_BYTES} bytes")
+        return Failure(WHY.get(done.returncode) or (f"svemu says: {said[-1]}" if said else f"svemu ended with {done.returncode}"))
 
     def limits(self, budget=None):
         """The words that limit a run."""
