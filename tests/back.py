@@ -4,7 +4,8 @@
 usage: back.py PROGRAM           the last line is 'N sessions, M commands, K differ'
        back.py --cases PROGRAM   prints lines for crates/dbg_cases, and what they have to write
 
-Where a session stands is worked out here: how many steps it has counted, whether it has trapped, and the furthest count.
+Where a session stands is worked out here: how many steps it has counted, whether it has trapped, and the furthest
+count.
 What each command has to print there is taken from a fresh session without `back`, which steps to that place first; what
 the program has to write, from a run with a budget of the furthest count. The programs write nothing but GUEST.
 """
@@ -194,8 +195,12 @@ class Program:
             out.write(self.call("asm", f"{folder}/{name}.s").stdout)
         self.known = {}
 
+    def options(self, budget):
+        return ["--vl", str(self.bits), "--budget", str(budget), "--pages", str(self.pages)]
+
     def call(self, *words):
-        return subprocess.run([self.svemu, *words], input=getattr(self, "input", "").encode(), capture_output=True, timeout=60, check=False)
+        given = getattr(self, "input", "").encode()
+        return subprocess.run([self.svemu, *words], input=given, capture_output=True, timeout=60, check=False)
 
     def words(self):
         """The words of the program, as `dis` shows them."""
@@ -205,13 +210,13 @@ class Program:
         """What a session puts to its two streams."""
         with open(f"{self.folder}/script", "w", encoding="ascii") as out:
             out.write("\n".join(script) + "\n")
-        done = self.call("dbg", self.file, f"{self.folder}/script", "--vl", str(self.bits), "--budget", str(self.budget), "--pages", str(self.pages))
+        done = self.call("dbg", self.file, f"{self.folder}/script", *self.options(self.budget))
         return done.stdout.decode(), done.stderr.decode()
 
     def written(self, steps):
         """What the program writes to its two streams in so many steps."""
         if steps not in self.known:
-            done = self.call("run", self.file, "--vl", str(self.bits), "--budget", str(steps), "--pages", str(self.pages))
+            done = self.call("run", self.file, *self.options(steps))
             errors = done.stderr.decode()
             self.known[steps] = done.stdout.decode(), errors[:len(errors) - len(errors.lstrip(GUEST))]
         return self.known[steps]
@@ -277,9 +282,11 @@ FIXED = [
     ("writes", ["go", "back 8", "mem 0x402000 16", "go", "back 1000", "go"]),
     ("maps", ["go", "back 2", "mem 0x7effffffe000 8", "back 4", "mem 0x7effffffe000 8", "go", "back 12", "go"]),
     ("grows", ["go", "back 3", "mem 0x404000 4", "back 4", "mem 0x404000 4", "go", "back 100", "mem 0x404000 4", "go"]),
-    ("reads", ["step 6", "mem 0x402000 4", "back 1", "mem 0x402000 4", "step 1", "mem 0x402000 4", "go", "back 30", "go"]),
+    ("reads", ["step 6", "mem 0x402000 4", "back 1", "mem 0x402000 4", "step 1", "mem 0x402000 4", "go", "back 30",
+               "go"]),
     ("lengths", ["go", "back 20", "go", "back 3", "vl", "lanes 1 s", "back 5", "vl", "lanes 1 s", "go"]),
-    ("long", ["go", "back 1", "mem 0x402000 16", "back 4096", "mem 0x402000 16", "step 4096", "back 70000", "mem 0x402000 16", "go", "back 149999", "go"]),
+    ("long", ["go", "back 1", "mem 0x402000 16", "back 4096", "mem 0x402000 16", "step 4096", "back 70000",
+              "mem 0x402000 16", "go", "back 149999", "go"]),
     ("lengths", ["break 0x40001c", "go", "vl", "go", "back 6", "back 1", "go", "vl"]),
 ]
 

@@ -54,8 +54,13 @@ def weighted(data):
 
 
 class Pages:
+    limit = LIMIT
+
     def __init__(self):
         self.pages = {}
+
+    def new_page(self, rights):
+        return [rights, bytearray(4096)]
 
     def map(self, first, count, rights):
         if first < 1 or first + count > END:
@@ -63,10 +68,10 @@ class Pages:
         for page in sorted(self.pages):
             if first <= page < first + count:
                 return f"Taken({page})"
-        if len(self.pages) + count > LIMIT:
+        if len(self.pages) + count > self.limit:
             return "Full"
         for page in range(first, first + count):
-            self.pages[page] = [rights, bytearray(4096)]
+            self.pages[page] = self.new_page(rights)
         return "Done"
 
     def unmap(self, first, count):

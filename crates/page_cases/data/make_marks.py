@@ -11,7 +11,7 @@ import random
 import sys
 
 sys.path.insert(0, os.path.dirname(os.path.abspath(__file__)))
-from make_cases import END, FOLDER, rights_text, weighted  # noqa: E402
+from make_cases import END, FOLDER, Pages, rights_text, weighted  # noqa: E402
 
 LIMIT = 8
 
@@ -89,9 +89,11 @@ class Page:
         return self.block if self.block is not None else bytes(4096)
 
 
-class Marked:
+class Marked(Pages):
+    limit = LIMIT
+
     def __init__(self):
-        self.pages = {}
+        super().__init__()
         self.marks = [None] * 16
 
     def holders(self):
@@ -106,17 +108,8 @@ class Marked:
     def copied(self, held):
         return {number: Page(page.rights, page.block) for number, page in held.items()}
 
-    def map(self, first, count, rights):
-        if first < 1 or first + count > END:
-            return "OutOfRange"
-        for page in sorted(self.pages):
-            if first <= page < first + count:
-                return f"Taken({page})"
-        if len(self.pages) + count > LIMIT:
-            return "Full"
-        for page in range(first, first + count):
-            self.pages[page] = Page(rights)
-        return "Done"
+    def new_page(self, rights):
+        return Page(rights)
 
     def unmap(self, first, count):
         self.pages = {page: held for page, held in self.pages.items() if not first <= page < first + count}
