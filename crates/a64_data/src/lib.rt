@@ -15,7 +15,7 @@ mod sums;
 
 ghost use Rattle.std.specs.Prelude.{◌≡◌, true};
 ghost use Rattle.emu_model.specs.declared.trap.Effect.{Effect};
-ghost use Rattle.a64_effects.specs.Scalar.{is_data, scalar};
+ghost use Rattle.a64_effects.specs.Groups.{is_data, scalar};
 
 use a64_insn::{A64, A64Form};
 use core_regs::{Core, Effect};

@@ -1,5 +1,5 @@
 -- Loads and stores of the same bytes as one step.
-use Rattle.std.specs.Prelude.{ℕ, ◌+◌, ◌*◌, ◌%◌, ◌^◌, ◌==◌, Bool, true, false, if◌then◌else◌, List, [], ◌∷◌, Option, Some, None, max, min, bit_and, bit_or, bit_xor, int_le}
+use Rattle.std.specs.Prelude.{ℕ, ◌+◌, ◌*◌, ◌%◌, ◌^◌, Bool, true, false, if◌then◌else◌, [], ◌∷◌, Option, Some, None, max, min, bit_and, bit_or, bit_xor, int_le}
 use Rattle.a64_insn.specs.declared.ops.AtomicOp.{AtomicOp}
 use Rattle.a64_insn.specs.declared.ops.AtomicOp.TheVariants.{Ldadd, Ldclr, Ldeor, Ldset, Ldsmax, Ldsmin, Ldumax, Ldumin, Swp}
 use Rattle.emu_bits.specs.Numbers.{signed}
@@ -9,7 +9,7 @@ use Rattle.emu_model.specs.declared.access.Kind.TheVariants.{Read as ReadKind, W
 use Rattle.emu_model.specs.declared.trap.TrapKind.TheVariants.{Read, Write}
 use Rattle.emu_model.specs.declared.trap.Effect.TheVariants.{Next}
 use Rattle.emu_model.specs.Access.{Memory, refused, stored, value}
-use Rattle.emu_model.specs.State.{Core, Vectors, read_x, read_x_sp, with_x}
+use Rattle.emu_model.specs.State.{Core, Vectors, read_x}
 use Rattle.emu_model.specs.Done.{Done, traps}
 
 -- the low n bytes of a register
@@ -53,11 +53,3 @@ unless_refused None None c w m d = d
 abbrev pub one_step : ℕ → ℕ → (ℕ → Option ℕ) → (ℕ → Core) → Core → Vectors → Memory → Done
 one_step a n new after c w m =
     unless_refused (refused m a n ReadKind) (refused m a n WriteKind) c w m (exchanged a n (new (value m a n)) (after (value m a n)) w m)
-
--- Rt gets the old value
-abbrev pub atomic : AtomicOp → ℕ → ℕ → ℕ → ℕ → Core → Vectors → Memory → Done
-atomic op n rs rn rt c w m = one_step (read_x_sp c rn) n (λ o. Some (updated op n o (low_bytes n c rs))) (with_x c rt 64) c w m
-
--- Rs gets the old value
-abbrev pub compare_swap : ℕ → ℕ → ℕ → ℕ → Core → Vectors → Memory → Done
-compare_swap n rs rn rt c w m = one_step (read_x_sp c rn) n (λ o. swapped (o == low_bytes n c rs) (low_bytes n c rt)) (with_x c rs 64) c w m

@@ -1,7 +1,5 @@
 -- Copies of bits between general and vector registers, and immediates to vector registers.
 use Rattle.std.specs.Prelude.{ℕ, ◌+◌, ◌-◌, ◌*◌, ◌/◌, ◌%◌, ◌^◌, Bool, ◌&&◌, nat_lt, if◌then◌else◌}
-use Rattle.a64_insn.specs.declared.form.A64Form.{A64Form}
-use Rattle.a64_insn.specs.declared.form.A64Form.TheVariants.{FMove, MoveImm}
 use Rattle.a64_insn.specs.declared.ops.FMoveOp.{FMoveOp}
 use Rattle.a64_insn.specs.declared.ops.FMoveOp.TheVariants.{WdSn, SdWn, XdDn, DdXn}
 use Rattle.emu_bits.specs.Bitmask.{repeated}
@@ -9,8 +7,6 @@ use Rattle.emu_bits.specs.Operations.{complement, number_of_bytes}
 use Rattle.emu_model.specs.Done.{Registers, leaves}
 use Rattle.emu_model.specs.State.{Core, Vectors, read_x, with_x}
 use Rattle.vec_model.specs.Lanes.{lane, read_z, with_low}
-use Rattle.a64_effects.specs.declared.pages.Page.TheVariants.{BitMoves}
-use Rattle.a64_effects.specs.Pages.{page_of, same_page}
 
 -- ---- fmov
 
@@ -51,15 +47,3 @@ move_value op cmode i = if op && nat_lt cmode 14 then complement 64 (placed op c
 -- the low 128 bits of a vector register, or 64 where q isn't set, and zeros above
 abbrev pub moved : Bool → ℕ → ℕ → Vectors → Vectors
 moved q x rd v = with_low (if q then 128 else 64) (repeated 64 x 2) rd v
-
--- ---- the rows
-
-abbrev pub is_bit_move : A64Form → Bool
-is_bit_move form = same_page BitMoves (page_of form)
-
--- The registers after an instruction of these rows, which goes on behind it.
-abbrev pub bit_move : A64Form → Core → Vectors → Registers
-bit_move (FMove op rn rd) c v = copied op rn rd c v
-bit_move (MoveImm q op abc cmode defgh rd) c v = leaves c (moved q (move_value op cmode (immediate abc defgh)) rd v)
--- the other rows stand elsewhere
-bit_move form c v = leaves c v

@@ -1,22 +1,17 @@
--- What an A64 instruction does, by the page of its row.
+-- What an A64 instruction makes of the registers and the memory, by its operation.
 use Rattle.a64_insn.specs.declared.form.A64Form.{A64Form}
 use Rattle.emu_model.specs.Access.{Memory}
-use Rattle.emu_model.specs.Done.{Done, went_well, went_on_with}
+use Rattle.emu_model.specs.Done.{Done, quietly, went_well, went_on_with}
 use Rattle.emu_model.specs.State.{Core, Vectors}
-use Rattle.a64_effects.specs.declared.pages.Page.{Page}
-use Rattle.a64_effects.specs.declared.pages.Page.TheVariants.{Data, Flow, Accesses, BitMoves}
-use Rattle.a64_effects.specs.BitMoves.{bit_move}
-use Rattle.a64_effects.specs.Flow.{flow}
-use Rattle.a64_effects.specs.LoadStore.{access}
-use Rattle.a64_effects.specs.Pages.{page_of}
-use Rattle.a64_effects.specs.Scalar.{scalar}
+use Rattle.a64_effects.specs.LoadStore.{transferred_by, exchanged_by}
+use Rattle.a64_effects.specs.Operations.{Operation, computes, flows, transfers, exchanges, copies, operation_of}
 
--- what the rows of a page do
-abbrev pub performed_on : Page → A64Form → Core → Vectors → Memory → Done
-performed_on Data form c v m = went_well (scalar form c) v m
-performed_on Flow form c v m = flow form c v m
-performed_on Accesses form c v m = access form c v m
-performed_on BitMoves form c v m = went_on_with (bit_move form c v) m
+abbrev pub performed_by : Operation → Core → Vectors → Memory → Done
+performed_by (computes after) c v m = went_well (after c) v m
+performed_by (flows after effect) c v m = quietly (after c) v m (effect c)
+performed_by (transfers row) c v m = transferred_by (row c) c v m
+performed_by (exchanges row) c v m = exchanged_by (row c) c v m
+performed_by (copies after) c v m = went_on_with (after c v) m
 
 abbrev pub performed : A64Form → Core → Vectors → Memory → Done
-performed form c v m = performed_on (page_of form) form c v m
+performed form c v m = performed_by (operation_of form) c v m

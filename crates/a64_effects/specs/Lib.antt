@@ -2,12 +2,14 @@ pub mod Atomic
 pub mod BitMoves
 pub mod Effects
 pub mod Flow
+pub mod Groups
 pub mod LoadStore
-pub mod Pages
+pub mod Operations
 pub mod Scalar
 pub mod SoundAtomic
 pub mod SoundBitMoves
 pub mod SoundEffects
 pub mod SoundFlow
 pub mod SoundLoadStore
+pub mod SoundOperations
 pub mod SoundScalar

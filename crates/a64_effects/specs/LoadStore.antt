@@ -1,7 +1,5 @@
--- Loads and stores: their elements, their tests, and what they leave.
+-- Loads and stores: what a row says of its access, and what an access leaves.
 use Rattle.std.specs.Prelude.{ℕ, ◌+◌, ◌*◌, ◌%◌, ◌^◌, Bool, true, false, not, ◌&&◌, ◌||◌, List, [], ◌∷◌, Option, Some, None, nat_eq, nat_le, if◌then◌else◌, pos, ◌*ℤ◌}
-use Rattle.a64_insn.specs.declared.form.A64Form.{A64Form}
-use Rattle.a64_insn.specs.declared.form.A64Form.TheVariants.{LsUnsigned, LsUnscaled, LsPost, LsPre, LsReg, LsLiteral, Pair, StoreEx, LoadEx, Ordered, Atomic, CompareSwap}
 use Rattle.a64_insn.specs.declared.ops.OrderedOp.{OrderedOp}
 use Rattle.a64_insn.specs.declared.ops.OrderedOp.TheVariants.{Stlr, Ldar}
 use Rattle.emu_bits.specs.Fields.{bit}
@@ -16,10 +14,8 @@ use Rattle.a64_effects.specs.declared.transfer.Transfer.{Transfer}
 use Rattle.a64_effects.specs.declared.transfer.Transfer.TheVariants.{Store, Load, LoadSigned, LoadSigned32, Prefetch, StoreVector, LoadVector}
 use Rattle.emu_model.specs.Done.{Done, Registers, traps}
 use Rattle.emu_model.specs.Elements.{Element, Reach, reach, with_stored, accesses_of}
-use Rattle.a64_effects.specs.Atomic.{atomic, compare_swap}
-use Rattle.a64_effects.specs.Flow.{offset, target}
-use Rattle.a64_effects.specs.declared.pages.Page.TheVariants.{Accesses}
-use Rattle.a64_effects.specs.Pages.{page_of, same_page}
+use Rattle.a64_effects.specs.Atomic.{one_step}
+use Rattle.a64_effects.specs.Flow.{offset}
 
 -- ---- what is moved
 
@@ -68,19 +64,6 @@ abbrev pub ordered_transfer : OrderedOp → Transfer
 ordered_transfer Stlr = Store
 ordered_transfer Ldar = Load
 
-abbrev pub transfer_of : A64Form → Transfer
-transfer_of (LsUnsigned size v opc imm12 rn rt) = transfer v size opc
-transfer_of (LsUnscaled size v opc imm9 rn rt) = transfer v size opc
-transfer_of (LsPost size v opc imm9 rn rt) = transfer v size opc
-transfer_of (LsPre size v opc imm9 rn rt) = transfer v size opc
-transfer_of (LsReg size v opc rm ext s rn rt) = transfer v size opc
-transfer_of (LsLiteral opc v imm19 rt) = literal_transfer v opc
-transfer_of (Pair opc v mode l imm7 rt2 rn rt) = pair_transfer v opc l
-transfer_of (StoreEx op size rs rn rt) = Store
-transfer_of (LoadEx op size rn rt) = Load
-transfer_of (Ordered op size rn rt) = ordered_transfer op
-transfer_of form = Prefetch
-
 -- ---- addresses
 
 -- a base register, which is SP where its number is 31, and a signed 9-bit offset
@@ -105,36 +88,20 @@ writes_back mode = nat_eq mode 1 || nat_eq mode 3
 
 -- ---- the elements
 
--- one element, and none of a prefetch
-abbrev pub single : Transfer → ℕ → ℕ → ℕ → List Element
-single Prefetch rt a n = []
-single t rt a n = record { lane = 0; register = rt; address = a; bytes = n } ∷ []
-
--- the first register at an address, the second behind it
-abbrev pub couple : ℕ → ℕ → ℕ → ℕ → List Element
-couple rt rt2 a n = record { lane = 0; register = rt; address = a; bytes = n } ∷ record { lane = 0; register = rt2; address = address (a + n); bytes = n } ∷ []
+-- the register that is moved, and none by a prefetch
+abbrev pub moved : Transfer → ℕ → List ℕ
+moved Prefetch rt = []
+moved t rt = rt ∷ []
 
 -- the exclusive monitor keeps this address and this size
 abbrev pub is_kept : Option (ℕ × ℕ) → ℕ → ℕ → Bool
 is_kept None a n = false
 is_kept (Some k) a n = nat_eq k.0 a && nat_eq k.1 n
 
--- an exclusive store whose monitor keeps another address or size has none
-abbrev pub exclusive : Core → ℕ → ℕ → ℕ → List Element
-exclusive c rt a n = if is_kept c.monitor a n then single Store rt a n else []
-
-abbrev pub elements : A64Form → Core → List Element
-elements (LsUnsigned size v opc imm12 rn rt) c = single (transfer v size opc) rt (address (read_x_sp c rn + access_bytes v size opc * imm12)) (access_bytes v size opc)
-elements (LsUnscaled size v opc imm9 rn rt) c = single (transfer v size opc) rt (near c rn imm9) (access_bytes v size opc)
-elements (LsPost size v opc imm9 rn rt) c = single (transfer v size opc) rt (read_x_sp c rn) (access_bytes v size opc)
-elements (LsPre size v opc imm9 rn rt) c = single (transfer v size opc) rt (near c rn imm9) (access_bytes v size opc)
-elements (LsReg size v opc rm ext s rn rt) c = single (transfer v size opc) rt (indexed c rn rm ext s (access_bytes v size opc)) (access_bytes v size opc)
-elements (LsLiteral opc v imm19 rt) c = single (literal_transfer v opc) rt (target c 19 imm19) (literal_bytes v opc)
-elements (Pair opc v mode l imm7 rt2 rn rt) c = couple rt rt2 (pair_address c mode rn (pair_bytes v opc) imm7) (pair_bytes v opc)
-elements (StoreEx op size rs rn rt) c = exclusive c rt (read_x_sp c rn) (2 ^ size)
-elements (LoadEx op size rn rt) c = single Load rt (read_x_sp c rn) (2 ^ size)
-elements (Ordered op size rn rt) c = single (ordered_transfer op) rt (read_x_sp c rn) (2 ^ size)
-elements form c = []
+-- an element of n bytes for each register: the first at an address, and each other one behind the one before
+abbrev pub elements_from : List ℕ → ℕ → ℕ → List Element
+elements_from [] a n = []
+elements_from (r ∷ rs) a n = record { lane = 0; register = r; address = a; bytes = n } ∷ elements_from rs (address (a + n)) n
 
 -- ---- the tests before the access
 
@@ -142,20 +109,6 @@ elements form c = []
 abbrev pub has_sp : Transfer → ℕ → Bool
 has_sp Prefetch rn = false
 has_sp t rn = nat_eq rn 31
-
-abbrev pub has_sp_base : A64Form → Bool
-has_sp_base (LsUnsigned size v opc imm12 rn rt) = has_sp (transfer v size opc) rn
-has_sp_base (LsUnscaled size v opc imm9 rn rt) = has_sp (transfer v size opc) rn
-has_sp_base (LsPost size v opc imm9 rn rt) = has_sp (transfer v size opc) rn
-has_sp_base (LsPre size v opc imm9 rn rt) = has_sp (transfer v size opc) rn
-has_sp_base (LsReg size v opc rm ext s rn rt) = has_sp (transfer v size opc) rn
-has_sp_base (Pair opc v mode l imm7 rt2 rn rt) = nat_eq rn 31
-has_sp_base (StoreEx op size rs rn rt) = nat_eq rn 31
-has_sp_base (LoadEx op size rn rt) = nat_eq rn 31
-has_sp_base (Ordered op size rn rt) = nat_eq rn 31
-has_sp_base (Atomic op size acquires releases rs rn rt) = nat_eq rn 31
-has_sp_base (CompareSwap size acquires releases rs rn rt) = nat_eq rn 31
-has_sp_base form = false
 
 -- and SP isn't a multiple of 16
 abbrev pub is_misaligned : Bool → Core → Bool
@@ -165,16 +118,11 @@ is_misaligned has c = has && not (nat_eq (c.sp % 16) 0)
 abbrev pub unless_multiple : ℕ → ℕ → Option ℕ
 unless_multiple a n = if nat_eq (a % n) 0 then None else Some a
 
--- exclusive, ordered and atomic accesses stand at multiples of their size; the others stand anywhere
-abbrev pub misaligned : A64Form → Core → Option ℕ
-misaligned (StoreEx op size rs rn rt) c = unless_multiple (read_x_sp c rn) (2 ^ size)
-misaligned (LoadEx op size rn rt) c = unless_multiple (read_x_sp c rn) (2 ^ size)
-misaligned (Ordered op size rn rt) c = unless_multiple (read_x_sp c rn) (2 ^ size)
-misaligned (Atomic op size acquires releases rs rn rt) c = unless_multiple (read_x_sp c rn) (2 ^ size)
-misaligned (CompareSwap size acquires releases rs rn rt) c = unless_multiple (read_x_sp c rn) (2 ^ size)
-misaligned form c = None
+-- the same, where the address is tested
+abbrev pub misaligned : Bool → ℕ → ℕ → Option ℕ
+misaligned is_aligned a n = if is_aligned then unless_multiple a n else None
 
--- ---- what is left
+-- ---- what comes behind the access, and what is left
 
 -- what a load of n bytes puts into its register
 abbrev pub loaded_value : Transfer → ℕ → ℕ → ℕ
@@ -203,22 +151,24 @@ with_loaded t m (e ∷ es) r = with_loaded t m es (with_element t e.register e.b
 abbrev pub stored_value : Transfer → Core → Vectors → ℕ → ℕ
 stored_value t c w rt = if is_vector t then lane 128 (read_z w rt) 0 else read_x c rt
 
--- behind an access that was done: the base is written back, with an address made of the old one
-abbrev pub based : Bool → Core → ℕ → ℕ → Core
-based writes c rn a = if writes then with_x_sp c rn 64 a else c
+-- the registers as they are
+abbrev pub unchanged : Core → Core
+unchanged c = c
+
+-- the base is written back
+abbrev pub written_back : ℕ → ℕ → Core → Core
+written_back rn a c = with_x_sp c rn 64 a
+
+abbrev pub written_back_if : Bool → ℕ → ℕ → Core → Core
+written_back_if writes rn a c = if writes then written_back rn a c else c
+
+-- the exclusive monitor keeps an address and a size
+abbrev pub keeping : ℕ → ℕ → Core → Core
+keeping a n c = record c { monitor = Some (a, n) }
 
 -- Ws is 0 where the exclusive store was done, else 1, and the monitor is empty
-abbrev pub after_exclusive : Core → ℕ → Bool → Core
-after_exclusive c rs done = record (with_x c rs 32 (bit (not done))) { monitor = None }
-
--- from the registers before the access, and those with what it loaded
-abbrev pub behind : A64Form → Core → Core → Core
-behind (LsPost size v opc imm9 rn rt) c d = with_x_sp d rn 64 (near c rn imm9)
-behind (LsPre size v opc imm9 rn rt) c d = with_x_sp d rn 64 (near c rn imm9)
-behind (Pair opc v mode l imm7 rt2 rn rt) c d = based (writes_back mode) d rn (pair_near c rn (pair_bytes v opc) imm7)
-behind (StoreEx op size rs rn rt) c d = after_exclusive d rs (is_kept c.monitor (read_x_sp c rn) (2 ^ size))
-behind (LoadEx op size rn rt) c d = record d { monitor = Some (read_x_sp c rn, 2 ^ size) }
-behind form c d = d
+abbrev pub after_exclusive : ℕ → Bool → Core → Core
+after_exclusive rs done c = record (with_x c rs 32 (bit (not done))) { monitor = None }
 
 -- a store that is refused has stored the elements before
 abbrev pub store_as_far : Transfer → Option ℕ → List Element → (Core → Core) → Core → Vectors → Memory → Done
@@ -254,15 +204,37 @@ unless_misaligned None c w m d = d
 abbrev pub tested : Bool → Option ℕ → Core → Vectors → Memory → Done → Done
 tested has at c w m d = if is_misaligned has c then traps c w m SpAlign c.sp else unless_misaligned at c w m d
 
--- what comes after the tests: a load and a store as one step, or elements one after the other
-abbrev pub accessed : A64Form → Core → Vectors → Memory → Done
-accessed (Atomic op size acquires releases rs rn rt) c w m = atomic op (2 ^ size) rs rn rt c w m
-accessed (CompareSwap size acquires releases rs rn rt) c w m = compare_swap (2 ^ size) rs rn rt c w m
-accessed form c w m = transferred (transfer_of form) (elements form c) (behind form c) c w m
+-- ---- the rows
 
-abbrev pub access : A64Form → Core → Vectors → Memory → Done
-access form c w m = tested (has_sp_base form) (misaligned form c) c w m (accessed form c w m)
+-- A row that loads or stores an element for each of its registers, by the registers before it.
+pub record Transferring : Type 0 where
+  -- what becomes of an element's bytes
+  pub transfer : Transfer
+  -- the register of each element, in order
+  pub registers : List ℕ
+  -- of the first element
+  pub address : ℕ
+  -- of each element
+  pub bytes : ℕ
+  -- SP is the base, and has to be a multiple of 16
+  pub tests_sp : Bool
+  -- the address has to be a multiple of the bytes
+  pub is_aligned : Bool
+  -- what comes behind an access that was done: the write-back of the base, and of an exclusive one the monitor
+  pub behind : Core → Core
 
--- the rows of this page
-abbrev pub is_load_store : A64Form → Bool
-is_load_store form = same_page Accesses (page_of form)
+abbrev pub transferred_by : Transferring → Core → Vectors → Memory → Done
+transferred_by r c w m = tested r.tests_sp (misaligned r.is_aligned r.address r.bytes) c w m (transferred r.transfer (elements_from r.registers r.address r.bytes) r.behind c w m)
+
+-- A row that loads and stores the same bytes as one step, by the registers before it.
+pub record Exchanging : Type 0 where
+  pub address : ℕ
+  pub bytes : ℕ
+  pub tests_sp : Bool
+  -- the new value of the bytes, if they get one, by their old value
+  pub new : ℕ → Option ℕ
+  -- the registers behind it, by the old value
+  pub behind : ℕ → Core
+
+abbrev pub exchanged_by : Exchanging → Core → Vectors → Memory → Done
+exchanged_by r c w m = tested r.tests_sp (unless_multiple r.address r.bytes) c w m (one_step r.address r.bytes r.new r.behind c w m)

@@ -1,7 +1,5 @@
--- What each instruction on the scalar registers does to them.
-use Rattle.std.specs.Prelude.{ℕ, ◌+◌, ◌*◌, ◌/◌, ◌%◌, ◌^◌, Bool, true, false, bit_and, bit_or, bit_xor, if◌then◌else◌, unwrap_or, ℤ, pos, ◌+ℤ◌, ◌*ℤ◌}
-use Rattle.a64_insn.specs.declared.form.A64Form.{A64Form}
-use Rattle.a64_insn.specs.declared.form.A64Form.TheVariants.{Adr, AddImm, LogicImm, MoveWide, Bitfield, Extract, LogicReg, AddReg, AddExt, AddCarry, CondReg, CondImm, Select, MulAdd, MulLong, MulHigh, TwoSource, OneSource, Rev}
+-- What instructions make of the values of scalar registers, and of the flags.
+use Rattle.std.specs.Prelude.{ℕ, ◌+◌, ◌*◌, ◌/◌, ◌%◌, ◌^◌, Bool, true, false, bit_and, bit_or, bit_xor, if◌then◌else◌, ℤ, pos, ◌+ℤ◌, ◌*ℤ◌}
 use Rattle.a64_insn.specs.declared.ops.AdrOp.{AdrOp}
 use Rattle.a64_insn.specs.declared.ops.AdrOp.TheVariants.{Adr as AdrByte, Adrp}
 use Rattle.a64_insn.specs.declared.ops.AddOp.{AddOp}
@@ -32,15 +30,12 @@ use Rattle.a64_insn.specs.declared.ops.OneSourceOp.{OneSourceOp}
 use Rattle.a64_insn.specs.declared.ops.OneSourceOp.TheVariants.{Rbit, Rev16, Clz, Cls}
 use Rattle.a64_insn.specs.declared.ops.RevOp.{RevOp}
 use Rattle.a64_insn.specs.declared.ops.RevOp.TheVariants.{RevW, RevX, Rev32}
-use Rattle.emu_bits.specs.Fields.{bit, field}
+use Rattle.emu_bits.specs.Fields.{field}
 use Rattle.emu_bits.specs.Flags.{cond_of, cond_holds, flags_of_number}
-use Rattle.emu_bits.specs.Numbers.{width_of, signed, unsigned_int, sign_extended, extended, sum_of, flags_of_sum}
-use Rattle.emu_bits.specs.Bitmask.{bitmask_of}
+use Rattle.emu_bits.specs.Numbers.{signed, unsigned_int, sign_extended, sum_of, flags_of_sum}
 use Rattle.emu_bits.specs.declared.flags.Flags.{Flags}
 use Rattle.emu_model.specs.State.{Core, read_x, read_x_sp, with_x, with_x_sp}
-use Rattle.emu_bits.specs.Operations.{complement, difference, flags_of_result, lsl, lsr, asr, ror, shifted, extracted, replaced, field_from, field_bits, field_to, signed_product, upper_product, signed_upper_product, unsigned_quotient, signed_quotient, reversed_bits, reversed_bytes, leading_zeros, leading_copies}
-use Rattle.a64_effects.specs.declared.pages.Page.TheVariants.{Data}
-use Rattle.a64_effects.specs.Pages.{page_of, same_page}
+use Rattle.emu_bits.specs.Operations.{complement, difference, flags_of_result, lsl, lsr, asr, ror, replaced, field_from, field_bits, field_to, signed_product, upper_product, signed_upper_product, unsigned_quotient, signed_quotient, reversed_bits, reversed_bytes, leading_zeros, leading_copies}
 
 -- the low w bits of a register; register 31 reads 0
 abbrev pub operand : ℕ → Core → ℕ → ℕ
@@ -224,34 +219,3 @@ abbrev pub byte_reversed : RevOp → ℕ → ℕ
 byte_reversed RevW a = reversed_bytes 4 4 a
 byte_reversed RevX a = reversed_bytes 8 8 a
 byte_reversed Rev32 a = reversed_bytes 4 8 a
-
--- ---- the data rows
-
--- the rows that work on the scalar registers and the flags alone
-abbrev pub is_data : A64Form → Bool
-is_data form = same_page Data (page_of form)
-
--- The registers after an instruction of the data rows, which goes on behind it.
-abbrev pub scalar : A64Form → Core → Core
-scalar (Adr op immlo immhi rd) c = with_x c rd 64 (adr_target op c.pc (adr_offset immlo immhi))
-scalar (AddImm op sf sh imm rn rd) c = after_add_sp op (width_of sf) rd (operand_sp (width_of sf) c rn) (shifted_12 sh imm) c
--- each instruction of the row has a bitmask
-scalar (LogicImm op sf n immr imms rn rd) c = after_logic_imm op (width_of sf) rd (operand (width_of sf) c rn) (unwrap_or (bitmask_of (width_of sf) (bit n) immr imms) 0) c
-scalar (MoveWide op sf hw imm rd) c = with_x c rd (width_of sf) (moved op (width_of sf) imm (16 * hw) (read_x c rd))
-scalar (Bitfield op sf n r s rn rd) c = after_bitfield op (width_of sf) r s rn rd c
-scalar (Extract sf n rm s rn rd) c = with_x c rd (width_of sf) (extracted (width_of sf) (operand (width_of sf) c rn) (operand (width_of sf) c rm) s)
-scalar (LogicReg op sf shift rm amount rn rd) c = after_logic_reg op (width_of sf) rd (operand (width_of sf) c rn) (shifted (width_of sf) shift (operand (width_of sf) c rm) amount) c
-scalar (AddReg op sf shift rm amount rn rd) c = after_add op (width_of sf) rd (operand (width_of sf) c rn) (shifted (width_of sf) shift (operand (width_of sf) c rm) amount) c
-scalar (AddExt op sf rm ext a rn rd) c = after_add_sp op (width_of sf) rd (operand_sp (width_of sf) c rn) (lsl (width_of sf) (extended ext (read_x c rm)) a) c
-scalar (AddCarry op sf rm rn rd) c = after_add_carry op (width_of sf) rd (operand (width_of sf) c rn) (operand (width_of sf) c rm) c
-scalar (CondReg op sf rm cond rn f) c = after_compare op (width_of sf) (operand (width_of sf) c rn) (operand (width_of sf) c rm) cond f c
-scalar (CondImm op sf i cond rn f) c = after_compare op (width_of sf) (operand (width_of sf) c rn) i cond f c
-scalar (Select op sf rm cond rn rd) c = with_x c rd (width_of sf) (if cond_holds (cond_of cond) c.flags then operand (width_of sf) c rn else otherwise op (width_of sf) (operand (width_of sf) c rm))
-scalar (MulAdd op sf rm ra rn rd) c = with_x c rd (width_of sf) (multiplied op (width_of sf) (operand (width_of sf) c ra) (operand (width_of sf) c rn * operand (width_of sf) c rm))
-scalar (MulLong op rm ra rn rd) c = with_x c rd 64 (multiplied_long op (operand 64 c ra) (operand 32 c rn) (operand 32 c rm))
-scalar (MulHigh op rm rn rd) c = with_x c rd 64 (multiplied_high op (operand 64 c rn) (operand 64 c rm))
-scalar (TwoSource op sf rm rn rd) c = with_x c rd (width_of sf) (of_two op (width_of sf) (operand (width_of sf) c rn) (operand (width_of sf) c rm))
-scalar (OneSource op sf rn rd) c = with_x c rd (width_of sf) (of_one op (width_of sf) (operand (width_of sf) c rn))
-scalar (Rev op rn rd) c = with_x c rd (rev_width op) (byte_reversed op (operand (rev_width op) c rn))
--- the other rows work on more than the scalar registers, and stand elsewhere
-scalar form c = c

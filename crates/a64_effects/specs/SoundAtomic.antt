@@ -1,15 +1,13 @@
 -- Loads and stores as one step keep the registers and the memory sound.
-use Rattle.std.specs.Prelude.{ℕ, ◌==◌, ◌≤◌, Option, Some, None, IfSome}
-use Rattle.std.proofs.Common.{arith}
-use Rattle.a64_insn.specs.declared.ops.AtomicOp.{AtomicOp}
+use Rattle.std.specs.Prelude.{ℕ, Option, Some, None, IfSome}
 use Rattle.emu_model.specs.declared.access.Kind.TheVariants.{Read as ReadKind, Write as WriteKind}
 use Rattle.emu_model.specs.declared.trap.TrapKind.TheVariants.{Read, Write}
 use Rattle.emu_model.specs.Access.{Memory, refused, value}
 use Rattle.emu_model.specs.Done.{Done}
-use Rattle.emu_model.specs.Sound.{stored_sound, refused_is_word, with_x_sound}
+use Rattle.emu_model.specs.Sound.{stored_sound, refused_is_word}
 use Rattle.emu_model.specs.SoundDone.{IsSoundDone, traps_sound}
-use Rattle.emu_model.specs.State.{Core, Vectors, read_x_sp, with_x, IsWord, IsSoundCore, IsSoundVectors, IsSoundMemory}
-use Rattle.a64_effects.specs.Atomic.{low_bytes, updated, swapped, exchanged, unless_refused, one_step, atomic, compare_swap}
+use Rattle.emu_model.specs.State.{Core, Vectors, IsWord, IsSoundCore, IsSoundVectors, IsSoundMemory}
+use Rattle.a64_effects.specs.Atomic.{exchanged, unless_refused, one_step}
 
 module _ (c : Core) (v : Vectors) (m : Memory) (s : IsSoundCore c) (y : IsSoundVectors v) (t : IsSoundMemory m) where
   exchanged_sound : (a n : ℕ) (new : Option ℕ) (d : Core) → IsSoundCore d → IsSoundDone (exchanged a n new d v m)
@@ -21,14 +19,8 @@ module _ (c : Core) (v : Vectors) (m : Memory) (s : IsSoundCore c) (y : IsSoundV
   unless_sound None (Some a) d r w h = traps_sound c v m Write a s y t w
   unless_sound None None d r w h = h
 
-  step_sound : (a n : ℕ) (new : ℕ → Option ℕ) (rd : ℕ) → IsSoundDone (one_step a n new (with_x c rd 64) c v m)
-  step_sound a n new rd =
+  pub one_step_sound : (a n : ℕ) (new : ℕ → Option ℕ) (after : ℕ → Core) → ((o : ℕ) → IsSoundCore (after o)) → IsSoundDone (one_step a n new after c v m)
+  one_step_sound a n new after keeps =
       let o : ℕ = value m a n in
-      unless_sound (refused m a n ReadKind) (refused m a n WriteKind) (exchanged a n (new o) (with_x c rd 64 o) v m) (refused_is_word m a n ReadKind) (refused_is_word m a n WriteKind)
-      (exchanged_sound a n (new o) (with_x c rd 64 o) (with_x_sound c rd 64 o (omega arith) s))
-
-  pub atomic_sound : (op : AtomicOp) (n rs rn rt : ℕ) → IsSoundDone (atomic op n rs rn rt c v m)
-  atomic_sound op n rs rn rt = step_sound (read_x_sp c rn) n (λ o. Some (updated op n o (low_bytes n c rs))) rt
-
-  pub compare_swap_sound : (n rs rn rt : ℕ) → IsSoundDone (compare_swap n rs rn rt c v m)
-  compare_swap_sound n rs rn rt = step_sound (read_x_sp c rn) n (λ o. swapped (o == low_bytes n c rs) (low_bytes n c rt)) rs
+      unless_sound (refused m a n ReadKind) (refused m a n WriteKind) (exchanged a n (new o) (after o) v m) (refused_is_word m a n ReadKind) (refused_is_word m a n WriteKind)
+      (exchanged_sound a n (new o) (after o) (keeps o))

@@ -1,14 +1,12 @@
 -- Loads and stores keep the registers and the memory sound.
-use Rattle.std.specs.Prelude.{ℕ, ◌*◌, ◌%◌, ◌^◌, Bool, true, false, not, List, [], ◌∷◌, Option, Some, None, IfSome, nat_eq, if◌then◌else◌}
+use Rattle.std.specs.Prelude.{ℕ, ◌*◌, ◌%◌, Bool, true, false, not, List, [], ◌∷◌, Option, Some, None, IfSome, nat_eq, if◌then◌else◌}
 use Rattle.std.proofs.Common.{arith}
-use Rattle.a64_insn.specs.declared.form.A64Form.{A64Form}
-use Rattle.a64_insn.specs.declared.form.A64Form.TheVariants.{LsPost, LsPre, Pair, StoreEx, LoadEx, Ordered, Atomic, CompareSwap}
 use Rattle.emu_bits.specs.Fields.{bit}
 use Rattle.emu_model.specs.declared.access.Kind.TheVariants.{Read as ReadKind, Write as WriteKind}
 use Rattle.emu_model.specs.declared.trap.TrapKind.TheVariants.{SpAlign, AccessAlign}
 use Rattle.emu_model.specs.Access.{Memory, value}
 use Rattle.emu_model.specs.Sound.{with_x_sound, with_x_sp_sound, monitor_sound}
-use Rattle.emu_model.specs.State.{Core, Vectors, read_x_sp, with_x, with_x_sp, IsWord, IsSoundCore, IsSoundVectors, IsSoundMemory}
+use Rattle.emu_model.specs.State.{Core, Vectors, with_x, IsWord, IsSoundCore, IsSoundVectors, IsSoundMemory}
 use Rattle.emu_model.specs.Done.{Done, Registers, traps}
 use Rattle.vec_model.specs.Lanes.{with_low}
 use Rattle.vec_model.specs.SoundLanes.{sound_low}
@@ -16,10 +14,10 @@ use Rattle.emu_model.specs.Elements.{Element, reach}
 use Rattle.emu_model.specs.SoundElements.{stop_is_word, with_stored_sound}
 use Rattle.a64_effects.specs.declared.transfer.Transfer.{Transfer}
 use Rattle.a64_effects.specs.declared.transfer.Transfer.TheVariants.{Store, Load, LoadSigned, LoadSigned32, Prefetch, StoreVector, LoadVector}
-use Rattle.a64_effects.specs.LoadStore.{transfer_of, near, pair_near, pair_bytes, writes_back, is_kept, elements, has_sp_base, is_misaligned, unless_multiple, misaligned, loaded_value, is_vector, with_element, with_loaded, stored_value, based, behind, store_as_far, went_with, load_as_far, stored_to, loaded_to, transferred, unless_misaligned, tested, accessed, access}
+use Rattle.a64_effects.specs.LoadStore.{Transferring, Exchanging, elements_from, is_misaligned, unless_multiple, misaligned, loaded_value, is_vector, with_element, with_loaded, stored_value, written_back, written_back_if, keeping, after_exclusive, store_as_far, went_with, load_as_far, stored_to, loaded_to, transferred, unless_misaligned, tested, transferred_by, exchanged_by}
+use Rattle.a64_effects.specs.Atomic.{one_step}
 use Rattle.emu_model.specs.SoundDone.{IsSoundDone, IsSoundRegisters, traps_sound}
-use Rattle.a64_effects.specs.SoundAtomic.{atomic_sound, compare_swap_sound}
-use Rattle.a64_effects.specs.SoundFlow.{read_x_sp_is_word}
+use Rattle.a64_effects.specs.SoundAtomic.{one_step_sound}
 
 -- ---- what is loaded
 
@@ -37,23 +35,39 @@ with_loaded_sound transfer m (e ∷ es) r s =
 
 -- ---- what stands behind an access
 
-based_sound : (writes : Bool) (c : Core) (rn a : ℕ) → IsSoundCore c → IsSoundCore (based writes c rn a)
-based_sound writes c rn a s = elim writes as (λ b. IsSoundCore (if b then with_x_sp c rn 64 a else c)) [
-  | true ↦ with_x_sp_sound c rn 64 a (omega arith) s
-  | false ↦ s
+pub written_back_sound : (rn a : ℕ) (c : Core) → IsSoundCore c → IsSoundCore (written_back rn a c)
+written_back_sound rn a c s = with_x_sp_sound c rn 64 a (omega arith) s
+
+pub written_back_if_sound : (writes : Bool) (rn a : ℕ) (c : Core) → IsSoundCore c → IsSoundCore (written_back_if writes rn a c)
+written_back_if_sound true rn a c s = written_back_sound rn a c s
+written_back_if_sound false rn a c s = s
+
+pub keeping_sound : (a n : ℕ) → IsWord a → (c : Core) → IsSoundCore c → IsSoundCore (keeping a n c)
+keeping_sound a n w c s = monitor_sound c (Some (a, n)) w s
+
+pub after_exclusive_sound : (rs : ℕ) (done : Bool) (c : Core) → IsSoundCore c → IsSoundCore (after_exclusive rs done c)
+after_exclusive_sound rs done c s =
+    let v : ℕ = bit (not done) in
+    monitor_sound (with_x c rs 32 v) None tt (with_x_sound c rs 32 v (omega arith) s)
+
+-- ---- an address that is tested
+
+pub multiple_is_word : (a n : ℕ) → IsWord a → IfSome (unless_multiple a n) IsWord
+multiple_is_word a n w = elim (nat_eq (a % n) 0) as (λ b. IfSome (if b then None else Some a) IsWord) [
+  | true ↦ tt
+  | false ↦ w
 ]
 
-behind_sound : (form : A64Form) (c d : Core) → IsSoundCore c → IsSoundCore d → IsSoundCore (behind form c d)
-behind_sound (LsPost size v opc imm9 rn rt) c d s u = with_x_sp_sound d rn 64 (near c rn imm9) (omega arith) u
-behind_sound (LsPre size v opc imm9 rn rt) c d s u = with_x_sp_sound d rn 64 (near c rn imm9) (omega arith) u
-behind_sound (Pair opc v mode l imm7 rt2 rn rt) c d s u = based_sound (writes_back mode) d rn (pair_near c rn (pair_bytes v opc) imm7) u
-behind_sound (StoreEx op size rs rn rt) c d s u =
-    let v : ℕ = bit (not (is_kept c.monitor (read_x_sp c rn) (2 ^ size))) in
-    monitor_sound (with_x d rs 32 v) None tt (with_x_sound d rs 32 v (omega arith) u)
-behind_sound (LoadEx op size rn rt) c d s u = monitor_sound d (Some (read_x_sp c rn, 2 ^ size)) (read_x_sp_is_word c rn s) u
-behind_sound form c d s u = u
-
 -- ---- the rows
+
+-- the address that is tested is one, and what comes behind leaves sound registers
+pub record IsSoundTransferring (r : Transferring) : Type 0 where
+  pub address : IfSome (misaligned r.is_aligned r.address r.bytes) IsWord
+  pub behind : (c : Core) → IsSoundCore c → IsSoundCore (r.behind c)
+
+pub record IsSoundExchanging (r : Exchanging) : Type 0 where
+  pub address : IsWord r.address
+  pub behind : (o : ℕ) → IsSoundCore (r.behind o)
 
 module _ (c : Core) (x : Vectors) (m : Memory) (s : IsSoundCore c) (y : IsSoundVectors x) (t : IsSoundMemory m) where
   module _ (after : Core → Core) (keeps : (d : Core) → IsSoundCore d → IsSoundCore (after d)) where
@@ -87,30 +101,18 @@ module _ (c : Core) (x : Vectors) (m : Memory) (s : IsSoundCore c) (y : IsSoundV
   unless_sound (Some a) d w h = traps_sound c x m AccessAlign a s y t w
   unless_sound None d w h = h
 
-  multiple_is_word : (a n : ℕ) → IsWord a → IfSome (unless_multiple a n) IsWord
-  multiple_is_word a n w = elim (nat_eq (a % n) 0) as (λ b. IfSome (if b then None else Some a) IsWord) [
-    | true ↦ tt
-    | false ↦ w
-  ]
-
-  misaligned_is_word : (form : A64Form) → IfSome (misaligned form c) IsWord
-  misaligned_is_word (StoreEx op size rs rn rt) = multiple_is_word (read_x_sp c rn) (2 ^ size) (read_x_sp_is_word c rn s)
-  misaligned_is_word (LoadEx op size rn rt) = multiple_is_word (read_x_sp c rn) (2 ^ size) (read_x_sp_is_word c rn s)
-  misaligned_is_word (Ordered op size rn rt) = multiple_is_word (read_x_sp c rn) (2 ^ size) (read_x_sp_is_word c rn s)
-  misaligned_is_word (Atomic op size acquires releases rs rn rt) = multiple_is_word (read_x_sp c rn) (2 ^ size) (read_x_sp_is_word c rn s)
-  misaligned_is_word (CompareSwap size acquires releases rs rn rt) = multiple_is_word (read_x_sp c rn) (2 ^ size) (read_x_sp_is_word c rn s)
-  misaligned_is_word form = tt
-
   tested_sound : (has : Bool) (o : Option ℕ) (d : Done) → IfSome o IsWord → IsSoundDone d → IsSoundDone (tested has o c x m d)
   tested_sound has o d w h = elim (is_misaligned has c) as (λ b. IsSoundDone (if b then traps c x m SpAlign c.sp else unless_misaligned o c x m d)) [
     | true ↦ traps_sound c x m SpAlign c.sp s y t s.sp
     | false ↦ unless_sound o d w h
   ]
 
-  accessed_sound : (form : A64Form) → IsSoundDone (accessed form c x m)
-  accessed_sound (Atomic op size acquires releases rs rn rt) = atomic_sound c x m s y t op (2 ^ size) rs rn rt
-  accessed_sound (CompareSwap size acquires releases rs rn rt) = compare_swap_sound c x m s y t (2 ^ size) rs rn rt
-  accessed_sound form = transferred_sound (behind form c) (λ d u. behind_sound form c d s u) (transfer_of form) (elements form c)
+  pub transferred_by_sound : (r : Transferring) → IsSoundTransferring r → IsSoundDone (transferred_by r c x m)
+  transferred_by_sound r u =
+      let es : List Element = elements_from r.registers r.address r.bytes in
+      tested_sound r.tests_sp (misaligned r.is_aligned r.address r.bytes) (transferred r.transfer es r.behind c x m) u.address (transferred_sound r.behind u.behind r.transfer es)
 
-  pub access_sound : (form : A64Form) → IsSoundDone (access form c x m)
-  access_sound form = tested_sound (has_sp_base form) (misaligned form c) (accessed form c x m) (misaligned_is_word form) (accessed_sound form)
+  pub exchanged_by_sound : (r : Exchanging) → IsSoundExchanging r → IsSoundDone (exchanged_by r c x m)
+  exchanged_by_sound r u =
+      tested_sound r.tests_sp (unless_multiple r.address r.bytes) (one_step r.address r.bytes r.new r.behind c x m) (multiple_is_word r.address r.bytes u.address)
+      (one_step_sound c x m s y t r.address r.bytes r.new r.behind u.behind)

@@ -2,9 +2,9 @@
 //! the plain types that they match on.
 #![tactic(auto)]
 
+pub mod groups;
 pub mod laws;
-pub mod pages;
 pub mod transfer;
 
-pub use pages::{Page, page_of};
+pub use groups::{Group, group_of};
 pub use transfer::Transfer;

@@ -6,8 +6,8 @@ ghost use Rattle.emu_model.specs.declared.trap.Effect.{Effect};
 ghost use Rattle.emu_model.specs.Access.{refused, value};
 ghost use Rattle.emu_model.specs.Done.{Done, quietly};
 ghost use Rattle.emu_model.specs.State.{Core as CoreState, Vectors};
-ghost use Rattle.a64_effects.specs.Atomic as page;
-ghost use Rattle.a64_effects.specs.LoadStore as table;
+ghost use Rattle.a64_effects.specs.Atomic as step;
+ghost use Rattle.a64_effects.specs.Groups.{access};
 ghost use Rattle.a64_flow.specs.Ends.{ended};
 ghost use Rattle.a64_flow.specs.Groups.{is_atomic};
 
@@ -23,7 +23,7 @@ use guest_mem::{Access, AccessLog, Kind, Mem};
 pub(crate) fn exec(core: &mut Core, mem: &mut Mem, log: &mut AccessLog, i: &A64) -> Result<(), Trap>
     requires own { is_atomic i.now ≡ true }
     requires empty { log.old.items ≡ [] }
-    ensures { (v : Vectors) → table.access i.now core.old v mem.old ≡ ended result core.new v mem.new log.new.items }
+    ensures { (v : Vectors) → access i.now core.old v mem.old ≡ ended result core.new v mem.new log.new.items }
 {
     match *i.form() {
         A64Form::Atomic {
@@ -58,7 +58,7 @@ fn atomic(
     rt: Reg,
 ) -> Result<(), Trap>
     requires { log.old.items ≡ [] }
-    ensures { (acquires : Bool) (releases : Bool) (v : Vectors) → table.access (A64Form.Atomic op size acquires releases rs rn rt) core.old v mem.old
+    ensures { (acquires : Bool) (releases : Bool) (v : Vectors) → access (A64Form.Atomic op size acquires releases rs rn rt) core.old v mem.old
         ≡ ended result core.new v mem.new log.new.items }
 {
     test_sp(core, rn.get() == 31)?;
@@ -82,7 +82,7 @@ fn compare_swap(
     rt: Reg,
 ) -> Result<(), Trap>
     requires { log.old.items ≡ [] }
-    ensures { (acquires : Bool) (releases : Bool) (v : Vectors) → table.access (A64Form.CompareSwap size acquires releases rs rn rt) core.old v mem.old
+    ensures { (acquires : Bool) (releases : Bool) (v : Vectors) → access (A64Form.CompareSwap size acquires releases rs rn rt) core.old v mem.old
         ≡ ended result core.new v mem.new log.new.items }
 {
     test_sp(core, rn.get() == 31)?;
@@ -107,7 +107,7 @@ fn granted(mem: &mut Mem, address: u64, n: u32) -> Result<u64, Trap>
     ensures result { MatchResult result
         (λ o. (refused mem.old address n Kind.Read ≡ None) × ((refused mem.old address n Kind.Write ≡ None) × (o ≡ value mem.old address n)))
         (λ trap. (c : CoreState) (v : Vectors) (d : Done)
-        → page.unless_refused (refused mem.old address n Kind.Read) (refused mem.old address n Kind.Write) c v mem.old d ≡ quietly c v mem.old (Effect.Trap trap)) }
+        → step.unless_refused (refused mem.old address n Kind.Read) (refused mem.old address n Kind.Write) c v mem.old d ≡ quietly c v mem.old (Effect.Trap trap)) }
     ensures memory { mem.new ≡ mem.old }
 {
     let old = match mem.load(address, n, Kind::Read) {
@@ -132,7 +132,7 @@ fn granted(mem: &mut Mem, address: u64, n: u32) -> Result<u64, Trap>
 fn updated(op: AtomicOp, n: u32, old: u64, by: u64) -> u128
     requires some { 1 ≤ n }
     requires most { n ≤ 8 }
-    ensures { result ≡ page.updated op n old by }
+    ensures { result ≡ step.updated op n old by }
 {
     let less_or_same = sext(old, 8 * n) <= sext(by, 8 * n);
     match op {
@@ -154,7 +154,7 @@ fn exchange(mem: &mut Mem, log: &mut AccessLog, new: Option<u128>, address: u64,
     requires most { n ≤ 8 }
     requires empty { log.old.items ≡ [] }
     requires writable { refused mem.old address n Kind.Write ≡ None }
-    ensures { (c : CoreState) (v : Vectors) → page.exchanged address n new c v mem.old
+    ensures { (c : CoreState) (v : Vectors) → step.exchanged address n new c v mem.old
         ≡ record { core = c; vectors = v; memory = mem.new; accesses = log.new.items; effect = Effect.Next } }
 {
     log.push(Access {

@@ -3,8 +3,9 @@ ghost use Rattle.std.specs.Prelude.{◌≡◌, ◌≤◌};
 ghost use Rattle.a64_insn.specs.declared.form.A64Form.{A64Form};
 ghost use Rattle.emu_bits.specs.Numbers.{width_of};
 ghost use Rattle.emu_model.specs.Access.{Memory};
-ghost use Rattle.emu_model.specs.State.{Core as CoreState, Vectors, read_x, with_x};
+ghost use Rattle.emu_model.specs.State.{Vectors, read_x, with_x};
 ghost use Rattle.emu_model.specs.Done.{quietly};
+ghost use Rattle.a64_effects.specs.Groups.{flow};
 ghost use Rattle.a64_effects.specs.Flow as table;
 ghost use Rattle.a64_effects.specs.Scalar as scalar;
 
@@ -16,7 +17,7 @@ use emu_bits::{Cond, Flags, Reg, U, sext};
 
 /// `b`, `bl`: to the target; bl links.
 pub(crate) fn branch(core: &mut Core, op: BranchOp, imm26: U<26>) -> Effect
-    ensures { (v : Vectors) (m : Memory) → table.flow (A64Form.Branch op imm26) core.old v m ≡ quietly core.new v m result }
+    ensures { (v : Vectors) (m : Memory) → flow (A64Form.Branch op imm26) core.old v m ≡ quietly core.new v m result }
 {
     let to = target(core, imm26.get(), 26);
     match op {
@@ -28,7 +29,7 @@ pub(crate) fn branch(core: &mut Core, op: BranchOp, imm26: U<26>) -> Effect
 
 /// `b.cond`: to the target where the condition holds.
 pub(crate) fn branch_cond(core: &Core, imm19: U<19>, cond: U<4>) -> Effect
-    ensures { (v : Vectors) (m : Memory) → table.flow (A64Form.BranchCond imm19 cond) core.now v m ≡ quietly core.now v m result }
+    ensures { (v : Vectors) (m : Memory) → flow (A64Form.BranchCond imm19 cond) core.now v m ≡ quietly core.now v m result }
 {
     branch_if(
         Cond::of_number(cond).holds(core.flags()),
@@ -38,7 +39,7 @@ pub(crate) fn branch_cond(core: &Core, imm19: U<19>, cond: U<4>) -> Effect
 
 /// `cbz`, `cbnz`: to the target where the register is 0, or isn't.
 pub(crate) fn compare(core: &Core, op: CompareOp, sf: bool, imm19: U<19>, rt: Reg) -> Effect
-    ensures { (v : Vectors) (m : Memory) → table.flow (A64Form.Compare op sf imm19 rt) core.now v m ≡ quietly core.now v m result }
+    ensures { (v : Vectors) (m : Memory) → flow (A64Form.Compare op sf imm19 rt) core.now v m ≡ quietly core.now v m result }
 {
     let v = operand(core, sf, rt);
     let taken = match op {
@@ -50,7 +51,7 @@ pub(crate) fn compare(core: &Core, op: CompareOp, sf: bool, imm19: U<19>, rt: Re
 
 /// `tbz`, `tbnz`: to the target where bit b5:b40 of the register is 0, or is 1.
 pub(crate) fn test(core: &Core, op: TestOp, b5: bool, b40: U<5>, imm14: U<14>, rt: Reg) -> Effect
-    ensures { (v : Vectors) (m : Memory) → table.flow (A64Form.Test op b5 b40 imm14 rt) core.now v m ≡ quietly core.now v m result }
+    ensures { (v : Vectors) (m : Memory) → flow (A64Form.Test op b5 b40 imm14 rt) core.now v m ≡ quietly core.now v m result }
 {
     let place = 32 * u32::from(b5) + b40.get();
     let digit = (core.x(rt) >> place) % 2;
@@ -63,7 +64,7 @@ pub(crate) fn test(core: &Core, op: TestOp, b5: bool, b40: U<5>, imm14: U<14>, r
 
 /// `br`, `blr`, `ret`: to the address in a register; blr reads it before it links.
 pub(crate) fn branch_reg(core: &mut Core, op: BranchRegOp, rn: Reg) -> Effect
-    ensures { (v : Vectors) (m : Memory) → table.flow (A64Form.BranchReg op rn) core.old v m ≡ quietly core.new v m result }
+    ensures { (v : Vectors) (m : Memory) → flow (A64Form.BranchReg op rn) core.old v m ≡ quietly core.new v m result }
 {
     let to = core.x(rn);
     match op {
@@ -75,7 +76,7 @@ pub(crate) fn branch_reg(core: &mut Core, op: BranchRegOp, rn: Reg) -> Effect
 
 /// `svc`, `brk`, `hlt`: a call, and two traps.
 pub(crate) fn except(core: &Core, op: ExceptOp, imm16: U<16>) -> Effect
-    ensures { (v : Vectors) (m : Memory) → table.flow (A64Form.Except op imm16) core.now v m ≡ quietly core.now v m result }
+    ensures { (v : Vectors) (m : Memory) → flow (A64Form.Except op imm16) core.now v m ≡ quietly core.now v m result }
 {
     let kind = match op {
         ExceptOp::Svc => return Effect::Call,
@@ -153,7 +154,7 @@ fn link(core: &mut Core)
 
 /// To the target where the branch is taken, else on.
 fn branch_if(taken: bool, to: u64) -> Effect
-    ensures { (c : CoreState) (v : Vectors) (m : Memory) → table.branches_if taken c v m to ≡ quietly c v m result }
+    ensures { result ≡ table.branches_if taken to }
 {
     if taken {
         Effect::Branch(to)

@@ -168,7 +168,7 @@ pub(crate) fn single(
     requires most { n ≤ greatest_of t }
     requires size { IsLowSize (8 * n) }
     requires empty { log.old.items ≡ [] }
-    ensures { (after : CoreState → CoreState) → table.transferred t (table.single t rt address n) after core.old vec.old mem.old
+    ensures { (after : CoreState → CoreState) → table.transferred t (table.elements_from (table.moved t rt) address n) after core.old vec.old mem.old
         ≡ followed_by after result core.new vec.new mem.new log.new.items }
 {
     match t {
@@ -181,7 +181,33 @@ pub(crate) fn single(
     }
 }
 
+/// Stores two registers, one behind the other. The usual number of bytes has the code for itself.
+#[inline(always)]
+fn store_couple_sized(
+    core: &Core,
+    vec: &VecRegs,
+    mem: &mut Mem,
+    log: &mut AccessLog,
+    t: Transfer,
+    rt: Reg,
+    rt2: Reg,
+    address: u64,
+    n: u32,
+) -> Result<(), Trap>
+    requires some { 1 ≤ n }
+    requires most { n ≤ 16 }
+    requires empty { log.old.items ≡ [] }
+    ensures { (after : CoreState → CoreState) → table.stored_to t (reach mem.old Kind.Write (table.elements_from (rt ∷ rt2 ∷ []) address n)) after core.now vec.now mem.old
+        ≡ followed_by after result core.now vec.now mem.new log.new.items }
+{
+    match n {
+        8 => store_couple(core, vec, mem, log, t, rt, rt2, address, n),
+        _ => store_couple(core, vec, mem, log, t, rt, rt2, address, n),
+    }
+}
+
 /// Stores two registers, one behind the other.
+#[inline(always)]
 #[tactic(auto, using(emu_model::specs::AccessLaws::refused_stored))]
 fn store_couple(
     core: &Core,
@@ -197,7 +223,7 @@ fn store_couple(
     requires some { 1 ≤ n }
     requires most { n ≤ 16 }
     requires empty { log.old.items ≡ [] }
-    ensures { (after : CoreState → CoreState) → table.stored_to t (reach mem.old Kind.Write (table.couple rt rt2 address n)) after core.now vec.now mem.old
+    ensures { (after : CoreState → CoreState) → table.stored_to t (reach mem.old Kind.Write (table.elements_from (rt ∷ rt2 ∷ []) address n)) after core.now vec.now mem.old
         ≡ followed_by after result core.now vec.now mem.new log.new.items }
 {
     let first = stored_value(core, vec, t, rt);
@@ -206,7 +232,34 @@ fn store_couple(
     store_here(mem, log, second, address.wrapping_add(n as u64), n)
 }
 
+/// Loads two registers, one behind the other, or none. The usual number of bytes has the code for itself.
+#[inline(always)]
+fn load_couple_sized(
+    core: &mut Core,
+    vec: &mut VecRegs,
+    mem: &mut Mem,
+    log: &mut AccessLog,
+    t: Transfer,
+    rt: Reg,
+    rt2: Reg,
+    address: u64,
+    n: u32,
+) -> Result<(), Trap>
+    requires some { 1 ≤ n }
+    requires most { n ≤ greatest_of t }
+    requires size { IsLowSize (8 * n) }
+    requires empty { log.old.items ≡ [] }
+    ensures { (after : CoreState → CoreState) → table.loaded_to t (reach mem.old Kind.Read (table.elements_from (rt ∷ rt2 ∷ []) address n)) after core.old vec.old mem.old
+        ≡ followed_by after result core.new vec.new mem.new log.new.items }
+{
+    match n {
+        8 => load_couple(core, vec, mem, log, t, rt, rt2, address, n),
+        _ => load_couple(core, vec, mem, log, t, rt, rt2, address, n),
+    }
+}
+
 /// Loads two registers, one behind the other, or none.
+#[inline(always)]
 fn load_couple(
     core: &mut Core,
     vec: &mut VecRegs,
@@ -222,7 +275,7 @@ fn load_couple(
     requires most { n ≤ greatest_of t }
     requires size { IsLowSize (8 * n) }
     requires empty { log.old.items ≡ [] }
-    ensures { (after : CoreState → CoreState) → table.loaded_to t (reach mem.old Kind.Read (table.couple rt rt2 address n)) after core.old vec.old mem.old
+    ensures { (after : CoreState → CoreState) → table.loaded_to t (reach mem.old Kind.Read (table.elements_from (rt ∷ rt2 ∷ []) address n)) after core.old vec.old mem.old
         ≡ followed_by after result core.new vec.new mem.new log.new.items }
 {
     let first = load_here(mem, log, address, n)?;
@@ -249,13 +302,13 @@ pub(crate) fn couple(
     requires most { n ≤ greatest_of t }
     requires size { IsLowSize (8 * n) }
     requires empty { log.old.items ≡ [] }
-    ensures { (after : CoreState → CoreState) → table.transferred t (table.couple rt rt2 address n) after core.old vec.old mem.old
+    ensures { (after : CoreState → CoreState) → table.transferred t (table.elements_from (rt ∷ rt2 ∷ []) address n) after core.old vec.old mem.old
         ≡ followed_by after result core.new vec.new mem.new log.new.items }
 {
     match t {
-        Transfer::Store | Transfer::StoreVector => store_couple(
-            core, vec, mem, log, t, rt, rt2, address, n,
-        ),
+        Transfer::Store => store_couple_sized(core, vec, mem, log, t, rt, rt2, address, n),
+        Transfer::Load => load_couple_sized(core, vec, mem, log, t, rt, rt2, address, n),
+        Transfer::StoreVector => store_couple(core, vec, mem, log, t, rt, rt2, address, n),
         _ => load_couple(core, vec, mem, log, t, rt, rt2, address, n),
     }
 }

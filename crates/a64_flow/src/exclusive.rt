@@ -3,7 +3,7 @@ ghost use Rattle.std.specs.Prelude.{◌≡◌, [], true};
 ghost use Rattle.a64_insn.specs.declared.form.A64Form.{A64Form};
 ghost use Rattle.a64_insn.specs.declared.ops.LoadExOp.{LoadExOp as LoadName};
 ghost use Rattle.a64_insn.specs.declared.ops.StoreExOp.{StoreExOp as StoreName};
-ghost use Rattle.a64_effects.specs.LoadStore as table;
+ghost use Rattle.a64_effects.specs.Groups.{access};
 ghost use Rattle.a64_flow.specs.Ends.{ended};
 ghost use Rattle.a64_flow.specs.Groups.{is_exclusive};
 
@@ -29,7 +29,7 @@ pub(crate) fn exec(
 ) -> Result<(), Trap>
     requires own { is_exclusive i.now ≡ true }
     requires empty { log.old.items ≡ [] }
-    ensures { table.access i.now core.old vec.old mem.old ≡ ended result core.new vec.new mem.new log.new.items }
+    ensures { access i.now core.old vec.old mem.old ≡ ended result core.new vec.new mem.new log.new.items }
 {
     match *i.form() {
         A64Form::StoreEx {
@@ -58,7 +58,7 @@ fn store_ex(
     rt: Reg,
 ) -> Result<(), Trap>
     requires { log.old.items ≡ [] }
-    ensures { (op : StoreName) → table.access (A64Form.StoreEx op size rs rn rt) core.old vec.old mem.old ≡ ended result core.new vec.new mem.new log.new.items }
+    ensures { (op : StoreName) → access (A64Form.StoreEx op size rs rn rt) core.old vec.old mem.old ≡ ended result core.new vec.new mem.new log.new.items }
 {
     test_sp(core, rn.get() == 31)?;
     let (address, n) = (core.x_sp(rn), bytes_of(size));
@@ -83,7 +83,7 @@ fn load_ex(
     rt: Reg,
 ) -> Result<(), Trap>
     requires { log.old.items ≡ [] }
-    ensures { (op : LoadName) → table.access (A64Form.LoadEx op size rn rt) core.old vec.old mem.old ≡ ended result core.new vec.new mem.new log.new.items }
+    ensures { (op : LoadName) → access (A64Form.LoadEx op size rn rt) core.old vec.old mem.old ≡ ended result core.new vec.new mem.new log.new.items }
 {
     test_sp(core, rn.get() == 31)?;
     let (address, n) = (core.x_sp(rn), bytes_of(size));
@@ -105,7 +105,7 @@ fn ordered(
     rt: Reg,
 ) -> Result<(), Trap>
     requires { log.old.items ≡ [] }
-    ensures { table.access (A64Form.Ordered op size rn rt) core.old vec.old mem.old ≡ ended result core.new vec.new mem.new log.new.items }
+    ensures { access (A64Form.Ordered op size rn rt) core.old vec.old mem.old ≡ ended result core.new vec.new mem.new log.new.items }
 {
     test_sp(core, rn.get() == 31)?;
     let (address, n) = (core.x_sp(rn), bytes_of(size));

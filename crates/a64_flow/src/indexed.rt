@@ -1,11 +1,10 @@
 //! Post-indexed and pre-indexed accesses of one register, which write the base back.
 ghost use Rattle.std.specs.Prelude.{◌≡◌, [], Bool, true};
 ghost use Rattle.a64_insn.specs.declared.form.A64Form.{A64Form};
-ghost use Rattle.a64_effects.specs.LoadStore as table;
+ghost use Rattle.a64_effects.specs.Groups.{access};
 ghost use Rattle.a64_flow.specs.Ends.{ended};
 ghost use Rattle.a64_flow.specs.Groups.{is_indexed};
 
-use crate::fields::{access_bytes, transfer};
 use crate::numbers::near;
 use crate::offsets::from_base;
 use a64_insn::{A64, A64Form};
@@ -24,7 +23,7 @@ pub(crate) fn exec(
 ) -> Result<(), Trap>
     requires own { is_indexed i.now ≡ true }
     requires empty { log.old.items ≡ [] }
-    ensures { table.access i.now core.old vec.old mem.old ≡ ended result core.new vec.new mem.new log.new.items }
+    ensures { access i.now core.old vec.old mem.old ≡ ended result core.new vec.new mem.new log.new.items }
 {
     match *i.form() {
         A64Form::LsPost {
@@ -61,12 +60,11 @@ fn ls_post(
     rt: Reg,
 ) -> Result<(), Trap>
     requires { log.old.items ≡ [] }
-    ensures { table.access (A64Form.LsPost size v opc imm9 rn rt) core.old vec.old mem.old ≡ ended result core.new vec.new mem.new log.new.items }
+    ensures { access (A64Form.LsPost size v opc imm9 rn rt) core.old vec.old mem.old ≡ ended result core.new vec.new mem.new log.new.items }
 {
-    let (t, n) = (transfer(v, size, opc), access_bytes(v, size, opc));
     let address = core.x_sp(rn);
     let next = near(core, rn, imm9);
-    from_base(core, vec, mem, log, t, rn, rt, address, n)?;
+    from_base(core, vec, mem, log, v, size, opc, rn, rt, address)?;
     core.set_x_sp(rn, 64, next);
     Ok(())
 }
@@ -85,11 +83,10 @@ fn ls_pre(
     rt: Reg,
 ) -> Result<(), Trap>
     requires { log.old.items ≡ [] }
-    ensures { table.access (A64Form.LsPre size v opc imm9 rn rt) core.old vec.old mem.old ≡ ended result core.new vec.new mem.new log.new.items }
+    ensures { access (A64Form.LsPre size v opc imm9 rn rt) core.old vec.old mem.old ≡ ended result core.new vec.new mem.new log.new.items }
 {
-    let (t, n) = (transfer(v, size, opc), access_bytes(v, size, opc));
     let address = near(core, rn, imm9);
-    from_base(core, vec, mem, log, t, rn, rt, address, n)?;
+    from_base(core, vec, mem, log, v, size, opc, rn, rt, address)?;
     core.set_x_sp(rn, 64, address);
     Ok(())
 }

@@ -14,8 +14,7 @@ mod pairs;
 mod rows;
 
 ghost use Rattle.std.specs.Prelude.{◌≡◌, ◌||◌, [], true};
-ghost use Rattle.a64_effects.specs.Flow.{is_flow};
-ghost use Rattle.a64_effects.specs.LoadStore.{is_load_store};
+ghost use Rattle.a64_effects.specs.Groups.{is_flow, is_load_store};
 ghost use Rattle.a64_effects.specs.Effects.{performed};
 
 use a64_insn::{A64, A64Form};

@@ -2,6 +2,7 @@
 ghost use Rattle.std.specs.Prelude.{◌≡◌, ◌≤◌, ◌*◌, [], None, true};
 ghost use Rattle.a64_insn.specs.declared.form.A64Form.{A64Form};
 ghost use Rattle.emu_model.specs.State.{Core as CoreState};
+ghost use Rattle.a64_effects.specs.Groups.{access};
 ghost use Rattle.a64_effects.specs.LoadStore as table;
 ghost use Rattle.a64_flow.specs.Ends.{ended, followed_by, greatest_of};
 ghost use Rattle.a64_flow.specs.Groups.{is_at_offset};
@@ -29,7 +30,7 @@ pub(crate) fn exec(
 ) -> Result<(), Trap>
     requires own { is_at_offset i.now ≡ true }
     requires empty { log.old.items ≡ [] }
-    ensures { table.access i.now core.old vec.old mem.old ≡ ended result core.new vec.new mem.new log.new.items }
+    ensures { access i.now core.old vec.old mem.old ≡ ended result core.new vec.new mem.new log.new.items }
 {
     match *i.form() {
         A64Form::LsUnsigned {
@@ -65,31 +66,30 @@ pub(crate) fn exec(
     }
 }
 
-/// One register, or none for a prefetch, at an address from a base.
+/// One register, or none for a prefetch, at an address from a base, by V, size and opc. The rows whose address isn't at an
+/// unsigned offset share its code.
+#[inline(never)]
 pub(crate) fn from_base(
     core: &mut Core,
     vec: &mut VecRegs,
     mem: &mut Mem,
     log: &mut AccessLog,
-    t: Transfer,
+    v: bool,
+    size: U<2>,
+    opc: U<2>,
     rn: Reg,
     rt: Reg,
     address: u64,
-    n: u32,
 ) -> Result<(), Trap>
-    requires some { 1 ≤ n }
-    requires most { n ≤ greatest_of t }
-    requires size { IsLowSize (8 * n) }
-    requires empty { log.old.items ≡ [] }
+    requires { log.old.items ≡ [] }
     ensures { (after : CoreState → CoreState)
-        → table.tested (table.has_sp t rn) None core.old vec.old mem.old (table.transferred t (table.single t rt address n) after core.old vec.old mem.old)
+        → table.tested (table.has_sp (table.transfer v size opc) rn) None core.old vec.old mem.old (table.transferred (table.transfer v size opc) (table.elements_from (table.moved (table.transfer v size opc) rt) address (table.access_bytes v size opc)) after core.old vec.old mem.old)
         ≡ followed_by after result core.new vec.new mem.new log.new.items }
 {
-    test_sp(core, has_sp(t, rn))?;
-    single(core, vec, mem, log, t, rt, address, n)
+    from_base_here(core, vec, mem, log, v, size, opc, rn, rt, address)
 }
 
-/// The same by V, size and opc, in the code of its caller: its arguments and its answer would cost as much as the access.
+/// The same in the code of its caller: its arguments and its answer would cost as much as the access.
 #[inline(always)]
 fn from_base_here(
     core: &mut Core,
@@ -105,7 +105,7 @@ fn from_base_here(
 ) -> Result<(), Trap>
     requires { log.old.items ≡ [] }
     ensures { (after : CoreState → CoreState)
-        → table.tested (table.has_sp (table.transfer v size opc) rn) None core.old vec.old mem.old (table.transferred (table.transfer v size opc) (table.single (table.transfer v size opc) rt address (table.access_bytes v size opc)) after core.old vec.old mem.old)
+        → table.tested (table.has_sp (table.transfer v size opc) rn) None core.old vec.old mem.old (table.transferred (table.transfer v size opc) (table.elements_from (table.moved (table.transfer v size opc) rt) address (table.access_bytes v size opc)) after core.old vec.old mem.old)
         ≡ followed_by after result core.new vec.new mem.new log.new.items }
 {
     let n = access_bytes(v, size, opc);
@@ -140,7 +140,7 @@ fn single_from_base(
     requires size { IsLowSize (8 * n) }
     requires empty { log.old.items ≡ [] }
     ensures { (after : CoreState → CoreState)
-        → table.tested (table.has_sp t rn) None core.old vec.old mem.old (table.transferred t (table.single t rt address n) after core.old vec.old mem.old)
+        → table.tested (table.has_sp t rn) None core.old vec.old mem.old (table.transferred t (table.elements_from (table.moved t rt) address n) after core.old vec.old mem.old)
         ≡ followed_by after result core.new vec.new mem.new log.new.items }
 {
     match t {
@@ -173,7 +173,7 @@ fn ls_unsigned(
     rt: Reg,
 ) -> Result<(), Trap>
     requires { log.old.items ≡ [] }
-    ensures { table.access (A64Form.LsUnsigned size v opc imm12 rn rt) core.old vec.old mem.old ≡ ended result core.new vec.new mem.new log.new.items }
+    ensures { access (A64Form.LsUnsigned size v opc imm12 rn rt) core.old vec.old mem.old ≡ ended result core.new vec.new mem.new log.new.items }
 {
     let n = access_bytes(v, size, opc);
     let address = core.x_sp(rn).wrapping_add(u64::from(n * imm12.get()));
@@ -194,11 +194,10 @@ fn ls_unscaled(
     rt: Reg,
 ) -> Result<(), Trap>
     requires { log.old.items ≡ [] }
-    ensures { table.access (A64Form.LsUnscaled size v opc imm9 rn rt) core.old vec.old mem.old ≡ ended result core.new vec.new mem.new log.new.items }
+    ensures { access (A64Form.LsUnscaled size v opc imm9 rn rt) core.old vec.old mem.old ≡ ended result core.new vec.new mem.new log.new.items }
 {
-    let (t, n) = (transfer(v, size, opc), access_bytes(v, size, opc));
     let address = near(core, rn, imm9);
-    from_base(core, vec, mem, log, t, rn, rt, address, n)
+    from_base(core, vec, mem, log, v, size, opc, rn, rt, address)
 }
 
 /// At `[Xn|SP, Rm, ext #a]`: the extended register counts accesses where s is set, else bytes.
@@ -217,11 +216,10 @@ fn ls_reg(
     rt: Reg,
 ) -> Result<(), Trap>
     requires { log.old.items ≡ [] }
-    ensures { table.access (A64Form.LsReg size v opc rm ext s rn rt) core.old vec.old mem.old ≡ ended result core.new vec.new mem.new log.new.items }
+    ensures { access (A64Form.LsReg size v opc rm ext s rn rt) core.old vec.old mem.old ≡ ended result core.new vec.new mem.new log.new.items }
 {
-    let (t, n) = (transfer(v, size, opc), access_bytes(v, size, opc));
-    let address = indexed(core, rn, rm, ext, s, n);
-    from_base(core, vec, mem, log, t, rn, rt, address, n)
+    let address = indexed(core, rn, rm, ext, s, access_bytes(v, size, opc));
+    from_base(core, vec, mem, log, v, size, opc, rn, rt, address)
 }
 
 /// At `target`: imm19 is signed and counts words from PC on.
@@ -236,7 +234,7 @@ fn ls_literal(
     rt: Reg,
 ) -> Result<(), Trap>
     requires { log.old.items ≡ [] }
-    ensures { table.access (A64Form.LsLiteral opc v imm19 rt) core.old vec.old mem.old ≡ ended result core.new vec.new mem.new log.new.items }
+    ensures { access (A64Form.LsLiteral opc v imm19 rt) core.old vec.old mem.old ≡ ended result core.new vec.new mem.new log.new.items }
 {
     let (t, n) = (literal_transfer(v, opc), literal_bytes(v, opc));
     let address = target(core, imm19.get(), 19);

@@ -1,7 +1,7 @@
 //! The rows that load or store general registers. Each tests SP where it is the base, then the address where the row asks
 //! for alignment, and then its elements one after the other. What comes behind is done where none was refused.
 ghost use Rattle.std.specs.Prelude.{◌≡◌, []};
-ghost use Rattle.a64_effects.specs.LoadStore as table;
+ghost use Rattle.a64_effects.specs.Groups.{access};
 ghost use Rattle.a64_flow.specs.Ends.{ended};
 
 use crate::pairs::pair;
@@ -20,7 +20,7 @@ pub(crate) fn access(
     i: &A64,
 ) -> Result<(), Trap>
     requires { log.old.items ≡ [] }
-    ensures { table.access i.now core.old vec.old mem.old ≡ ended result core.new vec.new mem.new log.new.items }
+    ensures { access i.now core.old vec.old mem.old ≡ ended result core.new vec.new mem.new log.new.items }
 {
     match *i.form() {
         A64Form::LsUnsigned { .. }

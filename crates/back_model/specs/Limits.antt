@@ -1,17 +1,7 @@
 -- A step leaves the greatest number of mapped pages as it is.
-use Rattle.std.specs.Prelude.{◌≡◌, ℕ, zero, suc, ◌==◌, ◌+◌, ◌-◌, ◌*◌, ◌/◌, ◌%◌, ◌^◌, Bool, true, false, not, ◌||◌, List, [], ◌∷◌, drop, min, take, Option, Some, None, is_some, nat_eq, nat_le, nat_lt, if◌then◌else◌}
+use Rattle.std.specs.Prelude.{◌≡◌, ℕ, zero, suc, ◌+◌, ◌-◌, ◌*◌, ◌/◌, ◌%◌, Bool, true, false, not, ◌||◌, List, [], ◌∷◌, drop, min, take, Option, Some, None, is_some, nat_eq, nat_le, nat_lt, if◌then◌else◌}
 use Rattle.std.specs.List.{list_any}
 use Rattle.std.proofs.Common.{refl, ap, ◌∙◌}
-use Rattle.a64_insn.specs.declared.form.A64Form.{A64Form}
-use Rattle.a64_insn.specs.declared.form.A64Form.TheVariants.{Branch, BranchCond, Compare, Test, BranchReg, Except, Atomic, CompareSwap}
-use Rattle.a64_insn.specs.declared.ops.BranchOp.{BranchOp}
-use Rattle.a64_insn.specs.declared.ops.BranchOp.TheVariants.{B, Bl}
-use Rattle.a64_insn.specs.declared.ops.BranchRegOp.{BranchRegOp}
-use Rattle.a64_insn.specs.declared.ops.BranchRegOp.TheVariants.{Br, Blr, Ret}
-use Rattle.a64_insn.specs.declared.ops.ExceptOp.{ExceptOp}
-use Rattle.a64_insn.specs.declared.ops.ExceptOp.TheVariants.{Svc, Brk, Hlt}
-use Rattle.emu_bits.specs.Flags.{cond_of, cond_holds}
-use Rattle.emu_bits.specs.Numbers.{width_of}
 use Rattle.emu_model.specs.declared.access.Kind.{Kind}
 use Rattle.emu_model.specs.declared.access.Kind.TheVariants.{Read as ReadKind, Write as WriteKind, Fetch as FetchKind}
 use Rattle.emu_model.specs.declared.access.Rights.{Rights}
@@ -20,28 +10,22 @@ use Rattle.emu_model.specs.declared.trap.Effect.{Effect}
 use Rattle.emu_model.specs.declared.trap.Effect.TheVariants.{Next, Branch as Branching, Call, Trap as Trapping}
 use Rattle.emu_model.specs.declared.trap.TrapKind.TheVariants.{PcAlign, SpAlign}
 use Rattle.emu_model.specs.Access.{Memory, address, refused, stored, stored-suc, stored-zero, value, with_byte}
-use Rattle.emu_model.specs.Done.{Done, branches, traps, went_well}
-use Rattle.emu_model.specs.Elements.{Element, reach, with_stored}
+use Rattle.emu_model.specs.Done.{Done, traps}
+use Rattle.emu_model.specs.Elements.{Reach, Element, reach, with_stored}
 use Rattle.emu_model.specs.Pages.{free_run, is_over_limit, least_unmapped, with_bytes}
-use Rattle.emu_model.specs.State.{Core, Vectors, Parts, State, read_x, read_x_sp, with_x}
-use Rattle.a64_effects.specs.declared.pages.Page.{Page as ScalarPage}
-use Rattle.a64_effects.specs.declared.pages.Page.TheVariants.{Data, Flow, Accesses, BitMoves}
+use Rattle.emu_model.specs.State.{Core, Vectors, Parts, State}
 use Rattle.a64_effects.specs.declared.transfer.Transfer.{Transfer}
 use Rattle.a64_effects.specs.declared.transfer.Transfer.TheVariants.{Store, Load, LoadSigned, LoadSigned32, Prefetch, StoreVector, LoadVector}
-use Rattle.a64_effects.specs.Atomic.{low_bytes, updated, swapped, exchanged, unless_refused, one_step}
-use Rattle.a64_effects.specs.Effects.{performed_on as scalar_on}
-use Rattle.a64_effects.specs.Flow.{branched, branched_to, branches_if, digit, excepted, flow, is_taken, is_taken_by, target, tested_bit}
-use Rattle.a64_effects.specs.LoadStore.{access, accessed, behind, elements, has_sp_base as scalar_has_sp, is_misaligned as scalar_misaligned, load_as_far as scalar_load, misaligned, store_as_far as scalar_store, stored_value, transfer_of, transferred, unless_misaligned as scalar_unless}
-use Rattle.a64_effects.specs.Pages.{page_of as scalar_page}
-use Rattle.a64_effects.specs.Scalar.{operand}
-use Rattle.sve_insn.specs.declared.form.SveForm.{SveForm}
-use Rattle.sve_effects.specs.declared.pages.Page.{Page as VectorPage}
-use Rattle.sve_effects.specs.declared.pages.Page.TheVariants.{Lanes, Permutes, Counts, Folds, Predicates, Loads, Stores, Gathers, Scatters, FirstFaults}
-use Rattle.sve_effects.specs.Effects.{performed_on as vector_on}
-use Rattle.sve_effects.specs.FirstFault.{first_fault_loaded, first_fault_of, first_refused, is_non_fault, loaded_unless}
-use Rattle.sve_effects.specs.Pages.{page_of as vector_page}
-use Rattle.sve_effects.specs.VectorElements.{Layout, elements_of, layout}
-use Rattle.sve_effects.specs.VectorLoadStore.{after_load, element_stored, has_sp_base, is_misaligned, load_as_far, loads_signed, store_as_far, unless_misaligned, vector_load, vector_store}
+use Rattle.a64_effects.specs.Atomic.{exchanged, unless_refused, one_step}
+use Rattle.a64_effects.specs.Effects.{performed_by}
+use Rattle.a64_effects.specs.LoadStore.{Transferring, Exchanging, elements_from, is_misaligned as scalar_misaligned, load_as_far as scalar_load, misaligned, store_as_far as scalar_store, stored_value, tested, transferred, transferred_by, exchanged_by, unless_misaligned as scalar_unless, unless_multiple}
+use Rattle.a64_effects.specs.Operations.{Operation, computes, flows, transfers, exchanges, copies, operation_of}
+use Rattle.sve_effects.specs.FirstFault.{first_fault_row, first_refused, loaded_unless, never_traps}
+use Rattle.sve_effects.specs.FirstFaultParts.{first_fault_loaded}
+use Rattle.sve_effects.specs.Row.{Row as VectorRow, done_by as vector_done_by, done_by_way}
+use Rattle.sve_effects.specs.Rows.{row as vector_row}
+use Rattle.sve_effects.specs.VectorElements.{MemoryRow, Way, Layout, elements_of, row_layout}
+use Rattle.sve_effects.specs.VectorLoadStore.{after_load, element_stored, has_sp_base, is_misaligned, load_as_far, load_row, store_as_far, store_row, unless_misaligned}
 use Rattle.emu_system.specs.declared.system_call.CallName.{CallName}
 use Rattle.emu_system.specs.declared.system_call.CallName.TheVariants.{Ioctl, Read, Write, Readv, Writev, Prctl, Brk as BrkCall, Munmap, Mmap, Mprotect}
 use Rattle.emu_system.specs.declared.system_call.Errno.TheVariants.{EBADF, ENOMEM, EFAULT, EINVAL, ENOTTY}
@@ -113,55 +97,29 @@ module _ (c : Core) (w : Vectors) (m : Memory) where
       unless_refused_limit (refused m a n ReadKind) (refused m a n WriteKind) (exchanged a n (new (value m a n)) (after (value m a n)) w m)
       (exchanged_limit a n (new (value m a n)) (after (value m a n)))
 
-  accessed_limit : (form : A64Form) → Leaves (accessed form c w m)
-  accessed_limit (Atomic op size acquires releases rs rn rt) =
-      one_step_limit (read_x_sp c rn) (2 ^ size) (λ o. Some (updated op (2 ^ size) o (low_bytes (2 ^ size) c rs))) (with_x c rt 64)
-  accessed_limit (CompareSwap size acquires releases rs rn rt) =
-      one_step_limit (read_x_sp c rn) (2 ^ size) (λ o. swapped (o == low_bytes (2 ^ size) c rs) (low_bytes (2 ^ size) c rt)) (with_x c rs 64)
-  accessed_limit form = transferred_limit (transfer_of form) (elements form c) (behind form c)
-
   scalar_unless_limit : (o : Option ℕ) (d : Done) → Leaves d → Leaves (scalar_unless o c w m d)
   scalar_unless_limit (Some a) d h = refl
   scalar_unless_limit None d h = h
 
-  access_limit : (form : A64Form) → Leaves (access form c w m)
-  access_limit form =
-      either (scalar_misaligned (scalar_has_sp form) c) (traps c w m SpAlign c.sp) (scalar_unless (misaligned form c) c w m (accessed form c w m)) refl
-      (scalar_unless_limit (misaligned form c) (accessed form c w m) (accessed_limit form))
+  tested_limit : (has : Bool) (o : Option ℕ) (d : Done) → Leaves d → Leaves (tested has o c w m d)
+  tested_limit has o d h = either (scalar_misaligned has c) (traps c w m SpAlign c.sp) (scalar_unless o c w m d) refl (scalar_unless_limit o d h)
 
-  -- ---- the other A64 rows
+  -- ---- the A64 rows
 
-  branches_if_limit : (taken : Bool) (a : ℕ) → Leaves (branches_if taken c w m a)
-  branches_if_limit taken a = either taken (branches c w m a) (went_well c w m) refl refl
+  transferred_by_limit : (r : Transferring) → Leaves (transferred_by r c w m)
+  transferred_by_limit r =
+      let es : List Element = elements_from r.registers r.address r.bytes in
+      tested_limit r.tests_sp (misaligned r.is_aligned r.address r.bytes) (transferred r.transfer es r.behind c w m) (transferred_limit r.transfer es r.behind)
 
-  branched_limit : (op : BranchOp) (a : ℕ) → Leaves (branched op c w m a)
-  branched_limit B a = refl
-  branched_limit Bl a = refl
+  exchanged_by_limit : (r : Exchanging) → Leaves (exchanged_by r c w m)
+  exchanged_by_limit r = tested_limit r.tests_sp (unless_multiple r.address r.bytes) (one_step r.address r.bytes r.new r.behind c w m) (one_step_limit r.address r.bytes r.new r.behind)
 
-  branched_to_limit : (op : BranchRegOp) (a : ℕ) → Leaves (branched_to op c w m a)
-  branched_to_limit Br a = refl
-  branched_to_limit Blr a = refl
-  branched_to_limit Ret a = refl
-
-  excepted_limit : (op : ExceptOp) → Leaves (excepted op c w m)
-  excepted_limit Svc = refl
-  excepted_limit Brk = refl
-  excepted_limit Hlt = refl
-
-  flow_limit : (form : A64Form) → Leaves (flow form c w m)
-  flow_limit (Branch op imm26) = branched_limit op (target c 26 imm26)
-  flow_limit (BranchCond imm19 cond) = branches_if_limit (cond_holds (cond_of cond) c.flags) (target c 19 imm19)
-  flow_limit (Compare op sf imm19 rt) = branches_if_limit (is_taken op (operand (width_of sf) c rt)) (target c 19 imm19)
-  flow_limit (Test op b5 b40 imm14 rt) = branches_if_limit (is_taken_by op (digit (read_x c rt) (tested_bit b5 b40))) (target c 14 imm14)
-  flow_limit (BranchReg op rn) = branched_to_limit op (read_x c rn)
-  flow_limit (Except op imm16) = excepted_limit op
-  flow_limit form = refl
-
-  scalar_on_limit : (page : ScalarPage) (form : A64Form) → Leaves (scalar_on page form c w m)
-  scalar_on_limit Data form = refl
-  scalar_on_limit Flow form = flow_limit form
-  scalar_on_limit Accesses form = access_limit form
-  scalar_on_limit BitMoves form = refl
+  by_operation_limit : (r : Operation) → Leaves (performed_by r c w m)
+  by_operation_limit (computes after) = refl
+  by_operation_limit (flows after effect) = refl
+  by_operation_limit (transfers row) = transferred_by_limit (row c)
+  by_operation_limit (exchanges row) = exchanged_by_limit (row c)
+  by_operation_limit (copies after) = refl
 
   -- ---- SVE
 
@@ -176,44 +134,50 @@ module _ (c : Core) (w : Vectors) (m : Memory) where
   unless_limit : (has_base : Bool) (es : List Element) (d : Done) → Leaves d → Leaves (unless_misaligned has_base es c w m d)
   unless_limit has_base es d h = either (is_misaligned has_base es c) (traps c w m SpAlign c.sp) d refl h
 
-  vector_load_limit : (form : SveForm) → Leaves (vector_load form c w m)
-  vector_load_limit form =
-      let l : Layout = layout form c w in
-      unless_limit (has_sp_base form) (elements_of l) (load_as_far (reach m ReadKind (elements_of l)).stop (reach m ReadKind (elements_of l)).done (after_load form l m w) c w m)
-      (load_limit (reach m ReadKind (elements_of l)).stop (reach m ReadKind (elements_of l)).done (after_load form l m w))
+  load_row_limit : (r : MemoryRow) → Leaves (load_row r c w m)
+  load_row_limit r =
+      let l : Layout = row_layout r c w in
+      let far : Reach = reach m ReadKind (elements_of l) in
+      let after : Vectors = after_load r.transfer r.width.is_signed l m w in
+      unless_limit (has_sp_base r.brackets) (elements_of l) (load_as_far far.stop far.done after c w m) (load_limit far.stop far.done after)
 
-  vector_store_limit : (form : SveForm) → Leaves (vector_store form c w m)
-  vector_store_limit form =
-      let l : Layout = layout form c w in
-      unless_limit (has_sp_base form) (elements_of l) (store_as_far (reach m WriteKind (elements_of l)).stop (reach m WriteKind (elements_of l)).done (element_stored form l w) c w m)
-      (store_limit (reach m WriteKind (elements_of l)).stop (reach m WriteKind (elements_of l)).done (element_stored form l w))
+  store_row_limit : (r : MemoryRow) → Leaves (store_row r c w m)
+  store_row_limit r =
+      let l : Layout = row_layout r c w in
+      let far : Reach = reach m WriteKind (elements_of l) in
+      let stores : Element → ℕ = element_stored r.transfer l w in
+      unless_limit (has_sp_base r.brackets) (elements_of l) (store_as_far far.stop far.done stores c w m) (store_limit far.stop far.done stores)
 
   loaded_unless_limit : (o : Option ℕ) (d : Done) → Leaves d → Leaves (loaded_unless o d c w m)
   loaded_unless_limit None d h = h
   loaded_unless_limit (Some a) d h = refl
 
-  first_fault_limit : (form : SveForm) (es : List Element) → Leaves (first_fault_of form es c w m)
-  first_fault_limit form es =
-      let l : Layout = layout form c w in
-      let d : Done = first_fault_loaded (loads_signed form) l.bits l.register es c w m in
-      let stop : Option ℕ = if is_non_fault form then None else first_refused m es in
-      unless_limit (has_sp_base form) es (loaded_unless stop d c w m) (loaded_unless_limit stop d refl)
+  first_fault_limit : (r : MemoryRow) (es : List Element) → Leaves (first_fault_row r es c w m)
+  first_fault_limit r es =
+      let d : Done = first_fault_loaded r.width.is_signed r.width.bits r.first es c w m in
+      let stop : Option ℕ = if never_traps r.way then None else first_refused m es in
+      unless_limit (has_sp_base r.brackets) es (loaded_unless stop d c w m) (loaded_unless_limit stop d refl)
 
-  vector_on_limit : (page : VectorPage) (form : SveForm) → Leaves (vector_on page form c w m)
-  vector_on_limit Lanes form = refl
-  vector_on_limit Permutes form = refl
-  vector_on_limit Counts form = refl
-  vector_on_limit Folds form = refl
-  vector_on_limit Predicates form = refl
-  vector_on_limit Loads form = vector_load_limit form
-  vector_on_limit Stores form = vector_store_limit form
-  vector_on_limit Gathers form = vector_load_limit form
-  vector_on_limit Scatters form = vector_store_limit form
-  vector_on_limit FirstFaults form = first_fault_limit form (elements_of (layout form c w))
+  way_limit : (way : Way) (r : MemoryRow) → Leaves (done_by_way way r c w m)
+  way_limit Way.loads r = load_row_limit r
+  way_limit Way.stores r = store_row_limit r
+  way_limit (Way.gathers true) r = first_fault_limit r (elements_of (row_layout r c w))
+  way_limit (Way.gathers false) r = load_row_limit r
+  way_limit Way.scatters r = store_row_limit r
+  way_limit Way.first_faults r = first_fault_limit r (elements_of (row_layout r c w))
+  way_limit Way.non_faults r = first_fault_limit r (elements_of (row_layout r c w))
+
+  vector_row_limit : (r : VectorRow) → Leaves (vector_done_by r c w m)
+  vector_row_limit (VectorRow.by_lanes f) = refl
+  vector_row_limit (VectorRow.permutes f) = refl
+  vector_row_limit (VectorRow.counts f) = refl
+  vector_row_limit (VectorRow.folds f) = refl
+  vector_row_limit (VectorRow.predicates f) = refl
+  vector_row_limit (VectorRow.memory r) = way_limit r.way r
 
   performed_limit : (i : Insn) → Leaves (performed i c w m)
-  performed_limit (A64 form) = scalar_on_limit (scalar_page form) form
-  performed_limit (Sve form) = vector_on_limit (vector_page form) form
+  performed_limit (A64 form) = by_operation_limit (operation_of form)
+  performed_limit (Sve form) = vector_row_limit (vector_row form)
 
 -- ---- system calls
 

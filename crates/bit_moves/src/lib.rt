@@ -7,6 +7,7 @@ ghost use Rattle.std.specs.Prelude.{◌≡◌, true};
 ghost use Rattle.emu_model.specs.declared.trap.Effect.{Effect};
 ghost use Rattle.a64_insn.specs.BitMoves.{move_imm_holds_for};
 ghost use Rattle.a64_effects.specs.BitMoves as table;
+ghost use Rattle.a64_effects.specs.Groups.{bit_move, is_bit_move};
 
 use a64_insn::{A64, A64Form, FMoveOp};
 use core_regs::{Core, Effect};
@@ -16,9 +17,9 @@ use vec_regs::VecRegs;
 /// Does a bit move, and goes on behind it. Only Rd changes: a general register, or the low 32, 64 or 128 bits of a vector register,
 /// whose bits above are 0.
 pub fn exec(core: &mut Core, vec: &mut VecRegs, i: &A64) -> Effect
-    requires { table.is_bit_move i.now ≡ true }
-    ensures core { core.new ≡ (table.bit_move i.now core.old vec.old).core }
-    ensures vectors { vec.new ≡ (table.bit_move i.now core.old vec.old).vectors }
+    requires { is_bit_move i.now ≡ true }
+    ensures core { core.new ≡ (bit_move i.now core.old vec.old).core }
+    ensures vectors { vec.new ≡ (bit_move i.now core.old vec.old).vectors }
     ensures effect { result ≡ Effect.Next }
 {
     match *i.form() {

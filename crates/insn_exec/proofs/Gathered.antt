@@ -4,7 +4,7 @@ use Rattle.std.proofs.Common.{refl}
 use Rattle.std.proofs.lemmas.Bool.{both_ways}
 use Rattle.sve_insn.specs.declared.form.SveForm.{SveForm}
 use Rattle.sve_insn.specs.declared.form.SveForm.TheVariants.{LoadFf, LoadNf, GatherSx, GatherSxScaled, GatherDx, GatherDxScaled, GatherD, GatherDScaled, GatherSv, GatherDv}
-use Rattle.sve_effects.specs.VectorLoadStore.{is_first_fault}
+use Rattle.sve_effects.specs.Effects.{is_first_fault}
 use Rattle.sve_loads.specs.Plans.{is_first_contiguous}
 use Rattle.sve_gather.specs.Plans.{is_first_gather}
 

@@ -1,2 +1,3 @@
+pub mod A64Groups
 pub mod Gathered
-pub mod OnPage
+pub mod InGroup

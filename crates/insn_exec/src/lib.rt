@@ -1,4 +1,4 @@
-//! What an instruction does to the registers and to memory, by the page that its row is on.
+//! What an instruction does to the registers and to memory, by the group that its row is of.
 //!
 //! This is the one place that chooses the crate of a row: the machine does its instructions by it, and so do the programs of cases.
 #![tactic(auto)]
@@ -8,20 +8,17 @@ ghost use Rattle.emu_model.specs.declared.trap.Effect.{Effect};
 ghost use Rattle.emu_run.specs.Step.{performed};
 ghost use Rattle.a64_effects.specs.Effects as a64;
 ghost use Rattle.sve_effects.specs.Effects as sve;
-ghost use Rattle.sve_effects.specs.Pages.{page_of};
-ghost use Rattle.sve_effects.specs.declared.pages.Page.TheVariants as Page;
-ghost use Rattle.sve_effects.specs.VectorElements.{layout, vector_elements};
-ghost use Rattle.sve_effects.specs.FirstFault.{first_fault};
-ghost use Rattle.sve_effects.specs.VectorLoadStore.{is_first_fault, loads_signed};
+ghost use Rattle.sve_effects.specs.Effects.{group_of, layout, vector_elements, first_fault, is_first_fault, loads_signed};
+ghost use Rattle.sve_effects.specs.declared.groups.Group.TheVariants as Group;
 ghost use Rattle.sve_loads.specs.Plans.{is_first_contiguous};
 ghost use Rattle.element_loops.specs.Listed.{listed};
 
-use a64_effects::Page as A64Page;
+use a64_effects::Group as A64Group;
 use a64_insn::A64;
 use core_regs::{Core, Effect};
 use emu_run::Insn;
 use guest_mem::{AccessLog, ElementList, Mem};
-use sve_effects::Page;
+use sve_effects::Group;
 use sve_insn::{Sve, SveForm};
 use vec_regs::VecRegs;
 
@@ -46,6 +43,7 @@ pub fn perform(
 
 /// Does an A64 instruction, logs the elements that it loads or stores, and says what it leaves to the step.
 #[inline(always)]
+#[tactic(auto, using(crate::proofs::A64Groups::scalar_done, crate::proofs::A64Groups::bit_move_done))]
 pub fn perform_a64(
     core: &mut Core,
     vec: &mut VecRegs,
@@ -56,16 +54,16 @@ pub fn perform_a64(
     requires { log.old.items ≡ [] }
     ensures { a64.performed insn.now core.old vec.old memory.old ≡ record { core = core.new; vectors = vec.new; memory = memory.new; accesses = log.new.items; effect = result } }
 {
-    match a64_effects::page_of(insn.form()) {
-        A64Page::Data => a64_data::exec(core, insn),
-        A64Page::Flow | A64Page::Accesses => a64_flow::exec(core, vec, memory, log, insn),
-        A64Page::BitMoves => bit_moves::exec(core, vec, insn),
+    match a64_effects::group_of(insn.form()) {
+        A64Group::Data => a64_data::exec(core, insn),
+        A64Group::Flow | A64Group::Accesses => a64_flow::exec(core, vec, memory, log, insn),
+        A64Group::BitMoves => bit_moves::exec(core, vec, insn),
     }
 }
 
 /// The same of an SVE instruction.
 #[inline(always)]
-#[tactic(auto, using(crate::proofs::OnPage::lanes_own, crate::proofs::OnPage::across_own, crate::proofs::OnPage::data_done, crate::proofs::OnPage::predicate_own, crate::proofs::OnPage::predicate_done, crate::proofs::OnPage::first_fault_own, crate::proofs::OnPage::first_fault_done))]
+#[tactic(auto, using(crate::proofs::InGroup::lanes_own, crate::proofs::InGroup::across_own, crate::proofs::InGroup::data_done, crate::proofs::InGroup::predicate_own, crate::proofs::InGroup::predicate_done, crate::proofs::InGroup::first_fault_own, crate::proofs::InGroup::first_fault_done))]
 pub fn perform_sve(
     core: &mut Core,
     vec: &mut VecRegs,
@@ -76,26 +74,26 @@ pub fn perform_sve(
     requires { log.old.items ≡ [] }
     ensures { sve.performed insn.now core.old vec.old memory.old ≡ record { core = core.new; vectors = vec.new; memory = memory.new; accesses = log.new.items; effect = result } }
 {
-    match sve_effects::page_of(insn.form()) {
-        // apart, so that each chooses its crate by the page that is known here
-        Page::Lanes => sve_data::exec(core, vec, insn),
-        Page::Permutes | Page::Counts | Page::Folds => sve_data::exec(core, vec, insn),
-        Page::Predicates => {
+    match sve_effects::group_of(insn.form()) {
+        // apart, so that each chooses its crate by the group that is known here
+        Group::Lanes => sve_data::exec(core, vec, insn),
+        Group::Permutes | Group::Counts | Group::Folds => sve_data::exec(core, vec, insn),
+        Group::Predicates => {
             // its effect is this one, so that none is read back
             sve_pred::exec(core, vec, insn);
             Effect::Next
         }
-        Page::Loads => load(core, vec, memory, log, insn),
-        Page::Stores => store(core, vec, memory, log, insn),
-        Page::Gathers => gather(core, vec, memory, log, insn),
-        Page::Scatters => scatter(core, vec, memory, log, insn),
-        Page::FirstFaults => load_first_fault(core, vec, memory, log, insn),
+        Group::Loads => load(core, vec, memory, log, insn),
+        Group::Stores => store(core, vec, memory, log, insn),
+        Group::Gathers => gather(core, vec, memory, log, insn),
+        Group::Scatters => scatter(core, vec, memory, log, insn),
+        Group::FirstFaults => load_first_fault(core, vec, memory, log, insn),
     }
 }
 
 /// Does a load of consecutive elements.
 #[inline(always)]
-#[tactic(auto, using(crate::proofs::OnPage::load_done, crate::proofs::OnPage::load_own))]
+#[tactic(auto, using(crate::proofs::InGroup::load_done, crate::proofs::InGroup::load_own))]
 fn load(
     core: &mut Core,
     vec: &mut VecRegs,
@@ -103,7 +101,7 @@ fn load(
     log: &mut AccessLog,
     insn: &Sve,
 ) -> Effect
-    requires page { page_of insn.now ≡ Page.Loads }
+    requires group { group_of insn.now ≡ Group.Loads }
     requires empty { log.old.items ≡ [] }
     ensures { sve.performed insn.now core.old vec.old memory.old ≡ record { core = core.new; vectors = vec.new; memory = memory.new; accesses = log.new.items; effect = result } }
 {
@@ -112,7 +110,7 @@ fn load(
 
 /// Does a store of consecutive elements.
 #[inline(always)]
-#[tactic(auto, using(crate::proofs::OnPage::store_done, crate::proofs::OnPage::store_own))]
+#[tactic(auto, using(crate::proofs::InGroup::store_done, crate::proofs::InGroup::store_own))]
 fn store(
     core: &mut Core,
     vec: &mut VecRegs,
@@ -120,7 +118,7 @@ fn store(
     log: &mut AccessLog,
     insn: &Sve,
 ) -> Effect
-    requires page { page_of insn.now ≡ Page.Stores }
+    requires group { group_of insn.now ≡ Group.Stores }
     requires empty { log.old.items ≡ [] }
     ensures { sve.performed insn.now core.old vec.old memory.old ≡ record { core = core.new; vectors = vec.new; memory = memory.new; accesses = log.new.items; effect = result } }
 {
@@ -129,7 +127,7 @@ fn store(
 
 /// Does a gather.
 #[inline(always)]
-#[tactic(auto, using(crate::proofs::OnPage::gather_done, crate::proofs::OnPage::gather_own))]
+#[tactic(auto, using(crate::proofs::InGroup::gather_done, crate::proofs::InGroup::gather_own))]
 fn gather(
     core: &mut Core,
     vec: &mut VecRegs,
@@ -137,7 +135,7 @@ fn gather(
     log: &mut AccessLog,
     insn: &Sve,
 ) -> Effect
-    requires page { page_of insn.now ≡ Page.Gathers }
+    requires group { group_of insn.now ≡ Group.Gathers }
     requires empty { log.old.items ≡ [] }
     ensures { sve.performed insn.now core.old vec.old memory.old ≡ record { core = core.new; vectors = vec.new; memory = memory.new; accesses = log.new.items; effect = result } }
 {
@@ -146,7 +144,7 @@ fn gather(
 
 /// Does a scatter.
 #[inline(always)]
-#[tactic(auto, using(crate::proofs::OnPage::scatter_done, crate::proofs::OnPage::scatter_own))]
+#[tactic(auto, using(crate::proofs::InGroup::scatter_done, crate::proofs::InGroup::scatter_own))]
 fn scatter(
     core: &mut Core,
     vec: &mut VecRegs,
@@ -154,7 +152,7 @@ fn scatter(
     log: &mut AccessLog,
     insn: &Sve,
 ) -> Effect
-    requires page { page_of insn.now ≡ Page.Scatters }
+    requires group { group_of insn.now ≡ Group.Scatters }
     requires empty { log.old.items ≡ [] }
     ensures { sve.performed insn.now core.old vec.old memory.old ≡ record { core = core.new; vectors = vec.new; memory = memory.new; accesses = log.new.items; effect = result } }
 {

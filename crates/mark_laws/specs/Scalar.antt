@@ -1,33 +1,20 @@
 -- What A64 instructions do doesn't look at marks, and keeps them.
-use Rattle.std.specs.Prelude.{◌≡◌, ℕ, ◌==◌, Bool, true, false, ◌^◌, List, [], ◌∷◌, Option, Some, None, if◌then◌else◌}
+use Rattle.std.specs.Prelude.{◌≡◌, ℕ, Bool, true, false, List, [], ◌∷◌, Option, Some, None, if◌then◌else◌}
 use Rattle.std.proofs.Common.{refl, ap, ◌∙◌}
 use Rattle.a64_insn.specs.declared.form.A64Form.{A64Form}
-use Rattle.a64_insn.specs.declared.form.A64Form.TheVariants.{Branch, BranchCond, Compare, Test, BranchReg, Except, Atomic, CompareSwap}
-use Rattle.a64_insn.specs.declared.ops.BranchOp.{BranchOp}
-use Rattle.a64_insn.specs.declared.ops.BranchOp.TheVariants.{B, Bl}
-use Rattle.a64_insn.specs.declared.ops.BranchRegOp.{BranchRegOp}
-use Rattle.a64_insn.specs.declared.ops.BranchRegOp.TheVariants.{Br, Blr, Ret}
-use Rattle.a64_insn.specs.declared.ops.ExceptOp.{ExceptOp}
-use Rattle.a64_insn.specs.declared.ops.ExceptOp.TheVariants.{Svc, Brk, Hlt}
-use Rattle.emu_bits.specs.Flags.{cond_of, cond_holds}
-use Rattle.emu_bits.specs.Numbers.{width_of}
 use Rattle.emu_model.specs.declared.access.Kind.TheVariants.{Read as ReadKind, Write as WriteKind}
 use Rattle.emu_model.specs.declared.trap.Effect.TheVariants.{Next, Trap}
 use Rattle.emu_model.specs.declared.trap.TrapKind.TheVariants.{SpAlign, Write}
 use Rattle.emu_model.specs.Access.{Marks, Memory, refused, value}
-use Rattle.emu_model.specs.Done.{Done, Registers, branches, traps, went_well}
+use Rattle.emu_model.specs.Done.{Done, Registers, traps}
 use Rattle.emu_model.specs.Elements.{Element, Reach, accesses_of, reach}
-use Rattle.emu_model.specs.State.{Core, Vectors, read_x, read_x_sp, with_x}
-use Rattle.a64_effects.specs.declared.pages.Page.{Page}
-use Rattle.a64_effects.specs.declared.pages.Page.TheVariants.{Data, Flow, Accesses, BitMoves}
+use Rattle.emu_model.specs.State.{Core, Vectors}
 use Rattle.a64_effects.specs.declared.transfer.Transfer.{Transfer}
 use Rattle.a64_effects.specs.declared.transfer.Transfer.TheVariants.{Store, Load, LoadSigned, LoadSigned32, Prefetch, StoreVector, LoadVector}
-use Rattle.a64_effects.specs.Atomic.{low_bytes, updated, swapped, read_at, written_at, exchanged, unless_refused, one_step}
-use Rattle.a64_effects.specs.Effects.{performed, performed_on}
-use Rattle.a64_effects.specs.Flow.{branched, branched_to, branches_if, digit, excepted, flow, is_taken, is_taken_by, target, tested_bit}
-use Rattle.a64_effects.specs.LoadStore.{access, accessed, behind, elements, has_sp_base, is_misaligned, load_as_far, loaded_to, misaligned, store_as_far, stored_to, stored_value, tested, transfer_of, transferred, unless_misaligned, went_with, with_element, with_loaded}
-use Rattle.a64_effects.specs.Pages.{page_of}
-use Rattle.a64_effects.specs.Scalar.{operand}
+use Rattle.a64_effects.specs.Atomic.{read_at, written_at, exchanged, unless_refused, one_step}
+use Rattle.a64_effects.specs.Effects.{performed, performed_by}
+use Rattle.a64_effects.specs.LoadStore.{Transferring, Exchanging, elements_from, is_misaligned, load_as_far, loaded_to, misaligned, store_as_far, stored_to, stored_value, tested, transferred, transferred_by, exchanged_by, unless_misaligned, unless_multiple, went_with, with_element, with_loaded}
+use Rattle.a64_effects.specs.Operations.{Operation, computes, flows, transfers, exchanges, copies, operation_of}
 use Rattle.mark_laws.specs.Marked.{done_with, memory_with, reach_with, refused_with, stored_with, value_with, with_stored_with}
 
 module _ (c : Core) (w : Vectors) (m : Memory) (x : Marks) where
@@ -100,53 +87,24 @@ module _ (c : Core) (w : Vectors) (m : Memory) (x : Marks) where
         | false ↦ unless_with o d e h
       ]
 
-  accessed_with : (form : A64Form) → accessed form c w (memory_with m x) ≡ done_with (accessed form c w m) x
-  accessed_with (Atomic op size acquires releases rs rn rt) = step_with (read_x_sp c rn) (2 ^ size) (λ o. Some (updated op (2 ^ size) o (low_bytes (2 ^ size) c rs))) (with_x c rt 64)
-  accessed_with (CompareSwap size acquires releases rs rn rt) = step_with (read_x_sp c rn) (2 ^ size) (λ o. swapped (o == low_bytes (2 ^ size) c rs) (low_bytes (2 ^ size) c rt)) (with_x c rs 64)
-  accessed_with form = transferred_with (behind form c) (transfer_of form) (elements form c)
+  transferred_by_with : (r : Transferring) → transferred_by r c w (memory_with m x) ≡ done_with (transferred_by r c w m) x
+  transferred_by_with r =
+      let es : List Element = elements_from r.registers r.address r.bytes in
+      tested_with r.tests_sp (misaligned r.is_aligned r.address r.bytes) (transferred r.transfer es r.behind c w m) (transferred r.transfer es r.behind c w (memory_with m x)) (transferred_with r.behind r.transfer es)
 
-  access_with : (form : A64Form) → access form c w (memory_with m x) ≡ done_with (access form c w m) x
-  access_with form = tested_with (has_sp_base form) (misaligned form c) (accessed form c w m) (accessed form c w (memory_with m x)) (accessed_with form)
-
-  -- ---- branches, exceptions and the system's rows
-
-  branches_if_with : (taken : Bool) (a : ℕ) → branches_if taken c w (memory_with m x) a ≡ done_with (branches_if taken c w m a) x
-  branches_if_with taken a =
-      elim taken as (λ b. (if b then branches c w (memory_with m x) a else went_well c w (memory_with m x)) ≡ done_with (if b then branches c w m a else went_well c w m) x) [
-        | true ↦ refl
-        | false ↦ refl
-      ]
-
-  branched_with : (op : BranchOp) (a : ℕ) → branched op c w (memory_with m x) a ≡ done_with (branched op c w m a) x
-  branched_with B a = refl
-  branched_with Bl a = refl
-
-  branched_to_with : (op : BranchRegOp) (a : ℕ) → branched_to op c w (memory_with m x) a ≡ done_with (branched_to op c w m a) x
-  branched_to_with Br a = refl
-  branched_to_with Blr a = refl
-  branched_to_with Ret a = refl
-
-  excepted_with : (op : ExceptOp) → excepted op c w (memory_with m x) ≡ done_with (excepted op c w m) x
-  excepted_with Svc = refl
-  excepted_with Brk = refl
-  excepted_with Hlt = refl
-
-  flow_with : (form : A64Form) → flow form c w (memory_with m x) ≡ done_with (flow form c w m) x
-  flow_with (Branch op imm26) = branched_with op (target c 26 imm26)
-  flow_with (BranchCond imm19 cond) = branches_if_with (cond_holds (cond_of cond) c.flags) (target c 19 imm19)
-  flow_with (Compare op sf imm19 rt) = branches_if_with (is_taken op (operand (width_of sf) c rt)) (target c 19 imm19)
-  flow_with (Test op b5 b40 imm14 rt) = branches_if_with (is_taken_by op (digit (read_x c rt) (tested_bit b5 b40))) (target c 14 imm14)
-  flow_with (BranchReg op rn) = branched_to_with op (read_x c rn)
-  flow_with (Except op imm16) = excepted_with op
-  flow_with form = refl
+  exchanged_by_with : (r : Exchanging) → exchanged_by r c w (memory_with m x) ≡ done_with (exchanged_by r c w m) x
+  exchanged_by_with r =
+      tested_with r.tests_sp (unless_multiple r.address r.bytes) (one_step r.address r.bytes r.new r.behind c w m) (one_step r.address r.bytes r.new r.behind c w (memory_with m x))
+      (step_with r.address r.bytes r.new r.behind)
 
   -- ---- the rows
 
-  on_page_with : (page : Page) (form : A64Form) → performed_on page form c w (memory_with m x) ≡ done_with (performed_on page form c w m) x
-  on_page_with Data form = refl
-  on_page_with Flow form = flow_with form
-  on_page_with Accesses form = access_with form
-  on_page_with BitMoves form = refl
+  by_operation_with : (r : Operation) → performed_by r c w (memory_with m x) ≡ done_with (performed_by r c w m) x
+  by_operation_with (computes after) = refl
+  by_operation_with (flows after effect) = refl
+  by_operation_with (transfers row) = transferred_by_with (row c)
+  by_operation_with (exchanges row) = exchanged_by_with (row c)
+  by_operation_with (copies after) = refl
 
   pub performed_with : (form : A64Form) → performed form c w (memory_with m x) ≡ done_with (performed form c w m) x
-  performed_with form = on_page_with (page_of form) form
+  performed_with form = by_operation_with (operation_of form)

@@ -1,9 +1,8 @@
 -- What SVE instructions do doesn't look at marks, and keeps them.
-use Rattle.std.specs.Prelude.{◌≡◌, ℕ, zero, suc, ◌*◌, ◌+◌, ◌/◌, ◌%◌, ◌^◌, Bool, true, false, List, [], ◌∷◌, Option, Some, None, is_some, nat_eq, if◌then◌else◌}
+use Rattle.std.specs.Prelude.{◌≡◌, ℕ, zero, suc, ◌*◌, ◌/◌, ◌%◌, ◌^◌, Bool, true, false, List, [], ◌∷◌, Option, Some, None, is_some, nat_eq, if◌then◌else◌}
 use Rattle.std.proofs.Common.{refl, ap, ◌∙◌}
 use Rattle.std.proofs.Math.Path.{fun_ext}
 use Rattle.sve_insn.specs.declared.form.SveForm.{SveForm}
-use Rattle.sve_insn.specs.declared.form.SveForm.TheVariants.{LoadQuadImm, LoadQuadReg, LoadOne, LoadP}
 use Rattle.emu_model.specs.declared.access.Kind.TheVariants.{Read as ReadKind, Write as WriteKind}
 use Rattle.emu_model.specs.declared.trap.Effect.TheVariants.{Next, Trap}
 use Rattle.emu_model.specs.declared.trap.TrapKind.TheVariants.{SpAlign, Write}
@@ -13,15 +12,15 @@ use Rattle.emu_model.specs.Elements.{Element, Reach, accesses_of, reach}
 use Rattle.emu_model.specs.Lists.{each}
 use Rattle.emu_model.specs.State.{Core, Vectors}
 use Rattle.vec_model.specs.Lanes.{with_ffr, with_lanes, with_p}
-use Rattle.sve_effects.specs.declared.pages.Page.{Page}
-use Rattle.sve_effects.specs.declared.pages.Page.TheVariants.{Lanes, Permutes, Counts, Folds, Predicates, Loads, Stores, Gathers, Scatters, FirstFaults}
-use Rattle.sve_effects.specs.Effects.{performed, performed_on}
+use Rattle.sve_effects.specs.Effects.{performed}
+use Rattle.sve_effects.specs.FirstFaultParts.{first_fault_lane, first_fault_loaded, with_first_fault}
 use Rattle.sve_effects.specs.Element.{extended_by}
 use Rattle.sve_effects.specs.ElementLoop.{is_active}
-use Rattle.sve_effects.specs.FirstFault.{cleared_from, element_at, first_cleared, first_fault_lane, first_fault_loaded, first_fault_of, first_refused, first_suppressed, is_before, is_non_fault, is_refused, loaded_from, loaded_unless, unsuppressed, with_first_fault}
-use Rattle.sve_effects.specs.Pages.{page_of}
-use Rattle.sve_effects.specs.VectorElements.{Layout, dtype_signed, elements_of, layout, register_at}
-use Rattle.sve_effects.specs.VectorLoadStore.{after_load, element_stored, has_sp_base, is_misaligned, load_as_far, loaded_lane, loaded_to, loads_signed, store_as_far, stored_to, unless_misaligned, vector_load, vector_store, with_loaded, with_loaded_bits, with_repeated, with_replicated}
+use Rattle.sve_effects.specs.FirstFault.{cleared_from, element_at, first_cleared, first_fault_row, first_refused, first_suppressed, is_before, is_refused, loaded_from, loaded_unless, never_traps, unsuppressed}
+use Rattle.sve_effects.specs.Row.{Row, done_by_way, done_by}
+use Rattle.sve_effects.specs.Rows.{row}
+use Rattle.sve_effects.specs.VectorElements.{MemoryRow, Way, Transfer, each_active, repeated, replicated, whole_z, whole_p, Layout, elements_of, register_at, row_layout}
+use Rattle.sve_effects.specs.VectorLoadStore.{after_load, load_row, store_row, element_stored, has_sp_base, is_misaligned, load_as_far, loaded_lane, loaded_to, store_as_far, stored_to, unless_misaligned, with_loaded, with_loaded_bits, with_repeated, with_replicated}
 use Rattle.mark_laws.specs.Marked.{done_with, memory_with, reach_with, refused_with, value_with, with_stored_with}
 
 module _ (m : Memory) (x : Marks) where
@@ -53,12 +52,12 @@ module _ (m : Memory) (x : Marks) where
       ap (λ (f : ℕ → Bool). with_p v l.register (each (v.bits / 8) f))
       (fun_ext (λ j. ap (λ (n : ℕ). nat_eq (n / 2 ^ (j % 8) % 2) 1) (value_with m x (l.address (j / 8) 0) 1)))
 
-  after_load_with : (form : SveForm) (l : Layout) (v : Vectors) → after_load form l (memory_with m x) v ≡ after_load form l m v
-  after_load_with (LoadQuadImm msz imm4 pg rn zt) l v = repeated_with l v
-  after_load_with (LoadQuadReg msz rm pg rn zt) l v = repeated_with l v
-  after_load_with (LoadOne dtypeh imm6 dtypel pg rn zt) l v = replicated_with (dtype_signed (dtypeh * 4 + dtypel)) pg l v
-  after_load_with (LoadP imm9h imm9l rn pt) l v = bits_with l v
-  after_load_with form l v = with_loaded_with (loads_signed form) l l.registers v
+  after_load_with : (transfer : Transfer) (is_signed : Bool) (l : Layout) (v : Vectors) → after_load transfer is_signed l (memory_with m x) v ≡ after_load transfer is_signed l m v
+  after_load_with (each_active pg) is_signed l v = with_loaded_with is_signed l l.registers v
+  after_load_with (repeated pg) is_signed l v = repeated_with l v
+  after_load_with (replicated pg) is_signed l v = replicated_with is_signed pg l v
+  after_load_with whole_z is_signed l v = with_loaded_with is_signed l l.registers v
+  after_load_with whole_p is_signed l v = bits_with l v
 
   -- ---- elements that are refused
 
@@ -110,22 +109,24 @@ module _ (c : Core) (v : Vectors) (m : Memory) (x : Marks) where
         | false ↦ h
       ]
 
-  load_with : (form : SveForm) → vector_load form c v (memory_with m x) ≡ done_with (vector_load form c v m) x
-  load_with form =
-      let l : Layout = layout form c v in
-      let r : Reach = reach m ReadKind (elements_of l) in
-      unless_with (has_sp_base form) (elements_of l) (loaded_to r (after_load form l m v) c v m) (loaded_to (reach (memory_with m x) ReadKind (elements_of l)) (after_load form l (memory_with m x) v) c v (memory_with m x))
-      (ap (λ (s : Reach). loaded_to s (after_load form l (memory_with m x) v) c v (memory_with m x)) (reach_with m x ReadKind (elements_of l))
-      ∙ ap (λ (w : Vectors). loaded_to r w c v (memory_with m x)) (after_load_with m x form l v)
-      ∙ load_far r.stop r.done (after_load form l m v))
+  load_with : (r : MemoryRow) → load_row r c v (memory_with m x) ≡ done_with (load_row r c v m) x
+  load_with r =
+      let l : Layout = row_layout r c v in
+      let far : Reach = reach m ReadKind (elements_of l) in
+      let after : Memory → Vectors = λ n. after_load r.transfer r.width.is_signed l n v in
+      unless_with (has_sp_base r.brackets) (elements_of l) (loaded_to far (after m) c v m) (loaded_to (reach (memory_with m x) ReadKind (elements_of l)) (after (memory_with m x)) c v (memory_with m x))
+      (ap (λ (s : Reach). loaded_to s (after (memory_with m x)) c v (memory_with m x)) (reach_with m x ReadKind (elements_of l))
+      ∙ ap (λ (w : Vectors). loaded_to far w c v (memory_with m x)) (after_load_with m x r.transfer r.width.is_signed l v)
+      ∙ load_far far.stop far.done (after m))
 
-  store_with : (form : SveForm) → vector_store form c v (memory_with m x) ≡ done_with (vector_store form c v m) x
-  store_with form =
-      let l : Layout = layout form c v in
-      let r : Reach = reach m WriteKind (elements_of l) in
-      unless_with (has_sp_base form) (elements_of l) (stored_to r (element_stored form l v) c v m) (stored_to (reach (memory_with m x) WriteKind (elements_of l)) (element_stored form l v) c v (memory_with m x))
-      (ap (λ (s : Reach). stored_to s (element_stored form l v) c v (memory_with m x)) (reach_with m x WriteKind (elements_of l))
-      ∙ store_far r.stop r.done (element_stored form l v))
+  store_with : (r : MemoryRow) → store_row r c v (memory_with m x) ≡ done_with (store_row r c v m) x
+  store_with r =
+      let l : Layout = row_layout r c v in
+      let far : Reach = reach m WriteKind (elements_of l) in
+      let stores : Element → ℕ = element_stored r.transfer l v in
+      unless_with (has_sp_base r.brackets) (elements_of l) (stored_to far stores c v m) (stored_to (reach (memory_with m x) WriteKind (elements_of l)) stores c v (memory_with m x))
+      (ap (λ (s : Reach). stored_to s stores c v (memory_with m x)) (reach_with m x WriteKind (elements_of l))
+      ∙ store_far far.stop far.done stores)
 
   -- ---- first-faulting and non-faulting loads
 
@@ -139,28 +140,32 @@ module _ (c : Core) (v : Vectors) (m : Memory) (x : Marks) where
   loaded_unless_with None d e h = h
   loaded_unless_with (Some a) d e h = refl
 
-  fault_of_with : (form : SveForm) (es : List Element) → first_fault_of form es c v (memory_with m x) ≡ done_with (first_fault_of form es c v m) x
-  fault_of_with form es =
-      let l : Layout = layout form c v in
-      let d : Done = first_fault_loaded (loads_signed form) l.bits l.register es c v m in
-      let e : Done = first_fault_loaded (loads_signed form) l.bits l.register es c v (memory_with m x) in
-      unless_with (has_sp_base form) es (loaded_unless (if is_non_fault form then None else first_refused m es) d c v m) (loaded_unless (if is_non_fault form then None else first_refused (memory_with m x) es) e c v (memory_with m x))
-      (ap (λ (o : Option ℕ). loaded_unless (if is_non_fault form then None else o) e c v (memory_with m x)) (first_refused_with m x es)
-      ∙ loaded_unless_with (if is_non_fault form then None else first_refused m es) d e (loaded_with (loads_signed form) l.bits l.register es))
+  fault_with : (r : MemoryRow) (es : List Element) → first_fault_row r es c v (memory_with m x) ≡ done_with (first_fault_row r es c v m) x
+  fault_with r es =
+      let d : Memory → Done = λ n. first_fault_loaded r.width.is_signed r.width.bits r.first es c v n in
+      let stop : Option ℕ → Option ℕ = λ o. if never_traps r.way then None else o in
+      unless_with (has_sp_base r.brackets) es (loaded_unless (stop (first_refused m es)) (d m) c v m) (loaded_unless (stop (first_refused (memory_with m x) es)) (d (memory_with m x)) c v (memory_with m x))
+      (ap (λ (o : Option ℕ). loaded_unless (stop o) (d (memory_with m x)) c v (memory_with m x)) (first_refused_with m x es)
+      ∙ loaded_unless_with (stop (first_refused m es)) (d m) (d (memory_with m x)) (loaded_with r.width.is_signed r.width.bits r.first es))
 
   -- ---- the rows
 
-  on_page_with : (page : Page) (form : SveForm) → performed_on page form c v (memory_with m x) ≡ done_with (performed_on page form c v m) x
-  on_page_with Lanes form = refl
-  on_page_with Permutes form = refl
-  on_page_with Counts form = refl
-  on_page_with Folds form = refl
-  on_page_with Predicates form = refl
-  on_page_with Loads form = load_with form
-  on_page_with Stores form = store_with form
-  on_page_with Gathers form = load_with form
-  on_page_with Scatters form = store_with form
-  on_page_with FirstFaults form = fault_of_with form (elements_of (layout form c v))
+  way_with : (way : Way) (r : MemoryRow) → done_by_way way r c v (memory_with m x) ≡ done_with (done_by_way way r c v m) x
+  way_with Way.loads r = load_with r
+  way_with Way.stores r = store_with r
+  way_with (Way.gathers true) r = fault_with r (elements_of (row_layout r c v))
+  way_with (Way.gathers false) r = load_with r
+  way_with Way.scatters r = store_with r
+  way_with Way.first_faults r = fault_with r (elements_of (row_layout r c v))
+  way_with Way.non_faults r = fault_with r (elements_of (row_layout r c v))
+
+  row_with : (r : Row) → done_by r c v (memory_with m x) ≡ done_with (done_by r c v m) x
+  row_with (Row.by_lanes f) = refl
+  row_with (Row.permutes f) = refl
+  row_with (Row.counts f) = refl
+  row_with (Row.folds f) = refl
+  row_with (Row.predicates f) = refl
+  row_with (Row.memory r) = way_with r.way r
 
   pub performed_with : (form : SveForm) → performed form c v (memory_with m x) ≡ done_with (performed form c v m) x
-  performed_with form = on_page_with (page_of form) form
+  performed_with form = row_with (row form)

@@ -6,7 +6,7 @@ ghost use Rattle.emu_model.specs.declared.trap.Effect.{Effect};
 ghost use Rattle.sve_effects.specs.Effects.{is_data, after_data};
 
 use core_regs::{Core, Effect};
-use sve_effects::{Page, page_of};
+use sve_effects::{Group, group_of};
 use sve_insn::Sve;
 use vec_regs::VecRegs;
 
@@ -19,15 +19,15 @@ pub fn exec(core: &mut Core, vec: &mut VecRegs, i: &Sve) -> Effect
     ensures vectors { vec.new ≡ (after_data i.now core.old vec.old).vectors }
     ensures effect { result ≡ Effect.Next }
 {
-    match page_of(i.form()) {
-        Page::Lanes => sve_lanes::exec(core, vec, i),
-        Page::Permutes | Page::Counts | Page::Folds => sve_permutes::exec(core, vec, i),
-        Page::Predicates
-        | Page::Loads
-        | Page::Stores
-        | Page::Gathers
-        | Page::Scatters
-        | Page::FirstFaults => {}
+    match group_of(i.form()) {
+        Group::Lanes => sve_lanes::exec(core, vec, i),
+        Group::Permutes | Group::Counts | Group::Folds => sve_permutes::exec(core, vec, i),
+        Group::Predicates
+        | Group::Loads
+        | Group::Stores
+        | Group::Gathers
+        | Group::Scatters
+        | Group::FirstFaults => {}
     }
     Effect::Next
 }

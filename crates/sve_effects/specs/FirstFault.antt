@@ -1,7 +1,5 @@
 -- First-faulting and non-faulting loads: what an element that is refused leaves of FFR and of the lanes.
 use Rattle.std.specs.Prelude.{ℕ, ◌*◌, ◌/◌, Bool, true, false, not, ◌&&◌, List, [], ◌∷◌, get_or, length, Option, Some, None, is_some, nat_eq, nat_lt, if◌then◌else◌}
-use Rattle.sve_insn.specs.declared.form.SveForm.{SveForm}
-use Rattle.sve_insn.specs.declared.form.SveForm.TheVariants.{LoadNf}
 use Rattle.emu_model.specs.declared.access.Kind.TheVariants.{Read as ReadKind}
 use Rattle.emu_model.specs.declared.trap.Effect.TheVariants.{Next}
 use Rattle.emu_model.specs.declared.trap.TrapKind.TheVariants.{Read}
@@ -15,8 +13,8 @@ use Rattle.vec_model.specs.Lanes.{with_ffr, with_lanes}
 use Rattle.sve_effects.specs.Element.{extended_by}
 use Rattle.sve_effects.specs.FirstLast.{first_where}
 use Rattle.sve_effects.specs.Predicate.{is_upto}
-use Rattle.sve_effects.specs.VectorElements.{layout, elements_of}
-use Rattle.sve_effects.specs.VectorLoadStore.{loads_signed, has_sp_base, unless_misaligned}
+use Rattle.sve_effects.specs.VectorElements.{MemoryRow, Way, loads, stores, gathers, scatters, first_faults, non_faults}
+use Rattle.sve_effects.specs.VectorLoadStore.{has_sp_base, unless_misaligned}
 
 -- The active lanes are those that have an element, of which each has one; the elements stand in order of lanes.
 
@@ -65,40 +63,30 @@ abbrev pub loaded_from : Bool → ℕ → Memory → Option Element → ℕ
 loaded_from is_signed e m None = 0
 loaded_from is_signed e m (Some x) = extended_by is_signed e (8 * x.bytes) (value m x.address x.bytes)
 
--- lane k of the result, by the new FFR: 0 from the first lane on whose bit is 0
-abbrev pub first_fault_lane : Bool → ℕ → Memory → List Element → List Bool → ℕ → ℕ → ℕ
-first_fault_lane is_signed e m es ffr n k = if is_before (first_cleared e ffr n) k then loaded_from is_signed e m (element_at es k) else 0
-
--- the result in register zt, and the new FFR
-abbrev pub with_first_fault : Bool → ℕ → ℕ → Memory → List Element → List Bool → Vectors → Vectors
-with_first_fault is_signed e zt m es ffr v = with_ffr (with_lanes e (first_fault_lane is_signed e m es ffr (v.bits / e)) zt v) ffr
-
 -- ---- what is left
 
 -- ldnf1, which never traps on an element
-abbrev pub is_non_fault : SveForm → Bool
-is_non_fault (LoadNf dtype imm4 pg rn zt) = true
-is_non_fault form = false
+abbrev pub never_traps : Way → Bool
+never_traps loads = false
+never_traps stores = false
+never_traps (gathers ff) = false
+never_traps scatters = false
+never_traps first_faults = false
+never_traps non_faults = true
 
 abbrev pub loaded_unless : Option ℕ → Done → Core → Vectors → Memory → Done
 loaded_unless None d c v m = d
 loaded_unless (Some a) d c v m = traps c v m Read a
 
--- the load of these elements into lanes of e bits of register zt
-abbrev pub first_fault_loaded : Bool → ℕ → ℕ → List Element → Core → Vectors → Memory → Done
-first_fault_loaded is_signed e zt es c v m = record {
-  core = c;
-  vectors = with_first_fault is_signed e zt m es (cleared_from e (first_suppressed m es) v.ffr) v;
-  memory = m;
-  accesses = accesses_of false (unsuppressed m es);
-  effect = Next;
-}
-
--- an instruction of these rows, with these elements
-abbrev pub first_fault_of : SveForm → List Element → Core → Vectors → Memory → Done
-first_fault_of form es c v m =
-    unless_misaligned (has_sp_base form) es c v m
-    (loaded_unless (if is_non_fault form then None else first_refused m es) (first_fault_loaded (loads_signed form) (layout form c v).bits (layout form c v).register es c v m) c v m)
-
-abbrev pub first_fault : SveForm → Core → Vectors → Memory → Done
-first_fault form c v m = first_fault_of form (elements_of (layout form c v)) c v m
+-- A row with these elements. f is the address that refuses the element of the first active lane, where that traps; q is the lane of the
+-- first suppressed element, from which FFR is cleared; g is the first lane whose bit of FFR is then 0, from which the lanes are 0.
+abbrev pub first_fault_row : MemoryRow → List Element → Core → Vectors → Memory → Done
+first_fault_row r es c v m =
+    let e : ℕ = r.width.bits in
+    let f : Option ℕ = if never_traps r.way then None else first_refused m es in
+    let q : Option ℕ = first_suppressed m es in
+    let ffr : List Bool = cleared_from e q v.ffr in
+    let g : Option ℕ = first_cleared e ffr (v.bits / e) in
+    let lane : ℕ → ℕ = λ k. if is_before g k then loaded_from r.width.is_signed e m (element_at es k) else 0 in
+    let loaded : Done = record { core = c; vectors = with_ffr (with_lanes e lane r.first v) ffr; memory = m; accesses = accesses_of false (unsuppressed m es); effect = Next } in
+    unless_misaligned (has_sp_base r.brackets) es c v m (loaded_unless f loaded c v m)

@@ -1,18 +1,13 @@
 -- Folds over the active lanes of a register, in the order of lanes.
-use Rattle.std.specs.Prelude.{ℕ, ◌-◌, ◌^◌, Bool}
-use Rattle.sve_insn.specs.declared.form.SveForm.{SveForm}
-use Rattle.sve_insn.specs.declared.form.SveForm.TheVariants.{Reduce}
+use Rattle.std.specs.Prelude.{ℕ, ◌-◌, ◌^◌}
 use Rattle.sve_insn.specs.declared.ops.ReduceOp.{ReduceOp}
 use Rattle.sve_insn.specs.declared.ops.ReduceOp.TheVariants.{Saddv, Uaddv, Smaxv, Umaxv, Sminv, Uminv, Orv, Eorv, Andv}
 use Rattle.sve_effects.specs.declared.elements.ElementOp.TheVariants.{Add, Smax, Umax, Smin, Umin, Orr, Eor, And}
 use Rattle.emu_bits.specs.Numbers.{sign_extended}
-use Rattle.emu_model.specs.Done.{Registers, leaves}
-use Rattle.emu_model.specs.State.{Core, Vectors}
+use Rattle.emu_model.specs.State.{Vectors}
 use Rattle.sve_effects.specs.Element.{element}
-use Rattle.sve_effects.specs.ElementLoop.{lane_bits, folding}
+use Rattle.sve_effects.specs.ElementLoop.{folding}
 use Rattle.vec_model.specs.Lanes.{with_low}
-use Rattle.sve_effects.specs.declared.pages.Page.TheVariants.{Folds}
-use Rattle.sve_effects.specs.Pages.{page_of, same_page}
 
 -- the next value, of the value so far and a lane of e bits; sums are of the signed or the unsigned lanes, modulo 2^64
 abbrev pub reduce_step : ReduceOp → ℕ → ℕ → ℕ → ℕ
@@ -44,15 +39,6 @@ reduce_bits Saddv e = 64
 reduce_bits Uaddv e = 64
 reduce_bits op e = e
 
-abbrev pub is_fold : SveForm → Bool
-is_fold form = same_page Folds (page_of form)
-
 -- the low bits of Vd are the result
 abbrev pub reduced : ReduceOp → ℕ → ℕ → ℕ → ℕ → Vectors → Vectors
 reduced op e pg zn vd v = with_low (reduce_bits op e) (folding e pg (reduce_step op e) (reduce_start op e) zn v) vd v
-
--- The registers after an instruction of this row, which goes on behind it.
-abbrev pub reduction : SveForm → Core → Vectors → Registers
-reduction (Reduce op size pg zn vd) c v = leaves c (reduced op (lane_bits size) pg zn vd v)
--- the other rows stand elsewhere
-reduction form c v = leaves c v

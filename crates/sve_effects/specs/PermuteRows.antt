@@ -1,7 +1,5 @@
 -- What the permutes of lanes and of predicate fields do, and copies of scalars to lanes and of lanes to scalars.
 use Rattle.std.specs.Prelude.{ℕ, ◌+◌, ◌*◌, ◌/◌, ◌%◌, ◌^◌, Bool, true, false, nat_eq, if◌then◌else◌, List, get_or, is_some, unwrap_or}
-use Rattle.sve_insn.specs.declared.form.SveForm.{SveForm}
-use Rattle.sve_insn.specs.declared.form.SveForm.TheVariants.{DupReg, DupLane, Insert, RevZ, Unpack, Table, Interleave, InterleaveP, UnpackP, RevP, Compact, Splice, Ext, CopyReg, Last, CondLast}
 use Rattle.sve_insn.specs.declared.ops.InsertOp.{InsertOp}
 use Rattle.sve_insn.specs.declared.ops.InsertOp.TheVariants.{InsrR, InsrV}
 use Rattle.sve_insn.specs.declared.ops.UnpackOp.{UnpackOp}
@@ -21,10 +19,7 @@ use Rattle.sve_effects.specs.ElementLoop.{lane_bits, lane_of, is_active}
 use Rattle.sve_effects.specs.FirstLast.{first_where, last_where}
 use Rattle.vec_model.specs.Lanes.{read_p, with_lanes, with_low, with_fields}
 use Rattle.sve_effects.specs.declared.places.Place.{Place}
-use Rattle.sve_effects.specs.declared.places.Place.TheVariants.{Scalar}
-use Rattle.sve_effects.specs.Permute.{taken, interleave_place, ext_place, rev_place, insr_place, indexed_place, half_place, copy_place, compact_place, splice_place, last_lane}
-use Rattle.sve_effects.specs.declared.pages.Page.TheVariants.{Permutes}
-use Rattle.sve_effects.specs.Pages.{page_of, same_page}
+use Rattle.sve_effects.specs.Permute.{taken, half_place, last_lane}
 
 -- ---- lanes and fields by places
 
@@ -113,10 +108,6 @@ last_value_or other after e pg zn v = if any_active (is_active e v pg) (lanes e 
 
 -- ---- the rows
 
--- the permutes, the copies to lanes, and the lanes that a predicate's last active one names
-abbrev pub is_permute : SveForm → Bool
-is_permute form = same_page Permutes (page_of form)
-
 -- the lane to a general register, with zeros above, or to a vector register
 abbrev pub after_last : LastOp → ℕ → ℕ → ℕ → Core → Vectors → Registers
 after_last LastaR e x rd c v = leaves (with_x c rd 64 x) v
@@ -149,24 +140,3 @@ after_unpack op e zn zd v = with_lanes e (λ k. extended_by (is_signed op) e (e 
 -- field k of 2 bits has bit k of the half of Pn as its lowest bit, and 0 above
 abbrev pub after_unpack_p : UnpackPOp → ℕ → ℕ → Vectors → Vectors
 after_unpack_p op pn pd v = with_fields 16 (λ k. taken (is_active 8 v pn) (is_active 8 v pn) false false (half_place (is_high_p op) (lanes 16 v) k)) pd v
-
--- The registers after an instruction of these rows, which goes on behind it.
-abbrev pub permuted : SveForm → Core → Vectors → Registers
-permuted (DupReg size rn zd) c v = leaves c (moved (lane_bits size) (λ k. Scalar) zd zd (read_x_sp c rn) zd v)
-permuted (DupLane imm2 tsz zn zd) c v = leaves c (moved (dup_bits tsz) (λ k. indexed_place (dup_index imm2 tsz) (lanes (dup_bits tsz) v)) zn zn 0 zd v)
-permuted (Insert op size src zdn) c v = leaves c (moved (lane_bits size) insr_place zdn zdn (insert_scalar op (lane_bits size) src c v) zdn v)
-permuted (RevZ size zn zd) c v = leaves c (moved (lane_bits size) (rev_place (lanes (lane_bits size) v)) zn zn 0 zd v)
-permuted (Unpack op size zn zd) c v = leaves c (after_unpack op (lane_bits size) zn zd v)
-permuted (Table size zm zn zd) c v = leaves c (moved (lane_bits size) (λ k. indexed_place (lane_of (lane_bits size) v zm k) (lanes (lane_bits size) v)) zn zn 0 zd v)
-permuted (Interleave op size zm zn zd) c v = leaves c (moved (lane_bits size) (interleave_place op (lanes (lane_bits size) v)) zn zm 0 zd v)
-permuted (InterleaveP op size pm pn pd) c v = leaves c (moved_fields (lane_bits size) (interleave_place op (lanes (lane_bits size) v)) pn pm pd v)
-permuted (UnpackP op pn pd) c v = leaves c (after_unpack_p op pn pd v)
-permuted (RevP size pn pd) c v = leaves c (moved_fields (lane_bits size) (rev_place (lanes (lane_bits size) v)) pn pn pd v)
-permuted (Compact size pg zn zd) c v = leaves c (moved (lane_bits size) (compact_place (is_active (lane_bits size) v pg) (lanes (lane_bits size) v)) zn zn 0 zd v)
-permuted (Splice size pg zm zdn) c v = leaves c (moved (lane_bits size) (splice_place (is_active (lane_bits size) v pg) (lanes (lane_bits size) v)) zdn zm 0 zdn v)
-permuted (Ext imm8h imm8l zm zdn) c v = leaves c (moved 8 (ext_place (imm8h * 8 + imm8l) (lanes 8 v)) zdn zm 0 zdn v)
-permuted (CopyReg op size pg rn zd) c v = leaves c (moved (lane_bits size) (copy_place (is_active (lane_bits size) v pg)) zd zd (copy_scalar op (lane_bits size) rn c v) zd v)
-permuted (Last op size pg zn rd) c v = after_last op (lane_bits size) (last_value (is_after op) (lane_bits size) pg zn v) rd c v
-permuted (CondLast op size pg zm zdn) c v = after_cond_last op (lane_bits size) pg zm zdn c v
--- the other rows stand elsewhere
-permuted form c v = leaves c v

@@ -1,7 +1,5 @@
 -- What each SVE instruction on predicates leaves of the registers: compares, logic, breaks, loops, counts, and FFR.
-use Rattle.std.specs.Prelude.{ℕ, ◌/◌, ◌%◌, ◌^◌, Bool, true, false, not, ◌&&◌, nat_eq, if◌then◌else◌, List, replicate}
-use Rattle.sve_insn.specs.declared.form.SveForm.{SveForm}
-use Rattle.sve_insn.specs.declared.form.SveForm.TheVariants.{CmpVec, CmpWide, CmpUImm, CmpSImm, LogicP, SelectP, Break, BreakPair, BreakNext, Ptest, First, Next, Ptrue, Pfalse, ReadFfr, ReadFfrAll, WriteFfr, CountP, IncP, IncPZ, While, Cterm}
+use Rattle.std.specs.Prelude.{ℕ, ◌/◌, ◌%◌, ◌^◌, Bool, true, false, not, ◌&&◌, nat_eq, if◌then◌else◌, List}
 use Rattle.sve_insn.specs.declared.ops.BreakOp.{BreakOp}
 use Rattle.sve_insn.specs.declared.ops.BreakOp.TheVariants.{Brka, Brkb}
 use Rattle.sve_insn.specs.declared.ops.BreakPairOp.{BreakPairOp}
@@ -28,26 +26,22 @@ use Rattle.sve_insn.specs.declared.ops.WhileOp.{WhileOp}
 use Rattle.sve_insn.specs.declared.ops.WhileOp.TheVariants.{Whilelt, Whilele, Whilelo, Whilels}
 use Rattle.sve_insn.specs.declared.ops.WriteFfrOp.{WriteFfrOp}
 use Rattle.sve_insn.specs.declared.ops.WriteFfrOp.TheVariants.{Setffr, Wrffr}
-use Rattle.emu_bits.specs.Numbers.{width_of, sign_extended}
+use Rattle.emu_bits.specs.Numbers.{width_of}
 use Rattle.emu_bits.specs.declared.flags.Flags.{Flags}
 use Rattle.emu_model.specs.Done.{Registers, leaves}
 use Rattle.emu_model.specs.Lists.{each}
-use Rattle.emu_model.specs.State.{Core, Vectors, read_x, with_x}
+use Rattle.emu_model.specs.State.{Core, Vectors, read_x}
 use Rattle.sve_effects.specs.declared.elements.ElementOp.{ElementOp}
 use Rattle.sve_effects.specs.declared.elements.ElementOp.TheVariants.{Add, Sub}
 use Rattle.sve_effects.specs.declared.elements.ElementTest.{ElementTest}
 use Rattle.sve_effects.specs.declared.elements.ElementTest.TheVariants.{Eq, Ne, Ge, Gt, Lt, Le, Hs, Hi, Lo, Ls}
 use Rattle.sve_effects.specs.declared.predicates.LogicOp.{LogicOp}
-use Rattle.sve_effects.specs.declared.predicates.LogicOp.TheVariants.{And, Bic, Eor, Orr, Orn, Nor, Nand, Sel}
+use Rattle.sve_effects.specs.declared.predicates.LogicOp.TheVariants.{And, Bic, Eor, Orr, Orn, Nor, Nand}
 use Rattle.sve_effects.specs.declared.predicates.WhileTest.{WhileTest}
 use Rattle.sve_effects.specs.declared.predicates.WhileTest.TheVariants as conditions
-use Rattle.sve_effects.specs.Element.{element, element_test, extended_by}
-use Rattle.sve_effects.specs.ElementLoop.{lane_bits, lane_of, covering_lane, is_active}
-use Rattle.vec_model.specs.Lanes.{read_p, with_p, with_ffr, with_lanes}
-use Rattle.sve_effects.specs.Pattern.{pattern_count}
-use Rattle.sve_effects.specs.Predicate.{is_set, fields, pred_test, logic, broken, broken_pair, broken_next, with_first, only_next, lanes_below, while_lanes, count_lanes}
-use Rattle.sve_effects.specs.declared.pages.Page.TheVariants.{Predicates}
-use Rattle.sve_effects.specs.Pages.{page_of, same_page}
+use Rattle.sve_effects.specs.ElementLoop.{is_active}
+use Rattle.vec_model.specs.Lanes.{read_p, with_p}
+use Rattle.sve_effects.specs.Predicate.{is_set, fields, pred_test, while_lanes, count_lanes}
 
 -- ---- results
 
@@ -180,37 +174,3 @@ terminates Ctermne w a b = not (nat_eq (a % 2 ^ w) (b % 2 ^ w))
 -- where it ends N is 1 and V is 0, else N is 0 and V is not C; Z and C stay
 abbrev pub termination_flags : Bool → Flags → Flags
 termination_flags ends f = record { n = ends; z = f.z; c = f.c; v = not ends && not f.c }
-
--- ---- the rows
-
--- the rows that compare into predicates, or work on predicates and FFR
-abbrev pub is_predicate : SveForm → Bool
-is_predicate form = same_page Predicates (page_of form)
-
--- The registers after an instruction of these rows, which goes on behind it.
-abbrev pub predicate : SveForm → Core → Vectors → Registers
-predicate (CmpVec op size zm pg zn pd) c v = put_compared (lane_bits size) pg pd (λ k. element_test (vector_test op) (lane_bits size) (lane_of (lane_bits size) v zn k) (lane_of (lane_bits size) v zm k)) c v
-predicate (CmpWide op size zm pg zn pd) c v = put_compared (lane_bits size) pg pd (λ k. element_test (wide_test op) 64 (extended_by (not (is_unsigned (wide_test op))) 64 (lane_bits size) (lane_of (lane_bits size) v zn k)) (covering_lane (lane_bits size) v zm k)) c v
-predicate (CmpUImm op size imm7 pg zn pd) c v = put_compared (lane_bits size) pg pd (λ k. element_test (unsigned_test op) (lane_bits size) (lane_of (lane_bits size) v zn k) imm7) c v
-predicate (CmpSImm op size imm5 pg zn pd) c v = put_compared (lane_bits size) pg pd (λ k. element_test (signed_test op) (lane_bits size) (lane_of (lane_bits size) v zn k) (sign_extended (lane_bits size) 5 imm5)) c v
-predicate (LogicP op s pm pg pn pd) c v = put s 8 (read_p v pg) pd (logic (logic_of op) (predicate_bits v) (read_p v pg) (read_p v pn) (read_p v pm)) c v
-predicate (SelectP pm pg pn pd) c v = put false 8 (read_p v pg) pd (logic Sel (predicate_bits v) (read_p v pg) (read_p v pn) (read_p v pm)) c v
-predicate (Break op s pg pn m pd) c v = put s 8 (read_p v pg) pd (broken (break_after op) m (predicate_bits v) (read_p v pg) (read_p v pn) (read_p v pd)) c v
-predicate (BreakPair op s pm pg pn pd) c v = put s 8 (read_p v pg) pd (broken_pair (pair_after op) (predicate_bits v) (read_p v pg) (read_p v pn) (read_p v pm)) c v
--- of the breaks, brkn alone has its flags by the test of all bits, also of those that aren't active
-predicate (BreakNext s pg pn pdm) c v = put s 8 (ones (predicate_bits v)) pdm (broken_next (predicate_bits v) (read_p v pg) (read_p v pn) (read_p v pdm)) c v
-predicate (Ptest pg pn) c v = leaves (after_test true 8 (predicate_bits v) (read_p v pg) (read_p v pn) c) v
-predicate (First pg pdn) c v = put true 8 (read_p v pg) pdn (with_first (predicate_bits v) (read_p v pg) (read_p v pdn)) c v
-predicate (Next size pg pdn) c v = put true (lane_bits size) (read_p v pg) pdn (only_next (lane_bits size) (predicate_bits v) (read_p v pg) (read_p v pdn)) c v
-predicate (Ptrue op size pattern pd) c v = let result = lanes_below (lane_bits size) (predicate_bits v) (pattern_count pattern (v.bits / lane_bits size)) in put (ptrue_flags op) (lane_bits size) result pd result c v
-predicate (Pfalse pd) c v = leaves c (with_p v pd (replicate (predicate_bits v) false))
-predicate (ReadFfr op pg pd) c v = put (read_ffr_flags op) 8 (read_p v pg) pd (logic And (predicate_bits v) (read_p v pg) v.ffr v.ffr) c v
-predicate (ReadFfrAll pd) c v = leaves c (with_p v pd v.ffr)
-predicate (WriteFfr op pn) c v = leaves c (with_ffr v (written_ffr op pn v))
-predicate (CountP size pg pn rd) c v = leaves (with_x c rd 64 (count_lanes (lane_bits size) (predicate_bits v) (read_p v pg) (read_p v pn))) v
-predicate (IncP op size pm rdn) c v = leaves (with_x c rdn 64 (element (counted_by op) 64 (read_x c rdn) (set_lanes_of (lane_bits size) pm v))) v
-predicate (IncPZ op size pm zdn) c v = leaves c (with_lanes (lane_bits size) (λ k. element (counted_by op) (lane_bits size) (lane_of (lane_bits size) v zdn k) (set_lanes_of (lane_bits size) pm v)) zdn v)
-predicate (While op size rm sf rn pd) c v = put true (lane_bits size) (ones (predicate_bits v)) pd (while_result op (lane_bits size) sf rn rm c v) c v
-predicate (Cterm op sf rm rn) c v = leaves (record c { flags = termination_flags (terminates op (width_of sf) (read_x c rn) (read_x c rm)) c.flags }) v
--- the other rows stand elsewhere
-predicate form c v = leaves c v

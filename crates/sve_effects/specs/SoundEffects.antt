@@ -1,35 +1,34 @@
 -- What an SVE instruction leaves is sound.
+use Rattle.std.specs.Prelude.{true, false}
 use Rattle.sve_insn.specs.declared.form.SveForm.{SveForm}
 use Rattle.emu_model.specs.Access.{Memory}
 use Rattle.emu_model.specs.Done.{leaves}
-use Rattle.emu_model.specs.SoundDone.{IsSoundDone, leaves_sound, went_on_sound}
+use Rattle.emu_model.specs.SoundDone.{IsSoundDone, IsSoundRegisters, went_on_sound}
 use Rattle.emu_model.specs.State.{Core, Vectors, IsSoundCore, IsSoundVectors, IsSoundMemory}
-use Rattle.sve_effects.specs.declared.pages.Page.{Page}
-use Rattle.sve_effects.specs.declared.pages.Page.TheVariants.{Lanes, Permutes, Counts, Folds, Predicates, Loads, Stores, Gathers, Scatters, FirstFaults}
-use Rattle.sve_effects.specs.Counts.{counted}
-use Rattle.sve_effects.specs.Effects.{performed, performed_on}
-use Rattle.sve_effects.specs.Fold.{reduction}
-use Rattle.sve_effects.specs.Pages.{page_of}
-use Rattle.sve_effects.specs.PermuteRows.{permuted}
-use Rattle.sve_effects.specs.PredicateRows.{predicate}
-use Rattle.sve_effects.specs.SoundPermute.{permute_sound, count_sound, fold_sound}
-use Rattle.sve_effects.specs.SoundPredicate.{predicate_sound}
-use Rattle.sve_effects.specs.SoundVectorData.{vector_data_sound}
-use Rattle.sve_effects.specs.SoundVectorMemory.{vector_load_sound, vector_store_sound, first_fault_sound}
-use Rattle.sve_effects.specs.VectorData.{vector_data}
+use Rattle.sve_effects.specs.Effects.{performed}
+use Rattle.sve_effects.specs.Row.{Row, by_lanes, permutes, counts, folds, predicates, memory, registers_after, done_by_way, done_by}
+use Rattle.sve_effects.specs.Rows.{row}
+use Rattle.sve_effects.specs.SoundRows.{registers_sound}
+use Rattle.sve_effects.specs.SoundVectorMemory.{load_row_sound, store_row_sound, first_fault_row_sound}
+use Rattle.sve_effects.specs.VectorElements.{MemoryRow, Way, loads, stores, gathers, scatters, first_faults, non_faults, elements_of, row_layout}
 
-module _ (c : Core) (v : Vectors) (m : Memory) (s : IsSoundCore c) (u : IsSoundVectors v) (t : IsSoundMemory m) (form : SveForm) where
-  on_page_sound : (page : Page) → IsSoundDone (performed_on page form c v m)
-  on_page_sound Lanes = went_on_sound (leaves c (vector_data form c v)) m (leaves_sound c (vector_data form c v) s (vector_data_sound form c v u)) t
-  on_page_sound Permutes = went_on_sound (permuted form c v) m (permute_sound c v s u form) t
-  on_page_sound Counts = went_on_sound (counted form c v) m (count_sound c v s u form) t
-  on_page_sound Folds = went_on_sound (reduction form c v) m (fold_sound c v s u form) t
-  on_page_sound Predicates = went_on_sound (predicate form c v) m (predicate_sound c v s u form) t
-  on_page_sound Loads = vector_load_sound c v m s u t form
-  on_page_sound Stores = vector_store_sound c v m s u t form
-  on_page_sound Gathers = vector_load_sound c v m s u t form
-  on_page_sound Scatters = vector_store_sound c v m s u t form
-  on_page_sound FirstFaults = first_fault_sound c v m s u t form
+module _ (c : Core) (v : Vectors) (m : Memory) (s : IsSoundCore c) (u : IsSoundVectors v) (t : IsSoundMemory m) where
+  way_sound : (way : Way) (r : MemoryRow) → IsSoundDone (done_by_way way r c v m)
+  way_sound loads r = load_row_sound c v m s u t r
+  way_sound stores r = store_row_sound c v m s u t r
+  way_sound (gathers true) r = first_fault_row_sound c v m s u t r (elements_of (row_layout r c v))
+  way_sound (gathers false) r = load_row_sound c v m s u t r
+  way_sound scatters r = store_row_sound c v m s u t r
+  way_sound first_faults r = first_fault_row_sound c v m s u t r (elements_of (row_layout r c v))
+  way_sound non_faults r = first_fault_row_sound c v m s u t r (elements_of (row_layout r c v))
+
+  row_sound : (r : Row) → IsSoundRegisters (registers_after r c v) → IsSoundDone (done_by r c v m)
+  row_sound (by_lanes f) h = went_on_sound (leaves c (f c v)) m h t
+  row_sound (permutes f) h = went_on_sound (f c v) m h t
+  row_sound (counts f) h = went_on_sound (f c v) m h t
+  row_sound (folds f) h = went_on_sound (f c v) m h t
+  row_sound (predicates f) h = went_on_sound (f c v) m h t
+  row_sound (memory r) h = way_sound r.way r
 
 pub performed_sound : (form : SveForm) (c : Core) (v : Vectors) (m : Memory) → IsSoundCore c → IsSoundVectors v → IsSoundMemory m → IsSoundDone (performed form c v m)
-performed_sound form c v m s u t = on_page_sound c v m s u t form (page_of form)
+performed_sound form c v m s u t = row_sound c v m s u t (row form) (registers_sound c v s u form)

@@ -1,8 +1,6 @@
 -- SVE loads and stores keep the registers and the memory sound.
-use Rattle.std.specs.Prelude.{ℕ, zero, suc, ◌+◌, ◌*◌, ◌/◌, ◌%◌, Bool, true, false, List, [], ◌∷◌, length, Option, Some, None, IfSome, if◌then◌else◌}
+use Rattle.std.specs.Prelude.{ℕ, zero, suc, ◌*◌, ◌/◌, ◌%◌, Bool, true, false, List, [], ◌∷◌, length, Option, Some, None, IfSome, if◌then◌else◌}
 use Rattle.std.proofs.Common.{◌∙◌}
-use Rattle.sve_insn.specs.declared.form.SveForm.{SveForm}
-use Rattle.sve_insn.specs.declared.form.SveForm.TheVariants.{LoadQuadImm, LoadQuadReg, LoadOne, LoadP}
 use Rattle.emu_model.specs.declared.access.Kind.TheVariants.{Read as ReadKind, Write as WriteKind}
 use Rattle.emu_model.specs.declared.trap.TrapKind.TheVariants.{Read, SpAlign}
 use Rattle.emu_model.specs.Access.{Memory, value}
@@ -16,10 +14,11 @@ use Rattle.emu_model.specs.State.{Core, Vectors, IsWord, HasLength, IsSoundCore,
 use Rattle.vec_model.specs.SoundLanes.{sound_lanes, sound_p, sound_ffr_bits}
 use Rattle.vec_model.specs.Lanes.{with_lanes}
 use Rattle.sve_effects.specs.Element.{extended_by}
-use Rattle.sve_effects.specs.FirstFault.{cleared_from, first_suppressed, first_fault_lane, with_first_fault, is_non_fault, first_refused, loaded_unless, first_fault_loaded, first_fault}
+use Rattle.sve_effects.specs.FirstFault.{cleared_from, first_suppressed, never_traps, first_refused, loaded_unless, first_fault_row}
+use Rattle.sve_effects.specs.FirstFaultParts.{first_fault_lane, with_first_fault, first_fault_loaded}
 use Rattle.sve_effects.specs.ElementLoop.{is_active}
-use Rattle.sve_effects.specs.VectorElements.{Layout, register_at, dtype_signed, layout, elements_of}
-use Rattle.sve_effects.specs.VectorLoadStore.{loads_signed, loaded_lane, with_loaded, after_load, has_sp_base, is_misaligned, element_stored, load_as_far, store_as_far, unless_misaligned, loaded_to, stored_to, vector_load, vector_store}
+use Rattle.sve_effects.specs.VectorElements.{MemoryRow, Transfer, each_active, repeated, replicated, whole_z, whole_p, Layout, register_at, row_layout, elements_of}
+use Rattle.sve_effects.specs.VectorLoadStore.{loaded_lane, with_loaded, after_load, has_sp_base, is_misaligned, element_stored, load_as_far, store_as_far, unless_misaligned, loaded_to, stored_to, load_row, store_row}
 
 -- ---- what is loaded
 
@@ -28,12 +27,12 @@ unfolding with_loaded
 with_loaded_sound is_signed l m zero v s = s
 with_loaded_sound is_signed l m (suc n) v s = sound_lanes l.bits (loaded_lane is_signed l m n) (register_at l n) (with_loaded is_signed l m n v) (with_loaded_sound is_signed l m n v s)
 
-after_load_sound : (form : SveForm) (l : Layout) (m : Memory) (v : Vectors) → IsSoundVectors v → IsSoundVectors (after_load form l m v)
-after_load_sound (LoadQuadImm msz imm4 pg rn zt) l m v s = sound_lanes l.bits (λ k. loaded_lane false l m 0 (k % l.lanes)) l.register v s
-after_load_sound (LoadQuadReg msz rm pg rn zt) l m v s = sound_lanes l.bits (λ k. loaded_lane false l m 0 (k % l.lanes)) l.register v s
-after_load_sound (LoadOne dtypeh imm6 dtypel pg rn zt) l m v s = sound_lanes l.bits (λ k. if is_active l.bits v pg k then extended_by (dtype_signed (dtypeh * 4 + dtypel)) l.bits (8 * l.bytes) (value m (l.address k 0) l.bytes) else 0) l.register v s
-after_load_sound (LoadP imm9h imm9l rn pt) l m v s = sound_p (each (v.bits / 8) _) l.register v (length-each (v.bits / 8) _) s
-after_load_sound form l m v s = with_loaded_sound (loads_signed form) l m l.registers v s
+after_load_sound : (transfer : Transfer) (is_signed : Bool) (l : Layout) (m : Memory) (v : Vectors) → IsSoundVectors v → IsSoundVectors (after_load transfer is_signed l m v)
+after_load_sound (each_active pg) is_signed l m v s = with_loaded_sound is_signed l m l.registers v s
+after_load_sound (repeated pg) is_signed l m v s = sound_lanes l.bits (λ k. loaded_lane false l m 0 (k % l.lanes)) l.register v s
+after_load_sound (replicated pg) is_signed l m v s = sound_lanes l.bits (λ k. if is_active l.bits v pg k then extended_by is_signed l.bits (8 * l.bytes) (value m (l.address k 0) l.bytes) else 0) l.register v s
+after_load_sound whole_z is_signed l m v s = with_loaded_sound is_signed l m l.registers v s
+after_load_sound whole_p is_signed l m v s = sound_p (each (v.bits / 8) _) l.register v (length-each (v.bits / 8) _) s
 
 -- ---- the rows
 
@@ -52,19 +51,20 @@ module _ (c : Core) (v : Vectors) (m : Memory) (s : IsSoundCore c) (u : IsSoundV
     | false ↦ h
   ]
 
-  pub vector_load_sound : (form : SveForm) → IsSoundDone (vector_load form c v m)
-  vector_load_sound form =
-      let l : Layout = layout form c v in
+  pub load_row_sound : (row : MemoryRow) → IsSoundDone (load_row row c v m)
+  load_row_sound row =
+      let l : Layout = row_layout row c v in
       let r = reach m ReadKind (elements_of l) in
-      unless_sound (has_sp_base form) (elements_of l) (loaded_to r (after_load form l m v) c v m)
-      (load_sound r.stop r.done (after_load form l m v) (stop_is_word m ReadKind (elements_of l)) (after_load_sound form l m v u))
+      let after : Vectors = after_load row.transfer row.width.is_signed l m v in
+      unless_sound (has_sp_base row.brackets) (elements_of l) (loaded_to r after c v m)
+      (load_sound r.stop r.done after (stop_is_word m ReadKind (elements_of l)) (after_load_sound row.transfer row.width.is_signed l m v u))
 
-  pub vector_store_sound : (form : SveForm) → IsSoundDone (vector_store form c v m)
-  vector_store_sound form =
-      let l : Layout = layout form c v in
+  pub store_row_sound : (row : MemoryRow) → IsSoundDone (store_row row c v m)
+  store_row_sound row =
+      let l : Layout = row_layout row c v in
       let r = reach m WriteKind (elements_of l) in
-      unless_sound (has_sp_base form) (elements_of l) (stored_to r (element_stored form l v) c v m)
-      (store_sound r.stop r.done (element_stored form l v) (stop_is_word m WriteKind (elements_of l)))
+      unless_sound (has_sp_base row.brackets) (elements_of l) (stored_to r (element_stored row.transfer l v) c v m)
+      (store_sound r.stop r.done (element_stored row.transfer l v) (stop_is_word m WriteKind (elements_of l)))
 
   -- ---- first-faulting and non-faulting loads
 
@@ -95,9 +95,7 @@ module _ (c : Core) (v : Vectors) (m : Memory) (s : IsSoundCore c) (u : IsSoundV
     effect = tt;
   }
 
-  pub first_fault_sound : (form : SveForm) → IsSoundDone (first_fault form c v m)
-  first_fault_sound form =
-      let l : Layout = layout form c v in
-      let es : List Element = elements_of l in
-      unless_sound (has_sp_base form) es _
-      (loaded_unless_sound _ _ (trap_is_word (is_non_fault form) es) (first_fault_loaded_sound (loads_signed form) l.bits l.register es))
+  pub first_fault_row_sound : (row : MemoryRow) (es : List Element) → IsSoundDone (first_fault_row row es c v m)
+  first_fault_row_sound row es =
+      unless_sound (has_sp_base row.brackets) es _
+      (loaded_unless_sound _ (first_fault_loaded row.width.is_signed row.width.bits row.first es c v m) (trap_is_word (never_traps row.way) es) (first_fault_loaded_sound row.width.is_signed row.width.bits row.first es))

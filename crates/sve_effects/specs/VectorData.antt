@@ -1,21 +1,16 @@
 -- What each SVE instruction that works lane by lane leaves of the vector registers.
-use Rattle.std.specs.Prelude.{ℕ, ◌+◌, ◌-◌, ◌*◌, ◌/◌, ◌%◌, ◌^◌, Bool, true, false, if◌then◌else◌, unwrap_or, ℤ, pos, ◌+ℤ◌, ◌*ℤ◌}
-use Rattle.sve_insn.specs.declared.form.SveForm.{SveForm}
-use Rattle.sve_insn.specs.declared.form.SveForm.TheVariants.{Binary, BinaryWide, ShiftImm, Unary, MulAddZ, MulAddD, Plain, LogicZ, PlainWide, PlainShift, Index, Dot, DotIndexed, WideImm, MinMaxImm, DupImm, BitmaskZ, CopyImm, PrefixP, Prefix, SelectZ}
+use Rattle.std.specs.Prelude.{ℕ, ◌+◌, ◌-◌, ◌*◌, ◌/◌, ◌^◌, Bool, if◌then◌else◌, unwrap_or, ℤ, pos, ◌*ℤ◌}
 use Rattle.sve_insn.specs.declared.ops.IndexOp.{IndexOp}
 use Rattle.sve_insn.specs.declared.ops.IndexOp.TheVariants.{ImmImm, RegImm, ImmReg, RegReg}
 use Rattle.sve_insn.specs.declared.ops.DotIndexedOp.{DotIndexedOp}
 use Rattle.sve_insn.specs.declared.ops.DotIndexedOp.TheVariants.{SdotS, UdotS, SdotD, UdotD}
 use Rattle.sve_effects.specs.declared.elements.ElementOp.{ElementOp}
 use Rattle.sve_effects.specs.declared.elements.ElementOp.TheVariants.{Lsl}
-use Rattle.emu_bits.specs.Bitmask.{highest_set, bitmask_of}
-use Rattle.emu_bits.specs.Fields.{bit}
+use Rattle.emu_bits.specs.Bitmask.{highest_set}
 use Rattle.emu_bits.specs.Numbers.{signed, unsigned_int}
 use Rattle.emu_model.specs.State.{Core, Vectors, read_x}
-use Rattle.sve_effects.specs.Element.{element, element_by, unary, multiply_by, subtracts_z, subtracts_d, dot_product, dot_signed, dot_indexed_signed, binary_element, binary_exchanged, shift_element, shift_imm_element, plain_element, logic_element, wide_imm_element, wide_imm_exchanged, min_max_element, min_max_signed, bitmask_element, extended_by}
-use Rattle.sve_effects.specs.ElementLoop.{lane_bits, lane_of, covering_lane, is_active, plain, merging, zeroing}
-use Rattle.sve_effects.specs.declared.pages.Page.TheVariants.{Lanes}
-use Rattle.sve_effects.specs.Pages.{page_of, same_page}
+use Rattle.sve_effects.specs.Element.{element, dot_product}
+use Rattle.sve_effects.specs.ElementLoop.{lane_bits, lane_of, plain, merging, zeroing}
 
 -- ---- immediate shifts
 
@@ -88,42 +83,3 @@ dot_indexed is_signed e i zm zn zda v = plain e (λ k. dot_product is_signed e (
 -- active lanes are copied; the others keep their value where m is true (/m), else they are 0 (/z)
 abbrev pub copied : Bool → ℕ → ℕ → (ℕ → ℕ) → ℕ → Vectors → Vectors
 copied m e pg f zd v = if m then merging e pg f zd v else zeroing e pg f zd v
-
--- ---- two operands
-
--- an operation of lane k of register zn and the second source's number for k
-abbrev pub with_second : Bool → ElementOp → ℕ → ℕ → (ℕ → ℕ) → Vectors → ℕ → ℕ
-with_second exchanged op e zn second v k = element_by exchanged op e (lane_of e v zn k) (second k)
-
--- ---- the rows
-
--- the rows that work lane by lane
-abbrev pub is_vector_data : SveForm → Bool
-is_vector_data form = same_page Lanes (page_of form)
-
--- The vector registers after an instruction of these rows: the values of all operands are those before it.
-abbrev pub vector_data : SveForm → Core → Vectors → Vectors
-vector_data (Binary op size pg zm zdn) c v = merging (lane_bits size) pg (with_second (binary_exchanged op) (binary_element op) (lane_bits size) zdn (lane_of (lane_bits size) v zm) v) zdn v
-vector_data (BinaryWide op size pg zm zdn) c v = merging (lane_bits size) pg (with_second false (shift_element op) (lane_bits size) zdn (covering_lane (lane_bits size) v zm) v) zdn v
-vector_data (ShiftImm op tszh pg tszl imm3 zdn) c v = merging (shift_bits (tsz_of tszh tszl)) pg (shifted_by (shift_imm_element op) (tsz_of tszh tszl) imm3 zdn v) zdn v
-vector_data (Unary op size pg zn zd) c v = merging (lane_bits size) pg (λ k. unary op (lane_bits size) (lane_of (lane_bits size) v zn k)) zd v
-vector_data (MulAddZ op size zm pg zn zda) c v = merging (lane_bits size) pg (λ k. multiply_by (subtracts_z op) (lane_bits size) (lane_of (lane_bits size) v zda k) (lane_of (lane_bits size) v zn k) (lane_of (lane_bits size) v zm k)) zda v
-vector_data (MulAddD op size zm pg za zdn) c v = merging (lane_bits size) pg (λ k. multiply_by (subtracts_d op) (lane_bits size) (lane_of (lane_bits size) v za k) (lane_of (lane_bits size) v zdn k) (lane_of (lane_bits size) v zm k)) zdn v
-vector_data (Plain op size zm zn zd) c v = plain (lane_bits size) (with_second false (plain_element op) (lane_bits size) zn (lane_of (lane_bits size) v zm) v) zd v
-vector_data (LogicZ op zm zn zd) c v = plain 64 (with_second false (logic_element op) 64 zn (lane_of 64 v zm) v) zd v
-vector_data (PlainWide op size zm zn zd) c v = plain (lane_bits size) (with_second false (shift_element op) (lane_bits size) zn (covering_lane (lane_bits size) v zm) v) zd v
-vector_data (PlainShift op tszh tszl imm3 zn zd) c v = plain (shift_bits (tsz_of tszh tszl)) (shifted_by (shift_element op) (tsz_of tszh tszl) imm3 zn v) zd v
-vector_data (Index op size y x zd) c v = plain (lane_bits size) (λ k. unsigned_int (index_start op c x +ℤ pos k *ℤ index_step op c y) (lane_bits size)) zd v
-vector_data (Dot op size zm zn zda) c v = plain (lane_bits size) (λ k. dot_product (dot_signed op) (lane_bits size) (lane_of (lane_bits size) v zda k) (lane_of (lane_bits size) v zn k) (lane_of (lane_bits size) v zm k)) zda v
-vector_data (DotIndexed op i_zm zn zda) c v = dot_indexed (dot_indexed_signed op) (dot_indexed_bits op) (i_zm / 2 ^ dot_indexed_zm_bits op) (i_zm % 2 ^ dot_indexed_zm_bits op) zn zda v
-vector_data (WideImm op size sh imm8 zdn) c v = plain (lane_bits size) (with_second (wide_imm_exchanged op) (wide_imm_element op) (lane_bits size) zdn (λ _. wide_unsigned sh imm8) v) zdn v
-vector_data (MinMaxImm op size imm8 zdn) c v = plain (lane_bits size) (with_second false (min_max_element op) (lane_bits size) zdn (λ _. extended_by (min_max_signed op) (lane_bits size) 8 imm8) v) zdn v
-vector_data (DupImm size sh imm8 zd) c v = plain (lane_bits size) (λ _. wide_signed (lane_bits size) sh imm8) zd v
--- each instruction of the row has a bitmask
-vector_data (BitmaskZ op n immr imms zdn) c v = plain 64 (λ k. bitmask_element op (lane_of 64 v zdn k) (unwrap_or (bitmask_of 64 (bit n) immr imms) 0)) zdn v
-vector_data (CopyImm size pg m sh imm8 zd) c v = copied m (lane_bits size) pg (λ _. wide_signed (lane_bits size) sh imm8) zd v
-vector_data (PrefixP size m pg zn zd) c v = copied m (lane_bits size) pg (lane_of (lane_bits size) v zn) zd v
-vector_data (Prefix zn zd) c v = plain 64 (lane_of 64 v zn) zd v
-vector_data (SelectZ size zm pg zn zd) c v = plain (lane_bits size) (λ k. if is_active (lane_bits size) v pg k then lane_of (lane_bits size) v zn k else lane_of (lane_bits size) v zm k) zd v
--- the other rows stand elsewhere
-vector_data form c v = v

@@ -1,7 +1,5 @@
--- The elements of SVE loads and stores: which lanes have one, for which registers, and where it is in memory.
-use Rattle.std.specs.Prelude.{ℕ, zero, suc, ◌+◌, ◌*◌, ◌/◌, ◌%◌, ◌^◌, Bool, true, false, List, [], ◌∷◌, ◌++◌, get_or, if◌then◌else◌, ℤ, pos, ◌+ℤ◌, ◌*ℤ◌}
-use Rattle.sve_insn.specs.declared.form.SveForm.{SveForm}
-use Rattle.sve_insn.specs.declared.form.SveForm.TheVariants.{LoadImm, LoadReg, LoadFf, LoadNf, LoadNtImm, LoadNtReg, LoadQuadImm, LoadQuadReg, LoadManyImm, LoadManyReg, LoadOne, LoadZ, LoadP, StoreImm, StoreReg, StoreNtImm, StoreNtReg, StoreManyImm, StoreManyReg, StoreZ, StoreP, GatherSx, GatherSxScaled, GatherDx, GatherDxScaled, GatherD, GatherDScaled, GatherSv, GatherDv, ScatterSx, ScatterSxScaled, ScatterDx, ScatterDxScaled, ScatterD, ScatterDScaled, ScatterSv, ScatterDv}
+-- What SVE loads and stores say of their elements: which lanes have one, for which registers, and where it is in memory.
+use Rattle.std.specs.Prelude.{ℕ, zero, suc, ◌+◌, ◌*◌, ◌/◌, ◌%◌, Bool, true, false, List, [], ◌∷◌, ◌++◌, get_or, if◌then◌else◌, ℤ, pos, ◌+ℤ◌, ◌*ℤ◌, ◌^◌}
 use Rattle.sve_insn.specs.declared.ops.LoadManyOp.{LoadManyOp}
 use Rattle.sve_insn.specs.declared.ops.LoadManyOp.TheVariants.{Ld2, Ld3, Ld4}
 use Rattle.sve_insn.specs.declared.ops.StoreManyOp.{StoreManyOp}
@@ -14,6 +12,67 @@ use Rattle.emu_model.specs.State.{Core, Vectors, read_x, read_x_sp}
 use Rattle.sve_effects.specs.ElementLoop.{lane_bits, lane_of, is_active}
 use Rattle.sve_effects.specs.FirstLast.{first_where}
 use Rattle.sve_effects.specs.Predicate.{is_at}
+
+-- ---- what a row says of its elements
+
+-- which access it is; a gather is first-faulting where its bit ff is 1
+pub data Way : Type 0 where
+  loads : Way
+  stores : Way
+  gathers : Bool → Way
+  scatters : Way
+  first_faults : Way
+  non_faults : Way
+
+-- the bits of a lane, the bytes of its element, and whether a load extends the element's sign
+pub record Width : Type 0 where
+  pub bits : ℕ
+  pub bytes : ℕ
+  pub is_signed : Bool
+
+-- which lanes have an element, and what of the registers it is
+pub data Transfer : Type 0 where
+  -- each active lane its own
+  each_active : ℕ → Transfer
+  -- each active one of the first 128 bits, which are then repeated
+  repeated : ℕ → Transfer
+  -- the first active one, and its element is then in each active lane
+  replicated : ℕ → Transfer
+  -- each byte of a Z register
+  whole_z : Transfer
+  -- each eight bits of a predicate
+  whole_p : Transfer
+
+-- what stands behind Xn|SP in brackets
+pub data Offset : Type 0 where
+  -- #imm4, mul vl
+  lengths : ℕ → Offset
+  -- #imm4 of 16 bytes
+  quadwords : ℕ → Offset
+  -- Xm, lsl #s
+  register : ℕ → Offset
+  -- #imm6, of the one element
+  single : ℕ → Offset
+  -- #imm9, mul vl, of a whole register
+  whole : ℕ → Offset
+  -- Zm.T, uxtw, or sxtw where true; and scaled where true
+  words : Bool → ℕ → Bool → Offset
+  -- Zm.d, and scaled where true
+  doublewords : ℕ → Bool → Offset
+
+-- [Xn|SP, an offset], or [Zn.T, #imm5]
+pub data Brackets : Type 0 where
+  scalar : ℕ → Offset → Brackets
+  vector : ℕ → ℕ → Brackets
+
+-- the elements are of so many registers from number `first` on, which behind 31 go on at 0
+pub record MemoryRow : Type 0 where
+  pub way : Way
+  pub width : Width
+  pub registers : ℕ
+  pub first : ℕ
+  pub transfer : Transfer
+  pub brackets : Brackets
 
 -- ---- a layout of elements
 
@@ -67,6 +126,21 @@ store_registers St2 = 2
 store_registers St3 = 3
 store_registers St4 = 4
 
+abbrev pub by_dtype : ℕ → Width
+by_dtype dtype = record { bits = dtype_bits dtype; bytes = dtype_bytes dtype; is_signed = dtype_signed dtype }
+
+-- an element of 2 to the power of msz bytes, which fills its lane
+abbrev pub filling : ℕ → Width
+filling msz = record { bits = lane_bits msz; bytes = 2 ^ msz; is_signed = false }
+
+-- a whole register goes byte by byte
+abbrev pub single_bytes : Width
+single_bytes = record { bits = 8; bytes = 1; is_signed = false }
+
+-- what the rows have that reach no memory
+abbrev pub no_elements : MemoryRow
+no_elements = record { way = loads; width = single_bytes; registers = 0; first = 0; transfer = whole_z; brackets = scalar 0 (whole 0) }
+
 -- ---- places
 
 -- [Xn|SP, #i]: i counts n bytes
@@ -77,114 +151,58 @@ base_and_count c rn i n = unsigned_int (pos (read_x_sp c rn) +ℤ i *ℤ pos n) 
 abbrev pub base_and_register : Core → ℕ → ℕ → ℕ → ℕ
 base_and_register c rn rm n = address (read_x_sp c rn + read_x c rm * n)
 
--- ---- consecutive elements
-
--- from a base on, lane by lane, and within a lane register by register
-abbrev pub consecutive : ℕ → ℕ → ℕ → ℕ → ℕ → ℕ → Vectors → Layout
-consecutive e n registers zt pg base v = record {
-  bits = e;
-  bytes = n;
-  lanes = v.bits / e;
-  registers = registers;
-  register = zt;
-  is_on = is_active e v pg;
-  address = λ k j. address (base + (k * registers + j) * n);
-}
-
--- [Xn|SP{, #i, mul vl}]: i counts the bytes of the elements of all lanes
-abbrev pub consecutive_imm : ℕ → ℕ → ℕ → ℕ → ℕ → ℕ → ℕ → Core → Vectors → Layout
-consecutive_imm e n registers zt pg rn imm4 c v = consecutive e n registers zt pg (base_and_count c rn (signed imm4 4) (registers * (v.bits / e) * n)) v
-
-abbrev pub consecutive_reg : ℕ → ℕ → ℕ → ℕ → ℕ → ℕ → ℕ → Core → Vectors → Layout
-consecutive_reg e n registers zt pg rn rm c v = consecutive e n registers zt pg (base_and_register c rn rm n) v
-
--- the first 128 bits of them
-abbrev pub quadword : Layout → Layout
-quadword l = record l { lanes = 128 / l.bits }
-
--- one element, which stands for the first active lane
-abbrev pub single_active : ℕ → ℕ → ℕ → ℕ → ℕ → Vectors → Layout
-single_active e n zt pg a v = record {
-  bits = e;
-  bytes = n;
-  lanes = v.bits / e;
-  registers = 1;
-  register = zt;
-  is_on = is_at (first_where (v.bits / e) (is_active e v pg));
-  address = λ k j. a;
-}
-
--- a whole register, byte by byte
-abbrev pub whole : ℕ → ℕ → ℕ → Layout
-whole bytes r base = record { bits = 8; bytes = 1; lanes = bytes; registers = 1; register = r; is_on = λ k. true; address = λ k j. address (base + k) }
-
--- imm9h:imm9l, signed, counts the bytes of a register
-abbrev pub whole_at : ℕ → ℕ → ℕ → ℕ → ℕ → Core → Layout
-whole_at bytes imm9h imm9l rn r c = whole bytes r (base_and_count c rn (signed (imm9h * 8 + imm9l) 9) bytes)
-
--- ---- elements at the lanes of a register
-
-abbrev pub scattered : ℕ → ℕ → ℕ → ℕ → (ℕ → ℕ) → Vectors → Layout
-scattered e n zt pg place v = record { bits = e; bytes = n; lanes = v.bits / e; registers = 1; register = zt; is_on = is_active e v pg; address = λ k j. place k }
-
 -- the low 32 bits of a lane, unsigned (uxtw), or signed where xs is true (sxtw)
 abbrev pub word_offset : Bool → ℕ → ℕ
 word_offset xs x = if xs then sign_extended 64 32 x else unsigned x 32
 
--- [Xn|SP, Zm.T, uxtw #s]: the low halves of the lanes of Zm count n bytes
-abbrev pub at_words : ℕ → Bool → ℕ → ℕ → ℕ → Core → Vectors → ℕ → ℕ
-at_words e xs zm rn n c v k = address (read_x_sp c rn + word_offset xs (lane_of e v zm k) * n)
+-- the lanes of an offset count bytes, or elements of n bytes where it is scaled
+abbrev pub scale : Bool → ℕ → ℕ
+scale is_scaled n = if is_scaled then n else 1
 
--- [Xn|SP, Zm.d, lsl #s]: the lanes of Zm count n bytes
-abbrev pub at_lanes : ℕ → ℕ → ℕ → Core → Vectors → ℕ → ℕ
-at_lanes zm rn n c v k = address (read_x_sp c rn + lane_of 64 v zm k * n)
+-- ---- the layout of a row
 
--- [Zn.T{, #i}]: at the lanes of Zn, unsigned, and imm5 elements of n bytes on
-abbrev pub at_vector : ℕ → ℕ → ℕ → ℕ → Vectors → ℕ → ℕ
-at_vector e zn imm5 n v k = address (lane_of e v zn k + imm5 * n)
+-- the lanes that may have an element
+abbrev pub lane_count : Transfer → ℕ → Vectors → ℕ
+lane_count (each_active pg) e v = v.bits / e
+lane_count (repeated pg) e v = 128 / e
+lane_count (replicated pg) e v = v.bits / e
+lane_count whole_z e v = v.bits / 8
+lane_count whole_p e v = v.bits / 64
 
--- ---- the rows
+-- those of them that have one
+abbrev pub lane_is_on : Transfer → ℕ → Vectors → ℕ → Bool
+lane_is_on (each_active pg) e v = is_active e v pg
+lane_is_on (repeated pg) e v = is_active e v pg
+lane_is_on (replicated pg) e v = is_at (first_where (v.bits / e) (is_active e v pg))
+lane_is_on whole_z e v = λ k. true
+lane_is_on whole_p e v = λ k. true
 
-abbrev pub layout : SveForm → Core → Vectors → Layout
-layout (LoadImm dtype imm4 pg rn zt) c v = consecutive_imm (dtype_bits dtype) (dtype_bytes dtype) 1 zt pg rn imm4 c v
-layout (LoadReg dtype rm pg rn zt) c v = consecutive_reg (dtype_bits dtype) (dtype_bytes dtype) 1 zt pg rn rm c v
-layout (LoadFf dtype rm pg rn zt) c v = consecutive_reg (dtype_bits dtype) (dtype_bytes dtype) 1 zt pg rn rm c v
-layout (LoadNf dtype imm4 pg rn zt) c v = consecutive_imm (dtype_bits dtype) (dtype_bytes dtype) 1 zt pg rn imm4 c v
-layout (LoadNtImm msz imm4 pg rn zt) c v = consecutive_imm (lane_bits msz) (2 ^ msz) 1 zt pg rn imm4 c v
-layout (LoadNtReg msz rm pg rn zt) c v = consecutive_reg (lane_bits msz) (2 ^ msz) 1 zt pg rn rm c v
-layout (LoadQuadImm msz imm4 pg rn zt) c v = quadword (consecutive (lane_bits msz) (2 ^ msz) 1 zt pg (base_and_count c rn (signed imm4 4) 16) v)
-layout (LoadQuadReg msz rm pg rn zt) c v = quadword (consecutive_reg (lane_bits msz) (2 ^ msz) 1 zt pg rn rm c v)
-layout (LoadManyImm op msz imm4 pg rn zt) c v = consecutive_imm (lane_bits msz) (2 ^ msz) (load_registers op) zt pg rn imm4 c v
-layout (LoadManyReg op msz rm pg rn zt) c v = consecutive_reg (lane_bits msz) (2 ^ msz) (load_registers op) zt pg rn rm c v
-layout (LoadOne dtypeh imm6 dtypel pg rn zt) c v = single_active (dtype_bits (dtypeh * 4 + dtypel)) (dtype_bytes (dtypeh * 4 + dtypel)) zt pg (base_and_count c rn (pos imm6) (dtype_bytes (dtypeh * 4 + dtypel))) v
-layout (LoadZ imm9h imm9l rn zt) c v = whole_at (v.bits / 8) imm9h imm9l rn zt c
-layout (LoadP imm9h imm9l rn pt) c v = whole_at (v.bits / 64) imm9h imm9l rn pt c
-layout (StoreImm msz size imm4 pg rn zt) c v = consecutive_imm (lane_bits size) (2 ^ msz) 1 zt pg rn imm4 c v
-layout (StoreReg msz size rm pg rn zt) c v = consecutive_reg (lane_bits size) (2 ^ msz) 1 zt pg rn rm c v
-layout (StoreNtImm msz imm4 pg rn zt) c v = consecutive_imm (lane_bits msz) (2 ^ msz) 1 zt pg rn imm4 c v
-layout (StoreNtReg msz rm pg rn zt) c v = consecutive_reg (lane_bits msz) (2 ^ msz) 1 zt pg rn rm c v
-layout (StoreManyImm op msz imm4 pg rn zt) c v = consecutive_imm (lane_bits msz) (2 ^ msz) (store_registers op) zt pg rn imm4 c v
-layout (StoreManyReg op msz rm pg rn zt) c v = consecutive_reg (lane_bits msz) (2 ^ msz) (store_registers op) zt pg rn rm c v
-layout (StoreZ imm9h imm9l rn zt) c v = whole_at (v.bits / 8) imm9h imm9l rn zt c
-layout (StoreP imm9h imm9l rn pt) c v = whole_at (v.bits / 64) imm9h imm9l rn pt c
-layout (GatherSx msz xs zm u ff pg rn zt) c v = scattered 32 (2 ^ msz) zt pg (at_words 32 xs zm rn 1 c v) v
-layout (GatherSxScaled msz xs zm u ff pg rn zt) c v = scattered 32 (2 ^ msz) zt pg (at_words 32 xs zm rn (2 ^ msz) c v) v
-layout (GatherDx msz xs zm u ff pg rn zt) c v = scattered 64 (2 ^ msz) zt pg (at_words 64 xs zm rn 1 c v) v
-layout (GatherDxScaled msz xs zm u ff pg rn zt) c v = scattered 64 (2 ^ msz) zt pg (at_words 64 xs zm rn (2 ^ msz) c v) v
-layout (GatherD msz zm u ff pg rn zt) c v = scattered 64 (2 ^ msz) zt pg (at_lanes zm rn 1 c v) v
-layout (GatherDScaled msz zm u ff pg rn zt) c v = scattered 64 (2 ^ msz) zt pg (at_lanes zm rn (2 ^ msz) c v) v
-layout (GatherSv msz imm5 u ff pg zn zt) c v = scattered 32 (2 ^ msz) zt pg (at_vector 32 zn imm5 (2 ^ msz) v) v
-layout (GatherDv msz imm5 u ff pg zn zt) c v = scattered 64 (2 ^ msz) zt pg (at_vector 64 zn imm5 (2 ^ msz) v) v
-layout (ScatterSx msz zm xs pg rn zt) c v = scattered 32 (2 ^ msz) zt pg (at_words 32 xs zm rn 1 c v) v
-layout (ScatterSxScaled msz zm xs pg rn zt) c v = scattered 32 (2 ^ msz) zt pg (at_words 32 xs zm rn (2 ^ msz) c v) v
-layout (ScatterDx msz zm xs pg rn zt) c v = scattered 64 (2 ^ msz) zt pg (at_words 64 xs zm rn 1 c v) v
-layout (ScatterDxScaled msz zm xs pg rn zt) c v = scattered 64 (2 ^ msz) zt pg (at_words 64 xs zm rn (2 ^ msz) c v) v
-layout (ScatterD msz zm pg rn zt) c v = scattered 64 (2 ^ msz) zt pg (at_lanes zm rn 1 c v) v
-layout (ScatterDScaled msz zm pg rn zt) c v = scattered 64 (2 ^ msz) zt pg (at_lanes zm rn (2 ^ msz) c v) v
-layout (ScatterSv msz imm5 pg zn zt) c v = scattered 32 (2 ^ msz) zt pg (at_vector 32 zn imm5 (2 ^ msz) v) v
-layout (ScatterDv msz imm5 pg zn zt) c v = scattered 64 (2 ^ msz) zt pg (at_vector 64 zn imm5 (2 ^ msz) v) v
--- the other rows have none
-layout form c v = whole 0 0 0
+-- the address for lane k and the j-th of the registers, where elements follow one another lane by lane, and within a lane register by register
+abbrev pub following : MemoryRow → ℕ → ℕ → ℕ → ℕ
+following r base k j = address (base + (k * r.registers + j) * r.width.bytes)
 
-abbrev pub vector_elements : SveForm → Core → Vectors → List Element
-vector_elements form c v = elements_of (layout form c v)
+-- the same by what stands behind Xn|SP
+abbrev pub offset_address : Offset → MemoryRow → ℕ → Core → Vectors → ℕ → ℕ → ℕ
+offset_address (lengths imm4) r rn c v = following r (base_and_count c rn (signed imm4 4) (r.registers * lane_count r.transfer r.width.bits v * r.width.bytes))
+offset_address (quadwords imm4) r rn c v = following r (base_and_count c rn (signed imm4 4) 16)
+offset_address (register rm) r rn c v = following r (base_and_register c rn rm r.width.bytes)
+offset_address (single imm6) r rn c v = λ k j. base_and_count c rn (pos imm6) r.width.bytes
+offset_address (whole imm9) r rn c v = λ k j. address (base_and_count c rn (signed imm9 9) (lane_count r.transfer r.width.bits v) + k)
+offset_address (words is_signed zm is_scaled) r rn c v = λ k j. address (read_x_sp c rn + word_offset is_signed (lane_of r.width.bits v zm k) * scale is_scaled r.width.bytes)
+offset_address (doublewords zm is_scaled) r rn c v = λ k j. address (read_x_sp c rn + lane_of 64 v zm k * scale is_scaled r.width.bytes)
+
+-- the lanes of Zn, unsigned, and imm5 elements on
+abbrev pub element_address : Brackets → MemoryRow → Core → Vectors → ℕ → ℕ → ℕ
+element_address (scalar rn offset) r c v = offset_address offset r rn c v
+element_address (vector zn imm5) r c v = λ k j. address (lane_of r.width.bits v zn k + imm5 * r.width.bytes)
+
+abbrev pub row_layout : MemoryRow → Core → Vectors → Layout
+row_layout r c v = record {
+  bits = r.width.bits;
+  bytes = r.width.bytes;
+  lanes = lane_count r.transfer r.width.bits v;
+  registers = r.registers;
+  register = r.first;
+  is_on = lane_is_on r.transfer r.width.bits v;
+  address = element_address r.brackets r c v;
+}

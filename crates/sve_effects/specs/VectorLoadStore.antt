@@ -1,7 +1,5 @@
 -- What SVE loads and stores leave, but for the first-faulting and non-faulting ones.
-use Rattle.std.specs.Prelude.{ℕ, zero, suc, ◌+◌, ◌*◌, ◌/◌, ◌%◌, ◌^◌, Bool, true, false, not, ◌&&◌, ◌||◌, List, [], ◌∷◌, get_or, Option, Some, None, nat_eq, if◌then◌else◌}
-use Rattle.sve_insn.specs.declared.form.SveForm.{SveForm}
-use Rattle.sve_insn.specs.declared.form.SveForm.TheVariants.{LoadImm, LoadReg, LoadFf, LoadNf, LoadNtImm, LoadNtReg, LoadQuadImm, LoadQuadReg, LoadManyImm, LoadManyReg, LoadOne, LoadZ, LoadP, StoreImm, StoreReg, StoreNtImm, StoreNtReg, StoreManyImm, StoreManyReg, StoreZ, StoreP, GatherSx, GatherSxScaled, GatherDx, GatherDxScaled, GatherD, GatherDScaled, GatherSv, GatherDv, ScatterSx, ScatterSxScaled, ScatterDx, ScatterDxScaled, ScatterD, ScatterDScaled}
+use Rattle.std.specs.Prelude.{ℕ, zero, suc, ◌+◌, ◌*◌, ◌/◌, ◌%◌, ◌^◌, Bool, true, false, not, ◌&&◌, List, [], ◌∷◌, get_or, Option, Some, None, nat_eq, if◌then◌else◌}
 use Rattle.emu_bits.specs.Fields.{bit}
 use Rattle.emu_bits.specs.Operations.{number_of_bits}
 use Rattle.emu_model.specs.declared.access.Kind.TheVariants.{Read as ReadKind, Write as WriteKind}
@@ -15,28 +13,9 @@ use Rattle.emu_model.specs.State.{Core, Vectors}
 use Rattle.vec_model.specs.Lanes.{lane, read_z, read_p, with_lanes, with_p}
 use Rattle.sve_effects.specs.Element.{extended_by}
 use Rattle.sve_effects.specs.ElementLoop.{is_active}
-use Rattle.sve_effects.specs.VectorElements.{Layout, register_at, dtype_signed, layout, elements_of}
-use Rattle.sve_effects.specs.declared.pages.Page.TheVariants.{Loads, Stores, Gathers, Scatters, FirstFaults}
-use Rattle.sve_effects.specs.Pages.{page_of, same_page}
+use Rattle.sve_effects.specs.VectorElements.{MemoryRow, Transfer, each_active, repeated, replicated, whole_z, whole_p, Brackets, scalar, vector, Layout, register_at, elements_of, row_layout}
 
 -- ---- what is loaded
-
--- whether the sign of an element is extended
-abbrev pub loads_signed : SveForm → Bool
-loads_signed (LoadImm dtype imm4 pg rn zt) = dtype_signed dtype
-loads_signed (LoadReg dtype rm pg rn zt) = dtype_signed dtype
-loads_signed (LoadFf dtype rm pg rn zt) = dtype_signed dtype
-loads_signed (LoadNf dtype imm4 pg rn zt) = dtype_signed dtype
-loads_signed (LoadOne dtypeh imm6 dtypel pg rn zt) = dtype_signed (dtypeh * 4 + dtypel)
-loads_signed (GatherSx msz xs zm u ff pg rn zt) = not u
-loads_signed (GatherSxScaled msz xs zm u ff pg rn zt) = not u
-loads_signed (GatherDx msz xs zm u ff pg rn zt) = not u
-loads_signed (GatherDxScaled msz xs zm u ff pg rn zt) = not u
-loads_signed (GatherD msz zm u ff pg rn zt) = not u
-loads_signed (GatherDScaled msz zm u ff pg rn zt) = not u
-loads_signed (GatherSv msz imm5 u ff pg zn zt) = not u
-loads_signed (GatherDv msz imm5 u ff pg zn zt) = not u
-loads_signed form = false
 
 -- what lane k of the j-th register gets: its element, extended, and 0 where it has none
 abbrev pub loaded_lane : Bool → Layout → Memory → ℕ → ℕ → ℕ
@@ -59,12 +38,13 @@ with_replicated is_signed pg l m v = with_lanes l.bits (λ k. if is_active l.bit
 abbrev pub with_loaded_bits : Layout → Memory → Vectors → Vectors
 with_loaded_bits l m v = with_p v l.register (each (v.bits / 8) (λ j. nat_eq (value m (l.address (j / 8) 0) 1 / 2 ^ (j % 8) % 2) 1))
 
-abbrev pub after_load : SveForm → Layout → Memory → Vectors → Vectors
-after_load (LoadQuadImm msz imm4 pg rn zt) l m v = with_repeated l m v
-after_load (LoadQuadReg msz rm pg rn zt) l m v = with_repeated l m v
-after_load (LoadOne dtypeh imm6 dtypel pg rn zt) l m v = with_replicated (dtype_signed (dtypeh * 4 + dtypel)) pg l m v
-after_load (LoadP imm9h imm9l rn pt) l m v = with_loaded_bits l m v
-after_load form l m v = with_loaded (loads_signed form) l m l.registers v
+-- by what of the registers the elements are
+abbrev pub after_load : Transfer → Bool → Layout → Memory → Vectors → Vectors
+after_load (each_active pg) is_signed l m v = with_loaded is_signed l m l.registers v
+after_load (repeated pg) is_signed l m v = with_repeated l m v
+after_load (replicated pg) is_signed l m v = with_replicated is_signed pg l m v
+after_load whole_z is_signed l m v = with_loaded is_signed l m l.registers v
+after_load whole_p is_signed l m v = with_loaded_bits l m v
 
 -- ---- what is stored
 
@@ -76,49 +56,19 @@ lane_stored l v e = lane l.bits (read_z v e.register) e.lane
 abbrev pub bits_stored : Vectors → Element → ℕ
 bits_stored v e = number_of_bits 8 (λ j. bit (get_or (read_p v e.register) (8 * e.lane + j) false))
 
-abbrev pub element_stored : SveForm → Layout → Vectors → Element → ℕ
-element_stored (StoreP imm9h imm9l rn pt) l v e = bits_stored v e
-element_stored form l v e = lane_stored l v e
+abbrev pub element_stored : Transfer → Layout → Vectors → Element → ℕ
+element_stored (each_active pg) l v e = lane_stored l v e
+element_stored (repeated pg) l v e = lane_stored l v e
+element_stored (replicated pg) l v e = lane_stored l v e
+element_stored whole_z l v e = lane_stored l v e
+element_stored whole_p l v e = bits_stored v e
 
 -- ---- the test before the access
 
 -- the base is Xn|SP, and is SP
-abbrev pub has_sp_base : SveForm → Bool
-has_sp_base (LoadImm dtype imm4 pg rn zt) = nat_eq rn 31
-has_sp_base (LoadReg dtype rm pg rn zt) = nat_eq rn 31
-has_sp_base (LoadFf dtype rm pg rn zt) = nat_eq rn 31
-has_sp_base (LoadNf dtype imm4 pg rn zt) = nat_eq rn 31
-has_sp_base (LoadNtImm msz imm4 pg rn zt) = nat_eq rn 31
-has_sp_base (LoadNtReg msz rm pg rn zt) = nat_eq rn 31
-has_sp_base (LoadQuadImm msz imm4 pg rn zt) = nat_eq rn 31
-has_sp_base (LoadQuadReg msz rm pg rn zt) = nat_eq rn 31
-has_sp_base (LoadManyImm op msz imm4 pg rn zt) = nat_eq rn 31
-has_sp_base (LoadManyReg op msz rm pg rn zt) = nat_eq rn 31
-has_sp_base (LoadOne dtypeh imm6 dtypel pg rn zt) = nat_eq rn 31
-has_sp_base (LoadZ imm9h imm9l rn zt) = nat_eq rn 31
-has_sp_base (LoadP imm9h imm9l rn pt) = nat_eq rn 31
-has_sp_base (StoreImm msz size imm4 pg rn zt) = nat_eq rn 31
-has_sp_base (StoreReg msz size rm pg rn zt) = nat_eq rn 31
-has_sp_base (StoreNtImm msz imm4 pg rn zt) = nat_eq rn 31
-has_sp_base (StoreNtReg msz rm pg rn zt) = nat_eq rn 31
-has_sp_base (StoreManyImm op msz imm4 pg rn zt) = nat_eq rn 31
-has_sp_base (StoreManyReg op msz rm pg rn zt) = nat_eq rn 31
-has_sp_base (StoreZ imm9h imm9l rn zt) = nat_eq rn 31
-has_sp_base (StoreP imm9h imm9l rn pt) = nat_eq rn 31
-has_sp_base (GatherSx msz xs zm u ff pg rn zt) = nat_eq rn 31
-has_sp_base (GatherSxScaled msz xs zm u ff pg rn zt) = nat_eq rn 31
-has_sp_base (GatherDx msz xs zm u ff pg rn zt) = nat_eq rn 31
-has_sp_base (GatherDxScaled msz xs zm u ff pg rn zt) = nat_eq rn 31
-has_sp_base (GatherD msz zm u ff pg rn zt) = nat_eq rn 31
-has_sp_base (GatherDScaled msz zm u ff pg rn zt) = nat_eq rn 31
-has_sp_base (ScatterSx msz zm xs pg rn zt) = nat_eq rn 31
-has_sp_base (ScatterSxScaled msz zm xs pg rn zt) = nat_eq rn 31
-has_sp_base (ScatterDx msz zm xs pg rn zt) = nat_eq rn 31
-has_sp_base (ScatterDxScaled msz zm xs pg rn zt) = nat_eq rn 31
-has_sp_base (ScatterD msz zm pg rn zt) = nat_eq rn 31
-has_sp_base (ScatterDScaled msz zm pg rn zt) = nat_eq rn 31
--- the others have their addresses in a vector register
-has_sp_base form = false
+abbrev pub has_sp_base : Brackets → Bool
+has_sp_base (scalar rn offset) = nat_eq rn 31
+has_sp_base (vector zn imm5) = false
 
 -- the alignment of SP is tested where there is an element
 abbrev pub tests_sp : Bool → List Element → Bool
@@ -149,46 +99,14 @@ stored_to r stores c v m = store_as_far r.stop r.done stores c v m
 abbrev pub unless_misaligned : Bool → List Element → Core → Vectors → Memory → Done → Done
 unless_misaligned has_base es c v m d = if is_misaligned has_base es c then traps c v m SpAlign c.sp else d
 
-abbrev pub vector_load : SveForm → Core → Vectors → Memory → Done
-vector_load form c v m =
-    let l : Layout = layout form c v in
-    unless_misaligned (has_sp_base form) (elements_of l) c v m (loaded_to (reach m ReadKind (elements_of l)) (after_load form l m v) c v m)
-
-abbrev pub vector_store : SveForm → Core → Vectors → Memory → Done
-vector_store form c v m =
-    let l : Layout = layout form c v in
-    unless_misaligned (has_sp_base form) (elements_of l) c v m (stored_to (reach m WriteKind (elements_of l)) (element_stored form l v) c v m)
-
 -- ---- the rows
 
--- first-faulting and non-faulting
-abbrev pub is_first_fault : SveForm → Bool
-is_first_fault form = same_page FirstFaults (page_of form)
+abbrev pub load_row : MemoryRow → Core → Vectors → Memory → Done
+load_row r c v m =
+    let l : Layout = row_layout r c v in
+    unless_misaligned (has_sp_base r.brackets) (elements_of l) c v m (loaded_to (reach m ReadKind (elements_of l)) (after_load r.transfer r.width.is_signed l m v) c v m)
 
--- contiguous, of whole registers, replicated and of structures
-abbrev pub is_contiguous_load : SveForm → Bool
-is_contiguous_load form = same_page Loads (page_of form)
-
-abbrev pub is_contiguous_store : SveForm → Bool
-is_contiguous_store form = same_page Stores (page_of form)
-
--- gathers, but for the first-faulting ones
-abbrev pub is_gather : SveForm → Bool
-is_gather form = same_page Gathers (page_of form)
-
-abbrev pub is_scatter : SveForm → Bool
-is_scatter form = same_page Scatters (page_of form)
-
--- ---- by groups
-
-abbrev pub is_contiguous : SveForm → Bool
-is_contiguous form = is_contiguous_load form || is_contiguous_store form
-
-abbrev pub contiguous : SveForm → Core → Vectors → Memory → Done
-contiguous form c v m = if is_contiguous_load form then vector_load form c v m else vector_store form c v m
-
-abbrev pub is_gather_scatter : SveForm → Bool
-is_gather_scatter form = is_gather form || is_scatter form
-
-abbrev pub gather_scatter : SveForm → Core → Vectors → Memory → Done
-gather_scatter form c v m = if is_gather form then vector_load form c v m else vector_store form c v m
+abbrev pub store_row : MemoryRow → Core → Vectors → Memory → Done
+store_row r c v m =
+    let l : Layout = row_layout r c v in
+    unless_misaligned (has_sp_base r.brackets) (elements_of l) c v m (stored_to (reach m WriteKind (elements_of l)) (element_stored r.transfer l v) c v m)

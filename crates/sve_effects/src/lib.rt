@@ -3,14 +3,14 @@
 #![tactic(auto)]
 
 pub mod elements;
+pub mod groups;
 pub mod laws;
-pub mod pages;
 pub mod places;
 pub mod predicates;
 pub mod sizes;
 
 pub use elements::{ElementOp, ElementTest};
-pub use pages::{Page, page_of};
+pub use groups::{Group, group_of};
 pub use places::Place;
 pub use predicates::{LogicOp, WhileTest};
 pub use sizes::lane_bits;

@@ -7,15 +7,13 @@ mod row;
 mod taking;
 
 ghost use Rattle.std.specs.Prelude.{◌≡◌, [], true};
-ghost use Rattle.sve_effects.specs.FirstFault.{first_fault_of};
-ghost use Rattle.sve_effects.specs.VectorElements.{layout, vector_elements};
-ghost use Rattle.sve_effects.specs.VectorLoadStore.{is_first_fault, loads_signed};
+ghost use Rattle.sve_effects.specs.Effects.{first_fault_of, layout, vector_elements, is_first_fault, loads_signed};
 ghost use Rattle.element_loops.specs.Listed.{listed};
 ghost use Rattle.sve_ffr.specs.Taking.{lanes_of};
 
 use core_regs::{Core, Effect};
 use guest_mem::{AccessLog, ElementList, Mem};
-use sve_effects::{Page, page_of};
+use sve_effects::{Group, group_of};
 use sve_insn::Sve;
 use vec_regs::VecRegs;
 
@@ -23,7 +21,7 @@ use vec_regs::VecRegs;
 pub fn is_own(i: &Sve) -> bool
     ensures { result ≡ is_first_fault i.now }
 {
-    matches!(page_of(i.form()), Page::FirstFaults)
+    matches!(group_of(i.form()), Group::FirstFaults)
 }
 
 /// Does a first-faulting or non-faulting load of the elements of a list, and says how the step goes on. The lanes of the list

@@ -2,7 +2,7 @@
 ghost use Rattle.std.specs.Prelude.{◌≡◌, ◌≤◌, ◌^◌, nat_eq, true, false};
 ghost use Rattle.vec_model.specs.Lanes.{IsLaneSize};
 ghost use Rattle.sve_effects.specs.VectorElements as table;
-ghost use Rattle.sve_effects.specs.VectorLoadStore.{is_first_fault};
+ghost use Rattle.sve_effects.specs.Effects.{is_first_fault};
 ghost use Rattle.sve_ffr.specs.Rows as rows;
 
 use element_loops::sizes::{dtype_bits, dtype_bytes, element_bytes, is_sp};

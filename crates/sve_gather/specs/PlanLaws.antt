@@ -6,11 +6,9 @@ use Rattle.sve_insn.specs.declared.form.SveForm.{SveForm}
 use Rattle.sve_insn.specs.declared.form.SveForm.TheVariants.{GatherSx, GatherSxScaled, GatherDx, GatherDxScaled, GatherD, GatherDScaled, GatherSv, GatherDv, ScatterSx, ScatterSxScaled, ScatterDx, ScatterDxScaled, ScatterD, ScatterDScaled, ScatterSv, ScatterDv}
 use Rattle.emu_model.specs.Access.{Memory}
 use Rattle.emu_model.specs.State.{Core, Vectors}
-use Rattle.sve_effects.specs.declared.pages.Page.TheVariants.{Scatters}
-use Rattle.sve_effects.specs.Pages.{by_fault, same_page}
-use Rattle.sve_effects.specs.VectorElements.{layout}
-use Rattle.sve_effects.specs.VectorLoadStore.{vector_load, vector_store, is_gather, is_scatter, loads_signed}
-use Rattle.sve_effects.specs.FirstFault.{first_fault, is_non_fault}
+use Rattle.sve_effects.specs.declared.groups.Group.TheVariants.{Scatters}
+use Rattle.sve_effects.specs.Row.{by_fault, same_group}
+use Rattle.sve_effects.specs.Effects.{layout, vector_load, vector_store, is_gather, is_scatter, loads_signed, first_fault, is_non_fault}
 use Rattle.element_loops.specs.Layouts.{layout_of}
 use Rattle.element_loops.specs.Planned.{load_by, store_by}
 use Rattle.unrefused_loads.specs.FirstFaultPlan.{first_fault_by}
@@ -28,7 +26,7 @@ gather_planned (GatherDv msz imm5 u ff pg zn zt) c v m h = refl
 gather_planned form c v m h = absurd (both_ways false refl h)
 
 -- gathers aren't scatters
-no_scatter : (ff : Bool) → same_page Scatters (by_fault ff) ≡ false
+no_scatter : (ff : Bool) → same_group Scatters (by_fault ff) ≡ false
 no_scatter true = refl
 no_scatter false = refl
 
@@ -41,14 +39,14 @@ scatter_planned (ScatterD msz zm pg rn zt) c v m h = refl
 scatter_planned (ScatterDScaled msz zm pg rn zt) c v m h = refl
 scatter_planned (ScatterSv msz imm5 pg zn zt) c v m h = refl
 scatter_planned (ScatterDv msz imm5 pg zn zt) c v m h = refl
-scatter_planned (GatherSx msz xs zm u ff pg rn zt) c v m h = absurd (both_ways (same_page Scatters (by_fault ff)) (no_scatter ff) h)
-scatter_planned (GatherSxScaled msz xs zm u ff pg rn zt) c v m h = absurd (both_ways (same_page Scatters (by_fault ff)) (no_scatter ff) h)
-scatter_planned (GatherDx msz xs zm u ff pg rn zt) c v m h = absurd (both_ways (same_page Scatters (by_fault ff)) (no_scatter ff) h)
-scatter_planned (GatherDxScaled msz xs zm u ff pg rn zt) c v m h = absurd (both_ways (same_page Scatters (by_fault ff)) (no_scatter ff) h)
-scatter_planned (GatherD msz zm u ff pg rn zt) c v m h = absurd (both_ways (same_page Scatters (by_fault ff)) (no_scatter ff) h)
-scatter_planned (GatherDScaled msz zm u ff pg rn zt) c v m h = absurd (both_ways (same_page Scatters (by_fault ff)) (no_scatter ff) h)
-scatter_planned (GatherSv msz imm5 u ff pg zn zt) c v m h = absurd (both_ways (same_page Scatters (by_fault ff)) (no_scatter ff) h)
-scatter_planned (GatherDv msz imm5 u ff pg zn zt) c v m h = absurd (both_ways (same_page Scatters (by_fault ff)) (no_scatter ff) h)
+scatter_planned (GatherSx msz xs zm u ff pg rn zt) c v m h = absurd (both_ways (same_group Scatters (by_fault ff)) (no_scatter ff) h)
+scatter_planned (GatherSxScaled msz xs zm u ff pg rn zt) c v m h = absurd (both_ways (same_group Scatters (by_fault ff)) (no_scatter ff) h)
+scatter_planned (GatherDx msz xs zm u ff pg rn zt) c v m h = absurd (both_ways (same_group Scatters (by_fault ff)) (no_scatter ff) h)
+scatter_planned (GatherDxScaled msz xs zm u ff pg rn zt) c v m h = absurd (both_ways (same_group Scatters (by_fault ff)) (no_scatter ff) h)
+scatter_planned (GatherD msz zm u ff pg rn zt) c v m h = absurd (both_ways (same_group Scatters (by_fault ff)) (no_scatter ff) h)
+scatter_planned (GatherDScaled msz zm u ff pg rn zt) c v m h = absurd (both_ways (same_group Scatters (by_fault ff)) (no_scatter ff) h)
+scatter_planned (GatherSv msz imm5 u ff pg zn zt) c v m h = absurd (both_ways (same_group Scatters (by_fault ff)) (no_scatter ff) h)
+scatter_planned (GatherDv msz imm5 u ff pg zn zt) c v m h = absurd (both_ways (same_group Scatters (by_fault ff)) (no_scatter ff) h)
 scatter_planned form c v m h = absurd (both_ways false refl h)
 
 -- gathers, first-faulting ones and scatters are gathers or scatters
@@ -72,14 +70,14 @@ scatters (ScatterD msz zm pg rn zt) h = refl
 scatters (ScatterDScaled msz zm pg rn zt) h = refl
 scatters (ScatterSv msz imm5 pg zn zt) h = refl
 scatters (ScatterDv msz imm5 pg zn zt) h = refl
-scatters (GatherSx msz xs zm u ff pg rn zt) h = absurd (both_ways (same_page Scatters (by_fault ff)) (no_scatter ff) h)
-scatters (GatherSxScaled msz xs zm u ff pg rn zt) h = absurd (both_ways (same_page Scatters (by_fault ff)) (no_scatter ff) h)
-scatters (GatherDx msz xs zm u ff pg rn zt) h = absurd (both_ways (same_page Scatters (by_fault ff)) (no_scatter ff) h)
-scatters (GatherDxScaled msz xs zm u ff pg rn zt) h = absurd (both_ways (same_page Scatters (by_fault ff)) (no_scatter ff) h)
-scatters (GatherD msz zm u ff pg rn zt) h = absurd (both_ways (same_page Scatters (by_fault ff)) (no_scatter ff) h)
-scatters (GatherDScaled msz zm u ff pg rn zt) h = absurd (both_ways (same_page Scatters (by_fault ff)) (no_scatter ff) h)
-scatters (GatherSv msz imm5 u ff pg zn zt) h = absurd (both_ways (same_page Scatters (by_fault ff)) (no_scatter ff) h)
-scatters (GatherDv msz imm5 u ff pg zn zt) h = absurd (both_ways (same_page Scatters (by_fault ff)) (no_scatter ff) h)
+scatters (GatherSx msz xs zm u ff pg rn zt) h = absurd (both_ways (same_group Scatters (by_fault ff)) (no_scatter ff) h)
+scatters (GatherSxScaled msz xs zm u ff pg rn zt) h = absurd (both_ways (same_group Scatters (by_fault ff)) (no_scatter ff) h)
+scatters (GatherDx msz xs zm u ff pg rn zt) h = absurd (both_ways (same_group Scatters (by_fault ff)) (no_scatter ff) h)
+scatters (GatherDxScaled msz xs zm u ff pg rn zt) h = absurd (both_ways (same_group Scatters (by_fault ff)) (no_scatter ff) h)
+scatters (GatherD msz zm u ff pg rn zt) h = absurd (both_ways (same_group Scatters (by_fault ff)) (no_scatter ff) h)
+scatters (GatherDScaled msz zm u ff pg rn zt) h = absurd (both_ways (same_group Scatters (by_fault ff)) (no_scatter ff) h)
+scatters (GatherSv msz imm5 u ff pg zn zt) h = absurd (both_ways (same_group Scatters (by_fault ff)) (no_scatter ff) h)
+scatters (GatherDv msz imm5 u ff pg zn zt) h = absurd (both_ways (same_group Scatters (by_fault ff)) (no_scatter ff) h)
 scatters form h = absurd (both_ways false refl h)
 
 pub first_gathers : (form : SveForm) → is_first_gather form ≡ true → has_gather_plan form ≡ true

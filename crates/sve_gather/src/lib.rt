@@ -5,9 +5,7 @@ mod plans;
 
 ghost use Rattle.std.specs.Prelude.{◌≡◌, [], true, false};
 ghost use Rattle.emu_model.specs.declared.trap.Effect.{Effect};
-ghost use Rattle.sve_effects.specs.FirstFault.{first_fault};
-ghost use Rattle.sve_effects.specs.VectorElements.{layout, vector_elements};
-ghost use Rattle.sve_effects.specs.VectorLoadStore.{vector_load, vector_store, is_gather, is_scatter, loads_signed};
+ghost use Rattle.sve_effects.specs.Effects.{first_fault, layout, vector_elements, vector_load, vector_store, is_gather, is_scatter, loads_signed};
 ghost use Rattle.element_loops.specs.Listed.{listed};
 ghost use Rattle.sve_gather.specs.Plans.{is_first_gather};
 

@@ -6,23 +6,21 @@ use Rattle.sve_insn.specs.declared.form.SveForm.{SveForm}
 use Rattle.sve_insn.specs.declared.form.SveForm.TheVariants.{GatherSx, GatherSxScaled, GatherDx, GatherDxScaled, GatherD, GatherDScaled, GatherSv, GatherDv, LoadImm, LoadReg, LoadFf, LoadNf, LoadNtImm, LoadNtReg, LoadQuadImm, LoadQuadReg, LoadManyImm, LoadManyReg, LoadOne, LoadZ, LoadP, StoreImm, StoreReg, StoreNtImm, StoreNtReg, StoreManyImm, StoreManyReg, StoreZ, StoreP}
 use Rattle.emu_model.specs.Access.{Memory}
 use Rattle.emu_model.specs.State.{Core, Vectors}
-use Rattle.sve_effects.specs.declared.pages.Page.TheVariants.{Loads, Stores}
-use Rattle.sve_effects.specs.Pages.{by_fault, same_page}
-use Rattle.sve_effects.specs.VectorElements.{layout}
-use Rattle.sve_effects.specs.VectorLoadStore.{vector_load, vector_store, loads_signed, is_contiguous_load, is_contiguous_store}
-use Rattle.sve_effects.specs.FirstFault.{first_fault, is_non_fault}
+use Rattle.sve_effects.specs.declared.groups.Group.TheVariants.{Loads, Stores}
+use Rattle.sve_effects.specs.Row.{by_fault, same_group}
+use Rattle.sve_effects.specs.Effects.{layout, vector_load, vector_store, loads_signed, is_contiguous_load, is_contiguous_store, first_fault, is_non_fault}
 use Rattle.element_loops.specs.Layouts.{layout_of}
 use Rattle.element_loops.specs.Planned.{load_by, store_by}
 use Rattle.unrefused_loads.specs.FirstFaultPlan.{first_fault_by}
 use Rattle.sve_loads.specs.Plans.{load_plan, store_plan, first_plan, is_first_contiguous}
 
 -- gathers aren't contiguous loads
-no_load : (ff : Bool) → same_page Loads (by_fault ff) ≡ false
+no_load : (ff : Bool) → same_group Loads (by_fault ff) ≡ false
 no_load true = refl
 no_load false = refl
 
 -- gathers aren't contiguous stores
-no_store : (ff : Bool) → same_page Stores (by_fault ff) ≡ false
+no_store : (ff : Bool) → same_group Stores (by_fault ff) ≡ false
 no_store true = refl
 no_store false = refl
 
@@ -38,14 +36,14 @@ load_planned (LoadManyReg op msz rm pg rn zt) c v m h = refl
 load_planned (LoadOne dtypeh imm6 dtypel pg rn zt) c v m h = refl
 load_planned (LoadZ imm9h imm9l rn zt) c v m h = refl
 load_planned (LoadP imm9h imm9l rn pt) c v m h = refl
-load_planned (GatherSx msz xs zm u ff pg rn zt) c v m h = absurd (both_ways (same_page Loads (by_fault ff)) (no_load ff) h)
-load_planned (GatherSxScaled msz xs zm u ff pg rn zt) c v m h = absurd (both_ways (same_page Loads (by_fault ff)) (no_load ff) h)
-load_planned (GatherDx msz xs zm u ff pg rn zt) c v m h = absurd (both_ways (same_page Loads (by_fault ff)) (no_load ff) h)
-load_planned (GatherDxScaled msz xs zm u ff pg rn zt) c v m h = absurd (both_ways (same_page Loads (by_fault ff)) (no_load ff) h)
-load_planned (GatherD msz zm u ff pg rn zt) c v m h = absurd (both_ways (same_page Loads (by_fault ff)) (no_load ff) h)
-load_planned (GatherDScaled msz zm u ff pg rn zt) c v m h = absurd (both_ways (same_page Loads (by_fault ff)) (no_load ff) h)
-load_planned (GatherSv msz imm5 u ff pg zn zt) c v m h = absurd (both_ways (same_page Loads (by_fault ff)) (no_load ff) h)
-load_planned (GatherDv msz imm5 u ff pg zn zt) c v m h = absurd (both_ways (same_page Loads (by_fault ff)) (no_load ff) h)
+load_planned (GatherSx msz xs zm u ff pg rn zt) c v m h = absurd (both_ways (same_group Loads (by_fault ff)) (no_load ff) h)
+load_planned (GatherSxScaled msz xs zm u ff pg rn zt) c v m h = absurd (both_ways (same_group Loads (by_fault ff)) (no_load ff) h)
+load_planned (GatherDx msz xs zm u ff pg rn zt) c v m h = absurd (both_ways (same_group Loads (by_fault ff)) (no_load ff) h)
+load_planned (GatherDxScaled msz xs zm u ff pg rn zt) c v m h = absurd (both_ways (same_group Loads (by_fault ff)) (no_load ff) h)
+load_planned (GatherD msz zm u ff pg rn zt) c v m h = absurd (both_ways (same_group Loads (by_fault ff)) (no_load ff) h)
+load_planned (GatherDScaled msz zm u ff pg rn zt) c v m h = absurd (both_ways (same_group Loads (by_fault ff)) (no_load ff) h)
+load_planned (GatherSv msz imm5 u ff pg zn zt) c v m h = absurd (both_ways (same_group Loads (by_fault ff)) (no_load ff) h)
+load_planned (GatherDv msz imm5 u ff pg zn zt) c v m h = absurd (both_ways (same_group Loads (by_fault ff)) (no_load ff) h)
 load_planned form c v m h = absurd (both_ways false refl h)
 
 pub store_planned : (form : SveForm) (c : Core) (v : Vectors) (m : Memory) → is_contiguous_store form ≡ true → store_by (store_plan form c v) c v m ≡ vector_store form c v m
@@ -57,14 +55,14 @@ store_planned (StoreManyImm op msz imm4 pg rn zt) c v m h = refl
 store_planned (StoreManyReg op msz rm pg rn zt) c v m h = refl
 store_planned (StoreZ imm9h imm9l rn zt) c v m h = refl
 store_planned (StoreP imm9h imm9l rn pt) c v m h = refl
-store_planned (GatherSx msz xs zm u ff pg rn zt) c v m h = absurd (both_ways (same_page Stores (by_fault ff)) (no_store ff) h)
-store_planned (GatherSxScaled msz xs zm u ff pg rn zt) c v m h = absurd (both_ways (same_page Stores (by_fault ff)) (no_store ff) h)
-store_planned (GatherDx msz xs zm u ff pg rn zt) c v m h = absurd (both_ways (same_page Stores (by_fault ff)) (no_store ff) h)
-store_planned (GatherDxScaled msz xs zm u ff pg rn zt) c v m h = absurd (both_ways (same_page Stores (by_fault ff)) (no_store ff) h)
-store_planned (GatherD msz zm u ff pg rn zt) c v m h = absurd (both_ways (same_page Stores (by_fault ff)) (no_store ff) h)
-store_planned (GatherDScaled msz zm u ff pg rn zt) c v m h = absurd (both_ways (same_page Stores (by_fault ff)) (no_store ff) h)
-store_planned (GatherSv msz imm5 u ff pg zn zt) c v m h = absurd (both_ways (same_page Stores (by_fault ff)) (no_store ff) h)
-store_planned (GatherDv msz imm5 u ff pg zn zt) c v m h = absurd (both_ways (same_page Stores (by_fault ff)) (no_store ff) h)
+store_planned (GatherSx msz xs zm u ff pg rn zt) c v m h = absurd (both_ways (same_group Stores (by_fault ff)) (no_store ff) h)
+store_planned (GatherSxScaled msz xs zm u ff pg rn zt) c v m h = absurd (both_ways (same_group Stores (by_fault ff)) (no_store ff) h)
+store_planned (GatherDx msz xs zm u ff pg rn zt) c v m h = absurd (both_ways (same_group Stores (by_fault ff)) (no_store ff) h)
+store_planned (GatherDxScaled msz xs zm u ff pg rn zt) c v m h = absurd (both_ways (same_group Stores (by_fault ff)) (no_store ff) h)
+store_planned (GatherD msz zm u ff pg rn zt) c v m h = absurd (both_ways (same_group Stores (by_fault ff)) (no_store ff) h)
+store_planned (GatherDScaled msz zm u ff pg rn zt) c v m h = absurd (both_ways (same_group Stores (by_fault ff)) (no_store ff) h)
+store_planned (GatherSv msz imm5 u ff pg zn zt) c v m h = absurd (both_ways (same_group Stores (by_fault ff)) (no_store ff) h)
+store_planned (GatherDv msz imm5 u ff pg zn zt) c v m h = absurd (both_ways (same_group Stores (by_fault ff)) (no_store ff) h)
 store_planned form c v m h = absurd (both_ways false refl h)
 
 -- the plan of a contiguous first-faulting or non-faulting load has its elements

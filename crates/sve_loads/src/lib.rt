@@ -9,9 +9,7 @@ mod shape;
 
 ghost use Rattle.std.specs.Prelude.{◌≡◌, [], true, false};
 ghost use Rattle.emu_model.specs.declared.trap.Effect.{Effect};
-ghost use Rattle.sve_effects.specs.FirstFault.{first_fault};
-ghost use Rattle.sve_effects.specs.VectorElements.{layout, vector_elements};
-ghost use Rattle.sve_effects.specs.VectorLoadStore.{vector_load, vector_store, is_contiguous_load, is_contiguous_store, loads_signed};
+ghost use Rattle.sve_effects.specs.Effects.{first_fault, layout, vector_elements, vector_load, vector_store, is_contiguous_load, is_contiguous_store, loads_signed};
 ghost use Rattle.element_loops.specs.Listed.{listed};
 ghost use Rattle.sve_loads.specs.Plans.{is_first_contiguous};
 

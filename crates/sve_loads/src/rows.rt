@@ -1,7 +1,7 @@
 //! The plans of the rows.
 ghost use Rattle.std.specs.Prelude.{◌≡◌, ◌≤◌, ◌+◌, ◌*◌, true};
 ghost use Rattle.sve_effects.specs.VectorElements.{load_registers, store_registers};
-ghost use Rattle.sve_effects.specs.VectorLoadStore.{is_contiguous_load, is_contiguous_store};
+ghost use Rattle.sve_effects.specs.Effects.{is_contiguous_load, is_contiguous_store};
 ghost use Rattle.element_loops.specs.declared.plan.Target.{Target};
 ghost use Rattle.element_loops.specs.Layouts.{IsPlan};
 ghost use Rattle.sve_loads.specs.Plans as table;

@@ -1,7 +1,7 @@
 use Rattle.std.proofs.Common.{sym, ap, ◌∙◌}
 use Rattle.emu_model.specs.Access.{Memory}
 use Rattle.emu_model.specs.State.{Vectors}
-use Rattle.sve_effects.specs.FirstFault.{first_fault}
+use Rattle.sve_effects.specs.Effects.{first_fault}
 use Rattle.insn_exec.proofs.load_first_fault.Goals as goal
 
 -- a load that wasn't done at once has left the vectors and the memory as they were

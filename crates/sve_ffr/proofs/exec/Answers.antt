@@ -1,9 +1,10 @@
 use Rattle.std.proofs.Common.{◌≡◌, ◌/◌, ℕ, Bool, List, ap, sym, subst, ◌∙◌}
-use Rattle.sve_effects.specs.VectorElements.{Layout, layout}
+use Rattle.sve_effects.specs.VectorElements.{Layout}
+use Rattle.sve_effects.specs.Effects.{layout}
 use Rattle.element_loops.specs.Listed.{listed}
 use Rattle.sve_ffr.specs.declared.row.Row.{Row}
 use Rattle.sve_ffr.specs.Rows.{row_of, first_fault_by}
-use Rattle.sve_ffr.specs.RowLaws.{row_means, row_register, row_registers, row_lanes}
+use Rattle.sve_ffr.specs.RowLaws.{row_registers, row_lanes}
 use Rattle.sve_ffr.specs.Taking.{AreFrom, lanes_of}
 use Rattle.sve_ffr.proofs.Cleared.{below_from}
 use Rattle.sve_ffr.proofs.exec.Goals as goal
@@ -11,7 +12,7 @@ use Rattle.sve_ffr.proofs.exec.Goals as goal
 pub first_fault-requires-clause-lanes : goal.first_fault-requires-clause-lanes
 first_fault-requires-clause-lanes c =
     let l : Layout = layout c.args.i.now c.args.core.now c.args.vec.now in
-    let register : l.register ≡ c.row_of-row.result.register = row_register c.args.i.now c.args.core.now c.args.vec.now c.requires.own ∙ ap (λ (r : Row). r.register) (sym c.row_of-row.ensures.value) in
+    let register : l.register ≡ c.row_of-row.result.register = ap (λ (r : Row). r.register) (sym c.row_of-row.ensures.value) in
     let lanes : l.lanes ≡ c.args.vec.now.bits / c.row_of-row.result.bits
     = row_lanes c.args.i.now c.args.core.now c.args.vec.now c.requires.own ∙ ap (λ (r : Row). c.args.vec.now.bits / r.bits) (sym c.row_of-row.ensures.value) in
     subst (λ n. AreFrom 0 n (lanes_of (listed c.row_of-row.result.register c.args.list.now))) lanes
@@ -21,9 +22,8 @@ first_fault-requires-clause-lanes c =
 pub returns : goal.returns
 returns c =
     let l : Layout = layout c.args.i.now c.args.core.now c.args.vec.now in
-    let register : l.register ≡ c.row_of-row.result.register = row_register c.args.i.now c.args.core.now c.args.vec.now c.requires.own ∙ ap (λ (r : Row). r.register) (sym c.row_of-row.ensures.value) in
-    sym (row_means c.args.i.now (listed l.register c.args.list.now) c.args.core.now c.args.vec.now c.args.mem.now c.requires.own)
-    ∙ ap (λ (s : Bool). first_fault_by (row_of c.args.i.now) s (listed l.register c.args.list.now) c.args.core.now c.args.vec.now c.args.mem.now) (sym c.requires.is_signed)
+    let register : l.register ≡ c.row_of-row.result.register = ap (λ (r : Row). r.register) (sym c.row_of-row.ensures.value) in
+    ap (λ (s : Bool). first_fault_by (row_of c.args.i.now) s (listed l.register c.args.list.now) c.args.core.now c.args.vec.now c.args.mem.now) (sym c.requires.is_signed)
     ∙ ap (λ (r : Row). first_fault_by r c.args.list.now.signed (listed l.register c.args.list.now) c.args.core.now c.args.vec.now c.args.mem.now) (sym c.row_of-row.ensures.value)
     ∙ ap (λ (r : ℕ). first_fault_by c.row_of-row.result c.args.list.now.signed (listed r c.args.list.now) c.args.core.now c.args.vec.now c.args.mem.now) register
     ∙ c.first_fault.ensures

@@ -1,12 +1,12 @@
 use Rattle.std.proofs.Common.{arith, ap, ◌∙◌, ◌≡◌, ◌%◌, ◌^◌, ◌*◌}
-use Rattle.a64_effects.specs.Atomic as page
+use Rattle.a64_effects.specs.Atomic as step
 use Rattle.a64_flow.proofs.atomic.atomic.Goals as goal
 
 -- what is stored is what the row makes of the old value and the low bytes of Rs
 pub returns : goal.returns
 returns c acquires releases v =
-    let by : c.low_bits.result ≡ page.low_bytes c.bytes_of-n.result c.args.core.now c.args.rs =
+    let by : c.low_bits.result ≡ step.low_bytes c.bytes_of-n.result c.args.core.now c.args.rs =
     c.low_bits.ensures.value ∙ ap (λ x. x % 2 ^ (8 * c.bytes_of-n.result)) c.x.ensures in
-    let new : c.updated-new.result ≡ page.updated c.args.op c.bytes_of-n.result c.in_ok-old.old (page.low_bytes c.bytes_of-n.result c.args.core.now c.args.rs) =
-    c.updated-new.ensures ∙ ap (λ b. page.updated c.args.op c.bytes_of-n.result c.in_ok-old.old b) by in
+    let new : c.updated-new.result ≡ step.updated c.args.op c.bytes_of-n.result c.in_ok-old.old (step.low_bytes c.bytes_of-n.result c.args.core.now c.args.rs) =
+    c.updated-new.ensures ∙ ap (λ b. step.updated c.args.op c.bytes_of-n.result c.in_ok-old.old b) by in
     grind (arith, by, new, c.exchange.ensures c.set_x.new.self v)

@@ -1,12 +1,12 @@
-//! The pages of the definitions, and the one that a row is on.
+//! The groups of the rows, and the one that a row belongs to.
 ghost use Rattle.std.specs.Prelude.{◌≡◌};
-ghost use Rattle.a64_effects.specs.Pages as model;
+ghost use Rattle.a64_effects.specs.Groups as model;
 
 use a64_insn::A64Form;
 
-/// A page of the definitions of what A64 instructions do.
+/// A group of rows, by what A64 instructions work on.
 #[derive(Clone, Copy)]
-pub enum Page {
+pub enum Group {
     /// What works on the scalar registers and the flags alone.
     Data,
     /// Branches, exceptions and the system's rows.
@@ -17,10 +17,10 @@ pub enum Page {
     BitMoves,
 }
 
-/// The page that a form's row is on.
+/// The group that a form's row belongs to.
 #[inline(always)]
-pub fn page_of(form: &A64Form) -> Page
-    ensures { result ≡ model.page_of form.now }
+pub fn group_of(form: &A64Form) -> Group
+    ensures { result ≡ model.group_of form.now }
 {
     match *form {
         A64Form::Adr { .. }
@@ -41,7 +41,7 @@ pub fn page_of(form: &A64Form) -> Page
         | A64Form::MulHigh { .. }
         | A64Form::TwoSource { .. }
         | A64Form::OneSource { .. }
-        | A64Form::Rev { .. } => Page::Data,
+        | A64Form::Rev { .. } => Group::Data,
         A64Form::Branch { .. }
         | A64Form::BranchCond { .. }
         | A64Form::Compare { .. }
@@ -51,7 +51,7 @@ pub fn page_of(form: &A64Form) -> Page
         | A64Form::Hint { .. }
         | A64Form::Barrier { .. }
         | A64Form::ReadSys { .. }
-        | A64Form::WriteSys { .. } => Page::Flow,
+        | A64Form::WriteSys { .. } => Group::Flow,
         A64Form::LsUnsigned { .. }
         | A64Form::LsUnscaled { .. }
         | A64Form::LsPost { .. }
@@ -63,7 +63,7 @@ pub fn page_of(form: &A64Form) -> Page
         | A64Form::LoadEx { .. }
         | A64Form::Ordered { .. }
         | A64Form::Atomic { .. }
-        | A64Form::CompareSwap { .. } => Page::Accesses,
-        A64Form::FMove { .. } | A64Form::MoveImm { .. } => Page::BitMoves,
+        | A64Form::CompareSwap { .. } => Group::Accesses,
+        A64Form::FMove { .. } | A64Form::MoveImm { .. } => Group::BitMoves,
     }
 }

@@ -1,12 +1,13 @@
-//! The pages of the definitions, and the one that a row is on.
+//! The groups of rows, and the one that a row is of.
 ghost use Rattle.std.specs.Prelude.{◌≡◌};
-ghost use Rattle.sve_effects.specs.Pages as model;
+ghost use Rattle.sve_effects.specs.Effects as model;
+ghost use Rattle.sve_effects.specs.Row as rows;
 
 use sve_insn::SveForm;
 
-/// A page of the definitions of what SVE instructions do.
+/// A group of rows of SVE instructions.
 #[derive(Clone, Copy)]
-pub enum Page {
+pub enum Group {
     /// Vector registers lane by lane.
     Lanes,
     /// Permutes of lanes, and of the lanes of predicates.
@@ -29,18 +30,22 @@ pub enum Page {
     FirstFaults,
 }
 
-/// The page of a gather.
+/// The group of a gather.
 #[inline(always)]
-fn by_fault(ff: bool) -> Page
-    ensures { result ≡ model.by_fault ff }
+fn by_fault(ff: bool) -> Group
+    ensures { result ≡ rows.by_fault ff }
 {
-    if ff { Page::FirstFaults } else { Page::Gathers }
+    if ff {
+        Group::FirstFaults
+    } else {
+        Group::Gathers
+    }
 }
 
-/// The page that a form's row is on.
+/// The group that a form's row is of.
 #[inline(always)]
-pub fn page_of(form: &SveForm) -> Page
-    ensures { result ≡ model.page_of form.now }
+pub fn group_of(form: &SveForm) -> Group
+    ensures { result ≡ model.group_of form.now }
 {
     match *form {
         SveForm::Binary { .. }
@@ -63,15 +68,15 @@ pub fn page_of(form: &SveForm) -> Page
         | SveForm::CopyImm { .. }
         | SveForm::PrefixP { .. }
         | SveForm::Prefix { .. }
-        | SveForm::SelectZ { .. } => Page::Lanes,
-        SveForm::Reduce { .. } => Page::Folds,
+        | SveForm::SelectZ { .. } => Group::Lanes,
+        SveForm::Reduce { .. } => Group::Folds,
         SveForm::Count { .. }
         | SveForm::IncX { .. }
         | SveForm::IncZ { .. }
         | SveForm::SatX { .. }
         | SveForm::SatZ { .. }
         | SveForm::AddLength { .. }
-        | SveForm::ReadLength { .. } => Page::Counts,
+        | SveForm::ReadLength { .. } => Group::Counts,
         SveForm::DupReg { .. }
         | SveForm::DupLane { .. }
         | SveForm::Insert { .. }
@@ -87,7 +92,7 @@ pub fn page_of(form: &SveForm) -> Page
         | SveForm::Ext { .. }
         | SveForm::CopyReg { .. }
         | SveForm::Last { .. }
-        | SveForm::CondLast { .. } => Page::Permutes,
+        | SveForm::CondLast { .. } => Group::Permutes,
         SveForm::CmpVec { .. }
         | SveForm::CmpWide { .. }
         | SveForm::CmpUImm { .. }
@@ -109,7 +114,7 @@ pub fn page_of(form: &SveForm) -> Page
         | SveForm::IncP { .. }
         | SveForm::IncPZ { .. }
         | SveForm::While { .. }
-        | SveForm::Cterm { .. } => Page::Predicates,
+        | SveForm::Cterm { .. } => Group::Predicates,
         SveForm::LoadImm { .. }
         | SveForm::LoadReg { .. }
         | SveForm::LoadNtImm { .. }
@@ -120,8 +125,8 @@ pub fn page_of(form: &SveForm) -> Page
         | SveForm::LoadManyReg { .. }
         | SveForm::LoadOne { .. }
         | SveForm::LoadZ { .. }
-        | SveForm::LoadP { .. } => Page::Loads,
-        SveForm::LoadFf { .. } | SveForm::LoadNf { .. } => Page::FirstFaults,
+        | SveForm::LoadP { .. } => Group::Loads,
+        SveForm::LoadFf { .. } | SveForm::LoadNf { .. } => Group::FirstFaults,
         SveForm::StoreImm { .. }
         | SveForm::StoreReg { .. }
         | SveForm::StoreNtImm { .. }
@@ -129,7 +134,7 @@ pub fn page_of(form: &SveForm) -> Page
         | SveForm::StoreManyImm { .. }
         | SveForm::StoreManyReg { .. }
         | SveForm::StoreZ { .. }
-        | SveForm::StoreP { .. } => Page::Stores,
+        | SveForm::StoreP { .. } => Group::Stores,
         SveForm::GatherSx { ff, .. }
         | SveForm::GatherSxScaled { ff, .. }
         | SveForm::GatherDx { ff, .. }
@@ -145,6 +150,6 @@ pub fn page_of(form: &SveForm) -> Page
         | SveForm::ScatterD { .. }
         | SveForm::ScatterDScaled { .. }
         | SveForm::ScatterSv { .. }
-        | SveForm::ScatterDv { .. } => Page::Scatters,
+        | SveForm::ScatterDv { .. } => Group::Scatters,
     }
 }
