@@ -8,7 +8,7 @@ use Rattle.field_words.proofs.WordPlaces.{and_bit, or_bit, up_bit, down_bit, bit
 
 -- ---- bits of words
 
-zero_bit : (s : ℕ) → is_one 0 s ≡ false
+pub zero_bit : (s : ℕ) → is_one 0 s ≡ false
 zero_bit s = ap (λ x. nat_eq x 1) (bit_at-zero s)
 
 high_bit : (x k s : ℕ) → x < 2 ^ k → k ≤ s → is_one x s ≡ false
@@ -50,6 +50,12 @@ module _ (w0 w1 w2 w3 : ℕ) (f : ℕ → Bool) (e0 : (s : ℕ) → s < 64 → i
       ]
     ]
   ]
+
+-- one word, and zeros behind it
+pub one_word : (w : ℕ) (f : ℕ → Bool) → ((s : ℕ) → s < 64 → is_one w s ≡ f s) → ((j : ℕ) → 64 ≤ j → f j ≡ false) → (j : ℕ) → bit_of (w ∷ 0 ∷ 0 ∷ 0 ∷ []) j ≡ f j
+one_word w f is none =
+    four w 0 0 0 f (λ s h. is s h ∙ ap f (omega arith)) (λ s h. zero_bit s ∙ sym (none (64 * 1 + s) (omega arith))) (λ s h. zero_bit s ∙ sym (none (64 * 2 + s) (omega arith)))
+    (λ s h. zero_bit s ∙ sym (none (64 * 3 + s) (omega arith))) (λ j h. none j (omega arith))
 
 -- ---- 64 bits from a place on
 
@@ -115,7 +121,7 @@ half_place w s (inr (inl e)) h = rw e (omega arith)
 half_place w s (inr (inr (inl e))) h = rw e (omega arith)
 half_place w s (inr (inr (inr e))) h = rw e (omega arith)
 
-pub zip_bit : (w from s r pair low high : ℕ) (a b : ℕ → Bool) → IsField w → s < 64 → ((s : ℕ) → s < 64 → is_one low s ≡ a (from + s)) → ((s : ℕ) → s < 64 → is_one high s ≡ b (from + s))
+pub zip_bit : (w from s r pair low high : ℕ) (a b : ℕ → Bool) → IsField w → s < 64 → ((s : ℕ) → s < 32 → is_one low s ≡ a (from + s)) → ((s : ℕ) → s < 32 → is_one high s ≡ b (from + s))
     → ((s : ℕ) → s < 64 → is_one pair s ≡ (if nat_lt s 32 then is_one low s else is_one high (s - 32))) → Comes r pair (in_turn w) → is_one r s ≡ zipped w from a b s
 zip_bit w from s r pair low high a b field h is_low is_high is_pair turned = elim (cases_eq (s / w % 2) 0) [
   | inl even ↦
@@ -124,19 +130,18 @@ zip_bit w from s r pair low high a b field h is_low is_high is_pair turned = eli
       let inside64 : s / (2 * w) * w + s % w < 64 = omega arith in
       turned s h ∙ ap (is_one pair) p ∙ is_pair (s / (2 * w) * w + s % w) inside64
       ∙ ap (λ t. if t then is_one low (s / (2 * w) * w + s % w) else is_one high (s / (2 * w) * w + s % w - 32)) (lt-ltb (s / (2 * w) * w + s % w) 32 inside)
-      ∙ is_low (s / (2 * w) * w + s % w) inside64
+      ∙ is_low (s / (2 * w) * w + s % w) inside
       ∙ sym (ap (λ t. if nat_eq t 0 then a (from + (s / (2 * w) * w + s % w)) else b (from + (s / (2 * w) * w + s % w))) even)
   | inr odd ↦
       let one : s / w % 2 ≡ 1 = omega arith in
       let p : in_turn w s ≡ s / (2 * w) * w + s % w + 32 = omega arith in
       let inside : s / (2 * w) * w + s % w < 32 = half_place w s field h in
-      let inside64 : s / (2 * w) * w + s % w < 64 = omega arith in
       let within : s / (2 * w) * w + s % w + 32 < 64 = omega arith in
       let past32 : 32 ≤ s / (2 * w) * w + s % w + 32 = omega arith in
       let back : s / (2 * w) * w + s % w + 32 - 32 ≡ s / (2 * w) * w + s % w = omega arith in
       turned s h ∙ ap (is_one pair) p ∙ is_pair (s / (2 * w) * w + s % w + 32) within
       ∙ ap (λ t. if t then is_one low (s / (2 * w) * w + s % w + 32) else is_one high (s / (2 * w) * w + s % w + 32 - 32)) (le-ltb (s / (2 * w) * w + s % w + 32) 32 past32)
-      ∙ ap (is_one high) back ∙ is_high (s / (2 * w) * w + s % w) inside64
+      ∙ ap (is_one high) back ∙ is_high (s / (2 * w) * w + s % w) inside
       ∙ sym (ap (λ t. if nat_eq t 0 then a (from + (s / (2 * w) * w + s % w)) else b (from + (s / (2 * w) * w + s % w))) one)
 ]
 
@@ -173,6 +178,13 @@ zip_none bits i s t none = let most : bits ≤ 64 * i + s = omega arith in zero_
 
 pub empty_word : (i s : ℕ) (t : Bool) → 2 ≤ i → is_one 0 s ≡ (nat_lt (64 * i + s) 128 && t)
 empty_word i s t h = zip_none 128 i s t (omega arith)
+
+-- 32 bits of the first word from a place on
+pub shifted_bit : (words : List ℕ) (from s x : ℕ) → from ≤ 32 → x ≡ get_or words 0 0 → s < 32 → is_one (x / 2 ^ from) s ≡ bit_of words (from + s)
+shifted_bit words from s x few is h =
+    let inside : s + from < 64 = omega arith in
+    let place : from + s ≡ 64 * 0 + (s + from) = omega arith in
+    down_bit x from s ∙ ap (λ y. is_one y (s + from)) is ∙ sym (placed words 0 (s + from) (from + s) inside place)
 
 -- so many bits further up
 pub moved_up : (bits q s at : ℕ) → bits ≤ 256 → at ≡ 256 + 64 * q → at - bits + s ≡ 256 - bits + (64 * q + s)
@@ -319,6 +331,47 @@ uzp_above w skip bits j r f g b field whole h above is_g is =
     let most : bits / 2 ≤ j = omega arith in
     let half : bits / 2 ≤ j - bits / 2 = omega arith in
     is ∙ ap (λ t. if t then f j else g (j - bits / 2)) (le-ltb j (bits / 2) most) ∙ halves_end w skip bits (j - bits / 2) g b field whole above is_g half
+
+-- the same of two words that have all bits
+word_seconds : (w skip bits s r x : ℕ) (a : List ℕ) → IsField w → skip ≤ w → bits ≤ 64 → bits % 16 ≡ 0 → s < 64 → x ≡ get_or a 0 0 → ((j : ℕ) → bits ≤ j → bit_of a j ≡ false)
+    → (is_one r s ≡ (if nat_lt s 32 then every_second w skip (is_one x) s else every_second w skip (is_one 0) (s - 32))) → is_one r s ≡ every_second w skip (bit_of a) s
+word_seconds w skip bits s r x a field le few whole h is_x above is = is ∙ elim (cases_lt s 32) [
+  | inl low ↦
+      ap (λ t. if t then every_second w skip (is_one x) s else every_second w skip (is_one 0) (s - 32)) (lt-ltb s 32 low)
+      ∙ ap (λ z. is_one z (s / w * (2 * w) + skip + s % w)) is_x
+      ∙ sym (placed a 0 (s / w * (2 * w) + skip + s % w) (s / w * (2 * w) + skip + s % w) (second_within w skip s field le low) (omega arith))
+  | inr high ↦
+      let most : bits / 2 ≤ s = omega arith in
+      ap (λ t. if t then every_second w skip (is_one x) s else every_second w skip (is_one 0) (s - 32)) (le-ltb s 32 high)
+      ∙ zero_bit ((s - 32) / w * (2 * w) + skip + (s - 32) % w) ∙ sym (seconds_end w skip bits s (bit_of a) field whole above most)
+]
+
+pub uzp_word_bit : (w skip bits s f g x y : ℕ) (a b : List ℕ) → IsField w → skip ≤ w → bits ≤ 64 → bits % 16 ≡ 0 → s < 64 → x ≡ get_or a 0 0 → y ≡ get_or b 0 0
+    → ((j : ℕ) → bits ≤ j → bit_of a j ≡ false) → ((j : ℕ) → bits ≤ j → bit_of b j ≡ false)
+    → ((s : ℕ) → s < 64 → is_one f s ≡ (if nat_lt s 32 then every_second w skip (is_one x) s else every_second w skip (is_one 0) (s - 32)))
+    → ((s : ℕ) → s < 64 → is_one g s ≡ (if nat_lt s 32 then every_second w skip (is_one y) s else every_second w skip (is_one 0) (s - 32)))
+    → is_one (bit_or f (g * 2 ^ (bits / 2) % 2 ^ 64)) s ≡ joined (bits / 2) (every_second w skip (bit_of a)) (every_second w skip (bit_of b)) s
+uzp_word_bit w skip bits s f g x y a b field le few whole h is_x is_y above_a above_b is_f is_g =
+    or_bit f (g * 2 ^ (bits / 2) % 2 ^ 64) s
+    ∙ ap (λ t. is_one f s || t) (up_bit g (bits / 2) s h)
+    ∙ ap (λ t. t || (nat_le (bits / 2) s && is_one g (s - bits / 2))) (word_seconds w skip bits s f x a field le few whole h is_x above_a (is_f s h))
+    ∙ elim (cases_lt s (bits / 2)) [
+      | inl less ↦
+          ap (λ t. every_second w skip (bit_of a) s || (t && is_one g (s - bits / 2))) (lt-leb (bits / 2) s less) ∙ or_false (every_second w skip (bit_of a) s)
+          ∙ sym (ap (λ t. if t then every_second w skip (bit_of a) s else every_second w skip (bit_of b) (s - bits / 2)) (lt-ltb s (bits / 2) less))
+      | inr most ↦
+          let within : s - bits / 2 < 64 = omega arith in
+          ap (λ t. t || (nat_le (bits / 2) s && is_one g (s - bits / 2))) (seconds_end w skip bits s (bit_of a) field whole above_a most)
+          ∙ ap (λ t. t && is_one g (s - bits / 2)) (le-leb (bits / 2) s most)
+          ∙ word_seconds w skip bits (s - bits / 2) g y b field le few whole within is_y above_b (is_g (s - bits / 2) within)
+          ∙ sym (ap (λ t. if t then every_second w skip (bit_of a) s else every_second w skip (bit_of b) (s - bits / 2)) (le-ltb s (bits / 2) most))
+    ]
+
+pub uzp_end : (w skip bits j : ℕ) (a b : ℕ → Bool) → IsField w → bits % 16 ≡ 0 → ((j : ℕ) → bits ≤ j → b j ≡ false) → bits ≤ j → joined (bits / 2) (every_second w skip a) (every_second w skip b) j ≡ false
+uzp_end w skip bits j a b field whole above h =
+    let most : bits / 2 ≤ j = omega arith in
+    let half : bits / 2 ≤ j - bits / 2 = omega arith in
+    ap (λ t. if t then every_second w skip a j else every_second w skip b (j - bits / 2)) (le-ltb j (bits / 2) most) ∙ seconds_end w skip bits (j - bits / 2) b field whole above half
 
 -- ---- transposed fields
 

@@ -82,6 +82,38 @@ pub fn zip(a: &[u64; 4], b: &[u64; 4], from: u32, w: u32, bits: u32) -> [u64; 4]
     requires few { bits ≤ 256 }
     ensures { (j : ℕ) → bit_of result j ≡ (nat_lt j bits && zipped w from (bit_of a.now) (bit_of b.now) j) }
 {
+    if from <= 32 && bits <= 64 {
+        let word = zip_word(a, b, from, w, bits);
+        [word, 0, 0, 0]
+    } else {
+        zip_words(a, b, from, w, bits)
+    }
+}
+
+/// The same where the first words have all of it.
+#[inline(always)]
+fn zip_word(a: &[u64; 4], b: &[u64; 4], from: u32, w: u32, bits: u32) -> u64
+    requires field { IsField w }
+    requires from { from ≤ 32 }
+    ensures { (s : ℕ) → s < 64 → is_one result s ≡ (nat_lt s bits && zipped w from (bit_of a.now) (bit_of b.now) s) }
+{
+    if bits == 0 {
+        0
+    } else {
+        let pair = low_halves(a[0] >> from, b[0] >> from);
+        let word = in_turn(pair, w);
+        first_bits(word, bits)
+    }
+}
+
+/// The same of all words. It isn't inlined, so that few bits take no time for many.
+#[inline(never)]
+fn zip_words(a: &[u64; 4], b: &[u64; 4], from: u32, w: u32, bits: u32) -> [u64; 4]
+    requires field { IsField w }
+    requires from { from ≤ 128 }
+    requires few { bits ≤ 256 }
+    ensures { (j : ℕ) → bit_of result j ≡ (nat_lt j bits && zipped w from (bit_of a.now) (bit_of b.now) j) }
+{
     let w0 = zipped_at(a, b, from, w, bits, 0);
     let w1 = zipped_at(a, b, from, w, bits, 1);
     let w2 = zipped_at(a, b, from, w, bits, 2);
@@ -131,6 +163,42 @@ fn join(a: &[u64; 4], b: &[u64; 4], at: u32) -> [u64; 4]
 
 /// Every second field of w bits of the first, and then of the second, the first from bit `skip` on. Both have so many bits.
 pub fn uzp(a: &[u64; 4], b: &[u64; 4], skip: u32, w: u32, bits: u32) -> [u64; 4]
+    requires field { IsField w }
+    requires within { skip ≤ w }
+    requires few { bits ≤ 256 }
+    requires whole { bits % 16 ≡ 0 }
+    requires first { (j : ℕ) → bits ≤ j → bit_of a.now j ≡ false }
+    requires second { (j : ℕ) → bits ≤ j → bit_of b.now j ≡ false }
+    ensures fields { (j : ℕ) → j < bits → bit_of result j ≡ joined (bits / 2) (every_second w skip (bit_of a.now)) (every_second w skip (bit_of b.now)) j }
+    ensures above { (j : ℕ) → bits ≤ j → bit_of result j ≡ false }
+{
+    if bits <= 64 {
+        let word = uzp_word(a, b, skip, w, bits);
+        [word, 0, 0, 0]
+    } else {
+        uzp_words(a, b, skip, w, bits)
+    }
+}
+
+/// The same where the first words have all bits.
+#[inline(always)]
+fn uzp_word(a: &[u64; 4], b: &[u64; 4], skip: u32, w: u32, bits: u32) -> u64
+    requires field { IsField w }
+    requires within { skip ≤ w }
+    requires few { bits ≤ 64 }
+    requires whole { bits % 16 ≡ 0 }
+    requires first { (j : ℕ) → bits ≤ j → bit_of a.now j ≡ false }
+    requires second { (j : ℕ) → bits ≤ j → bit_of b.now j ≡ false }
+    ensures { (s : ℕ) → s < 64 → is_one result s ≡ joined (bits / 2) (every_second w skip (bit_of a.now)) (every_second w skip (bit_of b.now)) s }
+{
+    let first = second_fields(a[0], 0, skip, w);
+    let second = second_fields(b[0], 0, skip, w);
+    first | second << (bits / 2)
+}
+
+/// The same of all words. It isn't inlined, so that few bits take no time for many.
+#[inline(never)]
+fn uzp_words(a: &[u64; 4], b: &[u64; 4], skip: u32, w: u32, bits: u32) -> [u64; 4]
     requires field { IsField w }
     requires within { skip ≤ w }
     requires few { bits ≤ 256 }

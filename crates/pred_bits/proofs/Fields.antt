@@ -93,6 +93,13 @@ whole_end H m count few h = omega arith
 whole_end S m count few h = omega arith
 whole_end D m count few h = omega arith
 
+-- all lanes end where the bits do
+pub all_end : (e : Esize) (m : ℕ) → m ≤ 256 → m % (size_of e / 8) ≡ 0 → m ≡ min (min (lanes_of (size_of e) m) 256 * (size_of e / 8)) m
+all_end B m few whole = omega arith
+all_end H m few whole = omega arith
+all_end S m few whole = omega arith
+all_end D m few whole = omega arith
+
 pub cut_count : (n count k : ℕ) → k < n → nat_lt k (min count n) ≡ nat_lt k count
 cut_count n count k h = elim (cases_lt k count) [
   | inl less ↦ let within : k < min count n = omega arith in lt-ltb k (min count n) within ∙ sym (lt-ltb k count less)

@@ -11,7 +11,7 @@ use Rattle.emu_bits.specs.declared.flags.Flags.{Flags}
 use Rattle.sve_effects.proofs.Found.{first_found, first_is, first_same, last_found, last_is, last_same}
 use Rattle.sve_effects.specs.FirstLast.{first_where, last_where, answer_at, IsFirstWhere, IsLastWhere}
 use Rattle.sve_effects.specs.Predicate.{test_flags}
-use Rattle.pred_bits.specs.LaneBits.{among, lane_at}
+use Rattle.pred_bits.specs.LaneBits.{among, lane_at, places_tested}
 
 -- ---- truth values
 
@@ -19,7 +19,7 @@ pub and_true : (x : Bool) → (x && true) ≡ x
 and_true true = refl
 and_true false = refl
 
-and_false : (x : Bool) → (x && false) ≡ false
+pub and_false : (x : Bool) → (x && false) ≡ false
 and_false true = refl
 and_false false = refl
 
@@ -195,12 +195,11 @@ module _ (w n : ℕ) (g a on set : ℕ → Bool) (some : 0 < w) (room : n * w �
       ∙ ap (λ (o : Option ℕ). is_none o)
       (sym (first_is n (λ k. g k && a k) (lane_at w (first_where 256 set)) (first_of_words w n (λ k. g k && a k) set some room set_shows (first_where 256 set) (first_found 256 set))))
 
-  pub tested : (x y z : Bool) → x ≡ answer_at (first_where 256 on) set → y ≡ is_none (first_where 256 set) → z ≡ answer_at (last_where 256 on) set
-      → (let f : Flags = record { n = x; z = y; c = not z; v = false } in f) ≡ test_flags n g a
-  tested x y z is_x is_y is_z =
+  pub tested : places_tested on set ≡ test_flags n g a
+  tested =
       let flags : Bool → Bool → Bool → Flags = λ x y z. record { n = x; z = y; c = not z; v = false } in
-      ap (λ x. flags x y z) (is_x ∙ first_answer) ∙ ap (λ y. flags (answer_at (first_where n g) a) y z) (is_y ∙ none_set)
-      ∙ ap (λ z. flags (answer_at (first_where n g) a) (is_none (first_where n (λ k. g k && a k))) z) (is_z ∙ last_answer)
+      ap (λ x. flags x (is_none (first_where 256 set)) (answer_at (last_where 256 on) set)) first_answer ∙ ap (λ y. flags (answer_at (first_where n g) a) y (answer_at (last_where 256 on) set)) none_set
+      ∙ ap (λ z. flags (answer_at (first_where n g) a) (is_none (first_where n (λ k. g k && a k))) z) last_answer
 
 -- ---- words of both
 

@@ -2,7 +2,7 @@
 use Rattle.std.proofs.Common.{◌≡◌, ◌≢◌, ◌<◌, ◌≤◌, ◌+◌, ◌*◌, ◌/◌, ◌%◌, ℕ, Bool, true, false, ◌&&◌, if◌then◌else◌, nat_eq, nat_lt, Option, Some, None, List, length, get_or, set, replicate, inl, inr, refl, sym, ap, ap₂, subst, ◌∙◌, arith}
 use Rattle.std.specs.Int.{bit_at}
 use Rattle.std.proofs.Math.Nat.{mul-le-mul_right}
-use Rattle.std.proofs.lemmas.Bool.{cases_lt, cases_eq, lt-ltb, le-ltb}
+use Rattle.std.proofs.lemmas.Bool.{cases_lt, cases_eq, lt-ltb, le-ltb, and_parts}
 use Rattle.std.proofs.lemmas.List.{get_or-replicate}
 use Rattle.std.proofs.lemmas.Nat.{div-add-mod'}
 use Rattle.vec_model.proofs.FieldBits.{at_start, between}
@@ -13,7 +13,7 @@ use Rattle.sve_effects.proofs.Found.{first_found, first_is, first_same, last_fou
 use Rattle.sve_effects.specs.FirstLast.{first_where, last_where, IsFirstWhere, IsLastWhere}
 use Rattle.sve_effects.specs.Predicate.{is_at, is_behind}
 use Rattle.pred_bits.specs.LaneBits.{among, lane_at}
-use Rattle.pred_bits.proofs.LaneWords.{not_start, twice, lanes_shown, first_of_words, starts_lane, is_lane, last_lane_is}
+use Rattle.pred_bits.proofs.LaneWords.{not_start, twice, and_false, lanes_shown, first_of_words, starts_lane, is_lane, last_lane_is}
 use Rattle.pred_bits.proofs.Views.{bit_written, bit_kept}
 use Rattle.pred_bits.proofs.WordMasks.{is_equal, is_other}
 
@@ -131,3 +131,37 @@ module _ (w n : ℕ) (g before on was kept made : ℕ → Bool) (some : 0 < w) (
 
   pub next_clear : (m : ℕ) → n * w ≤ m → (b : ℕ) → m ≤ b → made b ≡ false
   next_clear m fits b le = is_made b ∙ above m fits b le (first_where 256 kept) (first_found 256 kept)
+
+-- ---- the next lane among the active ones
+
+place_active : (n k : ℕ) (g t : ℕ → Bool) (place : Option ℕ) → IsFirstWhere n (λ k. g k && t k) place → is_at place k ≡ (g k && is_at place k)
+place_active n k g t None h = sym (and_false (g k))
+place_active n k g t (Some p) h = elim (cases_eq k p) [
+  | inl same ↦
+      let both : (g p ≡ true) × (t p ≡ true) = and_parts (g p) (t p) h.meets in
+      sym (ap (λ x. x && nat_eq k p) (ap g same ∙ both.0))
+  | inr other ↦ is_other k p other ∙ sym (ap (λ x. g k && x) (is_other k p other) ∙ and_false (g k))
+]
+
+place_past : (n k : ℕ) (test : ℕ → Bool) (place : Option ℕ) → IsFirstWhere n test place → n ≤ k → is_at place k ≡ false
+place_past n k test None h le = refl
+place_past n k test (Some p) h le =
+    let within : p < n = h.within in
+    let apart : k ≢ p = λ e. absurd (omega arith) in
+    is_other k p apart
+
+-- the word that has it alone has the active lanes that are set in it
+pub next_among : (w n : ℕ) (g t a made : ℕ → Bool) → 0 < w → ((b : ℕ) → made b ≡ field_bit w (is_at (first_where n (λ k. g k && t k))) b) → ((k : ℕ) → k < n → a k ≡ is_at (first_where n (λ k. g k && t k)) k)
+    → (b : ℕ) → made b ≡ field_bit w (among n (λ k. g k && a k)) b
+next_among w n g t a made some is reads = lanes_shown w n (λ k. g k && a k) made off on past where
+  at : (k : ℕ) → made (k * w) ≡ is_at (first_where n (λ k. g k && t k)) k
+  at k = is (k * w) ∙ at_start k w (is_at (first_where n (λ k. g k && t k))) some
+
+  off : (b : ℕ) → 0 < b % w → made b ≡ false
+  off b h = is b ∙ between w b (is_at (first_where n (λ k. g k && t k))) h
+
+  on : (k : ℕ) → k < n → made (k * w) ≡ (g k && a k)
+  on k h = at k ∙ place_active n k g t (first_where n (λ k. g k && t k)) (first_found n (λ k. g k && t k)) ∙ ap (λ x. g k && x) (sym (reads k h))
+
+  past : (k : ℕ) → n ≤ k → made (k * w) ≡ false
+  past k h = at k ∙ place_past n k (λ k. g k && t k) (first_where n (λ k. g k && t k)) (first_found n (λ k. g k && t k)) h

@@ -1,7 +1,7 @@
 -- Words with the bits below a number, and with the bits at which fields begin.
-use Rattle.std.proofs.Common.{◌≡◌, ◌≢◌, ◌<◌, ◌≤◌, ◌+◌, ◌-◌, ◌*◌, ◌/◌, ◌%◌, ◌^◌, ℕ, zero, suc, Bool, true, false, not, ◌&&◌, if◌then◌else◌, nat_eq, nat_lt, List, get_or, bit_and, w64, inl, inr, refl, sym, ap, ◌∙◌, arith}
+use Rattle.std.proofs.Common.{◌≡◌, ◌≢◌, ◌<◌, ◌≤◌, ◌+◌, ◌-◌, ◌*◌, ◌/◌, ◌%◌, ◌^◌, ℕ, zero, suc, Bool, true, false, not, ◌&&◌, if◌then◌else◌, nat_eq, nat_lt, List, [], ◌∷◌, length, get_or, bit_and, w64, inl, inr, refl, sym, ap, subst, ◌∙◌, arith}
 use Rattle.std.specs.Int.{bit_at, bit_not}
-use Rattle.std.proofs.lemmas.Bool.{cases_lt, cases_eq, lt-ltb, le-ltb}
+use Rattle.std.proofs.lemmas.Bool.{cases_lt, cases_eq, lt-ltb, le-ltb, and_right}
 use Rattle.std.proofs.lemmas.Bool.Decides.{nat_tests}
 use Rattle.std.proofs.lemmas.Nat.Bits.{bit_at_ones, bit_at_ones_above, bit_at-zero}
 use Rattle.emu_bits.specs.Flags.{size_of}
@@ -9,6 +9,8 @@ use Rattle.emu_bits.specs.declared.flags.Esize.{Esize}
 use Rattle.emu_bits.specs.declared.flags.Esize.TheVariants.{B, H, S, D}
 use Rattle.sve_effects.proofs.Found.{all_tells}
 use Rattle.sve_effects.specs.FirstLast.{all_below}
+use Rattle.vec_regs.specs.Words.{bit_of}
+use Rattle.pred_bits.proofs.Made.{made_all}
 use Rattle.pred_bits.proofs.WordBits.{and_bit, not_bit}
 
 -- ---- the bits below a number
@@ -79,6 +81,13 @@ each_of_four P a b c d (suc (suc zero)) h = c
 each_of_four P a b c d (suc (suc (suc zero))) h = d
 each_of_four P a b c d (suc (suc (suc (suc i)))) h = absurd (omega arith)
 
+-- one word, and zeros behind it
+pub first_of_four : (x : ℕ) (f : ℕ → Bool) → ((s : ℕ) → s < 64 → nat_eq (bit_at x s) 1 ≡ f (64 * 0 + s)) → ((b : ℕ) → 64 ≤ b → f b ≡ false)
+    → (j s : ℕ) → j < 4 → s < 64 → nat_eq (bit_at (get_or (x ∷ 0 ∷ 0 ∷ 0 ∷ []) j 0) s) 1 ≡ f (64 * j + s)
+first_of_four x f is none j s q h = each_of_four (λ j. nat_eq (bit_at (get_or (x ∷ 0 ∷ 0 ∷ 0 ∷ []) j 0) s) 1 ≡ f (64 * j + s)) (is s h)
+    (ap (λ x. nat_eq x 1) (bit_at-zero s) ∙ sym (none (64 * 1 + s) (omega arith))) (ap (λ x. nat_eq x 1) (bit_at-zero s) ∙ sym (none (64 * 2 + s) (omega arith)))
+    (ap (λ x. nat_eq x 1) (bit_at-zero s) ∙ sym (none (64 * 3 + s) (omega arith))) j q
+
 kept : (t u : Bool) → u ≡ true → t ≡ (t && u)
 kept true u e = sym e
 kept false u e = refl
@@ -114,6 +123,20 @@ run_bit e starts p n words begin is made j s q h = ap (λ x. nat_eq (bit_at x s)
             ∙ ap (λ x. nat_eq x 1) (bit_at-zero s) ∙ dropped (nat_eq ((64 * j + s) % (size_of e / 8)) 0) (nat_lt (64 * j + s) n) (le-ltb (64 * j + s) n outside)
       ]
 ]
+
+-- four whole words, of which none is a part
+pub run_whole : (starts x y : ℕ) (words : List ℕ) → ((i : ℕ) → i < 4 → get_or words i 0 ≡ (if nat_lt i 4 then starts else if nat_eq i 4 then x else 0))
+    → (i : ℕ) → i < 4 → get_or words i 0 ≡ (if nat_lt i 4 then starts else if nat_eq i 4 then bit_and starts y else 0)
+run_whole starts x y words made i h =
+    made i h ∙ ap (λ t. if t then starts else if nat_eq i 4 then x else 0) (lt-ltb i 4 h) ∙ sym (ap (λ t. if t then starts else if nat_eq i 4 then bit_and starts y else 0) (lt-ltb i 4 h))
+
+pub run_all : (e : Esize) (starts p n count : ℕ) (words : List ℕ) → ((s : ℕ) → s < 64 → nat_eq (bit_at starts s) 1 ≡ nat_eq (s % (size_of e / 8)) 0) → p ≡ 2 ^ (n % 64) → n ≤ 256 → count ≡ n / 64
+    → length words ≡ 4 → ((i : ℕ) → i < 4 → get_or words i 0 ≡ (if nat_lt i count then starts else if nat_eq i count then bit_and starts (p - 1) else 0))
+    → (b : ℕ) → bit_of words b ≡ (nat_eq (b % (size_of e / 8)) 0 && nat_lt b n)
+run_all e starts p n count words begin is few at four made =
+    made_all words (λ b. nat_eq (b % (size_of e / 8)) 0 && nat_lt b n) four
+    (run_bit e starts p n words begin is (subst (λ k. (i : ℕ) → i < 4 → get_or words i 0 ≡ (if nat_lt i k then starts else if nat_eq i k then bit_and starts (p - 1) else 0)) at made))
+    (λ b past. and_right (nat_eq (b % (size_of e / 8)) 0) (nat_lt b n) (le-ltb b n (omega arith)))
 
 -- ---- the bits behind a place
 

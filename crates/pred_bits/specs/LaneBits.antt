@@ -1,6 +1,8 @@
--- Lanes by the lowest bits of their fields, and the numbers of a loop: private functions alone cite this.
-use Rattle.std.specs.Prelude.{ℕ, ◌+◌, ◌-◌, ◌/◌, ◌^◌, Bool, true, false, ◌&&◌, nat_lt, Option, Some, None}
+-- Lanes by the lowest bits of their fields, flags, and the numbers of a loop: private functions alone cite this.
+use Rattle.std.specs.Prelude.{ℕ, ◌+◌, ◌-◌, ◌/◌, ◌^◌, Bool, true, false, not, ◌&&◌, nat_lt, Option, Some, None, is_none}
 use Rattle.emu_bits.specs.Numbers.{unsigned}
+use Rattle.emu_bits.specs.declared.flags.Flags.{Flags}
+use Rattle.sve_effects.specs.FirstLast.{first_where, last_where, answer_at}
 use Rattle.sve_effects.specs.declared.predicates.WhileTest.{WhileTest}
 use Rattle.sve_effects.specs.declared.predicates.WhileTest.TheVariants.{Lt, Le, Lo, Ls}
 
@@ -12,6 +14,10 @@ among n test k = nat_lt k n && test k
 abbrev pub lane_at : ℕ → Option ℕ → Option ℕ
 lane_at w None = None
 lane_at w (Some p) = Some (p / w)
+
+-- the flags of a test of places below 256: of those that are on, and of those of them that are set
+abbrev pub places_tested : (ℕ → Bool) → (ℕ → Bool) → Flags
+places_tested on set = record { n = answer_at (first_where 256 on) set; z = is_none (first_where 256 set); c = not (answer_at (last_where 256 on) set); v = false }
 
 -- ---- loops
 

@@ -12,12 +12,34 @@ ghost use Rattle.sve_effects.specs.Predicate as model;
 ghost use Rattle.sve_effects.specs.Predicate.{lanes_of, only_next, while_lanes, while_holds, count_lanes};
 
 use crate::words::{
-    behind, count_bits, first_alone, first_bit, first_is_in, last_bit, last_is_in, starts_below,
-    starts_below_apart, starts_in_both,
+    behind, count_bits, first_alone, first_bit, last_bit, last_is_in, starts_below,
+    starts_below_apart, starts_in_both, starts_in_first, test_words,
 };
 use crate::{PredBits, WhileTest};
 use emu_bits::numbers::power;
 use emu_bits::{Esize, Flags, low_bits};
+
+/// The words of the lanes that are active and set, where the bits are whole fields: the lowest bit of such a lane's
+/// field is 1, and all others are 0.
+#[inline(always)]
+fn whole_lane_words(g: &PredBits, a: &PredBits, e: Esize) -> [u64; 4]
+    requires same { length a.now ≡ length g.now }
+    requires whole { length g.now % (size_of e / 8) ≡ 0 }
+    ensures { (b : ℕ) → bit_of result b ≡ field_bit (size_of e / 8) (among (lanes_of (size_of e) (length g.now)) (λ k. active (size_of e) g.now k && active (size_of e) a.now k)) b }
+{
+    starts_in_both(&g.words, &a.words, e)
+}
+
+/// The same where the first word has all bits.
+#[inline(always)]
+fn first_lane_words(g: &PredBits, a: &PredBits, e: Esize) -> [u64; 4]
+    requires same { length a.now ≡ length g.now }
+    requires whole { length g.now % (size_of e / 8) ≡ 0 }
+    requires few { length g.now ≤ 64 }
+    ensures { (b : ℕ) → bit_of result b ≡ field_bit (size_of e / 8) (among (lanes_of (size_of e) (length g.now)) (λ k. active (size_of e) g.now k && active (size_of e) a.now k)) b }
+{
+    starts_in_first(&g.words, &a.words, e)
+}
 
 /// The words of the lanes that are active and set: the lowest bit of such a lane's field is 1, and all others are 0.
 #[inline(always)]
@@ -89,12 +111,29 @@ pub fn pred_test(g: &PredBits, a: &PredBits, e: Esize) -> Flags
     let _bits = g.bits();
     let on = lane_words(g, g, e);
     let set = starts_in_both(&on, &a.words, Esize::B);
-    Flags {
-        n: first_is_in(&on, &set),
-        z: first_bit(&set).is_none(),
-        c: !last_is_in(&on, &set),
-        v: false,
-    }
+    test_words(&on, &set)
+}
+
+/// The first active lane behind the last one that is set in `before`, alone, and the flags of its predicate test, by the
+/// words of the lanes that are active and of those that are set.
+#[inline(always)]
+fn next_words(
+    g: &PredBits,
+    before: &PredBits,
+    e: Esize,
+    on: &[u64; 4],
+    set: &[u64; 4],
+) -> (PredBits, Flags)
+    requires same { length before.now ≡ length g.now }
+    requires on { (b : ℕ) → bit_of on.now b ≡ field_bit (size_of e / 8) (among (lanes_of (size_of e) (length g.now)) (λ k. active (size_of e) g.now k && active (size_of e) g.now k)) b }
+    requires set { (b : ℕ) → bit_of set.now b ≡ field_bit (size_of e / 8) (among (lanes_of (size_of e) (length before.now)) (λ k. active (size_of e) before.now k && active (size_of e) before.now k)) b }
+    ensures lane { result.0 ≡ only_next (size_of e) (length g.now) g.now before.now }
+    ensures flags { result.1 ≡ model.pred_test (size_of e) (length g.now) g.now (only_next (size_of e) (length g.now) g.now before.now) }
+{
+    let bits = g.bits();
+    let rest = behind(on, last_bit(set));
+    let alone = first_alone(&rest);
+    (PredBits::of_words(bits, &alone), test_words(on, &alone))
 }
 
 /// The first active lane behind the last one that is set in `before`, alone (pnext).
@@ -103,11 +142,39 @@ pub fn next(g: &PredBits, before: &PredBits, e: Esize) -> PredBits
     requires { length before.now ≡ length g.now }
     ensures { result ≡ only_next (size_of e) (length g.now) g.now before.now }
 {
-    let bits = g.bits();
     let on = lane_words(g, g, e);
     let set = lane_words(before, before, e);
-    let rest = behind(&on, last_bit(&set));
-    PredBits::of_words(bits, &first_alone(&rest))
+    let (lane, _flags) = next_words(g, before, e, &on, &set);
+    lane
+}
+
+/// The lane as `next` has it, and the flags of its predicate test. The bits are whole fields.
+#[inline(always)]
+pub fn next_tested(g: &PredBits, before: &PredBits, e: Esize) -> (PredBits, Flags)
+    requires same { length before.now ≡ length g.now }
+    requires whole { length g.now % (size_of e / 8) ≡ 0 }
+    ensures lane { result.0 ≡ only_next (size_of e) (length g.now) g.now before.now }
+    ensures flags { result.1 ≡ model.pred_test (size_of e) (length g.now) g.now (only_next (size_of e) (length g.now) g.now before.now) }
+{
+    if g.bits() <= 64 {
+        let on = first_lane_words(g, g, e);
+        let set = first_lane_words(before, before, e);
+        next_words(g, before, e, &on, &set)
+    } else {
+        let on = whole_lane_words(g, g, e);
+        let set = whole_lane_words(before, before, e);
+        next_words(g, before, e, &on, &set)
+    }
+}
+
+/// All lanes, of so many bits, at most 256, which are whole fields (ptrue).
+#[inline(always)]
+pub fn all_lanes(e: Esize, bits: u32) -> PredBits
+    requires few { bits ≤ 256 }
+    requires whole { bits % (size_of e / 8) ≡ 0 }
+    ensures { result ≡ model.lanes_below (size_of e) bits (lanes_of (size_of e) bits) }
+{
+    PredBits::of_words(bits, &starts_below(bits, e))
 }
 
 /// The lanes below a number that is at most that of all lanes, of so many bits, at most 256. The bits are whole fields.
@@ -162,7 +229,12 @@ fn rank(test: WhileTest, x: u64, width: u32) -> u64
     ensures value { result ≡ rank test width x }
     ensures small { result < 2 ^ width }
 {
-    low_bits(x.wrapping_add(offset(test, width)), width)
+    // apart, so that each is by a constant
+    if width == 64 {
+        low_bits(x.wrapping_add(offset(test, 64)), 64)
+    } else {
+        low_bits(x.wrapping_add(offset(test, 32)), 32)
+    }
 }
 
 /// How many numbers from a on are below b, at most `lanes`.

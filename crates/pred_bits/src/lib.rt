@@ -18,7 +18,8 @@ ghost use Rattle.vec_regs.specs.Words.{bits_of, AreClearFrom};
 
 use emu_bits::Esize;
 pub use lanes::{
-    count, first_lanes, lanes_below, next, pred_test, test_all, while_bits, while_tested,
+    all_lanes, count, first_lanes, lanes_below, next, next_tested, pred_test, test_all, while_bits,
+    while_tested,
 };
 pub use patterns::pattern_count;
 use std::marker::Model;

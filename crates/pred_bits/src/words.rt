@@ -1,13 +1,14 @@
 //! Predicates as four words: bits of words, and the first bit, the last bit and the number of bits that are 1.
-ghost use Rattle.std.specs.Prelude.{◌≡◌, ◌≢◌, ◌<◌, ◌≤◌, ◌+◌, ◌*◌, ◌/◌, ◌%◌, ◌&&◌, ℕ, nat_eq, nat_lt, length, get_or, bit_and, IfSome, if◌then◌else◌};
+ghost use Rattle.std.specs.Prelude.{◌≡◌, ◌≢◌, ◌<◌, ◌≤◌, ◌+◌, ◌*◌, ◌/◌, ◌%◌, ◌&&◌, ℕ, nat_eq, nat_lt, length, get_or, bit_and, set, replicate, false, IfSome, if◌then◌else◌};
 ghost use Rattle.std.specs.Int.{bit_at};
 ghost use Rattle.emu_bits.specs.Flags.{size_of};
 ghost use Rattle.sve_effects.specs.FirstLast.{first_where, last_where, count_where, answer_at};
 ghost use Rattle.sve_effects.specs.Predicate.{logic_bit, is_at, is_behind};
 ghost use Rattle.vec_regs.specs.Words.{bit_of};
+ghost use Rattle.pred_bits.specs.LaneBits.{places_tested};
 
-use emu_bits::Esize;
 use emu_bits::numbers::power;
+use emu_bits::{Esize, Flags};
 use sve_effects::predicates::LogicOp;
 
 /// A word with bit `at` written.
@@ -72,7 +73,13 @@ pub fn starts_below(n: u32, e: Esize) -> [u64; 4]
     ensures { (b : ℕ) → bit_of result b ≡ (nat_eq (b % (size_of e / 8)) 0 && nat_lt b n) }
 {
     let starts = starts(e);
-    run_of_words(n / 64, starts, starts & (power(n % 64) - 1))
+    if n < 64 {
+        run_of_words(0, starts, starts & (power(n) - 1))
+    } else if n < 256 {
+        run_of_words(n / 64, starts, starts & (power(n % 64) - 1))
+    } else {
+        run_of_words(4, starts, 0)
+    }
 }
 
 /// The same in code of its own, where it is seldom needed.
@@ -95,6 +102,15 @@ pub fn starts_in_both(g: &[u64; 4], a: &[u64; 4], e: Esize) -> [u64; 4]
         words[i] = starts & (g[i] & a[i]);
     }
     words
+}
+
+/// The same where the words behind the first are 0.
+#[inline(always)]
+pub fn starts_in_first(g: &[u64; 4], a: &[u64; 4], e: Esize) -> [u64; 4]
+    requires { (b : ℕ) → 64 ≤ b → bit_of g.now b ≡ false }
+    ensures { (b : ℕ) → bit_of result b ≡ (nat_eq (b % (size_of e / 8)) 0 && (bit_of g.now b && bit_of a.now b)) }
+{
+    [starts(e) & (g[0] & a[0]), 0, 0, 0]
 }
 
 /// Words from one on: zeros below it, those of its bits that a mask has, and the words behind it.
@@ -134,6 +150,20 @@ pub fn behind(words: &[u64; 4], place: Option<u32>) -> [u64; 4]
     }
 }
 
+/// One word among zeros.
+#[inline(always)]
+fn word_alone(i: u32, word: u64) -> [u64; 4]
+    requires { i < 4 }
+    ensures { result ≡ set (replicate 4 0) i word }
+{
+    match i {
+        0 => [word, 0, 0, 0],
+        1 => [0, word, 0, 0],
+        2 => [0, 0, word, 0],
+        _ => [0, 0, 0, word],
+    }
+}
+
 /// The first bit that is 1, alone.
 #[inline(always)]
 pub fn first_alone(words: &[u64; 4]) -> [u64; 4]
@@ -142,9 +172,8 @@ pub fn first_alone(words: &[u64; 4]) -> [u64; 4]
     for i in 0..4u32 {
         let word = words[i as usize];
         if word != 0 {
-            let mut alone = [0; 4];
-            alone[i as usize] = with_bit(0, word.trailing_zeros(), true);
-            return alone;
+            let alone = with_bit(0, word.trailing_zeros(), true);
+            return word_alone(i, alone);
         }
     }
     [0; 4]
@@ -206,6 +235,20 @@ pub fn last_is_in(on: &[u64; 4], set: &[u64; 4]) -> bool
         }
     }
     false
+}
+
+/// The flags of a test of places: N whether the first that is 1 in `on` is 1 in `set`, Z whether none is 1 in `set`, C
+/// whether the last that is 1 in `on` isn't 1 in `set`, V clear.
+#[inline(always)]
+pub fn test_words(on: &[u64; 4], set: &[u64; 4]) -> Flags
+    ensures { result ≡ places_tested (bit_of on.now) (bit_of set.now) }
+{
+    Flags {
+        n: first_is_in(on, set),
+        z: first_bit(set).is_none(),
+        c: !last_is_in(on, set),
+        v: false,
+    }
 }
 
 /// How many bits are 1.

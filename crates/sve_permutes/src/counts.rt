@@ -2,6 +2,7 @@
 ghost use Rattle.std.specs.Prelude.{◌≡◌, ◌≤◌, ◌⊎◌, true};
 ghost use Rattle.sve_insn.specs.declared.form.SveForm.{SveForm};
 ghost use Rattle.sve_effects.specs.Counts as table;
+ghost use Rattle.sve_effects.specs.Effects as effects;
 ghost use Rattle.sve_effects.specs.ElementLoop as loops;
 ghost use Rattle.sve_effects.specs.ElementLoop.{lane_of};
 ghost use Rattle.sve_permutes.specs.Groups.{is_count_of_lanes};
@@ -22,9 +23,9 @@ use vec_regs::VecRegs;
 /// Does a count, or a multiple of the vector length.
 #[inline(always)]
 pub(crate) fn exec(core: &mut Core, vec: &mut VecRegs, i: &Sve)
-    requires { table.is_count i.now ≡ true }
-    ensures core { core.new ≡ (table.counted i.now core.old vec.old).core }
-    ensures vectors { vec.new ≡ (table.counted i.now core.old vec.old).vectors }
+    requires { effects.is_count i.now ≡ true }
+    ensures core { core.new ≡ (effects.across i.now core.old vec.old).core }
+    ensures vectors { vec.new ≡ (effects.across i.now core.old vec.old).vectors }
 {
     match *i.form() {
         SveForm::Count {
@@ -58,7 +59,7 @@ pub(crate) fn exec(core: &mut Core, vec: &mut VecRegs, i: &Sve)
 #[inline(always)]
 fn of_lanes(core: &Core, vec: &mut VecRegs, i: &Sve)
     requires { is_count_of_lanes i.now ≡ true }
-    ensures { vec.new ≡ (table.counted i.now core.now vec.old).vectors }
+    ensures { vec.new ≡ (effects.across i.now core.now vec.old).vectors }
 {
     match *i.form() {
         SveForm::IncZ {
@@ -80,22 +81,22 @@ fn of_lanes(core: &Core, vec: &mut VecRegs, i: &Sve)
 }
 
 fn count(core: &mut Core, vec: &VecRegs, size: U<2>, imm4: U<4>, pattern: U<5>, rd: Reg)
-    ensures core { core.new ≡ (table.counted (SveForm.Count size imm4 pattern rd) core.old vec.now).core }
-    ensures vectors { vec.now ≡ (table.counted (SveForm.Count size imm4 pattern rd) core.old vec.now).vectors }
+    ensures core { core.new ≡ (effects.across (SveForm.Count size imm4 pattern rd) core.old vec.now).core }
+    ensures vectors { vec.now ≡ (effects.across (SveForm.Count size imm4 pattern rd) core.old vec.now).vectors }
 {
     core.set_x(rd, 64, count_of(vec, size, imm4, pattern));
 }
 
 fn inc_x(core: &mut Core, vec: &VecRegs, op: IncOp, size: U<2>, imm4: U<4>, pattern: U<5>, rdn: Reg)
-    ensures core { core.new ≡ (table.counted (SveForm.IncX op size imm4 pattern rdn) core.old vec.now).core }
-    ensures vectors { vec.now ≡ (table.counted (SveForm.IncX op size imm4 pattern rdn) core.old vec.now).vectors }
+    ensures core { core.new ≡ (effects.across (SveForm.IncX op size imm4 pattern rdn) core.old vec.now).core }
+    ensures vectors { vec.now ≡ (effects.across (SveForm.IncX op size imm4 pattern rdn) core.old vec.now).vectors }
 {
     let count = count_of(vec, size, imm4, pattern);
     core.set_x(rdn, 64, apply(inc_element(op), 64, core.x(rdn), count));
 }
 
 fn inc_z(core: &Core, vec: &mut VecRegs, op: IncOp, size: U<2>, imm4: U<4>, pattern: U<5>, zdn: Reg)
-    ensures { vec.new ≡ (table.counted (SveForm.IncZ op size imm4 pattern zdn) core.now vec.old).vectors }
+    ensures { vec.new ≡ (effects.across (SveForm.IncZ op size imm4 pattern zdn) core.now vec.old).vectors }
 {
     let e = lane_bits(size);
     let count = count_of(vec, size, imm4, pattern);
@@ -115,8 +116,8 @@ fn sat_x(
     pattern: U<5>,
     rdn: Reg,
 )
-    ensures core { core.new ≡ (table.counted (SveForm.SatX op size sf imm4 pattern rdn) core.old vec.now).core }
-    ensures vectors { vec.now ≡ (table.counted (SveForm.SatX op size sf imm4 pattern rdn) core.old vec.now).vectors }
+    ensures core { core.new ≡ (effects.across (SveForm.SatX op size sf imm4 pattern rdn) core.old vec.now).core }
+    ensures vectors { vec.now ≡ (effects.across (SveForm.SatX op size sf imm4 pattern rdn) core.old vec.now).vectors }
 {
     let count = count_of(vec, size, imm4, pattern);
     let w = if sf { 64 } else { 32 };
@@ -124,7 +125,7 @@ fn sat_x(
 }
 
 fn sat_z(core: &Core, vec: &mut VecRegs, op: SatOp, size: U<2>, imm4: U<4>, pattern: U<5>, zdn: Reg)
-    ensures { vec.new ≡ (table.counted (SveForm.SatZ op size imm4 pattern zdn) core.now vec.old).vectors }
+    ensures { vec.new ≡ (effects.across (SveForm.SatZ op size imm4 pattern zdn) core.now vec.old).vectors }
 {
     let e = lane_bits(size);
     let count = count_of(vec, size, imm4, pattern);
@@ -137,16 +138,16 @@ fn sat_z(core: &Core, vec: &mut VecRegs, op: SatOp, size: U<2>, imm4: U<4>, patt
 }
 
 fn add_length(core: &mut Core, vec: &VecRegs, op: AddLengthOp, rn: Reg, imm6: U<6>, rd: Reg)
-    ensures core { core.new ≡ (table.counted (SveForm.AddLength op rn imm6 rd) core.old vec.now).core }
-    ensures vectors { vec.now ≡ (table.counted (SveForm.AddLength op rn imm6 rd) core.old vec.now).vectors }
+    ensures core { core.new ≡ (effects.across (SveForm.AddLength op rn imm6 rd) core.old vec.now).core }
+    ensures vectors { vec.now ≡ (effects.across (SveForm.AddLength op rn imm6 rd) core.old vec.now).vectors }
 {
     let by = multiple(imm6, length_of(vec, op));
     core.set_x_sp(rd, 64, core.x_sp(rn).wrapping_add_signed(by));
 }
 
 fn read_length(core: &mut Core, vec: &VecRegs, imm6: U<6>, rd: Reg)
-    ensures core { core.new ≡ (table.counted (SveForm.ReadLength imm6 rd) core.old vec.now).core }
-    ensures vectors { vec.now ≡ (table.counted (SveForm.ReadLength imm6 rd) core.old vec.now).vectors }
+    ensures core { core.new ≡ (effects.across (SveForm.ReadLength imm6 rd) core.old vec.now).core }
+    ensures vectors { vec.now ≡ (effects.across (SveForm.ReadLength imm6 rd) core.old vec.now).vectors }
 {
     let by = multiple(imm6, length_of(vec, AddLengthOp::Addvl));
     core.set_x(rd, 64, low_bits(by.cast_unsigned(), 64));

@@ -4,6 +4,7 @@ ghost use Rattle.sve_insn.specs.declared.form.SveForm.{SveForm};
 ghost use Rattle.sve_effects.specs.ElementLoop.{lane_of};
 ghost use Rattle.sve_effects.specs.Permute.{taken, indexed_place};
 ghost use Rattle.sve_effects.specs.PermuteRows as table;
+ghost use Rattle.sve_effects.specs.Effects as effects;
 ghost use Rattle.vec_model.specs.Lanes.{IsLaneSize, with_lanes};
 
 use crate::chunks::Turns;
@@ -15,7 +16,7 @@ use vec_regs::VecRegs;
 
 /// Does a dup of a lane of 8 to 128 bits.
 pub(crate) fn dup_lane(core: &Core, vec: &mut VecRegs, imm2: U<2>, tsz: U<5>, zn: Reg, zd: Reg)
-    ensures { vec.new ≡ (table.permuted (SveForm.DupLane imm2 tsz zn zd) core.now vec.old).vectors }
+    ensures { vec.new ≡ (effects.across (SveForm.DupLane imm2 tsz zn zd) core.now vec.old).vectors }
 {
     let p = lowest_bit(tsz.get());
     let i = (imm2.get() * 32 + tsz.get()) >> (p + 1);

@@ -3,6 +3,7 @@ ghost use Rattle.std.specs.Prelude.{◌≡◌};
 ghost use Rattle.sve_insn.specs.declared.form.SveForm.{SveForm};
 ghost use Rattle.sve_effects.specs.ElementLoop.{folding};
 ghost use Rattle.sve_effects.specs.Fold as table;
+ghost use Rattle.sve_effects.specs.Effects as effects;
 ghost use Rattle.vec_model.specs.Lanes.{IsLaneSize};
 
 use crate::single::set_low_lane;
@@ -23,7 +24,7 @@ pub(crate) fn reduce(
     zn: Reg,
     vd: Reg,
 )
-    ensures { vec.new ≡ (table.reduction (SveForm.Reduce op size pg zn vd) core.now vec.old).vectors }
+    ensures { vec.new ≡ (effects.across (SveForm.Reduce op size pg zn vd) core.now vec.old).vectors }
 {
     let e = lane_bits(size);
     let x = folded(vec, op, e, pg.register(), zn);

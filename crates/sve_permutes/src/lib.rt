@@ -18,7 +18,7 @@ mod slices;
 mod tables;
 
 ghost use Rattle.std.specs.Prelude.{◌≡◌, true};
-ghost use Rattle.sve_effects.specs.Across.{is_across, across};
+ghost use Rattle.sve_effects.specs.Effects.{is_across, across};
 
 use core_regs::Core;
 use sve_insn::{Sve, SveForm};

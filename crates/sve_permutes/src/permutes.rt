@@ -1,6 +1,6 @@
 //! Which permute an instruction is.
 ghost use Rattle.std.specs.Prelude.{◌≡◌, true};
-ghost use Rattle.sve_effects.specs.PermuteRows as table;
+ghost use Rattle.sve_effects.specs.Effects as effects;
 ghost use Rattle.sve_permutes.specs.Groups.{is_of_lanes, is_of_active};
 
 use crate::dup::dup_lane;
@@ -12,9 +12,9 @@ use vec_regs::VecRegs;
 /// Does a permute.
 #[inline(always)]
 pub(crate) fn exec(core: &mut Core, vec: &mut VecRegs, i: &Sve)
-    requires { table.is_permute i.now ≡ true }
-    ensures core { core.new ≡ (table.permuted i.now core.old vec.old).core }
-    ensures vectors { vec.new ≡ (table.permuted i.now core.old vec.old).vectors }
+    requires { effects.is_permute i.now ≡ true }
+    ensures core { core.new ≡ (effects.across i.now core.old vec.old).core }
+    ensures vectors { vec.new ≡ (effects.across i.now core.old vec.old).vectors }
 {
     match *i.form() {
         SveForm::InterleaveP {
@@ -51,7 +51,7 @@ pub(crate) fn exec(core: &mut Core, vec: &mut VecRegs, i: &Sve)
 #[inline(always)]
 fn by_active(core: &Core, vec: &mut VecRegs, i: &Sve)
     requires { is_of_active i.now ≡ true }
-    ensures { vec.new ≡ (table.permuted i.now core.now vec.old).vectors }
+    ensures { vec.new ≡ (effects.across i.now core.now vec.old).vectors }
 {
     match *i.form() {
         SveForm::Compact { size, pg, zn, zd } => rows::compact(core, vec, size, pg, zn, zd),
@@ -71,7 +71,7 @@ fn by_active(core: &Core, vec: &mut VecRegs, i: &Sve)
 #[inline(always)]
 fn of_lanes(core: &Core, vec: &mut VecRegs, i: &Sve)
     requires { is_of_lanes i.now ≡ true }
-    ensures { vec.new ≡ (table.permuted i.now core.now vec.old).vectors }
+    ensures { vec.new ≡ (effects.across i.now core.now vec.old).vectors }
 {
     match *i.form() {
         SveForm::DupReg { size, rn, zd } => rows::dup_reg(core, vec, size, rn, zd),

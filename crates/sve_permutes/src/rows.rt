@@ -4,6 +4,7 @@ ghost use Rattle.sve_insn.specs.declared.form.SveForm.{SveForm};
 ghost use Rattle.sve_insn.specs.Conditions.{is_no_byte};
 ghost use Rattle.sve_effects.specs.ElementLoop.{lane_of};
 ghost use Rattle.sve_effects.specs.PermuteRows as model;
+ghost use Rattle.sve_effects.specs.Effects as effects;
 ghost use Rattle.vec_model.specs.Lanes.{IsLaneSize};
 
 use crate::chunks::{Extracted, Inserted, Reversed, Transposed, Unzipped, Zipped};
@@ -18,13 +19,13 @@ use sve_insn::{CopyRegOp, InsertOp, InterleaveOp, UnpackOp, UnpackPOp};
 use vec_regs::VecRegs;
 
 pub(crate) fn dup_reg(core: &Core, vec: &mut VecRegs, size: U<2>, rn: Reg, zd: Reg)
-    ensures { vec.new ≡ (model.permuted (SveForm.DupReg size rn zd) core.now vec.old).vectors }
+    ensures { vec.new ≡ (effects.across (SveForm.DupReg size rn zd) core.now vec.old).vectors }
 {
     moves::filled(vec, lane_bits(size), core.x_sp(rn), zd);
 }
 
 pub(crate) fn insert(core: &Core, vec: &mut VecRegs, op: InsertOp, size: U<2>, src: Reg, zdn: Reg)
-    ensures { vec.new ≡ (model.permuted (SveForm.Insert op size src zdn) core.now vec.old).vectors }
+    ensures { vec.new ≡ (effects.across (SveForm.Insert op size src zdn) core.now vec.old).vectors }
 {
     let e = lane_bits(size);
     let scalar = insert_scalar(core, vec, op, e, src);
@@ -32,7 +33,7 @@ pub(crate) fn insert(core: &Core, vec: &mut VecRegs, op: InsertOp, size: U<2>, s
 }
 
 pub(crate) fn rev_z(core: &Core, vec: &mut VecRegs, size: U<2>, zn: Reg, zd: Reg)
-    ensures { vec.new ≡ (model.permuted (SveForm.RevZ size zn zd) core.now vec.old).vectors }
+    ensures { vec.new ≡ (effects.across (SveForm.RevZ size zn zd) core.now vec.old).vectors }
 {
     permuted(vec, lane_bits(size), zd, &Reversed { zn });
 }
@@ -40,7 +41,7 @@ pub(crate) fn rev_z(core: &Core, vec: &mut VecRegs, size: U<2>, zn: Reg, zd: Reg
 #[tactic(auto, unfolding(sve_insn::specs::Conditions::is_no_byte))]
 pub(crate) fn unpack(core: &Core, vec: &mut VecRegs, op: UnpackOp, size: U<2>, zn: Reg, zd: Reg)
     requires { is_no_byte size ≡ true }
-    ensures { vec.new ≡ (model.permuted (SveForm.Unpack op size zn zd) core.now vec.old).vectors }
+    ensures { vec.new ≡ (effects.across (SveForm.Unpack op size zn zd) core.now vec.old).vectors }
 {
     match size.get() {
         0 => {}
@@ -51,7 +52,7 @@ pub(crate) fn unpack(core: &Core, vec: &mut VecRegs, op: UnpackOp, size: U<2>, z
 }
 
 pub(crate) fn lookup(core: &Core, vec: &mut VecRegs, size: U<2>, zm: Reg, zn: Reg, zd: Reg)
-    ensures { vec.new ≡ (model.permuted (SveForm.Table size zm zn zd) core.now vec.old).vectors }
+    ensures { vec.new ≡ (effects.across (SveForm.Table size zm zn zd) core.now vec.old).vectors }
 {
     table(vec, lane_bits(size), zm, zn, zd);
 }
@@ -65,7 +66,7 @@ pub(crate) fn interleave(
     zn: Reg,
     zd: Reg,
 )
-    ensures { vec.new ≡ (model.permuted (SveForm.Interleave op size zm zn zd) core.now vec.old).vectors }
+    ensures { vec.new ≡ (effects.across (SveForm.Interleave op size zm zn zd) core.now vec.old).vectors }
 {
     let e = lane_bits(size);
     match op {
@@ -141,37 +142,37 @@ pub(crate) fn interleave_p(
     pn: Pred,
     pd: Pred,
 )
-    ensures { vec.new ≡ (model.permuted (SveForm.InterleaveP op size pm pn pd) core.now vec.old).vectors }
+    ensures { vec.new ≡ (effects.across (SveForm.InterleaveP op size pm pn pd) core.now vec.old).vectors }
 {
     predicates::interleaved(vec, op, lane_bits(size), pn, pm, pd);
 }
 
 pub(crate) fn unpack_p(core: &Core, vec: &mut VecRegs, op: UnpackPOp, pn: Pred, pd: Pred)
-    ensures { vec.new ≡ (model.permuted (SveForm.UnpackP op pn pd) core.now vec.old).vectors }
+    ensures { vec.new ≡ (effects.across (SveForm.UnpackP op pn pd) core.now vec.old).vectors }
 {
     predicates::unpacked(vec, op, pn, pd);
 }
 
 pub(crate) fn rev_p(core: &Core, vec: &mut VecRegs, size: U<2>, pn: Pred, pd: Pred)
-    ensures { vec.new ≡ (model.permuted (SveForm.RevP size pn pd) core.now vec.old).vectors }
+    ensures { vec.new ≡ (effects.across (SveForm.RevP size pn pd) core.now vec.old).vectors }
 {
     predicates::reversed(vec, lane_bits(size), pn, pd);
 }
 
 pub(crate) fn compact(core: &Core, vec: &mut VecRegs, size: U<2>, pg: PredLow, zn: Reg, zd: Reg)
-    ensures { vec.new ≡ (model.permuted (SveForm.Compact size pg zn zd) core.now vec.old).vectors }
+    ensures { vec.new ≡ (effects.across (SveForm.Compact size pg zn zd) core.now vec.old).vectors }
 {
     active::compacted(vec, lane_bits(size), pg.register(), zn, zd);
 }
 
 pub(crate) fn splice(core: &Core, vec: &mut VecRegs, size: U<2>, pg: PredLow, zm: Reg, zdn: Reg)
-    ensures { vec.new ≡ (model.permuted (SveForm.Splice size pg zm zdn) core.now vec.old).vectors }
+    ensures { vec.new ≡ (effects.across (SveForm.Splice size pg zm zdn) core.now vec.old).vectors }
 {
     active::spliced(vec, lane_bits(size), pg.register(), zm, zdn);
 }
 
 pub(crate) fn ext(core: &Core, vec: &mut VecRegs, imm8h: U<5>, imm8l: U<3>, zm: Reg, zdn: Reg)
-    ensures { vec.new ≡ (model.permuted (SveForm.Ext imm8h imm8l zm zdn) core.now vec.old).vectors }
+    ensures { vec.new ≡ (effects.across (SveForm.Ext imm8h imm8l zm zdn) core.now vec.old).vectors }
 {
     let from = imm8h.get() * 8 + imm8l.get();
     permuted(vec, 8, zdn, &Extracted { from, zn: zdn, zm });
@@ -186,7 +187,7 @@ pub(crate) fn copy_reg(
     rn: Reg,
     zd: Reg,
 )
-    ensures { vec.new ≡ (model.permuted (SveForm.CopyReg op size pg rn zd) core.now vec.old).vectors }
+    ensures { vec.new ≡ (effects.across (SveForm.CopyReg op size pg rn zd) core.now vec.old).vectors }
 {
     let e = lane_bits(size);
     let scalar = copy_scalar(core, vec, op, e, rn);

@@ -4,6 +4,7 @@ ghost use Rattle.sve_insn.specs.declared.form.SveForm.{SveForm};
 ghost use Rattle.sve_effects.specs.ElementLoop.{lane_of};
 ghost use Rattle.sve_effects.specs.Permute as model;
 ghost use Rattle.sve_effects.specs.PermuteRows as table;
+ghost use Rattle.sve_effects.specs.Effects as effects;
 ghost use Rattle.vec_model.specs.Lanes.{IsLaneSize, with_low};
 
 use crate::active::{lane_by_last, last_active};
@@ -24,8 +25,8 @@ pub(crate) fn last(
     zn: Reg,
     rd: Reg,
 )
-    ensures core { core.new ≡ (table.permuted (SveForm.Last op size pg zn rd) core.old vec.old).core }
-    ensures vectors { vec.new ≡ (table.permuted (SveForm.Last op size pg zn rd) core.old vec.old).vectors }
+    ensures core { core.new ≡ (effects.across (SveForm.Last op size pg zn rd) core.old vec.old).core }
+    ensures vectors { vec.new ≡ (effects.across (SveForm.Last op size pg zn rd) core.old vec.old).vectors }
 {
     let e = lane_bits(size);
     let x = last_value(vec, e, is_after(op), pg.register(), zn);
@@ -44,8 +45,8 @@ pub(crate) fn cond_last(
     zm: Reg,
     zdn: Reg,
 )
-    ensures core { core.new ≡ (table.permuted (SveForm.CondLast op size pg zm zdn) core.old vec.old).core }
-    ensures vectors { vec.new ≡ (table.permuted (SveForm.CondLast op size pg zm zdn) core.old vec.old).vectors }
+    ensures core { core.new ≡ (effects.across (SveForm.CondLast op size pg zm zdn) core.old vec.old).core }
+    ensures vectors { vec.new ≡ (effects.across (SveForm.CondLast op size pg zm zdn) core.old vec.old).vectors }
 {
     let e = lane_bits(size);
     let pg = pg.register();

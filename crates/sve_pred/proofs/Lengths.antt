@@ -27,6 +27,12 @@ lanes_fit H bits m h is = omega arith
 lanes_fit S bits m h is = omega arith
 lanes_fit D bits m h is = omega arith
 
+pub lanes_are : (e : Esize) (bits m : ℕ) → m ≡ bits / 8 → lanes_of (size_of e) m ≡ bits / size_of e
+lanes_are B bits m is = omega arith
+lanes_are H bits m is = omega arith
+lanes_are S bits m is = omega arith
+lanes_are D bits m is = omega arith
+
 -- eight bits are a lane of each size
 pub some_lane : (e : Esize) (m : ℕ) → 8 ≤ m → 0 < lanes_of (size_of e) m
 some_lane B m h = omega arith

@@ -22,12 +22,14 @@ told entry signed e v zn (Lane zm) k = entry e (lane_of e v zn k) (lane_of e v z
 told entry signed e v zn (Covering zm) k = entry 64 (extended_by signed 64 e (lane_of e v zn k)) (covering_lane e v zm k)
 told entry signed e v zn (Number n) k = entry e (lane_of e v zn k) (n % 2 ^ e)
 
--- words are those of a predicate that has the lanes of which a test tells
+-- words are those of a predicate that has the lanes of which an operation tells
+abbrev pub IsToldBy : (ℕ → ℕ → ℕ → Bool) → Bool → ℕ → Vectors → ℕ → Operand → List ℕ → Type 0
+IsToldBy entry signed e v zn operand words = (b : ℕ)
+    → bit_of words b ≡ (nat_lt b (v.bits / 8) && field_bit (e / 8) (told entry signed e v zn operand) b)
+
+-- or a test
 abbrev pub IsTold : ℕ → ElementTest → Vectors → ℕ → Operand → List ℕ → Type 0
-IsTold e test v zn operand words = (b : ℕ)
-    → bit_of words b
-    ≡ (nat_lt b (v.bits / 8)
-    && field_bit (e / 8) (told (element_test test) (not (is_unsigned test)) e v zn operand) b)
+IsTold e test = IsToldBy (element_test test) (not (is_unsigned test)) e
 
 -- a number has the bits of a lane
 abbrev pub IsOfLane : ℕ → Operand → Type 0

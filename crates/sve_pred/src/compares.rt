@@ -3,8 +3,9 @@ ghost use Rattle.std.specs.Prelude.{◌≡◌, ◌<◌, ◌^◌, true, length};
 ghost use Rattle.emu_bits.specs.Flags.{size_of};
 ghost use Rattle.emu_bits.specs.Numbers.{sign_extended};
 ghost use Rattle.sve_effects.specs.ElementLoop.{lane_bits};
+ghost use Rattle.sve_effects.specs.Effects.{predicate};
 ghost use Rattle.sve_effects.specs.PredicateRows as table;
-ghost use Rattle.sve_effects.specs.PredicateRows.{predicate, predicate_bits, put_compared};
+ghost use Rattle.sve_effects.specs.PredicateRows.{predicate_bits, put_compared};
 ghost use Rattle.sve_effects.specs.PredicateRows.{vector_test, wide_test, unsigned_test, signed_test};
 ghost use Rattle.sve_insn.specs.declared.form.SveForm.TheVariants as form;
 ghost use Rattle.sve_pred.specs.Compares as model;
@@ -15,6 +16,7 @@ ghost use Rattle.vec_model.specs.Lanes.{IsLaneSize};
 use crate::registers::{bits, esize, read, set_test_lanes, write};
 use core_regs::Core;
 use emu_bits::{Esize, Pred, PredLow, Reg, U, sign_extended};
+use lane_kernels::LaneWiseTest2;
 use lane_kernels::told::{Compared, ComparedNumber, ComparedWide, told};
 use pred_bits::{LogicOp, PredBits};
 use sve_effects::lane_bits;
@@ -95,6 +97,41 @@ enum Operand {
     Number(u64),
 }
 
+/// The words of a predicate that has the lanes of which a test of two registers' lanes tells.
+#[inline(always)]
+fn lanes_told<F: LaneWiseTest2 + Copy>(vec: &VecRegs, e: u32, op: F, zn: Reg, zm: Reg) -> [u64; 4]
+    requires { IsLaneSize e }
+    ensures { model.IsToldBy (F.entry op) true e vec.now zn (second.Lane zm) result }
+{
+    told(vec, e, &Compared { op, zn, zm })
+}
+
+/// The same of a test with 64-bit lanes, where lanes are extended by their sign or by zeros.
+#[inline(always)]
+fn covering_told<F: LaneWiseTest2 + Copy>(
+    vec: &VecRegs,
+    e: u32,
+    op: F,
+    zn: Reg,
+    zm: Reg,
+    signed: bool,
+) -> [u64; 4]
+    requires { IsLaneSize e }
+    ensures { model.IsToldBy (F.entry op) signed e vec.now zn (second.Covering zm) result }
+{
+    let wide = ComparedWide { op, zn, zm, signed };
+    told(vec, e, &wide)
+}
+
+/// The same of a test with a number.
+#[inline(always)]
+fn number_told<F: LaneWiseTest2 + Copy>(vec: &VecRegs, e: u32, op: F, zn: Reg, n: u64) -> [u64; 4]
+    requires { IsLaneSize e }
+    ensures { model.IsToldBy (F.entry op) true e vec.now zn (second.Number n) result }
+{
+    told(vec, e, &ComparedNumber { op, zn, n })
+}
+
 /// The words of a predicate that has the lanes of which a compare of two registers' lanes tells.
 #[inline(always)]
 fn vectors_told(vec: &VecRegs, op: CmpVecOp, e: u32, zn: Reg, zm: Reg) -> [u64; 4]
@@ -102,60 +139,12 @@ fn vectors_told(vec: &VecRegs, op: CmpVecOp, e: u32, zn: Reg, zm: Reg) -> [u64; 
     ensures { model.IsTold e (vector_test op) vec.now zn (second.Lane zm) result }
 {
     match op {
-        CmpVecOp::Cmphs => told(
-            vec,
-            e,
-            &Compared {
-                op: lane_tests::Hs,
-                zn,
-                zm,
-            },
-        ),
-        CmpVecOp::Cmphi => told(
-            vec,
-            e,
-            &Compared {
-                op: lane_tests::Hi,
-                zn,
-                zm,
-            },
-        ),
-        CmpVecOp::Cmpge => told(
-            vec,
-            e,
-            &Compared {
-                op: lane_tests::Ge,
-                zn,
-                zm,
-            },
-        ),
-        CmpVecOp::Cmpgt => told(
-            vec,
-            e,
-            &Compared {
-                op: lane_tests::Gt,
-                zn,
-                zm,
-            },
-        ),
-        CmpVecOp::Cmpeq => told(
-            vec,
-            e,
-            &Compared {
-                op: lane_tests::Eq,
-                zn,
-                zm,
-            },
-        ),
-        CmpVecOp::Cmpne => told(
-            vec,
-            e,
-            &Compared {
-                op: lane_tests::Ne,
-                zn,
-                zm,
-            },
-        ),
+        CmpVecOp::Cmphs => lanes_told(vec, e, lane_tests::Hs, zn, zm),
+        CmpVecOp::Cmphi => lanes_told(vec, e, lane_tests::Hi, zn, zm),
+        CmpVecOp::Cmpge => lanes_told(vec, e, lane_tests::Ge, zn, zm),
+        CmpVecOp::Cmpgt => lanes_told(vec, e, lane_tests::Gt, zn, zm),
+        CmpVecOp::Cmpeq => lanes_told(vec, e, lane_tests::Eq, zn, zm),
+        CmpVecOp::Cmpne => lanes_told(vec, e, lane_tests::Ne, zn, zm),
     }
 }
 
@@ -166,106 +155,16 @@ fn wide_told(vec: &VecRegs, op: CmpWideOp, e: u32, zn: Reg, zm: Reg) -> [u64; 4]
     ensures { model.IsTold e (wide_test op) vec.now zn (second.Covering zm) result }
 {
     match op {
-        CmpWideOp::Cmpeq => told(
-            vec,
-            e,
-            &ComparedWide {
-                op: lane_tests::Eq,
-                zn,
-                zm,
-                signed: true,
-            },
-        ),
-        CmpWideOp::Cmpne => told(
-            vec,
-            e,
-            &ComparedWide {
-                op: lane_tests::Ne,
-                zn,
-                zm,
-                signed: true,
-            },
-        ),
-        CmpWideOp::Cmpge => told(
-            vec,
-            e,
-            &ComparedWide {
-                op: lane_tests::Ge,
-                zn,
-                zm,
-                signed: true,
-            },
-        ),
-        CmpWideOp::Cmpgt => told(
-            vec,
-            e,
-            &ComparedWide {
-                op: lane_tests::Gt,
-                zn,
-                zm,
-                signed: true,
-            },
-        ),
-        CmpWideOp::Cmplt => told(
-            vec,
-            e,
-            &ComparedWide {
-                op: lane_tests::Lt,
-                zn,
-                zm,
-                signed: true,
-            },
-        ),
-        CmpWideOp::Cmple => told(
-            vec,
-            e,
-            &ComparedWide {
-                op: lane_tests::Le,
-                zn,
-                zm,
-                signed: true,
-            },
-        ),
-        CmpWideOp::Cmphs => told(
-            vec,
-            e,
-            &ComparedWide {
-                op: lane_tests::Hs,
-                zn,
-                zm,
-                signed: false,
-            },
-        ),
-        CmpWideOp::Cmphi => told(
-            vec,
-            e,
-            &ComparedWide {
-                op: lane_tests::Hi,
-                zn,
-                zm,
-                signed: false,
-            },
-        ),
-        CmpWideOp::Cmplo => told(
-            vec,
-            e,
-            &ComparedWide {
-                op: lane_tests::Lo,
-                zn,
-                zm,
-                signed: false,
-            },
-        ),
-        CmpWideOp::Cmpls => told(
-            vec,
-            e,
-            &ComparedWide {
-                op: lane_tests::Ls,
-                zn,
-                zm,
-                signed: false,
-            },
-        ),
+        CmpWideOp::Cmpeq => covering_told(vec, e, lane_tests::Eq, zn, zm, true),
+        CmpWideOp::Cmpne => covering_told(vec, e, lane_tests::Ne, zn, zm, true),
+        CmpWideOp::Cmpge => covering_told(vec, e, lane_tests::Ge, zn, zm, true),
+        CmpWideOp::Cmpgt => covering_told(vec, e, lane_tests::Gt, zn, zm, true),
+        CmpWideOp::Cmplt => covering_told(vec, e, lane_tests::Lt, zn, zm, true),
+        CmpWideOp::Cmple => covering_told(vec, e, lane_tests::Le, zn, zm, true),
+        CmpWideOp::Cmphs => covering_told(vec, e, lane_tests::Hs, zn, zm, false),
+        CmpWideOp::Cmphi => covering_told(vec, e, lane_tests::Hi, zn, zm, false),
+        CmpWideOp::Cmplo => covering_told(vec, e, lane_tests::Lo, zn, zm, false),
+        CmpWideOp::Cmpls => covering_told(vec, e, lane_tests::Ls, zn, zm, false),
     }
 }
 
@@ -276,42 +175,10 @@ fn unsigned_told(vec: &VecRegs, op: CmpUImmOp, e: u32, zn: Reg, n: u64) -> [u64;
     ensures { model.IsTold e (unsigned_test op) vec.now zn (second.Number n) result }
 {
     match op {
-        CmpUImmOp::Cmphs => told(
-            vec,
-            e,
-            &ComparedNumber {
-                op: lane_tests::Hs,
-                zn,
-                n,
-            },
-        ),
-        CmpUImmOp::Cmphi => told(
-            vec,
-            e,
-            &ComparedNumber {
-                op: lane_tests::Hi,
-                zn,
-                n,
-            },
-        ),
-        CmpUImmOp::Cmplo => told(
-            vec,
-            e,
-            &ComparedNumber {
-                op: lane_tests::Lo,
-                zn,
-                n,
-            },
-        ),
-        CmpUImmOp::Cmpls => told(
-            vec,
-            e,
-            &ComparedNumber {
-                op: lane_tests::Ls,
-                zn,
-                n,
-            },
-        ),
+        CmpUImmOp::Cmphs => number_told(vec, e, lane_tests::Hs, zn, n),
+        CmpUImmOp::Cmphi => number_told(vec, e, lane_tests::Hi, zn, n),
+        CmpUImmOp::Cmplo => number_told(vec, e, lane_tests::Lo, zn, n),
+        CmpUImmOp::Cmpls => number_told(vec, e, lane_tests::Ls, zn, n),
     }
 }
 
@@ -322,60 +189,12 @@ fn signed_told(vec: &VecRegs, op: CmpSImmOp, e: u32, zn: Reg, n: u64) -> [u64; 4
     ensures { model.IsTold e (signed_test op) vec.now zn (second.Number n) result }
 {
     match op {
-        CmpSImmOp::Cmpge => told(
-            vec,
-            e,
-            &ComparedNumber {
-                op: lane_tests::Ge,
-                zn,
-                n,
-            },
-        ),
-        CmpSImmOp::Cmpgt => told(
-            vec,
-            e,
-            &ComparedNumber {
-                op: lane_tests::Gt,
-                zn,
-                n,
-            },
-        ),
-        CmpSImmOp::Cmplt => told(
-            vec,
-            e,
-            &ComparedNumber {
-                op: lane_tests::Lt,
-                zn,
-                n,
-            },
-        ),
-        CmpSImmOp::Cmple => told(
-            vec,
-            e,
-            &ComparedNumber {
-                op: lane_tests::Le,
-                zn,
-                n,
-            },
-        ),
-        CmpSImmOp::Cmpeq => told(
-            vec,
-            e,
-            &ComparedNumber {
-                op: lane_tests::Eq,
-                zn,
-                n,
-            },
-        ),
-        CmpSImmOp::Cmpne => told(
-            vec,
-            e,
-            &ComparedNumber {
-                op: lane_tests::Ne,
-                zn,
-                n,
-            },
-        ),
+        CmpSImmOp::Cmpge => number_told(vec, e, lane_tests::Ge, zn, n),
+        CmpSImmOp::Cmpgt => number_told(vec, e, lane_tests::Gt, zn, n),
+        CmpSImmOp::Cmplt => number_told(vec, e, lane_tests::Lt, zn, n),
+        CmpSImmOp::Cmple => number_told(vec, e, lane_tests::Le, zn, n),
+        CmpSImmOp::Cmpeq => number_told(vec, e, lane_tests::Eq, zn, n),
+        CmpSImmOp::Cmpne => number_told(vec, e, lane_tests::Ne, zn, n),
     }
 }
 

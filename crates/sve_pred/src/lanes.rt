@@ -3,14 +3,15 @@ ghost use Rattle.std.specs.Prelude.{◌≡◌, ◌⊎◌, ◌≤◌, ◌/◌, tr
 ghost use Rattle.emu_bits.specs.Numbers.{width_of};
 ghost use Rattle.emu_model.specs.State.{read_x};
 ghost use Rattle.sve_effects.specs.Element.{element};
+ghost use Rattle.sve_effects.specs.Effects.{predicate};
 ghost use Rattle.sve_effects.specs.ElementLoop.{lane_bits, lane_of};
-ghost use Rattle.sve_effects.specs.PredicateRows.{predicate, predicate_bits, set_lanes_of, ptrue_flags, ones, while_of, while_result, counted_by, terminates, termination_flags};
+ghost use Rattle.sve_effects.specs.PredicateRows.{predicate_bits, set_lanes_of, ptrue_flags, ones, while_of, while_result, counted_by, terminates, termination_flags};
 ghost use Rattle.sve_effects.specs.Pattern.{pattern_count};
 ghost use Rattle.sve_effects.specs.Predicate.{only_next, lanes_below, pred_test};
 ghost use Rattle.sve_insn.specs.declared.form.SveForm.TheVariants as form;
 ghost use Rattle.sve_pred.specs.Groups.{is_by_lanes};
 ghost use Rattle.sve_pred.specs.Patterns as model;
-ghost use Rattle.vec_model.specs.Lanes.{IsLaneSize, read_p, with_lanes};
+ghost use Rattle.vec_model.specs.Lanes.{IsLaneSize, read_p, with_p, with_lanes};
 
 use crate::registers::{bits, esize, read, set_test_lanes, write};
 use core_regs::Core;
@@ -19,19 +20,27 @@ use lane_kernels::sources::Map1;
 use lane_kernels::words::plain;
 use lane_kernels::{LaneWise2, WithNumber};
 use lane_ops::{Add, Sub};
-use pred_bits::{PredBits, WhileTest, first_lanes, next, pattern_count, while_tested};
+use pred_bits::{
+    PredBits, WhileTest, all_lanes, first_lanes, next_tested, pattern_count, while_tested,
+};
 use sve_elements::{ElementOp, apply};
 use sve_insn::{CtermOp, IncPOp, PtrueOp, Sve, SveForm, WhileOp};
 use vec_regs::VecRegs;
 
-/// The result of `pnext`.
+/// The pattern of all lanes.
+const ALL_LANES: u32 = 31;
+
+/// The result of `pnext`, and its flags.
 #[inline(always)]
 #[tactic(auto, using(crate::proofs::Lengths::lengths))]
-fn next_bits(vec: &VecRegs, size: U<2>, pg: Pred, pdn: Pred) -> PredBits
-    ensures value { result ≡ only_next (lane_bits size) (predicate_bits vec.now) (read_p vec.now pg) (read_p vec.now pdn) }
-    ensures length { length result ≡ predicate_bits vec.now }
+fn next_bits(vec: &VecRegs, size: U<2>, pg: Pred, pdn: Pred) -> (PredBits, Flags)
+    ensures value { result.0 ≡ only_next (lane_bits size) (predicate_bits vec.now) (read_p vec.now pg) (read_p vec.now pdn) }
+    ensures length { length result.0 ≡ predicate_bits vec.now }
+    ensures flags { result.1 ≡ pred_test (lane_bits size) (predicate_bits vec.now) (read_p vec.now pg)
+        (only_next (lane_bits size) (predicate_bits vec.now) (read_p vec.now pg) (read_p vec.now pdn)) }
 {
-    next(&read(vec, pg), &read(vec, pdn), esize(size))
+    let _length = vec.length().bits();
+    next_tested(&read(vec, pg), &read(vec, pdn), esize(size))
 }
 
 /// `pnext`.
@@ -39,9 +48,9 @@ pub fn next_lane(core: &mut Core, vec: &mut VecRegs, size: U<2>, pg: Pred, pdn: 
     ensures registers { core.new ≡ (predicate (form.Next size pg pdn) core.old vec.old).core }
     ensures vectors { vec.new ≡ (predicate (form.Next size pg pdn) core.old vec.old).vectors }
 {
-    let bits = next_bits(vec, size, pg, pdn);
-    set_test_lanes(core, &read(vec, pg), &bits, size);
-    write(vec, pdn, &bits);
+    let (lane, flags) = next_bits(vec, size, pg, pdn);
+    core.set_flags(flags);
+    write(vec, pdn, &lane);
 }
 
 /// `cntp`.
@@ -85,6 +94,28 @@ fn put_pattern_tested(core: &mut Core, vec: &mut VecRegs, size: U<2>, pattern: U
     write(vec, pd, &bits);
 }
 
+/// Writes the lanes of a pattern. In code of its own, since few instructions name another pattern than that of all
+/// lanes.
+#[inline(never)]
+fn put_pattern_counted(vec: &mut VecRegs, size: U<2>, pattern: U<5>, pd: Pred)
+    ensures { vec.new ≡ with_p vec.old pd (lanes_below (lane_bits size) (predicate_bits vec.old) (pattern_count pattern (vec.old.bits / lane_bits size))) }
+{
+    let bits = ptrue_bits(vec, size, pattern);
+    write(vec, pd, &bits);
+}
+
+/// The result of `ptrue` by the pattern of all lanes.
+#[inline(always)]
+#[tactic(auto, using(crate::proofs::Lengths::lengths))]
+fn all_bits(vec: &VecRegs, size: U<2>, pattern: U<5>) -> PredBits
+    requires { pattern ≡ 31 }
+    ensures value { result ≡ lanes_below (lane_bits size) (predicate_bits vec.now) (pattern_count pattern (vec.now.bits / lane_bits size)) }
+    ensures length { length result ≡ predicate_bits vec.now }
+{
+    let _length = vec.length().bits();
+    all_lanes(esize(size), bits(vec))
+}
+
 /// Writes the lanes of a pattern, with the flags of their test, if they are set.
 #[inline(always)]
 fn put_pattern(core: &mut Core, vec: &mut VecRegs, sets: bool, size: U<2>, pattern: U<5>, pd: Pred)
@@ -93,9 +124,11 @@ fn put_pattern(core: &mut Core, vec: &mut VecRegs, sets: bool, size: U<2>, patte
 {
     if sets {
         put_pattern_tested(core, vec, size, pattern, pd);
-    } else {
-        let bits = ptrue_bits(vec, size, pattern);
+    } else if pattern.get() == ALL_LANES {
+        let bits = all_bits(vec, size, pattern);
         write(vec, pd, &bits);
+    } else {
+        put_pattern_counted(vec, size, pattern, pd);
     }
 }
 

@@ -9,7 +9,7 @@ mod single;
 
 ghost use Rattle.std.specs.Prelude.{◌≡◌, true};
 ghost use Rattle.emu_model.specs.declared.trap.Effect.{Effect};
-ghost use Rattle.sve_effects.specs.PredicateRows.{is_predicate, predicate};
+ghost use Rattle.sve_effects.specs.Effects.{is_predicate, predicate};
 
 use core_regs::{Core, Effect};
 use sve_insn::{Sve, SveForm};

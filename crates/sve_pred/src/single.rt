@@ -2,7 +2,8 @@
 ghost use Rattle.std.specs.Prelude.{◌≡◌, replicate, true, false, length};
 ghost use Rattle.sve_effects.specs.declared.predicates.LogicOp.{LogicOp};
 ghost use Rattle.sve_effects.specs.Predicate as model;
-ghost use Rattle.sve_effects.specs.PredicateRows.{predicate, predicate_bits, after_test, read_ffr_flags, written_ffr};
+ghost use Rattle.sve_effects.specs.PredicateRows.{predicate_bits, after_test, read_ffr_flags, written_ffr};
+ghost use Rattle.sve_effects.specs.Effects.{predicate};
 ghost use Rattle.sve_insn.specs.declared.form.SveForm.TheVariants as form;
 ghost use Rattle.sve_pred.specs.Groups.{is_single};
 ghost use Rattle.vec_model.specs.Lanes.{read_p, with_p, with_ffr};

@@ -1,16 +1,11 @@
-use Rattle.std.proofs.Common.{◌∙◌, arith}
-use Rattle.field_words.specs.Places.{every_second, bit_of}
-use Rattle.field_words.proofs.FourWords.{halves_end, uzp_bit, uzp_above, none_past}
+use Rattle.std.proofs.Common.{◌≡◌, ◌≤◌, ◌/◌, ◌∙◌, ℕ, false, [], ◌∷◌, arith}
+use Rattle.field_words.specs.Places.{every_second, joined, bit_of}
+use Rattle.field_words.proofs.FourWords.{one_word, uzp_end}
 use Rattle.field_words.proofs.words.uzp.Goals as goal
 
-pub join-requires-clause-above : goal.join-requires-clause-above
-join-requires-clause-above c j h = halves_end c.args.w c.args.skip c.args.bits j (bit_of c.every_second_field-low.result) (bit_of c.args.a.now) c.requires.field c.requires.whole c.requires.first c.every_second_field-low.ensures h
-
-pub join-requires-clause-few : goal.join-requires-clause-few
-join-requires-clause-few c j h = c.every_second_field-high.ensures j ∙ none_past 128 128 j (every_second c.args.w c.args.skip (bit_of c.args.b.now) j) (omega arith) h
-
-pub returns-clause-fields : goal.returns-clause-fields
-returns-clause-fields c j h = uzp_bit c.args.w c.args.skip c.args.bits j (bit_of c.join.result) (bit_of c.every_second_field-low.result) (bit_of c.every_second_field-high.result) (bit_of c.args.a.now) (bit_of c.args.b.now) c.requires.few h c.requires.whole c.every_second_field-low.ensures c.every_second_field-high.ensures (c.join.ensures j)
-
-pub returns-clause-above : goal.returns-clause-above
-returns-clause-above c j h = uzp_above c.args.w c.args.skip c.args.bits j (bit_of c.join.result) (bit_of c.every_second_field-low.result) (bit_of c.every_second_field-high.result) (bit_of c.args.b.now) c.requires.field c.requires.whole h c.requires.second c.every_second_field-high.ensures (c.join.ensures j)
+pub returns-then-bits-le64 : goal.returns-then-bits-le64
+returns-then-bits-le64 c =
+    let f = joined (c.args.bits / 2) (every_second c.args.w c.args.skip (bit_of c.args.a.now)) (every_second c.args.w c.args.skip (bit_of c.args.b.now)) in
+    let above : (j : ℕ) → c.args.bits ≤ j → f j ≡ false = λ j h. uzp_end c.args.w c.args.skip c.args.bits j (bit_of c.args.a.now) (bit_of c.args.b.now) c.requires.field c.requires.whole c.requires.second h in
+    let is : (j : ℕ) → bit_of (c.uzp_word-word.result ∷ 0 ∷ 0 ∷ 0 ∷ []) j ≡ f j = one_word c.uzp_word-word.result f c.uzp_word-word.ensures (λ j h. above j (omega arith)) in
+    record { fields = λ j h. is j; above = λ j h. is j ∙ above j h }

@@ -1,4 +1,4 @@
-use Rattle.std.proofs.Common.{◌≡◌, ◌≤◌, ◌/◌, min, nat_lt, sym, ap, subst, ◌∙◌, arith}
+use Rattle.std.proofs.Common.{◌≡◌, ◌≤◌, ◌/◌, min, nat_lt, ap, subst, ◌∙◌, arith}
 use Rattle.emu_bits.specs.Flags.{size_of}
 use Rattle.sve_effects.specs.Predicate.{lanes_of}
 use Rattle.sve_effects.specs.Predicate as model

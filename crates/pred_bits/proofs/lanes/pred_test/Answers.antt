@@ -1,11 +1,10 @@
-use Rattle.std.proofs.Common.{◌≡◌, ◌<◌, ◌≤◌, ◌*◌, ◌/◌, ◌%◌, ◌&&◌, ℕ, Bool, nat_eq, Option, is_none, length, sym, ap, ◌∙◌, arith}
+use Rattle.std.proofs.Common.{◌≡◌, ◌<◌, ◌≤◌, ◌*◌, ◌/◌, ◌%◌, ◌&&◌, ℕ, Bool, nat_eq, length, sym, ap, ◌∙◌, arith}
 use Rattle.emu_bits.specs.Flags.{size_of}
 use Rattle.vec_model.specs.Active.{active}
 use Rattle.vec_model.specs.Lanes.{field_bit}
 use Rattle.vec_regs.specs.Words.{bit_of}
 use Rattle.sve_effects.specs.Predicate.{lanes_of}
 use Rattle.pred_bits.specs.LaneBits.{among}
-use Rattle.pred_bits.proofs.AllActive.{none_is}
 use Rattle.pred_bits.proofs.Fields.{some_bits, lanes_room, lane_within}
 use Rattle.pred_bits.proofs.LaneWords.{set_among, tested}
 use Rattle.pred_bits.proofs.Views.{get_shown}
@@ -25,7 +24,4 @@ returns c =
     c.starts_in_both-set.ensures b ∙ ap (λ r. nat_eq r 0 && (bit_of c.lane_words-on.result b && bit_of c.a.inside.words b)) each in
     let shows : (b : ℕ) → bit_of c.starts_in_both-set.result b ≡ field_bit (size_of c.args.e / 8) (among n (λ k. g k && a k)) b
     = set_among (size_of c.args.e / 8) n g a (bit_of c.lane_words-on.result) (bit_of c.a.inside.words) (bit_of c.starts_in_both-set.result) (some_bits c.args.e) c.lane_words-on.ensures reads made in
-    tested (size_of c.args.e / 8) n g a
-    (bit_of c.lane_words-on.result) (bit_of c.starts_in_both-set.result) (some_bits c.args.e) room c.lane_words-on.ensures shows
-    c.first_is_in.result c.is_none.result c.last_is_in.result c.first_is_in.ensures
-    (none_is c.first_bit.result c.is_none.result c.is_none.ensures ∙ ap (λ (o : Option ℕ). is_none o) c.first_bit.ensures.value) c.last_is_in.ensures
+    c.test_words.ensures ∙ tested (size_of c.args.e / 8) n g a (bit_of c.lane_words-on.result) (bit_of c.starts_in_both-set.result) (some_bits c.args.e) room c.lane_words-on.ensures shows

@@ -1,4 +1,4 @@
-use Rattle.std.proofs.Common.{◌+◌, ◌*◌, ℕ, Option, Some, None, w64, get_or, refl, sym, ap, inl, inr, ◌∙◌, arith}
+use Rattle.std.proofs.Common.{◌+◌, ◌*◌, ℕ, List, Option, Some, None, w64, get_or, refl, sym, ap, inl, inr, ◌∙◌, arith}
 use Rattle.std.specs.Int.{trailing_zeros}
 use Rattle.std.proofs.lemmas.Bool.{cases_lt}
 use Rattle.std.proofs.lemmas.Nat.Bits.{bit_at-trailing_zeros}
@@ -14,7 +14,8 @@ pub returns-then-word-ne0 : goal.returns-then-word-ne0
 returns-then-word-ne0 c b =
     let x : ℕ = get_or c.args.words.now c.loop-i.i 0 in
     let it = bit_at-trailing_zeros w64 (get_or c.args.words.now c.loop-i.i 0) (omega arith) (omega arith) in
-    one_bit c.loop-i.i (trailing_zeros w64 x) c.with_bit.result b (omega arith) it.0 c.with_bit.ensures.written c.with_bit.ensures.others
+    ap (λ (ws : List ℕ). bit_of ws b) c.word_alone.ensures
+    ∙ one_bit c.loop-i.i (trailing_zeros w64 x) c.with_bit-alone.result b (omega arith) it.0 c.with_bit-alone.ensures.written c.with_bit-alone.ensures.others
     ∙ ap (λ (o : Option ℕ). is_at o b)
     (sym (first_is 256 (bit_of c.args.words.now) (Some (64 * c.loop-i.i + trailing_zeros w64 x)) (first_found c.args.words.now c.loop-i.i x refl (omega arith) (omega arith) (omega arith) c.loop-i.invariant)))
 

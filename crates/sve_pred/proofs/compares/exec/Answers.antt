@@ -1,5 +1,5 @@
 use Rattle.std.proofs.Common.{ap, sym, ◌∙◌}
-use Rattle.sve_effects.specs.PredicateRows.{predicate}
+use Rattle.sve_effects.specs.Effects.{predicate}
 use Rattle.sve_insn.specs.declared.form.SveForm.{SveForm}
 use Rattle.sve_pred.proofs.compares.exec.Goals as goal
 

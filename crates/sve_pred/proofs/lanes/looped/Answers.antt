@@ -1,4 +1,4 @@
-use Rattle.std.proofs.Common.{◌≤◌, ◌/◌, ℕ, ap, ◌∙◌, arith}
+use Rattle.std.proofs.Common.{ℕ, ap, ◌∙◌, arith}
 use Rattle.emu_bits.specs.Flags.{size_of}
 use Rattle.emu_bits.specs.Numbers.{width_of}
 use Rattle.emu_model.specs.State.{read_x}
