@@ -1,4 +1,4 @@
--- A register that is written 128 bits after 128 bits.
+-- Laws of a register that is written 128 bits after 128 bits.
 use Rattle.std.proofs.Common.{◌≡◌, ◌<◌, ◌≤◌, ◌+◌, ◌*◌, ◌/◌, ◌%◌, ◌^◌, ℕ, zero, suc, Bool, true, false, cond, nat_eq, nat_lt, if◌then◌else◌, List, [], ◌∷◌, length, get_or, set, take, drop, inl, inr, refl, sym, ap, subst, ◌∙◌, arith}
 use Rattle.std.proofs.lemmas.Bool.{cases_lt, cases_eq}
 use Rattle.std.proofs.lemmas.Bool.Decides.{nat_tests}
@@ -8,18 +8,12 @@ use Rattle.emu_model.specs.Lengths.{IsVectorLength}
 use Rattle.emu_model.specs.Lists.{each, length-each, get_or-each, each_same}
 use Rattle.emu_model.specs.State.{Vectors}
 use Rattle.lane_kernels.specs.Parts.{SamePart}
+use Rattle.lane_kernels.specs.Written.{written_byte, written}
 use Rattle.vec_model.specs.Lanes.{IsLaneSize, byte_in, read_z, with_z, with_lanes}
 use Rattle.vec_regs.specs.Packed.{packed}
 use Rattle.vec_regs.specs.Words.{byte_of, bytes_of, byte_with_pair}
 use Rattle.vec_regs.proofs.PackedLanes.{byte_of_words, below_quotient}
 use Rattle.lane_kernels.proofs.RegisterWords.{part, within}
-
--- byte j of a register of which the first i parts have the lanes that f gives
-abbrev pub written_byte : ℕ → (ℕ → ℕ) → ℕ → List ℕ → ℕ → ℕ
-written_byte e f i bytes j = if nat_lt (j / 16) i then byte_in (e / 8) f j else get_or bytes j 0
-
-abbrev pub written : ℕ → (ℕ → ℕ) → ℕ → ℕ → Vectors → Vectors
-written e f i zd v = with_z v zd (each (v.bits / 8) (written_byte e f i (read_z v zd)))
 
 -- ---- a register that has words
 

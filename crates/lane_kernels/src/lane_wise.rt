@@ -57,6 +57,21 @@ pub trait LaneWise3 {
         ensures { T.number result ≡ entry self.now T.BITS (T.number a) (T.number b) (T.number c) % 2 ^ T.BITS };
 }
 
+/// An operation on three lanes of which the last is its first.
+#[derive(Clone, Copy)]
+pub struct LastFirst<F> {
+    pub op: F,
+}
+
+impl<F: LaneWise3> LaneWise3 for LastFirst<F> {
+    ghost entry = { λ s e a b c. F.entry s.op e c a b };
+
+    #[inline(always)]
+    fn one<T: Lane>(&self, a: T, b: T, c: T) -> T {
+        self.op.one(c, a, b)
+    }
+}
+
 /// A step of a fold over lanes of any width.
 pub trait LaneWiseFold {
     /// The next value, of the bits of a lane, the value so far and the lane's number.

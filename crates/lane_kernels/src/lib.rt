@@ -4,8 +4,6 @@
 //! a kernel takes whole chunks of W lanes, and the rest one by one; over registers it takes 128 bits at a time, and no rest is left.
 #![tactic(auto)]
 
-#[cfg(test)]
-mod counted;
 pub mod folds;
 pub mod kernels;
 mod lane_wise;
@@ -13,4 +11,6 @@ pub mod sources;
 pub mod told;
 pub mod words;
 
-pub use lane_wise::{LaneWise1, LaneWise2, LaneWise3, LaneWiseFold, LaneWiseTest2, WithNumber};
+pub use lane_wise::{
+    LaneWise1, LaneWise2, LaneWise3, LaneWiseFold, LaneWiseTest2, LastFirst, WithNumber,
+};

@@ -224,6 +224,45 @@ impl<T: Quad<W>, L: Chunks<T, W>, const W: usize> Chunks<T, W> for Merged<L> {
     }
 }
 
+/// An operation of the lanes of three registers, the first the destination, in its active lanes; the others are kept.
+#[derive(Clone, Copy)]
+pub struct Updated<F> {
+    pub op: F,
+    pub pg: Pred,
+    pub zd: Reg,
+    pub zn: Reg,
+    pub zm: Reg,
+}
+
+impl<F: LaneWise3> Gives for Updated<F> {
+    ghost value = { λ s e v k. if is_active e v s.pg k then F.entry s.op e (lane_of e v s.zd k) (lane_of e v s.zn k) (lane_of e v s.zm k) else lane_of e v s.zd k };
+}
+
+impl<F: LaneWise3> Local for Updated<F> {
+    ghost local = { λ s e i k v w size at same. same_choice (is_active e v s.pg k) (is_active e w s.pg k) (F.entry s.op e (lane_of e v s.zd k) (lane_of e v s.zn k) (lane_of e v s.zm k)) (lane_of e v s.zd k) (F.entry s.op e (lane_of e w s.zd k) (lane_of e w s.zn k) (lane_of e w s.zm k)) (lane_of e w s.zd k) (same_active e i k s.pg v w same) (ap₂ (λ (f : ℕ → ℕ) (z : ℕ). f z) (ap₂ (F.entry s.op e) (same_lane e i k s.zd v w size at same) (same_lane e i k s.zn v w size at same)) (same_lane e i k s.zm v w size at same)) (same_lane e i k s.zd v w size at same) };
+}
+
+impl<T: Quad<W>, F: LaneWise3, const W: usize> Chunks<T, W> for Updated<F> {
+    /// The destination is read once, as an operand and for the lanes that are kept.
+    #[inline(always)]
+    fn chunk(&self, vec: &VecRegs, i: u32) -> [T; W] {
+        let _length = vec.length();
+        let _first = vec.z_words(self.zd);
+        let _second = vec.z_words(self.zn);
+        let _third = vec.z_words(self.zm);
+        let a: [T; W] = LaneOf { r: self.zd }.chunk(vec, i);
+        let b: [T; W] = LaneOf { r: self.zn }.chunk(vec, i);
+        let c: [T; W] = LaneOf { r: self.zm }.chunk(vec, i);
+        let made = Op3::<T, W>::chunk(
+            &self.op,
+            Simd::from_array(a),
+            Simd::from_array(b),
+            Simd::from_array(c),
+        );
+        T::merged(part_of(vec, self.pg, i), made.to_array(), a)
+    }
+}
+
 /// The active lanes of others; an inactive lane is 0.
 #[derive(Clone, Copy)]
 pub struct Zeroed<L> {

@@ -2,14 +2,15 @@
 //!
 //! Where each lane stands on its own 128 bits of the registers alone, the destination is written in place, though it
 //! may be a source; else its words are made first and then written.
-ghost use Rattle.std.specs.Prelude.{◌≡◌, ◌<◌, ◌≤◌, ◌+◌, ◌*◌, ◌/◌, ◌%◌, ◌^◌, ℕ, map, get_or};
+ghost use Rattle.std.specs.Prelude.{◌≡◌, ◌<◌, ◌≤◌, ◌+◌, ◌*◌, ◌/◌, ◌%◌, ◌^◌, ℕ, List, map, get_or};
 ghost use Rattle.emu_model.specs.Lists.{each};
 ghost use Rattle.emu_model.specs.State.{Vectors};
 ghost use Rattle.lane_kernels.specs.Parts.{SamePart};
+ghost use Rattle.lane_kernels.specs.Written.{written};
 ghost use Rattle.sve_effects.specs.ElementLoop as model;
-ghost use Rattle.vec_model.specs.Lanes.{IsLaneSize};
+ghost use Rattle.vec_model.specs.Lanes.{IsLaneSize, read_z};
 ghost use Rattle.vec_regs.specs.Packed.{packed};
-ghost use Rattle.vec_regs.specs.Words.{AreZeroFrom};
+ghost use Rattle.vec_regs.specs.Words.{AreZeroFrom, bytes_of};
 
 use crate::sources::{Merged, Zeroed};
 use emu_bits::{Pred, Reg};
@@ -36,7 +37,8 @@ pub trait Local: Gives {
     ghost local: { (s : Self) (e i k : ℕ) (v w : Vectors) → IsLaneSize e → k * e / 128 ≡ i → SamePart i v w → Self.value s e v k ≡ Self.value s e w k };
 }
 
-/// Writes each lane of a register, 128 bits after 128 bits.
+/// Writes each lane of a register. Where 128 bits have few lanes, and there are four times 128 bits or a multiple, four
+/// parts are written in a row: the bits of a predicate for them are one word, and what each part takes of it is known.
 #[inline(always)]
 fn fill_in_place<T: Quad<W>, L: Local + Chunks<T, W>, const W: usize>(
     vec: &mut VecRegs,
@@ -45,12 +47,65 @@ fn fill_in_place<T: Quad<W>, L: Local + Chunks<T, W>, const W: usize>(
 )
     ensures { vec.new ≡ model.plain T.BITS (L.Gives.value lanes.now T.BITS vec.old) zd vec.old }
 {
-    let _length = vec.length();
-    let _words = vec.z_words(zd);
-    for i in 0..vec.length().bits() / 128 {
-        let pair = T::packed(lanes.chunk(vec, i));
-        vec.set_z_pair(zd, i, pair);
+    let count = vec.length().bits() / 128;
+    if count % 4 == 0 && W <= 4 {
+        fill_by_fours(vec, zd, lanes);
+    } else {
+        fill_one_by_one(vec, zd, lanes);
     }
+}
+
+/// Writes each lane of a register, 128 bits after 128 bits.
+#[inline(always)]
+fn fill_one_by_one<T: Quad<W>, L: Local + Chunks<T, W>, const W: usize>(
+    vec: &mut VecRegs,
+    zd: Reg,
+    lanes: &L,
+)
+    ensures { vec.new ≡ model.plain T.BITS (L.Gives.value lanes.now T.BITS vec.old) zd vec.old }
+{
+    let count = vec.length().bits() / 128;
+    let _words = vec.z_words(zd);
+    for i in 0..count {
+        put_part(vec, zd, lanes, i);
+    }
+}
+
+/// Writes each lane of a register, 512 bits after 512 bits.
+#[inline(always)]
+fn fill_by_fours<T: Quad<W>, L: Local + Chunks<T, W>, const W: usize>(
+    vec: &mut VecRegs,
+    zd: Reg,
+    lanes: &L,
+)
+    requires { vec.old.bits / 128 % 4 ≡ 0 }
+    ensures { vec.new ≡ model.plain T.BITS (L.Gives.value lanes.now T.BITS vec.old) zd vec.old }
+{
+    let count = vec.length().bits() / 128;
+    let _words = vec.z_words(zd);
+    for n in 0..count / 4 {
+        put_part(vec, zd, lanes, 4 * n);
+        put_part(vec, zd, lanes, 4 * n + 1);
+        put_part(vec, zd, lanes, 4 * n + 2);
+        put_part(vec, zd, lanes, 4 * n + 3);
+    }
+}
+
+/// Writes part i of a register of which those below are written: W lanes, of its 128 bits from 128 * i on.
+#[inline(always)]
+fn put_part<T: Quad<W>, L: Local + Chunks<T, W>, const W: usize>(
+    vec: &mut VecRegs,
+    zd: Reg,
+    lanes: &L,
+    i: u32,
+)
+    requires { i < vec.old.bits / 128 }
+    // whatever the registers were before the first part
+    ensures { (v : Vectors) (words : List ℕ) → read_z v zd ≡ bytes_of (v.bits / 8) words → vec.old ≡ written T.BITS (L.Gives.value lanes.now T.BITS v) i zd v → vec.new ≡ written T.BITS (L.Gives.value lanes.now T.BITS v) (i + 1) zd v }
+{
+    let _length = vec.length();
+    let pair = T::packed(lanes.chunk(vec, i));
+    vec.set_z_pair(zd, i, pair);
 }
 
 /// The words of a register whose lanes are given, over zeros.

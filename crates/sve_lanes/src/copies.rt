@@ -2,6 +2,7 @@
 ghost use Rattle.std.specs.Prelude.{◌≡◌, true};
 ghost use Rattle.sve_insn.specs.declared.form.SveForm.{SveForm};
 ghost use Rattle.sve_effects.specs.VectorData as table;
+ghost use Rattle.sve_effects.specs.Effects as effects;
 ghost use Rattle.sve_lanes.specs.Groups.{is_copy};
 ghost use Rattle.vec_model.specs.Lanes.{IsLaneSize};
 
@@ -18,7 +19,7 @@ use vec_regs::VecRegs;
 #[inline(always)]
 pub(crate) fn exec(core: &Core, vec: &mut VecRegs, i: &Sve)
     requires { is_copy i.now ≡ true }
-    ensures { vec.new ≡ table.vector_data i.now core.now vec.old }
+    ensures { vec.new ≡ effects.vector_data i.now core.now vec.old }
 {
     match *i.form() {
         SveForm::DupImm { size, sh, imm8, zd } => dup_imm(core, vec, size, sh, imm8, zd),
@@ -69,7 +70,7 @@ fn copied<L: Local + Chunks<u8, 16> + Chunks<u16, 8> + Chunks<u32, 4> + Chunks<u
 }
 
 fn dup_imm(core: &Core, vec: &mut VecRegs, size: U<2>, sh: bool, imm8: U<8>, zd: Reg)
-    ensures { vec.new ≡ table.vector_data (SveForm.DupImm size sh imm8 zd) core.now vec.old }
+    ensures { vec.new ≡ effects.vector_data (SveForm.DupImm size sh imm8 zd) core.now vec.old }
 {
     let e = lane_bits(size);
     let n = wide_signed(e, sh, imm8);
@@ -86,7 +87,7 @@ fn copy_imm(
     imm8: U<8>,
     zd: Reg,
 )
-    ensures { vec.new ≡ table.vector_data (SveForm.CopyImm size pg m sh imm8 zd) core.now vec.old }
+    ensures { vec.new ≡ effects.vector_data (SveForm.CopyImm size pg m sh imm8 zd) core.now vec.old }
 {
     let e = lane_bits(size);
     let n = wide_signed(e, sh, imm8);
@@ -94,20 +95,20 @@ fn copy_imm(
 }
 
 fn prefix_p(core: &Core, vec: &mut VecRegs, size: U<2>, m: bool, pg: PredLow, zn: Reg, zd: Reg)
-    ensures { vec.new ≡ table.vector_data (SveForm.PrefixP size m pg zn zd) core.now vec.old }
+    ensures { vec.new ≡ effects.vector_data (SveForm.PrefixP size m pg zn zd) core.now vec.old }
 {
     let lanes = LaneOf { r: zn };
     copied(vec, m, lane_bits(size), pg.register(), zd, lanes);
 }
 
 fn prefix(core: &Core, vec: &mut VecRegs, zn: Reg, zd: Reg)
-    ensures { vec.new ≡ table.vector_data (SveForm.Prefix zn zd) core.now vec.old }
+    ensures { vec.new ≡ effects.vector_data (SveForm.Prefix zn zd) core.now vec.old }
 {
     plain(vec, 64, zd, &LaneOf { r: zn });
 }
 
 fn select(core: &Core, vec: &mut VecRegs, size: U<2>, zm: Reg, pg: Pred, zn: Reg, zd: Reg)
-    ensures { vec.new ≡ table.vector_data (SveForm.SelectZ size zm pg zn zd) core.now vec.old }
+    ensures { vec.new ≡ effects.vector_data (SveForm.SelectZ size zm pg zn zd) core.now vec.old }
 {
     let lanes = Select { pg, zn, zm };
     plain(vec, lane_bits(size), zd, &lanes);

@@ -16,7 +16,7 @@ mod products;
 mod unpredicated;
 
 ghost use Rattle.std.specs.Prelude.{◌≡◌, true};
-ghost use Rattle.sve_effects.specs.VectorData.{is_vector_data, vector_data};
+ghost use Rattle.sve_effects.specs.Effects.{is_vector_data, vector_data};
 
 use core_regs::Core;
 use sve_insn::{Sve, SveForm};

@@ -1,12 +1,14 @@
 //! Operations whose inactive lanes keep the destination's value.
 ghost use Rattle.std.specs.Prelude.{◌≡◌, true};
 ghost use Rattle.sve_insn.specs.declared.form.SveForm.{SveForm};
-ghost use Rattle.sve_effects.specs.VectorData as table;
+ghost use Rattle.sve_effects.specs.Effects as effects;
 ghost use Rattle.sve_lanes.specs.Groups.{is_merging};
 
 use crate::fields::{shift_amount, shift_bits, tsz_of};
 use crate::names::shift_imm_element;
-use crate::operations::{merging_covered, merging_number, merging_one, merging_two};
+use crate::operations::{
+    merging_covered, merging_exchanged, merging_number, merging_one, merging_two,
+};
 use core_regs::Core;
 use emu_bits::{PredLow, Reg, U};
 use lane_ops::{
@@ -22,7 +24,7 @@ use vec_regs::VecRegs;
 #[inline(always)]
 pub(crate) fn exec(core: &Core, vec: &mut VecRegs, i: &Sve)
     requires { is_merging i.now ≡ true }
-    ensures { vec.new ≡ table.vector_data i.now core.now vec.old }
+    ensures { vec.new ≡ effects.vector_data i.now core.now vec.old }
 {
     match *i.form() {
         SveForm::Binary {
@@ -59,37 +61,37 @@ pub(crate) fn exec(core: &Core, vec: &mut VecRegs, i: &Sve)
 }
 
 fn binary(core: &Core, vec: &mut VecRegs, op: BinaryOp, size: U<2>, pg: PredLow, zm: Reg, zdn: Reg)
-    ensures { vec.new ≡ table.vector_data (SveForm.Binary op size pg zm zdn) core.now vec.old }
+    ensures { vec.new ≡ effects.vector_data (SveForm.Binary op size pg zm zdn) core.now vec.old }
 {
     let e = lane_bits(size);
     let pg = pg.register();
     match op {
-        BinaryOp::Add => merging_two(vec, e, pg, zdn, zdn, zm, Add),
-        BinaryOp::Sub => merging_two(vec, e, pg, zdn, zdn, zm, Sub),
-        BinaryOp::Smax => merging_two(vec, e, pg, zdn, zdn, zm, Smax),
-        BinaryOp::Umax => merging_two(vec, e, pg, zdn, zdn, zm, Umax),
-        BinaryOp::Smin => merging_two(vec, e, pg, zdn, zdn, zm, Smin),
-        BinaryOp::Umin => merging_two(vec, e, pg, zdn, zdn, zm, Umin),
-        BinaryOp::Sabd => merging_two(vec, e, pg, zdn, zdn, zm, Sabd),
-        BinaryOp::Uabd => merging_two(vec, e, pg, zdn, zdn, zm, Uabd),
-        BinaryOp::Mul => merging_two(vec, e, pg, zdn, zdn, zm, Mul),
-        BinaryOp::Smulh => merging_two(vec, e, pg, zdn, zdn, zm, Smulh),
-        BinaryOp::Umulh => merging_two(vec, e, pg, zdn, zdn, zm, Umulh),
-        BinaryOp::Sdiv => merging_two(vec, e, pg, zdn, zdn, zm, Sdiv),
-        BinaryOp::Udiv => merging_two(vec, e, pg, zdn, zdn, zm, Udiv),
-        BinaryOp::Orr => merging_two(vec, e, pg, zdn, zdn, zm, Orr),
-        BinaryOp::Eor => merging_two(vec, e, pg, zdn, zdn, zm, Eor),
-        BinaryOp::And => merging_two(vec, e, pg, zdn, zdn, zm, And),
-        BinaryOp::Bic => merging_two(vec, e, pg, zdn, zdn, zm, Bic),
-        BinaryOp::Asr => merging_two(vec, e, pg, zdn, zdn, zm, Asr),
-        BinaryOp::Lsr => merging_two(vec, e, pg, zdn, zdn, zm, Lsr),
-        BinaryOp::Lsl => merging_two(vec, e, pg, zdn, zdn, zm, Lsl),
-        BinaryOp::Subr => merging_two(vec, e, pg, zdn, zm, zdn, Sub),
-        BinaryOp::Sdivr => merging_two(vec, e, pg, zdn, zm, zdn, Sdiv),
-        BinaryOp::Udivr => merging_two(vec, e, pg, zdn, zm, zdn, Udiv),
-        BinaryOp::Asrr => merging_two(vec, e, pg, zdn, zm, zdn, Asr),
-        BinaryOp::Lsrr => merging_two(vec, e, pg, zdn, zm, zdn, Lsr),
-        BinaryOp::Lslr => merging_two(vec, e, pg, zdn, zm, zdn, Lsl),
+        BinaryOp::Add => merging_two(vec, e, pg, zdn, zm, Add),
+        BinaryOp::Sub => merging_two(vec, e, pg, zdn, zm, Sub),
+        BinaryOp::Smax => merging_two(vec, e, pg, zdn, zm, Smax),
+        BinaryOp::Umax => merging_two(vec, e, pg, zdn, zm, Umax),
+        BinaryOp::Smin => merging_two(vec, e, pg, zdn, zm, Smin),
+        BinaryOp::Umin => merging_two(vec, e, pg, zdn, zm, Umin),
+        BinaryOp::Sabd => merging_two(vec, e, pg, zdn, zm, Sabd),
+        BinaryOp::Uabd => merging_two(vec, e, pg, zdn, zm, Uabd),
+        BinaryOp::Mul => merging_two(vec, e, pg, zdn, zm, Mul),
+        BinaryOp::Smulh => merging_two(vec, e, pg, zdn, zm, Smulh),
+        BinaryOp::Umulh => merging_two(vec, e, pg, zdn, zm, Umulh),
+        BinaryOp::Sdiv => merging_two(vec, e, pg, zdn, zm, Sdiv),
+        BinaryOp::Udiv => merging_two(vec, e, pg, zdn, zm, Udiv),
+        BinaryOp::Orr => merging_two(vec, e, pg, zdn, zm, Orr),
+        BinaryOp::Eor => merging_two(vec, e, pg, zdn, zm, Eor),
+        BinaryOp::And => merging_two(vec, e, pg, zdn, zm, And),
+        BinaryOp::Bic => merging_two(vec, e, pg, zdn, zm, Bic),
+        BinaryOp::Asr => merging_two(vec, e, pg, zdn, zm, Asr),
+        BinaryOp::Lsr => merging_two(vec, e, pg, zdn, zm, Lsr),
+        BinaryOp::Lsl => merging_two(vec, e, pg, zdn, zm, Lsl),
+        BinaryOp::Subr => merging_exchanged(vec, e, pg, zdn, zm, Sub),
+        BinaryOp::Sdivr => merging_exchanged(vec, e, pg, zdn, zm, Sdiv),
+        BinaryOp::Udivr => merging_exchanged(vec, e, pg, zdn, zm, Udiv),
+        BinaryOp::Asrr => merging_exchanged(vec, e, pg, zdn, zm, Asr),
+        BinaryOp::Lsrr => merging_exchanged(vec, e, pg, zdn, zm, Lsr),
+        BinaryOp::Lslr => merging_exchanged(vec, e, pg, zdn, zm, Lsl),
     }
 }
 
@@ -102,14 +104,14 @@ fn binary_wide(
     zm: Reg,
     zdn: Reg,
 )
-    ensures { vec.new ≡ table.vector_data (SveForm.BinaryWide op size pg zm zdn) core.now vec.old }
+    ensures { vec.new ≡ effects.vector_data (SveForm.BinaryWide op size pg zm zdn) core.now vec.old }
 {
     let e = lane_bits(size);
     let pg = pg.register();
     match op {
-        ShiftOp::Asr => merging_covered(vec, e, pg, zdn, zdn, zm, Asr),
-        ShiftOp::Lsr => merging_covered(vec, e, pg, zdn, zdn, zm, Lsr),
-        ShiftOp::Lsl => merging_covered(vec, e, pg, zdn, zdn, zm, Lsl),
+        ShiftOp::Asr => merging_covered(vec, e, pg, zdn, zm, Asr),
+        ShiftOp::Lsr => merging_covered(vec, e, pg, zdn, zm, Lsr),
+        ShiftOp::Lsl => merging_covered(vec, e, pg, zdn, zm, Lsl),
     }
 }
 
@@ -123,22 +125,22 @@ fn shift_imm(
     imm3: U<3>,
     zdn: Reg,
 )
-    ensures { vec.new ≡ table.vector_data (SveForm.ShiftImm op tszh pg tszl imm3 zdn) core.now vec.old }
+    ensures { vec.new ≡ effects.vector_data (SveForm.ShiftImm op tszh pg tszl imm3 zdn) core.now vec.old }
 {
     let tsz = tsz_of(tszh, tszl);
     let e = shift_bits(tsz);
     let n = shift_amount(shift_imm_element(op), tsz, imm3);
     let pg = pg.register();
     match op {
-        ShiftImmOp::Asr => merging_number(vec, e, pg, zdn, zdn, n, Asr),
-        ShiftImmOp::Lsr => merging_number(vec, e, pg, zdn, zdn, n, Lsr),
-        ShiftImmOp::Lsl => merging_number(vec, e, pg, zdn, zdn, n, Lsl),
-        ShiftImmOp::Asrd => merging_number(vec, e, pg, zdn, zdn, n, Asrd),
+        ShiftImmOp::Asr => merging_number(vec, e, pg, zdn, n, Asr),
+        ShiftImmOp::Lsr => merging_number(vec, e, pg, zdn, n, Lsr),
+        ShiftImmOp::Lsl => merging_number(vec, e, pg, zdn, n, Lsl),
+        ShiftImmOp::Asrd => merging_number(vec, e, pg, zdn, n, Asrd),
     }
 }
 
 fn unary(core: &Core, vec: &mut VecRegs, op: UnaryOp, size: U<2>, pg: PredLow, zn: Reg, zd: Reg)
-    ensures { vec.new ≡ table.vector_data (SveForm.Unary op size pg zn zd) core.now vec.old }
+    ensures { vec.new ≡ effects.vector_data (SveForm.Unary op size pg zn zd) core.now vec.old }
 {
     let e = lane_bits(size);
     let pg = pg.register();

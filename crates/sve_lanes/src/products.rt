@@ -3,14 +3,16 @@ ghost use Rattle.std.specs.Prelude.{◌≡◌, ◌/◌, ◌%◌, ◌<◌, ◌^�
 ghost use Rattle.sve_insn.specs.declared.form.SveForm.{SveForm};
 ghost use Rattle.vec_model.specs.Lanes.{IsLaneSize};
 ghost use Rattle.sve_effects.specs.VectorData as table;
+ghost use Rattle.sve_effects.specs.Effects as effects;
 ghost use Rattle.sve_lanes.specs.Groups.{is_product};
 
 use crate::names::dot_indexed_signed;
-use crate::operations::plain_indexed;
+use crate::operations::{merging_three, plain_indexed};
 use core_regs::Core;
 use emu_bits::{PredLow, Reg, U};
+use lane_kernels::LastFirst;
 use lane_kernels::sources::Map3;
-use lane_kernels::words::{merging, plain};
+use lane_kernels::words::plain;
 use lane_ops::{MultiplyAdd, MultiplySubtract, Sdot, Udot};
 use sve_effects::lane_bits;
 use sve_insn::{DotIndexedOp, DotOp, MulAddDOp, MulAddZOp, Sve, SveForm};
@@ -20,7 +22,7 @@ use vec_regs::VecRegs;
 #[inline(always)]
 pub(crate) fn exec(core: &Core, vec: &mut VecRegs, i: &Sve)
     requires { is_product i.now ≡ true }
-    ensures { vec.new ≡ table.vector_data i.now core.now vec.old }
+    ensures { vec.new ≡ effects.vector_data i.now core.now vec.old }
 {
     match *i.form() {
         SveForm::MulAddZ {
@@ -61,20 +63,13 @@ fn mul_add_z(
     zn: Reg,
     zda: Reg,
 )
-    ensures { vec.new ≡ table.vector_data (SveForm.MulAddZ op size zm pg zn zda) core.now vec.old }
+    ensures { vec.new ≡ effects.vector_data (SveForm.MulAddZ op size zm pg zn zda) core.now vec.old }
 {
     let e = lane_bits(size);
     let pg = pg.register();
-    let za = zda;
     match op {
-        MulAddZOp::Mla => {
-            let op = MultiplyAdd;
-            merging(vec, e, pg, zda, Map3 { op, za, zn, zm });
-        }
-        MulAddZOp::Mls => {
-            let op = MultiplySubtract;
-            merging(vec, e, pg, zda, Map3 { op, za, zn, zm });
-        }
+        MulAddZOp::Mla => merging_three(vec, e, pg, zda, zn, zm, MultiplyAdd),
+        MulAddZOp::Mls => merging_three(vec, e, pg, zda, zn, zm, MultiplySubtract),
     }
 }
 
@@ -88,25 +83,26 @@ fn mul_add_d(
     za: Reg,
     zdn: Reg,
 )
-    ensures { vec.new ≡ table.vector_data (SveForm.MulAddD op size zm pg za zdn) core.now vec.old }
+    ensures { vec.new ≡ effects.vector_data (SveForm.MulAddD op size zm pg za zdn) core.now vec.old }
 {
     let e = lane_bits(size);
     let pg = pg.register();
-    let zn = zdn;
     match op {
         MulAddDOp::Mad => {
-            let op = MultiplyAdd;
-            merging(vec, e, pg, zdn, Map3 { op, za, zn, zm });
+            let op = LastFirst { op: MultiplyAdd };
+            merging_three(vec, e, pg, zdn, zm, za, op);
         }
         MulAddDOp::Msb => {
-            let op = MultiplySubtract;
-            merging(vec, e, pg, zdn, Map3 { op, za, zn, zm });
+            let op = LastFirst {
+                op: MultiplySubtract,
+            };
+            merging_three(vec, e, pg, zdn, zm, za, op);
         }
     }
 }
 
 fn dot(core: &Core, vec: &mut VecRegs, op: DotOp, size: U<2>, zm: Reg, zn: Reg, zda: Reg)
-    ensures { vec.new ≡ table.vector_data (SveForm.Dot op size zm zn zda) core.now vec.old }
+    ensures { vec.new ≡ effects.vector_data (SveForm.Dot op size zm zn zda) core.now vec.old }
 {
     let e = lane_bits(size);
     let za = zda;
@@ -123,7 +119,7 @@ fn dot(core: &Core, vec: &mut VecRegs, op: DotOp, size: U<2>, zm: Reg, zn: Reg, 
 }
 
 fn dot_indexed(core: &Core, vec: &mut VecRegs, op: DotIndexedOp, i_zm: U<5>, zn: Reg, zda: Reg)
-    ensures { vec.new ≡ table.vector_data (SveForm.DotIndexed op i_zm zn zda) core.now vec.old }
+    ensures { vec.new ≡ effects.vector_data (SveForm.DotIndexed op i_zm zn zda) core.now vec.old }
 {
     let n = i_zm.get();
     let is_signed = dot_indexed_signed(op);

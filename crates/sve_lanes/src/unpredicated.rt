@@ -1,7 +1,7 @@
 //! Operations of all lanes of two registers, and shifts of all lanes by an immediate.
 ghost use Rattle.std.specs.Prelude.{◌≡◌, true};
 ghost use Rattle.sve_insn.specs.declared.form.SveForm.{SveForm};
-ghost use Rattle.sve_effects.specs.VectorData as table;
+ghost use Rattle.sve_effects.specs.Effects as effects;
 ghost use Rattle.sve_lanes.specs.Groups.{is_plain};
 
 use crate::fields::{shift_amount, shift_bits, tsz_of};
@@ -18,7 +18,7 @@ use vec_regs::VecRegs;
 #[inline(always)]
 pub(crate) fn exec(core: &Core, vec: &mut VecRegs, i: &Sve)
     requires { is_plain i.now ≡ true }
-    ensures { vec.new ≡ table.vector_data i.now core.now vec.old }
+    ensures { vec.new ≡ effects.vector_data i.now core.now vec.old }
 {
     match *i.form() {
         SveForm::Plain {
@@ -49,7 +49,7 @@ pub(crate) fn exec(core: &Core, vec: &mut VecRegs, i: &Sve)
 }
 
 fn sum(core: &Core, vec: &mut VecRegs, op: PlainOp, size: U<2>, zm: Reg, zn: Reg, zd: Reg)
-    ensures { vec.new ≡ table.vector_data (SveForm.Plain op size zm zn zd) core.now vec.old }
+    ensures { vec.new ≡ effects.vector_data (SveForm.Plain op size zm zn zd) core.now vec.old }
 {
     match op {
         PlainOp::Add => plain_two(vec, lane_bits(size), zd, zn, zm, Add),
@@ -62,7 +62,7 @@ fn sum(core: &Core, vec: &mut VecRegs, op: PlainOp, size: U<2>, zm: Reg, zn: Reg
 }
 
 fn logic(core: &Core, vec: &mut VecRegs, op: LogicZOp, zm: Reg, zn: Reg, zd: Reg)
-    ensures { vec.new ≡ table.vector_data (SveForm.LogicZ op zm zn zd) core.now vec.old }
+    ensures { vec.new ≡ effects.vector_data (SveForm.LogicZ op zm zn zd) core.now vec.old }
 {
     match op {
         LogicZOp::And => plain_two(vec, 64, zd, zn, zm, And),
@@ -73,7 +73,7 @@ fn logic(core: &Core, vec: &mut VecRegs, op: LogicZOp, zm: Reg, zn: Reg, zd: Reg
 }
 
 fn shift_wide(core: &Core, vec: &mut VecRegs, op: ShiftOp, size: U<2>, zm: Reg, zn: Reg, zd: Reg)
-    ensures { vec.new ≡ table.vector_data (SveForm.PlainWide op size zm zn zd) core.now vec.old }
+    ensures { vec.new ≡ effects.vector_data (SveForm.PlainWide op size zm zn zd) core.now vec.old }
 {
     let e = lane_bits(size);
     match op {
@@ -93,7 +93,7 @@ fn shift_imm(
     zn: Reg,
     zd: Reg,
 )
-    ensures { vec.new ≡ table.vector_data (SveForm.PlainShift op tszh tszl imm3 zn zd) core.now vec.old }
+    ensures { vec.new ≡ effects.vector_data (SveForm.PlainShift op tszh tszl imm3 zn zd) core.now vec.old }
 {
     let tsz = tsz_of(tszh, tszl);
     let e = shift_bits(tsz);

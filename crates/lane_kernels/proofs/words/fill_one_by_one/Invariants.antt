@@ -1,6 +1,6 @@
 use Rattle.std.proofs.Common.{◌≡◌}
-use Rattle.lane_kernels.proofs.InPlace.{written}
-use Rattle.lane_kernels.proofs.words.fill_in_place.Given as goal
+use Rattle.lane_kernels.specs.Written.{written}
+use Rattle.lane_kernels.proofs.words.fill_one_by_one.Given as goal
 
 abbrev pub invariant-loop-i : goal.invariant-loop-i
 invariant-loop-i g l = record {
