@@ -4,11 +4,6 @@ pub mod Writes
 pub mod Stores
 pub mod Nonempty
 pub mod Lists
-pub mod FieldBits
-pub mod LaneBits
-pub mod InParts
-pub mod Kept
-pub mod RunWords
 pub mod PredicateBytes
 pub mod RunNotes
 pub mod RunLoads

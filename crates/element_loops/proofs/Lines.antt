@@ -28,11 +28,12 @@ use Rattle.sve_effects.specs.VectorLoadStore.{loaded_lane, with_loaded}
 use Rattle.element_access.specs.ReachLaws.{AreStored, all_of, refused_with_stored}
 use Rattle.element_loops.specs.declared.plan.Plan.{Plan}
 use Rattle.element_loops.specs.Layouts.{layout_of}
-use Rattle.element_loops.specs.Runs.{AreFilled, IsLine, is_kept, lane_in, stored_in_turn}
+use Rattle.active_lanes.specs.Kept.{is_kept}
+use Rattle.element_loops.specs.Runs.{AreFilled, IsLine, lane_in, stored_in_turn}
 use Rattle.element_loops.specs.SoFar.{element_of_lane, elements_within}
 use Rattle.element_loops.specs.Values.{with_taken}
 use Rattle.guest_mem.proofs.Numbers.{stored_is}
-use Rattle.element_loops.proofs.Kept.{same_kept}
+use Rattle.active_lanes.proofs.Kept.{same_kept}
 use Rattle.element_loops.proofs.RunLoads.{part_allowed, element_value, all_reached}
 use Rattle.element_loops.proofs.RunNotes.{placed_at}
 use Rattle.element_loops.proofs.RunStores.{again, bytes_same, nothing_taken, slice_each, take_both}

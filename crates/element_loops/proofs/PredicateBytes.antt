@@ -26,7 +26,7 @@ use Rattle.element_loops.specs.declared.plan.Target.TheVariants.{Predicate}
 use Rattle.element_loops.specs.Layouts.{IsPredicate, is_on_of, layout_of}
 use Rattle.element_loops.specs.Planned.{stored_by}
 use Rattle.element_loops.specs.Runs.{IsLine, AreFilled, stored_in_turn}
-use Rattle.element_loops.proofs.FieldBits.{bit_within}
+use Rattle.active_lanes.proofs.FieldBits.{bit_within}
 use Rattle.element_loops.proofs.RunLoads.{element_value}
 use Rattle.element_loops.proofs.RunNotes.{placed_at, one_place, noted_below}
 

@@ -17,7 +17,8 @@ use Rattle.sve_effects.specs.VectorLoadStore.{loaded_lane}
 use Rattle.element_words.specs.Placed.{lane_at}
 use Rattle.element_loops.specs.declared.plan.Plan.{Plan}
 use Rattle.element_loops.specs.Layouts.{layout_of}
-use Rattle.element_loops.specs.Runs.{IsLine, is_kept, lane_in}
+use Rattle.active_lanes.specs.Kept.{is_kept}
+use Rattle.element_loops.specs.Runs.{IsLine, lane_in}
 use Rattle.element_loops.specs.SoFar.{element_of_lane}
 use Rattle.element_loops.proofs.Lines.{element_fits, line_lane}
 use Rattle.element_loops.proofs.Lists.{one_element}

@@ -14,7 +14,7 @@ use Rattle.element_loops.specs.declared.plan.Places.{Places}
 use Rattle.element_loops.specs.Layouts.{layout_of, address_of}
 use Rattle.element_loops.specs.Runs.{ArePlaced, IsLine}
 use Rattle.element_loops.specs.SoFar.{element_of_lane, elements_within}
-use Rattle.element_loops.proofs.Kept.{kept_front}
+use Rattle.active_lanes.proofs.Kept.{kept_front}
 use Rattle.element_loops.proofs.Turns.{below_none, within_none, within_more, within_all, skipped}
 
 -- ---- places

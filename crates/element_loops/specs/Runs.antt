@@ -1,11 +1,11 @@
 -- Elements one behind the other in memory; and runs, whose elements are as large as their lanes, of one register.
-use Rattle.std.specs.Prelude.{◌≡◌, ◌⊎◌, ◌<◌, ◌≤◌, ℕ, ◌+◌, ◌*◌, ◌/◌, ◌%◌, ◌^◌, Bool, true, false, ◌||◌, List, take, get_or, nat_eq, nat_lt, if◌then◌else◌}
+use Rattle.std.specs.Prelude.{◌≡◌, ◌⊎◌, ◌<◌, ◌≤◌, ℕ, ◌+◌, ◌*◌, ◌/◌, ◌%◌, true, false, List, take, get_or, if◌then◌else◌}
 use Rattle.std.specs.Int.{bytes_low_first}
 use Rattle.emu_model.specs.Elements.{Element}
 use Rattle.emu_model.specs.State.{Vectors}
 use Rattle.emu_model.specs.WithinPage.{number_in}
 use Rattle.sve_effects.specs.Element.{extended_by}
-use Rattle.sve_effects.specs.ElementLoop.{is_active}
+use Rattle.active_lanes.specs.Kept.{is_kept}
 use Rattle.element_loops.specs.declared.plan.Plan.{Plan}
 use Rattle.element_loops.specs.declared.plan.Places.TheVariants.{Consecutive, Bytes}
 use Rattle.element_loops.specs.declared.plan.Target.TheVariants.{Registers}
@@ -15,10 +15,6 @@ use Rattle.element_loops.specs.SoFar.{element_of_lane}
 -- from a base on, lane by lane, and within a lane register by register
 abbrev pub ArePlaced : ℕ → Plan → Type 0
 ArePlaced base p = (p.places ≡ Consecutive base) ⊎ ((p.places ≡ Bytes base) × (p.registers ≡ 1) × (p.bytes ≡ 1))
-
--- the lanes that keep what is loaded: those of the first words, so many, and of the others the active ones
-abbrev pub is_kept : ℕ → ℕ → ℕ → Vectors → ℕ → Bool
-is_kept whole pg e v k = nat_lt k (whole * (64 / e)) || is_active e v pg k
 
 -- Elements one behind the other from a base on, of the lanes that are kept.
 pub record IsLine (base pg whole : ℕ) (p : Plan) (v : Vectors) : Type 0 where
@@ -42,14 +38,6 @@ pub record IsFront (front : ℕ) (p : Plan) (v : Vectors) : Type 0 where
 -- what lane k of the j-th register gets of bytes that elements of all lanes make
 abbrev pub lane_in : List ℕ → Plan → ℕ → ℕ → Vectors → ℕ → ℕ → ℕ
 lane_in bytes p pg whole v j k = if is_kept whole pg p.bits v k then extended_by p.is_signed p.bits (8 * p.bytes) (number_in bytes ((k * p.registers + j) * p.bytes) p.bytes) else 0
-
--- whether byte t of a word is of a lane that is on, by the eight bits of a predicate that stand for the word; lanes have w bytes
-abbrev pub keeps : ℕ → ℕ → ℕ → Bool
-keeps w field t = nat_eq (field / 2 ^ (t / w * w) % 2) 1
-
--- byte t of a word that keeps the lanes that are on
-abbrev pub kept : ℕ → ℕ → ℕ → ℕ → ℕ
-kept w field word t = if keeps w field t then word / 2 ^ (8 * t) % 256 else 0
 
 -- number i that the elements of all lanes store, in order of lanes and within a lane in order of registers
 abbrev pub stored_in_turn : (Element → ℕ) → Plan → Vectors → ℕ → ℕ

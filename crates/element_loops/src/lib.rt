@@ -4,13 +4,11 @@
 
 mod access;
 mod border;
-mod fields;
 mod line;
 mod line_store;
 mod listing;
 mod loading;
 mod noting;
-mod parts;
 pub mod place;
 mod plan;
 mod predicates;
@@ -20,7 +18,6 @@ mod run_store;
 pub mod sizes;
 mod storing;
 mod values;
-mod words;
 
 pub use access::{load, store, tests_sp};
 pub use listing::elements;

@@ -9,14 +9,13 @@ ghost use Rattle.element_loops.specs.Runs.{IsFront, IsLine};
 ghost use Rattle.element_loops.specs.declared.plan.OnLanes.{OnLanes};
 ghost use Rattle.element_loops.specs.declared.plan.Target.{Target};
 
-use crate::fields::{front_lanes, words_of_lanes};
 use crate::line::{set_placed, total_bytes};
 use crate::noting::note;
 use crate::place::address;
 use crate::plan::Plan;
 use crate::run::{Run, base_of, predicate};
 use crate::values::only_lane;
-use crate::words::keep_active;
+use active_lanes::{front_lanes, keep_active, words_of_lanes};
 use element_words::put_words;
 use emu_bits::Pred;
 use guest_mem::{Access, AccessLog, Kind, Mem};

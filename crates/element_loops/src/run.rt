@@ -8,11 +8,11 @@ ghost use Rattle.element_loops.specs.Runs.{ArePlaced, IsFront, IsLine, IsRun};
 ghost use Rattle.element_loops.specs.declared.plan.OnLanes.{OnLanes};
 ghost use Rattle.element_loops.specs.declared.plan.Target.{Target};
 
-use crate::fields::{front_lanes, idle_from, words_of_lanes};
 use crate::line::take_line;
 use crate::plan::{OnLanes, Places, Plan, Target};
 use crate::predicates::take_bits;
 use crate::repeated::{take_one, take_quad};
+use active_lanes::{front_lanes, idle_from, words_of_lanes};
 use emu_bits::Pred;
 use guest_mem::{AccessLog, Mem};
 use vec_regs::VecRegs;

@@ -10,11 +10,11 @@ ghost use Rattle.element_loops.specs.Planned.{stored_by};
 ghost use Rattle.element_loops.specs.Runs.{IsFront, IsRun};
 
 use crate::border::put_bytes;
-use crate::fields::active_from;
 use crate::place::{is_on, register_at};
 use crate::plan::Plan;
 use crate::run::{Run, idle_lanes};
 use crate::storing::put_lane;
+use active_lanes::active_from;
 use core_regs::Trap;
 use emu_bits::Reg;
 use guest_mem::{AccessLog, Mem};

@@ -12,13 +12,15 @@ ghost use Rattle.element_access.specs.ReachLaws.{AreLoaded, StopsLoad};
 ghost use Rattle.element_loops.specs.Layouts.{IsPlan, layout_of};
 ghost use Rattle.element_loops.specs.Planned.{load_by, loaded_by};
 ghost use Rattle.vec_regs.specs.Words.{AreZeroFrom};
+ghost use Rattle.gather_loops.specs.Indexing.{IsIndex, IsIndexed};
 ghost use Rattle.gather_loops.specs.Gathers.{AreWords, IsGather, lane_value, word_of_lanes};
 
-use crate::constant::with_sizes;
+use crate::base::test_base;
+use crate::indexed::{Index, address, index_of, is_indexed, is_on};
 use core_regs::{Core, Effect, Trap};
-use element_access::{extended, load_here, test_sp};
-use element_loops::place::{address, is_on, position, register_at};
-use element_loops::{Plan, tests_sp};
+use element_access::{extended, load_here};
+use element_loops::Plan;
+use element_loops::place::{position, register_at};
 use guest_mem::{AccessLog, Mem};
 use vec_regs::VecRegs;
 
@@ -39,20 +41,22 @@ fn load_number(mem: &mut Mem, log: &mut AccessLog, at: u64, n: u32) -> Result<u6
     Ok(v as u64)
 }
 
-/// Loads the element of a lane, which has n bytes, and extends it to the lane: 0 where the lane has none.
+/// Loads the element of a lane of E bits, which has N bytes, and extends it to the lane: 0 where the lane has none.
 #[inline(always)]
-fn load_lane(
+fn load_lane<const E: u32, const N: u32>(
     plan: &Plan,
+    index: &Index,
     vec: &VecRegs,
     mem: &mut Mem,
     log: &mut AccessLog,
     k: u32,
-    n: u32,
 ) -> Result<u64, Trap>
     requires plan { IsPlan plan.now vec.now }
     requires one { plan.now.registers ≡ 1 }
+    requires index { IsIndex index.now plan.now }
+    requires bits { E ≡ plan.now.bits }
+    requires bytes { N ≡ plan.now.bytes }
     requires within { k < plan.now.lanes }
-    requires bytes { n ≡ plan.now.bytes }
     requires loaded { AreLoaded mem.old (elements_below (layout_of plan.now vec.now) k) log.old.items }
     ensures loaded { let l = layout_of plan.now vec.now in MatchResult result
         (λ v. AreLoaded mem.old (elements_below l (k + 1)) log.new.items)
@@ -61,12 +65,12 @@ fn load_lane(
     ensures memory { mem.new ≡ mem.old }
 {
     let _room = position(plan, vec, k, 0);
-    if !is_on(plan, vec, k) {
+    if !is_on(plan, index, vec, E, k) {
         return Ok(0);
     }
-    let at = address(plan, vec, k, 0);
-    match load_number(mem, log, at, n) {
-        Ok(v) => Ok(extended(plan.is_signed, plan.bits, n, v)),
+    let at = address(plan, index, vec, E, k);
+    match load_number(mem, log, at, N) {
+        Ok(v) => Ok(extended(plan.is_signed, E, N, v)),
         Err(trap) => Err(trap),
     }
 }
@@ -89,20 +93,22 @@ fn two_lanes(low: u64, high: u64) -> u64
     low % 0x1_0000_0000 + high % 0x1_0000_0000 * 0x1_0000_0000
 }
 
-/// Loads the elements of the lanes of word i of the register, n bytes each.
+/// Loads the elements of the lanes of word i of the register, of E bits, N bytes each.
 #[inline(always)]
-fn load_word(
+fn load_word<const E: u32, const N: u32>(
     plan: &Plan,
+    index: &Index,
     vec: &VecRegs,
     mem: &mut Mem,
     log: &mut AccessLog,
     i: u32,
-    n: u32,
 ) -> Result<u64, Trap>
     requires plan { IsPlan plan.now vec.now }
     requires gather { IsGather plan.now }
+    requires index { IsIndex index.now plan.now }
+    requires bits { E ≡ plan.now.bits }
+    requires bytes { N ≡ plan.now.bytes }
     requires within { i < vec.now.bits / 64 }
-    requires bytes { n ≡ plan.now.bytes }
     requires loaded { AreLoaded mem.old (elements_below (layout_of plan.now vec.now) (i * (64 / plan.now.bits))) log.old.items }
     ensures loaded { let l = layout_of plan.now vec.now in MatchResult result
         (λ word. AreLoaded mem.old (elements_below l ((i + 1) * (64 / plan.now.bits))) log.new.items)
@@ -111,29 +117,30 @@ fn load_word(
     ensures memory { mem.new ≡ mem.old }
 {
     let _length = vec.length();
-    if plan.bits == 64 {
-        let word = load_lane(plan, vec, mem, log, i, n)?;
+    if E == 64 {
+        let word = load_lane::<E, N>(plan, index, vec, mem, log, i)?;
         return Ok(one_lane(word));
     }
-    let low = load_lane(plan, vec, mem, log, 2 * i, n)?;
-    let high = load_lane(plan, vec, mem, log, 2 * i + 1, n)?;
+    let low = load_lane::<E, N>(plan, index, vec, mem, log, 2 * i)?;
+    let high = load_lane::<E, N>(plan, index, vec, mem, log, 2 * i + 1)?;
     Ok(two_lanes(low, high))
 }
 
-/// Loads all elements in order, n bytes each, and makes the words of the register, or stops at the first that is
-/// refused.
+/// Loads all elements in order, N bytes each for lanes of E bits, and makes the words of the register, or stops at the
+/// first that is refused.
 #[inline(always)]
-fn load_words(
+fn load_words<const E: u32, const N: u32>(
     plan: &Plan,
     vec: &VecRegs,
     mem: &mut Mem,
     log: &mut AccessLog,
     words: &mut [u64; 32],
-    n: u32,
 ) -> Result<(), Trap>
     requires plan { IsPlan plan.now vec.now }
     requires gather { IsGather plan.now }
-    requires bytes { n ≡ plan.now.bytes }
+    requires indexed { IsIndexed plan.now }
+    requires bits { E ≡ plan.now.bits }
+    requires bytes { N ≡ plan.now.bytes }
     requires zero { AreWords plan.now vec.now mem.old 0 words.old }
     requires empty { log.old.items ≡ [] }
     ensures loaded { let l = layout_of plan.now vec.now in MatchResult result
@@ -143,96 +150,15 @@ fn load_words(
     ensures memory { mem.new ≡ mem.old }
 {
     let plan = *plan;
+    let index = index_of(&plan);
     for i in 0..vec.length().bits() / 64 {
-        words[i as usize] = load_word(&plan, vec, mem, log, i, n)?;
+        words[i as usize] = load_word::<E, N>(&plan, &index, vec, mem, log, i)?;
     }
     Ok(())
 }
 
-/// The same, with lanes of e bits: both sizes are constants in the loop where it is called so.
-#[inline(always)]
-fn load_sized(
-    plan: &Plan,
-    vec: &VecRegs,
-    mem: &mut Mem,
-    log: &mut AccessLog,
-    words: &mut [u64; 32],
-    e: u32,
-    n: u32,
-) -> Result<(), Trap>
-    requires plan { IsPlan plan.now vec.now }
-    requires gather { IsGather plan.now }
-    requires bits { e ≡ plan.now.bits }
-    requires bytes { n ≡ plan.now.bytes }
-    requires zero { AreWords plan.now vec.now mem.old 0 words.old }
-    requires empty { log.old.items ≡ [] }
-    ensures loaded { let l = layout_of plan.now vec.now in MatchResult result
-        (λ x. AreLoaded mem.old (elements_of l) log.new.items)
-        (λ trap. StopsLoad mem.old (elements_of l) log.new.items trap) }
-    ensures words { MatchResult result (λ x. AreWords plan.now vec.now mem.old (vec.now.bits / 64) words.new) (λ trap. ⊤) }
-    ensures memory { mem.new ≡ mem.old }
-{
-    load_words(&with_sizes(plan, e, n), vec, mem, log, words, n)
-}
-
-/// The same, with the usual numbers of bytes told apart.
-#[inline(always)]
-fn load_each(
-    plan: &Plan,
-    vec: &VecRegs,
-    mem: &mut Mem,
-    log: &mut AccessLog,
-    words: &mut [u64; 32],
-    e: u32,
-) -> Result<(), Trap>
-    requires plan { IsPlan plan.now vec.now }
-    requires gather { IsGather plan.now }
-    requires bits { e ≡ plan.now.bits }
-    requires zero { AreWords plan.now vec.now mem.old 0 words.old }
-    requires empty { log.old.items ≡ [] }
-    ensures loaded { let l = layout_of plan.now vec.now in MatchResult result
-        (λ x. AreLoaded mem.old (elements_of l) log.new.items)
-        (λ trap. StopsLoad mem.old (elements_of l) log.new.items trap) }
-    ensures words { MatchResult result (λ x. AreWords plan.now vec.now mem.old (vec.now.bits / 64) words.new) (λ trap. ⊤) }
-    ensures memory { mem.new ≡ mem.old }
-{
-    match plan.bytes {
-        1 => load_sized(plan, vec, mem, log, words, e, 1),
-        2 => load_sized(plan, vec, mem, log, words, e, 2),
-        4 => load_sized(plan, vec, mem, log, words, e, 4),
-        8 => load_sized(plan, vec, mem, log, words, e, 8),
-        n => load_sized(plan, vec, mem, log, words, e, n),
-    }
-}
-
-/// The same, with lanes of 32 and of 64 bits told apart. It isn't inlined, so that its loops have the processor's
-/// registers to themselves.
-#[inline(never)]
-fn load_all(
-    plan: &Plan,
-    vec: &VecRegs,
-    mem: &mut Mem,
-    log: &mut AccessLog,
-    words: &mut [u64; 32],
-) -> Result<(), Trap>
-    requires plan { IsPlan plan.now vec.now }
-    requires gather { IsGather plan.now }
-    requires zero { AreWords plan.now vec.now mem.old 0 words.old }
-    requires empty { log.old.items ≡ [] }
-    ensures loaded { let l = layout_of plan.now vec.now in MatchResult result
-        (λ x. AreLoaded mem.old (elements_of l) log.new.items)
-        (λ trap. StopsLoad mem.old (elements_of l) log.new.items trap) }
-    ensures words { MatchResult result (λ x. AreWords plan.now vec.now mem.old (vec.now.bits / 64) words.new) (λ trap. ⊤) }
-    ensures memory { mem.new ≡ mem.old }
-{
-    if plan.bits == 64 {
-        load_each(plan, vec, mem, log, words, 64)
-    } else {
-        load_each(plan, vec, mem, log, words, 32)
-    }
-}
-
 /// Writes the words of the register.
+#[inline(always)]
 fn write(plan: &Plan, vec: &mut VecRegs, words: &[u64; 32])
     requires plan { IsPlan plan.now vec.old }
     requires gather { IsGather plan.now }
@@ -245,20 +171,80 @@ fn write(plan: &Plan, vec: &mut VecRegs, words: &[u64; 32])
     vec.set_z_words(register_at(plan, 0), words);
 }
 
-/// Loads all elements and then writes the register.
-fn load_register(plan: &Plan, vec: &mut VecRegs, mem: &mut Mem, log: &mut AccessLog) -> Effect
+/// Loads all elements in order, N bytes each for lanes of E bits, and then writes the register, or stops at the first
+/// that is refused. It isn't inlined, so that its loop has the processor's registers to itself.
+#[inline(never)]
+fn load_register<const E: u32, const N: u32>(
+    plan: &Plan,
+    vec: &mut VecRegs,
+    mem: &mut Mem,
+    log: &mut AccessLog,
+) -> Result<(), Trap>
     requires plan { IsPlan plan.now vec.old }
     requires gather { IsGather plan.now }
+    requires indexed { IsIndexed plan.now }
+    requires bits { E ≡ plan.now.bits }
+    requires bytes { N ≡ plan.now.bytes }
+    requires empty { log.old.items ≡ [] }
+    ensures loaded { let l = layout_of plan.now vec.old in MatchResult result
+        (λ x. AreLoaded mem.old (elements_of l) log.new.items)
+        (λ trap. StopsLoad mem.old (elements_of l) log.new.items trap) }
+    ensures registers { MatchResult result
+        (λ x. vec.new ≡ loaded_by plan.now.target plan.now.is_signed (layout_of plan.now vec.old) mem.old vec.old)
+        (λ trap. vec.new ≡ vec.old) }
+    ensures memory { mem.new ≡ mem.old }
+{
+    let mut words = [0u64; 32];
+    match load_words::<E, N>(plan, vec, mem, log, &mut words) {
+        Ok(()) => {
+            write(plan, vec, &words);
+            Ok(())
+        }
+        Err(trap) => Err(trap),
+    }
+}
+
+/// The same, with the sizes of lanes and elements told apart.
+fn load_all(plan: &Plan, vec: &mut VecRegs, mem: &mut Mem, log: &mut AccessLog) -> Result<(), Trap>
+    requires plan { IsPlan plan.now vec.old }
+    requires gather { IsGather plan.now }
+    requires indexed { IsIndexed plan.now }
+    requires empty { log.old.items ≡ [] }
+    ensures loaded { let l = layout_of plan.now vec.old in MatchResult result
+        (λ x. AreLoaded mem.old (elements_of l) log.new.items)
+        (λ trap. StopsLoad mem.old (elements_of l) log.new.items trap) }
+    ensures registers { MatchResult result
+        (λ x. vec.new ≡ loaded_by plan.now.target plan.now.is_signed (layout_of plan.now vec.old) mem.old vec.old)
+        (λ trap. vec.new ≡ vec.old) }
+    ensures memory { mem.new ≡ mem.old }
+{
+    if plan.bits == 64 {
+        match plan.bytes {
+            1 => load_register::<64, 1>(plan, vec, mem, log),
+            2 => load_register::<64, 2>(plan, vec, mem, log),
+            4 => load_register::<64, 4>(plan, vec, mem, log),
+            _ => load_register::<64, 8>(plan, vec, mem, log),
+        }
+    } else {
+        match plan.bytes {
+            1 => load_register::<32, 1>(plan, vec, mem, log),
+            2 => load_register::<32, 2>(plan, vec, mem, log),
+            _ => load_register::<32, 4>(plan, vec, mem, log),
+        }
+    }
+}
+
+/// The same, and says how the step goes on.
+fn load_indexed(plan: &Plan, vec: &mut VecRegs, mem: &mut Mem, log: &mut AccessLog) -> Effect
+    requires plan { IsPlan plan.now vec.old }
+    requires gather { IsGather plan.now }
+    requires indexed { IsIndexed plan.now }
     requires empty { log.old.items ≡ [] }
     ensures { (c : CoreState) → loaded_to (reach mem.old Kind.Read (elements_of (layout_of plan.now vec.old))) (loaded_by plan.now.target plan.now.is_signed (layout_of plan.now vec.old) mem.old vec.old) c vec.old mem.old
         ≡ record { core = c; vectors = vec.new; memory = mem.new; accesses = log.new.items; effect = result } }
 {
-    let mut words = [0u64; 32];
-    match load_all(plan, vec, mem, log, &mut words) {
-        Ok(()) => {
-            write(plan, vec, &words);
-            Effect::Next
-        }
+    match load_all(plan, vec, mem, log) {
+        Ok(()) => Effect::Next,
         Err(trap) => Effect::Trap(trap),
     }
 }
@@ -278,10 +264,13 @@ pub fn load(
     ensures { load_by plan.now core.now vec.old mem.old
         ≡ record { core = core.now; vectors = vec.new; memory = mem.new; accesses = log.new.items; effect = result } }
 {
-    if let Err(trap) = test_sp(core, tests_sp(plan, vec)) {
+    if !is_indexed(plan) {
+        return element_loops::load(plan, core, vec, mem, log);
+    }
+    if let Err(trap) = test_base(plan, core, vec) {
         return Effect::Trap(trap);
     }
-    load_register(plan, vec, mem, log)
+    load_indexed(plan, vec, mem, log)
 }
 
 /// Loads all elements and then writes the register, where none of them is refused, and says whether it did. Else
@@ -296,12 +285,11 @@ pub fn load_unrefused(plan: &Plan, vec: &mut VecRegs, mem: &mut Mem, log: &mut A
     ensures unlogged { result ≡ false → log.new.items ≡ [] }
     ensures memory { mem.new ≡ mem.old }
 {
-    let mut words = [0u64; 32];
-    match load_all(plan, vec, mem, log, &mut words) {
-        Ok(()) => {
-            write(plan, vec, &words);
-            true
-        }
+    if !is_indexed(plan) {
+        return false;
+    }
+    match load_all(plan, vec, mem, log) {
+        Ok(()) => true,
         Err(_) => {
             log.clear();
             false

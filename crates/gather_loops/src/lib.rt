@@ -1,8 +1,9 @@
 //! Gathers and scatters in one pass over their lanes: the words of a register are made as the elements come.
 #![tactic(auto)]
 
-mod constant;
+mod base;
 mod gather;
+mod indexed;
 mod scatter;
 
 pub use gather::{load, load_unrefused};

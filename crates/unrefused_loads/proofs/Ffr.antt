@@ -7,8 +7,8 @@ use Rattle.vec_model.specs.Lanes.{IsLaneSize}
 use Rattle.vec_regs.specs.Words.{bits_of}
 use Rattle.sve_effects.specs.FirstFault.{first_cleared}
 use Rattle.sve_effects.specs.FirstLast.{first_where, or_else, if_meets}
-use Rattle.element_loops.specs.Runs.{keeps}
-use Rattle.element_loops.proofs.FieldBits.{eight, field_is, full1}
+use Rattle.active_lanes.specs.Kept.{keeps}
+use Rattle.active_lanes.proofs.FieldBits.{eight, field_is, full1}
 
 -- the first k times eight bits of some words are 1
 abbrev pub AreFull : List ℕ → ℕ → Type 0

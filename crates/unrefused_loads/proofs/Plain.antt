@@ -13,7 +13,8 @@ use Rattle.emu_model.specs.State.{Core, Vectors}
 use Rattle.vec_model.specs.Lanes.{IsLaneSize, byte_in, with_z, with_ffr, with_lanes}
 use Rattle.vec_regs.proofs.PackedLanes.{below_quotient}
 use Rattle.sve_effects.specs.Element.{extended_by}
-use Rattle.sve_effects.specs.FirstFault.{element_at, first_refused, first_suppressed, unsuppressed, cleared_from, first_cleared, is_before, loaded_from, first_fault_lane, with_first_fault, first_fault_loaded, loaded_unless}
+use Rattle.sve_effects.specs.FirstFaultParts.{first_fault_lane, with_first_fault, first_fault_loaded}
+use Rattle.sve_effects.specs.FirstFault.{element_at, first_refused, first_suppressed, unsuppressed, cleared_from, first_cleared, is_before, loaded_from, loaded_unless}
 use Rattle.sve_effects.specs.VectorElements.{Layout, elements_of}
 use Rattle.sve_effects.specs.VectorLoadStore.{loaded_lane, with_loaded, tests_sp, is_misaligned}
 use Rattle.element_access.specs.ReachLaws.{AreLoaded}

@@ -3,7 +3,8 @@ use Rattle.std.specs.Prelude.{Bool, None, if◌then◌else◌}
 use Rattle.emu_model.specs.Access.{Memory}
 use Rattle.emu_model.specs.Done.{Done}
 use Rattle.emu_model.specs.State.{Core, Vectors}
-use Rattle.sve_effects.specs.FirstFault.{first_refused, first_fault_loaded, loaded_unless}
+use Rattle.sve_effects.specs.FirstFault.{first_refused, loaded_unless}
+use Rattle.sve_effects.specs.FirstFaultParts.{first_fault_loaded}
 use Rattle.sve_effects.specs.VectorElements.{elements_of}
 use Rattle.sve_effects.specs.VectorLoadStore.{unless_misaligned}
 use Rattle.element_loops.specs.declared.plan.Plan.{Plan}

@@ -2,7 +2,7 @@ use Rattle.std.proofs.Common.{◌≡◌, ◌<◌, ◌+◌, ◌*◌, refl, if◌t
 use Rattle.emu_model.specs.WithinPage.{number_in}
 use Rattle.sve_effects.specs.Element.{extended_by}
 use Rattle.vec_model.specs.Lanes.{with_lanes}
-use Rattle.element_loops.specs.Runs.{is_kept}
+use Rattle.active_lanes.specs.Kept.{is_kept}
 use Rattle.element_loops.proofs.Lines.{element_fits, element_placed}
 use Rattle.element_loops.proofs.line.set_register.Goals as goal
 

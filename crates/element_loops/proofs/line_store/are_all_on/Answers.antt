@@ -1,6 +1,6 @@
 use Rattle.std.proofs.Common.{◌≡◌, ◌<◌, ◌*◌, ◌/◌, sym, ap, subst, ◌∙◌, arith}
 use Rattle.std.proofs.lemmas.Bool.{eqb-true}
-use Rattle.element_loops.proofs.Kept.{all_words}
+use Rattle.active_lanes.proofs.Kept.{all_words}
 use Rattle.element_loops.proofs.RunNotes.{front_on}
 use Rattle.element_loops.proofs.line_store.are_all_on.Goals as goal
 

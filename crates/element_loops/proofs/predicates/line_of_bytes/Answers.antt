@@ -2,7 +2,7 @@ use Rattle.std.proofs.Common.{◌≡◌, ◌<◌, ◌*◌, ◌/◌, sym, ap, sub
 use Rattle.element_loops.specs.declared.plan.OnLanes.{OnLanes}
 use Rattle.element_loops.specs.declared.plan.Target.{Target}
 use Rattle.element_loops.specs.Layouts.{IsPredicate, IsTarget, is_on_of}
-use Rattle.element_loops.proofs.Kept.{kept_front}
+use Rattle.active_lanes.proofs.Kept.{kept_front}
 use Rattle.element_loops.proofs.predicates.line_of_bytes.Goals as goal
 
 pub returns : goal.returns

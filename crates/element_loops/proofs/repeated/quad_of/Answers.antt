@@ -1,7 +1,7 @@
 use Rattle.std.proofs.Common.{ap, ◌∙◌, arith}
 use Rattle.element_loops.specs.declared.plan.OnLanes.{OnLanes}
 use Rattle.element_loops.specs.Layouts.{is_on_of}
-use Rattle.element_loops.proofs.Kept.{active_kept}
+use Rattle.active_lanes.proofs.Kept.{active_kept}
 use Rattle.element_loops.proofs.repeated.quad_of.Goals as goal
 
 pub returns-clause-line : goal.returns-clause-line

@@ -1,5 +1,5 @@
 use Rattle.std.proofs.Common.{◌<◌, ◌-◌, length, get_or, refl, arith}
-use Rattle.element_loops.proofs.RunWords.{kept_above}
+use Rattle.active_lanes.proofs.KeptWords.{kept_above}
 use Rattle.element_loops.proofs.Repeats.{first_bytes, one_more_repeated}
 use Rattle.element_loops.proofs.repeated.repeat_first.Goals as goal
 

@@ -10,7 +10,7 @@ use Rattle.element_words.specs.Placed.{lane_at}
 use Rattle.element_loops.specs.declared.plan.Target.{Target}
 use Rattle.element_loops.specs.Layouts.{IsRepeated, IsTarget, layout_of}
 use Rattle.element_loops.specs.Planned.{loaded_by}
-use Rattle.element_loops.specs.Runs.{is_kept}
+use Rattle.active_lanes.specs.Kept.{is_kept}
 use Rattle.element_loops.proofs.Lines.{line_reached}
 use Rattle.element_loops.proofs.Repeats.{quad_room, quad_lane, repeated_bytes}
 use Rattle.element_loops.proofs.repeated.take_first.Goals as goal

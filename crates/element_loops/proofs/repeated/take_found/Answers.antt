@@ -12,9 +12,9 @@ use Rattle.element_loops.specs.declared.plan.OnLanes.{OnLanes}
 use Rattle.element_loops.specs.declared.plan.Target.{Target}
 use Rattle.element_loops.specs.Layouts.{is_on_of, layout_of}
 use Rattle.element_loops.specs.Planned.{loaded_by}
-use Rattle.element_loops.specs.Runs.{is_kept}
+use Rattle.active_lanes.specs.Kept.{is_kept}
 use Rattle.element_loops.specs.SoFar.{element_of_lane}
-use Rattle.element_loops.proofs.Kept.{front_few, front_kept}
+use Rattle.active_lanes.proofs.Kept.{front_few, front_kept}
 use Rattle.element_loops.proofs.Repeats.{only_element, found_lane}
 use Rattle.element_loops.proofs.RunLoads.{reach_single}
 use Rattle.element_loops.proofs.Writes.{same_place}

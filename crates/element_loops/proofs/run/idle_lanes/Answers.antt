@@ -1,6 +1,6 @@
 use Rattle.std.proofs.Common.{◌≡◌, false, sym, ◌∙◌, arith}
-use Rattle.element_loops.specs.Runs.{is_kept}
-use Rattle.element_loops.proofs.Kept.{none_kept, not_active}
+use Rattle.active_lanes.specs.Kept.{is_kept}
+use Rattle.active_lanes.proofs.Kept.{none_kept, not_active}
 use Rattle.element_loops.proofs.run.idle_lanes.Goals as goal
 
 pub idle_from-requires-clause-off : goal.idle_from-requires-clause-off

@@ -2,7 +2,7 @@ use Rattle.std.proofs.Common.{◌≡◌, ◌<◌, ◌≤◌, ◌*◌, ◌/◌, s
 use Rattle.element_loops.specs.declared.plan.OnLanes.{OnLanes}
 use Rattle.element_loops.specs.declared.plan.Target.{Target}
 use Rattle.element_loops.specs.Layouts.{IsTarget, is_on_of}
-use Rattle.element_loops.proofs.Kept.{all_words, front_few, front_kept, kept_front}
+use Rattle.active_lanes.proofs.Kept.{all_words, front_few, front_kept, kept_front}
 use Rattle.element_loops.proofs.run.line_of.Goals as goal
 
 pub returns-then-is_all-clause-line : goal.returns-then-is_all-clause-line

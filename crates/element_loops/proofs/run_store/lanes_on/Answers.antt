@@ -1,5 +1,5 @@
 use Rattle.std.proofs.Common.{◌∙◌, arith}
-use Rattle.element_loops.proofs.Kept.{active_is_kept}
+use Rattle.active_lanes.proofs.Kept.{active_is_kept}
 use Rattle.element_loops.proofs.run_store.lanes_on.Goals as goal
 
 pub returns-then-k-run-clause-on : goal.returns-then-k-run-clause-on

@@ -1,7 +1,7 @@
 use Rattle.std.proofs.Common.{◌≤◌, ◌*◌, length, subst, arith}
 use Rattle.element_loops.specs.Layouts.{layout_of}
 use Rattle.element_loops.specs.Planned.{stored_by}
-use Rattle.element_loops.proofs.Kept.{most_lanes}
+use Rattle.active_lanes.proofs.Kept.{most_lanes}
 use Rattle.element_loops.proofs.Stores.{stores_begin, log_count}
 use Rattle.element_loops.proofs.run_store.store_run.Goals as goal
 

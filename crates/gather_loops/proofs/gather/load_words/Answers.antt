@@ -9,7 +9,7 @@ use Rattle.gather_loops.proofs.GatheredWords.{lanes_are, all_lanes, more_words}
 use Rattle.gather_loops.proofs.gather.load_words.Goals as goal
 
 pub loop-i-init : goal.loop-i-init
-loop-i-init c =
+loop-i-init g c =
     let none : 0 ≡ 0 * (64 / c.args.plan.now.bits) = omega arith in
     record {
       loaded = subst (λ k. AreLoaded c.args.mem.now (elements_below (layout_of c.args.plan.now c.args.vec.now) k) c.args.log.now.items) none (loads_begin (layout_of c.args.plan.now c.args.vec.now) c.args.mem.now c.args.log.now.items c.requires.empty);
@@ -18,7 +18,7 @@ loop-i-init c =
     }
 
 pub loop-i-preserved : goal.loop-i-preserved
-loop-i-preserved c =
+loop-i-preserved g c =
     let within : c.loop-i.i < length c.loop-i.words = omega (arith, c.loop-i.invariant.words.long, c.loop-i-test.true, c.bits-i-end.ensures.value, c.length.ensures.value, c.length.ensures.length.most) in
     let l : Layout = layout_of c.args.plan.now c.args.vec.now in
     record {
@@ -29,7 +29,7 @@ loop-i-preserved c =
     }
 
 pub returns-clause-loaded : goal.returns-clause-loaded
-returns-clause-loaded c =
+returns-clause-loaded g c =
     let l : Layout = layout_of c.args.plan.now c.args.vec.now in
     let end : c.loop-i.i ≡ c.args.vec.now.bits / 64 = omega (arith, c.loop-i-test.false, c.loop-i.auto.i-end, c.bits-i-end.ensures.value, c.length.ensures.value) in
     let all : c.loop-i.i * (64 / c.args.plan.now.bits) ≡ c.args.plan.now.lanes
@@ -37,6 +37,6 @@ returns-clause-loaded c =
     subst (λ k. AreLoaded c.args.mem.now (elements_below l k) c.loop-i.log.items) all c.loop-i.invariant.loaded
 
 pub returns-clause-words : goal.returns-clause-words
-returns-clause-words c =
+returns-clause-words g c =
     let end : c.loop-i.i ≡ c.args.vec.now.bits / 64 = omega (arith, c.loop-i-test.false, c.loop-i.auto.i-end, c.bits-i-end.ensures.value, c.length.ensures.value) in
     subst (λ i. AreWords c.args.plan.now c.args.vec.now c.args.mem.now i c.loop-i.words) end c.loop-i.invariant.words

@@ -6,7 +6,7 @@ use Rattle.element_loops.specs.Planned.{stored_by}
 use Rattle.gather_loops.proofs.scatter.store_lanes.Given as goal
 
 abbrev pub invariant-loop-k : goal.invariant-loop-k
-invariant-loop-k l = record {
+invariant-loop-k g l = record {
   count : length l.log.items ≤ l.k;
   stored : AreStored (stored_by l.plan.target (layout_of l.plan l.vec) l.vec) l.fn.mem (elements_below (layout_of l.plan l.vec) l.k) l.mem l.log.items;
 }

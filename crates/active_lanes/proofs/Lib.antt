@@ -1,0 +1,5 @@
+pub mod FieldBits
+pub mod LaneBits
+pub mod InParts
+pub mod Kept
+pub mod KeptWords

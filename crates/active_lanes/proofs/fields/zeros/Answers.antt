@@ -1,0 +1,9 @@
+use Rattle.std.proofs.lemmas.Nat.{trailing_le}
+use Rattle.active_lanes.proofs.LaneBits.{zeros_are}
+use Rattle.active_lanes.proofs.fields.zeros.Goals as goal
+
+pub returns-clause-zeros : goal.returns-clause-zeros
+returns-clause-zeros c = λ i h. zeros_are c.args.bits i c.ranges.bits.fits h
+
+pub returns-clause-few : goal.returns-clause-few
+returns-clause-few c = trailing_le 64 c.args.bits

@@ -1,0 +1,10 @@
+//! Lanes that are active by a predicate: runs of them, by its bits, and words and registers that keep them.
+#![tactic(auto)]
+
+mod fields;
+mod parts;
+mod words;
+
+pub use fields::{active_from, front_lanes, idle_from, words_of_lanes};
+pub use parts::{set_copied, set_words};
+pub use words::keep_active;

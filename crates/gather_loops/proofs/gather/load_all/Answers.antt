@@ -1,6 +1,0 @@
-use Rattle.std.proofs.Common.{sym}
-use Rattle.gather_loops.proofs.GatheredWords.{narrow}
-use Rattle.gather_loops.proofs.gather.load_all.Goals as goal
-
-pub load_each-requires-else-plan-eq64-clause-bits : goal.load_each-requires-else-plan-eq64-clause-bits
-load_each-requires-else-plan-eq64-clause-bits c = sym (narrow c.args.plan.now.bits c.requires.gather.size c.if-plan-eq64.false)
