@@ -9,11 +9,11 @@ use Rattle.io_gate.specs.Pieces.{puts_more, puts_stopped}
 use Rattle.io_gate.specs.Streams.{PutsAll}
 use Rattle.std.specs.List.{list_any}
 use Rattle.emu_model.specs.declared.access.Kind.{Kind}
-use Rattle.emu_model.specs.Access.{Memory}
+use Rattle.emu_model.specs.Access.{Memory, address, with_byte}
 use Rattle.emu_model.specs.Pages.{bytes_at, with_bytes}
 use Rattle.emu_system.specs.declared.system_call.Range.{Range}
 use Rattle.emu_system.specs.SystemCall.{filled, gathered, is_denied, total}
-use Rattle.linux_calls.specs.Taken.{Takes}
+use Rattle.linux_calls.specs.Taken.{Takes, Took}
 use Rattle.linux_calls.proofs.Rewritten.{refused_written}
 use Rattle.linux_calls.proofs.Takings.{both_first}
 
@@ -57,6 +57,21 @@ filled_none (r ∷ rs) m =
 nothing_dropped : (l : List ℕ) → drop 0 l ≡ l
 nothing_dropped [] = refl
 nothing_dropped (b ∷ l) = refl
+
+-- ---- the marks stay
+
+marks_written : (bytes : List ℕ) (m : Memory) (a : ℕ) → (with_bytes m a bytes).marks ≡ m.marks
+marks_written [] m a = refl
+marks_written (b ∷ bytes) m a = marks_written bytes (with_byte m (address a) b) (a + 1)
+
+marks_filled : (rs : List Range) (m : Memory) (bytes : List ℕ) → (filled m rs bytes).marks ≡ m.marks
+marks_filled [] m bytes = refl
+marks_filled (r ∷ rs) m bytes = marks_filled rs (with_bytes m r.address (take r.length bytes)) (drop r.length bytes) ∙ marks_written (take r.length bytes) m r.address
+
+pub marks_taken : {E : Type 0} (rs : List Range) (most : ℕ) (m now : Memory) (told left : Option (List ℕ)) (r : Result ℕ E) → Took most (filled m rs) now told left r → now.marks ≡ m.marks
+marks_taken rs most m now told left r p = let t = p.takes in ap (λ (n : Memory). n.marks) t.memory ∙ marks_filled rs m t.taken
+
+-- ---- ranges and then ranges
 
 pub filled_split : (xs ys : List Range) (m : Memory) (bytes : List ℕ) → filled m (xs ++ ys) bytes ≡ filled (filled m xs (take (total xs) bytes)) ys (drop (total xs) bytes)
 filled_split [] ys m bytes = ap (λ (l : List ℕ). filled m ys l) (sym (nothing_dropped bytes))

@@ -1,6 +1,5 @@
 -- What a call puts by its tests.
-use Rattle.std.proofs.Common.{◌≡◌, ℕ, Bool, true, List, ◌++◌, take, drop, Option, Some, None, IfSome, MatchBool, Ok, nat_eq, if◌then◌else◌, refl, sym, ap, subst, ◌∙◌}
-use Rattle.std.proofs.lemmas.List.{take-append-drop}
+use Rattle.std.proofs.Common.{◌≡◌, ℕ, Bool, true, List, ◌++◌, take, Option, Some, None, IfSome, MatchBool, Ok, nat_eq, if◌then◌else◌, refl, sym, ap, subst, ◌∙◌}
 use Rattle.emu_model.specs.Access.{Memory}
 use Rattle.emu_model.specs.State.{Core}
 use Rattle.emu_system.specs.declared.system_call.Errno.TheVariants.{EBADF}

@@ -1,5 +1,5 @@
 -- What a call puts to the sinks.
-use Rattle.std.specs.Prelude.{◌≡◌, ℕ, Bool, true, false, nat_eq, if◌then◌else◌, List, ◌++◌, Option, Some, IfSome, Result, IfOk, IfErr, is_err, MatchBool}
+use Rattle.std.specs.Prelude.{◌≡◌, ℕ, Bool, nat_eq, if◌then◌else◌, List, Option, IfSome, Result, IfOk, IfErr, is_err, MatchBool}
 use Rattle.emu_model.specs.Access.{Memory}
 use Rattle.emu_system.specs.Gained.{Gains}
 use Rattle.emu_system.specs.SystemCall.{Action, puts, gathered, total}

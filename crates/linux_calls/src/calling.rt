@@ -29,7 +29,7 @@ use vec_regs::VecRegs;
 ///
 /// File 0 is the input, file 1 the output and file 2 the stream of errors. A fault of one of them is answered exactly where it failed.
 /// The registers and the break are then as before the call, bytes that were taken are stored, and bytes that were put stay put.
-/// No call wants memory.
+/// Whatever is answered, the marks of the memory stay as they are. No call wants memory.
 pub fn call<I: Source, O: Sink, E: Sink>(
     core: &mut Core,
     vec: &mut VecRegs,
@@ -48,6 +48,9 @@ pub fn call<I: Source, O: Sink, E: Sink>(
     ensures errors { (bytes : List ℕ) → IfSome (E.held errors.old) (λ had. Gains (is_fault result) (E.held errors.new) had (model.call (caller core.old vec.old mem.old brk.old) bytes).errors) }
     ensures end { is_fault result ≡ false → result ≡ end_of (model.action (caller core.old vec.old mem.old brk.old)) }
     ensures sound { IsSoundBreak brk.new }
+
+    // marks are no part of what a call looks at or changes, however it ends
+    ensures marks { mem.new.marks ≡ mem.old.marks }
 
     // an error changes nothing but the registers
     ensures refused { (error : Errno) → model.action (caller core.old vec.old mem.old brk.old) ≡ model.fails error
@@ -90,6 +93,7 @@ fn make<I: Source, O: Sink, E: Sink>(
         (record { core = core.old; vectors = vec.old; memory = mem.old; brk = brk.old; left = I.left input.old; output = O.held output.old; errors = E.held errors.old })
         (record { core = core.new; vectors = vec.new; memory = mem.new; brk = brk.new; left = I.left input.new; output = O.held output.new; errors = E.held errors.new })
         (input.new ≡ input.old) (output.new ≡ output.old) (errors.new ≡ errors.old) result }
+    ensures marks { mem.new.marks ≡ mem.old.marks }
     ensures unstored { is_put_fault result ≡ true → mem.new ≡ mem.old }
     ensures read_cause { Causes (result ≡ CallEnd.ReadFault) (I.faults input.old) (I.faults input.new) }
     ensures write_cause { Causes (result ≡ CallEnd.WriteFault) (O.faults output.old) (O.faults output.new) }

@@ -37,6 +37,7 @@ pub fn read<S: Source>(core: &Core, mem: &mut Mem, input: &mut S) -> Result<Repl
     ensures replied { (v : Vectors) (brk : Break) → IfOk result (HasTaken (model.action_of CallName.Read core.now v mem.old brk) mem.old mem.new (S.left input.old) (S.left input.new) (input.new ≡ input.old)) }
     ensures failed { (v : Vectors) (brk : Break) → OnErr result (HasBrokenOff (model.action_of CallName.Read core.now v mem.old brk) mem.old mem.new (S.left input.old) (S.left input.new)) }
     ensures file { OnErr result (model.file_of core.now ≡ 0) }
+    ensures marks { mem.new.marks ≡ mem.old.marks }
     ensures cause { HasCause (S.faults input.old) (S.faults input.new) result }
 {
     if file_of(core) != 0 {
@@ -54,6 +55,7 @@ pub fn readv<S: Source>(core: &Core, mem: &mut Mem, input: &mut S) -> Result<Rep
     ensures replied { (v : Vectors) (brk : Break) → IfOk result (HasTaken (model.action_of CallName.Readv core.now v mem.old brk) mem.old mem.new (S.left input.old) (S.left input.new) (input.new ≡ input.old)) }
     ensures failed { (v : Vectors) (brk : Break) → OnErr result (HasBrokenOff (model.action_of CallName.Readv core.now v mem.old brk) mem.old mem.new (S.left input.old) (S.left input.new)) }
     ensures file { OnErr result (model.file_of core.now ≡ 0) }
+    ensures marks { mem.new.marks ≡ mem.old.marks }
     ensures cause { HasCause (S.faults input.old) (S.faults input.new) result }
 {
     if file_of(core) != 0 {
@@ -71,6 +73,7 @@ fn take<S: Source>(mem: &mut Mem, ranges: &[Range], input: &mut S) -> Result<Rep
     requires { AreGranted mem.old Kind.Write ranges.now }
     ensures replied { IfOk result (HasTaken (model.takes ranges.now) mem.old mem.new (S.left input.old) (S.left input.new) (input.new ≡ input.old)) }
     ensures failed { OnErr result (HasBrokenOff (model.takes ranges.now) mem.old mem.new (S.left input.old) (S.left input.new)) }
+    ensures marks { mem.new.marks ≡ mem.old.marks }
     ensures cause { HasCause (S.faults input.old) (S.faults input.new) result }
 {
     let count = take_ranges(mem, ranges, input)?;

@@ -38,6 +38,7 @@ pub fn move_break(mem: &mut Mem, brk: &mut Break, to: u64) -> Reply
     requires { IsSoundBreak brk.old }
     ensures done { HasDone (model.moved_break mem.old brk.old to) mem.old brk.old mem.new brk.new result }
     ensures sound { IsSoundBreak brk.new }
+    ensures marks { mem.new.marks ≡ mem.old.marks }
 {
     let now = brk.now;
     if to < brk.start || HIGHEST < to {
@@ -58,7 +59,8 @@ pub fn move_break(mem: &mut Mem, brk: &mut Break, to: u64) -> Reply
 
 /// munmap(address, length): takes away the pages of the range that are mapped.
 pub fn unmap(mem: &mut Mem, address: u64, length: u64) -> Reply
-    ensures { (brk : Break) → HasDone (model.unmapping mem.old address length) mem.old brk mem.new brk result }
+    ensures done { (brk : Break) → HasDone (model.unmapping mem.old address length) mem.old brk mem.new brk result }
+    ensures marks { mem.new.marks ≡ mem.old.marks }
 {
     if address % PAGE_BYTES != 0 || length == 0 {
         return Reply::Error(Errno::EINVAL);
@@ -74,7 +76,8 @@ pub fn unmap(mem: &mut Mem, address: u64, length: u64) -> Reply
 
 /// mmap(_, length, rights, flags): maps the highest free pages, and answers their address.
 pub fn map(mem: &mut Mem, length: u64, prot: u64, flags: u64) -> Reply
-    ensures { (brk : Break) → HasDone (model.mapping mem.old length prot flags) mem.old brk mem.new brk result }
+    ensures done { (brk : Break) → HasDone (model.mapping mem.old length prot flags) mem.old brk mem.new brk result }
+    ensures marks { mem.new.marks ≡ mem.old.marks }
 {
     if length == 0 || prot > 7 || flags & (u64::MAX - WITHOUT_MEANING) != PRIVATE_AND_ANONYMOUS {
         return Reply::Error(Errno::EINVAL);
@@ -84,7 +87,8 @@ pub fn map(mem: &mut Mem, length: u64, prot: u64, flags: u64) -> Reply
 
 /// Maps the highest `count` pages that are free one after the other, and answers their address.
 fn map_highest(mem: &mut Mem, count: u64, rights: Rights) -> Reply
-    ensures { (brk : Break) → HasDone (model.mapping_at (free_run mem.old.pages count (model.highest / 4096)) mem.old count rights) mem.old brk mem.new brk result }
+    ensures done { (brk : Break) → HasDone (model.mapping_at (free_run mem.old.pages count (model.highest / 4096)) mem.old count rights) mem.old brk mem.new brk result }
+    ensures marks { mem.new.marks ≡ mem.old.marks }
 {
     let Some(first) = mem.pages().free_run(count, HIGHEST / PAGE_BYTES) else {
         return Reply::Error(Errno::ENOMEM);
@@ -97,7 +101,8 @@ fn map_highest(mem: &mut Mem, count: u64, rights: Rights) -> Reply
 
 /// mprotect(address, length, rights): gives the pages of the range these rights, if all are mapped.
 pub fn protect(mem: &mut Mem, address: u64, length: u64, prot: u64) -> Reply
-    ensures { (brk : Break) → HasDone (model.protection mem.old address length prot) mem.old brk mem.new brk result }
+    ensures done { (brk : Break) → HasDone (model.protection mem.old address length prot) mem.old brk mem.new brk result }
+    ensures marks { mem.new.marks ≡ mem.old.marks }
 {
     if address % PAGE_BYTES != 0 || prot > 7 {
         return Reply::Error(Errno::EINVAL);

@@ -21,6 +21,7 @@ pub fn make_still(name: CallName, core: &Core, mem: &mut Mem, brk: &mut Break) -
     requires sound { IsSoundBreak brk.old }
     ensures done { (v : Vectors) → HasDone (model.action_of name core.now v mem.old brk.old) mem.old brk.old mem.new brk.new result }
     ensures sound { IsSoundBreak brk.new }
+    ensures marks { mem.new.marks ≡ mem.old.marks }
 {
     match name {
         CallName::Ioctl => ioctl(core),

@@ -1,5 +1,6 @@
 pub mod Bytes
 pub mod Codes
+pub mod Emptied
 pub mod Held
 pub mod Lists
 pub mod Search

@@ -8,7 +8,7 @@ use Rattle.frame_arena.specs.Frames.{Frames, Block, Live, bytes_of, count_of}
 use Rattle.page_list.specs.declared.slots.Slot.{Slot}
 use Rattle.page_list.specs.declared.slots.Hold.{Hold}
 use Rattle.page_list.specs.declared.slots.Hold.TheVariants.{Bare, Own, Shared}
-use Rattle.page_list.specs.Slots.{bytes_in, entry_in, entries_in, frame_of, hold_frame, hold_own, is_own, shared_hold, one, has, is_frame, holders, is_sole, no_slot, shared_if, shared_slot, shared_slots, AreOwn}
+use Rattle.page_list.specs.Slots.{bytes_in, entries_in, frame_of, hold_frame, hold_own, is_own, shared_hold, one, has, is_frame, holders, is_sole, no_slot, shared_if, shared_slot, shared_slots, AreOwn}
 use Rattle.page_list.proofs.Held.{first, one_most}
 
 -- ---- one frame more

@@ -76,6 +76,10 @@ owned_hold (Shared f) = Own f
 abbrev pub owned_slot : Slot → Slot
 owned_slot s = record s { hold = owned_hold s.hold }
 
+-- without a frame
+abbrev pub emptied_slot : Slot → Slot
+emptied_slot s = record s { hold = Bare }
+
 abbrev pub shared_slots : List Slot → List Slot
 shared_slots slots = map shared_slot slots
 

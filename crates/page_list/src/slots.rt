@@ -1,12 +1,13 @@
 //! The slots of lists, and the frames that they hold.
-ghost use Rattle.std.specs.Prelude.{◌≡◌, ◌≤◌, ◌<◌, ◌+◌, ◌-◌, ◌^◌, ◌++◌, ℕ, List, [], true, false, length, set, take, drop, IfSome, IsSome, Some, None, option_map};
+ghost use Rattle.std.specs.Prelude.{◌≡◌, ◌≤◌, ◌<◌, ◌+◌, ◌-◌, ◌^◌, ◌++◌, ◌∷◌, ℕ, List, [], true, false, length, set, take, drop, IfSome, IsSome, Some, None, option_map};
+ghost use Rattle.std.specs.Bool.{OnTrue};
 ghost use Rattle.std.specs.Vec.{vec_len, vec_capacity};
 ghost use Rattle.emu_model.specs.Pages.{zeros};
 ghost use Rattle.emu_model.specs.State.{AreBytes};
 ghost use Rattle.frame_arena.specs.Frames.{IsLive, Takes, bytes_of, count_of};
 ghost use Rattle.page_list.specs.declared.slots.Slot.{Slot};
 ghost use Rattle.page_list.specs.declared.slots.Hold.TheVariants.{Own};
-ghost use Rattle.page_list.specs.Slots.{AreBeside, AreHeld, AreOwn, Changes, HasRoom, IsCode, block_bytes, bytes_in, code_after, entries_in, frame_at, given_if, hold_frame, holders, is_own, is_sole, owned_hold, owned_slot, shared_hold, shared_if, shared_slot, shared_slots, slot_at, sole_in, zeroed_slots};
+ghost use Rattle.page_list.specs.Slots.{AreBeside, AreHeld, AreOwn, Changes, HasRoom, IsCode, block_bytes, bytes_in, code_after, emptied_slot, entries_in, frame_at, given_if, hold_frame, holders, is_own, is_sole, owned_hold, owned_slot, shared_hold, shared_if, shared_slot, shared_slots, slot_at, sole_in, zeroed_slots};
 
 use crate::code::CodePage;
 use emu_model::Rights;
@@ -83,6 +84,19 @@ fn has_own(slots: &Vec<Slot>, i: usize) -> bool
         Hold::Own(_) => true,
         Hold::Shared(_) => false,
         Hold::Bare => false,
+    }
+}
+
+/// Whether the page at place `i` has no frame.
+#[inline(always)]
+fn is_bare(slots: &Vec<Slot>, i: usize) -> bool
+    requires { i < length slots.now.items }
+    ensures { OnTrue result (frame_at slots.now.items i ≡ None) }
+{
+    match &slots[i].hold {
+        Hold::Own(_) => false,
+        Hold::Shared(_) => false,
+        Hold::Bare => true,
     }
 }
 
@@ -356,7 +370,23 @@ fn share_if(arena: &mut FrameArena, hold: &Hold) -> Hold
     }
 }
 
+/// A slot as the one at place `i`, which has no frame.
+#[inline(always)]
+fn bare_slot(slots: &Vec<Slot>, i: usize) -> Slot
+    requires place { i < length slots.now.items }
+    requires bare { frame_at slots.now.items i ≡ None }
+    ensures { result ≡ shared_slot (slot_at slots.now.items i) }
+{
+    let slot = &slots[i];
+    Slot {
+        number: slot.number,
+        rights: slot.rights,
+        hold: Hold::Bare,
+    }
+}
+
 /// A slot as the one at place `i`, which from now on shares its frame.
+#[inline(always)]
 fn share_slot(slots: &mut Vec<Slot>, arena: &mut FrameArena, i: usize) -> Slot
     requires place { i < length slots.old.items }
     requires live { IfSome (frame_at slots.old.items i) (λ f. IsLive arena.old f) }
@@ -376,6 +406,28 @@ fn share_slot(slots: &mut Vec<Slot>, arena: &mut FrameArena, i: usize) -> Slot
     other
 }
 
+/// Puts a slot as the one at place `i` of a list at the end of another. From now on they share its frame, where it has
+/// one.
+#[inline(always)]
+fn share_next(from: &mut Vec<Slot>, to: &mut Vec<Slot>, arena: &mut FrameArena, i: usize)
+    requires place { i < length from.old.items }
+    requires room { length to.old.items < vec_capacity to.old }
+    requires live { IfSome (frame_at from.old.items i) (λ f. IsLive arena.old f) }
+    requires few { IfSome (frame_at from.old.items i) (λ f. count_of arena.old.live f + 1 < 2 ^ 32) }
+    ensures from { from.new.items ≡ set from.old.items i (shared_slot (slot_at from.old.items i)) }
+    ensures to { to.new.items ≡ to.old.items ++ shared_slot (slot_at from.old.items i) ∷ [] }
+    ensures arena { arena.new ≡ shared_if arena.old (frame_at from.old.items i) }
+    ensures capacity { vec_capacity from.new ≡ vec_capacity from.old }
+    ensures capacity_to { vec_capacity to.new ≡ vec_capacity to.old }
+{
+    // most pages have no frame, and then nothing is shared
+    if is_bare(from, i) {
+        to.push_reserved(bare_slot(from, i));
+    } else {
+        to.push_reserved(share_slot(from, arena, i));
+    }
+}
+
 /// Fills an empty list with slots as those of another, whose frames are from now on shared.
 pub(crate) fn share_all(from: &mut Vec<Slot>, to: &mut Vec<Slot>, arena: &mut FrameArena)
     requires empty { to.old.items ≡ [] }
@@ -392,8 +444,22 @@ pub(crate) fn share_all(from: &mut Vec<Slot>, to: &mut Vec<Slot>, arena: &mut Fr
     ensures capacity_to { vec_capacity to.new ≡ vec_capacity to.old }
 {
     for i in 0..from.len() {
-        let slot = share_slot(from, arena, i);
-        to.push_reserved(slot);
+        share_next(from, to, arena, i);
+    }
+}
+
+/// Gives the frame of the page at place `i` back, where it has one, and leaves the page without.
+#[inline(always)]
+fn give_frame(slots: &mut Vec<Slot>, arena: &mut FrameArena, i: usize)
+    requires place { i < length slots.old.items }
+    requires live { IfSome (frame_at slots.old.items i) (λ f. IsLive arena.old f) }
+    ensures slots { slots.new.items ≡ set slots.old.items i (emptied_slot (slot_at slots.old.items i)) }
+    ensures arena { arena.new ≡ given_if arena.old (frame_at slots.old.items i) }
+    ensures capacity { vec_capacity slots.new ≡ vec_capacity slots.old }
+{
+    if !is_bare(slots, i) {
+        let hold = mem::replace(&mut slots[i].hold, Hold::Bare);
+        give_if(arena, hold);
     }
 }
 
@@ -405,8 +471,10 @@ pub(crate) fn pop_every(slots: &mut Vec<Slot>, arena: &mut FrameArena)
     ensures room { (others : List Slot) → AreBeside arena.old.live slots.old.items others → HasRoom arena.old arena.new slots.old.items [] others }
     ensures capacity { vec_capacity slots.new ≡ vec_capacity slots.old }
 {
-    let count = slots.len();
-    pop_all(slots, arena, count);
+    for i in 0..slots.len() {
+        give_frame(slots, arena, i);
+    }
+    slots.clear();
 }
 
 /// Sets an empty mark to slots, whose frames are from now on shared.

@@ -1,5 +1,6 @@
 -- The lowest 128 bits of registers.
 use Rattle.std.proofs.Common.{◌≡◌, ◌<◌, ◌≤◌, ◌+◌, ◌-◌, ◌*◌, ◌/◌, ◌%◌, ◌^◌, ℕ, zero, suc, Bool, List, [], ◌∷◌, map, length, take, get_or, set, replicate, min, inl, inr, refl, sym, ap, ◌∙◌, arith, length-append}
+use Rattle.std.specs.List.{All}
 use Rattle.std.proofs.Math.Nat.{div-eq_of_lt, lt_of_lt_of_le, pow-le-pow_right}
 use Rattle.std.proofs.lemmas.Bool.{cases_lt}
 use Rattle.std.proofs.lemmas.List.{get_or-map, get_or-take, get_or-set_other, get_or_append_left, get_or-append_right, length-replicate, length-take, length-map}
@@ -148,6 +149,9 @@ cleared_is a bits h more =
 pub cleared_shown : (a : Inside) (bits : ℕ) (v : Vectors) (z : List (List ℕ)) → shown a ≡ v → 16 ≤ a.length / 8 → 16 ≤ bits / 8 → z ≡ map low_words a.z → shown (cleared_inside bits z a) ≡ cleared bits v
 cleared_shown a bits v z e h more is = ap (λ (z : List (List ℕ)). shown (cleared_inside bits z a)) is ∙ cleared_is a bits h more ∙ ap (cleared bits) e
 
+pub zero_above : (m n : ℕ) (zs : List (List ℕ)) → m ≤ n → All (AreZeroFrom m) zs → All (AreZeroFrom n) zs
+zero_above m n zs more all = λ k d within q h. all k d within q (omega (arith, more, h))
+
 -- ---- the loop over registers
 
 pub kept_more : (old z : List (List ℕ)) (r : ℕ) (x : List ℕ) → r < length z → x ≡ low_words (get_or z r []) → ((k : ℕ) → k < r → get_or z k [] ≡ low_words (get_or old k [])) → ((k : ℕ) → r ≤ k → get_or z k [] ≡ get_or old k [])
@@ -156,6 +160,9 @@ kept_more old z r x within is done rest k b =
     let le : r ≤ r = omega arith in
     let now : x ≡ low_words (get_or old r []) = is ∙ ap low_words (rest r le) in
     ap (λ (y : List ℕ). get_or (set z r y) k []) now ∙ fill_by_more (λ k. low_words (get_or old k [])) z r [] within done k b
+
+pub same_more : (from z : List (List ℕ)) (r : ℕ) (x : List ℕ) → r < length z → x ≡ get_or from r [] → ((k : ℕ) → k < r → get_or z k [] ≡ get_or from k []) → (k : ℕ) → k < r + 1 → get_or (set z r x) k [] ≡ get_or from k []
+same_more from z r x within is done k b = ap (λ (y : List ℕ). get_or (set z r y) k []) is ∙ fill_by_more (λ k. get_or from k []) z r [] within done k b
 
 pub kept_rest : (old z : List (List ℕ)) (r : ℕ) (x : List ℕ) → ((k : ℕ) → r ≤ k → get_or z k [] ≡ get_or old k []) → (k : ℕ) → r + 1 ≤ k → get_or (set z r x) k [] ≡ get_or old k []
 kept_rest old z r x rest k h =

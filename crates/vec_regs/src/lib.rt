@@ -77,6 +77,19 @@ impl VecRegs {
         }
     }
 
+    /// Becomes the same as other registers, where it stands. Of the Z registers only what is within one of the present
+    /// lengths is moved.
+    pub fn set(&mut self, other: &VecRegs)
+        ensures { self.new ≡ other.now }
+    {
+        let count = lower::words_of(self.length, other.length);
+        lower::copy_registers(&mut self.z, &other.z, count);
+        self.p = other.p;
+        self.ffr = other.ffr;
+        self.most = other.most;
+        self.length = other.length;
+    }
+
     /// The starting vector length, in bits: a multiple of 128 from 128 to 2048. The present one is at most that.
     pub fn most(&self) -> Length
         ensures value { result ≡ self.now.most }

@@ -1,8 +1,11 @@
 //! The lowest 128 bits of Z registers, and any 128 bits of one.
-ghost use Rattle.std.specs.Prelude.{◌≡◌, ◌<◌, ◌+◌, ◌*◌, get_or, map, set};
+ghost use Rattle.std.specs.Prelude.{◌≡◌, ◌<◌, ◌≤◌, ◌+◌, ◌*◌, ◌/◌, get_or, map, set};
+ghost use Rattle.std.specs.List.{All};
 ghost use Rattle.vec_regs.specs.Packed as model;
 ghost use Rattle.vec_regs.specs.Packed.{number_words};
 ghost use Rattle.vec_regs.specs.Words.{AreZeroFrom};
+
+use emu_model::Length;
 
 /// The words of a register that is a number.
 pub fn register_of(v: u128) -> [u64; 32]
@@ -42,4 +45,42 @@ pub fn put_pair(words: &mut [u64; 32], i: u32, pair: [u64; 2])
     let at = 2 * i as usize;
     words[at] = pair[0];
     words[at + 1] = pair[1];
+}
+
+/// How many words are within one of two vector lengths.
+pub fn words_of(here: Length, there: Length) -> usize
+    ensures here { here / 64 ≤ result }
+    ensures there { there / 64 ≤ result }
+    ensures most { result ≤ 32 }
+{
+    let mine = here.bits();
+    let other = there.bits();
+    if mine < other {
+        other as usize / 64
+    } else {
+        mine as usize / 64
+    }
+}
+
+/// Makes a register the same as another, where both have zeros from word `count` on.
+#[inline(always)]
+fn copy_words(to: &mut [u64; 32], from: &[u64; 32], count: usize)
+    requires within { count ≤ 32 }
+    requires zero_to { AreZeroFrom count to.old }
+    requires zero_from { AreZeroFrom count from.now }
+    ensures { to.new ≡ from.now }
+{
+    to[..count].copy_from_slice(&from[..count]);
+}
+
+/// Makes registers the same as others, where all have zeros from word `count` on.
+pub fn copy_registers(to: &mut [[u64; 32]; 32], from: &[[u64; 32]; 32], count: usize)
+    requires within { count ≤ 32 }
+    requires zero_to { All (AreZeroFrom count) to.old }
+    requires zero_from { All (AreZeroFrom count) from.now }
+    ensures { to.new ≡ from.now }
+{
+    for r in 0..32 {
+        copy_words(&mut to[r], &from[r], count);
+    }
 }

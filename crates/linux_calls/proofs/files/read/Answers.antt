@@ -1,4 +1,4 @@
-use Rattle.std.proofs.Common.{◌∷◌, [], IfOk, OnErr, ◌≡◌, refl, sym}
+use Rattle.std.proofs.Common.{◌∷◌, [], IfOk, OnErr, ◌≡◌, refl, sym, ap, ◌∙◌}
 use Rattle.emu_model.specs.declared.access.Kind.TheVariants.{Write}
 use Rattle.emu_model.specs.Access.{Memory}
 use Rattle.emu_system.specs.SystemCall.{Action, takes, with_buffer}
@@ -23,3 +23,9 @@ returns-in-Ok-clause-failed g c v brk =
     as_action (λ (a : Action) (m : Memory). OnErr c.take.result (HasBrokenOff a m c.take.new.mem (g.S.Source.left c.args.input.now) (g.S.Source.left c.take.new.input))) _ _ _ _
     (of_input c.args.core.now c.file_of.result (takes (c.in-Ok.range ∷ [])) (with_buffer Write takes c.args.core.now c.args.mem.now) c.file_of.ensures c.if-file_of-ne0.false (sym (c.in-Ok.ensures.range takes)))
     c.in-Ok.ensures.unchanged c.take.ensures.failed
+
+pub returns-in-Err-clause-marks : goal.returns-in-Err-clause-marks
+returns-in-Err-clause-marks g c = ap (λ (m : Memory). m.marks) c.in-Err.ensures.unchanged
+
+pub returns-in-Ok-clause-marks : goal.returns-in-Ok-clause-marks
+returns-in-Ok-clause-marks g c = c.take.ensures.marks ∙ ap (λ (m : Memory). m.marks) c.in-Ok.ensures.unchanged

@@ -24,3 +24,9 @@ returns-in-Ok-clause-failed g c v brk =
     as_action (λ (a : Action) (m : Memory). OnErr c.take.result (HasBrokenOff a m c.take.new.mem (g.S.Source.left c.args.input.now) (g.S.Source.left c.take.new.input))) _ _ _ _
     (of_input c.args.core.now c.file_of.result (takes c.as_slice.result.now) (with_vector Write takes c.args.core.now c.args.mem.now) c.file_of.ensures c.if-file_of-ne0.false (ap takes c.as_slice.ensures.value ∙ sym (c.in-Ok.ensures.ranges takes)))
     c.in-Ok.ensures.unchanged c.take.ensures.failed
+
+pub returns-in-Err-clause-marks : goal.returns-in-Err-clause-marks
+returns-in-Err-clause-marks g c = ap (λ (m : Memory). m.marks) c.in-Err.ensures.unchanged
+
+pub returns-in-Ok-clause-marks : goal.returns-in-Ok-clause-marks
+returns-in-Ok-clause-marks g c = c.take.ensures.marks ∙ ap (λ (m : Memory). m.marks) c.in-Ok.ensures.unchanged

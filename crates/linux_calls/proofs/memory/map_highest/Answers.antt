@@ -20,7 +20,7 @@ overflow_mul-result c =
     let most = high c.args.mem.now c.args.count c.in-Some.first c.args.rights no_break (ap (λ (m : Memory). free_run m.pages c.args.count (highest / 4096)) (sym c.pages.ensures) ∙ sym c.free_run.ensures ∙ c.in-Some.is) in
     record { fits = omega (arith, most) }
 
-pub returns-in-Err : goal.returns-in-Err
-returns-in-Err c brk =
+pub returns-in-Err-clause-done : goal.returns-in-Err-clause-done
+returns-in-Err-clause-done c brk =
     refused c.args.mem.now c.args.count c.in-Some.first c.args.rights brk (ap (λ (m : Memory). free_run m.pages c.args.count (highest / 4096)) (sym c.pages.ensures) ∙ sym c.free_run.ensures ∙ c.in-Some.is)
     _ _ _ _ c.pages_mut.result.now _ c.pages_mut.ensures.now c.in-Err.ensures.granted c.in-Err.ensures.unchanged

@@ -1,8 +1,8 @@
-use Rattle.std.proofs.Common.{◌≡◌, ◌≤◌, ◌+◌, List, set, length, true, refl, ap, ◌∙◌, sym, subst, arith}
+use Rattle.std.proofs.Common.{List, length, refl, ap, ◌∙◌, sym, subst, arith}
 use Rattle.std.proofs.Math.Seq.{map-set_same}
 use Rattle.std.proofs.lemmas.List.{get_or-set_same, get_or_default, length-set}
 use Rattle.page_list.specs.declared.slots.Slot.{Slot}
-use Rattle.page_list.specs.Slots.{AreOwn, Changes, IsCode, entries_in, entry_in, frame_of, is_own, is_sole, no_slot, owned_slot, slot_at, sole_in}
+use Rattle.page_list.specs.Slots.{AreOwn, Changes, IsCode, entries_in, entry_in, frame_of, is_own, no_slot, owned_slot, slot_at, sole_in}
 use Rattle.page_list.proofs.Codes.{code_kept}
 use Rattle.page_list.proofs.Held.{holders-set, own-set, owned_entry, owned_frame, owned_own, owned_right, slot_there, sole-set}
 use Rattle.page_list.proofs.slots.make_own.Goals as goal

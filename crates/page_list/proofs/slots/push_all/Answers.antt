@@ -1,4 +1,4 @@
-use Rattle.std.proofs.Common.{◌≡◌, ◌+◌, ◌-◌, ◌++◌, ◌∷◌, [], suc, List, None, false, length, length-append, ap, subst, ◌∙◌, append_assoc, arith}
+use Rattle.std.proofs.Common.{◌≡◌, ◌+◌, ◌-◌, ◌++◌, ◌∷◌, [], suc, List, length, length-append, ap, subst, ◌∙◌, append_assoc, arith}
 use Rattle.page_list.specs.declared.slots.Hold.TheVariants.{Bare}
 use Rattle.page_list.specs.declared.slots.Slot.{Slot}
 use Rattle.page_list.specs.Slots.{zeroed_slots}

@@ -1,4 +1,4 @@
-use Rattle.std.proofs.Common.{◌≡◌, ◌<◌, length, get_or, None, is_some, ap, ◌∙◌, sym, arith}
+use Rattle.std.proofs.Common.{◌<◌, length, get_or, None, is_some, ap, ◌∙◌, sym, arith}
 use Rattle.std.proofs.lemmas.List.{length-map}
 use Rattle.page_list.specs.Entries.{Listed}
 use Rattle.page_list.specs.Slots.{mark_in}
