@@ -88,16 +88,6 @@ module _ (st : State) (input : List ℕ) (m : MachineState) (place until : ℕ) 
         gained_as had b hq (st.errors ++ (run quiet_state until).errors) (run st until).errors (ap (λ (s : State). s.errors) (sym ran_behind))
         (gained_more b had hp hq st.errors (run quiet_state until).errors before q)
 
--- the machine is in the state of its own parts
-pub in_itself : (input : List ℕ) (m : MachineState) (place : ℕ) → m.failed ≡ false → place ≤ length input → IsIn (with_input m.parts (drop place input)) input m place
-in_itself input m place fine within = record { parts = refl; failed = fine; left = refl; within = within }
-
--- so the run leaves its marks as they were
-pub ran_marks : (input : List ℕ) (m n : MachineState) (place until : ℕ) (told left : Option (List ℕ)) → m.failed ≡ false → place ≤ length input → told ≡ Some (drop place input) → Becomes (λ s. run s until) m.parts n.parts told left false
-    → n.parts.memory.marks ≡ m.parts.memory.marks
-ran_marks input m n place until told left fine within is done =
-    ap (λ (p : Parts). p.memory.marks) (ran_parts (with_input m.parts (drop place input)) input m place until (in_itself input m place fine within) n told left is done)
-
 -- all that stands behind a place
 pub whole_rest : (xs : List ℕ) (i : ℕ) → take (length xs - i) (drop i xs) ≡ drop i xs
 whole_rest xs i = let count = length-drop i xs in take_all (length xs - i) (drop i xs) (omega (arith, count))

@@ -73,7 +73,8 @@ impl Points {
 
     /// Whether there is neither a break nor a watch.
     pub fn is_empty(&self) -> bool
-        ensures { OnTrue result (self.now ≡ no_marks) }
+        ensures none { OnTrue result (self.now ≡ no_marks) }
+        ensures some { self.now ≡ no_marks → result ≡ true }
     {
         self.breaks.is_empty() && self.watches.is_empty()
     }

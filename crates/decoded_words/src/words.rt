@@ -4,10 +4,11 @@ ghost use Rattle.emu_bits.specs.Fields.{field};
 ghost use Rattle.emu_run.specs.Step as model;
 
 use crate::known::KnownWord;
+use std::alloc::{AllocError, Global};
 use sve_insn::Sve;
 
 /// The number of places.
-const PLACES: usize = 256;
+const PLACES: usize = 128;
 
 /// Words of SVE with their instructions, one at each place. Of the words that have a place in common, the one that was
 /// asked for last is there. Each place has a word from the start on, so that no place has to be asked whether it has
@@ -16,15 +17,16 @@ const PLACES: usize = 256;
 /// No contract says which words these are: whatever they are, `find` answers what the word decodes to.
 #[derive(Drop)]
 pub struct DecodedWords {
-    places: [KnownWord; PLACES],
+    // in a box, so that what has them can be moved
+    places: Box<[KnownWord; PLACES]>,
 }
 
 impl DecodedWords {
-    /// One word at all places.
-    pub fn new() -> DecodedWords {
-        DecodedWords {
-            places: [KnownWord::first(); PLACES],
-        }
+    /// One word at all places. The only error is want of memory.
+    pub fn new(alloc: Global) -> Result<DecodedWords, AllocError> {
+        Ok(DecodedWords {
+            places: Box::new(alloc, [KnownWord::first(); PLACES])?,
+        })
     }
 
     /// The instruction of a word that may be in a row of SVE, which is remembered from then on. None exactly where the
@@ -34,7 +36,8 @@ impl DecodedWords {
         requires { field word 27 2 ≡ 0 }
         ensures { model.sve (option_map (λ i. i.now) result) ≡ model.decode word }
     {
-        let known = &mut self.places[place_of(word)];
+        let places = &mut *self.places;
+        let known = &mut places[place_of(word)];
         if known.becomes(word) {
             Some(known.insn())
         } else {
@@ -47,7 +50,7 @@ impl DecodedWords {
 /// their registers alone mostly have places of their own.
 #[inline(always)]
 fn place_of(word: u32) -> usize
-    ensures { result < 256 }
+    ensures { result < 128 }
 {
-    (word.wrapping_mul(0x9E37_79B1) / 0x100_0000) as usize
+    (word.wrapping_mul(0x9E37_79B1) / 0x200_0000) as usize
 }

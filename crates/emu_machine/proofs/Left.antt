@@ -38,6 +38,11 @@ rebuilt p l failed saved m parts log same kept =
     ap (λ (x : Parts). state_of x l failed saved) (sym parts) ∙ ap (λ (x : List Access). state_of m.parts x failed saved) (sym log) ∙ ap (λ (x : Bool). state_of m.parts m.accesses x saved) (sym same)
     ∙ ap (λ (x : List Saved). state_of m.parts m.accesses m.failed x) (sym kept)
 
+-- the registers behind their boxes
+pub performed_as : (i : Insn) (c c2 : Core) (v v2 : Vectors) (m : Memory) → c ≡ c2 → v ≡ v2 → (d : Done) → performed i c v m ≡ d → performed i c2 v2 m ≡ d
+performed_as i c c2 v v2 m same_core same_vectors d is =
+    sym (ap (λ (x : Core). performed i x v2 m) same_core) ∙ sym (ap (λ (x : Vectors). performed i c x m) same_vectors) ∙ is
+
 module _ (i : Insn) (c d : Core) (v w : Vectors) (m n : Memory) (brk : Break) (steps : ℕ) (ended : Option Ended) (k l : List Access) (failed : Bool) (saved : List Saved) where
   -- the machine before the instruction, and what the instruction left
   abbrev before : MachineState

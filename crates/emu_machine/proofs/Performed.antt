@@ -1,10 +1,8 @@
 -- An instruction that asks for a call is svc, and does nothing else.
-use Rattle.std.proofs.Common.{◌≡◌, ℕ, ◌*◌, ◌^◌, ◌==◌, Bool, true, false, List, [], Option, Some, None, is_none, if◌then◌else◌, refl, ap, sym, ◌∙◌}
+use Rattle.std.proofs.Common.{◌≡◌, ℕ, Bool, true, false, List, [], Option, Some, None, is_none, if◌then◌else◌, refl, ap, sym, ◌∙◌}
 use Rattle.std.specs.Prelude.{◌||◌, is_some}
 use Rattle.a64_insn.specs.declared.form.A64Form.{A64Form}
-use Rattle.a64_insn.specs.declared.form.A64Form.TheVariants.{Branch, BranchCond, Compare, Test, BranchReg, Except, Atomic, CompareSwap}
-use Rattle.a64_insn.specs.declared.ops.BranchOp.TheVariants.{B, Bl}
-use Rattle.a64_insn.specs.declared.ops.BranchRegOp.TheVariants.{Br, Blr, Ret}
+use Rattle.a64_insn.specs.declared.form.A64Form.TheVariants.{Branch, BranchCond, Compare, Test, BranchReg, Except, Hint, Barrier, ReadSys, WriteSys}
 use Rattle.a64_insn.specs.declared.ops.ExceptOp.TheVariants.{Svc, Brk, Hlt}
 use Rattle.emu_bits.specs.Flags.{cond_of, cond_holds}
 use Rattle.emu_bits.specs.Numbers.{width_of}
@@ -16,28 +14,29 @@ use Rattle.emu_model.specs.declared.trap.Effect.TheVariants.{Call}
 use Rattle.emu_model.specs.Access.{Memory, refused, value}
 use Rattle.emu_model.specs.declared.program_break.Break.{Break}
 use Rattle.emu_model.specs.declared.trap.Ended.{Ended}
-use Rattle.emu_model.specs.State.{Core, Vectors, read_x, read_x_sp, with_x}
+use Rattle.emu_model.specs.State.{Core, Vectors, read_x}
 use Rattle.emu_run.specs.declared.insn.Insn.{Insn}
 use Rattle.emu_run.specs.declared.insn.Insn.TheVariants.{A64, Sve}
-use Rattle.a64_effects.specs.declared.pages.Page as a64_page
-use Rattle.a64_effects.specs.declared.pages.Page.TheVariants as a64_pages
+use Rattle.a64_effects.specs.declared.groups.Group.TheVariants.{Flow}
 use Rattle.a64_effects.specs.Effects as a64
-use Rattle.a64_effects.specs.Pages.{page_of as a64_page_of}
+use Rattle.a64_effects.specs.Effects.{performed_by}
+use Rattle.a64_effects.specs.Groups.{group, same_group}
+use Rattle.a64_effects.specs.Operations.{Operation, computes, flows, transfers, exchanges, copies, operation_of}
 use Rattle.sve_insn.specs.declared.form.SveForm.{SveForm}
-use Rattle.sve_effects.specs.declared.pages.Page.{Page}
-use Rattle.sve_effects.specs.declared.pages.Page.TheVariants.{Lanes, Permutes, Counts, Folds, Predicates, Loads, Stores, Gathers, Scatters, FirstFaults}
 use Rattle.sve_effects.specs.Effects as sve
-use Rattle.sve_effects.specs.FirstFault.{first_fault, first_fault_loaded, first_refused, is_non_fault, loaded_unless}
-use Rattle.sve_effects.specs.Pages.{page_of}
-use Rattle.sve_effects.specs.VectorElements.{layout, elements_of}
+use Rattle.sve_effects.specs.FirstFault.{first_fault_row, first_refused, loaded_unless, never_traps}
+use Rattle.sve_effects.specs.FirstFaultParts.{first_fault_loaded}
+use Rattle.sve_effects.specs.Row.{Row, done_by, done_by_way}
+use Rattle.sve_effects.specs.Rows.{row}
+use Rattle.sve_effects.specs.VectorElements.{MemoryRow, Way, elements_of, row_layout}
 use Rattle.sve_effects.specs.VectorLoadStore as memory_rows
 use Rattle.a64_effects.specs.declared.transfer.Transfer.{Transfer}
 use Rattle.a64_effects.specs.declared.transfer.Transfer.TheVariants.{Store, Load, LoadSigned, LoadSigned32, Prefetch, StoreVector, LoadVector}
 use Rattle.emu_model.specs.Done.{Done, quietly, traps}
 use Rattle.emu_model.specs.Elements.{Element, reach}
-use Rattle.a64_effects.specs.Flow.{branches_if, is_taken, is_taken_by, digit, tested_bit, target, flow}
-use Rattle.a64_effects.specs.Atomic.{low_bytes, updated, swapped, exchanged, unless_refused, one_step}
-use Rattle.a64_effects.specs.LoadStore.{access, accessed, behind, elements, has_sp_base, is_misaligned, load_as_far, loaded_to, misaligned, store_as_far, stored_to, tested, transfer_of, transferred, unless_misaligned}
+use Rattle.a64_effects.specs.Flow.{branches_if, is_taken, is_taken_by, digit, tested_bit, target}
+use Rattle.a64_effects.specs.Atomic.{exchanged, unless_refused, one_step}
+use Rattle.a64_effects.specs.LoadStore.{Transferring, Exchanging, elements_from, is_misaligned, load_as_far, loaded_to, misaligned, store_as_far, stored_to, tested, transferred, transferred_by, exchanged_by, unless_misaligned, unless_multiple}
 use Rattle.a64_effects.specs.Scalar.{operand}
 use Rattle.emu_run.specs.Step.{performed}
 use Rattle.emu_machine.specs.Machines.{MachineState, Saved, has_ended, is_svc}
@@ -97,15 +96,22 @@ module _ (c : Core) (v : Vectors) (m : Memory) where
       let o : ℕ = value m a n in
       refused_is_other (refused m a n ReadKind) (refused m a n WriteKind) (exchanged a n (new o) (after o) v m) (exchanged_is_other a n (new o) (after o))
 
-  accessed_is_other : (form : A64Form) → IsOther (accessed form c v m).effect
-  accessed_is_other (Atomic op size acquires releases rs rn rt) =
-      one_step_is_other (read_x_sp c rn) (2 ^ size) (λ o. Some (updated op (2 ^ size) o (low_bytes (2 ^ size) c rs))) (with_x c rt 64)
-  accessed_is_other (CompareSwap size acquires releases rs rn rt) =
-      one_step_is_other (read_x_sp c rn) (2 ^ size) (λ o. swapped (o == low_bytes (2 ^ size) c rs) (low_bytes (2 ^ size) c rt)) (with_x c rs 64)
-  accessed_is_other form = transferred_is_other (behind form c) (transfer_of form) (elements form c)
+  transferred_by_is_other : (r : Transferring) → IsOther (transferred_by r c v m).effect
+  transferred_by_is_other r =
+      let es : List Element = elements_from r.registers r.address r.bytes in
+      tested_is_other r.tests_sp (misaligned r.is_aligned r.address r.bytes) (transferred r.transfer es r.behind c v m) (transferred_is_other r.behind r.transfer es)
 
-  access_is_other : (form : A64Form) → IsOther (access form c v m).effect
-  access_is_other form = tested_is_other (has_sp_base form) (misaligned form c) (accessed form c v m) (accessed_is_other form)
+  exchanged_by_is_other : (r : Exchanging) → IsOther (exchanged_by r c v m).effect
+  exchanged_by_is_other r =
+      tested_is_other r.tests_sp (unless_multiple r.address r.bytes) (one_step r.address r.bytes r.new r.behind c v m) (one_step_is_other r.address r.bytes r.new r.behind)
+
+  -- of the rows those of branches and the system alone can
+  by_operation_is_other : (r : Operation) → same_group Flow (group r) ≡ false → IsOther (performed_by r c v m).effect
+  by_operation_is_other (computes after) apart = λ h. cc
+  by_operation_is_other (flows after effect) apart = λ h. cc
+  by_operation_is_other (transfers row) apart = transferred_by_is_other (row c)
+  by_operation_is_other (exchanges row) apart = exchanged_by_is_other (row c)
+  by_operation_is_other (copies after) apart = λ h. cc
 
   -- ---- of the branches and system rows svc alone does
 
@@ -113,32 +119,24 @@ module _ (c : Core) (v : Vectors) (m : Memory) where
   abbrev AsksAlone : Insn → Done → Type 0
   AsksAlone i d = d.effect ≡ Call → (d ≡ quietly c v m Call) × (is_svc (Some i) ≡ true)
 
-  branches_alone : (form : A64Form) (taken : Bool) (a : ℕ) → AsksAlone (A64 form) (branches_if taken c v m a)
-  branches_alone form true a = λ h. absurd (cc)
-  branches_alone form false a = λ h. absurd (cc)
-
-  flow_alone : (form : A64Form) → AsksAlone (A64 form) (flow form c v m)
-  flow_alone (Branch B imm26) = λ h. absurd (cc)
-  flow_alone (Branch Bl imm26) = λ h. absurd (cc)
-  flow_alone (BranchCond imm19 cond) = branches_alone (BranchCond imm19 cond) (cond_holds (cond_of cond) c.flags) (target c 19 imm19)
-  flow_alone (Compare op sf imm19 rt) = branches_alone (Compare op sf imm19 rt) (is_taken op (operand (width_of sf) c rt)) (target c 19 imm19)
-  flow_alone (Test op b5 b40 imm14 rt) = branches_alone (Test op b5 b40 imm14 rt) (is_taken_by op (digit (read_x c rt) (tested_bit b5 b40))) (target c 14 imm14)
-  flow_alone (BranchReg Br rn) = λ h. absurd (cc)
-  flow_alone (BranchReg Blr rn) = λ h. absurd (cc)
-  flow_alone (BranchReg Ret rn) = λ h. absurd (cc)
-  flow_alone (Except Svc imm16) = λ h. (refl, refl)
-  flow_alone (Except Brk imm16) = λ h. absurd (cc)
-  flow_alone (Except Hlt imm16) = λ h. absurd (cc)
-  flow_alone form = λ h. absurd (cc)
-
-  on_page_alone : (form : A64Form) (page : a64_page.Page) → AsksAlone (A64 form) (a64.performed_on page form c v m)
-  on_page_alone form a64_pages.Data = λ h. absurd (cc)
-  on_page_alone form a64_pages.Flow = flow_alone form
-  on_page_alone form a64_pages.Accesses = λ h. absurd (access_is_other form h)
-  on_page_alone form a64_pages.BitMoves = λ h. absurd (cc)
+  branches_if_is_other : (taken : Bool) (a : ℕ) → IsOther (branches_if taken a)
+  branches_if_is_other true a = λ h. cc
+  branches_if_is_other false a = λ h. cc
 
   a64_alone : (form : A64Form) → AsksAlone (A64 form) (a64.performed form c v m)
-  a64_alone form = on_page_alone form (a64_page_of form)
+  a64_alone (Branch op imm26) = λ h. absurd (cc)
+  a64_alone (BranchCond imm19 cond) = λ h. absurd (branches_if_is_other (cond_holds (cond_of cond) c.flags) (target c 19 imm19) h)
+  a64_alone (Compare op sf imm19 rt) = λ h. absurd (branches_if_is_other (is_taken op (operand (width_of sf) c rt)) (target c 19 imm19) h)
+  a64_alone (Test op b5 b40 imm14 rt) = λ h. absurd (branches_if_is_other (is_taken_by op (digit (read_x c rt) (tested_bit b5 b40))) (target c 14 imm14) h)
+  a64_alone (BranchReg op rn) = λ h. absurd (cc)
+  a64_alone (Except Svc imm16) = λ h. (refl, refl)
+  a64_alone (Except Brk imm16) = λ h. absurd (cc)
+  a64_alone (Except Hlt imm16) = λ h. absurd (cc)
+  a64_alone (Hint n) = λ h. absurd (cc)
+  a64_alone (Barrier op n) = λ h. absurd (cc)
+  a64_alone (ReadSys op rt) = λ h. absurd (cc)
+  a64_alone (WriteSys op rt) = λ h. absurd (cc)
+  a64_alone form = λ h. absurd (by_operation_is_other (operation_of form) refl h)
 
   -- ---- no SVE row does
 
@@ -156,45 +154,49 @@ module _ (c : Core) (v : Vectors) (m : Memory) where
     | false ↦ other
   ]
 
-  vector_load_is_other : (form : SveForm) → IsOther (memory_rows.vector_load form c v m).effect
-  vector_load_is_other form =
-      let l = layout form c v in
-      let r = reach m ReadKind (elements_of l) in
-      unless_sp_is_other (memory_rows.has_sp_base form) (elements_of l) (memory_rows.loaded_to r (memory_rows.after_load form l m v) c v m)
-      (vector_loaded_is_other r.stop r.done (memory_rows.after_load form l m v))
+  load_row_is_other : (r : MemoryRow) → IsOther (memory_rows.load_row r c v m).effect
+  load_row_is_other r =
+      let l = row_layout r c v in
+      let far = reach m ReadKind (elements_of l) in
+      let after = memory_rows.after_load r.transfer r.width.is_signed l m v in
+      unless_sp_is_other (memory_rows.has_sp_base r.brackets) (elements_of l) (memory_rows.loaded_to far after c v m) (vector_loaded_is_other far.stop far.done after)
 
-  vector_store_is_other : (form : SveForm) → IsOther (memory_rows.vector_store form c v m).effect
-  vector_store_is_other form =
-      let l = layout form c v in
-      let r = reach m WriteKind (elements_of l) in
-      unless_sp_is_other (memory_rows.has_sp_base form) (elements_of l) (memory_rows.stored_to r (memory_rows.element_stored form l v) c v m)
-      (vector_stored_is_other r.stop r.done (memory_rows.element_stored form l v))
+  store_row_is_other : (r : MemoryRow) → IsOther (memory_rows.store_row r c v m).effect
+  store_row_is_other r =
+      let l = row_layout r c v in
+      let far = reach m WriteKind (elements_of l) in
+      let stores = memory_rows.element_stored r.transfer l v in
+      unless_sp_is_other (memory_rows.has_sp_base r.brackets) (elements_of l) (memory_rows.stored_to far stores c v m) (vector_stored_is_other far.stop far.done stores)
 
   loaded_unless_is_other : (o : Option ℕ) (d : Done) → IsOther d.effect → IsOther (loaded_unless o d c v m).effect
   loaded_unless_is_other None d other = other
   loaded_unless_is_other (Some a) d other = λ h. cc
 
-  first_fault_is_other : (form : SveForm) → IsOther (first_fault form c v m).effect
-  first_fault_is_other form =
-      let l = layout form c v in
-      let d = first_fault_loaded (memory_rows.loads_signed form) l.bits l.register (elements_of l) c v m in
-      let o : Option ℕ = if is_non_fault form then None else first_refused m (elements_of l) in
-      unless_sp_is_other (memory_rows.has_sp_base form) (elements_of l) (loaded_unless o d c v m) (loaded_unless_is_other o d (λ h. cc))
+  first_fault_is_other : (r : MemoryRow) (es : List Element) → IsOther (first_fault_row r es c v m).effect
+  first_fault_is_other r es =
+      let d = first_fault_loaded r.width.is_signed r.width.bits r.first es c v m in
+      let o : Option ℕ = if never_traps r.way then None else first_refused m es in
+      unless_sp_is_other (memory_rows.has_sp_base r.brackets) es (loaded_unless o d c v m) (loaded_unless_is_other o d (λ h. cc))
 
-  on_page_is_other : (form : SveForm) (page : Page) → IsOther (sve.performed_on page form c v m).effect
-  on_page_is_other form Lanes = λ h. cc
-  on_page_is_other form Permutes = λ h. cc
-  on_page_is_other form Counts = λ h. cc
-  on_page_is_other form Folds = λ h. cc
-  on_page_is_other form Predicates = λ h. cc
-  on_page_is_other form Loads = vector_load_is_other form
-  on_page_is_other form Stores = vector_store_is_other form
-  on_page_is_other form Gathers = vector_load_is_other form
-  on_page_is_other form Scatters = vector_store_is_other form
-  on_page_is_other form FirstFaults = first_fault_is_other form
+  way_is_other : (way : Way) (r : MemoryRow) → IsOther (done_by_way way r c v m).effect
+  way_is_other Way.loads r = load_row_is_other r
+  way_is_other Way.stores r = store_row_is_other r
+  way_is_other (Way.gathers true) r = first_fault_is_other r (elements_of (row_layout r c v))
+  way_is_other (Way.gathers false) r = load_row_is_other r
+  way_is_other Way.scatters r = store_row_is_other r
+  way_is_other Way.first_faults r = first_fault_is_other r (elements_of (row_layout r c v))
+  way_is_other Way.non_faults r = first_fault_is_other r (elements_of (row_layout r c v))
+
+  row_is_other : (r : Row) → IsOther (done_by r c v m).effect
+  row_is_other (Row.by_lanes f) = λ h. cc
+  row_is_other (Row.permutes f) = λ h. cc
+  row_is_other (Row.counts f) = λ h. cc
+  row_is_other (Row.folds f) = λ h. cc
+  row_is_other (Row.predicates f) = λ h. cc
+  row_is_other (Row.memory r) = way_is_other r.way r
 
   sve_is_other : (form : SveForm) → IsOther (sve.performed form c v m).effect
-  sve_is_other form = on_page_is_other form (page_of form)
+  sve_is_other form = row_is_other (row form)
 
   performed_alone : (i : Insn) → AsksAlone i (performed i c v m)
   performed_alone (A64 form) = a64_alone form

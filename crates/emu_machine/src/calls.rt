@@ -36,6 +36,7 @@ impl Machine {
         ensures unstored { is_unput result ≡ true → self.new.parts ≡ self.old.parts }
         ensures accesses { self.new.accesses ≡ self.old.accesses }
         ensures failed { self.new.failed ≡ is_undone result }
+        ensures marks { self.new.parts.memory.marks ≡ self.old.parts.memory.marks }
         ensures saved { self.new.saved ≡ self.old.saved }
         ensures read_cause { Causes (result ≡ StepEnd.ReadFault) (I.faults input.old) (I.faults input.new) }
         ensures write_cause { Causes (result ≡ StepEnd.WriteFault) (O.faults output.old) (O.faults output.new) }
@@ -45,8 +46,8 @@ impl Machine {
         ensures errors_named { result ≡ StepEnd.ErrorsFault → NamesWrite self.old.parts.core 2 }
     {
         let end = call(
-            &mut self.core,
-            &mut self.vec,
+            &mut *self.core,
+            &mut *self.vec,
             &mut self.memory,
             &mut self.brk,
             input,

@@ -18,6 +18,17 @@ impl Machine {
         ensures core { core.new ≡ self.old.parts.core }
         ensures vec { vec.new ≡ self.old.parts.vectors }
     {
+        std::mem::swap(&mut *self.core, core);
+        std::mem::swap(&mut *self.vec, vec);
+    }
+
+    /// The same of registers in boxes, by their boxes alone.
+    #[inline(always)]
+    pub fn swap_boxes(&mut self, core: &mut Box<Core>, vec: &mut Box<VecRegs>)
+        ensures machine { self.new ≡ record self.old { parts = record self.old.parts { core = core.old.value; vectors = vec.old.value } } }
+        ensures core { core.new.value ≡ self.old.parts.core }
+        ensures vec { vec.new.value ≡ self.old.parts.vectors }
+    {
         std::mem::swap(&mut self.core, core);
         std::mem::swap(&mut self.vec, vec);
     }

@@ -13,6 +13,7 @@ mod machine;
 mod marks;
 mod open;
 mod program;
+mod registers;
 mod saved;
 mod stack;
 

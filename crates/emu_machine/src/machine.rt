@@ -14,6 +14,7 @@ ghost use Rattle.emu_machine.specs.Ends.{step_end, run_end, run_end_of, is_undon
 ghost use Rattle.emu_machine.specs.Machines.{has_ended, is_at_call, is_svc, makes_call, MakesRead, MakesWrite};
 
 use crate::ends::{Progress, RunEnd, StepEnd, run_end_of, step_end};
+use crate::registers::Registers;
 use crate::saved::Saved;
 use a64_insn::A64;
 use core_regs::{Core, Effect};
@@ -30,8 +31,9 @@ use vec_regs::VecRegs;
 /// its marks keep beside their pages.
 #[derive(Drop)]
 pub struct Machine {
-    pub(crate) core: Core,
-    pub(crate) vec: VecRegs,
+    // in boxes, so that they can be exchanged and moved as they are
+    pub(crate) core: Box<Core>,
+    pub(crate) vec: Box<VecRegs>,
     pub(crate) memory: Mem,
     pub(crate) log: AccessLog,
     // no part of what contracts see: a step does the same whatever it has
@@ -52,7 +54,7 @@ impl Model for Machine {
     ghost coded = { coded_machine };
 
     ghost view = { λ a. record {
-      parts = record { core = a.core; vectors = a.vec; memory = a.memory; brk = a.brk; steps = a.steps; ended = a.ended };
+      parts = record { core = a.core.value; vectors = a.vec.value; memory = a.memory; brk = a.brk; steps = a.steps; ended = a.ended };
       accesses = a.log.items;
       failed = a.failed;
       saved = a.saved.items;
@@ -66,21 +68,21 @@ impl Model for Machine {
 impl Machine {
     /// A machine before its first step.
     pub(crate) fn at_start(
-        core: Core,
-        vec: VecRegs,
+        registers: Registers,
         memory: Mem,
         brk: Break,
         saved: Vec<Saved>,
     ) -> Machine
         requires { IsSoundBreak brk }
-        ensures { result ≡ record { parts = record { core = core; vectors = vec; memory = memory; brk = brk; steps = 0; ended = None }; accesses = []; failed = false; saved = saved.items } }
+        ensures { result ≡ record { parts = record { core = registers.core.value; vectors = registers.vec.value; memory = memory; brk = brk; steps = 0; ended = None }; accesses = []; failed = false; saved = saved.items } }
     {
+        let Registers { core, vec, words } = registers;
         Machine {
             core,
             vec,
             memory,
             log: AccessLog::new(),
-            words: DecodedWords::new(),
+            words,
             brk,
             steps: 0,
             ended: None,
@@ -236,8 +238,8 @@ impl Machine {
         ensures saved { self.new.saved ≡ self.old.saved }
     {
         let effect = perform_a64(
-            &mut self.core,
-            &mut self.vec,
+            &mut *self.core,
+            &mut *self.vec,
             &mut self.memory,
             &mut self.log,
             insn,
@@ -268,8 +270,8 @@ impl Machine {
             }
             Some(insn) => {
                 let effect = perform_sve(
-                    &mut self.core,
-                    &mut self.vec,
+                    &mut *self.core,
+                    &mut *self.vec,
                     &mut self.memory,
                     &mut self.log,
                     insn,
@@ -279,7 +281,8 @@ impl Machine {
         }
     }
 
-    /// Takes one step: the word at the program counter is fetched and decoded, and its instruction is done. What marks keep stays.
+    /// Takes one step: the word at the program counter is fetched and decoded, and its instruction is done. The marks
+    /// and what they keep stay, whatever it answers.
     ///
     /// What a step that is done makes of the machine rests on the input only at a call that takes bytes of it, and how it ends never does.
     /// `Going` and `Exit` count the step, and `Trap` doesn't. A fault of a stream is answered exactly where that stream failed, and the
@@ -307,6 +310,7 @@ impl Machine {
         ensures accesses { self.new.accesses ≡ model.accesses self.old.parts }
         ensures undone { is_undone result ≡ true → self.new.accesses ≡ [] }
         ensures failed { self.new.failed ≡ is_undone result }
+        ensures marks { self.new.parts.memory.marks ≡ self.old.parts.memory.marks }
         ensures saved { self.new.saved ≡ self.old.saved }
         ensures read_cause { Causes (result ≡ StepEnd.ReadFault) (I.faults input.old) (I.faults input.new) }
         ensures write_cause { Causes (result ≡ StepEnd.WriteFault) (O.faults output.old) (O.faults output.new) }
@@ -364,7 +368,8 @@ impl Machine {
     ///
     /// After a fault of a stream, which is answered exactly where that stream failed, the machine has ended. It then stands before the
     /// step that wasn't done: it is what a run with a budget of the steps counted so far leaves, but that bytes which the call took are
-    /// stored. No run wants memory. The accesses are those of the last step that was taken, done or not, and as before where none was.
+    /// stored. No run wants memory, and each leaves the marks. The accesses are those of the last step that was taken,
+    /// done or not, and as before where none was.
     pub fn run<I: Source, O: Sink, E: Sink>(
         &mut self,
         budget: u64,
@@ -386,6 +391,7 @@ impl Machine {
         ensures unspent { is_broken_off result ≡ true → self.new.parts.steps < budget }
         ensures unended { is_broken_off result ≡ true → is_none self.new.parts.ended ≡ true }
         ensures failed { self.new.failed ≡ is_broken_off result }
+        ensures marks { self.new.parts.memory.marks ≡ self.old.parts.memory.marks }
         ensures saved { self.new.saved ≡ self.old.saved }
         ensures read_cause { Causes (result ≡ RunEnd.ReadFault) (I.faults input.old) (I.faults input.new) }
         ensures write_cause { Causes (result ≡ RunEnd.WriteFault) (O.faults output.old) (O.faults output.new) }

@@ -11,6 +11,7 @@ ghost use Rattle.mark_laws.specs.Marked.{parts_with};
 ghost use Rattle.emu_machine.specs.Machines.{has_ended, mark_at, saved_of};
 
 use crate::machine::Machine;
+use crate::registers::Registers;
 use crate::saved::Saved;
 use elf_image::Image;
 use emu_model::Length;
@@ -38,7 +39,8 @@ impl Machine {
     {
         let saved = unset_marks(alloc, length)?;
         let memory = Pages::with_marks(alloc, pages)?;
-        Ok(Machine::opened(memory, saved, bytes, image, args, length))
+        let registers = Registers::unset(alloc, length)?;
+        Ok(Machine::opened(memory, saved, registers, bytes, image, args))
     }
 
     /// The greatest number of mapped pages.
@@ -115,8 +117,8 @@ impl Machine {
             steps,
         } = self.saved[k as usize].copy();
         self.memory.pages_mut().restore(k);
-        self.core = core;
-        self.vec = vec;
+        *self.core = core;
+        *self.vec = vec;
         self.brk = brk;
         self.steps = steps;
         self.ended = None;

@@ -1,6 +1,7 @@
 //! The machine of an image before its first step.
 ghost use Rattle.std.specs.Prelude.{◌≡◌, IfOk, map, string_bytes, [], false};
 ghost use Rattle.std.specs.FinMap as finmap;
+ghost use Rattle.emu_model.specs.State.{zero_core, zero_vectors};
 ghost use Rattle.emu_system.specs.Start.{opening};
 ghost use Rattle.elf_image.specs.Images.{seen_image};
 ghost use Rattle.elf_image.specs.Loadable.{IsLoadable};
@@ -10,16 +11,15 @@ ghost use Rattle.mark_laws.specs.Marked.{parts_with};
 use crate::load::highest_page;
 use crate::machine::Machine;
 use crate::program::load_program;
+use crate::registers::Registers;
 use crate::saved::Saved;
 use crate::stack::Layout;
-use core_regs::Core;
 use elf_image::Image;
 use emu_bits::Reg;
 use emu_model::{Break, Length};
 use guest_mem::Mem;
 use guest_pages::{OutOfMemory, Pages};
 use std::alloc::Global;
-use vec_regs::VecRegs;
 
 impl Machine {
     /// The machine of an image before its first step: in memory the pages of its segments with the file's bytes and those of the
@@ -41,32 +41,33 @@ impl Machine {
         ensures { IfOk result (λ m. m ≡ record { parts = opening bytes.now (seen_image image.now) (map string_bytes args.now) length pages; accesses = []; failed = false; saved = [] }) }
     {
         let memory = Pages::new(alloc, pages)?;
-        Ok(Machine::opened(memory, Vec::new(alloc), bytes, image, args, length))
+        let registers = Registers::unset(alloc, length)?;
+        Ok(Machine::opened(memory, Vec::new(alloc), registers, bytes, image, args))
     }
 
-    /// The machine of an image over pages of which none is mapped.
+    /// The machine of an image over pages of which none is mapped, and registers that are all 0.
     pub(crate) fn opened(
         mut memory: Pages,
         saved: Vec<Saved>,
+        mut registers: Registers,
         bytes: &[u8],
         image: &Image,
         args: &[String],
-        length: Length,
     ) -> Machine
         requires loadable { IsLoadable bytes.now memory.limit (seen_image image.now) }
         requires arguments { AreArguments (map string_bytes args.now) }
         requires empty { memory.pages ≡ finmap.empty }
-        ensures { result ≡ record { parts = parts_with (opening bytes.now (seen_image image.now) (map string_bytes args.now) length memory.limit) memory.marks; accesses = []; failed = false; saved = saved.items } }
+        requires core { registers.core.value ≡ zero_core }
+        requires vectors { registers.vec.value ≡ zero_vectors registers.vec.value.most }
+        ensures { result ≡ record { parts = parts_with (opening bytes.now (seen_image image.now) (map string_bytes args.now) registers.vec.value.most memory.limit) memory.marks; accesses = []; failed = false; saved = saved.items } }
     {
         let layout = Layout::of(args);
         load_program(&mut memory, bytes, image, args, layout);
-        let mut core = Core::new();
-        core.set_pc(image.entry);
-        core.set_x_sp(Reg::at(31, 0), 64, layout.words);
+        registers.core.set_pc(image.entry);
+        registers.core.set_x_sp(Reg::at(31, 0), 64, layout.words);
         let start = 4096 * highest_page(&image.segments);
         Machine::at_start(
-            core,
-            VecRegs::new(length),
+            registers,
             Mem::new(memory),
             Break { start, now: start },
             saved,

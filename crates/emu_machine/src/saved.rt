@@ -50,7 +50,7 @@ impl Saved {
         ensures { self.new ≡ record { core = core.now; vectors = vec.now; brk = brk; steps = steps } }
     {
         self.core = core.copy();
-        self.vec = vec.copy();
+        self.vec.set(vec);
         self.brk = brk;
         self.steps = steps;
     }
@@ -61,7 +61,12 @@ impl Saved {
             start: 4096,
             now: 4096,
         };
-        Saved::of(&Core::new(), &VecRegs::new(length), brk, 0)
+        Saved {
+            core: Core::new(),
+            vec: VecRegs::new(length),
+            brk,
+            steps: 0,
+        }
     }
 
     /// The same once more.

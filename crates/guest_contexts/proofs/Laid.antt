@@ -1,15 +1,15 @@
 -- A world whose machine has the registers of one of its contexts, and what changes of its machine and of its contexts make of it.
-use Rattle.std.proofs.Common.{◌≡◌, ◌<◌, ◌≤◌, ℕ, zero, suc, ◌+◌, ◌-◌, Bool, true, false, ◌&&◌, ◌||◌, is_some, List, [], ◌∷◌, ◌++◌, length, get_or, set, map, Option, Some, None, nat_lt, if◌then◌else◌, refl, sym, ap, subst, ◌∙◌, arith}
+use Rattle.std.proofs.Common.{◌≡◌, ◌<◌, ℕ, zero, suc, ◌-◌, Bool, true, false, ◌&&◌, ◌||◌, is_some, List, [], ◌∷◌, ◌++◌, length, get_or, set, map, Option, Some, None, nat_lt, if◌then◌else◌, refl, sym, ap, subst, ◌∙◌, arith}
 use Rattle.std.proofs.lemmas.List.{get_or-set_same, length-set, set-set, set-get_or, map-set}
 use Rattle.std.specs.Prelude.{filter, min}
 use Rattle.std.specs.List.{list_any, list_all, range_with_len}
 use Rattle.emu_model.specs.declared.access.Access.{Access}
-use Rattle.emu_model.specs.State.{Core, Parts}
+use Rattle.emu_model.specs.State.{Parts}
 use Rattle.emu_system.specs.SystemCall.{returned}
 use Rattle.thread_model.specs.declared.thread.Standing.{Standing}
-use Rattle.thread_model.specs.declared.thread.Standing.TheVariants.{Ready, Waiting, Gone}
+use Rattle.thread_model.specs.declared.thread.Standing.TheVariants.{Ready}
 use Rattle.thread_model.specs.ThreadCall.{answered, with_started}
-use Rattle.thread_model.specs.Worlds.{World, Context, context, no_context, is_ready, is_gone, waits_at, some_ready, ready, joined, apart, with_context, taken_by_context, woken, woken_context, with_woken, wake_count, with_monitor, monitor_behind, behind_accesses, others_behind, without_monitors}
+use Rattle.thread_model.specs.Worlds.{Context, context, no_context, is_ready, is_gone, waits_at, ready, joined, apart, with_context, taken_by_context, woken, woken_context, with_woken, wake_count, with_monitor, monitor_behind, behind_accesses, others_behind, without_monitors}
 use Rattle.guest_contexts.specs.Laid.{with_machine, laid, world_of}
 use Rattle.guest_contexts.specs.Standings.{has_monitor, ready_among}
 use Rattle.guest_contexts.proofs.Lists.{count_same, same_at, same_any, same_all, filter_same, set_pushed, get_pushed}
@@ -56,7 +56,7 @@ laid_length m last cs = length-set cs last (with_machine (get_or cs last no_cont
 -- ---- what doesn't rest on registers
 
 -- the numbers below n of those that are ready
-abbrev filter_of : List Context → ℕ → List ℕ
+abbrev pub filter_of : List Context → ℕ → List ℕ
 filter_of cs n = filter (λ k. is_ready (get_or cs k no_context)) (range_with_len 0 n)
 
 get_or_mapped : (f : Context → Context) (cs : List Context) (k : ℕ) → k < length cs → get_or (map f cs) k no_context ≡ f (get_or cs k no_context)
@@ -168,7 +168,7 @@ kept_monitor : (made : List Access) (c : Context) (monitor : Option (ℕ × ℕ)
 kept_monitor made c None is none = ap (λ (x : Option (ℕ × ℕ)). with_monitor (monitor_behind made x) c) is ∙ ap (λ (x : Option (ℕ × ℕ)). with_monitor x c) (sym is)
 kept_monitor made c (Some monitor) is none = cc
 
-neither : (a b : Bool) → (a || b) ≡ false → (a ≡ false) × (b ≡ false)
+pub neither : (a b : Bool) → (a || b) ≡ false → (a ≡ false) × (b ≡ false)
 neither true b h = cc
 neither false b h = (refl, h)
 

@@ -1,4 +1,5 @@
 pub mod Copied
 pub mod Found
+pub mod Kept
 pub mod Laid
 pub mod Lists

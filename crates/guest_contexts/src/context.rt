@@ -7,13 +7,13 @@ use std::marker::Model;
 use thread_model::Standing;
 use vec_regs::VecRegs;
 
-/// A context of a world. Contracts see it as a record.
+/// A context of a world, whose registers are in boxes, so that they can be exchanged as they are. Contracts see it as a record.
 #[derive(Drop)]
 pub struct Context {
     /// The scalar registers.
-    pub core: Core,
+    pub core: Box<Core>,
     /// The vector registers.
-    pub vec: VecRegs,
+    pub vec: Box<VecRegs>,
     /// The address of the word that is cleared when it leaves, or 0.
     pub clear: u64,
     /// Whether it can take a step.
@@ -28,7 +28,30 @@ impl Model for Context {
 
     ghost coded = { coded_context };
 
-    ghost view = { λ a. record { core = a.core; vectors = a.vec; clear = a.clear; standing = a.standing } };
+    ghost view = { λ a. record { core = a.core.value; vectors = a.vec.value; clear = a.clear; standing = a.standing } };
+}
+
+/// A context that starts: it is ready. Contracts see it as the context that it becomes.
+#[derive(Drop)]
+pub struct Started {
+    /// The scalar registers.
+    pub core: Core,
+    /// The vector registers.
+    pub vec: VecRegs,
+    /// The address of the word that is cleared when it leaves, or 0.
+    pub clear: u64,
+}
+
+impl Model for Started {
+    ghost use Rattle.thread_model.specs.Codes.{coded_context};
+    ghost use Rattle.thread_model.specs.Worlds.{Context as ContextState};
+    ghost use Rattle.thread_model.specs.declared.thread.Standing.TheVariants.{Ready};
+
+    ghost Value = { ContextState };
+
+    ghost coded = { coded_context };
+
+    ghost view = { λ a. record { core = a.core; vectors = a.vec; clear = a.clear; standing = Ready } };
 }
 
 impl Context {

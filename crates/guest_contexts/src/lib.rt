@@ -5,10 +5,12 @@ mod context;
 mod copies;
 mod monitors;
 mod numbers;
+mod room;
 mod standings;
 
-pub use context::Context;
+pub use context::{Context, Started};
 pub use copies::{copy_core, copy_vectors};
 pub use monitors::{empty_monitors, is_some_watching, note_accesses};
 pub use numbers::{error_answer, thread_call};
+pub use room::{Spare, spares};
 pub use standings::{are_all_gone, is_some_ready, ready, set_clear, stand, wake};

@@ -1,4 +1,5 @@
 pub mod Composed
+pub mod Inside
 pub mod Made
 pub mod Picked
 pub mod Quiet

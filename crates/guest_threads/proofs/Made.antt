@@ -1,25 +1,23 @@
 -- The calls that speak of contexts, as they are made.
-use Rattle.std.proofs.Common.{◌≡◌, ◌<◌, ◌≤◌, ℕ, zero, suc, ◌+◌, ◌-◌, ◌%◌, ◌^◌, Bool, true, false, not, ◌||◌, ◌&&◌, List, [], ◌∷◌, ◌++◌, length, get_or, set, Option, Some, None, is_some, is_none, nat_eq, if◌then◌else◌, refl, sym, ap, subst, ◌∙◌, arith}
+use Rattle.std.proofs.Common.{◌≡◌, ◌<◌, ◌≤◌, ℕ, zero, suc, ◌+◌, ◌-◌, ◌%◌, ◌^◌, Bool, true, false, not, ◌||◌, List, length, Option, Some, None, is_some, nat_eq, if◌then◌else◌, refl, sym, ap, subst, ◌∙◌, arith}
 use Rattle.std.proofs.lemmas.List.{get_or-set_same, length-set, set-set}
 use Rattle.std.proofs.lemmas.Bool.{eq-eqb, ne_eqb, le-leb, lt-leb}
-use Rattle.std.specs.Prelude.{bit_and, nat_le}
 use Rattle.emu_model.specs.declared.access.Kind.TheVariants.{Read as ToRead, Write as ToWrite}
 use Rattle.emu_model.specs.declared.trap.Ended.{Ended}
-use Rattle.emu_model.specs.declared.trap.Ended.TheVariants.{Exit as Exited, Trap as Trapped}
+use Rattle.emu_model.specs.declared.trap.Ended.TheVariants.{Exit as Exited}
 use Rattle.emu_model.specs.Access.{Memory, refused, stored, value}
 use Rattle.emu_model.specs.State.{Core, Parts}
 use Rattle.emu_system.specs.SystemCall.{argument, returned}
 use Rattle.emu_machine.specs.declared.ends.StepEnd.{StepEnd}
-use Rattle.emu_machine.specs.declared.ends.StepEnd.TheVariants.{Going, Exit, Trap}
+use Rattle.emu_machine.specs.declared.ends.StepEnd.TheVariants.{Going}
 use Rattle.emu_machine.specs.Ends.{step_end}
-use Rattle.thread_model.specs.declared.thread.Standing.{Standing}
 use Rattle.thread_model.specs.declared.thread.Standing.TheVariants.{Ready, Waiting, Gone}
 use Rattle.thread_model.specs.declared.thread.ThreadErrno.{ThreadErrno}
 use Rattle.thread_model.specs.declared.thread.ThreadErrno.TheVariants.{EAGAIN, EFAULT, EINVAL, ENOSYS}
 use Rattle.thread_model.specs.declared.thread.ThreadCall.{ThreadCall}
-use Rattle.thread_model.specs.ThreadCall.{action, action_of, thread_call, started, started_core, started_vectors, clears_child, parent_told, with_started, starting, sets_parent, has_flag, needed_flags, known_flags, most_contexts, futex, waiting, operation, ThreadAction, fails, answers, starts, waits, wakes, clears, leaves, alone, thread_id, answered, error_answer, wait_made, wake_made, clear_made, leave_made, start_made, cleared, with_gone, all_gone, ended_by}
+use Rattle.thread_model.specs.ThreadCall.{action, action_of, thread_call, started, started_core, started_vectors, clears_child, parent_told, with_started, starting, futex, waiting, operation, ThreadAction, fails, answers, starts, waits, wakes, clears, leaves, thread_id, answered, error_answer, wait_made, wake_made, clear_made, leave_made, start_made, cleared, with_gone, all_gone, ended_by}
 use Rattle.thread_model.specs.Threads.{done_by, quietly}
-use Rattle.thread_model.specs.Worlds.{World, Context, context, no_context, joined, apart, with_context, with_woken, woken, wake_count}
+use Rattle.thread_model.specs.Worlds.{World, Context, context, no_context, joined, with_context, with_woken, wake_count}
 use Rattle.guest_contexts.proofs.Laid.{woken_ready}
 use Rattle.thread_model.specs.Living.{woken_length}
 use Rattle.emu_machine.specs.Contexts.{ended_with}

@@ -1,5 +1,5 @@
 -- The context that takes the next step, found among those that are ready.
-use Rattle.std.proofs.Common.{◌≡◌, ◌<◌, ◌≤◌, ◌⊎◌, inl, inr, ℕ, zero, suc, ◌+◌, ◌%◌, Bool, true, false, not, ◌||◌, ◌&&◌, List, [], ◌∷◌, Option, None, length, get_or, nat_eq, if◌then◌else◌, refl, sym, ap, subst, ◌∙◌, arith}
+use Rattle.std.proofs.Common.{◌≡◌, ◌<◌, ◌⊎◌, inl, inr, ℕ, zero, suc, ◌+◌, ◌%◌, Bool, true, false, not, ◌||◌, ◌&&◌, List, [], ◌∷◌, Option, None, length, get_or, nat_eq, if◌then◌else◌, refl, sym, ap, subst, ◌∙◌, arith}
 use Rattle.std.specs.List.{All, list_all, list_any}
 use Rattle.std.proofs.lemmas.Bool.{eq-eqb, leb-true, ne_eqb}
 use Rattle.std.proofs.lemmas.List.Folds.{list_any_at}
@@ -11,7 +11,7 @@ use Rattle.emu_model.specs.declared.trap.Ended.{Ended}
 use Rattle.thread_model.specs.declared.thread.WorldEnding.TheVariants.{Spent as IsSpent, Stuck as IsStuck}
 use Rattle.guest_schedule.specs.Turns.{has_steps}
 use Rattle.guest_threads.specs.declared.ends.WorldEnd.TheVariants.{Spent, Stuck}
-use Rattle.thread_model.specs.Threads.{ending, is_over, next_place, next_turn, turn_at, pick, ready_at}
+use Rattle.thread_model.specs.Threads.{ending, is_over, next_place, next_turn, turn_at, ready_at}
 use Rattle.thread_model.specs.Worlds.{World, Context, context, no_context, is_ready, is_standing_ready, ready, some_ready}
 use Rattle.guest_contexts.specs.Laid.{laid, world_of}
 use Rattle.guest_contexts.specs.Standings.{ready_among, IsReadyIn}

@@ -1,5 +1,5 @@
 -- Steps of the context whose registers a machine has, by those of the machine that make no call.
-use Rattle.std.proofs.Common.{◌≡◌, ◌<◌, ◌≤◌, ℕ, zero, suc, ◌+◌, ◌%◌, Bool, true, false, ◌||◌, ◌&&◌, List, [], length, get_or, map, Option, Some, None, is_none, is_some, nat_eq, refl, sym, ap, subst, ◌∙◌, arith}
+use Rattle.std.proofs.Common.{◌≡◌, ◌<◌, ◌≤◌, ℕ, zero, suc, ◌+◌, ◌%◌, Bool, true, false, ◌||◌, ◌&&◌, List, [], length, get_or, Option, Some, None, is_none, is_some, nat_eq, refl, sym, ap, subst, ◌∙◌, arith}
 use Rattle.std.specs.List.{list_any}
 use Rattle.std.specs.Prelude.{MatchBool, if◌then◌else◌}
 use Rattle.a64_insn.specs.declared.form.A64Form.TheVariants.{Except}
@@ -7,14 +7,15 @@ use Rattle.a64_insn.specs.declared.ops.ExceptOp.TheVariants.{Svc}
 use Rattle.emu_model.specs.declared.access.Access.{Access}
 use Rattle.emu_model.specs.declared.access.Kind.TheVariants.{Fetch}
 use Rattle.emu_model.specs.declared.trap.Ended.{Ended}
-use Rattle.emu_model.specs.declared.trap.Ended.TheVariants.{Exit as Exited, Trap as Trapped}
 use Rattle.emu_model.specs.Access.{refused, value}
 use Rattle.emu_model.specs.State.{Parts}
 use Rattle.emu_run.specs.declared.insn.Insn.{Insn}
 use Rattle.emu_run.specs.declared.insn.Insn.TheVariants.{A64}
 use Rattle.emu_run.specs.Step.{accesses, decode, turn}
 use Rattle.emu_system.specs.SystemCall.{Turn, quiet}
-use Rattle.emu_machine.specs.Advances.{AreAlone, AsksCall, IsAlone, IsLast, IsSpent}
+use Rattle.emu_machine.specs.Advances.{Advances, AreAlone, AsksCall, IsAlone, IsLast, IsSpent}
+use Rattle.emu_machine.specs.declared.ends.Progress.{Progress}
+use Rattle.emu_machine.specs.declared.ends.Progress.TheVariants.{GoesOn, AtCall, Trapped as HasTrapped}
 use Rattle.emu_machine.specs.declared.ends.StepEnd.{StepEnd}
 use Rattle.emu_machine.specs.declared.ends.StepEnd.TheVariants.{Going}
 use Rattle.emu_machine.specs.Ends.{is_undone, step_end}
@@ -29,9 +30,9 @@ use Rattle.thread_model.specs.Living.{IsLiving, stays_living}
 use Rattle.thread_model.specs.ThreadCall.{action}
 use Rattle.thread_model.specs.Threads.{WorldTurn, done_by, is_svc, makes_call, one, quietly, stepped, stepped_alone, taken_apart, taken_by, with_world}
 use Rattle.thread_model.specs.ThreadLaws.{with_input}
-use Rattle.thread_model.specs.Worlds.{World, Context, apart, behind_accesses, context, is_standing_gone, joined, no_context, others_behind, taken_by_context, without_monitors}
+use Rattle.thread_model.specs.Worlds.{World, Context, context, is_standing_gone, joined, no_context, others_behind, taken_by_context, without_monitors}
 use Rattle.guest_threads.specs.Ends.{WorldHeld, has_ended, Becomes, IsKept, PutsAlways, TakesWithin}
-use Rattle.guest_threads.specs.Quiet.{AdvancesOn, AdvancesToEnd, AreQuiet, IsQuiet, TakesSteps}
+use Rattle.guest_threads.specs.Quiet.{AdvancesOn, AdvancesToEnd, AreQuiet, IsQuiet, TakesSteps, has_trapped}
 use Rattle.guest_threads.specs.Steps.{noted}
 use Rattle.guest_threads.proofs.Made.{unfailed_of}
 use Rattle.guest_threads.proofs.Steps.{becomes_as, end_is_done, errors_as, one_alone, one_last, output_as, quiet_becomes, quiet_counted, quiet_errors, quiet_output, quiet_takes, takes_as}
@@ -102,6 +103,14 @@ module _ (until : ℕ) (s n : MachineState) (last : ℕ) (cs : List Context) (h 
     is = one_quiet last cs within own free d.at n.parts d.alone d.turns;
     ended = d.ended;
   })
+
+  advances_by : (r : Progress) → Advances until s n r → MatchBool (has_trapped r) (AdvancesToEnd until h.world (world_of n.parts last cs)) (AdvancesOn until h.world (world_of n.parts last cs))
+  advances_by GoesOn d = spent_on d
+  advances_by HasTrapped d = last_ends d
+  advances_by AtCall d = asks_on d
+
+  pub advances : (r : Progress) (b : Bool) → b ≡ has_trapped r → Advances until s n r → MatchBool b (AdvancesToEnd until h.world (world_of n.parts last cs)) (AdvancesOn until h.world (world_of n.parts last cs))
+  advances r b e d = subst (λ (x : Bool). MatchBool x (AdvancesToEnd until h.world (world_of n.parts last cs)) (AdvancesOn until h.world (world_of n.parts last cs))) (sym e) (advances_by r d)
 
 pub none_on : (until : ℕ) (h : WorldHeld) → h.world.steps < until → AdvancesOn until h.world h.world
 none_on until h below = record { count = 0; quiet = refl; most = omega (arith, below) }

@@ -1,23 +1,21 @@
 -- A run of a world, step after step: what has come to the streams so far, and what remains.
-use Rattle.std.proofs.Common.{◌≡◌, ◌<◌, ◌≤◌, ℕ, ◌+◌, ◌-◌, Bool, true, false, ◌&&◌, List, Option, Some, None, IfSome, is_none, is_some, refl, sym, ap, subst, ◌∙◌, arith, ◌||◌, cond}
+use Rattle.std.proofs.Common.{◌≡◌, ◌<◌, ◌≤◌, ℕ, ◌+◌, ◌-◌, Bool, true, false, ◌&&◌, List, Option, Some, None, is_none, is_some, refl, sym, ap, subst, ◌∙◌, arith, ◌||◌, cond}
 use Rattle.emu_model.specs.declared.trap.Ended.{Ended}
 use Rattle.emu_model.specs.declared.trap.Ended.TheVariants.{Exit, Trap}
 use Rattle.emu_machine.specs.declared.ends.StepEnd.{StepEnd}
 use Rattle.emu_machine.specs.declared.ends.StepEnd.TheVariants.{Going, Exit as StepExit, Trap as StepTrap, ReadFault, WriteFault, ErrorsFault}
 use Rattle.emu_machine.specs.Ends.{step_end, is_undone}
 use Rattle.io_gate.specs.Streams.{Causes, Rose}
-use Rattle.emu_system.specs.Gained.{Gains}
 use Rattle.thread_model.specs.declared.thread.Place.{Place}
-use Rattle.thread_model.specs.declared.thread.WorldEnding.{WorldEnding}
-use Rattle.thread_model.specs.declared.thread.WorldEnding.TheVariants.{Exit as Exited, Trap as Trapped, Spent as IsSpent, Stuck as IsStuck}
+use Rattle.thread_model.specs.declared.thread.WorldEnding.TheVariants.{Spent as IsSpent, Stuck as IsStuck}
 use Rattle.thread_model.specs.Living.{IsLiving, some_waits}
 use Rattle.thread_model.specs.Worlds.{World, some_ready}
-use Rattle.thread_model.specs.Threads.{WorldState, first_place, stepped, pick, next_place, goes_on, threads, threads_from, ending}
+use Rattle.thread_model.specs.Threads.{WorldState, stepped, pick, next_place, goes_on, threads, ending}
 use Rattle.thread_model.specs.ThreadLaws.{Moves, with_input, moves_not, stepped_moves, from_over, from_moves, rest_of, rest_on, rest_ended, rest_spent, rest_moves, rest_behind}
 use Rattle.guest_threads.specs.declared.ends.WorldEnd.{WorldEnd}
-use Rattle.guest_threads.specs.declared.ends.WorldEnd.TheVariants.{Exit as WorldExit, Trap as WorldTrap, Spent, Stuck, ReadFault as WorldReadFault, WriteFault as WorldWriteFault, ErrorsFault as WorldErrorsFault}
+use Rattle.guest_threads.specs.declared.ends.WorldEnd.TheVariants.{Spent, Stuck, ReadFault as WorldReadFault, WriteFault as WorldWriteFault, ErrorsFault as WorldErrorsFault}
 use Rattle.guest_threads.specs.Ends.{WorldHeld, has_ended, AllWait, Becomes, IsKept, TakesWithin, Puts, PutsAlways, world_end, end_of_world, world_end_of, is_broken_off}
-use Rattle.guest_threads.proofs.Composed.{Blind, Moving, Came, Comes, Led, Leads, came_at, comes_by, comes_cut, comes_same, comes_still, leads_on, leads_end}
+use Rattle.guest_threads.proofs.Composed.{Blind, Moving, Came, Comes, Leads, came_at, comes_by, comes_cut, comes_same, comes_still, leads_on, leads_end}
 
 -- ---- the clauses of a step and a run, together
 

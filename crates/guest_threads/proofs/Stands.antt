@@ -1,6 +1,6 @@
 -- A run of a world, step after step: with any budget that isn't counted yet, what remains leaves the world and the input that the
 -- whole leaves.
-use Rattle.std.proofs.Common.{◌≡◌, ◌<◌, ◌≤◌, ℕ, ◌+◌, Bool, true, false, List, Option, Some, None, IfSome, refl, sym, ap, subst, ◌∙◌, arith}
+use Rattle.std.proofs.Common.{◌≡◌, ◌≤◌, ℕ, ◌+◌, Bool, true, false, List, Option, Some, None, IfSome, refl, sym, ap, subst, ◌∙◌, arith}
 use Rattle.thread_model.specs.declared.thread.Place.{Place}
 use Rattle.thread_model.specs.Worlds.{World}
 use Rattle.thread_model.specs.Threads.{WorldState, first_place, goes_on, next_place, pick, stepped, threads}

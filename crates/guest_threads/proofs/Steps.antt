@@ -1,10 +1,9 @@
 -- One step of a context, by that of the machine that has its registers.
-use Rattle.std.proofs.Common.{◌≡◌, ◌<◌, ◌≤◌, ℕ, ◌+◌, ◌%◌, Bool, true, false, List, [], ◌++◌, length, get_or, set, Option, Some, None, IfSome, is_none, is_some, inl, inr, nat_eq, ◌||◌, if◌then◌else◌, refl, sym, ap, subst, ◌∙◌}
+use Rattle.std.proofs.Common.{◌≡◌, ◌<◌, ℕ, ◌+◌, ◌%◌, Bool, true, false, List, [], ◌++◌, length, Option, Some, None, IfSome, is_none, is_some, inl, inr, nat_eq, ◌||◌, if◌then◌else◌, refl, sym, ap, subst, ◌∙◌}
 use Rattle.emu_model.specs.declared.access.Access.{Access}
 use Rattle.emu_model.specs.declared.access.Kind.TheVariants.{Write as ToWrite}
 use Rattle.emu_model.specs.Access.{refused, stored}
 use Rattle.emu_model.specs.State.{Parts}
-use Rattle.emu_system.specs.Start.{with_input as machine_with_input}
 use Rattle.emu_system.specs.Gained.{Gains}
 use Rattle.emu_run.specs.Step.{accesses, step, turn}
 use Rattle.emu_machine.specs.Ends as machine

@@ -1,5 +1,5 @@
 -- Where a run of a world stands before a step of a context, and how steps that move no byte of a stream bring it on within a turn.
-use Rattle.std.proofs.Common.{◌≡◌, ◌<◌, ◌≤◌, ℕ, zero, suc, ◌+◌, Bool, true, false, ◌&&◌, List, Option, is_none, if◌then◌else◌, refl, sym, ap, subst, ◌∙◌, arith}
+use Rattle.std.proofs.Common.{◌≡◌, ◌<◌, ℕ, zero, suc, ◌+◌, Bool, true, false, ◌&&◌, List, Option, is_none, if◌then◌else◌, refl, sym, ap, subst, ◌∙◌, arith}
 use Rattle.std.proofs.lemmas.Bool.{ne_eqb}
 use Rattle.thread_model.specs.declared.thread.Place.{Place}
 use Rattle.thread_model.specs.Threads.{goes_on, next_place, pick, ready_at, stepped, turn_at}
@@ -7,7 +7,6 @@ use Rattle.thread_model.specs.Worlds.{World, is_standing_ready, some_ready}
 use Rattle.guest_threads.specs.Ends.{IsReadyAt}
 use Rattle.guest_threads.specs.Quiet.{AreQuiet, IsQuiet}
 use Rattle.guest_threads.proofs.Picked.{place_at, some_by, stays_on}
-use Rattle.guest_threads.proofs.Quiet.{quiet_steps}
 use Rattle.guest_threads.proofs.Runs.{LeadsRun, Ran, ran_step, run_counts}
 use Rattle.guest_threads.proofs.Stands.{Stands, stands_on}
 use Rattle.guest_threads.proofs.Steps.{quiet_becomes, quiet_errors, quiet_output, quiet_takes}

@@ -1,5 +1,5 @@
 -- A world that is held, as it is seen: changes of its machine and of its contexts.
-use Rattle.std.proofs.Common.{◌≡◌, ◌<◌, ℕ, Bool, List, length, get_or, refl, sym, ap, subst, ◌∙◌}
+use Rattle.std.proofs.Common.{◌≡◌, ◌<◌, ℕ, Bool, List, length, get_or, sym, ap, subst, ◌∙◌}
 use Rattle.emu_machine.specs.Machines.{MachineState}
 use Rattle.thread_model.specs.declared.thread.Standing.TheVariants.{Ready}
 use Rattle.thread_model.specs.Worlds.{World, Context, context, no_context}

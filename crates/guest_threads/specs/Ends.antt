@@ -1,5 +1,7 @@
 -- How a run of a world ends, and what it makes of the world and of its streams.
-use Rattle.std.specs.Prelude.{◌≡◌, ◌≤◌, ◌<◌, ℕ, ◌-◌, Bool, true, false, ◌||◌, ◌&&◌, is_some, List, length, drop, Option, Some, IfSome, nat_eq}
+use Rattle.std.specs.Prelude.{◌≡◌, ◌≤◌, ◌<◌, ℕ, ◌+◌, Bool, true, false, ◌||◌, is_some, List, length, Option, Some, IfSome, nat_eq}
+use Rattle.std.specs.List.{list_any}
+use Rattle.guest_contexts.specs.Standings.{AreReady, has_monitor}
 use Rattle.std.specs.Coded.{Coded, code_by, coded×, coded_bool}
 use Rattle.std.proofs.Common.{refl}
 use Rattle.emu_model.specs.State.{Parts}
@@ -31,11 +33,14 @@ coded_held = code_by (World × Bool) (coded× coded_world coded_bool) (λ h. (h.
 abbrev pub has_ended : WorldHeld → Bool
 has_ended h = is_some h.world.ended || h.failed
 
--- the machine has the registers of one of the contexts, and there is room for 64
-pub record IsInside (place : ℕ) (contexts : List Context) (capacity : ℕ) : Type 0 where
+-- the machine has the registers of one of the contexts, there is room for 64, and what is known of the contexts is so
+pub record IsInside (place : ℕ) (contexts : List Context) (capacity spares : ℕ) (numbers : List ℕ) (unwatched : Bool) : Type 0 where
   pub last : place < length contexts
   pub most : length contexts ≤ 64
   pub room : 64 ≤ capacity
+  pub spare : 64 ≤ length contexts + spares
+  pub ready : AreReady contexts numbers
+  pub quiet : unwatched ≡ true → list_any has_monitor contexts ≡ false
 
 -- ---- the answers
 

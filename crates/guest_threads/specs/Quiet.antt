@@ -1,5 +1,7 @@
 -- Steps of one context that move no byte of a stream, one after the other.
-use Rattle.std.specs.Prelude.{◌≡◌, ◌<◌, ◌≤◌, ℕ, zero, suc, ◌+◌, List, Option, true, false, is_none}
+use Rattle.std.specs.Prelude.{◌≡◌, ◌<◌, ◌≤◌, ℕ, zero, suc, ◌+◌, Bool, List, Option, true, false, is_none}
+use Rattle.emu_machine.specs.declared.ends.Progress.{Progress}
+use Rattle.emu_machine.specs.declared.ends.Progress.TheVariants.{GoesOn, Trapped, AtCall}
 use Rattle.emu_machine.specs.declared.ends.StepEnd.{StepEnd}
 use Rattle.emu_machine.specs.declared.ends.StepEnd.TheVariants.{Going}
 use Rattle.emu_machine.specs.Ends.{is_undone, step_end}
@@ -34,6 +36,12 @@ pub record AdvancesToEnd (until : ℕ) (w v : World) : Type 0 where
   pub below : at.steps < until
   pub is : (input : List ℕ) → one at w.last input ≡ quietly v input
   pub ended : is_none v.ended ≡ false
+
+-- the last of them ended it
+abbrev pub has_trapped : Progress → Bool
+has_trapped GoesOn = false
+has_trapped Trapped = true
+has_trapped AtCall = false
 
 -- ---- steps of context k of which all but the last are quiet
 

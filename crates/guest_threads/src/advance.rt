@@ -4,7 +4,7 @@ ghost use Rattle.emu_machine.specs.Ends.{is_undone, step_end};
 ghost use Rattle.emu_machine.specs.Machines.{MakesWrite};
 ghost use Rattle.guest_threads.specs.Calls.{IsCalling};
 ghost use Rattle.guest_threads.specs.Ends.{has_ended, last_machine};
-ghost use Rattle.guest_threads.specs.Quiet.{AdvancesOn, AdvancesToEnd, TakesSteps};
+ghost use Rattle.guest_threads.specs.Quiet.{AdvancesOn, AdvancesToEnd, TakesSteps, has_trapped};
 ghost use Rattle.io_gate.specs.Streams.{Causes};
 ghost use Rattle.linux_calls.specs.Names.{NamesRead};
 ghost use Rattle.thread_model.specs.declared.thread.Standing.TheVariants as standing;
@@ -19,6 +19,7 @@ use io_gate::{Sink, Source};
 impl Held {
     /// Takes steps of a context, which is ready: at least one, and more until `until` are counted in all, the next one makes a call, or
     /// one ends the world. Where another context has a monitor, which each store may empty, it takes one alone.
+    #[inline(always)]
     pub(crate) fn go<I: Source, O: Sink, E: Sink>(
         &mut self,
         k: usize,
@@ -63,20 +64,30 @@ impl Held {
 
     /// Takes steps of the context whose registers the machine has, until the next one makes a call, `until` are counted in all, or
     /// one ends the world, and says whether one has. Where a context has a monitor it takes none.
+    #[inline(always)]
     fn advance(&mut self, until: u64) -> bool
         requires calling { IsCalling self.old }
         requires below { self.old.world.steps < until }
         ensures steps { MatchBool result (AdvancesToEnd until self.old.world self.new.world) (AdvancesOn until self.old.world self.new.world) }
         ensures failed { self.new.failed ≡ false }
     {
+        if self.unwatched {
+            return has_trapped(self.machine.advance(until));
+        }
         if is_some_watching(&self.contexts) {
             return false;
         }
-        match self.machine.advance(until) {
-            Progress::Trapped => return true,
-            Progress::GoesOn => return false,
-            Progress::AtCall => {}
-        }
-        false
+        self.unwatched = true;
+        has_trapped(self.machine.advance(until))
+    }
+}
+
+/// Whether the last one of steps trapped.
+fn has_trapped(progress: Progress) -> bool
+    ensures { result ≡ has_trapped progress }
+{
+    match progress {
+        Progress::Trapped => true,
+        Progress::GoesOn | Progress::AtCall => false,
     }
 }

@@ -1,15 +1,16 @@
 //! A machine with the contexts whose registers it doesn't have, and the exchange of their registers with the machine's.
-ghost use Rattle.std.specs.Prelude.{◌≡◌, ◌<◌, ◌≤◌, ℕ, IfOk, get_or, set, length, false};
+ghost use Rattle.std.specs.Prelude.{◌≡◌, ◌<◌, ◌≤◌, ℕ, IfOk, get_or, is_some, set, length, true, false};
 ghost use Rattle.std.specs.Vec.{vec_capacity};
 ghost use Rattle.emu_machine.specs.Machines.{has_ended as machine_has_ended};
 ghost use Rattle.guest_contexts.specs.Laid.{with_machine};
 ghost use Rattle.thread_model.specs.Worlds as worlds;
 
+use arrayvec::ArrayVec;
 use core_regs::Core;
 use emu_machine::Machine;
-use guest_contexts::Context;
+use guest_contexts::{Context, Spare, ready, spares};
 use guest_pages::OutOfMemory;
-use std::alloc::Global;
+use std::alloc::{AllocError, Global};
 use std::marker::Model;
 use thread_model::Standing;
 use vec_regs::VecRegs;
@@ -24,9 +25,16 @@ pub(crate) struct Held {
     pub(crate) contexts: Vec<Context>,
     /// The context whose registers the machine has.
     pub(crate) last: usize,
+    /// Room for the registers of those that haven't started.
+    pub(crate) spares: Vec<Spare>,
+    /// The numbers of the contexts that are ready, in order.
+    pub(crate) numbers: ArrayVec<usize, MOST_CONTEXTS>,
+    /// That none of the contexts has a monitor, where that is known.
+    pub(crate) unwatched: bool,
 }
 
 impl Model for Held {
+    ghost use Rattle.std.specs.Prelude.{length};
     ghost use Rattle.std.specs.Vec.{vec_capacity};
     ghost use Rattle.guest_contexts.specs.Laid.{world_of};
     ghost use Rattle.guest_threads.specs.Ends.{WorldHeld, coded_held, IsInside};
@@ -37,7 +45,7 @@ impl Model for Held {
 
     ghost view = { λ a. record { world = world_of a.machine.parts a.last a.contexts.items; failed = a.machine.failed } };
 
-    ghost invariant = { λ a. IsInside a.last a.contexts.items (vec_capacity a.contexts) };
+    ghost invariant = { λ a. IsInside a.last a.contexts.items (vec_capacity a.contexts) (length a.spares.items) a.numbers.items a.unwatched };
 }
 
 /// Exchanges the machine's registers with those of the context at a place.
@@ -48,7 +56,14 @@ fn exchange(machine: &mut Machine, contexts: &mut Vec<Context>, k: usize)
     ensures room { vec_capacity contexts.new ≡ vec_capacity contexts.old }
 {
     let context = &mut contexts[k];
-    machine.swap(&mut context.core, &mut context.vec);
+    machine.swap_boxes(&mut context.core, &mut context.vec);
+}
+
+/// Whether it is known that none of the contexts has a monitor, once these registers are back at theirs.
+fn stays_unwatched(unwatched: bool, core: &Core) -> bool
+    ensures { result ≡ true → (unwatched ≡ true) × (is_some core.now.monitor ≡ false) }
+{
+    unwatched && core.monitor().is_none()
 }
 
 impl Held {
@@ -58,17 +73,23 @@ impl Held {
         requires { machine_has_ended machine ≡ false }
         ensures { IfOk result (λ w. w ≡ record { world = worlds.opened machine.parts; failed = false }) }
     {
+        let most = machine.vec().most();
+        let spares = spares(alloc, most, MOST_CONTEXTS - 1)?;
         let mut contexts = Vec::with_capacity(alloc, MOST_CONTEXTS)?;
         contexts.push_reserved(Context {
-            core: Core::new(),
-            vec: VecRegs::new(machine.vec().most()),
+            core: Box::new(alloc, Core::new()).map_err(AllocError::from)?,
+            vec: Box::new(alloc, VecRegs::new(most)).map_err(AllocError::from)?,
             clear: 0,
             standing: Standing::Ready,
         });
+        let numbers = ready(&contexts);
         Ok(Held {
             machine,
             contexts,
             last: 0,
+            spares,
+            numbers,
+            unwatched: false,
         })
     }
 
@@ -102,12 +123,14 @@ impl Held {
     }
 
     /// Brings the registers of a context into the machine, and those that the machine had back to theirs.
+    #[inline(always)]
     pub(crate) fn bring(&mut self, k: usize)
         requires { k < length self.old.world.contexts }
         ensures { self.new ≡ record self.old { world = worlds.taken_by_context k self.old.world } }
     {
         let last = self.last;
         if k != last {
+            self.unwatched = stays_unwatched(self.unwatched, self.machine.core());
             exchange(&mut self.machine, &mut self.contexts, last);
             exchange(&mut self.machine, &mut self.contexts, k);
             self.last = k;

@@ -13,8 +13,8 @@ use core_regs::Core;
 use emu_bits::Reg;
 use emu_model::Kind;
 use guest_contexts::{
-    Context, are_all_gone, copy_core, copy_vectors, empty_monitors, set_clear, stand, thread_call,
-    wake,
+    Started, are_all_gone, copy_core, copy_vectors, empty_monitors, ready, set_clear, stand,
+    thread_call, wake,
 };
 use thread_model::{Standing, ThreadCall};
 
@@ -104,6 +104,8 @@ impl Held {
         ensures { self.new ≡ record self.old { world = worlds.with_context self.old.world self.old.world.last (record (worlds.context self.old.world self.old.world.last) { standing = standing }) } }
     {
         stand(&mut self.contexts, self.last, standing);
+        self.numbers = ready(&self.contexts);
+        self.unwatched = false;
     }
 
     /// The clear address of the context.
@@ -119,6 +121,8 @@ impl Held {
         ensures { self.new ≡ record self.old { world = worlds.with_context self.old.world self.old.world.last (record (worlds.context self.old.world self.old.world.last) { clear = address }) } }
     {
         set_clear(&mut self.contexts, self.last, address);
+        self.numbers = ready(&self.contexts);
+        self.unwatched = false;
     }
 
     /// Makes ready the contexts that wait at an address, those with the lowest numbers first and at most `most`, and answers how many.
@@ -126,7 +130,10 @@ impl Held {
         ensures world { self.new ≡ record self.old { world = worlds.with_woken self.old.world address most } }
         ensures count { result ≡ worlds.wake_count address most self.old.world.contexts }
     {
-        wake(&mut self.contexts, address, most)
+        let count = wake(&mut self.contexts, address, most);
+        self.numbers = ready(&self.contexts);
+        self.unwatched = false;
+        count
     }
 
     /// Whether all contexts have left.
@@ -141,27 +148,32 @@ impl Held {
         ensures { self.new ≡ record self.old { world = worlds.without_monitors self.old.world } }
     {
         empty_monitors(&mut self.contexts);
+        self.unwatched = false;
         self.machine.clear_monitor();
     }
 
     /// A context with the registers of this one, behind its call, but for those that it is given.
-    pub(crate) fn started(&self, flags: u64, stack: u64, tls: u64, clear: u64) -> Context
+    pub(crate) fn started(&self, flags: u64, stack: u64, tls: u64, clear: u64) -> Started
         ensures { result ≡ started_context (worlds.context self.now.world self.now.world.last) flags stack tls clear }
     {
-        Context {
+        Started {
             core: started_core(self.machine.core(), flags, stack, tls),
             vec: copy_vectors(self.machine.vec()),
             clear: if has_flag(0x20_0000, flags) { clear } else { 0 },
-            standing: Standing::Ready,
         }
     }
 
     /// Adds a context.
-    pub(crate) fn add(&mut self, context: Context)
+    pub(crate) fn add(&mut self, context: Started)
         requires { length self.old.world.contexts < 64 }
         ensures { self.new ≡ record self.old { world = model.with_started self.old.world context } }
     {
-        self.contexts.push_reserved(context);
+        let Some(spare) = self.spares.pop() else {
+            return;
+        };
+        self.contexts.push_reserved(spare.hold(context));
+        self.numbers = ready(&self.contexts);
+        self.unwatched = false;
     }
 }
 

@@ -1,15 +1,15 @@
 //! Where a run is in its schedule.
-ghost use Rattle.std.specs.Prelude.{◌≡◌, ◌<◌, ◌≤◌, ◌+◌, ◌-◌, ◌^◌, ◌⊎◌, MatchOption, length, true, false};
+ghost use Rattle.std.specs.Prelude.{◌≡◌, ◌<◌, ◌≤◌, ◌+◌, ◌-◌, ◌%◌, ◌^◌, ◌⊎◌, MatchOption, length, true, false};
 ghost use Rattle.guest_schedule.specs.Turns.{IsSchedule};
 ghost use Rattle.guest_threads.specs.Ends.{IsPlace, IsPicked, IsReadyAt};
 ghost use Rattle.thread_model.specs.Threads as model;
 ghost use Rattle.thread_model.specs.Worlds as worlds;
 
 use crate::held::Held;
-use guest_contexts::ready;
 use thread_model::Place;
 
 /// The number of steps that are counted in all when the turn of a place, or the budget, is used up.
+#[inline(always)]
 pub(crate) fn turn_until(turns: &[(u64, u64)], place: &Place, steps: u64, budget: u64) -> u64
     requires turn { place.now.turn < length turns.now }
     requires used { place.now.used < (model.turn_at turns.now place.now.turn).1 }
@@ -28,6 +28,7 @@ pub(crate) fn turn_until(turns: &[(u64, u64)], place: &Place, steps: u64, budget
 }
 
 /// The place of the last of the steps of a context by which the count of steps came from `before` to `after`, all in one turn.
+#[inline(always)]
 pub(crate) fn place_behind(place: &Place, before: u64, after: u64, k: usize) -> Place
     requires some { before < after }
     requires fits { place.now.used + (after - before - 1) < 2 ^ 64 }
@@ -40,8 +41,22 @@ pub(crate) fn place_behind(place: &Place, before: u64, after: u64, k: usize) -> 
     }
 }
 
+/// The remainder of a number, which mostly is the number itself.
+#[inline(always)]
+fn remainder(number: u64, count: u64) -> u64
+    requires { 0 < count }
+    ensures { result ≡ number % count }
+{
+    if number < count {
+        number
+    } else {
+        number % count
+    }
+}
+
 impl Held {
     /// The context that takes the next step. None exactly where no context is ready.
+    #[inline(always)]
     pub(crate) fn pick(&self, turns: &[(u64, u64)], place: &Place) -> Option<usize>
         requires { IsPlace self.now.world turns.now place.now }
         ensures { MatchOption result (worlds.some_ready self.now.world ≡ false) (λ k. IsPicked self.now.world turns.now place.now k) }
@@ -49,16 +64,16 @@ impl Held {
         if place.used != 0 {
             return Some(place.held);
         }
-        let numbers = ready(&self.contexts);
-        let count = numbers.len() as u64;
+        let count = self.numbers.len() as u64;
         if count == 0 {
             return None;
         }
-        let at = turns[place.turn].0 % count;
-        Some(numbers[at as usize])
+        let at = remainder(turns[place.turn].0, count);
+        Some(self.numbers[at as usize])
     }
 
     /// The place behind a step of a context.
+    #[inline(always)]
     pub(crate) fn next_place(&self, turns: &[(u64, u64)], place: &Place, k: usize) -> Place
         requires turn { place.now.turn < length turns.now }
         requires used { place.now.used < (model.turn_at turns.now place.now.turn).1 }

@@ -19,7 +19,8 @@ use thread_model::Place;
 
 impl Held {
     /// Takes the steps that the turns of a schedule name, until the world has ended, no context is ready, or `budget` steps are
-    /// counted in all.
+    /// counted in all. It isn't inlined, so that what its loop reads is in registers.
+    #[inline(never)]
     pub(crate) fn follow<I: Source, O: Sink, E: Sink>(
         &mut self,
         schedule: &[(u64, u64)],

@@ -23,6 +23,9 @@ impl Held {
     ///
     /// After a fault of a stream, which is answered exactly where that stream failed, the world has ended with the step not done: it
     /// is as before, but that bytes which the call took are stored, and that the context of the step is the last.
+    ///
+    /// It isn't inlined, so that calls and their streams aren't in the loop of a run.
+    #[inline(never)]
     pub(crate) fn one<I: Source, O: Sink, E: Sink>(
         &mut self,
         k: usize,
@@ -106,6 +109,7 @@ impl Held {
             return end;
         }
         note_accesses(&mut self.contexts, self.machine.accesses());
+        self.unwatched = false;
         end
     }
 }

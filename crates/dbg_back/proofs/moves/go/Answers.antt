@@ -9,7 +9,7 @@ use Rattle.dbg_back.proofs.moves.go.Goals as goal
 
 pub returns-then-is_empty-clause-does : goal.returns-then-is_empty-clause-does
 returns-then-is_empty-clause-does g c =
-    let none : c.args.points.now ≡ no_marks = subst (λ (b : Bool). OnTrue b (c.args.points.now ≡ no_marks)) c.if-is_empty.true c.is_empty.ensures in
+    let none : c.args.points.now ≡ no_marks = subst (λ (b : Bool). OnTrue b (c.args.points.now ≡ no_marks)) c.if-is_empty.true c.is_empty.ensures.none in
     does_as c.args.input.now c.args.machine.now c.go_free.new.machine c.args.trail.now c.go_free.new.trail (g.O.Sink.held c.args.output.now) (g.O.Sink.held c.go_free.new.output) (g.E.Sink.held c.args.errors.now) (g.E.Sink.held c.go_free.new.errors)
     (λ start course. put ending_text (moved course (c.args.budget - course.state.parts.steps))) (λ start course. go c.args.points.now course (c.args.budget - course.state.parts.steps)) (is_fault c.go_free.result)
     (λ start course w. sym (ap (λ (p : Marks). go p course (c.args.budget - course.state.parts.steps)) none ∙ go_unmarked (c.args.budget - course.state.parts.steps) course))

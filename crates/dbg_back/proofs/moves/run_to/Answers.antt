@@ -6,7 +6,7 @@ use Rattle.emu_machine.specs.declared.ends.RunEnd.TheVariants as runs
 use Rattle.dbg_core.proofs.Obeying.{causes_as, going_by}
 use Rattle.dbg_back.specs.declared.ends.BackEnd.TheVariants.{WriteFault, ErrorsFault}
 use Rattle.dbg_back.specs.Ends.{end_of_run, is_fault}
-use Rattle.dbg_back.proofs.Running.{ran_accesses, ran_marks, ran_stopped, runs_by, unfailed, whole_rest}
+use Rattle.dbg_back.proofs.Running.{ran_accesses, ran_stopped, runs_by, whole_rest}
 use Rattle.dbg_back.proofs.Streams.{fault_of_run, last_run, never_rose}
 use Rattle.dbg_back.proofs.moves.run_to.Goals as goal
 
@@ -23,7 +23,6 @@ returns g c =
     let place = c.args.trail.now.place in
     let result = c.end_of_run.result in
     let is = c.end_of_run.ensures in
-    let fine = unfailed m.parts.ended m.failed c.requires.going in
     let other : end ≡ runs.ReadFault → ⊥ = λ h. never_rose (end ≡ runs.ReadFault) c.run-end.ensures.read_cause h in
     let same : is_broken_off end ≡ is_fault result = fault_of_run end other ∙ ap is_fault (sym is) in
     let told : Option (List ℕ) = Some (drop c.new-source.result.place c.new-source.result.bytes) in
@@ -39,7 +38,7 @@ returns g c =
           (c.run-end.ensures.failed ∙ same) count;
       stopped = λ unbroken. ran_stopped until n.parts end (c.run-end.ensures.end (same ∙ unbroken)) c.run-end.ensures.spent;
       accesses = λ unbroken one. c.run-end.ensures.accesses (same ∙ unbroken) ∙ ran_accesses m.accesses m.parts _ until (going_by m c.requires.going) one;
-      marks = λ unbroken. ran_marks input m n place until told (Some rest) fine c.requires.place told_is (subst (λ (b : Bool). Becomes (λ s. run s until) m.parts n.parts told (Some rest) b) unbroken state);
+      marks = λ _. c.run-end.ensures.marks;
       saved = c.run-end.ensures.saved;
       top = refl;
       due = refl;

@@ -1,4 +1,4 @@
-use Rattle.std.proofs.Common.{◌≡◌, ℕ, List, ◌%◌, ◌^◌, ◌≤◌, length, ap, refl, ◌∙◌, arith}
+use Rattle.std.proofs.Common.{◌≡◌, ℕ, List, ◌%◌, ◌^◌, ◌≤◌, length, ap, ◌∙◌, arith}
 use Rattle.emu_bits.specs.declared.flags.Flags.{Flags}
 use Rattle.std.specs.Prelude.{Option}
 use Rattle.emu_model.specs.State.{Core, read_x_sp, with_x_sp, zero_core}

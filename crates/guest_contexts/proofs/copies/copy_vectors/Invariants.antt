@@ -1,4 +1,3 @@
-use Rattle.std.proofs.Common.{◌≡◌, [], length, ◌<◌, ℕ, get_or}
 use Rattle.guest_contexts.proofs.Copied.{IsCopiedTo}
 use Rattle.guest_contexts.proofs.copies.copy_vectors.Given as goal
 

@@ -1,5 +1,5 @@
-use Rattle.std.proofs.Common.{◌≡◌, ℕ, List, ap, sym, refl, ◌∙◌, arith, length, take, ◌≤◌, false, true}
-use Rattle.guest_contexts.proofs.Found.{AreFound, found_one, found_other}
+use Rattle.std.proofs.Common.{ap, sym, ◌∙◌}
+use Rattle.guest_contexts.proofs.Found.{found_one, found_other}
 use Rattle.guest_contexts.proofs.standings.ready.Goals as goal
 use Rattle.guest_contexts.proofs.standings.ready.Goals.{then-is_ready, else-is_ready}
 

@@ -29,13 +29,13 @@ fetched_parts core vectors memory n brk steps ended m same is = ap (λ (x : Memo
 
 fetched_v : (c : After-vector) → HasFetched c.args.self.now.parts c.in-Ok.word
 fetched_v c =
-    let e = c.self.view_is in let p = c.pc-pc.ensures.value in
-    fetched_at c.self.inside.core c.self.inside.memory c.args.self.now.parts c.pc-pc.result c.in-Ok.word (ap (λ (s : MachineState). s.parts.core) e) (ap (λ (s : MachineState). s.parts.memory) e) p (grind arith) (sym c.in-Ok.is ∙ c.load.ensures.value)
+    let e = c.self.view_is in let p : c.pc-pc.result ≡ c.self.inside.core.value.pc = c.pc-pc.ensures.value ∙ ap (λ (x : Core). x.pc) c.deref.ensures in
+    fetched_at c.self.inside.core.value c.self.inside.memory c.args.self.now.parts c.pc-pc.result c.in-Ok.word (ap (λ (s : MachineState). s.parts.core) e) (ap (λ (s : MachineState). s.parts.memory) e) p (grind arith) (sym c.in-Ok.is ∙ c.load.ensures.value)
 
-same_v : (c : After-vector) → record { core = c.self.inside.core; vectors = c.self.inside.vec; memory = c.load.new.self; brk = c.self.inside.brk; steps = c.self.inside.steps; ended = c.self.inside.ended } ≡ c.args.self.now.parts
+same_v : (c : After-vector) → record { core = c.self.inside.core.value; vectors = c.self.inside.vec.value; memory = c.load.new.self; brk = c.self.inside.brk; steps = c.self.inside.steps; ended = c.self.inside.ended } ≡ c.args.self.now.parts
 same_v c =
     let i = c.self.inside in
-    fetched_parts i.core i.vec i.memory c.load.new.self i.brk i.steps i.ended c.args.self.now.parts c.load.ensures.unchanged (ap (λ (s : MachineState). s.parts) c.self.view_is)
+    fetched_parts i.core.value i.vec.value i.memory c.load.new.self i.brk i.steps i.ended c.args.self.now.parts c.load.ensures.unchanged (ap (λ (s : MachineState). s.parts) c.self.view_is)
 
 pub returns-then-may_be_sve-clause-turn : goal.returns-then-may_be_sve-clause-turn
 returns-then-may_be_sve-clause-turn c =
@@ -52,13 +52,13 @@ returns-then-may_be_sve-clause-accesses c =
 
 fetched_e : (c : After-scalar) → HasFetched c.args.self.now.parts c.in-Ok.word
 fetched_e c =
-    let e = c.self.view_is in let p = c.pc-pc.ensures.value in
-    fetched_at c.self.inside.core c.self.inside.memory c.args.self.now.parts c.pc-pc.result c.in-Ok.word (ap (λ (s : MachineState). s.parts.core) e) (ap (λ (s : MachineState). s.parts.memory) e) p (grind arith) (sym c.in-Ok.is ∙ c.load.ensures.value)
+    let e = c.self.view_is in let p : c.pc-pc.result ≡ c.self.inside.core.value.pc = c.pc-pc.ensures.value ∙ ap (λ (x : Core). x.pc) c.deref.ensures in
+    fetched_at c.self.inside.core.value c.self.inside.memory c.args.self.now.parts c.pc-pc.result c.in-Ok.word (ap (λ (s : MachineState). s.parts.core) e) (ap (λ (s : MachineState). s.parts.memory) e) p (grind arith) (sym c.in-Ok.is ∙ c.load.ensures.value)
 
-same_e : (c : After-scalar) → record { core = c.self.inside.core; vectors = c.self.inside.vec; memory = c.load.new.self; brk = c.self.inside.brk; steps = c.self.inside.steps; ended = c.self.inside.ended } ≡ c.args.self.now.parts
+same_e : (c : After-scalar) → record { core = c.self.inside.core.value; vectors = c.self.inside.vec.value; memory = c.load.new.self; brk = c.self.inside.brk; steps = c.self.inside.steps; ended = c.self.inside.ended } ≡ c.args.self.now.parts
 same_e c =
     let i = c.self.inside in
-    fetched_parts i.core i.vec i.memory c.load.new.self i.brk i.steps i.ended c.args.self.now.parts c.load.ensures.unchanged (ap (λ (s : MachineState). s.parts) c.self.view_is)
+    fetched_parts i.core.value i.vec.value i.memory c.load.new.self i.brk i.steps i.ended c.args.self.now.parts c.load.ensures.unchanged (ap (λ (s : MachineState). s.parts) c.self.view_is)
 
 insn_is : (c : After-scalar) → Some (A64 c.in-Some.insn) ≡ decode c.in-Ok.word
 insn_is c = ap a64 (sym c.in-Some.is) ∙ c.decode_a64_word.ensures.table

@@ -13,6 +13,7 @@ invariant-loop-self g l = record {
       (g.O.Sink.held l.fn.output) (g.O.Sink.held l.output) (g.E.Sink.held l.fn.errors) (g.E.Sink.held l.errors);
   logs : Logs l.budget l.fn.self.accesses l.fn.self.parts (g.I.Source.left l.fn.input) l.self.accesses l.self.parts (g.I.Source.left l.input);
   stands : Stands l.fn.self.parts (g.I.Source.left l.fn.input) l.self.parts (g.I.Source.left l.input);
+  marks : l.self.parts.memory.marks ≡ l.fn.self.parts.memory.marks;
   saved : l.self.saved ≡ l.fn.self.saved;
   read : g.I.Source.faults l.input ≡ g.I.Source.faults l.fn.input;
   write : g.O.Sink.faults l.output ≡ g.O.Sink.faults l.fn.output;

@@ -1,6 +1,6 @@
 use Rattle.emu_run.specs.declared.insn.Insn.TheVariants.{A64}
 use Rattle.std.proofs.Common.{Some}
-use Rattle.emu_machine.proofs.Left.{HasDone, done_by}
+use Rattle.emu_machine.proofs.Left.{HasDone, done_by, performed_as}
 use Rattle.emu_machine.proofs.machine.Machine.scalar.Goals.{After-leave_insn}
 use Rattle.emu_machine.proofs.machine.Machine.scalar.Goals as goal
 
@@ -8,8 +8,8 @@ done : (c : After-leave_insn) → HasDone (Some (A64 c.args.insn.now)) c.args.se
 done c =
     let i = c.self.inside in
     let n = c.perform_a64-effect.new in
-    done_by (A64 c.args.insn.now) i.core n.core i.vec n.vec i.memory n.memory i.brk i.steps i.ended i.log.items n.log.items i.failed i.saved.items c.perform_a64-effect.result c.leave_insn.result c.args.self.now c.leave_insn.new.self
-    c.self.view_is c.requires.clear c.requires.going c.perform_a64-effect.ensures c.leave_insn.ensures.progress c.leave_insn.ensures.parts c.leave_insn.ensures.accesses c.leave_insn.ensures.failed c.leave_insn.ensures.saved
+    done_by (A64 c.args.insn.now) i.core.value n.core i.vec.value n.vec i.memory n.memory i.brk i.steps i.ended i.log.items n.log.items i.failed i.saved.items c.perform_a64-effect.result c.leave_insn.result c.args.self.now c.leave_insn.new.self
+    c.self.view_is c.requires.clear c.requires.going (performed_as (A64 c.args.insn.now) c.deref_mut.result.now i.core.value c.deref_mut-2.result.now i.vec.value i.memory c.deref_mut.ensures.value c.deref_mut-2.ensures.value _ c.perform_a64-effect.ensures) c.leave_insn.ensures.progress c.leave_insn.ensures.parts c.leave_insn.ensures.accesses c.leave_insn.ensures.failed c.leave_insn.ensures.saved
 
 pub returns : goal.returns
 returns c =

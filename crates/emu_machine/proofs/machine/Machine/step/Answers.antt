@@ -1,7 +1,9 @@
 use Rattle.std.proofs.Common.{◌≡◌, ℕ, List, Option, Some, false, ap, sym, refl, ◌∙◌}
+use Rattle.emu_model.specs.State.{Parts}
 use Rattle.emu_system.specs.SystemCall.{Turn, call, quiet}
 use Rattle.emu_run.specs.Step.{step, turn}
 use Rattle.emu_machine.specs.Ends.{is_undone, is_unput, step_end}
+use Rattle.emu_machine.proofs.Kept.{turn_keeps}
 use Rattle.emu_machine.proofs.Advanced.{causes_not, counted_as, not_both, turned}
 use Rattle.emu_machine.proofs.Runs.{Ran, done_by_end, ends_by_call, made_by_call, puts_by_call, puts_errors_by_call, quietly_made, quietly_ran, unput_by_end}
 use Rattle.emu_machine.proofs.machine.Machine.step.Goals as goal
@@ -37,6 +39,7 @@ returns-in_default g c =
       accesses = c.once.ensures.accesses;
       undone = λ h. not_both _ _ (done g c) h;
       failed = c.once.ensures.failed ∙ sym (done g c);
+      marks = turn_keeps m q (turns g c);
       saved = c.once.ensures.saved;
       read_cause = causes_not _ _ _ refl (λ e. not_both _ _ (done g c) (ap is_undone e));
       write_cause = causes_not _ _ _ refl (λ e. not_both _ _ (done g c) (ap is_undone e));
@@ -68,3 +71,6 @@ returns-in-AtCall-clause-output g c =
 pub returns-in-AtCall-clause-errors : goal.returns-in-AtCall-clause-errors
 returns-in-AtCall-clause-errors g c =
     puts_errors_by_call c.args.self.now.parts c.once.new.self.parts (g.E.Sink.held c.args.errors.now) (g.E.Sink.held c.call.new.errors) (is_undone c.call.result) (same g c) (calls g c) c.call.ensures.errors
+
+pub returns-in-AtCall-clause-marks : goal.returns-in-AtCall-clause-marks
+returns-in-AtCall-clause-marks g c = c.call.ensures.marks ∙ ap (λ (p : Parts). p.memory.marks) (same g c)

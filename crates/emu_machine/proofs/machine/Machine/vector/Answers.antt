@@ -2,7 +2,7 @@ use Rattle.std.proofs.Common.{◌≡◌, Some, Option, subst}
 use Rattle.emu_run.specs.declared.insn.Insn.{Insn}
 use Rattle.emu_run.specs.declared.insn.Insn.TheVariants.{Sve}
 use Rattle.emu_run.specs.Step.{decode}
-use Rattle.emu_machine.proofs.Left.{HasDone, done_by}
+use Rattle.emu_machine.proofs.Left.{HasDone, done_by, performed_as}
 use Rattle.emu_machine.proofs.machine.Machine.vector.Goals.{After-leave_insn}
 use Rattle.emu_machine.proofs.machine.Machine.vector.Goals as goal
 
@@ -12,8 +12,8 @@ done c =
     let n = c.perform_sve-effect.new in
     let is : Some (Sve c.in-Some.insn.now) ≡ decode c.args.word = c.in-Some.ensures in
     subst (λ (o : Option Insn). HasDone o c.args.self.now c.leave_insn.new.self c.leave_insn.result) is
-    (done_by (Sve c.in-Some.insn.now) i.core n.core i.vec n.vec i.memory n.memory i.brk i.steps i.ended i.log.items n.log.items i.failed i.saved.items c.perform_sve-effect.result c.leave_insn.result c.args.self.now c.leave_insn.new.self
-    c.self.view_is c.requires.clear c.requires.going c.perform_sve-effect.ensures c.leave_insn.ensures.progress c.leave_insn.ensures.parts c.leave_insn.ensures.accesses c.leave_insn.ensures.failed c.leave_insn.ensures.saved)
+    (done_by (Sve c.in-Some.insn.now) i.core.value n.core i.vec.value n.vec i.memory n.memory i.brk i.steps i.ended i.log.items n.log.items i.failed i.saved.items c.perform_sve-effect.result c.leave_insn.result c.args.self.now c.leave_insn.new.self
+    c.self.view_is c.requires.clear c.requires.going (performed_as (Sve c.in-Some.insn.now) c.deref_mut.result.now i.core.value c.deref_mut-in-Some.result.now i.vec.value i.memory c.deref_mut.ensures.value c.deref_mut-in-Some.ensures.value _ c.perform_sve-effect.ensures) c.leave_insn.ensures.progress c.leave_insn.ensures.parts c.leave_insn.ensures.accesses c.leave_insn.ensures.failed c.leave_insn.ensures.saved)
 
 pub returns-in-Some : goal.returns-in-Some
 returns-in-Some c =

@@ -1,6 +1,5 @@
-use Rattle.std.proofs.Common.{◌≡◌, ℕ, List, ap, refl, sym, ◌∙◌}
-use Rattle.emu_machine.specs.Machines.{MachineState}
-use Rattle.thread_model.specs.Worlds.{World, Context, context, with_context, with_woken, without_monitors}
+use Rattle.std.proofs.Common.{List, [], ◌∷◌, ◌++◌, ap, refl, ◌∙◌}
+use Rattle.thread_model.specs.Worlds.{World, Context}
 use Rattle.guest_contexts.specs.Laid.{world_of}
 use Rattle.thread_model.specs.ThreadCall.{with_started}
 use Rattle.guest_contexts.proofs.Laid.{pushed_is}
@@ -12,4 +11,5 @@ returns c =
     held_as c.self.inside.machine c.self.inside.last c.self.inside.contexts.items c.args.self.now c.self.view_is c.self.inside.machine c.self.inside.last c.push_reserved.new.self.items (λ (w : World). with_started w c.args.context)
     refl
     (ap (λ (x : List Context). world_of c.self.inside.machine.parts c.self.inside.last x) c.push_reserved.ensures.items
+    ∙ ap (λ (x : Context). world_of c.self.inside.machine.parts c.self.inside.last (c.self.inside.contexts.items ++ x ∷ [])) c.hold.ensures
     ∙ pushed_is c.self.inside.machine.parts c.self.inside.last c.self.inside.contexts.items c.self.invariant.last c.args.context)

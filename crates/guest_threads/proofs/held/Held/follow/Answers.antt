@@ -1,16 +1,16 @@
-use Rattle.std.proofs.Common.{◌≡◌, ◌<◌, ◌≤◌, ℕ, ◌+◌, ◌-◌, length, List, Option, Some, None, is_none, nat_eq, true, false, ap, sym, refl, subst, ◌∙◌, arith}
+use Rattle.std.proofs.Common.{◌≡◌, ◌<◌, ℕ, ◌+◌, length, is_none, true, false, ap, sym, refl, subst, ◌∙◌, arith}
 use Rattle.emu_machine.specs.Ends.{is_undone}
 use Rattle.emu_machine.proofs.Advanced.{none_broken, not_both}
 use Rattle.emu_machine.specs.declared.ends.StepEnd.TheVariants.{Going, ReadFault, WriteFault, ErrorsFault}
 use Rattle.thread_model.specs.Worlds.{World}
 use Rattle.thread_model.specs.declared.thread.Place.{Place}
 use Rattle.thread_model.specs.Threads.{next_place, turn_at}
-use Rattle.guest_threads.specs.Ends.{WorldHeld, has_ended, end_of_world, world_end_of, is_broken_off}
+use Rattle.guest_threads.specs.Ends.{world_end_of, is_broken_off}
 use Rattle.guest_threads.proofs.Composed.{leads_start}
 use Rattle.guest_threads.proofs.Picked.{has_one, place_at}
 use Rattle.guest_threads.proofs.Quiet.{quiet_lives, quiet_steps}
 use Rattle.guest_threads.proofs.Stood.{moved, next_moved, stood_goes, stood_on}
-use Rattle.guest_threads.proofs.Runs.{Ran, ran_step, ran_when, LeadsRun, run_counts, run_stops, run_spends, run_sticks, broken_as, unbroken, not_going, end_as, goes_on_after, goes, unended, stops, sticks, read_of, write_of, errors_of, never_spent, unspent_stuck, going_is_no, causes_from, lives_on}
+use Rattle.guest_threads.proofs.Runs.{ran_step, ran_when, LeadsRun, run_counts, run_stops, run_spends, run_sticks, broken_as, unbroken, not_going, end_as, goes_on_after, unended, stops, sticks, read_of, write_of, errors_of, never_spent, going_is_no, causes_from, lives_on}
 use Rattle.guest_threads.proofs.Stands.{Stands, kept_there, stands_on, stands_start, stands_there}
 use Rattle.guest_threads.proofs.held.Held.follow.Goals as goal
 

@@ -1,8 +1,6 @@
 use Rattle.std.specs.List.{list_all}
-use Rattle.std.proofs.Common.{◌≡◌, ℕ, List, ap, refl, sym, ◌∙◌}
-use Rattle.emu_machine.specs.Machines.{MachineState}
-use Rattle.thread_model.specs.Worlds.{is_gone, World, Context, context, with_context, with_woken, without_monitors}
-use Rattle.guest_contexts.specs.Laid.{world_of}
+use Rattle.std.proofs.Common.{List, ap, sym, ◌∙◌}
+use Rattle.thread_model.specs.Worlds.{is_gone, World, Context}
 use Rattle.thread_model.specs.ThreadCall.{all_gone}
 use Rattle.guest_contexts.proofs.Laid.{all_gone_same}
 use Rattle.guest_threads.proofs.Views.{world_is}

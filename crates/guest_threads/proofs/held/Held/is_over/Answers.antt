@@ -1,4 +1,4 @@
-use Rattle.std.proofs.Common.{◌≡◌, ◌<◌, ◌+◌, ℕ, inl, inr, true, false, refl, ap, sym, ◌∙◌, arith}
+use Rattle.std.proofs.Common.{inl, inr, sym, ◌∙◌, arith}
 use Rattle.guest_threads.proofs.Picked.{not_true, not_false, standing_of, turn_same}
 use Rattle.guest_threads.proofs.held.Held.is_over.Goals as goal
 

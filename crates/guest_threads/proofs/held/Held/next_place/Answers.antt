@@ -1,4 +1,4 @@
-use Rattle.std.proofs.Common.{◌≡◌, ◌<◌, ◌+◌, ◌%◌, ◌^◌, ℕ, true, false, refl, ap, sym, subst, ◌∙◌, arith}
+use Rattle.std.proofs.Common.{◌≡◌, ◌<◌, ◌+◌, ◌%◌, ℕ, ap, sym, subst, ◌∙◌, arith}
 use Rattle.thread_model.specs.Threads.{turn_at}
 use Rattle.guest_threads.proofs.Picked.{goes_over, place_at, stays_on, turn_over, turn_on, placed_at}
 use Rattle.thread_model.specs.Worlds.{is_standing_ready}

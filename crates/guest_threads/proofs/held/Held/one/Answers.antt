@@ -1,12 +1,11 @@
-use Rattle.std.proofs.Common.{◌≡◌, ◌+◌, ℕ, List, [], Option, true, false, refl, sym, ap, subst, ◌∙◌}
-use Rattle.emu_machine.specs.declared.ends.StepEnd.TheVariants.{Going, ReadFault, WriteFault, ErrorsFault}
+use Rattle.std.proofs.Common.{◌≡◌, ◌+◌, ℕ, List, [], false, refl, sym, ap, subst, ◌∙◌}
 use Rattle.emu_machine.specs.Ends.{is_undone, step_end}
 use Rattle.emu_machine.proofs.Advanced.{causes_not, not_both}
 use Rattle.thread_model.specs.Living.{IsLiving, one_living}
 use Rattle.thread_model.specs.Threads.{WorldState, WorldTurn, makes_call, stepped, one, quietly}
 use Rattle.thread_model.specs.ThreadLaws.{with_input}
-use Rattle.thread_model.specs.Worlds.{World, context, joined, without_monitors, taken_by_context}
-use Rattle.guest_threads.specs.Calls.{IsCalling, IsMade}
+use Rattle.thread_model.specs.Worlds.{World, context, joined, taken_by_context}
+use Rattle.guest_threads.specs.Calls.{IsCalling}
 use Rattle.guest_threads.specs.Ends.{WorldHeld, IsKept}
 use Rattle.guest_threads.specs.Steps.{stepped_as}
 use Rattle.guest_threads.proofs.Made.{unfailed_of}

@@ -1,8 +1,6 @@
-use Rattle.std.proofs.Common.{◌≡◌, ◌<◌, ◌%◌, ℕ, List, length, get_or, true, refl, ap, sym, subst, ◌∙◌, arith}
+use Rattle.std.proofs.Common.{◌≡◌, ◌<◌, ◌%◌, ℕ, List, length, get_or, ap, sym, subst, ◌∙◌, arith}
 use Rattle.std.proofs.lemmas.Nat.{mod_below}
-use Rattle.std.specs.List.{All, list_any}
-use Rattle.thread_model.specs.Worlds.{World, Context, is_ready, some_ready}
-use Rattle.guest_contexts.specs.Standings.{ready_among, IsReadyIn}
+use Rattle.thread_model.specs.Worlds.{World, some_ready}
 use Rattle.guest_threads.specs.Ends.{IsPicked}
 use Rattle.guest_threads.proofs.Picked.{picked_none, picked_at}
 use Rattle.guest_threads.proofs.Views.{world_is}
@@ -11,22 +9,20 @@ use Rattle.guest_threads.proofs.held.Held.pick.Goals as goal
 pub returns-then-count-eq0 : goal.returns-then-count-eq0
 returns-then-count-eq0 c =
     ap (λ (w : World). some_ready w) (sym (world_is c.self.inside.machine c.self.inside.last c.self.inside.contexts.items c.args.self.now c.self.view_is))
-    ∙ picked_none c.self.inside.machine.parts c.self.inside.last c.self.inside.contexts.items c.ready-numbers.result.items
-    (subst (λ (l : List Context). list_any is_ready l ≡ true → 0 < length c.ready-numbers.result.items) c.deref.ensures.value c.ready-numbers.ensures.some.0)
+    ∙ picked_none c.self.inside.machine.parts c.self.inside.last c.self.inside.contexts.items c.self.inside.numbers.items c.self.invariant.ready.some.0
     (sym c.len-count.ensures.value ∙ c.if-count-eq0.true)
 
 pub returns : goal.returns
 returns c =
-    let numbers : List ℕ = c.ready-numbers.result.items in
+    let numbers : List ℕ = c.self.inside.numbers.items in
     let long : c.len-count.result ≡ length numbers = c.len-count.ensures.value in
     let some = c.if-count-eq0.false in
     let first : ℕ = (get_or c.args.turns.now c.args.place.now.turn (0, 0)).0 in
-    let at : ℕ = first % c.len-count.result in
-    let below : at < length numbers = subst (λ (n : ℕ). at < n) long (mod_below first c.len-count.result (omega (arith, some))) in
-    let picked : IsPicked _ c.args.turns.now c.args.place.now (get_or c.deref-2.result.now at 0) =
-    picked_at c.self.inside.machine.parts c.self.inside.last c.self.inside.contexts.items c.args.turns.now c.args.place.now numbers at (get_or c.deref-2.result.now at 0)
-    (c.ready-numbers.ensures.ready ∙ ap (λ (l : List Context). ready_among l) c.deref.ensures.value)
-    (subst (λ (l : List Context). All (IsReadyIn l) numbers) c.deref.ensures.value c.ready-numbers.ensures.each)
-    c.if-place-ne0.false c.requires.turn (ap (λ (n : ℕ). first % n) long) below
-    (ap (λ (l : List ℕ). get_or l at 0) c.deref-2.ensures.0) in
-    subst (λ (w : World). IsPicked w c.args.turns.now c.args.place.now (get_or c.deref-2.result.now at 0)) (world_is c.self.inside.machine c.self.inside.last c.self.inside.contexts.items c.args.self.now c.self.view_is) picked
+    let at : ℕ = c.remainder-at.result in
+    let is : at ≡ first % c.len-count.result = c.remainder-at.ensures in
+    let below : at < length numbers = subst (λ (n : ℕ). n < length numbers) (sym is) (subst (λ (n : ℕ). first % c.len-count.result < n) long (mod_below first c.len-count.result (omega (arith, some)))) in
+    let picked : IsPicked _ c.args.turns.now c.args.place.now (get_or c.deref.result.now at 0) =
+    picked_at c.self.inside.machine.parts c.self.inside.last c.self.inside.contexts.items c.args.turns.now c.args.place.now numbers at (get_or c.deref.result.now at 0)
+    c.self.invariant.ready.ready c.self.invariant.ready.each c.if-place-ne0.false c.requires.turn (is ∙ ap (λ (n : ℕ). first % n) long) below
+    (ap (λ (l : List ℕ). get_or l at 0) c.deref.ensures.0) in
+    subst (λ (w : World). IsPicked w c.args.turns.now c.args.place.now (get_or c.deref.result.now at 0)) (world_is c.self.inside.machine c.self.inside.last c.self.inside.contexts.items c.args.self.now c.self.view_is) picked

@@ -1,18 +1,18 @@
-use Rattle.std.proofs.Common.{◌≡◌, ◌+◌, ℕ, Bool, subst, List, Option, length, true, false, map, refl, sym, ap, ◌∙◌}
+use Rattle.std.proofs.Common.{◌≡◌, ◌+◌, Bool, subst, List, length, true, false, map, refl, sym, ap, ◌∙◌}
 use Rattle.std.specs.Vec.{with_items}
 use Rattle.std.proofs.lemmas.List.{length-map, with_items_is}
 use Rattle.emu_model.specs.declared.access.Access.{Access}
-use Rattle.emu_model.specs.declared.trap.Ended.{Ended}
 use Rattle.emu_model.specs.State.{Parts}
 use Rattle.emu_run.specs.Step.{accesses}
 use Rattle.emu_machine.specs.Ends.{is_undone, is_unput, step_end}
 use Rattle.emu_machine.specs.Machines.{MakesWrite}
 use Rattle.emu_machine.proofs.Advanced.{not_both}
 use Rattle.linux_calls.specs.Names.{NamesRead}
-use Rattle.thread_model.specs.Worlds.{World, Context, behind_accesses, context, joined, others_behind, without_monitors}
+use Rattle.thread_model.specs.Worlds.{World, Context, behind_accesses, context, joined, others_behind}
 use Rattle.guest_contexts.specs.Laid.{world_of}
 use Rattle.guest_contexts.proofs.Laid.{joined_is, noted_is}
-use Rattle.guest_threads.specs.Ends.{WorldHeld, last_machine}
+use Rattle.guest_threads.specs.Ends.{IsInside, WorldHeld, last_machine}
+use Rattle.guest_threads.proofs.Inside.{inside_mapped}
 use Rattle.guest_threads.proofs.Steps.{Stepped, stepped_done, stepped_broken, kept_is, accessed_is, lives_called, lives_noted}
 use Rattle.guest_threads.proofs.Views.{laid_ready, last_is}
 use Rattle.guest_threads.proofs.held.Held.step.Goals as goal
@@ -112,3 +112,12 @@ returns g c =
       write_named = λ e. not_both _ _ b (ap is_undone e);
       errors_named = λ e. not_both _ _ b (ap is_undone e);
     }
+
+pub invariant_of-self-2 : goal.invariant_of-self-2
+invariant_of-self-2 g c =
+    let i = c.self.inside in
+    let made = c.accesses.result.now in
+    let kept : c.note_accesses.new.contexts ≡ map (behind_accesses made) i.contexts.items = c.note_accesses.ensures ∙ ap (λ (x : List Context). map (behind_accesses made) x) c.deref_mut.ensures.value in
+    let long : length c.note_accesses.new.contexts ≡ i.contexts.len = ap (λ (x : List Context). length x) kept ∙ length-map i.contexts.items (behind_accesses made) ∙ sym i.contexts.ok.0 in
+    subst (λ (x : List Context). IsInside i.last x i.contexts.cap (length i.spares.items) i.numbers.items false) (sym (with_items_is i.contexts c.note_accesses.new.contexts long ∙ kept))
+    (inside_mapped i.contexts.cap (length i.spares.items) i.numbers.items (behind_accesses made) (λ (x : Context). refl) i.last i.contexts.items i.unwatched c.self.invariant)

@@ -1,0 +1,68 @@
+-- What is known of contexts, and stays so where registers are exchanged or monitors are emptied.
+use Rattle.std.proofs.Common.{◌≡◌, ◌<◌, ℕ, zero, suc, Bool, true, false, ◌||◌, is_some, List, [], ◌∷◌, length, get_or, map, refl, sym, ap, subst, ◌∙◌}
+use Rattle.std.specs.Prelude.{◌↔◌}
+use Rattle.std.specs.List.{list_any, range_with_len}
+use Rattle.std.proofs.lemmas.List.{length-map}
+use Rattle.emu_model.specs.State.{Parts}
+use Rattle.thread_model.specs.Worlds.{Context, is_ready, no_context}
+use Rattle.guest_contexts.specs.Laid.{laid}
+use Rattle.guest_contexts.specs.Standings.{AreReady, has_monitor, ready_among}
+use Rattle.guest_contexts.proofs.Laid.{filter_of, laid_length, neither, ready_at_same, ready_same, some_ready_same}
+use Rattle.guest_contexts.proofs.Lists.{filter_same}
+
+-- ---- the numbers of those that are ready
+
+pub ready_laid : (m : Parts) (k : ℕ) (cs : List Context) (numbers : List ℕ) → AreReady cs numbers → AreReady (laid m k cs) numbers
+ready_laid m k cs numbers h = record {
+  ready = h.ready ∙ sym (ready_same m k cs);
+  each = λ i d below.
+      let at = h.each i d below in
+      record {
+        within = subst (λ (n : ℕ). get_or numbers i d < n) (sym (laid_length m k cs)) at.within;
+        ready = ready_at_same m k cs (get_or numbers i d) ∙ at.ready;
+      };
+  some = subst (λ (b : Bool). (b ≡ true) ↔ (0 < length numbers)) (sym (some_ready_same m k cs)) h.some;
+}
+
+-- a change of each context by which it stands as before
+module _ (f : Context → Context) (stands : (c : Context) → is_ready (f c) ≡ is_ready c) where
+  ready_at : (cs : List Context) (k : ℕ) → is_ready (get_or (map f cs) k no_context) ≡ is_ready (get_or cs k no_context)
+  ready_at [] k = refl
+  ready_at (c ∷ cs) zero = stands c
+  ready_at (c ∷ cs) (suc k) = ready_at cs k
+
+  some_ready : (cs : List Context) → list_any is_ready (map f cs) ≡ list_any is_ready cs
+  some_ready [] = refl
+  some_ready (c ∷ cs) = ap (λ (b : Bool). b || list_any is_ready (map f cs)) (stands c) ∙ ap (λ (b : Bool). is_ready c || b) (some_ready cs)
+
+  among : (cs : List Context) → ready_among (map f cs) ≡ ready_among cs
+  among cs =
+      filter_same (λ k. is_ready (get_or (map f cs) k no_context)) (λ k. is_ready (get_or cs k no_context)) (ready_at cs) (range_with_len 0 (length (map f cs)))
+      ∙ ap (λ (n : ℕ). filter_of cs n) (length-map cs f)
+
+  pub ready_mapped : (cs : List Context) (numbers : List ℕ) → AreReady cs numbers → AreReady (map f cs) numbers
+  ready_mapped cs numbers h = record {
+    ready = h.ready ∙ sym (among cs);
+    each = λ i d below.
+        let at = h.each i d below in
+        record {
+          within = subst (λ (n : ℕ). get_or numbers i d < n) (sym (length-map cs f)) at.within;
+          ready = ready_at cs (get_or numbers i d) ∙ at.ready;
+        };
+    some = subst (λ (b : Bool). (b ≡ true) ↔ (0 < length numbers)) (sym (some_ready cs)) h.some;
+  }
+
+-- ---- contexts of which none has a monitor
+
+pub unwatched_laid : (m : Parts) (k : ℕ) (cs : List Context) → list_any has_monitor cs ≡ false → is_some m.core.monitor ≡ false → list_any has_monitor (laid m k cs) ≡ false
+unwatched_laid m zero [] h none = refl
+unwatched_laid m (suc k) [] h none = refl
+unwatched_laid m zero (c ∷ cs) h none =
+    let both = neither (has_monitor c) (list_any has_monitor cs) h in ap (λ (b : Bool). b || list_any has_monitor cs) none ∙ both.1
+unwatched_laid m (suc k) (c ∷ cs) h none =
+    let both = neither (has_monitor c) (list_any has_monitor cs) h in ap (λ (b : Bool). b || list_any has_monitor (laid m k cs)) both.0 ∙ unwatched_laid m k cs both.1 none
+
+pub unwatched_at : (cs : List Context) (k : ℕ) → list_any has_monitor cs ≡ false → has_monitor (get_or cs k no_context) ≡ false
+unwatched_at [] k h = refl
+unwatched_at (c ∷ cs) zero h = (neither (has_monitor c) (list_any has_monitor cs) h).0
+unwatched_at (c ∷ cs) (suc k) h = unwatched_at cs k (neither (has_monitor c) (list_any has_monitor cs) h).1
