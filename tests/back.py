@@ -2,7 +2,7 @@
 """Compares sessions of `svemu dbg` that go back with sessions that don't, and with runs.
 
 usage: back.py PROGRAM           the last line is 'N sessions, M commands, K differ'
-       back.py --cases PROGRAM   prints lines for crates/dbg_cases, and what they have to write
+       back.py --cases PROGRAM   prints sessions for crates/guest_programs, and what they have to write
 
 Where a session stands is worked out here: how many steps it has counted, whether it has trapped, and the furthest
 count.
@@ -19,7 +19,7 @@ import tempfile
 GUEST = "~{}^"
 ENTRY = 0x400000
 
-# Each program has data from 0x401000 on, up to where its break begins, 0x404000, which is that of crates/dbg_cases too.
+# Each program has data from 0x401000 on, up to where its break begins, 0x404000, as in crates/guest_programs.
 DATA = "\n.data\n.zero 12288\n"
 # Each has its listing, its vector length in bits, its pages, its input, and commands that look at what it changes.
 PROGRAMS = {

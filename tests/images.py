@@ -1,16 +1,16 @@
-"""Works out the table of lying executables in crates/image_cases/stdin, by the rules of docs/MANUAL.md ("Images")
-alone: it shares nothing with the program. Two files are cut after each of their bytes; each field of their headers is
-set to 0, to one and to a page more and less than it says, to half of its greatest value and to that value, an address
-also to the page of another segment, a size also to the most that the pages allow and to one more; of two lying fields
-the first fault counts. `tests/images.py` writes the table; `tests/images.py --check` compares it with the one that
-stands there."""
+"""Works out the table of lying executables in the section `= images` of crates/guest_programs/stdin, by the rules of
+docs/MANUAL.md ("Images") alone: it shares nothing with the program. Two files are cut after each of their bytes;
+each field of their headers is set to 0, to one and to a page more and less than it says, to half of its greatest
+value and to that value, an address also to the page of another segment, a size also to the most that the pages allow
+and to one more; of two lying fields the first fault counts. `tests/images.py` writes the table; `tests/images.py
+--check` compares it with the one that stands there."""
 
 import os
 import struct
 import sys
 
 TOP = os.path.dirname(os.path.dirname(os.path.abspath(__file__)))
-STDIN = os.path.join(TOP, "crates", "image_cases", "stdin")
+STDIN = os.path.join(TOP, "crates", "guest_programs", "stdin")
 MARK = "# ---- worked out by tests/images.py"
 
 # A field: its offset and its size in bytes.
@@ -239,12 +239,13 @@ def main(words):
         sys.stdout.write(made)
         return 0
     with open(STDIN, encoding="utf-8") as file:
-        before, mark, stands = file.read().partition(MARK)
-    if before and mark + stands == made:
+        before, mark, behind = file.read().partition(MARK)
+    stands = behind.partition("\n= ")[0] + "\n"
+    if "\n= images\n" in before and mark + stands == made:
         cases = [line for line in made.splitlines() if line.startswith(("cuts=", "put="))]
         print(f"{len(cases)} cases are as they were worked out")
         return 0
-    print("crates/image_cases/stdin doesn't end in what tests/images.py works out")
+    print("the section of images in crates/guest_programs/stdin doesn't end in what tests/images.py works out")
     return 1
 
 

@@ -1,15 +1,15 @@
 #!/usr/bin/env python3
 """Programs of several contexts, and what they come to under schedules, by an interpreter of its own.
 
-usage: threads.py --write FOLDER    writes FOLDER/stdin and FOLDER/stdout
-       threads.py --check FOLDER    compares them with what it would write
+usage: threads.py --write FOLDER    writes the last section of FOLDER/stdin and of FOLDER/stdout, from `= contexts` on
+       threads.py --check FOLDER    compares these with what it would write
        threads.py --show NAME       prints the words of a program
 
 It shares nothing with svemu: words are made and read here by the Arm manual, and contexts, calls and schedules are as
 crates/thread_model/specs defines them. A line `program LENGTH | WORDS` of stdin names the program of the lines behind
 it, and each of these has a budget, and behind `|` the lines of a schedule with `;` between them. The image is that of
-crates/dbg_cases: the words stand at 0x400000, a page at 0x402000 may be read and written, and a page at 0x403000 may
-be read.
+crates/guest_programs: the words stand at 0x400000, a page at 0x402000 may be read and written, and a page at 0x403000
+may be read.
 """
 import random
 import sys
@@ -731,20 +731,24 @@ def main(words):
         raise SystemExit(__doc__)
     lines, answers = cases(SP_AT_START)
     for name, text in (("stdin", lines), ("stdout", answers)):
-        file, made = f"{words[1]}/{name}", "\n".join(text) + "\n"
+        file, made = f"{words[1]}/{name}", ("\n".join(text) + "\n").encode()
+        with open(file, "rb") as stands:
+            before, section, found = stands.read().partition(SECTION)
+        if not section:
+            print(f"{file} has no section {SECTION.decode().strip()!r}")
+            return 1
         if words[0] == "--write":
-            with open(file, "w", encoding="utf-8") as stands:
-                stands.write(made)
-            continue
-        with open(file, encoding="utf-8") as stands:
-            if stands.read() != made:
-                print(f"{file} isn't what tests/threads.py works out")
-                return 1
+            with open(file, "wb") as stands:
+                stands.write(before + section + made)
+        elif found != made:
+            print(f"{file} isn't what tests/threads.py works out")
+            return 1
     print(answers[-1])
     return 0
 
 
 SP_AT_START = STACK_END - 256
+SECTION = b"\n= contexts\n"
 
 if __name__ == "__main__":
     sys.exit(main(sys.argv[1:]))

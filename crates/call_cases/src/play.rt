@@ -36,7 +36,8 @@ struct Play {
     has_ended: bool,
 }
 
-/// The first item of a case that isn't as the line has it, or the line where an item isn't in its form or memory is wanting.
+/// The first item of a case that isn't as the line has it, or the line where an item isn't in its form or memory is
+/// wanting.
 pub fn difference(alloc: Global, line: &str) -> Option<&str> {
     let Some(mut play) = Play::of(alloc, line) else {
         return Some(line);

@@ -65,8 +65,8 @@ pub fn is_core(core: &Core, general: &General, x0: u64, monitor: Option<(u64, u3
     same
 }
 
-/// The vector registers before a call, of a starting and a present length: bytes that differ, and true flags; or behind it, where
-/// only the low 16 bytes of each Z register are left.
+/// The vector registers before a call, of a starting and a present length: bytes that differ, and true flags; or behind
+/// it, where only the low 16 bytes of each Z register are left.
 pub fn vectors_of(most: Length, length: Length, is_behind: bool) -> VecRegs {
     let mut vec = VecRegs::new(most);
     if length.bits() <= most.bits() {

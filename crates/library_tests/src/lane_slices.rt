@@ -1,5 +1,4 @@
-//! Permutes of slices of lanes, each at one of the four widths, and numbers modulo a width.
-use lane_pack::Lane;
+//! Permutes of slices of lanes, each at one of the four widths.
 use lane_permute::{compact, ext, insr, last, rev, splice, tbl, trn, uzp, widen, zip};
 
 const FIRST: [u32; 4] = [1, 2, 3, 4];
@@ -38,22 +37,4 @@ fn slices_of_lanes_are_permuted(rt: HostRuntime) {
     let mut wide = [0u32; 2];
     widen(&a, true, true, &mut wide);
     assert_eq!(rt; wide, [3, 0xFFFF_FFFF]);
-}
-
-/// The sum, the difference and the product of the lanes of two numbers.
-fn made<T: Lane>(a: u64, b: u64) -> [u64; 3] {
-    let (a, b) = (T::from_u64(a), T::from_u64(b));
-    [
-        a.add_mod(b).to_u64(),
-        a.sub_mod(b).to_u64(),
-        a.mul_mod(b).to_u64(),
-    ]
-}
-
-#[test]
-fn lanes_are_numbers_modulo_their_width(rt: HostRuntime) {
-    assert_eq!(rt; made::<u8>(0x1FF, 2), [1, 0xFD, 0xFE]);
-    assert_eq!(rt; made::<u16>(0xFFFF, 2), [1, 0xFFFD, 0xFFFE]);
-    assert_eq!(rt; made::<u32>(0xFFFF_FFFF, 2), [1, 0xFFFF_FFFD, 0xFFFF_FFFE]);
-    assert_eq!(rt; made::<u64>(u64::MAX, 2), [1, u64::MAX - 2, u64::MAX - 1]);
 }

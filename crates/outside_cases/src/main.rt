@@ -1,26 +1,37 @@
-//! Compares single words with what other programs say of them, and writes the lines that differ.
+//! Compares single words and pages with what other programs say of them, and writes the lines that differ.
 //!
-//! A line of four columns, with a tab between them, is a case: one step as another emulator answered it, or as it was worked by hand. Its columns are
-//! the word, a vector length, the state before the step and what differs after it, as items `name=value` with a space between
-//! them. Numbers are hexadecimal:
+//! Behind the line `= pages` each line is a command over mapped pages (`pages.rt`), and what it answers is written.
+//! Before it a line is of a word.
 //!
-//! - `x0` to `x30`, `sp`, `pc`, `tpidr`, `nzcv` with four binary digits, and `z0` to `z31`, `p0` to `p15` and `ffr` with all
-//!   their digits, the most significant first; registers that aren't given are 0 before;
-//! - before the step `monitor=ADDRESS:BYTES`, `page=ADDRESS:RIGHTS`, a mapped page, and `mem=ADDRESS:DIGITS`, bytes of it;
-//! - after the step `mem=ADDRESS:DIGITS`, bytes that differ, and `trap=KIND:ADDRESS`. Where no `pc` and no trap is given
-//!   it goes on behind the word. The monitor is compared where it is given, which may be `none`, and so is
+//! A line of four columns, with a tab between them, is a case: one step as another emulator answered it, or as it was
+//! worked by hand. Its columns are the word, a vector length, the state before the step and what differs after it, as
+//! items `name=value` with a space between them. Numbers are hexadecimal:
+//!
+//! - `x0` to `x30`, `sp`, `pc`, `tpidr`, `nzcv` with four binary digits, and `z0` to `z31`, `p0` to `p15` and `ffr`
+//!   with all their digits, the most significant first; registers that aren't given are 0 before;
+//! - before the step `monitor=ADDRESS:BYTES`, `page=ADDRESS:RIGHTS`, a mapped page, and `mem=ADDRESS:DIGITS`, bytes of
+//!   it;
+//! - after the step `mem=ADDRESS:DIGITS`, bytes that differ, and `trap=KIND:ADDRESS`. Where no `pc` and no trap is
+//!   given it goes on behind the word. The monitor is compared where it is given, which may be `none`, and so is
 //!   `accesses=COUNT`, the number of the elements that were loaded or stored. A first-faulting or non-faulting load is
 //!   done twice, at once where that is possible and element by element.
 //!
-//! A line of three columns is a word, the name of the form of its row, or `-` where it is in no row, and the text that a
-//! disassembler has for it, which is there for the reader alone.
+//! A line of three columns is a word, the name of the form of its row, or `-` where it is in no row, and the text that
+//! a disassembler has for it, which is there for the reader alone.
 #![tactic(auto)]
 
+mod answers;
+mod commands;
+mod marks;
+mod memory;
 mod names;
+mod pages;
+mod programs;
 mod state;
 mod sve_names;
 mod words;
 
+use crate::pages::Both;
 use crate::state::State;
 use crate::words::line_agrees;
 use core_regs::Effect;
@@ -132,24 +143,57 @@ impl Count {
     }
 }
 
-fn main(rt: HostRuntime) -> io::Result<()> {
-    let mut cases = Count::new();
-    let mut words = Count::new();
-    for line in rt.lines(rt.alloc()) {
-        let line = line?;
+/// How many lines there are of both kinds of words.
+#[derive(Clone, Copy)]
+struct Counts {
+    cases: Count,
+    words: Count,
+}
+
+impl Counts {
+    /// Compares the line of a word.
+    fn play(&mut self, rt: HostRuntime, line: &str) -> io::Result<()> {
         let differs = if line.split('\t').count() == 4 {
-            let differs = agrees(rt.alloc(), line.as_str()) != Some(true);
-            cases.add(differs);
+            let differs = agrees(rt.alloc(), line) != Some(true);
+            self.cases.add(differs);
             differs
         } else {
-            let differs = !line_agrees(line.as_str());
-            words.add(differs);
+            let differs = !line_agrees(line);
+            self.words.add(differs);
             differs
         };
         if differs {
             println!(rt; "differs: {line}")?;
         }
+        Ok(())
     }
-    println!(rt; "{} cases, {} differ", cases.lines, cases.differ)?;
-    println!(rt; "{} words, {} differ", words.lines, words.differ)
+
+    /// Writes how many there are, and how many differ.
+    fn write(&self, rt: HostRuntime) -> io::Result<()> {
+        println!(rt; "{} cases, {} differ", self.cases.lines, self.cases.differ)?;
+        println!(rt; "{} words, {} differ", self.words.lines, self.words.differ)
+    }
+}
+
+fn main(rt: HostRuntime) -> io::Result<()> {
+    let mut counts = Counts {
+        cases: Count::new(),
+        words: Count::new(),
+    };
+    let mut pages = Both::first(rt.alloc())?;
+    let mut are_pages = false;
+    for line in rt.lines(rt.alloc()) {
+        let line = line?;
+        let text = line.as_str();
+        if text == "= pages" {
+            counts.write(rt)?;
+            println!(rt; "{line}")?;
+            are_pages = true;
+        } else if are_pages {
+            pages.play(rt, text)?;
+        } else {
+            counts.play(rt, text)?;
+        }
+    }
+    pages.count(rt)
 }

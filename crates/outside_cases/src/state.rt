@@ -27,9 +27,9 @@ pub struct State {
 }
 
 impl State {
-    /// The state before a step of this word at a vector length: its items, with registers that aren't given 0, and the page
-    /// of the word, which may be read and executed. None where an item isn't in the form of a case, or there is no memory
-    /// for it.
+    /// The state before a step of this word at a vector length: its items, with registers that aren't given 0, and the
+    /// page of the word, which may be read and executed. None where an item isn't in the form of a case, or there is no
+    /// memory for it.
     pub fn read(alloc: Global, word: u32, length: Length, items: &str) -> Option<State> {
         let mut state = State {
             core: Core::new(),
@@ -195,8 +195,8 @@ impl State {
         Some(())
     }
 
-    /// Whether all registers but the monitor, the flags, the trap and the pages are the same, these with their rights and
-    /// all of their bytes, and the accesses are as many as the other state has, where it has their number.
+    /// Whether all registers but the monitor, the flags, the trap and the pages are the same, these with their rights
+    /// and all of their bytes, and the accesses are as many as the other state has, where it has their number.
     pub fn is_same(&self, other: &State) -> bool {
         self.trap == other.trap
             && (other.accesses.is_none() || self.accesses == other.accesses)

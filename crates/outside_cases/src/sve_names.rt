@@ -1,5 +1,5 @@
-//! The names of forms of vector instructions (SVE), as the lines of words have them. The groups aren't inlined into one another, which
-//! the code generator would take minutes for.
+//! The names of forms of vector instructions (SVE), as the lines of words have them. The groups aren't inlined into one
+//! another, which the code generator would take minutes for.
 use sve_insn::SveForm;
 
 /// The name of a form.

@@ -2,8 +2,8 @@
 use crate::names::form_name;
 use insn_decode::{again, decode, encode};
 
-/// Whether the word of a line is an instruction of the form that the line names, and that instruction's word; or is in no row,
-/// as the line says.
+/// Whether the word of a line is an instruction of the form that the line names, and that instruction's word; or is in
+/// no row, as the line says.
 pub fn line_agrees(line: &str) -> bool {
     let mut columns = line.split('\t');
     let (Some(digits), Some(form)) = (columns.next(), columns.next()) else {

@@ -1,4 +1,5 @@
-//! Listings, and what they make.
+//! Listings, and what they make: the size of the file and the first words of its code; or why a listing is refused, and
+//! what its faulty line is alone.
 
 use asm_image::{AsmError, assemble};
 use asm_text::{aim, parse_line};
@@ -31,7 +32,8 @@ fn write_word(rt: HostRuntime, insn: Option<Insn>) -> io::Result<()> {
     }
 }
 
-/// Writes what a line is that stands alone: its refusal, or the word of its instruction as the first, where it names no label.
+/// Writes what a line is that stands alone: its refusal, or the word of its instruction as the first, where it names no
+/// label.
 fn write_alone(rt: HostRuntime, line: &str) -> io::Result<()> {
     match parse_line(rt.alloc(), line) {
         Err(fault) => println!(rt; "; alone {:?}", fault),

@@ -1,19 +1,24 @@
-//! Reads and prints texts of instructions, and assembles listings.
+//! Reads and prints texts: of instructions, listings, command lines and the lines that commands write.
 //!
 //! The input has sections, which lines of `====` part. The first line of a section says what the others are:
 //!
-//! - `texts`: a line has two columns, with a tab between them: a word of eight hexadecimal digits, and the text that GNU's `objdump`
-//!   has for it with `-M no-aliases`. The lines are its instructions of the tables whose text is in the syntax of listings, with ranges
-//!   of registers written out. The others are: targets, which are aimed at later; extensions without an amount; barriers and prefetches
-//!   by name; bitmasks whose rotation isn't the least, or at a lane's size; shifted immediates of lanes as one number; and counts behind
-//!   which `mul #1` is left out. The lines that differ are written, and how many were read.
-//! - `words`: a line has a word and the address that it stands at, in hexadecimal with a space between them. The text of each is written.
-//! - `listing`: a listing. The size of its file and the first words of its code are written; or why it is refused, and what its faulty
-//!   line is alone.
+//! - `texts`: words with the texts that another program gives of them (`texts.rt`);
+//! - `words`: words, whose texts are written (`words.rt`);
+//! - `listing`: a listing over both tables (`listings.rt`);
+//! - `toy listing`: a listing over two instructions of `toy.rt` (`layouts.rt`);
+//! - `reports`: lines of endings, refusals and registers that are asked for (`reports.rt`);
+//! - `command lines`: what each says (`command_words.rt`).
 #![tactic(auto)]
 
+mod asked;
+mod command_words;
+mod layouts;
 mod listings;
+mod names;
+mod reports;
+mod state;
 mod texts;
+mod toy;
 mod words;
 
 use std::io;
@@ -25,6 +30,9 @@ fn report(rt: HostRuntime, section: &str) -> io::Result<()> {
         "texts" => texts::compare(rt, lines),
         "words" => words::print_all(rt, lines),
         "listing" => listings::report(rt, lines),
+        "toy listing" => layouts::report(rt, lines),
+        "reports" => reports::play_all(rt, lines),
+        "command lines" => command_words::play_all(rt, lines),
         _ => println!(rt; "no kind of section: {kind}"),
     }
 }

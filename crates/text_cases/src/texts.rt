@@ -1,4 +1,11 @@
 //! Texts of instructions as another program writes them, read.
+//!
+//! A line has two columns, with a tab between them: a word of eight hexadecimal digits, and the text that GNU's
+//! `objdump` has for it with `-M no-aliases`. The lines are its instructions of the tables whose text is in the syntax
+//! of listings, with ranges of registers written out. The others are: targets, which are aimed at later; extensions
+//! without an amount; barriers and prefetches by name; bitmasks whose rotation isn't the least, or at a lane's size;
+//! shifted immediates of lanes as one number; and counts behind which `mul #1` is left out. The lines that differ are
+//! written, and how many were read.
 
 use a64_rows::encode_a64;
 use asm_a64::read_a64;

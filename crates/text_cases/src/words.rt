@@ -1,4 +1,6 @@
 //! Words, and the texts that the printer gives of them.
+//!
+//! A line has a word and the address that it stands at, in hexadecimal with a space between them.
 
 use arrayvec::ArrayString;
 use dis_text::print;

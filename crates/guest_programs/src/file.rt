@@ -1,0 +1,78 @@
+//! Executables, field by field.
+use crate::image::put;
+use crate::items::{number, numbers};
+use std::alloc::{AllocError, Global};
+
+/// The fields of the first file: an offset, a size in bytes, a value.
+const FIELDS: [(usize, usize, u64); 20] = [
+    (0, 4, 0x464C_457F),
+    (4, 1, 2),
+    (5, 1, 1),
+    (6, 1, 1),
+    (16, 2, 2),
+    (18, 2, 183),
+    (20, 4, 1),
+    (24, 8, 0x40_0000),
+    (32, 8, 64),
+    (52, 2, 64),
+    (54, 2, 56),
+    (56, 2, 1),
+    (64, 4, 1),
+    (68, 4, 5),
+    (72, 8, 4096),
+    (80, 8, 0x40_0000),
+    (88, 8, 0x40_0000),
+    (96, 8, 12),
+    (104, 8, 12),
+    (112, 8, 4096),
+];
+
+/// The first file.
+pub fn first(alloc: Global) -> Result<Vec<u8>, AllocError> {
+    let mut file = vec![in alloc; 0u8; 4108]?;
+    for (offset, size, value) in FIELDS {
+        put(&mut file, offset, size, value);
+    }
+    Ok(file)
+}
+
+/// Changes a file by an item; false where it is no item that does.
+pub fn change(file: &mut Vec<u8>, name: &str, value: &str) -> Option<bool> {
+    match name {
+        "length" => file.resize(number(value)? as usize, 0).ok()?,
+        "put" => {
+            let [offset, size, value, ..] = numbers(value)?;
+            put(file, offset as usize, size as usize, value);
+        }
+        "header" => put_header(file, numbers(value)?),
+        "words" => put_words(file, value)?,
+        _ => return Some(false),
+    }
+    Some(true)
+}
+
+/// Writes a program header.
+fn put_header(file: &mut [u8], numbers: [u64; 8]) {
+    let at = (numbers[0] as usize).saturating_mul(56).saturating_add(64);
+    for (offset, size, value) in [
+        (0, 4, numbers[1]),
+        (4, 4, numbers[2]),
+        (8, 8, numbers[3]),
+        (16, 8, numbers[4]),
+        (32, 8, numbers[5]),
+        (40, 8, numbers[6]),
+    ] {
+        put(file, at.saturating_add(offset), size, value);
+    }
+}
+
+/// Writes words from an offset on.
+fn put_words(file: &mut [u8], value: &str) -> Option<()> {
+    let mut parts = value.split(',');
+    let mut at = number(parts.next()?)? as usize;
+    for word in parts {
+        put(file, at, 4, number(word)?);
+        at = at.saturating_add(4);
+    }
+    Some(())
+}

@@ -1,0 +1,152 @@
+//! Kernels over slices of lanes, with lawful operations that count their calls.
+ghost use Rattle.std.specs.Prelude.{◌≡◌, ◌<◌, ◌≤◌, ◌+◌, ◌++◌, ◌%◌, ◌^◌, map, nat_eq, take, drop, length};
+ghost use Rattle.std.specs.Simd.Lanes.{zip2};
+ghost use Rattle.lane_kernels.specs.Chunks.{zip3};
+
+use lane_kernels::kernels::{Op1, Op2, Op3, Test2, compare, map1, map2, map3};
+use std::cell::Cell;
+use std::simd::Simd;
+use std::test::Fail;
+
+/// Calls of the lane function, and of the chunk function.
+#[derive(Drop)]
+struct Counted {
+    lanes: Cell<u32>,
+    chunks: Cell<u32>,
+}
+
+impl Counted {
+    fn new() -> Counted {
+        Counted {
+            lanes: Cell::new(0),
+            chunks: Cell::new(0),
+        }
+    }
+
+    fn count_lane(&self) {
+        self.lanes.set(self.lanes.get().wrapping_add(1));
+    }
+
+    fn count_chunk(&self) {
+        self.chunks.set(self.chunks.get().wrapping_add(1));
+    }
+}
+
+impl<const W: usize> Op1<u8, W> for Counted {
+    ghost of = { λ _ a. (a + 1) % 2 ^ 8 };
+
+    fn lane(&self, a: u8) -> u8 {
+        self.count_lane();
+        a.wrapping_add(1)
+    }
+
+    fn chunk(&self, a: Simd<u8, W>) -> Simd<u8, W>
+        requires { (0 < W) × (W ≤ 64) }
+        ensures { result ≡ map (λ x. (x + 1) % 2 ^ 8) a.entry }
+    {
+        self.count_chunk();
+        a + Simd::splat(1)
+    }
+}
+
+impl<const W: usize> Op2<u8, W> for Counted {
+    ghost of = { λ _ a b. (a + b) % 2 ^ 8 };
+
+    fn lane(&self, a: u8, b: u8) -> u8 {
+        self.count_lane();
+        a.wrapping_add(b)
+    }
+
+    fn chunk(&self, a: Simd<u8, W>, b: Simd<u8, W>) -> Simd<u8, W>
+        ensures { result ≡ zip2 (λ x y. (x + y) % 2 ^ 8) a.entry b.entry }
+    {
+        self.count_chunk();
+        a + b
+    }
+}
+
+impl<const W: usize> Op3<u8, W> for Counted {
+    ghost of = { λ _ a b c. ((a + b) % 2 ^ 8 + c) % 2 ^ 8 };
+
+    fn lane(&self, a: u8, b: u8, c: u8) -> u8 {
+        self.count_lane();
+        a.wrapping_add(b).wrapping_add(c)
+    }
+
+    fn chunk(&self, a: Simd<u8, W>, b: Simd<u8, W>, c: Simd<u8, W>) -> Simd<u8, W>
+        ensures { result ≡ zip3 (λ x y z. ((x + y) % 2 ^ 8 + z) % 2 ^ 8) a.entry b.entry c.entry }
+    {
+        self.count_chunk();
+        a + b + c
+    }
+}
+
+/// Whether the bytes of two lists are equal, one by one.
+fn each_equal(a: &[u8], b: &[u8], out: &mut [bool])
+    requires second { length b.now ≡ length a.now }
+    requires out { length out.old ≡ length a.now }
+    ensures { out.new ≡ zip2 nat_eq a.now b.now }
+{
+    for k in 0..a.len() {
+        out[k] = a[k] == b[k];
+    }
+}
+
+impl<const W: usize> Test2<u8, W> for Counted {
+    ghost tells = { λ _ a b. nat_eq a b };
+
+    fn lane(&self, a: u8, b: u8) -> bool {
+        self.count_lane();
+        a == b
+    }
+
+    fn chunk(&self, a: Simd<u8, W>, b: Simd<u8, W>) -> [bool; W]
+        requires { (0 < W) × (W ≤ 64) }
+        ensures { result ≡ zip2 nat_eq a.entry b.entry }
+    {
+        self.count_chunk();
+        let a = a.to_array();
+        let b = b.to_array();
+        let mut out = [false; W];
+        each_equal(&a, &b, &mut out);
+        out
+    }
+}
+
+#[test]
+fn two_chunks_and_a_lane(rt: HostRuntime) -> Result<(), Fail> {
+    let a = [200u8; 65];
+    let b = [100u8; 65];
+    let mut out = [0u8; 65];
+    let one = Counted::new();
+    map1::<u8, Counted, 32>(&one, &a, &mut out);
+    assert_eq!(rt; out, [201u8; 65]);
+    assert_eq!(rt; (one.chunks.get(), one.lanes.get()), (2, 1));
+    let two = Counted::new();
+    map2::<u8, Counted, 32>(&two, &a, &b, &mut out);
+    assert_eq!(rt; out, [44u8; 65]);
+    assert_eq!(rt; (two.chunks.get(), two.lanes.get()), (2, 1));
+    let three = Counted::new();
+    map3::<u8, Counted, 32>(&three, &a, &b, &b, &mut out);
+    assert_eq!(rt; out, [144u8; 65]);
+    assert_eq!(rt; (three.chunks.get(), three.lanes.get()), (2, 1));
+    let four = Counted::new();
+    let mut told = [false; 65];
+    compare::<u8, Counted, 32>(&four, &a, &a, &mut told);
+    assert_eq!(rt; told, [true; 65]);
+    assert_eq!(rt; (four.chunks.get(), four.lanes.get()), (2, 1));
+    Ok(())
+}
+
+#[test]
+fn no_lanes_no_calls(rt: HostRuntime) -> Result<(), Fail> {
+    let none = Counted::new();
+    let mut out = [0u8; 0];
+    let mut told = [false; 0];
+    map1::<u8, Counted, 32>(&none, &[], &mut out);
+    map2::<u8, Counted, 32>(&none, &[], &[], &mut out);
+    map3::<u8, Counted, 32>(&none, &[], &[], &[], &mut out);
+    compare::<u8, Counted, 32>(&none, &[], &[], &mut told);
+    assert_eq!(rt; (none.chunks.get(), none.lanes.get()), (0, 0));
+    Ok(())
+}
