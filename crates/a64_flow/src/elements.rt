@@ -56,7 +56,7 @@ fn put_loaded(core: &mut Core, vec: &mut VecRegs, t: Transfer, rt: Reg, n: u32, 
 
 /// Stores one register. Each usual number of bytes has the code for itself, in which it is a constant.
 #[inline(always)]
-pub(crate) fn store_sized(
+pub(crate) fn store_sized<const CALLER: bool>(
     core: &Core,
     vec: &VecRegs,
     mem: &mut Mem,
@@ -104,7 +104,7 @@ fn store_one(
 
 /// Loads one register. Each usual number of bytes has the code for itself, in which it is a constant.
 #[inline(always)]
-pub(crate) fn load_sized(
+pub(crate) fn load_sized<const CALLER: bool>(
     core: &mut Core,
     vec: &mut VecRegs,
     mem: &mut Mem,

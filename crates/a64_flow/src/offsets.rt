@@ -20,6 +20,11 @@ use emu_bits::{Reg, U};
 use guest_mem::{AccessLog, Mem};
 use vec_regs::VecRegs;
 
+/// The caller of what is compiled into it: the row at an unsigned offset, or what the other rows share.
+const AT_UNSIGNED: bool = true;
+
+const SHARED: bool = false;
+
 /// Loads or stores one register, or prefetches.
 pub(crate) fn exec(
     core: &mut Core,
@@ -66,8 +71,8 @@ pub(crate) fn exec(
     }
 }
 
-/// One register, or none for a prefetch, at an address from a base, by V, size and opc. The rows whose address isn't at an
-/// unsigned offset share its code.
+/// One register, or none for a prefetch, at an address from a base, by V, size and opc: for the rows whose address isn't at
+/// an unsigned offset, which share its code.
 #[inline(never)]
 pub(crate) fn from_base(
     core: &mut Core,
@@ -86,12 +91,13 @@ pub(crate) fn from_base(
         → table.tested (table.has_sp (table.transfer v size opc) rn) None core.old vec.old mem.old (table.transferred (table.transfer v size opc) (table.elements_from (table.moved (table.transfer v size opc) rt) address (table.access_bytes v size opc)) after core.old vec.old mem.old)
         ≡ followed_by after result core.new vec.new mem.new log.new.items }
 {
-    from_base_here(core, vec, mem, log, v, size, opc, rn, rt, address)
+    from_base_here::<SHARED>(core, vec, mem, log, v, size, opc, rn, rt, address)
 }
 
-/// The same in the code of its caller: its arguments and its answer would cost as much as the access.
+/// The same in the code of its caller: its arguments and its answer would cost as much as the access. The parameter makes
+/// it, and what it calls, another function for each caller, since a function of two callers isn't compiled into either.
 #[inline(always)]
-fn from_base_here(
+fn from_base_here<const CALLER: bool>(
     core: &mut Core,
     vec: &mut VecRegs,
     mem: &mut Mem,
@@ -109,7 +115,7 @@ fn from_base_here(
         ≡ followed_by after result core.new vec.new mem.new log.new.items }
 {
     let n = access_bytes(v, size, opc);
-    single_from_base(
+    single_from_base::<CALLER>(
         core,
         vec,
         mem,
@@ -124,7 +130,7 @@ fn from_base_here(
 
 /// The same of what is moved. It is chosen here once, and each has the test of SP and the access for itself.
 #[inline(always)]
-fn single_from_base(
+fn single_from_base<const CALLER: bool>(
     core: &mut Core,
     vec: &mut VecRegs,
     mem: &mut Mem,
@@ -146,11 +152,11 @@ fn single_from_base(
     match t {
         Transfer::Store => {
             test_sp(core, has_sp(t, rn))?;
-            store_sized(core, vec, mem, log, t, rt, address, n)
+            store_sized::<CALLER>(core, vec, mem, log, t, rt, address, n)
         }
         Transfer::Load => {
             test_sp(core, has_sp(t, rn))?;
-            load_sized(core, vec, mem, log, t, rt, address, n)
+            load_sized::<CALLER>(core, vec, mem, log, t, rt, address, n)
         }
         _ => {
             test_sp(core, has_sp(t, rn))?;
@@ -177,7 +183,7 @@ fn ls_unsigned(
 {
     let n = access_bytes(v, size, opc);
     let address = core.x_sp(rn).wrapping_add(u64::from(n * imm12.get()));
-    from_base_here(core, vec, mem, log, v, size, opc, rn, rt, address)
+    from_base_here::<AT_UNSIGNED>(core, vec, mem, log, v, size, opc, rn, rt, address)
 }
 
 /// At `[Xn|SP{, #0}]`: imm9 is signed, in bytes.

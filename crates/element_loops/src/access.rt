@@ -13,7 +13,7 @@ use crate::loading::load_values;
 use crate::place::{is_on, most_elements};
 use crate::plan::Plan;
 use crate::run::load_run;
-use crate::storing::store_values;
+use crate::storing::{store_lanes, store_values};
 use crate::values::write;
 use core_regs::{Core, Effect};
 use element_access::test_sp;
@@ -115,6 +115,50 @@ pub fn store(plan: &Plan, core: &Core, vec: &VecRegs, mem: &mut Mem, log: &mut A
         return Effect::Trap(trap);
     }
     match store_values(plan, vec, mem, log) {
+        Ok(()) => Effect::Next,
+        Err(trap) => Effect::Trap(trap),
+    }
+}
+
+/// As `load` does, but element by element whatever the plan is: for plans that have a loop of their own elsewhere, which
+/// doesn't take this one. It isn't inlined, and `load` keeps the one caller that it is compiled into.
+#[inline(never)]
+pub fn load_each(
+    plan: &Plan,
+    core: &Core,
+    vec: &mut VecRegs,
+    mem: &mut Mem,
+    log: &mut AccessLog,
+) -> Effect
+    requires plan { IsPlan plan.now vec.old }
+    requires empty { log.old.items ≡ [] }
+    ensures { load_by plan.now core.now vec.old mem.old
+        ≡ record { core = core.now; vectors = vec.new; memory = mem.new; accesses = log.new.items; effect = result } }
+{
+    if let Err(trap) = test_sp(core, tests_sp(plan, vec)) {
+        return Effect::Trap(trap);
+    }
+    load_elements(plan, vec, mem, log)
+}
+
+/// As `store` does, but element by element whatever the plan is.
+#[inline(never)]
+pub fn store_each(
+    plan: &Plan,
+    core: &Core,
+    vec: &VecRegs,
+    mem: &mut Mem,
+    log: &mut AccessLog,
+) -> Effect
+    requires plan { IsPlan plan.now vec.now }
+    requires empty { log.old.items ≡ [] }
+    ensures { store_by plan.now core.now vec.now mem.old
+        ≡ record { core = core.now; vectors = vec.now; memory = mem.new; accesses = log.new.items; effect = result } }
+{
+    if let Err(trap) = test_sp(core, tests_sp(plan, vec)) {
+        return Effect::Trap(trap);
+    }
+    match store_lanes(plan, vec, mem, log) {
         Ok(()) => Effect::Next,
         Err(trap) => Effect::Trap(trap),
     }

@@ -19,7 +19,7 @@ pub mod sizes;
 mod storing;
 mod values;
 
-pub use access::{load, store, tests_sp};
+pub use access::{load, load_each, store, store_each, tests_sp};
 pub use listing::elements;
 pub use plan::{OnLanes, Places, Plan, Target};
 pub use run::load_run;

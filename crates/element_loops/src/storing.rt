@@ -114,7 +114,12 @@ pub(crate) fn put_lane(
 }
 
 /// Stores all elements one by one, or stops at the first that is refused.
-fn store_lanes(plan: &Plan, vec: &VecRegs, mem: &mut Mem, log: &mut AccessLog) -> Result<(), Trap>
+pub(crate) fn store_lanes(
+    plan: &Plan,
+    vec: &VecRegs,
+    mem: &mut Mem,
+    log: &mut AccessLog,
+) -> Result<(), Trap>
     requires plan { IsPlan plan.now vec.now }
     requires empty { log.old.items ≡ [] }
     ensures { let l = layout_of plan.now vec.now in MatchResult result

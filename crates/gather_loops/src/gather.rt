@@ -265,7 +265,7 @@ pub fn load(
         ≡ record { core = core.now; vectors = vec.new; memory = mem.new; accesses = log.new.items; effect = result } }
 {
     if !is_indexed(plan) {
-        return element_loops::load(plan, core, vec, mem, log);
+        return element_loops::load_each(plan, core, vec, mem, log);
     }
     if let Err(trap) = test_base(plan, core, vec) {
         return Effect::Trap(trap);

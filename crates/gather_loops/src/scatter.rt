@@ -117,7 +117,7 @@ pub fn store(plan: &Plan, core: &Core, vec: &VecRegs, mem: &mut Mem, log: &mut A
         ≡ record { core = core.now; vectors = vec.now; memory = mem.new; accesses = log.new.items; effect = result } }
 {
     if !is_indexed(plan) {
-        return element_loops::store(plan, core, vec, mem, log);
+        return element_loops::store_each(plan, core, vec, mem, log);
     }
     if let Err(trap) = test_base(plan, core, vec) {
         return Effect::Trap(trap);
