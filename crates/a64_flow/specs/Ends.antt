@@ -31,3 +31,7 @@ followed_by after r c v m accesses = record { core = followed r after c; vectors
 -- an access that ended so, and all that comes after it
 abbrev pub ended : {A : Type 0} → Result A Trap → Core → Vectors → Memory → List Access → Done
 ended r c v m accesses = record { core = c; vectors = v; memory = m; accesses = accesses; effect = effect_of r }
+
+-- an access that no test refused, with what comes after it
+abbrev pub done_with : (Core → Core) → Core → Vectors → Memory → List Access → Done
+done_with after c v m accesses = record { core = after c; vectors = v; memory = m; accesses = accesses; effect = Next }

@@ -1,21 +1,16 @@
 -- The loads and stores of general registers by how they find their address, and what they change beside it.
 use Rattle.std.specs.Prelude.{Bool, true, false}
 use Rattle.a64_insn.specs.declared.form.A64Form.{A64Form}
-use Rattle.a64_insn.specs.declared.form.A64Form.TheVariants.{LsUnsigned, LsUnscaled, LsPost, LsPre, LsReg, LsLiteral, StoreEx, LoadEx, Ordered, Atomic, CompareSwap}
+use Rattle.a64_insn.specs.declared.form.A64Form.TheVariants.{LsUnsigned, LsUnscaled, LsPost, LsPre, LsReg, StoreEx, LoadEx, Ordered, Atomic, CompareSwap}
 
--- one register from a base, which stays, or near PC
-abbrev pub is_at_offset : A64Form → Bool
-is_at_offset (LsUnsigned size v opc imm12 rn rt) = true
-is_at_offset (LsUnscaled size v opc imm9 rn rt) = true
-is_at_offset (LsReg size v opc rm ext s rn rt) = true
-is_at_offset (LsLiteral opc v imm19 rt) = true
-is_at_offset form = false
-
--- one register, post-indexed or pre-indexed
-abbrev pub is_indexed : A64Form → Bool
-is_indexed (LsPost size v opc imm9 rn rt) = true
-is_indexed (LsPre size v opc imm9 rn rt) = true
-is_indexed form = false
+-- one register at an address from a base
+abbrev pub is_single : A64Form → Bool
+is_single (LsUnsigned size v opc imm12 rn rt) = true
+is_single (LsUnscaled size v opc imm9 rn rt) = true
+is_single (LsPost size v opc imm9 rn rt) = true
+is_single (LsPre size v opc imm9 rn rt) = true
+is_single (LsReg size v opc rm ext s rn rt) = true
+is_single form = false
 
 -- exclusive and ordered
 abbrev pub is_exclusive : A64Form → Bool

@@ -29,7 +29,7 @@ fn loaded_value(t: Transfer, n: u32, v: u64) -> u64
 }
 
 /// What a store takes an element's bytes from: a general register, or the low 128 bits of a vector register.
-fn stored_value(core: &Core, vec: &VecRegs, t: Transfer, rt: Reg) -> u128
+pub(crate) fn stored_value(core: &Core, vec: &VecRegs, t: Transfer, rt: Reg) -> u128
     ensures { result ≡ table.stored_value t core.now vec.now rt }
 {
     if is_vector(t) {
@@ -40,7 +40,8 @@ fn stored_value(core: &Core, vec: &VecRegs, t: Transfer, rt: Reg) -> u128
 }
 
 /// Puts an element's bytes into its register: the low bytes of a vector register, or a general register, extended.
-fn put_loaded(core: &mut Core, vec: &mut VecRegs, t: Transfer, rt: Reg, n: u32, v: u128)
+#[inline(always)]
+pub(crate) fn put_loaded(core: &mut Core, vec: &mut VecRegs, t: Transfer, rt: Reg, n: u32, v: u128)
     requires some { 1 ≤ n }
     requires most { n ≤ greatest_of t }
     requires size { IsLowSize (8 * n) }
@@ -51,32 +52,6 @@ fn put_loaded(core: &mut Core, vec: &mut VecRegs, t: Transfer, rt: Reg, n: u32, 
         vec.set_low(rt, 8 * n, v);
     } else {
         core.set_x(rt, 64, loaded_value(t, n, v as u64));
-    }
-}
-
-/// Stores one register. Each usual number of bytes has the code for itself, in which it is a constant.
-#[inline(always)]
-pub(crate) fn store_sized<const CALLER: bool>(
-    core: &Core,
-    vec: &VecRegs,
-    mem: &mut Mem,
-    log: &mut AccessLog,
-    t: Transfer,
-    rt: Reg,
-    address: u64,
-    n: u32,
-) -> Result<(), Trap>
-    requires some { 1 ≤ n }
-    requires most { n ≤ 16 }
-    requires empty { log.old.items ≡ [] }
-    ensures { (after : CoreState → CoreState) → table.stored_to t (reach mem.old Kind.Write (record { lane = 0; register = rt; address = address; bytes = n } ∷ [])) after core.now vec.now mem.old
-        ≡ followed_by after result core.now vec.now mem.new log.new.items }
-{
-    match n {
-        8 => store_one(core, vec, mem, log, t, rt, address, n),
-        4 => store_one(core, vec, mem, log, t, rt, address, n),
-        1 => store_one(core, vec, mem, log, t, rt, address, n),
-        _ => store_one(core, vec, mem, log, t, rt, address, n),
     }
 }
 
@@ -100,33 +75,6 @@ fn store_one(
 {
     let v = stored_value(core, vec, t, rt);
     store_here(mem, log, v, address, n)
-}
-
-/// Loads one register. Each usual number of bytes has the code for itself, in which it is a constant.
-#[inline(always)]
-pub(crate) fn load_sized<const CALLER: bool>(
-    core: &mut Core,
-    vec: &mut VecRegs,
-    mem: &mut Mem,
-    log: &mut AccessLog,
-    t: Transfer,
-    rt: Reg,
-    address: u64,
-    n: u32,
-) -> Result<(), Trap>
-    requires some { 1 ≤ n }
-    requires most { n ≤ greatest_of t }
-    requires size { IsLowSize (8 * n) }
-    requires empty { log.old.items ≡ [] }
-    ensures { (after : CoreState → CoreState) → table.loaded_to t (reach mem.old Kind.Read (record { lane = 0; register = rt; address = address; bytes = n } ∷ [])) after core.old vec.old mem.old
-        ≡ followed_by after result core.new vec.new mem.new log.new.items }
-{
-    match n {
-        8 => load_one(core, vec, mem, log, t, rt, address, n),
-        4 => load_one(core, vec, mem, log, t, rt, address, n),
-        1 => load_one(core, vec, mem, log, t, rt, address, n),
-        _ => load_one(core, vec, mem, log, t, rt, address, n),
-    }
 }
 
 /// Loads one register.

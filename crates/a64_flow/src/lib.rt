@@ -12,6 +12,8 @@ mod numbers;
 mod offsets;
 mod pairs;
 mod rows;
+mod singles;
+mod unrefused;
 
 ghost use Rattle.std.specs.Prelude.{◌≡◌, ◌||◌, [], true};
 ghost use Rattle.a64_effects.specs.Groups.{is_flow, is_load_store};

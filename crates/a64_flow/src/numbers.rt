@@ -1,6 +1,7 @@
 //! Sizes and addresses.
 ghost use Rattle.std.specs.Prelude.{◌≡◌, ◌≤◌, ◌*◌, ◌^◌};
 ghost use Rattle.a64_effects.specs.LoadStore as table;
+ghost use Rattle.emu_bits.specs.Numbers.{extended};
 ghost use Rattle.vec_regs.specs.Packed.{IsLowSize};
 
 use crate::branches::offset;
@@ -29,13 +30,20 @@ pub(crate) fn near(core: &Core, rn: Reg, imm9: U<9>) -> u64
     offset(core.x_sp(rn), sext(imm9.get() as u64, 9))
 }
 
+/// An index register, extended. `lsl` takes it as it is, as most indices are.
+fn index(ext: U<3>, v: u64) -> u64
+    ensures { result ≡ extended ext v }
+{
+    if ext.get() == 3 { v } else { extended(ext, v) }
+}
+
 /// A base register and an extended register, times the bytes of the access where `scaled`.
 pub(crate) fn indexed(core: &Core, rn: Reg, rm: Reg, ext: U<3>, scaled: bool, n: u32) -> u64
     requires { n ≤ 16 }
     ensures { result ≡ table.indexed core.now rn rm ext scaled n }
 {
     let times = if scaled { n } else { 1 };
-    let by = extended(ext, core.x(rm)) as u128 * times as u128;
+    let by = index(ext, core.x(rm)) as u128 * times as u128;
     ((core.x_sp(rn) as u128 + by) % 0x1_0000_0000_0000_0000) as u64
 }
 

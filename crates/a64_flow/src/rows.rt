@@ -4,8 +4,9 @@ ghost use Rattle.std.specs.Prelude.{◌≡◌, []};
 ghost use Rattle.a64_effects.specs.Groups.{access};
 ghost use Rattle.a64_flow.specs.Ends.{ended};
 
+use crate::offsets::ls_literal;
 use crate::pairs::pair;
-use crate::{atomic, exclusive, indexed, offsets};
+use crate::{atomic, exclusive, singles};
 use a64_insn::{A64, A64Form};
 use core_regs::{Core, Trap};
 use guest_mem::{AccessLog, Mem};
@@ -26,8 +27,11 @@ pub(crate) fn access(
         A64Form::LsUnsigned { .. }
         | A64Form::LsUnscaled { .. }
         | A64Form::LsReg { .. }
-        | A64Form::LsLiteral { .. } => offsets::exec(core, vec, mem, log, i),
-        A64Form::LsPost { .. } | A64Form::LsPre { .. } => indexed::exec(core, vec, mem, log, i),
+        | A64Form::LsPost { .. }
+        | A64Form::LsPre { .. } => singles::exec(core, vec, mem, log, i),
+        A64Form::LsLiteral { opc, v, imm19, rt } => ls_literal(
+            core, vec, mem, log, opc, v, imm19, rt,
+        ),
         A64Form::Pair {
             opc,
             v,

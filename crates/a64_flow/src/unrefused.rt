@@ -1,0 +1,268 @@
+//! Accesses of one register that no test refuses. Each answers whether it was done: an answer with a trap would lie in
+//! memory, and take as long as the access.
+ghost use Rattle.std.specs.Prelude.{◌≡◌, ◌≤◌, ◌*◌, ◌∷◌, [], false, true, nat_eq};
+ghost use Rattle.emu_model.specs.State.{Core as CoreState};
+ghost use Rattle.emu_model.specs.declared.access.Kind.{Kind};
+ghost use Rattle.emu_model.specs.Elements.{reach};
+ghost use Rattle.a64_effects.specs.LoadStore as table;
+ghost use Rattle.a64_effects.specs.LoadStore.{transferred_by};
+ghost use Rattle.a64_effects.specs.Operations.{from_base};
+ghost use Rattle.a64_flow.specs.Ends.{done_with, greatest_of};
+ghost use Rattle.vec_regs.specs.Packed.{IsLowSize};
+
+use crate::elements::{put_loaded, stored_value};
+use crate::fields::{access_bytes, transfer};
+use crate::singles::Single;
+use a64_effects::Transfer;
+use core_regs::Core;
+use element_access::{load_here, store_here};
+use emu_bits::Reg;
+use guest_mem::{AccessLog, Mem};
+use vec_regs::VecRegs;
+
+/// Loads or stores one register where no test refuses it, and answers whether it did. Else nothing is changed, and so it
+/// is with a prefetch.
+#[inline(always)]
+pub(crate) fn moved(
+    core: &mut Core,
+    vec: &mut VecRegs,
+    mem: &mut Mem,
+    log: &mut AccessLog,
+    s: &Single,
+) -> bool
+    requires { log.old.items ≡ [] }
+    ensures done { result ≡ true → (after : CoreState → CoreState)
+        → transferred_by (from_base s.now.v s.now.size s.now.opc s.now.rn s.now.rt s.now.address after)
+        core.old vec.old mem.old
+        ≡ done_with after core.new vec.new mem.new log.new.items }
+    ensures core { result ≡ false → core.new ≡ core.old }
+    ensures vectors { result ≡ false → vec.new ≡ vec.old }
+    ensures memory { result ≡ false → mem.new ≡ mem.old }
+    ensures log { result ≡ false → log.new.items ≡ [] }
+{
+    if is_misaligned(core, s.rn) {
+        return false;
+    }
+    let n = access_bytes(s.v, s.size, s.opc);
+    moved_as(
+        core,
+        vec,
+        mem,
+        log,
+        transfer(s.v, s.size, s.opc),
+        s.rn,
+        s.rt,
+        s.address,
+        n,
+    )
+}
+
+/// The same of what is moved, where the base may be used.
+#[inline(always)]
+fn moved_as(
+    core: &mut Core,
+    vec: &mut VecRegs,
+    mem: &mut Mem,
+    log: &mut AccessLog,
+    t: Transfer,
+    rn: Reg,
+    rt: Reg,
+    address: u64,
+    n: u32,
+) -> bool
+    requires some { 1 ≤ n }
+    requires most { n ≤ greatest_of t }
+    requires size { IsLowSize (8 * n) }
+    requires aligned { table.is_misaligned (nat_eq rn 31) core.old ≡ false }
+    requires empty { log.old.items ≡ [] }
+    ensures done { result ≡ true → (after : CoreState → CoreState)
+        → table.tested (table.has_sp t rn) None core.old vec.old mem.old
+        (table.transferred t (table.elements_from (table.moved t rt) address n) after core.old vec.old mem.old)
+        ≡ done_with after core.new vec.new mem.new log.new.items }
+    ensures core { result ≡ false → core.new ≡ core.old }
+    ensures vectors { result ≡ false → vec.new ≡ vec.old }
+    ensures memory { result ≡ false → mem.new ≡ mem.old }
+    ensures log { result ≡ false → log.new.items ≡ [] }
+{
+    match t {
+        Transfer::Store => stored(core, vec, mem, log, t, rt, address, n),
+        Transfer::Load => loaded(core, vec, mem, log, t, rt, address, n),
+        Transfer::LoadSigned | Transfer::LoadSigned32 => loaded_signed(
+            core, vec, mem, log, t, rt, address, n,
+        ),
+        Transfer::StoreVector => stored_vector(core, vec, mem, log, t, rt, address, n),
+        Transfer::LoadVector => loaded_vector(core, vec, mem, log, t, rt, address, n),
+        Transfer::Prefetch => false,
+    }
+}
+
+/// Whether the base is SP, and SP isn't a multiple of 16.
+#[inline(always)]
+fn is_misaligned(core: &Core, rn: Reg) -> bool
+    ensures { result ≡ table.is_misaligned (nat_eq rn 31) core.now }
+{
+    rn.get() == 31 && core.x_sp(rn) % 16 != 0
+}
+
+/// Loads a general register with copies of the top bit. The rows share it.
+#[inline(never)]
+fn loaded_signed(
+    core: &mut Core,
+    vec: &mut VecRegs,
+    mem: &mut Mem,
+    log: &mut AccessLog,
+    t: Transfer,
+    rt: Reg,
+    address: u64,
+    n: u32,
+) -> bool
+    requires some { 1 ≤ n }
+    requires most { n ≤ greatest_of t }
+    requires size { IsLowSize (8 * n) }
+    requires empty { log.old.items ≡ [] }
+    ensures done { result ≡ true → (after : CoreState → CoreState)
+        → table.loaded_to t
+        (reach mem.old Kind.Read (record { lane = 0; register = rt; address = address; bytes = n } ∷ []))
+        after core.old vec.old mem.old
+        ≡ done_with after core.new vec.new mem.new log.new.items }
+    ensures core { result ≡ false → core.new ≡ core.old }
+    ensures vectors { result ≡ false → vec.new ≡ vec.old }
+    ensures memory { result ≡ false → mem.new ≡ mem.old }
+    ensures log { result ≡ false → log.new.items ≡ [] }
+{
+    match n {
+        4 => loaded(core, vec, mem, log, t, rt, address, n),
+        1 => loaded(core, vec, mem, log, t, rt, address, n),
+        _ => loaded(core, vec, mem, log, t, rt, address, n),
+    }
+}
+
+/// Stores a vector register. The rows share it.
+#[inline(never)]
+fn stored_vector(
+    core: &Core,
+    vec: &VecRegs,
+    mem: &mut Mem,
+    log: &mut AccessLog,
+    t: Transfer,
+    rt: Reg,
+    address: u64,
+    n: u32,
+) -> bool
+    requires some { 1 ≤ n }
+    requires most { n ≤ 16 }
+    requires empty { log.old.items ≡ [] }
+    ensures done { result ≡ true → (after : CoreState → CoreState)
+        → table.stored_to t
+        (reach mem.old Kind.Write (record { lane = 0; register = rt; address = address; bytes = n } ∷ []))
+        after core.now vec.now mem.old
+        ≡ done_with after core.now vec.now mem.new log.new.items }
+    ensures memory { result ≡ false → mem.new ≡ mem.old }
+    ensures log { result ≡ false → log.new.items ≡ [] }
+{
+    match n {
+        16 => stored(core, vec, mem, log, t, rt, address, n),
+        8 => stored(core, vec, mem, log, t, rt, address, n),
+        4 => stored(core, vec, mem, log, t, rt, address, n),
+        _ => stored(core, vec, mem, log, t, rt, address, n),
+    }
+}
+
+/// Loads a vector register. The rows share it.
+#[inline(never)]
+fn loaded_vector(
+    core: &mut Core,
+    vec: &mut VecRegs,
+    mem: &mut Mem,
+    log: &mut AccessLog,
+    t: Transfer,
+    rt: Reg,
+    address: u64,
+    n: u32,
+) -> bool
+    requires some { 1 ≤ n }
+    requires most { n ≤ greatest_of t }
+    requires size { IsLowSize (8 * n) }
+    requires empty { log.old.items ≡ [] }
+    ensures done { result ≡ true → (after : CoreState → CoreState)
+        → table.loaded_to t
+        (reach mem.old Kind.Read (record { lane = 0; register = rt; address = address; bytes = n } ∷ []))
+        after core.old vec.old mem.old
+        ≡ done_with after core.new vec.new mem.new log.new.items }
+    ensures core { result ≡ false → core.new ≡ core.old }
+    ensures vectors { result ≡ false → vec.new ≡ vec.old }
+    ensures memory { result ≡ false → mem.new ≡ mem.old }
+    ensures log { result ≡ false → log.new.items ≡ [] }
+{
+    match n {
+        16 => loaded(core, vec, mem, log, t, rt, address, n),
+        8 => loaded(core, vec, mem, log, t, rt, address, n),
+        4 => loaded(core, vec, mem, log, t, rt, address, n),
+        _ => loaded(core, vec, mem, log, t, rt, address, n),
+    }
+}
+
+/// Stores one register.
+#[inline(always)]
+fn stored(
+    core: &Core,
+    vec: &VecRegs,
+    mem: &mut Mem,
+    log: &mut AccessLog,
+    t: Transfer,
+    rt: Reg,
+    address: u64,
+    n: u32,
+) -> bool
+    requires some { 1 ≤ n }
+    requires most { n ≤ 16 }
+    requires empty { log.old.items ≡ [] }
+    ensures done { result ≡ true → (after : CoreState → CoreState)
+        → table.stored_to t
+        (reach mem.old Kind.Write (record { lane = 0; register = rt; address = address; bytes = n } ∷ []))
+        after core.now vec.now mem.old
+        ≡ done_with after core.now vec.now mem.new log.new.items }
+    ensures memory { result ≡ false → mem.new ≡ mem.old }
+    ensures log { result ≡ false → log.new.items ≡ [] }
+{
+    let v = stored_value(core, vec, t, rt);
+    match store_here(mem, log, v, address, n) {
+        Ok(()) => true,
+        Err(_) => false,
+    }
+}
+
+/// Loads one register.
+#[inline(always)]
+fn loaded(
+    core: &mut Core,
+    vec: &mut VecRegs,
+    mem: &mut Mem,
+    log: &mut AccessLog,
+    t: Transfer,
+    rt: Reg,
+    address: u64,
+    n: u32,
+) -> bool
+    requires some { 1 ≤ n }
+    requires most { n ≤ greatest_of t }
+    requires size { IsLowSize (8 * n) }
+    requires empty { log.old.items ≡ [] }
+    ensures done { result ≡ true → (after : CoreState → CoreState)
+        → table.loaded_to t
+        (reach mem.old Kind.Read (record { lane = 0; register = rt; address = address; bytes = n } ∷ []))
+        after core.old vec.old mem.old
+        ≡ done_with after core.new vec.new mem.new log.new.items }
+    ensures core { result ≡ false → core.new ≡ core.old }
+    ensures vectors { result ≡ false → vec.new ≡ vec.old }
+    ensures memory { result ≡ false → mem.new ≡ mem.old }
+    ensures log { result ≡ false → log.new.items ≡ [] }
+{
+    match load_here(mem, log, address, n) {
+        Ok(v) => {
+            put_loaded(core, vec, t, rt, n, v);
+            true
+        }
+        Err(_) => false,
+    }
+}
