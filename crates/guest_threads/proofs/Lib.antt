@@ -8,3 +8,4 @@ pub mod Stands
 pub mod Steps
 pub mod Stood
 pub mod Views
+pub mod Named

@@ -1,5 +1,5 @@
 -- The context that takes the next step, found among those that are ready.
-use Rattle.std.proofs.Common.{◌≡◌, ◌<◌, ◌⊎◌, inl, inr, ℕ, zero, suc, ◌+◌, ◌%◌, Bool, true, false, not, ◌||◌, ◌&&◌, List, [], ◌∷◌, Option, None, length, get_or, nat_eq, if◌then◌else◌, refl, sym, ap, subst, ◌∙◌, arith}
+use Rattle.std.proofs.Common.{◌≡◌, ◌<◌, ◌⊎◌, inl, inr, ℕ, zero, suc, ◌+◌, ◌-◌, ◌%◌, Bool, true, false, not, ◌||◌, ◌&&◌, List, [], ◌∷◌, Option, None, length, get_or, nat_eq, if◌then◌else◌, refl, sym, ap, subst, ◌∙◌, arith}
 use Rattle.std.specs.List.{All, list_all, list_any}
 use Rattle.std.proofs.lemmas.Bool.{eq-eqb, leb-true, ne_eqb}
 use Rattle.std.proofs.lemmas.List.Folds.{list_any_at}
@@ -105,6 +105,12 @@ has_one (x ∷ xs) (suc t) all h = has_one xs t (and_second (has_steps x) (list_
 pub is_over_by : (w : World) (schedule : List (ℕ × ℕ)) (p : Place) (k : ℕ) → (p.used + 1 ≡ (turn_at schedule p.turn).1) ⊎ (is_ready (context w k) ≡ false) → is_over w schedule p k ≡ true
 is_over_by w schedule p k (inl last) = ap (λ (b : Bool). b || not (is_ready (context w k))) (eq-eqb (p.used + 1) (turn_at schedule p.turn).1 last)
 is_over_by w schedule p k (inr gone) = ap (λ (b : Bool). nat_eq (p.used + 1) (turn_at schedule p.turn).1 || not b) gone ∙ or_true (nat_eq (p.used + 1) (turn_at schedule p.turn).1)
+
+-- the same of a turn of which so many steps are used up
+pub over_behind : (w : World) (schedule : List (ℕ × ℕ)) (turn used k : ℕ) → 0 < used → (used ≡ (turn_at schedule turn).1) ⊎ (is_ready (context w k) ≡ false)
+    → (used - 1 + 1 ≡ (turn_at schedule turn).1) ⊎ (is_ready (context w k) ≡ false)
+over_behind w schedule turn used k some (inl last) = inl (omega (arith, some, last))
+over_behind w schedule turn used k some (inr gone) = inr gone
 
 pub goes_over : (w : World) (schedule : List (ℕ × ℕ)) (p : Place) (k t : ℕ) → (p.used + 1 ≡ (turn_at schedule p.turn).1) ⊎ (is_ready (context w k) ≡ false) → t ≡ next_turn schedule p.turn
     → place_at t 0 0 ≡ next_place w schedule p k

@@ -14,8 +14,7 @@ use Rattle.emu_system.specs.SystemCall.{Turn, argument}
 use Rattle.thread_model.specs.declared.thread.ThreadCall.{ThreadCall}
 use Rattle.thread_model.specs.declared.thread.ThreadCall.TheVariants.{Clone, Futex, Exit as ExitCall, SetTidAddress, Gettid, Alone}
 use Rattle.thread_model.specs.Living.{IsLiving, emptied_gone, noted_living, stays_living}
-use Rattle.thread_model.specs.Threads.{WorldTurn, WorldState, done_by, makes_call, one, quietly, stepped, stepped_alone, taken_by, with_world}
-use Rattle.thread_model.specs.ThreadLaws.{with_input}
+use Rattle.thread_model.specs.Threads.{WorldTurn, WorldState, done_by, makes_call, one, quietly, stepped, stepped_alone, taken_by, with_world, with_input}
 use Rattle.thread_model.specs.Worlds.{World, Context, context, is_gone, is_standing_gone, joined, apart, with_woken, others_behind, taken_by_context, without_monitors}
 use Rattle.guest_contexts.specs.Laid.{world_of}
 use Rattle.guest_contexts.proofs.Laid.{joined_is, laid_length, standing_is, stepped_is}

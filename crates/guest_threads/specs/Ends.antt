@@ -16,9 +16,9 @@ use Rattle.thread_model.specs.declared.thread.WorldEnding.{WorldEnding}
 use Rattle.thread_model.specs.declared.thread.WorldEnding.TheVariants.{Exit as Exited, Trap as Trapped, Spent as IsSpent, Stuck as IsStuck}
 use Rattle.thread_model.specs.declared.thread.Place.{Place}
 use Rattle.thread_model.specs.declared.thread.Standing.TheVariants.{Ready}
-use Rattle.thread_model.specs.Worlds.{World, Context, context, joined, some_ready, some_waiting}
-use Rattle.thread_model.specs.Threads.{WorldState, ending, pick, turn_at}
-use Rattle.thread_model.specs.ThreadLaws.{with_input}
+use Rattle.thread_model.specs.Worlds.{World, Context, context, joined, some_ready}
+use Rattle.thread_model.specs.Living.{some_waiting}
+use Rattle.thread_model.specs.Threads.{WorldState, ending, pick, turn_at, with_input}
 use Rattle.guest_threads.specs.declared.ends.WorldEnd.{WorldEnd}
 use Rattle.guest_threads.specs.declared.ends.WorldEnd.TheVariants.{Exit, Trap, Spent, Stuck, ReadFault, WriteFault, ErrorsFault}
 

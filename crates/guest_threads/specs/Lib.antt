@@ -3,3 +3,4 @@ pub mod Ends
 pub mod Quiet
 pub mod Started
 pub mod Steps
+pub mod Named

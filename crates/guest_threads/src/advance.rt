@@ -1,10 +1,11 @@
 //! Steps of one context, one after the other.
-ghost use Rattle.std.specs.Prelude.{◌≡◌, ◌<◌, ◌≤◌, ◌+◌, ◌-◌, ◌^◌, MatchBool, length, true, false};
-ghost use Rattle.emu_machine.specs.Ends.{is_undone, step_end};
+ghost use Rattle.std.specs.Prelude.{◌≡◌, ◌<◌, ◌≤◌, ◌+◌, ◌-◌, ◌^◌, MatchBool, is_none, length, true, false};
+ghost use Rattle.emu_machine.specs.Ends.{is_undone};
 ghost use Rattle.emu_machine.specs.Machines.{MakesWrite};
 ghost use Rattle.guest_threads.specs.Calls.{IsCalling};
 ghost use Rattle.guest_threads.specs.Ends.{has_ended, last_machine};
 ghost use Rattle.guest_threads.specs.Quiet.{AdvancesOn, AdvancesToEnd, TakesSteps, has_trapped};
+ghost use Rattle.guest_threads.specs.Named.{last_end};
 ghost use Rattle.io_gate.specs.Streams.{Causes};
 ghost use Rattle.linux_calls.specs.Names.{NamesRead};
 ghost use Rattle.thread_model.specs.declared.thread.Standing.TheVariants as standing;
@@ -12,6 +13,7 @@ ghost use Rattle.thread_model.specs.Living.{IsLiving};
 ghost use Rattle.thread_model.specs.Worlds as worlds;
 
 use crate::held::Held;
+use crate::went::Went;
 use emu_machine::{Progress, StepEnd, step_end};
 use guest_contexts::is_some_watching;
 use io_gate::{Sink, Source};
@@ -27,39 +29,46 @@ impl Held {
         input: &mut I,
         output: &mut O,
         errors: &mut E,
-    ) -> StepEnd
+    ) -> Went
         requires going { has_ended self.old ≡ false }
         requires below { self.old.world.steps < until }
         requires within { k < length self.old.world.contexts }
         requires ready { (worlds.context self.old.world k).standing ≡ standing.Ready }
-        ensures steps { TakesSteps k until self.old.world self.new.world result (I.left input.old) (I.left input.new) (O.held output.old) (O.held output.new) (E.held errors.old) (E.held errors.new) }
-        ensures failed { self.new.failed ≡ is_undone result }
+        ensures steps { TakesSteps k until self.old.world self.new.world (last_end result self.new.world.ended) (I.left input.old) (I.left input.new) (O.held output.old) (O.held output.new) (E.held errors.old) (E.held errors.new) }
+        ensures over { result ≡ Went.Over → is_none self.new.world.ended ≡ false }
+        ensures failed { self.new.failed ≡ is_undone (last_end result self.new.world.ended) }
         ensures last { self.new.world.last ≡ k }
-        ensures living { is_undone result ≡ false → IsLiving self.new.world }
-        ensures read_cause { Causes (result ≡ StepEnd.ReadFault) (I.faults input.old) (I.faults input.new) }
-        ensures write_cause { Causes (result ≡ StepEnd.WriteFault) (O.faults output.old) (O.faults output.new) }
-        ensures errors_cause { Causes (result ≡ StepEnd.ErrorsFault) (E.faults errors.old) (E.faults errors.new) }
-        ensures read_named { result ≡ StepEnd.ReadFault → NamesRead (last_machine self.new.world).core }
-        ensures write_named { result ≡ StepEnd.WriteFault → MakesWrite (last_machine self.new.world) 1 }
-        ensures errors_named { result ≡ StepEnd.ErrorsFault → MakesWrite (last_machine self.new.world) 2 }
+        ensures living { is_undone (last_end result self.new.world.ended) ≡ false → IsLiving self.new.world }
+        ensures read_cause { Causes (last_end result self.new.world.ended ≡ StepEnd.ReadFault) (I.faults input.old) (I.faults input.new) }
+        ensures write_cause { Causes (last_end result self.new.world.ended ≡ StepEnd.WriteFault) (O.faults output.old) (O.faults output.new) }
+        ensures errors_cause { Causes (last_end result self.new.world.ended ≡ StepEnd.ErrorsFault) (E.faults errors.old) (E.faults errors.new) }
+        ensures read_named { last_end result self.new.world.ended ≡ StepEnd.ReadFault → NamesRead (last_machine self.new.world).core }
+        ensures write_named { last_end result self.new.world.ended ≡ StepEnd.WriteFault → MakesWrite (last_machine self.new.world) 1 }
+        ensures errors_named { last_end result self.new.world.ended ≡ StepEnd.ErrorsFault → MakesWrite (last_machine self.new.world) 2 }
     {
         self.bring(k);
         let before = self.steps();
         if self.advance(until) {
-            return self.last_end();
+            return Went::Over;
         }
         let after = self.steps();
         if after != before {
-            return StepEnd::Going;
+            return Went::On;
         }
-        self.one(k, input, output, errors)
+        self.one_by_name(k, input, output, errors)
     }
 
-    /// How the last step ended, which was done.
-    fn last_end(&self) -> StepEnd
-        ensures { result ≡ step_end self.now.world.ended }
+    /// How the last step ended, by its name.
+    pub(crate) fn last_end(&self, went: Went) -> StepEnd
+        ensures { result ≡ last_end went self.now.world.ended }
     {
-        step_end(self.machine.ending())
+        match went {
+            Went::On => StepEnd::Going,
+            Went::Over => step_end(self.machine.ending()),
+            Went::ReadFault => StepEnd::ReadFault,
+            Went::WriteFault => StepEnd::WriteFault,
+            Went::ErrorsFault => StepEnd::ErrorsFault,
+        }
     }
 
     /// Takes steps of the context whose registers the machine has, until the next one makes a call, `until` are counted in all, or

@@ -63,7 +63,8 @@ fn exchange(machine: &mut Machine, contexts: &mut Vec<Context>, k: usize)
 fn stays_unwatched(unwatched: bool, core: &Core) -> bool
     ensures { result ≡ true → (unwatched ≡ true) × (is_some core.now.monitor ≡ false) }
 {
-    unwatched && core.monitor().is_none()
+    // without a branch, since each change of contexts asks it
+    unwatched & core.monitor().is_none()
 }
 
 impl Held {

@@ -1,7 +1,8 @@
 //! What the calls that speak of contexts read and change: of the context whose registers the machine has, and of what is shared.
 ghost use Rattle.std.specs.Prelude.{◌≡◌, ◌<◌, ◌≤◌, ◌+◌, ◌-◌, ◌^◌, MatchOption, is_some, length, set, true, false};
 ghost use Rattle.emu_machine.specs.Contexts.{ended_with};
-ghost use Rattle.emu_model.specs.Access.{after_store, refused, value};
+ghost use Rattle.emu_model.specs.Access.{refused, value};
+ghost use Rattle.emu_model.specs.LoadsAndStores.{after_store};
 ghost use Rattle.emu_system.specs.SystemCall.{argument as argument_of};
 ghost use Rattle.guest_threads.specs.Calls.{IsCalling};
 ghost use Rattle.guest_threads.specs.Started.{started_context};

@@ -19,26 +19,21 @@ pub(crate) fn turn_until(turns: &[(u64, u64)], place: &Place, steps: u64, budget
     ensures turn { result + place.now.used ≤ steps + (model.turn_at turns.now place.now.turn).1 }
     ensures fits { place.now.used + (result - steps) < 2 ^ 64 }
 {
-    let whole = turns[place.turn].1;
-    let left = whole.saturating_sub(place.used);
+    let left = turns[place.turn].1 - place.used;
     if left < budget - steps {
         return steps + left;
     }
     budget
 }
 
-/// The place of the last of the steps of a context by which the count of steps came from `before` to `after`, all in one turn.
+/// The number of steps of a turn that are used up behind steps by which the count came from `before` to `after`.
 #[inline(always)]
-pub(crate) fn place_behind(place: &Place, before: u64, after: u64, k: usize) -> Place
-    requires some { before < after }
-    requires fits { place.now.used + (after - before - 1) < 2 ^ 64 }
-    ensures { result ≡ record { turn = place.now.turn; used = place.now.used + (after - before - 1); held = k } }
+pub(crate) fn used_behind(used: u64, before: u64, after: u64) -> u64
+    requires on { before ≤ after }
+    requires fits { used + (after - before) < 2 ^ 64 }
+    ensures { result ≡ used + (after - before) }
 {
-    Place {
-        turn: place.turn,
-        used: place.used + (after - before - 1),
-        held: k,
-    }
+    used + (after - before)
 }
 
 /// The remainder of a number, which mostly is the number itself.
@@ -72,18 +67,19 @@ impl Held {
         Some(self.numbers[at as usize])
     }
 
-    /// The place behind a step of a context.
+    /// The place behind steps of a context, by which so many of its turn are used up.
     #[inline(always)]
-    pub(crate) fn next_place(&self, turns: &[(u64, u64)], place: &Place, k: usize) -> Place
-        requires turn { place.now.turn < length turns.now }
-        requires used { place.now.used < (model.turn_at turns.now place.now.turn).1 }
+    pub(crate) fn next_place(&self, turns: &[(u64, u64)], turn: usize, used: u64, k: usize) -> Place
+        requires turn { turn < length turns.now }
+        requires some { 0 < used }
+        requires most { used ≤ (model.turn_at turns.now turn).1 }
         requires context { k ≡ self.now.world.last }
         requires schedule { IsSchedule turns.now }
-        ensures place { result ≡ model.next_place self.now.world turns.now place.now k }
+        ensures place { result ≡ model.next_place self.now.world turns.now (record { turn = turn; used = used - 1; held = k }) k }
         ensures is_place { IsPlace self.now.world turns.now result }
     {
-        if self.is_over(turns, place, k) {
-            let next = place.turn + 1;
+        if self.is_over(turns, turn, used, k) {
+            let next = turn + 1;
             if next == turns.len() {
                 return Place {
                     turn: 0,
@@ -98,25 +94,23 @@ impl Held {
             };
         }
         Place {
-            turn: place.turn,
-            used: place.used.wrapping_add(1),
+            turn,
+            used,
             held: k,
         }
     }
 
-    /// Whether a turn is over behind a step of a context.
-    fn is_over(&self, turns: &[(u64, u64)], place: &Place, k: usize) -> bool
-        requires turn { place.now.turn < length turns.now }
-        requires used { place.now.used < (model.turn_at turns.now place.now.turn).1 }
+    /// Whether a turn is over of which a context has used up so many steps.
+    fn is_over(&self, turns: &[(u64, u64)], turn: usize, used: u64, k: usize) -> bool
+        requires turn { turn < length turns.now }
+        requires most { used ≤ (model.turn_at turns.now turn).1 }
         requires context { k ≡ self.now.world.last }
-        ensures over { result ≡ true → (place.now.used + 1 ≡ (model.turn_at turns.now place.now.turn).1) ⊎ (worlds.is_ready (worlds.context self.now.world k) ≡ false) }
-        ensures on { result ≡ false → place.now.used + 1 < (model.turn_at turns.now place.now.turn).1 }
-        ensures fits { result ≡ false → place.now.used + 1 < 2 ^ 64 }
+        ensures over { result ≡ true → (used ≡ (model.turn_at turns.now turn).1) ⊎ (worlds.is_ready (worlds.context self.now.world k) ≡ false) }
+        ensures on { result ≡ false → used < (model.turn_at turns.now turn).1 }
         ensures ready { result ≡ false → IsReadyAt self.now.world k }
     {
-        let steps = turns[place.turn].1;
-        let last = steps.saturating_sub(1);
-        if place.used >= last {
+        let steps = turns[turn].1;
+        if used >= steps {
             return true;
         }
         !self.is_ready(k)

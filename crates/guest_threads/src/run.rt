@@ -7,11 +7,12 @@ ghost use Rattle.io_gate.specs.Streams.{Causes};
 ghost use Rattle.linux_calls.specs.Names.{NamesRead};
 ghost use Rattle.thread_model.specs.Living.{IsLiving};
 ghost use Rattle.thread_model.specs.Threads as model;
-ghost use Rattle.thread_model.specs.ThreadLaws.{with_input};
+ghost use Rattle.thread_model.specs.Threads.{with_input};
 
 use crate::ends::WorldEnd;
 use crate::held::Held;
-use crate::places::{place_behind, turn_until};
+use crate::places::{turn_until, used_behind};
+use crate::went::Went;
 use emu_machine::{Ended, StepEnd};
 use guest_contexts::is_some_ready;
 use io_gate::{Sink, Source};
@@ -62,11 +63,15 @@ impl Held {
             let before = self.steps();
             let until = turn_until(schedule, &place, before, budget);
             match self.go(k, until, input, output, errors) {
-                StepEnd::Going => {}
-                end => return self.end_of(end),
+                Went::On => {}
+                went => {
+                    let end = self.last_end(went);
+                    return self.end_of(end);
+                }
             }
-            let last = place_behind(&place, before, self.steps(), k);
-            place = self.next_place(schedule, &last, k);
+            let after = self.steps();
+            let used = used_behind(place.used, before, after);
+            place = self.next_place(schedule, place.turn, used, k);
         }
         self.end()
     }

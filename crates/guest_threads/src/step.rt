@@ -1,10 +1,11 @@
 //! One step of a context.
-ghost use Rattle.std.specs.Prelude.{◌≡◌, ◌<◌, ◌+◌, ◌-◌, ◌^◌, length, true, false};
+ghost use Rattle.std.specs.Prelude.{◌≡◌, ◌<◌, ◌+◌, ◌-◌, ◌^◌, is_none, length, true, false};
 ghost use Rattle.emu_machine.specs.Ends.{step_end, is_undone};
 ghost use Rattle.emu_machine.specs.Machines.{MakesWrite};
 ghost use Rattle.guest_threads.specs.Calls.{IsCalling};
 ghost use Rattle.guest_threads.specs.Ends.{has_ended, last_machine, Becomes, TakesWithin, PutsAlways, IsKept};
 ghost use Rattle.guest_threads.specs.Steps.{stepped_as};
+ghost use Rattle.guest_threads.specs.Named.{last_end};
 ghost use Rattle.io_gate.specs.Streams.{Causes};
 ghost use Rattle.linux_calls.specs.Names.{NamesRead};
 ghost use Rattle.thread_model.specs.declared.thread.Standing.TheVariants as standing;
@@ -14,19 +15,54 @@ ghost use Rattle.thread_model.specs.Worlds as worlds;
 
 use crate::held::Held;
 use crate::svc::makes_call;
+use crate::went::{Went, went_by};
 use emu_machine::StepEnd;
 use guest_contexts::note_accesses;
 use io_gate::{Sink, Source};
 
 impl Held {
+    /// Takes one step of a context, which is ready, and names its answer.
+    ///
+    /// It isn't inlined, so that calls and their streams aren't in the loop of a run, nor an answer in memory.
+    #[inline(never)]
+    pub(crate) fn one_by_name<I: Source, O: Sink, E: Sink>(
+        &mut self,
+        k: usize,
+        input: &mut I,
+        output: &mut O,
+        errors: &mut E,
+    ) -> Went
+        requires going { has_ended self.old ≡ false }
+        requires room { self.old.world.steps < 2 ^ 64 - 1 }
+        requires within { k < length self.old.world.contexts }
+        requires ready { (worlds.context self.old.world k).standing ≡ standing.Ready }
+        ensures state { Becomes (λ st. model.stepped st k) self.old.world self.new.world (I.left input.old) (I.left input.new) (is_undone (last_end result self.new.world.ended)) }
+        ensures input { TakesWithin (λ st. model.stepped st k) self.old.world (I.left input.old) (I.left input.new) (is_undone (last_end result self.new.world.ended)) }
+        ensures output { PutsAlways (λ st. (model.stepped st k).output) self.old.world (O.held output.old) (O.held output.new) (is_undone (last_end result self.new.world.ended)) }
+        ensures errors { PutsAlways (λ st. (model.stepped st k).errors) self.old.world (E.held errors.old) (E.held errors.new) (is_undone (last_end result self.new.world.ended)) }
+        ensures end { is_undone (last_end result self.new.world.ended) ≡ false → last_end result self.new.world.ended ≡ step_end self.new.world.ended }
+        ensures over { result ≡ Went.Over → is_none self.new.world.ended ≡ false }
+        ensures counted { last_end result self.new.world.ended ≡ StepEnd.Going → self.new.world.steps ≡ self.old.world.steps + 1 }
+        ensures kept { is_undone (last_end result self.new.world.ended) ≡ true → IsKept self.old.world self.new.world k (I.left input.old) (I.left input.new) }
+        ensures failed { self.new.failed ≡ is_undone (last_end result self.new.world.ended) }
+        ensures last { self.new.world.last ≡ k }
+        ensures living { is_undone (last_end result self.new.world.ended) ≡ false → IsLiving self.new.world }
+        ensures read_cause { Causes (last_end result self.new.world.ended ≡ StepEnd.ReadFault) (I.faults input.old) (I.faults input.new) }
+        ensures write_cause { Causes (last_end result self.new.world.ended ≡ StepEnd.WriteFault) (O.faults output.old) (O.faults output.new) }
+        ensures errors_cause { Causes (last_end result self.new.world.ended ≡ StepEnd.ErrorsFault) (E.faults errors.old) (E.faults errors.new) }
+        ensures read_named { last_end result self.new.world.ended ≡ StepEnd.ReadFault → NamesRead (last_machine self.new.world).core }
+        ensures write_named { last_end result self.new.world.ended ≡ StepEnd.WriteFault → MakesWrite (last_machine self.new.world) 1 }
+        ensures errors_named { last_end result self.new.world.ended ≡ StepEnd.ErrorsFault → MakesWrite (last_machine self.new.world) 2 }
+    {
+        let end = self.one(k, input, output, errors);
+        went_by(end)
+    }
+
     /// Takes one step of a context, which is ready.
     ///
     /// After a fault of a stream, which is answered exactly where that stream failed, the world has ended with the step not done: it
     /// is as before, but that bytes which the call took are stored, and that the context of the step is the last.
-    ///
-    /// It isn't inlined, so that calls and their streams aren't in the loop of a run.
-    #[inline(never)]
-    pub(crate) fn one<I: Source, O: Sink, E: Sink>(
+    fn one<I: Source, O: Sink, E: Sink>(
         &mut self,
         k: usize,
         input: &mut I,

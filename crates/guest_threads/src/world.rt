@@ -5,7 +5,7 @@ ghost use Rattle.guest_threads.specs.Ends.{has_ended, end_of_world, is_broken_of
 ghost use Rattle.io_gate.specs.Streams.{Causes};
 ghost use Rattle.linux_calls.specs.Names.{NamesRead};
 ghost use Rattle.thread_model.specs.Threads as model;
-ghost use Rattle.thread_model.specs.ThreadLaws.{with_input};
+ghost use Rattle.thread_model.specs.Threads.{with_input};
 ghost use Rattle.thread_model.specs.Worlds as worlds;
 
 use crate::ends::WorldEnd;

@@ -1,10 +1,12 @@
 use Rattle.std.proofs.Common.{◌≡◌, ◌<◌, length, false, refl, sym, ap, subst, ◌∙◌, arith}
 use Rattle.emu_machine.specs.declared.ends.StepEnd.TheVariants.{Going, ReadFault, WriteFault, ErrorsFault}
-use Rattle.emu_machine.specs.Ends.{is_undone}
+use Rattle.emu_machine.specs.Ends.{is_undone, step_end}
 use Rattle.emu_machine.proofs.Advanced.{causes_not, not_both}
 use Rattle.thread_model.specs.Worlds.{World, context, taken_by_context}
+use Rattle.guest_threads.specs.declared.went.Went.TheVariants.{On, Over}
 use Rattle.guest_threads.specs.Calls.{IsCalling}
 use Rattle.guest_threads.specs.Ends.{WorldHeld}
+use Rattle.guest_threads.specs.Named.{last_end}
 use Rattle.guest_threads.proofs.Quiet.{apart_here, ends_here, ends_last, ends_lives, goes_again, on_here, quiet_last, some_lives, still_here, takes_last, takes_one, takes_quiet}
 use Rattle.guest_threads.proofs.Steps.{end_is_done}
 use Rattle.guest_threads.proofs.held.Held.go.Goals as goal
@@ -22,10 +24,10 @@ returns-then-advance g c =
     let h : WorldHeld = c.args.self.now in
     let v : World = c.advance.new.self.world in
     let d = ends_here h c.args.k c.args.until c.bring.new.self c.advance.new.self c.advance.result c.bring.ensures c.advance.ensures.steps c.if-advance.true in
-    let ends = c.last_end.ensures in
-    let fine : is_undone c.last_end.result ≡ false = end_is_done c.last_end.result v.ended ends in
+    let fine : is_undone (step_end v.ended) ≡ false = end_is_done (step_end v.ended) v.ended refl in
     record {
-      steps = takes_last c.args.k h.world c.args.until v (g.I.Source.left c.args.input.now) (g.O.Sink.held c.args.output.now) (g.E.Sink.held c.args.errors.now) c.last_end.result d ends;
+      steps = takes_last c.args.k h.world c.args.until v (g.I.Source.left c.args.input.now) (g.O.Sink.held c.args.output.now) (g.E.Sink.held c.args.errors.now) (step_end v.ended) d refl;
+      over = λ _. d.ended;
       failed = c.advance.ensures.failed ∙ sym fine;
       last = ends_last c.args.until (taken_by_context c.args.k h.world) v d;
       living = λ _. ends_lives v d.ended;
@@ -46,6 +48,7 @@ returns-then-after-before g c =
     let other = apart_here h c.args.k c.args.until c.bring.new.self c.advance.new.self c.advance.result c.bring.ensures c.advance.ensures.steps c.steps-before.result c.steps-after.result c.steps-before.ensures c.steps-after.ensures c.if-after-before.true in
     record {
       steps = takes_quiet c.args.k h.world c.args.until v (g.I.Source.left c.args.input.now) (g.O.Sink.held c.args.output.now) (g.E.Sink.held c.args.errors.now) d.count d.quiet d.most other;
+      over = λ (e : On ≡ Over). cc;
       failed = c.advance.ensures.failed;
       last = quiet_last d.count c.args.k (taken_by_context c.args.k h.world) v d.quiet refl;
       living = λ _. some_lives d.count c.args.k h.world v d.quiet other;
@@ -58,8 +61,8 @@ returns-then-after-before g c =
     }
 
 -- the first one is any step
-pub one-requires : goal.one-requires
-one-requires g c =
+pub one_by_name-requires : goal.one_by_name-requires
+one_by_name-requires g c =
     let h : WorldHeld = c.args.self.now in
     let same = still_here h c.args.k c.args.until c.bring.new.self c.advance.new.self c.advance.result c.bring.ensures c.advance.ensures.steps c.steps-before.result c.steps-after.result c.steps-before.ensures c.steps-after.ensures c.if-advance.false c.if-after-before.false in
     record {
@@ -73,11 +76,12 @@ pub returns : goal.returns
 returns g c =
     let h : WorldHeld = c.args.self.now in
     let same = still_here h c.args.k c.args.until c.bring.new.self c.advance.new.self c.advance.result c.bring.ensures c.advance.ensures.steps c.steps-before.result c.steps-after.result c.steps-before.ensures c.steps-after.ensures c.if-advance.false c.if-after-before.false in
-    let o = c.one.ensures in
+    let o = c.one_by_name.ensures in
     record {
-      steps = takes_one c.args.k h.world c.args.until c.advance.new.self.world c.one.new.self.world same c.requires.below c.one.result
-          (g.I.Source.left c.args.input.now) (g.I.Source.left c.one.new.input) (g.O.Sink.held c.args.output.now) (g.O.Sink.held c.one.new.output) (g.E.Sink.held c.args.errors.now) (g.E.Sink.held c.one.new.errors)
+      steps = takes_one c.args.k h.world c.args.until c.advance.new.self.world c.one_by_name.new.self.world same c.requires.below (last_end c.one_by_name.result c.one_by_name.new.self.world.ended)
+          (g.I.Source.left c.args.input.now) (g.I.Source.left c.one_by_name.new.input) (g.O.Sink.held c.args.output.now) (g.O.Sink.held c.one_by_name.new.output) (g.E.Sink.held c.args.errors.now) (g.E.Sink.held c.one_by_name.new.errors)
           o.state o.input o.output o.errors o.end o.counted o.kept;
+      over = o.over;
       failed = o.failed;
       last = o.last;
       living = o.living;

@@ -2,14 +2,13 @@ use Rattle.std.proofs.Common.{inl, inr, sym, ◌∙◌, arith}
 use Rattle.guest_threads.proofs.Picked.{not_true, not_false, standing_of, turn_same}
 use Rattle.guest_threads.proofs.held.Held.is_over.Goals as goal
 
-pub returns-then-place-last : goal.returns-then-place-last
-returns-then-place-last c =
-    let steps = turn_same c.args.turns.now c.args.place.now.turn c.requires.turn in
-    let last = c.saturating_sub-last.ensures in
+pub returns-then-used-steps : goal.returns-then-used-steps
+returns-then-used-steps c =
+    let steps = turn_same c.args.turns.now c.args.turn c.requires.turn in
+    let most = c.requires.most in
     record {
-      over = λ _. inl (omega (arith, c.if-place-last.true, c.requires.used, last, steps));
+      over = λ _. inl (omega (arith, c.if-used-steps.true, most, steps));
       on = λ h. cc;
-      fits = λ h. cc;
       ready = λ h. cc;
     }
 
@@ -18,9 +17,8 @@ returns-clause-over c = λ h. inr (sym c.is_ready.ensures.ready ∙ not_true c.i
 
 pub returns-clause-on : goal.returns-clause-on
 returns-clause-on c = λ h.
-    let steps = turn_same c.args.turns.now c.args.place.now.turn c.requires.turn in
-    let last = c.saturating_sub-last.ensures in
-    omega (arith, c.if-place-last.false, last, steps)
+    let steps = turn_same c.args.turns.now c.args.turn c.requires.turn in
+    omega (arith, c.if-used-steps.false, steps)
 
 pub returns-clause-ready : goal.returns-clause-ready
 returns-clause-ready c = λ h. record {

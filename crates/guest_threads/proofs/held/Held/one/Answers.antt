@@ -2,8 +2,7 @@ use Rattle.std.proofs.Common.{◌≡◌, ◌+◌, ℕ, List, [], false, refl, sy
 use Rattle.emu_machine.specs.Ends.{is_undone, step_end}
 use Rattle.emu_machine.proofs.Advanced.{causes_not, not_both}
 use Rattle.thread_model.specs.Living.{IsLiving, one_living}
-use Rattle.thread_model.specs.Threads.{WorldState, WorldTurn, makes_call, stepped, one, quietly}
-use Rattle.thread_model.specs.ThreadLaws.{with_input}
+use Rattle.thread_model.specs.Threads.{WorldState, WorldTurn, makes_call, stepped, one, quietly, with_input}
 use Rattle.thread_model.specs.Worlds.{World, context, joined, taken_by_context}
 use Rattle.guest_threads.specs.Calls.{IsCalling}
 use Rattle.guest_threads.specs.Ends.{WorldHeld, IsKept}
