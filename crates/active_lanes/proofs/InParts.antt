@@ -6,8 +6,9 @@ use Rattle.std.proofs.lemmas.List.{get_or-set_same, get_or_past, set-get_or, set
 use Rattle.std.proofs.lemmas.List.FromFn.{fill_by_all}
 use Rattle.byteorder.specs.Endian.{little_number}
 use Rattle.guest_mem.proofs.Numbers.{number_of_part}
-use Rattle.emu_model.specs.Lengths.{IsVectorLength}
-use Rattle.emu_model.specs.Lists.{each, length-each, get_or-each, each_same}
+use Rattle.emu_model.specs.SoundState.{IsVectorLength}
+use Rattle.emu_model.specs.Lists.{each}
+use Rattle.emu_model.specs.ListLaws.{length-each, get_or-each, each_same}
 use Rattle.emu_model.specs.State.{Vectors}
 use Rattle.vec_model.specs.Lanes.{read_z, with_z}
 use Rattle.vec_regs.specs.Words.{byte_of, bytes_of, byte_with_pair}

@@ -1,11 +1,11 @@
 -- The lanes that keep what is loaded.
 use Rattle.std.proofs.Common.{◌≡◌, ◌<◌, ◌≤◌, ◌+◌, ◌*◌, ◌/◌, ℕ, Bool, true, false, ◌||◌, List, [], get_or, nat_lt, inl, inr, sym, ap, subst, ◌∙◌, arith}
 use Rattle.std.proofs.lemmas.Bool.{cases_lt, lt-ltb, le-ltb, or_parts, or_right}
-use Rattle.emu_model.specs.Lengths.{IsVectorLength}
+use Rattle.emu_model.specs.SoundState.{IsVectorLength}
 use Rattle.emu_model.specs.State.{Vectors}
 use Rattle.vec_model.specs.Active.{active}
-use Rattle.vec_model.specs.Lanes.{IsLaneSize}
-use Rattle.sve_effects.specs.ElementLoop.{is_active}
+use Rattle.vec_model.specs.LaneSizes.{IsLaneSize}
+use Rattle.sve_effects.specs.LaneLoop.{is_active}
 use Rattle.active_lanes.specs.Kept.{is_kept}
 use Rattle.active_lanes.proofs.FieldBits.{lane_again}
 

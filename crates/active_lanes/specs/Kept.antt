@@ -1,7 +1,7 @@
 -- The lanes that words and registers keep.
 use Rattle.std.specs.Prelude.{ℕ, ◌*◌, ◌/◌, ◌%◌, ◌^◌, Bool, ◌||◌, nat_eq, nat_lt, if◌then◌else◌}
 use Rattle.emu_model.specs.State.{Vectors}
-use Rattle.sve_effects.specs.ElementLoop.{is_active}
+use Rattle.sve_effects.specs.LaneLoop.{is_active}
 
 -- the lanes that keep what is loaded: those of the first words, so many, and of the others the active ones
 abbrev pub is_kept : ℕ → ℕ → ℕ → Vectors → ℕ → Bool

@@ -1,8 +1,9 @@
 //! The bits of a predicate that stand for a word of 64 bits.
 ghost use Rattle.std.specs.Prelude.{◌≡◌, ◌≤◌, ◌<◌, ◌+◌, ◌*◌, ◌/◌, ◌%◌, ◌^◌, ℕ, true, false};
-ghost use Rattle.vec_model.specs.Lanes.{IsLaneSize};
-ghost use Rattle.sve_effects.specs.ElementLoop.{is_active};
+ghost use Rattle.vec_model.specs.LaneSizes.{IsLaneSize};
+ghost use Rattle.sve_effects.specs.LaneLoop.{is_active};
 ghost use Rattle.active_lanes.specs.Kept.{keeps};
+ghost use Rattle.active_lanes.specs.Seen.{seen_end, unseen_bit};
 
 use emu_bits::Pred;
 use vec_regs::VecRegs;
@@ -37,15 +38,16 @@ fn lanes_of_bytes(e: u32, bytes: u32) -> u32
 pub(crate) fn field(vec: &VecRegs, pg: Pred, i: u32) -> u64
     requires { i < vec.now.bits / 64 }
     // whatever the size of lanes
-    ensures { (e t : ℕ) → IsLaneSize e → t < 8 → keeps (e / 8) result t ≡ is_active e vec.now pg ((8 * i + t) / (e / 8)) }
+    ensures { (e t : ℕ) → IsLaneSize e → t < 8
+        → keeps (e / 8) result t ≡ is_active e vec.now pg ((8 * i + t) / (e / 8)) }
 {
     let _length = vec.length();
     let words = vec.p_words(pg);
     (words[i as usize / 8] >> (8 * (i % 8))) % 256
 }
 
-/// Whether all lanes of a word are on, where the bits are as `ptrue` and `whilelo` make them for lanes of this size or of
-/// bytes.
+/// Whether all lanes of a word are on, where the bits are as `ptrue` and `whilelo` make them for lanes of this size or
+/// of bytes.
 pub(crate) fn is_whole(e: u32, field: u64) -> bool
     requires { IsLaneSize e }
     ensures { result ≡ true → (t : ℕ) → t < 8 → keeps (e / 8) field t ≡ true }
@@ -61,7 +63,7 @@ pub(crate) fn is_whole(e: u32, field: u64) -> bool
 /// The bits of a predicate, of 64, that no lane looks at: those behind the lowest of each field.
 fn bits_between(e: u32) -> u64
     requires { IsLaneSize e }
-    ensures { (q : ℕ) → q * (e / 8) < 64 → result / 2 ^ (q * (e / 8)) % 2 ≡ 0 }
+    ensures { (b : ℕ) → b < 64 → result / 2 ^ b % 2 ≡ unseen_bit (e / 8) b }
 {
     match e {
         8 => 0,
@@ -71,32 +73,36 @@ fn bits_between(e: u32) -> u64
     }
 }
 
-/// How many bits are 1, before the lowest that is 0.
+/// How many bits are 1, before the lowest that is 0; 64 where none is.
 #[inline(always)]
 fn ones(bits: u64) -> u32
     ensures ones { (i : ℕ) → i < result → bits / 2 ^ i % 2 ≡ 1 }
     ensures few { result ≤ 64 }
+    ensures next { result < 64 → bits / 2 ^ result % 2 ≡ 0 }
 {
     bits.trailing_ones()
 }
 
-/// How many bits are 0, before the lowest that is 1.
+/// How many bits are 0, before the lowest that is 1; 64 where none is.
 #[inline(always)]
 fn zeros(bits: u64) -> u32
     ensures zeros { (i : ℕ) → i < result → bits / 2 ^ i % 2 ≡ 0 }
     ensures few { result ≤ 64 }
+    ensures next { result < 64 → bits / 2 ^ result % 2 ≡ 1 }
 {
     bits.trailing_zeros()
 }
 
-/// How many of at most so many lanes from lane k on are active, before the first that isn't, or as far as the 64 bits
-/// of the predicate go that have its bit.
+/// How many lanes from lane k on are active: all of at most so many whose bits stand in the same 64 bits of the
+/// predicate as that of lane k, or those before the first that isn't.
 pub fn active_from(vec: &VecRegs, pg: Pred, e: u32, k: u32, most: u32) -> u32
     requires size { IsLaneSize e }
     requires lane { k < vec.now.bits / e }
     requires within { k + most ≤ vec.now.bits / e }
     ensures on { (i : ℕ) → k ≤ i → i < k + result → is_active e vec.now pg i ≡ true }
     ensures few { result ≤ most }
+    ensures seen { k + result ≤ seen_end e k }
+    ensures off { result < most → k + result < seen_end e k → is_active e vec.now pg (k + result) ≡ false }
 {
     let _length = vec.length();
     let at = k * (e / 8);
@@ -106,8 +112,8 @@ pub fn active_from(vec: &VecRegs, pg: Pred, e: u32, k: u32, most: u32) -> u32
     lanes_of_bytes(e, bytes).min(most)
 }
 
-/// How many of at most so many lanes from lane k on, which isn't active, aren't, before the first that is, or as far as
-/// the 64 bits of the predicate go that have its bit.
+/// How many lanes from lane k on, which isn't active, aren't: all of at most so many whose bits stand in the same 64
+/// bits of the predicate as that of lane k, or those before the first that is.
 pub fn idle_from(vec: &VecRegs, pg: Pred, e: u32, k: u32, most: u32) -> u32
     requires size { IsLaneSize e }
     requires some { 1 ≤ most }
@@ -116,19 +122,23 @@ pub fn idle_from(vec: &VecRegs, pg: Pred, e: u32, k: u32, most: u32) -> u32
     ensures off { (i : ℕ) → k ≤ i → i < k + result → is_active e vec.now pg i ≡ false }
     ensures some { 1 ≤ result }
     ensures few { result ≤ most }
+    ensures seen { k + result ≤ seen_end e k }
+    ensures on { result < most → k + result < seen_end e k → is_active e vec.now pg (k + result) ≡ true }
 {
     let _length = vec.length();
     let at = k * (e / 8);
     let words = vec.p_words(pg);
-    let bytes = zeros(words[at as usize / 64] >> (at % 64)).min(64 - at % 64);
-    lanes_of_bytes(e, bytes).max(1).min(most)
+    let rest = words[at as usize / 64] >> (at % 64);
+    let bytes = zeros(rest & !bits_between(e)).min(64 - at % 64);
+    lanes_of_bytes(e, bytes).min(most)
 }
 
-/// How many lanes are active, before the first that isn't.
+/// How many lanes from the first on are active: all lanes, or those before the first that isn't.
 pub fn front_lanes(vec: &VecRegs, pg: Pred, e: u32) -> u32
     requires { IsLaneSize e }
     ensures on { (k : ℕ) → k < result → is_active e vec.now pg k ≡ true }
     ensures few { result ≤ vec.now.bits / e }
+    ensures off { result < vec.now.bits / e → is_active e vec.now pg result ≡ false }
 {
     let lanes = vec.length().bits() / e;
     let most = lanes_of_bytes(e, 64);

@@ -2,9 +2,9 @@
 #![tactic(auto)]
 
 mod fields;
+mod kept_words;
 mod parts;
-mod words;
 
 pub use fields::{active_from, front_lanes, idle_from, words_of_lanes};
+pub use kept_words::keep_active;
 pub use parts::{set_copied, set_words};
-pub use words::keep_active;

@@ -1,12 +1,13 @@
 //! Registers that are written 128 bits after 128 bits.
 ghost use Rattle.std.specs.Prelude.{◌≡◌, ◌≤◌, ◌<◌, ◌+◌, ◌*◌, ◌/◌, ◌%◌, ◌^◌, ℕ, length, get_or, if◌then◌else◌};
 ghost use Rattle.emu_model.specs.Lists.{each};
-ghost use Rattle.vec_model.specs.Lanes.{IsLaneSize, with_z};
+ghost use Rattle.vec_model.specs.Lanes.{with_z};
+ghost use Rattle.vec_model.specs.LaneSizes.{IsLaneSize};
 ghost use Rattle.vec_regs.specs.Words.{bytes_of};
 ghost use Rattle.active_lanes.specs.Kept.{is_kept};
 
 use crate::fields::field;
-use crate::words::kept_word;
+use crate::kept_words::kept_word;
 use byteorder::{ByteOrder, LittleEndian};
 use emu_bits::{Pred, Reg};
 use vec_regs::VecRegs;
@@ -30,7 +31,8 @@ fn copied_word(vec: &VecRegs, pg: Pred, e: u32, whole: u32, bytes: &[u8], at: us
     requires size { IsLaneSize e }
     requires within { i < vec.now.bits / 64 }
     requires room { at + 8 * i + 8 ≤ length bytes.now }
-    ensures { (t : ℕ) → t < 8 → result / 2 ^ (8 * t) % 256 ≡ (if is_kept whole pg e vec.now ((8 * i + t) / (e / 8)) then get_or bytes.now (at + (8 * i + t)) 0 else 0) }
+    ensures { (t : ℕ) → t < 8 → result / 2 ^ (8 * t) % 256
+        ≡ (if is_kept whole pg e vec.now ((8 * i + t) / (e / 8)) then get_or bytes.now (at + (8 * i + t)) 0 else 0) }
 {
     let place = at + 8 * i as usize;
     let word = LittleEndian::read_u64(&bytes[place..place + 8]);
@@ -44,7 +46,8 @@ fn copied_word(vec: &VecRegs, pg: Pred, e: u32, whole: u32, bytes: &[u8], at: us
 pub fn set_copied(vec: &mut VecRegs, zd: Reg, e: u32, pg: Pred, whole: u32, bytes: &[u8], at: usize)
     requires size { IsLaneSize e }
     requires room { at + vec.old.bits / 8 ≤ length bytes.now }
-    ensures { vec.new ≡ with_z vec.old zd (each (vec.old.bits / 8) (λ j. if is_kept whole pg e vec.old (j / (e / 8)) then get_or bytes.now (at + j) 0 else 0)) }
+    ensures { vec.new ≡ with_z vec.old zd (each (vec.old.bits / 8)
+        (λ j. if is_kept whole pg e vec.old (j / (e / 8)) then get_or bytes.now (at + j) 0 else 0)) }
 {
     let _length = vec.length();
     let _words = vec.z_words(zd);

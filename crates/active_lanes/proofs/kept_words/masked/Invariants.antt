@@ -1,6 +1,6 @@
 use Rattle.std.proofs.Common.{◌≡◌, ◌<◌, ◌+◌, ◌-◌, ◌*◌, ◌/◌, ◌%◌, ◌^◌, ℕ}
 use Rattle.active_lanes.specs.Kept.{kept}
-use Rattle.active_lanes.proofs.words.masked.Given as goal
+use Rattle.active_lanes.proofs.kept_words.masked.Given as goal
 
 abbrev pub invariant-loop-t : goal.invariant-loop-t
 invariant-loop-t l = record {

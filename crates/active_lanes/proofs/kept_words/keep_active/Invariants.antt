@@ -1,7 +1,7 @@
 use Rattle.std.proofs.Common.{◌≡◌, ◌<◌, ◌≤◌, ◌*◌, ◌/◌, ℕ, get_or, if◌then◌else◌}
 use Rattle.vec_regs.specs.Words.{byte_of}
 use Rattle.active_lanes.specs.Kept.{is_kept}
-use Rattle.active_lanes.proofs.words.keep_active.Given as goal
+use Rattle.active_lanes.proofs.kept_words.keep_active.Given as goal
 
 abbrev pub invariant-loop-i : goal.invariant-loop-i
 invariant-loop-i l = record {

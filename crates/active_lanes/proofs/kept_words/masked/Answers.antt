@@ -2,7 +2,7 @@ use Rattle.std.proofs.Common.{◌<◌, ◌+◌, ◌*◌, ◌^◌, arith}
 use Rattle.vec_regs.proofs.PackedLanes.{room, grown}
 use Rattle.active_lanes.specs.Kept.{kept}
 use Rattle.active_lanes.proofs.KeptWords.{pushed}
-use Rattle.active_lanes.proofs.words.masked.Goals as goal
+use Rattle.active_lanes.proofs.kept_words.masked.Goals as goal
 
 pub overflow_mul-so_far : goal.overflow_mul-so_far
 overflow_mul-so_far c =

@@ -2,7 +2,7 @@ use Rattle.std.proofs.Common.{◌<◌, ◌+◌, ◌*◌, ◌/◌, ◌∙◌, len
 use Rattle.active_lanes.specs.Kept.{is_kept}
 use Rattle.active_lanes.proofs.Kept.{front_lane, later_lane, kept_front, kept_later}
 use Rattle.active_lanes.proofs.KeptWords.{one_more_kept, kept_above, none_masked}
-use Rattle.active_lanes.proofs.words.keep_active.Goals as goal
+use Rattle.active_lanes.proofs.kept_words.keep_active.Goals as goal
 
 pub loop-i-init : goal.loop-i-init
 loop-i-init c = record {

@@ -1,6 +1,6 @@
 //! The words of a register that keeps its active lanes.
 ghost use Rattle.std.specs.Prelude.{◌≡◌, ◌≤◌, ◌<◌, ◌+◌, ◌*◌, ◌/◌, ◌%◌, ◌^◌, ℕ, length, get_or, if◌then◌else◌};
-ghost use Rattle.vec_model.specs.Lanes.{IsLaneSize};
+ghost use Rattle.vec_model.specs.LaneSizes.{IsLaneSize};
 ghost use Rattle.vec_regs.specs.Words.{byte_of};
 ghost use Rattle.active_lanes.specs.Kept.{is_kept, kept};
 
@@ -69,7 +69,8 @@ pub fn keep_active(vec: &VecRegs, pg: Pred, e: u32, whole: u32, count: u32, word
     requires within { whole ≤ count }
     requires few { count ≤ vec.now.bits / 64 }
     requires long { count ≤ length words.old }
-    ensures bytes { (j : ℕ) → j < 8 * count → byte_of 8 words.new j ≡ (if is_kept whole pg e vec.now (j / (e / 8)) then byte_of 8 words.old j else 0) }
+    ensures bytes { (j : ℕ) → j < 8 * count → byte_of 8 words.new j
+        ≡ (if is_kept whole pg e vec.now (j / (e / 8)) then byte_of 8 words.old j else 0) }
     ensures above { (k : ℕ) → count ≤ k → get_or words.new k 0 ≡ get_or words.old k 0 }
     ensures length { length words.new ≡ length words.old }
 {

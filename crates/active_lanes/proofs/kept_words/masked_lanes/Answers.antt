@@ -1,6 +1,6 @@
 use Rattle.std.proofs.Common.{◌≡◌, ◌/◌, sym, ap, ◌∙◌, arith}
 use Rattle.active_lanes.specs.Kept.{kept}
-use Rattle.active_lanes.proofs.words.masked_lanes.Goals as goal
+use Rattle.active_lanes.proofs.kept_words.masked_lanes.Goals as goal
 
 pub returns-in-8 : goal.returns-in-8
 returns-in-8 c = λ t h. c.masked.ensures t h ∙ ap (λ e. kept (e / 8) c.args.field c.args.word t) (sym c.in-8.is)
