@@ -1,7 +1,7 @@
 //! Fields moved within a register, and bits taken from two registers.
 ghost use Rattle.std.specs.Prelude.{◌≡◌, ◌<◌, ◌≤◌, ◌+◌, ◌^◌, ◌⊎◌, true};
 ghost use Rattle.a64_insn.specs.declared.form.A64Form.{A64Form};
-ghost use Rattle.a64_insn.specs.Table.{meets_form};
+ghost use Rattle.a64_insn.specs.Rows.{meets_form};
 ghost use Rattle.emu_bits.specs.Fields.{field};
 ghost use Rattle.emu_bits.specs.Numbers as numbers;
 ghost use Rattle.a64_effects.specs.Groups.{scalar};

@@ -6,7 +6,8 @@ use Rattle.emu_model.specs.Access.{Memory, refused, value}
 use Rattle.emu_model.specs.Done.{Done}
 use Rattle.emu_model.specs.Sound.{stored_sound, refused_is_word}
 use Rattle.emu_model.specs.SoundDone.{IsSoundDone, traps_sound}
-use Rattle.emu_model.specs.State.{Core, Vectors, IsWord, IsSoundCore, IsSoundVectors, IsSoundMemory}
+use Rattle.emu_model.specs.State.{Core, Vectors}
+use Rattle.emu_model.specs.SoundState.{IsWord, IsSoundCore, IsSoundVectors, IsSoundMemory}
 use Rattle.a64_effects.specs.Atomic.{exchanged, unless_refused, one_step}
 
 module _ (c : Core) (v : Vectors) (m : Memory) (s : IsSoundCore c) (y : IsSoundVectors v) (t : IsSoundMemory m) where

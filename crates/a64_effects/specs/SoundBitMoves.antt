@@ -7,7 +7,8 @@ use Rattle.emu_bits.specs.Bitmask.{repeated}
 use Rattle.emu_model.specs.Done.{leaves}
 use Rattle.emu_model.specs.Sound.{with_x_sound}
 use Rattle.emu_model.specs.SoundDone.{IsSoundRegisters}
-use Rattle.emu_model.specs.State.{Core, Vectors, read_x, IsSoundCore, IsSoundVectors}
+use Rattle.emu_model.specs.State.{Core, Vectors, read_x}
+use Rattle.emu_model.specs.SoundState.{IsSoundCore, IsSoundVectors}
 use Rattle.vec_model.specs.Lanes.{lane, read_z}
 use Rattle.vec_model.specs.SoundLanes.{sound_low}
 use Rattle.a64_effects.specs.BitMoves.{copied, moved}

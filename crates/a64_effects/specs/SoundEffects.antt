@@ -2,7 +2,8 @@
 use Rattle.a64_insn.specs.declared.form.A64Form.{A64Form}
 use Rattle.emu_model.specs.Access.{Memory}
 use Rattle.emu_model.specs.SoundDone.{IsSoundDone, well_sound, went_on_sound}
-use Rattle.emu_model.specs.State.{Core, Vectors, IsSoundCore, IsSoundVectors, IsSoundMemory}
+use Rattle.emu_model.specs.State.{Core, Vectors}
+use Rattle.emu_model.specs.SoundState.{IsSoundCore, IsSoundVectors, IsSoundMemory}
 use Rattle.a64_effects.specs.Effects.{performed, performed_by}
 use Rattle.a64_effects.specs.Operations.{Operation, computes, flows, transfers, exchanges, copies, operation_of}
 use Rattle.a64_effects.specs.SoundLoadStore.{transferred_by_sound, exchanged_by_sound}

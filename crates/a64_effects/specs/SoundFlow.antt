@@ -15,7 +15,8 @@ use Rattle.emu_bits.specs.Flags.{flags_of_number}
 use Rattle.emu_bits.specs.Numbers.{unsigned_int}
 use Rattle.emu_model.specs.Sound.{with_x_sound, flags_sound, monitor_sound, low_is_word}
 use Rattle.emu_model.specs.SoundLists.{all_read}
-use Rattle.emu_model.specs.State.{Core, read_x, read_x_sp, IsWord, IsSoundCore}
+use Rattle.emu_model.specs.State.{Core, read_x, read_x_sp}
+use Rattle.emu_model.specs.SoundState.{IsWord, IsSoundCore}
 use Rattle.a64_effects.specs.Flow.{offset, return_address, linked, after_branch, after_branch_to, branches_if, with_system_value, excepted, after_barrier}
 use Rattle.emu_model.specs.SoundDone.{IsSoundEffect}
 

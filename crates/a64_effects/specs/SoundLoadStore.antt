@@ -6,7 +6,8 @@ use Rattle.emu_model.specs.declared.access.Kind.TheVariants.{Read as ReadKind, W
 use Rattle.emu_model.specs.declared.trap.TrapKind.TheVariants.{SpAlign, AccessAlign}
 use Rattle.emu_model.specs.Access.{Memory, value}
 use Rattle.emu_model.specs.Sound.{with_x_sound, with_x_sp_sound, monitor_sound}
-use Rattle.emu_model.specs.State.{Core, Vectors, with_x, IsWord, IsSoundCore, IsSoundVectors, IsSoundMemory}
+use Rattle.emu_model.specs.State.{Core, Vectors, with_x}
+use Rattle.emu_model.specs.SoundState.{IsWord, IsSoundCore, IsSoundVectors, IsSoundMemory}
 use Rattle.emu_model.specs.Done.{Done, Registers, traps}
 use Rattle.vec_model.specs.Lanes.{with_low}
 use Rattle.vec_model.specs.SoundLanes.{sound_low}

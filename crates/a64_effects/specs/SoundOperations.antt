@@ -10,7 +10,8 @@ use Rattle.emu_bits.specs.Numbers.{width_of, signed, extended}
 use Rattle.emu_bits.specs.Operations.{lsl, shifted, extracted, field_from, field_bits, field_to}
 use Rattle.emu_model.specs.Sound.{with_x_sound, flags_sound}
 use Rattle.emu_model.specs.SoundDone.{IsSoundEffect, IsSoundRegisters}
-use Rattle.emu_model.specs.State.{Core, Vectors, read_x, read_x_sp, IsSoundCore, IsSoundVectors}
+use Rattle.emu_model.specs.State.{Core, Vectors, read_x, read_x_sp}
+use Rattle.emu_model.specs.SoundState.{IsSoundCore, IsSoundVectors}
 use Rattle.a64_effects.specs.BitMoves.{immediate, move_value}
 use Rattle.a64_effects.specs.Flow.{target, is_taken, tested_bit, digit, is_taken_by, system_value}
 use Rattle.a64_effects.specs.LoadStore.{near, pair_near, pair_bytes, writes_back, is_kept}

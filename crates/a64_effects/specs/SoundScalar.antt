@@ -13,7 +13,8 @@ use Rattle.a64_insn.specs.declared.ops.RevOp.{RevOp}
 use Rattle.a64_insn.specs.declared.ops.RevOp.TheVariants.{RevW, RevX, Rev32}
 use Rattle.emu_bits.specs.Numbers.{width_of, sum_of, flags_of_sum}
 use Rattle.emu_bits.specs.declared.flags.Flags.{Flags}
-use Rattle.emu_model.specs.State.{Core, with_x, IsSoundCore}
+use Rattle.emu_model.specs.State.{Core, with_x}
+use Rattle.emu_model.specs.SoundState.{IsSoundCore}
 use Rattle.emu_model.specs.Sound.{with_x_sound, with_x_sp_sound, flags_sound}
 use Rattle.emu_bits.specs.Operations.{complement, flags_of_result}
 use Rattle.a64_effects.specs.Scalar.{with_flags, sets_flags, is_sub, addend, after_sum, after_add, after_add_sp, after_add_carry, after_logic, after_logic_reg, after_logic_imm, rev_width}

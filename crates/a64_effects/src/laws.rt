@@ -2,7 +2,8 @@
 ghost use Rattle.a64_insn.specs.declared.form.A64Form.{A64Form};
 ghost use Rattle.emu_model.specs.Access.{Memory};
 ghost use Rattle.emu_model.specs.SoundDone.{IsSoundDone};
-ghost use Rattle.emu_model.specs.State.{Core, Vectors, IsSoundCore, IsSoundVectors, IsSoundMemory};
+ghost use Rattle.emu_model.specs.State.{Core, Vectors};
+ghost use Rattle.emu_model.specs.SoundState.{IsSoundCore, IsSoundVectors, IsSoundMemory};
 ghost use Rattle.a64_effects.specs.Effects.{performed};
 
 /// What an A64 instruction leaves of a sound state is sound: each number and list keeps its range and its length.

@@ -1,11 +1,13 @@
--- A form is the form of its row, and its condition is the row's.
+-- A form is the form of its row.
 use Rattle.std.proofs.Common.{◌≡◌, Bool, true, false, refl, ap, ◌∙◌, ◌==◌}
 use Rattle.emu_bits.specs.Fields.{bit}
-use Rattle.emu_bits.specs.Rows.{meets, form_of}
+use Rattle.emu_bits.specs.Rows.{form_of}
 use Rattle.a64_insn.specs.declared.form.A64Form.{A64Form}
 use Rattle.a64_insn.specs.declared.form.A64Form.TheVariants.{Adr, AddImm, LogicImm, MoveWide, Bitfield, Extract, LogicReg, AddReg, AddExt, AddCarry, CondReg, CondImm, Select, MulAdd, MulLong, MulHigh, TwoSource, OneSource, Rev, Branch, BranchCond, Compare, Test, BranchReg, Except, Hint, Barrier, ReadSys, WriteSys, LsUnsigned, LsUnscaled, LsPost, LsPre, LsReg, LsLiteral, Pair, StoreEx, LoadEx, Ordered, Atomic, CompareSwap, FMove, MoveImm}
-use Rattle.a64_insn.specs.Table.{row_of, meets_form, lines_open}
-use Rattle.a64_insn.specs.Names.{add_carry_named, add_carry_number, add_named, add_number, adr_named, adr_number, atomic_named, atomic_number, barrier_named, barrier_number, bitfield_named, bitfield_number, branch_named, branch_number, branch_reg_named, branch_reg_number, compare_named, compare_number, cond_compare_named, cond_compare_number, except_named, except_number, f_move_named, f_move_number, load_ex_named, load_ex_number, logic_imm_named, logic_imm_number, logic_reg_named, logic_reg_number, move_wide_named, move_wide_number, mul_add_named, mul_add_number, mul_high_named, mul_high_number, mul_long_named, mul_long_number, one_source_named, one_source_number, ordered_named, ordered_number, read_sys_named, read_sys_number, rev_named, rev_number, select_named, select_number, store_ex_named, store_ex_number, test_named, test_number, two_source_named, two_source_number, write_sys_named, write_sys_number}
+use Rattle.a64_insn.specs.Table.{lines_open}
+use Rattle.a64_insn.specs.Rows.{row_of}
+use Rattle.a64_insn.specs.Names.{add_carry_named, add_named, adr_named, atomic_named, barrier_named, bitfield_named, branch_named, branch_reg_named, compare_named, cond_compare_named, except_named, f_move_named, load_ex_named, logic_imm_named, logic_reg_named, move_wide_named, mul_add_named, mul_high_named, mul_long_named, one_source_named, ordered_named, read_sys_named, rev_named, select_named, store_ex_named, test_named, two_source_named, write_sys_named}
+use Rattle.a64_insn.specs.Numbers.{add_carry_number, add_number, adr_number, atomic_number, barrier_number, bitfield_number, branch_number, branch_reg_number, compare_number, cond_compare_number, except_number, f_move_number, load_ex_number, logic_imm_number, logic_reg_number, move_wide_number, mul_add_number, mul_high_number, mul_long_number, one_source_number, ordered_number, read_sys_number, rev_number, select_number, store_ex_number, test_number, two_source_number, write_sys_number}
 use Rattle.a64_insn.specs.declared.ops.AdrOp.{AdrOp}
 use Rattle.a64_insn.specs.declared.ops.AdrOp.TheVariants as adr_names
 use Rattle.a64_insn.specs.declared.ops.AddOp.{AddOp}
@@ -62,52 +64,6 @@ use Rattle.a64_insn.specs.declared.ops.AtomicOp.{AtomicOp}
 use Rattle.a64_insn.specs.declared.ops.AtomicOp.TheVariants as atomic_names
 use Rattle.a64_insn.specs.declared.ops.FMoveOp.{FMoveOp}
 use Rattle.a64_insn.specs.declared.ops.FMoveOp.TheVariants as f_move_names
-
-pub same_condition : (f : A64Form) → meets (row_of f) ≡ meets_form f
-unfolding lines_open
-same_condition (Adr op immlo immhi rd) = refl
-same_condition (AddImm op sf sh imm12 rn rd) = refl
-same_condition (LogicImm op sf n immr imms rn rd) = refl
-same_condition (MoveWide op sf hw imm16 rd) = refl
-same_condition (Bitfield op sf n r s rn rd) = refl
-same_condition (Extract sf n rm s rn rd) = refl
-same_condition (LogicReg op sf shift rm amount rn rd) = refl
-same_condition (AddReg op sf shift rm amount rn rd) = refl
-same_condition (AddExt op sf rm ext a rn rd) = refl
-same_condition (AddCarry op sf rm rn rd) = refl
-same_condition (CondReg op sf rm cond rn f) = refl
-same_condition (CondImm op sf i cond rn f) = refl
-same_condition (Select op sf rm cond rn rd) = refl
-same_condition (MulAdd op sf rm ra rn rd) = refl
-same_condition (MulLong op rm ra rn rd) = refl
-same_condition (MulHigh op rm rn rd) = refl
-same_condition (TwoSource op sf rm rn rd) = refl
-same_condition (OneSource op sf rn rd) = refl
-same_condition (Rev op rn rd) = refl
-same_condition (Branch op imm26) = refl
-same_condition (BranchCond imm19 cond) = refl
-same_condition (Compare op sf imm19 rt) = refl
-same_condition (Test op b5 b40 imm14 rt) = refl
-same_condition (BranchReg op rn) = refl
-same_condition (Except op imm16) = refl
-same_condition (Hint n) = refl
-same_condition (Barrier op n) = refl
-same_condition (ReadSys op rt) = refl
-same_condition (WriteSys op rt) = refl
-same_condition (LsUnsigned size v opc imm12 rn rt) = refl
-same_condition (LsUnscaled size v opc imm9 rn rt) = refl
-same_condition (LsPost size v opc imm9 rn rt) = refl
-same_condition (LsPre size v opc imm9 rn rt) = refl
-same_condition (LsReg size v opc rm ext s rn rt) = refl
-same_condition (LsLiteral opc v imm19 rt) = refl
-same_condition (Pair opc v mode l imm7 rt2 rn rt) = refl
-same_condition (StoreEx op size rs rn rt) = refl
-same_condition (LoadEx op size rn rt) = refl
-same_condition (Ordered op size rn rt) = refl
-same_condition (Atomic op size acquires releases rs rn rt) = refl
-same_condition (CompareSwap size acquires releases rs rn rt) = refl
-same_condition (FMove op rn rd) = refl
-same_condition (MoveImm q op abc cmode defgh rd) = refl
 
 flag_again : (b : Bool) → (bit b == 1) ≡ b
 flag_again false = refl

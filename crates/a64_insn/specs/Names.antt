@@ -57,237 +57,86 @@ use Rattle.a64_insn.specs.declared.ops.AtomicOp.TheVariants as atomic_names
 use Rattle.a64_insn.specs.declared.ops.FMoveOp.{FMoveOp}
 use Rattle.a64_insn.specs.declared.ops.FMoveOp.TheVariants as f_move_names
 
-abbrev pub adr_number : AdrOp → ℕ
-adr_number adr_names.Adr = 0
-adr_number adr_names.Adrp = 1
-
 abbrev pub adr_named : ℕ → AdrOp
 adr_named k = get_or (adr_names.Adr ∷ adr_names.Adrp ∷ []) k adr_names.Adr
-
-abbrev pub add_number : AddOp → ℕ
-add_number add_names.Add = 0
-add_number add_names.Adds = 1
-add_number add_names.Sub = 2
-add_number add_names.Subs = 3
 
 abbrev pub add_named : ℕ → AddOp
 add_named k = get_or (add_names.Add ∷ add_names.Adds ∷ add_names.Sub ∷ add_names.Subs ∷ []) k add_names.Add
 
-abbrev pub logic_imm_number : LogicImmOp → ℕ
-logic_imm_number logic_imm_names.And = 0
-logic_imm_number logic_imm_names.Orr = 1
-logic_imm_number logic_imm_names.Eor = 2
-logic_imm_number logic_imm_names.Ands = 3
-
 abbrev pub logic_imm_named : ℕ → LogicImmOp
 logic_imm_named k = get_or (logic_imm_names.And ∷ logic_imm_names.Orr ∷ logic_imm_names.Eor ∷ logic_imm_names.Ands ∷ []) k logic_imm_names.And
-
-abbrev pub move_wide_number : MoveWideOp → ℕ
-move_wide_number move_wide_names.Movn = 0
-move_wide_number move_wide_names.Movz = 1
-move_wide_number move_wide_names.Movk = 2
 
 abbrev pub move_wide_named : ℕ → MoveWideOp
 move_wide_named k = get_or (move_wide_names.Movn ∷ move_wide_names.Movz ∷ move_wide_names.Movk ∷ []) k move_wide_names.Movn
 
-abbrev pub bitfield_number : BitfieldOp → ℕ
-bitfield_number bitfield_names.Sbfm = 0
-bitfield_number bitfield_names.Bfm = 1
-bitfield_number bitfield_names.Ubfm = 2
-
 abbrev pub bitfield_named : ℕ → BitfieldOp
 bitfield_named k = get_or (bitfield_names.Sbfm ∷ bitfield_names.Bfm ∷ bitfield_names.Ubfm ∷ []) k bitfield_names.Sbfm
-
-abbrev pub logic_reg_number : LogicRegOp → ℕ
-logic_reg_number logic_reg_names.And = 0
-logic_reg_number logic_reg_names.Bic = 1
-logic_reg_number logic_reg_names.Orr = 2
-logic_reg_number logic_reg_names.Orn = 3
-logic_reg_number logic_reg_names.Eor = 4
-logic_reg_number logic_reg_names.Eon = 5
-logic_reg_number logic_reg_names.Ands = 6
-logic_reg_number logic_reg_names.Bics = 7
 
 abbrev pub logic_reg_named : ℕ → LogicRegOp
 logic_reg_named k = get_or (logic_reg_names.And ∷ logic_reg_names.Bic ∷ logic_reg_names.Orr ∷ logic_reg_names.Orn ∷ logic_reg_names.Eor ∷ logic_reg_names.Eon ∷ logic_reg_names.Ands ∷ logic_reg_names.Bics ∷ []) k logic_reg_names.And
 
-abbrev pub add_carry_number : AddCarryOp → ℕ
-add_carry_number add_carry_names.Adc = 0
-add_carry_number add_carry_names.Adcs = 1
-add_carry_number add_carry_names.Sbc = 2
-add_carry_number add_carry_names.Sbcs = 3
-
 abbrev pub add_carry_named : ℕ → AddCarryOp
 add_carry_named k = get_or (add_carry_names.Adc ∷ add_carry_names.Adcs ∷ add_carry_names.Sbc ∷ add_carry_names.Sbcs ∷ []) k add_carry_names.Adc
-
-abbrev pub cond_compare_number : CondCompareOp → ℕ
-cond_compare_number cond_compare_names.Ccmn = 0
-cond_compare_number cond_compare_names.Ccmp = 1
 
 abbrev pub cond_compare_named : ℕ → CondCompareOp
 cond_compare_named k = get_or (cond_compare_names.Ccmn ∷ cond_compare_names.Ccmp ∷ []) k cond_compare_names.Ccmn
 
-abbrev pub select_number : SelectOp → ℕ
-select_number select_names.Csel = 0
-select_number select_names.Csinc = 1
-select_number select_names.Csinv = 2
-select_number select_names.Csneg = 3
-
 abbrev pub select_named : ℕ → SelectOp
 select_named k = get_or (select_names.Csel ∷ select_names.Csinc ∷ select_names.Csinv ∷ select_names.Csneg ∷ []) k select_names.Csel
-
-abbrev pub mul_add_number : MulAddOp → ℕ
-mul_add_number mul_add_names.Madd = 0
-mul_add_number mul_add_names.Msub = 1
 
 abbrev pub mul_add_named : ℕ → MulAddOp
 mul_add_named k = get_or (mul_add_names.Madd ∷ mul_add_names.Msub ∷ []) k mul_add_names.Madd
 
-abbrev pub mul_long_number : MulLongOp → ℕ
-mul_long_number mul_long_names.Smaddl = 0
-mul_long_number mul_long_names.Smsubl = 1
-mul_long_number mul_long_names.Umaddl = 2
-mul_long_number mul_long_names.Umsubl = 3
-
 abbrev pub mul_long_named : ℕ → MulLongOp
 mul_long_named k = get_or (mul_long_names.Smaddl ∷ mul_long_names.Smsubl ∷ mul_long_names.Umaddl ∷ mul_long_names.Umsubl ∷ []) k mul_long_names.Smaddl
-
-abbrev pub mul_high_number : MulHighOp → ℕ
-mul_high_number mul_high_names.Smulh = 0
-mul_high_number mul_high_names.Umulh = 1
 
 abbrev pub mul_high_named : ℕ → MulHighOp
 mul_high_named k = get_or (mul_high_names.Smulh ∷ mul_high_names.Umulh ∷ []) k mul_high_names.Smulh
 
-abbrev pub two_source_number : TwoSourceOp → ℕ
-two_source_number two_source_names.Udiv = 0
-two_source_number two_source_names.Sdiv = 1
-two_source_number two_source_names.Lslv = 2
-two_source_number two_source_names.Lsrv = 3
-two_source_number two_source_names.Asrv = 4
-two_source_number two_source_names.Rorv = 5
-
 abbrev pub two_source_named : ℕ → TwoSourceOp
 two_source_named k = get_or (two_source_names.Udiv ∷ two_source_names.Sdiv ∷ two_source_names.Lslv ∷ two_source_names.Lsrv ∷ two_source_names.Asrv ∷ two_source_names.Rorv ∷ []) k two_source_names.Udiv
-
-abbrev pub one_source_number : OneSourceOp → ℕ
-one_source_number one_source_names.Rbit = 0
-one_source_number one_source_names.Rev16 = 1
-one_source_number one_source_names.Clz = 2
-one_source_number one_source_names.Cls = 3
 
 abbrev pub one_source_named : ℕ → OneSourceOp
 one_source_named k = get_or (one_source_names.Rbit ∷ one_source_names.Rev16 ∷ one_source_names.Clz ∷ one_source_names.Cls ∷ []) k one_source_names.Rbit
 
-abbrev pub rev_number : RevOp → ℕ
-rev_number rev_names.RevW = 0
-rev_number rev_names.RevX = 1
-rev_number rev_names.Rev32 = 2
-
 abbrev pub rev_named : ℕ → RevOp
 rev_named k = get_or (rev_names.RevW ∷ rev_names.RevX ∷ rev_names.Rev32 ∷ []) k rev_names.RevW
-
-abbrev pub branch_number : BranchOp → ℕ
-branch_number branch_names.B = 0
-branch_number branch_names.Bl = 1
 
 abbrev pub branch_named : ℕ → BranchOp
 branch_named k = get_or (branch_names.B ∷ branch_names.Bl ∷ []) k branch_names.B
 
-abbrev pub compare_number : CompareOp → ℕ
-compare_number compare_names.Cbz = 0
-compare_number compare_names.Cbnz = 1
-
 abbrev pub compare_named : ℕ → CompareOp
 compare_named k = get_or (compare_names.Cbz ∷ compare_names.Cbnz ∷ []) k compare_names.Cbz
-
-abbrev pub test_number : TestOp → ℕ
-test_number test_names.Tbz = 0
-test_number test_names.Tbnz = 1
 
 abbrev pub test_named : ℕ → TestOp
 test_named k = get_or (test_names.Tbz ∷ test_names.Tbnz ∷ []) k test_names.Tbz
 
-abbrev pub branch_reg_number : BranchRegOp → ℕ
-branch_reg_number branch_reg_names.Br = 0
-branch_reg_number branch_reg_names.Blr = 1
-branch_reg_number branch_reg_names.Ret = 2
-
 abbrev pub branch_reg_named : ℕ → BranchRegOp
 branch_reg_named k = get_or (branch_reg_names.Br ∷ branch_reg_names.Blr ∷ branch_reg_names.Ret ∷ []) k branch_reg_names.Br
-
-abbrev pub except_number : ExceptOp → ℕ
-except_number except_names.Svc = 0
-except_number except_names.Brk = 1
-except_number except_names.Hlt = 2
 
 abbrev pub except_named : ℕ → ExceptOp
 except_named k = get_or (except_names.Svc ∷ except_names.Brk ∷ except_names.Hlt ∷ []) k except_names.Svc
 
-abbrev pub barrier_number : BarrierOp → ℕ
-barrier_number barrier_names.Clrex = 0
-barrier_number barrier_names.Dsb = 1
-barrier_number barrier_names.Dmb = 2
-barrier_number barrier_names.Isb = 3
-
 abbrev pub barrier_named : ℕ → BarrierOp
 barrier_named k = get_or (barrier_names.Clrex ∷ barrier_names.Dsb ∷ barrier_names.Dmb ∷ barrier_names.Isb ∷ []) k barrier_names.Clrex
-
-abbrev pub read_sys_number : ReadSysOp → ℕ
-read_sys_number read_sys_names.Tpidr = 0
-read_sys_number read_sys_names.Nzcv = 1
-read_sys_number read_sys_names.Dczid = 2
 
 abbrev pub read_sys_named : ℕ → ReadSysOp
 read_sys_named k = get_or (read_sys_names.Tpidr ∷ read_sys_names.Nzcv ∷ read_sys_names.Dczid ∷ []) k read_sys_names.Tpidr
 
-abbrev pub write_sys_number : WriteSysOp → ℕ
-write_sys_number write_sys_names.Tpidr = 0
-write_sys_number write_sys_names.Nzcv = 1
-
 abbrev pub write_sys_named : ℕ → WriteSysOp
 write_sys_named k = get_or (write_sys_names.Tpidr ∷ write_sys_names.Nzcv ∷ []) k write_sys_names.Tpidr
-
-abbrev pub store_ex_number : StoreExOp → ℕ
-store_ex_number store_ex_names.Stxr = 0
-store_ex_number store_ex_names.Stlxr = 1
 
 abbrev pub store_ex_named : ℕ → StoreExOp
 store_ex_named k = get_or (store_ex_names.Stxr ∷ store_ex_names.Stlxr ∷ []) k store_ex_names.Stxr
 
-abbrev pub load_ex_number : LoadExOp → ℕ
-load_ex_number load_ex_names.Ldxr = 0
-load_ex_number load_ex_names.Ldaxr = 1
-
 abbrev pub load_ex_named : ℕ → LoadExOp
 load_ex_named k = get_or (load_ex_names.Ldxr ∷ load_ex_names.Ldaxr ∷ []) k load_ex_names.Ldxr
-
-abbrev pub ordered_number : OrderedOp → ℕ
-ordered_number ordered_names.Stlr = 0
-ordered_number ordered_names.Ldar = 1
 
 abbrev pub ordered_named : ℕ → OrderedOp
 ordered_named k = get_or (ordered_names.Stlr ∷ ordered_names.Ldar ∷ []) k ordered_names.Stlr
 
-abbrev pub atomic_number : AtomicOp → ℕ
-atomic_number atomic_names.Ldadd = 0
-atomic_number atomic_names.Ldclr = 1
-atomic_number atomic_names.Ldeor = 2
-atomic_number atomic_names.Ldset = 3
-atomic_number atomic_names.Ldsmax = 4
-atomic_number atomic_names.Ldsmin = 5
-atomic_number atomic_names.Ldumax = 6
-atomic_number atomic_names.Ldumin = 7
-atomic_number atomic_names.Swp = 8
-
 abbrev pub atomic_named : ℕ → AtomicOp
 atomic_named k = get_or (atomic_names.Ldadd ∷ atomic_names.Ldclr ∷ atomic_names.Ldeor ∷ atomic_names.Ldset ∷ atomic_names.Ldsmax ∷ atomic_names.Ldsmin ∷ atomic_names.Ldumax ∷ atomic_names.Ldumin ∷ atomic_names.Swp ∷ []) k atomic_names.Ldadd
-
-abbrev pub f_move_number : FMoveOp → ℕ
-f_move_number f_move_names.WdSn = 0
-f_move_number f_move_names.SdWn = 1
-f_move_number f_move_names.XdDn = 2
-f_move_number f_move_names.DdXn = 3
 
 abbrev pub f_move_named : ℕ → FMoveOp
 f_move_named k = get_or (f_move_names.WdSn ∷ f_move_names.SdWn ∷ f_move_names.XdDn ∷ f_move_names.DdXn ∷ []) k f_move_names.WdSn

@@ -2,7 +2,7 @@
 ghost use Rattle.std.specs.Prelude.{◌≡◌, ◌<◌, Some, None, MatchOption, get_or, length};
 ghost use Rattle.emu_bits.specs.Rows.{number_of};
 ghost use Rattle.a64_insn.specs.BitMoves.{f_move};
-ghost use Rattle.a64_insn.specs.Names.{f_move_number};
+ghost use Rattle.a64_insn.specs.Numbers.{f_move_number};
 
 use crate::ops::FMoveOp;
 use emu_bits::Word;

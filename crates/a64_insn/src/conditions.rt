@@ -4,85 +4,44 @@ ghost use Rattle.emu_bits.specs.Fields.{bit};
 ghost use Rattle.a64_insn.specs.Data.{has_bitmask, is_below_width, move_wide_holds_for, bitfield_holds_for, extract_holds_for, add_reg_holds_for, add_ext_holds_for};
 ghost use Rattle.a64_insn.specs.Memory.{is_access, is_prefetch, is_not_base, keeps_base, writeback_holds_for, is_offset_extension, ls_reg_holds_for, ls_literal_holds_for, is_pair, loads_two, pair_keeps_base, pair_holds_for, store_ex_holds_for};
 ghost use Rattle.a64_insn.specs.BitMoves.{move_imm_holds_for};
-ghost use Rattle.a64_insn.specs.Table.{meets_form, meets_single};
+ghost use Rattle.a64_insn.specs.Rows.{meets_form};
 
 use crate::form::A64Form;
 use emu_bits::{Reg, U, bitmask};
 
-/// Whether a form meets its line's condition. It is inlined where a form is made, so that just its own line's condition is tested.
+/// The condition of each line that has one, over the fields that it reads; other lines have none.
+macro_rules! condition_of {
+    ($form:ident: $($($line:ident)*: $fields:tt => $holds:expr;)*) => {
+        match *$form {
+            $($(A64Form::$line $fields => $holds,)*)*
+            _ => true,
+        }
+    };
+}
+
+/// Whether a form meets its line's condition. It is inlined where a form is made, so that just its own line's condition
+/// is tested.
+#[tactic(auto, unfolding(crate::specs::Table::lines_open))]
 #[inline(always)]
 pub fn meets(form: &A64Form) -> bool
     ensures { result ≡ meets_form form.now }
 {
-    match *form {
-        A64Form::LogicImm {
-            sf,
-            n,
-            immr,
-            imms,
-            ..
-        } => has_bitmask(sf, n, immr, imms),
-        A64Form::MoveWide { sf, hw, .. } => move_wide_holds(sf, hw),
-        A64Form::Bitfield { sf, n, r, s, .. } => bitfield_holds(sf, n, r, s),
-        A64Form::Extract { sf, n, s, .. } => extract_holds(sf, n, s),
-        A64Form::LogicReg { sf, amount, .. } => is_below_width(sf, amount),
-        A64Form::AddReg {
-            sf,
-            shift,
-            amount,
-            ..
-        } => add_reg_holds(sf, shift, amount),
-        A64Form::AddExt { a, .. } => add_ext_holds(a),
-        A64Form::Pair {
-            opc,
-            v,
-            mode,
-            l,
-            rt2,
-            rn,
-            rt,
-            ..
-        } => pair_holds(opc, v, mode, l, rt2, rn, rt),
-        A64Form::StoreEx { rs, rn, rt, .. } => store_ex_holds(rs, rn, rt),
-        A64Form::MoveImm { cmode, .. } => move_imm_holds(cmode),
-        _ => meets_single(form),
-    }
-}
-
-/// Whether a form that plainly loads or stores a single register meets its line's condition; others have none here.
-#[inline(always)]
-fn meets_single(form: &A64Form) -> bool
-    ensures { result ≡ meets_single form.now }
-{
-    match *form {
-        A64Form::LsUnsigned { size, v, opc, .. } => is_access(size, v, opc),
-        A64Form::LsUnscaled { size, v, opc, .. } => is_access(size, v, opc),
-        A64Form::LsPost {
-            size,
-            v,
-            opc,
-            rn,
-            rt,
-            ..
-        } => writeback_holds(size, v, opc, rn, rt),
-        A64Form::LsPre {
-            size,
-            v,
-            opc,
-            rn,
-            rt,
-            ..
-        } => writeback_holds(size, v, opc, rn, rt),
-        A64Form::LsReg {
-            size,
-            v,
-            opc,
-            ext,
-            ..
-        } => ls_reg_holds(size, v, opc, ext),
-        A64Form::LsLiteral { opc, v, .. } => ls_literal_holds(opc, v),
-        _ => true,
-    }
+    condition_of!(form:
+        LogicImm: { sf, n, immr, imms, .. } => has_bitmask(sf, n, immr, imms);
+        MoveWide: { sf, hw, .. } => move_wide_holds(sf, hw);
+        Bitfield: { sf, n, r, s, .. } => bitfield_holds(sf, n, r, s);
+        Extract: { sf, n, s, .. } => extract_holds(sf, n, s);
+        LogicReg: { sf, amount, .. } => is_below_width(sf, amount);
+        AddReg: { sf, shift, amount, .. } => add_reg_holds(sf, shift, amount);
+        AddExt: { a, .. } => add_ext_holds(a);
+        LsUnsigned LsUnscaled: { size, v, opc, .. } => is_access(size, v, opc);
+        LsPost LsPre: { size, v, opc, rn, rt, .. } => writeback_holds(size, v, opc, rn, rt);
+        LsReg: { size, v, opc, ext, .. } => ls_reg_holds(size, v, opc, ext);
+        LsLiteral: { opc, v, .. } => ls_literal_holds(opc, v);
+        Pair: { opc, v, mode, l, rt2, rn, rt, .. } => pair_holds(opc, v, mode, l, rt2, rn, rt);
+        StoreEx: { rs, rn, rt, .. } => store_ex_holds(rs, rn, rt);
+        MoveImm: { cmode, .. } => move_imm_holds(cmode);
+    )
 }
 
 /// Whether a number is below the width of a register, 64 or 32 bits.

@@ -2,7 +2,7 @@
 ghost use Rattle.std.specs.Prelude.{◌≡◌, ◌<◌, Some, None, MatchOption, get_or, length};
 ghost use Rattle.emu_bits.specs.Rows.{number_of};
 ghost use Rattle.a64_insn.specs.Data.{adr, add_imm, logic_imm, move_wide, bitfield, logic_reg, add_reg, add_ext, add_carry, cond_reg, cond_imm, select, mul_add, mul_long, mul_high, two_source, one_source, rev};
-ghost use Rattle.a64_insn.specs.Names.{add_carry_number, add_number, adr_number, bitfield_number, cond_compare_number, logic_imm_number, logic_reg_number, move_wide_number, mul_add_number, mul_high_number, mul_long_number, one_source_number, rev_number, select_number, two_source_number};
+ghost use Rattle.a64_insn.specs.Numbers.{add_carry_number, add_number, adr_number, bitfield_number, cond_compare_number, logic_imm_number, logic_reg_number, move_wide_number, mul_add_number, mul_high_number, mul_long_number, one_source_number, rev_number, select_number, two_source_number};
 
 use crate::ops::{
     AddCarryOp, AddOp, AdrOp, BitfieldOp, CondCompareOp, LogicImmOp, LogicRegOp, MoveWideOp,

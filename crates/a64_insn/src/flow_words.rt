@@ -2,7 +2,7 @@
 ghost use Rattle.std.specs.Prelude.{◌≡◌, ◌<◌, Some, None, MatchOption, get_or, length};
 ghost use Rattle.emu_bits.specs.Rows.{number_of};
 ghost use Rattle.a64_insn.specs.Flow.{branch, compare, test_branch, branch_reg, except, barrier, read_sys, write_sys};
-ghost use Rattle.a64_insn.specs.Names.{barrier_number, branch_number, branch_reg_number, compare_number, except_number, read_sys_number, test_number, write_sys_number};
+ghost use Rattle.a64_insn.specs.Numbers.{barrier_number, branch_number, branch_reg_number, compare_number, except_number, read_sys_number, test_number, write_sys_number};
 
 use crate::ops::{
     BarrierOp, BranchOp, BranchRegOp, CompareOp, ExceptOp, ReadSysOp, TestOp, WriteSysOp,

@@ -1,6 +1,6 @@
 //! The forms, and instructions that meet their conditions.
 ghost use Rattle.std.specs.Prelude.{◌≡◌, MatchOption, true, false};
-ghost use Rattle.a64_insn.specs.Table.{meets_form};
+ghost use Rattle.a64_insn.specs.Rows.{meets_form};
 
 use crate::conditions::meets;
 use crate::ops::{
@@ -365,7 +365,7 @@ pub struct A64 {
 impl Model for A64 {
     ghost use Rattle.std.specs.Prelude.{IsTrue};
     ghost use Rattle.a64_insn.specs.declared.form.A64Form.{A64Form};
-    ghost use Rattle.a64_insn.specs.Table.{meets_form};
+    ghost use Rattle.a64_insn.specs.Rows.{meets_form};
 
     ghost Value = { A64Form };
 

@@ -10,11 +10,6 @@ pub mod lines;
 pub mod memory_words;
 pub mod ops;
 
-ghost use Rattle.std.specs.Prelude.{◌≡◌};
-ghost use Rattle.emu_bits.specs.Rows.{meets};
-ghost use Rattle.a64_insn.specs.declared.form.A64Form.{A64Form};
-ghost use Rattle.a64_insn.specs.Table.{row_of, meets_form};
-
 pub use form::{A64, A64Form};
 pub use lines::line_number;
 pub use ops::{
@@ -23,8 +18,3 @@ pub use ops::{
     MulHighOp, MulLongOp, OneSourceOp, OrderedOp, ReadSysOp, RevOp, SelectOp, StoreExOp, TestOp,
     TwoSourceOp, WriteSysOp,
 };
-
-/// The condition that a form meets is its line's in the table.
-pub fn conditions_are_the_lines()
-    ensures { (f : A64Form) → meets (row_of f) ≡ meets_form f }
-{}

@@ -1,6 +1,6 @@
 //! The lines of the table, and their numbers by name.
 ghost use Rattle.std.specs.Prelude.{◌≡◌, ◌<◌};
-ghost use Rattle.a64_insn.specs.Table.{line_number};
+ghost use Rattle.a64_insn.specs.Rows.{line_number};
 ghost use Rattle.a64_insn.specs.declared.lines.TheConstants as line;
 
 use crate::form::A64Form;

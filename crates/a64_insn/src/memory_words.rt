@@ -2,7 +2,7 @@
 ghost use Rattle.std.specs.Prelude.{◌≡◌, ◌<◌, Some, None, MatchOption, get_or, length};
 ghost use Rattle.emu_bits.specs.Rows.{number_of};
 ghost use Rattle.a64_insn.specs.Memory.{store_ex, load_ex, ordered, atomic};
-ghost use Rattle.a64_insn.specs.Names.{atomic_number, load_ex_number, ordered_number, store_ex_number};
+ghost use Rattle.a64_insn.specs.Numbers.{atomic_number, load_ex_number, ordered_number, store_ex_number};
 
 use crate::ops::{AtomicOp, LoadExOp, OrderedOp, StoreExOp};
 use emu_bits::Word;

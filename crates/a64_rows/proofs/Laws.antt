@@ -1,12 +1,14 @@
 -- What is computed over the table, and the laws.
 use Rattle.std.proofs.Common.{◌≡◌, ℕ, true, refl, Option, Some, None, IfSome, ◌<◌, ◌^◌, ◌∙◌, ap, sym, arith}
-use Rattle.emu_bits.specs.Rows.{decode, encode, formed, instruction, line_at, IsShape, OneRow}
+use Rattle.emu_bits.specs.Rows.{decode, encode, formed, instruction}
+use Rattle.emu_bits.specs.RowLaws.{line_at, IsShape, OneRow}
 use Rattle.emu_bits.proofs.Computed.{are_sound, are_alone}
 use Rattle.emu_bits.proofs.Encoding.{Alone, alone_of, decode_encoded, encode_decoded, one_row_of}
 use Rattle.a64_insn.specs.declared.form.A64Form.{A64Form}
 use Rattle.a64_insn.specs.declared.form.A64Form.TheVariants.{Adr}
-use Rattle.a64_insn.specs.Table.{row_of, meets_form, a64_table, lines_open, line_number}
-use Rattle.a64_insn.proofs.Forms.{form_again, same_condition}
+use Rattle.a64_insn.specs.Table.{a64_table, lines_open}
+use Rattle.a64_insn.specs.Rows.{row_of, meets_form, line_number}
+use Rattle.a64_insn.proofs.Forms.{form_again}
 use Rattle.a64_insn.specs.declared.lines.TheConstants as line
 use Rattle.a64_rows.specs.Seen.{seen}
 
@@ -31,7 +33,7 @@ is_listed (Adr op immlo immhi rd) = omega arith
 is_listed _ = omega arith
 
 pub back : (f : A64Form) → IsShape (row_of f) → meets_form f ≡ true → decode a64_table (encode (row_of f)) ≡ Some (row_of f)
-back f v m = decode_encoded a64_table (line_number f) (row_of f) sound alone (listed f) (record { numbered = v.numbered; fits = v.fits; met = same_condition f ∙ m })
+back f v m = decode_encoded a64_table (line_number f) (row_of f) sound alone (listed f) (record { numbered = v.numbered; fits = v.fits; met = m })
 
 -- the same with the form in place of its row
 pub form_back : (f : A64Form) (w : ℕ) → decode a64_table w ≡ Some (row_of f) → instruction a64_table w ≡ Some f

@@ -1,8 +1,9 @@
 -- The table's lines by their places in it, and the words of forms.
 use Rattle.std.specs.Prelude.{◌≡◌, ℕ, ◌<◌, ◌⊎◌}
-use Rattle.emu_bits.specs.Rows.{encode, IsShape}
+use Rattle.emu_bits.specs.Rows.{encode}
+use Rattle.emu_bits.specs.RowLaws.{IsShape}
 use Rattle.a64_insn.specs.declared.form.A64Form.{A64Form}
-use Rattle.a64_insn.specs.Table.{row_of, line_number}
+use Rattle.a64_insn.specs.Rows.{row_of, line_number}
 
 -- a form's line isn't one of those from one place of the table to another
 abbrev pub IsOutside : ℕ → ℕ → A64Form → Type 0

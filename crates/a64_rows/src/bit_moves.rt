@@ -1,9 +1,10 @@
 //! Words of bit moves, read and made.
 ghost use Rattle.std.specs.Prelude.{◌≡◌};
-ghost use Rattle.emu_bits.specs.Rows.{encode, row_in, IsShape};
+ghost use Rattle.emu_bits.specs.Rows.{encode, row_in};
+ghost use Rattle.emu_bits.specs.RowLaws.{IsShape};
 ghost use Rattle.a64_insn.specs.declared.form.A64Form.TheVariants.{FMove, MoveImm};
 ghost use Rattle.a64_insn.specs.BitMoves.{f_move, move_imm};
-ghost use Rattle.a64_insn.specs.Table.{row_of};
+ghost use Rattle.a64_insn.specs.Rows.{row_of};
 ghost use Rattle.a64_rows.specs.Seen.{seen};
 
 use a64_insn::bit_move_words::{f_move_op, f_move_word};

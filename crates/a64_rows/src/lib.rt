@@ -5,17 +5,19 @@ mod bit_moves;
 mod data;
 mod dispatch;
 mod flow;
+mod form_words;
 mod memory;
-mod words;
 
 ghost use Rattle.std.specs.Prelude.{◌≡◌, Some, IfSome};
-ghost use Rattle.emu_bits.specs.Rows.{decode, encode, instruction, OneRow};
-ghost use Rattle.a64_insn.specs.Table.{row_of, a64_table};
+ghost use Rattle.emu_bits.specs.Rows.{decode, encode, instruction};
+ghost use Rattle.emu_bits.specs.RowLaws.{OneRow};
+ghost use Rattle.a64_insn.specs.Table.{a64_table};
+ghost use Rattle.a64_insn.specs.Rows.{row_of};
 ghost use Rattle.a64_rows.specs.Seen.{seen};
 
 use a64_insn::A64;
 use dispatch::find;
-use words::word_of;
+use form_words::word_of;
 
 /// The instruction that a word is, or none where the word is in no row of the table.
 pub fn decode_a64(w: u32) -> Option<A64>

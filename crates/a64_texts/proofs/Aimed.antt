@@ -5,7 +5,8 @@ use Rattle.std.proofs.lemmas.Nat.{and_comm, and_assoc, pow_pos}
 use Rattle.std.specs.Prelude.{is_some}
 use lib.Bits.{and_zero_r, or_zero_r, and_self}
 use Rattle.emu_bits.specs.Fields.{field}
-use Rattle.emu_bits.specs.Rows.{Place, ◌to◌, width, ones_at, outside, values, Line, Row, number_of, where_it_holds, row_in, line_at, is_among, IsRow}
+use Rattle.emu_bits.specs.Rows.{Place, ◌to◌, width, ones_at, outside, values, Line, Row, number_of, where_it_holds, row_in, is_among}
+use Rattle.emu_bits.specs.RowLaws.{line_at, IsRow}
 use Rattle.emu_bits.proofs.Encoding.{answer_of, fixed_field, and_over_or}
 use Rattle.text_model.specs.Slots.{bits_in, joined, address}
 use Rattle.text_model.specs.Told.{parted, Built, put_all}
@@ -18,14 +19,16 @@ use Rattle.text_model.proofs.Again.{pattern_at}
 use Rattle.text_model.proofs.Tables.{chosen_is}
 use Rattle.a64_insn.specs.declared.form.A64Form.{A64Form}
 use Rattle.a64_insn.specs.declared.form.A64Form.TheVariants.{Adr, Branch, BranchCond, Compare, Test, LsLiteral}
-use Rattle.a64_insn.specs.Table.{row_of, a64_table, lines_open, line_number}
+use Rattle.a64_insn.specs.Table.{a64_table, lines_open}
+use Rattle.a64_insn.specs.Rows.{row_of, line_number}
 use Rattle.a64_insn.specs.Data.{adr}
 use Rattle.a64_insn.specs.Flow.{branch, branch_cond, compare, test_branch}
 use Rattle.a64_insn.specs.Memory.{ls_literal}
 use Rattle.a64_insn.specs.Memory.{ls_literal_holds_for}
 use Rattle.a64_insn.specs.declared.lines.TheConstants as line
 use Rattle.a64_rows.proofs.Laws.{one_row}
-use Rattle.a64_texts.specs.Table.{line_texts, texts_open}
+use Rattle.a64_texts.specs.Table.{line_texts}
+use Rattle.a64_texts.specs.Opened.{texts_open}
 use Rattle.a64_texts.specs.Law.{in_table, word_of, texts_of, reach_by, reach, unaimed_word}
 use Rattle.a64_texts.proofs.Totals.{listed, in_row, held, has_text}
 

@@ -2,13 +2,15 @@
 use Rattle.std.proofs.Common.{◌≡◌, true, refl, Ok, Err, None, Some, codes}
 use Rattle.text_model.specs.declared.slots.Refusal.TheVariants.{UnknownName, BadOperands, OutOfRange}
 use Rattle.text_model.specs.Words.{dictionary}
-use Rattle.text_model.specs.Statement.{reads_text, to_label, to_address}
+use Rattle.text_model.specs.Statement.{to_label, to_address}
+use Rattle.text_model.specs.ReadBack.{reads_text}
 use Rattle.emu_bits.specs.Bitmask.{bitmask_of}
 use Rattle.a64_texts.specs.Data.{data_lines}
 use Rattle.a64_texts.specs.Flow.{flow_lines}
 use Rattle.a64_texts.specs.Memory.{memory_lines}
 use Rattle.a64_texts.specs.BitMoves.{last_lines}
-use Rattle.a64_texts.specs.Table.{line_texts, printed_patterns, texts_open}
+use Rattle.a64_texts.specs.Table.{line_texts}
+use Rattle.a64_texts.specs.Opened.{printed_patterns, texts_open}
 use Rattle.a64_texts.specs.Table.{a64_patterns, a64_lines}
 use Rattle.a64_texts.specs.Aliases.{aliases}
 

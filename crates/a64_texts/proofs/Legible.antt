@@ -7,7 +7,8 @@ use Rattle.a64_texts.specs.Memory.{memory_lines}
 use Rattle.a64_texts.specs.BitMoves.{last_lines}
 use Rattle.text_code.specs.Reads.{all_lines_sound}
 use Rattle.a64_texts.specs.Aliases.{aliases}
-use Rattle.a64_texts.specs.Table.{line_texts, printed_patterns, a64_lines, texts_open}
+use Rattle.a64_texts.specs.Table.{line_texts, a64_lines}
+use Rattle.a64_texts.specs.Opened.{printed_patterns, texts_open}
 
 pub readable : all_readable printed_patterns ≡ true
 unfolding texts_open printed_patterns line_texts

@@ -4,3 +4,4 @@ pub mod Totals
 pub mod ReadBack
 pub mod Aimed
 pub mod Numbered
+pub mod FormLines

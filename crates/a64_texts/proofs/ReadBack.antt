@@ -6,21 +6,23 @@ use Rattle.std.proofs.Math.Nat.{mod-eq_of_lt}
 use Rattle.std.specs.Prelude.{is_some, unwrap_or}
 use Rattle.emu_bits.specs.Bitmask.{bitmask_of, element_log}
 use Rattle.emu_bits.specs.Fields.{field, bit}
-use Rattle.emu_bits.specs.Rows.{Place, ◌to◌, width, ones_at, outside, values, fill, Fit, Line, Row, number_of, where_it_holds, row_in, line_at, is_among, IsRow}
+use Rattle.emu_bits.specs.Rows.{Place, ◌to◌, width, ones_at, outside, values, fill, Line, Row, number_of, where_it_holds, row_in, is_among}
+use Rattle.emu_bits.specs.RowLaws.{Fit, line_at, IsRow}
 use Rattle.emu_bits.proofs.Encoding.{answer_of, fixed_field}
 use Rattle.emu_bits.proofs.Places.{put_fits}
 use Rattle.text_model.specs.declared.slots.Kind.TheVariants.{Bitmask}
 use Rattle.text_model.specs.Slots.{joined}
 use Rattle.text_model.specs.Reading.{Pattern, is_canonical, all_canonical}
-use Rattle.text_model.specs.Statement.{reads_text, destination_of}
+use Rattle.text_model.specs.ReadBack.{reads_text, destination_of, reached, unaimed}
 use Rattle.text_model.specs.Text.{chosen, text_by, text, shows, told_bits}
-use Rattle.text_model.specs.Aim.{Reach, reach_of, reach_bits, reached, aimed, unaimed}
+use Rattle.text_model.specs.Aim.{Reach, reach_of, reach_bits, aimed}
 use Rattle.text_model.specs.Writing.{flat}
 use Rattle.text_model.proofs.Again.{pattern_at}
 use Rattle.text_model.proofs.Tables.{chosen_is, all_plain, plain_at, plain_canonical, IsLegible, table_law}
 use Rattle.a64_insn.specs.declared.form.A64Form.{A64Form}
 use Rattle.a64_insn.specs.declared.form.A64Form.TheVariants.{Adr, LogicImm, Branch, BranchCond, Compare, Test, LsLiteral}
-use Rattle.a64_insn.specs.Table.{row_of, a64_table, lines_open, line_number}
+use Rattle.a64_insn.specs.Table.{a64_table, lines_open}
+use Rattle.a64_insn.specs.Rows.{row_of, line_number}
 use Rattle.a64_insn.specs.Data.{adr, logic_imm}
 use Rattle.a64_insn.specs.Flow.{branch, branch_cond, compare, test_branch}
 use Rattle.a64_insn.specs.Memory.{ls_literal}
@@ -33,7 +35,8 @@ use Rattle.a64_insn.specs.Data.{has_bitmask}
 use Rattle.a64_insn.specs.declared.lines.TheConstants as line
 use Rattle.a64_rows.proofs.Laws.{one_row}
 use Rattle.a64_texts.specs.Aliases.{aliases}
-use Rattle.a64_texts.specs.Table.{line_texts, printed_patterns, a64_lines, a64_patterns, texts_open}
+use Rattle.a64_texts.specs.Table.{line_texts, a64_lines, a64_patterns}
+use Rattle.a64_texts.specs.Opened.{printed_patterns, texts_open}
 use Rattle.a64_texts.specs.Law.{in_table, word_of, texts_of, reach_by, reach, target_at, is_canonical_form, IsReadBack}
 use Rattle.a64_texts.proofs.Legible.{readable, written, aimed_well, apart, reach_well}
 use Rattle.a64_texts.proofs.Totals.{listed, in_row, held, has_text}

@@ -2,7 +2,8 @@
 use Rattle.std.proofs.Common.{◌≡◌, ℕ, zero, suc, ◌<◌, ◌==◌, ◌&&◌, if◌then◌else◌, Bool, true, false, not, Some, List, [], ◌∷◌, length, get_or, subst, refl, sym, ap, ◌∙◌, arith}
 use Rattle.std.proofs.lemmas.Bool.{and_parts, and_from, false≢true}
 use Rattle.emu_bits.specs.Fields.{field}
-use Rattle.emu_bits.specs.Rows.{Place, ◌to◌, values, value_at, always, Line, row_in, line_at, is_among, IsRow}
+use Rattle.emu_bits.specs.Rows.{Place, ◌to◌, values, value_at, always, Line, row_in, is_among}
+use Rattle.emu_bits.specs.RowLaws.{line_at, IsRow}
 use Rattle.emu_bits.proofs.Computed.{is_sound, are_sound}
 use Rattle.emu_bits.proofs.Encoding.{answer_of, row_of_encoded}
 use Rattle.text_model.specs.Reading.{Pattern}
@@ -11,14 +12,16 @@ use Rattle.text_model.proofs.Tests.{is_total}
 use Rattle.text_model.proofs.Totals.{total}
 use Rattle.a64_insn.specs.declared.form.A64Form.{A64Form}
 use Rattle.a64_insn.specs.declared.form.A64Form.TheVariants.{Adr, Bitfield, Extract, LsUnsigned, LsUnscaled, LsPost, LsPre, LsReg, LsLiteral, Pair, MoveImm}
-use Rattle.a64_insn.specs.Table.{row_of, a64_table, lines_open, line_number}
+use Rattle.a64_insn.specs.Table.{a64_table, lines_open}
+use Rattle.a64_insn.specs.Rows.{row_of, line_number}
 use Rattle.a64_insn.specs.Data.{bitfield_holds_for, extract_holds_for}
 use Rattle.a64_insn.specs.Memory.{is_access, is_prefetch, is_offset_extension, ls_reg_holds_for, ls_literal_holds_for, is_pair, keeps_base, writeback_holds_for, pair_holds_for}
 use Rattle.a64_insn.specs.BitMoves.{move_imm_holds_for}
 use Rattle.a64_insn.specs.declared.lines.TheConstants as line
 use Rattle.a64_rows.proofs.Laws.{sound, is_listed}
 use Rattle.a64_texts.specs.Law.{texts_of, word_of}
-use Rattle.a64_texts.specs.Table.{line_texts, texts_open}
+use Rattle.a64_texts.specs.Table.{line_texts}
+use Rattle.a64_texts.specs.Opened.{texts_open}
 
 -- ---- a form's line
 

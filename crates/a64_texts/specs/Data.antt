@@ -2,6 +2,7 @@
 use Rattle.std.specs.Prelude.{ℕ, ◌+◌, List, [], ◌∷◌, ◌++◌, codes}
 use Rattle.text_model.specs.declared.classes.Class.TheVariants.{W, X, Shift, Condition, ExtendDoubleword}
 use Rattle.text_model.specs.declared.classes.Group.TheVariants.{General, Extend, NarrowExtend}
+use Rattle.text_model.specs.declared.slots.Bits.{Bits}
 use Rattle.text_model.specs.declared.slots.Parts.TheVariants.{At, Two}
 use Rattle.text_model.specs.declared.slots.Shape.{Shape}
 use Rattle.text_model.specs.declared.slots.Shape.TheVariants.{Only, Told}
@@ -24,9 +25,12 @@ w c = of (Only W) c
 abbrev pub x : Codec → Slot
 x c = of (Only X) c
 
--- the usual registers: Rd or Rt, Rn, Rm, Ra or Rt2
+-- registers, by their fields' names in the forms
 abbrev pub rd : Codec
 rd = plain (4 to 0)
+
+abbrev pub rt : Codec
+rt = plain (4 to 0)
 
 abbrev pub rn : Codec
 rn = plain (9 to 5)
@@ -48,10 +52,16 @@ rn_sp = stack (9 to 5)
 abbrev pub sf : ℕ
 sf = put_at 31 1
 
-abbrev pub condition : Slot
-condition = of (Only Condition) (plain (15 to 12))
+abbrev pub cond : Bits
+cond = 15 to 12
 
 -- ---- addresses and immediates
+
+abbrev pub imm12 : Bits
+imm12 = 21 to 10
+
+abbrev pub imm16 : Bits
+imm16 = 20 to 5
 
 abbrev address_slots : Slot → List Slot
 address_slots t = x rd ∷ then ∷ t ∷ []
@@ -68,7 +78,7 @@ shifted_by v c = perhaps ∷ inside v (one Shift) ∷ inside 0 (counted c) ∷ [
 
 -- `Rd|SP, Rn|SP, #i{, lsl #0}`; Rd 31 is zero in the forms that set flags
 abbrev add_imm_slots : Codec → List Slot
-add_imm_slots d = r d ∷ then ∷ r rn_sp ∷ then ∷ counted (times 1 (At (21 to 10))) ∷ shifted_by 0 (times 12 (At (22 to 22)))
+add_imm_slots d = let sh = 22 to 22 in r d ∷ then ∷ r rn_sp ∷ then ∷ counted (times 1 (At imm12)) ∷ shifted_by 0 (times 12 (At sh))
 
 unfoldable pub add_imm_texts : List Pattern
 add_imm_texts =
@@ -88,7 +98,7 @@ logic_imm_texts = logic_imm_at 0 32 (Only W) ++ logic_imm_at sf 64 (Only X)
 
 -- `movn`, `movz`, `movk Rd, #i{, lsl #0}`
 unfoldable pub move_wide_texts : List Pattern
-move_wide_texts = rows move_wide 0 0 (codes "movn" ∷ codes "movz" ∷ codes "movk" ∷ []) (r rd ∷ then ∷ counted (times 1 (At (20 to 5))) ∷ shifted_by 0 (times 16 (At (22 to 21))))
+move_wide_texts = let hw = 22 to 21 in rows move_wide 0 0 (codes "movn" ∷ codes "movz" ∷ codes "movk" ∷ []) (r rd ∷ then ∷ counted (times 1 (At imm16)) ∷ shifted_by 0 (times 16 (At hw)))
 
 -- N is 1 with sf
 abbrev pub sf_and_n : ℕ
@@ -96,14 +106,15 @@ sf_and_n = sf + put_at 22 1
 
 -- `sbfm`, `bfm`, `ubfm Rd, Rn, #r, #s`
 abbrev bitfield_at : ℕ → Shape → List Pattern
-bitfield_at settled k = rows bitfield 0 settled (codes "sbfm" ∷ codes "bfm" ∷ codes "ubfm" ∷ []) (of k rd ∷ then ∷ of k rn ∷ then ∷ counted (times 1 (At (21 to 16))) ∷ then ∷ counted (times 1 (At (15 to 10))) ∷ [])
+bitfield_at settled k = let r = 21 to 16 in let s = 15 to 10 in
+    rows bitfield 0 settled (codes "sbfm" ∷ codes "bfm" ∷ codes "ubfm" ∷ []) (of k rd ∷ then ∷ of k rn ∷ then ∷ counted (times 1 (At r)) ∷ then ∷ counted (times 1 (At s)) ∷ [])
 
 unfoldable pub bitfield_texts : List Pattern
 bitfield_texts = bitfield_at 0 (Only W) ++ bitfield_at sf_and_n (Only X)
 
 -- `extr Rd, Rn, Rm, #s`
 abbrev extract_at : ℕ → Shape → Pattern
-extract_at settled k = row extract 0 settled (codes "extr") (of k rd ∷ then ∷ of k rn ∷ then ∷ of k rm ∷ then ∷ counted (times 1 (At (15 to 10))) ∷ [])
+extract_at settled k = let s = 15 to 10 in row extract 0 settled (codes "extr") (of k rd ∷ then ∷ of k rn ∷ then ∷ of k rm ∷ then ∷ counted (times 1 (At s)) ∷ [])
 
 unfoldable pub extract_texts : List Pattern
 extract_texts = extract_at 0 (Only W) ∷ extract_at sf_and_n (Only X) ∷ []
@@ -112,7 +123,9 @@ extract_texts = extract_at 0 (Only W) ∷ extract_at sf_and_n (Only X) ∷ []
 
 -- `Rd, Rn, Rm{, lsl #0}`
 abbrev shifted_slots : List Slot
-shifted_slots = r rd ∷ then ∷ r rn ∷ then ∷ r rm ∷ perhaps ∷ inside 0 (of (Only Shift) (plain (23 to 22))) ∷ inside 0 (counted (times 1 (At (15 to 10)))) ∷ []
+shifted_slots =
+    let shift = 23 to 22 in let amount = 15 to 10 in
+    r rd ∷ then ∷ r rn ∷ then ∷ r rm ∷ perhaps ∷ inside 0 (of (Only Shift) (plain shift)) ∷ inside 0 (counted (times 1 (At amount))) ∷ []
 
 unfoldable pub logic_reg_texts : List Pattern
 logic_reg_texts = rows logic_reg 0 0 (codes "and" ∷ codes "bic" ∷ codes "orr" ∷ codes "orn" ∷ codes "eor" ∷ codes "eon" ∷ codes "ands" ∷ codes "bics" ∷ []) shifted_slots
@@ -120,9 +133,9 @@ logic_reg_texts = rows logic_reg 0 0 (codes "and" ∷ codes "bic" ∷ codes "orr
 unfoldable pub add_reg_texts : List Pattern
 add_reg_texts = rows add_reg 0 0 (codes "add" ∷ codes "adds" ∷ codes "sub" ∷ codes "subs" ∷ []) shifted_slots
 
--- `ext #a` behind its register: bits 14 to 13 are the width that is extended, bit 15 the sign
+-- `ext #a` behind its register: of ext bits 14 to 13 are the width that is extended, bit 15 the sign
 abbrev extended : Slot → Slot → List Slot
-extended m e = m ∷ then ∷ e ∷ counted (times 1 (At (12 to 10))) ∷ []
+extended m e = let a = 12 to 10 in m ∷ then ∷ e ∷ counted (times 1 (At a)) ∷ []
 
 -- `Rd|SP, Rn|SP, Rm, ext #a`; Rm is 64 bits wide with sf where the extension is uxtx or sxtx
 abbrev add_ext_as : ℕ → List ℕ → Codec → List Pattern
@@ -143,16 +156,16 @@ add_carry_texts = rows add_carry 0 0 (codes "adc" ∷ codes "adcs" ∷ codes "sb
 
 -- `ccmn`, `ccmp Rn, y, #f, cond`
 abbrev cond_slots : Slot → List Slot
-cond_slots y = r rn ∷ then ∷ y ∷ then ∷ counted (times 1 (At (3 to 0))) ∷ then ∷ condition ∷ []
+cond_slots y = let f = 3 to 0 in r rn ∷ then ∷ y ∷ then ∷ counted (times 1 (At f)) ∷ then ∷ of (Only Condition) (plain cond) ∷ []
 
 unfoldable pub cond_reg_texts : List Pattern
 cond_reg_texts = rows cond_reg 0 0 (codes "ccmn" ∷ codes "ccmp" ∷ []) (cond_slots (r rm))
 
 unfoldable pub cond_imm_texts : List Pattern
-cond_imm_texts = rows cond_imm 0 0 (codes "ccmn" ∷ codes "ccmp" ∷ []) (cond_slots (counted (times 1 (At (20 to 16)))))
+cond_imm_texts = rows cond_imm 0 0 (codes "ccmn" ∷ codes "ccmp" ∷ []) (let i = 20 to 16 in cond_slots (counted (times 1 (At i))))
 
 unfoldable pub select_texts : List Pattern
-select_texts = rows select 0 0 (codes "csel" ∷ codes "csinc" ∷ codes "csinv" ∷ codes "csneg" ∷ []) (three ++ (then ∷ condition ∷ []))
+select_texts = rows select 0 0 (codes "csel" ∷ codes "csinc" ∷ codes "csinv" ∷ codes "csneg" ∷ []) (three ++ (then ∷ of (Only Condition) (plain cond) ∷ []))
 
 unfoldable pub mul_add_texts : List Pattern
 mul_add_texts = rows mul_add 0 0 (codes "madd" ∷ codes "msub" ∷ []) (three ++ (then ∷ r ra ∷ []))

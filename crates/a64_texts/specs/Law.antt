@@ -2,14 +2,16 @@
 use Rattle.std.specs.Prelude.{◌≡◌, ℕ, ◌-◌, ◌^◌, Bool, true, Option, Some, None, Ok, List, [], get_or, bit_and, nat_lt, unwrap_or, is_some}
 use Rattle.emu_bits.specs.Bitmask.{element_log}
 use Rattle.emu_bits.specs.Fields.{bit}
-use Rattle.emu_bits.specs.Rows.{decode, encode}
+use Rattle.emu_bits.specs.Rows.{Line, Row, decode, encode, form_of, row_in}
+use Rattle.emu_bits.specs.RowLaws.{line_at}
 use Rattle.a64_insn.specs.declared.form.A64Form.{A64Form}
 use Rattle.a64_insn.specs.declared.form.A64Form.TheVariants.{LogicImm}
-use Rattle.a64_insn.specs.Table.{row_of, a64_table, line_number}
+use Rattle.a64_insn.specs.Table.{a64_table}
+use Rattle.a64_insn.specs.Rows.{row_of, line_number}
 use Rattle.text_model.specs.Reading.{Pattern}
-use Rattle.text_model.specs.Statement.{destination_of, reads_text}
+use Rattle.text_model.specs.ReadBack.{destination_of, reads_text, reached}
 use Rattle.text_model.specs.Text.{chosen, text_of}
-use Rattle.text_model.specs.Aim.{Reach, reach_of, reach_bits, reached, aimed}
+use Rattle.text_model.specs.Aim.{Reach, reach_of, reach_bits, aimed}
 use Rattle.a64_texts.specs.Table.{line_texts, a64_patterns}
 
 -- a word of the table
@@ -22,6 +24,11 @@ word_of f = encode (row_of f)
 -- the patterns of an instruction's line
 abbrev pub texts_of : A64Form → List Pattern
 texts_of f = get_or line_texts (line_number f) []
+
+-- A word's form has the patterns of the line that holds the word.
+pub record TextsOfLines : Type 0 where
+  pub at : (k : ℕ) (l : Line A64Form) (w : ℕ) (r : Row A64Form)
+      → line_at a64_table k ≡ Some l → row_in l w ≡ Some r → texts_of (form_of r) ≡ get_or line_texts k []
 
 -- The text of an instruction that stands at pc.
 abbrev pub text_of_form : A64Form → ℕ → List ℕ

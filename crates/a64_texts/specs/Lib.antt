@@ -4,4 +4,5 @@ pub mod Memory
 pub mod BitMoves
 pub mod Aliases
 pub mod Table
+pub mod Opened
 pub mod Law

@@ -10,8 +10,8 @@ use Rattle.text_model.specs.declared.slots.Slot.{Slot}
 use Rattle.text_model.specs.Reading.{Pattern}
 use Rattle.text_model.specs.Writing.{◌to◌, plain, times, signed_times, always, of, one, then, counted, amount, perhaps, inside, bracketed, row, put_at, flat}
 use Rattle.a64_insn.specs.Memory.{ls_unsigned, ls_unscaled, ls_post, ls_pre, ls_reg, ls_literal, pair, store_ex, load_ex, ordered, atomic, compare_swap}
-use Rattle.a64_texts.specs.Data.{w, x, rd, rn_sp, ra, rm}
-use Rattle.a64_texts.specs.Flow.{jump}
+use Rattle.a64_texts.specs.Data.{w, x, rt, rn_sp, rm, imm12}
+use Rattle.a64_texts.specs.Flow.{jump, imm19}
 
 -- ---- the kinds of loads and stores
 
@@ -29,31 +29,31 @@ abbrev access : List ℕ → List ℕ → ℕ → ℕ → ℕ → Slot → ℕ �
 access a b size v opc s n l = record { first = a; rest = b; settled = put_at 30 size + (put_at 26 v + put_at 22 opc); register = s; bytes = n; log = l }
 
 abbrev scalar : Class → Slot
-scalar c = of (Only c) rd
+scalar c = of (Only c) rt
 
 -- 64 bits where opc is 2, 32 where it is 3
 abbrev extended_register : Slot
-extended_register = of (Told (22 to 22) GeneralReversed) rd
+extended_register = of (Told (22 to 22) GeneralReversed) rt
 
--- the number of a prefetch
-abbrev hint_number : Slot
-hint_number = counted (times 1 (At (4 to 0)))
+-- Rt as the number of a prefetch
+abbrev rt_number : Slot
+rt_number = counted (times 1 (At (4 to 0)))
 
 abbrev store_and_load : ℕ → ℕ → ℕ → Class → ℕ → ℕ → List Access
 store_and_load size v opc c n l = access (codes "st") (codes "r") size v opc (scalar c) n l ∷ access (codes "ld") (codes "r") size v (opc + 1) (scalar c) n l ∷ []
 
 abbrev narrow : ℕ → List ℕ → List ℕ → ℕ → ℕ → List Access
-narrow size b s n l = access (codes "st") b size 0 0 (w rd) n l ∷ access (codes "ld") b size 0 1 (w rd) n l ∷ access (codes "ld") s size 0 2 extended_register n l ∷ []
+narrow size b s n l = access (codes "st") b size 0 0 (w rt) n l ∷ access (codes "ld") b size 0 1 (w rt) n l ∷ access (codes "ld") s size 0 2 extended_register n l ∷ []
 
 -- all but `prfm`, which has no forms that write their base back
 abbrev pub accesses : List Access
 accesses =
     narrow 0 (codes "rb") (codes "rsb") 1 0 ++ (narrow 1 (codes "rh") (codes "rsh") 2 1
-    ++ (store_and_load 2 0 0 W 4 2 ++ (access (codes "ld") (codes "rsw") 2 0 2 (x rd) 4 2 ∷ store_and_load 3 0 0 X 8 3
+    ++ (store_and_load 2 0 0 W 4 2 ++ (access (codes "ld") (codes "rsw") 2 0 2 (x rt) 4 2 ∷ store_and_load 3 0 0 X 8 3
     ++ (store_and_load 0 1 0 B 1 0 ++ (store_and_load 1 1 0 H 2 1 ++ (store_and_load 2 1 0 S 4 2 ++ (store_and_load 3 1 0 D 8 3 ++ store_and_load 0 1 2 Q 16 4)))))))
 
 abbrev pub prefetch : Access
-prefetch = access (codes "prf") (codes "m") 3 0 2 hint_number 8 3
+prefetch = access (codes "prf") (codes "m") 3 0 2 rt_number 8 3
 
 -- ---- places
 
@@ -84,7 +84,7 @@ abbrev unscaled_name : Access → List ℕ
 unscaled_name a = a.first ++ (codes "u" ++ a.rest)
 
 unfoldable pub ls_unsigned_texts : List Pattern
-ls_unsigned_texts = each ls_unsigned 0 plain_name (λ a. offset_place (counted (times a.bytes (At (21 to 10))))) (prefetch ∷ accesses)
+ls_unsigned_texts = each ls_unsigned 0 plain_name (λ a. offset_place (counted (times a.bytes (At imm12)))) (prefetch ∷ accesses)
 
 unfoldable pub ls_unscaled_texts : List Pattern
 ls_unscaled_texts = each ls_unscaled 0 unscaled_name (λ a. offset_place imm9) (prefetch ∷ accesses)
@@ -116,18 +116,18 @@ ls_reg_texts = flat ls_reg_lines
 -- ---- literals
 
 abbrev literal : ℕ → List ℕ → Slot → Pattern
-literal settled name s = row ls_literal 0 settled name (s ∷ then ∷ jump 23 5 ∷ [])
+literal settled name s = row ls_literal 0 settled name (s ∷ then ∷ jump imm19 ∷ [])
 
 unfoldable pub ls_literal_texts : List Pattern
 ls_literal_texts =
-    literal 0 (codes "ldr") (of (Told (30 to 30) General) rd) ∷ literal (put_at 30 2) (codes "ldrsw") (x rd) ∷ literal (put_at 30 3) (codes "prfm") hint_number
-    ∷ literal (put_at 26 1) (codes "ldr") (of (Told (31 to 30) WideScalar) rd) ∷ []
+    literal 0 (codes "ldr") (of (Told (30 to 30) General) rt) ∷ literal (put_at 30 2) (codes "ldrsw") (x rt) ∷ literal (put_at 30 3) (codes "prfm") rt_number
+    ∷ literal (put_at 26 1) (codes "ldr") (of (Told (31 to 30) WideScalar) rt) ∷ []
 
 -- ---- pairs
 
 -- the bits of opc and V, the registers' class, the bytes of one
 abbrev pair_slots : Class → List Slot → List Slot
-pair_slots c place = of (Only c) rd ∷ then ∷ of (Only c) ra ∷ then ∷ place
+pair_slots c place = let rt2 = plain (14 to 10) in of (Only c) rt ∷ then ∷ of (Only c) rt2 ∷ then ∷ place
 
 abbrev imm7 : ℕ → Slot
 imm7 n = counted (signed_times n (At (21 to 15)))
@@ -159,11 +159,11 @@ place = bracketed (x rn_sp ∷ [])
 -- a row at its sizes: bytes and halfwords by the name, words and doublewords by the register
 abbrev sized : {F : Type 0} → Line F → ℕ → List ℕ → List Slot → List Pattern
 sized l k name first =
-    row l k 0 (name ++ codes "b") (first ++ (w rd ∷ then ∷ place)) ∷ row l k (put_at 30 1) (name ++ codes "h") (first ++ (w rd ∷ then ∷ place))
-    ∷ row l k (put_at 31 1) name (first ++ (of (Told (30 to 30) General) rd ∷ then ∷ place)) ∷ []
+    row l k 0 (name ++ codes "b") (first ++ (w rt ∷ then ∷ place)) ∷ row l k (put_at 30 1) (name ++ codes "h") (first ++ (w rt ∷ then ∷ place))
+    ∷ row l k (put_at 31 1) name (first ++ (of (Told (30 to 30) General) rt ∷ then ∷ place)) ∷ []
 
 unfoldable pub store_ex_texts : List Pattern
-store_ex_texts = sized store_ex 0 (codes "stxr") (w rm ∷ then ∷ []) ++ sized store_ex 1 (codes "stlxr") (w rm ∷ then ∷ [])
+store_ex_texts = let rs = plain (20 to 16) in sized store_ex 0 (codes "stxr") (w rs ∷ then ∷ []) ++ sized store_ex 1 (codes "stlxr") (w rs ∷ then ∷ [])
 
 unfoldable pub load_ex_texts : List Pattern
 load_ex_texts = sized load_ex 0 (codes "ldxr") [] ++ sized load_ex 1 (codes "ldaxr") []
@@ -175,9 +175,9 @@ ordered_texts = sized ordered 0 (codes "stlr") [] ++ sized ordered 1 (codes "lda
 
 -- a row with some bits settled at its sizes: bytes and halfwords by the name, words and doublewords by both registers
 abbrev two_sized : {F : Type 0} → Line F → ℕ → ℕ → List ℕ → List Pattern
-two_sized l k settled name =
-    row l k settled (name ++ codes "b") (w rm ∷ then ∷ w rd ∷ then ∷ place) ∷ row l k (put_at 30 1 + settled) (name ++ codes "h") (w rm ∷ then ∷ w rd ∷ then ∷ place)
-    ∷ row l k (put_at 31 1 + settled) name (of (Told (30 to 30) General) rm ∷ then ∷ of (Told (30 to 30) General) rd ∷ then ∷ place) ∷ []
+two_sized l k settled name = let rs = plain (20 to 16) in
+    row l k settled (name ++ codes "b") (w rs ∷ then ∷ w rt ∷ then ∷ place) ∷ row l k (put_at 30 1 + settled) (name ++ codes "h") (w rs ∷ then ∷ w rt ∷ then ∷ place)
+    ∷ row l k (put_at 31 1 + settled) name (of (Told (30 to 30) General) rs ∷ then ∷ of (Told (30 to 30) General) rt ∷ then ∷ place) ∷ []
 
 -- a row by the bits that acquire and release: the name alone, with `a`, with `l` and with `al`
 abbrev orders : {F : Type 0} → Line F → ℕ → ℕ → ℕ → List ℕ → List Pattern

@@ -1,12 +1,13 @@
 //! The patterns of data processing.
 use text_code::{Pattern, padded, pattern};
 use text_lists::names;
+use text_lists::shared_slots::*;
 use text_lists::slots::*;
 
 /// `Rd|SP, Rn|SP, #i{, lsl #0}`.
 macro_rules! add_imm {
     ($name:ident, $base:literal, $d:ident) => {
-        pattern!($name, $base, [$d, COMMA, RN_SP, COMMA, UNSIGNED_21_10, PERHAPS, IN_LSL, IN_UNSIGNED_22_22_BY_12])
+        pattern!($name, $base, [$d, COMMA, RN_SP, COMMA, UNSIGNED_IMM12, PERHAPS, IN_LSL, IN_UNSIGNED_SH_22_BY_12])
     };
 }
 
@@ -20,14 +21,14 @@ macro_rules! logic_imm {
 /// `Rd, Rn, Rm{, lsl #0}`.
 macro_rules! shifted {
     ($name:ident, $base:literal) => {
-        pattern!($name, $base, [RD, COMMA, RN, COMMA, RM, PERHAPS, IN_SHIFT, IN_UNSIGNED_15_10])
+        pattern!($name, $base, [RD, COMMA, RN, COMMA, RM, PERHAPS, IN_SHIFT, IN_UNSIGNED_AMOUNT])
     };
 }
 
 /// `Rd|SP, Rn|SP, Rm, ext #a`.
 macro_rules! extended {
     ($name:ident, $base:literal, $d:ident, $n:ident, $m:ident, $extend:ident) => {
-        pattern!($name, $base, [$d, COMMA, $n, COMMA, $m, COMMA, $extend, UNSIGNED_12_10])
+        pattern!($name, $base, [$d, COMMA, $n, COMMA, $m, COMMA, $extend, UNSIGNED_A])
     };
 }
 
@@ -41,7 +42,7 @@ macro_rules! three {
 /// `Rn, y, #f, cond`.
 macro_rules! conditional {
     ($name:ident, $base:literal, $y:ident) => {
-        pattern!($name, $base, [RN, COMMA, $y, COMMA, UNSIGNED_3_0, COMMA, CONDITION])
+        pattern!($name, $base, [RN, COMMA, $y, COMMA, UNSIGNED_F, COMMA, COND])
     };
 }
 
@@ -79,10 +80,10 @@ pub const MOVE_WIDE: [Pattern; 3] = [
         [
             RD,
             COMMA,
-            UNSIGNED_20_5,
+            UNSIGNED_IMM16,
             PERHAPS,
             IN_LSL,
-            IN_UNSIGNED_22_21_BY_16
+            IN_UNSIGNED_HW_BY_16
         ]
     ),
     pattern!(
@@ -91,10 +92,10 @@ pub const MOVE_WIDE: [Pattern; 3] = [
         [
             RD,
             COMMA,
-            UNSIGNED_20_5,
+            UNSIGNED_IMM16,
             PERHAPS,
             IN_LSL,
-            IN_UNSIGNED_22_21_BY_16
+            IN_UNSIGNED_HW_BY_16
         ]
     ),
     pattern!(
@@ -103,10 +104,10 @@ pub const MOVE_WIDE: [Pattern; 3] = [
         [
             RD,
             COMMA,
-            UNSIGNED_20_5,
+            UNSIGNED_IMM16,
             PERHAPS,
             IN_LSL,
-            IN_UNSIGNED_22_21_BY_16
+            IN_UNSIGNED_HW_BY_16
         ]
     ),
 ];
@@ -116,32 +117,32 @@ pub const BITFIELD: [Pattern; 6] = [
     pattern!(
         SBFM,
         0x1300_0000,
-        [WD, COMMA, WN, COMMA, UNSIGNED_21_16, COMMA, UNSIGNED_15_10]
+        [WD, COMMA, WN, COMMA, UNSIGNED_R, COMMA, UNSIGNED_S]
     ),
     pattern!(
         BFM,
         0x3300_0000,
-        [WD, COMMA, WN, COMMA, UNSIGNED_21_16, COMMA, UNSIGNED_15_10]
+        [WD, COMMA, WN, COMMA, UNSIGNED_R, COMMA, UNSIGNED_S]
     ),
     pattern!(
         UBFM,
         0x5300_0000,
-        [WD, COMMA, WN, COMMA, UNSIGNED_21_16, COMMA, UNSIGNED_15_10]
+        [WD, COMMA, WN, COMMA, UNSIGNED_R, COMMA, UNSIGNED_S]
     ),
     pattern!(
         SBFM,
         0x9340_0000,
-        [XD, COMMA, XN, COMMA, UNSIGNED_21_16, COMMA, UNSIGNED_15_10]
+        [XD, COMMA, XN, COMMA, UNSIGNED_R, COMMA, UNSIGNED_S]
     ),
     pattern!(
         BFM,
         0xB340_0000,
-        [XD, COMMA, XN, COMMA, UNSIGNED_21_16, COMMA, UNSIGNED_15_10]
+        [XD, COMMA, XN, COMMA, UNSIGNED_R, COMMA, UNSIGNED_S]
     ),
     pattern!(
         UBFM,
         0xD340_0000,
-        [XD, COMMA, XN, COMMA, UNSIGNED_21_16, COMMA, UNSIGNED_15_10]
+        [XD, COMMA, XN, COMMA, UNSIGNED_R, COMMA, UNSIGNED_S]
     ),
 ];
 
@@ -150,12 +151,12 @@ pub const EXTRACT: [Pattern; 2] = [
     pattern!(
         EXTR,
         0x1380_0000,
-        [WD, COMMA, WN, COMMA, WM, COMMA, UNSIGNED_15_10]
+        [WD, COMMA, WN, COMMA, WM, COMMA, UNSIGNED_S]
     ),
     pattern!(
         EXTR,
         0x93C0_0000,
-        [XD, COMMA, XN, COMMA, XM, COMMA, UNSIGNED_15_10]
+        [XD, COMMA, XN, COMMA, XM, COMMA, UNSIGNED_S]
     ),
 ];
 
@@ -181,18 +182,18 @@ pub const ADD_REG: [Pattern; 4] = [
 
 /// `add`, `adds`, `sub`, `subs Rd|SP, Rn|SP, Rm, ext #a`
 pub const ADD_EXT: [Pattern; 12] = [
-    extended!(ADD, 0x0B20_0000, WD_SP, WN_SP, WM, EXTEND),
-    extended!(ADD, 0x8B20_0000, XD_SP, XN_SP, WM, EXTEND_NARROW),
-    extended!(ADD, 0x8B20_6000, XD_SP, XN_SP, XM, EXTEND_DOUBLEWORD),
-    extended!(ADDS, 0x2B20_0000, WD, WN_SP, WM, EXTEND),
-    extended!(ADDS, 0xAB20_0000, XD, XN_SP, WM, EXTEND_NARROW),
-    extended!(ADDS, 0xAB20_6000, XD, XN_SP, XM, EXTEND_DOUBLEWORD),
-    extended!(SUB, 0x4B20_0000, WD_SP, WN_SP, WM, EXTEND),
-    extended!(SUB, 0xCB20_0000, XD_SP, XN_SP, WM, EXTEND_NARROW),
-    extended!(SUB, 0xCB20_6000, XD_SP, XN_SP, XM, EXTEND_DOUBLEWORD),
-    extended!(SUBS, 0x6B20_0000, WD, WN_SP, WM, EXTEND),
-    extended!(SUBS, 0xEB20_0000, XD, XN_SP, WM, EXTEND_NARROW),
-    extended!(SUBS, 0xEB20_6000, XD, XN_SP, XM, EXTEND_DOUBLEWORD),
+    extended!(ADD, 0x0B20_0000, WD_SP, WN_SP, WM, EXT),
+    extended!(ADD, 0x8B20_0000, XD_SP, XN_SP, WM, EXT_NARROW),
+    extended!(ADD, 0x8B20_6000, XD_SP, XN_SP, XM, EXT_DOUBLEWORD),
+    extended!(ADDS, 0x2B20_0000, WD, WN_SP, WM, EXT),
+    extended!(ADDS, 0xAB20_0000, XD, XN_SP, WM, EXT_NARROW),
+    extended!(ADDS, 0xAB20_6000, XD, XN_SP, XM, EXT_DOUBLEWORD),
+    extended!(SUB, 0x4B20_0000, WD_SP, WN_SP, WM, EXT),
+    extended!(SUB, 0xCB20_0000, XD_SP, XN_SP, WM, EXT_NARROW),
+    extended!(SUB, 0xCB20_6000, XD_SP, XN_SP, XM, EXT_DOUBLEWORD),
+    extended!(SUBS, 0x6B20_0000, WD, WN_SP, WM, EXT),
+    extended!(SUBS, 0xEB20_0000, XD, XN_SP, WM, EXT_NARROW),
+    extended!(SUBS, 0xEB20_6000, XD, XN_SP, XM, EXT_DOUBLEWORD),
 ];
 
 /// `adc`, `adcs`, `sbc`, `sbcs Rd, Rn, Rm`
@@ -211,32 +212,16 @@ pub const COND_REG: [Pattern; 2] = [
 
 /// `ccmn`, `ccmp Rn, #i, #f, cond`
 pub const COND_IMM: [Pattern; 2] = [
-    conditional!(CCMN, 0x3A40_0800, UNSIGNED_20_16),
-    conditional!(CCMP, 0x7A40_0800, UNSIGNED_20_16),
+    conditional!(CCMN, 0x3A40_0800, UNSIGNED_I),
+    conditional!(CCMP, 0x7A40_0800, UNSIGNED_I),
 ];
 
 /// `csel`, `csinc`, `csinv`, `csneg Rd, Rn, Rm, cond`
 pub const SELECT: [Pattern; 4] = [
-    pattern!(
-        CSEL,
-        0x1A80_0000,
-        [RD, COMMA, RN, COMMA, RM, COMMA, CONDITION]
-    ),
-    pattern!(
-        CSINC,
-        0x1A80_0400,
-        [RD, COMMA, RN, COMMA, RM, COMMA, CONDITION]
-    ),
-    pattern!(
-        CSINV,
-        0x5A80_0000,
-        [RD, COMMA, RN, COMMA, RM, COMMA, CONDITION]
-    ),
-    pattern!(
-        CSNEG,
-        0x5A80_0400,
-        [RD, COMMA, RN, COMMA, RM, COMMA, CONDITION]
-    ),
+    pattern!(CSEL, 0x1A80_0000, [RD, COMMA, RN, COMMA, RM, COMMA, COND]),
+    pattern!(CSINC, 0x1A80_0400, [RD, COMMA, RN, COMMA, RM, COMMA, COND]),
+    pattern!(CSINV, 0x5A80_0000, [RD, COMMA, RN, COMMA, RM, COMMA, COND]),
+    pattern!(CSNEG, 0x5A80_0400, [RD, COMMA, RN, COMMA, RM, COMMA, COND]),
 ];
 
 /// `madd`, `msub Rd, Rn, Rm, Ra`

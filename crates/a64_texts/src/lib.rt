@@ -11,12 +11,12 @@ mod memory;
 mod names;
 
 ghost use Rattle.std.specs.Prelude.{◌≡◌, ℕ, ◌^◌, ◌<◌, true, [], Some, get_or};
-ghost use Rattle.emu_bits.specs.Rows.{IsRow};
+ghost use Rattle.emu_bits.specs.RowLaws.{IsRow};
 ghost use Rattle.a64_insn.specs.declared.form.A64Form.{A64Form};
-ghost use Rattle.a64_insn.specs.Table.{row_of};
+ghost use Rattle.a64_insn.specs.Rows.{row_of};
 ghost use Rattle.text_code.specs.Tables.{lines_of, patterns_of};
 ghost use Rattle.text_model.specs.Aim.{aimed};
-ghost use Rattle.a64_texts.specs.Law.{in_table, is_canonical_form, reach, unaimed_word, IsReadBack};
+ghost use Rattle.a64_texts.specs.Law.{in_table, is_canonical_form, reach, unaimed_word, IsReadBack, TextsOfLines};
 ghost use Rattle.a64_texts.specs.BitMoves.{last_lines};
 ghost use Rattle.a64_texts.specs.Data.{data_lines};
 ghost use Rattle.a64_texts.specs.Flow.{flow_lines};
@@ -139,6 +139,11 @@ impl Table for A64Texts {
         decode_a64(word).is_some()
     }
 }
+
+/// A word's form has the patterns of the line that holds the word.
+pub fn texts_of_lines()
+    ensures { TextsOfLines }
+{}
 
 /// The text of each instruction, but for a bitmask whose rotation isn't the least, is read as the instruction: at any address that it
 /// stands at.

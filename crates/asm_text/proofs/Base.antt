@@ -4,14 +4,16 @@ use Rattle.std.specs.Prelude.{IsSome, unwrap_or}
 use Rattle.std.proofs.lemmas.Bool.{cases_Bool, and_parts, or_cases, not-true, eqb-true, true≢false}
 use Rattle.emu_bits.specs.Bitmask.{element_log}
 use Rattle.emu_bits.specs.Fields.{bit, field}
-use Rattle.emu_bits.specs.Rows.{values, Line, row_in, instruction, line_at}
+use Rattle.emu_bits.specs.Rows.{values, Line, row_in, instruction}
+use Rattle.emu_bits.specs.RowLaws.{line_at}
 use Rattle.text_model.specs.Slots.{joined}
 use Rattle.text_model.specs.Reading.{Pattern, has_target}
 use Rattle.text_model.specs.Statement.{Statement, reads_tokens}
 use Rattle.text_model.proofs.Tests.{all_places}
 use Rattle.a64_insn.specs.declared.form.A64Form.{A64Form}
 use Rattle.a64_insn.specs.declared.form.A64Form.TheVariants.{LogicImm}
-use Rattle.a64_insn.specs.Table.{a64_table, line_number}
+use Rattle.a64_insn.specs.Table.{a64_table}
+use Rattle.a64_insn.specs.Rows.{line_number}
 use Rattle.a64_insn.specs.Data.{logic_imm}
 use Rattle.a64_insn.specs.declared.lines.TheConstants as line
 use Rattle.a64_texts.specs.Law.{in_table, is_canonical_form}

@@ -7,9 +7,11 @@ use Rattle.a64_texts.specs.Flow.{flow_lines}
 use Rattle.a64_texts.specs.Memory.{memory_lines}
 use Rattle.a64_texts.specs.BitMoves.{last_lines}
 use Rattle.a64_texts.specs.Aliases.{aliases}
-use Rattle.a64_insn.specs.Table.{a64_table, lines_open, line_number}
+use Rattle.a64_insn.specs.Table.{a64_table, lines_open}
+use Rattle.a64_insn.specs.Rows.{line_number}
 use Rattle.a64_insn.specs.declared.lines.TheConstants as line
-use Rattle.a64_texts.specs.Table.{line_texts, a64_lines, a64_patterns, texts_open}
+use Rattle.a64_texts.specs.Table.{line_texts, a64_lines, a64_patterns}
+use Rattle.a64_texts.specs.Opened.{texts_open}
 use Rattle.text_model.specs.Reading.{Pattern, has_target}
 use Rattle.text_model.proofs.Tests.{all_places}
 use Rattle.asm_text.proofs.Kept.{are_clear}

@@ -1,6 +1,7 @@
 -- The line of a table where a word's instruction stands.
 use Rattle.std.proofs.Common.{◌≡◌, ℕ, zero, suc, ◌+◌, Option, Some, None, List, [], ◌∷◌, ◌++◌, length, refl, ap, subst, ◌∙◌, ◌⊎◌, arith, inl, inr}
-use Rattle.emu_bits.specs.Rows.{Line, Row, values, row_in, or_else, decode, form_of, formed, instruction, line_at}
+use Rattle.emu_bits.specs.Rows.{Line, Row, values, row_in, or_else, decode, form_of, formed, instruction}
+use Rattle.emu_bits.specs.RowLaws.{line_at}
 use Rattle.emu_bits.proofs.Encoding.{answer_of}
 
 pub record IsFound {F : Type 0} (ls : List (Line F)) (w : ℕ) (f : F) : Type 0 where

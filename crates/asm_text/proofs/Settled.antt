@@ -1,7 +1,8 @@
 -- The lines of a table in which a pattern has no word, by the bits that its name settles; and what a bitmask among its slots says of its words.
 use Rattle.std.proofs.Common.{◌≡◌, ℕ, zero, suc, ◌+◌, ◌-◌, ◌/◌, ◌%◌, ◌^◌, ◌==◌, ◌&&◌, ◌||◌, Bool, true, false, not, Some, None, List, [], ◌∷◌, bit_and, nat_lt, sym, ap, ◌∙◌, arith, inl, inr}
 use Rattle.std.proofs.lemmas.Bool.{and_parts, or_cases, not-true, eqb-true, false≢true}
-use Rattle.emu_bits.specs.Rows.{Place, ◌to◌, Line, Row, row_in, line_at}
+use Rattle.emu_bits.specs.Rows.{Place, ◌to◌, Line, Row, row_in}
+use Rattle.emu_bits.specs.RowLaws.{line_at}
 use Rattle.emu_bits.proofs.Computed.{may_hold}
 use Rattle.emu_bits.proofs.Encoding.{not_held}
 use Rattle.text_model.specs.declared.slots.Kind.{Kind}

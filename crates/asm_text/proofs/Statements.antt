@@ -13,8 +13,9 @@ use Rattle.asm_tokens.specs.declared.target.Target.{Target}
 use Rattle.asm_tokens.specs.declared.target.Target.TheVariants.{Label, Address}
 use Rattle.emu_run.specs.declared.insn.Insn.{Insn}
 use Rattle.emu_run.specs.declared.insn.Insn.TheVariants.{A64, Sve}
-use Rattle.insn_texts.specs.Statements.{with_target, either, reads, HasTarget, statements}
-use Rattle.insn_texts.specs.Texts.{is_canonical}
+use Rattle.insn_texts.specs.Statements.{with_target, either, reads, statements}
+use Rattle.insn_texts.specs.Targets.{HasTarget}
+use Rattle.insn_texts.specs.Canonical.{is_canonical}
 use Rattle.listing_model.specs.declared.directive.Directive.{Directive}
 use Rattle.listing_model.specs.declared.directive.DirectiveName.{DirectiveName}
 use Rattle.listing_model.specs.declared.fault.ListingWhy.{ListingWhy}

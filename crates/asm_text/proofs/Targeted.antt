@@ -3,7 +3,8 @@ use Rattle.std.proofs.Common.{◌≡◌, ℕ, ◌^◌, ◌<◌, ◌==◌, Bool, 
 use Rattle.std.specs.Prelude.{is_some}
 use Rattle.std.proofs.lemmas.Bool.{false≢true}
 use Rattle.emu_bits.specs.Fields.{bit, field}
-use Rattle.emu_bits.specs.Rows.{◌to◌, values, Line, Row, row_in, instruction, line_at, IsRow}
+use Rattle.emu_bits.specs.Rows.{◌to◌, values, Line, Row, row_in, instruction}
+use Rattle.emu_bits.specs.RowLaws.{line_at, IsRow}
 use Rattle.emu_bits.proofs.Encoding.{answer_of}
 use Rattle.text_model.specs.Reading.{Pattern}
 use Rattle.text_model.proofs.Building.{small_at}
@@ -18,8 +19,10 @@ use Rattle.a64_insn.specs.declared.ops.CompareOp.{CompareOp}
 use Rattle.a64_insn.specs.declared.ops.CompareOp.TheVariants as compare_names
 use Rattle.a64_insn.specs.declared.ops.TestOp.{TestOp}
 use Rattle.a64_insn.specs.declared.ops.TestOp.TheVariants as test_names
-use Rattle.a64_insn.specs.Names.{adr_named, adr_number, branch_named, branch_number, compare_named, compare_number, test_named, test_number}
-use Rattle.a64_insn.specs.Table.{row_of, a64_table, line_number}
+use Rattle.a64_insn.specs.Names.{adr_named, branch_named, compare_named, test_named}
+use Rattle.a64_insn.specs.Numbers.{adr_number, branch_number, compare_number, test_number}
+use Rattle.a64_insn.specs.Table.{a64_table}
+use Rattle.a64_insn.specs.Rows.{row_of, line_number}
 use Rattle.a64_insn.specs.Data.{adr}
 use Rattle.a64_insn.specs.Flow.{branch, branch_cond, compare, test_branch}
 use Rattle.a64_insn.specs.Memory.{ls_literal, ls_literal_holds_for}

@@ -4,12 +4,14 @@ use Rattle.std.specs.Prelude.{unwrap_or}
 use Rattle.std.proofs.lemmas.Bool.{cases_Bool, eqb-true, true≢false}
 use Rattle.emu_bits.specs.Bitmask.{element_log}
 use Rattle.emu_bits.specs.Fields.{field}
-use Rattle.emu_bits.specs.Rows.{values, Line, row_in, instruction, line_at}
+use Rattle.emu_bits.specs.Rows.{values, Line, row_in, instruction}
+use Rattle.emu_bits.specs.RowLaws.{line_at}
 use Rattle.text_model.specs.Slots.{joined}
 use Rattle.text_model.specs.Statement.{Statement, reads_tokens}
 use Rattle.sve_insn.specs.declared.form.SveForm.{SveForm}
 use Rattle.sve_insn.specs.declared.form.SveForm.TheVariants.{BitmaskZ}
-use Rattle.sve_insn.specs.Table.{memory_lines, data_lines, move_lines, predicate_lines, sve_table, line_number}
+use Rattle.sve_insn.specs.Table.{memory_lines, data_lines, move_lines, predicate_lines, sve_table}
+use Rattle.sve_insn.specs.Rows.{line_number}
 use Rattle.sve_insn.specs.Lanes.{bitmask_z}
 use Rattle.sve_insn.specs.declared.lines.TheConstants.{BITMASK_Z}
 use Rattle.sve_texts.specs.Law.{in_table, is_canonical_form}

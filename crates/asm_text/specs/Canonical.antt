@@ -1,7 +1,7 @@
 -- Lines whose instructions are canonical.
 use Rattle.std.specs.Prelude.{◌≡◌, true}
 use Rattle.emu_run.specs.declared.insn.Insn.{Insn}
-use Rattle.insn_texts.specs.Texts.{is_canonical}
+use Rattle.insn_texts.specs.Canonical.{is_canonical}
 use Rattle.listing_model.specs.declared.line.Body.{Body}
 use Rattle.listing_model.specs.declared.line.Body.TheVariants.{Nothing, Plain, Aimed, Directive}
 

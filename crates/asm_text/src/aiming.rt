@@ -1,7 +1,8 @@
 //! Instructions aimed at addresses.
 ghost use Rattle.std.specs.Prelude.{◌≡◌, true, IfSome};
-ghost use Rattle.insn_texts.specs.Statements.{HasTarget, aimed_at, may_have_target};
-ghost use Rattle.insn_texts.specs.Texts.{is_canonical};
+ghost use Rattle.insn_texts.specs.Statements.{aimed_at};
+ghost use Rattle.insn_texts.specs.Targets.{HasTarget, may_have_target};
+ghost use Rattle.insn_texts.specs.Canonical.{is_canonical};
 ghost use Rattle.text_code.specs.Reads.{all_sound};
 ghost use Rattle.text_code.specs.Tables.{patterns_of};
 

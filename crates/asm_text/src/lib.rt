@@ -2,15 +2,16 @@
 #![tactic(auto)]
 
 mod aiming;
-mod tables;
+mod both_tables;
 
 ghost use Rattle.std.specs.Prelude.{◌≡◌, Err, IfOk, IfSome, List, true, ℕ};
 ghost use Rattle.asm_lines.specs.Aimable.{IsAimable};
 ghost use Rattle.asm_lines.specs.Wanting.{IsLineCopied};
 ghost use Rattle.asm_text.specs.Canonical.{HasCanonical};
 ghost use Rattle.emu_run.specs.declared.insn.Insn.{Insn};
-ghost use Rattle.insn_texts.specs.Statements.{HasTarget, aimed_at, reads, statements};
-ghost use Rattle.insn_texts.specs.Texts.{is_canonical};
+ghost use Rattle.insn_texts.specs.Statements.{aimed_at, reads, statements};
+ghost use Rattle.insn_texts.specs.Targets.{HasTarget};
+ghost use Rattle.insn_texts.specs.Canonical.{is_canonical};
 ghost use Rattle.listing_model.specs.Faults.{Answers};
 ghost use Rattle.listing_model.specs.LineOf.{line_of};
 ghost use Rattle.text_tokens.specs.Tokens.{tokens};
@@ -18,10 +19,10 @@ ghost use Rattle.text_tokens.specs.Tokens.{tokens};
 pub use aiming::aim;
 use asm_lines::read_line;
 use asm_tokens::AsmFault;
+pub use both_tables::Tables;
 use insn_decode::Insn;
 pub use listing_model::Directive;
 use std::alloc::Global;
-pub use tables::Tables;
 
 /// A line of a listing.
 pub type Line = listing_model::Line<Insn>;

@@ -20,7 +20,8 @@ use Rattle.dbg_model.specs.declared.script.Command.TheVariants.{Step, Go, Break,
 use Rattle.dbg_model.specs.declared.script.Stop.{Stop}
 use Rattle.dbg_model.specs.Reached.{same_input, same_parts, same_seen, until_end_added}
 use Rattle.dbg_model.specs.Session.{Marks, no_marks, mark_met, marked, shown, stepped_text, stop_line}
-use Rattle.back_model.specs.SessionBack.{Course, begun, ending_text, go, go-suc, go-zero, moved, moved-suc, moved-zero, moved_to, obeyed, obeyed_all, put, session_back, stepped, stopped_or, went_back}
+use Rattle.back_model.specs.SessionBack.{Course, begun, ending_text, go, moved, moved_to, obeyed, obeyed_all, put, session_back, stepped, stopped_or, went_back}
+use Rattle.back_model.specs.SessionBackEquations.{go-suc, go-zero, moved-suc, moved-zero}
 
 -- ---- a step counts, or it ends the machine and puts nothing
 

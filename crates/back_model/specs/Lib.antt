@@ -1,3 +1,4 @@
 pub mod CourseLaws
 pub mod Limits
 pub mod SessionBack
+pub mod SessionBackEquations

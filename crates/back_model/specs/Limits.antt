@@ -9,7 +9,8 @@ use Rattle.emu_model.specs.declared.program_break.Break.{Break}
 use Rattle.emu_model.specs.declared.trap.Effect.{Effect}
 use Rattle.emu_model.specs.declared.trap.Effect.TheVariants.{Next, Branch as Branching, Call, Trap as Trapping}
 use Rattle.emu_model.specs.declared.trap.TrapKind.TheVariants.{PcAlign, SpAlign}
-use Rattle.emu_model.specs.Access.{Memory, address, refused, stored, stored-suc, stored-zero, value, with_byte}
+use Rattle.emu_model.specs.Access.{Memory, address, refused, stored, value, with_byte}
+use Rattle.emu_model.specs.AccessEquations.{stored-suc, stored-zero}
 use Rattle.emu_model.specs.Done.{Done, traps}
 use Rattle.emu_model.specs.Elements.{Reach, Element, reach, with_stored}
 use Rattle.emu_model.specs.Pages.{free_run, is_over_limit, least_unmapped, with_bytes}

@@ -3,8 +3,7 @@
 --
 -- Its machine is always one that the run from the start passes. What the program writes is put once, by the first step
 -- that counts so far. All else is as in a session that only goes forward.
-use Rattle.std.proofs.Common.{refl}
-use Rattle.std.specs.Prelude.{◌≡◌, ℕ, zero, suc, ◌+◌, ◌-◌, min, List, [], ◌∷◌, ◌++◌, codes, Option, Some, None, nat_lt, if◌then◌else◌}
+use Rattle.std.specs.Prelude.{ℕ, zero, suc, ◌+◌, ◌-◌, min, List, [], ◌∷◌, ◌++◌, codes, Option, Some, None, nat_lt, if◌then◌else◌}
 use Rattle.std.specs.Fmt.{decimal}
 use Rattle.emu_model.specs.State.{Parts, State}
 use Rattle.emu_run.specs.Text.{newline}
@@ -97,20 +96,3 @@ begun start = record { state = start; top = 0 }
 -- neither a break nor a watch
 abbrev pub session_back : List Command → ℕ → State → State
 session_back commands budget start = (obeyed_all start commands no_marks budget (begun start)).state
-
--- the equations, for proofs
-pub moved-zero : (c : Course) → moved c 0 ≡ c
-unfolding moved
-moved-zero c = refl
-
-pub moved-suc : (c : Course) (k : ℕ) → moved c (suc k) ≡ (if goes_on c.state then moved (stepped c) k else c)
-unfolding moved
-moved-suc c k = refl
-
-pub go-zero : (points : Marks) (c : Course) → go points c 0 ≡ put ending_text c
-unfolding go
-go-zero points c = refl
-
-pub go-suc : (points : Marks) (c : Course) (k : ℕ) → go points c (suc k) ≡ (if goes_on c.state then stopped_or (mark_met points (accesses c.state.parts) (stepped c).state.parts) (stepped c) (go points (stepped c) k) else put ending_text c)
-unfolding go
-go-suc points c k = refl

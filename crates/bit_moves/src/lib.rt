@@ -16,6 +16,7 @@ use vec_regs::VecRegs;
 
 /// Does a bit move, and goes on behind it. Only Rd changes: a general register, or the low 32, 64 or 128 bits of a vector register,
 /// whose bits above are 0.
+#[tactic(auto, unfolding(a64_insn::specs::BitMoves::move_imm))]
 pub fn exec(core: &mut Core, vec: &mut VecRegs, i: &A64) -> Effect
     requires { is_bit_move i.now ≡ true }
     ensures core { core.new ≡ (bit_move i.now core.old vec.old).core }

@@ -9,8 +9,9 @@ use Rattle.std.specs.FinMap.{FinMap, get, insert, contains_key, get-insert}
 use Rattle.emu_model.specs.Access.{Memory, Page, page_of, page_byte, with_byte, pages_with_byte, page_with_byte, address}
 use Rattle.emu_model.specs.AccessLaws.{peek_after, write_unmapped}
 use Rattle.emu_model.specs.ByteMap.{IsByteMap, put}
-use Rattle.emu_model.specs.Pages.{bytes_at, bytes_at-zero, bytes_at-suc, page_peek, peeked, with_bytes}
-use Rattle.emu_model.specs.State.{IsSoundMemory}
+use Rattle.emu_model.specs.Pages.{bytes_at, page_peek, peeked, with_bytes}
+use Rattle.emu_model.specs.PageEquations.{bytes_at-zero, bytes_at-suc}
+use Rattle.emu_model.specs.SoundState.{IsSoundMemory}
 use Rattle.byte_laws.specs.Ranges.{row, written_row}
 use Rattle.byte_laws.proofs.Keys.{tied, same, apart}
 

@@ -8,7 +8,7 @@ ghost use Rattle.std.specs.Ordering.{nat_cmp};
 ghost use Rattle.emu_model.specs.Access.{Memory, address};
 ghost use Rattle.emu_model.specs.ByteMap.{IsByteMap};
 ghost use Rattle.emu_model.specs.Pages.{bytes_at, with_bytes, mapped, protected, unmapped};
-ghost use Rattle.emu_model.specs.State.{IsSoundMemory};
+ghost use Rattle.emu_model.specs.SoundState.{IsSoundMemory};
 ghost use Rattle.emu_model.specs.declared.access.Rights.{Rights};
 ghost use Rattle.byte_laws.specs.Ranges.{IsSetInPages, row, written_row};
 

@@ -9,7 +9,7 @@
 //! - `number V = V`, a number of 12 bits, and so `predicate` and `low-predicate`, the number of a register;
 //! - `word WORD FLAG NUMBER REGISTER = WORD NUMBER NUMBER`: a flag put in at place 31, a number of 16 bits at place 5
 //!   and a register at place 0; and the number read back twice, as bits 20 to 5 and as a number of 16 bits;
-//! - `lanes BITS SIZE = COUNT`, of a vector length and a size of elements in bits;
+//! - `lanes BITS SIZE = COUNT`, of a vector length and a size of lanes in bits;
 //! - `lane BITS A B = SUM DIFFERENCE PRODUCT`, of two numbers modulo the width of a lane;
 //! - `condition NUMBER = MASK MASK`: bit k is whether the condition of a number holds where NZCV are k, of the flags
 //!   and of the registers;

@@ -1,6 +1,6 @@
 //! A case: its memory and its streams, and the items of its line one after the other.
 ghost use Rattle.std.specs.Prelude.{IsTrue};
-ghost use Rattle.emu_model.specs.State.{IsSoundBreak};
+ghost use Rattle.emu_model.specs.SoundState.{IsSoundBreak};
 
 use crate::items::{are_text, byte_of, bytes_of, end_of, find, find_number, number};
 use crate::registers::{MONITOR, are_same, core_of, distinct, is_core, vectors_of};

@@ -9,7 +9,8 @@ use Rattle.std.proofs.lemmas.List.{get_or-take, length-drop, length-take}
 use Rattle.std.proofs.lemmas.List.Elements.{All-append, All-cons, All-drop}
 use Rattle.std.proofs.lemmas.List.Sums.{list_all-from_AllPass, sum_by-cons, sum_by_more_le, sum_by-take-drop}
 use Rattle.emu_model.specs.Lengths.{is_vector_length}
-use Rattle.emu_system.specs.Arguments.{AreArguments, is_free_of_zeros}
+use Rattle.emu_system.specs.Arguments.{is_free_of_zeros}
+use Rattle.emu_system.specs.ArgumentLimits.{AreArguments}
 use Rattle.command_model.specs.declared.command_line.Command.{Command}
 use Rattle.command_model.specs.declared.command_line.Command.TheVariants.{Run, Asm, Dis, Dbg, Load, Sweep, Threads}
 use Rattle.command_model.specs.declared.command_line.Line.{Line}
@@ -22,7 +23,7 @@ use Rattle.command_model.specs.declared.command_line.WordsWhy.TheVariants.{Repea
 use Rattle.line_words.specs.Refusals.{and_then}
 use Rattle.command_model.specs.CommandLine.{Seen, args_of, command_of, end_of, first_too_long, first_with_zero, given, is_option, line_of, line_of_command, line_of_words, nothing_seen, number_of_word, option_of, plain_words_of, read_further, read_item, read_number, read_option, read_plain, read_value, read_word, read_words, refused, pages_of, takes_arguments, takes_number, value_of, value_of_word, with_budget, with_machine, with_plain, with_value, with_word}
 use Rattle.emu_outcome.specs.Outcome.{program_arguments}
-use Rattle.command_lines.specs.Places.{HasArguments, HasLimit, HasPlaces}
+use Rattle.command_lines.specs.LineLimits.{HasArguments, HasLimit, HasPlaces}
 use Rattle.command_lines.proofs.FirstWords.{none_too_long, none_with_zero}
 
 -- ---- answers

@@ -1,19 +1,7 @@
 -- The words that a line names by their places.
-use Rattle.std.specs.Prelude.{◌<◌, ◌≤◌, ℕ, List, [], get_or, Option, Some, None}
+use Rattle.std.specs.Prelude.{ℕ, List, [], get_or, Option, Some, None}
 use Rattle.command_model.specs.declared.command_line.Line.{Line}
 use Rattle.command_model.specs.declared.command_line.Line.TheVariants.{Run, Asm, Dis, Dbg, Load, Sweep, Threads}
-use Rattle.emu_outcome.specs.Outcome.{program_arguments}
-use Rattle.emu_system.specs.Arguments.{AreArguments}
-
--- the places are those of so many words, the files before the first argument, whose place may be behind them all
-abbrev pub HasPlaces : Line → ℕ → Type 0
-HasPlaces (Run file args bits budget pages) count = (file < args) × (args ≤ count)
-HasPlaces (Asm listing) count = listing < count
-HasPlaces (Dis file) count = file < count
-HasPlaces (Dbg file script args bits budget pages) count = (file < args) × (script < args) × (args ≤ count)
-HasPlaces (Load number) count = Unit {0}
-HasPlaces (Sweep file args budget pages) count = (file < args) × (args ≤ count)
-HasPlaces (Threads file schedule args bits budget pages) count = (file < args) × (schedule < args) × (args ≤ count)
 
 -- the word that names the file that is read first, where one is
 abbrev pub file_named : List (List ℕ) → Line → Option (List ℕ)
@@ -24,23 +12,3 @@ file_named words (Dbg file script args bits budget pages) = Some (get_or words f
 file_named words (Load number) = None
 file_named words (Sweep file args budget pages) = Some (get_or words file [])
 file_named words (Threads file schedule args bits budget pages) = Some (get_or words file [])
-
--- the words of a program are such as it may be given
-abbrev pub HasArguments : List (List ℕ) → Line → Type 0
-HasArguments words (Run file args bits budget pages) = AreArguments (program_arguments words file args)
-HasArguments words (Asm listing) = Unit {0}
-HasArguments words (Dis file) = Unit {0}
-HasArguments words (Dbg file script args bits budget pages) = AreArguments (program_arguments words file args)
-HasArguments words (Load number) = Unit {0}
-HasArguments words (Sweep file args budget pages) = AreArguments (program_arguments words file args)
-HasArguments words (Threads file schedule args bits budget pages) = AreArguments (program_arguments words file args)
-
--- no more pages are asked for than a machine with marks may have
-abbrev pub HasLimit : Line → Type 0
-HasLimit (Run file args bits budget pages) = pages ≤ 1048576
-HasLimit (Asm listing) = Unit {0}
-HasLimit (Dis file) = Unit {0}
-HasLimit (Dbg file script args bits budget pages) = pages ≤ 1048576
-HasLimit (Load number) = Unit {0}
-HasLimit (Sweep file args budget pages) = pages ≤ 1048576
-HasLimit (Threads file schedule args bits budget pages) = pages ≤ 1048576

@@ -1,10 +1,10 @@
 //! The command line: its words, or why they are refused.
 ghost use Rattle.std.specs.Prelude.{◌≡◌, ◌≤◌, map, length, string_bytes, IfOk};
 ghost use Rattle.command_model.specs.CommandLine.{line, line_of_words};
-ghost use Rattle.command_lines.specs.Places.{HasArguments, HasLimit, HasPlaces};
+ghost use Rattle.command_lines.specs.LineLimits.{HasArguments, HasLimit, HasPlaces};
 
+use crate::command_words::{first_too_long, first_with_zero, word};
 use crate::scan::{fault, line_of, read_words};
-use crate::words::{first_too_long, first_with_zero, word};
 use command_model::{Command, Line, WordsFault, WordsWhy};
 
 /// The greatest number of words.

@@ -2,10 +2,10 @@
 #![tactic(auto)]
 
 mod command_line;
+mod command_words;
 mod scan;
 mod values;
-mod words;
 
 pub use command_line::line_of_words;
 pub use command_model::{Line, WordsFault, WordsWhy};
-pub use words::word;
+pub use command_words::word;

@@ -4,8 +4,8 @@ ghost use Rattle.std.specs.Str.{bytes_eq};
 ghost use Rattle.command_model.specs.CommandLine.{given, is_option, line_of, end_of, nothing_seen, option_of, read_item, read_option, read_plain, read_value, read_word, read_words, refused, takes_arguments, value_of_word, with_machine};
 ghost use Rattle.command_lines.specs.Scan.{Leaves};
 
+use crate::command_words::word;
 use crate::values::{budget_of_word, length_of_word, number_of_word, pages_of_word};
-use crate::words::word;
 use arrayvec::ArrayVec;
 use command_model::{Command, Line, OptionName, WordsFault, WordsWhy};
 use emu_model::Length;

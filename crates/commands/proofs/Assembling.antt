@@ -5,7 +5,7 @@ use Rattle.std.specs.Str.Lossy.{utf8_valid_len}
 use Rattle.asm_layout.specs.Assembly.{IsMade}
 use Rattle.asm_layout.specs.declared.assembly.AsmError.{AsmError}
 use Rattle.asm_layout.specs.declared.assembly.AsmError.TheVariants.{Refused}
-use Rattle.io_gate.specs.Streams.{PutsAll}
+use Rattle.io_gate.specs.Pieces.{PutsAll}
 use Rattle.command_model.specs.Refusals.{listing_line}
 use Rattle.line_words.specs.Lines.{is_newline}
 use Rattle.insn_texts.specs.Statements.{statements}
@@ -16,7 +16,7 @@ use Rattle.emu_outcome.specs.Outcome.{outcome_of_listing}
 use Rattle.emu_outcome.specs.declared.ending.Ending.{Ending}
 use Rattle.emu_outcome.specs.declared.ending.Ending.TheVariants.{ListingRefused}
 use Rattle.commands.specs.Endings.{done_by, ended_by}
-use Rattle.commands.specs.Promises.{now, Meets}
+use Rattle.commands.specs.Meets.{now, Meets}
 use Rattle.commands.proofs.Meetings.{line_meets, output_meets}
 use Rattle.commands.proofs.TextFiles.{of_text, of_no_text}
 

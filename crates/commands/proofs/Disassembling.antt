@@ -1,6 +1,6 @@
 -- What the parts of the command `dis` promise, put together.
 use Rattle.std.proofs.Common.{◌≡◌, ℕ, List, Option, Some, Result, Ok, Err, refl, sym, subst}
-use Rattle.io_gate.specs.Streams.{PutsAll}
+use Rattle.io_gate.specs.Pieces.{PutsAll}
 use Rattle.command_model.specs.Refusals.{image_line}
 use Rattle.emu_system.specs.Image.{Image}
 use Rattle.emu_system.specs.declared.image.ElfFault.{ElfFault}
@@ -9,7 +9,7 @@ use Rattle.emu_outcome.specs.Outcome.{outcome_of_words}
 use Rattle.emu_outcome.specs.declared.ending.Ending.{Ending}
 use Rattle.emu_outcome.specs.declared.ending.Ending.TheVariants.{ImageRefused}
 use Rattle.commands.specs.Endings.{done_by, ended_by}
-use Rattle.commands.specs.Promises.{now, Meets}
+use Rattle.commands.specs.Meets.{now, Meets}
 use Rattle.commands.proofs.Meetings.{line_meets, output_meets}
 
 module _ (file : List ℕ) (r : Result Image ElfFault) (input output errors : Option (List ℕ)) where

@@ -2,7 +2,8 @@
 use Rattle.std.proofs.Common.{◌≡◌, ◌⊎◌, inl, inr, ℕ, true, false, List, [], get_or, Option, Some, None, Result, Ok, Err, IfErr, IfSome, refl, sym, ap, subst, ◌∙◌}
 use Rattle.std.proofs.lemmas.Option.{IfSome_then}
 use Rattle.io_gate.specs.Images.{MissesNamed}
-use Rattle.io_gate.specs.Streams.{PutsAll, Rose}
+use Rattle.io_gate.specs.Streams.{Rose}
+use Rattle.io_gate.specs.Pieces.{PutsAll}
 use Rattle.command_model.specs.CommandLine.{line}
 use Rattle.command_model.specs.Refusals.{words_line}
 use Rattle.command_model.specs.declared.command_line.Line.{Line}
@@ -17,8 +18,9 @@ use Rattle.emu_outcome.specs.declared.ending.Ending.TheVariants.{WordsRefused, F
 use Rattle.commands.specs.Endings.{ended_by}
 use Rattle.commands.specs.Programs.{outcome_over}
 use Rattle.emu_system.specs.Gained.{Gains}
-use Rattle.commands.specs.Promises.{now, NamesNoFile, is_failure, is_silent}
-use Rattle.commands.specs.Lines.{may_end, EndsMissing, MeetsLine, RefusesLine}
+use Rattle.commands.specs.Promises.{NamesNoFile, is_failure, is_silent}
+use Rattle.commands.specs.Meets.{now, MeetsLine}
+use Rattle.commands.specs.Lines.{may_end, EndsMissing, RefusesLine}
 use Rattle.commands.proofs.NamedFiles.{misses_named, names_missing, over, told_so}
 use Rattle.emu_system.specs.GainedLaws.{put_first}
 use Rattle.commands.proofs.Meetings.{line_meets}

@@ -1,6 +1,6 @@
 -- What the parts of the command `load` promise, put together.
 use Rattle.std.proofs.Common.{◌≡◌, ℕ, List, Option, Some, Result, Ok, Err, refl, sym, ap, subst, ◌∙◌}
-use Rattle.io_gate.specs.Streams.{PutsAll}
+use Rattle.io_gate.specs.Pieces.{PutsAll}
 use Rattle.command_model.specs.Refusals.{image_line, listing_line}
 use Rattle.emu_system.specs.Image.{Image, elf}
 use Rattle.emu_system.specs.declared.image.ElfFault.{ElfFault}
@@ -10,7 +10,7 @@ use Rattle.emu_outcome.specs.declared.ending.Ending.TheVariants.{ImageRefused, L
 use Rattle.listing_model.specs.declared.fault.ListingFault.{ListingFault}
 use Rattle.load_model.specs.Load.{load_pages, load_text}
 use Rattle.commands.specs.Endings.{done_by, ended_by}
-use Rattle.commands.specs.Promises.{now, Meets, Now}
+use Rattle.commands.specs.Meets.{now, Meets, Now}
 use Rattle.commands.proofs.Meetings.{line_meets, output_meets}
 
 module _ (file : List ℕ) (r : Result Image ElfFault) (input output errors : Option (List ℕ)) where

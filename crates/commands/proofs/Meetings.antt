@@ -1,7 +1,7 @@
 -- What the steps of a command together promise: lines on the errors, the whole output, a run and its report, a session, and nothing at all.
 use Rattle.std.proofs.Common.{◌≡◌, ℕ, ◌-◌, Bool, true, false, List, [], ◌++◌, length, take, drop, Option, Some, None, Result, Ok, Err, IfSome, MatchBool, refl, sym, ap, subst, ◌∙◌, append-nil, append_assoc, take-append-drop, length-drop, arith}
 use Rattle.std.proofs.lemmas.Option.{IfSome_then}
-use Rattle.io_gate.specs.Streams.{PutsAll}
+use Rattle.io_gate.specs.Pieces.{PutsAll}
 use Rattle.emu_model.specs.State.{Parts, State}
 use Rattle.emu_model.specs.declared.trap.Ended.{Ended}
 use Rattle.emu_model.specs.declared.trap.Ended.TheVariants.{Exit as Exited, Trap as Trapped}
@@ -23,7 +23,8 @@ use Rattle.commands.specs.Endings.{done_by, ended_by, ending_by, ending_of_sessi
 use Rattle.commands.proofs.RunEnds.{broken_is, ending_is, session_rest}
 use Rattle.emu_system.specs.Gained.{Gains, GainedFirst}
 use Rattle.emu_system.specs.GainedLaws.{put_first}
-use Rattle.commands.specs.Promises.{is_failure, settled_ending, is_refusal, output_of, errors_of, taken_of, now, CountsFor, LostAtMost, Loses, Meets}
+use Rattle.commands.specs.Promises.{is_failure, settled_ending, is_refusal, output_of, errors_of, taken_of, CountsFor, LostAtMost, Loses}
+use Rattle.commands.specs.Meets.{now, Meets}
 
 -- ---- by whether something failed
 

@@ -5,7 +5,7 @@ use Rattle.std.specs.Global.{Vec}
 use Rattle.std.proofs.lemmas.Option.{IfSome_then}
 use Rattle.std.proofs.lemmas.Bool.Decides.{nat_tests}
 use Rattle.io_gate.specs.Images.{whole_file, MissesNamed, ReadsNamed}
-use Rattle.io_gate.specs.Streams.{PutsAll}
+use Rattle.io_gate.specs.Pieces.{PutsAll}
 use Rattle.io_gate.specs.declared.images.ImagesError.{ImagesError}
 use Rattle.io_gate.specs.declared.images.ImagesError.TheVariants as images
 use Rattle.command_model.specs.Refusals.{too_long_line}
@@ -14,7 +14,8 @@ use Rattle.emu_outcome.specs.declared.ending.Ending.{Ending}
 use Rattle.emu_outcome.specs.declared.ending.Ending.TheVariants.{TooLong, FileFault, ErrorsFault, OutOfMemory}
 use Rattle.commands.specs.Endings.{ended_by}
 use Rattle.emu_system.specs.Gained.{Gains}
-use Rattle.commands.specs.Promises.{is_failure, output_of, errors_of, taken_of, Now, now, CountsFor, EndsAs, Loses, Meets, MeetsBy, NamesNoFile, Settles}
+use Rattle.commands.specs.Promises.{is_failure, output_of, errors_of, taken_of, CountsFor, EndsAs, Loses, NamesNoFile, Settles}
+use Rattle.commands.specs.Meets.{Now, now, Meets, MeetsBy}
 use Rattle.commands.specs.Reading.{GivesFile, IsTooLong, EndsUnread}
 use Rattle.commands.proofs.Meetings.{nothing_meets, line_meets}
 

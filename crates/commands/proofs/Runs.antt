@@ -1,6 +1,6 @@
 -- What the parts of a run promise, put together: its report and its image.
 use Rattle.std.proofs.Common.{◌≡◌, ℕ, List, ◌++◌, Option, Some, Result, Ok, Err, refl, sym, ap₂, subst}
-use Rattle.io_gate.specs.Streams.{PutsAll}
+use Rattle.io_gate.specs.Pieces.{PutsAll}
 use Rattle.emu_model.specs.State.{Core, Vectors, Parts}
 use Rattle.emu_system.specs.Image.{Image}
 use Rattle.emu_system.specs.Start.{opening, with_input}
@@ -12,7 +12,7 @@ use Rattle.emu_outcome.specs.Outcome.{Outcome, outcome_of_run, outcome_of_image}
 use Rattle.emu_outcome.specs.declared.ending.Ending.{Ending}
 use Rattle.emu_outcome.specs.declared.ending.Ending.TheVariants.{ImageRefused}
 use Rattle.commands.specs.Endings.{ended_by}
-use Rattle.commands.specs.Promises.{Now, now, Meets}
+use Rattle.commands.specs.Meets.{Now, now, Meets}
 use Rattle.commands.proofs.Meetings.{line_meets}
 
 -- ---- the report

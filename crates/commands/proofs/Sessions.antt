@@ -12,18 +12,20 @@ use Rattle.dbg_model.specs.declared.script.ScriptFault.{ScriptFault}
 use Rattle.dbg_scripts.specs.Reading.{IsErrorOf}
 use Rattle.dbg_scripts.specs.declared.reader.ScriptError.{ScriptError}
 use Rattle.dbg_scripts.specs.declared.reader.ScriptError.TheVariants.{Refused}
-use Rattle.emu_model.specs.Access.{Marks, fresh_marks, no_marks}
+use Rattle.emu_model.specs.Access.{Marks, no_marks}
+use Rattle.emu_model.specs.Marks.{fresh_marks}
 use Rattle.emu_model.specs.State.{Parts}
 use Rattle.emu_outcome.specs.Outcome.{Outcome, outcome_of_commands, outcome_of_script, outcome_of_session, outcome_of_session_back, over_whole}
 use Rattle.emu_outcome.specs.declared.ending.Ending.{Ending}
 use Rattle.emu_outcome.specs.declared.ending.Ending.TheVariants.{Done, ScriptRefused, WriteFault, ErrorsFault}
 use Rattle.emu_system.specs.Gained.{Gains}
 use Rattle.emu_system.specs.Start.{with_input}
-use Rattle.io_gate.specs.Streams.{PutsAll}
+use Rattle.io_gate.specs.Pieces.{PutsAll}
 use Rattle.mark_laws.specs.Marked.{parts_with}
 use Rattle.commands.specs.Endings.{ended_by, ending_of_back}
 use Rattle.commands.specs.Lines.{script_goes_back}
-use Rattle.commands.specs.Promises.{Now, now, is_refusal, settled_sweep, settles_by, Meets, MeetsBy, MeetsSweep}
+use Rattle.commands.specs.Promises.{is_refusal, settled_sweep, settles_by}
+use Rattle.commands.specs.Meets.{Now, now, Meets, MeetsBy, MeetsSweep}
 use Rattle.commands.specs.Sweeping.{ends_swept, Writes}
 use Rattle.commands.proofs.Meetings.{line_meets, never}
 

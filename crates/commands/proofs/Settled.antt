@@ -7,7 +7,8 @@ use Rattle.emu_outcome.specs.Outcome.{Outcome, Files, file_limit}
 use Rattle.emu_outcome.specs.declared.ending.Ending.{Ending}
 use Rattle.emu_outcome.specs.declared.ending.Ending.TheVariants.{Exit, Trap, Spent, Stuck, Done, WordsRefused, ImageRefused, ListingRefused, ScriptRefused, ScheduleRefused, TooLong}
 use Rattle.commands.specs.Lines.{stops_any}
-use Rattle.commands.specs.Promises.{is_failure, is_refusal, rests_on_none, settled_ending, settled_sweep, settles_by, EndsAs, Meets, MeetsBy, Now, Settles, SettlesSweep}
+use Rattle.commands.specs.Promises.{is_failure, is_refusal, rests_on_none, settled_ending, settled_sweep, settles_by, EndsAs, Settles, SettlesSweep}
+use Rattle.commands.specs.Meets.{Meets, MeetsBy, Now}
 use Rattle.commands.proofs.Meetings.{never, nothing_meets}
 
 -- ---- refusals

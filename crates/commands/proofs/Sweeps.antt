@@ -1,7 +1,7 @@
 -- What the parts of a sweep promise, put together: the input, the runs over it, and the image.
 use Rattle.std.proofs.Common.{◌≡◌, ℕ, ◌+◌, Bool, true, false, cond, List, [], ◌++◌, length, Option, Some, None, Result, Ok, Err, IfSome, refl, sym, subst, append-nil}
 use Rattle.std.proofs.lemmas.Option.{IfSome_then}
-use Rattle.io_gate.specs.Streams.{PutsAll}
+use Rattle.io_gate.specs.Pieces.{PutsAll}
 use Rattle.emu_system.specs.Gained.{Gains}
 use Rattle.emu_system.specs.GainedLaws.{put_first}
 use Rattle.emu_system.specs.Image.{Image}
@@ -12,7 +12,8 @@ use Rattle.emu_outcome.specs.Outcome.{Outcome, outcome_of_lengths, outcome_of_sw
 use Rattle.emu_outcome.specs.declared.ending.Ending.{Ending}
 use Rattle.emu_outcome.specs.declared.ending.Ending.TheVariants.{Done, ImageRefused, TooLong, ErrorsFault}
 use Rattle.commands.specs.Endings.{ended_by}
-use Rattle.commands.specs.Promises.{is_failure, is_refusal, settled_sweep, now, MeetsSweep, Now}
+use Rattle.commands.specs.Promises.{is_failure, is_refusal, settled_sweep}
+use Rattle.commands.specs.Meets.{now, MeetsSweep, Now}
 use Rattle.commands.specs.Sweeping.{Writes}
 use Rattle.commands.proofs.Meetings.{line_meets, never, no_first, none_gained}
 use Rattle.commands.proofs.Settled.{refused_either}

@@ -2,7 +2,7 @@
 use Rattle.std.proofs.Common.{◌≡◌, ℕ, Bool, true, false, List, [], get_or, length, Option, Some, None, Result, Ok, Err, IfSome, cond, nat_le, refl, sym, ap, subst, ◌∙◌}
 use Rattle.std.specs.FinMap.{get}
 use Rattle.io_gate.specs.Images.{whole_file}
-use Rattle.io_gate.specs.Streams.{PutsAll}
+use Rattle.io_gate.specs.Pieces.{PutsAll}
 use Rattle.io_gate.specs.declared.images.ImagesError.TheVariants as images
 use Rattle.command_model.specs.Refusals.{image_line}
 use Rattle.emu_outcome.specs.Outcome.{Outcome, Files, file_at, file_limit, refusal}
@@ -15,7 +15,8 @@ use Rattle.commands.specs.declared.program.Program.{Program}
 use Rattle.commands.specs.declared.two_files.SecondFile.{SecondFile}
 use Rattle.commands.specs.declared.two_files.SecondFile.TheVariants.{Script, Schedule}
 use Rattle.commands.specs.Endings.{ended_by}
-use Rattle.commands.specs.Promises.{Now, now, settles_by, MeetsBy}
+use Rattle.commands.specs.Promises.{settles_by}
+use Rattle.commands.specs.Meets.{Now, now, MeetsBy}
 use Rattle.commands.specs.Lines.{file_goes_back, text_goes_back, IsForward}
 use Rattle.commands.specs.SecondFiles.{ends_by, file_reads_first, outcome_by, outcome_from, text_reads_first, TakesLater}
 use Rattle.commands.proofs.MayEnd.{kind_put}

@@ -6,7 +6,7 @@ use Rattle.std.proofs.lemmas.List.{drop_all}
 use Rattle.std.proofs.Math.Seq.{drop-append_seam}
 use Rattle.std.specs.Io.KnownBytes.{Consumes}
 use Rattle.io_gate.specs.ReadAll.{LosesAtMost, ReadsAll, Stops}
-use Rattle.io_gate.specs.Streams.{PutsAll}
+use Rattle.io_gate.specs.Pieces.{PutsAll}
 use Rattle.io_gate.specs.declared.whole_source.ReadEnd.{ReadEnd}
 use Rattle.std.specs.Global.{Vec}
 use Rattle.command_model.specs.Refusals.{too_long_line}
@@ -17,7 +17,8 @@ use Rattle.emu_outcome.specs.Outcome.{Outcome, over_whole, too_long_stream}
 use Rattle.emu_outcome.specs.declared.ending.Ending.{Ending}
 use Rattle.emu_outcome.specs.declared.ending.Ending.TheVariants.{Done, TooLong, ErrorsFault}
 use Rattle.commands.specs.Endings.{ended_by}
-use Rattle.commands.specs.Promises.{is_failure, is_refusal, settled_sweep, now, CountsFor, Loses, MeetsSweep}
+use Rattle.commands.specs.Promises.{is_failure, is_refusal, settled_sweep, CountsFor, Loses}
+use Rattle.commands.specs.Meets.{now, MeetsSweep}
 use Rattle.commands.specs.Sweeping.{ends_swept, Writes}
 use Rattle.commands.proofs.Meetings.{at_told, loses_within, never, no_first, none_gained, told}
 

@@ -1,7 +1,8 @@
 -- What the parts of a run of contexts promise, put together: how their world stopped, its report, and its schedule.
 use Rattle.std.proofs.Common.{◌≡◌, ◌≤◌, ℕ, ◌-◌, Bool, true, false, List, ◌++◌, Option, Some, Result, Ok, Err, refl, sym, ap, subst, ◌∙◌}
 use Rattle.std.proofs.lemmas.Option.{IfSome_then}
-use Rattle.io_gate.specs.Streams.{Causes, HasCause, PutsAll, Rose}
+use Rattle.io_gate.specs.Streams.{Causes, HasCause, Rose}
+use Rattle.io_gate.specs.Pieces.{PutsAll}
 use Rattle.command_model.specs.Refusals.{schedule_line}
 use Rattle.command_model.specs.WorldReports.{contexts_lines, stop_line, world_report}
 use Rattle.emu_outcome.specs.Outcome.{Outcome, ending_of_world, outcome_of_schedule, outcome_of_world}
@@ -17,11 +18,13 @@ use Rattle.guest_threads.specs.declared.ends.WorldEnd.{WorldEnd}
 use Rattle.guest_threads.specs.declared.ends.WorldEnd.TheVariants as worlds
 use Rattle.thread_model.specs.declared.thread.WorldEnding.{WorldEnding}
 use Rattle.thread_model.specs.declared.thread.WorldEnding.TheVariants as stops
-use Rattle.thread_model.specs.ThreadLaws.{from_moves, with_input}
+use Rattle.thread_model.specs.ThreadLaws.{from_moves}
+use Rattle.thread_model.specs.Threads.{with_input}
 use Rattle.thread_model.specs.Threads.{WorldState, ending, first_place, threads}
 use Rattle.thread_model.specs.Worlds.{World}
 use Rattle.commands.specs.Endings.{ended_by, stop_by}
-use Rattle.commands.specs.Promises.{Now, now, is_failure, Meets}
+use Rattle.commands.specs.Promises.{is_failure}
+use Rattle.commands.specs.Meets.{Now, now, Meets}
 use Rattle.commands.proofs.Meetings.{IsStop, Stopped, broken_meets, line_meets, stopped_meets}
 
 -- ---- how a world stopped

@@ -15,7 +15,7 @@ use Rattle.sweep_model.specs.Sweep.{stream_limit}
 use Rattle.emu_outcome.specs.Outcome.{Outcome, Files, file_at, file_limit}
 use Rattle.emu_outcome.specs.declared.ending.Ending.{Ending}
 use Rattle.emu_outcome.specs.declared.ending.Ending.TheVariants.{Exit, Trap, Spent, Stuck, Done, WordsRefused, ImageRefused, ListingRefused, ScriptRefused, ScheduleRefused, TooLong, FileFault, WriteFault, ErrorsFault, OutOfMemory}
-use Rattle.commands.specs.Promises.{is_failure, settles_by, CountsFor, MeetsBy, Now}
+use Rattle.commands.specs.Promises.{is_failure, settles_by, CountsFor}
 
 -- the line runs a machine over the input
 abbrev pub takes_input : Result Line WordsFault → Bool
@@ -76,9 +76,6 @@ reads_first words files (Err fault) = false
 -- what the ending of the line and its outcome share whatever the input has
 abbrev pub SettlesLine : List (List ℕ) → Files → Result Line WordsFault → Option Outcome → Ending → Type 0
 SettlesLine words files line = settles_by (reads_first words files line)
-
-abbrev pub MeetsLine : List (List ℕ) → Files → Result Line WordsFault → (List ℕ → Option Outcome) → Ending → Now → Now → Type 0
-MeetsLine words files line outcome ending old new = MeetsBy (SettlesLine words files line) outcome ending old new
 
 -- nothing is taken where memory is wanting: not of a sweep, and of a session only where the files are told and its script goes only forward
 abbrev pub IsForward : Option Files → List ℕ → Type 0

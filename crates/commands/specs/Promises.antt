@@ -1,7 +1,6 @@
 -- What a command promises: its result by the definitions, or, where something failed, nothing beyond it. Each fact rests on what the files told, and on
 -- the input and the sinks that it names, where these tell their bytes.
-use Rattle.std.specs.Prelude.{◌≡◌, ◌≤◌, ℕ, Bool, true, false, nat_eq, List, [], drop, Option, Some, None, IfSome, MatchBool, if◌then◌else◌}
-use Rattle.emu_system.specs.Gained.{Gains}
+use Rattle.std.specs.Prelude.{◌≡◌, ◌≤◌, ℕ, Bool, true, false, nat_eq, List, [], drop, Option, Some, None, MatchBool, if◌then◌else◌}
 use Rattle.sweep_model.specs.Sweep.{stream_limit}
 use Rattle.emu_outcome.specs.Outcome.{Outcome, Files, file_limit}
 use Rattle.emu_outcome.specs.declared.ending.Ending.{Ending}
@@ -91,15 +90,6 @@ taken_of (Some outcome) = outcome.taken
 
 -- ---- the streams
 
--- the bytes that the input has left, and those that the output and the errors hold, where they tell it
-pub record Now : Type 0 where
-  pub input : Option (List ℕ)
-  pub output : Option (List ℕ)
-  pub errors : Option (List ℕ)
-
-abbrev pub now : Option (List ℕ) → Option (List ℕ) → Option (List ℕ) → Now
-now input output errors = record { input = input; output = output; errors = errors }
-
 -- an input lost at most so many bytes
 pub record LostAtMost (left : Option (List ℕ)) (bytes : List ℕ) (most : ℕ) : Type 0 where
   pub taken : ℕ
@@ -116,23 +106,6 @@ Loses true left bytes count = LostAtMost left bytes count
 -- the outcome for these bytes counts: the input told them, or the outcome rests on none
 abbrev pub CountsFor : Option (List ℕ) → Option Outcome → List ℕ → Type 0
 CountsFor told outcome bytes = MatchBool (rests_on_none outcome) (Unit {0}) (told ≡ Some bytes)
-
--- Where nothing failed, the command ends as the outcome for what the input had says, and the streams gained and lost just its bytes; after a failure they
--- gained first bytes of these, and lost no more. What the ending and the outcome share whatever the input has is `settles`.
-pub record MeetsBy (settles : Option Outcome → Ending → Type 0) (outcome : List ℕ → Option Outcome) (ending : Ending) (old new : Now) : Type 0 where
-  pub ends : IfSome old.input (λ bytes. is_failure ending ≡ false → EndsAs (outcome bytes) ending)
-  pub settled : is_failure ending ≡ false → (bytes : List ℕ) → settles (outcome bytes) ending
-  pub output : (bytes : List ℕ) → CountsFor old.input (outcome bytes) bytes → IfSome old.output (λ had. Gains (is_failure ending) new.output had (output_of (outcome bytes)))
-  pub errors : (bytes : List ℕ) → CountsFor old.input (outcome bytes) bytes → IfSome old.errors (λ had. Gains (is_failure ending) new.errors had (errors_of (outcome bytes)))
-  pub input : IfSome old.input (λ bytes. Loses (is_failure ending) new.input bytes (taken_of (outcome bytes)))
-
--- an ending that isn't that of a run is the outcome's whatever the input has
-abbrev pub Meets : (List ℕ → Option Outcome) → Ending → Now → Now → Type 0
-Meets outcome ending old new = MeetsBy Settles outcome ending old new
-
--- and so is one that isn't that of a sweep
-abbrev pub MeetsSweep : (List ℕ → Option Outcome) → Ending → Now → Now → Type 0
-MeetsSweep outcome ending old new = MeetsBy SettlesSweep outcome ending old new
 
 -- ---- files that aren't there
 

@@ -7,7 +7,7 @@ use Rattle.io_gate.specs.declared.images.ImagesError.TheVariants as images
 use Rattle.emu_outcome.specs.Outcome.{Outcome, Files, file_limit, with_file}
 use Rattle.emu_outcome.specs.declared.ending.Ending.{Ending}
 use Rattle.emu_outcome.specs.declared.ending.Ending.TheVariants.{TooLong, FileFault, ErrorsFault, OutOfMemory}
-use Rattle.commands.specs.Promises.{now, Meets}
+use Rattle.commands.specs.Meets.{now, Meets}
 
 -- the file's bytes; or how the command ends without them, whatever it does with them
 abbrev pub GivesFile : Option (List ℕ) → Result (Vec ℕ) Ending → Option (List ℕ) → Option (List ℕ) → Type 0

@@ -3,7 +3,7 @@ ghost use Rattle.std.specs.Prelude.{◌≡◌, ◌≢◌, ◌<◌, ◌≤◌, ma
 ghost use Rattle.io_gate.specs.Streams.{Causes};
 ghost use Rattle.elf_image.specs.Images.{seen_image};
 ghost use Rattle.elf_image.specs.Loadable.{IsLoadable};
-ghost use Rattle.emu_system.specs.Arguments.{AreArguments};
+ghost use Rattle.emu_system.specs.ArgumentLimits.{AreArguments};
 ghost use Rattle.emu_system.specs.Start.{with_input};
 ghost use Rattle.dbg_model.specs.Commands.{has_back};
 ghost use Rattle.dbg_model.specs.Script.{script_of_file};
@@ -13,7 +13,8 @@ ghost use Rattle.emu_outcome.specs.Outcome.{outcome_of_commands, outcome_of_scri
 ghost use Rattle.commands.specs.Endings.{ending_of_back, ending_of_session};
 ghost use Rattle.commands.specs.Lines.{ends_dbg, text_goes_back};
 ghost use Rattle.commands.specs.Programs.{arguments_of, opening_of};
-ghost use Rattle.commands.specs.Promises.{now, settles_by, Meets, MeetsBy, MeetsSweep};
+ghost use Rattle.commands.specs.Promises.{settles_by};
+ghost use Rattle.commands.specs.Meets.{now, Meets, MeetsBy, MeetsSweep};
 ghost use Rattle.commands.specs.Sweeping.{ends_swept, Writes};
 
 use crate::files::ending_after_line;

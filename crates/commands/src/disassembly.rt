@@ -6,7 +6,8 @@ ghost use Rattle.emu_system.specs.Image.{elf};
 ghost use Rattle.emu_outcome.specs.Outcome.{most_pages, outcome_of_words};
 ghost use Rattle.commands.specs.Lines.{ends_dis};
 ghost use Rattle.commands.specs.Programs.{outcome_over};
-ghost use Rattle.commands.specs.Promises.{is_silent, now, Meets};
+ghost use Rattle.commands.specs.Promises.{is_silent};
+ghost use Rattle.commands.specs.Meets.{now, Meets};
 
 use crate::files::{ending_after_line, ending_after_output, file_bytes};
 use command_lines::word;

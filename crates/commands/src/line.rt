@@ -4,11 +4,12 @@ ghost use Rattle.io_gate.specs.Streams.{Rose, Causes};
 ghost use Rattle.command_model.specs.CommandLine.{line};
 ghost use Rattle.command_model.specs.Refusals.{words_line};
 ghost use Rattle.emu_outcome.specs.Outcome.{result_of};
-ghost use Rattle.command_lines.specs.Places.{HasArguments, HasLimit, HasPlaces};
-ghost use Rattle.commands.specs.Lines.{takes_input, names_file, may_end, sweeps, MeetsLine, RefusesLine, MissesFirst, EndsMissing, TakesLast};
+ghost use Rattle.command_lines.specs.LineLimits.{HasArguments, HasLimit, HasPlaces};
+ghost use Rattle.commands.specs.Lines.{takes_input, names_file, may_end, sweeps, RefusesLine, MissesFirst, EndsMissing, TakesLast};
+ghost use Rattle.commands.specs.Meets.{MeetsLine, now};
 ghost use Rattle.commands.specs.Programs.{outcome_over};
 ghost use Rattle.emu_system.specs.Gained.{Gains};
-ghost use Rattle.commands.specs.Promises.{is_failure, is_silent, now, NamesNoFile};
+ghost use Rattle.commands.specs.Promises.{is_failure, is_silent, NamesNoFile};
 
 use crate::disassembly::disassemble_file;
 use crate::files::ending_after_line;

@@ -8,7 +8,8 @@ ghost use Rattle.listing_model.specs.Image.{image_of_bytes};
 ghost use Rattle.emu_outcome.specs.Outcome.{outcome_of_listing};
 ghost use Rattle.commands.specs.Lines.{ends_asm};
 ghost use Rattle.commands.specs.Programs.{outcome_over};
-ghost use Rattle.commands.specs.Promises.{is_silent, now, Meets};
+ghost use Rattle.commands.specs.Promises.{is_silent};
+ghost use Rattle.commands.specs.Meets.{now, Meets};
 
 use crate::files::{ending_after_line, ending_after_output, file_bytes};
 use crate::texts::line_of_place;

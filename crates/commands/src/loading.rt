@@ -9,7 +9,8 @@ ghost use Rattle.load_model.specs.Load.{load_pages};
 ghost use Rattle.load_program.specs.Listing.{listing};
 ghost use Rattle.emu_outcome.specs.Outcome.{outcome_of_load, outcome_of_loaded};
 ghost use Rattle.commands.specs.Lines.{ends_load};
-ghost use Rattle.commands.specs.Promises.{is_silent, now, Meets};
+ghost use Rattle.commands.specs.Promises.{is_silent};
+ghost use Rattle.commands.specs.Meets.{now, Meets};
 
 use crate::files::{ending_after_line, ending_after_output};
 use asm_image::{AsmError, assemble};

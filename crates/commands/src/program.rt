@@ -1,10 +1,10 @@
 //! The program that a line names, and its machine before the first step.
 ghost use Rattle.std.specs.Prelude.{◌≡◌, ◌<◌, ◌≤◌, [], map, length, string_bytes, IfOk, false};
-ghost use Rattle.emu_model.specs.Access.{fresh_marks};
+ghost use Rattle.emu_model.specs.Marks.{fresh_marks};
 ghost use Rattle.mark_laws.specs.Marked.{parts_with};
 ghost use Rattle.elf_image.specs.Images.{seen_image};
 ghost use Rattle.elf_image.specs.Loadable.{IsLoadable};
-ghost use Rattle.emu_system.specs.Arguments.{AreArguments};
+ghost use Rattle.emu_system.specs.ArgumentLimits.{AreArguments};
 ghost use Rattle.emu_system.specs.Start.{opening};
 ghost use Rattle.commands.specs.Programs.{arguments_of, opening_of};
 

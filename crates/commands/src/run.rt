@@ -1,8 +1,9 @@
 //! The command `run`: from the file of a program to its report.
 ghost use Rattle.std.specs.Prelude.{◌≡◌, ◌≢◌, ◌<◌, ◌≤◌, ◌⊎◌, [], map, length, string_bytes, get_or, IfSome, Some, false, true};
 ghost use Rattle.io_gate.specs.Images.{MissesNamed};
-ghost use Rattle.io_gate.specs.Streams.{Rose, Causes, HasCause, PutsAll};
-ghost use Rattle.emu_system.specs.Arguments.{AreArguments};
+ghost use Rattle.io_gate.specs.Streams.{Rose, Causes, HasCause};
+ghost use Rattle.io_gate.specs.Pieces.{PutsAll};
+ghost use Rattle.emu_system.specs.ArgumentLimits.{AreArguments};
 ghost use Rattle.emu_system.specs.Image.{elf};
 ghost use Rattle.emu_system.specs.Start.{with_input};
 ghost use Rattle.emu_run.specs.Run.{run};
@@ -13,7 +14,8 @@ ghost use Rattle.emu_machine.specs.Machines.{has_ended};
 ghost use Rattle.commands.specs.Endings.{ending_by};
 ghost use Rattle.commands.specs.Lines.{ends_run};
 ghost use Rattle.commands.specs.Programs.{arguments_of, outcome_over, run_line_of};
-ghost use Rattle.commands.specs.Promises.{is_failure, now, Meets};
+ghost use Rattle.commands.specs.Promises.{is_failure};
+ghost use Rattle.commands.specs.Meets.{now, Meets};
 
 use crate::files::{ending_after_line, file_bytes};
 use crate::program::{Program, open_machine};

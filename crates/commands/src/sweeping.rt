@@ -4,13 +4,13 @@ ghost use Rattle.io_gate.specs.Images.{MissesNamed};
 ghost use Rattle.io_gate.specs.Streams.{Rose, Causes};
 ghost use Rattle.elf_image.specs.Images.{seen_image};
 ghost use Rattle.elf_image.specs.Loadable.{IsLoadable};
-ghost use Rattle.emu_system.specs.Arguments.{AreArguments};
+ghost use Rattle.emu_system.specs.ArgumentLimits.{AreArguments};
 ghost use Rattle.emu_system.specs.Image.{elf};
 ghost use Rattle.emu_outcome.specs.Outcome.{outcome_of_lengths, outcome_of_sweep, outcome_of_swept};
 ghost use Rattle.vl_sweep.specs.Sweeps.{sweep_of};
 ghost use Rattle.commands.specs.Lines.{ends_sweep};
 ghost use Rattle.commands.specs.Programs.{outcome_over, swept_arguments, sweep_line_of};
-ghost use Rattle.commands.specs.Promises.{now, MeetsSweep};
+ghost use Rattle.commands.specs.Meets.{now, MeetsSweep};
 ghost use Rattle.commands.specs.Sweeping.{ends_swept, Writes};
 
 use crate::arguments::arguments;

@@ -1,13 +1,14 @@
 //! The command `threads`: from the image of a program and the text of a schedule to the report of its contexts.
 ghost use Rattle.std.specs.Prelude.{◌≡◌, ◌≢◌, ◌<◌, ◌≤◌, ◌++◌, map, length, string_bytes, IfOk, MatchResult, Some, Ok, false, true};
-ghost use Rattle.io_gate.specs.Streams.{Causes, HasCause, PutsAll};
+ghost use Rattle.io_gate.specs.Streams.{Causes, HasCause};
+ghost use Rattle.io_gate.specs.Pieces.{PutsAll};
 ghost use Rattle.elf_image.specs.Images.{seen_image};
 ghost use Rattle.elf_image.specs.Loadable.{IsLoadable};
-ghost use Rattle.emu_system.specs.Arguments.{AreArguments};
+ghost use Rattle.emu_system.specs.ArgumentLimits.{AreArguments};
 ghost use Rattle.guest_schedule.specs.Reading.{IsErrorOf};
 ghost use Rattle.guest_schedule.specs.Schedule.{schedule_of_file};
 ghost use Rattle.guest_threads.specs.Ends.{has_ended};
-ghost use Rattle.thread_model.specs.ThreadLaws.{with_input};
+ghost use Rattle.thread_model.specs.Threads.{with_input};
 ghost use Rattle.thread_model.specs.Threads as model;
 ghost use Rattle.thread_model.specs.Worlds.{opened};
 ghost use Rattle.command_model.specs.WorldReports.{contexts_lines, stop_line};
@@ -15,7 +16,7 @@ ghost use Rattle.emu_outcome.specs.Outcome.{ending_of_world, outcome_of_schedule
 ghost use Rattle.commands.specs.Endings.{stop_by};
 ghost use Rattle.commands.specs.Lines.{ends_threads};
 ghost use Rattle.commands.specs.Programs.{arguments_of, opening_of};
-ghost use Rattle.commands.specs.Promises.{now, Meets};
+ghost use Rattle.commands.specs.Meets.{now, Meets};
 
 use crate::files::ending_after_line;
 use crate::program::{Program, open_machine};

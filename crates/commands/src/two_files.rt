@@ -4,11 +4,12 @@ ghost use Rattle.io_gate.specs.Images.{MissesNamed};
 ghost use Rattle.io_gate.specs.Streams.{Rose, Causes};
 ghost use Rattle.elf_image.specs.Images.{seen_image};
 ghost use Rattle.elf_image.specs.Loadable.{IsLoadable};
-ghost use Rattle.emu_system.specs.Arguments.{AreArguments};
+ghost use Rattle.emu_system.specs.ArgumentLimits.{AreArguments};
 ghost use Rattle.emu_system.specs.Image.{elf};
 ghost use Rattle.emu_outcome.specs.Outcome.{file_at};
 ghost use Rattle.commands.specs.Programs.{arguments_of, opening_of};
-ghost use Rattle.commands.specs.Promises.{now, settles_by, MeetsBy, NamesNoFile};
+ghost use Rattle.commands.specs.Promises.{settles_by, NamesNoFile};
+ghost use Rattle.commands.specs.Meets.{now, MeetsBy};
 ghost use Rattle.commands.specs.SecondFiles.{ends_by, file_reads_first, outcome_by, outcome_from, outcome_of_both, outcome_with, text_reads_first, TakesLater};
 
 use crate::debugger::debug_image;

@@ -3,7 +3,8 @@
 
 ghost use Rattle.std.specs.Prelude.{◌≡◌, ◌%◌, ◌^◌, ◌⊎◌};
 ghost use Rattle.emu_bits.specs.Flags.{cond_holds};
-ghost use Rattle.emu_model.specs.State.{IsSoundCore, read_x, read_x_sp, with_x, with_x_sp, with_pc, zero_core};
+ghost use Rattle.emu_model.specs.State.{read_x, read_x_sp, with_x, with_x_sp, with_pc, zero_core};
+ghost use Rattle.emu_model.specs.SoundState.{IsSoundCore};
 
 use emu_bits::{Cond, Flags, Reg};
 pub use emu_model::{Effect, Trap, TrapKind};
@@ -21,7 +22,9 @@ pub struct Core {
 }
 
 impl Model for Core {
-    ghost use Rattle.emu_model.specs.State.{Core as CoreState, coded_core, IsSoundCore};
+    ghost use Rattle.emu_model.specs.State.{Core as CoreState};
+    ghost use Rattle.emu_model.specs.Codes.{coded_core};
+    ghost use Rattle.emu_model.specs.SoundState.{IsSoundCore};
 
     ghost Value = { CoreState };
 

@@ -1,7 +1,7 @@
 -- Calls one after the other, and what is left to do.
 use Rattle.std.proofs.Common.{◌≡◌, ℕ, Bool, true, false, List, [], Option, Some, None, Result, Ok, Err, refl, sym, ap, subst, ◌∙◌, append-nil}
 use Rattle.io_gate.specs.declared.streams.Failed.{Failed}
-use Rattle.io_gate.specs.Streams.{PutsAll}
+use Rattle.io_gate.specs.Pieces.{PutsAll}
 use Rattle.emu_model.specs.Access.{Marks}
 use Rattle.emu_model.specs.State.{Parts, State}
 use Rattle.emu_machine.specs.Machines.{MachineState}

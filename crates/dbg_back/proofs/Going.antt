@@ -17,7 +17,8 @@ use Rattle.dbg_core.specs.declared.points.Stop.{Stop}
 use Rattle.dbg_core.specs.declared.points.Stop.TheVariants.{Ended, Watch, Break, Spent}
 use Rattle.dbg_core.specs.Stops.{HasEnded, first_met, line_of_stop, met_or, spent_met}
 use Rattle.back_model.specs.CourseLaws.{moved_one}
-use Rattle.back_model.specs.SessionBack.{Course, ending_text, go, go-zero, moved, moved-zero, put, stepped, stopped_or}
+use Rattle.back_model.specs.SessionBack.{Course, ending_text, go, moved, put, stepped, stopped_or}
+use Rattle.back_model.specs.SessionBackEquations.{go-zero, moved-zero}
 use Rattle.dbg_back.specs.Walks.{IsIn, advanced, part_end}
 use Rattle.dbg_back.proofs.Courses.{Appends, appends_go, appends_put, go_one, go_over, stepped_counts}
 use Rattle.dbg_back.proofs.Running.{part_below}

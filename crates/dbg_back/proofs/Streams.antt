@@ -2,7 +2,8 @@
 use Rattle.std.proofs.Common.{◌≡◌, ℕ, Bool, true, false, List, [], ◌++◌, take, drop, Option, Some, None, IfSome, Result, Ok, Err, refl, sym, ap, subst, ◌∙◌, append_assoc, append-nil, arith}
 use Rattle.std.proofs.lemmas.List.{take-append-drop}
 use Rattle.io_gate.specs.declared.streams.Failed.{Failed}
-use Rattle.io_gate.specs.Streams.{Causes, HasCause, PutsAll, Rose}
+use Rattle.io_gate.specs.Streams.{Causes, HasCause, Rose}
+use Rattle.io_gate.specs.Pieces.{PutsAll}
 use Rattle.emu_model.specs.State.{IsPrefix}
 use Rattle.emu_run.specs.RunLaws.{prefix_trans}
 use Rattle.emu_system.specs.Gained.{Gains}

@@ -2,7 +2,7 @@
 use Rattle.std.proofs.Common.{◌≡◌, ◌<◌, ◌≤◌, ℕ, suc, ◌+◌, ◌-◌, Bool, true, false, List, Option, Some, None, is_none, if◌then◌else◌, Result, Ok, sym, ap, ◌∙◌, arith}
 use Rattle.std.specs.Prelude.{position}
 use Rattle.io_gate.specs.declared.streams.Failed.{Failed}
-use Rattle.io_gate.specs.Streams.{PutsAll}
+use Rattle.io_gate.specs.Pieces.{PutsAll}
 use Rattle.emu_model.specs.declared.access.Access.{Access}
 use Rattle.emu_model.specs.State.{Parts, State}
 use Rattle.emu_system.specs.Start.{with_input}
@@ -11,7 +11,8 @@ use Rattle.emu_run.specs.Run.{goes_on, run}
 use Rattle.emu_run.specs.RunLaws.{Moves, moves_not}
 use Rattle.emu_machine.specs.Ends.{Becomes}
 use Rattle.dbg_model.specs.declared.script.Stop.{Stop}
-use Rattle.dbg_model.specs.Session.{Marks, no_marks, is_touched, mark_met, watch_met, stop_line, stopped_or, go, go-zero}
+use Rattle.dbg_model.specs.Session.{Marks, no_marks, is_touched, mark_met, watch_met, stop_line, stopped_or, go}
+use Rattle.dbg_model.specs.SessionEquations.{go-zero}
 use Rattle.dbg_core.specs.declared.ends.SessionEnd.{SessionEnd}
 use Rattle.dbg_core.specs.declared.ends.SessionEnd.TheVariants.{Done}
 use Rattle.dbg_core.specs.Ends.{Obeys, is_fault, end_of_put}

@@ -1,7 +1,7 @@
 -- What a part of a session leaves of the machine, also where it was broken off.
 use Rattle.std.proofs.Common.{◌≡◌, ◌<◌, ◌≤◌, ℕ, zero, suc, ◌-◌, Bool, true, false, List, ◌++◌, Option, Some, None, is_none, IfSome, Result, Ok, Err, refl, sym, ap, subst, ◌∙◌, arith}
 use Rattle.io_gate.specs.declared.streams.Failed.{Failed}
-use Rattle.io_gate.specs.Streams.{PutsAll}
+use Rattle.io_gate.specs.Pieces.{PutsAll}
 use Rattle.emu_model.specs.State.{Parts, State}
 use Rattle.emu_system.specs.Start.{with_input}
 use Rattle.emu_run.specs.Step.{step}

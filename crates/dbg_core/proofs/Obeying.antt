@@ -2,7 +2,8 @@
 use Rattle.std.proofs.Common.{◌≡◌, ◌≤◌, ℕ, Bool, true, false, List, take, drop, Option, Some, None, is_none, is_some, ◌||◌, ◌-◌, Result, Ok, Err, IfSome, refl, sym, ap, subst, ◌∙◌, arith}
 use Rattle.std.proofs.lemmas.List.{take-append-drop}
 use Rattle.io_gate.specs.declared.streams.Failed.{Failed}
-use Rattle.io_gate.specs.Streams.{Causes, HasCause, PutsAll}
+use Rattle.io_gate.specs.Streams.{Causes, HasCause}
+use Rattle.io_gate.specs.Pieces.{PutsAll}
 use Rattle.emu_model.specs.declared.trap.Ended.{Ended}
 use Rattle.emu_model.specs.declared.trap.Ended.TheVariants.{Exit, Trap as Trapped}
 use Rattle.emu_model.specs.State.{Parts, State}

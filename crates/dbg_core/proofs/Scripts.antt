@@ -10,7 +10,8 @@ use Rattle.emu_model.specs.State.{Parts, State}
 use Rattle.emu_system.specs.Start.{with_input}
 use Rattle.dbg_model.specs.declared.script.Command.{Command}
 use Rattle.dbg_model.specs.declared.script.Command.TheVariants.{Step, Go, Break, Watch, Regs, Vl, Zreg, Preg, Ffr, Lanes, Mem, Back}
-use Rattle.dbg_model.specs.Commands.{is_break, is_watch, is_within}
+use Rattle.dbg_model.specs.Commands.{is_break, is_watch}
+use Rattle.dbg_model.specs.ScriptLimits.{is_within}
 use Rattle.dbg_model.specs.Session.{Marks, marked, obeyed, obeyed_all, shown}
 use Rattle.dbg_core.specs.declared.ends.SessionEnd.{SessionEnd}
 use Rattle.dbg_core.specs.declared.ends.SessionEnd.TheVariants.{Done}

@@ -10,7 +10,8 @@ use Rattle.emu_run.specs.RunLaws.{rest_all, Moves, moves_not, moves_trans, prefi
 use Rattle.dbg_model.specs.declared.script.Command.{Command}
 use Rattle.dbg_model.specs.declared.script.Command.TheVariants.{Step, Go, Break, Watch, Regs, Vl, Zreg, Preg, Ffr, Lanes, Mem, Back}
 use Rattle.dbg_model.specs.declared.script.Stop.{Stop}
-use Rattle.dbg_model.specs.Session.{Marks, no_marks, marked, is_touched, mark_met, watch_met, shown, stop_line, printed, ending_printed, stepped_text, stepped, stopped_or, go, go-zero, go-suc, obeyed, obeyed_all}
+use Rattle.dbg_model.specs.Session.{Marks, no_marks, marked, is_touched, mark_met, watch_met, shown, stop_line, printed, ending_printed, stepped_text, stepped, stopped_or, go, obeyed, obeyed_all}
+use Rattle.dbg_model.specs.SessionEquations.{go-zero, go-suc}
 use Rattle.emu_machine.proofs.Composed.{Blind, Moving}
 use Rattle.emu_machine.proofs.Runs.{run_moving}
 

@@ -5,7 +5,8 @@ ghost use Rattle.emu_system.specs.Start.{with_input};
 ghost use Rattle.linux_calls.specs.Names.{NamesRead};
 ghost use Rattle.emu_machine.specs.Machines.{MakesWrite};
 ghost use Rattle.emu_machine.specs.Ends.{Becomes, TakesWithin, Puts};
-ghost use Rattle.dbg_model.specs.Commands.{has_back, is_within};
+ghost use Rattle.dbg_model.specs.Commands.{has_back};
+ghost use Rattle.dbg_model.specs.ScriptLimits.{is_within};
 ghost use Rattle.dbg_model.specs.Session as model;
 ghost use Rattle.dbg_core.specs.Ends.{Leaves, Obeys, StandsIn, is_fault};
 

@@ -1,9 +1,10 @@
 //! The lines that a session puts to the output.
 ghost use Rattle.std.specs.Prelude.{◌+◌, IsTrue};
-ghost use Rattle.io_gate.specs.Streams.{HasCause, PutsAll};
+ghost use Rattle.io_gate.specs.Streams.{HasCause};
+ghost use Rattle.io_gate.specs.Pieces.{PutsAll};
 ghost use Rattle.emu_run.specs.Reports.{ending_line};
 ghost use Rattle.emu_run.specs.Registers.{scalar_lines};
-ghost use Rattle.dbg_model.specs.Commands.{is_within};
+ghost use Rattle.dbg_model.specs.ScriptLimits.{is_within};
 ghost use Rattle.dbg_model.specs.Session.{lanes_line, length_line, shown, stepped_text, stop_line};
 ghost use Rattle.dbg_core.specs.Stops.{HasEnded, line_of_stop, shown_behind};
 

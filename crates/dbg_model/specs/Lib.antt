@@ -1,4 +1,6 @@
 pub mod Commands
+pub mod ScriptLimits
 pub mod Reached
 pub mod Script
 pub mod Session
+pub mod SessionEquations

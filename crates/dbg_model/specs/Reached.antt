@@ -9,7 +9,8 @@ use Rattle.emu_run.specs.RunLaws.{behind, step_counts, until_end_none, until_end
 use Rattle.dbg_model.specs.declared.script.Command.{Command}
 use Rattle.dbg_model.specs.declared.script.Command.TheVariants.{Step, Go, Break, Watch, Regs, Vl, Zreg, Preg, Ffr, Lanes, Mem, Back}
 use Rattle.dbg_model.specs.declared.script.Stop.{Stop}
-use Rattle.dbg_model.specs.Session.{Marks, no_marks, marked, mark_met, printed, stopped_or, go, go-zero, go-suc, obeyed, obeyed_all, session, ending_printed}
+use Rattle.dbg_model.specs.Session.{Marks, no_marks, marked, mark_met, printed, stopped_or, go, obeyed, obeyed_all, session, ending_printed}
+use Rattle.dbg_model.specs.SessionEquations.{go-zero, go-suc}
 
 -- some number of steps, at most the limit, leads from one machine and its input to the other, with none past the machine's end
 pub record IsReached (limit : ℕ) (old new : State) : Type 0 where

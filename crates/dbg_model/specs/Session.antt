@@ -3,8 +3,7 @@
 --
 -- The machine moves by steps alone, and stands still once it has ended or has counted its budget. What commands print goes to the
 -- output, behind what the program has written there.
-use Rattle.std.proofs.Common.{refl}
-use Rattle.std.specs.Prelude.{◌≡◌, ℕ, zero, suc, ◌+◌, ◌-◌, ◌*◌, ◌/◌, min, Bool, ◌&&◌, List, [], ◌∷◌, ◌++◌, position, codes, Option, Some, None, is_none, nat_eq, nat_lt, if◌then◌else◌}
+use Rattle.std.specs.Prelude.{ℕ, zero, suc, ◌+◌, ◌-◌, ◌*◌, ◌/◌, min, Bool, ◌&&◌, List, [], ◌∷◌, ◌++◌, position, codes, Option, Some, None, is_none, nat_eq, nat_lt, if◌then◌else◌}
 use Rattle.std.specs.Fmt.{decimal}
 use Rattle.std.specs.List.{list_any}
 use Rattle.emu_bits.specs.Flags.{size_of}
@@ -174,12 +173,3 @@ obeyed_all (command ∷ commands) marks budget st = obeyed_all commands (marked 
 -- a session with a budget of steps, at first without marks
 abbrev pub session : List Command → ℕ → State → State
 session commands budget st = obeyed_all commands no_marks budget st
-
--- the equations, for proofs
-pub go-zero : (marks : Marks) (st : State) → go marks st 0 ≡ ending_printed st
-unfolding go
-go-zero marks st = refl
-
-pub go-suc : (marks : Marks) (st : State) (k : ℕ) → go marks st (suc k) ≡ (if goes_on st then stopped_or (mark_met marks (accesses st.parts) (step st).parts) (step st) (go marks (step st) k) else ending_printed st)
-unfolding go
-go-suc marks st k = refl

@@ -1,6 +1,7 @@
 //! A script of the debugger: its commands, and why a script is refused.
 ghost use Rattle.std.specs.Prelude.{◌≡◌, ◌<◌, [], ◌∷◌, ◌++◌, IsTrue, OnErr, OnOk};
-ghost use Rattle.dbg_model.specs.Commands.{HasRoom, IsScript, has_back, is_back, is_within};
+ghost use Rattle.dbg_model.specs.Commands.{has_back, is_back};
+ghost use Rattle.dbg_model.specs.ScriptLimits.{HasRoom, IsScript, is_within};
 
 use emu_bits::{Esize, Pred, Reg};
 use std::alloc::{AllocError, Global};
@@ -98,7 +99,7 @@ pub struct Script {
 impl Model for Script {
     ghost use Rattle.std.specs.Prelude.{List};
     ghost use Rattle.dbg_model.specs.declared.script.Command.{Command};
-    ghost use Rattle.dbg_model.specs.Commands.{IsScript};
+    ghost use Rattle.dbg_model.specs.ScriptLimits.{IsScript};
 
     ghost Value = { List Command };
 

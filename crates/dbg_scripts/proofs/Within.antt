@@ -9,7 +9,7 @@ use Rattle.dbg_model.specs.declared.script.Command.{Command}
 use Rattle.dbg_model.specs.declared.script.Command.TheVariants.{Step, Go, Break, Watch, Regs, Vl, Zreg, Preg, Ffr, Lanes, Mem, Back}
 use Rattle.dbg_model.specs.declared.script.ScriptWhy.{ScriptWhy}
 use Rattle.dbg_model.specs.declared.script.ScriptWhy.TheVariants.{MissingWord, BadNumber, OutOfRange, ExtraWord, UnknownCommand}
-use Rattle.dbg_model.specs.Commands.{is_within}
+use Rattle.dbg_model.specs.ScriptLimits.{is_within}
 use Rattle.line_words.specs.Lines.{number_of_word}
 use Rattle.line_words.specs.Refusals.{and_then}
 use Rattle.dbg_model.specs.Script.{in_range, number_within, argument, size_argument, whole, step_of, break_of, watch_of, zreg_of, preg_of, lanes_of, mem_of, back_of, command_named, command_of, most_number}

@@ -40,6 +40,7 @@ impl KnownWord {
     }
 
     /// The word of `pfalse p0.b`.
+    #[tactic(auto, unfolding(sve_insn::specs::Predicates::pfalse))]
     pub(crate) fn first() -> KnownWord {
         match Sve::new(SveForm::Pfalse { pd: Pred::at(0, 0) }) {
             Some(insn) => KnownWord::of(insn),

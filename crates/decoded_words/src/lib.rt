@@ -5,6 +5,6 @@
 #![tactic(auto)]
 
 mod known;
-mod words;
+mod remembered_words;
 
-pub use words::DecodedWords;
+pub use remembered_words::DecodedWords;

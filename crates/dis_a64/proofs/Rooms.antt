@@ -7,9 +7,10 @@ use Rattle.a64_texts.specs.Data.{data_lines}
 use Rattle.a64_texts.specs.Flow.{flow_lines}
 use Rattle.a64_texts.specs.Memory.{memory_lines, ls_reg_texts, ls_reg_lines}
 use Rattle.a64_texts.specs.BitMoves.{last_lines}
-use Rattle.a64_texts.specs.Table.{line_texts, a64_lines, texts_open}
+use Rattle.a64_texts.specs.Table.{line_texts, a64_lines}
+use Rattle.a64_texts.specs.Opened.{texts_open}
 use Rattle.a64_texts.specs.Law.{texts_of}
-use Rattle.a64_insn.specs.Table.{line_number}
+use Rattle.a64_insn.specs.Rows.{line_number}
 use Rattle.text_model.specs.Words.{dictionary}
 use Rattle.text_print.specs.Lines.{some_lines}
 use Rattle.text_print.specs.Room.{longest, all_have_room, all_lines_have_room}

@@ -10,7 +10,8 @@ ghost use Rattle.insn_texts.specs.Disassembly.{word_text, word_line, skipped, wo
 ghost use Rattle.elf_image.specs.Images.{seen_image};
 ghost use Rattle.elf_image.specs.Loadable.{IsLoadableSegment, AreLoadable};
 ghost use Rattle.dis_image.specs.Segments.{executable_lines};
-ghost use Rattle.io_gate.specs.Streams.{HasCause, PutsAll};
+ghost use Rattle.io_gate.specs.Streams.{HasCause};
+ghost use Rattle.io_gate.specs.Pieces.{PutsAll};
 
 use arrayvec::ArrayString;
 use byteorder::{ByteOrder, LittleEndian};

@@ -5,21 +5,25 @@ use Rattle.std.proofs.lemmas.Nat.{and_assoc, and_le_r}
 use Rattle.std.specs.Prelude.{option_map, option_and_then}
 use lib.Bits.{and_self}
 use Rattle.emu_bits.specs.Fields.{field, bit}
-use Rattle.emu_bits.specs.Rows.{◌to◌, outside, values, Line, Row, number_of, where_it_holds, row_in, line_at, decode, instruction, IsRow}
+use Rattle.emu_bits.specs.Rows.{◌to◌, outside, values, Line, Row, number_of, where_it_holds, row_in, decode, instruction}
+use Rattle.emu_bits.specs.RowLaws.{line_at, IsRow}
 use Rattle.emu_bits.proofs.Encoding.{answer_of, fixed_field}
 use Rattle.text_model.specs.Reading.{Pattern}
 use Rattle.text_model.specs.Text.{chosen}
-use Rattle.text_model.specs.Aim.{Reach, reach_of, reach_bits, reached, aimed}
+use Rattle.text_model.specs.Aim.{Reach, reach_of, reach_bits, aimed}
+use Rattle.text_model.specs.ReadBack.{reached}
 use Rattle.a64_insn.specs.declared.form.A64Form.{A64Form}
 use Rattle.a64_insn.specs.declared.form.A64Form.TheVariants.{Adr, Branch, BranchCond, Compare, Test, LsLiteral}
-use Rattle.a64_insn.specs.Table.{row_of, a64_table, line_number}
+use Rattle.a64_insn.specs.Table.{a64_table}
+use Rattle.a64_insn.specs.Rows.{row_of, line_number}
 use Rattle.a64_insn.specs.Data.{adr}
 use Rattle.a64_insn.specs.Flow.{branch, branch_cond, compare, test_branch}
 use Rattle.a64_insn.specs.Memory.{ls_literal}
 use Rattle.a64_insn.specs.Memory.{ls_literal_holds_for}
 use Rattle.a64_insn.specs.declared.lines.TheConstants as line
 use Rattle.a64_rows.proofs.Laws.{one_row, form_back, word_again}
-use Rattle.a64_texts.specs.Table.{line_texts, texts_open}
+use Rattle.a64_texts.specs.Table.{line_texts}
+use Rattle.a64_texts.specs.Opened.{texts_open}
 use Rattle.a64_texts.specs.Law.{word_of, texts_of, reach_by, reach, unaimed_word, target_at}
 use Rattle.a64_texts.proofs.Totals.{listed, in_row, held}
 use Rattle.emu_run.specs.declared.insn.Insn.TheVariants.{A64}

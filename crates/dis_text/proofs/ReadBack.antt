@@ -2,12 +2,14 @@
 use Rattle.std.proofs.Common.{◌≡◌, ℕ, ◌-◌, ◌^◌, ◌<◌, ◌≤◌, ◌==◌, Bool, true, Option, Some, None, Result, Ok, Err, List, [], ◌∷◌, length, bit_and, refl, sym, ap, ap₂, ◌∙◌, subst}
 use Rattle.std.proofs.lemmas.Bool.{and_parts}
 use Rattle.std.specs.Prelude.{option_map}
-use Rattle.emu_bits.specs.Rows.{instruction, IsRow}
+use Rattle.emu_bits.specs.Rows.{instruction}
+use Rattle.emu_bits.specs.RowLaws.{IsRow}
 use Rattle.text_tokens.specs.Tokens.{tokens}
 use Rattle.text_model.specs.declared.slots.Refusal.{Refusal}
 use Rattle.text_model.specs.Slots.{all_fit}
 use Rattle.text_model.specs.Reading.{Pattern}
-use Rattle.text_model.specs.Statement.{Statement, destination_of, reads_first, reads_text, reads_tokens}
+use Rattle.text_model.specs.Statement.{Statement, reads_tokens}
+use Rattle.text_model.specs.ReadBack.{destination_of, reads_first, reads_text}
 use Rattle.text_model.specs.Text.{told_bits, shows, chosen, text_by, text_of, text, slot_tokens}
 use Rattle.text_model.proofs.Tables.{chosen_is}
 use Rattle.text_code.specs.Reads.{all_sound}
@@ -16,12 +18,14 @@ use Rattle.text_print.proofs.Chosen.{line_sound, some_sound, chosen_sound, chose
 use Rattle.text_print.proofs.Tokens.{tokens_are, slots_no_colon, text_length}
 use Rattle.a64_insn.specs.declared.form.A64Form.{A64Form}
 use Rattle.a64_insn.specs.Table as base_table
+use Rattle.a64_insn.specs.Rows as base_rows
 use Rattle.a64_texts.specs.Law as base
 use Rattle.a64_texts.specs.Table.{a64_lines, a64_patterns}
 use Rattle.a64_texts.proofs.Legible as base_checked
 use Rattle.a64_texts.proofs.ReadBack as base_back
 use Rattle.sve_insn.specs.declared.form.SveForm.{SveForm}
 use Rattle.sve_insn.specs.Table as vector_table
+use Rattle.sve_insn.specs.Rows as vector_rows
 use Rattle.sve_rows.proofs.Laws as vector_laws
 use Rattle.sve_rows.proofs.Listed as vector_listed
 use Rattle.sve_rows.proofs.Alone as vector_alone
@@ -39,9 +43,9 @@ use Rattle.listing_model.specs.LineOf.{line_of}
 use Rattle.listing_model.specs.LineOf.{instruction as instruction_of}
 use Rattle.listing_model.specs.declared.line.Body.TheVariants.{Plain, Aimed}
 use Rattle.insn_texts.specs.Statements.{with_target, target_of, made, either, reads, statements}
-use Rattle.insn_texts.specs.Texts.{is_canonical}
+use Rattle.insn_texts.specs.Canonical.{is_canonical}
 use Rattle.dis_text.specs.ReadBack.{IsInstruction, IsReadBack}
-use Rattle.a64_insn.specs.Table.{line_number}
+use Rattle.a64_insn.specs.Rows.{line_number}
 use Rattle.dis_a64.specs.Lines.{first_line, line_count}
 use Rattle.dis_a64.proofs.Rooms as base_room
 use Rattle.dis_sve.proofs.Rooms as vector_room
@@ -88,7 +92,7 @@ base_sound_is f = sym (ap all_sound (base_room.lines_are f)) ∙ some_sound a64_
 abbrev base_statement_of : A64Form → ℕ → Statement
 base_statement_of f pc = record { word = base.unaimed_word f; target = destination_of (base.target_at f pc) }
 
-module _ (f : A64Form) (pc : ℕ) (v : IsRow (base_table.row_of f)) (law : base.IsReadBack f pc) (p : Pattern) (c : chosen (base.texts_of f) (base.word_of f) ≡ Some p) where
+module _ (f : A64Form) (pc : ℕ) (v : IsRow (base_rows.row_of f)) (law : base.IsReadBack f pc) (p : Pattern) (c : chosen (base.texts_of f) (base.word_of f) ≡ Some p) where
   abbrev base_tokens : List (List ℕ)
   base_tokens = slot_tokens p.slots (base.word_of f) pc
 
@@ -120,7 +124,7 @@ module _ (f : A64Form) (pc : ℕ) (v : IsRow (base_table.row_of f)) (law : base.
       let b = aimed_back f p pc a v c t (law.aimed a t) in
       record { body = Aimed (A64 b.form) (Address a); line = base_line b.form (Some a) b.found t; is = record { address = a; target = refl; aimed = b.back } }
 
-base_read_back : (f : A64Form) (pc : ℕ) → IsRow (base_table.row_of f) → base.is_canonical_form f ≡ true → pc < 2 ^ 64 → IsReadBack (A64 f) pc
+base_read_back : (f : A64Form) (pc : ℕ) → IsRow (base_rows.row_of f) → base.is_canonical_form f ≡ true → pc < 2 ^ 64 → IsReadBack (A64 f) pc
 base_read_back f pc v c h =
     let law = base_back.read_back f pc v c h in
     let t = has_pattern base.in_table a64_patterns (chosen (base.texts_of f) (base.word_of f)) (base.word_of f) pc (base_statement_of f pc) law.read in
@@ -129,10 +133,10 @@ base_read_back f pc v c h =
 -- ---- the SVE lines
 
 vector_room_is : (f : SveForm) → all_have_room (vectors.texts_of f) ≡ true
-vector_room_is f = vector_room.line_has_room (vector_table.line_number f)
+vector_room_is f = vector_room.line_has_room (vector_rows.line_number f)
 
 vector_sound_is : (f : SveForm) → all_sound (vectors.texts_of f) ≡ true
-vector_sound_is f = line_sound sve_lines (vector_table.line_number f) vector_checked.lines_sound
+vector_sound_is f = line_sound sve_lines (vector_rows.line_number f) vector_checked.lines_sound
 
 abbrev vector_statement_of : SveForm → Statement
 vector_statement_of f = record { word = vectors.word_of f; target = None }
@@ -143,10 +147,10 @@ only_vectors : (name : List ℕ) (ts : List (List ℕ)) (s : Statement) (x : Res
 only_vectors name ts s (Ok b) e h = absurd (none_by_both base.in_table vectors.in_table a64_patterns sve_patterns name ts b s apart e h)
 only_vectors name ts s (Err g) e h = ap₂ either e h
 
-own_vector : (f : SveForm) → IsRow (vector_table.row_of f) → instruction vector_table.sve_table (vectors.word_of f) ≡ Some f
-own_vector f v = vector_laws.form_back f (vectors.word_of f) (decode_encoded vector_table.sve_table (vector_table.line_number f) (vector_table.row_of f) vector_alone.sound vector_alone.alone (vector_listed.listed f) v)
+own_vector : (f : SveForm) → IsRow (vector_rows.row_of f) → instruction vector_table.sve_table (vectors.word_of f) ≡ Some f
+own_vector f v = vector_laws.form_back f (vectors.word_of f) (decode_encoded vector_table.sve_table (vector_rows.line_number f) (vector_rows.row_of f) vector_alone.sound vector_alone.alone (vector_listed.listed f) v)
 
-module _ (f : SveForm) (pc : ℕ) (v : IsRow (vector_table.row_of f)) (law : vectors.IsReadBack f) (p : Pattern) (c : chosen (vectors.texts_of f) (vectors.word_of f) ≡ Some p) where
+module _ (f : SveForm) (pc : ℕ) (v : IsRow (vector_rows.row_of f)) (law : vectors.IsReadBack f) (p : Pattern) (c : chosen (vectors.texts_of f) (vectors.word_of f) ≡ Some p) where
   vector_again : IsReadBack (Sve f) pc
   vector_again =
       let w : ℕ = vectors.word_of f in
@@ -163,7 +167,7 @@ module _ (f : SveForm) (pc : ℕ) (v : IsRow (vector_table.row_of f)) (law : vec
         is = refl;
       }
 
-vector_read_back : (f : SveForm) (pc : ℕ) → IsRow (vector_table.row_of f) → vectors.is_canonical_form f ≡ true → IsReadBack (Sve f) pc
+vector_read_back : (f : SveForm) (pc : ℕ) → IsRow (vector_rows.row_of f) → vectors.is_canonical_form f ≡ true → IsReadBack (Sve f) pc
 vector_read_back f pc v c =
     let law = vector_back.read_back f v c in
     let t = has_pattern vectors.in_table sve_patterns (chosen (vectors.texts_of f) (vectors.word_of f)) (vectors.word_of f) 0 (vector_statement_of f) law in

@@ -1,6 +1,7 @@
 -- What a table decodes a word to is a row of it.
 use Rattle.std.proofs.Common.{◌≡◌, ℕ, suc, ◌<◌, ◌==◌, cond, Bool, true, false, Option, Some, None, List, [], ◌∷◌, length, bit_and, refl, sym, subst, ◌⊎◌, arith, inl, inr}
-use Rattle.emu_bits.specs.Rows.{Place, outside, values, Line, Row, next, number_of, row_in, or_else, decode, Fit, IsRow}
+use Rattle.emu_bits.specs.Rows.{Place, outside, values, Line, Row, next, number_of, row_in, or_else, decode}
+use Rattle.emu_bits.specs.RowLaws.{Fit, IsRow}
 use Rattle.emu_bits.proofs.Encoding.{answer_of}
 use Rattle.text_model.proofs.Building.{small_at}
 

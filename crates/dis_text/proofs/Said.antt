@@ -9,7 +9,7 @@ use Rattle.emu_run.specs.Step.{decode}
 use Rattle.insn_decode.specs.Words.{word_of}
 use Rattle.insn_texts.specs.Disassembly.{word_text}
 use Rattle.insn_texts.specs.Statements.{aimed_at}
-use Rattle.insn_texts.specs.Texts.{is_canonical}
+use Rattle.insn_texts.specs.Canonical.{is_canonical}
 use Rattle.listing_model.specs.declared.line.Body.{Body}
 use Rattle.listing_model.specs.declared.line.Body.TheVariants.{Nothing, Plain, Aimed, Directive}
 use Rattle.dis_text.specs.ReadBack.{IsInstruction}

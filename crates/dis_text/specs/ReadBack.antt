@@ -1,8 +1,8 @@
 -- The text of an instruction, read as a line of a listing.
 use Rattle.std.specs.Prelude.{◌≡◌, ℕ, Some, None, Ok}
-use Rattle.emu_bits.specs.Rows.{IsRow}
-use Rattle.a64_insn.specs.Table as base
-use Rattle.sve_insn.specs.Table as vectors
+use Rattle.emu_bits.specs.RowLaws.{IsRow}
+use Rattle.a64_insn.specs.Rows as base
+use Rattle.sve_insn.specs.Rows as vectors
 use Rattle.asm_tokens.specs.declared.target.Target.{Target}
 use Rattle.asm_tokens.specs.declared.target.Target.TheVariants.{Address}
 use Rattle.emu_run.specs.declared.insn.Insn.{Insn}

@@ -3,7 +3,8 @@
 
 ghost use Rattle.std.specs.Prelude.{◌≡◌, ℕ, ◌^◌, ◌<◌, true};
 ghost use Rattle.emu_run.specs.declared.insn.Insn.{Insn};
-ghost use Rattle.insn_texts.specs.Texts.{text, is_canonical};
+ghost use Rattle.insn_texts.specs.Texts.{text};
+ghost use Rattle.insn_texts.specs.Canonical.{is_canonical};
 ghost use Rattle.dis_text.specs.ReadBack.{IsInstruction, IsReadBack};
 ghost use Rattle.dis_text.specs.Said.{IsSaid, IsShownAgain};
 

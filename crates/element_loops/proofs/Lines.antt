@@ -12,17 +12,19 @@ use Rattle.emu_model.specs.declared.access.Kind.TheVariants.{Write}
 use Rattle.emu_model.specs.Access.{Memory, address, refused, stored, value}
 use Rattle.emu_model.specs.AccessLaws.{with_bytes_split}
 use Rattle.emu_model.specs.Elements.{Element, reach}
-use Rattle.emu_model.specs.Lists.{each, each_same, each-more}
+use Rattle.emu_model.specs.Lists.{each}
+use Rattle.emu_model.specs.ListLaws.{each_same, each-more}
 use Rattle.emu_model.specs.Pages.{bytes_at, with_bytes}
 use Rattle.emu_model.specs.State.{Vectors}
 use Rattle.emu_model.specs.WithinPage.{number_in}
-use Rattle.emu_model.specs.Lengths.{IsVectorLength}
-use Rattle.vec_model.specs.Lanes.{IsLaneSize, byte_in}
+use Rattle.emu_model.specs.SoundState.{IsVectorLength}
+use Rattle.vec_model.specs.Lanes.{byte_in}
+use Rattle.vec_model.specs.LaneSizes.{IsLaneSize}
 use Rattle.vec_regs.specs.Words.{byte_of, bytes_of}
 use Rattle.vec_regs.proofs.PackedLanes.{below_quotient}
 use Rattle.element_words.specs.Placed.{lane_at}
 use Rattle.element_words.proofs.Words.{copied_lanes}
-use Rattle.sve_effects.specs.Element.{extended_by}
+use Rattle.sve_effects.specs.Lane.{extended_by}
 use Rattle.sve_effects.specs.VectorElements.{Layout, elements_below, elements_of}
 use Rattle.sve_effects.specs.VectorLoadStore.{loaded_lane, with_loaded}
 use Rattle.element_access.specs.ReachLaws.{AreStored, all_of, refused_with_stored}

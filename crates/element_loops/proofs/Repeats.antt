@@ -5,13 +5,15 @@ use Rattle.std.proofs.lemmas.Bool.{cases_lt, eq-eqb, ne_eqb}
 use Rattle.std.proofs.lemmas.List.{get_or-set_same, get_or-set_other}
 use Rattle.emu_model.specs.Access.{Memory, address, value}
 use Rattle.emu_model.specs.Elements.{Element}
-use Rattle.emu_model.specs.Lists.{each, each_same}
+use Rattle.emu_model.specs.Lists.{each}
+use Rattle.emu_model.specs.ListLaws.{each_same}
 use Rattle.emu_model.specs.Pages.{bytes_at}
 use Rattle.emu_model.specs.State.{Vectors}
 use Rattle.emu_model.specs.WithinPage.{number_in}
-use Rattle.vec_model.specs.Lanes.{IsLaneSize, byte_in}
+use Rattle.vec_model.specs.Lanes.{byte_in}
+use Rattle.vec_model.specs.LaneSizes.{IsLaneSize}
 use Rattle.vec_regs.specs.Words.{byte_of, bytes_of}
-use Rattle.sve_effects.specs.Element.{extended_by}
+use Rattle.sve_effects.specs.Lane.{extended_by}
 use Rattle.sve_effects.specs.VectorElements.{Layout, elements_below, elements_of}
 use Rattle.sve_effects.specs.VectorLoadStore.{loaded_lane}
 use Rattle.element_words.specs.Placed.{lane_at}

@@ -2,13 +2,15 @@
 use Rattle.std.proofs.Common.{◌≡◌, ◌<◌, ◌≤◌, ◌+◌, ◌-◌, ◌*◌, ◌/◌, ℕ, zero, suc, Bool, true, false, if◌then◌else◌, List, [], ◌∷◌, ◌++◌, get_or, length, Option, Some, None, inl, inr, refl, sym, ap, subst, ◌∙◌, add-one, arith}
 use Rattle.std.proofs.lemmas.Bool.{cases_lt}
 use Rattle.emu_model.specs.declared.access.Kind.{Kind}
-use Rattle.emu_model.specs.Access.{Memory, address, allowed, byte_at, refused, refused-zero, refused-suc, value, value-zero, value-suc}
+use Rattle.emu_model.specs.Access.{Memory, address, allowed, byte_at, refused, value}
+use Rattle.emu_model.specs.AccessEquations.{refused-zero, refused-suc, value-zero, value-suc}
 use Rattle.emu_model.specs.AccessLaws.{refused_split, refused_first, length_bytes_at}
 use Rattle.emu_model.specs.Elements.{Element, Reach, reach, reach_from}
-use Rattle.emu_model.specs.Lists.{each_same}
-use Rattle.emu_model.specs.Pages.{bytes_at, bytes_at-suc}
+use Rattle.emu_model.specs.ListLaws.{each_same}
+use Rattle.emu_model.specs.Pages.{bytes_at}
+use Rattle.emu_model.specs.PageEquations.{bytes_at-suc}
 use Rattle.emu_model.specs.WithinPage.{number_in}
-use Rattle.vec_model.specs.Lanes.{IsLaneSize}
+use Rattle.vec_model.specs.LaneSizes.{IsLaneSize}
 use Rattle.sve_effects.specs.VectorElements.{Layout, elements_below, elements_of}
 use Rattle.element_access.specs.ReachLaws.{all_of, goes_on, reach_append}
 use Rattle.element_loops.specs.SoFar.{element_of_lane, elements_within}

@@ -5,7 +5,8 @@ use Rattle.std.proofs.lemmas.List.{append-nil}
 use Rattle.emu_model.specs.declared.access.Access.{Access}
 use Rattle.emu_model.specs.Access.{address}
 use Rattle.emu_model.specs.Elements.{accesses_of}
-use Rattle.emu_model.specs.Lists.{each, each-more, each_same}
+use Rattle.emu_model.specs.Lists.{each}
+use Rattle.emu_model.specs.ListLaws.{each-more, each_same}
 use Rattle.emu_model.specs.State.{Vectors}
 use Rattle.sve_effects.specs.VectorElements.{Layout, elements_below}
 use Rattle.element_access.specs.ReachLaws.{accesses_append}

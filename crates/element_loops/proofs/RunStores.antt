@@ -12,12 +12,14 @@ use Rattle.emu_model.specs.declared.access.Kind.TheVariants.{Write}
 use Rattle.emu_model.specs.Access.{Memory, address, refused, stored, with_byte}
 use Rattle.emu_model.specs.AccessLaws.{refused_stored, with_bytes_split}
 use Rattle.emu_model.specs.Elements.{Element}
-use Rattle.emu_model.specs.Lengths.{IsVectorLength}
-use Rattle.emu_model.specs.Lists.{each, each_same, each-more}
+use Rattle.emu_model.specs.SoundState.{IsVectorLength}
+use Rattle.emu_model.specs.Lists.{each}
+use Rattle.emu_model.specs.ListLaws.{each_same, each-more}
 use Rattle.emu_model.specs.Pages.{with_bytes}
 use Rattle.emu_model.specs.State.{Vectors}
 use Rattle.guest_mem.proofs.Numbers.{stored_is}
-use Rattle.vec_model.specs.Lanes.{IsLaneSize, number, lane, read_z}
+use Rattle.vec_model.specs.Lanes.{number, lane, read_z}
+use Rattle.vec_model.specs.LaneSizes.{IsLaneSize}
 use Rattle.sve_effects.specs.VectorElements.{Layout, elements_below}
 use Rattle.sve_effects.specs.VectorLoadStore.{lane_stored}
 use Rattle.element_access.specs.ReachLaws.{AreStored, refused_with_stored}

@@ -4,7 +4,7 @@ use Rattle.std.specs.Int.{bytes_low_first}
 use Rattle.emu_model.specs.Elements.{Element}
 use Rattle.emu_model.specs.State.{Vectors}
 use Rattle.emu_model.specs.WithinPage.{number_in}
-use Rattle.sve_effects.specs.Element.{extended_by}
+use Rattle.sve_effects.specs.Lane.{extended_by}
 use Rattle.active_lanes.specs.Kept.{is_kept}
 use Rattle.element_loops.specs.declared.plan.Plan.{Plan}
 use Rattle.element_loops.specs.declared.plan.Places.TheVariants.{Consecutive, Bytes}

@@ -5,10 +5,12 @@ use Rattle.std.proofs.lemmas.Bool.{cases_lt}
 use Rattle.std.proofs.lemmas.List.{get_or-set_same, get_or-set_other}
 use Rattle.std.proofs.lemmas.Nat.{pow_pos, pow-add, mul-add-lt, div-add-mod'}
 use Rattle.byteorder.specs.Endian.{little_number}
-use Rattle.emu_model.specs.Lists.{each, length-each, get_or-each}
+use Rattle.emu_model.specs.Lists.{each}
+use Rattle.emu_model.specs.ListLaws.{length-each, get_or-each}
 use Rattle.emu_model.specs.WithinPage.{number_in}
 use Rattle.guest_mem.proofs.Numbers.{number_of_part}
-use Rattle.vec_model.specs.Lanes.{byte_in, IsLaneSize}
+use Rattle.vec_model.specs.Lanes.{byte_in}
+use Rattle.vec_model.specs.LaneSizes.{IsLaneSize}
 use Rattle.vec_regs.specs.Packed.{packed}
 use Rattle.vec_regs.specs.Words.{byte_of}
 use Rattle.vec_regs.proofs.PackedLanes.{byte_in_packed, packed_back, grown, room}

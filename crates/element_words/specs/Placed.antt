@@ -1,7 +1,7 @@
 -- Elements at equal distances among bytes.
 use Rattle.std.specs.Prelude.{ℕ, ◌+◌, ◌*◌, Bool, List}
 use Rattle.emu_model.specs.WithinPage.{number_in}
-use Rattle.sve_effects.specs.Element.{extended_by}
+use Rattle.sve_effects.specs.Lane.{extended_by}
 
 -- what lane k of e bits is made of: the element of n bytes at place at + k * step
 abbrev pub lane_at : Bool → ℕ → ℕ → List ℕ → ℕ → ℕ → ℕ → ℕ

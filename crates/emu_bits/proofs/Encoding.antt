@@ -8,7 +8,8 @@ use Rattle.std.proofs.lemmas.Nat.Bits.{same_from_bits, bit_at_and, bit_at_or, an
 use Rattle.std.proofs.lemmas.Bool.{eqb-true, eq-eqb, ne_eqb, false≢true}
 use Rattle.std.proofs.lemmas.Bool.Decides.{eqb_tells}
 use Rattle.emu_bits.specs.Fields.{field}
-use Rattle.emu_bits.specs.Rows.{Place, width, ones_at, ones_in, outside, values, Line, Row, next, number_of, where_it_holds, row_in, or_else, decode, fill, encode, Fit, IsRow, is_among, line_at, OneRow}
+use Rattle.emu_bits.specs.Rows.{Place, width, ones_at, ones_in, outside, values, Line, Row, next, number_of, where_it_holds, row_in, or_else, decode, fill, encode, is_among}
+use Rattle.emu_bits.specs.RowLaws.{Fit, IsRow, line_at, OneRow}
 use Rattle.emu_bits.proofs.Computed.{is_clear, are_apart, is_new, are_bases, is_sound, may_agree, any_agrees, may_hold, any_shared, is_alone, are_alone, are_sound, selected, are_among, left_over, IsNoneOf}
 
 pub or_assoc : (a b c : ℕ) → bit_or (bit_or a b) c ≡ bit_or a (bit_or b c)

@@ -3,7 +3,8 @@ use Rattle.std.proofs.Common.{◌≡◌, ℕ, zero, suc, ◌/◌, ◌%◌, ◌^�
 use Rattle.std.proofs.lemmas.Bool.{eqb-true, eq-eqb, ne_eqb, leb-true}
 use Rattle.emu_bits.proofs.Encoding.{both}
 use Rattle.std.specs.Int.Count.{count_trailing_zeros}
-use Rattle.emu_bits.specs.Bitmask.{bitmask_of, GivesBitmask}
+use Rattle.emu_bits.specs.Bitmask.{bitmask_of}
+use Rattle.emu_bits.specs.LeastFields.{GivesBitmask}
 use Rattle.emu_bits.proofs.AllBelow.{all_below, each_below, gives, given}
 use Rattle.emu_bits.specs.Search.{Part, shrunk, first_log, guess_n, guess_immr, guess_imms}
 

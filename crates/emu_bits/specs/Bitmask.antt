@@ -1,5 +1,5 @@
 -- The bitmask of the fields N, immr and imms: a run of ones, rotated within an element, and the element repeated.
-use Rattle.std.specs.Prelude.{ℕ, zero, suc, ◌+◌, ◌-◌, ◌*◌, ◌/◌, ◌%◌, ◌^◌, ◌<◌, ◌≤◌, ◌≡◌, ◌==◌, ◌&&◌, ◌||◌, Bool, cond, Option, Some, None}
+use Rattle.std.specs.Prelude.{ℕ, zero, suc, ◌+◌, ◌-◌, ◌*◌, ◌/◌, ◌%◌, ◌^◌, ◌==◌, ◌&&◌, ◌||◌, Bool, cond, Option, Some, None}
 
 -- v rotated right by r places within e bits
 abbrev pub rotated : ℕ → ℕ → ℕ → ℕ
@@ -35,15 +35,3 @@ with_elements width n immr imms (Some h) =
 -- the bitmask of a width of 32 or 64 bits, or none
 unfoldable pub bitmask_of : ℕ → ℕ → ℕ → ℕ → Option ℕ
 bitmask_of width n immr imms = with_elements width n immr imms (element_log n imms)
-
--- fields that give a value
-pub record GivesBitmask (width value n immr imms : ℕ) : Type 0 where
-  pub flag : n < 2
-  pub rotation : immr < 64
-  pub size : imms < 64
-  pub gives : bitmask_of width n immr imms ≡ Some value
-
--- the fields with the least immr that give a value: all others have the same N and imms
-pub record IsLeastFields (width value n immr imms : ℕ) : Type 0 where
-  pub gives : GivesBitmask width value n immr imms
-  pub least : (m r s : ℕ) → GivesBitmask width value m r s → (m ≡ n) × (immr ≤ r) × (s ≡ imms)

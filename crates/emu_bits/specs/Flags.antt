@@ -1,4 +1,4 @@
--- Element sizes, the number of the flags, and conditions on them.
+-- Lane sizes, the number of the flags, and conditions on them.
 use Rattle.std.specs.Prelude.{ℕ, ◌/◌, ◌%◌, nat_eq, [], ◌∷◌, get_or, Bool, true, false, not, ◌&&◌}
 use Rattle.emu_bits.specs.declared.flags.Esize.{Esize}
 use Rattle.emu_bits.specs.declared.flags.Esize.TheVariants.{B, H, S, D}
@@ -6,7 +6,7 @@ use Rattle.emu_bits.specs.declared.flags.Flags.{Flags}
 use Rattle.emu_bits.specs.declared.flags.Cond.{Cond}
 use Rattle.emu_bits.specs.declared.flags.Cond.TheVariants.{Eq, Ne, Cs, Cc, Mi, Pl, Vs, Vc, Hi, Ls, Ge, Lt, Gt, Le, Al, Nv}
 
--- the bits of an element
+-- the bits of a lane
 abbrev pub size_of : Esize → ℕ
 size_of B = 8
 size_of H = 16

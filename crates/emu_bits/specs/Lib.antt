@@ -1,8 +1,10 @@
 pub mod Bitmask
+pub mod LeastFields
 pub mod Fields
 pub mod Flags
 pub mod Numbers
 pub mod Operations
 pub mod Reversal
 pub mod Rows
+pub mod RowLaws
 pub mod Search

@@ -1,5 +1,5 @@
 -- A table of encodings: lines of rows, each row a base word with the places of its fields.
-use Rattle.std.specs.Prelude.{◌≡◌, ℕ, zero, suc, ◌+◌, ◌-◌, ◌*◌, ◌^◌, ◌<◌, ◌==◌, ◌||◌, Bool, true, false, cond, Option, Some, None, List, [], ◌∷◌, length, get_or, bit_and, bit_or, IsTrue}
+use Rattle.std.specs.Prelude.{ℕ, suc, ◌+◌, ◌-◌, ◌*◌, ◌^◌, ◌==◌, ◌||◌, Bool, true, false, cond, Option, Some, None, List, [], ◌∷◌, get_or, bit_and, bit_or}
 use Rattle.emu_bits.specs.Fields.{field}
 
 -- where a field lies: its highest and its lowest bit
@@ -104,39 +104,7 @@ fill (p ∷ ps) (v ∷ vs) w = fill ps vs (bit_or w (v * 2 ^ p.low))
 abbrev pub encode : {F : Type 0} → Row F → ℕ
 encode r = fill r.line.places r.values (get_or r.line.words r.number 0)
 
--- its condition
-abbrev pub meets : {F : Type 0} → Row F → Bool
-meets r = r.line.holds r.number r.values
-
--- Values that fit their places.
-abbrev pub Fit : List Place → List ℕ → Type 0
-Fit [] [] = Unit {0}
-Fit [] (v ∷ vs) = ⊥
-Fit (p ∷ ps) [] = ⊥
-Fit (p ∷ ps) (v ∷ vs) = (v < 2 ^ width p) × Fit ps vs
-
--- A row of a line with values that fit and meet the condition.
-pub record IsRow {F : Type 0} (r : Row F) : Type 0 where
-  pub numbered : r.number < length r.line.words
-  pub fits : Fit r.line.places r.values
-  pub met : IsTrue (meets r)
-
--- the same without the condition
-pub record IsShape {F : Type 0} (r : Row F) : Type 0 where
-  pub numbered : r.number < length r.line.words
-  pub fits : Fit r.line.places r.values
-
 -- a number is one of some
 abbrev pub is_among : ℕ → List ℕ → Bool
 is_among v [] = false
 is_among v (k ∷ ks) = v == k || is_among v ks
-
--- the line at a place of some lines
-abbrev pub line_at : {F : Type 0} → List (Line F) → ℕ → Option (Line F)
-line_at [] k = None
-line_at (l ∷ ls) zero = Some l
-line_at (l ∷ ls) (suc k) = line_at ls k
-
--- Each word of a row of a line decodes to that row.
-pub record OneRow {F : Type 0} (ls : List (Line F)) : Type 0 where
-  pub at : (k : ℕ) (l : Line F) (w : ℕ) (r : Row F) → line_at ls k ≡ Some l → row_in l w ≡ Some r → decode ls w ≡ Some r

@@ -1,7 +1,8 @@
 //! Bitmask immediates: their values, and the fields of a value.
 ghost use Rattle.std.specs.Prelude.{◌≡◌, ℕ, ◌+◌, ◌-◌, ◌*◌, ◌/◌, ◌%◌, ◌^◌, ◌<◌, ◌≤◌, ◌⊎◌, IfSome, IfNone};
 ghost use Rattle.emu_bits.specs.Fields.{bit};
-ghost use Rattle.emu_bits.specs.Bitmask.{bitmask_of, element_log, is_refused, rotated, repeated, GivesBitmask, IsLeastFields};
+ghost use Rattle.emu_bits.specs.Bitmask.{bitmask_of, element_log, is_refused, rotated, repeated};
+ghost use Rattle.emu_bits.specs.LeastFields.{GivesBitmask, IsLeastFields};
 ghost use Rattle.emu_bits.specs.Search.{shrunk, run_start, run_length, guess_n, guess_immr, guess_imms, first_log};
 
 use crate::numbers::power;

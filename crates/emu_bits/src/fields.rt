@@ -2,7 +2,7 @@
 ghost use Rattle.std.specs.Prelude.{◌≡◌, ◌+◌, ◌^◌, ◌<◌, ◌≤◌, MatchOption};
 ghost use Rattle.emu_bits.specs.Fields.{field};
 
-use crate::words::bits;
+use crate::insn_words::bits;
 use std::marker::Model;
 
 /// A register's number, 0 to 31.

@@ -1,4 +1,4 @@
-//! Condition flags, conditions and element sizes.
+//! Condition flags, conditions and lane sizes.
 ghost use Rattle.std.specs.Prelude.{◌≡◌};
 ghost use Rattle.emu_bits.specs.Flags.{size_of, flags_of_number, cond_of, cond_holds};
 
@@ -98,7 +98,7 @@ impl Cond {
     }
 }
 
-/// The size of a vector element: a byte, a halfword, a word or a doubleword.
+/// The size of a lane: a byte, a halfword, a word or a doubleword.
 #[derive(Clone, Copy, PartialEq, Eq, Debug)]
 pub enum Esize {
     B,

@@ -4,11 +4,11 @@
 pub mod bitmasks;
 pub mod fields;
 pub mod flags;
+pub mod insn_words;
 pub mod numbers;
-pub mod words;
 
 pub use bitmasks::{bitmask, bitmask_fields};
 pub use fields::{Pred, PredLow, Reg, U};
 pub use flags::{Cond, Esize, Flags};
+pub use insn_words::{Word, bits, flag, put};
 pub use numbers::{add_flags, extended, low_bits, sext, sign_extended};
-pub use words::{Word, bits, flag, put};

@@ -2,7 +2,7 @@
 use Rattle.std.proofs.Common.{◌≡◌, ◌<◌, ◌≤◌, ℕ, ◌*◌, List, [], ◌∷◌, length, arith}
 use Rattle.std.specs.List.{All}
 use Rattle.emu_system.specs.declared.image.Segment.{Segment}
-use Rattle.emu_model.specs.State.{IsSoundBreak}
+use Rattle.emu_model.specs.SoundState.{IsSoundBreak}
 use Rattle.emu_system.specs.Image.{first_page, end_page}
 use Rattle.emu_system.specs.Start.{highest_page}
 use Rattle.elf_image.specs.Loadable.{IsLoadableSegment}

@@ -7,9 +7,10 @@ use Rattle.byteorder.specs.Endian.{little_bytes}
 use Rattle.byteorder.specs.Numbers.{length-bytes_low_first}
 use Rattle.emu_model.specs.Access.{Memory}
 use Rattle.emu_model.specs.Pages.{with_bytes}
-use Rattle.emu_system.specs.Arguments.{AreArguments}
+use Rattle.emu_system.specs.ArgumentLimits.{AreArguments}
 use Rattle.emu_system.specs.Image.{Image, stack_page_count}
-use Rattle.emu_system.specs.Stack.{argument_addresses, argument_bytes, arguments_at, first_stack_page, last_words, random_at, stack_pieces, start_words, word_bytes, word_bytes_are}
+use Rattle.emu_system.specs.Stack.{argument_addresses, argument_bytes, arguments_at, first_stack_page, last_words, random_at, stack_pieces, start_words, word_bytes}
+use Rattle.emu_system.specs.StackEquations.{word_bytes_are}
 use Rattle.emu_system.specs.StackLaws.{length-argument_addresses, length-random_bytes, length-start_words, length-word_bytes, one_argument, parts_apart, word_bytes-append, word_bytes-cons}
 use Rattle.emu_machine.proofs.Loading.{IsWithin}
 use Rattle.emu_machine.proofs.Written.{with_bytes_on}

@@ -11,15 +11,18 @@ use Rattle.std.specs.Cmp.{nat_cmp_total}
 use Rattle.std.specs.FinMap.{FinMap, find, from_entries, get, get-from_entries, same_map, nat_cmp-IsAntisymmetric}
 use Rattle.emu_model.specs.declared.access.Rights.{Rights}
 use Rattle.emu_model.specs.Access.{Memory, Page}
-use Rattle.emu_model.specs.Lists.{each, length-each, get_or-each}
+use Rattle.emu_model.specs.Lists.{each}
+use Rattle.emu_model.specs.ListLaws.{length-each, get_or-each}
 use Rattle.emu_model.specs.PageLaws.{get_mapped, is_in, among}
-use Rattle.emu_model.specs.Pages.{is_among, mapped, with_bytes, zeros, zeros_is, zeroed_page, least_mapped, least_mapped-suc}
+use Rattle.emu_model.specs.Pages.{is_among, mapped, with_bytes, zeros, zeroed_page, least_mapped}
+use Rattle.emu_model.specs.PageEquations.{zeros_is, least_mapped-suc}
 use Rattle.emu_system.specs.declared.image.Segment.{Segment}
 use Rattle.emu_system.specs.Image.{Image, first_page, page_count, stack_page_count}
-use Rattle.emu_system.specs.Stack.{first_stack_page, stack_page, stack_pages_are}
+use Rattle.emu_system.specs.Stack.{first_stack_page, stack_page}
+use Rattle.emu_system.specs.StackEquations.{stack_pages_are, byte_not_reached, byte_reached, page_among_is}
 use Rattle.emu_system.specs.Start.{pages_at_start, segment_page, segment_pages}
 use Rattle.emu_system.specs.StartPages.{find_both, find_numbered}
-use Rattle.emu_system.specs.Pieces.{Piece, byte_among, byte_not_reached, byte_reached, page_among, page_among_is}
+use Rattle.emu_system.specs.Pieces.{Piece, byte_among, page_among}
 use Rattle.guest_pages.specs.MapFault.{first_fault}
 use Rattle.emu_machine.specs.Loads.{HasPages}
 use Rattle.emu_machine.proofs.Written.{patched, map_page, get_written, limit_written, marks_written, rights_patched, length_patched, far_patched, byte_inside, byte_outside}

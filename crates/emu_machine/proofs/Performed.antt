@@ -23,7 +23,7 @@ use Rattle.a64_effects.specs.Effects.{performed_by}
 use Rattle.a64_effects.specs.Groups.{group, same_group}
 use Rattle.a64_effects.specs.Operations.{Operation, computes, flows, transfers, exchanges, copies, operation_of}
 use Rattle.sve_insn.specs.declared.form.SveForm.{SveForm}
-use Rattle.sve_effects.specs.Effects as sve
+use Rattle.sve_effects.specs.Rows as sve
 use Rattle.sve_effects.specs.FirstFault.{first_fault_row, first_refused, loaded_unless, never_traps}
 use Rattle.sve_effects.specs.FirstFaultParts.{first_fault_loaded}
 use Rattle.sve_effects.specs.Row.{Row, done_by, done_by_way}

@@ -5,7 +5,8 @@ use Rattle.std.proofs.lemmas.List.Folds.{fold-map, list_all-append, list_all-map
 use Rattle.std.proofs.lemmas.List.Sums.{sum_by_push, sum_by_more_le}
 use Rattle.std.specs.List.{list_all}
 use Rattle.std.specs.Prelude.{IsTrue}
-use Rattle.emu_system.specs.Arguments.{AreArguments, is_free_of_zeros}
+use Rattle.emu_system.specs.Arguments.{is_free_of_zeros}
+use Rattle.emu_system.specs.ArgumentLimits.{AreArguments}
 
 both_true : (a b : Bool) → a ≡ true → b ≡ true → (a && (b && true)) ≡ true
 both_true true true p q = refl

@@ -10,7 +10,8 @@ use Rattle.std.specs.Cmp.{nat_cmp_total}
 use Rattle.std.specs.FinMap.{FinMap, from_entries, get, get-from_entries, len}
 use Rattle.emu_system.specs.declared.image.Segment.{Segment}
 use Rattle.emu_model.specs.Access.{Memory, Page}
-use Rattle.emu_model.specs.Pages.{is_over_limit, least_mapped, least_mapped-suc, least_mapped-zero}
+use Rattle.emu_model.specs.Pages.{is_over_limit, least_mapped}
+use Rattle.emu_model.specs.PageEquations.{least_mapped-suc, least_mapped-zero}
 use Rattle.emu_system.specs.Image.{Image, end_page, first_page, page_count, pages_of, stack_page_count}
 use Rattle.emu_system.specs.Stack.{first_stack_page}
 use Rattle.emu_system.specs.Start.{segment_pages}

@@ -6,7 +6,8 @@ use Rattle.emu_model.specs.declared.access.Denied.{Denied}
 use Rattle.emu_model.specs.declared.access.Kind.{Kind}
 use Rattle.emu_model.specs.declared.access.Kind.TheVariants.{Fetch}
 use Rattle.emu_model.specs.declared.trap.TrapKind.TheVariants.{PcAlign, Undefined}
-use Rattle.emu_model.specs.Access.{done_unless, refused, value}
+use Rattle.emu_model.specs.Access.{refused, value}
+use Rattle.emu_model.specs.LoadsAndStores.{done_unless}
 use Rattle.emu_model.specs.State.{Parts}
 use Rattle.emu_run.specs.declared.insn.Insn.{Insn}
 use Rattle.emu_run.specs.Step.{accesses, decode, executed, executed_accesses, fetched, fetched_accesses, trapped, turn}

@@ -10,7 +10,8 @@ use Rattle.emu_model.specs.declared.access.Access.{Access}
 use Rattle.emu_model.specs.declared.program_break.Break.{Break}
 use Rattle.emu_model.specs.declared.access.Kind.TheVariants.{Fetch}
 use Rattle.emu_model.specs.Access.{Memory, Page, refused, value}
-use Rattle.emu_model.specs.State.{Core, Vectors, Parts, State, coded_core, coded_parts, coded_vectors}
+use Rattle.emu_model.specs.State.{Core, Vectors, Parts, State}
+use Rattle.emu_model.specs.Codes.{coded_core, coded_parts, coded_vectors}
 use Rattle.emu_run.specs.declared.insn.Insn.{Insn}
 use Rattle.emu_run.specs.declared.insn.Insn.TheVariants.{A64}
 use Rattle.emu_run.specs.Step.{decode, taken_by}

@@ -1,6 +1,6 @@
 //! The arguments that a program may be started with.
 ghost use Rattle.std.specs.Prelude.{◌↔◌, IsTrue, map, string_bytes};
-ghost use Rattle.emu_system.specs.Arguments.{AreArguments};
+ghost use Rattle.emu_system.specs.ArgumentLimits.{AreArguments};
 
 use emu_system::is_free_of_zeros;
 

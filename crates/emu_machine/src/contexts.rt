@@ -1,7 +1,8 @@
 //! What a world of several contexts asks of its machine: other registers, single accesses to the memory, and the steps of calls that
 //! the world makes itself.
 ghost use Rattle.std.specs.Prelude.{◌≡◌, ◌<◌, ◌≤◌, ◌+◌, ◌-◌, ◌^◌, IfOk};
-ghost use Rattle.emu_model.specs.Access.{after_store, done_unless, loaded, refused};
+ghost use Rattle.emu_model.specs.Access.{refused};
+ghost use Rattle.emu_model.specs.LoadsAndStores.{after_store, done_unless, loaded};
 ghost use Rattle.emu_system.specs.SystemCall.{returned};
 ghost use Rattle.emu_machine.specs.Contexts.{counted_to, without_monitor};
 

@@ -2,7 +2,7 @@
 ghost use Rattle.std.specs.Prelude.{◌≡◌, ◌<◌, ◌≤◌, ◌+◌, ◌-◌, ◌^◌, List, [], ℕ, ⊤, IfSome, Some, None, is_none, true, false};
 ghost use Rattle.io_gate.specs.Streams.{Causes};
 ghost use Rattle.emu_bits.specs.Fields.{field};
-ghost use Rattle.emu_model.specs.State.{IsSoundBreak};
+ghost use Rattle.emu_model.specs.SoundState.{IsSoundBreak};
 ghost use Rattle.emu_system.specs.Start.{with_input};
 ghost use Rattle.emu_run.specs.Run as runs;
 ghost use Rattle.emu_run.specs.Step as model;
@@ -60,7 +60,7 @@ impl Model for Machine {
       saved = a.saved.items;
     } };
 
-    ghost use Rattle.emu_model.specs.State.{IsSoundBreak};
+    ghost use Rattle.emu_model.specs.SoundState.{IsSoundBreak};
 
     ghost invariant = { λ a. IsSoundBreak a.brk };
 }

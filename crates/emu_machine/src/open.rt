@@ -5,7 +5,7 @@ ghost use Rattle.emu_model.specs.State.{zero_core, zero_vectors};
 ghost use Rattle.emu_system.specs.Start.{opening};
 ghost use Rattle.elf_image.specs.Images.{seen_image};
 ghost use Rattle.elf_image.specs.Loadable.{IsLoadable};
-ghost use Rattle.emu_system.specs.Arguments.{AreArguments};
+ghost use Rattle.emu_system.specs.ArgumentLimits.{AreArguments};
 ghost use Rattle.mark_laws.specs.Marked.{parts_with};
 
 use crate::load::highest_page;

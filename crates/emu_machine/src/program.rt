@@ -1,7 +1,7 @@
 //! The memory of a program before its first step.
 ghost use Rattle.std.specs.Prelude.{◌≡◌, map, string_bytes};
 ghost use Rattle.std.specs.FinMap as finmap;
-ghost use Rattle.emu_system.specs.Arguments.{AreArguments};
+ghost use Rattle.emu_system.specs.ArgumentLimits.{AreArguments};
 ghost use Rattle.emu_system.specs.Start.{pages_at_start};
 ghost use Rattle.elf_image.specs.Images.{seen_image};
 ghost use Rattle.elf_image.specs.Loadable.{IsLoadable};

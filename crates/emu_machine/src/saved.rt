@@ -1,6 +1,6 @@
 //! What a mark keeps of a machine beside its pages.
 ghost use Rattle.std.specs.Prelude.{◌≡◌, ℕ};
-ghost use Rattle.emu_model.specs.State.{IsSoundBreak};
+ghost use Rattle.emu_model.specs.SoundState.{IsSoundBreak};
 
 use core_regs::Core;
 use emu_model::{Break, Length};
@@ -18,7 +18,7 @@ pub(crate) struct Saved {
 
 impl Model for Saved {
     ghost use Rattle.emu_machine.specs.Machines.{Saved as SavedParts, coded_saved};
-    ghost use Rattle.emu_model.specs.State.{IsSoundBreak};
+    ghost use Rattle.emu_model.specs.SoundState.{IsSoundBreak};
 
     ghost Value = { SavedParts };
 

@@ -1,7 +1,7 @@
 //! The stack of a program before its first step.
 ghost use Rattle.std.specs.Prelude.{◌≡◌, ◌+◌, ◌*◌, ◌-◌, ◌≤◌, ◌^◌, length, map, string_bytes};
 ghost use Rattle.emu_model.specs.Pages.{with_bytes};
-ghost use Rattle.emu_system.specs.Arguments.{AreArguments};
+ghost use Rattle.emu_system.specs.ArgumentLimits.{AreArguments};
 ghost use Rattle.emu_system.specs.Image.{stack_page_count};
 ghost use Rattle.emu_system.specs.Stack.{aligned, argument_addresses, argument_bytes, first_stack_page, last_words, random_bytes, stack_page, start_words, word_bytes};
 ghost use Rattle.elf_image.specs.Images.{seen_image};

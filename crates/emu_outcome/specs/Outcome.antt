@@ -35,7 +35,7 @@ use Rattle.load_program.specs.Listing.{listing}
 use Rattle.sweep_model.specs.Sweep.{Sweep, fits, stream_limit, sweep_text, text_before}
 use Rattle.thread_model.specs.declared.thread.WorldEnding.{WorldEnding}
 use Rattle.thread_model.specs.declared.thread.WorldEnding.TheVariants as worlds
-use Rattle.thread_model.specs.ThreadLaws.{with_input as world_with_input}
+use Rattle.thread_model.specs.Threads.{with_input as world_with_input}
 use Rattle.thread_model.specs.Threads.{WorldState, ending as world_ending, threads}
 use Rattle.thread_model.specs.Worlds.{World, opened}
 use Rattle.emu_outcome.specs.declared.ending.Ending.{Ending}

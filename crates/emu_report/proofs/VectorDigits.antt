@@ -6,7 +6,8 @@ use Rattle.std.proofs.lemmas.List.{reverse-append}
 use Rattle.std.proofs.lemmas.List.FromFn.{get_or-map-range_with_len}
 use Rattle.std.proofs.lemmas.Nat.{shr-shr}
 use Rattle.emu_bits.specs.Fields.{bit}
-use Rattle.emu_model.specs.Lists.{each, each-more, each_same, length-each}
+use Rattle.emu_model.specs.Lists.{each}
+use Rattle.emu_model.specs.ListLaws.{each-more, each_same, length-each}
 use Rattle.emu_run.specs.Text.{hex, hex_digit}
 use Rattle.emu_run.specs.Registers.{byte_digits, bit_digits, nibble}
 use Rattle.vec_regs.specs.Words.{byte_of, bit_of, bytes_of, bits_of}

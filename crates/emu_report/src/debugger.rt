@@ -1,6 +1,7 @@
 //! The lines of a debugger: where it stopped, one vector register, the lanes of a register, and memory.
 ghost use Rattle.std.specs.Prelude.{◌≡◌, ◌<◌, ◌≤◌, ◌+◌, ◌*◌, ◌/◌, ◌^◌, ◌++◌, length};
-ghost use Rattle.io_gate.specs.Streams.{HasCause, PutsAll};
+ghost use Rattle.io_gate.specs.Streams.{HasCause};
+ghost use Rattle.io_gate.specs.Pieces.{PutsAll};
 ghost use Rattle.emu_bits.specs.Flags.{size_of};
 ghost use Rattle.emu_model.specs.Pages.{peeked};
 ghost use Rattle.vec_model.specs.Lanes.{read_z};

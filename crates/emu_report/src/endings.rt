@@ -1,6 +1,7 @@
 //! The line of a run's ending, of a machine or of a world of contexts.
 ghost use Rattle.std.specs.Prelude.{◌≡◌, ◌≤◌, ◌+◌, ◌++◌, length};
-ghost use Rattle.io_gate.specs.Streams.{HasCause, PutsAll};
+ghost use Rattle.io_gate.specs.Streams.{HasCause};
+ghost use Rattle.io_gate.specs.Pieces.{PutsAll};
 ghost use Rattle.command_model.specs.WorldReports.{stuck_line};
 ghost use Rattle.emu_run.specs.Reports.{address_text, after_steps, exit_line, exit_text, spent_line, spent_text, trap_line, trap_text};
 

@@ -1,6 +1,7 @@
 //! The line of a refusal.
 ghost use Rattle.std.specs.Prelude.{◌≡◌, ◌≤◌, ◌+◌, ◌++◌, length};
-ghost use Rattle.io_gate.specs.Streams.{HasCause, PutsAll};
+ghost use Rattle.io_gate.specs.Streams.{HasCause};
+ghost use Rattle.io_gate.specs.Pieces.{PutsAll};
 ghost use Rattle.emu_run.specs.Text.{newline};
 ghost use Rattle.command_model.specs.Refusals.{at_index, at_line, at_place, image_line, listing_line, schedule_line, script_line, too_long_line, words_line};
 

@@ -5,7 +5,8 @@ ghost use Rattle.command_model.specs.WorldReports.{context_lines, thread_line};
 ghost use Rattle.emu_bits.specs.Fields.{bit};
 ghost use Rattle.emu_run.specs.Text.{hex, space, newline};
 ghost use Rattle.emu_run.specs.Registers.{bit_digits, flag_digits, lines_of, numbered, register_line, scalar_lines, vector_lines, word_line};
-ghost use Rattle.io_gate.specs.Streams.{HasCause, PutsAll};
+ghost use Rattle.io_gate.specs.Streams.{HasCause};
+ghost use Rattle.io_gate.specs.Pieces.{PutsAll};
 ghost use Rattle.emu_report.specs.VectorLines.{count_of, line_of};
 ghost use Rattle.emu_report.specs.WordDigits.{word_digits};
 

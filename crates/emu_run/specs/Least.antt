@@ -1,10 +1,26 @@
 -- A run ends at the least number of steps at which the machine has ended or has counted its budget.
-use Rattle.std.specs.Prelude.{◌≡◌, ◌<◌, ◌≤◌, ℕ, zero, suc, ◌+◌, ◌-◌, true, false}
+use Rattle.std.specs.Prelude.{◌≡◌, ◌<◌, ◌≤◌, ℕ, zero, suc, ◌+◌, ◌-◌, true, false, ◌⊎◌}
 use Rattle.std.proofs.Common.{inl, inr, refl, sym, subst, ◌∙◌, arith}
 use Rattle.emu_model.specs.State.{State}
 use Rattle.emu_run.specs.Step.{step}
-use Rattle.emu_run.specs.Run.{goes_on, after, until_end, run, HasStopped, IsRun}
+use Rattle.emu_run.specs.Run.{goes_on, until_end, run}
 use Rattle.emu_run.specs.RunLaws.{until_end_none, until_end_one, until_end_over, step_counts}
+
+-- the state after k steps
+unfoldable pub after : State → ℕ → State
+after st zero = st
+after st (suc k) = after (step st) k
+
+-- it has ended, or has counted its budget
+abbrev pub HasStopped : ℕ → State → Type 0
+HasStopped budget st = (goes_on st ≡ true → ⊥) ⊎ (st.parts.steps ≡ budget)
+
+-- `end` is the state after the least number of steps at which the machine has stopped
+pub record IsRun (budget : ℕ) (st end : State) : Type 0 where
+  pub count : ℕ
+  pub reached : end ≡ after st count
+  pub stopped : HasStopped budget end
+  pub least : (k : ℕ) → k < count → HasStopped budget (after st k) → ⊥
 
 after_none : (st : State) → after st 0 ≡ st
 unfolding after

@@ -6,7 +6,8 @@ use Rattle.emu_model.specs.declared.trap.TrapKind.TheVariants.{Undefined, PcAlig
 use Rattle.emu_model.specs.declared.trap.Effect.{Effect}
 use Rattle.emu_model.specs.declared.trap.Effect.TheVariants.{Next, Branch, Call, Trap as Trapping}
 use Rattle.emu_model.specs.Access.{Memory, address, refused, value}
-use Rattle.emu_model.specs.State.{Core, Vectors, Parts, State, IsWord, IsByte, AreBytes, IsSoundCore, IsSoundVectors, IsSoundMemory, IsSoundParts, IsSound}
+use Rattle.emu_model.specs.State.{Core, Vectors, Parts, State}
+use Rattle.emu_model.specs.SoundState.{IsWord, IsByte, AreBytes, IsSoundCore, IsSoundVectors, IsSoundMemory, IsSoundParts, IsSound}
 use Rattle.emu_model.specs.SoundLists.{all_append}
 use Rattle.emu_model.specs.Sound.{address_is_word, refused_is_word}
 use Rattle.emu_run.specs.declared.insn.Insn.{Insn}

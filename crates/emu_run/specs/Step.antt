@@ -16,7 +16,7 @@ use Rattle.emu_model.specs.Access.{Memory, address, refused, value}
 use Rattle.emu_model.specs.State.{Core, Vectors, Parts, State}
 use Rattle.emu_model.specs.Done.{Done}
 use Rattle.a64_effects.specs.Effects as a64_effects
-use Rattle.sve_effects.specs.Effects as sve_effects
+use Rattle.sve_effects.specs.Rows as sve_effects
 use Rattle.emu_system.specs.SystemCall.{Turn, quiet, went_on, call}
 use Rattle.emu_run.specs.declared.insn.Insn.{Insn}
 use Rattle.emu_run.specs.declared.insn.Insn.TheVariants.{A64, Sve}

@@ -1,8 +1,10 @@
 //! Laws of the definitions, each the contract of a function that does nothing.
 ghost use Rattle.std.specs.Prelude.{◌≤◌, ℕ};
-ghost use Rattle.emu_model.specs.State.{State, IsSound};
+ghost use Rattle.emu_model.specs.State.{State};
+ghost use Rattle.emu_model.specs.SoundState.{IsSound};
 ghost use Rattle.emu_run.specs.Step.{step};
-ghost use Rattle.emu_run.specs.Run.{run, IsRun};
+ghost use Rattle.emu_run.specs.Run.{run};
+ghost use Rattle.emu_run.specs.Least.{IsRun};
 
 /// A run of a machine that has counted at most its budget of steps ends where the machine has ended or has counted
 /// the budget, and no sooner.

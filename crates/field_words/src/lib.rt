@@ -5,6 +5,6 @@
 #![tactic(auto)]
 
 mod exchanges;
-mod words;
+mod four_words;
 
-pub use words::{rev, trn, uzp, zip};
+pub use four_words::{rev, trn, uzp, zip};

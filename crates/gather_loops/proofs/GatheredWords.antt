@@ -3,11 +3,13 @@ use Rattle.std.proofs.Common.{◌≡◌, ◌≤◌, ◌<◌, ◌⊎◌, ℕ, ◌
 use Rattle.std.proofs.Math.Nat.{mod-eq_of_lt}
 use Rattle.std.proofs.lemmas.List.{length-set, get_or-take, get_or-drop, length-take, length-drop}
 use Rattle.std.proofs.lemmas.List.FromFn.{fill_by_all}
-use Rattle.emu_model.specs.Lists.{each, length-each, get_or-each}
+use Rattle.emu_model.specs.Lists.{each}
+use Rattle.emu_model.specs.ListLaws.{length-each, get_or-each}
 use Rattle.emu_model.specs.Access.{Memory}
-use Rattle.emu_model.specs.Lengths.{IsVectorLength}
+use Rattle.emu_model.specs.SoundState.{IsVectorLength}
 use Rattle.emu_model.specs.State.{Vectors}
-use Rattle.vec_model.specs.Lanes.{IsLaneSize, with_z, with_lanes}
+use Rattle.vec_model.specs.Lanes.{with_z, with_lanes}
+use Rattle.vec_model.specs.LaneSizes.{IsLaneSize}
 use Rattle.vec_regs.specs.Words.{bytes_of}
 use Rattle.vec_regs.proofs.PackedLanes.{filled, still, with_packed, lanes_given, words_count}
 use Rattle.vec_regs.specs.Packed.{packed, word_of}

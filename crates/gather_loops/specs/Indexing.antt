@@ -2,7 +2,7 @@
 use Rattle.std.specs.Prelude.{◌≡◌, ◌⊎◌, ℕ, ◌+◌, ◌*◌, Bool, true, false}
 use Rattle.emu_model.specs.Access.{address}
 use Rattle.emu_model.specs.State.{Vectors}
-use Rattle.sve_effects.specs.ElementLoop.{lane_of}
+use Rattle.sve_effects.specs.LaneLoop.{lane_of}
 use Rattle.sve_effects.specs.VectorElements.{word_offset}
 use Rattle.element_loops.specs.declared.plan.OnLanes.{OnLanes}
 use Rattle.element_loops.specs.declared.plan.OnLanes.TheVariants.{All, Active, Only}

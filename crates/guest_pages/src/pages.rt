@@ -3,12 +3,13 @@ ghost use Rattle.std.specs.Prelude.{◌≡◌, ◌≤◌, ◌<◌, ◌+◌, ◌*
 ghost use Rattle.std.specs.FinMap as map;
 ghost use Rattle.std.specs.List.{count_by};
 ghost use mathlib.Core.Option.{none};
-ghost use Rattle.emu_model.specs.Access.{fresh_marks, gives, no_marks, page_gives};
+ghost use Rattle.emu_model.specs.Access.{gives, no_marks, page_gives};
+ghost use Rattle.emu_model.specs.Marks.{fresh_marks};
 ghost use Rattle.std.specs.Borrow.{sem, follows_so, Lends, LendsIf, Array, u8 as byte};
 ghost use Rattle.guest_pages.specs.contracts.pages.Pages.{the_row};
 ghost use Rattle.guest_pages.specs.Lending.{with_part};
 ghost use Rattle.emu_model.specs.Pages.{bytes_at, free_run, least_unmapped, mapped, protected, unmapped, with_bytes};
-ghost use Rattle.emu_model.specs.State.{IsSoundMemory};
+ghost use Rattle.emu_model.specs.SoundState.{IsSoundMemory};
 ghost use Rattle.guest_pages.specs.MapFault.{map_fault, protect_answer};
 ghost use Rattle.guest_pages.specs.Open.{IsOpen};
 
@@ -52,7 +53,8 @@ pub struct Pages {
 }
 
 impl Model for Pages {
-    ghost use Rattle.emu_model.specs.Access.{Memory, coded_memory};
+    ghost use Rattle.emu_model.specs.Access.{Memory};
+    ghost use Rattle.emu_model.specs.Codes.{coded_memory};
 
     ghost Value = { Memory };
 

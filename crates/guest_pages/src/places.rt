@@ -191,7 +191,7 @@ pub fn is_mapped(list: &PageList, cache: &Cache, page: u64) -> bool
     }
 }
 
-#[tactic(auto, using(emu_model::specs::Pages::ranges))]
+#[tactic(auto, using(emu_model::specs::PageEquations::ranges))]
 /// The least of `count` pages from page `first` on that isn't mapped.
 pub fn unmapped_page(list: &PageList, cache: &Cache, first: u64, count: u64) -> Option<u64>
     requires ascending { IsAscending list.now.pages }

@@ -2,7 +2,8 @@
 use Rattle.sve_insn.specs.Table.{lines_open, sve_table}
 use Rattle.std.proofs.Common.{◌≡◌, ℕ, zero, suc, ◌⊎◌, inl, inr, refl, [], ◌∷◌, Option, Some, None, sym, ap, ◌∙◌, arith}
 use Rattle.emu_bits.specs.Fields.{field}
-use Rattle.emu_bits.specs.Rows.{◌to◌, Row, OneRow, decode as decode_in, formed, instruction}
+use Rattle.emu_bits.specs.Rows.{◌to◌, Row, decode as decode_in, formed, instruction}
+use Rattle.emu_bits.specs.RowLaws.{OneRow}
 use Rattle.emu_bits.proofs.Computed.{IsNoneOf}
 use Rattle.emu_bits.proofs.Encoding.{narrow_field, narrow_others}
 use Rattle.a64_insn.specs.declared.form.A64Form.{A64Form}

@@ -1,6 +1,7 @@
 -- No word is in two rows of the tables together.
 use Rattle.std.specs.Prelude.{◌≡◌, ℕ, Some}
-use Rattle.emu_bits.specs.Rows.{Line, Row, OneRow, line_at, row_in}
+use Rattle.emu_bits.specs.Rows.{Line, Row, row_in}
+use Rattle.emu_bits.specs.RowLaws.{OneRow, line_at}
 use Rattle.a64_insn.specs.declared.form.A64Form.{A64Form}
 use Rattle.a64_insn.specs.Table.{a64_table}
 use Rattle.sve_insn.specs.declared.form.SveForm.{SveForm}

@@ -1,8 +1,8 @@
 -- The word of an instruction.
 use Rattle.std.specs.Prelude.{ℕ}
 use Rattle.emu_bits.specs.Rows.{encode}
-use Rattle.a64_insn.specs.Table as base
-use Rattle.sve_insn.specs.Table as vectors
+use Rattle.a64_insn.specs.Rows as base
+use Rattle.sve_insn.specs.Rows as vectors
 use Rattle.emu_run.specs.declared.insn.Insn.{Insn}
 use Rattle.emu_run.specs.declared.insn.Insn.TheVariants.{A64, Sve}
 

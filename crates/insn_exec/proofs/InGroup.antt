@@ -7,9 +7,10 @@ use Rattle.emu_model.specs.Done.{Done, went_on_with}
 use Rattle.emu_model.specs.State.{Core, Vectors}
 use Rattle.sve_effects.specs.declared.groups.Group.{Group}
 use Rattle.sve_effects.specs.declared.groups.Group.TheVariants.{Lanes, Permutes, Counts, Folds, Predicates, Loads, Stores, Gathers, Scatters, FirstFaults}
-use Rattle.sve_effects.specs.Effects.{performed, group_of, is_data, after_data, is_predicate, predicate, vector_load, vector_store, first_fault, is_contiguous_load, is_contiguous_store, is_gather, is_scatter, is_first_fault}
+use Rattle.sve_effects.specs.Effects.{group_of, is_data, after_data, is_predicate, predicate, vector_load, vector_store, first_fault, is_contiguous_load, is_contiguous_store, is_gather, is_scatter, is_first_fault, group_by, row_group, same_group, registers_after, memory_of}
+use Rattle.sve_effects.specs.Rows.{performed}
 use Rattle.sve_effects.specs.FirstFault.{first_fault_row}
-use Rattle.sve_effects.specs.Row.{Row, by_lanes, permutes, counts, folds, predicates, memory, group_by, row_group, same_group, registers_after, memory_of, done_by_way, done_by}
+use Rattle.sve_effects.specs.Row.{Row, by_lanes, permutes, counts, folds, predicates, memory, done_by_way, done_by}
 use Rattle.sve_effects.specs.Rows.{row}
 use Rattle.sve_effects.specs.VectorElements.{MemoryRow, Way, loads, stores, gathers, scatters, first_faults, non_faults, elements_of, row_layout}
 use Rattle.sve_effects.specs.VectorLoadStore.{load_row, store_row}

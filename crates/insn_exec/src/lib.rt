@@ -7,7 +7,7 @@ ghost use Rattle.std.specs.Prelude.{◌≡◌, [], true, false};
 ghost use Rattle.emu_model.specs.declared.trap.Effect.{Effect};
 ghost use Rattle.emu_run.specs.Step.{performed};
 ghost use Rattle.a64_effects.specs.Effects as a64;
-ghost use Rattle.sve_effects.specs.Effects as sve;
+ghost use Rattle.sve_effects.specs.Rows as sve;
 ghost use Rattle.sve_effects.specs.Effects.{group_of, layout, vector_elements, first_fault, is_first_fault, loads_signed};
 ghost use Rattle.sve_effects.specs.declared.groups.Group.TheVariants as Group;
 ghost use Rattle.sve_loads.specs.Plans.{is_first_contiguous};

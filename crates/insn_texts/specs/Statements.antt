@@ -1,8 +1,6 @@
 -- How statements are read, aimed and written, over the A64 and the SVE lines together.
-use Rattle.std.specs.Prelude.{ℕ, if◌then◌else◌, List, [], Option, Some, None, Result, Ok, Err, IsSome, nat_lt, option_map, option_and_then}
+use Rattle.std.specs.Prelude.{ℕ, if◌then◌else◌, List, Option, Some, None, Result, Ok, Err, nat_lt, option_map, option_and_then}
 use Rattle.emu_bits.specs.Rows.{Line, instruction}
-use Rattle.a64_insn.specs.declared.form.A64Form.{A64Form}
-use Rattle.a64_insn.specs.declared.form.A64Form.TheVariants.{Adr, Branch, BranchCond, Compare, Test, LsLiteral}
 use Rattle.a64_insn.specs.Table.{a64_table}
 use Rattle.a64_texts.specs.Law as base
 use Rattle.a64_texts.specs.Table.{a64_patterns}
@@ -20,7 +18,6 @@ use Rattle.sve_texts.specs.Table.{sve_patterns}
 use Rattle.text_model.specs.declared.slots.Refusal.{Refusal}
 use Rattle.text_model.specs.declared.slots.Refusal.TheVariants as refusal
 use Rattle.text_model.specs.Aim.{aimed}
-use Rattle.text_model.specs.Reading.{Pattern}
 use Rattle.text_model.specs.Statement.{Destination, to_label, to_address, Statement, reads_tokens}
 
 -- ---- refusals
@@ -65,21 +62,6 @@ abbrev pub reads : List ℕ → List (List ℕ) → Result (Insn × Option Targe
 reads name ts = either (reads_tokens base.in_table a64_patterns name ts) (reads_tokens vectors.in_table sve_patterns name ts)
 
 -- ---- targets
-
--- the patterns of a form's line, where the line has targets
-abbrev pub may_have_target : A64Form → List Pattern
-may_have_target (Adr op immlo immhi rd) = base.texts_of (Adr op immlo immhi rd)
-may_have_target (Branch op imm26) = base.texts_of (Branch op imm26)
-may_have_target (BranchCond imm19 cond) = base.texts_of (BranchCond imm19 cond)
-may_have_target (Compare op sf imm19 rt) = base.texts_of (Compare op sf imm19 rt)
-may_have_target (Test op b5 b40 imm14 rt) = base.texts_of (Test op b5 b40 imm14 rt)
-may_have_target (LsLiteral opc v imm19 rt) = base.texts_of (LsLiteral opc v imm19 rt)
-may_have_target f = []
-
--- its text has a target
-abbrev pub HasTarget : Insn → Type 0
-HasTarget (A64 f) = IsSome (base.reach f)
-HasTarget (Sve f) = ⊥
 
 -- the instruction at pc, aimed at an address; none where its field can't reach it
 abbrev pub aimed_at : Insn → ℕ → ℕ → Option Insn

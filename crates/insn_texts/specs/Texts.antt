@@ -1,5 +1,5 @@
 -- The text of an instruction, over the A64 and the SVE lines together.
-use Rattle.std.specs.Prelude.{ℕ, Bool, List}
+use Rattle.std.specs.Prelude.{ℕ, List}
 use Rattle.a64_texts.specs.Law as base
 use Rattle.emu_run.specs.declared.insn.Insn.{Insn}
 use Rattle.emu_run.specs.declared.insn.Insn.TheVariants.{A64, Sve}
@@ -9,8 +9,3 @@ use Rattle.sve_texts.specs.Law as vectors
 abbrev pub text : Insn → ℕ → List ℕ
 text (A64 f) pc = base.text_of_form f pc
 text (Sve f) pc = vectors.text_of_form f
-
--- an instruction without a bitmask, or one whose rotation is below the element's size
-abbrev pub is_canonical : Insn → Bool
-is_canonical (A64 f) = base.is_canonical_form f
-is_canonical (Sve f) = vectors.is_canonical_form f

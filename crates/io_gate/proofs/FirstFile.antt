@@ -6,7 +6,7 @@ use Rattle.std.specs.Ordering.{nat_cmp}
 use Rattle.std.specs.Cmp.Lexicographic.{slice_cmp, pointwise, texts_ties, nat_list_cmp_total}
 use Rattle.std.specs.FinMap.{find, get, get-from_entries}
 use Rattle.std.proofs.lemmas.List.{at_drop_more}
-use Rattle.io_gate.specs.Images.{file_entry, named_files}
+use Rattle.io_gate.specs.FileLists.{file_entry, named_files}
 
 -- the first file of the name in a list
 abbrev pub first_file : List ℕ → List (String Global × Vec ℕ) → Option (List ℕ)

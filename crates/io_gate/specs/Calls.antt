@@ -1,8 +1,15 @@
 -- Which calls of an object in memory fail, and how many have.
-use Rattle.std.specs.Prelude.{ℕ, ◌+◌, ◌-◌, ◌^◌, min, Bool, nat_eq, List, refl}
+use Rattle.std.specs.Prelude.{ℕ, ◌+◌, ◌-◌, ◌^◌, min, Bool, nat_eq, List, refl, if◌then◌else◌}
 use Rattle.std.specs.List.{list_any}
 use Rattle.std.specs.Coded.{Coded, code_by, coded×, coded_ℕ, coded_list}
-use Rattle.io_gate.specs.Streams.{next_count, counts_if}
+
+-- one fault more, up to the counter's last value
+abbrev pub next_count : ℕ → ℕ
+next_count n = min (n + 1) (2 ^ 64 - 1)
+
+-- the count of faults rises by one at a failure, and else stays
+abbrev pub counts_if : Bool → ℕ → ℕ
+counts_if failed before = if failed then next_count before else before
 
 -- the numbers of the calls that are to fail, counted from 0; how many calls were made; how many faults were counted
 pub record Calls : Type 0 where

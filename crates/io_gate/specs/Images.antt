@@ -1,24 +1,16 @@
 -- What reading a file by its name gives.
-use Rattle.std.specs.Prelude.{◌≡◌, ◌≢◌, String, ℕ, List, length, Option, Some, None, Result, Ok, Err, IfSome, MatchResult, nat_le, map, string_bytes, if◌then◌else◌}
+use Rattle.std.specs.Prelude.{◌≡◌, ◌≢◌, ℕ, List, length, Option, Some, None, Result, Ok, Err, IfSome, MatchResult, nat_le, if◌then◌else◌}
 use Rattle.std.specs.Option.{IsSomeAnd}
 use Rattle.std.specs.Ordering.{nat_cmp}
 use Rattle.std.specs.Cmp.Lexicographic.{slice_cmp}
-use Rattle.std.specs.FinMap.{FinMap, get, from_entries}
-use Rattle.std.specs.Global.{Vec, Global}
+use Rattle.std.specs.FinMap.{FinMap, get}
+use Rattle.std.specs.Global.{Vec}
 use Rattle.io_gate.specs.declared.images.ImagesError.{ImagesError}
 use Rattle.io_gate.specs.declared.images.ImagesError.TheVariants.{Failed, Missing, TooLong, OutOfMemory}
 
 -- the bytes of each file, by the bytes of its name
 abbrev pub NamedFiles : Type 0
 NamedFiles = FinMap (slice_cmp nat_cmp) (List ℕ)
-
--- a file's name and its bytes
-abbrev pub file_entry : String Global × Vec ℕ → List ℕ × List ℕ
-file_entry file = (string_bytes file.0, file.1.items)
-
--- the files of a list; of a name that stands twice, the first
-abbrev pub named_files : List (String Global × Vec ℕ) → NamedFiles
-named_files files = from_entries (map file_entry files)
 
 -- the file of a name is read whole, unless there is none or it is longer than the limit
 abbrev pub whole_file : Option (List ℕ) → ℕ → Result (List ℕ) ImagesError

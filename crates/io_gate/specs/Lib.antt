@@ -1,5 +1,6 @@
 pub mod Streams
 pub mod Images
+pub mod FileLists
 pub mod Calls
 pub mod Memory
 pub mod Pieces

@@ -4,7 +4,11 @@ use Rattle.std.proofs.lemmas.List.{take_all, take-append-le}
 use Rattle.std.proofs.lemmas.Bool.{cases_lt, false≢true}
 use Rattle.std.proofs.Math.Seq.{take-append_seam, take-append-add}
 use Rattle.std.specs.Result.{IsErr}
-use Rattle.io_gate.specs.Streams.{PutsAll}
+use Rattle.std.specs.Prelude.{MatchResult}
+
+-- all of the piece is appended, or by a failure some of its first bytes
+abbrev pub PutsAll : {T E : Type 0} → Option (List ℕ) → Option (List ℕ) → List ℕ → Result T E → Type 0
+PutsAll old new piece result = IfSome old (λ held. MatchResult result (λ _. new ≡ Some (held ++ piece)) (λ _. (n : ℕ) × (new ≡ Some (held ++ take n piece))))
 
 -- to put nothing is to leave the sink
 pub puts_nothing : (T E : Type 0) (held : Option (List ℕ)) (x : T) → PutsAll {T = T} {E = E} held held [] (Ok x)

@@ -1,9 +1,5 @@
 -- What a source gives and what a sink is given, and that a failure is counted, and a failure that was counted is answered.
-use Rattle.std.specs.Prelude.{◌≡◌, ◌<◌, ◌≤◌, ℕ, ◌+◌, ◌-◌, ◌^◌, min, List, [], ◌++◌, length, take, drop, Option, Some, Result, IfSome, MatchResult, OnOk, OnErr, IfOk, if◌then◌else◌, Bool}
-
--- one fault more, up to the counter's last value
-abbrev pub next_count : ℕ → ℕ
-next_count n = min (n + 1) (2 ^ 64 - 1)
+use Rattle.std.specs.Prelude.{◌≡◌, ◌<◌, ◌≤◌, ℕ, ◌+◌, ◌-◌, ◌^◌, min, List, [], ◌++◌, length, take, drop, Option, Some, Result, IfSome, MatchResult, OnOk, OnErr, IfOk}
 
 -- a count of faults is greater than before, or stands at its last value
 abbrev pub Rose : ℕ → ℕ → Type 0
@@ -20,10 +16,6 @@ pub record Causes (P : Type 0) (before now : ℕ) : Type 0 where
   pub later : before ≤ now
   pub rose : P → Rose before now
   pub kept : (P → ⊥) → now ≡ before
-
--- the count of faults rises by one at a failure, and else stays
-abbrev pub counts_if : Bool → ℕ → ℕ
-counts_if failed before = if failed then next_count before else before
 
 -- no more bytes were taken than the buffer has room for
 abbrev pub TakesAtMost : {E : Type 0} → Result ℕ E → List ℕ → Type 0
@@ -48,7 +40,3 @@ PutsSome result piece = IfOk result (λ n. (0 < n) × (n ≤ length piece))
 -- where the sink tells what it holds: the first bytes of the piece are appended, and none by a failure
 abbrev pub PutsPrefix : {E : Type 0} → Option (List ℕ) → Option (List ℕ) → List ℕ → Result ℕ E → Type 0
 PutsPrefix old new piece result = IfSome old (λ held. MatchResult result (λ n. new ≡ Some (held ++ take n piece)) (λ _. new ≡ Some held))
-
--- all of the piece is appended, or by a failure some of its first bytes
-abbrev pub PutsAll : {T E : Type 0} → Option (List ℕ) → Option (List ℕ) → List ℕ → Result T E → Type 0
-PutsAll old new piece result = IfSome old (λ held. MatchResult result (λ _. new ≡ Some (held ++ piece)) (λ _. (n : ℕ) × (new ≡ Some (held ++ take n piece))))

@@ -1,6 +1,7 @@
 //! Files of the system, by name. They tell nothing of their bytes.
 ghost use Rattle.std.specs.Prelude.{◌≡◌, ◌≢◌, ◌≤◌, None, Some, Ok, Err, IfOk, IfSome, vec_len};
-ghost use Rattle.io_gate.specs.Streams.{Causes, next_count};
+ghost use Rattle.io_gate.specs.Streams.{Causes};
+ghost use Rattle.io_gate.specs.Calls.{next_count};
 ghost use Rattle.io_gate.specs.Images.{IsAnswerOf, whole_file};
 
 use crate::images::{Images, ImagesError};

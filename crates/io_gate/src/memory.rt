@@ -1,6 +1,7 @@
 //! A source and a sink in memory.
 ghost use Rattle.std.specs.Prelude.{◌≡◌, ◌<◌, ◌≤◌, ◌+◌, ◌++◌, [], Some, true, false, is_err, IsErr, min, take, drop, length, IfOk};
-ghost use Rattle.io_gate.specs.Streams.{HasCause, TakesAtMost, TakesFirst, TakesSome, KeepsRest, PutsSome, PutsPrefix, counts_if};
+ghost use Rattle.io_gate.specs.Streams.{HasCause, TakesAtMost, TakesFirst, TakesSome, KeepsRest, PutsSome, PutsPrefix};
+ghost use Rattle.io_gate.specs.Calls.{counts_if};
 ghost use Rattle.io_gate.specs.Calls.{is_due, uncalled, after_call};
 ghost use Rattle.io_gate.specs.Memory.{portion};
 

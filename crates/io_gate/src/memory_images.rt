@@ -2,7 +2,8 @@
 ghost use Rattle.std.specs.Prelude.{◌≡◌, ◌≢◌, ◌<◌, ◌≤◌, ◌^◌, ◌↔◌, Some, None, true, IfOk, Ok, Err, IsOk, IsTrue, vec_len, option_map};
 ghost use Rattle.std.specs.FinMap.{get};
 ghost use Rattle.io_gate.specs.Streams.{Causes};
-ghost use Rattle.io_gate.specs.Images.{ReadsNamed, MissesNamed, named_files, whole_file};
+ghost use Rattle.io_gate.specs.Images.{ReadsNamed, MissesNamed, whole_file};
+ghost use Rattle.io_gate.specs.FileLists.{named_files};
 ghost use Rattle.io_gate.specs.Calls.{is_due, uncalled, after_call};
 
 use crate::calls::FailingCalls;
@@ -19,7 +20,7 @@ pub struct MemImages {
 
 impl Model for MemImages {
     ghost use Rattle.io_gate.specs.Memory.{Shelf, coded_shelf};
-    ghost use Rattle.io_gate.specs.Images.{named_files};
+    ghost use Rattle.io_gate.specs.FileLists.{named_files};
 
     ghost Value = { Shelf };
 

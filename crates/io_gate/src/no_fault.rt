@@ -2,7 +2,8 @@
 ghost use Rattle.std.specs.Prelude.{◌≡◌, ◌≢◌, ◌<◌, ◌≤◌, Some, Ok, Err, IfOk, IsOk, length, vec_len};
 ghost use Rattle.std.specs.FinMap.{get};
 ghost use Rattle.io_gate.specs.Streams.{HasCause, Causes, TakesAtMost, TakesFirst, TakesSome, KeepsRest};
-ghost use Rattle.io_gate.specs.Images.{ReadsNamed, MissesNamed, named_files, whole_file};
+ghost use Rattle.io_gate.specs.Images.{ReadsNamed, MissesNamed, whole_file};
+ghost use Rattle.io_gate.specs.FileLists.{named_files};
 ghost use Rattle.io_gate.specs.Memory.{portion};
 
 use crate::images::{Images, ImagesError};
@@ -70,7 +71,8 @@ impl Model for NoFaultImages {
     ghost use Rattle.std.specs.Prelude.{List, ℕ};
     ghost use Rattle.std.specs.Coded.{coded_ℕ, coded_list};
     ghost use Rattle.std.specs.FinMap as map;
-    ghost use Rattle.io_gate.specs.Images.{NamedFiles, named_files};
+    ghost use Rattle.io_gate.specs.Images.{NamedFiles};
+    ghost use Rattle.io_gate.specs.FileLists.{named_files};
 
     ghost Value = { NamedFiles };
 

@@ -1,7 +1,8 @@
 //! A source over any reader of std, and a sink over any writer. They tell nothing of the bytes.
 ghost use Rattle.std.specs.Prelude.{◌≡◌, ◌<◌, None, length, is_err};
 ghost use Rattle.std.specs.Io.KnownBytes.{ReadConsumes, WriteAppends};
-ghost use Rattle.io_gate.specs.Streams.{HasCause, TakesAtMost, KeepsRest, PutsSome, counts_if};
+ghost use Rattle.io_gate.specs.Streams.{HasCause, TakesAtMost, KeepsRest, PutsSome};
+ghost use Rattle.io_gate.specs.Calls.{counts_if};
 
 use crate::streams::{Failed, Sink, Source};
 use std::io::{Read, Write};

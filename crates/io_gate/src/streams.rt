@@ -1,6 +1,7 @@
 //! Streams of bytes that come in and go out.
 ghost use Rattle.std.specs.Prelude.{◌≡◌, ◌<◌, ◌≤◌, ℕ, List, [], Option, length, IfOk, IfSome, IsOk};
-ghost use Rattle.io_gate.specs.Streams.{HasCause, TakesAtMost, TakesFirst, TakesSome, KeepsRest, PutsSome, PutsPrefix, PutsAll};
+ghost use Rattle.io_gate.specs.Streams.{HasCause, TakesAtMost, TakesFirst, TakesSome, KeepsRest, PutsSome, PutsPrefix};
+ghost use Rattle.io_gate.specs.Pieces.{PutsAll};
 
 /// A source, a sink or a file failed.
 #[derive(Clone, Copy, Debug, PartialEq, Eq)]

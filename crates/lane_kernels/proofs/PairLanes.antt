@@ -8,11 +8,13 @@ use Rattle.std.proofs.lemmas.List.FromFn.{fill_by_all}
 use Rattle.std.proofs.lemmas.Nat.{pow-add, pow_pos, shr-shr, div-add-mod'}
 use Rattle.std.proofs.lemmas.Simd.{get_or_narrower, get_or_wider}
 use Rattle.std.specs.Simd.Lanes.{digits_l, number_l, zip2, Each1}
-use Rattle.emu_model.specs.Lengths.{IsVectorLength}
-use Rattle.emu_model.specs.Lists.{each, length-each, get_or-each}
+use Rattle.emu_model.specs.SoundState.{IsVectorLength}
+use Rattle.emu_model.specs.Lists.{each}
+use Rattle.emu_model.specs.ListLaws.{length-each, get_or-each}
 use Rattle.emu_model.specs.State.{Vectors}
 use Rattle.vec_model.specs.Active.{active}
-use Rattle.vec_model.specs.Lanes.{lane, IsLaneSize}
+use Rattle.vec_model.specs.Lanes.{lane}
+use Rattle.vec_model.specs.LaneSizes.{IsLaneSize}
 use Rattle.vec_model.proofs.LaneBytes.{within_bytes}
 use Rattle.vec_regs.specs.Packed.{packed}
 use Rattle.vec_regs.specs.Words.{bytes_of, bits_of, bit_of}

@@ -1,7 +1,7 @@
 -- A fold that takes a start in place of each lane that isn't active is the fold of the active ones.
 use Rattle.std.proofs.Common.{◌≡◌, ◌<◌, ◌+◌, ℕ, zero, suc, Bool, true, false, cond, List, [], ◌∷◌, length, map, get_or, if◌then◌else◌, refl, sym, ap, ap₂, ◌∙◌, arith}
 use Rattle.lane_kernels.specs.Chunks.{taken}
-use Rattle.sve_effects.specs.ElementLoop.{folded}
+use Rattle.sve_effects.specs.LaneLoop.{folded}
 
 -- the first of two numbers where a flag is set
 pub picked_as : (t s : Bool) (x y a b : ℕ) → t ≡ s → x ≡ a → y ≡ b → cond t x y ≡ (if s then a else b)

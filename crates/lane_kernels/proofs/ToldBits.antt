@@ -11,10 +11,12 @@ use Rattle.std.proofs.lemmas.Nat.{pow_below, shr-shr}
 use Rattle.std.proofs.lemmas.Nat.Bits.{bit_at-zero, bit_at_cat_low, bit_at_cat_high}
 use Rattle.std.proofs.lemmas.Simd.{bit_mask_l, get_or_narrower}
 use Rattle.emu_bits.specs.Fields.{bit}
-use Rattle.emu_model.specs.Lengths.{IsVectorLength}
-use Rattle.emu_model.specs.Lists.{each, get_or-each}
+use Rattle.emu_model.specs.SoundState.{IsVectorLength}
+use Rattle.emu_model.specs.Lists.{each}
+use Rattle.emu_model.specs.ListLaws.{get_or-each}
 use Rattle.lane_pack.specs.Bits.{is_set}
-use Rattle.vec_model.specs.Lanes.{field_bit, IsLaneSize}
+use Rattle.vec_model.specs.Lanes.{field_bit}
+use Rattle.vec_model.specs.LaneSizes.{IsLaneSize}
 use Rattle.vec_regs.specs.Packed.{packed}
 use Rattle.vec_regs.specs.Words.{bit_of}
 use Rattle.vec_regs.proofs.PackedLanes.{byte_in_packed, filled}

@@ -1,12 +1,12 @@
 //! Reductions: folds over the active lanes of a register, 128 bits at a time.
 ghost use Rattle.std.specs.Prelude.{◌≡◌, ◌<◌, ◌+◌, ◌*◌, ◌/◌, ◌^◌, ℕ, map, get_or, length, true, false, if◌then◌else◌};
-ghost use Rattle.sve_effects.specs.ElementLoop.{folding, is_active, lane_of};
-ghost use Rattle.vec_model.specs.Lanes.{IsLaneSize};
+ghost use Rattle.sve_effects.specs.LaneLoop.{folding, is_active, lane_of};
+ghost use Rattle.vec_model.specs.LaneSizes.{IsLaneSize};
 
 use crate::kernels::FoldOp;
 use crate::lane_wise::LaneWiseFold;
+use crate::register_words::Chunks;
 use crate::sources::{LaneOf, Number, part_of};
-use crate::words::Chunks;
 use emu_bits::{Pred, Reg};
 use lane_pack::Quad;
 use std::simd::Simd;

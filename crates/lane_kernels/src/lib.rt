@@ -7,9 +7,9 @@
 pub mod folds;
 pub mod kernels;
 mod lane_wise;
+pub mod register_words;
 pub mod sources;
 pub mod told;
-pub mod words;
 
 pub use lane_wise::{
     LaneWise1, LaneWise2, LaneWise3, LaneWiseFold, LaneWiseTest2, LastFirst, WithNumber,

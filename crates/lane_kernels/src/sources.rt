@@ -5,12 +5,12 @@ ghost use Rattle.std.specs.Prelude.{[], ◌∷◌};
 ghost use Rattle.std.specs.Simd.Lanes.{digits_l, number_l};
 ghost use Rattle.lane_kernels.specs.Parts.{same_lane, same_active, same_choice};
 ghost use Rattle.lane_pack.specs.Bits.{is_set};
-ghost use Rattle.sve_effects.specs.ElementLoop.{is_active, lane_of};
-ghost use Rattle.vec_model.specs.Lanes.{IsLaneSize};
+ghost use Rattle.sve_effects.specs.LaneLoop.{is_active, lane_of};
+ghost use Rattle.vec_model.specs.LaneSizes.{IsLaneSize};
 
 use crate::kernels::{Op1, Op2, Op3};
 use crate::lane_wise::{LaneWise1, LaneWise2, LaneWise3};
-use crate::words::{Chunks, Gives, Local};
+use crate::register_words::{Chunks, Gives, Local};
 use emu_bits::{Pred, Reg};
 use lane_pack::Quad;
 use std::simd::Simd;

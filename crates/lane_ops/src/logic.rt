@@ -1,17 +1,17 @@
 //! Logical operations of two lanes.
-ghost use Rattle.sve_effects.specs.declared.elements.ElementOp.{ElementOp};
-ghost use Rattle.sve_effects.specs.Element.{element};
+ghost use Rattle.sve_effects.specs.declared.lane_functions.LaneOp.{LaneOp};
+ghost use Rattle.sve_effects.specs.Lane.{lane_op};
 
 use lane_kernels::LaneWise2;
 use lane_pack::Lane;
-use sve_elements::{ElementOp, apply};
+use sve_elements::{LaneOp, apply};
 
 /// OR of the bits.
 #[derive(Clone, Copy)]
 pub struct Orr;
 
 impl LaneWise2 for Orr {
-    ghost entry = { λ _ e a b. element ElementOp.Orr e a b };
+    ghost entry = { λ _ e a b. lane_op LaneOp.Orr e a b };
 
     #[inline(always)]
     fn one<T: Lane>(&self, a: T, b: T) -> T {
@@ -20,7 +20,7 @@ impl LaneWise2 for Orr {
 
     #[inline(always)]
     fn with_number<T: Lane>(&self, a: T, n: u64) -> T {
-        T::from_u64(apply(ElementOp::Orr, T::BITS, a.to_u64(), n))
+        T::from_u64(apply(LaneOp::Orr, T::BITS, a.to_u64(), n))
     }
 }
 
@@ -29,7 +29,7 @@ impl LaneWise2 for Orr {
 pub struct Eor;
 
 impl LaneWise2 for Eor {
-    ghost entry = { λ _ e a b. element ElementOp.Eor e a b };
+    ghost entry = { λ _ e a b. lane_op LaneOp.Eor e a b };
 
     #[inline(always)]
     fn one<T: Lane>(&self, a: T, b: T) -> T {
@@ -38,7 +38,7 @@ impl LaneWise2 for Eor {
 
     #[inline(always)]
     fn with_number<T: Lane>(&self, a: T, n: u64) -> T {
-        T::from_u64(apply(ElementOp::Eor, T::BITS, a.to_u64(), n))
+        T::from_u64(apply(LaneOp::Eor, T::BITS, a.to_u64(), n))
     }
 }
 
@@ -47,7 +47,7 @@ impl LaneWise2 for Eor {
 pub struct And;
 
 impl LaneWise2 for And {
-    ghost entry = { λ _ e a b. element ElementOp.And e a b };
+    ghost entry = { λ _ e a b. lane_op LaneOp.And e a b };
 
     #[inline(always)]
     fn one<T: Lane>(&self, a: T, b: T) -> T {
@@ -56,7 +56,7 @@ impl LaneWise2 for And {
 
     #[inline(always)]
     fn with_number<T: Lane>(&self, a: T, n: u64) -> T {
-        T::from_u64(apply(ElementOp::And, T::BITS, a.to_u64(), n))
+        T::from_u64(apply(LaneOp::And, T::BITS, a.to_u64(), n))
     }
 }
 
@@ -65,7 +65,7 @@ impl LaneWise2 for And {
 pub struct Bic;
 
 impl LaneWise2 for Bic {
-    ghost entry = { λ _ e a b. element ElementOp.Bic e a b };
+    ghost entry = { λ _ e a b. lane_op LaneOp.Bic e a b };
 
     #[inline(always)]
     fn one<T: Lane>(&self, a: T, b: T) -> T {
@@ -74,6 +74,6 @@ impl LaneWise2 for Bic {
 
     #[inline(always)]
     fn with_number<T: Lane>(&self, a: T, n: u64) -> T {
-        T::from_u64(apply(ElementOp::Bic, T::BITS, a.to_u64(), n))
+        T::from_u64(apply(LaneOp::Bic, T::BITS, a.to_u64(), n))
     }
 }

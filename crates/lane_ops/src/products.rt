@@ -1,17 +1,17 @@
 //! Products and quotients of two lanes.
-ghost use Rattle.sve_effects.specs.declared.elements.ElementOp.{ElementOp};
-ghost use Rattle.sve_effects.specs.Element.{element};
+ghost use Rattle.sve_effects.specs.declared.lane_functions.LaneOp.{LaneOp};
+ghost use Rattle.sve_effects.specs.Lane.{lane_op};
 
 use lane_kernels::LaneWise2;
 use lane_pack::Lane;
-use sve_elements::{ElementOp, apply};
+use sve_elements::{LaneOp, apply};
 
 /// The product's lower half.
 #[derive(Clone, Copy)]
 pub struct Mul;
 
 impl LaneWise2 for Mul {
-    ghost entry = { λ _ e a b. element ElementOp.Mul e a b };
+    ghost entry = { λ _ e a b. lane_op LaneOp.Mul e a b };
 
     #[inline(always)]
     fn one<T: Lane>(&self, a: T, b: T) -> T {
@@ -20,7 +20,7 @@ impl LaneWise2 for Mul {
 
     #[inline(always)]
     fn with_number<T: Lane>(&self, a: T, n: u64) -> T {
-        T::from_u64(apply(ElementOp::Mul, T::BITS, a.to_u64(), n))
+        T::from_u64(apply(LaneOp::Mul, T::BITS, a.to_u64(), n))
     }
 }
 
@@ -29,7 +29,7 @@ impl LaneWise2 for Mul {
 pub struct Smulh;
 
 impl LaneWise2 for Smulh {
-    ghost entry = { λ _ e a b. element ElementOp.Smulh e a b };
+    ghost entry = { λ _ e a b. lane_op LaneOp.Smulh e a b };
 
     #[inline(always)]
     fn one<T: Lane>(&self, a: T, b: T) -> T {
@@ -38,7 +38,7 @@ impl LaneWise2 for Smulh {
 
     #[inline(always)]
     fn with_number<T: Lane>(&self, a: T, n: u64) -> T {
-        T::from_u64(apply(ElementOp::Smulh, T::BITS, a.to_u64(), n))
+        T::from_u64(apply(LaneOp::Smulh, T::BITS, a.to_u64(), n))
     }
 }
 
@@ -47,7 +47,7 @@ impl LaneWise2 for Smulh {
 pub struct Umulh;
 
 impl LaneWise2 for Umulh {
-    ghost entry = { λ _ e a b. element ElementOp.Umulh e a b };
+    ghost entry = { λ _ e a b. lane_op LaneOp.Umulh e a b };
 
     #[inline(always)]
     fn one<T: Lane>(&self, a: T, b: T) -> T {
@@ -56,7 +56,7 @@ impl LaneWise2 for Umulh {
 
     #[inline(always)]
     fn with_number<T: Lane>(&self, a: T, n: u64) -> T {
-        T::from_u64(apply(ElementOp::Umulh, T::BITS, a.to_u64(), n))
+        T::from_u64(apply(LaneOp::Umulh, T::BITS, a.to_u64(), n))
     }
 }
 
@@ -65,7 +65,7 @@ impl LaneWise2 for Umulh {
 pub struct Sdiv;
 
 impl LaneWise2 for Sdiv {
-    ghost entry = { λ _ e a b. element ElementOp.Sdiv e a b };
+    ghost entry = { λ _ e a b. lane_op LaneOp.Sdiv e a b };
 
     #[inline(always)]
     fn one<T: Lane>(&self, a: T, b: T) -> T {
@@ -74,7 +74,7 @@ impl LaneWise2 for Sdiv {
 
     #[inline(always)]
     fn with_number<T: Lane>(&self, a: T, n: u64) -> T {
-        T::from_u64(apply(ElementOp::Sdiv, T::BITS, a.to_u64(), n))
+        T::from_u64(apply(LaneOp::Sdiv, T::BITS, a.to_u64(), n))
     }
 }
 
@@ -83,7 +83,7 @@ impl LaneWise2 for Sdiv {
 pub struct Udiv;
 
 impl LaneWise2 for Udiv {
-    ghost entry = { λ _ e a b. element ElementOp.Udiv e a b };
+    ghost entry = { λ _ e a b. lane_op LaneOp.Udiv e a b };
 
     #[inline(always)]
     fn one<T: Lane>(&self, a: T, b: T) -> T {
@@ -92,6 +92,6 @@ impl LaneWise2 for Udiv {
 
     #[inline(always)]
     fn with_number<T: Lane>(&self, a: T, n: u64) -> T {
-        T::from_u64(apply(ElementOp::Udiv, T::BITS, a.to_u64(), n))
+        T::from_u64(apply(LaneOp::Udiv, T::BITS, a.to_u64(), n))
     }
 }

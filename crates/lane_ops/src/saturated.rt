@@ -1,17 +1,17 @@
 //! Sums and differences saturated to the bits of a lane.
-ghost use Rattle.sve_effects.specs.declared.elements.ElementOp.{ElementOp};
-ghost use Rattle.sve_effects.specs.Element.{element};
+ghost use Rattle.sve_effects.specs.declared.lane_functions.LaneOp.{LaneOp};
+ghost use Rattle.sve_effects.specs.Lane.{lane_op};
 
 use lane_kernels::LaneWise2;
 use lane_pack::Lane;
-use sve_elements::{ElementOp, apply};
+use sve_elements::{LaneOp, apply};
 
 /// The signed sum, saturated.
 #[derive(Clone, Copy)]
 pub struct Sqadd;
 
 impl LaneWise2 for Sqadd {
-    ghost entry = { λ _ e a b. element ElementOp.Sqadd e a b };
+    ghost entry = { λ _ e a b. lane_op LaneOp.Sqadd e a b };
 
     #[inline(always)]
     fn one<T: Lane>(&self, a: T, b: T) -> T {
@@ -20,7 +20,7 @@ impl LaneWise2 for Sqadd {
 
     #[inline(always)]
     fn with_number<T: Lane>(&self, a: T, n: u64) -> T {
-        T::from_u64(apply(ElementOp::Sqadd, T::BITS, a.to_u64(), n))
+        T::from_u64(apply(LaneOp::Sqadd, T::BITS, a.to_u64(), n))
     }
 }
 
@@ -29,7 +29,7 @@ impl LaneWise2 for Sqadd {
 pub struct Uqadd;
 
 impl LaneWise2 for Uqadd {
-    ghost entry = { λ _ e a b. element ElementOp.Uqadd e a b };
+    ghost entry = { λ _ e a b. lane_op LaneOp.Uqadd e a b };
 
     #[inline(always)]
     fn one<T: Lane>(&self, a: T, b: T) -> T {
@@ -38,7 +38,7 @@ impl LaneWise2 for Uqadd {
 
     #[inline(always)]
     fn with_number<T: Lane>(&self, a: T, n: u64) -> T {
-        T::from_u64(apply(ElementOp::Uqadd, T::BITS, a.to_u64(), n))
+        T::from_u64(apply(LaneOp::Uqadd, T::BITS, a.to_u64(), n))
     }
 }
 
@@ -47,7 +47,7 @@ impl LaneWise2 for Uqadd {
 pub struct Sqsub;
 
 impl LaneWise2 for Sqsub {
-    ghost entry = { λ _ e a b. element ElementOp.Sqsub e a b };
+    ghost entry = { λ _ e a b. lane_op LaneOp.Sqsub e a b };
 
     #[inline(always)]
     fn one<T: Lane>(&self, a: T, b: T) -> T {
@@ -56,7 +56,7 @@ impl LaneWise2 for Sqsub {
 
     #[inline(always)]
     fn with_number<T: Lane>(&self, a: T, n: u64) -> T {
-        T::from_u64(apply(ElementOp::Sqsub, T::BITS, a.to_u64(), n))
+        T::from_u64(apply(LaneOp::Sqsub, T::BITS, a.to_u64(), n))
     }
 }
 
@@ -65,7 +65,7 @@ impl LaneWise2 for Sqsub {
 pub struct Uqsub;
 
 impl LaneWise2 for Uqsub {
-    ghost entry = { λ _ e a b. element ElementOp.Uqsub e a b };
+    ghost entry = { λ _ e a b. lane_op LaneOp.Uqsub e a b };
 
     #[inline(always)]
     fn one<T: Lane>(&self, a: T, b: T) -> T {
@@ -74,7 +74,7 @@ impl LaneWise2 for Uqsub {
 
     #[inline(always)]
     fn with_number<T: Lane>(&self, a: T, n: u64) -> T {
-        T::from_u64(apply(ElementOp::Uqsub, T::BITS, a.to_u64(), n))
+        T::from_u64(apply(LaneOp::Uqsub, T::BITS, a.to_u64(), n))
     }
 }
 
@@ -83,7 +83,7 @@ impl LaneWise2 for Uqsub {
 pub struct SqaddAmount;
 
 impl LaneWise2 for SqaddAmount {
-    ghost entry = { λ _ e a b. element ElementOp.SqaddAmount e a b };
+    ghost entry = { λ _ e a b. lane_op LaneOp.SqaddAmount e a b };
 
     #[inline(always)]
     fn one<T: Lane>(&self, a: T, b: T) -> T {
@@ -92,7 +92,7 @@ impl LaneWise2 for SqaddAmount {
 
     #[inline(always)]
     fn with_number<T: Lane>(&self, a: T, n: u64) -> T {
-        T::from_u64(apply(ElementOp::SqaddAmount, T::BITS, a.to_u64(), n))
+        T::from_u64(apply(LaneOp::SqaddAmount, T::BITS, a.to_u64(), n))
     }
 }
 
@@ -101,7 +101,7 @@ impl LaneWise2 for SqaddAmount {
 pub struct SqsubAmount;
 
 impl LaneWise2 for SqsubAmount {
-    ghost entry = { λ _ e a b. element ElementOp.SqsubAmount e a b };
+    ghost entry = { λ _ e a b. lane_op LaneOp.SqsubAmount e a b };
 
     #[inline(always)]
     fn one<T: Lane>(&self, a: T, b: T) -> T {
@@ -110,6 +110,6 @@ impl LaneWise2 for SqsubAmount {
 
     #[inline(always)]
     fn with_number<T: Lane>(&self, a: T, n: u64) -> T {
-        T::from_u64(apply(ElementOp::SqsubAmount, T::BITS, a.to_u64(), n))
+        T::from_u64(apply(LaneOp::SqsubAmount, T::BITS, a.to_u64(), n))
     }
 }

@@ -1,13 +1,13 @@
 //! Shifts of lanes by any unsigned amount.
 ghost use Rattle.std.specs.Prelude.{◌≡◌, ◌<◌, ◌^◌};
 ghost use Rattle.emu_bits.specs.Operations.{lsl, lsr, asr};
-ghost use Rattle.sve_effects.specs.declared.elements.ElementOp.{ElementOp};
-ghost use Rattle.sve_effects.specs.Element.{element};
-ghost use Rattle.vec_model.specs.Lanes.{IsLaneSize};
+ghost use Rattle.sve_effects.specs.declared.lane_functions.LaneOp.{LaneOp};
+ghost use Rattle.sve_effects.specs.Lane.{lane_op};
+ghost use Rattle.vec_model.specs.LaneSizes.{IsLaneSize};
 
 use lane_kernels::LaneWise2;
 use lane_pack::Lane;
-use sve_elements::{ElementOp, apply};
+use sve_elements::{LaneOp, apply};
 
 /// A lane of e bits shifted to the left by fewer.
 #[inline(always)]
@@ -62,7 +62,7 @@ fn shifted_signed(e: u32, a: u64, n: u64) -> u64
 pub struct Asr;
 
 impl LaneWise2 for Asr {
-    ghost entry = { λ _ e a b. element ElementOp.Asr e a b };
+    ghost entry = { λ _ e a b. lane_op LaneOp.Asr e a b };
 
     #[inline(always)]
     fn one<T: Lane>(&self, a: T, b: T) -> T {
@@ -81,7 +81,7 @@ impl LaneWise2 for Asr {
 pub struct Lsr;
 
 impl LaneWise2 for Lsr {
-    ghost entry = { λ _ e a b. element ElementOp.Lsr e a b };
+    ghost entry = { λ _ e a b. lane_op LaneOp.Lsr e a b };
 
     #[inline(always)]
     fn one<T: Lane>(&self, a: T, b: T) -> T {
@@ -104,7 +104,7 @@ impl LaneWise2 for Lsr {
 pub struct Lsl;
 
 impl LaneWise2 for Lsl {
-    ghost entry = { λ _ e a b. element ElementOp.Lsl e a b };
+    ghost entry = { λ _ e a b. lane_op LaneOp.Lsl e a b };
 
     #[inline(always)]
     fn one<T: Lane>(&self, a: T, b: T) -> T {
@@ -127,7 +127,7 @@ impl LaneWise2 for Lsl {
 pub struct Asrd;
 
 impl LaneWise2 for Asrd {
-    ghost entry = { λ _ e a b. element ElementOp.Asrd e a b };
+    ghost entry = { λ _ e a b. lane_op LaneOp.Asrd e a b };
 
     #[inline(always)]
     fn one<T: Lane>(&self, a: T, b: T) -> T {
@@ -136,6 +136,6 @@ impl LaneWise2 for Asrd {
 
     #[inline(always)]
     fn with_number<T: Lane>(&self, a: T, n: u64) -> T {
-        T::from_u64(apply(ElementOp::Asrd, T::BITS, a.to_u64(), n))
+        T::from_u64(apply(LaneOp::Asrd, T::BITS, a.to_u64(), n))
     }
 }

@@ -1,6 +1,6 @@
 //! Functions of one lane: extensions, counts of bits, and parts in reverse order.
 ghost use Rattle.sve_insn.specs.declared.ops.UnaryOp.{UnaryOp};
-ghost use Rattle.sve_effects.specs.Element as table;
+ghost use Rattle.sve_effects.specs.Lane as table;
 
 use crate::sums::Sabd;
 use lane_kernels::{LaneWise1, LaneWise2};

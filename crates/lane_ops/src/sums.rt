@@ -1,17 +1,17 @@
 //! Sums, differences, and the greater and the smaller of two lanes.
-ghost use Rattle.sve_effects.specs.declared.elements.ElementOp.{ElementOp};
-ghost use Rattle.sve_effects.specs.Element.{element};
+ghost use Rattle.sve_effects.specs.declared.lane_functions.LaneOp.{LaneOp};
+ghost use Rattle.sve_effects.specs.Lane.{lane_op};
 
 use lane_kernels::{LaneWise1, LaneWise2};
 use lane_pack::Lane;
-use sve_elements::{ElementOp, apply};
+use sve_elements::{LaneOp, apply};
 
 /// The sum.
 #[derive(Clone, Copy)]
 pub struct Add;
 
 impl LaneWise2 for Add {
-    ghost entry = { λ _ e a b. element ElementOp.Add e a b };
+    ghost entry = { λ _ e a b. lane_op LaneOp.Add e a b };
 
     #[inline(always)]
     fn one<T: Lane>(&self, a: T, b: T) -> T {
@@ -20,7 +20,7 @@ impl LaneWise2 for Add {
 
     #[inline(always)]
     fn with_number<T: Lane>(&self, a: T, n: u64) -> T {
-        T::from_u64(apply(ElementOp::Add, T::BITS, a.to_u64(), n))
+        T::from_u64(apply(LaneOp::Add, T::BITS, a.to_u64(), n))
     }
 }
 
@@ -29,7 +29,7 @@ impl LaneWise2 for Add {
 pub struct Sub;
 
 impl LaneWise2 for Sub {
-    ghost entry = { λ _ e a b. element ElementOp.Sub e a b };
+    ghost entry = { λ _ e a b. lane_op LaneOp.Sub e a b };
 
     #[inline(always)]
     fn one<T: Lane>(&self, a: T, b: T) -> T {
@@ -38,7 +38,7 @@ impl LaneWise2 for Sub {
 
     #[inline(always)]
     fn with_number<T: Lane>(&self, a: T, n: u64) -> T {
-        T::from_u64(apply(ElementOp::Sub, T::BITS, a.to_u64(), n))
+        T::from_u64(apply(LaneOp::Sub, T::BITS, a.to_u64(), n))
     }
 }
 
@@ -47,7 +47,7 @@ impl LaneWise2 for Sub {
 pub struct Smax;
 
 impl LaneWise2 for Smax {
-    ghost entry = { λ _ e a b. element ElementOp.Smax e a b };
+    ghost entry = { λ _ e a b. lane_op LaneOp.Smax e a b };
 
     #[inline(always)]
     fn one<T: Lane>(&self, a: T, b: T) -> T {
@@ -67,11 +67,11 @@ impl LaneWise2 for Smax {
 pub struct Umax;
 
 impl LaneWise2 for Umax {
-    ghost entry = { λ _ e a b. element ElementOp.Umax e a b };
+    ghost entry = { λ _ e a b. lane_op LaneOp.Umax e a b };
 
     #[inline(always)]
     fn one<T: Lane>(&self, a: T, b: T) -> T {
-        T::from_u64(apply(ElementOp::Umax, T::BITS, a.to_u64(), b.to_u64()))
+        T::from_u64(apply(LaneOp::Umax, T::BITS, a.to_u64(), b.to_u64()))
     }
 
     #[inline(always)]
@@ -87,7 +87,7 @@ impl LaneWise2 for Umax {
 pub struct Smin;
 
 impl LaneWise2 for Smin {
-    ghost entry = { λ _ e a b. element ElementOp.Smin e a b };
+    ghost entry = { λ _ e a b. lane_op LaneOp.Smin e a b };
 
     #[inline(always)]
     fn one<T: Lane>(&self, a: T, b: T) -> T {
@@ -107,11 +107,11 @@ impl LaneWise2 for Smin {
 pub struct Umin;
 
 impl LaneWise2 for Umin {
-    ghost entry = { λ _ e a b. element ElementOp.Umin e a b };
+    ghost entry = { λ _ e a b. lane_op LaneOp.Umin e a b };
 
     #[inline(always)]
     fn one<T: Lane>(&self, a: T, b: T) -> T {
-        T::from_u64(apply(ElementOp::Umin, T::BITS, a.to_u64(), b.to_u64()))
+        T::from_u64(apply(LaneOp::Umin, T::BITS, a.to_u64(), b.to_u64()))
     }
 
     #[inline(always)]
@@ -127,7 +127,7 @@ impl LaneWise2 for Umin {
 pub struct Sabd;
 
 impl LaneWise2 for Sabd {
-    ghost entry = { λ _ e a b. element ElementOp.Sabd e a b };
+    ghost entry = { λ _ e a b. lane_op LaneOp.Sabd e a b };
 
     #[inline(always)]
     fn one<T: Lane>(&self, a: T, b: T) -> T {
@@ -142,7 +142,7 @@ impl LaneWise2 for Sabd {
 
     #[inline(always)]
     fn with_number<T: Lane>(&self, a: T, n: u64) -> T {
-        T::from_u64(apply(ElementOp::Sabd, T::BITS, a.to_u64(), n))
+        T::from_u64(apply(LaneOp::Sabd, T::BITS, a.to_u64(), n))
     }
 }
 
@@ -151,7 +151,7 @@ impl LaneWise2 for Sabd {
 pub struct Uabd;
 
 impl LaneWise2 for Uabd {
-    ghost entry = { λ _ e a b. element ElementOp.Uabd e a b };
+    ghost entry = { λ _ e a b. lane_op LaneOp.Uabd e a b };
 
     #[inline(always)]
     fn one<T: Lane>(&self, a: T, b: T) -> T {
@@ -160,7 +160,7 @@ impl LaneWise2 for Uabd {
 
     #[inline(always)]
     fn with_number<T: Lane>(&self, a: T, n: u64) -> T {
-        T::from_u64(apply(ElementOp::Uabd, T::BITS, a.to_u64(), n))
+        T::from_u64(apply(LaneOp::Uabd, T::BITS, a.to_u64(), n))
     }
 }
 
@@ -171,10 +171,10 @@ pub struct SubtractFrom {
 }
 
 impl LaneWise1 for SubtractFrom {
-    ghost entry = { λ s e a. element ElementOp.Sub e s.n a };
+    ghost entry = { λ s e a. lane_op LaneOp.Sub e s.n a };
 
     #[inline(always)]
     fn one<T: Lane>(&self, a: T) -> T {
-        T::from_u64(apply(ElementOp::Sub, T::BITS, self.n, a.to_u64()))
+        T::from_u64(apply(LaneOp::Sub, T::BITS, self.n, a.to_u64()))
     }
 }

@@ -1,6 +1,6 @@
 //! Products added to lanes and subtracted from them, and dot products.
 ghost use Rattle.std.specs.Prelude.{true, false};
-ghost use Rattle.sve_effects.specs.Element as table;
+ghost use Rattle.sve_effects.specs.Lane as table;
 
 use lane_kernels::LaneWise3;
 use lane_pack::Lane;

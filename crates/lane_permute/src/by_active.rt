@@ -1,6 +1,7 @@
 //! Permutes by active lanes.
 ghost use Rattle.std.specs.Prelude.{◌≡◌, ◌<◌, ◌≤◌, ◌+◌, ℕ, length, slice_set, nat_lt, if◌then◌else◌, MatchOption, is_some};
-ghost use Rattle.sve_effects.specs.FirstLast.{first_where, last_where, IsFirstWhere, IsLastWhere};
+ghost use Rattle.sve_effects.specs.FirstLast.{first_where, last_where};
+ghost use Rattle.sve_effects.specs.FirstLastLaws.{IsFirstWhere, IsLastWhere};
 ghost use Rattle.sve_effects.specs.Permute as model;
 ghost use Rattle.sve_effects.specs.Permute.{active_lanes, compact_place, splice_place, last_lane};
 ghost use Rattle.lane_permute.specs.Slices.{HasLanes, IsPermuted, number_at, active_by};

@@ -1,7 +1,7 @@
 //! Lanes that another lane's number names, and lanes of half the size.
 ghost use Rattle.std.specs.Prelude.{◌≡◌, ◌<◌, ◌*◌, ◌^◌, ℕ, length};
 ghost use Rattle.emu_bits.specs.Fields.{bit};
-ghost use Rattle.sve_effects.specs.Element.{extended_by};
+ghost use Rattle.sve_effects.specs.Lane.{extended_by};
 ghost use Rattle.sve_effects.specs.Permute.{taken, indexed_place, half_place};
 ghost use Rattle.lane_permute.specs.Slices.{IsPermuted, number_at};
 

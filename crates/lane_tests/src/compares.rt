@@ -1,6 +1,6 @@
 //! Comparisons of two lanes.
-ghost use Rattle.sve_effects.specs.declared.elements.ElementTest.{ElementTest};
-ghost use Rattle.sve_effects.specs.Element.{element_test};
+ghost use Rattle.sve_effects.specs.declared.lane_functions.LaneTest.{LaneTest};
+ghost use Rattle.sve_effects.specs.Lane.{lane_test};
 
 use lane_kernels::LaneWiseTest2;
 use lane_pack::Lane;
@@ -10,7 +10,7 @@ use lane_pack::Lane;
 pub struct Eq;
 
 impl LaneWiseTest2 for Eq {
-    ghost entry = { λ _ e a b. element_test ElementTest.Eq e a b };
+    ghost entry = { λ _ e a b. lane_test LaneTest.Eq e a b };
 
     #[inline(always)]
     fn one<T: Lane>(&self, a: T, b: T) -> bool {
@@ -23,7 +23,7 @@ impl LaneWiseTest2 for Eq {
 pub struct Ne;
 
 impl LaneWiseTest2 for Ne {
-    ghost entry = { λ _ e a b. element_test ElementTest.Ne e a b };
+    ghost entry = { λ _ e a b. lane_test LaneTest.Ne e a b };
 
     #[inline(always)]
     fn one<T: Lane>(&self, a: T, b: T) -> bool {
@@ -36,7 +36,7 @@ impl LaneWiseTest2 for Ne {
 pub struct Ge;
 
 impl LaneWiseTest2 for Ge {
-    ghost entry = { λ _ e a b. element_test ElementTest.Ge e a b };
+    ghost entry = { λ _ e a b. lane_test LaneTest.Ge e a b };
 
     #[inline(always)]
     fn one<T: Lane>(&self, a: T, b: T) -> bool {
@@ -49,7 +49,7 @@ impl LaneWiseTest2 for Ge {
 pub struct Gt;
 
 impl LaneWiseTest2 for Gt {
-    ghost entry = { λ _ e a b. element_test ElementTest.Gt e a b };
+    ghost entry = { λ _ e a b. lane_test LaneTest.Gt e a b };
 
     #[inline(always)]
     fn one<T: Lane>(&self, a: T, b: T) -> bool {
@@ -62,7 +62,7 @@ impl LaneWiseTest2 for Gt {
 pub struct Lt;
 
 impl LaneWiseTest2 for Lt {
-    ghost entry = { λ _ e a b. element_test ElementTest.Lt e a b };
+    ghost entry = { λ _ e a b. lane_test LaneTest.Lt e a b };
 
     #[inline(always)]
     fn one<T: Lane>(&self, a: T, b: T) -> bool {
@@ -75,7 +75,7 @@ impl LaneWiseTest2 for Lt {
 pub struct Le;
 
 impl LaneWiseTest2 for Le {
-    ghost entry = { λ _ e a b. element_test ElementTest.Le e a b };
+    ghost entry = { λ _ e a b. lane_test LaneTest.Le e a b };
 
     #[inline(always)]
     fn one<T: Lane>(&self, a: T, b: T) -> bool {
@@ -88,7 +88,7 @@ impl LaneWiseTest2 for Le {
 pub struct Hs;
 
 impl LaneWiseTest2 for Hs {
-    ghost entry = { λ _ e a b. element_test ElementTest.Hs e a b };
+    ghost entry = { λ _ e a b. lane_test LaneTest.Hs e a b };
 
     #[inline(always)]
     fn one<T: Lane>(&self, a: T, b: T) -> bool {
@@ -101,7 +101,7 @@ impl LaneWiseTest2 for Hs {
 pub struct Hi;
 
 impl LaneWiseTest2 for Hi {
-    ghost entry = { λ _ e a b. element_test ElementTest.Hi e a b };
+    ghost entry = { λ _ e a b. lane_test LaneTest.Hi e a b };
 
     #[inline(always)]
     fn one<T: Lane>(&self, a: T, b: T) -> bool {
@@ -114,7 +114,7 @@ impl LaneWiseTest2 for Hi {
 pub struct Lo;
 
 impl LaneWiseTest2 for Lo {
-    ghost entry = { λ _ e a b. element_test ElementTest.Lo e a b };
+    ghost entry = { λ _ e a b. lane_test LaneTest.Lo e a b };
 
     #[inline(always)]
     fn one<T: Lane>(&self, a: T, b: T) -> bool {
@@ -127,7 +127,7 @@ impl LaneWiseTest2 for Lo {
 pub struct Ls;
 
 impl LaneWiseTest2 for Ls {
-    ghost entry = { λ _ e a b. element_test ElementTest.Ls e a b };
+    ghost entry = { λ _ e a b. lane_test LaneTest.Ls e a b };
 
     #[inline(always)]
     fn one<T: Lane>(&self, a: T, b: T) -> bool {

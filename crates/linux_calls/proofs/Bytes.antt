@@ -4,13 +4,15 @@ use Rattle.std.proofs.Math.Nat.{mod-add-mod, mod-mod}
 use Rattle.std.proofs.Math.Seq.{take-append-add}
 use Rattle.std.proofs.lemmas.List.{take-append-le, take_min}
 use Rattle.std.specs.Result.{IsErr}
-use Rattle.io_gate.specs.Streams.{PutsAll}
+use Rattle.io_gate.specs.Pieces.{PutsAll}
 use Rattle.emu_model.specs.declared.access.Kind.{Kind}
 use Rattle.guest_mem.specs.Slices.{to_page_end}
-use Rattle.emu_model.specs.Access.{Memory, address, allowed, byte_at, refused, refused-zero, refused-suc, value, value-zero, value-suc}
+use Rattle.emu_model.specs.Access.{Memory, address, allowed, byte_at, refused, value}
+use Rattle.emu_model.specs.AccessEquations.{refused-zero, refused-suc, value-zero, value-suc}
 use Rattle.emu_system.specs.SystemCall.{entry_at}
 use Rattle.emu_model.specs.AccessLaws.{bytes_split, length_bytes_at, refused_first, refused_split}
-use Rattle.emu_model.specs.Pages.{bytes_at, bytes_at-zero, bytes_at-suc}
+use Rattle.emu_model.specs.Pages.{bytes_at}
+use Rattle.emu_model.specs.PageEquations.{bytes_at-zero, bytes_at-suc}
 
 -- ---- addresses that are the same modulo 2^64
 

@@ -2,8 +2,10 @@
 use Rattle.std.proofs.Common.{◌≡◌, ◌/◌, ℕ, Bool, true, false, List, [], ◌++◌, length, drop, min, Option, Some, None, IfSome, MatchBool, Ok, Err, nat_eq, if◌then◌else◌, refl, sym, ap, subst, ◌∙◌, append-nil}
 use Rattle.emu_model.specs.declared.program_break.Break.{Break}
 use Rattle.emu_model.specs.Access.{Memory}
-use Rattle.emu_model.specs.State.{Core, Vectors, Parts, IsSoundBreak}
-use Rattle.vec_model.specs.AfterCall.{after_call, cleared}
+use Rattle.emu_model.specs.State.{Core, Vectors, Parts}
+use Rattle.emu_model.specs.SoundState.{IsSoundBreak}
+use Rattle.vec_model.specs.AfterCall.{cleared}
+use Rattle.vec_model.specs.Writes.{after_call}
 use Rattle.emu_system.specs.declared.system_call.CallName.{CallName}
 use Rattle.emu_system.specs.declared.system_call.Errno.{Errno}
 use Rattle.emu_system.specs.declared.system_call.Range.{Range}

@@ -8,10 +8,12 @@ use Rattle.std.specs.Ordering.{nat_cmp, eq_by_cmp}
 use Rattle.std.specs.Cmp.{nat_cmp_total, unsigned_tied}
 use Rattle.std.specs.FinMap.{get, insert, get-insert}
 use Rattle.emu_model.specs.declared.access.Kind.{Kind}
-use Rattle.emu_model.specs.Access.{Memory, Page, address, page_of, page_byte, byte_at, with_byte, pages_with_byte, page_with_byte, page_gives, allowed, refused, refused-zero, refused-suc}
+use Rattle.emu_model.specs.Access.{Memory, Page, address, page_of, page_byte, byte_at, with_byte, pages_with_byte, page_with_byte, page_gives, allowed, refused}
+use Rattle.emu_model.specs.AccessEquations.{refused-zero, refused-suc}
 use Rattle.emu_model.specs.AccessLaws.{write_unmapped, with_bytes_split, bytes_split, length_bytes_at}
-use Rattle.emu_model.specs.Pages.{bytes_at, bytes_at-zero, bytes_at-suc, with_bytes}
-use Rattle.emu_model.specs.State.{AreBytes}
+use Rattle.emu_model.specs.Pages.{bytes_at, with_bytes}
+use Rattle.emu_model.specs.PageEquations.{bytes_at-zero, bytes_at-suc}
+use Rattle.emu_model.specs.SoundState.{AreBytes}
 use Rattle.emu_model.specs.WithinPage.{insert_same}
 use Rattle.guest_mem.specs.Slices.{with_slice, to_page_end}
 use Rattle.guest_pages.specs.Bytes.{as_bytes-same}

@@ -9,7 +9,7 @@ use Rattle.emu_model.specs.declared.access.Kind.TheVariants.{Write}
 use Rattle.emu_model.specs.Access.{Memory, address, allowed, refused}
 use Rattle.emu_model.specs.AccessLaws.{length_bytes_at, with_bytes_split}
 use Rattle.emu_model.specs.Pages.{bytes_at, with_bytes}
-use Rattle.emu_model.specs.State.{AreBytes}
+use Rattle.emu_model.specs.SoundState.{AreBytes}
 use Rattle.guest_mem.specs.Slices.{to_page_end, with_slice}
 use Rattle.linux_calls.specs.Taken.{Takes, Took}
 use Rattle.linux_calls.proofs.Bytes.{first_allowed, rest_granted}

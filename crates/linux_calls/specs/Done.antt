@@ -2,7 +2,8 @@
 use Rattle.std.specs.Prelude.{◌≡◌, ℕ, true, false, List, Option, Some, IfSome}
 use Rattle.emu_model.specs.declared.program_break.Break.{Break}
 use Rattle.emu_model.specs.Access.{Memory}
-use Rattle.emu_model.specs.State.{Core, Vectors, Parts, IsSoundBreak}
+use Rattle.emu_model.specs.State.{Core, Vectors, Parts}
+use Rattle.emu_model.specs.SoundState.{IsSoundBreak}
 use Rattle.emu_system.specs.SystemCall.{Action, done_by}
 use Rattle.linux_calls.specs.declared.end.CallEnd.{CallEnd}
 use Rattle.linux_calls.specs.Ends.{OfInput, Stores, behind, caller, does_put, does_take, end_of, is_fault}

@@ -2,7 +2,7 @@
 ghost use Rattle.std.specs.Prelude.{◌≡◌, ◌/◌, ◌^◌, ◌≤◌};
 ghost use Rattle.emu_model.specs.declared.program_break.Break.{Break};
 ghost use Rattle.emu_model.specs.Pages.{free_run};
-ghost use Rattle.emu_model.specs.State.{IsSoundBreak};
+ghost use Rattle.emu_model.specs.SoundState.{IsSoundBreak};
 ghost use Rattle.emu_system.specs.SystemCall as model;
 ghost use Rattle.linux_calls.specs.Replies.{HasDone};
 

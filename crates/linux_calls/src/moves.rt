@@ -1,7 +1,8 @@
 //! Lists of ranges of the guest's bytes, and the bytes that go from there to a sink and from a source there.
 ghost use Rattle.std.specs.Prelude.{◌≡◌, ◌≤◌, min, length, not, false, IfOk, IfSome};
 ghost use Rattle.std.specs.List.{list_any};
-ghost use Rattle.io_gate.specs.Streams.{HasCause, PutsAll};
+ghost use Rattle.io_gate.specs.Streams.{HasCause};
+ghost use Rattle.io_gate.specs.Pieces.{PutsAll};
 ghost use Rattle.emu_system.specs.SystemCall.{filled, gathered, is_denied, total};
 ghost use Rattle.linux_calls.specs.Taken.{Took};
 

@@ -1,9 +1,10 @@
 //! Ranges of the guest's bytes: whether they have a right, and the bytes that go from there to a sink and from a source there.
 ghost use Rattle.std.specs.Prelude.{◌≡◌, ◌<◌, ◌≤◌, min, length, None, is_none, true, IfOk, IfSome};
-ghost use Rattle.io_gate.specs.Streams.{HasCause, PutsAll, TakesSome};
+ghost use Rattle.io_gate.specs.Streams.{HasCause, TakesSome};
+ghost use Rattle.io_gate.specs.Pieces.{PutsAll};
 ghost use Rattle.emu_model.specs.Access.{allowed, refused};
 ghost use Rattle.emu_model.specs.Pages.{bytes_at, with_bytes};
-ghost use Rattle.emu_model.specs.State.{AreBytes};
+ghost use Rattle.emu_model.specs.SoundState.{AreBytes};
 ghost use Rattle.guest_mem.specs.Slices.{to_page_end};
 ghost use Rattle.linux_calls.specs.Taken.{Took};
 

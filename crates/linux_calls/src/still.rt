@@ -1,6 +1,7 @@
 //! The calls that move no byte, set no length and don't end the program.
 ghost use Rattle.std.specs.Prelude.{◌≡◌, true};
-ghost use Rattle.emu_model.specs.State.{IsSoundBreak, Vectors};
+ghost use Rattle.emu_model.specs.State.{Vectors};
+ghost use Rattle.emu_model.specs.SoundState.{IsSoundBreak};
 ghost use Rattle.emu_system.specs.SystemCall as model;
 ghost use Rattle.linux_calls.specs.Names.{is_still};
 ghost use Rattle.linux_calls.specs.Replies.{HasDone};

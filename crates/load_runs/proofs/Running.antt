@@ -4,7 +4,7 @@ use Rattle.emu_machine.specs.Ends.{Becomes, Puts}
 use Rattle.emu_machine.specs.declared.machine.Machine.{Machine}
 use Rattle.emu_model.specs.State.{Parts, State}
 use Rattle.emu_run.specs.Run.{run}
-use Rattle.emu_system.specs.Arguments.{AreArguments}
+use Rattle.emu_system.specs.ArgumentLimits.{AreArguments}
 use Rattle.emu_system.specs.Gained.{Gains}
 use Rattle.emu_system.specs.Start.{with_input}
 use Rattle.io_gate.specs.Memory.{Drain}

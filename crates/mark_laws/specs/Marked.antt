@@ -2,10 +2,12 @@
 use Rattle.std.specs.Prelude.{◌≡◌, ℕ, zero, suc, ◌+◌, ◌*◌, ◌/◌, ◌%◌, List, [], ◌∷◌, Option, Some, if◌then◌else◌}
 use Rattle.std.proofs.Common.{refl, ap, sym, ◌∙◌}
 use Rattle.emu_model.specs.declared.access.Kind.{Kind}
-use Rattle.emu_model.specs.Access.{Marks, Memory, address, allowed, byte_at, refused, refused-suc, refused-zero, stored, stored-suc, stored-zero, value, value-suc, value-zero, with_byte}
+use Rattle.emu_model.specs.Access.{Marks, Memory, address, allowed, byte_at, refused, stored, value, with_byte}
+use Rattle.emu_model.specs.AccessEquations.{refused-suc, refused-zero, stored-suc, stored-zero, value-suc, value-zero}
 use Rattle.emu_model.specs.Done.{Done}
 use Rattle.emu_model.specs.Elements.{Element, reach, reach_from, with_stored}
-use Rattle.emu_model.specs.Pages.{bytes_at, bytes_at-suc, bytes_at-zero, with_bytes}
+use Rattle.emu_model.specs.Pages.{bytes_at, with_bytes}
+use Rattle.emu_model.specs.PageEquations.{bytes_at-suc, bytes_at-zero}
 use Rattle.emu_model.specs.State.{Parts, State}
 
 -- ---- the same with other marks

@@ -12,10 +12,10 @@ use Rattle.emu_model.specs.Elements.{Element, Reach, accesses_of, reach}
 use Rattle.emu_model.specs.Lists.{each}
 use Rattle.emu_model.specs.State.{Core, Vectors}
 use Rattle.vec_model.specs.Lanes.{with_ffr, with_lanes, with_p}
-use Rattle.sve_effects.specs.Effects.{performed}
+use Rattle.sve_effects.specs.Rows.{performed}
 use Rattle.sve_effects.specs.FirstFaultParts.{first_fault_lane, first_fault_loaded, with_first_fault}
-use Rattle.sve_effects.specs.Element.{extended_by}
-use Rattle.sve_effects.specs.ElementLoop.{is_active}
+use Rattle.sve_effects.specs.Lane.{extended_by}
+use Rattle.sve_effects.specs.LaneLoop.{is_active}
 use Rattle.sve_effects.specs.FirstFault.{cleared_from, element_at, first_cleared, first_fault_row, first_refused, first_suppressed, is_before, is_refused, loaded_from, loaded_unless, never_traps, unsuppressed}
 use Rattle.sve_effects.specs.Row.{Row, done_by_way, done_by}
 use Rattle.sve_effects.specs.Rows.{row}

@@ -24,16 +24,16 @@ mod answers;
 mod commands;
 mod marks;
 mod memory;
+mod named_words;
 mod names;
 mod pages;
 mod programs;
 mod state;
 mod sve_names;
-mod words;
 
+use crate::named_words::line_agrees;
 use crate::pages::Both;
 use crate::state::State;
-use crate::words::line_agrees;
 use core_regs::Effect;
 use guest_mem::AccessLog;
 use insn_decode::{Insn, decode};

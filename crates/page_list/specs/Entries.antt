@@ -3,7 +3,8 @@ use Rattle.std.specs.Prelude.{◌≡◌, ◌<◌, ◌≤◌, ℕ, zero, suc, ◌
 use Rattle.std.specs.Coded.{Coded, code_by, coded×, coded_ℕ, coded_list, coded_option}
 use Rattle.std.specs.List.{AllByRecursion}
 use Rattle.emu_model.specs.declared.access.Rights.{Rights}
-use Rattle.emu_model.specs.Access.{Page, coded_page}
+use Rattle.emu_model.specs.Access.{Page}
+use Rattle.emu_model.specs.Codes.{coded_page}
 use Rattle.emu_model.specs.Pages.{zeroed_page}
 
 -- a page's number, and the page

@@ -3,7 +3,7 @@ ghost use Rattle.std.specs.Prelude.{◌≡◌, ◌≤◌, ◌<◌, ◌+◌, ◌-
 ghost use Rattle.std.specs.Bool.{OnTrue};
 ghost use Rattle.std.specs.Vec.{vec_len, vec_capacity};
 ghost use Rattle.emu_model.specs.Pages.{zeros};
-ghost use Rattle.emu_model.specs.State.{AreBytes};
+ghost use Rattle.emu_model.specs.SoundState.{AreBytes};
 ghost use Rattle.frame_arena.specs.Frames.{IsLive, Takes, bytes_of, count_of};
 ghost use Rattle.page_list.specs.declared.slots.Slot.{Slot};
 ghost use Rattle.page_list.specs.declared.slots.Hold.TheVariants.{Own};

@@ -1,6 +1,7 @@
 -- The greatest number that meets a test, as a loop goes down.
 use Rattle.std.proofs.Common.{◌≡◌, ◌<◌, ℕ, zero, suc, ◌-◌, Bool, true, false, Some, None, if◌then◌else◌, ap, ◌∙◌, arith}
-use Rattle.emu_model.specs.Pages.{greatest, greatest-zero, greatest-suc}
+use Rattle.emu_model.specs.Pages.{greatest}
+use Rattle.emu_model.specs.PageEquations.{greatest-zero, greatest-suc}
 
 module _ (meets : ℕ → Bool) where
   pub found : (n : ℕ) → 0 < n → meets n ≡ true → greatest n meets ≡ Some n

@@ -6,7 +6,7 @@ use Rattle.std.specs.Ordering.{nat_cmp}
 use Rattle.std.specs.Vec.{with_items}
 use Rattle.emu_model.specs.Access.{Page, no_marks}
 use Rattle.emu_model.specs.Pages.{with_bytes}
-use Rattle.emu_model.specs.State.{IsByte, AreBytes}
+use Rattle.emu_model.specs.SoundState.{IsByte, AreBytes}
 use Rattle.emu_model.specs.WithinPage.{overwritten, page_with_bytes, length_overwritten, with_bytes_is}
 use Rattle.plain_pages.specs.declared.slots.Slot.{Slot}
 use Rattle.plain_pages.specs.declared.pages.Pages.TheInside.{Inside}

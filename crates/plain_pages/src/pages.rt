@@ -3,7 +3,7 @@ ghost use Rattle.std.specs.Prelude.{◌≡◌, ◌≤◌, ◌<◌, ◌+◌, ◌*
 ghost use Rattle.std.specs.FinMap as map;
 ghost use Rattle.emu_model.specs.Access.{no_marks, page_gives};
 ghost use Rattle.emu_model.specs.Pages.{free_run, least_unmapped, mapped, protected, unmapped, with_bytes};
-ghost use Rattle.emu_model.specs.State.{IsSoundMemory};
+ghost use Rattle.emu_model.specs.SoundState.{IsSoundMemory};
 ghost use Rattle.guest_pages.specs.MapFault.{map_fault, protect_answer};
 
 use crate::slots::{
@@ -35,7 +35,8 @@ pub struct Pages {
 }
 
 impl Model for Pages {
-    ghost use Rattle.emu_model.specs.Access.{Memory, coded_memory};
+    ghost use Rattle.emu_model.specs.Access.{Memory};
+    ghost use Rattle.emu_model.specs.Codes.{coded_memory};
 
     ghost Value = { Memory };
 

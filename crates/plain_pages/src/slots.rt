@@ -5,7 +5,7 @@ ghost use Rattle.std.specs.Ordering.{nat_cmp};
 ghost use Rattle.std.specs.FinMap.{contains_key, find};
 ghost use Rattle.emu_model.specs.Access.{page_gives};
 ghost use Rattle.emu_model.specs.Pages.{free_run, is_among, is_free, least_mapped, least_unmapped, zeros};
-ghost use Rattle.emu_model.specs.State.{AreBytes};
+ghost use Rattle.emu_model.specs.SoundState.{AreBytes};
 ghost use Rattle.emu_model.specs.WithinPage.{overwritten, page_with_bytes};
 ghost use Rattle.plain_pages.specs.Slots.{IsAscending, IsBelow, IsFrom, IsAt, IsEntry, all_changed, changed, entries_of, page_with_rights, pages_of, zeroed_entries};
 
@@ -128,7 +128,7 @@ pub fn store_slot(slots: &mut [Slot], page: u64, at: usize, bytes: &[u8]) -> boo
     }
 }
 
-#[tactic(auto, using(emu_model::specs::Pages::zeros_is))]
+#[tactic(auto, using(emu_model::specs::PageEquations::zeros_is))]
 /// `count` zero bytes.
 fn zeroed(alloc: Global, count: usize) -> Result<Vec<u8>, AllocError>
     ensures { IfOk result (λ v. v.items ≡ zeros count) }
@@ -198,7 +198,7 @@ pub fn is_mapped(slots: &[Slot], page: u64) -> bool
     }
 }
 
-#[tactic(auto, using(emu_model::specs::Pages::ranges))]
+#[tactic(auto, using(emu_model::specs::PageEquations::ranges))]
 /// The least of `count` pages from page `first` on that isn't mapped.
 pub fn unmapped_page(slots: &[Slot], first: u64, count: u64) -> Option<u64>
     requires ascending { IsAscending (entries_of slots.now) }

@@ -5,7 +5,8 @@ use Rattle.std.proofs.lemmas.Bool.Decides.{nat_tests}
 use Rattle.emu_bits.specs.Flags.{size_of}
 use Rattle.emu_bits.specs.declared.flags.Esize.{Esize}
 use Rattle.emu_bits.specs.declared.flags.Flags.{Flags}
-use Rattle.emu_model.specs.Lists.{each, get_or-each}
+use Rattle.emu_model.specs.Lists.{each}
+use Rattle.emu_model.specs.ListLaws.{get_or-each}
 use Rattle.vec_model.specs.Active.{active}
 use Rattle.sve_effects.proofs.Found.{first_found, first_is, last_is, first_same, last_same, answer_same, last_within}
 use Rattle.sve_effects.specs.FirstLast.{first_where, last_where, answer_at}

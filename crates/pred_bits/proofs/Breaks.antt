@@ -4,7 +4,8 @@ use Rattle.std.proofs.lemmas.Bool.{cases_eq}
 use Rattle.std.proofs.lemmas.Bool.Decides.{nat_tests}
 use Rattle.std.proofs.lemmas.List.{length-set, get_or-set_same, get_or-set_other}
 use Rattle.std.proofs.lemmas.List.FromFn.{fill_by_all}
-use Rattle.emu_model.specs.Lists.{each, get_or-each, each_same}
+use Rattle.emu_model.specs.Lists.{each}
+use Rattle.emu_model.specs.ListLaws.{get_or-each, each_same}
 use Rattle.vec_model.specs.Active.{active}
 use Rattle.sve_effects.specs.declared.predicates.LogicOp.TheVariants.{And, Sel}
 use Rattle.sve_effects.specs.FirstLast.{first_where}

@@ -2,7 +2,8 @@
 use Rattle.std.proofs.Common.{◌≡◌, ◌<◌, ◌/◌, ◌%◌, ◌*◌, ℕ, Bool, false, ◌&&◌, nat_eq, if◌then◌else◌, Option, List, length, get_or, replicate, refl, sym, ap, ◌∙◌, arith}
 use Rattle.std.proofs.lemmas.List.{length-replicate, get_or-replicate}
 use Rattle.std.proofs.lemmas.List.FromFn.{fill_by_all}
-use Rattle.emu_model.specs.Lists.{each, each_same}
+use Rattle.emu_model.specs.Lists.{each}
+use Rattle.emu_model.specs.ListLaws.{each_same}
 use Rattle.sve_effects.proofs.Found.{first_same, last_same, answer_same, last_within}
 use Rattle.vec_model.specs.Active.{active}
 use Rattle.sve_effects.specs.FirstLast.{first_where, last_where, answer_at}

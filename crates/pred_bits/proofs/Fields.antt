@@ -4,7 +4,8 @@ use Rattle.std.proofs.lemmas.Bool.{cases_lt, lt-ltb, le-ltb, and_right, eqb-true
 use Rattle.emu_bits.specs.Flags.{size_of}
 use Rattle.emu_bits.specs.declared.flags.Esize.{Esize}
 use Rattle.emu_bits.specs.declared.flags.Esize.TheVariants.{B, H, S, D}
-use Rattle.emu_model.specs.Lists.{each, each_same}
+use Rattle.emu_model.specs.Lists.{each}
+use Rattle.emu_model.specs.ListLaws.{each_same}
 use Rattle.vec_model.specs.Lanes.{field_bit}
 use Rattle.vec_regs.specs.Words.{bit_of, bits_of, AreClearFrom}
 use Rattle.sve_effects.specs.Predicate.{lanes_of, lanes_below}

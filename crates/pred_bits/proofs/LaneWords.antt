@@ -9,7 +9,8 @@ use Rattle.vec_model.specs.Lanes.{field_bit}
 use Rattle.vec_regs.specs.Words.{bit_of, AreClearFrom}
 use Rattle.emu_bits.specs.declared.flags.Flags.{Flags}
 use Rattle.sve_effects.proofs.Found.{first_found, first_is, first_same, last_found, last_is, last_same}
-use Rattle.sve_effects.specs.FirstLast.{first_where, last_where, answer_at, IsFirstWhere, IsLastWhere}
+use Rattle.sve_effects.specs.FirstLast.{first_where, last_where, answer_at}
+use Rattle.sve_effects.specs.FirstLastLaws.{IsFirstWhere, IsLastWhere}
 use Rattle.sve_effects.specs.Predicate.{test_flags}
 use Rattle.pred_bits.specs.LaneBits.{among, lane_at, places_tested}
 

@@ -1,7 +1,8 @@
 -- Logical operations on the words of predicates.
 use Rattle.std.proofs.Common.{◌≡◌, ◌<◌, ◌≤◌, ◌/◌, ◌%◌, ℕ, Bool, false, List, length, inl, inr, refl, sym, ap, ◌∙◌, arith}
 use Rattle.std.proofs.lemmas.Bool.{cases_lt}
-use Rattle.emu_model.specs.Lists.{each, each_same}
+use Rattle.emu_model.specs.Lists.{each}
+use Rattle.emu_model.specs.ListLaws.{each_same}
 use Rattle.sve_effects.specs.declared.predicates.LogicOp.{LogicOp}
 use Rattle.sve_effects.specs.declared.predicates.LogicOp.TheVariants.{And, Bic, Eor, Orr, Orn, Nor, Nand, Sel}
 use Rattle.sve_effects.specs.Predicate.{is_set, logic_bit, logic}

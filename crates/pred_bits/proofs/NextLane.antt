@@ -10,7 +10,8 @@ use Rattle.vec_model.specs.Lanes.{field_bit}
 use Rattle.vec_regs.proofs.Views.{zero_bit}
 use Rattle.vec_regs.specs.Words.{bit_of}
 use Rattle.sve_effects.proofs.Found.{first_found, first_is, first_same, last_found}
-use Rattle.sve_effects.specs.FirstLast.{first_where, last_where, IsFirstWhere, IsLastWhere}
+use Rattle.sve_effects.specs.FirstLast.{first_where, last_where}
+use Rattle.sve_effects.specs.FirstLastLaws.{IsFirstWhere, IsLastWhere}
 use Rattle.sve_effects.specs.Predicate.{is_at, is_behind}
 use Rattle.pred_bits.specs.LaneBits.{among, lane_at}
 use Rattle.pred_bits.proofs.LaneWords.{not_start, twice, and_false, lanes_shown, first_of_words, starts_lane, is_lane, last_lane_is}

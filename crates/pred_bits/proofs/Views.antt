@@ -5,7 +5,7 @@ use Rattle.std.proofs.lemmas.Bool.{cases_eq}
 use Rattle.std.proofs.lemmas.List.{length-set, length-replicate, get_or-replicate, get_or-set_same, get_or-set_other}
 use Rattle.std.proofs.lemmas.List.FromFn.{fill_by_all}
 use Rattle.std.proofs.lemmas.Nat.{div-add-mod'}
-use Rattle.emu_model.specs.Lists.{length-each, get_or-each}
+use Rattle.emu_model.specs.ListLaws.{length-each, get_or-each}
 use Rattle.vec_regs.specs.Words.{bit_of, bits_of, AreClearFrom}
 use Rattle.vec_regs.proofs.Views.{zero_bit}
 

@@ -11,7 +11,7 @@ ghost use Rattle.sve_effects.specs.FirstLast.{first_where, all_below};
 ghost use Rattle.sve_effects.specs.Predicate as model;
 ghost use Rattle.sve_effects.specs.Predicate.{lanes_of, only_next, while_lanes, while_holds, count_lanes};
 
-use crate::words::{
+use crate::pred_words::{
     behind, count_bits, first_alone, first_bit, last_bit, last_is_in, starts_below,
     starts_below_apart, starts_in_both, starts_in_first, test_words,
 };

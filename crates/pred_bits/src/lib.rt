@@ -7,8 +7,8 @@
 
 mod lanes;
 mod patterns;
+mod pred_words;
 mod whole;
-mod words;
 
 ghost use Rattle.std.specs.Prelude.{◌≡◌, ◌<◌, ◌≤◌, ◌*◌, ◌/◌, true, false, length, get_or, set, replicate};
 ghost use Rattle.emu_bits.specs.Flags.{size_of};
@@ -104,7 +104,7 @@ impl PredBits {
         ensures { self.new ≡ set self.old k v }
     {
         let word = self.words[k as usize / 64];
-        self.words[k as usize / 64] = words::with_bit(word, k % 64, v);
+        self.words[k as usize / 64] = pred_words::with_bit(word, k % 64, v);
     }
 
     /// The number of lanes of a size, whose fields lie within the bits.

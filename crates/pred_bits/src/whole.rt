@@ -5,7 +5,7 @@ ghost use Rattle.sve_effects.specs.Predicate as model;
 ghost use Rattle.sve_effects.specs.Predicate.{is_upto, broken, broken_pair, broken_next, with_first};
 
 use crate::lanes::{first_lane, first_set, lanes_below, last_is_set};
-use crate::{LogicOp, PredBits, words};
+use crate::{LogicOp, PredBits, pred_words};
 use emu_bits::Esize;
 
 /// A logical operation on each bit; but for sel, an inactive bit is 0.
@@ -17,7 +17,7 @@ pub fn logic(op: LogicOp, g: &PredBits, a: &PredBits, b: &PredBits) -> PredBits
 {
     let mut words = [0; 4];
     for i in 0..4 {
-        words[i] = words::logic(op, g.words[i], a.words[i], b.words[i]);
+        words[i] = pred_words::logic(op, g.words[i], a.words[i], b.words[i]);
     }
     PredBits {
         words,

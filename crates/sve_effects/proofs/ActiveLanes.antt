@@ -1,6 +1,6 @@
 -- Active lanes, taken one after the other.
 use Rattle.std.proofs.Common.{◌≡◌, ◌≤◌, ◌+◌, ℕ, zero, suc, Bool, true, false, if◌then◌else◌, List, [], ◌∷◌, ◌++◌, length, refl, arith, add-one, length-append}
-use Rattle.sve_effects.specs.ElementLoop.{folded}
+use Rattle.sve_effects.specs.LaneLoop.{folded}
 use Rattle.sve_effects.specs.FirstLast.{or_else, if_meets, first_where, last_where}
 use Rattle.sve_effects.specs.Permute.{active_lanes}
 

@@ -1,7 +1,8 @@
 -- First and last places meet their tests.
 use Rattle.std.proofs.Common.{◌≡◌, ◌<◌, ℕ, zero, suc, Bool, true, false, Option, Some, None, IfSome, if◌then◌else◌, inl, inr, refl, ap, subst, ◌∙◌, arith}
 use Rattle.std.proofs.lemmas.Bool.{both_ways, cases_lt, cases_order, and_from, and_parts}
-use Rattle.sve_effects.specs.FirstLast.{or_else, if_meets, first_where, last_where, all_below, answer_at, IsFirstWhere, IsLastWhere}
+use Rattle.sve_effects.specs.FirstLast.{or_else, if_meets, first_where, last_where, all_below, answer_at}
+use Rattle.sve_effects.specs.FirstLastLaws.{IsFirstWhere, IsLastWhere}
 
 -- what holds below n and at n holds below n + 1
 below_suc : (P : ℕ → Type 0) (n : ℕ) → ((j : ℕ) → j < n → P j) → P n → (j : ℕ) → j < suc n → P j

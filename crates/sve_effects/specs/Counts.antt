@@ -6,12 +6,12 @@ use Rattle.sve_insn.specs.declared.ops.SatOp.{SatOp}
 use Rattle.sve_insn.specs.declared.ops.SatOp.TheVariants.{Sqinc, Uqinc, Sqdec, Uqdec}
 use Rattle.sve_insn.specs.declared.ops.AddLengthOp.{AddLengthOp}
 use Rattle.sve_insn.specs.declared.ops.AddLengthOp.TheVariants.{Addvl, Addpl}
-use Rattle.sve_effects.specs.declared.elements.ElementOp.{ElementOp}
-use Rattle.sve_effects.specs.declared.elements.ElementOp.TheVariants.{Add, Sub, Uqadd, Uqsub, SqaddAmount, SqsubAmount}
+use Rattle.sve_effects.specs.declared.lane_functions.LaneOp.{LaneOp}
+use Rattle.sve_effects.specs.declared.lane_functions.LaneOp.TheVariants.{Add, Sub, Uqadd, Uqsub, SqaddAmount, SqsubAmount}
 use Rattle.emu_bits.specs.Numbers.{signed}
 use Rattle.emu_model.specs.State.{Vectors}
-use Rattle.sve_effects.specs.Element.{element, extended_by}
-use Rattle.sve_effects.specs.ElementLoop.{lane_bits}
+use Rattle.sve_effects.specs.Lane.{lane_op, extended_by}
+use Rattle.sve_effects.specs.LaneLoop.{lane_bits}
 use Rattle.sve_effects.specs.Pattern.{pattern_count}
 use Rattle.sve_effects.specs.PermuteRows.{lanes}
 
@@ -22,16 +22,16 @@ abbrev pub count_of : ℕ → ℕ → ℕ → Vectors → ℕ
 count_of size imm4 pattern v = pattern_count pattern (lanes (lane_bits size) v) * (imm4 + 1)
 
 -- the function of a number and a count
-abbrev pub inc_element : IncOp → ElementOp
-inc_element Inc = Add
-inc_element Dec = Sub
+abbrev pub inc_lane_op : IncOp → LaneOp
+inc_lane_op Inc = Add
+inc_lane_op Dec = Sub
 
 -- the same, saturating
-abbrev pub sat_element : SatOp → ElementOp
-sat_element Sqinc = SqaddAmount
-sat_element Uqinc = Uqadd
-sat_element Sqdec = SqsubAmount
-sat_element Uqdec = Uqsub
+abbrev pub sat_lane_op : SatOp → LaneOp
+sat_lane_op Sqinc = SqaddAmount
+sat_lane_op Uqinc = Uqadd
+sat_lane_op Sqdec = SqsubAmount
+sat_lane_op Uqdec = Uqsub
 
 -- the names with sq
 abbrev pub saturates_signed : SatOp → Bool
@@ -42,7 +42,7 @@ saturates_signed Uqdec = false
 
 -- the low w bits of a register and a count, saturating at w bits; the result is extended to 64 bits, by its sign for sq
 abbrev pub sat_counted : SatOp → ℕ → ℕ → ℕ → ℕ
-sat_counted op w x count = extended_by (saturates_signed op) 64 w (element (sat_element op) w (x % 2 ^ w) count)
+sat_counted op w x count = extended_by (saturates_signed op) 64 w (lane_op (sat_lane_op op) w (x % 2 ^ w) count)
 
 -- ---- multiples of the vector length
 

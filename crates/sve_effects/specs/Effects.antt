@@ -1,22 +1,78 @@
--- What an SVE instruction does, by its row.
-use Rattle.std.specs.Prelude.{Bool, ◌||◌, List}
+-- What contracts cite of an SVE instruction: its group, and the parts of what it does.
+use Rattle.std.specs.Prelude.{Bool, ◌||◌, List, true, false}
 use Rattle.sve_insn.specs.declared.form.SveForm.{SveForm}
 use Rattle.emu_model.specs.Access.{Memory}
-use Rattle.emu_model.specs.Done.{Done, Registers}
+use Rattle.emu_model.specs.Done.{Done, Registers, leaves}
 use Rattle.emu_model.specs.Elements.{Element}
 use Rattle.emu_model.specs.State.{Core, Vectors}
 use Rattle.sve_effects.specs.declared.groups.Group.{Group}
 use Rattle.sve_effects.specs.declared.groups.Group.TheVariants.{Lanes, Permutes, Counts, Folds, Predicates, Loads, Stores, Gathers, Scatters, FirstFaults}
 use Rattle.sve_effects.specs.FirstFault.{never_traps, first_fault_row}
-use Rattle.sve_effects.specs.Row.{row_group, same_group, registers_after, memory_of, done_by}
+use Rattle.sve_effects.specs.Row.{memory, Row, by_lanes, permutes, counts, folds, predicates}
 use Rattle.sve_effects.specs.Rows.{row}
-use Rattle.sve_effects.specs.VectorElements.{MemoryRow, Layout, elements_of, row_layout}
+use Rattle.sve_effects.specs.VectorElements.{MemoryRow, Layout, elements_of, row_layout, Way, loads, stores, gathers, scatters, first_faults, non_faults, whole, whole_z, scalar, single_bytes}
 use Rattle.sve_effects.specs.VectorLoadStore.{load_row, store_row}
 
-abbrev pub performed : SveForm → Core → Vectors → Memory → Done
-performed form c v m = done_by (row form) c v m
+-- ---- of rows
 
--- ---- groups
+-- what the rows have that reach no memory
+abbrev pub no_elements : MemoryRow
+no_elements = record { way = loads; width = single_bytes; registers = 0; first = 0; transfer = whole_z; brackets = scalar 0 (whole 0) }
+
+-- gathers are a group of their own, but for the first-faulting ones
+abbrev pub by_fault : Bool → Group
+by_fault true = FirstFaults
+by_fault false = Gathers
+
+abbrev pub group_by : Way → Group
+group_by loads = Loads
+group_by stores = Stores
+group_by (gathers ff) = by_fault ff
+group_by scatters = Scatters
+group_by first_faults = FirstFaults
+group_by non_faults = FirstFaults
+
+abbrev pub row_group : Row → Group
+row_group (by_lanes f) = Lanes
+row_group (permutes f) = Permutes
+row_group (counts f) = Counts
+row_group (folds f) = Folds
+row_group (predicates f) = Predicates
+row_group (memory r) = group_by r.way
+
+-- whether two groups are the same
+abbrev pub same_group : Group → Group → Bool
+same_group Lanes Lanes = true
+same_group Permutes Permutes = true
+same_group Counts Counts = true
+same_group Folds Folds = true
+same_group Predicates Predicates = true
+same_group Loads Loads = true
+same_group Stores Stores = true
+same_group Gathers Gathers = true
+same_group Scatters Scatters = true
+same_group FirstFaults FirstFaults = true
+same_group wanted group = false
+
+-- the registers after a row that reaches no memory
+abbrev pub registers_after : Row → Core → Vectors → Registers
+registers_after (by_lanes f) c v = leaves c (f c v)
+registers_after (permutes f) c v = f c v
+registers_after (counts f) c v = f c v
+registers_after (folds f) c v = f c v
+registers_after (predicates f) c v = f c v
+registers_after (memory r) c v = leaves c v
+
+-- the elements of a row that reaches memory
+abbrev pub memory_of : Row → MemoryRow
+memory_of (by_lanes f) = no_elements
+memory_of (permutes f) = no_elements
+memory_of (counts f) = no_elements
+memory_of (folds f) = no_elements
+memory_of (predicates f) = no_elements
+memory_of (memory r) = r
+
+-- ---- the group of an instruction
 
 abbrev pub group_of : SveForm → Group
 group_of form = row_group (row form)

@@ -1,5 +1,5 @@
 -- The first and the last of the places below n that meet a test.
-use Rattle.std.specs.Prelude.{◌≡◌, ℕ, zero, suc, ◌+◌, ◌<◌, Bool, true, false, ◌&&◌, Option, Some, None, MatchOption, if◌then◌else◌}
+use Rattle.std.specs.Prelude.{ℕ, zero, suc, ◌+◌, Bool, true, false, ◌&&◌, Option, Some, None, if◌then◌else◌}
 use Rattle.emu_bits.specs.Fields.{bit}
 
 -- ---- places
@@ -37,27 +37,3 @@ count_where (suc n) test = count_where n test + bit (test n)
 abbrev pub answer_at : Option ℕ → (ℕ → Bool) → Bool
 answer_at None test = false
 answer_at (Some k) test = test k
-
--- ---- laws
-
--- it is below n and meets the test, and nothing before it does
-pub record IsFirst (n : ℕ) (test : ℕ → Bool) (k : ℕ) : Type 0 where
-  pub within : k < n
-  pub meets : test k ≡ true
-  pub before : (j : ℕ) → j < k → test j ≡ false
-
--- it is below n and meets the test, and nothing behind it does
-pub record IsLast (n : ℕ) (test : ℕ → Bool) (k : ℕ) : Type 0 where
-  pub within : k < n
-  pub meets : test k ≡ true
-  pub behind : (j : ℕ) → k < j → j < n → test j ≡ false
-
--- nothing below n meets the test
-abbrev pub MeetsNowhere : ℕ → (ℕ → Bool) → Type 0
-MeetsNowhere n test = (j : ℕ) → j < n → test j ≡ false
-
-abbrev pub IsFirstWhere : ℕ → (ℕ → Bool) → Option ℕ → Type 0
-IsFirstWhere n test found = MatchOption found (MeetsNowhere n test) (IsFirst n test)
-
-abbrev pub IsLastWhere : ℕ → (ℕ → Bool) → Option ℕ → Type 0
-IsLastWhere n test found = MatchOption found (MeetsNowhere n test) (IsLast n test)

@@ -2,24 +2,24 @@
 use Rattle.std.specs.Prelude.{ℕ, ◌-◌, ◌^◌}
 use Rattle.sve_insn.specs.declared.ops.ReduceOp.{ReduceOp}
 use Rattle.sve_insn.specs.declared.ops.ReduceOp.TheVariants.{Saddv, Uaddv, Smaxv, Umaxv, Sminv, Uminv, Orv, Eorv, Andv}
-use Rattle.sve_effects.specs.declared.elements.ElementOp.TheVariants.{Add, Smax, Umax, Smin, Umin, Orr, Eor, And}
+use Rattle.sve_effects.specs.declared.lane_functions.LaneOp.TheVariants.{Add, Smax, Umax, Smin, Umin, Orr, Eor, And}
 use Rattle.emu_bits.specs.Numbers.{sign_extended}
 use Rattle.emu_model.specs.State.{Vectors}
-use Rattle.sve_effects.specs.Element.{element}
-use Rattle.sve_effects.specs.ElementLoop.{folding}
+use Rattle.sve_effects.specs.Lane.{lane_op}
+use Rattle.sve_effects.specs.LaneLoop.{folding}
 use Rattle.vec_model.specs.Lanes.{with_low}
 
 -- the next value, of the value so far and a lane of e bits; sums are of the signed or the unsigned lanes, modulo 2^64
 abbrev pub reduce_step : ReduceOp → ℕ → ℕ → ℕ → ℕ
-reduce_step Saddv e so_far a = element Add 64 so_far (sign_extended 64 e a)
-reduce_step Uaddv e so_far a = element Add 64 so_far a
-reduce_step Smaxv e so_far a = element Smax e so_far a
-reduce_step Umaxv e so_far a = element Umax e so_far a
-reduce_step Sminv e so_far a = element Smin e so_far a
-reduce_step Uminv e so_far a = element Umin e so_far a
-reduce_step Orv e so_far a = element Orr e so_far a
-reduce_step Eorv e so_far a = element Eor e so_far a
-reduce_step Andv e so_far a = element And e so_far a
+reduce_step Saddv e so_far a = lane_op Add 64 so_far (sign_extended 64 e a)
+reduce_step Uaddv e so_far a = lane_op Add 64 so_far a
+reduce_step Smaxv e so_far a = lane_op Smax e so_far a
+reduce_step Umaxv e so_far a = lane_op Umax e so_far a
+reduce_step Sminv e so_far a = lane_op Smin e so_far a
+reduce_step Uminv e so_far a = lane_op Umin e so_far a
+reduce_step Orv e so_far a = lane_op Orr e so_far a
+reduce_step Eorv e so_far a = lane_op Eor e so_far a
+reduce_step Andv e so_far a = lane_op And e so_far a
 
 -- the value where no lane is active: 0, the least and the greatest signed number, or all ones
 abbrev pub reduce_start : ReduceOp → ℕ → ℕ

@@ -1,10 +1,11 @@
 pub mod Counts
 pub mod Effects
-pub mod Element
-pub mod ElementLoop
+pub mod Lane
+pub mod LaneLoop
 pub mod FirstFault
 pub mod FirstFaultParts
 pub mod FirstLast
+pub mod FirstLastLaws
 pub mod Fold
 pub mod Pattern
 pub mod Permute

@@ -14,8 +14,8 @@ use Rattle.sve_insn.specs.declared.ops.CondLastOp.{CondLastOp}
 use Rattle.sve_insn.specs.declared.ops.CondLastOp.TheVariants.{ClastaR, ClastbR, ClastaV, ClastbV, ClastaZ, ClastbZ}
 use Rattle.emu_model.specs.Done.{Registers, leaves}
 use Rattle.emu_model.specs.State.{Core, Vectors, read_x, read_x_sp, with_x}
-use Rattle.sve_effects.specs.Element.{extended_by}
-use Rattle.sve_effects.specs.ElementLoop.{lane_bits, lane_of, is_active}
+use Rattle.sve_effects.specs.Lane.{extended_by}
+use Rattle.sve_effects.specs.LaneLoop.{lane_bits, lane_of, is_active}
 use Rattle.sve_effects.specs.FirstLast.{first_where, last_where}
 use Rattle.vec_model.specs.Lanes.{read_p, with_lanes, with_low, with_fields}
 use Rattle.sve_effects.specs.declared.places.Place.{Place}

@@ -31,15 +31,15 @@ use Rattle.emu_bits.specs.declared.flags.Flags.{Flags}
 use Rattle.emu_model.specs.Done.{Registers, leaves}
 use Rattle.emu_model.specs.Lists.{each}
 use Rattle.emu_model.specs.State.{Core, Vectors, read_x}
-use Rattle.sve_effects.specs.declared.elements.ElementOp.{ElementOp}
-use Rattle.sve_effects.specs.declared.elements.ElementOp.TheVariants.{Add, Sub}
-use Rattle.sve_effects.specs.declared.elements.ElementTest.{ElementTest}
-use Rattle.sve_effects.specs.declared.elements.ElementTest.TheVariants.{Eq, Ne, Ge, Gt, Lt, Le, Hs, Hi, Lo, Ls}
+use Rattle.sve_effects.specs.declared.lane_functions.LaneOp.{LaneOp}
+use Rattle.sve_effects.specs.declared.lane_functions.LaneOp.TheVariants.{Add, Sub}
+use Rattle.sve_effects.specs.declared.lane_functions.LaneTest.{LaneTest}
+use Rattle.sve_effects.specs.declared.lane_functions.LaneTest.TheVariants.{Eq, Ne, Ge, Gt, Lt, Le, Hs, Hi, Lo, Ls}
 use Rattle.sve_effects.specs.declared.predicates.LogicOp.{LogicOp}
 use Rattle.sve_effects.specs.declared.predicates.LogicOp.TheVariants.{And, Bic, Eor, Orr, Orn, Nor, Nand}
 use Rattle.sve_effects.specs.declared.predicates.WhileTest.{WhileTest}
 use Rattle.sve_effects.specs.declared.predicates.WhileTest.TheVariants as conditions
-use Rattle.sve_effects.specs.ElementLoop.{is_active}
+use Rattle.sve_effects.specs.LaneLoop.{is_active}
 use Rattle.vec_model.specs.Lanes.{read_p, with_p}
 use Rattle.sve_effects.specs.Predicate.{is_set, fields, pred_test, while_lanes, count_lanes}
 
@@ -63,7 +63,7 @@ put sets e g pd result c v = leaves (after_test sets e (predicate_bits v) g resu
 
 -- ---- compares
 
-abbrev pub vector_test : CmpVecOp → ElementTest
+abbrev pub vector_test : CmpVecOp → LaneTest
 vector_test vector_names.Cmphs = Hs
 vector_test vector_names.Cmphi = Hi
 vector_test vector_names.Cmpge = Ge
@@ -71,7 +71,7 @@ vector_test vector_names.Cmpgt = Gt
 vector_test vector_names.Cmpeq = Eq
 vector_test vector_names.Cmpne = Ne
 
-abbrev pub wide_test : CmpWideOp → ElementTest
+abbrev pub wide_test : CmpWideOp → LaneTest
 wide_test wide_names.Cmpeq = Eq
 wide_test wide_names.Cmpne = Ne
 wide_test wide_names.Cmpge = Ge
@@ -83,13 +83,13 @@ wide_test wide_names.Cmphi = Hi
 wide_test wide_names.Cmplo = Lo
 wide_test wide_names.Cmpls = Ls
 
-abbrev pub unsigned_test : CmpUImmOp → ElementTest
+abbrev pub unsigned_test : CmpUImmOp → LaneTest
 unsigned_test unsigned_names.Cmphs = Hs
 unsigned_test unsigned_names.Cmphi = Hi
 unsigned_test unsigned_names.Cmplo = Lo
 unsigned_test unsigned_names.Cmpls = Ls
 
-abbrev pub signed_test : CmpSImmOp → ElementTest
+abbrev pub signed_test : CmpSImmOp → LaneTest
 signed_test signed_names.Cmpge = Ge
 signed_test signed_names.Cmpgt = Gt
 signed_test signed_names.Cmplt = Lt
@@ -98,7 +98,7 @@ signed_test signed_names.Cmpeq = Eq
 signed_test signed_names.Cmpne = Ne
 
 -- the tests of unsigned numbers
-abbrev pub is_unsigned : ElementTest → Bool
+abbrev pub is_unsigned : LaneTest → Bool
 is_unsigned Hs = true
 is_unsigned Hi = true
 is_unsigned Lo = true
@@ -155,7 +155,7 @@ written_ffr Setffr pn v = ones (predicate_bits v)
 written_ffr Wrffr pn v = each (predicate_bits v) (is_set (read_p v pn))
 
 -- incp: a number and a count; decp: the number less the count
-abbrev pub counted_by : IncPOp → ElementOp
+abbrev pub counted_by : IncPOp → LaneOp
 counted_by Incp = Add
 counted_by Decp = Sub
 

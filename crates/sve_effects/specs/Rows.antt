@@ -6,54 +6,55 @@ use Rattle.sve_insn.specs.declared.ops.AddLengthOp.TheVariants.{Addvl}
 use Rattle.emu_bits.specs.Bitmask.{bitmask_of}
 use Rattle.emu_bits.specs.Fields.{bit}
 use Rattle.emu_bits.specs.Numbers.{width_of, sign_extended, unsigned_int}
-use Rattle.emu_model.specs.Done.{leaves}
-use Rattle.emu_model.specs.State.{read_x, read_x_sp, with_x, with_x_sp}
+use Rattle.emu_model.specs.Done.{leaves, Done}
+use Rattle.emu_model.specs.State.{read_x, read_x_sp, with_x, with_x_sp, Core, Vectors}
+use Rattle.emu_model.specs.Access.{Memory}
 use Rattle.vec_model.specs.Lanes.{read_p, with_p, with_ffr, with_lanes}
 use Rattle.sve_effects.specs.declared.places.Place.TheVariants.{Scalar}
 use Rattle.sve_effects.specs.declared.predicates.LogicOp.TheVariants.{And, Sel}
-use Rattle.sve_effects.specs.Counts.{count_of, inc_element, sat_element, sat_counted, length_of, multiple}
-use Rattle.sve_effects.specs.Element.{element, element_by, element_test, unary, multiply_by, subtracts_z, subtracts_d, dot_product, dot_signed, dot_indexed_signed, binary_element, binary_exchanged, shift_element, shift_imm_element, plain_element, logic_element, wide_imm_element, wide_imm_exchanged, min_max_element, min_max_signed, bitmask_element, extended_by}
-use Rattle.sve_effects.specs.ElementLoop.{lane_bits, lane_of, covering_lane, is_active, plain, merging}
+use Rattle.sve_effects.specs.Counts.{count_of, inc_lane_op, sat_lane_op, sat_counted, length_of, multiple}
+use Rattle.sve_effects.specs.Lane.{lane_op, lane_op_by, lane_test, unary, multiply_by, subtracts_z, subtracts_d, dot_product, dot_signed, dot_indexed_signed, binary_lane_op, binary_exchanged, shift_lane_op, shift_imm_lane_op, plain_lane_op, logic_lane_op, wide_imm_lane_op, wide_imm_exchanged, min_max_lane_op, min_max_signed, bitmask_lane_op, extended_by}
+use Rattle.sve_effects.specs.LaneLoop.{lane_bits, lane_of, covering_lane, is_active, plain, merging}
 use Rattle.sve_effects.specs.Fold.{reduced}
 use Rattle.sve_effects.specs.Pattern.{pattern_count}
 use Rattle.sve_effects.specs.Permute.{interleave_place, ext_place, rev_place, insr_place, indexed_place, copy_place, compact_place, splice_place}
 use Rattle.sve_effects.specs.PermuteRows.{lanes, moved, moved_fields, insert_scalar, copy_scalar, dup_bits, dup_index, is_after, last_value, after_last, after_cond_last, after_unpack, after_unpack_p}
 use Rattle.sve_effects.specs.Predicate.{logic, broken, broken_pair, broken_next, with_first, only_next, lanes_below, count_lanes}
 use Rattle.sve_effects.specs.PredicateRows.{predicate_bits, ones, after_test, put, put_compared, vector_test, wide_test, unsigned_test, signed_test, is_unsigned, logic_of, break_after, pair_after, ptrue_flags, read_ffr_flags, written_ffr, counted_by, set_lanes_of, while_result, terminates, termination_flags}
-use Rattle.sve_effects.specs.Row.{Row, by_lanes, permutes, counts, folds, predicates, memory}
+use Rattle.sve_effects.specs.Row.{Row, by_lanes, permutes, counts, folds, predicates, memory, done_by}
 use Rattle.sve_effects.specs.VectorData.{tsz_of, shift_bits, shifted_by, wide_unsigned, wide_signed, index_start, index_step, dot_indexed_bits, dot_indexed_zm_bits, dot_indexed, copied}
 use Rattle.sve_effects.specs.VectorElements.{loads, stores, gathers, scatters, first_faults, non_faults, each_active, repeated, replicated, whole_z, whole_p, scalar, vector, lengths, quadwords, register, single, whole, words, doublewords, load_registers, store_registers, by_dtype, filling, single_bytes}
 
 -- The values of all operands are those before the instruction.
 abbrev pub row : SveForm → Row
-row (Binary op size pg zm zdn) = by_lanes (λ c v. let e = lane_bits size in let a = lane_of e v zdn in let b = lane_of e v zm in merging e pg (λ k. element_by (binary_exchanged op) (binary_element op) e (a k) (b k)) zdn v)
-row (BinaryWide op size pg zm zdn) = by_lanes (λ c v. let e = lane_bits size in let a = lane_of e v zdn in let b = covering_lane e v zm in merging e pg (λ k. element (shift_element op) e (a k) (b k)) zdn v)
-row (ShiftImm op tszh pg tszl imm3 zdn) = by_lanes (λ c v. let tsz = tsz_of tszh tszl in merging (shift_bits tsz) pg (shifted_by (shift_imm_element op) tsz imm3 zdn v) zdn v)
+row (Binary op size pg zm zdn) = by_lanes (λ c v. let e = lane_bits size in let a = lane_of e v zdn in let b = lane_of e v zm in merging e pg (λ k. lane_op_by (binary_exchanged op) (binary_lane_op op) e (a k) (b k)) zdn v)
+row (BinaryWide op size pg zm zdn) = by_lanes (λ c v. let e = lane_bits size in let a = lane_of e v zdn in let b = covering_lane e v zm in merging e pg (λ k. lane_op (shift_lane_op op) e (a k) (b k)) zdn v)
+row (ShiftImm op tszh pg tszl imm3 zdn) = by_lanes (λ c v. let tsz = tsz_of tszh tszl in merging (shift_bits tsz) pg (shifted_by (shift_imm_lane_op op) tsz imm3 zdn v) zdn v)
 row (Unary op size pg zn zd) = by_lanes (λ c v. let e = lane_bits size in let a = lane_of e v zn in merging e pg (λ k. unary op e (a k)) zd v)
 row (MulAddZ op size zm pg zn zda) = by_lanes (λ c v. let e = lane_bits size in let sum = lane_of e v zda in let a = lane_of e v zn in let b = lane_of e v zm in merging e pg (λ k. multiply_by (subtracts_z op) e (sum k) (a k) (b k)) zda v)
 row (MulAddD op size zm pg za zdn) = by_lanes (λ c v. let e = lane_bits size in let sum = lane_of e v za in let a = lane_of e v zdn in let b = lane_of e v zm in merging e pg (λ k. multiply_by (subtracts_d op) e (sum k) (a k) (b k)) zdn v)
-row (Plain op size zm zn zd) = by_lanes (λ c v. let e = lane_bits size in let a = lane_of e v zn in let b = lane_of e v zm in plain e (λ k. element (plain_element op) e (a k) (b k)) zd v)
-row (LogicZ op zm zn zd) = by_lanes (λ c v. let a = lane_of 64 v zn in let b = lane_of 64 v zm in plain 64 (λ k. element (logic_element op) 64 (a k) (b k)) zd v)
-row (PlainWide op size zm zn zd) = by_lanes (λ c v. let e = lane_bits size in let a = lane_of e v zn in let b = covering_lane e v zm in plain e (λ k. element (shift_element op) e (a k) (b k)) zd v)
-row (PlainShift op tszh tszl imm3 zn zd) = by_lanes (λ c v. let tsz = tsz_of tszh tszl in plain (shift_bits tsz) (shifted_by (shift_element op) tsz imm3 zn v) zd v)
+row (Plain op size zm zn zd) = by_lanes (λ c v. let e = lane_bits size in let a = lane_of e v zn in let b = lane_of e v zm in plain e (λ k. lane_op (plain_lane_op op) e (a k) (b k)) zd v)
+row (LogicZ op zm zn zd) = by_lanes (λ c v. let a = lane_of 64 v zn in let b = lane_of 64 v zm in plain 64 (λ k. lane_op (logic_lane_op op) 64 (a k) (b k)) zd v)
+row (PlainWide op size zm zn zd) = by_lanes (λ c v. let e = lane_bits size in let a = lane_of e v zn in let b = covering_lane e v zm in plain e (λ k. lane_op (shift_lane_op op) e (a k) (b k)) zd v)
+row (PlainShift op tszh tszl imm3 zn zd) = by_lanes (λ c v. let tsz = tsz_of tszh tszl in plain (shift_bits tsz) (shifted_by (shift_lane_op op) tsz imm3 zn v) zd v)
 row (Index op size y x zd) = by_lanes (λ c v. let e = lane_bits size in plain e (λ k. unsigned_int (index_start op c x +ℤ pos k *ℤ index_step op c y) e) zd v)
 row (Dot op size zm zn zda) = by_lanes (λ c v. let e = lane_bits size in let sum = lane_of e v zda in let a = lane_of e v zn in let b = lane_of e v zm in plain e (λ k. dot_product (dot_signed op) e (sum k) (a k) (b k)) zda v)
 row (DotIndexed op i_zm zn zda) = by_lanes (λ c v. let bits = dot_indexed_zm_bits op in dot_indexed (dot_indexed_signed op) (dot_indexed_bits op) (i_zm / 2 ^ bits) (i_zm % 2 ^ bits) zn zda v)
-row (WideImm op size sh imm8 zdn) = by_lanes (λ c v. let e = lane_bits size in let a = lane_of e v zdn in plain e (λ k. element_by (wide_imm_exchanged op) (wide_imm_element op) e (a k) (wide_unsigned sh imm8)) zdn v)
-row (MinMaxImm op size imm8 zdn) = by_lanes (λ c v. let e = lane_bits size in let a = lane_of e v zdn in plain e (λ k. element (min_max_element op) e (a k) (extended_by (min_max_signed op) e 8 imm8)) zdn v)
+row (WideImm op size sh imm8 zdn) = by_lanes (λ c v. let e = lane_bits size in let a = lane_of e v zdn in plain e (λ k. lane_op_by (wide_imm_exchanged op) (wide_imm_lane_op op) e (a k) (wide_unsigned sh imm8)) zdn v)
+row (MinMaxImm op size imm8 zdn) = by_lanes (λ c v. let e = lane_bits size in let a = lane_of e v zdn in plain e (λ k. lane_op (min_max_lane_op op) e (a k) (extended_by (min_max_signed op) e 8 imm8)) zdn v)
 row (DupImm size sh imm8 zd) = by_lanes (λ c v. let e = lane_bits size in plain e (λ k. wide_signed e sh imm8) zd v)
 -- each instruction of the row has a bitmask
-row (BitmaskZ op n immr imms zdn) = by_lanes (λ c v. let a = lane_of 64 v zdn in plain 64 (λ k. bitmask_element op (a k) (unwrap_or (bitmask_of 64 (bit n) immr imms) 0)) zdn v)
+row (BitmaskZ op n immr imms zdn) = by_lanes (λ c v. let a = lane_of 64 v zdn in plain 64 (λ k. bitmask_lane_op op (a k) (unwrap_or (bitmask_of 64 (bit n) immr imms) 0)) zdn v)
 row (CopyImm size pg m sh imm8 zd) = by_lanes (λ c v. let e = lane_bits size in copied m e pg (λ k. wide_signed e sh imm8) zd v)
 row (PrefixP size m pg zn zd) = by_lanes (λ c v. let e = lane_bits size in copied m e pg (lane_of e v zn) zd v)
 row (Prefix zn zd) = by_lanes (λ c v. plain 64 (lane_of 64 v zn) zd v)
 row (SelectZ size zm pg zn zd) = by_lanes (λ c v. let e = lane_bits size in let a = lane_of e v zn in let b = lane_of e v zm in plain e (λ k. if is_active e v pg k then a k else b k) zd v)
 row (Reduce op size pg zn vd) = folds (λ c v. leaves c (reduced op (lane_bits size) pg zn vd v))
 row (Count size imm4 pattern rd) = counts (λ c v. leaves (with_x c rd 64 (count_of size imm4 pattern v)) v)
-row (IncX op size imm4 pattern rdn) = counts (λ c v. leaves (with_x c rdn 64 (element (inc_element op) 64 (read_x c rdn) (count_of size imm4 pattern v))) v)
-row (IncZ op size imm4 pattern zdn) = counts (λ c v. let e = lane_bits size in leaves c (plain e (λ k. element (inc_element op) e (lane_of e v zdn k) (count_of size imm4 pattern v)) zdn v))
+row (IncX op size imm4 pattern rdn) = counts (λ c v. leaves (with_x c rdn 64 (lane_op (inc_lane_op op) 64 (read_x c rdn) (count_of size imm4 pattern v))) v)
+row (IncZ op size imm4 pattern zdn) = counts (λ c v. let e = lane_bits size in leaves c (plain e (λ k. lane_op (inc_lane_op op) e (lane_of e v zdn k) (count_of size imm4 pattern v)) zdn v))
 row (SatX op size sf imm4 pattern rdn) = counts (λ c v. leaves (with_x c rdn 64 (sat_counted op (width_of sf) (read_x c rdn) (count_of size imm4 pattern v))) v)
-row (SatZ op size imm4 pattern zdn) = counts (λ c v. let e = lane_bits size in leaves c (plain e (λ k. element (sat_element op) e (lane_of e v zdn k) (count_of size imm4 pattern v)) zdn v))
+row (SatZ op size imm4 pattern zdn) = counts (λ c v. let e = lane_bits size in leaves c (plain e (λ k. lane_op (sat_lane_op op) e (lane_of e v zdn k) (count_of size imm4 pattern v)) zdn v))
 row (AddLength op rn imm6 rd) = counts (λ c v. leaves (with_x_sp c rd 64 (unsigned_int (pos (read_x_sp c rn) +ℤ multiple imm6 (length_of op v)) 64)) v)
 row (ReadLength imm6 rd) = counts (λ c v. leaves (with_x c rd 64 (unsigned_int (multiple imm6 (length_of Addvl v)) 64)) v)
 row (DupReg size rn zd) = permutes (λ c v. leaves c (moved (lane_bits size) (λ k. Scalar) zd zd (read_x_sp c rn) zd v))
@@ -72,10 +73,10 @@ row (Ext imm8h imm8l zm zdn) = permutes (λ c v. leaves c (moved 8 (ext_place (i
 row (CopyReg op size pg rn zd) = permutes (λ c v. let e = lane_bits size in leaves c (moved e (copy_place (is_active e v pg)) zd zd (copy_scalar op e rn c v) zd v))
 row (Last op size pg zn rd) = permutes (λ c v. let e = lane_bits size in after_last op e (last_value (is_after op) e pg zn v) rd c v)
 row (CondLast op size pg zm zdn) = permutes (λ c v. after_cond_last op (lane_bits size) pg zm zdn c v)
-row (CmpVec op size zm pg zn pd) = predicates (λ c v. let e = lane_bits size in put_compared e pg pd (λ k. element_test (vector_test op) e (lane_of e v zn k) (lane_of e v zm k)) c v)
-row (CmpWide op size zm pg zn pd) = predicates (λ c v. let e = lane_bits size in put_compared e pg pd (λ k. element_test (wide_test op) 64 (extended_by (not (is_unsigned (wide_test op))) 64 e (lane_of e v zn k)) (covering_lane e v zm k)) c v)
-row (CmpUImm op size imm7 pg zn pd) = predicates (λ c v. let e = lane_bits size in put_compared e pg pd (λ k. element_test (unsigned_test op) e (lane_of e v zn k) imm7) c v)
-row (CmpSImm op size imm5 pg zn pd) = predicates (λ c v. let e = lane_bits size in put_compared e pg pd (λ k. element_test (signed_test op) e (lane_of e v zn k) (sign_extended e 5 imm5)) c v)
+row (CmpVec op size zm pg zn pd) = predicates (λ c v. let e = lane_bits size in put_compared e pg pd (λ k. lane_test (vector_test op) e (lane_of e v zn k) (lane_of e v zm k)) c v)
+row (CmpWide op size zm pg zn pd) = predicates (λ c v. let e = lane_bits size in put_compared e pg pd (λ k. lane_test (wide_test op) 64 (extended_by (not (is_unsigned (wide_test op))) 64 e (lane_of e v zn k)) (covering_lane e v zm k)) c v)
+row (CmpUImm op size imm7 pg zn pd) = predicates (λ c v. let e = lane_bits size in put_compared e pg pd (λ k. lane_test (unsigned_test op) e (lane_of e v zn k) imm7) c v)
+row (CmpSImm op size imm5 pg zn pd) = predicates (λ c v. let e = lane_bits size in put_compared e pg pd (λ k. lane_test (signed_test op) e (lane_of e v zn k) (sign_extended e 5 imm5)) c v)
 row (LogicP op s pm pg pn pd) = predicates (λ c v. put s 8 (read_p v pg) pd (logic (logic_of op) (predicate_bits v) (read_p v pg) (read_p v pn) (read_p v pm)) c v)
 row (SelectP pm pg pn pd) = predicates (λ c v. put false 8 (read_p v pg) pd (logic Sel (predicate_bits v) (read_p v pg) (read_p v pn) (read_p v pm)) c v)
 row (Break op s pg pn m pd) = predicates (λ c v. put s 8 (read_p v pg) pd (broken (break_after op) m (predicate_bits v) (read_p v pg) (read_p v pn) (read_p v pd)) c v)
@@ -91,8 +92,8 @@ row (ReadFfr op pg pd) = predicates (λ c v. put (read_ffr_flags op) 8 (read_p v
 row (ReadFfrAll pd) = predicates (λ c v. leaves c (with_p v pd v.ffr))
 row (WriteFfr op pn) = predicates (λ c v. leaves c (with_ffr v (written_ffr op pn v)))
 row (CountP size pg pn rd) = predicates (λ c v. leaves (with_x c rd 64 (count_lanes (lane_bits size) (predicate_bits v) (read_p v pg) (read_p v pn))) v)
-row (IncP op size pm rdn) = predicates (λ c v. leaves (with_x c rdn 64 (element (counted_by op) 64 (read_x c rdn) (set_lanes_of (lane_bits size) pm v))) v)
-row (IncPZ op size pm zdn) = predicates (λ c v. let e = lane_bits size in leaves c (with_lanes e (λ k. element (counted_by op) e (lane_of e v zdn k) (set_lanes_of e pm v)) zdn v))
+row (IncP op size pm rdn) = predicates (λ c v. leaves (with_x c rdn 64 (lane_op (counted_by op) 64 (read_x c rdn) (set_lanes_of (lane_bits size) pm v))) v)
+row (IncPZ op size pm zdn) = predicates (λ c v. let e = lane_bits size in leaves c (with_lanes e (λ k. lane_op (counted_by op) e (lane_of e v zdn k) (set_lanes_of e pm v)) zdn v))
 row (While op size rm sf rn pd) = predicates (λ c v. let e = lane_bits size in put true e (ones (predicate_bits v)) pd (while_result op e sf rn rm c v) c v)
 row (Cterm op sf rm rn) = predicates (λ c v. leaves (record c { flags = termination_flags (terminates op (width_of sf) (read_x c rn) (read_x c rm)) c.flags }) v)
 row (LoadImm dtype imm4 pg rn zt) = memory (record { way = loads; width = by_dtype dtype; registers = 1; first = zt; transfer = each_active pg; brackets = scalar rn (lengths imm4) })
@@ -132,3 +133,7 @@ row (ScatterD msz zm pg rn zt) = memory (record { way = scatters; width = record
 row (ScatterDScaled msz zm pg rn zt) = memory (record { way = scatters; width = record { bits = 64; bytes = 2 ^ msz; is_signed = false }; registers = 1; first = zt; transfer = each_active pg; brackets = scalar rn (doublewords zm true) })
 row (ScatterSv msz imm5 pg zn zt) = memory (record { way = scatters; width = record { bits = 32; bytes = 2 ^ msz; is_signed = false }; registers = 1; first = zt; transfer = each_active pg; brackets = vector zn imm5 })
 row (ScatterDv msz imm5 pg zn zt) = memory (record { way = scatters; width = record { bits = 64; bytes = 2 ^ msz; is_signed = false }; registers = 1; first = zt; transfer = each_active pg; brackets = vector zn imm5 })
+
+-- What an SVE instruction does: what its row does.
+abbrev pub performed : SveForm → Core → Vectors → Memory → Done
+performed form c v m = done_by (row form) c v m

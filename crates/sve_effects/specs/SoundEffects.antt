@@ -4,9 +4,11 @@ use Rattle.sve_insn.specs.declared.form.SveForm.{SveForm}
 use Rattle.emu_model.specs.Access.{Memory}
 use Rattle.emu_model.specs.Done.{leaves}
 use Rattle.emu_model.specs.SoundDone.{IsSoundDone, IsSoundRegisters, went_on_sound}
-use Rattle.emu_model.specs.State.{Core, Vectors, IsSoundCore, IsSoundVectors, IsSoundMemory}
-use Rattle.sve_effects.specs.Effects.{performed}
-use Rattle.sve_effects.specs.Row.{Row, by_lanes, permutes, counts, folds, predicates, memory, registers_after, done_by_way, done_by}
+use Rattle.emu_model.specs.State.{Core, Vectors}
+use Rattle.emu_model.specs.SoundState.{IsSoundCore, IsSoundVectors, IsSoundMemory}
+use Rattle.sve_effects.specs.Rows.{performed}
+use Rattle.sve_effects.specs.Row.{Row, by_lanes, permutes, counts, folds, predicates, memory, done_by_way, done_by}
+use Rattle.sve_effects.specs.Effects.{registers_after}
 use Rattle.sve_effects.specs.Rows.{row}
 use Rattle.sve_effects.specs.SoundRows.{registers_sound}
 use Rattle.sve_effects.specs.SoundVectorMemory.{load_row_sound, store_row_sound, first_fault_row_sound}

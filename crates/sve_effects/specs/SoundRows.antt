@@ -14,14 +14,16 @@ use Rattle.sve_insn.specs.declared.ops.WriteFfrOp.TheVariants.{Setffr, Wrffr}
 use Rattle.emu_bits.specs.Bitmask.{bitmask_of}
 use Rattle.emu_bits.specs.Fields.{bit}
 use Rattle.emu_bits.specs.Numbers.{unsigned_int, width_of}
-use Rattle.emu_model.specs.Lists.{each, length-each}
+use Rattle.emu_model.specs.Lists.{each}
+use Rattle.emu_model.specs.ListLaws.{length-each}
 use Rattle.emu_model.specs.Sound.{with_x_sound, with_x_sp_sound, flags_sound}
 use Rattle.emu_model.specs.SoundDone.{IsSoundRegisters}
-use Rattle.emu_model.specs.State.{Core, Vectors, IsSoundVectors, read_x, read_x_sp, with_x, IsSoundCore, HasLength}
-use Rattle.sve_effects.specs.Counts.{count_of, inc_element, sat_element, sat_counted, length_of, multiple}
+use Rattle.emu_model.specs.State.{Core, Vectors, read_x, read_x_sp, with_x}
+use Rattle.emu_model.specs.SoundState.{IsSoundVectors, IsSoundCore, HasLength}
+use Rattle.sve_effects.specs.Counts.{count_of, inc_lane_op, sat_lane_op, sat_counted, length_of, multiple}
 use Rattle.sve_effects.specs.Effects.{after_data}
-use Rattle.sve_effects.specs.Element.{unary, multiply_by, subtracts_z, subtracts_d, dot_product, dot_signed, dot_indexed_signed, binary_element, binary_exchanged, shift_element, shift_imm_element, plain_element, logic_element, wide_imm_element, wide_imm_exchanged, min_max_element, min_max_signed, bitmask_element, extended_by, element, element_by}
-use Rattle.sve_effects.specs.ElementLoop.{lane_bits, lane_of, covering_lane, is_active, plain, merging, zeroing, folding}
+use Rattle.sve_effects.specs.Lane.{unary, multiply_by, subtracts_z, subtracts_d, dot_product, dot_signed, dot_indexed_signed, binary_lane_op, binary_exchanged, shift_lane_op, shift_imm_lane_op, plain_lane_op, logic_lane_op, wide_imm_lane_op, wide_imm_exchanged, min_max_lane_op, min_max_signed, bitmask_lane_op, extended_by, lane_op, lane_op_by}
+use Rattle.sve_effects.specs.LaneLoop.{lane_bits, lane_of, covering_lane, is_active, plain, merging, zeroing, folding}
 use Rattle.sve_effects.specs.Fold.{reduce_step, reduce_start, reduce_bits}
 use Rattle.sve_effects.specs.Permute.{taken, interleave_place, ext_place, rev_place, insr_place, indexed_place, half_place, copy_place, compact_place, splice_place}
 use Rattle.sve_effects.specs.PermuteRows.{lanes, moved, bit_of_field, moved_fields, insert_scalar, copy_scalar, is_high, is_signed, is_high_p, dup_bits, dup_index, is_after, any_active, last_value, last_value_or, after_last, after_cond_last}
@@ -101,23 +103,23 @@ module _ (c : Core) (v : Vectors) (s : IsSoundCore c) (u : IsSoundVectors v) whe
   put_sound sets e g pd f = record { core = after_test_sound sets e g (each (predicate_bits v) f); vectors = sound_p (each (predicate_bits v) f) pd v (length-each (predicate_bits v) f) u }
 
   pub registers_sound : (form : SveForm) → IsSoundRegisters (after_data form c v)
-  registers_sound (Binary op size pg zm zdn) = let e = lane_bits size in let a = lane_of e v zdn in let b = lane_of e v zm in record { core = s; vectors = merging_sound e pg (λ k. element_by (binary_exchanged op) (binary_element op) e (a k) (b k)) zdn v u }
-  registers_sound (BinaryWide op size pg zm zdn) = let e = lane_bits size in let a = lane_of e v zdn in let b = covering_lane e v zm in record { core = s; vectors = merging_sound e pg (λ k. element (shift_element op) e (a k) (b k)) zdn v u }
-  registers_sound (ShiftImm op tszh pg tszl imm3 zdn) = let tsz = tsz_of tszh tszl in record { core = s; vectors = merging_sound (shift_bits tsz) pg (shifted_by (shift_imm_element op) tsz imm3 zdn v) zdn v u }
+  registers_sound (Binary op size pg zm zdn) = let e = lane_bits size in let a = lane_of e v zdn in let b = lane_of e v zm in record { core = s; vectors = merging_sound e pg (λ k. lane_op_by (binary_exchanged op) (binary_lane_op op) e (a k) (b k)) zdn v u }
+  registers_sound (BinaryWide op size pg zm zdn) = let e = lane_bits size in let a = lane_of e v zdn in let b = covering_lane e v zm in record { core = s; vectors = merging_sound e pg (λ k. lane_op (shift_lane_op op) e (a k) (b k)) zdn v u }
+  registers_sound (ShiftImm op tszh pg tszl imm3 zdn) = let tsz = tsz_of tszh tszl in record { core = s; vectors = merging_sound (shift_bits tsz) pg (shifted_by (shift_imm_lane_op op) tsz imm3 zdn v) zdn v u }
   registers_sound (Unary op size pg zn zd) = let e = lane_bits size in let a = lane_of e v zn in record { core = s; vectors = merging_sound e pg (λ k. unary op e (a k)) zd v u }
   registers_sound (MulAddZ op size zm pg zn zda) = let e = lane_bits size in let sum = lane_of e v zda in let a = lane_of e v zn in let b = lane_of e v zm in record { core = s; vectors = merging_sound e pg (λ k. multiply_by (subtracts_z op) e (sum k) (a k) (b k)) zda v u }
   registers_sound (MulAddD op size zm pg za zdn) = let e = lane_bits size in let sum = lane_of e v za in let a = lane_of e v zdn in let b = lane_of e v zm in record { core = s; vectors = merging_sound e pg (λ k. multiply_by (subtracts_d op) e (sum k) (a k) (b k)) zdn v u }
-  registers_sound (Plain op size zm zn zd) = let e = lane_bits size in let a = lane_of e v zn in let b = lane_of e v zm in record { core = s; vectors = plain_sound e (λ k. element (plain_element op) e (a k) (b k)) zd v u }
-  registers_sound (LogicZ op zm zn zd) = let a = lane_of 64 v zn in let b = lane_of 64 v zm in record { core = s; vectors = plain_sound 64 (λ k. element (logic_element op) 64 (a k) (b k)) zd v u }
-  registers_sound (PlainWide op size zm zn zd) = let e = lane_bits size in let a = lane_of e v zn in let b = covering_lane e v zm in record { core = s; vectors = plain_sound e (λ k. element (shift_element op) e (a k) (b k)) zd v u }
-  registers_sound (PlainShift op tszh tszl imm3 zn zd) = let tsz = tsz_of tszh tszl in record { core = s; vectors = plain_sound (shift_bits tsz) (shifted_by (shift_element op) tsz imm3 zn v) zd v u }
+  registers_sound (Plain op size zm zn zd) = let e = lane_bits size in let a = lane_of e v zn in let b = lane_of e v zm in record { core = s; vectors = plain_sound e (λ k. lane_op (plain_lane_op op) e (a k) (b k)) zd v u }
+  registers_sound (LogicZ op zm zn zd) = let a = lane_of 64 v zn in let b = lane_of 64 v zm in record { core = s; vectors = plain_sound 64 (λ k. lane_op (logic_lane_op op) 64 (a k) (b k)) zd v u }
+  registers_sound (PlainWide op size zm zn zd) = let e = lane_bits size in let a = lane_of e v zn in let b = covering_lane e v zm in record { core = s; vectors = plain_sound e (λ k. lane_op (shift_lane_op op) e (a k) (b k)) zd v u }
+  registers_sound (PlainShift op tszh tszl imm3 zn zd) = let tsz = tsz_of tszh tszl in record { core = s; vectors = plain_sound (shift_bits tsz) (shifted_by (shift_lane_op op) tsz imm3 zn v) zd v u }
   registers_sound (Index op size y x zd) = let e = lane_bits size in record { core = s; vectors = plain_sound e (λ k. unsigned_int (index_start op c x +ℤ pos k *ℤ index_step op c y) e) zd v u }
   registers_sound (Dot op size zm zn zda) = let e = lane_bits size in let sum = lane_of e v zda in let a = lane_of e v zn in let b = lane_of e v zm in record { core = s; vectors = plain_sound e (λ k. dot_product (dot_signed op) e (sum k) (a k) (b k)) zda v u }
   registers_sound (DotIndexed op i_zm zn zda) = let bits = dot_indexed_zm_bits op in record { core = s; vectors = dot_indexed_sound (dot_indexed_signed op) (dot_indexed_bits op) (i_zm / 2 ^ bits) (i_zm % 2 ^ bits) zn zda v u }
-  registers_sound (WideImm op size sh imm8 zdn) = let e = lane_bits size in let a = lane_of e v zdn in record { core = s; vectors = plain_sound e (λ k. element_by (wide_imm_exchanged op) (wide_imm_element op) e (a k) (wide_unsigned sh imm8)) zdn v u }
-  registers_sound (MinMaxImm op size imm8 zdn) = let e = lane_bits size in let a = lane_of e v zdn in record { core = s; vectors = plain_sound e (λ k. element (min_max_element op) e (a k) (extended_by (min_max_signed op) e 8 imm8)) zdn v u }
+  registers_sound (WideImm op size sh imm8 zdn) = let e = lane_bits size in let a = lane_of e v zdn in record { core = s; vectors = plain_sound e (λ k. lane_op_by (wide_imm_exchanged op) (wide_imm_lane_op op) e (a k) (wide_unsigned sh imm8)) zdn v u }
+  registers_sound (MinMaxImm op size imm8 zdn) = let e = lane_bits size in let a = lane_of e v zdn in record { core = s; vectors = plain_sound e (λ k. lane_op (min_max_lane_op op) e (a k) (extended_by (min_max_signed op) e 8 imm8)) zdn v u }
   registers_sound (DupImm size sh imm8 zd) = let e = lane_bits size in record { core = s; vectors = plain_sound e (λ k. wide_signed e sh imm8) zd v u }
-  registers_sound (BitmaskZ op n immr imms zdn) = let a = lane_of 64 v zdn in record { core = s; vectors = plain_sound 64 (λ k. bitmask_element op (a k) (unwrap_or (bitmask_of 64 (bit n) immr imms) 0)) zdn v u }
+  registers_sound (BitmaskZ op n immr imms zdn) = let a = lane_of 64 v zdn in record { core = s; vectors = plain_sound 64 (λ k. bitmask_lane_op op (a k) (unwrap_or (bitmask_of 64 (bit n) immr imms) 0)) zdn v u }
   registers_sound (CopyImm size pg m sh imm8 zd) = let e = lane_bits size in record { core = s; vectors = copied_sound m e pg (λ k. wide_signed e sh imm8) zd v u }
   registers_sound (PrefixP size m pg zn zd) = let e = lane_bits size in record { core = s; vectors = copied_sound m e pg (lane_of e v zn) zd v u }
   registers_sound (Prefix zn zd) = record { core = s; vectors = plain_sound 64 (lane_of 64 v zn) zd v u }
@@ -126,10 +128,10 @@ module _ (c : Core) (v : Vectors) (s : IsSoundCore c) (u : IsSoundVectors v) whe
       let e : ℕ = lane_bits size in
       low_sound (reduce_bits op e) (folding e pg (reduce_step op e) (reduce_start op e) zn v) vd
   registers_sound (Count size imm4 pattern rd) = x_sound rd (count_of size imm4 pattern v)
-  registers_sound (IncX op size imm4 pattern rdn) = x_sound rdn (element (inc_element op) 64 (read_x c rdn) (count_of size imm4 pattern v))
-  registers_sound (IncZ op size imm4 pattern zdn) = lanes_sound (lane_bits size) (λ k. element (inc_element op) (lane_bits size) (lane_of (lane_bits size) v zdn k) (count_of size imm4 pattern v)) zdn
+  registers_sound (IncX op size imm4 pattern rdn) = x_sound rdn (lane_op (inc_lane_op op) 64 (read_x c rdn) (count_of size imm4 pattern v))
+  registers_sound (IncZ op size imm4 pattern zdn) = lanes_sound (lane_bits size) (λ k. lane_op (inc_lane_op op) (lane_bits size) (lane_of (lane_bits size) v zdn k) (count_of size imm4 pattern v)) zdn
   registers_sound (SatX op size sf imm4 pattern rdn) = x_sound rdn (sat_counted op (width_of sf) (read_x c rdn) (count_of size imm4 pattern v))
-  registers_sound (SatZ op size imm4 pattern zdn) = lanes_sound (lane_bits size) (λ k. element (sat_element op) (lane_bits size) (lane_of (lane_bits size) v zdn k) (count_of size imm4 pattern v)) zdn
+  registers_sound (SatZ op size imm4 pattern zdn) = lanes_sound (lane_bits size) (λ k. lane_op (sat_lane_op op) (lane_bits size) (lane_of (lane_bits size) v zdn k) (count_of size imm4 pattern v)) zdn
   registers_sound (AddLength op rn imm6 rd) = record { core = with_x_sp_sound c rd 64 (unsigned_int (pos (read_x_sp c rn) +ℤ multiple imm6 (length_of op v)) 64) (omega arith) s; vectors = u }
   registers_sound (ReadLength imm6 rd) = x_sound rd (unsigned_int (multiple imm6 (length_of Addvl v)) 64)
   registers_sound (DupReg size rn zd) = moved_sound (lane_bits size) (λ k. Scalar) zd zd (read_x_sp c rn) zd
@@ -168,8 +170,8 @@ module _ (c : Core) (v : Vectors) (s : IsSoundCore c) (u : IsSoundVectors v) whe
   registers_sound (ReadFfrAll pd) = record { core = s; vectors = sound_p v.ffr pd v u.ffr u }
   registers_sound (WriteFfr op pn) = record { core = s; vectors = sound_ffr_bits (written_ffr op pn v) v (written_ffr_length op pn v) u }
   registers_sound (CountP size pg pn rd) = record { core = with_x_sound c rd 64 (count_lanes (lane_bits size) (predicate_bits v) (read_p v pg) (read_p v pn)) (omega arith) s; vectors = u }
-  registers_sound (IncP op size pm rdn) = record { core = with_x_sound c rdn 64 (element (counted_by op) 64 (read_x c rdn) (set_lanes_of (lane_bits size) pm v)) (omega arith) s; vectors = u }
-  registers_sound (IncPZ op size pm zdn) = record { core = s; vectors = sound_lanes (lane_bits size) (λ k. element (counted_by op) (lane_bits size) (lane_of (lane_bits size) v zdn k) (set_lanes_of (lane_bits size) pm v)) zdn v u }
+  registers_sound (IncP op size pm rdn) = record { core = with_x_sound c rdn 64 (lane_op (counted_by op) 64 (read_x c rdn) (set_lanes_of (lane_bits size) pm v)) (omega arith) s; vectors = u }
+  registers_sound (IncPZ op size pm zdn) = record { core = s; vectors = sound_lanes (lane_bits size) (λ k. lane_op (counted_by op) (lane_bits size) (lane_of (lane_bits size) v zdn k) (set_lanes_of (lane_bits size) pm v)) zdn v u }
   registers_sound (While op size rm sf rn pd) = put_sound true (lane_bits size) (each (predicate_bits v) (λ k. true)) pd _
   registers_sound (Cterm op sf rm rn) = record { core = flags_sound c (termination_flags (terminates op (width_of sf) (read_x c rn) (read_x c rm)) c.flags) s; vectors = u }
   -- the others reach memory

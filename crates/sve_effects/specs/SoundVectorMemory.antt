@@ -6,17 +6,19 @@ use Rattle.emu_model.specs.declared.trap.TrapKind.TheVariants.{Read, SpAlign}
 use Rattle.emu_model.specs.Access.{Memory, value}
 use Rattle.emu_model.specs.Done.{Done, traps}
 use Rattle.emu_model.specs.Elements.{Element, reach}
-use Rattle.emu_model.specs.Lists.{each, length-each}
+use Rattle.emu_model.specs.Lists.{each}
+use Rattle.emu_model.specs.ListLaws.{length-each}
 use Rattle.emu_model.specs.Sound.{refused_is_word}
 use Rattle.emu_model.specs.SoundDone.{IsSoundDone, traps_sound}
 use Rattle.emu_model.specs.SoundElements.{stop_is_word, with_stored_sound}
-use Rattle.emu_model.specs.State.{Core, Vectors, IsWord, HasLength, IsSoundCore, IsSoundVectors, IsSoundMemory}
+use Rattle.emu_model.specs.State.{Core, Vectors}
+use Rattle.emu_model.specs.SoundState.{IsWord, HasLength, IsSoundCore, IsSoundVectors, IsSoundMemory}
 use Rattle.vec_model.specs.SoundLanes.{sound_lanes, sound_p, sound_ffr_bits}
 use Rattle.vec_model.specs.Lanes.{with_lanes}
-use Rattle.sve_effects.specs.Element.{extended_by}
+use Rattle.sve_effects.specs.Lane.{extended_by}
 use Rattle.sve_effects.specs.FirstFault.{cleared_from, first_suppressed, never_traps, first_refused, loaded_unless, first_fault_row}
 use Rattle.sve_effects.specs.FirstFaultParts.{first_fault_lane, with_first_fault, first_fault_loaded}
-use Rattle.sve_effects.specs.ElementLoop.{is_active}
+use Rattle.sve_effects.specs.LaneLoop.{is_active}
 use Rattle.sve_effects.specs.VectorElements.{MemoryRow, Transfer, each_active, repeated, replicated, whole_z, whole_p, Layout, register_at, row_layout, elements_of}
 use Rattle.sve_effects.specs.VectorLoadStore.{loaded_lane, with_loaded, after_load, has_sp_base, is_misaligned, element_stored, load_as_far, store_as_far, unless_misaligned, loaded_to, stored_to, load_row, store_row}
 

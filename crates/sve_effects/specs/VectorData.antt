@@ -4,13 +4,13 @@ use Rattle.sve_insn.specs.declared.ops.IndexOp.{IndexOp}
 use Rattle.sve_insn.specs.declared.ops.IndexOp.TheVariants.{ImmImm, RegImm, ImmReg, RegReg}
 use Rattle.sve_insn.specs.declared.ops.DotIndexedOp.{DotIndexedOp}
 use Rattle.sve_insn.specs.declared.ops.DotIndexedOp.TheVariants.{SdotS, UdotS, SdotD, UdotD}
-use Rattle.sve_effects.specs.declared.elements.ElementOp.{ElementOp}
-use Rattle.sve_effects.specs.declared.elements.ElementOp.TheVariants.{Lsl}
+use Rattle.sve_effects.specs.declared.lane_functions.LaneOp.{LaneOp}
+use Rattle.sve_effects.specs.declared.lane_functions.LaneOp.TheVariants.{Lsl}
 use Rattle.emu_bits.specs.Bitmask.{highest_set}
 use Rattle.emu_bits.specs.Numbers.{signed, unsigned_int}
 use Rattle.emu_model.specs.State.{Core, Vectors, read_x}
-use Rattle.sve_effects.specs.Element.{element, dot_product}
-use Rattle.sve_effects.specs.ElementLoop.{lane_bits, lane_of, plain, merging, zeroing}
+use Rattle.sve_effects.specs.Lane.{lane_op, dot_product}
+use Rattle.sve_effects.specs.LaneLoop.{lane_bits, lane_of, plain, merging, zeroing}
 
 -- ---- immediate shifts
 
@@ -23,13 +23,13 @@ abbrev pub shift_bits : ℕ → ℕ
 shift_bits tsz = lane_bits (unwrap_or (highest_set 3 tsz) 0)
 
 -- of tsz:imm3, a shift to the left is by this number less e, and one to the right by 2·e less this number
-abbrev pub shift_amount : ElementOp → ℕ → ℕ → ℕ
+abbrev pub shift_amount : LaneOp → ℕ → ℕ → ℕ
 shift_amount Lsl tsz imm3 = tsz * 8 + imm3 - shift_bits tsz
 shift_amount op tsz imm3 = 2 * shift_bits tsz - (tsz * 8 + imm3)
 
 -- a shift of lanes of register zn by such an amount
-abbrev pub shifted_by : ElementOp → ℕ → ℕ → ℕ → Vectors → ℕ → ℕ
-shifted_by op tsz imm3 zn v k = element op (shift_bits tsz) (lane_of (shift_bits tsz) v zn k) (shift_amount op tsz imm3)
+abbrev pub shifted_by : LaneOp → ℕ → ℕ → ℕ → Vectors → ℕ → ℕ
+shifted_by op tsz imm3 zn v k = lane_op op (shift_bits tsz) (lane_of (shift_bits tsz) v zn k) (shift_amount op tsz imm3)
 
 -- ---- immediates
 

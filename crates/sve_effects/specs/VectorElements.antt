@@ -9,7 +9,7 @@ use Rattle.emu_model.specs.Access.{address}
 use Rattle.emu_model.specs.Elements.{Element}
 use Rattle.emu_model.specs.Lists.{each}
 use Rattle.emu_model.specs.State.{Core, Vectors, read_x, read_x_sp}
-use Rattle.sve_effects.specs.ElementLoop.{lane_bits, lane_of, is_active}
+use Rattle.sve_effects.specs.LaneLoop.{lane_bits, lane_of, is_active}
 use Rattle.sve_effects.specs.FirstLast.{first_where}
 use Rattle.sve_effects.specs.Predicate.{is_at}
 
@@ -136,10 +136,6 @@ filling msz = record { bits = lane_bits msz; bytes = 2 ^ msz; is_signed = false 
 -- a whole register goes byte by byte
 abbrev pub single_bytes : Width
 single_bytes = record { bits = 8; bytes = 1; is_signed = false }
-
--- what the rows have that reach no memory
-abbrev pub no_elements : MemoryRow
-no_elements = record { way = loads; width = single_bytes; registers = 0; first = 0; transfer = whole_z; brackets = scalar 0 (whole 0) }
 
 -- ---- places
 

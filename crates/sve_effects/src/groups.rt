@@ -1,7 +1,6 @@
 //! The groups of rows, and the one that a row is of.
 ghost use Rattle.std.specs.Prelude.{◌≡◌};
 ghost use Rattle.sve_effects.specs.Effects as model;
-ghost use Rattle.sve_effects.specs.Row as rows;
 
 use sve_insn::SveForm;
 
@@ -33,7 +32,7 @@ pub enum Group {
 /// The group of a gather.
 #[inline(always)]
 fn by_fault(ff: bool) -> Group
-    ensures { result ≡ rows.by_fault ff }
+    ensures { result ≡ model.by_fault ff }
 {
     if ff {
         Group::FirstFaults

@@ -2,8 +2,9 @@
 ghost use Rattle.sve_insn.specs.declared.form.SveForm.{SveForm};
 ghost use Rattle.emu_model.specs.Access.{Memory};
 ghost use Rattle.emu_model.specs.SoundDone.{IsSoundDone};
-ghost use Rattle.emu_model.specs.State.{Core, Vectors, IsSoundCore, IsSoundVectors, IsSoundMemory};
-ghost use Rattle.sve_effects.specs.Effects.{performed};
+ghost use Rattle.emu_model.specs.State.{Core, Vectors};
+ghost use Rattle.emu_model.specs.SoundState.{IsSoundCore, IsSoundVectors, IsSoundMemory};
+ghost use Rattle.sve_effects.specs.Rows.{performed};
 
 /// What an SVE instruction leaves of a sound state is sound: each number and list keeps its range and its length.
 pub fn effects_keep_soundness()

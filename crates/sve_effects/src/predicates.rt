@@ -1,6 +1,7 @@
 //! The names of operations on predicates, and the laws of first and last places.
 ghost use Rattle.std.specs.Prelude.{ℕ, Bool};
-ghost use Rattle.sve_effects.specs.FirstLast.{first_where, last_where, IsFirstWhere, IsLastWhere};
+ghost use Rattle.sve_effects.specs.FirstLast.{first_where, last_where};
+ghost use Rattle.sve_effects.specs.FirstLastLaws.{IsFirstWhere, IsLastWhere};
 
 /// A logical operation of two predicates under a third: bic, orn, nor and nand complement as their names say, and sel chooses.
 #[derive(Clone, Copy, PartialEq, Eq, Debug)]

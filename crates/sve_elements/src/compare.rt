@@ -1,26 +1,26 @@
 //! Comparisons of two lanes.
 ghost use Rattle.std.specs.Prelude.{◌≡◌};
-ghost use Rattle.sve_effects.specs.Element.{element_test};
-ghost use Rattle.vec_model.specs.Lanes.{IsLaneSize};
+ghost use Rattle.sve_effects.specs.Lane.{lane_test};
+ghost use Rattle.vec_model.specs.LaneSizes.{IsLaneSize};
 
 use emu_bits::sext;
-use sve_effects::ElementTest;
+use sve_effects::LaneTest;
 
 /// The answer of a comparison: ge, gt, lt and le read the lanes as signed, hs, hi, lo and ls as unsigned.
-pub fn test(test: ElementTest, e: u32, a: u64, b: u64) -> bool
+pub fn test(test: LaneTest, e: u32, a: u64, b: u64) -> bool
     requires { IsLaneSize e }
-    ensures { result ≡ element_test test e a b }
+    ensures { result ≡ lane_test test e a b }
 {
     match test {
-        ElementTest::Eq => a == b,
-        ElementTest::Ne => a != b,
-        ElementTest::Ge => sext(a, e) >= sext(b, e),
-        ElementTest::Gt => sext(a, e) > sext(b, e),
-        ElementTest::Lt => sext(a, e) < sext(b, e),
-        ElementTest::Le => sext(a, e) <= sext(b, e),
-        ElementTest::Hs => a >= b,
-        ElementTest::Hi => a > b,
-        ElementTest::Lo => a < b,
-        ElementTest::Ls => a <= b,
+        LaneTest::Eq => a == b,
+        LaneTest::Ne => a != b,
+        LaneTest::Ge => sext(a, e) >= sext(b, e),
+        LaneTest::Gt => sext(a, e) > sext(b, e),
+        LaneTest::Lt => sext(a, e) < sext(b, e),
+        LaneTest::Le => sext(a, e) <= sext(b, e),
+        LaneTest::Hs => a >= b,
+        LaneTest::Hi => a > b,
+        LaneTest::Lo => a < b,
+        LaneTest::Ls => a <= b,
     }
 }

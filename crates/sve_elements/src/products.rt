@@ -1,9 +1,9 @@
 //! Products, quotients, products added and subtracted, and dot products.
 ghost use Rattle.std.specs.Prelude.{◌≡◌, ◌<◌, ◌≤◌, ◌^◌, unsigned_abs};
-ghost use Rattle.sve_effects.specs.declared.elements.ElementOp.{ElementOp};
-ghost use Rattle.sve_effects.specs.Element as table;
-ghost use Rattle.sve_effects.specs.Element.{element};
-ghost use Rattle.vec_model.specs.Lanes.{IsLaneSize};
+ghost use Rattle.sve_effects.specs.declared.lane_functions.LaneOp.{LaneOp};
+ghost use Rattle.sve_effects.specs.Lane as table;
+ghost use Rattle.sve_effects.specs.Lane.{lane_op};
+ghost use Rattle.vec_model.specs.LaneSizes.{IsLaneSize};
 ghost use Rattle.emu_bits.specs.Numbers.{quotient};
 
 use crate::numbers::{difference, exact_product, exact_sum, low, scaled_down, unsigned, wrapped};
@@ -12,7 +12,7 @@ use emu_bits::{low_bits, sext};
 /// The product's lower half.
 pub fn mul(e: u32, a: u64, b: u64) -> u64
     requires { IsLaneSize e }
-    ensures value { result ≡ element ElementOp.Mul e a b }
+    ensures value { result ≡ lane_op LaneOp.Mul e a b }
     ensures small { result < 2 ^ e }
 {
     low(e, a as u128 * b as u128)
@@ -21,7 +21,7 @@ pub fn mul(e: u32, a: u64, b: u64) -> u64
 /// The signed product's upper half.
 pub fn smulh(e: u32, a: u64, b: u64) -> u64
     requires { IsLaneSize e }
-    ensures value { result ≡ element ElementOp.Smulh e a b }
+    ensures value { result ≡ lane_op LaneOp.Smulh e a b }
     ensures small { result < 2 ^ e }
 {
     wrapped(e, scaled_down(exact_product(sext(a, e), sext(b, e)), e))
@@ -30,7 +30,7 @@ pub fn smulh(e: u32, a: u64, b: u64) -> u64
 /// The unsigned product's upper half.
 pub fn umulh(e: u32, a: u64, b: u64) -> u64
     requires { IsLaneSize e }
-    ensures value { result ≡ element ElementOp.Umulh e a b }
+    ensures value { result ≡ lane_op LaneOp.Umulh e a b }
     ensures small { result < 2 ^ e }
 {
     low(e, a as u128 * b as u128 >> e)
@@ -52,7 +52,7 @@ fn quotient(x: i64, y: i64) -> i128
 /// The signed quotient, towards zero, and 0 where the second is 0; the least number by -1 is itself.
 pub fn sdiv(e: u32, a: u64, b: u64) -> u64
     requires { IsLaneSize e }
-    ensures value { result ≡ element ElementOp.Sdiv e a b }
+    ensures value { result ≡ lane_op LaneOp.Sdiv e a b }
     ensures small { result < 2 ^ e }
 {
     wrapped(e, quotient(sext(a, e), sext(b, e)))
@@ -61,7 +61,7 @@ pub fn sdiv(e: u32, a: u64, b: u64) -> u64
 /// The unsigned quotient, and 0 where the second is 0.
 pub fn udiv(e: u32, a: u64, b: u64) -> u64
     requires { IsLaneSize e }
-    ensures value { result ≡ element ElementOp.Udiv e a b }
+    ensures value { result ≡ lane_op LaneOp.Udiv e a b }
     ensures small { result < 2 ^ e }
 {
     if b == 0 { 0 } else { low_bits(a / b, e) }

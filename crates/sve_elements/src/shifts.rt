@@ -2,9 +2,9 @@
 ghost use Rattle.std.specs.Prelude.{◌≡◌, ◌<◌, ◌/◌, ◌^◌, pos};
 ghost use Rattle.std.specs.Int.{int_shr};
 ghost use Rattle.emu_bits.specs.Numbers.{quotient};
-ghost use Rattle.sve_effects.specs.declared.elements.ElementOp.{ElementOp};
-ghost use Rattle.sve_effects.specs.Element.{element};
-ghost use Rattle.vec_model.specs.Lanes.{IsLaneSize};
+ghost use Rattle.sve_effects.specs.declared.lane_functions.LaneOp.{LaneOp};
+ghost use Rattle.sve_effects.specs.Lane.{lane_op};
+ghost use Rattle.vec_model.specs.LaneSizes.{IsLaneSize};
 
 use crate::numbers::{low, narrowed, unsigned, wrapped};
 use emu_bits::{low_bits, sext};
@@ -43,7 +43,7 @@ fn divided(x: i64, b: u64) -> i128
 /// To the right, with copies of the top bit above: from e on they are all of the lane.
 pub fn asr(e: u32, a: u64, b: u64) -> u64
     requires { IsLaneSize e }
-    ensures value { result ≡ element ElementOp.Asr e a b }
+    ensures value { result ≡ lane_op LaneOp.Asr e a b }
     ensures small { result < 2 ^ e }
 {
     narrowed(e, shifted_signed(sext(a, e), b))
@@ -52,7 +52,7 @@ pub fn asr(e: u32, a: u64, b: u64) -> u64
 /// To the right, with zeros above.
 pub fn lsr(e: u32, a: u64, b: u64) -> u64
     requires { IsLaneSize e }
-    ensures value { result ≡ element ElementOp.Lsr e a b }
+    ensures value { result ≡ lane_op LaneOp.Lsr e a b }
     ensures small { result < 2 ^ e }
 {
     low_bits(shifted(a, b), e)
@@ -62,7 +62,7 @@ pub fn lsr(e: u32, a: u64, b: u64) -> u64
 #[tactic(auto, using(crate::proofs::FarShifts::none_low))]
 pub fn lsl(e: u32, a: u64, b: u64) -> u64
     requires { IsLaneSize e }
-    ensures value { result ≡ element ElementOp.Lsl e a b }
+    ensures value { result ≡ lane_op LaneOp.Lsl e a b }
     ensures small { result < 2 ^ e }
 {
     if b < 64 { low(e, (a as u128) << b) } else { 0 }
@@ -71,7 +71,7 @@ pub fn lsl(e: u32, a: u64, b: u64) -> u64
 /// The signed quotient by 2^b, towards zero.
 pub fn asrd(e: u32, a: u64, b: u64) -> u64
     requires { IsLaneSize e }
-    ensures value { result ≡ element ElementOp.Asrd e a b }
+    ensures value { result ≡ lane_op LaneOp.Asrd e a b }
     ensures small { result < 2 ^ e }
 {
     wrapped(e, divided(sext(a, e), b))

@@ -1,8 +1,8 @@
 //! Functions of one lane: extensions, counts of bits, and parts in reverse order.
 ghost use Rattle.std.specs.Prelude.{◌≡◌, ◌<◌, ◌≤◌, ◌^◌};
 ghost use Rattle.emu_bits.specs.Operations as bits;
-ghost use Rattle.sve_effects.specs.Element as table;
-ghost use Rattle.vec_model.specs.Lanes.{IsLaneSize};
+ghost use Rattle.sve_effects.specs.Lane as table;
+ghost use Rattle.vec_model.specs.LaneSizes.{IsLaneSize};
 
 use crate::numbers::{complement, difference};
 use emu_bits::{low_bits, sext, sign_extended};

@@ -1,8 +1,8 @@
 //! Sums, differences, and the greater and the smaller of two lanes.
 ghost use Rattle.std.specs.Prelude.{◌≡◌, ◌<◌, ◌^◌};
-ghost use Rattle.sve_effects.specs.declared.elements.ElementOp.{ElementOp};
-ghost use Rattle.sve_effects.specs.Element.{element};
-ghost use Rattle.vec_model.specs.Lanes.{IsLaneSize};
+ghost use Rattle.sve_effects.specs.declared.lane_functions.LaneOp.{LaneOp};
+ghost use Rattle.sve_effects.specs.Lane.{lane_op};
+ghost use Rattle.vec_model.specs.LaneSizes.{IsLaneSize};
 
 use crate::numbers::{
     difference, exact_difference, exact_sum, low, narrowed, saturated_signed, saturated_unsigned,
@@ -13,7 +13,7 @@ use emu_bits::{low_bits, sext};
 /// The sum.
 pub fn add(e: u32, a: u64, b: u64) -> u64
     requires { IsLaneSize e }
-    ensures value { result ≡ element ElementOp.Add e a b }
+    ensures value { result ≡ lane_op LaneOp.Add e a b }
     ensures small { result < 2 ^ e }
 {
     low(e, a as u128 + b as u128)
@@ -22,7 +22,7 @@ pub fn add(e: u32, a: u64, b: u64) -> u64
 /// The difference.
 pub fn sub(e: u32, a: u64, b: u64) -> u64
     requires { IsLaneSize e }
-    ensures value { result ≡ element ElementOp.Sub e a b }
+    ensures value { result ≡ lane_op LaneOp.Sub e a b }
     ensures small { result < 2 ^ e }
 {
     difference(e, a, b as u128)
@@ -31,7 +31,7 @@ pub fn sub(e: u32, a: u64, b: u64) -> u64
 /// The greater signed number.
 pub fn smax(e: u32, a: u64, b: u64) -> u64
     requires { IsLaneSize e }
-    ensures value { result ≡ element ElementOp.Smax e a b }
+    ensures value { result ≡ lane_op LaneOp.Smax e a b }
     ensures small { result < 2 ^ e }
 {
     narrowed(e, sext(a, e).max(sext(b, e)))
@@ -40,7 +40,7 @@ pub fn smax(e: u32, a: u64, b: u64) -> u64
 /// The greater unsigned number.
 pub fn umax(e: u32, a: u64, b: u64) -> u64
     requires { IsLaneSize e }
-    ensures value { result ≡ element ElementOp.Umax e a b }
+    ensures value { result ≡ lane_op LaneOp.Umax e a b }
     ensures small { result < 2 ^ e }
 {
     low_bits(a.max(b), e)
@@ -49,7 +49,7 @@ pub fn umax(e: u32, a: u64, b: u64) -> u64
 /// The smaller signed number.
 pub fn smin(e: u32, a: u64, b: u64) -> u64
     requires { IsLaneSize e }
-    ensures value { result ≡ element ElementOp.Smin e a b }
+    ensures value { result ≡ lane_op LaneOp.Smin e a b }
     ensures small { result < 2 ^ e }
 {
     narrowed(e, sext(a, e).min(sext(b, e)))
@@ -58,7 +58,7 @@ pub fn smin(e: u32, a: u64, b: u64) -> u64
 /// The smaller unsigned number.
 pub fn umin(e: u32, a: u64, b: u64) -> u64
     requires { IsLaneSize e }
-    ensures value { result ≡ element ElementOp.Umin e a b }
+    ensures value { result ≡ lane_op LaneOp.Umin e a b }
     ensures small { result < 2 ^ e }
 {
     low_bits(a.min(b), e)
@@ -67,7 +67,7 @@ pub fn umin(e: u32, a: u64, b: u64) -> u64
 /// The greater signed number less the smaller.
 pub fn sabd(e: u32, a: u64, b: u64) -> u64
     requires { IsLaneSize e }
-    ensures value { result ≡ element ElementOp.Sabd e a b }
+    ensures value { result ≡ lane_op LaneOp.Sabd e a b }
     ensures small { result < 2 ^ e }
 {
     low_bits(sext(a, e).abs_diff(sext(b, e)), e)
@@ -76,7 +76,7 @@ pub fn sabd(e: u32, a: u64, b: u64) -> u64
 /// The greater unsigned number less the smaller.
 pub fn uabd(e: u32, a: u64, b: u64) -> u64
     requires { IsLaneSize e }
-    ensures value { result ≡ element ElementOp.Uabd e a b }
+    ensures value { result ≡ lane_op LaneOp.Uabd e a b }
     ensures small { result < 2 ^ e }
 {
     low_bits(a.abs_diff(b), e)
@@ -85,7 +85,7 @@ pub fn uabd(e: u32, a: u64, b: u64) -> u64
 /// The signed sum, saturated.
 pub fn sqadd(e: u32, a: u64, b: u64) -> u64
     requires { IsLaneSize e }
-    ensures value { result ≡ element ElementOp.Sqadd e a b }
+    ensures value { result ≡ lane_op LaneOp.Sqadd e a b }
     ensures small { result < 2 ^ e }
 {
     saturated_signed(e, exact_sum(signed(e, a), signed(e, b)))
@@ -94,7 +94,7 @@ pub fn sqadd(e: u32, a: u64, b: u64) -> u64
 /// The unsigned sum, saturated.
 pub fn uqadd(e: u32, a: u64, b: u64) -> u64
     requires { IsLaneSize e }
-    ensures value { result ≡ element ElementOp.Uqadd e a b }
+    ensures value { result ≡ lane_op LaneOp.Uqadd e a b }
     ensures small { result < 2 ^ e }
 {
     saturated_unsigned(e, exact_sum(unsigned(a), unsigned(b)))
@@ -103,7 +103,7 @@ pub fn uqadd(e: u32, a: u64, b: u64) -> u64
 /// The signed difference, saturated.
 pub fn sqsub(e: u32, a: u64, b: u64) -> u64
     requires { IsLaneSize e }
-    ensures value { result ≡ element ElementOp.Sqsub e a b }
+    ensures value { result ≡ lane_op LaneOp.Sqsub e a b }
     ensures small { result < 2 ^ e }
 {
     saturated_signed(e, exact_difference(signed(e, a), signed(e, b)))
@@ -112,7 +112,7 @@ pub fn sqsub(e: u32, a: u64, b: u64) -> u64
 /// The unsigned difference, saturated.
 pub fn uqsub(e: u32, a: u64, b: u64) -> u64
     requires { IsLaneSize e }
-    ensures value { result ≡ element ElementOp.Uqsub e a b }
+    ensures value { result ≡ lane_op LaneOp.Uqsub e a b }
     ensures small { result < 2 ^ e }
 {
     saturated_unsigned(e, exact_difference(unsigned(a), unsigned(b)))
@@ -121,7 +121,7 @@ pub fn uqsub(e: u32, a: u64, b: u64) -> u64
 /// A signed lane plus an unsigned amount, saturated as a signed number.
 pub fn sqadd_amount(e: u32, a: u64, b: u64) -> u64
     requires { IsLaneSize e }
-    ensures value { result ≡ element ElementOp.SqaddAmount e a b }
+    ensures value { result ≡ lane_op LaneOp.SqaddAmount e a b }
     ensures small { result < 2 ^ e }
 {
     saturated_signed(e, exact_sum(signed(e, a), unsigned(b)))
@@ -130,7 +130,7 @@ pub fn sqadd_amount(e: u32, a: u64, b: u64) -> u64
 /// A signed lane less an unsigned amount, saturated as a signed number.
 pub fn sqsub_amount(e: u32, a: u64, b: u64) -> u64
     requires { IsLaneSize e }
-    ensures value { result ≡ element ElementOp.SqsubAmount e a b }
+    ensures value { result ≡ lane_op LaneOp.SqsubAmount e a b }
     ensures small { result < 2 ^ e }
 {
     saturated_signed(e, exact_difference(signed(e, a), unsigned(b)))

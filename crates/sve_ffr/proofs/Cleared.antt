@@ -5,12 +5,14 @@ use Rattle.std.proofs.lemmas.Bool.Decides.{nat_tests}
 use Rattle.std.proofs.lemmas.List.{get_or_past, map-append}
 use Rattle.emu_model.specs.Access.{Memory, value}
 use Rattle.emu_model.specs.Elements.{Element}
-use Rattle.emu_model.specs.Lists.{each, length-each, get_or-each}
+use Rattle.emu_model.specs.Lists.{each}
+use Rattle.emu_model.specs.ListLaws.{length-each, get_or-each}
 use Rattle.vec_model.specs.Active.{active}
 use Rattle.sve_effects.proofs.Found.{first_found}
-use Rattle.sve_effects.specs.Element.{extended_by}
+use Rattle.sve_effects.specs.Lane.{extended_by}
 use Rattle.sve_effects.specs.FirstFault.{element_at, first_suppressed, is_refused, cleared_from, first_cleared, is_before, loaded_from}
-use Rattle.sve_effects.specs.FirstLast.{first_where, IsFirst, IsFirstWhere, MeetsNowhere}
+use Rattle.sve_effects.specs.FirstLast.{first_where}
+use Rattle.sve_effects.specs.FirstLastLaws.{IsFirst, IsFirstWhere, MeetsNowhere}
 use Rattle.sve_effects.specs.VectorElements.{Layout, elements_below}
 use Rattle.element_loops.specs.SoFar.{element_of_lane}
 use Rattle.element_loops.proofs.Lists.{one_element}

@@ -5,7 +5,7 @@ use Rattle.emu_model.specs.declared.access.Access.{Access}
 use Rattle.emu_model.specs.Access.{Memory, value}
 use Rattle.emu_model.specs.Elements.{Element, accesses_of}
 use Rattle.emu_model.specs.Lists.{each}
-use Rattle.sve_effects.specs.Element.{extended_by}
+use Rattle.sve_effects.specs.Lane.{extended_by}
 use Rattle.sve_effects.specs.FirstFault.{element_at, first_suppressed, is_refused, unsuppressed}
 use Rattle.sve_effects.specs.FirstLast.{or_else}
 use Rattle.element_loops.specs.Listed.{listed, listed_at}

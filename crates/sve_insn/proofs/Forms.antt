@@ -1,11 +1,13 @@
--- A form is the form of its row, and its condition is the row's.
-use Rattle.sve_insn.specs.Table.{lines_open, row_of, meets_form}
+-- A form is the form of its row.
+use Rattle.sve_insn.specs.Table.{lines_open}
+use Rattle.sve_insn.specs.Rows.{row_of}
 use Rattle.std.proofs.Common.{◌≡◌, Bool, true, false, refl, ap, ◌∙◌, ◌==◌}
 use Rattle.emu_bits.specs.Fields.{bit}
-use Rattle.emu_bits.specs.Rows.{meets, form_of}
+use Rattle.emu_bits.specs.Rows.{form_of}
 use Rattle.sve_insn.specs.declared.form.SveForm.{SveForm}
 use Rattle.sve_insn.specs.declared.form.SveForm.TheVariants.{Binary, BinaryWide, ShiftImm, Unary, MulAddZ, MulAddD, Plain, LogicZ, PlainWide, PlainShift, Index, Dot, DotIndexed, WideImm, MinMaxImm, DupImm, BitmaskZ, CopyImm, PrefixP, Reduce, IncX, IncZ, SatX, SatZ, AddLength, Insert, Unpack, Interleave, InterleaveP, UnpackP, CopyReg, Last, CondLast, CmpVec, CmpWide, CmpUImm, CmpSImm, LogicP, Break, BreakPair, BreakNext, Ptrue, ReadFfr, WriteFfr, IncP, IncPZ, While, Cterm, LoadManyImm, LoadManyReg, StoreManyImm, StoreManyReg, GatherSx, GatherSxScaled, GatherDx, GatherDxScaled, GatherD, GatherDScaled, GatherSv, GatherDv, ScatterSx, ScatterSxScaled, ScatterDx, ScatterDxScaled}
-use Rattle.sve_insn.specs.Names.{add_length_named, add_length_number, binary_named, binary_number, bitmask_z_named, bitmask_z_number, break_named, break_number, break_pair_named, break_pair_number, cmp_s_imm_named, cmp_s_imm_number, cmp_u_imm_named, cmp_u_imm_number, cmp_vec_named, cmp_vec_number, cmp_wide_named, cmp_wide_number, cond_last_named, cond_last_number, copy_reg_named, copy_reg_number, cterm_named, cterm_number, dot_named, dot_number, dot_indexed_named, dot_indexed_number, inc_named, inc_number, inc_p_named, inc_p_number, index_named, index_number, insert_named, insert_number, interleave_named, interleave_number, last_named, last_number, load_many_named, load_many_number, logic_p_named, logic_p_number, logic_z_named, logic_z_number, min_max_imm_named, min_max_imm_number, mul_add_d_named, mul_add_d_number, mul_add_z_named, mul_add_z_number, plain_named, plain_number, ptrue_named, ptrue_number, read_ffr_named, read_ffr_number, reduce_named, reduce_number, sat_named, sat_number, shift_named, shift_number, shift_imm_named, shift_imm_number, store_many_named, store_many_number, unary_named, unary_number, unpack_named, unpack_number, unpack_p_named, unpack_p_number, while_named, while_number, wide_imm_named, wide_imm_number, write_ffr_named, write_ffr_number}
+use Rattle.sve_insn.specs.Names.{add_length_named, binary_named, bitmask_z_named, break_named, break_pair_named, cmp_s_imm_named, cmp_u_imm_named, cmp_vec_named, cmp_wide_named, cond_last_named, copy_reg_named, cterm_named, dot_named, dot_indexed_named, inc_named, inc_p_named, index_named, insert_named, interleave_named, last_named, load_many_named, logic_p_named, logic_z_named, min_max_imm_named, mul_add_d_named, mul_add_z_named, plain_named, ptrue_named, read_ffr_named, reduce_named, sat_named, shift_named, shift_imm_named, store_many_named, unary_named, unpack_named, unpack_p_named, while_named, wide_imm_named, write_ffr_named}
+use Rattle.sve_insn.specs.Numbers.{add_length_number, binary_number, bitmask_z_number, break_number, break_pair_number, cmp_s_imm_number, cmp_u_imm_number, cmp_vec_number, cmp_wide_number, cond_last_number, copy_reg_number, cterm_number, dot_number, dot_indexed_number, inc_number, inc_p_number, index_number, insert_number, interleave_number, last_number, load_many_number, logic_p_number, logic_z_number, min_max_imm_number, mul_add_d_number, mul_add_z_number, plain_number, ptrue_number, read_ffr_number, reduce_number, sat_number, shift_number, shift_imm_number, store_many_number, unary_number, unpack_number, unpack_p_number, while_number, wide_imm_number, write_ffr_number}
 use Rattle.sve_insn.specs.declared.ops.BinaryOp.{BinaryOp}
 use Rattle.sve_insn.specs.declared.ops.BinaryOp.TheVariants as binary_names
 use Rattle.sve_insn.specs.declared.ops.ShiftOp.{ShiftOp}
@@ -86,11 +88,6 @@ use Rattle.sve_insn.specs.declared.ops.LoadManyOp.{LoadManyOp}
 use Rattle.sve_insn.specs.declared.ops.LoadManyOp.TheVariants as load_many_names
 use Rattle.sve_insn.specs.declared.ops.StoreManyOp.{StoreManyOp}
 use Rattle.sve_insn.specs.declared.ops.StoreManyOp.TheVariants as store_many_names
-
-pub same_condition : (f : SveForm) → meets (row_of f) ≡ meets_form f
-unfolding lines_open
-same_condition (Binary op size pg zm zdn) = refl
-same_condition _ = refl
 
 flag_again : (b : Bool) → (bit b == 1) ≡ b
 flag_again false = refl

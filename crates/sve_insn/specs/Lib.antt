@@ -1,9 +1,11 @@
 pub mod Names
+pub mod Numbers
 pub mod Conditions
 pub mod Lanes
 pub mod Folds
 pub mod Predicates
 pub mod Memory
 pub mod Table
+pub mod Rows
 pub mod Seen
 pub mod Lines

@@ -1,8 +1,9 @@
 -- Forms by the places of their lines in the table, and the words of forms.
 use Rattle.std.specs.Prelude.{◌≡◌, ℕ, ◌<◌, ◌⊎◌}
-use Rattle.emu_bits.specs.Rows.{encode, IsShape}
+use Rattle.emu_bits.specs.Rows.{encode}
+use Rattle.emu_bits.specs.RowLaws.{IsShape}
 use Rattle.sve_insn.specs.declared.form.SveForm.{SveForm}
-use Rattle.sve_insn.specs.Table.{row_of, line_number}
+use Rattle.sve_insn.specs.Rows.{row_of, line_number}
 
 -- a form's line isn't one of those from one place of the table to another
 abbrev pub IsOutside : ℕ → ℕ → SveForm → Type 0

@@ -81,392 +81,122 @@ use Rattle.sve_insn.specs.declared.ops.LoadManyOp.TheVariants as load_many_names
 use Rattle.sve_insn.specs.declared.ops.StoreManyOp.{StoreManyOp}
 use Rattle.sve_insn.specs.declared.ops.StoreManyOp.TheVariants as store_many_names
 
-abbrev pub binary_number : BinaryOp → ℕ
-binary_number binary_names.Add = 0
-binary_number binary_names.Sub = 1
-binary_number binary_names.Subr = 2
-binary_number binary_names.Smax = 3
-binary_number binary_names.Umax = 4
-binary_number binary_names.Smin = 5
-binary_number binary_names.Umin = 6
-binary_number binary_names.Sabd = 7
-binary_number binary_names.Uabd = 8
-binary_number binary_names.Mul = 9
-binary_number binary_names.Smulh = 10
-binary_number binary_names.Umulh = 11
-binary_number binary_names.Sdiv = 12
-binary_number binary_names.Udiv = 13
-binary_number binary_names.Sdivr = 14
-binary_number binary_names.Udivr = 15
-binary_number binary_names.Orr = 16
-binary_number binary_names.Eor = 17
-binary_number binary_names.And = 18
-binary_number binary_names.Bic = 19
-binary_number binary_names.Asr = 20
-binary_number binary_names.Lsr = 21
-binary_number binary_names.Lsl = 22
-binary_number binary_names.Asrr = 23
-binary_number binary_names.Lsrr = 24
-binary_number binary_names.Lslr = 25
-
 abbrev pub binary_named : ℕ → BinaryOp
 binary_named k = get_or (binary_names.Add ∷ binary_names.Sub ∷ binary_names.Subr ∷ binary_names.Smax ∷ binary_names.Umax ∷ binary_names.Smin ∷ binary_names.Umin ∷ binary_names.Sabd ∷ binary_names.Uabd ∷ binary_names.Mul ∷ binary_names.Smulh ∷ binary_names.Umulh ∷ binary_names.Sdiv ∷ binary_names.Udiv ∷ binary_names.Sdivr ∷ binary_names.Udivr ∷ binary_names.Orr ∷ binary_names.Eor ∷ binary_names.And ∷ binary_names.Bic ∷ binary_names.Asr ∷ binary_names.Lsr ∷ binary_names.Lsl ∷ binary_names.Asrr ∷ binary_names.Lsrr ∷ binary_names.Lslr ∷ []) k binary_names.Add
-
-abbrev pub shift_number : ShiftOp → ℕ
-shift_number shift_names.Asr = 0
-shift_number shift_names.Lsr = 1
-shift_number shift_names.Lsl = 2
 
 abbrev pub shift_named : ℕ → ShiftOp
 shift_named k = get_or (shift_names.Asr ∷ shift_names.Lsr ∷ shift_names.Lsl ∷ []) k shift_names.Asr
 
-abbrev pub shift_imm_number : ShiftImmOp → ℕ
-shift_imm_number shift_imm_names.Asr = 0
-shift_imm_number shift_imm_names.Lsr = 1
-shift_imm_number shift_imm_names.Lsl = 2
-shift_imm_number shift_imm_names.Asrd = 3
-
 abbrev pub shift_imm_named : ℕ → ShiftImmOp
 shift_imm_named k = get_or (shift_imm_names.Asr ∷ shift_imm_names.Lsr ∷ shift_imm_names.Lsl ∷ shift_imm_names.Asrd ∷ []) k shift_imm_names.Asr
-
-abbrev pub unary_number : UnaryOp → ℕ
-unary_number unary_names.Sxtb = 0
-unary_number unary_names.Uxtb = 1
-unary_number unary_names.Sxth = 2
-unary_number unary_names.Uxth = 3
-unary_number unary_names.Sxtw = 4
-unary_number unary_names.Uxtw = 5
-unary_number unary_names.Abs = 6
-unary_number unary_names.Neg = 7
-unary_number unary_names.Cls = 8
-unary_number unary_names.Clz = 9
-unary_number unary_names.Cnt = 10
-unary_number unary_names.Cnot = 11
-unary_number unary_names.Not = 12
-unary_number unary_names.Revb = 13
-unary_number unary_names.Revh = 14
-unary_number unary_names.Revw = 15
-unary_number unary_names.Rbit = 16
 
 abbrev pub unary_named : ℕ → UnaryOp
 unary_named k = get_or (unary_names.Sxtb ∷ unary_names.Uxtb ∷ unary_names.Sxth ∷ unary_names.Uxth ∷ unary_names.Sxtw ∷ unary_names.Uxtw ∷ unary_names.Abs ∷ unary_names.Neg ∷ unary_names.Cls ∷ unary_names.Clz ∷ unary_names.Cnt ∷ unary_names.Cnot ∷ unary_names.Not ∷ unary_names.Revb ∷ unary_names.Revh ∷ unary_names.Revw ∷ unary_names.Rbit ∷ []) k unary_names.Sxtb
 
-abbrev pub mul_add_z_number : MulAddZOp → ℕ
-mul_add_z_number mul_add_z_names.Mla = 0
-mul_add_z_number mul_add_z_names.Mls = 1
-
 abbrev pub mul_add_z_named : ℕ → MulAddZOp
 mul_add_z_named k = get_or (mul_add_z_names.Mla ∷ mul_add_z_names.Mls ∷ []) k mul_add_z_names.Mla
-
-abbrev pub mul_add_d_number : MulAddDOp → ℕ
-mul_add_d_number mul_add_d_names.Mad = 0
-mul_add_d_number mul_add_d_names.Msb = 1
 
 abbrev pub mul_add_d_named : ℕ → MulAddDOp
 mul_add_d_named k = get_or (mul_add_d_names.Mad ∷ mul_add_d_names.Msb ∷ []) k mul_add_d_names.Mad
 
-abbrev pub plain_number : PlainOp → ℕ
-plain_number plain_names.Add = 0
-plain_number plain_names.Sub = 1
-plain_number plain_names.Sqadd = 2
-plain_number plain_names.Uqadd = 3
-plain_number plain_names.Sqsub = 4
-plain_number plain_names.Uqsub = 5
-
 abbrev pub plain_named : ℕ → PlainOp
 plain_named k = get_or (plain_names.Add ∷ plain_names.Sub ∷ plain_names.Sqadd ∷ plain_names.Uqadd ∷ plain_names.Sqsub ∷ plain_names.Uqsub ∷ []) k plain_names.Add
-
-abbrev pub logic_z_number : LogicZOp → ℕ
-logic_z_number logic_z_names.And = 0
-logic_z_number logic_z_names.Orr = 1
-logic_z_number logic_z_names.Eor = 2
-logic_z_number logic_z_names.Bic = 3
 
 abbrev pub logic_z_named : ℕ → LogicZOp
 logic_z_named k = get_or (logic_z_names.And ∷ logic_z_names.Orr ∷ logic_z_names.Eor ∷ logic_z_names.Bic ∷ []) k logic_z_names.And
 
-abbrev pub index_number : IndexOp → ℕ
-index_number index_names.ImmImm = 0
-index_number index_names.RegImm = 1
-index_number index_names.ImmReg = 2
-index_number index_names.RegReg = 3
-
 abbrev pub index_named : ℕ → IndexOp
 index_named k = get_or (index_names.ImmImm ∷ index_names.RegImm ∷ index_names.ImmReg ∷ index_names.RegReg ∷ []) k index_names.ImmImm
-
-abbrev pub dot_number : DotOp → ℕ
-dot_number dot_names.Sdot = 0
-dot_number dot_names.Udot = 1
 
 abbrev pub dot_named : ℕ → DotOp
 dot_named k = get_or (dot_names.Sdot ∷ dot_names.Udot ∷ []) k dot_names.Sdot
 
-abbrev pub dot_indexed_number : DotIndexedOp → ℕ
-dot_indexed_number dot_indexed_names.SdotS = 0
-dot_indexed_number dot_indexed_names.UdotS = 1
-dot_indexed_number dot_indexed_names.SdotD = 2
-dot_indexed_number dot_indexed_names.UdotD = 3
-
 abbrev pub dot_indexed_named : ℕ → DotIndexedOp
 dot_indexed_named k = get_or (dot_indexed_names.SdotS ∷ dot_indexed_names.UdotS ∷ dot_indexed_names.SdotD ∷ dot_indexed_names.UdotD ∷ []) k dot_indexed_names.SdotS
-
-abbrev pub wide_imm_number : WideImmOp → ℕ
-wide_imm_number wide_imm_names.Add = 0
-wide_imm_number wide_imm_names.Sub = 1
-wide_imm_number wide_imm_names.Subr = 2
-wide_imm_number wide_imm_names.Sqadd = 3
-wide_imm_number wide_imm_names.Uqadd = 4
-wide_imm_number wide_imm_names.Sqsub = 5
-wide_imm_number wide_imm_names.Uqsub = 6
 
 abbrev pub wide_imm_named : ℕ → WideImmOp
 wide_imm_named k = get_or (wide_imm_names.Add ∷ wide_imm_names.Sub ∷ wide_imm_names.Subr ∷ wide_imm_names.Sqadd ∷ wide_imm_names.Uqadd ∷ wide_imm_names.Sqsub ∷ wide_imm_names.Uqsub ∷ []) k wide_imm_names.Add
 
-abbrev pub min_max_imm_number : MinMaxImmOp → ℕ
-min_max_imm_number min_max_imm_names.Smax = 0
-min_max_imm_number min_max_imm_names.Smin = 1
-min_max_imm_number min_max_imm_names.Mul = 2
-min_max_imm_number min_max_imm_names.Umax = 3
-min_max_imm_number min_max_imm_names.Umin = 4
-
 abbrev pub min_max_imm_named : ℕ → MinMaxImmOp
 min_max_imm_named k = get_or (min_max_imm_names.Smax ∷ min_max_imm_names.Smin ∷ min_max_imm_names.Mul ∷ min_max_imm_names.Umax ∷ min_max_imm_names.Umin ∷ []) k min_max_imm_names.Smax
-
-abbrev pub bitmask_z_number : BitmaskZOp → ℕ
-bitmask_z_number bitmask_z_names.Orr = 0
-bitmask_z_number bitmask_z_names.Eor = 1
-bitmask_z_number bitmask_z_names.And = 2
-bitmask_z_number bitmask_z_names.Dupm = 3
 
 abbrev pub bitmask_z_named : ℕ → BitmaskZOp
 bitmask_z_named k = get_or (bitmask_z_names.Orr ∷ bitmask_z_names.Eor ∷ bitmask_z_names.And ∷ bitmask_z_names.Dupm ∷ []) k bitmask_z_names.Orr
 
-abbrev pub reduce_number : ReduceOp → ℕ
-reduce_number reduce_names.Saddv = 0
-reduce_number reduce_names.Uaddv = 1
-reduce_number reduce_names.Smaxv = 2
-reduce_number reduce_names.Umaxv = 3
-reduce_number reduce_names.Sminv = 4
-reduce_number reduce_names.Uminv = 5
-reduce_number reduce_names.Orv = 6
-reduce_number reduce_names.Eorv = 7
-reduce_number reduce_names.Andv = 8
-
 abbrev pub reduce_named : ℕ → ReduceOp
 reduce_named k = get_or (reduce_names.Saddv ∷ reduce_names.Uaddv ∷ reduce_names.Smaxv ∷ reduce_names.Umaxv ∷ reduce_names.Sminv ∷ reduce_names.Uminv ∷ reduce_names.Orv ∷ reduce_names.Eorv ∷ reduce_names.Andv ∷ []) k reduce_names.Saddv
-
-abbrev pub inc_number : IncOp → ℕ
-inc_number inc_names.Inc = 0
-inc_number inc_names.Dec = 1
 
 abbrev pub inc_named : ℕ → IncOp
 inc_named k = get_or (inc_names.Inc ∷ inc_names.Dec ∷ []) k inc_names.Inc
 
-abbrev pub sat_number : SatOp → ℕ
-sat_number sat_names.Sqinc = 0
-sat_number sat_names.Uqinc = 1
-sat_number sat_names.Sqdec = 2
-sat_number sat_names.Uqdec = 3
-
 abbrev pub sat_named : ℕ → SatOp
 sat_named k = get_or (sat_names.Sqinc ∷ sat_names.Uqinc ∷ sat_names.Sqdec ∷ sat_names.Uqdec ∷ []) k sat_names.Sqinc
-
-abbrev pub add_length_number : AddLengthOp → ℕ
-add_length_number add_length_names.Addvl = 0
-add_length_number add_length_names.Addpl = 1
 
 abbrev pub add_length_named : ℕ → AddLengthOp
 add_length_named k = get_or (add_length_names.Addvl ∷ add_length_names.Addpl ∷ []) k add_length_names.Addvl
 
-abbrev pub insert_number : InsertOp → ℕ
-insert_number insert_names.InsrR = 0
-insert_number insert_names.InsrV = 1
-
 abbrev pub insert_named : ℕ → InsertOp
 insert_named k = get_or (insert_names.InsrR ∷ insert_names.InsrV ∷ []) k insert_names.InsrR
-
-abbrev pub unpack_number : UnpackOp → ℕ
-unpack_number unpack_names.Sunpklo = 0
-unpack_number unpack_names.Sunpkhi = 1
-unpack_number unpack_names.Uunpklo = 2
-unpack_number unpack_names.Uunpkhi = 3
 
 abbrev pub unpack_named : ℕ → UnpackOp
 unpack_named k = get_or (unpack_names.Sunpklo ∷ unpack_names.Sunpkhi ∷ unpack_names.Uunpklo ∷ unpack_names.Uunpkhi ∷ []) k unpack_names.Sunpklo
 
-abbrev pub interleave_number : InterleaveOp → ℕ
-interleave_number interleave_names.Zip1 = 0
-interleave_number interleave_names.Zip2 = 1
-interleave_number interleave_names.Uzp1 = 2
-interleave_number interleave_names.Uzp2 = 3
-interleave_number interleave_names.Trn1 = 4
-interleave_number interleave_names.Trn2 = 5
-
 abbrev pub interleave_named : ℕ → InterleaveOp
 interleave_named k = get_or (interleave_names.Zip1 ∷ interleave_names.Zip2 ∷ interleave_names.Uzp1 ∷ interleave_names.Uzp2 ∷ interleave_names.Trn1 ∷ interleave_names.Trn2 ∷ []) k interleave_names.Zip1
-
-abbrev pub unpack_p_number : UnpackPOp → ℕ
-unpack_p_number unpack_p_names.Punpklo = 0
-unpack_p_number unpack_p_names.Punpkhi = 1
 
 abbrev pub unpack_p_named : ℕ → UnpackPOp
 unpack_p_named k = get_or (unpack_p_names.Punpklo ∷ unpack_p_names.Punpkhi ∷ []) k unpack_p_names.Punpklo
 
-abbrev pub copy_reg_number : CopyRegOp → ℕ
-copy_reg_number copy_reg_names.CpyR = 0
-copy_reg_number copy_reg_names.CpyV = 1
-
 abbrev pub copy_reg_named : ℕ → CopyRegOp
 copy_reg_named k = get_or (copy_reg_names.CpyR ∷ copy_reg_names.CpyV ∷ []) k copy_reg_names.CpyR
-
-abbrev pub last_number : LastOp → ℕ
-last_number last_names.LastaR = 0
-last_number last_names.LastbR = 1
-last_number last_names.LastaV = 2
-last_number last_names.LastbV = 3
 
 abbrev pub last_named : ℕ → LastOp
 last_named k = get_or (last_names.LastaR ∷ last_names.LastbR ∷ last_names.LastaV ∷ last_names.LastbV ∷ []) k last_names.LastaR
 
-abbrev pub cond_last_number : CondLastOp → ℕ
-cond_last_number cond_last_names.ClastaR = 0
-cond_last_number cond_last_names.ClastbR = 1
-cond_last_number cond_last_names.ClastaV = 2
-cond_last_number cond_last_names.ClastbV = 3
-cond_last_number cond_last_names.ClastaZ = 4
-cond_last_number cond_last_names.ClastbZ = 5
-
 abbrev pub cond_last_named : ℕ → CondLastOp
 cond_last_named k = get_or (cond_last_names.ClastaR ∷ cond_last_names.ClastbR ∷ cond_last_names.ClastaV ∷ cond_last_names.ClastbV ∷ cond_last_names.ClastaZ ∷ cond_last_names.ClastbZ ∷ []) k cond_last_names.ClastaR
-
-abbrev pub cmp_vec_number : CmpVecOp → ℕ
-cmp_vec_number cmp_vec_names.Cmphs = 0
-cmp_vec_number cmp_vec_names.Cmphi = 1
-cmp_vec_number cmp_vec_names.Cmpge = 2
-cmp_vec_number cmp_vec_names.Cmpgt = 3
-cmp_vec_number cmp_vec_names.Cmpeq = 4
-cmp_vec_number cmp_vec_names.Cmpne = 5
 
 abbrev pub cmp_vec_named : ℕ → CmpVecOp
 cmp_vec_named k = get_or (cmp_vec_names.Cmphs ∷ cmp_vec_names.Cmphi ∷ cmp_vec_names.Cmpge ∷ cmp_vec_names.Cmpgt ∷ cmp_vec_names.Cmpeq ∷ cmp_vec_names.Cmpne ∷ []) k cmp_vec_names.Cmphs
 
-abbrev pub cmp_wide_number : CmpWideOp → ℕ
-cmp_wide_number cmp_wide_names.Cmpeq = 0
-cmp_wide_number cmp_wide_names.Cmpne = 1
-cmp_wide_number cmp_wide_names.Cmpge = 2
-cmp_wide_number cmp_wide_names.Cmpgt = 3
-cmp_wide_number cmp_wide_names.Cmplt = 4
-cmp_wide_number cmp_wide_names.Cmple = 5
-cmp_wide_number cmp_wide_names.Cmphs = 6
-cmp_wide_number cmp_wide_names.Cmphi = 7
-cmp_wide_number cmp_wide_names.Cmplo = 8
-cmp_wide_number cmp_wide_names.Cmpls = 9
-
 abbrev pub cmp_wide_named : ℕ → CmpWideOp
 cmp_wide_named k = get_or (cmp_wide_names.Cmpeq ∷ cmp_wide_names.Cmpne ∷ cmp_wide_names.Cmpge ∷ cmp_wide_names.Cmpgt ∷ cmp_wide_names.Cmplt ∷ cmp_wide_names.Cmple ∷ cmp_wide_names.Cmphs ∷ cmp_wide_names.Cmphi ∷ cmp_wide_names.Cmplo ∷ cmp_wide_names.Cmpls ∷ []) k cmp_wide_names.Cmpeq
-
-abbrev pub cmp_u_imm_number : CmpUImmOp → ℕ
-cmp_u_imm_number cmp_u_imm_names.Cmphs = 0
-cmp_u_imm_number cmp_u_imm_names.Cmphi = 1
-cmp_u_imm_number cmp_u_imm_names.Cmplo = 2
-cmp_u_imm_number cmp_u_imm_names.Cmpls = 3
 
 abbrev pub cmp_u_imm_named : ℕ → CmpUImmOp
 cmp_u_imm_named k = get_or (cmp_u_imm_names.Cmphs ∷ cmp_u_imm_names.Cmphi ∷ cmp_u_imm_names.Cmplo ∷ cmp_u_imm_names.Cmpls ∷ []) k cmp_u_imm_names.Cmphs
 
-abbrev pub cmp_s_imm_number : CmpSImmOp → ℕ
-cmp_s_imm_number cmp_s_imm_names.Cmpge = 0
-cmp_s_imm_number cmp_s_imm_names.Cmpgt = 1
-cmp_s_imm_number cmp_s_imm_names.Cmplt = 2
-cmp_s_imm_number cmp_s_imm_names.Cmple = 3
-cmp_s_imm_number cmp_s_imm_names.Cmpeq = 4
-cmp_s_imm_number cmp_s_imm_names.Cmpne = 5
-
 abbrev pub cmp_s_imm_named : ℕ → CmpSImmOp
 cmp_s_imm_named k = get_or (cmp_s_imm_names.Cmpge ∷ cmp_s_imm_names.Cmpgt ∷ cmp_s_imm_names.Cmplt ∷ cmp_s_imm_names.Cmple ∷ cmp_s_imm_names.Cmpeq ∷ cmp_s_imm_names.Cmpne ∷ []) k cmp_s_imm_names.Cmpge
-
-abbrev pub logic_p_number : LogicPOp → ℕ
-logic_p_number logic_p_names.And = 0
-logic_p_number logic_p_names.Bic = 1
-logic_p_number logic_p_names.Eor = 2
-logic_p_number logic_p_names.Orr = 3
-logic_p_number logic_p_names.Orn = 4
-logic_p_number logic_p_names.Nor = 5
-logic_p_number logic_p_names.Nand = 6
 
 abbrev pub logic_p_named : ℕ → LogicPOp
 logic_p_named k = get_or (logic_p_names.And ∷ logic_p_names.Bic ∷ logic_p_names.Eor ∷ logic_p_names.Orr ∷ logic_p_names.Orn ∷ logic_p_names.Nor ∷ logic_p_names.Nand ∷ []) k logic_p_names.And
 
-abbrev pub break_number : BreakOp → ℕ
-break_number break_names.Brka = 0
-break_number break_names.Brkb = 1
-
 abbrev pub break_named : ℕ → BreakOp
 break_named k = get_or (break_names.Brka ∷ break_names.Brkb ∷ []) k break_names.Brka
-
-abbrev pub break_pair_number : BreakPairOp → ℕ
-break_pair_number break_pair_names.Brkpa = 0
-break_pair_number break_pair_names.Brkpb = 1
 
 abbrev pub break_pair_named : ℕ → BreakPairOp
 break_pair_named k = get_or (break_pair_names.Brkpa ∷ break_pair_names.Brkpb ∷ []) k break_pair_names.Brkpa
 
-abbrev pub ptrue_number : PtrueOp → ℕ
-ptrue_number ptrue_names.Ptrue = 0
-ptrue_number ptrue_names.Ptrues = 1
-
 abbrev pub ptrue_named : ℕ → PtrueOp
 ptrue_named k = get_or (ptrue_names.Ptrue ∷ ptrue_names.Ptrues ∷ []) k ptrue_names.Ptrue
-
-abbrev pub read_ffr_number : ReadFfrOp → ℕ
-read_ffr_number read_ffr_names.Rdffr = 0
-read_ffr_number read_ffr_names.Rdffrs = 1
 
 abbrev pub read_ffr_named : ℕ → ReadFfrOp
 read_ffr_named k = get_or (read_ffr_names.Rdffr ∷ read_ffr_names.Rdffrs ∷ []) k read_ffr_names.Rdffr
 
-abbrev pub write_ffr_number : WriteFfrOp → ℕ
-write_ffr_number write_ffr_names.Setffr = 0
-write_ffr_number write_ffr_names.Wrffr = 1
-
 abbrev pub write_ffr_named : ℕ → WriteFfrOp
 write_ffr_named k = get_or (write_ffr_names.Setffr ∷ write_ffr_names.Wrffr ∷ []) k write_ffr_names.Setffr
-
-abbrev pub inc_p_number : IncPOp → ℕ
-inc_p_number inc_p_names.Incp = 0
-inc_p_number inc_p_names.Decp = 1
 
 abbrev pub inc_p_named : ℕ → IncPOp
 inc_p_named k = get_or (inc_p_names.Incp ∷ inc_p_names.Decp ∷ []) k inc_p_names.Incp
 
-abbrev pub while_number : WhileOp → ℕ
-while_number while_names.Whilelt = 0
-while_number while_names.Whilele = 1
-while_number while_names.Whilelo = 2
-while_number while_names.Whilels = 3
-
 abbrev pub while_named : ℕ → WhileOp
 while_named k = get_or (while_names.Whilelt ∷ while_names.Whilele ∷ while_names.Whilelo ∷ while_names.Whilels ∷ []) k while_names.Whilelt
-
-abbrev pub cterm_number : CtermOp → ℕ
-cterm_number cterm_names.Ctermeq = 0
-cterm_number cterm_names.Ctermne = 1
 
 abbrev pub cterm_named : ℕ → CtermOp
 cterm_named k = get_or (cterm_names.Ctermeq ∷ cterm_names.Ctermne ∷ []) k cterm_names.Ctermeq
 
-abbrev pub load_many_number : LoadManyOp → ℕ
-load_many_number load_many_names.Ld2 = 0
-load_many_number load_many_names.Ld3 = 1
-load_many_number load_many_names.Ld4 = 2
-
 abbrev pub load_many_named : ℕ → LoadManyOp
 load_many_named k = get_or (load_many_names.Ld2 ∷ load_many_names.Ld3 ∷ load_many_names.Ld4 ∷ []) k load_many_names.Ld2
-
-abbrev pub store_many_number : StoreManyOp → ℕ
-store_many_number store_many_names.St2 = 0
-store_many_number store_many_names.St3 = 1
-store_many_number store_many_names.St4 = 2
 
 abbrev pub store_many_named : ℕ → StoreManyOp
 store_many_named k = get_or (store_many_names.St2 ∷ store_many_names.St3 ∷ store_many_names.St4 ∷ []) k store_many_names.St2

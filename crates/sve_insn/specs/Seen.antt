@@ -2,7 +2,7 @@
 use Rattle.std.specs.Prelude.{Option, Some, None}
 use Rattle.emu_bits.specs.Rows.{Row}
 use Rattle.sve_insn.specs.declared.form.SveForm.{SveForm}
-use Rattle.sve_insn.specs.Table.{row_of}
+use Rattle.sve_insn.specs.Rows.{row_of}
 
 abbrev pub seen : Option SveForm → Option (Row SveForm)
 seen None = None

@@ -1,94 +1,55 @@
 //! The lines' conditions.
 ghost use Rattle.std.specs.Prelude.{◌≡◌};
 ghost use Rattle.emu_bits.specs.Fields.{bit};
-ghost use Rattle.sve_insn.specs.Names.{binary_number, reduce_number, unary_number, write_ffr_number};
+ghost use Rattle.sve_insn.specs.Numbers.{binary_number, reduce_number, unary_number, write_ffr_number};
 ghost use Rattle.sve_insn.specs.Conditions.{is_no_byte, is_no_doubleword, is_word_or_doubleword, is_halfword_or_word, binary_holds_for, has_tsz, unary_least_size, unary_holds_for, shifts_no_byte, has_bitmask, reduce_holds_for, has_lane_size, break_first_holds_for, write_ffr_holds_for, is_register, fits_lane, store_reg_holds_for, extends_to_word, extends_to_doubleword, gather_word_holds_for, gather_scaled_word_holds_for, gather_scaled_doubleword_holds_for};
-ghost use Rattle.sve_insn.specs.Table.{meets_form, meets_folds, meets_predicates, meets_memory};
+ghost use Rattle.sve_insn.specs.Rows.{meets_form};
 
 use crate::form::SveForm;
 use crate::ops::{BinaryOp, ReduceOp, UnaryOp, WriteFfrOp};
 use emu_bits::{Pred, Reg, U, bitmask};
 
-/// Whether a form meets its line's condition. It is inlined where a form is made, so that just its own line's condition is tested.
+/// The condition of each line that has one, over the fields that it reads; other lines have none.
+macro_rules! condition_of {
+    ($form:ident: $($($line:ident)*: $fields:tt => $holds:expr;)*) => {
+        match *$form {
+            $($(SveForm::$line $fields => $holds,)*)*
+            _ => true,
+        }
+    };
+}
+
+/// Whether a form meets its line's condition. It is inlined where a form is made, so that just its own line's condition
+/// is tested.
+#[tactic(auto, unfolding(crate::specs::Table::lines_open))]
 #[inline(always)]
 pub fn meets(form: &SveForm) -> bool
     ensures { result ≡ meets_form form.now }
 {
-    match *form {
-        SveForm::Binary { op, size, .. } => binary_holds(op, size),
-        SveForm::BinaryWide { size, .. } => is_no_doubleword(size),
-        SveForm::ShiftImm { tszh, tszl, .. } => has_tsz(tszh, tszl),
-        SveForm::Unary { op, size, .. } => unary_holds(op, size),
-        SveForm::PlainWide { size, .. } => is_no_doubleword(size),
-        SveForm::PlainShift { tszh, tszl, .. } => has_tsz(tszh, tszl),
-        SveForm::Dot { size, .. } => is_word_or_doubleword(size),
-        SveForm::WideImm { size, sh, .. } => shifts_no_byte(size, sh),
-        SveForm::DupImm { size, sh, .. } => shifts_no_byte(size, sh),
-        SveForm::BitmaskZ { n, immr, imms, .. } => has_bitmask(n, immr, imms),
-        SveForm::CopyImm { size, sh, .. } => shifts_no_byte(size, sh),
-        _ => meets_folds(form),
-    }
-}
-
-/// Whether a form of folds, counts, permutes, predicates, or loads and stores meets its line's condition; others have none here.
-#[inline(always)]
-fn meets_folds(form: &SveForm) -> bool
-    ensures { result ≡ meets_folds form.now }
-{
-    match *form {
-        SveForm::Reduce { op, size, .. } => reduce_holds(op, size),
-        SveForm::IncZ { size, .. } => is_no_byte(size),
-        SveForm::SatZ { size, .. } => is_no_byte(size),
-        SveForm::DupLane { tsz, .. } => has_lane_size(tsz),
-        SveForm::Unpack { size, .. } => is_no_byte(size),
-        SveForm::Compact { size, .. } => is_word_or_doubleword(size),
-        _ => meets_predicates(form),
-    }
-}
-
-/// Whether a form of predicates, or of loads and stores, meets its line's condition; others have none here.
-#[inline(always)]
-fn meets_predicates(form: &SveForm) -> bool
-    ensures { result ≡ meets_predicates form.now }
-{
-    match *form {
-        SveForm::CmpWide { size, .. } => is_no_doubleword(size),
-        SveForm::Break { s, m, .. } => break_first_holds(s, m),
-        SveForm::WriteFfr { op, pn } => write_ffr_holds(op, pn),
-        SveForm::IncPZ { size, .. } => is_no_byte(size),
-        _ => meets_memory(form),
-    }
-}
-
-/// Whether a form of loads and stores meets its line's condition; others have none here.
-#[inline(always)]
-fn meets_memory(form: &SveForm) -> bool
-    ensures { result ≡ meets_memory form.now }
-{
-    match *form {
-        SveForm::LoadReg { rm, .. } => is_register(rm),
-        SveForm::LoadNtReg { rm, .. } => is_register(rm),
-        SveForm::LoadQuadReg { rm, .. } => is_register(rm),
-        SveForm::LoadManyReg { rm, .. } => is_register(rm),
-        SveForm::StoreImm { msz, size, .. } => fits_lane(msz, size),
-        SveForm::StoreReg { msz, size, rm, .. } => store_reg_holds(msz, size, rm),
-        SveForm::StoreNtReg { rm, .. } => is_register(rm),
-        SveForm::StoreManyReg { rm, .. } => is_register(rm),
-        SveForm::GatherSx { msz, u, .. } => gather_word_holds(msz, u),
-        SveForm::GatherSxScaled { msz, u, .. } => gather_scaled_word_holds(msz, u),
-        SveForm::GatherDx { msz, u, .. } => extends_to_doubleword(msz, u),
-        SveForm::GatherDxScaled { msz, u, .. } => gather_scaled_doubleword_holds(msz, u),
-        SveForm::GatherD { msz, u, .. } => extends_to_doubleword(msz, u),
-        SveForm::GatherDScaled { msz, u, .. } => gather_scaled_doubleword_holds(msz, u),
-        SveForm::GatherSv { msz, u, .. } => gather_word_holds(msz, u),
-        SveForm::GatherDv { msz, u, .. } => extends_to_doubleword(msz, u),
-        SveForm::ScatterSx { msz, .. } => is_no_doubleword(msz),
-        SveForm::ScatterSxScaled { msz, .. } => is_halfword_or_word(msz),
-        SveForm::ScatterDxScaled { msz, .. } => is_no_byte(msz),
-        SveForm::ScatterDScaled { msz, .. } => is_no_byte(msz),
-        SveForm::ScatterSv { msz, .. } => is_no_doubleword(msz),
-        _ => true,
-    }
+    condition_of!(form:
+        Binary: { op, size, .. } => binary_holds(op, size);
+        BinaryWide PlainWide CmpWide: { size, .. } => is_no_doubleword(size);
+        ShiftImm PlainShift: { tszh, tszl, .. } => has_tsz(tszh, tszl);
+        Unary: { op, size, .. } => unary_holds(op, size);
+        Dot Compact: { size, .. } => is_word_or_doubleword(size);
+        WideImm DupImm CopyImm: { size, sh, .. } => shifts_no_byte(size, sh);
+        BitmaskZ: { n, immr, imms, .. } => has_bitmask(n, immr, imms);
+        Reduce: { op, size, .. } => reduce_holds(op, size);
+        IncZ SatZ Unpack IncPZ: { size, .. } => is_no_byte(size);
+        DupLane: { tsz, .. } => has_lane_size(tsz);
+        Break: { s, m, .. } => break_first_holds(s, m);
+        WriteFfr: { op, pn } => write_ffr_holds(op, pn);
+        LoadReg LoadNtReg LoadQuadReg LoadManyReg StoreNtReg StoreManyReg: { rm, .. } => is_register(rm);
+        StoreImm: { msz, size, .. } => fits_lane(msz, size);
+        StoreReg: { msz, size, rm, .. } => store_reg_holds(msz, size, rm);
+        GatherSx GatherSv: { msz, u, .. } => gather_word_holds(msz, u);
+        GatherSxScaled: { msz, u, .. } => gather_scaled_word_holds(msz, u);
+        GatherDx GatherD GatherDv: { msz, u, .. } => extends_to_doubleword(msz, u);
+        GatherDxScaled GatherDScaled: { msz, u, .. } => gather_scaled_doubleword_holds(msz, u);
+        ScatterSx ScatterSv: { msz, .. } => is_no_doubleword(msz);
+        ScatterSxScaled: { msz, .. } => is_halfword_or_word(msz);
+        ScatterDxScaled ScatterDScaled: { msz, .. } => is_no_byte(msz);
+    )
 }
 
 /// Whether lanes or elements of memory aren't bytes.

@@ -2,7 +2,7 @@
 ghost use Rattle.std.specs.Prelude.{◌≡◌, ◌<◌, Some, None, MatchOption, get_or, length};
 ghost use Rattle.emu_bits.specs.Rows.{number_of};
 ghost use Rattle.sve_insn.specs.Folds.{reduce, inc_x, inc_z, sat_x, sat_z, add_length, insert_scalar, unpack, interleave, interleave_p, unpack_p, copy_reg, last_active, cond_last};
-ghost use Rattle.sve_insn.specs.Names.{add_length_number, cond_last_number, copy_reg_number, inc_number, insert_number, interleave_number, last_number, reduce_number, sat_number, unpack_number, unpack_p_number};
+ghost use Rattle.sve_insn.specs.Numbers.{add_length_number, cond_last_number, copy_reg_number, inc_number, insert_number, interleave_number, last_number, reduce_number, sat_number, unpack_number, unpack_p_number};
 
 use crate::ops::{
     AddLengthOp, CondLastOp, CopyRegOp, IncOp, InsertOp, InterleaveOp, LastOp, ReduceOp, SatOp,

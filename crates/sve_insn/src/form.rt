@@ -1,6 +1,6 @@
 //! The forms, and instructions that meet their conditions.
 ghost use Rattle.std.specs.Prelude.{◌≡◌, MatchOption, true, false};
-ghost use Rattle.sve_insn.specs.Table.{meets_form};
+ghost use Rattle.sve_insn.specs.Rows.{meets_form};
 
 use crate::conditions::meets;
 use crate::ops::{
@@ -301,7 +301,7 @@ pub struct Sve {
 impl Model for Sve {
     ghost use Rattle.std.specs.Prelude.{IsTrue};
     ghost use Rattle.sve_insn.specs.declared.form.SveForm.{SveForm};
-    ghost use Rattle.sve_insn.specs.Table.{meets_form};
+    ghost use Rattle.sve_insn.specs.Rows.{meets_form};
 
     ghost Value = { SveForm };
 

@@ -2,7 +2,7 @@
 ghost use Rattle.std.specs.Prelude.{◌≡◌, ◌<◌, Some, None, MatchOption, get_or, length};
 ghost use Rattle.emu_bits.specs.Rows.{number_of};
 ghost use Rattle.sve_insn.specs.Lanes.{binary, binary_wide, shift_imm, unary, mul_add_z, mul_add_d, plain, logic_z, plain_wide, plain_shift, index_z, dot, dot_indexed, wide_imm, min_max_imm, bitmask_z};
-ghost use Rattle.sve_insn.specs.Names.{binary_number, bitmask_z_number, dot_number, dot_indexed_number, index_number, logic_z_number, min_max_imm_number, mul_add_d_number, mul_add_z_number, plain_number, shift_number, shift_imm_number, unary_number, wide_imm_number};
+ghost use Rattle.sve_insn.specs.Numbers.{binary_number, bitmask_z_number, dot_number, dot_indexed_number, index_number, logic_z_number, min_max_imm_number, mul_add_d_number, mul_add_z_number, plain_number, shift_number, shift_imm_number, unary_number, wide_imm_number};
 
 use crate::ops::{
     BinaryOp, BitmaskZOp, DotIndexedOp, DotOp, IndexOp, LogicZOp, MinMaxImmOp, MulAddDOp,

@@ -10,11 +10,6 @@ pub mod memory_words;
 pub mod ops;
 pub mod predicate_words;
 
-ghost use Rattle.std.specs.Prelude.{◌≡◌};
-ghost use Rattle.emu_bits.specs.Rows.{meets};
-ghost use Rattle.sve_insn.specs.declared.form.SveForm.{SveForm};
-ghost use Rattle.sve_insn.specs.Table.{row_of, meets_form};
-
 pub use form::{Sve, SveForm};
 pub use ops::{
     AddLengthOp, BinaryOp, BitmaskZOp, BreakOp, BreakPairOp, CmpSImmOp, CmpUImmOp, CmpVecOp,
@@ -23,8 +18,3 @@ pub use ops::{
     MulAddZOp, PlainOp, PtrueOp, ReadFfrOp, ReduceOp, SatOp, ShiftImmOp, ShiftOp, StoreManyOp,
     UnaryOp, UnpackOp, UnpackPOp, WhileOp, WideImmOp, WriteFfrOp,
 };
-
-/// The condition that a form meets is its line's in the table.
-pub fn conditions_are_the_lines()
-    ensures { (f : SveForm) → meets (row_of f) ≡ meets_form f }
-{}

@@ -1,6 +1,6 @@
 //! The lines of the table, and their places in it by name.
 ghost use Rattle.std.specs.Prelude.{◌≡◌};
-ghost use Rattle.sve_insn.specs.Table.{line_number};
+ghost use Rattle.sve_insn.specs.Rows.{line_number};
 
 use crate::form::SveForm;
 

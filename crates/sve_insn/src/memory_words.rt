@@ -2,7 +2,7 @@
 ghost use Rattle.std.specs.Prelude.{◌≡◌, ◌<◌, Some, None, MatchOption, get_or, length};
 ghost use Rattle.emu_bits.specs.Rows.{number_of};
 ghost use Rattle.sve_insn.specs.Memory.{load_many_imm, load_many_reg, store_many_imm, store_many_reg};
-ghost use Rattle.sve_insn.specs.Names.{load_many_number, store_many_number};
+ghost use Rattle.sve_insn.specs.Numbers.{load_many_number, store_many_number};
 
 use crate::ops::{LoadManyOp, StoreManyOp};
 use emu_bits::Word;

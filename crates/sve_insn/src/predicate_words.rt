@@ -2,7 +2,7 @@
 ghost use Rattle.std.specs.Prelude.{◌≡◌, ◌<◌, Some, None, MatchOption, get_or, length};
 ghost use Rattle.emu_bits.specs.Rows.{number_of};
 ghost use Rattle.sve_insn.specs.Predicates.{cmp_vec, cmp_wide, cmp_u_imm, cmp_s_imm, logic_p, break_first, break_pair, ptrue, read_ffr, write_ffr, inc_p, inc_p_z, while_compare, cterm};
-ghost use Rattle.sve_insn.specs.Names.{break_number, break_pair_number, cmp_s_imm_number, cmp_u_imm_number, cmp_vec_number, cmp_wide_number, cterm_number, inc_p_number, logic_p_number, ptrue_number, read_ffr_number, while_number, write_ffr_number};
+ghost use Rattle.sve_insn.specs.Numbers.{break_number, break_pair_number, cmp_s_imm_number, cmp_u_imm_number, cmp_vec_number, cmp_wide_number, cterm_number, inc_p_number, logic_p_number, ptrue_number, read_ffr_number, while_number, write_ffr_number};
 
 use crate::ops::{
     BreakOp, BreakPairOp, CmpSImmOp, CmpUImmOp, CmpVecOp, CmpWideOp, CtermOp, IncPOp, LogicPOp,

@@ -4,13 +4,13 @@ ghost use Rattle.sve_insn.specs.declared.form.SveForm.{SveForm};
 ghost use Rattle.sve_effects.specs.VectorData as table;
 ghost use Rattle.sve_effects.specs.Effects as effects;
 ghost use Rattle.sve_lanes.specs.Groups.{is_copy};
-ghost use Rattle.vec_model.specs.Lanes.{IsLaneSize};
+ghost use Rattle.vec_model.specs.LaneSizes.{IsLaneSize};
 
 use crate::fields::wide_signed;
 use core_regs::Core;
 use emu_bits::{Pred, PredLow, Reg, U};
+use lane_kernels::register_words::{Chunks, Local, merging, plain, zeroing};
 use lane_kernels::sources::{LaneOf, Number, Select};
-use lane_kernels::words::{Chunks, Local, merging, plain, zeroing};
 use sve_effects::lane_bits;
 use sve_insn::{Sve, SveForm};
 use vec_regs::VecRegs;

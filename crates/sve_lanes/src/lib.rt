@@ -1,6 +1,6 @@
 //! What the SVE rows that work lane by lane do to the vector registers.
 //!
-//! A row reads the lanes of its operands, works each out by its element function, and writes its destination once; how it goes
+//! A row reads the lanes of its operands, works each out by its function, and writes its destination once; how it goes
 //! over the lanes stands in one place for all rows.
 #![tactic(auto)]
 

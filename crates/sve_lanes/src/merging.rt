@@ -5,7 +5,7 @@ ghost use Rattle.sve_effects.specs.Effects as effects;
 ghost use Rattle.sve_lanes.specs.Groups.{is_merging};
 
 use crate::fields::{shift_amount, shift_bits, tsz_of};
-use crate::names::shift_imm_element;
+use crate::names::shift_imm_lane_op;
 use crate::operations::{
     merging_covered, merging_exchanged, merging_number, merging_one, merging_two,
 };
@@ -129,7 +129,7 @@ fn shift_imm(
 {
     let tsz = tsz_of(tszh, tszl);
     let e = shift_bits(tsz);
-    let n = shift_amount(shift_imm_element(op), tsz, imm3);
+    let n = shift_amount(shift_imm_lane_op(op), tsz, imm3);
     let pg = pg.register();
     match op {
         ShiftImmOp::Asr => merging_number(vec, e, pg, zdn, n, Asr),

@@ -1,7 +1,7 @@
 //! Products added to lanes or subtracted from them.
 ghost use Rattle.std.specs.Prelude.{◌≡◌, ◌/◌, ◌%◌, ◌<◌, ◌^◌, true};
 ghost use Rattle.sve_insn.specs.declared.form.SveForm.{SveForm};
-ghost use Rattle.vec_model.specs.Lanes.{IsLaneSize};
+ghost use Rattle.vec_model.specs.LaneSizes.{IsLaneSize};
 ghost use Rattle.sve_effects.specs.VectorData as table;
 ghost use Rattle.sve_effects.specs.Effects as effects;
 ghost use Rattle.sve_lanes.specs.Groups.{is_product};
@@ -11,14 +11,15 @@ use crate::operations::{merging_three, plain_indexed};
 use core_regs::Core;
 use emu_bits::{PredLow, Reg, U};
 use lane_kernels::LastFirst;
+use lane_kernels::register_words::plain;
 use lane_kernels::sources::Map3;
-use lane_kernels::words::plain;
 use lane_ops::{MultiplyAdd, MultiplySubtract, Sdot, Udot};
 use sve_effects::lane_bits;
 use sve_insn::{DotIndexedOp, DotOp, MulAddDOp, MulAddZOp, Sve, SveForm};
 use vec_regs::VecRegs;
 
 /// Adds products to lanes, or subtracts them.
+#[tactic(auto, unfolding(sve_insn::specs::Lanes::dot))]
 #[inline(always)]
 pub(crate) fn exec(core: &Core, vec: &mut VecRegs, i: &Sve)
     requires { is_product i.now ≡ true }

@@ -5,7 +5,7 @@ ghost use Rattle.sve_effects.specs.Effects as effects;
 ghost use Rattle.sve_lanes.specs.Groups.{is_plain};
 
 use crate::fields::{shift_amount, shift_bits, tsz_of};
-use crate::names::shift_element;
+use crate::names::shift_lane_op;
 use crate::operations::{plain_covered, plain_number, plain_two, plain_two_apart};
 use core_regs::Core;
 use emu_bits::{Reg, U};
@@ -97,7 +97,7 @@ fn shift_imm(
 {
     let tsz = tsz_of(tszh, tszl);
     let e = shift_bits(tsz);
-    let n = shift_amount(shift_element(op), tsz, imm3);
+    let n = shift_amount(shift_lane_op(op), tsz, imm3);
     match op {
         ShiftOp::Asr => plain_number(vec, e, zd, zn, n, Asr),
         ShiftOp::Lsr => plain_number(vec, e, zd, zn, n, Lsr),

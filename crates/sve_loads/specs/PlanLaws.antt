@@ -7,7 +7,7 @@ use Rattle.sve_insn.specs.declared.form.SveForm.TheVariants.{GatherSx, GatherSxS
 use Rattle.emu_model.specs.Access.{Memory}
 use Rattle.emu_model.specs.State.{Core, Vectors}
 use Rattle.sve_effects.specs.declared.groups.Group.TheVariants.{Loads, Stores}
-use Rattle.sve_effects.specs.Row.{by_fault, same_group}
+use Rattle.sve_effects.specs.Effects.{by_fault, same_group}
 use Rattle.sve_effects.specs.Effects.{layout, vector_load, vector_store, loads_signed, is_contiguous_load, is_contiguous_store, first_fault, is_non_fault}
 use Rattle.element_loops.specs.Layouts.{layout_of}
 use Rattle.element_loops.specs.Planned.{load_by, store_by}

@@ -1,7 +1,7 @@
 //! Plans by how a row finds its elements.
 ghost use Rattle.std.specs.Prelude.{◌≡◌, ◌<◌, ◌/◌, None, false};
-ghost use Rattle.vec_model.specs.Lanes.{IsLaneSize};
-ghost use Rattle.sve_effects.specs.ElementLoop.{is_active};
+ghost use Rattle.vec_model.specs.LaneSizes.{IsLaneSize};
+ghost use Rattle.sve_effects.specs.LaneLoop.{is_active};
 ghost use Rattle.sve_effects.specs.FirstLast.{first_where};
 ghost use Rattle.element_loops.specs.Layouts.{IsPlan};
 ghost use Rattle.sve_loads.specs.Plans as table;

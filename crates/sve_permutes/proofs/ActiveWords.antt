@@ -3,11 +3,11 @@ use Rattle.std.proofs.Common.{◌≡◌, ◌<◌, ◌≤◌, ◌+◌, ◌-◌, �
 use Rattle.std.proofs.Math.Nat.{mod-mod, zero-div}
 use Rattle.std.proofs.lemmas.Bool.{cases_lt}
 use Rattle.std.proofs.lemmas.Nat.{shr-shr}
-use Rattle.emu_model.specs.Lengths.{IsVectorLength}
-use Rattle.emu_model.specs.Lists.{get_or-each}
-use Rattle.sve_effects.specs.FirstLast.{IsFirst, IsLast, MeetsNowhere}
+use Rattle.emu_model.specs.SoundState.{IsVectorLength}
+use Rattle.emu_model.specs.ListLaws.{get_or-each}
+use Rattle.sve_effects.specs.FirstLastLaws.{IsFirst, IsLast, MeetsNowhere}
 use Rattle.vec_model.specs.Active.{active}
-use Rattle.vec_model.specs.Lanes.{IsLaneSize}
+use Rattle.vec_model.specs.LaneSizes.{IsLaneSize}
 use Rattle.vec_regs.specs.Words.{bits_of, bit_of}
 use Rattle.vec_regs.proofs.Parts.{same_part}
 

@@ -4,10 +4,10 @@ use Rattle.std.proofs.Math.Nat.{mod-lt}
 use Rattle.std.proofs.lemmas.Bool.Decides.{nat_tests}
 use Rattle.std.proofs.lemmas.Nat.{div-add-mod', div_below}
 use Rattle.emu_bits.specs.Fields.{bit}
-use Rattle.emu_model.specs.Lengths.{IsVectorLength}
+use Rattle.emu_model.specs.SoundState.{IsVectorLength}
 use Rattle.sve_effects.specs.declared.places.Place.TheVariants.{FirstLane, SecondLane, Scalar}
 use Rattle.sve_effects.specs.Permute.{taken, in_turn, joined, zip_place, uzp_place, trn_place, insr_place}
-use Rattle.vec_model.specs.Lanes.{IsLaneSize}
+use Rattle.vec_model.specs.LaneSizes.{IsLaneSize}
 
 pub bit_small : (b : Bool) → bit b ≤ 1
 bit_small true = omega arith

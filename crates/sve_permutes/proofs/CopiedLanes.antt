@@ -1,10 +1,10 @@
 -- Lanes that are given by the same numbers.
 use Rattle.std.proofs.Common.{◌≡◌, ◌/◌, ◌%◌, ◌*◌, ◌^◌, ℕ, Bool, true, false, if◌then◌else◌, refl, ap}
-use Rattle.emu_model.specs.Lists.{each_same}
+use Rattle.emu_model.specs.ListLaws.{each_same}
 use Rattle.emu_model.specs.State.{Vectors}
 use Rattle.sve_effects.specs.declared.places.Place.{Place}
 use Rattle.sve_effects.specs.declared.places.Place.TheVariants.{FirstLane, Scalar}
-use Rattle.sve_effects.specs.ElementLoop.{lane_of, is_active, merging}
+use Rattle.sve_effects.specs.LaneLoop.{lane_of, is_active, merging}
 use Rattle.sve_effects.specs.Permute.{taken, copy_place}
 use Rattle.sve_effects.specs.PermuteRows.{moved}
 use Rattle.vec_model.specs.Lanes.{with_z, with_lanes, byte_in}

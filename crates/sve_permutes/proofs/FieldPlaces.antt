@@ -3,21 +3,22 @@ use Rattle.std.proofs.Common.{◌≡◌, ◌≢◌, ◌<◌, ◌≤◌, ◌+◌,
 use Rattle.std.proofs.lemmas.Bool.{cases_lt, cases_eq, lt-ltb, le-ltb, eqb-true, true≢false, false≢true}
 use Rattle.std.proofs.lemmas.List.{get_or_past}
 use Rattle.emu_bits.specs.Fields.{bit}
-use Rattle.emu_model.specs.Lengths.{IsVectorLength}
-use Rattle.emu_model.specs.Lists.{length-each, get_or-each, each_same}
+use Rattle.emu_model.specs.SoundState.{IsVectorLength}
+use Rattle.emu_model.specs.ListLaws.{length-each, get_or-each, each_same}
 use Rattle.emu_model.specs.State.{Vectors}
 use Rattle.field_words.specs.Places.{IsField, zipped, every_second, joined, transposed, reversed}
 use Rattle.field_words.proofs.FourWords.{trn_end}
 use Rattle.sve_effects.specs.declared.places.Place.{Place}
 use Rattle.sve_effects.specs.declared.places.Place.TheVariants.{FirstLane, SecondLane, Scalar, Zero}
-use Rattle.sve_effects.specs.ElementLoop.{is_active}
+use Rattle.sve_effects.specs.LaneLoop.{is_active}
 use Rattle.sve_effects.specs.Permute.{taken, half_place, zip_place, uzp_place, trn_place}
 use Rattle.sve_effects.specs.PermuteRows.{moved_fields, after_unpack_p, is_high_p}
 use Rattle.sve_effects.specs.PermuteRows as model
 use Rattle.sve_insn.specs.declared.ops.UnpackPOp.{UnpackPOp}
 use Rattle.sve_permutes.specs.Fields.{bit_of_field}
 use Rattle.vec_model.proofs.FieldBits.{at_start}
-use Rattle.vec_model.specs.Lanes.{IsLaneSize, read_p, with_p, field_bit}
+use Rattle.vec_model.specs.Lanes.{read_p, with_p, field_bit}
+use Rattle.vec_model.specs.LaneSizes.{IsLaneSize}
 use Rattle.vec_regs.proofs.Views.{zero_bit}
 use Rattle.vec_regs.specs.Words.{bit_of, bits_of, AreClearFrom}
 

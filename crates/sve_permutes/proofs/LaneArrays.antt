@@ -11,16 +11,18 @@ use Rattle.std.specs.List.{range_with_len}
 use Rattle.std.specs.Simd.Lanes.{number_l}
 use Rattle.std.proofs.lemmas.Nat.{pow_pos}
 use Rattle.emu_bits.specs.Numbers.{signed, unsigned_int}
-use Rattle.emu_model.specs.Lengths.{IsVectorLength}
-use Rattle.emu_model.specs.Lists.{each, length-each}
+use Rattle.emu_model.specs.SoundState.{IsVectorLength}
+use Rattle.emu_model.specs.Lists.{each}
+use Rattle.emu_model.specs.ListLaws.{length-each}
 use Rattle.lane_kernels.proofs.PairLanes.{lane_read_small}
 use Rattle.lane_pack.specs.Bits.{lane_in}
 use Rattle.lane_permute.specs.Slices.{number_at, active_by}
 use Rattle.sve_effects.specs.declared.places.Place.{Place}
 use Rattle.sve_effects.specs.declared.places.Place.TheVariants.{FirstLane, SecondLane, Scalar, Zero}
-use Rattle.sve_effects.specs.Element.{extended_by}
+use Rattle.sve_effects.specs.Lane.{extended_by}
 use Rattle.sve_effects.specs.Permute.{taken, indexed_place}
-use Rattle.vec_model.specs.Lanes.{number, lane, IsLaneSize}
+use Rattle.vec_model.specs.Lanes.{number, lane}
+use Rattle.vec_model.specs.LaneSizes.{IsLaneSize}
 use Rattle.vec_model.proofs.LaneBytes.{within_bytes}
 use Rattle.vec_regs.specs.Packed.{packed}
 use Rattle.vec_model.specs.Active.{active}

@@ -1,11 +1,12 @@
 //! Permutes by active lanes, and the first and the last of them.
 ghost use Rattle.std.specs.Prelude.{◌≡◌, ◌<◌, ◌≤◌, ◌+◌, ◌*◌, ◌/◌, ℕ, IfSome, true, false};
-ghost use Rattle.sve_effects.specs.ElementLoop.{is_active};
-ghost use Rattle.sve_effects.specs.FirstLast.{first_where, last_where, IsFirstWhere, IsLastWhere};
+ghost use Rattle.sve_effects.specs.LaneLoop.{is_active};
+ghost use Rattle.sve_effects.specs.FirstLast.{first_where, last_where};
+ghost use Rattle.sve_effects.specs.FirstLastLaws.{IsFirstWhere, IsLastWhere};
 ghost use Rattle.sve_effects.specs.Permute as place;
 ghost use Rattle.sve_effects.specs.Permute.{compact_place, splice_place, lane_by_last};
 ghost use Rattle.sve_effects.specs.PermuteRows as model;
-ghost use Rattle.vec_model.specs.Lanes.{IsLaneSize};
+ghost use Rattle.vec_model.specs.LaneSizes.{IsLaneSize};
 
 use crate::slices::{compacted_lanes, spliced_lanes};
 use emu_bits::{Pred, Reg};

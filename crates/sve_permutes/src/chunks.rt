@@ -1,12 +1,12 @@
 //! Permutes of which 128 bits of each source, or of both, make 128 bits of the result.
 ghost use Rattle.std.specs.Prelude.{◌≡◌, ◌<◌, ◌≤◌, ◌+◌, ◌*◌, ◌/◌, ◌%◌, ◌^◌, ℕ, map, get_or, nat_eq, nat_lt, if◌then◌else◌};
 ghost use Rattle.emu_bits.specs.Fields.{bit};
-ghost use Rattle.sve_effects.specs.ElementLoop.{lane_of};
+ghost use Rattle.sve_effects.specs.LaneLoop.{lane_of};
 ghost use Rattle.sve_effects.specs.Permute.{taken, joined, zip_place, uzp_place, trn_place, rev_place, insr_place, ext_place};
 
 use emu_bits::Reg;
+use lane_kernels::register_words::{Chunks, Gives};
 use lane_kernels::sources::{LaneOf, Number};
-use lane_kernels::words::{Chunks, Gives};
 use lane_pack::{Lane, Quad};
 use lane_permute::{insr, rev, trn, uzp, window, zip};
 use vec_regs::VecRegs;

@@ -3,19 +3,19 @@ ghost use Rattle.std.specs.Prelude.{◌≡◌, ◌≤◌, ◌⊎◌, true};
 ghost use Rattle.sve_insn.specs.declared.form.SveForm.{SveForm};
 ghost use Rattle.sve_effects.specs.Counts as table;
 ghost use Rattle.sve_effects.specs.Effects as effects;
-ghost use Rattle.sve_effects.specs.ElementLoop as loops;
-ghost use Rattle.sve_effects.specs.ElementLoop.{lane_of};
+ghost use Rattle.sve_effects.specs.LaneLoop as loops;
+ghost use Rattle.sve_effects.specs.LaneLoop.{lane_of};
 ghost use Rattle.sve_permutes.specs.Groups.{is_count_of_lanes};
-ghost use Rattle.vec_model.specs.Lanes.{IsLaneSize};
+ghost use Rattle.vec_model.specs.LaneSizes.{IsLaneSize};
 
 use core_regs::Core;
 use emu_bits::{Reg, U, low_bits, sext, sign_extended};
+use lane_kernels::register_words::plain;
 use lane_kernels::sources::Map1;
-use lane_kernels::words::plain;
 use lane_kernels::{LaneWise2, WithNumber};
 use lane_ops::{Add, SqaddAmount, SqsubAmount, Sub, Uqadd, Uqsub};
 use pred_bits::pattern_count;
-use sve_effects::{ElementOp, lane_bits};
+use sve_effects::{LaneOp, lane_bits};
 use sve_elements::apply;
 use sve_insn::{AddLengthOp, IncOp, SatOp, Sve, SveForm};
 use vec_regs::VecRegs;
@@ -92,7 +92,7 @@ fn inc_x(core: &mut Core, vec: &VecRegs, op: IncOp, size: U<2>, imm4: U<4>, patt
     ensures vectors { vec.now ≡ (effects.across (SveForm.IncX op size imm4 pattern rdn) core.old vec.now).vectors }
 {
     let count = count_of(vec, size, imm4, pattern);
-    core.set_x(rdn, 64, apply(inc_element(op), 64, core.x(rdn), count));
+    core.set_x(rdn, 64, apply(inc_lane_op(op), 64, core.x(rdn), count));
 }
 
 fn inc_z(core: &Core, vec: &mut VecRegs, op: IncOp, size: U<2>, imm4: U<4>, pattern: U<5>, zdn: Reg)
@@ -177,7 +177,7 @@ fn sat_counted(op: SatOp, w: u32, x: u64, count: u64) -> u64
     requires { (w ≡ 32) ⊎ (w ≡ 64) }
     ensures { result ≡ table.sat_counted op w x count }
 {
-    let result = apply(sat_element(op), w, low_bits(x, w), count);
+    let result = apply(sat_lane_op(op), w, low_bits(x, w), count);
     if saturates_signed(op) {
         sign_extended(result, w, 64)
     } else {
@@ -204,23 +204,23 @@ fn length_of(vec: &VecRegs, op: AddLengthOp) -> u32
     }
 }
 
-fn inc_element(op: IncOp) -> ElementOp
-    ensures { result ≡ table.inc_element op }
+fn inc_lane_op(op: IncOp) -> LaneOp
+    ensures { result ≡ table.inc_lane_op op }
 {
     match op {
-        IncOp::Inc => ElementOp::Add,
-        IncOp::Dec => ElementOp::Sub,
+        IncOp::Inc => LaneOp::Add,
+        IncOp::Dec => LaneOp::Sub,
     }
 }
 
-fn sat_element(op: SatOp) -> ElementOp
-    ensures { result ≡ table.sat_element op }
+fn sat_lane_op(op: SatOp) -> LaneOp
+    ensures { result ≡ table.sat_lane_op op }
 {
     match op {
-        SatOp::Sqinc => ElementOp::SqaddAmount,
-        SatOp::Uqinc => ElementOp::Uqadd,
-        SatOp::Sqdec => ElementOp::SqsubAmount,
-        SatOp::Uqdec => ElementOp::Uqsub,
+        SatOp::Sqinc => LaneOp::SqaddAmount,
+        SatOp::Uqinc => LaneOp::Uqadd,
+        SatOp::Sqdec => LaneOp::SqsubAmount,
+        SatOp::Uqdec => LaneOp::Uqsub,
     }
 }
 

@@ -1,17 +1,18 @@
 //! A lane of a register in each lane of another.
 ghost use Rattle.std.specs.Prelude.{◌≡◌, ◌<◌, ◌≤◌, ◌≢◌, ◌+◌, ◌*◌, ◌/◌, ◌%◌, ◌^◌, if◌then◌else◌, nat_eq};
 ghost use Rattle.sve_insn.specs.declared.form.SveForm.{SveForm};
-ghost use Rattle.sve_effects.specs.ElementLoop.{lane_of};
+ghost use Rattle.sve_effects.specs.LaneLoop.{lane_of};
 ghost use Rattle.sve_effects.specs.Permute.{taken, indexed_place};
 ghost use Rattle.sve_effects.specs.PermuteRows as table;
 ghost use Rattle.sve_effects.specs.Effects as effects;
-ghost use Rattle.vec_model.specs.Lanes.{IsLaneSize, with_lanes};
+ghost use Rattle.vec_model.specs.Lanes.{with_lanes};
+ghost use Rattle.vec_model.specs.LaneSizes.{IsLaneSize};
 
 use crate::chunks::Turns;
 use crate::moves::{filled, indexed};
 use core_regs::Core;
 use emu_bits::{Reg, U};
-use lane_kernels::words::permuted;
+use lane_kernels::register_words::permuted;
 use vec_regs::VecRegs;
 
 /// Does a dup of a lane of 8 to 128 bits.

@@ -15,7 +15,7 @@ mod predicates;
 mod rows;
 mod single;
 mod slices;
-mod tables;
+mod table_lookup;
 
 ghost use Rattle.std.specs.Prelude.{◌≡◌, true};
 ghost use Rattle.sve_effects.specs.Effects.{is_across, across};

@@ -1,14 +1,15 @@
 //! A number in the lanes of a register, in all of them or in the active ones.
 ghost use Rattle.std.specs.Prelude.{◌≡◌, ◌≤◌, ◌*◌, ◌/◌};
 ghost use Rattle.emu_bits.specs.Fields.{bit};
-ghost use Rattle.sve_effects.specs.ElementLoop.{lane_of, is_active};
+ghost use Rattle.sve_effects.specs.LaneLoop.{lane_of, is_active};
 ghost use Rattle.sve_effects.specs.Permute.{taken, indexed_place, copy_place};
 ghost use Rattle.sve_effects.specs.PermuteRows as model;
-ghost use Rattle.vec_model.specs.Lanes.{IsLaneSize, with_lanes};
+ghost use Rattle.vec_model.specs.Lanes.{with_lanes};
+ghost use Rattle.vec_model.specs.LaneSizes.{IsLaneSize};
 
 use emu_bits::{Pred, Reg};
+use lane_kernels::register_words::{merging, plain};
 use lane_kernels::sources::Number;
-use lane_kernels::words::{merging, plain};
 use vec_regs::VecRegs;
 
 /// Writes a number to each lane of e bits of zd.

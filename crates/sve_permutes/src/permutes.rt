@@ -68,6 +68,7 @@ fn by_active(core: &Core, vec: &mut VecRegs, i: &Sve)
 }
 
 /// Does a permute of lanes of vector registers without a predicate.
+#[tactic(auto, unfolding(sve_insn::specs::Folds::unpack))]
 #[inline(always)]
 fn of_lanes(core: &Core, vec: &mut VecRegs, i: &Sve)
     requires { is_of_lanes i.now ≡ true }

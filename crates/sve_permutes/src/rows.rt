@@ -2,18 +2,18 @@
 ghost use Rattle.std.specs.Prelude.{◌≡◌, ◌<◌, ◌^◌, true};
 ghost use Rattle.sve_insn.specs.declared.form.SveForm.{SveForm};
 ghost use Rattle.sve_insn.specs.Conditions.{is_no_byte};
-ghost use Rattle.sve_effects.specs.ElementLoop.{lane_of};
+ghost use Rattle.sve_effects.specs.LaneLoop.{lane_of};
 ghost use Rattle.sve_effects.specs.PermuteRows as model;
 ghost use Rattle.sve_effects.specs.Effects as effects;
-ghost use Rattle.vec_model.specs.Lanes.{IsLaneSize};
+ghost use Rattle.vec_model.specs.LaneSizes.{IsLaneSize};
 
 use crate::chunks::{Extracted, Inserted, Reversed, Transposed, Unzipped, Zipped};
 use crate::slices::widened_lanes;
-use crate::tables::table;
+use crate::table_lookup::table;
 use crate::{active, moves, predicates};
 use core_regs::Core;
 use emu_bits::{Pred, PredLow, Reg, U};
-use lane_kernels::words::permuted;
+use lane_kernels::register_words::permuted;
 use sve_effects::lane_bits;
 use sve_insn::{CopyRegOp, InsertOp, InterleaveOp, UnpackOp, UnpackPOp};
 use vec_regs::VecRegs;

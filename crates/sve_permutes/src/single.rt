@@ -1,11 +1,12 @@
 //! Single lanes, named by the last active one.
 ghost use Rattle.std.specs.Prelude.{◌≡◌, ◌<◌, ◌/◌, IfSome};
 ghost use Rattle.sve_insn.specs.declared.form.SveForm.{SveForm};
-ghost use Rattle.sve_effects.specs.ElementLoop.{lane_of};
+ghost use Rattle.sve_effects.specs.LaneLoop.{lane_of};
 ghost use Rattle.sve_effects.specs.Permute as model;
 ghost use Rattle.sve_effects.specs.PermuteRows as table;
 ghost use Rattle.sve_effects.specs.Effects as effects;
-ghost use Rattle.vec_model.specs.Lanes.{IsLaneSize, with_low};
+ghost use Rattle.vec_model.specs.Lanes.{with_low};
+ghost use Rattle.vec_model.specs.LaneSizes.{IsLaneSize};
 
 use crate::active::{lane_by_last, last_active};
 use crate::moves::filled;

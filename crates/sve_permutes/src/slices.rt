@@ -1,9 +1,10 @@
 //! Registers as arrays of lanes, for the permutes that move runs of lanes, or gather active ones.
 ghost use Rattle.std.specs.Prelude.{◌≡◌, ◌<◌, ◌≤◌, ◌+◌, ◌*◌, ◌/◌, ◌%◌, ◌^◌, ℕ, map, get_or, length, false};
-ghost use Rattle.sve_effects.specs.ElementLoop.{lane_of, is_active};
+ghost use Rattle.sve_effects.specs.LaneLoop.{lane_of, is_active};
 ghost use Rattle.sve_effects.specs.Permute.{spliced, compact_place};
 ghost use Rattle.sve_effects.specs.PermuteRows as model;
-ghost use Rattle.vec_model.specs.Lanes.{IsLaneSize, with_lanes};
+ghost use Rattle.vec_model.specs.Lanes.{with_lanes};
+ghost use Rattle.vec_model.specs.LaneSizes.{IsLaneSize};
 
 use emu_bits::{Pred, Reg};
 use lane_pack::{Lane, pack, unpack};

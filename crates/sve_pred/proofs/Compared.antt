@@ -3,15 +3,16 @@ use Rattle.std.proofs.Common.{◌≡◌, ◌<◌, ◌*◌, ◌/◌, ◌%◌, ℕ
 use Rattle.std.proofs.Math.Nat.{mod-eq_of_lt}
 use Rattle.std.proofs.lemmas.Bool.{cases_eq, lt-ltb, le-ltb}
 use Rattle.std.proofs.lemmas.Nat.{div-add-mod'}
-use Rattle.emu_model.specs.Lists.{each, get_or-each, each_same}
+use Rattle.emu_model.specs.Lists.{each}
+use Rattle.emu_model.specs.ListLaws.{get_or-each, each_same}
 use Rattle.emu_model.specs.State.{Core, Vectors}
 use Rattle.vec_model.proofs.FieldBits.{between}
 use Rattle.vec_model.specs.Active.{active}
 use Rattle.vec_model.specs.Lanes.{field_bit}
 use Rattle.vec_regs.specs.Words.{bit_of, bits_of, AreClearFrom}
-use Rattle.sve_effects.specs.declared.elements.ElementTest.{ElementTest}
+use Rattle.sve_effects.specs.declared.lane_functions.LaneTest.{LaneTest}
 use Rattle.sve_effects.specs.declared.predicates.LogicOp.TheVariants.{And}
-use Rattle.sve_effects.specs.Element.{element_test}
+use Rattle.sve_effects.specs.Lane.{lane_test}
 use Rattle.sve_effects.specs.Predicate.{logic}
 use Rattle.sve_effects.specs.PredicateRows.{put_compared, is_unsigned}
 use Rattle.sve_pred.specs.Compares.{answer, told, IsTold, IsOfLane}
@@ -19,10 +20,10 @@ use Rattle.sve_pred.specs.declared.compares.Operand.{Operand}
 use Rattle.sve_pred.specs.declared.compares.Operand.TheVariants.{Lane, Covering, Number}
 
 -- a number with the bits of a lane is itself modulo 2^e
-pub told_answer : (test : ElementTest) (e zn k : ℕ) (v : Vectors) (operand : Operand) → IsOfLane e operand → told (element_test test) (not (is_unsigned test)) e v zn operand k ≡ answer test e v zn operand k
+pub told_answer : (test : LaneTest) (e zn k : ℕ) (v : Vectors) (operand : Operand) → IsOfLane e operand → told (lane_test test) (not (is_unsigned test)) e v zn operand k ≡ answer test e v zn operand k
 told_answer test e zn k v (Lane zm) h = refl
 told_answer test e zn k v (Covering zm) h = refl
-told_answer test e zn k v (Number n) h = ap (element_test test e _) (mod-eq_of_lt h)
+told_answer test e zn k v (Number n) h = ap (lane_test test e _) (mod-eq_of_lt h)
 
 -- ---- the active ones of the lanes that are told
 
@@ -60,13 +61,13 @@ module _ (e m : ℕ) (g : List Bool) (words : List ℕ) (told answer : ℕ → B
 
 -- ---- the same operands
 
-pub same_compared : (e pg pn pd zn : ℕ) (t u : ElementTest) (a b : Operand) (c : Core) (v : Vectors) → pg ≡ pn → t ≡ u → a ≡ b
+pub same_compared : (e pg pn pd zn : ℕ) (t u : LaneTest) (a b : Operand) (c : Core) (v : Vectors) → pg ≡ pn → t ≡ u → a ≡ b
     → put_compared e pg pd (answer t e v zn a) c v ≡ put_compared e pn pd (answer u e v zn b) c v
 same_compared e pg pn pd zn t u a b c v g s o =
     ap (λ (p : ℕ). put_compared e p pd (answer t e v zn a) c v) g
-    ∙ ap (λ (s : ElementTest). put_compared e pn pd (answer s e v zn a) c v) s
+    ∙ ap (λ (s : LaneTest). put_compared e pn pd (answer s e v zn a) c v) s
     ∙ ap (λ (o : Operand). put_compared e pn pd (answer u e v zn o) c v) o
 
-pub same_told : (e f zn : ℕ) (t u : ElementTest) (a b : Operand) (v : Vectors) (words : List ℕ) → e ≡ f → t ≡ u → a ≡ b → IsTold e t v zn a words → IsTold f u v zn b words
+pub same_told : (e f zn : ℕ) (t u : LaneTest) (a b : Operand) (v : Vectors) (words : List ℕ) → e ≡ f → t ≡ u → a ≡ b → IsTold e t v zn a words → IsTold f u v zn b words
 same_told e f zn t u a b v words p q r h =
-    subst (λ (e : ℕ). IsTold e u v zn b words) p (subst (λ (t : ElementTest). IsTold e t v zn b words) q (subst (λ (a : Operand). IsTold e t v zn a words) r h))
+    subst (λ (e : ℕ). IsTold e u v zn b words) p (subst (λ (t : LaneTest). IsTold e t v zn b words) q (subst (λ (a : Operand). IsTold e t v zn a words) r h))

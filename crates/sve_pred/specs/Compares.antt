@@ -1,9 +1,9 @@
 -- The answers of compares, by their second operand: private functions alone cite this.
 use Rattle.std.specs.Prelude.{◌≡◌, ◌<◌, ℕ, ◌/◌, ◌%◌, ◌^◌, ◌&&◌, Bool, not, nat_lt, List}
 use Rattle.emu_model.specs.State.{Vectors}
-use Rattle.sve_effects.specs.declared.elements.ElementTest.{ElementTest}
-use Rattle.sve_effects.specs.Element.{element_test, extended_by}
-use Rattle.sve_effects.specs.ElementLoop.{lane_of, covering_lane}
+use Rattle.sve_effects.specs.declared.lane_functions.LaneTest.{LaneTest}
+use Rattle.sve_effects.specs.Lane.{lane_test, extended_by}
+use Rattle.sve_effects.specs.LaneLoop.{lane_of, covering_lane}
 use Rattle.sve_effects.specs.PredicateRows.{is_unsigned}
 use Rattle.vec_model.specs.Lanes.{field_bit}
 use Rattle.vec_regs.specs.Words.{bit_of}
@@ -11,10 +11,10 @@ use Rattle.sve_pred.specs.declared.compares.Operand.{Operand}
 use Rattle.sve_pred.specs.declared.compares.Operand.TheVariants.{Lane, Covering, Number}
 
 -- the test of lane k of zn
-abbrev pub answer : ElementTest → ℕ → Vectors → ℕ → Operand → ℕ → Bool
-answer test e v zn (Lane zm) k = element_test test e (lane_of e v zn k) (lane_of e v zm k)
-answer test e v zn (Covering zm) k = element_test test 64 (extended_by (not (is_unsigned test)) 64 e (lane_of e v zn k)) (covering_lane e v zm k)
-answer test e v zn (Number n) k = element_test test e (lane_of e v zn k) n
+abbrev pub answer : LaneTest → ℕ → Vectors → ℕ → Operand → ℕ → Bool
+answer test e v zn (Lane zm) k = lane_test test e (lane_of e v zn k) (lane_of e v zm k)
+answer test e v zn (Covering zm) k = lane_test test 64 (extended_by (not (is_unsigned test)) 64 e (lane_of e v zn k)) (covering_lane e v zm k)
+answer test e v zn (Number n) k = lane_test test e (lane_of e v zn k) n
 
 -- what an operation tells of lane k of zn, a number taken modulo 2^e
 abbrev pub told : (ℕ → ℕ → ℕ → Bool) → Bool → ℕ → Vectors → ℕ → Operand → ℕ → Bool
@@ -28,8 +28,8 @@ IsToldBy entry signed e v zn operand words = (b : ℕ)
     → bit_of words b ≡ (nat_lt b (v.bits / 8) && field_bit (e / 8) (told entry signed e v zn operand) b)
 
 -- or a test
-abbrev pub IsTold : ℕ → ElementTest → Vectors → ℕ → Operand → List ℕ → Type 0
-IsTold e test = IsToldBy (element_test test) (not (is_unsigned test)) e
+abbrev pub IsTold : ℕ → LaneTest → Vectors → ℕ → Operand → List ℕ → Type 0
+IsTold e test = IsToldBy (lane_test test) (not (is_unsigned test)) e
 
 -- a number has the bits of a lane
 abbrev pub IsOfLane : ℕ → Operand → Type 0

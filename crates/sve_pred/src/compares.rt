@@ -2,7 +2,7 @@
 ghost use Rattle.std.specs.Prelude.{◌≡◌, ◌<◌, ◌^◌, true, length};
 ghost use Rattle.emu_bits.specs.Flags.{size_of};
 ghost use Rattle.emu_bits.specs.Numbers.{sign_extended};
-ghost use Rattle.sve_effects.specs.ElementLoop.{lane_bits};
+ghost use Rattle.sve_effects.specs.LaneLoop.{lane_bits};
 ghost use Rattle.sve_effects.specs.Effects.{predicate};
 ghost use Rattle.sve_effects.specs.PredicateRows as table;
 ghost use Rattle.sve_effects.specs.PredicateRows.{predicate_bits, put_compared};
@@ -11,7 +11,7 @@ ghost use Rattle.sve_insn.specs.declared.form.SveForm.TheVariants as form;
 ghost use Rattle.sve_pred.specs.Compares as model;
 ghost use Rattle.sve_pred.specs.declared.compares.Operand.TheVariants as second;
 ghost use Rattle.sve_pred.specs.Groups.{is_compare};
-ghost use Rattle.vec_model.specs.Lanes.{IsLaneSize};
+ghost use Rattle.vec_model.specs.LaneSizes.{IsLaneSize};
 
 use crate::registers::{bits, esize, read, set_test_lanes, write};
 use core_regs::Core;
@@ -20,69 +20,69 @@ use lane_kernels::LaneWiseTest2;
 use lane_kernels::told::{Compared, ComparedNumber, ComparedWide, told};
 use pred_bits::{LogicOp, PredBits};
 use sve_effects::lane_bits;
-use sve_elements::ElementTest;
+use sve_elements::LaneTest;
 use sve_insn::{CmpSImmOp, CmpUImmOp, CmpVecOp, CmpWideOp, Sve, SveForm};
 use vec_regs::VecRegs;
 
 /// The test of a name, of two lanes.
 #[inline(always)]
-fn vector_test(op: CmpVecOp) -> ElementTest
+fn vector_test(op: CmpVecOp) -> LaneTest
     ensures { result ≡ vector_test op }
 {
     match op {
-        CmpVecOp::Cmphs => ElementTest::Hs,
-        CmpVecOp::Cmphi => ElementTest::Hi,
-        CmpVecOp::Cmpge => ElementTest::Ge,
-        CmpVecOp::Cmpgt => ElementTest::Gt,
-        CmpVecOp::Cmpeq => ElementTest::Eq,
-        CmpVecOp::Cmpne => ElementTest::Ne,
+        CmpVecOp::Cmphs => LaneTest::Hs,
+        CmpVecOp::Cmphi => LaneTest::Hi,
+        CmpVecOp::Cmpge => LaneTest::Ge,
+        CmpVecOp::Cmpgt => LaneTest::Gt,
+        CmpVecOp::Cmpeq => LaneTest::Eq,
+        CmpVecOp::Cmpne => LaneTest::Ne,
     }
 }
 
 /// The test of a name, of a lane and a 64-bit lane.
 #[inline(always)]
-fn wide_test(op: CmpWideOp) -> ElementTest
+fn wide_test(op: CmpWideOp) -> LaneTest
     ensures { result ≡ wide_test op }
 {
     match op {
-        CmpWideOp::Cmpeq => ElementTest::Eq,
-        CmpWideOp::Cmpne => ElementTest::Ne,
-        CmpWideOp::Cmpge => ElementTest::Ge,
-        CmpWideOp::Cmpgt => ElementTest::Gt,
-        CmpWideOp::Cmplt => ElementTest::Lt,
-        CmpWideOp::Cmple => ElementTest::Le,
-        CmpWideOp::Cmphs => ElementTest::Hs,
-        CmpWideOp::Cmphi => ElementTest::Hi,
-        CmpWideOp::Cmplo => ElementTest::Lo,
-        CmpWideOp::Cmpls => ElementTest::Ls,
+        CmpWideOp::Cmpeq => LaneTest::Eq,
+        CmpWideOp::Cmpne => LaneTest::Ne,
+        CmpWideOp::Cmpge => LaneTest::Ge,
+        CmpWideOp::Cmpgt => LaneTest::Gt,
+        CmpWideOp::Cmplt => LaneTest::Lt,
+        CmpWideOp::Cmple => LaneTest::Le,
+        CmpWideOp::Cmphs => LaneTest::Hs,
+        CmpWideOp::Cmphi => LaneTest::Hi,
+        CmpWideOp::Cmplo => LaneTest::Lo,
+        CmpWideOp::Cmpls => LaneTest::Ls,
     }
 }
 
 /// The test of a name, of a lane and an unsigned immediate.
 #[inline(always)]
-fn unsigned_test(op: CmpUImmOp) -> ElementTest
+fn unsigned_test(op: CmpUImmOp) -> LaneTest
     ensures { result ≡ unsigned_test op }
 {
     match op {
-        CmpUImmOp::Cmphs => ElementTest::Hs,
-        CmpUImmOp::Cmphi => ElementTest::Hi,
-        CmpUImmOp::Cmplo => ElementTest::Lo,
-        CmpUImmOp::Cmpls => ElementTest::Ls,
+        CmpUImmOp::Cmphs => LaneTest::Hs,
+        CmpUImmOp::Cmphi => LaneTest::Hi,
+        CmpUImmOp::Cmplo => LaneTest::Lo,
+        CmpUImmOp::Cmpls => LaneTest::Ls,
     }
 }
 
 /// The test of a name, of a lane and a signed immediate.
 #[inline(always)]
-fn signed_test(op: CmpSImmOp) -> ElementTest
+fn signed_test(op: CmpSImmOp) -> LaneTest
     ensures { result ≡ signed_test op }
 {
     match op {
-        CmpSImmOp::Cmpge => ElementTest::Ge,
-        CmpSImmOp::Cmpgt => ElementTest::Gt,
-        CmpSImmOp::Cmplt => ElementTest::Lt,
-        CmpSImmOp::Cmple => ElementTest::Le,
-        CmpSImmOp::Cmpeq => ElementTest::Eq,
-        CmpSImmOp::Cmpne => ElementTest::Ne,
+        CmpSImmOp::Cmpge => LaneTest::Ge,
+        CmpSImmOp::Cmpgt => LaneTest::Gt,
+        CmpSImmOp::Cmplt => LaneTest::Lt,
+        CmpSImmOp::Cmple => LaneTest::Le,
+        CmpSImmOp::Cmpeq => LaneTest::Eq,
+        CmpSImmOp::Cmpne => LaneTest::Ne,
     }
 }
 
@@ -202,7 +202,7 @@ fn signed_told(vec: &VecRegs, op: CmpSImmOp, e: u32, zn: Reg, n: u64) -> [u64; 4
 #[inline(always)]
 fn compared(
     vec: &VecRegs,
-    test: ElementTest,
+    test: LaneTest,
     e: Esize,
     pg: Pred,
     zn: Reg,
@@ -223,7 +223,7 @@ fn compared(
 #[tactic(auto, using(crate::proofs::Lengths::lengths))]
 fn compared_lanes(
     vec: &VecRegs,
-    test: ElementTest,
+    test: LaneTest,
     size: U<2>,
     pg: Pred,
     zn: Reg,
@@ -243,7 +243,7 @@ fn compared_lanes(
 fn compare(
     core: &mut Core,
     vec: &mut VecRegs,
-    test: ElementTest,
+    test: LaneTest,
     size: U<2>,
     pg: Pred,
     zn: Reg,

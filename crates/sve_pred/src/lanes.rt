@@ -2,28 +2,29 @@
 ghost use Rattle.std.specs.Prelude.{◌≡◌, ◌⊎◌, ◌≤◌, ◌/◌, true, length};
 ghost use Rattle.emu_bits.specs.Numbers.{width_of};
 ghost use Rattle.emu_model.specs.State.{read_x};
-ghost use Rattle.sve_effects.specs.Element.{element};
+ghost use Rattle.sve_effects.specs.Lane.{lane_op};
 ghost use Rattle.sve_effects.specs.Effects.{predicate};
-ghost use Rattle.sve_effects.specs.ElementLoop.{lane_bits, lane_of};
+ghost use Rattle.sve_effects.specs.LaneLoop.{lane_bits, lane_of};
 ghost use Rattle.sve_effects.specs.PredicateRows.{predicate_bits, set_lanes_of, ptrue_flags, ones, while_of, while_result, counted_by, terminates, termination_flags};
 ghost use Rattle.sve_effects.specs.Pattern.{pattern_count};
 ghost use Rattle.sve_effects.specs.Predicate.{only_next, lanes_below, pred_test};
 ghost use Rattle.sve_insn.specs.declared.form.SveForm.TheVariants as form;
 ghost use Rattle.sve_pred.specs.Groups.{is_by_lanes};
 ghost use Rattle.sve_pred.specs.Patterns as model;
-ghost use Rattle.vec_model.specs.Lanes.{IsLaneSize, read_p, with_p, with_lanes};
+ghost use Rattle.vec_model.specs.Lanes.{read_p, with_p, with_lanes};
+ghost use Rattle.vec_model.specs.LaneSizes.{IsLaneSize};
 
 use crate::registers::{bits, esize, read, set_test_lanes, write};
 use core_regs::Core;
 use emu_bits::{Flags, Pred, Reg, U, low_bits};
+use lane_kernels::register_words::plain;
 use lane_kernels::sources::Map1;
-use lane_kernels::words::plain;
 use lane_kernels::{LaneWise2, WithNumber};
 use lane_ops::{Add, Sub};
 use pred_bits::{
     PredBits, WhileTest, all_lanes, first_lanes, next_tested, pattern_count, while_tested,
 };
-use sve_elements::{ElementOp, apply};
+use sve_elements::{LaneOp, apply};
 use sve_insn::{CtermOp, IncPOp, PtrueOp, Sve, SveForm, WhileOp};
 use vec_regs::VecRegs;
 
@@ -150,12 +151,12 @@ fn set_lanes(vec: &VecRegs, size: U<2>, pm: Pred) -> u64
 }
 
 /// Whether a count is added or subtracted.
-fn counted_by(op: IncPOp) -> ElementOp
+fn counted_by(op: IncPOp) -> LaneOp
     ensures { result ≡ counted_by op }
 {
     match op {
-        IncPOp::Incp => ElementOp::Add,
-        IncPOp::Decp => ElementOp::Sub,
+        IncPOp::Incp => LaneOp::Add,
+        IncPOp::Decp => LaneOp::Sub,
     }
 }
 
@@ -180,7 +181,7 @@ fn counted_lanes<F: LaneWise2 + Copy>(vec: &mut VecRegs, op: F, e: u32, n: u64, 
 
 /// `incp`, `decp` of a Z register.
 pub fn inc_p_z(vec: &mut VecRegs, op: IncPOp, size: U<2>, pm: Pred, zdn: Reg)
-    ensures { vec.new ≡ with_lanes (lane_bits size) (λ k. element (counted_by op) (lane_bits size) (lane_of (lane_bits size) vec.old zdn k) (set_lanes_of (lane_bits size) pm vec.old)) zdn vec.old }
+    ensures { vec.new ≡ with_lanes (lane_bits size) (λ k. lane_op (counted_by op) (lane_bits size) (lane_of (lane_bits size) vec.old zdn k) (set_lanes_of (lane_bits size) pm vec.old)) zdn vec.old }
 {
     let e = esize(size).bits();
     let n = set_lanes(vec, size, pm);

@@ -1,16 +1,18 @@
 -- The laws of the table.
 use Rattle.std.proofs.Common.{◌≡◌, ℕ, true, Option, Some, None, IfSome, ◌<◌, ◌^◌, ◌∙◌, ap, sym, refl}
-use Rattle.emu_bits.specs.Rows.{decode, encode, formed, instruction, IsShape, OneRow}
+use Rattle.emu_bits.specs.Rows.{decode, encode, formed, instruction}
+use Rattle.emu_bits.specs.RowLaws.{IsShape, OneRow}
 use Rattle.emu_bits.proofs.Encoding.{decode_encoded, encode_decoded, one_row_of}
 use Rattle.sve_insn.specs.declared.form.SveForm.{SveForm}
-use Rattle.sve_insn.specs.Table.{row_of, meets_form, sve_table, line_number}
+use Rattle.sve_insn.specs.Table.{sve_table}
+use Rattle.sve_insn.specs.Rows.{row_of, meets_form, line_number}
 use Rattle.sve_insn.specs.Seen.{seen}
-use Rattle.sve_insn.proofs.Forms.{form_again, same_condition}
+use Rattle.sve_insn.proofs.Forms.{form_again}
 use Rattle.sve_rows.proofs.Listed.{listed}
 use Rattle.sve_rows.proofs.Alone.{sound, alone}
 
 pub back : (f : SveForm) → IsShape (row_of f) → meets_form f ≡ true → decode sve_table (encode (row_of f)) ≡ Some (row_of f)
-back f v m = decode_encoded sve_table (line_number f) (row_of f) sound alone (listed f) (record { numbered = v.numbered; fits = v.fits; met = same_condition f ∙ m })
+back f v m = decode_encoded sve_table (line_number f) (row_of f) sound alone (listed f) (record { numbered = v.numbered; fits = v.fits; met = m })
 
 -- the same with the form in place of its row
 pub form_back : (f : SveForm) (w : ℕ) → decode sve_table w ≡ Some (row_of f) → instruction sve_table w ≡ Some f

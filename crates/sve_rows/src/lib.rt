@@ -5,8 +5,10 @@ mod dispatch;
 mod sve_words;
 
 ghost use Rattle.std.specs.Prelude.{◌≡◌, Some, IfSome};
-ghost use Rattle.emu_bits.specs.Rows.{decode, encode, instruction, OneRow};
-ghost use Rattle.sve_insn.specs.Table.{row_of, sve_table};
+ghost use Rattle.emu_bits.specs.Rows.{decode, encode, instruction};
+ghost use Rattle.emu_bits.specs.RowLaws.{OneRow};
+ghost use Rattle.sve_insn.specs.Table.{sve_table};
+ghost use Rattle.sve_insn.specs.Rows.{row_of};
 ghost use Rattle.sve_insn.specs.Seen.{seen};
 
 use dispatch::find;

@@ -1,7 +1,8 @@
 //! The word of each form, by groups of the table's lines.
 ghost use Rattle.std.specs.Prelude.{◌≡◌, true};
-ghost use Rattle.emu_bits.specs.Rows.{encode, IsShape};
-ghost use Rattle.sve_insn.specs.Table.{row_of, meets_form};
+ghost use Rattle.emu_bits.specs.Rows.{encode};
+ghost use Rattle.emu_bits.specs.RowLaws.{IsShape};
+ghost use Rattle.sve_insn.specs.Rows.{row_of, meets_form};
 
 use sve_insn::Sve;
 use sve_rows_data::data_word;

@@ -1,9 +1,10 @@
 //! Words of folds and counts, read and made.
 ghost use Rattle.std.specs.Prelude.{◌≡◌};
-ghost use Rattle.emu_bits.specs.Rows.{encode, row_in, IsShape};
+ghost use Rattle.emu_bits.specs.Rows.{encode, row_in};
+ghost use Rattle.emu_bits.specs.RowLaws.{IsShape};
 ghost use Rattle.sve_insn.specs.declared.form.SveForm.TheVariants.{Reduce, Count, IncX, IncZ, SatX, SatZ, AddLength, ReadLength};
 ghost use Rattle.sve_insn.specs.Folds.{reduce, count_elements, inc_x, inc_z, sat_x, sat_z, add_length, read_length};
-ghost use Rattle.sve_insn.specs.Table.{row_of};
+ghost use Rattle.sve_insn.specs.Rows.{row_of};
 ghost use Rattle.sve_insn.specs.Seen.{seen};
 
 use emu_bits::{PredLow, Reg, U, Word, flag};

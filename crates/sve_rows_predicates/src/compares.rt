@@ -1,9 +1,10 @@
 //! Words of compares, read and made.
 ghost use Rattle.std.specs.Prelude.{◌≡◌};
-ghost use Rattle.emu_bits.specs.Rows.{encode, row_in, IsShape};
+ghost use Rattle.emu_bits.specs.Rows.{encode, row_in};
+ghost use Rattle.emu_bits.specs.RowLaws.{IsShape};
 ghost use Rattle.sve_insn.specs.declared.form.SveForm.TheVariants.{CmpVec, CmpWide, CmpUImm, CmpSImm, While, Cterm};
 ghost use Rattle.sve_insn.specs.Predicates.{cmp_vec, cmp_wide, cmp_u_imm, cmp_s_imm, while_compare, cterm};
-ghost use Rattle.sve_insn.specs.Table.{row_of};
+ghost use Rattle.sve_insn.specs.Rows.{row_of};
 ghost use Rattle.sve_insn.specs.Seen.{seen};
 
 use emu_bits::{Pred, PredLow, Reg, U, flag};

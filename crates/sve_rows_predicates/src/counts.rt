@@ -1,9 +1,10 @@
 //! Words of counts of predicates, read and made.
 ghost use Rattle.std.specs.Prelude.{◌≡◌};
-ghost use Rattle.emu_bits.specs.Rows.{encode, row_in, IsShape};
+ghost use Rattle.emu_bits.specs.Rows.{encode, row_in};
+ghost use Rattle.emu_bits.specs.RowLaws.{IsShape};
 ghost use Rattle.sve_insn.specs.declared.form.SveForm.TheVariants.{CountP, IncP, IncPZ};
 ghost use Rattle.sve_insn.specs.Predicates.{count_p, inc_p, inc_p_z};
-ghost use Rattle.sve_insn.specs.Table.{row_of};
+ghost use Rattle.sve_insn.specs.Rows.{row_of};
 ghost use Rattle.sve_insn.specs.Seen.{seen};
 
 use emu_bits::{Pred, Reg, U, Word};

@@ -109,7 +109,7 @@ fn words_of_single_predicates(w: u32) -> Option<Sve>
     }
 }
 
-/// The first active element, constants, and FFR under a predicate.
+/// The first active lane, constants, and FFR under a predicate.
 #[inline(always)]
 fn words_of_whole_predicates(w: u32) -> Option<Sve>
     ensures { seen result ≡ decode (first_active ∷ ptrue ∷ pfalse ∷ read_ffr ∷ []) w }
@@ -126,7 +126,7 @@ fn words_of_whole_predicates(w: u32) -> Option<Sve>
     read_ffr(w)
 }
 
-/// The next active element, a constant with flags, and FFR whole.
+/// The next active lane, a constant with flags, and FFR whole.
 #[inline(always)]
 fn words_of_next_and_flags(w: u32) -> Option<Sve>
     ensures { seen result ≡ decode (next_active ∷ ptrue ∷ read_ffr_all ∷ []) w }

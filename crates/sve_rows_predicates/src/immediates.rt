@@ -1,9 +1,10 @@
 //! Words of operations with an immediate, read and made.
 ghost use Rattle.std.specs.Prelude.{◌≡◌};
-ghost use Rattle.emu_bits.specs.Rows.{encode, row_in, IsShape};
+ghost use Rattle.emu_bits.specs.Rows.{encode, row_in};
+ghost use Rattle.emu_bits.specs.RowLaws.{IsShape};
 ghost use Rattle.sve_insn.specs.declared.form.SveForm.TheVariants.{WideImm, MinMaxImm, DupImm};
 ghost use Rattle.sve_insn.specs.Lanes.{wide_imm, min_max_imm, dup_imm};
-ghost use Rattle.sve_insn.specs.Table.{row_of};
+ghost use Rattle.sve_insn.specs.Rows.{row_of};
 ghost use Rattle.sve_insn.specs.Seen.{seen};
 
 use emu_bits::{Reg, U, Word, flag};

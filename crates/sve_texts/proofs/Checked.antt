@@ -1,5 +1,6 @@
 -- The tests of the patterns, computed over the whole table.
-use Rattle.sve_texts.specs.Table.{texts_open, sve_lines, sve_patterns}
+use Rattle.sve_texts.specs.Table.{sve_lines, sve_patterns}
+use Rattle.sve_texts.specs.Opened.{texts_open}
 use Rattle.std.proofs.Common.{◌≡◌, true, refl}
 use Rattle.text_code.specs.Reads.{all_lines_sound}
 use Rattle.text_model.proofs.Tests.{all_readable, all_apart, all_written, all_aimed_well, all_reach_well}

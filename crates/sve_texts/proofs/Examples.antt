@@ -1,12 +1,14 @@
 -- Statements read, and refused.
-use Rattle.sve_texts.specs.Table.{texts_open, sve_patterns}
+use Rattle.sve_texts.specs.Table.{sve_patterns}
+use Rattle.sve_texts.specs.Opened.{texts_open}
 use Rattle.std.proofs.Common.{◌≡◌, ℕ, Result, Ok, Err, None, List, [], ◌∷◌, map, codes, is_some, refl}
 use Rattle.emu_bits.specs.Bitmask.{bitmask_of}
 use Rattle.emu_bits.specs.Rows.{decode}
 use Rattle.text_model.specs.declared.slots.Refusal.{Refusal}
 use Rattle.text_model.specs.declared.slots.Refusal.TheVariants.{UnknownName, BadOperands, OutOfRange}
 use Rattle.text_model.specs.Words.{dictionary}
-use Rattle.text_model.specs.Statement.{Statement, reads_text}
+use Rattle.text_model.specs.Statement.{Statement}
+use Rattle.text_model.specs.ReadBack.{reads_text}
 use Rattle.sve_insn.specs.Conditions.{is_no_byte, is_no_doubleword, is_word_or_doubleword, is_halfword_or_word, binary_holds_for, has_tsz, unary_least_size, unary_holds_for, shifts_no_byte, has_bitmask, reduce_holds_for, has_lane_size, break_first_holds_for, write_ffr_holds_for, is_register, fits_lane, store_reg_holds_for, extends_to_word, extends_to_doubleword, gather_word_holds_for, gather_scaled_word_holds_for, gather_scaled_doubleword_holds_for}
 use Rattle.sve_insn.specs.Predicates.{ptrue}
 use Rattle.sve_insn.specs.Table.{sve_table}

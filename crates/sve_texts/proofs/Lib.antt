@@ -5,3 +5,4 @@ pub mod Untargeted
 pub mod Examples
 pub mod ReadBack
 pub mod Numbered
+pub mod FormLines

@@ -1,6 +1,8 @@
 -- What reading the text of an instruction gives: computed over the table, and by the law of a table.
-use Rattle.sve_texts.specs.Table.{texts_open, memory_texts, data_texts, move_texts, sve_lines, sve_patterns}
-use Rattle.sve_insn.specs.Table.{lines_open, row_of, sve_table, line_number}
+use Rattle.sve_texts.specs.Table.{memory_texts, data_texts, move_texts, sve_lines, sve_patterns}
+use Rattle.sve_texts.specs.Opened.{texts_open}
+use Rattle.sve_insn.specs.Table.{lines_open, sve_table}
+use Rattle.sve_insn.specs.Rows.{row_of, line_number}
 use Rattle.std.proofs.Common.{◌≡◌, ℕ, zero, suc, ◌-◌, ◌*◌, ◌/◌, ◌%◌, ◌^◌, ◌<◌, ◌≤◌, ◌&&◌, Bool, true, false, Option, Some, None, Ok, List, [], ◌∷◌, get_or, bit_and, bit_or, nat_lt, nat_le, refl, sym, ap, ap₂, ◌∙◌, subst, arith, inl, inr, append-nil}
 use Rattle.std.proofs.lemmas.Bool.{cases_Bool, and_parts, and_from, false≢true, true≢false, leb-true, ltb-true}
 use Rattle.std.proofs.lemmas.Nat.{and_mask, or_lt}
@@ -8,16 +10,17 @@ use Rattle.std.proofs.Math.Nat.{mod-eq_of_lt}
 use Rattle.std.specs.Prelude.{is_some, unwrap_or}
 use Rattle.emu_bits.specs.Bitmask.{bitmask_of, element_log}
 use Rattle.emu_bits.specs.Fields.{field, bit}
-use Rattle.emu_bits.specs.Rows.{Place, ◌to◌, width, values, fill, Fit, Line, Row, row_in, line_at, IsRow}
+use Rattle.emu_bits.specs.Rows.{Place, ◌to◌, width, values, fill, Line, Row, row_in}
+use Rattle.emu_bits.specs.RowLaws.{Fit, line_at, IsRow}
 use Rattle.emu_bits.proofs.Encoding.{answer_of, row_of_encoded}
 use Rattle.emu_bits.proofs.Computed.{is_sound, are_sound}
 use Rattle.emu_bits.proofs.Places.{put_fits}
 use Rattle.text_model.specs.declared.slots.Kind.TheVariants.{Bitmask}
 use Rattle.text_model.specs.Slots.{joined}
 use Rattle.text_model.specs.Reading.{Pattern, is_canonical, all_canonical}
-use Rattle.text_model.specs.Statement.{reads_text, destination_of}
+use Rattle.text_model.specs.ReadBack.{reads_text, destination_of, reached, unaimed}
 use Rattle.text_model.specs.Text.{chosen, text_by, text}
-use Rattle.text_model.specs.Aim.{Reach, reach_of, reach_bits, reached, unaimed}
+use Rattle.text_model.specs.Aim.{Reach, reach_of, reach_bits}
 use Rattle.text_model.specs.Writing.{flat}
 use Rattle.text_model.proofs.Again.{pattern_at}
 use Rattle.text_model.proofs.Tables.{chosen_is, in_table_of, all_plain, plain_at, plain_canonical, IsLegible, table_law}

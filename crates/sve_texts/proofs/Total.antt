@@ -2,7 +2,8 @@
 use Rattle.std.proofs.Common.{◌≡◌, true, List, ◌++◌, refl}
 use Rattle.sve_insn.specs.Table.{sve_table}
 use Rattle.sve_texts.specs.Entry.{Entry}
-use Rattle.sve_texts.specs.Table.{memory_entries, data_entries, move_entries, predicate_entries, sve_lines, texts_open}
+use Rattle.sve_texts.specs.Table.{memory_entries, data_entries, move_entries, predicate_entries, sve_lines}
+use Rattle.sve_texts.specs.Opened.{texts_open}
 use Rattle.sve_texts.proofs.Shown.{are_total, AreShown, shown_by_test}
 
 abbrev entries : List Entry

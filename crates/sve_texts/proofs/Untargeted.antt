@@ -1,5 +1,6 @@
 -- No SVE instruction has a target: computed over the patterns, and what follows for reading.
-use Rattle.sve_texts.specs.Table.{texts_open, sve_patterns}
+use Rattle.sve_texts.specs.Table.{sve_patterns}
+use Rattle.sve_texts.specs.Opened.{texts_open}
 use Rattle.std.proofs.Common.{◌≡◌, ℕ, zero, suc, ◌&&◌, if◌then◌else◌, Bool, true, false, not, Option, Some, None, Result, Ok, Err, List, [], ◌∷◌, refl, sym, ap, ◌∙◌, inl, inr}
 use Rattle.std.proofs.lemmas.Bool.{cases_Bool, and_parts, or_parts, not-true, true≢false}
 use Rattle.emu_bits.specs.Rows.{Place}

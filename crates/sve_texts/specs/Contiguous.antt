@@ -9,8 +9,8 @@ use Rattle.text_model.specs.declared.slots.Shape.TheVariants.{Told}
 use Rattle.text_model.specs.declared.slots.Slot.{Slot}
 use Rattle.text_model.specs.Reading.{Pattern}
 use Rattle.text_model.specs.Writing.{◌to◌, plain, times, signed_times, of, counted, perhaps, inside, bracketed, braced, row, put_at}
-use Rattle.sve_texts.specs.Operands.{separated, all_sizes, z_class, letter, sized, register, pg, pg_zeroing}
-use Rattle.sve_texts.specs.Places.{loaded, stored, many, base, in_lengths, imm_place, reg_place}
+use Rattle.sve_texts.specs.Operands.{separated, all_sizes, z_class, letter, sized, pg, register, p_zeroing}
+use Rattle.sve_texts.specs.Places.{zt, loaded, stored, many, base, in_lengths, imm_place, reg_place}
 
 -- ---- loads of elements into lanes of any size
 
@@ -50,7 +50,7 @@ load_nf_texts = loads load_nf (codes "ldnf1") (put_at 21) (λ e. imm_place 1) 0 
 
 -- [Xn|SP{, #0}], times the bytes of an element
 abbrev pub element_place : ℕ → List Slot
-element_place e = bracketed (base ∷ perhaps ∷ inside 0 (counted (times (2 ^ e) (At (21 to 16)))) ∷ [])
+element_place e = let imm6_21_16 = 21 to 16 in bracketed (base ∷ perhaps ∷ inside 0 (counted (times (2 ^ e) (At imm6_21_16))) ∷ [])
 
 -- dtype stands at bits 24 to 23 and 14 to 13
 unfoldable pub load_one_texts : List Pattern
@@ -78,7 +78,7 @@ store_nt_reg_texts = store_same store_nt_reg (codes "stnt1") reg_place
 
 -- [Xn|SP{, #0}], 16 times imm4
 abbrev pub quad_place : List Slot
-quad_place = bracketed (base ∷ perhaps ∷ inside 0 (counted (signed_times 16 (At (19 to 16)))) ∷ [])
+quad_place = let imm4 = 19 to 16 in bracketed (base ∷ perhaps ∷ inside 0 (counted (signed_times 16 (At imm4))) ∷ [])
 
 unfoldable pub load_quad_imm_texts : List Pattern
 load_quad_imm_texts = load_same load_quad_imm (codes "ld1rq") (λ s. quad_place)
@@ -88,15 +88,12 @@ load_quad_reg_texts = load_same load_quad_reg (codes "ld1rq") reg_place
 
 -- ---- several registers: row k has k + 2
 
-abbrev pub several : List ℕ → ℕ → List ℕ
-several name s = name ++ letter s
-
 -- {Zt.T, Zu.T ..}, Pg/z, place
 abbrev pub load_several : {F : Type 0} → Line F → ℕ → List ℕ → (ℕ → List Slot) → List Pattern
-load_several l k name place = sized all_sizes (λ s. row l k (put_at 23 s) (name ++ letter s) (separated (many (k + 2) (z_class s) ∷ pg_zeroing ∷ place s ∷ [])) ∷ [])
+load_several l k name place = sized all_sizes (λ s. row l k (put_at 23 s) (name ++ letter s) (separated (many (k + 2) (z_class s) ∷ p_zeroing pg ∷ place s ∷ [])) ∷ [])
 
 abbrev pub store_several : {F : Type 0} → Line F → ℕ → List ℕ → (ℕ → List Slot) → List Pattern
-store_several l k name place = sized all_sizes (λ s. row l k (put_at 23 s) (name ++ letter s) (separated (many (k + 2) (z_class s) ∷ pg ∷ place s ∷ [])) ∷ [])
+store_several l k name place = sized all_sizes (λ s. row l k (put_at 23 s) (name ++ letter s) (separated (many (k + 2) (z_class s) ∷ register P pg ∷ place s ∷ [])) ∷ [])
 
 unfoldable pub load_many_imm_texts : List Pattern
 load_many_imm_texts =
@@ -122,7 +119,7 @@ store_many_reg_texts =
 
 abbrev pub store_lanes : {F : Type 0} → Line F → (ℕ → List Slot) → List Pattern
 store_lanes l place = sized all_sizes (λ m.
-    row l 0 (put_at 23 m) (codes "st1" ++ letter m) (separated (braced (of (Told (22 to 21) Lanes) (plain (4 to 0)) ∷ []) ∷ pg ∷ place m ∷ [])) ∷ [])
+    row l 0 (put_at 23 m) (codes "st1" ++ letter m) (separated (braced (of (Told (22 to 21) Lanes) (plain zt) ∷ []) ∷ register P pg ∷ place m ∷ [])) ∷ [])
 
 unfoldable pub store_imm_texts : List Pattern
 store_imm_texts = store_lanes store_imm (λ m. imm_place 1)
@@ -132,18 +129,18 @@ store_reg_texts = store_lanes store_reg reg_place
 
 -- ---- whole registers
 
--- [Xn|SP{, #0, mul vl}] with imm9
+-- [Xn|SP{, #0, mul vl}] with imm9h and imm9l
 abbrev pub whole_place : List Slot
 whole_place = bracketed (base ∷ in_lengths (counted (signed_times 1 (Two (21 to 16) (12 to 10)))))
 
 unfoldable pub load_z_texts : List Pattern
-load_z_texts = row load_z 0 0 (codes "ldr") (separated (register Z (4 to 0) ∷ whole_place ∷ [])) ∷ []
+load_z_texts = row load_z 0 0 (codes "ldr") (separated (register Z zt ∷ whole_place ∷ [])) ∷ []
 
 unfoldable pub load_p_texts : List Pattern
-load_p_texts = row load_p 0 0 (codes "ldr") (separated (register P (3 to 0) ∷ whole_place ∷ [])) ∷ []
+load_p_texts = let pt = 3 to 0 in row load_p 0 0 (codes "ldr") (separated (register P pt ∷ whole_place ∷ [])) ∷ []
 
 unfoldable pub store_z_texts : List Pattern
-store_z_texts = row store_z 0 0 (codes "str") (separated (register Z (4 to 0) ∷ whole_place ∷ [])) ∷ []
+store_z_texts = row store_z 0 0 (codes "str") (separated (register Z zt ∷ whole_place ∷ [])) ∷ []
 
 unfoldable pub store_p_texts : List Pattern
-store_p_texts = row store_p 0 0 (codes "str") (separated (register P (3 to 0) ∷ whole_place ∷ [])) ∷ []
+store_p_texts = let pt = 3 to 0 in row store_p 0 0 (codes "str") (separated (register P pt ∷ whole_place ∷ [])) ∷ []

@@ -10,22 +10,22 @@ use Rattle.text_model.specs.declared.slots.Shape.TheVariants.{Only}
 use Rattle.text_model.specs.declared.slots.Slot.{Slot}
 use Rattle.text_model.specs.Reading.{Pattern}
 use Rattle.text_model.specs.Writing.{◌to◌, plain, times, of, then, counted, amount, perhaps, inside, bracketed, row, put_at}
-use Rattle.sve_texts.specs.Operands.{letter, sized}
+use Rattle.sve_texts.specs.Operands.{letter, sized, zn, zm}
 use Rattle.sve_texts.specs.Places.{loaded, stored, base, scaled}
 
 -- ---- places; s is msz
 
--- [Xn|SP, Zm.T, uxtw], the extension by a bit
+-- [Xn|SP, Zm.T, uxtw], the extension by the field xs
 abbrev pub extended_place : Class → Bits → List Slot → List Slot
-extended_place lanes xs behind = bracketed (base ∷ then ∷ of (Only lanes) (plain (20 to 16)) ∷ then ∷ of (Only ExtendWord) (plain xs) ∷ behind)
+extended_place lanes xs behind = bracketed (base ∷ then ∷ of (Only lanes) (plain zm) ∷ then ∷ of (Only ExtendWord) (plain xs) ∷ behind)
 
 -- [Xn|SP, Zm.d, lsl #s]
 abbrev pub doubleword_place : ℕ → List Slot
-doubleword_place s = bracketed (base ∷ then ∷ of (Only Zd) (plain (20 to 16)) ∷ scaled s)
+doubleword_place s = bracketed (base ∷ then ∷ of (Only Zd) (plain zm) ∷ scaled s)
 
 -- [Zn.T{, #0}], imm5 times the bytes of an element
 abbrev pub vector_place : Class → ℕ → List Slot
-vector_place lanes s = bracketed (of (Only lanes) (plain (9 to 5)) ∷ perhaps ∷ inside 0 (counted (times (2 ^ s) (At (20 to 16)))) ∷ [])
+vector_place lanes s = let imm5 = 20 to 16 in bracketed (of (Only lanes) (plain zn) ∷ perhaps ∷ inside 0 (counted (times (2 ^ s) (At imm5))) ∷ [])
 
 -- ---- gathers
 

@@ -1,13 +1,15 @@
 -- The text of an SVE instruction, and what reading it gives.
-use Rattle.std.specs.Prelude.{◌≡◌, ℕ, ◌^◌, Bool, true, None, Ok, List, [], get_or, nat_lt, unwrap_or, is_some}
+use Rattle.std.specs.Prelude.{◌≡◌, ℕ, ◌^◌, Bool, true, Some, None, Ok, List, [], get_or, nat_lt, unwrap_or, is_some}
 use Rattle.emu_bits.specs.Bitmask.{element_log}
 use Rattle.emu_bits.specs.Fields.{bit}
-use Rattle.emu_bits.specs.Rows.{decode, encode}
+use Rattle.emu_bits.specs.Rows.{Line, Row, decode, encode, form_of, row_in}
+use Rattle.emu_bits.specs.RowLaws.{line_at}
 use Rattle.sve_insn.specs.declared.form.SveForm.{SveForm}
 use Rattle.sve_insn.specs.declared.form.SveForm.TheVariants.{BitmaskZ}
-use Rattle.sve_insn.specs.Table.{line_number, row_of, sve_table}
+use Rattle.sve_insn.specs.Table.{sve_table}
+use Rattle.sve_insn.specs.Rows.{line_number, row_of}
 use Rattle.text_model.specs.Reading.{Pattern}
-use Rattle.text_model.specs.Statement.{reads_text}
+use Rattle.text_model.specs.ReadBack.{reads_text}
 use Rattle.text_model.specs.Text.{text_of}
 use Rattle.sve_texts.specs.Table.{sve_lines, sve_patterns}
 
@@ -21,6 +23,11 @@ word_of f = encode (row_of f)
 -- the patterns of an instruction's line
 abbrev pub texts_of : SveForm → List Pattern
 texts_of f = get_or sve_lines (line_number f) []
+
+-- A word's form has the patterns of the line that holds the word.
+pub record TextsOfLines : Type 0 where
+  pub at : (k : ℕ) (l : Line SveForm) (w : ℕ) (r : Row SveForm)
+      → line_at sve_table k ≡ Some l → row_in l w ≡ Some r → texts_of (form_of r) ≡ get_or sve_lines k []
 
 -- The text of an instruction. None shows an address, so it is the same wherever the instruction stands.
 abbrev pub text_of_form : SveForm → List ℕ

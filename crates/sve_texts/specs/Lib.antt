@@ -8,4 +8,6 @@ pub mod Permutes
 pub mod Predicates
 pub mod Entry
 pub mod Table
+pub mod Opened
+pub mod KindsOpened
 pub mod Law

@@ -47,35 +47,73 @@ abbrev pub sized : List ℕ → (ℕ → List Pattern) → List Pattern
 sized [] patterns = []
 sized (s ∷ ss) patterns = patterns s ++ sized ss patterns
 
+-- ---- fields, by their names in the forms; where those of a name stand at several places, all but one have their bits behind it
+
+abbrev pub zd : Bits
+zd = 4 to 0
+
+abbrev pub zdn : Bits
+zdn = 4 to 0
+
+abbrev pub zda : Bits
+zda = 4 to 0
+
+abbrev pub zn : Bits
+zn = 9 to 5
+
+abbrev pub zm : Bits
+zm = 20 to 16
+
+abbrev pub zm_9_5 : Bits
+zm_9_5 = 9 to 5
+
+abbrev pub rd : Bits
+rd = 4 to 0
+
+abbrev pub rdn : Bits
+rdn = 4 to 0
+
+abbrev pub rn : Bits
+rn = 9 to 5
+
+abbrev pub rm : Bits
+rm = 20 to 16
+
+abbrev pub pd : Bits
+pd = 3 to 0
+
+abbrev pub pn : Bits
+pn = 8 to 5
+
+abbrev pub pm : Bits
+pm = 19 to 16
+
+abbrev pub pg : Bits
+pg = 12 to 10
+
+abbrev pub pg_13_10 : Bits
+pg_13_10 = 13 to 10
+
+abbrev pub imm8 : Bits
+imm8 = 12 to 5
+
 -- ---- registers
 
 -- a register of a class
 abbrev pub register : Class → Bits → List Slot
 register c b = of (Only c) (plain b) ∷ []
 
--- Zd.T, Zn.T, Zm.T
+-- a vector register with T
 abbrev pub z_at : Bits → List Slot
 z_at b = of (Told size Lanes) (plain b) ∷ []
-
-abbrev pub zd : List Slot
-zd = z_at (4 to 0)
-
-abbrev pub zn : List Slot
-zn = z_at (9 to 5)
-
-abbrev pub zm : List Slot
-zm = z_at (20 to 16)
 
 -- a vector register with lanes of which size tells another one
 abbrev pub z_by : Group → Bits → List Slot
 z_by g b = of (Shown size g) (plain b) ∷ []
 
--- Pd.T, Pn.T
+-- a predicate with T
 abbrev pub p_at : Bits → List Slot
 p_at b = of (Told size Flags) (plain b) ∷ []
-
-abbrev pub pd : List Slot
-pd = p_at (3 to 0)
 
 -- R: x where T is d, else w
 abbrev pub r_at : Bits → List Slot
@@ -91,26 +129,16 @@ v_at b = of (Shown size Scalar) (plain b) ∷ []
 
 -- ---- governing predicates
 
--- Pg, Pg/m and Pg/z at bits of the word
+-- Pg/m and Pg/z at bits of the word
 abbrev pub p_merging : Bits → List Slot
 p_merging b = of (Only P) (plain b) ∷ one Slash ∷ one Merging ∷ []
 
 abbrev pub p_zeroing : Bits → List Slot
 p_zeroing b = of (Only P) (plain b) ∷ one Slash ∷ one Zeroing ∷ []
 
--- Pg/z where a bit is 0, Pg/m where it is 1
+-- Pg/z where the field m is 0, Pg/m where it is 1
 abbrev pub p_either : Bits → Bits → List Slot
 p_either b m = of (Only P) (plain b) ∷ one Slash ∷ of (Told m Predication) (always 0) ∷ []
-
--- the same at bits 12 to 10
-abbrev pub pg : List Slot
-pg = register P (12 to 10)
-
-abbrev pub pg_merging : List Slot
-pg_merging = p_merging (12 to 10)
-
-abbrev pub pg_zeroing : List Slot
-pg_zeroing = p_zeroing (12 to 10)
 
 -- ---- numbers
 
@@ -124,30 +152,31 @@ unsigned_at b = number_of (times 1 (At b))
 abbrev pub signed_at : Bits → List Slot
 signed_at b = number_of (signed_times 1 (At b))
 
--- #i{, lsl #0}, where bit 13 is lsl #8
+-- #i{, lsl #0}, where sh is lsl #8
 abbrev pub shifted : Codec → List Slot
-shifted c = counted c ∷ perhaps ∷ inside 0 (of (Only Shift) (always 0)) ∷ inside 0 (counted (times 8 (At (13 to 13)))) ∷ []
+shifted c = let sh = 13 to 13 in counted c ∷ perhaps ∷ inside 0 (of (Only Shift) (always 0)) ∷ inside 0 (counted (times 8 (At sh))) ∷ []
 
 -- [i]
 abbrev pub index : Codec → List Slot
 index c = bracketed (bare c ∷ [])
 
--- ---- counts: the pattern at bits 9 to 5, by its name or as a number
+-- ---- counts
 
-abbrev pub named_count : Slot
-named_count = of (Only Count) (coded NamedCount (At (9 to 5)))
+-- the pattern by its name, or as a number where it has none
+abbrev pub named_pattern : Slot
+named_pattern = of (Only Count) (coded NamedCount (At (9 to 5)))
 
-abbrev pub unnamed_count : Slot
-unnamed_count = counted (coded UnnamedCount (At (9 to 5)))
+abbrev pub pattern_number : Slot
+pattern_number = counted (coded UnnamedCount (At (9 to 5)))
 
 -- #1 in mul #1
-abbrev pub multiplier : Slot
-multiplier = counted (coded (Scaled 1 1) (At (19 to 16)))
+abbrev pub imm4_plus_1 : Slot
+imm4_plus_1 = counted (coded (Scaled 1 1) (At (19 to 16)))
 
 -- {, all, mul #1}
-abbrev pub by_named_count : List Slot
-by_named_count = perhaps ∷ inside 31 named_count ∷ inside 0 then ∷ inside 0 (one Times) ∷ inside 2 multiplier ∷ []
+abbrev pub by_named_pattern : List Slot
+by_named_pattern = perhaps ∷ inside 31 named_pattern ∷ inside 0 then ∷ inside 0 (one Times) ∷ inside 2 imm4_plus_1 ∷ []
 
--- the same of a count that has no name
-abbrev pub by_unnamed_count : List Slot
-by_unnamed_count = then ∷ unnamed_count ∷ then ∷ one Times ∷ multiplier ∷ []
+-- the same of a pattern that has no name
+abbrev pub by_pattern_number : List Slot
+by_pattern_number = then ∷ pattern_number ∷ then ∷ one Times ∷ imm4_plus_1 ∷ []

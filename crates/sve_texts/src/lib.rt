@@ -42,11 +42,11 @@ mod permutes;
 mod predicates;
 
 ghost use Rattle.std.specs.Prelude.{◌≡◌, [], true, get_or};
-ghost use Rattle.emu_bits.specs.Rows.{IsRow};
+ghost use Rattle.emu_bits.specs.RowLaws.{IsRow};
 ghost use Rattle.sve_insn.specs.declared.form.SveForm.{SveForm};
-ghost use Rattle.sve_insn.specs.Table.{row_of};
+ghost use Rattle.sve_insn.specs.Rows.{row_of};
 ghost use Rattle.text_code.specs.Tables.{lines_of, patterns_of};
-ghost use Rattle.sve_texts.specs.Law.{in_table, is_canonical_form, IsReadBack};
+ghost use Rattle.sve_texts.specs.Law.{in_table, is_canonical_form, IsReadBack, TextsOfLines};
 ghost use Rattle.sve_texts.specs.Table.{data_texts, memory_texts, move_texts, predicate_texts, sve_lines};
 
 use sve_insn::lines;
@@ -225,6 +225,11 @@ impl Table for SveTexts {
         decode_sve(word).is_some()
     }
 }
+
+/// A word's form has the patterns of the line that holds the word.
+pub fn texts_of_lines()
+    ensures { TextsOfLines }
+{}
 
 /// The text of each instruction, but for a bitmask whose rotation isn't the least, is read as the instruction.
 pub fn printed_text_is_read()

@@ -1,6 +1,7 @@
 //! The texts of lines of permutes.
 use text_code::{Pattern, padded};
 use text_lists::names;
+use text_lists::shared_slots::*;
 use text_lists::slots::*;
 
 pub(crate) const DUP_REG_TEXTS: [Pattern; 1] = patterns![
@@ -22,9 +23,9 @@ pub(crate) const DUP_LANE_TEXTS: [Pattern; 5] = patterns![
 ];
 
 pub(crate) const INSERT_TEXTS: [Pattern; 2] = patterns![
-    [ZD, RN_OF_LANE]:
+    [ZDN, R_SRC_OF_LANE]:
         INSR 0x05243800;
-    [ZD, VN]:
+    [ZDN, V_SRC]:
         INSR 0x05343800;
 ];
 
@@ -71,12 +72,12 @@ pub(crate) const COMPACT_TEXTS: [Pattern; 1] = patterns![
 ];
 
 pub(crate) const SPLICE_TEXTS: [Pattern; 1] = patterns![
-    [ZD, PG, ZD, ZN]:
+    [ZDN, PG, ZDN, ZM_9_5]:
         SPLICE 0x052C8000;
 ];
 
 pub(crate) const EXT_TEXTS: [Pattern; 1] = patterns![
-    [ZD_B, ZD_B, ZN_B, UNSIGNED_20_16_12_10]:
+    [ZDN_B, ZDN_B, ZM_9_5_B, UNSIGNED_20_16_12_10]:
         EXT 0x05200000;
 ];
 
@@ -95,10 +96,10 @@ pub(crate) const LAST_TEXTS: [Pattern; 4] = patterns![
 ];
 
 pub(crate) const COND_LAST_TEXTS: [Pattern; 6] = patterns![
-    [RD_OF_LANE, PG, RD_OF_LANE, ZN]:
+    [RDN_OF_LANE, PG, RDN_OF_LANE, ZM_9_5]:
         CLASTA 0x0530A000, CLASTB 0x0531A000;
-    [VD, PG, VD, ZN]:
+    [VDN, PG, VDN, ZM_9_5]:
         CLASTA 0x052A8000, CLASTB 0x052B8000;
-    [ZD, PG, ZD, ZN]:
+    [ZDN, PG, ZDN, ZM_9_5]:
         CLASTA 0x05288000, CLASTB 0x05298000;
 ];

@@ -1,6 +1,7 @@
 //! The texts of lines of predicates.
 use text_code::{Pattern, padded};
 use text_lists::names;
+use text_lists::shared_slots::*;
 use text_lists::slots::*;
 
 pub(crate) const CMP_VEC_TEXTS: [Pattern; 24] = patterns![
@@ -33,18 +34,18 @@ pub(crate) const CMP_WIDE_TEXTS: [Pattern; 22] = patterns![
 ];
 
 pub(crate) const CMP_U_IMM_TEXTS: [Pattern; 4] = patterns![
-    [PD, PG/ZEROING, ZN, UNSIGNED_20_14]:
+    [PD, PG/ZEROING, ZN, UNSIGNED_IMM7_20_14]:
         CMPHS 0x24200000, CMPHI 0x24200010, CMPLO 0x24202000, CMPLS 0x24202010;
 ];
 
 pub(crate) const CMP_S_IMM_TEXTS: [Pattern; 6] = patterns![
-    [PD, PG/ZEROING, ZN, SIGNED_20_16]:
+    [PD, PG/ZEROING, ZN, SIGNED_IMM5]:
         CMPGE 0x25000000, CMPGT 0x25000010, CMPLT 0x25002000, CMPLE 0x25002010,
         CMPEQ 0x25008000, CMPNE 0x25008010;
 ];
 
 pub(crate) const LOGIC_P_TEXTS: [Pattern; 14] = patterns![
-    [PD_B, PG_WIDE/ZEROING, PN_B, PM_B]:
+    [PD_B, PG_13_10/ZEROING, PN_B, PM_B]:
         AND 0x25004000, BIC 0x25004010, EOR 0x25004200, ORR 0x25804000, ORN 0x25804010,
         NOR 0x25804200, NAND 0x25804210, ANDS 0x25404000, BICS 0x25404010,
         EORS 0x25404200, ORRS 0x25C04000, ORNS 0x25C04010, NORS 0x25C04200,
@@ -52,44 +53,44 @@ pub(crate) const LOGIC_P_TEXTS: [Pattern; 14] = patterns![
 ];
 
 pub(crate) const SELECT_P_TEXTS: [Pattern; 1] = patterns![
-    [PD_B, PG_WIDE, PN_B, PM_B]:
+    [PD_B, PG_13_10, PN_B, PM_B]:
         SEL 0x25004210;
 ];
 
 pub(crate) const BREAK_FIRST_TEXTS: [Pattern; 4] = patterns![
-    [PD_B, PG_WIDE/PREDICATION_4, PN_B]:
+    [PD_B, PG_13_10/M_4, PN_B]:
         BRKA 0x25104000, BRKB 0x25904000, BRKAS 0x25504000, BRKBS 0x25D04000;
 ];
 
 pub(crate) const BREAK_PAIR_TEXTS: [Pattern; 4] = patterns![
-    [PD_B, PG_WIDE/ZEROING, PN_B, PM_B]:
+    [PD_B, PG_13_10/ZEROING, PN_B, PM_B]:
         BRKPA 0x2500C000, BRKPB 0x2500C010, BRKPAS 0x2540C000, BRKPBS 0x2540C010;
 ];
 
 pub(crate) const BREAK_NEXT_TEXTS: [Pattern; 2] = patterns![
-    [PD_B, PG_WIDE/ZEROING, PN_B, PD_B]:
+    [PDM_B, PG_13_10/ZEROING, PN_B, PDM_B]:
         BRKN 0x25184000, BRKNS 0x25584000;
 ];
 
 pub(crate) const PTEST_TEXTS: [Pattern; 1] = patterns![
-    [PG_WIDE, PN_B]:
+    [PG_13_10, PN_B]:
         PTEST 0x2550C000;
 ];
 
 pub(crate) const FIRST_TEXTS: [Pattern; 1] = patterns![
-    [PD_B, PG_LOW, PD_B]:
+    [PDN_B, PG_8_5, PDN_B]:
         PFIRST 0x2558C000;
 ];
 
 pub(crate) const NEXT_TEXTS: [Pattern; 1] = patterns![
-    [PD, PG_LOW, PD]:
+    [PDN, PG_8_5, PDN]:
         PNEXT 0x2519C400;
 ];
 
 pub(crate) const PTRUE_TEXTS: [Pattern; 4] = patterns![
-    [PD PERHAPS COUNT]:
+    [PD PERHAPS PATTERN]:
         PTRUE 0x2518E000, PTRUES 0x2519E000;
-    [PD, COUNT_NUMBER]:
+    [PD, PATTERN_NUMBER]:
         PTRUE 0x2518E000, PTRUES 0x2519E000;
 ];
 
@@ -99,7 +100,7 @@ pub(crate) const PFALSE_TEXTS: [Pattern; 1] = patterns![
 ];
 
 pub(crate) const READ_FFR_TEXTS: [Pattern; 2] = patterns![
-    [PD_B, PG_LOW/ZEROING]:
+    [PD_B, PG_8_5/ZEROING]:
         RDFFR 0x2518F000, RDFFRS 0x2558F000;
 ];
 
@@ -116,17 +117,17 @@ pub(crate) const WRITE_FFR_TEXTS: [Pattern; 2] = patterns![
 ];
 
 pub(crate) const COUNT_P_TEXTS: [Pattern; 1] = patterns![
-    [XD, PG_WIDE, PN]:
+    [XD, PG_13_10, PN]:
         CNTP 0x25208000;
 ];
 
 pub(crate) const INC_P_TEXTS: [Pattern; 2] = patterns![
-    [XD, PN]:
+    [XDN, PM_8_5]:
         INCP 0x252C8800, DECP 0x252D8800;
 ];
 
 pub(crate) const INC_P_Z_TEXTS: [Pattern; 2] = patterns![
-    [ZD, PN]:
+    [ZDN, PM_8_5]:
         INCP 0x252C8000, DECP 0x252D8000;
 ];
 

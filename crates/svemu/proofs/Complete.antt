@@ -6,10 +6,11 @@ use Rattle.emu_outcome.specs.declared.ending.Ending.{Ending}
 use Rattle.emu_outcome.specs.declared.ending.Ending.TheVariants.{FileFault, ReadFault, WriteFault, ErrorsFault, OutOfMemory}
 use Rattle.command_model.specs.declared.command_line.Line.{Line}
 use Rattle.command_model.specs.declared.command_line.WordsFault.{WordsFault}
-use Rattle.commands.specs.Lines.{reads_first, takes_input, IsOutcome, MeetsLine}
+use Rattle.commands.specs.Lines.{reads_first, takes_input, IsOutcome}
+use Rattle.commands.specs.Meets.{MeetsLine, now}
 use Rattle.commands.proofs.Settled.{rests_ends}
 use Rattle.emu_system.specs.Gained.{Gains}
-use Rattle.commands.specs.Promises.{is_failure, rests_on_none, output_of, errors_of, now, CountsFor, EndsAs, NamesNoFile}
+use Rattle.commands.specs.Promises.{is_failure, rests_on_none, output_of, errors_of, CountsFor, EndsAs, NamesNoFile}
 use Rattle.svemu.specs.Headline.{Completes, IsQuiet}
 
 -- ---- for the input that was told, and for any where the line rests on none

@@ -3,7 +3,7 @@
 //! The input has sections, which lines of `====` part. The first line of a section says what the others are:
 //!
 //! - `texts`: words with the texts that another program gives of them (`texts.rt`);
-//! - `words`: words, whose texts are written (`words.rt`);
+//! - `words`: words, whose texts are written (`printed_words.rt`);
 //! - `listing`: a listing over both tables (`listings.rt`);
 //! - `toy listing`: a listing over two instructions of `toy.rt` (`layouts.rt`);
 //! - `reports`: lines of endings, refusals and registers that are asked for (`reports.rt`);
@@ -15,11 +15,11 @@ mod command_words;
 mod layouts;
 mod listings;
 mod names;
+mod printed_words;
 mod reports;
 mod state;
 mod texts;
 mod toy;
-mod words;
 
 use std::io;
 
@@ -28,7 +28,7 @@ fn report(rt: HostRuntime, section: &str) -> io::Result<()> {
     let (kind, lines) = section.split_once('\n').unwrap_or((section, ""));
     match kind {
         "texts" => texts::compare(rt, lines),
-        "words" => words::print_all(rt, lines),
+        "words" => printed_words::print_all(rt, lines),
         "listing" => listings::report(rt, lines),
         "toy listing" => layouts::report(rt, lines),
         "reports" => reports::play_all(rt, lines),

@@ -4,7 +4,8 @@ use Rattle.std.proofs.lemmas.Bool.{cases_Bool, and_parts, and_from, or_cases, eq
 use Rattle.std.proofs.lemmas.Nat.{pow_pos}
 use Rattle.std.proofs.Math.Nat.{mod-eq_of_lt}
 use Rattle.std.specs.Prelude.{is_some, unwrap_or}
-use Rattle.emu_bits.specs.Bitmask.{bitmask_of, with_elements, element_log, is_refused, rotated, repeated, GivesBitmask, IsLeastFields}
+use Rattle.emu_bits.specs.Bitmask.{bitmask_of, with_elements, element_log, is_refused, rotated, repeated}
+use Rattle.emu_bits.specs.LeastFields.{GivesBitmask, IsLeastFields}
 use Rattle.text_model.specs.declared.slots.Kind.TheVariants.{Bitmask}
 use Rattle.text_model.specs.Masks.{bitmask_at, is_some_of, fields_of, bitmask_fields}
 use Rattle.text_model.specs.Slots.{shown}

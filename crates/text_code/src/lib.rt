@@ -17,7 +17,7 @@ mod operands;
 mod patterns;
 mod reading;
 mod showing;
-mod words;
+mod token_words;
 
 pub use aiming::{Reach, aimed, reach_of, unaimed};
 pub use choosing::{chosen, shows};
@@ -30,4 +30,4 @@ pub use operands::{items, last_label};
 pub use patterns::{Name, Names, Pattern, Spot};
 pub use reading::{Aim, Found, Table, read};
 pub use showing::printed_item;
-pub use words::item_of_word;
+pub use token_words::item_of_word;

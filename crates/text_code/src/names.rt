@@ -5,7 +5,7 @@ ghost use Rattle.text_code.specs.Names.{names_of, spots_named, is_searchable};
 ghost use Rattle.text_code.specs.Parts.{all_named, are_found, or_spots};
 
 use crate::patterns::{Name, Names, Spot};
-use crate::words::{lower, order};
+use crate::token_words::{lower, order};
 
 /// Where the patterns of a name in lower case stand; nowhere where there is no such name.
 fn spots_of_lower(names: &'static [Name], name: &[u8]) -> &'static [Spot]

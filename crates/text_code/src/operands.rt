@@ -8,7 +8,7 @@ ghost use Rattle.text_model.specs.Words.{item};
 ghost use Rattle.text_code.specs.Places.{IsLastLabel, signed_value};
 
 use crate::filling::MOST;
-use crate::words::item_of_word;
+use crate::token_words::item_of_word;
 use arrayvec::ArrayVec;
 use asm_tokens::{next_token, number};
 use text_model::{Class, Item};

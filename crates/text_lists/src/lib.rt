@@ -5,6 +5,7 @@
 pub mod atomic_names;
 mod name_list;
 pub mod names;
+pub mod shared_slots;
 mod slot_list;
 pub mod slots;
 

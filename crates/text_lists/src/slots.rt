@@ -1,6 +1,9 @@
-//! The numbers of slots. A register is named by its letter and its place: d, n, m, a, t and g as the Arm manual has them. Behind them
-//! stand what tells or has its width, `B`, `H`, `S`, `D` and `Q` for lanes of a fixed size, and `SP` where 31 is the stack pointer. A
-//! number is named by the highest and lowest bits of its parts, and what they are multiplied by; `IN` is what may be left out.
+//! The numbers of slots. A slot that shows a field of a form has the field's name: a register with the letter of its
+//! kind in place of the field's first, a number behind how it is read. Behind the name stand the field's bits, where
+//! fields of that name have others too; what tells or has a register's width, `B`, `H`, `S`, `D` and `Q` for lanes of
+//! a fixed size, and `SP` where 31 is the stack pointer; and what a number is multiplied by. A number of several
+//! fields is named by the highest and lowest bits of its parts. `IN` is what may be left out. Where another field
+//! stands at the same place in other forms, the slot has that one's name in `shared_slots`.
 
 /// Behind the last slot of a pattern.
 pub const END: u8 = 0;
@@ -94,10 +97,10 @@ pub const RM: u8 = 27;
 pub const RA: u8 = 28;
 
 /// A `w` or `x` register, as bit 30 tells: bits 4 to 0.
-pub const RD_BY_30: u8 = 29;
+pub const RT_BY_30: u8 = 29;
 
 /// A `x` or `w` register, as bit 22 tells: bits 4 to 0.
-pub const RD_EXTENDED: u8 = 30;
+pub const RT_EXTENDED: u8 = 30;
 
 /// A `w` or `x` register, as bit 12 tells: bits 9 to 5.
 pub const RN_BY_12: u8 = 31;
@@ -115,13 +118,13 @@ pub const RM_BY_22: u8 = 34;
 pub const RD_OF_LANE: u8 = 35;
 
 /// A `w` register, or `x` for doublewords, as bits 23 to 22 have, which another slot tells: bits 9 to 5.
-pub const RN_OF_LANE: u8 = 36;
+pub const R_X_OF_LANE: u8 = 36;
 
 /// A `w` register, or `x` for doublewords, as bits 23 to 22 have, which another slot tells: bits 9 to 5, of which 31 is the stack pointer.
 pub const RN_SP_OF_LANE: u8 = 37;
 
 /// A `w` register, or `x` for doublewords, as bits 23 to 22 have, which another slot tells: bits 20 to 16.
-pub const RM_OF_LANE: u8 = 38;
+pub const R_Y_OF_LANE: u8 = 38;
 
 /// A `w` register: bits 4 to 0.
 pub const WD: u8 = 39;
@@ -139,7 +142,7 @@ pub const WN_SP: u8 = 42;
 pub const WM: u8 = 43;
 
 /// A `w` register: bits 14 to 10.
-pub const WA: u8 = 44;
+pub const WT2: u8 = 44;
 
 /// A `x` register: bits 4 to 0.
 pub const XD: u8 = 45;
@@ -157,7 +160,7 @@ pub const XN_SP: u8 = 48;
 pub const XM: u8 = 49;
 
 /// A `x` register: bits 20 to 16, of which 31 is the stack pointer.
-pub const XM_SP: u8 = 50;
+pub const XN_SP_20_16: u8 = 50;
 
 /// A `x` register: bits 14 to 10.
 pub const XA: u8 = 51;
@@ -165,10 +168,10 @@ pub const XA: u8 = 51;
 // ---- scalar and vector registers of A64
 
 /// A `b` register: bits 4 to 0.
-pub const BD: u8 = 52;
+pub const BT: u8 = 52;
 
 /// A `h` register: bits 4 to 0.
-pub const HD: u8 = 53;
+pub const HT: u8 = 53;
 
 /// A `s` register: bits 4 to 0.
 pub const SD: u8 = 54;
@@ -177,7 +180,7 @@ pub const SD: u8 = 54;
 pub const DD: u8 = 55;
 
 /// A `q` register: bits 4 to 0.
-pub const QD: u8 = 56;
+pub const QT: u8 = 56;
 
 /// A `s` register: bits 9 to 5.
 pub const SN: u8 = 57;
@@ -186,13 +189,13 @@ pub const SN: u8 = 57;
 pub const DN: u8 = 58;
 
 /// A `s` register: bits 14 to 10.
-pub const SA: u8 = 59;
+pub const ST2: u8 = 59;
 
 /// A `d` register: bits 14 to 10.
-pub const DA: u8 = 60;
+pub const DT2: u8 = 60;
 
 /// A `q` register: bits 14 to 10.
-pub const QA: u8 = 61;
+pub const QT2: u8 = 61;
 
 /// A `b`, `h`, `s` or `d` register, as bits 23 to 22 have, which another slot tells: bits 4 to 0.
 pub const VD: u8 = 62;
@@ -201,7 +204,7 @@ pub const VD: u8 = 62;
 pub const VN: u8 = 63;
 
 /// A `s`, `d` or `q` register, as bits 31 to 30 tell: bits 4 to 0.
-pub const VD_BY_31_30: u8 = 64;
+pub const VT_BY_31_30: u8 = 64;
 
 /// A `v` register with `.8b` or `.16b`, as bit 30 tells: bits 4 to 0.
 pub const VD_BYTES: u8 = 65;
@@ -290,7 +293,7 @@ pub const ZN_S: u8 = 91;
 pub const ZN_WHOLE: u8 = 92;
 
 /// A `z` register with `.b`: bits 4 to 0.
-pub const ZT_B: u8 = 93;
+pub const ZT_B_0: u8 = 93;
 
 /// A `z` register with `.b`: bits 4 to 0 plus 1, modulo 32.
 pub const ZT_B_1: u8 = 94;
@@ -302,7 +305,7 @@ pub const ZT_B_2: u8 = 95;
 pub const ZT_B_3: u8 = 96;
 
 /// A `z` register with `.d`: bits 4 to 0.
-pub const ZT_D: u8 = 97;
+pub const ZT_D_0: u8 = 97;
 
 /// A `z` register with `.d`: bits 4 to 0 plus 1, modulo 32.
 pub const ZT_D_1: u8 = 98;
@@ -314,7 +317,7 @@ pub const ZT_D_2: u8 = 99;
 pub const ZT_D_3: u8 = 100;
 
 /// A `z` register with `.h`: bits 4 to 0.
-pub const ZT_H: u8 = 101;
+pub const ZT_H_0: u8 = 101;
 
 /// A `z` register with `.h`: bits 4 to 0 plus 1, modulo 32.
 pub const ZT_H_1: u8 = 102;
@@ -326,7 +329,7 @@ pub const ZT_H_2: u8 = 103;
 pub const ZT_H_3: u8 = 104;
 
 /// A `z` register with `.s`: bits 4 to 0.
-pub const ZT_S: u8 = 105;
+pub const ZT_S_0: u8 = 105;
 
 /// A `z` register with the suffix that bits 22 to 21 tell: bits 4 to 0.
 pub const ZT_STORED: u8 = 106;
@@ -361,13 +364,13 @@ pub const PD_S: u8 = 114;
 pub const PG: u8 = 115;
 
 /// A `p` register: bits 19 to 16.
-pub const PG_HIGH: u8 = 116;
+pub const PG_19_16: u8 = 116;
 
 /// A `p` register: bits 8 to 5.
-pub const PG_LOW: u8 = 117;
+pub const PG_8_5: u8 = 117;
 
 /// A `p` register: bits 13 to 10.
-pub const PG_WIDE: u8 = 118;
+pub const PG_13_10: u8 = 118;
 
 /// A `p` register with the suffix that bits 23 to 22 tell: bits 19 to 16.
 pub const PM: u8 = 119;
@@ -382,13 +385,13 @@ pub const PN: u8 = 121;
 pub const PN_B: u8 = 122;
 
 /// `z` or `m`: bit 14.
-pub const PREDICATION_14: u8 = 123;
+pub const M_14: u8 = 123;
 
 /// `z` or `m`: bit 16.
-pub const PREDICATION_16: u8 = 124;
+pub const M_16: u8 = 124;
 
 /// `z` or `m`: bit 4.
-pub const PREDICATION_4: u8 = 125;
+pub const M_4: u8 = 125;
 
 /// A `p` register: bits 3 to 0.
 pub const PT: u8 = 126;
@@ -396,31 +399,31 @@ pub const PT: u8 = 126;
 // ---- conditions, extends and counts
 
 /// `uxtw` or `sxtw`: bit 14.
-pub const EXTEND_14: u8 = 127;
+pub const XS_14: u8 = 127;
 
 /// `uxtw` or `sxtw`: bit 22.
-pub const EXTEND_22: u8 = 128;
+pub const XS_22: u8 = 128;
 
 /// The name of a count: bits 9 to 5; `all` where its part is left out.
-pub const COUNT: u8 = 129;
+pub const PATTERN: u8 = 129;
 
 /// A condition: bits 15 to 12.
-pub const CONDITION: u8 = 130;
+pub const COND: u8 = 130;
 
 /// The condition that holds where that of bits 15 to 12 doesn't.
-pub const INVERTED: u8 = 131;
+pub const INVERTED_COND: u8 = 131;
 
 /// `uxtw` or `sxtw`: bit 15.
-pub const EXTEND_15: u8 = 132;
+pub const EXT_WORD: u8 = 132;
 
 /// `uxtx` or `sxtx`: bit 15.
-pub const EXTEND_DOUBLEWORD: u8 = 133;
+pub const EXT_DOUBLEWORD: u8 = 133;
 
 /// An unsigned or signed extend: bit 15, of the size that bits 14 to 13 tell.
-pub const EXTEND: u8 = 134;
+pub const EXT: u8 = 134;
 
 /// The same of a byte, a halfword or a word: bit 15, of the size that bits 14 to 13 tell.
-pub const EXTEND_NARROW: u8 = 135;
+pub const EXT_NARROW: u8 = 135;
 
 // ---- numbers
 
@@ -428,7 +431,7 @@ pub const EXTEND_NARROW: u8 = 135;
 pub const BITMASK_17_5: u8 = 136;
 
 /// `#n`: bits 9 to 5, where that count has no name.
-pub const COUNT_NUMBER: u8 = 137;
+pub const PATTERN_NUMBER: u8 = 137;
 
 /// `n`: bits 20 to 19.
 pub const INDEX_20_19: u8 = 138;
@@ -452,7 +455,7 @@ pub const INDEX_23_22_20_19: u8 = 143;
 pub const INDEX_23_22_20_20: u8 = 144;
 
 /// `#n`: bits 19 to 16 plus 1.
-pub const MULTIPLIER: u8 = 145;
+pub const IMM4_PLUS_1: u8 = 145;
 
 /// `#1`.
 pub const NUMBER_1: u8 = 146;
@@ -488,49 +491,49 @@ pub const RIGHT_8_5: u8 = 155;
 pub const RIGHT_9_5: u8 = 156;
 
 /// `#n`: bits 10 to 5, signed.
-pub const SIGNED_10_5: u8 = 157;
+pub const SIGNED_IMM6_10_5: u8 = 157;
 
 /// `#n`: bits 12 to 5, signed.
-pub const SIGNED_12_5: u8 = 158;
+pub const SIGNED_IMM8: u8 = 158;
 
 /// `#n`: bits 20 to 16, signed.
-pub const SIGNED_20_16: u8 = 159;
+pub const SIGNED_IMM5: u8 = 159;
 
 /// `#n`: bits 9 to 5, signed.
-pub const SIGNED_9_5: u8 = 160;
+pub const SIGNED_X: u8 = 160;
 
 /// `#n`: bits 12 to 5.
-pub const UNSIGNED_12_5: u8 = 161;
+pub const UNSIGNED_IMM8: u8 = 161;
 
 /// `#n`: bits 18 to 16.
-pub const UNSIGNED_18_16: u8 = 162;
+pub const LEFT_18_16: u8 = 162;
 
 /// `#n`: bits 19 to 16.
-pub const UNSIGNED_19_16: u8 = 163;
+pub const LEFT_19_16: u8 = 163;
 
 /// `#n`: bits 20 to 14.
-pub const UNSIGNED_20_14: u8 = 164;
+pub const UNSIGNED_IMM7_20_14: u8 = 164;
 
 /// `#n`: bits 20 to 16.
-pub const UNSIGNED_20_16: u8 = 165;
+pub const LEFT_20_16: u8 = 165;
 
 /// `#n`: bits 20 to 16 and bits 12 to 10.
 pub const UNSIGNED_20_16_12_10: u8 = 166;
 
 /// `#n`: bit 22 and bits 20 to 16.
-pub const UNSIGNED_22_22_20_16: u8 = 167;
+pub const LEFT_22_22_20_16: u8 = 167;
 
 /// `#n`: bit 22 and bits 9 to 5.
-pub const UNSIGNED_22_22_9_5: u8 = 168;
+pub const LEFT_22_22_9_5: u8 = 168;
 
 /// `#n`: bits 7 to 5.
-pub const UNSIGNED_7_5: u8 = 169;
+pub const LEFT_7_5: u8 = 169;
 
 /// `#n`: bits 8 to 5.
-pub const UNSIGNED_8_5: u8 = 170;
+pub const LEFT_8_5: u8 = 170;
 
 /// `#n`: bits 9 to 5.
-pub const UNSIGNED_9_5: u8 = 171;
+pub const LEFT_9_5: u8 = 171;
 
 /// `#n` in hexadecimal: the bitmask of 32 bits that bits 22 to 10 make.
 pub const BITMASK_22_10_OF_32: u8 = 172;
@@ -557,46 +560,46 @@ pub const NUMBER_0: u8 = 178;
 pub const NUMBER_4: u8 = 179;
 
 /// `#n`: bits 20 to 12, signed.
-pub const SIGNED_20_12: u8 = 180;
+pub const SIGNED_IMM9: u8 = 180;
 
 /// `#n`: 4 times bits 21 to 15, signed.
-pub const SIGNED_21_15_BY_4: u8 = 181;
+pub const SIGNED_IMM7_21_15_BY_4: u8 = 181;
 
 /// `#n`: 8 times bits 21 to 15, signed.
-pub const SIGNED_21_15_BY_8: u8 = 182;
+pub const SIGNED_IMM7_21_15_BY_8: u8 = 182;
 
 /// `#n`: 16 times bits 21 to 15, signed.
-pub const SIGNED_21_15_BY_16: u8 = 183;
+pub const SIGNED_IMM7_21_15_BY_16: u8 = 183;
 
 /// `#n`: bits 3 to 0.
-pub const UNSIGNED_3_0: u8 = 184;
+pub const UNSIGNED_F: u8 = 184;
 
 /// `#n`: bits 4 to 0.
-pub const UNSIGNED_4_0: u8 = 185;
+pub const RT_NUMBER: u8 = 185;
 
 /// `#n`: bits 11 to 5.
-pub const UNSIGNED_11_5: u8 = 186;
+pub const UNSIGNED_N_11_5: u8 = 186;
 
 /// `#n`: bits 11 to 8.
-pub const UNSIGNED_11_8: u8 = 187;
+pub const UNSIGNED_N_11_8: u8 = 187;
 
 /// `#n`: bits 12 to 10.
-pub const UNSIGNED_12_10: u8 = 188;
+pub const UNSIGNED_A: u8 = 188;
 
 /// `#n`: bits 15 to 10.
-pub const UNSIGNED_15_10: u8 = 189;
+pub const UNSIGNED_S: u8 = 189;
 
 /// `#n`: bits 18 to 16 and bits 9 to 5.
 pub const UNSIGNED_18_16_9_5: u8 = 190;
 
 /// `#n`: bits 20 to 5.
-pub const UNSIGNED_20_5: u8 = 191;
+pub const UNSIGNED_IMM16: u8 = 191;
 
 /// `#n`: bits 21 to 10.
-pub const UNSIGNED_21_10: u8 = 192;
+pub const UNSIGNED_IMM12: u8 = 192;
 
 /// `#n`: bits 21 to 16.
-pub const UNSIGNED_21_16: u8 = 193;
+pub const UNSIGNED_R: u8 = 193;
 
 /// `#n`: bit 31 and bits 23 to 19.
 pub const UNSIGNED_31_31_23_19: u8 = 194;
@@ -604,22 +607,22 @@ pub const UNSIGNED_31_31_23_19: u8 = 194;
 // ---- numbers in parts that may be left out
 
 /// `#n`: bits 19 to 16 plus 1; 1 where its part is left out.
-pub const IN_MULTIPLIER: u8 = 195;
+pub const IN_IMM4_PLUS_1: u8 = 195;
 
 /// `#n`: bits 19 to 16, signed; 0 where its part is left out.
-pub const IN_SIGNED_19_16: u8 = 196;
+pub const IN_SIGNED_IMM4: u8 = 196;
 
 /// `#n`: 16 times bits 19 to 16, signed; 0 where its part is left out.
-pub const IN_SIGNED_19_16_BY_16: u8 = 197;
+pub const IN_SIGNED_IMM4_BY_16: u8 = 197;
 
 /// `#n`: 2 times bits 19 to 16, signed; 0 where its part is left out.
-pub const IN_SIGNED_19_16_BY_2: u8 = 198;
+pub const IN_SIGNED_IMM4_BY_2: u8 = 198;
 
 /// `#n`: 3 times bits 19 to 16, signed; 0 where its part is left out.
-pub const IN_SIGNED_19_16_BY_3: u8 = 199;
+pub const IN_SIGNED_IMM4_BY_3: u8 = 199;
 
 /// `#n`: 4 times bits 19 to 16, signed; 0 where its part is left out.
-pub const IN_SIGNED_19_16_BY_4: u8 = 200;
+pub const IN_SIGNED_IMM4_BY_4: u8 = 200;
 
 /// `#n`: bits 21 to 16 and bits 12 to 10, signed; 0 where its part is left out.
 pub const IN_SIGNED_21_16_12_10: u8 = 201;
@@ -628,78 +631,78 @@ pub const IN_SIGNED_21_16_12_10: u8 = 201;
 pub const IN_UNSIGNED_13_13_BY_8: u8 = 202;
 
 /// `#n`: bits 20 to 16; 0 where its part is left out.
-pub const IN_UNSIGNED_20_16: u8 = 203;
+pub const IN_UNSIGNED_IMM5: u8 = 203;
 
 /// `#n`: 2 times bits 20 to 16; 0 where its part is left out.
-pub const IN_UNSIGNED_20_16_BY_2: u8 = 204;
+pub const IN_UNSIGNED_IMM5_BY_2: u8 = 204;
 
 /// `#n`: 4 times bits 20 to 16; 0 where its part is left out.
-pub const IN_UNSIGNED_20_16_BY_4: u8 = 205;
+pub const IN_UNSIGNED_IMM5_BY_4: u8 = 205;
 
 /// `#n`: 8 times bits 20 to 16; 0 where its part is left out.
-pub const IN_UNSIGNED_20_16_BY_8: u8 = 206;
+pub const IN_UNSIGNED_IMM5_BY_8: u8 = 206;
 
 /// `#n`: bits 21 to 16; 0 where its part is left out.
-pub const IN_UNSIGNED_21_16: u8 = 207;
+pub const IN_UNSIGNED_IMM6_21_16: u8 = 207;
 
 /// `#n`: 2 times bits 21 to 16; 0 where its part is left out.
-pub const IN_UNSIGNED_21_16_BY_2: u8 = 208;
+pub const IN_UNSIGNED_IMM6_21_16_BY_2: u8 = 208;
 
 /// `#n`: 4 times bits 21 to 16; 0 where its part is left out.
-pub const IN_UNSIGNED_21_16_BY_4: u8 = 209;
+pub const IN_UNSIGNED_IMM6_21_16_BY_4: u8 = 209;
 
 /// `#n`: 8 times bits 21 to 16; 0 where its part is left out.
-pub const IN_UNSIGNED_21_16_BY_8: u8 = 210;
+pub const IN_UNSIGNED_IMM6_21_16_BY_8: u8 = 210;
 
 /// `#n`: bits 20 to 12, signed; 0 where its part is left out.
-pub const IN_SIGNED_20_12: u8 = 211;
+pub const IN_SIGNED_IMM9: u8 = 211;
 
 /// `#n`: 4 times bits 21 to 15, signed; 0 where its part is left out.
-pub const IN_SIGNED_21_15_BY_4: u8 = 212;
+pub const IN_SIGNED_IMM7_21_15_BY_4: u8 = 212;
 
 /// `#n`: 8 times bits 21 to 15, signed; 0 where its part is left out.
-pub const IN_SIGNED_21_15_BY_8: u8 = 213;
+pub const IN_SIGNED_IMM7_21_15_BY_8: u8 = 213;
 
 /// `#n`: 16 times bits 21 to 15, signed; 0 where its part is left out.
-pub const IN_SIGNED_21_15_BY_16: u8 = 214;
+pub const IN_SIGNED_IMM7_21_15_BY_16: u8 = 214;
 
 /// `#n`: 12 times bit 22; 0 where its part is left out.
-pub const IN_UNSIGNED_22_22_BY_12: u8 = 215;
+pub const IN_UNSIGNED_SH_22_BY_12: u8 = 215;
 
 /// `#n`: 16 times bits 22 to 21; 0 where its part is left out.
-pub const IN_UNSIGNED_22_21_BY_16: u8 = 216;
+pub const IN_UNSIGNED_HW_BY_16: u8 = 216;
 
 /// `#n`: bits 15 to 10; 0 where its part is left out.
-pub const IN_UNSIGNED_15_10: u8 = 217;
+pub const IN_UNSIGNED_AMOUNT: u8 = 217;
 
 /// `#n`: 8 times bits 14 to 13; 0 where its part is left out.
 pub const IN_UNSIGNED_14_13_BY_8: u8 = 218;
 
 /// `#n`: bits 21 to 10; 0 where its part is left out.
-pub const IN_UNSIGNED_21_10: u8 = 219;
+pub const IN_UNSIGNED_IMM12: u8 = 219;
 
 /// `#n`: 2 times bits 21 to 10; 0 where its part is left out.
-pub const IN_UNSIGNED_21_10_BY_2: u8 = 220;
+pub const IN_UNSIGNED_IMM12_BY_2: u8 = 220;
 
 /// `#n`: 4 times bits 21 to 10; 0 where its part is left out.
-pub const IN_UNSIGNED_21_10_BY_4: u8 = 221;
+pub const IN_UNSIGNED_IMM12_BY_4: u8 = 221;
 
 /// `#n`: 8 times bits 21 to 10; 0 where its part is left out.
-pub const IN_UNSIGNED_21_10_BY_8: u8 = 222;
+pub const IN_UNSIGNED_IMM12_BY_8: u8 = 222;
 
 /// `#n`: 16 times bits 21 to 10; 0 where its part is left out.
-pub const IN_UNSIGNED_21_10_BY_16: u8 = 223;
+pub const IN_UNSIGNED_IMM12_BY_16: u8 = 223;
 
 // ---- targets
 
 /// A target: bits 25 to 0 signed, times 4, behind the instruction's address.
-pub const TARGET_25_0: u8 = 224;
+pub const TARGET_IMM26: u8 = 224;
 
 /// A target: bits 23 to 5 signed, times 4, behind the instruction's address.
-pub const TARGET_23_5: u8 = 225;
+pub const TARGET_IMM19: u8 = 225;
 
 /// A target: bits 18 to 5 signed, times 4, behind the instruction's address.
-pub const TARGET_18_5: u8 = 226;
+pub const TARGET_IMM14: u8 = 226;
 
 /// A target: bits 23 to 5 and bits 30 to 29 signed, behind the instruction's address.
 pub const TARGET_23_5_30_29: u8 = 227;
@@ -710,4 +713,4 @@ pub const TARGET_23_5_30_29_BY_PAGE: u8 = 228;
 // ---- behind the others
 
 /// A `w` or `x` register, as bit 30 tells: bits 20 to 16.
-pub const RM_BY_30: u8 = 229;
+pub const RS_BY_30: u8 = 229;

@@ -6,7 +6,8 @@ use Rattle.emu_bits.specs.Rows.{Place}
 use Rattle.text_model.specs.Slots.{bits_in, joined, is_low, address}
 use Rattle.text_model.specs.Told.{parted, Built, put_all}
 use Rattle.text_model.specs.Text.{ones_of}
-use Rattle.text_model.specs.Aim.{Reach, reached, reach_bits, aimed}
+use Rattle.text_model.specs.Aim.{Reach, reach_bits, aimed}
+use Rattle.text_model.specs.ReadBack.{reached}
 use Rattle.text_model.proofs.Building.{are_places, joined_small, parted_so, masked, with_bits, all_put, nothing}
 use Rattle.text_model.proofs.Building.{whole as whole_word}
 use Rattle.text_model.proofs.Own.{parts_told}

@@ -18,7 +18,8 @@ use Rattle.text_model.specs.Reading.{Pattern, is_canonical, all_canonical, is_ta
 use Rattle.text_model.specs.Text.{told_bits, shows, printed, printed_item}
 use Rattle.text_model.specs.Words.{item}
 use Rattle.text_model.specs.Statement.{is_address, untargeted}
-use Rattle.text_model.specs.Aim.{reach_of, reach_bits, unaimed}
+use Rattle.text_model.specs.Aim.{reach_of, reach_bits}
+use Rattle.text_model.specs.ReadBack.{unaimed}
 use Rattle.text_model.proofs.Spelling.{same_number}
 use Rattle.text_model.proofs.Unlike.{Shaped}
 use Rattle.text_model.proofs.Again.{AreOf}

@@ -3,7 +3,8 @@ use Rattle.std.proofs.Common.{◌≡◌, ℕ, ◌<◌, ◌==◌, ◌&&◌, ◌||
 use Rattle.std.proofs.lemmas.Bool.{and_parts, or_cases, not-true, eqb-true, false≢true}
 use Rattle.std.specs.Prelude.{option_map}
 use Rattle.emu_bits.proofs.AllBelow.{all_below, each_below}
-use Rattle.text_tokens.specs.Layout.{is_sign, is_token, hash}
+use Rattle.text_tokens.specs.Layout.{is_sign, hash}
+use Rattle.text_tokens.specs.AreTokens.{is_token}
 use Rattle.text_tokens.specs.Numbers as numbers
 use Rattle.text_tokens.specs.Numbers.{minus, numeral}
 use Rattle.text_model.specs.declared.classes.Class.{Class}

@@ -8,9 +8,10 @@ use Rattle.text_model.specs.declared.slots.Slot.{Slot}
 use Rattle.text_model.specs.declared.slots.Refusal.{Refusal}
 use Rattle.text_model.specs.Slots.{places, joined}
 use Rattle.text_model.specs.Reading.{Pattern, Read, Operands, answer, best, reads, is_canonical, all_canonical}
-use Rattle.text_model.specs.Statement.{Statement, with_target, reads_first, reads_text, lowered, operands_of, destination_of}
+use Rattle.text_model.specs.Statement.{Statement, with_target, lowered, operands_of}
+use Rattle.text_model.specs.ReadBack.{reads_first, reads_text, destination_of, unaimed, target_of}
 use Rattle.text_model.specs.Text.{shows, chosen, text}
-use Rattle.text_model.specs.Aim.{reach_of, aimed, unaimed, target_of}
+use Rattle.text_model.specs.Aim.{reach_of, aimed}
 use Rattle.text_model.specs.Writing.{flat}
 use Rattle.text_model.proofs.Tests.{is_good_reach, all_reach_well}
 use Rattle.text_model.proofs.Again.{pattern_at}

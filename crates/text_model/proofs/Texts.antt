@@ -3,7 +3,7 @@ use Rattle.std.proofs.Common.{◌≡◌, ℕ, zero, suc, ◌-◌, ◌*◌, ◌/�
 use Rattle.std.proofs.lemmas.Bool.{cases_Bool, and_parts, or_parts, and_from, not-true, eqb-true, false≢true, true≢false}
 use Rattle.std.proofs.lemmas.Slice.Eq.{bytes_eq-Decides}
 use Rattle.std.proofs.lemmas.List.Folds.{list_all-append}
-use Rattle.text_tokens.specs.Layout.{is_token, are_tokens}
+use Rattle.text_tokens.specs.AreTokens.{is_token, are_tokens}
 use Rattle.text_tokens.proofs.Split.{split_again}
 use Rattle.emu_bits.specs.Rows.{Place}
 use Rattle.text_model.specs.declared.classes.Class.{Class}
@@ -20,8 +20,9 @@ use Rattle.text_model.specs.Slots.{class_in, places, joined, bits_in, fits, all_
 use Rattle.text_model.specs.Reading.{Pattern, Operands, is_target, has_target, reads, same_name}
 use Rattle.text_model.specs.Words.{item}
 use Rattle.text_model.specs.Text.{hexadecimal, item_tokens, printed, printed_item, slot_tokens, text, told_bits}
-use Rattle.text_model.specs.Statement.{Destination, to_label, to_address, lowered, reads_first, reads_text, items_behind, is_label, last_of, destination, destination_of, last_target, Statement, with_target, operands_of, ends_in_label, untargeted}
-use Rattle.text_model.specs.Aim.{Reach, reach_or, reach_of, reached, target_of, unaimed}
+use Rattle.text_model.specs.Statement.{Destination, to_label, to_address, lowered, items_behind, is_label, last_of, destination, last_target, Statement, with_target, operands_of, ends_in_label, untargeted}
+use Rattle.text_model.specs.ReadBack.{reads_first, reads_text, destination_of, reached, target_of, unaimed}
+use Rattle.text_model.specs.Aim.{Reach, reach_or, reach_of}
 use Rattle.text_model.proofs.Tests.{is_good, are_good, is_readable, all_readable, all_apart, is_written, are_written, all_written, is_aimed_well, all_aimed_well, ends_in_target, is_address_slot, is_number_shape, is_plain_address}
 use Rattle.text_model.proofs.Spelling.{same_number}
 use Rattle.text_model.proofs.Again.{pattern_at, read_again}

@@ -1,10 +1,10 @@
 -- Targets: the address that a word's text shows, and a word whose text shows an address.
-use Rattle.std.specs.Prelude.{ℕ, ◌+◌, ◌-◌, ◌/◌, ◌%◌, ◌^◌, ◌==◌, if◌then◌else◌, Option, Some, None, List, [], ◌∷◌, bit_and}
+use Rattle.std.specs.Prelude.{ℕ, ◌+◌, ◌-◌, ◌/◌, ◌%◌, ◌^◌, ◌==◌, if◌then◌else◌, Option, Some, None, List, [], ◌∷◌}
 use Rattle.emu_bits.specs.Rows.{Place}
 use Rattle.text_model.specs.declared.slots.Kind.{Kind}
 use Rattle.text_model.specs.declared.slots.Kind.TheVariants.{Target}
 use Rattle.text_model.specs.declared.slots.Slot.{Slot}
-use Rattle.text_model.specs.Slots.{places, bits_in, joined, address}
+use Rattle.text_model.specs.Slots.{places, bits_in, address}
 use Rattle.text_model.specs.Told.{parted, put_all}
 use Rattle.text_model.specs.Text.{ones_of}
 
@@ -27,18 +27,6 @@ reach_of (s ∷ ss) = reach_or s.codec.kind (places s.codec.parts) (reach_of ss)
 abbrev pub reach_bits : Option Reach → ℕ
 reach_bits None = 0
 reach_bits (Some r) = ones_of r.parts
-
--- a word with the bits of its target 0
-abbrev pub unaimed : List Slot → ℕ → ℕ
-unaimed ss w = bit_and w (2 ^ 32 - 1 - reach_bits (reach_of ss))
-
-abbrev pub reached : Option Reach → ℕ → ℕ → Option ℕ
-reached None w pc = None
-reached (Some r) w pc = Some (address r.by r.page (bits_in r.parts) (joined r.parts w) pc)
-
--- the address that a word shows where it stands at pc
-abbrev pub target_of : List Slot → ℕ → ℕ → Option ℕ
-target_of ss w pc = reached (reach_of ss) w pc
 
 -- the number of b bits that reaches an address, if one does
 abbrev pub number_to : Reach → ℕ → ℕ → ℕ

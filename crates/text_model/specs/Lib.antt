@@ -8,3 +8,4 @@ pub mod Words
 pub mod Text
 pub mod Statement
 pub mod Aim
+pub mod ReadBack

@@ -2,12 +2,11 @@
 use Rattle.std.specs.Prelude.{ℕ, zero, suc, ◌+◌, ◌-◌, ◌*◌, ◌/◌, ◌%◌, ◌^◌, ◌==◌, ◌&&◌, ◌||◌, Bool, false, not, if◌then◌else◌, Option, Some, None, Result, Ok, Err, List, [], ◌∷◌, nat_lt, min, map}
 use Rattle.std.specs.Char.{is_ascii_digit, to_ascii_lowercase}
 use Rattle.std.specs.List.{list_all}
-use Rattle.text_tokens.specs.Tokens.{is_word_byte, dot, tokens}
+use Rattle.text_tokens.specs.Tokens.{is_word_byte, dot}
 use Rattle.text_tokens.specs.Numbers as numbers
 use Rattle.text_model.specs.declared.classes.Class.TheVariants.{Number}
 use Rattle.text_model.specs.declared.slots.Item.{Item}
 use Rattle.text_model.specs.declared.slots.Refusal.{Refusal}
-use Rattle.text_model.specs.declared.slots.Refusal.TheVariants.{UnknownName}
 use Rattle.text_model.specs.Classes.{same_class}
 use Rattle.text_model.specs.Reading.{Pattern, Read, Operands, reads}
 use Rattle.text_model.specs.Words.{item, classed}
@@ -75,10 +74,6 @@ pub data Destination : Type 0 where
   to_label : List ℕ → Destination
   to_address : ℕ → Destination
 
-abbrev pub destination_of : Option ℕ → Option Destination
-destination_of None = None
-destination_of (Some a) = Some (to_address a)
-
 abbrev pub destination : Option (List ℕ) → Option Item → Option Destination
 destination None o = None
 destination (Some t) None = None
@@ -105,11 +100,3 @@ operands_of ts = record { items = items_of ts; untargeted = untargeted (ends_in_
 -- What a table's patterns make of a name and the tokens behind it.
 abbrev pub reads_tokens : (ℕ → Bool) → List Pattern → List ℕ → List (List ℕ) → Result Statement Refusal
 reads_tokens in_table ps name ts = with_target ts (reads in_table ps (lowered name) (operands_of ts))
-
-abbrev pub reads_first : (ℕ → Bool) → List Pattern → List (List ℕ) → Result Statement Refusal
-reads_first in_table ps [] = Err UnknownName
-reads_first in_table ps (name ∷ ts) = reads_tokens in_table ps name ts
-
--- What a table's patterns make of a statement's text.
-abbrev pub reads_text : (ℕ → Bool) → List Pattern → List ℕ → Result Statement Refusal
-reads_text in_table ps cs = reads_first in_table ps (tokens cs)

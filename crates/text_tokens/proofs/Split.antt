@@ -4,7 +4,8 @@ use Rattle.std.proofs.lemmas.Bool.{cases_Bool, and_parts, or_parts, not-true, no
 use Rattle.std.proofs.lemmas.Bool.Decides.{nat_tests}
 use Rattle.std.specs.List.{list_all, prefix_len}
 use Rattle.text_tokens.specs.Tokens.{is_word_byte, is_blank, is_continuation, begins_with, begins_comment, piece_length, tokens_behind, tokens, quote, slash, space, tab}
-use Rattle.text_tokens.specs.Layout.{begins_word, is_sign, has_gap, put, laid, is_mark, is_token, are_tokens, is_empty, ends, continues_character, comma, hash, open_brace}
+use Rattle.text_tokens.specs.Layout.{begins_word, is_sign, has_gap, put, laid, is_empty, comma, hash, open_brace}
+use Rattle.text_tokens.specs.AreTokens.{is_mark, is_token, are_tokens, ends, continues_character}
 
 pub behind : (n : ℕ) (cs : List ℕ) → tokens_behind n cs ≡ tokens (drop n cs)
 behind zero cs = refl

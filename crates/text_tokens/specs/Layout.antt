@@ -1,7 +1,6 @@
 -- Tokens laid out as a text, as instructions are printed.
-use Rattle.std.specs.Prelude.{ℕ, ◌==◌, ◌&&◌, ◌||◌, not, Bool, true, false, if◌then◌else◌, List, [], ◌∷◌, ◌++◌, nat_lt}
-use Rattle.std.specs.List.{list_all}
-use Rattle.text_tokens.specs.Tokens.{is_word_byte, is_blank, is_continuation, quote, slash, begins_with, space}
+use Rattle.std.specs.Prelude.{ℕ, ◌==◌, ◌&&◌, ◌||◌, Bool, true, false, if◌then◌else◌, List, [], ◌∷◌, ◌++◌}
+use Rattle.text_tokens.specs.Tokens.{is_word_byte, slash, space}
 
 abbrev pub comma : ℕ
 comma = 44
@@ -36,27 +35,3 @@ put gap t = if gap then space ∷ t else t
 abbrev pub laid : List ℕ → List (List ℕ) → List ℕ
 laid s [] = []
 laid s (t ∷ ts) = put (has_gap s t) (t ++ laid t ts)
-
--- ---- which lists of bytes are tokens
-
--- an ASCII character that is a token of its own
-abbrev pub is_mark : ℕ → Bool
-is_mark c = nat_lt c 128 && not (is_blank c || c == quote)
-
--- a word, or a mark
-abbrev pub is_token : List ℕ → Bool
-is_token [] = false
-is_token (c ∷ cs) = if is_word_byte c then list_all is_word_byte cs else is_mark c && is_empty cs
-
-abbrev pub are_tokens : List (List ℕ) → Bool
-are_tokens ts = list_all is_token ts
-
--- ---- what stands behind a token
-
-abbrev pub continues_character : List ℕ → Bool
-continues_character [] = false
-continues_character (c ∷ cs) = is_continuation c
-
--- the token t ends where x begins: x adds nothing to a word or a character, and makes no comment of a slash
-abbrev pub ends : List ℕ → List ℕ → Bool
-ends t x = not (begins_word t && begins_word x) && (not (is_sign slash t && begins_with slash x) && not (continues_character x))

@@ -1,4 +1,5 @@
 pub mod Tokens
 pub mod Layout
+pub mod AreTokens
 pub mod Numbers
 pub mod Places

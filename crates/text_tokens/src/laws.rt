@@ -1,6 +1,7 @@
 //! Laws of the definitions, each the contract of a function that does nothing.
 ghost use Rattle.std.specs.Prelude.{◌≡◌, true, ℕ, List, ◌∷◌, ◌++◌};
-ghost use Rattle.text_tokens.specs.Layout.{ends, is_token, are_tokens, laid};
+ghost use Rattle.text_tokens.specs.Layout.{laid};
+ghost use Rattle.text_tokens.specs.AreTokens.{ends, is_token, are_tokens};
 ghost use Rattle.text_tokens.specs.Tokens.{tokens};
 
 /// A token is read where the bytes behind it don't go on it, and so tokens laid out as a text are split into the same tokens.

@@ -15,7 +15,18 @@ use Rattle.thread_model.specs.declared.thread.Standing.{Standing}
 use Rattle.thread_model.specs.declared.thread.Standing.TheVariants.{Ready, Waiting, Gone}
 use Rattle.thread_model.specs.ThreadCall.{ThreadAction, fails, answers, starts, waits, wakes, clears, leaves, alone, action, all_gone, answered, cleared, error_answer, leave_made, parent_told, started, thread_id, with_gone}
 use Rattle.thread_model.specs.Threads.{done_by, makes_call, one, stepped_alone, with_world}
-use Rattle.thread_model.specs.Worlds.{World, Context, context, no_context, apart, behind_accesses, is_gone, is_ready, is_standing_at, is_standing_gone, is_standing_ready, is_standing_waiting, is_waiting, joined, others_behind, some_ready, some_waiting, taken_by_context, wake_count, waits_at, with_context, with_monitor, with_woken, without_monitors, woken, woken_context}
+use Rattle.thread_model.specs.Worlds.{World, Context, context, no_context, apart, behind_accesses, is_gone, is_ready, is_standing_at, is_standing_gone, is_standing_ready, joined, others_behind, some_ready, taken_by_context, wake_count, waits_at, with_context, with_monitor, with_woken, without_monitors, woken, woken_context}
+
+abbrev pub is_standing_waiting : Standing → Bool
+is_standing_waiting Ready = false
+is_standing_waiting (Waiting a) = true
+is_standing_waiting Gone = false
+
+abbrev pub is_waiting : Context → Bool
+is_waiting c = is_standing_waiting c.standing
+
+abbrev pub some_waiting : World → Bool
+some_waiting w = list_any is_waiting w.contexts
 
 abbrev pub IsLiving : World → Type 0
 IsLiving w = is_none w.ended ≡ true → all_gone w ≡ false

@@ -7,12 +7,13 @@ use Rattle.emu_model.specs.declared.trap.TrapKind.TheVariants.{SpAlign}
 use Rattle.emu_model.specs.Access.{Memory, value}
 use Rattle.emu_model.specs.Done.{Done, traps}
 use Rattle.emu_model.specs.Elements.{Element, accesses_of}
-use Rattle.emu_model.specs.Lengths.{IsVectorLength}
-use Rattle.emu_model.specs.Lists.{each_same}
+use Rattle.emu_model.specs.SoundState.{IsVectorLength}
+use Rattle.emu_model.specs.ListLaws.{each_same}
 use Rattle.emu_model.specs.State.{Core, Vectors}
-use Rattle.vec_model.specs.Lanes.{IsLaneSize, byte_in, with_z, with_ffr, with_lanes}
+use Rattle.vec_model.specs.Lanes.{byte_in, with_z, with_ffr, with_lanes}
+use Rattle.vec_model.specs.LaneSizes.{IsLaneSize}
 use Rattle.vec_regs.proofs.PackedLanes.{below_quotient}
-use Rattle.sve_effects.specs.Element.{extended_by}
+use Rattle.sve_effects.specs.Lane.{extended_by}
 use Rattle.sve_effects.specs.FirstFaultParts.{first_fault_lane, with_first_fault, first_fault_loaded}
 use Rattle.sve_effects.specs.FirstFault.{element_at, first_refused, first_suppressed, unsuppressed, cleared_from, first_cleared, is_before, loaded_from, loaded_unless}
 use Rattle.sve_effects.specs.VectorElements.{Layout, elements_of}

@@ -1,8 +1,10 @@
 -- Lanes of bytes that come from wider numbers.
 use Rattle.std.proofs.Common.{◌≡◌, ◌<◌, ◌≤◌, ℕ, zero, suc, List, length, take, drop, get_or, ◌+◌, ◌*◌, ◌/◌, ◌%◌, ◌^◌, inl, inr, refl, sym, ap, ◌∙◌, arith, drop-cons}
 use Rattle.std.proofs.lemmas.Nat.{mod-pow-add, shr-shr, div-mul-add, mod-mul-add, div-add-mod'}
-use Rattle.emu_model.specs.Lists.{each, length-each, get_or-each}
-use Rattle.vec_model.specs.Lanes.{number, byte_in, lane, IsLaneSize}
+use Rattle.emu_model.specs.Lists.{each}
+use Rattle.emu_model.specs.ListLaws.{length-each, get_or-each}
+use Rattle.vec_model.specs.Lanes.{number, byte_in, lane}
+use Rattle.vec_model.specs.LaneSizes.{IsLaneSize}
 
 -- the low bytes of a number, one byte more
 one_more : (y w : ℕ) → y % 2 ^ (8 * suc w) ≡ y % 256 + 256 * (y / 2 ^ 8 % 2 ^ (8 * w))

@@ -4,10 +4,14 @@ use Rattle.std.proofs.Math.Nat.{zero-mod, mod-eq_of_lt}
 use Rattle.std.proofs.Math.Pow.{pow_mono}
 use Rattle.std.proofs.lemmas.Nat.{pow_pos}
 use Rattle.std.proofs.lemmas.List.{get_or-set_same, get_or-set_other, take_all}
-use Rattle.emu_model.specs.Lists.{each, length-each, get_or-each, each_same}
-use Rattle.emu_model.specs.State.{Vectors, IsSoundVectors}
+use Rattle.emu_model.specs.Lists.{each}
+use Rattle.emu_model.specs.ListLaws.{length-each, get_or-each, each_same}
+use Rattle.emu_model.specs.State.{Vectors}
+use Rattle.emu_model.specs.SoundState.{IsSoundVectors}
 use Rattle.vec_model.specs.Active.{active}
-use Rattle.vec_model.specs.Lanes.{IsLaneSize, lane, number, read_z, read_p, byte_in, field_bit, with_z, with_p, with_lanes, with_low, with_fields, with_ffr_fields}
+use Rattle.vec_model.specs.Lanes.{lane, number, read_z, read_p, byte_in, field_bit, with_z, with_p, with_lanes, with_low, with_fields}
+use Rattle.vec_model.specs.LaneSizes.{IsLaneSize}
+use Rattle.vec_model.specs.Writes.{with_ffr_fields}
 use Rattle.vec_model.proofs.FieldBits.{at_start, between}
 use Rattle.vec_model.proofs.LaneBytes.{field_is, lane_of_lanes, some_bytes, within_bytes}
 

@@ -10,7 +10,3 @@ low_bytes bits bytes = take 16 bytes ++ replicate (bits / 8 - 16) 0
 -- FFR are 0
 abbrev pub cleared : ℕ → Vectors → Vectors
 cleared bits v = record v { bits = bits; z = map (low_bytes bits) v.z; p = replicate 16 (replicate (bits / 8) false); ffr = replicate (bits / 8) false }
-
--- the same in the present length
-abbrev pub after_call : Vectors → Vectors
-after_call v = cleared v.bits v

@@ -1,11 +1,7 @@
 -- Lanes of Z registers and fields of predicates: what is read of them, and what a write leaves.
-use Rattle.std.specs.Prelude.{◌≡◌, ◌⊎◌, ℕ, ◌+◌, ◌*◌, ◌/◌, ◌%◌, ◌^◌, Bool, false, nat_eq, if◌then◌else◌, List, [], ◌∷◌, get_or, set, take, drop}
+use Rattle.std.specs.Prelude.{ℕ, ◌+◌, ◌*◌, ◌/◌, ◌%◌, ◌^◌, Bool, false, nat_eq, if◌then◌else◌, List, [], ◌∷◌, get_or, set, take, drop}
 use Rattle.emu_model.specs.Lists.{each}
 use Rattle.emu_model.specs.State.{Vectors}
-
--- the bits of a lane, the manual's esize
-abbrev pub IsLaneSize : ℕ → Type 0
-IsLaneSize e = (e ≡ 8) ⊎ (e ≡ 16) ⊎ (e ≡ 32) ⊎ (e ≡ 64)
 
 -- ---- whole registers
 
@@ -58,7 +54,3 @@ field_bit w f j = if nat_eq (j % w) 0 then f (j / w) else false
 -- each field k of predicate pd has f k as its lowest bit, and zeros above
 abbrev pub with_fields : ℕ → (ℕ → Bool) → ℕ → Vectors → Vectors
 with_fields e f pd v = with_p v pd (each (v.bits / 8) (field_bit (e / 8) f))
-
--- the same of FFR
-abbrev pub with_ffr_fields : ℕ → (ℕ → Bool) → Vectors → Vectors
-with_ffr_fields e f v = with_ffr v (each (v.bits / 8) (field_bit (e / 8) f))

@@ -4,12 +4,14 @@ use Rattle.std.specs.List.{AllByRecursion, range_with_len}
 use Rattle.std.proofs.Common.{◌∙◌, arith, length-append}
 use Rattle.std.proofs.Math.ListN.{length-replicate}
 use Rattle.std.proofs.lemmas.List.{length-set, length-take, length-map}
-use Rattle.emu_model.specs.Lengths.{IsVectorLength}
-use Rattle.emu_model.specs.Lists.{each, length-each}
+use Rattle.emu_model.specs.SoundState.{IsVectorLength, IsSoundVectors, IsRegister, IsByte, HasLength}
+use Rattle.emu_model.specs.Lists.{each}
+use Rattle.emu_model.specs.ListLaws.{length-each}
 use Rattle.emu_model.specs.SoundLists.{all_append, all_map, all_replicate, all_set, all_take}
-use Rattle.emu_model.specs.State.{Vectors, IsSoundVectors, IsRegister, IsByte, HasLength}
-use Rattle.vec_model.specs.AfterCall.{low_bytes, cleared, after_call}
-use Rattle.vec_model.specs.Lanes.{byte_in, field_bit, with_z, with_p, with_ffr, with_lanes, with_low, with_fields, with_ffr_fields}
+use Rattle.emu_model.specs.State.{Vectors}
+use Rattle.vec_model.specs.AfterCall.{low_bytes, cleared}
+use Rattle.vec_model.specs.Writes.{after_call, with_ffr_fields}
+use Rattle.vec_model.specs.Lanes.{byte_in, field_bit, with_z, with_p, with_ffr, with_lanes, with_low, with_fields}
 
 all_given : {X Y : Type 0} (P : Y → Type 0) (f : X → Y) → ((x : X) → P (f x)) → (xs : List X) → AllByRecursion P (map f xs)
 all_given P f h [] = tt

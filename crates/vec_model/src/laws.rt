@@ -1,10 +1,12 @@
 //! Laws of the definitions, each the contract of a function that does nothing.
 ghost use Rattle.std.specs.Prelude.{◌≡◌, ◌≢◌, ◌<◌, ◌≤◌, ◌/◌, ◌%◌, ◌^◌, ℕ, Bool, false, List, get_or, if◌then◌else◌, nat_lt};
-ghost use Rattle.emu_model.specs.Lengths.{IsVectorLength};
-ghost use Rattle.emu_model.specs.State.{Vectors, IsSoundVectors};
+ghost use Rattle.emu_model.specs.SoundState.{IsVectorLength, IsSoundVectors};
+ghost use Rattle.emu_model.specs.State.{Vectors};
 ghost use Rattle.vec_model.specs.Active.{active};
-ghost use Rattle.vec_model.specs.AfterCall.{after_call, cleared};
-ghost use Rattle.vec_model.specs.Lanes.{IsLaneSize, lane, number, read_z, read_p, with_z, with_p, with_lanes, with_fields, with_ffr_fields, with_low};
+ghost use Rattle.vec_model.specs.AfterCall.{cleared};
+ghost use Rattle.vec_model.specs.Writes.{after_call, with_ffr_fields};
+ghost use Rattle.vec_model.specs.Lanes.{lane, number, read_z, read_p, with_z, with_p, with_lanes, with_fields, with_low};
+ghost use Rattle.vec_model.specs.LaneSizes.{IsLaneSize};
 
 /// Sound vectors are sound after a write, whatever is written: lanes or low bits of a Z register, fields of a predicate or of FFR;
 /// cleared in a vector length that is at most the starting one; and after a call that returns.

@@ -2,12 +2,14 @@
 use Rattle.std.proofs.Common.{◌≡◌, ◌<◌, ◌≤◌, ◌+◌, ◌*◌, ◌/◌, ◌%◌, ℕ, suc, Bool, false, List, length, get_or, set, nat_eq, if◌then◌else◌, inl, inr, ap, sym, subst, ◌∙◌, arith}
 use Rattle.std.proofs.Math.Nat.{mul-le-mul_right}
 use Rattle.std.proofs.lemmas.Bool.{cases_eq, cases_lt}
-use Rattle.emu_model.specs.Lists.{each, get_or-each, each_same}
+use Rattle.emu_model.specs.Lists.{each}
+use Rattle.emu_model.specs.ListLaws.{get_or-each, each_same}
 use Rattle.vec_model.proofs.FieldBits.{at_start, inside}
-use Rattle.vec_model.specs.Lanes.{field_bit, IsLaneSize}
+use Rattle.vec_model.specs.Lanes.{field_bit}
+use Rattle.vec_model.specs.LaneSizes.{IsLaneSize}
 use Rattle.vec_regs.specs.Packed.{put}
 use Rattle.vec_regs.specs.Words.{bit_of, bits_of}
-use Rattle.emu_model.specs.Lengths.{IsVectorLength}
+use Rattle.emu_model.specs.SoundState.{IsVectorLength}
 use Rattle.vec_regs.proofs.PackedLanes.{below_quotient}
 use Rattle.vec_regs.proofs.Parts.{changed, changed_same, changed_bit_other, bit_is}
 use Rattle.vec_regs.proofs.SetParts.{one_place}

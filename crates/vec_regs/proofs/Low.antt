@@ -7,7 +7,8 @@ use Rattle.std.proofs.lemmas.List.{get_or-map, get_or-take, get_or-set_other, ge
 use Rattle.std.proofs.lemmas.List.Edits.{fill_by_more}
 use Rattle.std.proofs.lemmas.List.FromFn.{fill_by_all}
 use Rattle.std.proofs.lemmas.Nat.{shr-shr}
-use Rattle.emu_model.specs.Lists.{each, length-each, get_or-each, each_same}
+use Rattle.emu_model.specs.Lists.{each}
+use Rattle.emu_model.specs.ListLaws.{length-each, get_or-each, each_same}
 use Rattle.emu_model.specs.State.{Vectors}
 use Rattle.vec_model.specs.AfterCall.{low_bytes, cleared}
 use Rattle.vec_model.specs.Lanes.{lane, with_z, with_low}

@@ -4,12 +4,14 @@ use Rattle.std.proofs.Math.Nat.{mod-lt, pow-le-pow_right, mul-le-mul_right, zero
 use Rattle.std.proofs.lemmas.Bool.{cases_lt, cases_eq}
 use Rattle.std.proofs.lemmas.List.{get_or-take, get_or-drop, get_or-set_same, get_or-set_other}
 use Rattle.std.proofs.lemmas.Nat.{pow_pos, pow-add, shr-shr, div-mul-add, mod-mul-add, mul-add-lt, div-add-mod'}
-use Rattle.emu_model.specs.Lists.{each, get_or-each, each_same}
-use Rattle.vec_model.specs.Lanes.{byte_in, with_z, with_lanes, IsLaneSize}
+use Rattle.emu_model.specs.Lists.{each}
+use Rattle.emu_model.specs.ListLaws.{get_or-each, each_same}
+use Rattle.vec_model.specs.Lanes.{byte_in, with_z, with_lanes}
+use Rattle.vec_model.specs.LaneSizes.{IsLaneSize}
 use Rattle.vec_regs.specs.Packed.{packed, word_of}
 use Rattle.vec_regs.specs.Words.{byte_of, bytes_of}
 use Rattle.emu_model.specs.State.{Vectors}
-use Rattle.emu_model.specs.Lengths.{IsVectorLength}
+use Rattle.emu_model.specs.SoundState.{IsVectorLength}
 use Rattle.vec_regs.proofs.Parts.{same_part}
 
 -- ---- one word

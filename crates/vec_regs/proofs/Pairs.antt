@@ -3,7 +3,8 @@ use Rattle.std.proofs.Common.{◌≡◌, ◌≢◌, ◌<◌, ◌≤◌, ◌+◌,
 use Rattle.std.proofs.lemmas.Bool.{cases_eq}
 use Rattle.std.proofs.lemmas.Bool.Decides.{nat_tests}
 use Rattle.std.proofs.lemmas.List.{get_or-set_same, get_or-set_other, length-set}
-use Rattle.emu_model.specs.Lists.{each, get_or-each, each_same}
+use Rattle.emu_model.specs.Lists.{each}
+use Rattle.emu_model.specs.ListLaws.{get_or-each, each_same}
 use Rattle.emu_model.specs.State.{Vectors}
 use Rattle.vec_model.specs.Lanes.{read_z, with_z}
 use Rattle.vec_regs.specs.Words.{byte_of, bytes_of, byte_with_pair}

@@ -4,7 +4,7 @@ use Rattle.std.proofs.Math.Nat.{mod-lt, mul-le-mul_right, mod-eq_of_lt, pow-le-p
 use Rattle.std.proofs.lemmas.Bool.{cases_eq, cases_order}
 use Rattle.std.proofs.lemmas.List.{get_or-set_same, get_or-set_other, length-set}
 use Rattle.std.proofs.lemmas.List.FromFn.{fill_by_all}
-use Rattle.emu_model.specs.Lists.{length-each, get_or-each}
+use Rattle.emu_model.specs.ListLaws.{length-each, get_or-each}
 use Rattle.vec_regs.specs.Packed.{put}
 use Rattle.vec_regs.specs.Words.{byte_of, bit_of, bytes_of, bits_of}
 use Rattle.std.proofs.lemmas.Nat.{pow_pos, pow-add, mod-pow-add, field_of, mod-mul-add, div-mul-add, shr-shr, mul-add-lt, div_below, div-add-mod', one_shl}

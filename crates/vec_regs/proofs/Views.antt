@@ -3,7 +3,7 @@ use Rattle.std.proofs.Common.{◌≡◌, ◌<◌, ◌/◌, ◌%◌, ◌^◌, ◌
 use Rattle.std.proofs.lemmas.List.{map-set, get_or-map, length-replicate, get_or-replicate}
 use Rattle.std.proofs.lemmas.List.FromFn.{fill_by_all}
 use Rattle.emu_model.specs.State.{Vectors, zero_vectors}
-use Rattle.emu_model.specs.Lists.{get_or-each}
+use Rattle.emu_model.specs.ListLaws.{get_or-each}
 use Rattle.vec_model.specs.Lanes.{read_z, read_p, with_z, with_p, with_ffr}
 use Rattle.vec_regs.specs.Words.{bytes_of, bits_of, byte_of, bit_of}
 use Rattle.vec_regs.specs.Shown.{shown}

@@ -1,7 +1,8 @@
 -- Lanes read from words.
 use Rattle.std.proofs.Common.{◌≡◌, ◌<◌, ◌≤◌, ℕ, List, [], length, get_or, ◌+◌, ◌*◌, ◌/◌, ◌%◌, ◌^◌, ap, ◌∙◌}
 use Rattle.emu_model.specs.State.{Vectors}
-use Rattle.vec_model.specs.Lanes.{lane, read_z, IsLaneSize}
+use Rattle.vec_model.specs.Lanes.{lane, read_z}
+use Rattle.vec_model.specs.LaneSizes.{IsLaneSize}
 use Rattle.vec_model.proofs.LaneBytes.{field_is, in_word, whole_bytes, within_bytes}
 use Rattle.vec_regs.specs.Shown.{shown}
 use Rattle.vec_regs.specs.Words.{bytes_of}

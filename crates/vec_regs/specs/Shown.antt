@@ -1,7 +1,7 @@
 -- What the words of the vector registers show.
 use Rattle.std.specs.Prelude.{◌≡◌, ◌≤◌, ◌/◌, map, length as len}
 use Rattle.std.specs.List.{All}
-use Rattle.emu_model.specs.Lengths.{IsVectorLength}
+use Rattle.emu_model.specs.SoundState.{IsVectorLength}
 use Rattle.emu_model.specs.State.{Vectors}
 use Rattle.vec_regs.specs.Words.{bytes_of, bits_of, AreZeroFrom, AreClearFrom}
 use Rattle.vec_regs.specs.declared.VecRegs.TheInside.{Inside}

@@ -1,6 +1,7 @@
 //! A sink in memory that has its room from the start.
 ghost use Rattle.std.specs.Prelude.{◌≡◌, ◌<◌, ◌≤◌, ◌-◌, [], false, Some, IfOk, is_err, length, min, nat_eq};
-ghost use Rattle.io_gate.specs.Streams.{HasCause, PutsPrefix, PutsSome, counts_if};
+ghost use Rattle.io_gate.specs.Streams.{HasCause, PutsPrefix, PutsSome};
+ghost use Rattle.io_gate.specs.Calls.{counts_if};
 
 use io_gate::{Failed, Sink};
 use std::alloc::{AllocError, Global};

@@ -3,7 +3,7 @@ ghost use Rattle.std.specs.Prelude.{◌≡◌, ◌<◌, ◌+◌, ◌*◌, ◌++�
 ghost use Rattle.io_gate.specs.Streams.{Causes};
 ghost use Rattle.elf_image.specs.Images.{seen_image};
 ghost use Rattle.elf_image.specs.Loadable.{IsLoadable};
-ghost use Rattle.emu_system.specs.Arguments.{AreArguments};
+ghost use Rattle.emu_system.specs.ArgumentLimits.{AreArguments};
 ghost use Rattle.emu_system.specs.Gained.{Gains};
 ghost use Rattle.sweep_model.specs.Sweep as model;
 ghost use Rattle.sweep_model.specs.Sweep.{fits, fits_at, line_at, sweep_text, text_before};

@@ -1,7 +1,8 @@
 //! The line of a run.
 ghost use Rattle.std.specs.Prelude.{◌≡◌, ◌≤◌, ◌+◌, ◌++◌, length, nat_eq, Some, None};
 ghost use Rattle.std.specs.List.{common_prefix_len};
-ghost use Rattle.io_gate.specs.Streams.{HasCause, PutsAll};
+ghost use Rattle.io_gate.specs.Streams.{HasCause};
+ghost use Rattle.io_gate.specs.Pieces.{PutsAll};
 ghost use Rattle.emu_run.specs.Reports.{ending_text};
 ghost use Rattle.sweep_model.specs.Sweep.{part_text, run_head, run_line};
 

@@ -1,7 +1,7 @@
 -- The program's patterns are the table's, computed.
 use Rattle.std.proofs.Common.{refl}
 use Rattle.a64_texts.specs.Flow.{flow_lines}
-use Rattle.a64_texts.specs.Table.{texts_open}
+use Rattle.a64_texts.specs.Opened.{texts_open}
 use Rattle.a64_texts.proofs.flow_lines.Goals as goal
 
 pub returns : goal.returns

@@ -1,6 +1,6 @@
 use Rattle.std.proofs.Common.{◌≡◌, ℕ, List, ap, ap₂, ◌∙◌}
 use Rattle.a64_insn.specs.declared.form.A64Form.{A64Form}
-use Rattle.a64_insn.specs.Table.{line_number}
+use Rattle.a64_insn.specs.Rows.{line_number}
 use Rattle.a64_texts.specs.Table.{a64_lines}
 use Rattle.a64_texts.proofs.Legible.{lines_sound}
 use Rattle.text_model.specs.Reading.{Pattern}

@@ -1,5 +1,5 @@
 use Rattle.std.proofs.Common.{◌≡◌, ℕ, List, [], get_or, ap, ap₂, ◌∙◌}
-use Rattle.sve_insn.specs.Table.{line_number}
+use Rattle.sve_insn.specs.Rows.{line_number}
 use Rattle.sve_texts.specs.Table.{sve_lines}
 use Rattle.sve_texts.proofs.Checked.{lines_sound}
 use Rattle.text_model.specs.Reading.{Pattern}

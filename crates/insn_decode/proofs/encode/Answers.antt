@@ -1,5 +1,5 @@
 use Rattle.std.proofs.Common.{◌∙◌, Some, sym, ap}
-use Rattle.sve_insn.specs.Table.{row_of}
+use Rattle.sve_insn.specs.Rows.{row_of}
 use Rattle.emu_run.specs.declared.insn.Insn.{Insn}
 use Rattle.insn_decode.proofs.Tables.{sve_again}
 use Rattle.insn_decode.proofs.encode.Goals as goal

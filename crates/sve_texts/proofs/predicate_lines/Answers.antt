@@ -1,5 +1,5 @@
 -- The program's patterns are the table's, computed.
-use Rattle.sve_texts.specs.Table.{texts_open}
+use Rattle.sve_texts.specs.Opened.{texts_open}
 use Rattle.std.proofs.Common.{refl}
 use Rattle.sve_texts.proofs.predicate_lines.Goals as goal
 

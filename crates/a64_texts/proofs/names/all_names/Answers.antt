@@ -5,7 +5,8 @@ use Rattle.a64_texts.specs.Flow.{flow_lines}
 use Rattle.a64_texts.specs.Memory.{memory_lines}
 use Rattle.a64_texts.specs.BitMoves.{last_lines}
 use Rattle.a64_texts.specs.Aliases.{aliases}
-use Rattle.a64_texts.specs.Table.{a64_lines, line_texts, texts_open}
+use Rattle.a64_texts.specs.Table.{a64_lines, line_texts}
+use Rattle.a64_texts.specs.Opened.{texts_open}
 use Rattle.a64_texts.proofs.names.all_names.Goals as goal
 
 pub returns-clause-first : goal.returns-clause-first

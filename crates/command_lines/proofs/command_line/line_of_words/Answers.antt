@@ -3,7 +3,7 @@ use Rattle.std.proofs.lemmas.List.{length-map}
 use Rattle.command_model.specs.declared.command_line.Line.{Line}
 use Rattle.command_model.specs.declared.command_line.WordsFault.{WordsFault}
 use Rattle.command_model.specs.CommandLine.{line_of_words}
-use Rattle.command_lines.specs.Places.{HasArguments, HasLimit, HasPlaces}
+use Rattle.command_lines.specs.LineLimits.{HasArguments, HasLimit, HasPlaces}
 use Rattle.command_lines.proofs.AcceptedLines.{arguments_fit, words_limit, words_places}
 use Rattle.command_lines.proofs.command_line.line_of_words.Goals as goal
 

@@ -6,7 +6,7 @@ use Rattle.emu_outcome.specs.Outcome.{outcome_of_session}
 use Rattle.emu_outcome.specs.declared.ending.Ending.TheVariants.{OutOfMemory}
 use Rattle.emu_system.specs.Start.{with_input}
 use Rattle.commands.specs.Programs.{opening_of}
-use Rattle.commands.specs.Promises.{now}
+use Rattle.commands.specs.Meets.{now}
 use Rattle.commands.proofs.Meetings.{nothing_meets}
 use Rattle.commands.proofs.Sessions.{session_of}
 use Rattle.commands.proofs.debugger.debug_forward.Goals as goal

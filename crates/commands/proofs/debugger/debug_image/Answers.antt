@@ -6,7 +6,7 @@ use Rattle.emu_outcome.specs.declared.ending.Ending.{Ending}
 use Rattle.emu_outcome.specs.declared.ending.Ending.TheVariants.{OutOfMemory}
 use Rattle.commands.specs.Lines.{ends_dbg, text_goes_back}
 use Rattle.commands.specs.Programs.{opening_of}
-use Rattle.commands.specs.Promises.{now}
+use Rattle.commands.specs.Meets.{now}
 use Rattle.commands.proofs.MayEnd.{kind_put}
 use Rattle.commands.proofs.Sessions.{forward_script, is_refused, obeyed_script, of_script, refused_script}
 use Rattle.commands.proofs.Settled.{failed_either}

@@ -1,7 +1,7 @@
 use Rattle.std.proofs.Common.{◌≡◌, map, string_bytes, sym, ◌∙◌, true, false}
 use Rattle.elf_image.specs.Images.{seen_image}
 use Rattle.commands.specs.Programs.{opening_of}
-use Rattle.commands.specs.Promises.{now}
+use Rattle.commands.specs.Meets.{now}
 use Rattle.commands.proofs.Sessions.{gone_back, gone_forward}
 use Rattle.commands.proofs.debugger.debug_script.Goals as goal
 

@@ -6,8 +6,9 @@ use Rattle.command_model.specs.declared.command_line.WordsFault.{WordsFault}
 use Rattle.emu_outcome.specs.Outcome.{outcome_of_line}
 use Rattle.emu_outcome.specs.declared.ending.Ending.TheVariants.{FileFault, ReadFault, OutOfMemory}
 use Rattle.emu_system.specs.Gained.{Gains}
-use Rattle.commands.specs.Promises.{now, NamesNoFile, is_failure, is_silent}
-use Rattle.commands.specs.Lines.{EndsMissing, MeetsLine, MissesFirst, TakesLast, may_end, names_file, takes_input, sweeps}
+use Rattle.commands.specs.Promises.{NamesNoFile, is_failure, is_silent}
+use Rattle.commands.specs.Meets.{now, MeetsLine}
+use Rattle.commands.specs.Lines.{EndsMissing, MissesFirst, TakesLast, may_end, names_file, takes_input, sweeps}
 use Rattle.commands.proofs.Lines.{refused_gains, refused_line, refused_names_none, refused_puts, done_refuses, line_refuses}
 use Rattle.commands.proofs.line.command.Goals as goal
 

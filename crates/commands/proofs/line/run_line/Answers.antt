@@ -7,11 +7,12 @@ use Rattle.emu_outcome.specs.declared.ending.Ending.TheVariants.{FileFault}
 use Rattle.emu_system.specs.Image.{elf}
 use Rattle.insn_texts.specs.Statements.{statements}
 use Rattle.listing_model.specs.Image.{image_of_bytes}
-use Rattle.commands.specs.Promises.{now, NamesNoFile}
+use Rattle.commands.specs.Promises.{NamesNoFile}
+use Rattle.commands.specs.Meets.{now, MeetsLine}
 use Rattle.commands.specs.declared.program.Program.{Program}
 use Rattle.commands.specs.Programs.{outcome_over, debug_line_of, run_line_of, sweep_line_of, threads_line_of}
 use Rattle.commands.proofs.Lines.{cause_of_line, missing_of_line, names_none}
-use Rattle.commands.specs.Lines.{may_end, sweeps, EndsMissing, MeetsLine, MissesFirst, TakesLast}
+use Rattle.commands.specs.Lines.{may_end, sweeps, EndsMissing, MissesFirst, TakesLast}
 use Rattle.commands.proofs.NamedFiles.{told_so}
 use Rattle.commands.proofs.line.run_line.Goals as goal
 

@@ -4,7 +4,7 @@ use Rattle.emu_system.specs.Image.{elf}
 use Rattle.emu_machine.specs.declared.machine.Machine.{Machine}
 use Rattle.emu_outcome.specs.Outcome.{program_arguments}
 use Rattle.emu_outcome.specs.declared.ending.Ending.TheVariants.{ImageRefused, OutOfMemory}
-use Rattle.commands.specs.Promises.{now}
+use Rattle.commands.specs.Meets.{now}
 use Rattle.commands.proofs.Meetings.{nothing_meets}
 use Rattle.commands.proofs.Runs.{of_image, refused_image, opened_image}
 use Rattle.commands.proofs.MayEnd.{kind_put}

@@ -5,7 +5,7 @@ use Rattle.emu_outcome.specs.Outcome.{program_arguments}
 use Rattle.emu_outcome.specs.declared.ending.Ending.{Ending}
 use Rattle.emu_outcome.specs.declared.ending.Ending.TheVariants.{ImageRefused}
 use Rattle.commands.specs.Lines.{ends_sweep}
-use Rattle.commands.specs.Promises.{now}
+use Rattle.commands.specs.Meets.{now}
 use Rattle.commands.proofs.MayEnd.{kind_put}
 use Rattle.commands.proofs.Sweeps.{opened_swept, refused_swept}
 use Rattle.commands.proofs.sweeping.sweep_bytes.Goals as goal

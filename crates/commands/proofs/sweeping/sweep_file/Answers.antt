@@ -2,7 +2,8 @@ use Rattle.std.proofs.Common.{ℕ, List, Option, Some, map, string_bytes, ap, tr
 use Rattle.emu_outcome.specs.Outcome.{Outcome, Files, outcome_of_swept}
 use Rattle.emu_system.specs.Image.{elf}
 use Rattle.commands.specs.Programs.{swept_arguments}
-use Rattle.commands.specs.Promises.{now, SettlesSweep}
+use Rattle.commands.specs.Promises.{SettlesSweep}
+use Rattle.commands.specs.Meets.{now}
 use Rattle.commands.specs.declared.sweeping.Swept.{Swept}
 use Rattle.commands.proofs.MayEnd.{stops_sweep}
 use Rattle.commands.proofs.NamedFiles.{found_file_by, over, told_so, unread_file}

@@ -8,7 +8,7 @@ use Rattle.guest_threads.specs.Ends.{WorldHeld}
 use Rattle.thread_model.specs.Worlds.{opened}
 use Rattle.commands.specs.Lines.{ends_threads}
 use Rattle.commands.specs.Programs.{opening_of}
-use Rattle.commands.specs.Promises.{now}
+use Rattle.commands.specs.Meets.{now}
 use Rattle.commands.proofs.MayEnd.{kind_put}
 use Rattle.commands.proofs.Meetings.{nothing_meets}
 use Rattle.commands.proofs.Worlds.{followed_schedule, is_refused, of_schedule, refused_schedule}

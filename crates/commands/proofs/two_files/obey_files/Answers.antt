@@ -4,7 +4,8 @@ use Rattle.io_gate.specs.Streams.{Rose}
 use Rattle.emu_outcome.specs.Outcome.{Outcome, Files, file_at}
 use Rattle.emu_outcome.specs.declared.ending.Ending.{Ending}
 use Rattle.emu_system.specs.Image.{elf}
-use Rattle.commands.specs.Promises.{now, settles_by, MeetsBy}
+use Rattle.commands.specs.Promises.{settles_by}
+use Rattle.commands.specs.Meets.{now, MeetsBy}
 use Rattle.commands.specs.Programs.{arguments_of}
 use Rattle.commands.specs.SecondFiles.{file_reads_first, outcome_by, TakesLater}
 use Rattle.commands.specs.declared.program.Program.{Program}

@@ -2,7 +2,7 @@ use Rattle.std.proofs.Common.{ℕ, List, Option, Some, map, string_bytes, ap}
 use Rattle.emu_outcome.specs.Outcome.{Outcome, Files, file_at}
 use Rattle.emu_system.specs.Image.{elf}
 use Rattle.commands.specs.Programs.{arguments_of}
-use Rattle.commands.specs.Promises.{now}
+use Rattle.commands.specs.Meets.{now}
 use Rattle.commands.specs.SecondFiles.{file_reads_first, outcome_by}
 use Rattle.commands.specs.declared.program.Program.{Program}
 use Rattle.commands.specs.declared.two_files.SecondFile.{SecondFile}

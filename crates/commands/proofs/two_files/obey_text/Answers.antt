@@ -2,7 +2,8 @@ use Rattle.std.proofs.Common.{◌≡◌, Some, map, string_bytes, sym, subst, tr
 use Rattle.elf_image.specs.Images.{seen_image}
 use Rattle.commands.specs.declared.two_files.SecondFile.{SecondFile}
 use Rattle.commands.specs.Programs.{opening_of}
-use Rattle.commands.specs.Promises.{now, settles_by, MeetsBy}
+use Rattle.commands.specs.Promises.{settles_by}
+use Rattle.commands.specs.Meets.{now, MeetsBy}
 use Rattle.commands.specs.SecondFiles.{ends_by, outcome_from, text_reads_first}
 use Rattle.commands.proofs.two_files.obey_text.Goals as goal
 

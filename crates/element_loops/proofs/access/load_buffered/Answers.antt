@@ -1,5 +1,5 @@
 use Rattle.std.proofs.Common.{length, ap, ◌∙◌}
-use Rattle.emu_model.specs.Lists.{length-each}
+use Rattle.emu_model.specs.ListLaws.{length-each}
 use Rattle.element_loops.proofs.access.load_buffered.Goals as goal
 
 pub write-requires-clause-count : goal.write-requires-clause-count

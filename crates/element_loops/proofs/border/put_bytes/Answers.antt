@@ -1,6 +1,7 @@
 use Rattle.std.proofs.Common.{◌≡◌, ◌<◌, ◌+◌, ◌^◌, ℕ, zero, suc, Bool, true, false, Some, None, if◌then◌else◌, length, refl, sym, ap, ◌∙◌, arith}
 use Rattle.emu_model.specs.declared.access.Kind.TheVariants.{Write}
-use Rattle.emu_model.specs.Access.{Memory, address, allowed, refused, refused-suc}
+use Rattle.emu_model.specs.Access.{Memory, address, allowed, refused}
+use Rattle.emu_model.specs.AccessEquations.{refused-suc}
 use Rattle.emu_model.specs.WithinPage.{none_refused_within}
 use Rattle.guest_mem.specs.Slices.{to_page_end}
 use Rattle.element_loops.proofs.border.put_bytes.Goals as goal

@@ -5,8 +5,8 @@ use Rattle.emu_model.specs.Access.{refused, value}
 use Rattle.emu_model.specs.Elements.{Element, accesses_of, reach}
 use Rattle.emu_model.specs.Pages.{bytes_at}
 use Rattle.guest_mem.specs.Slices.{to_page_end}
-use Rattle.sve_effects.specs.Element.{extended_by}
-use Rattle.sve_effects.specs.ElementLoop.{is_active}
+use Rattle.sve_effects.specs.Lane.{extended_by}
+use Rattle.sve_effects.specs.LaneLoop.{is_active}
 use Rattle.element_access.specs.ReachLaws.{all_of}
 use Rattle.element_loops.specs.declared.plan.OnLanes.{OnLanes}
 use Rattle.element_loops.specs.declared.plan.Target.{Target}

@@ -1,5 +1,5 @@
 use Rattle.std.proofs.Common.{◌≡◌, ◌<◌, ◌/◌, ℕ, Bool, Some, ap, sym, subst, ◌∙◌}
-use Rattle.sve_effects.specs.ElementLoop.{is_active}
+use Rattle.sve_effects.specs.LaneLoop.{is_active}
 use Rattle.sve_effects.specs.FirstLast.{first_where}
 use Rattle.element_loops.specs.declared.plan.OnLanes.TheVariants.{Only}
 use Rattle.element_loops.specs.declared.plan.Target.{Target}

@@ -1,5 +1,5 @@
 use Rattle.std.proofs.Common.{◌/◌, List, ℕ, length, get_or, ap, sym, ◌∙◌, arith}
-use Rattle.emu_model.specs.Lists.{get_or-each, length-each}
+use Rattle.emu_model.specs.ListLaws.{get_or-each, length-each}
 use Rattle.vec_regs.specs.Words.{byte_of}
 use Rattle.element_loops.proofs.run_store.put_register.Goals as goal
 

@@ -1,7 +1,7 @@
 use Rattle.std.proofs.Common.{◌≡◌, ◌≤◌, ◌*◌, ◌++◌, ◌∷◌, [], None, Some, false, length, ap, sym, ◌∙◌, arith}
 use Rattle.emu_model.specs.declared.access.Kind.TheVariants.{Read}
 use Rattle.emu_model.specs.Access.{refused, value}
-use Rattle.sve_effects.specs.Element.{extended_by}
+use Rattle.sve_effects.specs.Lane.{extended_by}
 use Rattle.sve_effects.specs.VectorElements.{Layout}
 use Rattle.element_loops.specs.Layouts.{layout_of}
 use Rattle.element_loops.proofs.Loads.{lane_skipped, loaded_value, no_value}

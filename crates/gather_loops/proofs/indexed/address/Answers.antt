@@ -1,6 +1,6 @@
 use Rattle.std.proofs.Common.{◌+◌, ◌*◌, ap, sym, ◌∙◌}
 use Rattle.emu_model.specs.Access as access
-use Rattle.sve_effects.specs.ElementLoop.{lane_of}
+use Rattle.sve_effects.specs.LaneLoop.{lane_of}
 use Rattle.gather_loops.specs.Indexing.{offset_of}
 use Rattle.gather_loops.proofs.Indexes.{lane_within, size_is}
 use Rattle.gather_loops.proofs.indexed.address.Goals as goal

@@ -1,5 +1,5 @@
 use Rattle.std.proofs.Common.{◌≡◌, ◌∙◌, ◌<◌, ◌+◌, ◌*◌, ◌/◌, ℕ, Bool, length, refl, sym, ap, arith}
-use Rattle.sve_effects.specs.ElementLoop.{folded, is_active, lane_of}
+use Rattle.sve_effects.specs.LaneLoop.{folded, is_active, lane_of}
 use Rattle.lane_kernels.proofs.Reductions.{all_folded, none_folded}
 use Rattle.lane_kernels.proofs.folds.fold_lanes.Goals as goal
 

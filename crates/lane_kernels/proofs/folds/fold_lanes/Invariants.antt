@@ -1,5 +1,5 @@
 use Rattle.std.proofs.Common.{◌≡◌, ◌*◌}
-use Rattle.sve_effects.specs.ElementLoop.{folded, is_active, lane_of}
+use Rattle.sve_effects.specs.LaneLoop.{folded, is_active, lane_of}
 use Rattle.lane_kernels.proofs.folds.fold_lanes.Given as goal
 
 abbrev pub invariant-loop-i : goal.invariant-loop-i

@@ -1,5 +1,5 @@
 use Rattle.std.proofs.Common.{◌≡◌, ◌<◌, ◌*◌, ◌/◌, ℕ, false, length, map, get_or}
-use Rattle.sve_effects.specs.Element.{extended_by}
+use Rattle.sve_effects.specs.Lane.{extended_by}
 use Rattle.lane_kernels.proofs.told.each_wide.Given as goal
 
 abbrev pub invariant-loop-j : goal.invariant-loop-j

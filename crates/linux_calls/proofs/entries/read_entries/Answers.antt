@@ -2,7 +2,7 @@ use Rattle.std.proofs.Common.{◌≡◌, ◌+◌, ◌*◌, ◌^◌, ◌<◌, ℕ
 use Rattle.std.proofs.Math.Nat.{mod-add-mod}
 use Rattle.emu_model.specs.declared.access.Kind.TheVariants.{Read}
 use Rattle.emu_model.specs.Access.{Memory, address, refused, value}
-use Rattle.emu_model.specs.Lists.{each-more, length-each}
+use Rattle.emu_model.specs.ListLaws.{each-more, length-each}
 use Rattle.emu_system.specs.declared.system_call.Range.{Range}
 use Rattle.emu_system.specs.SystemCall.{entries, entry_at}
 use Rattle.linux_calls.proofs.Bytes.{entry_is, part_granted, wrapped}

@@ -1,5 +1,6 @@
 use Rattle.std.proofs.Common.{◌+◌, ◌<◌, length, arith, ap, sym, ◌∙◌, is_none}
-use Rattle.emu_model.specs.Access.{Memory, address, allowed, refused-to}
+use Rattle.emu_model.specs.Access.{Memory, address, allowed}
+use Rattle.emu_model.specs.AccessEquations.{refused-to}
 use Rattle.linux_calls.proofs.Bytes.{piece_is, range_goes_on, range_stops}
 use Rattle.linux_calls.proofs.ranges.is_allowed.Goals as goal
 

@@ -1,6 +1,7 @@
 use Rattle.std.proofs.Common.{◌≡◌, ◌+◌, ◌<◌, length, arith, ap, sym, ◌∙◌, is_none, true, false, refl}
 use Rattle.emu_model.specs.declared.access.Kind.TheVariants.{Read}
-use Rattle.emu_model.specs.Access.{Memory, address, allowed, refused-from}
+use Rattle.emu_model.specs.Access.{Memory, address, allowed}
+use Rattle.emu_model.specs.AccessEquations.{refused-from}
 use Rattle.linux_calls.proofs.Bytes.{piece_is, none_put, range_goes_on, range_stops, gained_all, gained_first, put_failed}
 use Rattle.linux_calls.proofs.ranges.put_range.Goals as goal
 

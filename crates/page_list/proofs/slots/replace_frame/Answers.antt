@@ -1,6 +1,7 @@
 use Rattle.std.proofs.Common.{◌≡◌, ◌≤◌, ◌+◌, ℕ, List, Option, Some, None, IfSome, refl, ap, subst, ◌∙◌, sym, arith}
 use Rattle.std.proofs.lemmas.List.{get_or_default}
-use Rattle.emu_model.specs.Pages.{zeros, zeros_is}
+use Rattle.emu_model.specs.Pages.{zeros}
+use Rattle.emu_model.specs.PageEquations.{zeros_is}
 use Rattle.frame_arena.specs.Frames.{Frames, Live, IsLive, Takes, bytes_of, count_of, zeroed}
 use Rattle.page_list.specs.declared.slots.Hold.TheVariants.{Own}
 use Rattle.page_list.specs.declared.slots.Slot.{Slot}

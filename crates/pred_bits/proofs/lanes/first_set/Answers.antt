@@ -3,7 +3,7 @@ use Rattle.emu_bits.specs.Flags.{size_of}
 use Rattle.vec_model.specs.Active.{active}
 use Rattle.vec_regs.specs.Words.{bit_of}
 use Rattle.sve_effects.proofs.Found.{first_found, first_is}
-use Rattle.sve_effects.specs.FirstLast.{IsFirstWhere}
+use Rattle.sve_effects.specs.FirstLastLaws.{IsFirstWhere}
 use Rattle.sve_effects.specs.Predicate.{lanes_of}
 use Rattle.pred_bits.proofs.Fields.{some_bits, lanes_room}
 use Rattle.pred_bits.proofs.LaneWords.{first_of_words, first_within}

@@ -1,7 +1,7 @@
 use Rattle.std.proofs.Common.{◌≡◌, ◌≤◌, ◌*◌, ◌/◌, ◌&&◌, ℕ, Bool, false, nat_lt, Option, length, ap, subst, ◌∙◌, arith}
 use Rattle.std.proofs.lemmas.Nat.{div-add-mod'}
 use Rattle.emu_bits.specs.Flags.{size_of}
-use Rattle.emu_model.specs.Lists.{each_same}
+use Rattle.emu_model.specs.ListLaws.{each_same}
 use Rattle.vec_model.specs.Active.{active}
 use Rattle.vec_model.specs.Lanes.{field_bit}
 use Rattle.vec_regs.specs.Words.{bit_of, bits_of}

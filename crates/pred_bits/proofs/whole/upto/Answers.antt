@@ -1,5 +1,5 @@
 use Rattle.std.proofs.Common.{nat_lt, false, ◌∙◌}
-use Rattle.emu_model.specs.Lists.{each_same}
+use Rattle.emu_model.specs.ListLaws.{each_same}
 use Rattle.sve_effects.specs.Predicate.{is_upto}
 use Rattle.pred_bits.proofs.Bytes.{byte_fields}
 use Rattle.pred_bits.proofs.whole.upto.Goals as goal

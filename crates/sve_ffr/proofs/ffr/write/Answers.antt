@@ -1,5 +1,6 @@
 use Rattle.std.proofs.Common.{◌≡◌, ◌<◌, ◌≤◌, ◌/◌, ℕ, List, get_or, if◌then◌else◌, ap, subst, ◌∙◌, arith}
-use Rattle.emu_model.specs.Lists.{each, get_or-each}
+use Rattle.emu_model.specs.Lists.{each}
+use Rattle.emu_model.specs.ListLaws.{get_or-each}
 use Rattle.sve_effects.specs.FirstFault as model
 use Rattle.element_loops.proofs.Writes.{push_each, same_where}
 use Rattle.sve_ffr.proofs.ffr.write.Goals as goal

@@ -3,7 +3,7 @@ use Rattle.emu_model.specs.declared.access.Kind.TheVariants.{Read}
 use Rattle.emu_model.specs.Access.{refused, value}
 use Rattle.sve_ffr.proofs.Takes.{element_of, take_none, take_loaded, take_refused}
 use Rattle.sve_ffr.proofs.taking.take_lane.Goals as goal
-use Rattle.sve_effects.specs.Element.{extended_by}
+use Rattle.sve_effects.specs.Lane.{extended_by}
 
 pub returns-then-not-is_next-clause-lane : goal.returns-then-not-is_next-clause-lane
 returns-then-not-is_next-clause-lane c = λ r n h.

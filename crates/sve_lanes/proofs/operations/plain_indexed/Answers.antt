@@ -1,6 +1,6 @@
 use Rattle.std.proofs.Common.{◌≡◌, ℕ, ◌/◌, ◌%◌, ap, ◌∙◌}
 use Rattle.std.proofs.Math.Nat.{mod-eq_of_lt}
-use Rattle.sve_effects.specs.ElementLoop.{plain, lane_of}
+use Rattle.sve_effects.specs.LaneLoop.{plain, lane_of}
 use Rattle.sve_effects.specs.VectorData.{indexed_lane}
 use Rattle.sve_lanes.proofs.operations.plain_indexed.Goals as goal
 

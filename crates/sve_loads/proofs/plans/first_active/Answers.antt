@@ -1,5 +1,5 @@
 use Rattle.std.proofs.Common.{◌<◌, ◌/◌, sym, subst, ◌∙◌}
-use Rattle.sve_effects.specs.ElementLoop.{is_active}
+use Rattle.sve_effects.specs.LaneLoop.{is_active}
 use Rattle.element_loops.proofs.Writes.{found_here}
 use Rattle.sve_loads.proofs.plans.first_active.Goals as goal
 

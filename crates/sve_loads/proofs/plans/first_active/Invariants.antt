@@ -1,5 +1,5 @@
 use Rattle.std.proofs.Common.{◌≡◌, None}
-use Rattle.sve_effects.specs.ElementLoop.{is_active}
+use Rattle.sve_effects.specs.LaneLoop.{is_active}
 use Rattle.sve_effects.specs.FirstLast.{first_where}
 use Rattle.sve_loads.proofs.plans.first_active.Given as goal
 

@@ -1,6 +1,6 @@
 use Rattle.std.proofs.Common.{◌≡◌, ◌<◌, ◌+◌, ◌*◌, ◌/◌, ◌∙◌, ℕ, Bool, Some, None, sym, ap, subst, arith}
-use Rattle.sve_effects.specs.ElementLoop.{is_active}
-use Rattle.sve_effects.specs.FirstLast.{MeetsNowhere}
+use Rattle.sve_effects.specs.LaneLoop.{is_active}
+use Rattle.sve_effects.specs.FirstLastLaws.{MeetsNowhere}
 use Rattle.sve_effects.proofs.Found.{first_is}
 use Rattle.sve_permutes.proofs.ActiveWords.{first_of_words, idle_more, all_words}
 use Rattle.sve_permutes.proofs.LaneArrays.{word_room}

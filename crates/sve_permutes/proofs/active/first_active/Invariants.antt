@@ -1,5 +1,5 @@
 use Rattle.std.proofs.Common.{◌/◌}
-use Rattle.sve_effects.specs.ElementLoop.{is_active}
+use Rattle.sve_effects.specs.LaneLoop.{is_active}
 use Rattle.sve_permutes.proofs.ActiveWords.{IdleBelow}
 use Rattle.sve_permutes.proofs.active.first_active.Given as goal
 

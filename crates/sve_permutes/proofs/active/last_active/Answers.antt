@@ -1,6 +1,6 @@
 use Rattle.std.proofs.Common.{◌≡◌, ◌<◌, ◌≤◌, ◌+◌, ◌-◌, ◌*◌, ◌/◌, ℕ, Bool, Some, None, sym, subst, arith}
-use Rattle.sve_effects.specs.ElementLoop.{is_active}
-use Rattle.sve_effects.specs.FirstLast.{MeetsNowhere}
+use Rattle.sve_effects.specs.LaneLoop.{is_active}
+use Rattle.sve_effects.specs.FirstLastLaws.{MeetsNowhere}
 use Rattle.sve_effects.proofs.Found.{last_is}
 use Rattle.sve_permutes.proofs.ActiveWords.{IdleFrom, last_of_words, idle_from_less}
 use Rattle.sve_permutes.proofs.LaneArrays.{word_room}

@@ -1,5 +1,5 @@
 use Rattle.std.proofs.Common.{◌≡◌, ◌<◌, ◌≤◌, ◌+◌, ◌-◌, ◌*◌, ◌/◌, ◌%◌, ◌^◌, ◌∙◌, ℕ, sym, ap, subst, arith}
-use Rattle.sve_effects.specs.ElementLoop.{lane_of}
+use Rattle.sve_effects.specs.LaneLoop.{lane_of}
 use Rattle.sve_permutes.proofs.ChunkPlaces.{quads_of_lanes, joined_low, joined_high, low_room, high_room, high_spot}
 use Rattle.sve_permutes.proofs.chunks.joined_quad.Goals as goal
 

@@ -1,6 +1,6 @@
 use Rattle.std.proofs.Common.{◌≡◌, ◌≤◌, ◌/◌, ◌%◌, ◌^◌, ◌∙◌, ℕ, Bool, false, take, length, ap, ap₂, subst, arith}
 use Rattle.lane_permute.specs.Slices.{active_by}
-use Rattle.sve_effects.specs.ElementLoop.{lane_of, is_active}
+use Rattle.sve_effects.specs.LaneLoop.{lane_of, is_active}
 use Rattle.sve_effects.specs.Permute.{taken, compact_place}
 use Rattle.sve_permutes.proofs.LaneArrays.{permuted_mod, same_active}
 use Rattle.sve_permutes.proofs.slices.compacted_lanes.Goals as goal

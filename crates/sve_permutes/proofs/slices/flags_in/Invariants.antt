@@ -1,5 +1,5 @@
 use Rattle.std.proofs.Common.{◌≡◌, ◌<◌, ◌≤◌, ℕ, false, get_or, length}
-use Rattle.sve_effects.specs.ElementLoop.{is_active}
+use Rattle.sve_effects.specs.LaneLoop.{is_active}
 use Rattle.sve_permutes.proofs.slices.flags_in.Given as goal
 
 abbrev pub invariant-loop-k : goal.invariant-loop-k

@@ -1,5 +1,5 @@
 use Rattle.std.proofs.Common.{◌≡◌, ◌/◌, ◌∙◌, ℕ, length, ap₂, arith}
-use Rattle.sve_effects.specs.ElementLoop.{lane_of}
+use Rattle.sve_effects.specs.LaneLoop.{lane_of}
 use Rattle.sve_effects.specs.Permute.{taken, spliced}
 use Rattle.sve_permutes.proofs.LaneArrays.{permuted_mod}
 use Rattle.sve_permutes.proofs.slices.spliced_lanes.Goals as goal

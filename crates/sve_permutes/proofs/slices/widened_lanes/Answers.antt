@@ -1,8 +1,8 @@
 use Rattle.std.proofs.Common.{◌≡◌, ◌≤◌, ◌<◌, ◌+◌, ◌*◌, ◌/◌, ◌%◌, ◌^◌, ◌∙◌, ℕ, Bool, take, length, sym, ap, ap₂, subst, arith}
 use Rattle.emu_bits.specs.Fields.{bit}
 use Rattle.lane_permute.specs.Slices.{number_at}
-use Rattle.sve_effects.specs.Element.{extended_by}
-use Rattle.sve_effects.specs.ElementLoop.{lane_of}
+use Rattle.sve_effects.specs.Lane.{extended_by}
+use Rattle.sve_effects.specs.LaneLoop.{lane_of}
 use Rattle.sve_effects.specs.Permute.{taken, half_place}
 use Rattle.sve_effects.specs.PermuteRows.{is_high, is_signed}
 use Rattle.sve_permutes.proofs.LaneArrays.{cut_lanes, half_lanes, extended_mod}

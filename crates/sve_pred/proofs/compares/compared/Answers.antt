@@ -3,7 +3,7 @@ use Rattle.emu_bits.specs.Flags.{size_of}
 use Rattle.vec_model.specs.Lanes.{read_p}
 use Rattle.vec_regs.specs.Words.{bit_of, bits_of, AreClearFrom}
 use Rattle.sve_effects.specs.declared.predicates.LogicOp.TheVariants.{And}
-use Rattle.sve_effects.specs.Element.{element_test}
+use Rattle.sve_effects.specs.Lane.{lane_test}
 use Rattle.sve_effects.specs.Predicate.{logic}
 use Rattle.sve_effects.specs.PredicateRows.{predicate_bits, is_unsigned}
 use Rattle.sve_pred.specs.Compares.{told, answer}
@@ -13,7 +13,7 @@ use Rattle.sve_pred.proofs.compares.compared.Goals as goal
 
 pub of_words-told-requires-clause-above : goal.of_words-told-requires-clause-above
 of_words-told-requires-clause-above c =
-    let tells : ℕ → Bool = told (element_test c.args.test) (not (is_unsigned c.args.test)) (size_of c.args.e) c.args.vec.now c.args.zn c.args.operand.now in
+    let tells : ℕ → Bool = told (lane_test c.args.test) (not (is_unsigned c.args.test)) (size_of c.args.e) c.args.vec.now c.args.zn c.args.operand.now in
     subst (λ m. AreClearFrom m c.args.words.now) (sym c.bits.ensures.value)
     (told_clear (size_of c.args.e) (predicate_bits c.args.vec.now) (read_p c.args.vec.now c.args.pg) c.args.words.now tells tells (λ k. refl) c.requires.told)
 
@@ -25,7 +25,7 @@ logic-requires-clause-second c = length_given c.of_words-told.result c.bits.resu
 
 pub returns : goal.returns
 returns c =
-    let tells : ℕ → ℕ → Bool = λ (e : ℕ). told (element_test c.args.test) (not (is_unsigned c.args.test)) e c.args.vec.now c.args.zn c.args.operand.now in
+    let tells : ℕ → ℕ → Bool = λ (e : ℕ). told (lane_test c.args.test) (not (is_unsigned c.args.test)) e c.args.vec.now c.args.zn c.args.operand.now in
     let answers : ℕ → Bool = answer c.args.test (size_of c.args.e) c.args.vec.now c.args.zn c.args.operand.now in
     let m : ℕ = predicate_bits c.args.vec.now in
     c.logic.ensures

@@ -1,6 +1,6 @@
 use Rattle.std.proofs.Common.{refl, sym}
 use Rattle.emu_bits.specs.Flags.{size_of}
-use Rattle.sve_effects.specs.ElementLoop.{lane_bits}
+use Rattle.sve_effects.specs.LaneLoop.{lane_bits}
 use Rattle.sve_pred.proofs.Compared.{same_told}
 use Rattle.sve_pred.proofs.compares.compared_lanes.Goals as goal
 

@@ -1,6 +1,6 @@
 use Rattle.std.proofs.Common.{refl, sym, ap, ◌∙◌}
 use Rattle.emu_model.specs.Done.{Registers}
-use Rattle.sve_effects.specs.ElementLoop.{lane_bits}
+use Rattle.sve_effects.specs.LaneLoop.{lane_bits}
 use Rattle.sve_effects.specs.PredicateRows.{vector_test}
 use Rattle.sve_pred.proofs.Compared.{same_compared, same_told}
 use Rattle.sve_pred.specs.declared.compares.Operand.TheVariants.{Lane}

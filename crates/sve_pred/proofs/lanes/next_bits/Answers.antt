@@ -1,6 +1,6 @@
 use Rattle.std.proofs.Common.{ℕ, Bool, List, length, ap, ◌∙◌}
 use Rattle.emu_bits.specs.Flags.{size_of}
-use Rattle.sve_effects.specs.ElementLoop.{lane_bits}
+use Rattle.sve_effects.specs.LaneLoop.{lane_bits}
 use Rattle.sve_effects.specs.Predicate.{only_next, pred_test}
 use Rattle.sve_effects.specs.PredicateRows.{predicate_bits}
 use Rattle.vec_model.specs.Lanes.{read_p}

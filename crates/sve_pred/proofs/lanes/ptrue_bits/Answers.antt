@@ -1,6 +1,6 @@
 use Rattle.std.proofs.Common.{◌≡◌, ◌≤◌, ◌/◌, ap, ◌∙◌, arith}
 use Rattle.emu_bits.specs.Flags.{size_of}
-use Rattle.sve_effects.specs.ElementLoop.{lane_bits}
+use Rattle.sve_effects.specs.LaneLoop.{lane_bits}
 use Rattle.sve_effects.specs.Pattern.{pattern_count}
 use Rattle.sve_effects.specs.Predicate.{lanes_of, lanes_below}
 use Rattle.sve_effects.specs.PredicateRows.{predicate_bits}

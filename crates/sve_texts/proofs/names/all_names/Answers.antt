@@ -1,5 +1,5 @@
 -- The index, computed.
-use Rattle.sve_texts.specs.Table.{texts_open}
+use Rattle.sve_texts.specs.Opened.{texts_open}
 use Rattle.std.proofs.Common.{refl}
 use Rattle.sve_texts.proofs.names.all_names.Goals as goal
 

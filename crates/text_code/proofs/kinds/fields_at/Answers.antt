@@ -2,7 +2,7 @@ use Rattle.std.proofs.Common.{◌≡◌, ◌+◌, ◌*◌, ◌^◌, ℕ, Bool, t
 use Rattle.std.proofs.lemmas.Bool.{cases_lt}
 use mir.Val.{bool_byte}
 use Rattle.emu_bits.specs.Fields.{bit}
-use Rattle.emu_bits.specs.Bitmask.{IsLeastFields, GivesBitmask}
+use Rattle.emu_bits.specs.LeastFields.{IsLeastFields, GivesBitmask}
 use Rattle.text_model.specs.Masks.{bitmask_fields}
 use Rattle.text_code.proofs.Bitmasks.{least_fields, no_fields, too_large}
 use Rattle.text_code.proofs.kinds.fields_at.Goals as goal

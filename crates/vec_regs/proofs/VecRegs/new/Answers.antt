@@ -1,5 +1,5 @@
 use Rattle.std.proofs.Common.{◌≡◌, ◌/◌, ℕ, List, length, replicate, refl, subst, arith}
-use Rattle.emu_model.specs.Lengths.{IsVectorLength}
+use Rattle.emu_model.specs.SoundState.{IsVectorLength}
 use Rattle.std.proofs.lemmas.List.Elements.{All-replicate}
 use Rattle.vec_regs.specs.Words.{AreZeroFrom, AreClearFrom}
 use Rattle.vec_regs.proofs.Views.{zero_shown, zero_word, zero_bit}

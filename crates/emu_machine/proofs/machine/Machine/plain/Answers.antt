@@ -1,5 +1,6 @@
 use Rattle.std.proofs.Common.{◌≡◌, ℕ, ◌%◌, Some, Option, Ok, ap, sym, ◌∙◌, arith}
-use Rattle.emu_model.specs.Access.{Memory, done_unless, refused, value}
+use Rattle.emu_model.specs.Access.{Memory, refused, value}
+use Rattle.emu_model.specs.LoadsAndStores.{done_unless}
 use Rattle.emu_model.specs.declared.access.Kind.TheVariants.{Fetch}
 use Rattle.emu_model.specs.declared.program_break.Break.{Break}
 use Rattle.emu_model.specs.declared.trap.Ended.{Ended}

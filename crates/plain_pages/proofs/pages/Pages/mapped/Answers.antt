@@ -1,7 +1,7 @@
 use Rattle.std.proofs.Common.{◌≡◌, length, sym, subst, ap, ◌∙◌, arith}
 use Rattle.std.specs.FinMap.{len}
 use Rattle.emu_model.specs.Access.{Memory, no_marks}
-use Rattle.emu_model.specs.State.{IsSoundMemory}
+use Rattle.emu_model.specs.SoundState.{IsSoundMemory}
 use Rattle.std.proofs.lemmas.List.{length-map}
 use Rattle.plain_pages.specs.Slots.{entry_of, entries_of}
 use Rattle.guest_pages.proofs.Maps.{len_is, sound_is}

@@ -1,6 +1,6 @@
 use Rattle.std.proofs.Common.{◌≡◌, ◌<◌, ◌+◌, ◌-◌, ◌*◌, ◌/◌, ◌%◌, ◌^◌, ◌∙◌, ℕ, length, sym, ap, arith}
 use Rattle.lane_permute.specs.Slices.{number_at}
-use Rattle.sve_effects.specs.ElementLoop.{lane_of}
+use Rattle.sve_effects.specs.LaneLoop.{lane_of}
 use Rattle.sve_permutes.proofs.ChunkPlaces.{quads_of_lanes, rev_spot}
 use Rattle.sve_permutes.proofs.chunks.ReversedChunks.chunk.Goals as goal
 

@@ -1,6 +1,6 @@
 use Rattle.std.proofs.Common.{◌<◌, ◌%◌, ◌^◌, ◌∙◌, length, ap, arith}
 use Rattle.lane_permute.specs.Slices.{number_at}
-use Rattle.sve_effects.specs.ElementLoop.{lane_of}
+use Rattle.sve_effects.specs.LaneLoop.{lane_of}
 use Rattle.sve_permutes.proofs.ChunkPlaces.{even_quad, trn_chunk}
 use Rattle.sve_permutes.proofs.chunks.TransposedChunks.chunk.Goals as goal
 

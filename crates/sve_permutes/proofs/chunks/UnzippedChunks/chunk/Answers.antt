@@ -1,6 +1,6 @@
 use Rattle.std.proofs.Common.{◌≡◌, ◌<◌, ◌/◌, ◌^◌, ◌∙◌, ℕ, length, ap, arith}
 use Rattle.lane_permute.specs.Slices.{number_at}
-use Rattle.sve_effects.specs.ElementLoop.{lane_of}
+use Rattle.sve_effects.specs.LaneLoop.{lane_of}
 use Rattle.sve_effects.specs.Permute.{taken, joined, uzp_place}
 use Rattle.sve_permutes.proofs.ChunkPlaces.{uzp_chunk}
 use Rattle.sve_permutes.proofs.chunks.UnzippedChunks.chunk.Goals as goal

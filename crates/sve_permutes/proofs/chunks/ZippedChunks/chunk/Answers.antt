@@ -1,7 +1,7 @@
 use Rattle.std.proofs.Common.{◌≡◌, ◌<◌, ◌+◌, ◌*◌, ◌/◌, ◌%◌, ◌^◌, ◌∙◌, ℕ, nat_eq, length, ap, arith}
 use Rattle.emu_bits.specs.Fields.{bit}
 use Rattle.lane_permute.specs.Slices.{number_at}
-use Rattle.sve_effects.specs.ElementLoop.{lane_of}
+use Rattle.sve_effects.specs.LaneLoop.{lane_of}
 use Rattle.sve_effects.specs.Permute.{taken, zip_place}
 use Rattle.sve_permutes.proofs.ChunkPlaces.{even_quad, quads_of_lanes, odd_half, zip_chunk}
 use Rattle.sve_permutes.proofs.chunks.ZippedChunks.chunk.Goals as goal

@@ -1,0 +1,29 @@
+use Rattle.std.proofs.Common.{◌+◌, ◌*◌, ℕ, List, Option, Some, None, w64, get_or, refl, sym, ap, inl, inr, ◌∙◌, arith}
+use Rattle.std.specs.Int.{trailing_zeros}
+use Rattle.std.proofs.lemmas.Bool.{cases_lt}
+use Rattle.std.proofs.lemmas.Nat.Bits.{bit_at-trailing_zeros}
+use Rattle.vec_regs.specs.Words.{bit_of}
+use Rattle.vec_regs.proofs.Views.{zero_bit}
+use Rattle.sve_effects.proofs.Found.{first_is}
+use Rattle.sve_effects.specs.Predicate.{is_at}
+use Rattle.pred_bits.proofs.NextLane.{one_bit}
+use Rattle.pred_bits.proofs.Places.{zero_word, first_found}
+use Rattle.pred_bits.proofs.pred_words.first_alone.Goals as goal
+
+pub returns-then-word-ne0 : goal.returns-then-word-ne0
+returns-then-word-ne0 c b =
+    let x : ℕ = get_or c.args.words.now c.loop-i.i 0 in
+    let it = bit_at-trailing_zeros w64 (get_or c.args.words.now c.loop-i.i 0) (omega arith) (omega arith) in
+    ap (λ (ws : List ℕ). bit_of ws b) c.word_alone.ensures
+    ∙ one_bit c.loop-i.i (trailing_zeros w64 x) c.with_bit-alone.result b (omega arith) it.0 c.with_bit-alone.ensures.written c.with_bit-alone.ensures.others
+    ∙ ap (λ (o : Option ℕ). is_at o b)
+    (sym (first_is 256 (bit_of c.args.words.now) (Some (64 * c.loop-i.i + trailing_zeros w64 x)) (first_found c.args.words.now c.loop-i.i x refl (omega arith) (omega arith) (omega arith) c.loop-i.invariant)))
+
+pub loop-i-preserved : goal.loop-i-preserved
+loop-i-preserved c b h = elim (cases_lt b (64 * c.loop-i.i)) [
+  | inl q ↦ c.loop-i.invariant b q
+  | inr q ↦ zero_word c.args.words.now c.loop-i.i b (omega arith) q (omega arith)
+]
+
+pub returns : goal.returns
+returns c b = zero_bit 4 b ∙ ap (λ (o : Option ℕ). is_at o b) (sym (first_is 256 (bit_of c.args.words.now) None (λ b h. c.loop-i.invariant b (omega arith))))

@@ -1,0 +1,6 @@
+use Rattle.std.proofs.Common.{◌≡◌, ◌<◌, ◌*◌, ℕ, false}
+use Rattle.vec_regs.specs.Words.{bit_of}
+use Rattle.pred_bits.proofs.pred_words.first_is_in.Given as goal
+
+abbrev pub invariant-loop-i : goal.invariant-loop-i
+invariant-loop-i l = (b : ℕ) → b < 64 * l.i → bit_of l.on b ≡ false

@@ -1,0 +1,6 @@
+use Rattle.std.proofs.Common.{◌≡◌, ◌<◌, ◌≤◌, ◌*◌, ℕ, false}
+use Rattle.vec_regs.specs.Words.{bit_of}
+use Rattle.pred_bits.proofs.pred_words.last_bit.Given as goal
+
+abbrev pub invariant-loop-i : goal.invariant-loop-i
+invariant-loop-i l = (b : ℕ) → 64 * l.i ≤ b → b < 256 → bit_of l.words b ≡ false
