@@ -202,6 +202,15 @@ sessions_back() {
     holds "sessions that go back" python3 tests/back.py "$built"
 }
 
+# README's list of the definitions that the headline reads.
+trusted_definitions() {
+    if ! command -v python3 >/dev/null; then
+        skip "the definitions that the headline reads" "there is no python3"
+        return
+    fi
+    holds "the definitions that the headline reads" tools/trusted
+}
+
 # A minute of random input, the same each time.
 random_input() {
     if ! command -v python3 >/dev/null; then
@@ -259,6 +268,7 @@ if [ "$failed" -eq 0 ]; then
     load_programs
     sessions_back
     lying_images
+    trusted_definitions
     random_input
 fi
 echo "$passed passed, $failed failed, $skipped skipped"
