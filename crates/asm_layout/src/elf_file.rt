@@ -3,9 +3,10 @@ ghost use Rattle.std.specs.Prelude.{◌≡◌, ◌==◌, ◌&&◌, ◌++◌, ◌
 ghost use Rattle.byteorder.specs.Endian.{little_bytes};
 ghost use Rattle.listing_model.specs.File as elf;
 
-use crate::filling::{CODE_BASE, PAGE, rounded_up};
+use crate::filling::{CODE_BASE, rounded_up};
 use asm_tokens::OutOfMemory;
 use byteorder::{LittleEndian, WriteBytesExt};
+use emu_model::{PAGE_BYTES, PAGE_SIZE};
 use std::alloc::{AllocError, Global};
 
 /// Appends a number of 2 bytes.
@@ -79,7 +80,7 @@ fn put_segment(file: &mut Vec<u8>, segment: Segment) -> Result<(), OutOfMemory>
     put_64(file, segment.address)?;
     put_64(file, segment.file_size)?;
     put_64(file, segment.memory_size)?;
-    put_64(file, PAGE)
+    put_64(file, PAGE_SIZE)
 }
 
 /// Appends the program header of the code.
@@ -90,7 +91,7 @@ fn put_code_header(file: &mut Vec<u8>, size: u64) -> Result<(), OutOfMemory>
         file,
         Segment {
             flags: 5,
-            offset: PAGE,
+            offset: PAGE_SIZE,
             address: CODE_BASE,
             file_size: size,
             memory_size: size,
@@ -114,7 +115,7 @@ fn put_data_header(
         file,
         Segment {
             flags: 6,
-            offset: PAGE + rounded_up(code_size),
+            offset: PAGE_SIZE + rounded_up(code_size),
             address: CODE_BASE + rounded_up(code_size),
             file_size: size,
             memory_size: size + bss,
@@ -147,16 +148,16 @@ pub fn elf_file(
     if has_no_data(values, bss) {
         put_header(&mut file, entry, 1)?;
         put_code_header(&mut file, size)?;
-        pad(&mut file, 4096)?;
+        pad(&mut file, PAGE_BYTES)?;
         file.extend_from_slice(code)?;
         return Ok(file);
     }
     put_header(&mut file, entry, 2)?;
     put_code_header(&mut file, size)?;
     put_data_header(&mut file, size, values.len() as u64, bss)?;
-    pad(&mut file, 4096)?;
+    pad(&mut file, PAGE_BYTES)?;
     file.extend_from_slice(code)?;
-    pad(&mut file, 4096 + rounded_up(size) as usize)?;
+    pad(&mut file, PAGE_BYTES + rounded_up(size) as usize)?;
     file.extend_from_slice(values)?;
     Ok(file)
 }

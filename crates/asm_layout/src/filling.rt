@@ -9,20 +9,18 @@ use crate::draft::{Gap, Hole};
 use crate::labels::{Labels, Place};
 use asm_lines::Instructions;
 use asm_tokens::Target;
+use emu_model::PAGE_SIZE;
 use listing_model::{ListingFault, ListingWhy, Section};
 
 /// Where code stands in memory.
 pub const CODE_BASE: u64 = 0x40_0000;
-
-/// Bytes of a page.
-pub const PAGE: u64 = 4096;
 
 /// Bytes of whole pages.
 pub fn rounded_up(n: u64) -> u64
     requires { n ≤ 2 ^ 24 }
     ensures { result ≡ rounded n }
 {
-    (n + (PAGE - 1)) / PAGE * PAGE
+    (n + (PAGE_SIZE - 1)) / PAGE_SIZE * PAGE_SIZE
 }
 
 /// Where a place stands in memory, with so many bytes of code.

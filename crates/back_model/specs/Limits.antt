@@ -9,7 +9,7 @@ use Rattle.emu_model.specs.declared.program_break.Break.{Break}
 use Rattle.emu_model.specs.declared.trap.Effect.{Effect}
 use Rattle.emu_model.specs.declared.trap.Effect.TheVariants.{Next, Branch as Branching, Call, Trap as Trapping}
 use Rattle.emu_model.specs.declared.trap.TrapKind.TheVariants.{PcAlign, SpAlign}
-use Rattle.emu_model.specs.Access.{Memory, address, refused, stored, value, with_byte}
+use Rattle.emu_model.specs.Access.{Memory, address, refused, stored, value, with_byte, page_size}
 use Rattle.emu_model.specs.AccessEquations.{stored-suc, stored-zero}
 use Rattle.emu_model.specs.Done.{Done, traps}
 use Rattle.emu_model.specs.Elements.{Reach, Element, reach, with_stored}
@@ -231,14 +231,14 @@ module _ (m : Memory) where
   mapping_limit : (count prot flags : ℕ) → HasLimit m.limit (mapping m count prot flags)
   mapping_limit count prot flags =
       both m.limit (nat_eq count 0 || nat_lt 7 prot || not (is_private_and_anonymous flags)) (fails EINVAL)
-      (mapping_at (free_run m.pages (pages_for count) (highest / 4096)) m (pages_for count) (rights_of prot)) tt
-      (mapping_at_limit (free_run m.pages (pages_for count) (highest / 4096)) (pages_for count) (rights_of prot))
+      (mapping_at (free_run m.pages (pages_for count) (highest / page_size)) m (pages_for count) (rights_of prot)) tt
+      (mapping_at_limit (free_run m.pages (pages_for count) (highest / page_size)) (pages_for count) (rights_of prot))
 
   protection_limit : (a count prot : ℕ) → HasLimit m.limit (protection m a count prot)
   protection_limit a count prot =
       both m.limit (not (is_page a) || nat_lt 7 prot) (fails EINVAL) _ tt
       (both m.limit (nat_eq count 0) (answers 0) _ tt
-      (both m.limit (is_beyond a count || is_some (least_unmapped m.pages (a / 4096) (pages_for count))) (fails ENOMEM) _ tt refl))
+      (both m.limit (is_beyond a count || is_some (least_unmapped m.pages (a / page_size) (pages_for count))) (fails ENOMEM) _ tt refl))
 
   setting_limit : (v : Vectors) (option bytes : ℕ) → HasLimit m.limit (vector_length v option bytes)
   setting_limit v option bytes =

@@ -7,7 +7,7 @@ use Rattle.std.specs.Ordering.{nat_cmp, eq_by_cmp}
 use Rattle.std.specs.Cmp.{nat_cmp_total}
 use Rattle.std.specs.FinMap.{FinMap, get, insert, retain_keys, get-insert, get-retain_keys, nat_cmp-IsAntisymmetric}
 use Rattle.emu_model.specs.declared.access.Rights.{Rights}
-use Rattle.emu_model.specs.Access.{Memory, Page}
+use Rattle.emu_model.specs.Access.{Memory, Page, page_size}
 use Rattle.emu_model.specs.ByteMap.{IsByteMap}
 use Rattle.emu_model.specs.PageLaws.{among, none_among, get_mapped, get_unmapped, get_protected, with_rights}
 use Rattle.emu_model.specs.Pages.{is_among, mapped, unmapped, protected, page_peek, peeked, zeroed_page, zeros}
@@ -17,8 +17,8 @@ use Rattle.byte_laws.proofs.Keys.{tied, untied}
 
 -- a memory whose bytes are another's but for those of some pages has such a map
 set_map : (m n : Memory) (bytes new : FinMap nat_cmp ℕ) (first count : ℕ) (what : Option ℕ) → IsByteMap m bytes → IsSetInPages first count what bytes new
-    → ((a : ℕ) → peeked n a ≡ cond (is_among first count (a / 4096)) what (peeked m a)) → IsByteMap n new
-set_map m n bytes new first count what is set peek a = set a ∙ ap (λ o. cond (is_among first count (a / 4096)) what o) (is a) ∙ sym (peek a)
+    → ((a : ℕ) → peeked n a ≡ cond (is_among first count (a / page_size)) what (peeked m a)) → IsByteMap n new
+set_map m n bytes new first count what is set peek a = set a ∙ ap (λ o. cond (is_among first count (a / page_size)) what o) (is a) ∙ sym (peek a)
 
 -- ---- taken away
 
@@ -32,13 +32,13 @@ gone false o = refl
 
 pub unmapped_map : (m : Memory) (bytes : FinMap nat_cmp ℕ) (first count : ℕ) → IsByteMap m bytes → (new : FinMap nat_cmp ℕ) × IsByteMap (unmapped m first count) new × IsSetInPages first count None bytes new
 unmapped_map m bytes first count is =
-    let new : FinMap nat_cmp ℕ = retain_keys bytes (λ a. not (is_among first count (a / 4096))) in
+    let new : FinMap nat_cmp ℕ = retain_keys bytes (λ a. not (is_among first count (a / page_size))) in
     let set : IsSetInPages first count None bytes new = λ a.
-    get-retain_keys bytes (λ a. not (is_among first count (a / 4096))) a (λ x e. ap (λ a. not (is_among first count (a / 4096))) (sym (nat_cmp-IsAntisymmetric a x e)))
-    ∙ gone (is_among first count (a / 4096)) (get bytes a) in (
+    get-retain_keys bytes (λ a. not (is_among first count (a / page_size))) a (λ x e. ap (λ a. not (is_among first count (a / page_size))) (sym (nat_cmp-IsAntisymmetric a x e)))
+    ∙ gone (is_among first count (a / page_size)) (get bytes a) in (
       new,
       set_map m (unmapped m first count) bytes new first count None is set (λ a.
-          ap (λ (o : Option Page). page_peek o (a % 4096)) (get_unmapped m.pages first count (a / 4096)) ∙ peek_gone (is_among first count (a / 4096)) (get m.pages (a / 4096)) (a % 4096)),
+          ap (λ (o : Option Page). page_peek o (a % page_size)) (get_unmapped m.pages first count (a / page_size)) ∙ peek_gone (is_among first count (a / page_size)) (get m.pages (a / page_size)) (a % page_size)),
       set,
     )
 
@@ -62,23 +62,23 @@ zeros_from (suc n) bytes a =
           ] refl,
     )
 
-by_page : (first count a : ℕ) → is_among (first * 4096) (count * 4096) a ≡ is_among first count (a / 4096)
+by_page : (first count a : ℕ) → is_among (first * page_size) (count * page_size) a ≡ is_among first count (a / page_size)
 by_page first count a = grind (arith, nat_tests)
 
 zero_at : (n k : ℕ) → k < n → get_or (zeros n) k 0 ≡ 0
 zero_at n k lt = ap (λ bytes. get_or bytes k 0) (zeros_is n) ∙ get_or-replicate n k 0 0 lt
 
-peek_zeroed : (b : Bool) (o : Option Page) (rights : Rights) (k : ℕ) → k < 4096 → page_peek (cond b (Some (zeroed_page rights)) o) k ≡ cond b (Some 0) (page_peek o k)
-peek_zeroed true o rights k lt = ap Some (zero_at 4096 k lt)
+peek_zeroed : (b : Bool) (o : Option Page) (rights : Rights) (k : ℕ) → k < page_size → page_peek (cond b (Some (zeroed_page rights)) o) k ≡ cond b (Some 0) (page_peek o k)
+peek_zeroed true o rights k lt = ap Some (zero_at page_size k lt)
 peek_zeroed false o rights k lt = refl
 
 pub mapped_map : (m : Memory) (bytes : FinMap nat_cmp ℕ) (first count : ℕ) (rights : Rights) → IsByteMap m bytes → (new : FinMap nat_cmp ℕ) × IsByteMap (mapped m first count rights) new × IsSetInPages first count (Some 0) bytes new
 mapped_map m bytes first count rights is =
-    let new = zeros_from (count * 4096) bytes (first * 4096) in
+    let new = zeros_from (count * page_size) bytes (first * page_size) in
     let set : IsSetInPages first count (Some 0) bytes new.0 = λ a. new.1 a ∙ ap (λ t. cond t (Some 0) (get bytes a)) (by_page first count a) in (
       new.0,
       set_map m (mapped m first count rights) bytes new.0 first count (Some 0) is set (λ a.
-          ap (λ (o : Option Page). page_peek o (a % 4096)) (get_mapped m.pages first count rights (a / 4096)) ∙ peek_zeroed (is_among first count (a / 4096)) (get m.pages (a / 4096)) rights (a % 4096) (omega arith)),
+          ap (λ (o : Option Page). page_peek o (a % page_size)) (get_mapped m.pages first count rights (a / page_size)) ∙ peek_zeroed (is_among first count (a / page_size)) (get m.pages (a / page_size)) rights (a % page_size) (omega arith)),
       set,
     )
 
@@ -92,4 +92,4 @@ peek_protected false o rights k = refl
 pub protected_map : (m : Memory) (bytes : FinMap nat_cmp ℕ) (first count : ℕ) (rights : Rights) → IsByteMap m bytes → IsByteMap (protected m first count rights) bytes
 protected_map m bytes first count rights is a =
     is a
-    ∙ sym (ap (λ (o : Option Page). page_peek o (a % 4096)) (get_protected m.pages first count rights (a / 4096)) ∙ peek_protected (is_among first count (a / 4096)) (get m.pages (a / 4096)) rights (a % 4096))
+    ∙ sym (ap (λ (o : Option Page). page_peek o (a % page_size)) (get_protected m.pages first count rights (a / page_size)) ∙ peek_protected (is_among first count (a / page_size)) (get m.pages (a / page_size)) rights (a % page_size))

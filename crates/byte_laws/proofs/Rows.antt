@@ -6,7 +6,7 @@ use Rattle.std.specs.Option.{unwrap_or}
 use Rattle.std.specs.Ordering.{nat_cmp, eq_by_cmp}
 use Rattle.std.specs.Cmp.{nat_cmp_total, unsigned_tied}
 use Rattle.std.specs.FinMap.{FinMap, get, insert, contains_key, get-insert}
-use Rattle.emu_model.specs.Access.{Memory, Page, page_of, page_byte, with_byte, pages_with_byte, page_with_byte, address}
+use Rattle.emu_model.specs.Access.{Memory, Page, page_of, page_byte, with_byte, pages_with_byte, page_with_byte, address, page_size}
 use Rattle.emu_model.specs.AccessLaws.{peek_after, write_unmapped}
 use Rattle.emu_model.specs.ByteMap.{IsByteMap, put}
 use Rattle.emu_model.specs.Pages.{bytes_at, page_peek, peeked, with_bytes}
@@ -25,7 +25,7 @@ pub reads : (n : ℕ) (m : Memory) (bytes : FinMap nat_cmp ℕ) (a : ℕ) → Is
 reads zero m bytes a is = bytes_at-zero m a
 reads (suc n) m bytes a is =
     bytes_at-suc m a n
-    ∙ ap (λ b. b ∷ bytes_at m (a + 1) n) (byte_peeked (page_of m (address a)) (address a % 4096) ∙ ap (λ (o : Option ℕ). unwrap_or o 0) (sym (is (address a))))
+    ∙ ap (λ b. b ∷ bytes_at m (a + 1) n) (byte_peeked (page_of m (address a)) (address a % page_size) ∙ ap (λ (o : Option ℕ). unwrap_or o 0) (sym (is (address a))))
     ∙ ap (λ bs. unwrap_or (get bytes (address a)) 0 ∷ bs) (reads n m bytes (a + 1) is)
 
 -- ---- one byte put
@@ -93,33 +93,33 @@ there (x ∷ xs) bytes a (suc k) few lt has =
 
 -- each page has its 4,096 bytes
 abbrev AreWhole : Memory → Type 0
-AreWhole m = (page : ℕ) (p : Page) → get m.pages page ≡ Some p → length p.bytes ≡ 4096
+AreWhole m = (page : ℕ) (p : Page) → get m.pages page ≡ Some p → length p.bytes ≡ page_size
 
 whole_with_byte : (m : Memory) (a b : ℕ) → AreWhole m → AreWhole (with_byte m a b)
 whole_with_byte m a b h =
-    elim (page_of m a) as (λ (o : Option Page). page_of m a ≡ o → AreWhole (record m { pages = pages_with_byte m.pages o (a / 4096) (a % 4096) b })) [
+    elim (page_of m a) as (λ (o : Option Page). page_of m a ≡ o → AreWhole (record m { pages = pages_with_byte m.pages o (a / page_size) (a % page_size) b })) [
       | None ↦ λ is. h
       | Some p ↦ λ is page q at.
-          elim (eq_by_cmp nat_cmp page (a / 4096)) as (λ t. cond t (Some (page_with_byte p (a % 4096) b)) (get m.pages page) ≡ Some q → length q.bytes ≡ 4096) [
-            | true ↦ λ x. let here : page_with_byte p (a % 4096) b ≡ q = cc in
-                ap (λ (r : Page). length r.bytes) (sym here) ∙ length-set p.bytes (a % 4096) b ∙ h (a / 4096) p is
+          elim (eq_by_cmp nat_cmp page (a / page_size)) as (λ t. cond t (Some (page_with_byte p (a % page_size) b)) (get m.pages page) ≡ Some q → length q.bytes ≡ page_size) [
+            | true ↦ λ x. let here : page_with_byte p (a % page_size) b ≡ q = cc in
+                ap (λ (r : Page). length r.bytes) (sym here) ∙ length-set p.bytes (a % page_size) b ∙ h (a / page_size) p is
             | false ↦ λ x. h page q x
-          ] (sym (get-insert nat_cmp_total m.pages (a / 4096) (page_with_byte p (a % 4096) b) page) ∙ at)
+          ] (sym (get-insert nat_cmp_total m.pages (a / page_size) (page_with_byte p (a % page_size) b) page) ∙ at)
     ] refl
 
 put_map : (m : Memory) (bytes : FinMap nat_cmp ℕ) (a b : ℕ) (o : Option Page) → AreWhole m → IsByteMap m bytes → page_of m a ≡ o → IsByteMap (with_byte m a b) (put bytes a b)
 put_map m bytes a b None h is at q =
-    let missing : get bytes a ≡ None = is a ∙ ap (λ (o : Option Page). page_peek o (a % 4096)) at in
+    let missing : get bytes a ≡ None = is a ∙ ap (λ (o : Option Page). page_peek o (a % page_size)) at in
     ap (λ (o : Option ℕ). get (if is_some o then insert bytes a b else bytes) q) missing
     ∙ is q
     ∙ ap (λ m. peeked m q) (sym (write_unmapped m a b at))
 put_map m bytes a b (Some p) h is at q =
-    let found : get bytes a ≡ Some (get_or p.bytes (a % 4096) 0) = is a ∙ ap (λ (o : Option Page). page_peek o (a % 4096)) at in
+    let found : get bytes a ≡ Some (get_or p.bytes (a % page_size) 0) = is a ∙ ap (λ (o : Option Page). page_peek o (a % page_size)) at in
     ap (λ (o : Option ℕ). get (if is_some o then insert bytes a b else bytes) q) found
     ∙ get-insert nat_cmp_total bytes a b q
     ∙ ap (λ t. cond t (Some b) (get bytes q)) (unsigned_tied q a)
     ∙ ap (λ o. cond (nat_eq q a) (Some b) o) (is q)
-    ∙ sym (peek_after m a b q p at (h (a / 4096) p at))
+    ∙ sym (peek_after m a b q p at (h (a / page_size) p at))
 
 row_map : (xs : List ℕ) (m : Memory) (bytes : FinMap nat_cmp ℕ) (a : ℕ) → AreWhole m → IsByteMap m bytes → IsByteMap (with_bytes m a xs) (written_row bytes a xs)
 row_map [] m bytes a h is = is

@@ -4,7 +4,7 @@ ghost use Rattle.emu_model.specs.SoundState.{IsSoundBreak};
 
 use crate::items::{are_text, byte_of, bytes_of, end_of, find, find_number, number};
 use crate::registers::{MONITOR, are_same, core_of, distinct, is_core, vectors_of};
-use emu_model::{Break, Length};
+use emu_model::{Break, Length, PAGE_SIZE};
 use guest_mem::Mem;
 use guest_pages::{Pages, Rights};
 use io_gate::{MemSink, MemSource};
@@ -87,10 +87,10 @@ fn memory_of(alloc: Global, line: &str) -> Option<Mem> {
 
 /// Puts a byte at an address in the page of data.
 fn put_byte(pages: &mut Pages, address: u64, byte: u8) -> Option<()> {
-    if address / 4096 != DATA {
+    if address / PAGE_SIZE != DATA {
         return None;
     }
-    pages.write(DATA, (address % 4096) as usize, &[byte]);
+    pages.write(DATA, (address % PAGE_SIZE) as usize, &[byte]);
     Some(())
 }
 
@@ -152,7 +152,7 @@ fn is_sound(brk: Break) -> bool
     ensures { IsTrue result → IsSoundBreak brk }
 {
     brk.start != 0
-        && brk.start.is_multiple_of(4096)
+        && brk.start.is_multiple_of(PAGE_SIZE)
         && brk.start <= brk.now
         && brk.now <= 0x7F00_0000_0000
 }
@@ -260,7 +260,7 @@ impl Play {
 
     /// Whether the page of an address has the rights of these letters, or isn't mapped for `none`.
     fn has_rights(&self, address: u64, letters: &str) -> bool {
-        match self.memory.pages().find(address / 4096) {
+        match self.memory.pages().find(address / PAGE_SIZE) {
             None => letters == "none",
             Some((rights, _)) => {
                 let wanted = Rights {

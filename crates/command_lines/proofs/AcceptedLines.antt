@@ -7,7 +7,8 @@ use Rattle.std.proofs.lemmas.Bool.Decides.{nat_tests}
 use Rattle.std.proofs.lemmas.Option.{get_or_from_slice_get, slice_get_within}
 use Rattle.std.proofs.lemmas.List.{get_or-take, length-drop, length-take}
 use Rattle.std.proofs.lemmas.List.Elements.{All-append, All-cons, All-drop}
-use Rattle.std.proofs.lemmas.List.Sums.{list_all-from_AllPass, sum_by-cons, sum_by_more_le, sum_by-take-drop}
+use Rattle.std.proofs.lemmas.List.Sums.{AllPass-from_list_all, list_all-from_AllPass, sum_by-cons, sum_by_more_le, sum_by-take-drop}
+use Rattle.emu_model.specs.Access.{most_mapped_pages}
 use Rattle.emu_model.specs.Lengths.{is_vector_length}
 use Rattle.emu_system.specs.Arguments.{is_free_of_zeros}
 use Rattle.emu_system.specs.ArgumentLimits.{AreArguments}
@@ -21,10 +22,9 @@ use Rattle.command_model.specs.declared.command_line.WordsFault.{WordsFault}
 use Rattle.command_model.specs.declared.command_line.WordsWhy.{WordsWhy}
 use Rattle.command_model.specs.declared.command_line.WordsWhy.TheVariants.{Repeated, MissingValue, BadNumber, BadLength, OutOfRange, ExtraWord, MissingWord}
 use Rattle.line_words.specs.Refusals.{and_then}
-use Rattle.command_model.specs.CommandLine.{Seen, args_of, command_of, end_of, first_too_long, first_with_zero, given, is_option, line_of, line_of_command, line_of_words, nothing_seen, number_of_word, option_of, plain_words_of, read_further, read_item, read_number, read_option, read_plain, read_value, read_word, read_words, refused, pages_of, takes_arguments, takes_number, value_of, value_of_word, with_budget, with_machine, with_plain, with_value, with_word}
+use Rattle.command_model.specs.CommandLine.{Seen, args_of, command_of, end_of, given, is_option, line_of, line_of_command, line_of_words, nothing_seen, number_of_word, option_of, plain_words_of, read_further, read_item, read_number, read_option, read_plain, read_value, read_word, read_words, refused, pages_of, takes_arguments, takes_number, value_of, value_of_word, with_budget, with_machine, with_plain, with_value, with_word}
 use Rattle.emu_outcome.specs.Outcome.{program_arguments}
 use Rattle.command_lines.specs.LineLimits.{HasArguments, HasLimit, HasPlaces}
-use Rattle.command_lines.proofs.FirstWords.{none_too_long, none_with_zero}
 
 -- ---- answers
 
@@ -216,22 +216,22 @@ words_places (name ∷ words) = command_places (name ∷ words) (command_of name
 abbrev IsValue : OptionName → ℕ → Type 0
 IsValue Vl value = Unit {0}
 IsValue Budget value = Unit {0}
-IsValue Pages value = value ≤ 1048576
+IsValue Pages value = value ≤ most_mapped_pages
 
-few_pages : (n : ℕ) → (nat_le 1 n && nat_le n 1048576) ≡ true → n ≤ 1048576
+few_pages : (n : ℕ) → (nat_le 1 n && nat_le n most_mapped_pages) ≡ true → n ≤ most_mapped_pages
 few_pages n h = grind (arith, nat_tests)
 
 value_fits : (option : OptionName) (n : ℕ) → IfOk (value_of option n) (IsValue option)
 value_fits Vl n = if_either (IsValue Vl) (is_vector_length n) (Ok n) (Err BadLength) (λ _. tt) (λ _. tt)
 value_fits Budget n = tt
-value_fits Pages n = if_either (IsValue Pages) (nat_le 1 n && nat_le n 1048576) (Ok n) (Err OutOfRange) (few_pages n) (λ _. tt)
+value_fits Pages n = if_either (IsValue Pages) (nat_le 1 n && nat_le n most_mapped_pages) (Ok n) (Err OutOfRange) (few_pages n) (λ _. tt)
 
 number_fits : (option : OptionName) (number : Option ℕ) → IfOk (option_map_or (value_of option) number (Err BadNumber)) (IsValue option)
 number_fits option None = tt
 number_fits option (Some n) = value_fits option n
 
 abbrev Fits : Seen → Type 0
-Fits seen = IfSome seen.pages (λ pages. pages ≤ 1048576)
+Fits seen = IfSome seen.pages (λ pages. pages ≤ most_mapped_pages)
 
 kept_fits : (option : OptionName) (value : ℕ) (seen : Seen) → IsValue option value → Fits seen → Fits (with_value option value seen)
 kept_fits Vl value seen is fits = fits
@@ -278,12 +278,12 @@ words_fit command seen place [] fits = fits
 words_fit command seen place (word ∷ words) fits =
     then_so Fits Fits (read_word command seen place word) (λ more. read_words command more (place + 1) words) (word_fits command seen place word fits) (λ more here. words_fit command more (place + 1) words here)
 
-pages_fit : (pages : Option ℕ) → IfSome pages (λ n. n ≤ 1048576) → unwrap_or pages 16384 ≤ 1048576
+pages_fit : (pages : Option ℕ) → IfSome pages (λ n. n ≤ most_mapped_pages) → unwrap_or pages 16384 ≤ most_mapped_pages
 pages_fit None fits = omega arith
 pages_fit (Some pages) fits = fits
 
 module _ (count : ℕ) (seen : Seen) (fits : Fits seen) where
-  few : pages_of seen ≤ 1048576
+  few : pages_of seen ≤ most_mapped_pages
   few = pages_fit seen.pages fits
 
   line_limit : (command : Command) → IfOk (line_of command count seen) HasLimit
@@ -318,28 +318,28 @@ one_and_later : (P : List ℕ → Type 0) (words : List (List ℕ)) (file args :
 one_and_later P words file args lt le all = All-cons P (get_or words file []) (drop args words) (all file [] (omega arith)) (All-drop P args words all)
 
 -- those of the words that a program is given
-given_words : (words : List (List ℕ)) → length words ≤ 300 → None ≡ first_too_long words → None ≡ first_with_zero words
-    → (file args : ℕ) → file < args → args ≤ length words → AreArguments (program_arguments words file args)
-given_words words few short free file args lt le = record {
-  few = omega (arith, length-drop args words);
-  short = omega (
-    arith,
-    sum_by-cons length (get_or words file []) (drop args words),
-    none_too_long words (sym short),
-    sum_by-take-drop length words args,
-    sum_by_more_le length (take args words) file [] (omega (arith, length-take args words)),
-    ap length (get_or-take args words file [] lt),
-  );
-  plain = list_all-from_AllPass is_free_of_zeros (get_or words file [] ∷ drop args words) (one_and_later (λ w. is_free_of_zeros w ≡ true) words file args lt le (none_with_zero words (sym free)));
-}
+given_words : (words : List (List ℕ)) → AreArguments words → (file args : ℕ) → file < args → args ≤ length words → AreArguments (program_arguments words file args)
+given_words words are file args lt le =
+    let few = are.few in
+    let short = are.short in
+    record {
+      few = omega (arith, length-drop args words);
+      short = omega (
+        arith,
+        sum_by-cons length (get_or words file []) (drop args words),
+        sum_by-take-drop length words args,
+        sum_by_more_le length (take args words) file [] (omega (arith, length-take args words)),
+        ap length (get_or-take args words file [] lt),
+      );
+      plain = list_all-from_AllPass is_free_of_zeros (get_or words file [] ∷ drop args words) (one_and_later (λ w. is_free_of_zeros w ≡ true) words file args lt le (AllPass-from_list_all is_free_of_zeros words are.plain));
+    }
 
-pub arguments_fit : (words : List (List ℕ)) → length words ≤ 300 → None ≡ first_too_long words → None ≡ first_with_zero words
-    → (r : Result Line WordsFault) → IfOk r (λ l. HasPlaces l (length words)) → IfOk r (HasArguments words)
-arguments_fit words few short free (Err fault) places = tt
-arguments_fit words few short free (Ok (RunLine file args bits budget pages)) (lt, le) = given_words words few short free file args lt le
-arguments_fit words few short free (Ok (AsmLine listing)) lt = tt
-arguments_fit words few short free (Ok (DisLine file)) lt = tt
-arguments_fit words few short free (Ok (DbgLine file script args bits budget pages)) (lt, also, le) = given_words words few short free file args lt le
-arguments_fit words few short free (Ok (LoadLine number)) places = tt
-arguments_fit words few short free (Ok (SweepLine file args budget pages)) (lt, le) = given_words words few short free file args lt le
-arguments_fit words few short free (Ok (ThreadsLine file schedule args bits budget pages)) (lt, also, le) = given_words words few short free file args lt le
+pub arguments_fit : (words : List (List ℕ)) → AreArguments words → (r : Result Line WordsFault) → IfOk r (λ l. HasPlaces l (length words)) → IfOk r (HasArguments words)
+arguments_fit words are (Err fault) places = tt
+arguments_fit words are (Ok (RunLine file args bits budget pages)) (lt, le) = given_words words are file args lt le
+arguments_fit words are (Ok (AsmLine listing)) lt = tt
+arguments_fit words are (Ok (DisLine file)) lt = tt
+arguments_fit words are (Ok (DbgLine file script args bits budget pages)) (lt, also, le) = given_words words are file args lt le
+arguments_fit words are (Ok (LoadLine number)) places = tt
+arguments_fit words are (Ok (SweepLine file args budget pages)) (lt, le) = given_words words are file args lt le
+arguments_fit words are (Ok (ThreadsLine file schedule args bits budget pages)) (lt, also, le) = given_words words are file args lt le

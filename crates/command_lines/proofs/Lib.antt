@@ -1,4 +1,3 @@
 pub mod AcceptedLines
-pub mod FirstWords
 pub mod Items
 pub mod Numerals

@@ -1,5 +1,6 @@
 -- What an accepted line is held to: places among the words, a program's arguments, and the limit of pages.
 use Rattle.std.specs.Prelude.{◌<◌, ◌≤◌, ℕ, List}
+use Rattle.emu_model.specs.Access.{most_mapped_pages}
 use Rattle.command_model.specs.declared.command_line.Line.{Line}
 use Rattle.command_model.specs.declared.command_line.Line.TheVariants.{Run, Asm, Dis, Dbg, Load, Sweep, Threads}
 use Rattle.emu_outcome.specs.Outcome.{program_arguments}
@@ -27,10 +28,10 @@ HasArguments words (Threads file schedule args bits budget pages) = AreArguments
 
 -- no more pages are asked for than a machine with marks may have
 abbrev pub HasLimit : Line → Type 0
-HasLimit (Run file args bits budget pages) = pages ≤ 1048576
+HasLimit (Run file args bits budget pages) = pages ≤ most_mapped_pages
 HasLimit (Asm listing) = Unit {0}
 HasLimit (Dis file) = Unit {0}
-HasLimit (Dbg file script args bits budget pages) = pages ≤ 1048576
+HasLimit (Dbg file script args bits budget pages) = pages ≤ most_mapped_pages
 HasLimit (Load number) = Unit {0}
-HasLimit (Sweep file args budget pages) = pages ≤ 1048576
-HasLimit (Threads file schedule args bits budget pages) = pages ≤ 1048576
+HasLimit (Sweep file args budget pages) = pages ≤ most_mapped_pages
+HasLimit (Threads file schedule args bits budget pages) = pages ≤ most_mapped_pages

@@ -1,14 +1,13 @@
 //! The command line: its words, or why they are refused.
 ghost use Rattle.std.specs.Prelude.{◌≡◌, ◌≤◌, map, length, string_bytes, IfOk};
+ghost use Rattle.emu_system.specs.Arguments.{most_arguments};
 ghost use Rattle.command_model.specs.CommandLine.{line, line_of_words};
 ghost use Rattle.command_lines.specs.LineLimits.{HasArguments, HasLimit, HasPlaces};
 
-use crate::command_words::{first_too_long, first_with_zero, word};
+use crate::command_words::word;
 use crate::scan::{fault, line_of, read_words};
 use command_model::{Command, Line, WordsFault, WordsWhy};
-
-/// The greatest number of words.
-const MOST_WORDS: usize = 300;
+use emu_system::{MOST_ARGUMENTS, first_too_long, first_with_zero};
 
 /// The command that the words after the program's name say, or the first refusal and its place.
 pub fn line_of_words(words: &[String]) -> Result<Line, WordsFault>
@@ -17,8 +16,8 @@ pub fn line_of_words(words: &[String]) -> Result<Line, WordsFault>
     ensures arguments { IfOk result (HasArguments (map string_bytes words.now)) }
     ensures limit { IfOk result HasLimit }
 {
-    if words.len() > MOST_WORDS {
-        return Err(fault(WordsWhy::TooManyWords, MOST_WORDS));
+    if words.len() > MOST_ARGUMENTS {
+        return Err(fault(WordsWhy::TooManyWords, MOST_ARGUMENTS));
     }
     if let Some(place) = first_too_long(words) {
         return Err(fault(WordsWhy::WordsTooLong, place));
@@ -31,7 +30,7 @@ pub fn line_of_words(words: &[String]) -> Result<Line, WordsFault>
 
 /// The command that words say of which none is refused by itself.
 fn command_of_words(words: &[String]) -> Result<Line, WordsFault>
-    requires { length words.now ≤ 300 }
+    requires { length words.now ≤ most_arguments }
     ensures { result ≡ line_of_words (map string_bytes words.now) }
 {
     if words.is_empty() {

@@ -1,6 +1,7 @@
 //! The words behind a command's name, read one after the other.
 ghost use Rattle.std.specs.Prelude.{◌≡◌, ◌≤◌, ◌&&◌, ℕ, codes, drop, map, length, string_bytes, is_some, slice_get, MatchResult, Some, None, Err};
 ghost use Rattle.std.specs.Str.{bytes_eq};
+ghost use Rattle.emu_system.specs.Arguments.{most_arguments};
 ghost use Rattle.command_model.specs.CommandLine.{given, is_option, line_of, end_of, nothing_seen, option_of, read_item, read_option, read_plain, read_value, read_word, read_words, refused, takes_arguments, value_of_word, with_machine};
 ghost use Rattle.command_lines.specs.Scan.{Leaves};
 
@@ -43,7 +44,7 @@ impl Model for Seen {
 
 /// A refusal at a place.
 pub fn fault(why: WordsWhy, place: usize) -> WordsFault
-    requires { place ≤ 300 }
+    requires { place ≤ most_arguments }
     ensures { result ≡ record { why = why; place = place } }
 {
     WordsFault {
@@ -54,7 +55,7 @@ pub fn fault(why: WordsWhy, place: usize) -> WordsFault
 
 /// A value, or its refusal at a place.
 fn placed<T>(value: Result<T, WordsWhy>, place: usize) -> Result<T, WordsFault>
-    requires { place ≤ 300 }
+    requires { place ≤ most_arguments }
     ensures { MatchResult value (λ v. result ≡ Ok v) (λ why. result ≡ refused why place) }
 {
     value.map_err(|why| fault(why, place))
@@ -114,7 +115,7 @@ impl Seen {
 
     /// Reads a word as the value of an option.
     fn read_value(&mut self, place: usize, option: OptionName, word: &str) -> Result<(), WordsFault>
-        requires { place ≤ 300 }
+        requires { place ≤ most_arguments }
         ensures { Leaves (read_value self.old place option (value_of_word option word.now)) self.new result }
     {
         match option {
@@ -128,7 +129,7 @@ impl Seen {
 
     /// Reads a word in the form of an option.
     fn read_option(&mut self, command: Command, place: usize, word: &str) -> Result<(), WordsFault>
-        requires { place ≤ 300 }
+        requires { place ≤ most_arguments }
         ensures { Leaves (read_option self.old place (option_of command word.now)) self.new result }
     {
         let Some(option) = option_of(command, word) else {
@@ -143,7 +144,7 @@ impl Seen {
 
     /// Reads a plain word.
     fn read_plain(&mut self, command: Command, place: usize, word: &str) -> Result<(), WordsFault>
-        requires { place ≤ 300 }
+        requires { place ≤ most_arguments }
         ensures { Leaves (read_plain command self.old place word.now) self.new result }
     {
         if self.plain.len() >= command.plain_words() {
@@ -161,7 +162,7 @@ impl Seen {
 
     /// Reads `--`, an option or a plain word.
     fn read_item(&mut self, command: Command, place: usize, word: &str) -> Result<(), WordsFault>
-        requires { place ≤ 300 }
+        requires { place ≤ most_arguments }
         ensures { Leaves (read_item command self.old place word.now) self.new result }
     {
         if begins_arguments(command, word) {
@@ -177,7 +178,7 @@ impl Seen {
 
     /// Reads any word: behind `--` an argument, behind an option its value.
     fn read_word(&mut self, command: Command, place: usize, word: &str) -> Result<(), WordsFault>
-        requires { place ≤ 300 }
+        requires { place ≤ most_arguments }
         ensures { Leaves (read_word command self.old place word.now) self.new result }
     {
         if self.args.is_some() {
@@ -192,7 +193,7 @@ impl Seen {
 
 /// What the words behind the command's name say.
 pub fn read_words(command: Command, words: &[String]) -> Result<Seen, WordsFault>
-    requires { length words.now ≤ 300 }
+    requires { length words.now ≤ most_arguments }
     ensures { result ≡ read_words command nothing_seen 1 (drop 1 (map string_bytes words.now)) }
 {
     let mut seen = Seen::nothing();
@@ -204,7 +205,7 @@ pub fn read_words(command: Command, words: &[String]) -> Result<Seen, WordsFault
 
 /// The place of a plain word, which is counted from 0. Err is that it is missing.
 fn plain_word(seen: &Seen, k: usize, count: usize) -> Result<usize, WordsFault>
-    requires { count ≤ 300 }
+    requires { count ≤ most_arguments }
     ensures { MatchResult result (λ place. slice_get seen.now.plain k ≡ Some place) (λ fault. (slice_get seen.now.plain k ≡ None) × (fault ≡ record { why = WordsWhy.MissingWord; place = count })) }
 {
     match seen.plain.get(k) {
@@ -215,7 +216,7 @@ fn plain_word(seen: &Seen, k: usize, count: usize) -> Result<usize, WordsFault>
 
 /// The vector length and the budget of a machine. Err is that one is missing.
 fn length_and_budget(seen: &Seen, count: usize) -> Result<(Length, u64), WordsFault>
-    requires { count ≤ 300 }
+    requires { count ≤ most_arguments }
     ensures { MatchResult result (λ said. (seen.now.vl ≡ Some said.0) × (seen.now.budget ≡ Some said.1)) (λ fault. (line : ℕ → ℕ → Line) → with_machine count seen.now.vl seen.now.budget line ≡ Err fault) }
 {
     let Some(length) = seen.length else {
@@ -229,7 +230,7 @@ fn length_and_budget(seen: &Seen, count: usize) -> Result<(Length, u64), WordsFa
 
 /// The run that so many words say.
 fn run_of(count: usize, seen: &Seen) -> Result<Line, WordsFault>
-    requires { count ≤ 300 }
+    requires { count ≤ most_arguments }
     ensures { result ≡ line_of Command.Run count seen.now }
 {
     let file = plain_word(seen, 0, count)?;
@@ -245,7 +246,7 @@ fn run_of(count: usize, seen: &Seen) -> Result<Line, WordsFault>
 
 /// The session that so many words say.
 fn session_of(count: usize, seen: &Seen) -> Result<Line, WordsFault>
-    requires { count ≤ 300 }
+    requires { count ≤ most_arguments }
     ensures { result ≡ line_of Command.Dbg count seen.now }
 {
     let file = plain_word(seen, 0, count)?;
@@ -263,7 +264,7 @@ fn session_of(count: usize, seen: &Seen) -> Result<Line, WordsFault>
 
 /// The run of contexts under a schedule that so many words say.
 fn threads_of(count: usize, seen: &Seen) -> Result<Line, WordsFault>
-    requires { count ≤ 300 }
+    requires { count ≤ most_arguments }
     ensures { result ≡ line_of Command.Threads count seen.now }
 {
     let file = plain_word(seen, 0, count)?;
@@ -281,7 +282,7 @@ fn threads_of(count: usize, seen: &Seen) -> Result<Line, WordsFault>
 
 /// The sweep that so many words say.
 fn sweep_of(count: usize, seen: &Seen) -> Result<Line, WordsFault>
-    requires { count ≤ 300 }
+    requires { count ≤ most_arguments }
     ensures { result ≡ line_of Command.Sweep count seen.now }
 {
     let file = plain_word(seen, 0, count)?;
@@ -298,7 +299,7 @@ fn sweep_of(count: usize, seen: &Seen) -> Result<Line, WordsFault>
 
 /// The line that so many words say.
 pub fn line_of(command: Command, count: usize, seen: &Seen) -> Result<Line, WordsFault>
-    requires few { count ≤ 300 }
+    requires few { count ≤ most_arguments }
     requires some { 1 ≤ count }
     ensures { result ≡ end_of command count seen.now }
 {

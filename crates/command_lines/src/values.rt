@@ -5,10 +5,7 @@ ghost use Rattle.command_model.specs.declared.command_line.OptionName.TheVariant
 ghost use Rattle.command_model.specs.CommandLine.{is_digit, is_numeral, number_of_word, value_of_word};
 
 use command_model::WordsWhy;
-use emu_model::Length;
-
-/// The most pages that may be asked for.
-const MOST_PAGES: u64 = 1_048_576;
+use emu_model::{Length, MOST_MAPPED_PAGES};
 
 /// Whether each byte is a decimal digit.
 fn are_digits(bytes: &[u8]) -> bool
@@ -50,10 +47,10 @@ pub fn length_of_word(word: &str) -> Result<Length, WordsWhy>
     let Some(bits) = number_of_word(word) else {
         return Err(WordsWhy::BadNumber);
     };
-    if bits > 2048 {
+    let Ok(bits) = u32::try_from(bits) else {
         return Err(WordsWhy::BadLength);
-    }
-    match Length::of_bits(bits as u32) {
+    };
+    match Length::of_bits(bits) {
         Some(length) => Ok(length),
         None => Err(WordsWhy::BadLength),
     }
@@ -73,7 +70,7 @@ pub fn pages_of_word(word: &str) -> Result<u32, WordsWhy>
     let Some(pages) = number_of_word(word) else {
         return Err(WordsWhy::BadNumber);
     };
-    if pages < 1 || MOST_PAGES < pages {
+    if pages < 1 || MOST_MAPPED_PAGES < pages {
         return Err(WordsWhy::OutOfRange);
     }
     Ok(pages as u32)

@@ -2,14 +2,15 @@
 --
 -- A line is the name of a command and the words behind it: options, each with the next word as its value, plain words, and behind
 -- the word `--` the arguments of a program. Places of words are counted from 0.
-use Rattle.std.specs.Prelude.{ℕ, ◌+◌, ◌-◌, ◌^◌, Bool, true, false, ◌&&◌, ◌||◌, not, List, [], ◌∷◌, ◌++◌, length, take, drop, sum_by, position, codes, Option, Some, None, is_some, unwrap_or, Result, Ok, Err, nat_eq, nat_lt, nat_le, if◌then◌else◌, slice_get, slice_index}
-use Rattle.std.specs.List.{find, list_all, range_with_len, starts_with}
+use Rattle.std.specs.Prelude.{ℕ, ◌+◌, ◌-◌, ◌^◌, Bool, true, false, ◌&&◌, ◌||◌, not, List, [], ◌∷◌, ◌++◌, length, drop, codes, Option, Some, None, is_some, unwrap_or, Result, Ok, Err, nat_eq, nat_lt, nat_le, if◌then◌else◌, slice_get, slice_index}
+use Rattle.std.specs.List.{find, list_all, starts_with}
 use Rattle.std.specs.Option.{option_map_or}
 use Rattle.std.specs.Str.{bytes_eq}
 use Rattle.std.specs.Str.Parse.{digits_value}
 use Rattle.line_words.specs.Refusals.{and_then}
+use Rattle.emu_model.specs.Access.{most_mapped_pages}
 use Rattle.emu_model.specs.Lengths.{is_vector_length}
-use Rattle.emu_system.specs.Arguments.{is_free_of_zeros}
+use Rattle.emu_system.specs.Arguments.{first_too_long, first_with_zero, most_arguments}
 use Rattle.command_model.specs.declared.command_line.Command.{Command}
 use Rattle.command_model.specs.declared.command_line.Command.TheVariants.{Run, Asm, Dis, Dbg, Load, Sweep, Threads}
 use Rattle.command_model.specs.declared.command_line.Line.{Line}
@@ -112,7 +113,7 @@ number_of_word word = if is_numeral word && nat_lt (digits_value 10 word) (2 ^ 6
 abbrev pub value_of : OptionName → ℕ → Result ℕ WordsWhy
 value_of Vl bits = if is_vector_length bits then Ok bits else Err BadLength
 value_of Budget steps = Ok steps
-value_of Pages pages = if nat_le 1 pages && nat_le pages 1048576 then Ok pages else Err OutOfRange
+value_of Pages pages = if nat_le 1 pages && nat_le pages most_mapped_pages then Ok pages else Err OutOfRange
 
 -- a word as the value of an option
 abbrev pub value_of_word : OptionName → List ℕ → Result ℕ WordsWhy
@@ -233,14 +234,6 @@ end_of command count seen = if is_some seen.awaited then refused MissingValue (c
 
 -- ---- the whole line
 
--- the first word by which all words so far have more than 32,768 bytes
-abbrev pub first_too_long : List (List ℕ) → Option ℕ
-first_too_long words = find (λ place. nat_lt 32768 (sum_by length (take (place + 1) words))) (range_with_len 0 (length words))
-
--- the first word with a byte 0
-abbrev pub first_with_zero : List (List ℕ) → Option ℕ
-first_with_zero words = position (λ word. not (is_free_of_zeros word)) words
-
 -- a refusal where there is such a word
 abbrev pub refused_at : Option ℕ → WordsWhy → Result Line WordsFault → Result Line WordsFault
 refused_at None why next = next
@@ -256,5 +249,5 @@ line_of_words (name ∷ words) = line_of_command (name ∷ words) (command_of na
 
 abbrev pub line : List (List ℕ) → Result Line WordsFault
 line words =
-    if nat_lt 300 (length words) then refused TooManyWords 300
+    if nat_lt most_arguments (length words) then refused TooManyWords most_arguments
     else refused_at (first_too_long words) WordsTooLong (refused_at (first_with_zero words) ZeroByte (line_of_words words))

@@ -40,8 +40,8 @@ pub enum WordsWhy {
     MissingBudget,
 }
 
-/// A refused command line: why, and the place of the word, from 0. Where a word is missing it is the number of words, and where there
-/// are too many it is 300.
+/// A refused command line: why, and the place of the word, from 0. Where a word is missing it is the number of words,
+/// and where there are too many the greatest number of them.
 #[derive(Clone, Copy, Debug, PartialEq, Eq, Error)]
 #[error("{why} at word {place}")]
 pub struct WordsFault {

@@ -1,5 +1,6 @@
 //! The command `dbg`: from the image of a program and the text of a script to the end of the session.
 ghost use Rattle.std.specs.Prelude.{◌≡◌, ◌≢◌, ◌<◌, ◌≤◌, map, length, string_bytes, MatchResult, Some, Ok, false, true};
+ghost use Rattle.emu_model.specs.Access.{most_mapped_pages};
 ghost use Rattle.io_gate.specs.Streams.{Causes};
 ghost use Rattle.elf_image.specs.Images.{seen_image};
 ghost use Rattle.elf_image.specs.Loadable.{IsLoadable};
@@ -9,7 +10,7 @@ ghost use Rattle.dbg_model.specs.Commands.{has_back};
 ghost use Rattle.dbg_model.specs.Script.{script_of_file};
 ghost use Rattle.dbg_model.specs.Session as model;
 ghost use Rattle.dbg_scripts.specs.Reading.{IsErrorOf};
-ghost use Rattle.emu_outcome.specs.Outcome.{outcome_of_commands, outcome_of_script, outcome_of_session, outcome_of_session_back, over_whole};
+ghost use Rattle.emu_outcome.specs.Outcome.{file_limit, outcome_of_commands, outcome_of_script, outcome_of_session, outcome_of_session_back, over_whole};
 ghost use Rattle.commands.specs.Endings.{ending_of_back, ending_of_session};
 ghost use Rattle.commands.specs.Lines.{ends_dbg, text_goes_back};
 ghost use Rattle.commands.specs.Programs.{arguments_of, opening_of};
@@ -33,7 +34,7 @@ use sweep_model::STREAM_LIMIT;
 
 /// The script of a file's bytes. Err is its first refusal, or want of memory.
 fn script_of(alloc: Global, bytes: &[u8]) -> Result<Script, ScriptError>
-    requires { length bytes.now ≤ 67108864 }
+    requires { length bytes.now ≤ file_limit }
     ensures { MatchResult result (λ read. script_of_file bytes.now ≡ Ok read) (IsErrorOf (script_of_file bytes.now)) }
 {
     match str::from_utf8(bytes) {
@@ -149,7 +150,7 @@ fn debug_input<O: Sink, E: Sink>(
     requires file { program.now.file < program.now.args }
     requires args { program.now.args ≤ length words.now }
     requires arguments { AreArguments (arguments_of (map string_bytes words.now) program.now) }
-    requires pages { program.now.pages ≤ 1048576 }
+    requires pages { program.now.pages ≤ most_mapped_pages }
     ensures outcome { Writes (outcome_of_session_back script.now program.now.budget (opening_of bytes.now (seen_image image.now) (map string_bytes words.now) program.now) input.now) result
         (O.held output.old) (O.held output.new) (E.held errors.old) (E.held errors.new) }
     ensures write_cause { Causes (result ≡ Ending.WriteFault) (O.faults output.old) (O.faults output.new) }
@@ -186,7 +187,7 @@ fn debug_back<I: Source, O: Sink, E: Sink>(
     requires file { program.now.file < program.now.args }
     requires args { program.now.args ≤ length words.now }
     requires arguments { AreArguments (arguments_of (map string_bytes words.now) program.now) }
-    requires pages { program.now.pages ≤ 1048576 }
+    requires pages { program.now.pages ≤ most_mapped_pages }
     ensures outcome { MeetsSweep (λ i. Some (over_whole (outcome_of_session_back script.now program.now.budget (opening_of bytes.now (seen_image image.now) (map string_bytes words.now) program.now)) i)) result
         (now (I.left input.old) (O.held output.old) (E.held errors.old))
         (now (I.left input.new) (O.held output.new) (E.held errors.new)) }
@@ -226,7 +227,7 @@ fn debug_script<I: Source, O: Sink, E: Sink>(
     requires file { program.now.file < program.now.args }
     requires args { program.now.args ≤ length words.now }
     requires arguments { AreArguments (arguments_of (map string_bytes words.now) program.now) }
-    requires pages { program.now.pages ≤ 1048576 }
+    requires pages { program.now.pages ≤ most_mapped_pages }
     ensures outcome { MeetsBy (settles_by (has_back script.now)) (λ i. Some (outcome_of_commands i program.now.budget (opening_of bytes.now (seen_image image.now) (map string_bytes words.now) program.now) script.now)) result
         (now (I.left input.old) (O.held output.old) (E.held errors.old))
         (now (I.left input.new) (O.held output.new) (E.held errors.new)) }
@@ -263,12 +264,12 @@ pub fn debug_image<I: Source, O: Sink, E: Sink>(
     output: &mut O,
     errors: &mut E,
 ) -> Ending
-    requires text { length text.now ≤ 67108864 }
+    requires text { length text.now ≤ file_limit }
     requires loadable { IsLoadable bytes.now program.now.pages (seen_image image.now) }
     requires file { program.now.file < program.now.args }
     requires args { program.now.args ≤ length words.now }
     requires arguments { AreArguments (arguments_of (map string_bytes words.now) program.now) }
-    requires pages { program.now.pages ≤ 1048576 }
+    requires pages { program.now.pages ≤ most_mapped_pages }
     ensures outcome { MeetsBy (settles_by (text_goes_back text.now)) (λ i. Some (outcome_of_script i program.now.budget (opening_of bytes.now (seen_image image.now) (map string_bytes words.now) program.now) (script_of_file text.now))) result
         (now (I.left input.old) (O.held output.old) (E.held errors.old))
         (now (I.left input.new) (O.held output.new) (E.held errors.new)) }

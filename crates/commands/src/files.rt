@@ -3,6 +3,7 @@ ghost use Rattle.std.specs.Prelude.{◌≡◌, ◌≢◌, ◌≤◌, ◌⊎◌, 
 ghost use Rattle.std.specs.FinMap.{get};
 ghost use Rattle.io_gate.specs.Images.{MissesNamed};
 ghost use Rattle.io_gate.specs.Streams.{Rose, Causes};
+ghost use Rattle.emu_outcome.specs.Outcome.{file_limit};
 ghost use Rattle.commands.specs.Endings.{done_by, ended_by};
 ghost use Rattle.commands.specs.Lines.{stops_any};
 ghost use Rattle.commands.specs.Reading.{EndsUnread, GivesFile};
@@ -35,8 +36,8 @@ pub fn ending_after_output(put: Result<(), Failed>) -> Ending
     }
 }
 
-/// The bytes of a file, at most 67,108,864. Err is how the command ends without them: by a fault of the files where reading failed or none
-/// has the name, by TooLong behind its line where the file is longer, or by want of memory.
+/// The bytes of a file, at most `FILE_LIMIT`. Err is how the command ends without them: by a fault of the files where
+/// reading failed or none has the name, by TooLong behind its line where the file is longer, or by want of memory.
 pub fn file_bytes<F: Images, E: Sink>(
     alloc: Global,
     name: &str,
@@ -46,7 +47,7 @@ pub fn file_bytes<F: Images, E: Sink>(
     ensures told { F.named files.new ≡ F.named files.old }
     ensures content { IfSome (F.named files.old) (λ named. GivesFile (get named name.now) result (E.held errors.old) (E.held errors.new)) }
     ensures kind { IfErr result (λ ending. stops_any ending ≡ true) }
-    ensures limit { IfOk result (λ bytes. vec_len bytes ≤ 67108864) }
+    ensures limit { IfOk result (λ bytes. vec_len bytes ≤ file_limit) }
     ensures unread { IfErr result (EndsUnread (F.named files.old) name.now) }
     ensures missing { MissesNamed (F.named files.old) name.now → result ≡ Err Ending.FileFault }
     ensures file_cause { result ≡ Err Ending.FileFault → Rose (F.faults files.old) (F.faults files.new) ⊎ MissesNamed (F.named files.old) name.now }

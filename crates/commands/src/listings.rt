@@ -5,7 +5,7 @@ ghost use Rattle.io_gate.specs.Streams.{Rose, Causes};
 ghost use Rattle.asm_layout.specs.Assembly.{IsMade};
 ghost use Rattle.insn_texts.specs.Statements.{statements};
 ghost use Rattle.listing_model.specs.Image.{image_of_bytes};
-ghost use Rattle.emu_outcome.specs.Outcome.{outcome_of_listing};
+ghost use Rattle.emu_outcome.specs.Outcome.{file_limit, outcome_of_listing};
 ghost use Rattle.commands.specs.Lines.{ends_asm};
 ghost use Rattle.commands.specs.Programs.{outcome_over};
 ghost use Rattle.commands.specs.Promises.{is_silent};
@@ -25,7 +25,7 @@ use std::str;
 
 /// The executable that the bytes of a listing make. Err is the listing's first refusal, or want of memory.
 fn made(alloc: Global, bytes: &[u8]) -> Result<Vec<u8>, AsmError>
-    requires { length bytes.now ≤ 67108864 }
+    requires { length bytes.now ≤ file_limit }
     ensures { IsMade result (image_of_bytes statements bytes.now) }
 {
     match str::from_utf8(bytes) {
@@ -44,7 +44,7 @@ fn assemble_bytes<O: Sink, E: Sink>(
     output: &mut O,
     errors: &mut E,
 ) -> Ending
-    requires { length bytes.now ≤ 67108864 }
+    requires { length bytes.now ≤ file_limit }
     ensures outcome { (input : Option (List ℕ)) → Meets (λ _. Some (outcome_of_listing (image_of_bytes statements bytes.now))) result
         (now input (O.held output.old) (E.held errors.old)) (now input (O.held output.new) (E.held errors.new)) }
     ensures write_cause { Causes (result ≡ Ending.WriteFault) (O.faults output.old) (O.faults output.new) }

@@ -1,5 +1,6 @@
 //! The program that a line names, and its machine before the first step.
 ghost use Rattle.std.specs.Prelude.{◌≡◌, ◌<◌, ◌≤◌, [], map, length, string_bytes, IfOk, false};
+ghost use Rattle.emu_model.specs.Access.{most_mapped_pages};
 ghost use Rattle.emu_model.specs.Marks.{fresh_marks};
 ghost use Rattle.mark_laws.specs.Marked.{parts_with};
 ghost use Rattle.elf_image.specs.Images.{seen_image};
@@ -74,7 +75,7 @@ pub fn open_marked(
     requires file { program.now.file < program.now.args }
     requires args { program.now.args ≤ length words.now }
     requires arguments { AreArguments (arguments_of (map string_bytes words.now) program.now) }
-    requires pages { program.now.pages ≤ 1048576 }
+    requires pages { program.now.pages ≤ most_mapped_pages }
     ensures parts { IfOk result (λ m. m.parts ≡ parts_with (opening_of bytes.now (seen_image image.now) (map string_bytes words.now) program.now) (fresh_marks program.now.pages)) }
     ensures places { IfOk result (λ m. length m.saved ≡ 16) }
     ensures failed { IfOk result (λ m. m.failed ≡ false) }

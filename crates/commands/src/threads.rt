@@ -12,7 +12,7 @@ ghost use Rattle.thread_model.specs.Threads.{with_input};
 ghost use Rattle.thread_model.specs.Threads as model;
 ghost use Rattle.thread_model.specs.Worlds.{opened};
 ghost use Rattle.command_model.specs.WorldReports.{contexts_lines, stop_line};
-ghost use Rattle.emu_outcome.specs.Outcome.{ending_of_world, outcome_of_schedule, outcome_of_world};
+ghost use Rattle.emu_outcome.specs.Outcome.{ending_of_world, file_limit, outcome_of_schedule, outcome_of_world};
 ghost use Rattle.commands.specs.Endings.{stop_by};
 ghost use Rattle.commands.specs.Lines.{ends_threads};
 ghost use Rattle.commands.specs.Programs.{arguments_of, opening_of};
@@ -33,7 +33,7 @@ use thread_model::WorldEnding;
 
 /// The schedule of a file's bytes. Err is its first refusal, or want of memory.
 fn schedule_of(alloc: Global, bytes: &[u8]) -> Result<Schedule, ScheduleError>
-    requires { length bytes.now ≤ 67108864 }
+    requires { length bytes.now ≤ file_limit }
     ensures { MatchResult result (λ read. schedule_of_file bytes.now ≡ Ok read) (IsErrorOf (schedule_of_file bytes.now)) }
 {
     match str::from_utf8(bytes) {
@@ -168,7 +168,7 @@ pub fn thread_image<I: Source, O: Sink, E: Sink>(
     output: &mut O,
     errors: &mut E,
 ) -> Ending
-    requires text { length text.now ≤ 67108864 }
+    requires text { length text.now ≤ file_limit }
     requires loadable { IsLoadable bytes.now program.now.pages (seen_image image.now) }
     requires file { program.now.file < program.now.args }
     requires args { program.now.args ≤ length words.now }

@@ -1,12 +1,13 @@
 //! Lines of two files: that of a program, and that of what is obeyed over it.
 ghost use Rattle.std.specs.Prelude.{◌≡◌, ◌≢◌, ◌<◌, ◌≤◌, ◌⊎◌, [], map, length, string_bytes, get_or, IfSome, Some, false, true};
+ghost use Rattle.emu_model.specs.Access.{most_mapped_pages};
 ghost use Rattle.io_gate.specs.Images.{MissesNamed};
 ghost use Rattle.io_gate.specs.Streams.{Rose, Causes};
 ghost use Rattle.elf_image.specs.Images.{seen_image};
 ghost use Rattle.elf_image.specs.Loadable.{IsLoadable};
 ghost use Rattle.emu_system.specs.ArgumentLimits.{AreArguments};
 ghost use Rattle.emu_system.specs.Image.{elf};
-ghost use Rattle.emu_outcome.specs.Outcome.{file_at};
+ghost use Rattle.emu_outcome.specs.Outcome.{file_at, file_limit};
 ghost use Rattle.commands.specs.Programs.{arguments_of, opening_of};
 ghost use Rattle.commands.specs.Promises.{settles_by, NamesNoFile};
 ghost use Rattle.commands.specs.Meets.{now, MeetsBy};
@@ -45,12 +46,12 @@ fn obey_text<I: Source, O: Sink, E: Sink>(
     output: &mut O,
     errors: &mut E,
 ) -> Ending
-    requires text { length text.now ≤ 67108864 }
+    requires text { length text.now ≤ file_limit }
     requires loadable { IsLoadable bytes.now program.now.pages (seen_image image.now) }
     requires file { program.now.file < program.now.args }
     requires args { program.now.args ≤ length words.now }
     requires arguments { AreArguments (arguments_of (map string_bytes words.now) program.now) }
-    requires pages { program.now.pages ≤ 1048576 }
+    requires pages { program.now.pages ≤ most_mapped_pages }
     ensures outcome { MeetsBy (settles_by (text_reads_first second text.now)) (λ i. Some (outcome_from second text.now i program.now.budget
         (opening_of bytes.now (seen_image image.now) (map string_bytes words.now) program.now))) result
         (now (I.left input.old) (O.held output.old) (E.held errors.old))
@@ -85,11 +86,11 @@ fn obey_bytes<I: Source, O: Sink, E: Sink>(
     output: &mut O,
     errors: &mut E,
 ) -> Ending
-    requires text { length text.now ≤ 67108864 }
+    requires text { length text.now ≤ file_limit }
     requires file { program.now.file < program.now.args }
     requires args { program.now.args ≤ length words.now }
     requires arguments { AreArguments (arguments_of (map string_bytes words.now) program.now) }
-    requires pages { program.now.pages ≤ 1048576 }
+    requires pages { program.now.pages ≤ most_mapped_pages }
     ensures outcome { MeetsBy (settles_by (text_reads_first second text.now)) (λ i. Some (outcome_by second bytes.now text.now
         (arguments_of (map string_bytes words.now) program.now) i program.now (elf bytes.now program.now.pages))) result
         (now (I.left input.old) (O.held output.old) (E.held errors.old))
@@ -130,7 +131,7 @@ fn obey_second<F: Images, I: Source, O: Sink, E: Sink>(
     requires place { place < program.now.args }
     requires args { program.now.args ≤ length words.now }
     requires arguments { AreArguments (arguments_of (map string_bytes words.now) program.now) }
-    requires pages { program.now.pages ≤ 1048576 }
+    requires pages { program.now.pages ≤ most_mapped_pages }
     ensures outcome { IfSome (F.named files.old) (λ named. MeetsBy (settles_by (file_reads_first second (file_at (map string_bytes words.now) named place)))
         (outcome_with second bytes.now (map string_bytes words.now) program.now place named) result
         (now (I.left input.old) (O.held output.old) (E.held errors.old))
@@ -176,7 +177,7 @@ pub fn obey_files<F: Images, I: Source, O: Sink, E: Sink>(
     requires place { place < program.now.args }
     requires args { program.now.args ≤ length words.now }
     requires arguments { AreArguments (arguments_of (map string_bytes words.now) program.now) }
-    requires pages { program.now.pages ≤ 1048576 }
+    requires pages { program.now.pages ≤ most_mapped_pages }
     ensures outcome { IfSome (F.named files.old) (λ named. MeetsBy (settles_by (file_reads_first second (file_at (map string_bytes words.now) named place)))
         (outcome_of_both second (map string_bytes words.now) program.now place named) result
         (now (I.left input.old) (O.held output.old) (E.held errors.old))

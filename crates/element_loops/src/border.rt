@@ -1,9 +1,10 @@
 //! Bytes over a page border.
 ghost use Rattle.std.specs.Prelude.{◌≡◌, ◌≤◌, ◌<◌, ◌+◌, ◌%◌, ℕ, None, IfSome, true, false, get_or, length};
 ghost use Rattle.emu_model.specs.declared.access.Kind.{Kind};
-ghost use Rattle.emu_model.specs.Access.{refused};
+ghost use Rattle.emu_model.specs.Access.{refused, page_size};
 ghost use Rattle.emu_model.specs.Pages.{bytes_at, with_bytes};
 
+use emu_model::PAGE_SIZE;
 use guest_mem::{Kind, Mem};
 
 /// Copies the bytes from an address on, up to the end of its page and at most `most`, to a place of a buffer, and answers how many
@@ -56,7 +57,7 @@ pub(crate) fn joined(mem: &mut Mem, base: u64, total: usize, bytes: &mut [u8]) -
 
 /// Writes bytes that fit their page, where it may be written, and says whether it may.
 pub(crate) fn put_bytes(mem: &mut Mem, at: u64, bytes: &[u8]) -> bool
-    requires { at % 4096 + length bytes.now ≤ 4096 }
+    requires { at % page_size + length bytes.now ≤ page_size }
     ensures allowed { result ≡ true → refused mem.old at (length bytes.now) Kind.Write ≡ None }
     ensures written { result ≡ true → mem.new ≡ with_bytes mem.old at bytes.now }
     ensures kept { result ≡ false → mem.new ≡ mem.old }
@@ -70,12 +71,12 @@ pub(crate) fn put_bytes(mem: &mut Mem, at: u64, bytes: &[u8]) -> bool
 
 /// Writes bytes that end in their page or in the next, where both may be written, and says whether they may.
 pub(crate) fn put_over(mem: &mut Mem, at: u64, bytes: &[u8]) -> bool
-    requires { length bytes.now ≤ 4096 }
+    requires { length bytes.now ≤ page_size }
     ensures allowed { result ≡ true → refused mem.old at (length bytes.now) Kind.Write ≡ None }
     ensures written { result ≡ true → mem.new ≡ with_bytes mem.old at bytes.now }
     ensures kept { result ≡ false → mem.new ≡ mem.old }
 {
-    let first = (4096 - at % 4096) as usize;
+    let first = (PAGE_SIZE - at % PAGE_SIZE) as usize;
     if bytes.len() <= first {
         return put_bytes(mem, at, bytes);
     }

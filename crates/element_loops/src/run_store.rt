@@ -1,7 +1,7 @@
 //! Stores of runs.
 ghost use Rattle.std.specs.Prelude.{◌≡◌, ◌≤◌, ◌<◌, ◌+◌, ◌*◌, ◌/◌, ◌%◌, ℕ, [], IfOk, MatchResult, true, get_or, length};
 ghost use Rattle.arrayvec.specs.ArrayVec.{array_vec_len};
-ghost use Rattle.emu_model.specs.Access.{Memory, address};
+ghost use Rattle.emu_model.specs.Access.{Memory, address, page_size};
 ghost use Rattle.vec_model.specs.Lanes.{read_z};
 ghost use Rattle.sve_effects.specs.VectorElements.{elements_below, elements_of};
 ghost use Rattle.element_access.specs.ReachLaws.{AreStored, StopsStore};
@@ -17,6 +17,7 @@ use crate::storing::put_lane;
 use active_lanes::active_from;
 use core_regs::Trap;
 use emu_bits::Reg;
+use emu_model::PAGE_SIZE;
 use guest_mem::{AccessLog, Mem};
 use vec_regs::VecRegs;
 
@@ -48,7 +49,7 @@ fn put_lanes(
     requires plan { IsPlan plan.now vec.now }
     requires run { IsRun run.now.base run.now.pg run.now.whole plan.now vec.now }
     requires within { k + d ≤ plan.now.lanes }
-    requires fits { address (run.now.base + k * plan.now.bytes) % 4096 + d * plan.now.bytes ≤ 4096 }
+    requires fits { address (run.now.base + k * plan.now.bytes) % page_size + d * plan.now.bytes ≤ page_size }
     requires on { (i : ℕ) → k ≤ i → i < k + d → let l = layout_of plan.now vec.now in l.is_on i ≡ true }
     requires bytes { (j : ℕ) → j < vec.now.bits / 8 → get_or bytes.now j 0 ≡ get_or (read_z vec.now ((plan.now.register + 0) % 32)) j 0 }
     requires whole { length (read_z vec.now ((plan.now.register + 0) % 32)) ≡ vec.now.bits / 8 }
@@ -78,12 +79,12 @@ fn lanes_in_page(at: u64, n: u32, lanes: u32) -> u32
     requires most { n ≤ 8 }
     requires lanes { lanes ≤ 256 }
     ensures few { result ≤ lanes }
-    ensures fits { at % 4096 + result * n ≤ 4096 }
+    ensures fits { at % page_size + result * n ≤ page_size }
 {
-    if at % 4096 + u64::from(lanes * n) <= 4096 {
+    if at % PAGE_SIZE + u64::from(lanes * n) <= PAGE_SIZE {
         return lanes;
     }
-    (((4096 - at % 4096) / u64::from(n)) as u32).min(lanes)
+    (((PAGE_SIZE - at % PAGE_SIZE) / u64::from(n)) as u32).min(lanes)
 }
 
 /// How many of at most so many lanes from lane k on have an element, before the first that may have none.

@@ -6,6 +6,7 @@ use Rattle.std.proofs.lemmas.Bool.{ltb-false, eqb-true, eqb-false, not-false, no
 use Rattle.std.proofs.lemmas.List.Elements.{All-nil, All-push, All-from_recursion}
 use Rattle.std.proofs.lemmas.List.Quantifiers.{all_pairs_push}
 use Rattle.std.specs.List.{AllByRecursion}
+use Rattle.emu_model.specs.Access.{page_size}
 use Rattle.emu_system.specs.declared.image.Segment.{Segment}
 use Rattle.emu_system.specs.declared.image.ElfFault.TheVariants.{TooShort, BadMagic, BadClass, BadData, BadVersion, BadType, BadMachine, BadHeaderSize, TooManySegments}
 use Rattle.emu_system.specs.Image.{ProgramHeader, first_page, end_page, overlaps_any, share_a_page, segments_from, segment_fault, segment_of, with_segment, program_header, is_load, is_segment, is_outside, Image, elf, header_fault, has_magic, e_phnum}
@@ -33,10 +34,10 @@ all_apart s (t ∷ ts) h = let e = or_parts (share_a_page s t) (overlaps_any s t
 
 -- ---- one more program header
 
-no_wrong_offset : (size offset address : ℕ) → (not (nat_eq size 0) && not (nat_eq (offset % 4096) (address % 4096))) ≡ false → size ≢ 0 → offset % 4096 ≡ address % 4096
-no_wrong_offset size offset address h some = elim (and_cases (not (nat_eq size 0)) (not (nat_eq (offset % 4096) (address % 4096))) h) [
+no_wrong_offset : (size offset address : ℕ) → (not (nat_eq size 0) && not (nat_eq (offset % page_size) (address % page_size))) ≡ false → size ≢ 0 → offset % page_size ≡ address % page_size
+no_wrong_offset size offset address h some = elim (and_cases (not (nat_eq size 0)) (not (nat_eq (offset % page_size) (address % page_size))) h) [
   | inl e ↦ absurd (some (eqb-true size 0 (not-false (nat_eq size 0) e)))
-  | inr e ↦ eqb-true (offset % 4096) (address % 4096) (not-false (nat_eq (offset % 4096) (address % 4096)) e)
+  | inr e ↦ eqb-true (offset % page_size) (address % page_size) (not-false (nat_eq (offset % page_size) (address % page_size)) e)
 ]
 
 sound_segment : (file : List ℕ) (before : List Segment) (i : ℕ) (h : ProgramHeader) → segment_fault file before i h ≡ None → is_segment h ≡ true
@@ -52,7 +53,7 @@ sound_segment file before i h none is =
     let within : h.offset + h.file_size ≤ length file = ltb-false _ _ (second_false (is_load h) _ load.0 f2.0) in
     let part : h.file_size ≤ h.memory_size = ltb-false _ _ (second_false (is_load h) _ load.0 f3.0) in
     let inside = or_parts _ _ (second_false (is_segment h) (is_outside h) is f4.0) in
-    let low : 4096 ≤ h.address = ltb-false _ _ inside.0 in
+    let low : page_size ≤ h.address = ltb-false _ _ inside.0 in
     let high : h.address + h.memory_size ≤ 0x7F0000000000 = ltb-false _ _ inside.1 in
     let some : h.memory_size ≢ 0 = eqb-false h.memory_size 0 (not-true _ load.1) in (
       record {

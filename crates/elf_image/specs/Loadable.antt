@@ -1,6 +1,7 @@
 -- What the segments of an accepted image keep to.
 use Rattle.std.specs.Prelude.{◌≡◌, ◌≢◌, ℕ, ◌+◌, ◌%◌, ◌<◌, ◌≤◌, ◌⊎◌, List, length}
 use Rattle.std.specs.List.{All, AllPairs}
+use Rattle.emu_model.specs.Access.{page_size}
 use Rattle.emu_system.specs.declared.image.Segment.{Segment}
 use Rattle.emu_system.specs.Image.{Image, first_page, end_page, pages_of, stack_page_count}
 
@@ -8,11 +9,11 @@ use Rattle.emu_system.specs.Image.{Image, first_page, end_page, pages_of, stack_
 -- so its pages are some, from page 1 on
 pub record IsLoadableSegment (file : List ℕ) (s : Segment) : Type 0 where
   pub nonempty : 0 < s.memory_size
-  pub low : 4096 ≤ s.address
+  pub low : page_size ≤ s.address
   pub high : s.address + s.memory_size ≤ 0x7F0000000000
   pub within : s.offset + s.file_size ≤ length file
   pub part : s.file_size ≤ s.memory_size
-  pub congruent : s.file_size ≢ 0 → s.offset % 4096 ≡ s.address % 4096
+  pub congruent : s.file_size ≢ 0 → s.offset % page_size ≡ s.address % page_size
   pub paged : first_page s < end_page s
   pub above : 1 ≤ first_page s
   pub below : end_page s ≤ 0x7F0000000

@@ -9,7 +9,7 @@ use crate::fields::{doubleword, word};
 use crate::header::Header;
 use arrayvec::ArrayVec;
 use emu_bits::flag;
-use emu_model::Rights;
+use emu_model::{PAGE_SIZE, Rights};
 use emu_system::{ElfFault, Segment};
 
 /// A program header.
@@ -39,10 +39,8 @@ const EXECUTE_BIT: u32 = 0;
 const WRITE_BIT: u32 = 1;
 /// The bit that gives R.
 const READ_BIT: u32 = 2;
-/// The bytes of a page.
-const PAGE_SIZE: u64 = 4096;
 /// The lowest address that a segment may have.
-const LOWEST: u64 = 4096;
+const LOWEST: u64 = PAGE_SIZE;
 /// The address behind the highest.
 const END: u64 = 0x7F00_0000_0000;
 

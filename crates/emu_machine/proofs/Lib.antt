@@ -8,7 +8,6 @@ pub mod Left
 pub mod Loading
 pub mod Logs
 pub mod Performed
-pub mod Plain
 pub mod Room
 pub mod Runs
 pub mod Stands

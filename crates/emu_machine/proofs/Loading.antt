@@ -10,7 +10,7 @@ use Rattle.std.specs.Ordering.{nat_cmp}
 use Rattle.std.specs.Cmp.{nat_cmp_total}
 use Rattle.std.specs.FinMap.{FinMap, find, from_entries, get, get-from_entries, same_map, nat_cmp-IsAntisymmetric}
 use Rattle.emu_model.specs.declared.access.Rights.{Rights}
-use Rattle.emu_model.specs.Access.{Memory, Page}
+use Rattle.emu_model.specs.Access.{Memory, Page, page_size}
 use Rattle.emu_model.specs.Lists.{each}
 use Rattle.emu_model.specs.ListLaws.{length-each, get_or-each}
 use Rattle.emu_model.specs.PageLaws.{get_mapped, is_in, among}
@@ -60,29 +60,29 @@ with_pieces m (p ∷ ps) = with_bytes (with_pieces m ps) p.at p.bytes
 
 -- lies in `count` pages from page `first` on, below 2^64
 pub record IsWithin (first count : ℕ) (p : Piece) : Type 0 where
-  pub low : 4096 * first ≤ p.at
-  pub high : p.at + length p.bytes ≤ 4096 * (first + count)
+  pub low : page_size * first ≤ p.at
+  pub high : p.at + length p.bytes ≤ page_size * (first + count)
   pub word : p.at + length p.bytes ≤ 2 ^ 64
 
 -- a page without pieces
 zeroed : (rights : Rights) (q : ℕ) → zeroed_page rights ≡ page_among rights [] q
 zeroed rights q =
-    let none : zeros 4096 ≡ each 4096 (λ k. 0) =
-    fill_by_all (λ k. 0) (zeros 4096) 4096 0 (ap length (zeros_is 4096) ∙ length-replicate {A = ℕ} 4096 0)
-    (λ k below. ap (λ (l : List ℕ). get_or l k 0) (zeros_is 4096) ∙ get_or-replicate {A = ℕ} 4096 k 0 0 below) in
+    let none : zeros page_size ≡ each page_size (λ k. 0) =
+    fill_by_all (λ k. 0) (zeros page_size) page_size 0 (ap length (zeros_is page_size) ∙ length-replicate {A = ℕ} page_size 0)
+    (λ k below. ap (λ (l : List ℕ). get_or l k 0) (zeros_is page_size) ∙ get_or-replicate {A = ℕ} page_size k 0 0 below) in
     ap (λ (l : List ℕ). record { rights = rights; bytes = l }) none ∙ sym (page_among_is rights [] q)
 
 -- a page with one more piece
 module _ (rights : Rights) (p : Piece) (ps : List Piece) (q : ℕ) where
-  before : (k : ℕ) → k < 4096 → get_or (page_among rights ps q).bytes k 0 ≡ byte_among ps (4096 * q + k)
-  before k below = ap (λ (x : Page). get_or x.bytes k 0) (page_among_is rights ps q) ∙ get_or-each 4096 (λ k. byte_among ps (4096 * q + k)) k 0 below
+  before : (k : ℕ) → k < page_size → get_or (page_among rights ps q).bytes k 0 ≡ byte_among ps (page_size * q + k)
+  before k below = ap (λ (x : Page). get_or x.bytes k 0) (page_among_is rights ps q) ∙ get_or-each page_size (λ k. byte_among ps (page_size * q + k)) k 0 below
 
-  long : length (page_among rights ps q).bytes ≡ 4096
-  long = ap (λ (x : Page). length x.bytes) (page_among_is rights ps q) ∙ length-each 4096 (λ k. byte_among ps (4096 * q + k))
+  long : length (page_among rights ps q).bytes ≡ page_size
+  long = ap (λ (x : Page). length x.bytes) (page_among_is rights ps q) ∙ length-each page_size (λ k. byte_among ps (page_size * q + k))
 
-  after : (k : ℕ) → k < 4096 → get_or (patched q (page_among rights ps q) p.at p.bytes).bytes k 0 ≡ byte_among (p ∷ ps) (4096 * q + k)
+  after : (k : ℕ) → k < page_size → get_or (patched q (page_among rights ps q) p.at p.bytes).bytes k 0 ≡ byte_among (p ∷ ps) (page_size * q + k)
   after k below =
-      let x : ℕ = 4096 * q + k in
+      let x : ℕ = page_size * q + k in
       let page : Page = page_among rights ps q in
       elim (nat_lt x p.at) as (λ t. nat_lt x p.at ≡ t → get_or (patched q page p.at p.bytes).bytes k 0 ≡ byte_among (p ∷ ps) x) [
         | true ↦ λ t. let low : x < p.at = grind (arith, nat_tests) in
@@ -100,8 +100,8 @@ module _ (rights : Rights) (p : Piece) (ps : List Piece) (q : ℕ) where
   one_more =
       let page : Page = patched q (page_among rights ps q) p.at p.bytes in
       let same : page.rights ≡ rights = rights_patched p.bytes q (page_among rights ps q) p.at ∙ ap (λ (x : Page). x.rights) (page_among_is rights ps q) in
-      let bytes : page.bytes ≡ each 4096 (λ k. byte_among (p ∷ ps) (4096 * q + k)) =
-      fill_by_all (λ k. byte_among (p ∷ ps) (4096 * q + k)) page.bytes 4096 0 (length_patched p.bytes q (page_among rights ps q) p.at ∙ long) after in
+      let bytes : page.bytes ≡ each page_size (λ k. byte_among (p ∷ ps) (page_size * q + k)) =
+      fill_by_all (λ k. byte_among (p ∷ ps) (page_size * q + k)) page.bytes page_size 0 (length_patched p.bytes q (page_among rights ps q) p.at ∙ long) after in
       ap (λ r. record { rights = r; bytes = page.bytes }) same ∙ ap (λ (l : List ℕ). record { rights = rights; bytes = l }) bytes ∙ sym (page_among_is rights (p ∷ ps) q)
 
   -- a page of the range, and one that isn't

@@ -6,7 +6,7 @@ use Rattle.std.proofs.lemmas.List.{get_or-set_same, get_or-set_other, length-tak
 use Rattle.std.specs.Ordering.{nat_cmp, eq_by_cmp}
 use Rattle.std.specs.Cmp.{nat_cmp_total, unsigned_tied}
 use Rattle.std.specs.FinMap.{get, get-insert}
-use Rattle.emu_model.specs.Access.{Memory, Page, address, page_with_byte, pages_with_byte, with_byte}
+use Rattle.emu_model.specs.Access.{Memory, Page, address, page_with_byte, pages_with_byte, with_byte, page_size}
 use Rattle.emu_model.specs.Pages.{with_bytes}
 use Rattle.emu_model.specs.WithinPage.{get_inserted, split_address}
 
@@ -17,7 +17,7 @@ tied a b h = eqb-true a b (sym (unsigned_tied a b) ∙ h)
 
 abbrev pub patched : ℕ → Page → ℕ → List ℕ → Page
 patched q p a [] = p
-patched q p a (b ∷ bytes) = patched q (if nat_eq (a / 4096) q then page_with_byte p (a % 4096) b else p) (a + 1) bytes
+patched q p a (b ∷ bytes) = patched q (if nat_eq (a / page_size) q then page_with_byte p (a % page_size) b else p) (a + 1) bytes
 
 abbrev pub map_page : (Page → Page) → Option Page → Option Page
 map_page f None = None
@@ -48,13 +48,13 @@ other_page m page k b q (Some p) ne =
       | false ↦ λ e. refl
     ] refl
 
-one_byte : (m : Memory) (a b q : ℕ) → get (with_byte m a b).pages q ≡ map_page (λ p. if nat_eq (a / 4096) q then page_with_byte p (a % 4096) b else p) (get m.pages q)
+one_byte : (m : Memory) (a b q : ℕ) → get (with_byte m a b).pages q ≡ map_page (λ p. if nat_eq (a / page_size) q then page_with_byte p (a % page_size) b else p) (get m.pages q)
 one_byte m a b q =
-    elim (nat_eq (a / 4096) q) as (λ t. nat_eq (a / 4096) q ≡ t → get (with_byte m a b).pages q ≡ map_page (λ p. if t then page_with_byte p (a % 4096) b else p) (get m.pages q)) [
-      | true ↦ λ e. let same : a / 4096 ≡ q = eqb-true (a / 4096) q e in
-          ap (λ k. get (with_byte m a b).pages k) (sym same) ∙ in_page m (a / 4096) (a % 4096) b (get m.pages (a / 4096)) refl
-          ∙ ap (λ k. map_page (λ p. page_with_byte p (a % 4096) b) (get m.pages k)) same
-      | false ↦ λ e. other_page m (a / 4096) (a % 4096) b q (get m.pages (a / 4096)) (eqb-false (a / 4096) q e) ∙ sym (map_page_same (get m.pages q))
+    elim (nat_eq (a / page_size) q) as (λ t. nat_eq (a / page_size) q ≡ t → get (with_byte m a b).pages q ≡ map_page (λ p. if t then page_with_byte p (a % page_size) b else p) (get m.pages q)) [
+      | true ↦ λ e. let same : a / page_size ≡ q = eqb-true (a / page_size) q e in
+          ap (λ k. get (with_byte m a b).pages k) (sym same) ∙ in_page m (a / page_size) (a % page_size) b (get m.pages (a / page_size)) refl
+          ∙ ap (λ k. map_page (λ p. page_with_byte p (a % page_size) b) (get m.pages k)) same
+      | false ↦ λ e. other_page m (a / page_size) (a % page_size) b q (get m.pages (a / page_size)) (eqb-false (a / page_size) q e) ∙ sym (map_page_same (get m.pages q))
     ] refl
 
 pub get_written : (bytes : List ℕ) (m : Memory) (a q : ℕ) → a + length bytes ≤ 2 ^ 64 → get (with_bytes m a bytes).pages q ≡ map_page (λ p. patched q p a bytes) (get m.pages q)
@@ -64,7 +64,7 @@ get_written (b ∷ bytes) m a q fits =
     get_written bytes (with_byte m (address a) b) (a + 1) q (omega arith)
     ∙ ap (λ x. map_page (λ p. patched q p (a + 1) bytes) (get (with_byte m x b).pages q)) word
     ∙ ap (λ o. map_page (λ p. patched q p (a + 1) bytes) o) (one_byte m a b q)
-    ∙ map_page_twice (λ p. patched q p (a + 1) bytes) (λ p. if nat_eq (a / 4096) q then page_with_byte p (a % 4096) b else p) (get m.pages q)
+    ∙ map_page_twice (λ p. patched q p (a + 1) bytes) (λ p. if nat_eq (a / page_size) q then page_with_byte p (a % page_size) b else p) (get m.pages q)
 
 pub limit_written : (bytes : List ℕ) (m : Memory) (a : ℕ) → (with_bytes m a bytes).limit ≡ m.limit
 limit_written [] m a = refl
@@ -80,7 +80,7 @@ one_rights false p k b = refl
 
 pub rights_patched : (bytes : List ℕ) (q : ℕ) (p : Page) (a : ℕ) → (patched q p a bytes).rights ≡ p.rights
 rights_patched [] q p a = refl
-rights_patched (b ∷ bytes) q p a = rights_patched bytes q (if nat_eq (a / 4096) q then page_with_byte p (a % 4096) b else p) (a + 1) ∙ one_rights (nat_eq (a / 4096) q) p (a % 4096) b
+rights_patched (b ∷ bytes) q p a = rights_patched bytes q (if nat_eq (a / page_size) q then page_with_byte p (a % page_size) b else p) (a + 1) ∙ one_rights (nat_eq (a / page_size) q) p (a % page_size) b
 
 one_length : (t : Bool) (p : Page) (k b : ℕ) → length (if t then page_with_byte p k b else p).bytes ≡ length p.bytes
 one_length true p k b = length-set p.bytes k b
@@ -88,14 +88,14 @@ one_length false p k b = refl
 
 pub length_patched : (bytes : List ℕ) (q : ℕ) (p : Page) (a : ℕ) → length (patched q p a bytes).bytes ≡ length p.bytes
 length_patched [] q p a = refl
-length_patched (b ∷ bytes) q p a = length_patched bytes q (if nat_eq (a / 4096) q then page_with_byte p (a % 4096) b else p) (a + 1) ∙ one_length (nat_eq (a / 4096) q) p (a % 4096) b
+length_patched (b ∷ bytes) q p a = length_patched bytes q (if nat_eq (a / page_size) q then page_with_byte p (a % page_size) b else p) (a + 1) ∙ one_length (nat_eq (a / page_size) q) p (a % page_size) b
 
 -- none of the bytes is in the page
-pub far_patched : (bytes : List ℕ) (q : ℕ) (p : Page) (a : ℕ) → ((x : ℕ) → a ≤ x → x < a + length bytes → x / 4096 ≡ q → ⊥) → patched q p a bytes ≡ p
+pub far_patched : (bytes : List ℕ) (q : ℕ) (p : Page) (a : ℕ) → ((x : ℕ) → a ≤ x → x < a + length bytes → x / page_size ≡ q → ⊥) → patched q p a bytes ≡ p
 far_patched [] q p a far = refl
 far_patched (b ∷ bytes) q p a far =
-    let first : nat_eq (a / 4096) q ≡ false = neq-eqb (a / 4096) q (far a (omega arith) (omega arith)) in
-    ap (λ t. patched q (if t then page_with_byte p (a % 4096) b else p) (a + 1) bytes) first
+    let first : nat_eq (a / page_size) q ≡ false = neq-eqb (a / page_size) q (far a (omega arith) (omega arith)) in
+    ap (λ t. patched q (if t then page_with_byte p (a % page_size) b else p) (a + 1) bytes) first
     ∙ far_patched bytes q p (a + 1) (λ x from to. far x (omega arith) (omega arith))
 
 -- ---- byte k of a page is that which was written at its address, or as before
@@ -107,27 +107,27 @@ one_elsewhere : (t : Bool) (p : Page) (j k b : ℕ) → (t ≡ true → j ≡ k 
 one_elsewhere false p j k b ne = refl
 one_elsewhere true p j k b ne = get_or-set_other p.bytes j k b 0 (λ e. ne refl (sym e))
 
-address_apart : (a q k : ℕ) → (a ≡ 4096 * q + k → ⊥) → nat_eq (a / 4096) q ≡ true → a % 4096 ≡ k → ⊥
-address_apart a q k ne t same = ne (let e : a / 4096 ≡ q = eqb-true (a / 4096) q t in omega (arith, div-add-mod a 4096))
+address_apart : (a q k : ℕ) → (a ≡ page_size * q + k → ⊥) → nat_eq (a / page_size) q ≡ true → a % page_size ≡ k → ⊥
+address_apart a q k ne t same = ne (let e : a / page_size ≡ q = eqb-true (a / page_size) q t in omega (arith, div-add-mod a page_size))
 
-pub byte_outside : (bytes : List ℕ) (q : ℕ) (p : Page) (a k : ℕ) → (4096 * q + k < a) ⊎ (a + length bytes ≤ 4096 * q + k) → get_or (patched q p a bytes).bytes k 0 ≡ get_or p.bytes k 0
+pub byte_outside : (bytes : List ℕ) (q : ℕ) (p : Page) (a k : ℕ) → (page_size * q + k < a) ⊎ (a + length bytes ≤ page_size * q + k) → get_or (patched q p a bytes).bytes k 0 ≡ get_or p.bytes k 0
 byte_outside [] q p a k out = refl
 byte_outside (b ∷ bytes) q p a k out =
-    let ne : a ≡ 4096 * q + k → ⊥ = λ e. elim out [ inl low ↦ omega arith | inr high ↦ omega arith ] in
-    let next : (4096 * q + k < a + 1) ⊎ ((a + 1) + length bytes ≤ 4096 * q + k) = elim out [ inl low ↦ inl (omega arith) | inr high ↦ inr (omega arith) ] in
-    byte_outside bytes q (if nat_eq (a / 4096) q then page_with_byte p (a % 4096) b else p) (a + 1) k next
-    ∙ one_elsewhere (nat_eq (a / 4096) q) p (a % 4096) k b (address_apart a q k ne)
+    let ne : a ≡ page_size * q + k → ⊥ = λ e. elim out [ inl low ↦ omega arith | inr high ↦ omega arith ] in
+    let next : (page_size * q + k < a + 1) ⊎ ((a + 1) + length bytes ≤ page_size * q + k) = elim out [ inl low ↦ inl (omega arith) | inr high ↦ inr (omega arith) ] in
+    byte_outside bytes q (if nat_eq (a / page_size) q then page_with_byte p (a % page_size) b else p) (a + 1) k next
+    ∙ one_elsewhere (nat_eq (a / page_size) q) p (a % page_size) k b (address_apart a q k ne)
 
-pub byte_inside : (bytes : List ℕ) (q : ℕ) (p : Page) (a k j : ℕ) → length p.bytes ≡ 4096 → k < 4096 → a + j ≡ 4096 * q + k → j < length bytes → get_or (patched q p a bytes).bytes k 0 ≡ get_or bytes j 0
+pub byte_inside : (bytes : List ℕ) (q : ℕ) (p : Page) (a k j : ℕ) → length p.bytes ≡ page_size → k < page_size → a + j ≡ page_size * q + k → j < length bytes → get_or (patched q p a bytes).bytes k 0 ≡ get_or bytes j 0
 byte_inside [] q p a k j long below is within = absurd (omega arith)
 byte_inside (b ∷ bytes) q p a k zero long below is within =
-    let here : nat_eq (a / 4096) q ≡ true = eq-eqb (a / 4096) q (omega arith) in
-    let place : a % 4096 ≡ k = omega arith in
-    byte_outside bytes q (if nat_eq (a / 4096) q then page_with_byte p (a % 4096) b else p) (a + 1) k (inl (omega arith))
-    ∙ ap (λ x. get_or (if nat_eq (a / 4096) q then page_with_byte p x b else p).bytes k 0) place
-    ∙ one_there (nat_eq (a / 4096) q) p k b here (omega (arith, long))
+    let here : nat_eq (a / page_size) q ≡ true = eq-eqb (a / page_size) q (omega arith) in
+    let place : a % page_size ≡ k = omega arith in
+    byte_outside bytes q (if nat_eq (a / page_size) q then page_with_byte p (a % page_size) b else p) (a + 1) k (inl (omega arith))
+    ∙ ap (λ x. get_or (if nat_eq (a / page_size) q then page_with_byte p x b else p).bytes k 0) place
+    ∙ one_there (nat_eq (a / page_size) q) p k b here (omega (arith, long))
 byte_inside (b ∷ bytes) q p a k (suc j) long below is within =
-    byte_inside bytes q (if nat_eq (a / 4096) q then page_with_byte p (a % 4096) b else p) (a + 1) k j (one_length (nat_eq (a / 4096) q) p (a % 4096) b ∙ long) below (omega arith) (omega arith)
+    byte_inside bytes q (if nat_eq (a / page_size) q then page_with_byte p (a % page_size) b else p) (a + 1) k j (one_length (nat_eq (a / page_size) q) p (a % page_size) b ∙ long) below (omega arith) (omega arith)
 
 -- ---- bytes that are written piece by piece
 
@@ -137,12 +137,12 @@ with_bytes_on (x ∷ xs) ys m a =
     let e : (a + 1) + length xs ≡ a + suc (length xs) = omega arith in
     with_bytes_on xs ys (with_byte m (address a) x) (a + 1) ∙ ap (λ k. with_bytes (with_bytes (with_byte m (address a) x) (a + 1) xs) k ys) e
 
-pub copied : (old new : Memory) (bytes : List ℕ) (a at end : ℕ) → at ≤ end → end ≤ length bytes → new ≡ with_bytes old ((a + at) / 4096 * 4096 + (a + at) % 4096) (take (end - at) (drop at bytes))
+pub copied : (old new : Memory) (bytes : List ℕ) (a at end : ℕ) → at ≤ end → end ≤ length bytes → new ≡ with_bytes old ((a + at) / page_size * page_size + (a + at) % page_size) (take (end - at) (drop at bytes))
     → with_bytes new (a + end) (drop end bytes) ≡ with_bytes old (a + at) (drop at bytes)
 copied old new bytes a at end before within is =
     let piece : List ℕ = take (end - at) (drop at bytes) in
     let rest : List ℕ = drop end bytes in
-    let there : (a + at) / 4096 * 4096 + (a + at) % 4096 ≡ a + at = sym (split_address (a + at)) in
+    let there : (a + at) / page_size * page_size + (a + at) % page_size ≡ a + at = sym (split_address (a + at)) in
     let long : length piece ≡ end - at = length-take (end - at) (drop at bytes) ∙ (let e = length-drop at bytes in omega (arith, e)) in
     let far : (a + at) + length piece ≡ a + end = omega (arith, long) in
     let e : at + (end - at) ≡ end = omega arith in

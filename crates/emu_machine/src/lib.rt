@@ -4,7 +4,6 @@
 //! What a step and a run make of it are the definitions of `emu_run`, over streams that tell their bytes.
 #![tactic(auto)]
 
-mod arguments;
 mod calls;
 mod contexts;
 mod ends;
@@ -17,7 +16,7 @@ mod registers;
 mod saved;
 mod stack;
 
-pub use arguments::are_arguments;
 pub use emu_model::{Ended, Length, Trap, TrapKind};
+pub use emu_system::are_arguments;
 pub use ends::{Progress, RunEnd, StepEnd, step_end};
 pub use machine::Machine;

@@ -10,10 +10,8 @@ ghost use Rattle.guest_pages.specs.MapFault.{map_fault};
 ghost use Rattle.emu_machine.specs.Loads.{HasPages, IsBelowLimit};
 
 use elf_image::Segment;
+use emu_model::{PAGE_BYTES, PAGE_SIZE};
 use guest_pages::Pages;
-
-/// The number of bytes of a page.
-const PAGE_BYTES: u64 = 4096;
 
 /// Maps the pages of the segments, with the file's bytes in their place and 0 elsewhere.
 pub fn load_segments(pages: &mut Pages, file: &[u8], segments: &[Segment])
@@ -33,7 +31,7 @@ fn load_segment(pages: &mut Pages, file: &[u8], segment: &Segment)
     requires free { map_fault pages.old (first_page segment.now) (page_count segment.now) ≡ None }
     ensures { HasPages (first_page segment.now) (page_count segment.now) (segment_page file.now segment.now) pages.old pages.new }
 {
-    let first = segment.address / PAGE_BYTES;
+    let first = segment.address / PAGE_SIZE;
     let end = end_page(segment);
     // nothing refuses it
     let _ = pages.map(first, end - first, segment.rights);
@@ -50,9 +48,9 @@ pub fn copy(pages: &mut Pages, address: u64, bytes: &[u8])
     let mut at = 0;
     while at < bytes.len() {
         let to = address + at as u64;
-        let place = (to % PAGE_BYTES) as usize;
-        let end = bytes.len().min(at + (PAGE_BYTES as usize - place));
-        pages.write(to / PAGE_BYTES, place, &bytes[at..end]);
+        let place = (to % PAGE_SIZE) as usize;
+        let end = bytes.len().min(at + (PAGE_BYTES - place));
+        pages.write(to / PAGE_SIZE, place, &bytes[at..end]);
         at = end;
     }
 }
@@ -63,7 +61,7 @@ fn end_page(segment: &Segment) -> u64
     ensures value { result ≡ end_page segment.now }
     ensures limit { result ≤ 0x7F0000000 }
 {
-    (segment.address + segment.memory_size + (PAGE_BYTES - 1)) / PAGE_BYTES
+    (segment.address + segment.memory_size + (PAGE_SIZE - 1)) / PAGE_SIZE
 }
 
 /// The page behind the highest segment.

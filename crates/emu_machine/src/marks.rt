@@ -2,6 +2,7 @@
 ghost use Rattle.std.specs.Prelude.{◌≡◌, ◌≤◌, ◌<◌, ◌+◌, length as len, set, get_or, is_some, IfOk, IsSome, Some, None, [], map, string_bytes, false};
 ghost use Rattle.std.specs.FinMap as finmap;
 ghost use Rattle.std.specs.List.{count_by};
+ghost use Rattle.emu_model.specs.Access.{most_mapped_pages};
 ghost use Rattle.emu_model.specs.Marks.{fresh_marks};
 ghost use Rattle.emu_system.specs.ArgumentLimits.{AreArguments};
 ghost use Rattle.emu_system.specs.Start.{opening};
@@ -31,7 +32,7 @@ impl Machine {
     ) -> Result<Machine, OutOfMemory>
         requires loadable { IsLoadable bytes.now pages (seen_image image.now) }
         requires arguments { AreArguments (map string_bytes args.now) }
-        requires few { pages ≤ 1048576 }
+        requires few { pages ≤ most_mapped_pages }
         ensures parts { IfOk result (λ m. m.parts ≡ parts_with (opening bytes.now (seen_image image.now) (map string_bytes args.now) length pages) (fresh_marks pages)) }
         ensures places { IfOk result (λ m. len m.saved ≡ 16) }
         ensures accesses { IfOk result (λ m. m.accesses ≡ []) }

@@ -16,7 +16,7 @@ use crate::saved::Saved;
 use crate::stack::Layout;
 use elf_image::Image;
 use emu_bits::Reg;
-use emu_model::{Break, Length};
+use emu_model::{Break, Length, PAGE_SIZE};
 use guest_mem::Mem;
 use guest_pages::{OutOfMemory, Pages};
 use std::alloc::Global;
@@ -26,8 +26,8 @@ impl Machine {
     /// stack with the arguments; all registers 0 but PC, which is the entry, and SP; vectors of `length` bits, all of them 0; and
     /// the break behind the highest segment. It has no marks. The only error is want of memory.
     ///
-    /// The image was read from these bytes, with `pages` as the greatest number of mapped pages. There are at most 300
-    /// arguments, of at most 32,768 bytes together, none of which is 0, as `are_arguments` tests.
+    /// The image was read from these bytes, with `pages` as the greatest number of mapped pages. The arguments are
+    /// within their limits, as `are_arguments` tests.
     pub fn open(
         alloc: Global,
         bytes: &[u8],
@@ -65,7 +65,7 @@ impl Machine {
         load_program(&mut memory, bytes, image, args, layout);
         registers.core.set_pc(image.entry);
         registers.core.set_x_sp(Reg::at(31, 0), 64, layout.words);
-        let start = 4096 * highest_page(&image.segments);
+        let start = PAGE_SIZE * highest_page(&image.segments);
         Machine::at_start(
             registers,
             Mem::new(memory),

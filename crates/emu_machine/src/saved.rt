@@ -3,7 +3,7 @@ ghost use Rattle.std.specs.Prelude.{◌≡◌, ℕ};
 ghost use Rattle.emu_model.specs.SoundState.{IsSoundBreak};
 
 use core_regs::Core;
-use emu_model::{Break, Length};
+use emu_model::{Break, Length, PAGE_SIZE};
 use std::marker::Model;
 use vec_regs::VecRegs;
 
@@ -58,8 +58,8 @@ impl Saved {
     /// What a mark keeps that is none: any registers of a vector length.
     pub(crate) fn unset(length: Length) -> Saved {
         let brk = Break {
-            start: 4096,
-            now: 4096,
+            start: PAGE_SIZE,
+            now: PAGE_SIZE,
         };
         Saved {
             core: Core::new(),

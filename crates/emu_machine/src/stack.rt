@@ -11,6 +11,7 @@ ghost use Rattle.emu_machine.specs.Loads.{HasPages};
 
 use crate::load::copy;
 use elf_image::Image;
+use emu_model::PAGE_SIZE;
 use guest_pages::{Pages, Rights};
 
 /// The address behind the stack's highest byte.
@@ -18,7 +19,7 @@ const TOP: u64 = 0x7FFF_FFFF_F000;
 /// The number of its pages.
 const PAGE_COUNT: u64 = 256;
 /// The number of its lowest page.
-const FIRST_PAGE: u64 = 0x7_FFFF_FEFF;
+const FIRST_PAGE: u64 = TOP / PAGE_SIZE - PAGE_COUNT;
 /// Its pages may be read and written.
 const RIGHTS: Rights = Rights {
     r: true,
@@ -28,8 +29,6 @@ const RIGHTS: Rights = Rights {
 
 /// The bytes of a program header.
 const PROGRAM_HEADER_SIZE: u64 = 56;
-/// The bytes of a page.
-const PAGE_SIZE: u64 = 4096;
 /// The number of the user and of the group.
 const USER: u64 = 1000;
 /// The bit of AT_HWCAP that says that the processor has SVE.

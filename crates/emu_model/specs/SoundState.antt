@@ -2,7 +2,7 @@
 use Rattle.std.specs.Prelude.{◌≡◌, ℕ, ◌%◌, ◌≤◌, ◌≢◌, ◌<◌, ◌/◌, ◌^◌, Bool, List, length, Some, IfSome}
 use Rattle.std.specs.List.{AllByRecursion}
 use Rattle.std.specs.FinMap.{get, len}
-use Rattle.emu_model.specs.Access.{Memory, Page}
+use Rattle.emu_model.specs.Access.{Memory, Page, page_size}
 use Rattle.emu_model.specs.declared.program_break.Break.{Break}
 use Rattle.emu_model.specs.declared.trap.Ended.{Ended}
 use Rattle.emu_model.specs.declared.trap.Ended.TheVariants.{Exit, Trap as Trapped}
@@ -54,7 +54,7 @@ pub record IsSoundVectors (v : Vectors) : Type 0 where
 pub record IsSoundPage (number : ℕ) (p : Page) : Type 0 where
   pub least : 1 ≤ number
   pub most : number < 2 ^ 35
-  pub count : length p.bytes ≡ 4096
+  pub count : length p.bytes ≡ page_size
   pub bytes : AreBytes p.bytes
 
 pub record IsSoundMemory (m : Memory) : Type 0 where
@@ -63,7 +63,7 @@ pub record IsSoundMemory (m : Memory) : Type 0 where
 
 pub record IsSoundBreak (b : Break) : Type 0 where
   pub some : b.start ≢ 0
-  pub aligned : b.start % 4096 ≡ 0
+  pub aligned : b.start % page_size ≡ 0
   pub grown : b.start ≤ b.now
   pub within : b.now ≤ 0x7F0000000000
 

@@ -3,6 +3,7 @@ use Rattle.std.specs.Prelude.{◌≡◌, ◌<◌, ◌≤◌, ◌⊎◌, ℕ, ◌
 use Rattle.std.proofs.Common.{refl, ap, inl, inr, arith}
 use Rattle.std.proofs.lemmas.Bool.Decides.{nat_tests}
 use Rattle.std.specs.List.{range_with_len}
+use Rattle.emu_model.specs.Access.{page_size}
 use Rattle.emu_model.specs.declared.access.Rights.{Rights}
 use Rattle.emu_model.specs.Lists.{each}
 use Rattle.emu_system.specs.Pieces.{Piece, byte_among, page_among}
@@ -11,7 +12,7 @@ use Rattle.emu_system.specs.Stack.{first_stack_page, stack_page, random_bytes, a
 use Rattle.byteorder.specs.Endian.{little_bytes}
 
 -- the equations, for proofs
-pub page_among_is : (rights : Rights) (pieces : List Piece) (number : ℕ) → page_among rights pieces number ≡ record { rights = rights; bytes = each 4096 (λ k. byte_among pieces (4096 * number + k)) }
+pub page_among_is : (rights : Rights) (pieces : List Piece) (number : ℕ) → page_among rights pieces number ≡ record { rights = rights; bytes = each page_size (λ k. byte_among pieces (page_size * number + k)) }
 unfolding page_among
 page_among_is rights pieces number = refl
 

@@ -1,10 +1,12 @@
 //! The place of a block in the table: its page and how many frames name it, where the block is in use.
 ghost use Rattle.std.specs.Prelude.{◌≡◌, ◌≤◌, ◌<◌, ◌+◌, ◌-◌, ◌^◌, ◌==◌, IsSome, Some, None, [], length, take, drop, unwrap_or};
 ghost use Rattle.std.specs.Borrow.{sem};
+ghost use Rattle.emu_model.specs.Access.{page_size};
 ghost use Rattle.frame_arena.specs.Frames.{zeroed};
 ghost use Rattle.frame_arena.specs.Slots.{others_in, page_in, slot_bytes, with_others};
 ghost use Rattle.frame_arena.specs.Lending.{LendsSlot, LendsSlotPart};
 
+use emu_model::PAGE_BYTES;
 use frame_links::{Page, Spare};
 
 #[derive(Drop)]
@@ -19,12 +21,12 @@ pub(crate) enum Slot {
 pub(crate) fn zeroed_page(frame: Spare) -> Page
     ensures { (result.block ≡ frame.block) × (result.place ≡ frame.place) × (result.bytes ≡ zeroed) }
 {
-    Page::new(frame, [0; 4096])
+    Page::new(frame, [0; PAGE_BYTES])
 }
 
 impl Slot {
     #[inline(always)]
-    pub(crate) fn bytes(&self) -> &[u8; 4096]
+    pub(crate) fn bytes(&self) -> &[u8; PAGE_BYTES]
         requires { IsSome (page_in self.now) }
         ensures { slot_bytes self.now ≡ Some result.now }
     {
@@ -35,7 +37,7 @@ impl Slot {
     }
 
     #[inline(always)]
-    pub(crate) fn bytes_mut(&mut self) -> &mut [u8; 4096]
+    pub(crate) fn bytes_mut(&mut self) -> &mut [u8; PAGE_BYTES]
         requires { IsSome (page_in self.old) }
         ensures* writes_back { sem 𝓛 (LendsSlot self.entry result) }
         ensures bytes { slot_bytes self.old ≡ Some result.now }
@@ -49,7 +51,7 @@ impl Slot {
     #[inline(always)]
     pub(crate) fn part_mut(&mut self, at: usize, count: usize) -> &mut [u8]
         requires live { IsSome (page_in self.old) }
-        requires within { at + count ≤ 4096 }
+        requires within { at + count ≤ page_size }
         ensures* writes_back { sem 𝓛 (LendsSlotPart self.entry at result) }
         ensures bytes { result.now ≡ take count (drop at (unwrap_or (slot_bytes self.old) [])) }
         ensures length { length result.now ≡ count }

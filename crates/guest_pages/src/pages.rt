@@ -3,7 +3,7 @@ ghost use Rattle.std.specs.Prelude.{◌≡◌, ◌≤◌, ◌<◌, ◌+◌, ◌*
 ghost use Rattle.std.specs.FinMap as map;
 ghost use Rattle.std.specs.List.{count_by};
 ghost use mathlib.Core.Option.{none};
-ghost use Rattle.emu_model.specs.Access.{gives, no_marks, page_gives};
+ghost use Rattle.emu_model.specs.Access.{gives, no_marks, page_gives, page_size, most_mapped_pages};
 ghost use Rattle.emu_model.specs.Marks.{fresh_marks};
 ghost use Rattle.std.specs.Borrow.{sem, follows_so, Lends, LendsIf, Array, u8 as byte};
 ghost use Rattle.guest_pages.specs.contracts.pages.Pages.{the_row};
@@ -19,13 +19,10 @@ use crate::places::{
     cached_place, is_mapped, look_up, mapped_place, protect_pages, remove_pages, search_code,
     store_page, taken, unmapped_page, write_page,
 };
-use emu_model::{Kind, Rights};
+use emu_model::{Kind, PAGE_BYTES, Rights};
 use page_list::PageList;
 use std::alloc::Global;
 use std::marker::Model;
-
-/// The number of bytes of a page.
-const PAGE_BYTES: usize = 4096;
 
 pub use page_list::OutOfMemory;
 
@@ -98,7 +95,7 @@ impl Pages {
     pub fn find(&self, page: u64) -> Option<(Rights, &[u8])>
         ensures found { MatchOption result (map.get self.now.pages page ≡ None)
             (λ f. map.get self.now.pages page ≡ Some (record { rights = f.0; bytes = f.1.now })) }
-        ensures whole { MatchOption result ⊤ (λ f. length f.1.now ≡ 4096) }
+        ensures whole { MatchOption result ⊤ (λ f. length f.1.now ≡ page_size) }
     {
         match cached_place(&self.list, &self.cache, page) {
             None => None,
@@ -112,7 +109,7 @@ impl Pages {
         ensures* unchanged { sem 𝓛 (follows_so the_row the_row self.entry.ghost_name none (λ _ _. ⊤) (λ m. m ≡ self.old)) }
         ensures found { MatchOption result (map.get self.old.pages page ≡ None)
             (λ f. map.get self.old.pages page ≡ Some (record { rights = f.0; bytes = f.1.now })) }
-        ensures whole { MatchOption result ⊤ (λ f. length f.1.now ≡ 4096) }
+        ensures whole { MatchOption result ⊤ (λ f. length f.1.now ≡ page_size) }
     {
         match look_up(&self.list, &mut self.cache, page) {
             None => None,
@@ -126,7 +123,7 @@ impl Pages {
         ensures* unchanged { sem 𝓛 (follows_so the_row the_row self.entry.ghost_name none (λ _ _. ⊤) (λ m. m ≡ self.old)) }
         ensures found { MatchOption result (page_gives (map.get self.old.pages page) kind ≡ false)
             (λ s. IsOpen (map.get self.old.pages page) kind s.now) }
-        ensures whole { MatchOption result ⊤ (λ s. length s.now ≡ 4096) }
+        ensures whole { MatchOption result ⊤ (λ s. length s.now ≡ page_size) }
     {
         match kind {
             Kind::Fetch => self.seek_code(page),
@@ -140,7 +137,7 @@ impl Pages {
         ensures* unchanged { sem 𝓛 (follows_so the_row the_row self.entry.ghost_name none (λ _ _. ⊤) (λ m. m ≡ self.old)) }
         ensures found { MatchOption result (page_gives (map.get self.old.pages page) kind ≡ false)
             (λ s. IsOpen (map.get self.old.pages page) kind s.now) }
-        ensures whole { MatchOption result ⊤ (λ s. length s.now ≡ 4096) }
+        ensures whole { MatchOption result ⊤ (λ s. length s.now ≡ page_size) }
     {
         match look_up(&self.list, &mut self.cache, page) {
             None => None,
@@ -160,7 +157,7 @@ impl Pages {
         ensures* unchanged { sem 𝓛 (follows_so the_row the_row self.entry.ghost_name none (λ _ _. ⊤) (λ m. m ≡ self.old)) }
         ensures found { MatchOption result (page_gives (map.get self.old.pages page) Kind.Fetch ≡ false)
             (λ s. IsOpen (map.get self.old.pages page) Kind.Fetch s.now) }
-        ensures whole { MatchOption result ⊤ (λ s. length s.now ≡ 4096) }
+        ensures whole { MatchOption result ⊤ (λ s. length s.now ≡ page_size) }
     {
         if self.list.is_code(page) {
             return Some(self.list.code(page));
@@ -175,7 +172,7 @@ impl Pages {
     pub fn find_mut(&mut self, page: u64) -> Option<&mut [u8]>
         ensures* writes_back { sem 𝓛 (LendsIf the_row (Array byte 0) self.entry result (with_part self.old page 0) self.old) }
         ensures found { option_map (λ s. s.now) result ≡ option_map (λ p. p.bytes) (map.get self.old.pages page) }
-        ensures whole { MatchOption result ⊤ (λ s. length s.now ≡ 4096) }
+        ensures whole { MatchOption result ⊤ (λ s. length s.now ≡ page_size) }
     {
         if self.is_mapped(page) {
             Some(self.page_mut(page))
@@ -189,7 +186,7 @@ impl Pages {
         requires { IsTrue (map.contains_key self.old.pages page) }
         ensures* writes_back { sem 𝓛 (Lends the_row (Array byte 0) self.entry result (with_part self.old page 0)) }
         ensures found { Some result.now ≡ option_map (λ p. p.bytes) (map.get self.old.pages page) }
-        ensures whole { length result.now ≡ 4096 }
+        ensures whole { length result.now ≡ page_size }
     {
         // a field is looked at, so that the proof may use what the pages keep to
         let _ = &self.cache;
@@ -199,9 +196,9 @@ impl Pages {
     /// `count` bytes of a page that is mapped, from place `at` on, for writing.
     pub fn part_mut(&mut self, page: u64, at: usize, count: usize) -> &mut [u8]
         requires mapped { IsTrue (map.contains_key self.old.pages page) }
-        requires within { at + count ≤ 4096 }
+        requires within { at + count ≤ page_size }
         ensures* writes_back { sem 𝓛 (Lends the_row (Array byte 0) self.entry result (with_part self.old page at)) }
-        ensures value { result.now ≡ bytes_at self.old (page * 4096 + at) count }
+        ensures value { result.now ≡ bytes_at self.old (page * page_size + at) count }
         ensures length { length result.now ≡ count }
     {
         let i = mapped_place(&self.list, &mut self.cache, page);
@@ -266,8 +263,8 @@ impl Pages {
     /// Replaces the bytes of a page from place `at` on; a page that isn't mapped stays so.
     pub fn write(&mut self, page: u64, at: usize, bytes: &[u8])
         requires number { page < 2 ^ 52 }
-        requires within { at + length bytes.now ≤ 4096 }
-        ensures { self.new ≡ with_bytes self.old (page * 4096 + at) bytes.now }
+        requires within { at + length bytes.now ≤ page_size }
+        ensures { self.new ≡ with_bytes self.old (page * page_size + at) bytes.now }
     {
         write_page(&mut self.list, &mut self.cache, page, at, bytes);
     }
@@ -276,16 +273,16 @@ impl Pages {
     #[inline(always)]
     pub fn store(&mut self, page: u64, at: usize, bytes: &[u8]) -> bool
         requires number { page < 2 ^ 52 }
-        requires within { at + length bytes.now ≤ 4096 }
+        requires within { at + length bytes.now ≤ page_size }
         ensures allowed { result ≡ page_gives (map.get self.old.pages page) Kind.Write }
-        ensures bytes { self.new ≡ (if result then with_bytes self.old (page * 4096 + at) bytes.now else self.old) }
+        ensures bytes { self.new ≡ (if result then with_bytes self.old (page * page_size + at) bytes.now else self.old) }
     {
         store_page(&mut self.list, &mut self.cache, page, at, bytes)
     }
 
     /// No pages, of which at most `limit` may be mapped, and sixteen marks, which are none. No later call takes memory.
     pub fn with_marks(alloc: Global, limit: u32) -> Result<Pages, OutOfMemory>
-        requires { limit ≤ 1048576 }
+        requires { limit ≤ most_mapped_pages }
         ensures { IfOk result (λ p. p ≡ record { pages = map.empty; limit = limit; marks = fresh_marks limit }) }
     {
         let list = PageList::with_marks(alloc, limit)?;

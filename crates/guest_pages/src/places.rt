@@ -3,7 +3,7 @@ ghost use Rattle.std.specs.Prelude.{◌≡◌, ◌≤◌, ◌<◌, ◌+◌, ◌^
 ghost use Rattle.std.specs.List.{AllByRecursion, filter};
 ghost use Rattle.std.specs.Ordering.{nat_cmp};
 ghost use Rattle.std.specs.FinMap.{contains_key, find};
-ghost use Rattle.emu_model.specs.Access.{page_gives};
+ghost use Rattle.emu_model.specs.Access.{page_gives, page_size};
 ghost use Rattle.emu_model.specs.Pages.{is_among, least_mapped, least_unmapped};
 ghost use Rattle.emu_model.specs.WithinPage.{page_with_bytes};
 ghost use Rattle.guest_pages.specs.Places.{IsAscending, IsBelow, IsFrom, IsAt, IsRight, all_changed, cached, changed, entry_at, page_with_rights, pages_of};
@@ -128,7 +128,7 @@ pub fn taken(list: &PageList, at: usize, first: u64, count: u64) -> Option<u64>
 pub fn write_page(list: &mut PageList, cache: &mut Cache, page: u64, at: usize, bytes: &[u8])
     requires ascending { IsAscending list.old.pages }
     requires right { IsRight list.old.pages cache.old }
-    requires within { at + length bytes.now ≤ 4096 }
+    requires within { at + length bytes.now ≤ page_size }
     ensures pages { list.new.pages ≡ changed (page_with_bytes at bytes.now) page list.old.pages }
     ensures limit { list.new.limit ≡ list.old.limit }
     ensures marks { (list.new.marks ≡ list.old.marks) × (list.new.unmarked ≡ list.old.unmarked) }
@@ -150,7 +150,7 @@ pub fn store_page(
 ) -> bool
     requires ascending { IsAscending list.old.pages }
     requires right { IsRight list.old.pages cache.old }
-    requires within { at + length bytes.now ≤ 4096 }
+    requires within { at + length bytes.now ≤ page_size }
     ensures allowed { result ≡ page_gives (find nat_cmp page list.old.pages) Kind.Write }
     ensures pages { list.new.pages ≡ (if result then changed (page_with_bytes at bytes.now) page list.old.pages else list.old.pages) }
     ensures limit { list.new.limit ≡ list.old.limit }

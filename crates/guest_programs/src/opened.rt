@@ -2,6 +2,7 @@
 use crate::items::{number, of_rights};
 use emu_bits::Reg;
 use emu_machine::{Ended, Machine};
+use emu_model::PAGE_SIZE;
 use emu_report::put_registers;
 use io_gate::MemSink;
 use std::alloc::Global;
@@ -130,7 +131,7 @@ fn has_memory(machine: &Machine, name: &str, value: &str) -> Option<bool> {
         "unmapped" => Some(machine.mem().peek(address).is_none()),
         "mapped" => Some(u64::from(pages.mapped()) == address),
         _ => {
-            let (rights, _) = pages.find(address / 4096)?;
+            let (rights, _) = pages.find(address / PAGE_SIZE)?;
             Some(of_rights(rights) == number(rest)?)
         }
     }

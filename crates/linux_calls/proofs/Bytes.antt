@@ -7,7 +7,7 @@ use Rattle.std.specs.Result.{IsErr}
 use Rattle.io_gate.specs.Pieces.{PutsAll}
 use Rattle.emu_model.specs.declared.access.Kind.{Kind}
 use Rattle.guest_mem.specs.Slices.{to_page_end}
-use Rattle.emu_model.specs.Access.{Memory, address, allowed, byte_at, refused, value}
+use Rattle.emu_model.specs.Access.{Memory, address, allowed, byte_at, refused, value, page_size}
 use Rattle.emu_model.specs.AccessEquations.{refused-zero, refused-suc, value-zero, value-suc}
 use Rattle.emu_system.specs.SystemCall.{entry_at}
 use Rattle.emu_model.specs.AccessLaws.{bytes_split, length_bytes_at, refused_first, refused_split}
@@ -124,7 +124,7 @@ piece_is m now kind a count at piece below same bytes granted =
     let b : ℕ = address (a + at) in
     let n : ℕ = to_page_end b (count - at) in
     let long : length piece ≡ n = ap length bytes ∙ length_bytes_at n now b in
-    let near : b % 4096 < 4096 = omega arith in
+    let near : b % page_size < page_size = omega arith in
     record {
       some = omega (arith, long, near);
       within = omega (arith, long);

@@ -8,7 +8,7 @@ use Rattle.std.specs.Ordering.{nat_cmp, eq_by_cmp}
 use Rattle.std.specs.Cmp.{nat_cmp_total, unsigned_tied}
 use Rattle.std.specs.FinMap.{get, insert, get-insert}
 use Rattle.emu_model.specs.declared.access.Kind.{Kind}
-use Rattle.emu_model.specs.Access.{Memory, Page, address, page_of, page_byte, byte_at, with_byte, pages_with_byte, page_with_byte, page_gives, allowed, refused}
+use Rattle.emu_model.specs.Access.{Memory, Page, address, page_of, page_byte, byte_at, with_byte, pages_with_byte, page_with_byte, page_gives, allowed, refused, page_size}
 use Rattle.emu_model.specs.AccessEquations.{refused-zero, refused-suc}
 use Rattle.emu_model.specs.AccessLaws.{write_unmapped, with_bytes_split, bytes_split, length_bytes_at}
 use Rattle.emu_model.specs.Pages.{bytes_at, with_bytes}
@@ -20,11 +20,11 @@ use Rattle.guest_pages.specs.Bytes.{as_bytes-same}
 
 -- ---- a byte that is written as it stood
 
-same_by_page : (m : Memory) (a : ℕ) (o : Option Page) → page_of m a ≡ o → record m { pages = pages_with_byte m.pages o (a / 4096) (a % 4096) (page_byte o (a % 4096)) } ≡ m
+same_by_page : (m : Memory) (a : ℕ) (o : Option Page) → page_of m a ≡ o → record m { pages = pages_with_byte m.pages o (a / page_size) (a % page_size) (page_byte o (a % page_size)) } ≡ m
 same_by_page m a None is = refl
 same_by_page m a (Some p) is =
-    ap (λ (bytes : List ℕ). record m { pages = insert m.pages (a / 4096) (record p { bytes = bytes }) }) (set-get_or p.bytes (a % 4096) 0)
-    ∙ ap (λ pages. record m { pages = pages }) (insert_same m.pages (a / 4096) p is)
+    ap (λ (bytes : List ℕ). record m { pages = insert m.pages (a / page_size) (record p { bytes = bytes }) }) (set-get_or p.bytes (a % page_size) 0)
+    ∙ ap (λ pages. record m { pages = pages }) (insert_same m.pages (a / page_size) p is)
 
 same_byte : (m : Memory) (a : ℕ) → with_byte m a (byte_at m a) ≡ m
 same_byte m a = same_by_page m a (page_of m a) refl
@@ -38,20 +38,20 @@ same_bytes (suc n) m a =
 
 -- ---- other bytes stay
 
-other_in_page : (m : Memory) (a b q : ℕ) (p : Page) (t : Bool) → page_of m a ≡ Some p → (q ≡ a → ⊥) → eq_by_cmp nat_cmp (q / 4096) (a / 4096) ≡ t
-    → page_byte (cond t (Some (page_with_byte p (a % 4096) b)) (page_of m q)) (q % 4096) ≡ byte_at m q
+other_in_page : (m : Memory) (a b q : ℕ) (p : Page) (t : Bool) → page_of m a ≡ Some p → (q ≡ a → ⊥) → eq_by_cmp nat_cmp (q / page_size) (a / page_size) ≡ t
+    → page_byte (cond t (Some (page_with_byte p (a % page_size) b)) (page_of m q)) (q % page_size) ≡ byte_at m q
 other_in_page m a b q p true is other tie =
-    let page : q / 4096 ≡ a / 4096 = eqb-true (q / 4096) (a / 4096) (sym (unsigned_tied (q / 4096) (a / 4096)) ∙ tie) in
-    let apart : q % 4096 ≡ a % 4096 → ⊥ = λ e. other (omega (arith, e, page)) in
+    let page : q / page_size ≡ a / page_size = eqb-true (q / page_size) (a / page_size) (sym (unsigned_tied (q / page_size) (a / page_size)) ∙ tie) in
+    let apart : q % page_size ≡ a % page_size → ⊥ = λ e. other (omega (arith, e, page)) in
     let here : page_of m q ≡ Some p = ap (λ k. get m.pages k) page ∙ is in
-    get_or-set_other p.bytes (a % 4096) (q % 4096) b 0 apart ∙ ap (λ (o : Option Page). page_byte o (q % 4096)) (sym here)
+    get_or-set_other p.bytes (a % page_size) (q % page_size) b 0 apart ∙ ap (λ (o : Option Page). page_byte o (q % page_size)) (sym here)
 other_in_page m a b q p false is other tie = refl
 
 other_byte : (m : Memory) (a b q : ℕ) (o : Option Page) → page_of m a ≡ o → (q ≡ a → ⊥) → byte_at (with_byte m a b) q ≡ byte_at m q
 other_byte m a b q None is other = ap (λ (x : Memory). byte_at x q) (write_unmapped m a b is)
 other_byte m a b q (Some p) is other =
-    ap (λ (o : Option Page). page_byte (get (pages_with_byte m.pages o (a / 4096) (a % 4096) b) (q / 4096)) (q % 4096)) is
-    ∙ ap (λ (o : Option Page). page_byte o (q % 4096)) (get-insert nat_cmp_total m.pages (a / 4096) (page_with_byte p (a % 4096) b) (q / 4096))
+    ap (λ (o : Option Page). page_byte (get (pages_with_byte m.pages o (a / page_size) (a % page_size) b) (q / page_size)) (q % page_size)) is
+    ∙ ap (λ (o : Option Page). page_byte o (q % page_size)) (get-insert nat_cmp_total m.pages (a / page_size) (page_with_byte p (a % page_size) b) (q / page_size))
     ∙ other_in_page m a b q p _ is other refl
 
 low : (a : ℕ) → a < 2 ^ 64 → address a ≡ a
@@ -93,8 +93,8 @@ rewritten m a len xs few fits =
 -- the same of a slice of a page that was lent
 pub slice_rewritten : (m : Memory) (a most : ℕ) (xs w : List ℕ) → a < 2 ^ 64 → AreBytes w → length xs ≤ to_page_end a most → w ≡ xs ++ drop (length xs) (bytes_at m a (to_page_end a most)) → length w ≡ to_page_end a most → with_slice m a w ≡ with_bytes m a xs
 slice_rewritten m a most xs w word small few is long =
-    ap (λ (l : List ℕ). with_bytes m a (take (4096 - a % 4096) l)) (as_bytes-same w small)
-    ∙ ap (λ (l : List ℕ). with_bytes m a l) (take_all (4096 - a % 4096) w (omega (arith, long)))
+    ap (λ (l : List ℕ). with_bytes m a (take (page_size - a % page_size) l)) (as_bytes-same w small)
+    ∙ ap (λ (l : List ℕ). with_bytes m a l) (take_all (page_size - a % page_size) w (omega (arith, long)))
     ∙ ap (λ (l : List ℕ). with_bytes m a l) is
     ∙ rewritten m a (to_page_end a most) xs few (omega arith)
 
@@ -109,18 +109,18 @@ written_same (x ∷ bytes) m a b same =
     ap (λ q. with_bytes (with_byte m q x) (a + 1) bytes) same
     ∙ written_same bytes (with_byte m (address b) x) (a + 1) (b + 1) (next_same a b same)
 
-same_rights : (m : Memory) (a b q : ℕ) (p : Page) (kind : Kind) (t : Bool) → page_of m a ≡ Some p → eq_by_cmp nat_cmp (q / 4096) (a / 4096) ≡ t
-    → page_gives (cond t (Some (page_with_byte p (a % 4096) b)) (page_of m q)) kind ≡ allowed m kind q
+same_rights : (m : Memory) (a b q : ℕ) (p : Page) (kind : Kind) (t : Bool) → page_of m a ≡ Some p → eq_by_cmp nat_cmp (q / page_size) (a / page_size) ≡ t
+    → page_gives (cond t (Some (page_with_byte p (a % page_size) b)) (page_of m q)) kind ≡ allowed m kind q
 same_rights m a b q p kind true is tie =
-    let page : q / 4096 ≡ a / 4096 = eqb-true (q / 4096) (a / 4096) (sym (unsigned_tied (q / 4096) (a / 4096)) ∙ tie) in
+    let page : q / page_size ≡ a / page_size = eqb-true (q / page_size) (a / page_size) (sym (unsigned_tied (q / page_size) (a / page_size)) ∙ tie) in
     ap (λ (o : Option Page). page_gives o kind) (sym (ap (λ k. get m.pages k) page ∙ is))
 same_rights m a b q p kind false is tie = refl
 
 allowed_after : (m : Memory) (a b q : ℕ) (kind : Kind) (o : Option Page) → page_of m a ≡ o → allowed (with_byte m a b) kind q ≡ allowed m kind q
 allowed_after m a b q kind None is = ap (λ (x : Memory). allowed x kind q) (write_unmapped m a b is)
 allowed_after m a b q kind (Some p) is =
-    ap (λ (o : Option Page). page_gives (get (pages_with_byte m.pages o (a / 4096) (a % 4096) b) (q / 4096)) kind) is
-    ∙ ap (λ (o : Option Page). page_gives o kind) (get-insert nat_cmp_total m.pages (a / 4096) (page_with_byte p (a % 4096) b) (q / 4096))
+    ap (λ (o : Option Page). page_gives (get (pages_with_byte m.pages o (a / page_size) (a % page_size) b) (q / page_size)) kind) is
+    ∙ ap (λ (o : Option Page). page_gives o kind) (get-insert nat_cmp_total m.pages (a / page_size) (page_with_byte p (a % page_size) b) (q / page_size))
     ∙ same_rights m a b q p kind _ is refl
 
 refused_after : (n : ℕ) (m : Memory) (a b q : ℕ) (kind : Kind) → refused (with_byte m a b) q n kind ≡ refused m q n kind

@@ -1,5 +1,6 @@
 //! The calls on pages: brk, munmap, mmap, mprotect.
 ghost use Rattle.std.specs.Prelude.{◌≡◌, ◌/◌, ◌^◌, ◌≤◌};
+ghost use Rattle.emu_model.specs.Access.{page_size};
 ghost use Rattle.emu_model.specs.declared.program_break.Break.{Break};
 ghost use Rattle.emu_model.specs.Pages.{free_run};
 ghost use Rattle.emu_model.specs.SoundState.{IsSoundBreak};
@@ -7,18 +8,15 @@ ghost use Rattle.emu_system.specs.SystemCall as model;
 ghost use Rattle.linux_calls.specs.Replies.{HasDone};
 
 use crate::reply::Reply;
-use emu_model::{Break, Rights};
+use emu_model::{Break, PAGE_SIZE, Rights};
 use emu_system::Errno;
 use guest_mem::Mem;
-
-/// The number of bytes of a page.
-const PAGE_BYTES: u64 = 4096;
 
 /// The break, and each page that `mmap` maps, is at or below this address.
 const HIGHEST: u64 = 0x7F00_0000_0000;
 
 /// The page at 2^47, before which ranges end.
-const END_PAGE: u64 = 1 << 35;
+const END_PAGE: u64 = (1 << 47) / PAGE_SIZE;
 
 /// The flags MAP_PRIVATE and MAP_ANONYMOUS.
 const PRIVATE_AND_ANONYMOUS: u64 = 0x22;
@@ -62,10 +60,10 @@ pub fn unmap(mem: &mut Mem, address: u64, length: u64) -> Reply
     ensures done { (brk : Break) → HasDone (model.unmapping mem.old address length) mem.old brk mem.new brk result }
     ensures marks { mem.new.marks ≡ mem.old.marks }
 {
-    if address % PAGE_BYTES != 0 || length == 0 {
+    if address % PAGE_SIZE != 0 || length == 0 {
         return Reply::Error(Errno::EINVAL);
     }
-    let first = address / PAGE_BYTES;
+    let first = address / PAGE_SIZE;
     let count = pages_for(length);
     if first + count > END_PAGE {
         return Reply::Error(Errno::EINVAL);
@@ -87,14 +85,14 @@ pub fn map(mem: &mut Mem, length: u64, prot: u64, flags: u64) -> Reply
 
 /// Maps the highest `count` pages that are free one after the other, and answers their address.
 fn map_highest(mem: &mut Mem, count: u64, rights: Rights) -> Reply
-    ensures done { (brk : Break) → HasDone (model.mapping_at (free_run mem.old.pages count (model.highest / 4096)) mem.old count rights) mem.old brk mem.new brk result }
+    ensures done { (brk : Break) → HasDone (model.mapping_at (free_run mem.old.pages count (model.highest / page_size)) mem.old count rights) mem.old brk mem.new brk result }
     ensures marks { mem.new.marks ≡ mem.old.marks }
 {
-    let Some(first) = mem.pages().free_run(count, HIGHEST / PAGE_BYTES) else {
+    let Some(first) = mem.pages().free_run(count, HIGHEST / PAGE_SIZE) else {
         return Reply::Error(Errno::ENOMEM);
     };
     match mem.pages_mut().map(first, count, rights) {
-        Ok(()) => Reply::Answer(PAGE_BYTES * first),
+        Ok(()) => Reply::Answer(PAGE_SIZE * first),
         Err(_) => Reply::Error(Errno::ENOMEM),
     }
 }
@@ -104,13 +102,13 @@ pub fn protect(mem: &mut Mem, address: u64, length: u64, prot: u64) -> Reply
     ensures done { (brk : Break) → HasDone (model.protection mem.old address length prot) mem.old brk mem.new brk result }
     ensures marks { mem.new.marks ≡ mem.old.marks }
 {
-    if address % PAGE_BYTES != 0 || prot > 7 {
+    if address % PAGE_SIZE != 0 || prot > 7 {
         return Reply::Error(Errno::EINVAL);
     }
     if length == 0 {
         return Reply::Answer(0);
     }
-    let first = address / PAGE_BYTES;
+    let first = address / PAGE_SIZE;
     let count = pages_for(length);
     if first + count > END_PAGE {
         return Reply::Error(Errno::ENOMEM);
@@ -126,10 +124,10 @@ fn pages_for(bytes: u64) -> u64
     ensures pages { result ≡ model.pages_for bytes }
     ensures most { result ≤ 2 ^ 52 }
 {
-    if bytes % PAGE_BYTES == 0 {
-        bytes / PAGE_BYTES
+    if bytes % PAGE_SIZE == 0 {
+        bytes / PAGE_SIZE
     } else {
-        bytes / PAGE_BYTES + 1
+        bytes / PAGE_SIZE + 1
     }
 }
 

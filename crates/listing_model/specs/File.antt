@@ -2,9 +2,7 @@
 -- the pages behind it.
 use Rattle.std.specs.Prelude.{ℕ, ◌+◌, ◌-◌, ◌*◌, ◌/◌, ◌==◌, ◌&&◌, if◌then◌else◌, List, [], ◌∷◌, ◌++◌, length, replicate}
 use Rattle.byteorder.specs.Endian.{little_bytes}
-
-abbrev pub page : ℕ
-page = 4096
+use Rattle.emu_model.specs.Access.{page_size}
 
 -- where code stands in memory
 abbrev pub code_base : ℕ
@@ -12,7 +10,7 @@ code_base = 0x40_0000
 
 -- bytes of whole pages
 abbrev pub rounded : ℕ → ℕ
-rounded n = (n + (page - 1)) / page * page
+rounded n = (n + (page_size - 1)) / page_size * page_size
 
 -- where data stands in memory, behind so many bytes of code
 abbrev pub data_base : ℕ → ℕ
@@ -41,19 +39,19 @@ elf_header entry segments =
 abbrev pub program_header : ℕ → ℕ → ℕ → ℕ → ℕ → List ℕ
 program_header flags offset address file_size memory_size =
     little_bytes 4 1 ++ (little_bytes 4 flags ++ (little_bytes 8 offset ++ (little_bytes 8 address ++ (little_bytes 8 address
-    ++ (little_bytes 8 file_size ++ (little_bytes 8 memory_size ++ little_bytes 8 page))))))
+    ++ (little_bytes 8 file_size ++ (little_bytes 8 memory_size ++ little_bytes 8 page_size))))))
 
 -- readable and executable
 abbrev pub code_header : ℕ → List ℕ
-code_header code_size = program_header 5 page code_base code_size code_size
+code_header code_size = program_header 5 page_size code_base code_size code_size
 
 -- readable and writable
 abbrev pub data_header : ℕ → ℕ → ℕ → List ℕ
-data_header code_size data_size bss_size = program_header 6 (page + rounded code_size) (data_base code_size) data_size (data_size + bss_size)
+data_header code_size data_size bss_size = program_header 6 (page_size + rounded code_size) (data_base code_size) data_size (data_size + bss_size)
 
 -- the file of an entry, the bytes of the code and of the data, and the size of the memory behind the data
 abbrev pub file_of : ℕ → List ℕ → List ℕ → ℕ → List ℕ
 file_of entry code values bss_size =
-    if length values == 0 && bss_size == 0 then padded page (elf_header entry 1 ++ code_header (length code)) ++ code
-    else padded page (elf_header entry 2 ++ (code_header (length code) ++ data_header (length code) (length values) bss_size))
+    if length values == 0 && bss_size == 0 then padded page_size (elf_header entry 1 ++ code_header (length code)) ++ code
+    else padded page_size (elf_header entry 2 ++ (code_header (length code) ++ data_header (length code) (length values) bss_size))
     ++ (padded (rounded (length code)) code ++ values)

@@ -7,7 +7,7 @@ use Rattle.emu_model.specs.declared.access.Kind.{Kind}
 use Rattle.emu_model.specs.declared.access.Kind.TheVariants.{Read as ToRead, Write as ToWrite}
 use Rattle.emu_model.specs.declared.access.Rights.{Rights}
 use Rattle.emu_model.specs.declared.program_break.Break.{Break}
-use Rattle.emu_model.specs.Access.{Marks, Memory, value}
+use Rattle.emu_model.specs.Access.{Marks, Memory, value, page_size}
 use Rattle.emu_model.specs.Lists.{each}
 use Rattle.emu_model.specs.Pages.{free_run, is_over_limit, least_unmapped, with_bytes}
 use Rattle.emu_model.specs.State.{Core, Parts, Vectors}
@@ -85,13 +85,13 @@ module _ (m : Memory) (x : Marks) where
   mapping_with : (count prot flags : ℕ) → mapping (memory_with m x) count prot flags ≡ action_with (mapping m count prot flags) x
   mapping_with count prot flags =
       if_with (nat_eq count 0 || nat_lt 7 prot || not (is_private_and_anonymous flags)) x (fails EINVAL) _ (fails EINVAL) _ refl
-      (mapping_at_with (free_run m.pages (pages_for count) (highest / 4096)) (pages_for count) (rights_of prot))
+      (mapping_at_with (free_run m.pages (pages_for count) (highest / page_size)) (pages_for count) (rights_of prot))
 
   protection_with : (a count prot : ℕ) → protection (memory_with m x) a count prot ≡ action_with (protection m a count prot) x
   protection_with a count prot =
       if_with (not (is_page a) || nat_lt 7 prot) x (fails EINVAL) _ (fails EINVAL) _ refl
       (if_with (nat_eq count 0) x (answers 0) _ (answers 0) _ refl
-      (if_with (is_beyond a count || is_some (least_unmapped m.pages (a / 4096) (pages_for count))) x (fails ENOMEM) _ (fails ENOMEM) _ refl refl))
+      (if_with (is_beyond a count || is_some (least_unmapped m.pages (a / page_size) (pages_for count))) x (fails ENOMEM) _ (fails ENOMEM) _ refl refl))
 
   -- ---- prctl
 

@@ -1,7 +1,8 @@
 //! The commands, and the lines that say them.
 ghost use Rattle.std.specs.Prelude.{◌≤◌, ◌+◌, ◌^◌, ◌↔◌, IsTrue};
+ghost use Rattle.emu_model.specs.Access.{page_size};
 
-use emu_model::Rights;
+use emu_model::{PAGE_BYTES, Rights};
 
 /// A command, with pages and places that it may name.
 #[derive(Clone, Copy)]
@@ -21,9 +22,6 @@ pub enum Command {
     Free(u64, u64),
     Mapped,
 }
-
-/// The number of bytes of a page.
-pub const PAGE_BYTES: usize = 4096;
 
 /// The rights of a number: 4 for r, 2 for w and 1 for x.
 fn rights_of(number: u64) -> Rights {
@@ -79,14 +77,14 @@ pub fn are_pages(first: u64, count: u64) -> bool
 
 /// Whether `count` bytes from place `at` on end within a page.
 pub fn are_places(at: usize, count: usize) -> bool
-    ensures { IsTrue result ↔ at + count ≤ 4096 }
+    ensures { IsTrue result ↔ at + count ≤ page_size }
 {
     at <= PAGE_BYTES && count <= PAGE_BYTES - at
 }
 
 /// Bytes that follow one another, modulo 256.
-pub fn row_from(first: u8) -> [u8; 4096] {
-    let mut row = [0u8; 4096];
+pub fn row_from(first: u8) -> [u8; PAGE_BYTES] {
+    let mut row = [0u8; PAGE_BYTES];
     for (place, byte) in row.iter_mut().enumerate() {
         *byte = first.wrapping_add((place % 256) as u8);
     }

@@ -20,12 +20,14 @@
 //! Of a page that is found, its rights are written and the sum of its bytes, each times its place counted from 1,
 //! modulo 2^32.
 ghost use Rattle.std.specs.Prelude.{◌≤◌};
+ghost use Rattle.emu_model.specs.Access.{most_mapped_pages};
 
 use crate::answers::Answer;
 use crate::commands::{command_of, number};
 use crate::marks::{Past, change_of, changed};
 use crate::memory::reply_of;
 use crate::programs::{by_list, by_plain_list};
+use emu_model::MOST_MAPPED_PAGES;
 use guest_mem::Mem;
 use std::alloc::{AllocError, Global};
 use std::io;
@@ -124,9 +126,9 @@ impl Both {
     }
 }
 
-/// The greatest number of pages that a word says, below 2^20.
+/// The greatest number of mapped pages, as a word says it, modulo the greatest that may be chosen.
 fn limit_of(word: &str) -> u32
-    ensures { result ≤ 1048576 }
+    ensures { result ≤ most_mapped_pages }
 {
-    (number(Some(word)) % 1_048_576) as u32
+    (number(Some(word)) % MOST_MAPPED_PAGES) as u32
 }

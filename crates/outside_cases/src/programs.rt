@@ -1,5 +1,6 @@
 //! A command obeyed by one of the two programs of mapped pages.
 ghost use Rattle.std.specs.Prelude.{◌≤◌, ◌<◌, ◌+◌, ◌^◌, length};
+ghost use Rattle.emu_model.specs.Access.{page_size};
 
 use crate::answers::{Answer, of_map, of_page, of_plain_map, of_store};
 use crate::commands::{Command, are_pages, are_places, row_from};
@@ -69,7 +70,7 @@ fn write_byte(pages: &mut plain_pages::Pages, page: u64, at: usize, byte: u8) ->
 
 /// Replaces bytes of a page from a place on through those that are lent.
 fn part(pages: &mut guest_pages::Pages, page: u64, at: usize, row: &[u8]) -> Answer
-    requires { at + length row.now ≤ 4096 }
+    requires { at + length row.now ≤ page_size }
 {
     if !pages.is_mapped(page) {
         return Answer::Missing;
@@ -81,7 +82,7 @@ fn part(pages: &mut guest_pages::Pages, page: u64, at: usize, row: &[u8]) -> Ans
 /// The same over the plain program.
 fn write_row(pages: &mut plain_pages::Pages, page: u64, at: usize, row: &[u8]) -> Answer
     requires number { page < 2 ^ 52 }
-    requires within { at + length row.now ≤ 4096 }
+    requires within { at + length row.now ≤ page_size }
 {
     if pages.find(page).is_none() {
         return Answer::Missing;

@@ -2,6 +2,7 @@
 use arrayvec::ArrayVec;
 use core_regs::{Core, Trap, TrapKind};
 use emu_bits::{Flags, Pred, Reg};
+use emu_model::PAGE_SIZE;
 use guest_mem::Mem;
 use guest_pages::{Pages, Rights};
 use std::alloc::Global;
@@ -162,7 +163,7 @@ impl State {
 
     /// Maps the page of an address.
     fn map(&mut self, address: u64, rights: &str) -> Option<()> {
-        let page = address / 4096;
+        let page = address / PAGE_SIZE;
         if page == 0 || page >= PAGE_NUMBERS {
             return None;
         }
@@ -187,11 +188,11 @@ impl State {
 
     /// Puts a byte of a page, whatever the page's rights are.
     fn put_byte(&mut self, address: u64, byte: u8) -> Option<()> {
-        let page = address / 4096;
+        let page = address / PAGE_SIZE;
         self.memory.pages().find(page)?;
         self.memory
             .pages_mut()
-            .write(page, (address % 4096) as usize, &[byte]);
+            .write(page, (address % PAGE_SIZE) as usize, &[byte]);
         Some(())
     }
 

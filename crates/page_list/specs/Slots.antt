@@ -2,6 +2,7 @@
 use Rattle.std.specs.Prelude.{◌≡◌, ◌≤◌, ◌<◌, ◌^◌, if◌then◌else◌, ℕ, zero, suc, ◌+◌, ◌-◌, ◌*◌, ◌==◌, Bool, true, false, ◌&&◌, not, List, [], ◌∷◌, ◌++◌, map, length, get_or, Option, Some, None}
 use Rattle.std.specs.List.{sum_by, AllByRecursion}
 use Rattle.std.specs.Vec.{vec_capacity}
+use Rattle.emu_model.specs.Access.{page_size, most_mapped_pages}
 use Rattle.emu_model.specs.Pages.{zeros}
 use Rattle.emu_model.specs.declared.access.Rights.{Rights}
 use Rattle.frame_arena.specs.Frames.{Frames, Live, bytes_of, count_of, given, shared, zeroed}
@@ -34,7 +35,7 @@ is_own s = hold_own s.hold
 
 -- the bytes of a page: those of its block, and zeros where it has none
 abbrev pub bytes_in : Live → Option ℕ → List ℕ
-bytes_in live None = zeros 4096
+bytes_in live None = zeros page_size
 bytes_in live (Some f) = as_bytes (bytes_of live f)
 
 abbrev pub entry_in : Live → Slot → Entry
@@ -192,7 +193,7 @@ pub record IsMark (limit : ℕ) (m : Mark) : Type 0 where
 pub record HasMarks (total limit : ℕ) (marks : List Mark) : Type 0 where
   pub sixteen : length marks ≡ 16
   pub frames : total ≡ 3 * limit
-  pub few : limit ≤ 1048576
+  pub few : limit ≤ most_mapped_pages
 
 -- the page at place i may be fetched from, and it and its frame have these numbers
 pub record IsCodeAt (slots : List Slot) (code : CodePage) (i : ℕ) : Type 0 where

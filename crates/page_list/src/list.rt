@@ -1,6 +1,7 @@
 //! The list of pages.
 ghost use Rattle.std.specs.Prelude.{◌≡◌, ◌≤◌, ◌<◌, ◌+◌, ◌*◌, ◌^◌, ◌++◌, ◌↔◌, [], length, take, drop, set, get_or, replicate, true, is_some, Some, None, IsSome, IfOk, IsTrue};
 ghost use Rattle.std.specs.List.{AllByRecursion, count_by};
+ghost use Rattle.emu_model.specs.Access.{page_size, most_mapped_pages};
 ghost use Rattle.emu_model.specs.WithinPage.{page_with_bytes};
 ghost use Rattle.page_list.specs.Entries.{IsAscending, IsAtHand, IsBelow, IsFetched, IsFrom, changed_at, entry_at, no_page, page_with_rights, zeroed_entries};
 
@@ -97,7 +98,7 @@ impl PageList {
     pub fn bytes(&self, i: usize) -> &[u8]
         requires { i < length self.now.pages }
         ensures bytes { result.now ≡ (entry_at self.now.pages i).1.bytes }
-        ensures length { length result.now ≡ 4096 }
+        ensures length { length result.now ≡ page_size }
     {
         page_bytes(&self.slots[i], &self.arena)
     }
@@ -115,7 +116,7 @@ impl PageList {
     pub fn code(&self, page: u64) -> &[u8]
         requires { IsAtHand self.now page }
         ensures fetched { IsFetched self.now.pages page result.now }
-        ensures length { length result.now ≡ 4096 }
+        ensures length { length result.now ≡ page_size }
     {
         told_bytes(self.arena.bytes_at(self.code.frame))
     }
@@ -150,7 +151,7 @@ impl PageList {
     #[inline(always)]
     pub fn part_mut(&mut self, i: usize, at: usize, count: usize) -> &mut [u8]
         requires place { i < length self.old.pages }
-        requires within { at + count ≤ 4096 }
+        requires within { at + count ≤ page_size }
         ensures* writes_back { sem 𝓛 (LendsPart self.entry i at result) }
         ensures bytes { result.now ≡ take count (drop at (entry_at self.old.pages i).1.bytes) }
         ensures length { length result.now ≡ count }
@@ -165,7 +166,7 @@ impl PageList {
     #[inline(always)]
     pub fn write(&mut self, i: usize, at: usize, bytes: &[u8])
         requires place { i < length self.old.pages }
-        requires within { at + length bytes.now ≤ 4096 }
+        requires within { at + length bytes.now ≤ page_size }
         ensures pages { self.new.pages ≡ changed_at (page_with_bytes at bytes.now) i self.old.pages }
         ensures limit { self.new.limit ≡ self.old.limit }
         ensures marks { self.new.marks ≡ self.old.marks }
@@ -215,7 +216,7 @@ impl PageList {
 
     /// No pages and no marks, with room for `limit` pages and for sixteen marks of as many. No later call takes memory.
     pub fn with_marks(alloc: Global, limit: u32) -> Result<PageList, OutOfMemory>
-        requires { limit ≤ 1048576 }
+        requires { limit ≤ most_mapped_pages }
         ensures { IfOk result (λ l. l ≡ record { pages = []; limit = limit; code = no_page; marks = replicate 16 None; unmarked = 3 * limit }) }
     {
         let slots = Vec::with_capacity(alloc, limit as usize)?;

@@ -2,6 +2,7 @@
 ghost use Rattle.std.specs.Prelude.{◌≡◌, ◌≤◌, ◌<◌, ◌+◌, ◌-◌, ◌^◌, ◌++◌, ◌∷◌, ℕ, List, [], true, false, length, set, take, drop, IfSome, IsSome, Some, None, option_map};
 ghost use Rattle.std.specs.Bool.{OnTrue};
 ghost use Rattle.std.specs.Vec.{vec_len, vec_capacity};
+ghost use Rattle.emu_model.specs.Access.{page_size};
 ghost use Rattle.emu_model.specs.Pages.{zeros};
 ghost use Rattle.emu_model.specs.SoundState.{AreBytes};
 ghost use Rattle.frame_arena.specs.Frames.{IsLive, Takes, bytes_of, count_of};
@@ -10,7 +11,7 @@ ghost use Rattle.page_list.specs.declared.slots.Hold.TheVariants.{Own};
 ghost use Rattle.page_list.specs.Slots.{AreBeside, AreHeld, AreOwn, Changes, HasRoom, IsCode, block_bytes, bytes_in, code_after, emptied_slot, entries_in, frame_at, given_if, hold_frame, holders, is_own, is_sole, owned_hold, owned_slot, shared_hold, shared_if, shared_slot, shared_slots, slot_at, sole_in, zeroed_slots};
 
 use crate::code::CodePage;
-use emu_model::Rights;
+use emu_model::{PAGE_BYTES, Rights};
 use frame_arena::{Frame, FrameArena};
 use std::mem;
 
@@ -41,12 +42,12 @@ pub(crate) struct Mark {
 }
 
 /// The bytes of each page that has no frame.
-static ZEROS: [u8; 4096] = [0; 4096];
+static ZEROS: [u8; PAGE_BYTES] = [0; PAGE_BYTES];
 
 #[inline(always)]
 fn zero_bytes() -> &'static [u8]
-    ensures bytes { result.now ≡ zeros 4096 }
-    ensures length { length result.now ≡ 4096 }
+    ensures bytes { result.now ≡ zeros page_size }
+    ensures length { length result.now ≡ page_size }
 {
     &ZEROS
 }
@@ -65,7 +66,7 @@ pub(crate) fn told_bytes(bytes: &[u8]) -> &[u8]
 pub(crate) fn page_bytes<'a>(slot: &'a Slot, arena: &'a FrameArena) -> &'a [u8]
     requires { IfSome (hold_frame slot.now.hold) (λ f. IsLive arena.now f) }
     ensures bytes { result.now ≡ bytes_in arena.now.live (hold_frame slot.now.hold) }
-    ensures length { length result.now ≡ 4096 }
+    ensures length { length result.now ≡ page_size }
 {
     match &slot.hold {
         Hold::Own(frame) => told_bytes(arena.bytes(frame)),

@@ -7,6 +7,7 @@ use Rattle.std.specs.FinMap.{find}
 use Rattle.std.proofs.lemmas.List.{length-map, get_or_default}
 use Rattle.std.proofs.lemmas.Bool.{eqb-true}
 use Rattle.std.proofs.lemmas.Bool.Decides.{nat_tests}
+use Rattle.emu_model.specs.Access.{page_size}
 use Rattle.plain_pages.specs.declared.slots.Slot.{Slot}
 use Rattle.plain_pages.specs.Slots.{IsEntry, IsAscending, IsAbove, IsBelow, IsFrom, IsAt, entries_of, entry_of, page_in}
 use Rattle.guest_pages.proofs.Ordered.{all_map, tied_same, tied_apart, IsApart, find_apart}
@@ -18,7 +19,7 @@ all_at P f (s ∷ l) h zero d lt = h.0
 all_at P f (s ∷ l) h (suc i) d lt = all_at P f l h.1 i d (omega arith)
 
 -- a slot has 4,096 bytes
-pub whole_at : (l : List Slot) → AllByRecursion IsEntry (entries_of l) → (i : ℕ) (d : Slot) → i < length l → length (get_or l i d).bytes.items ≡ 4096
+pub whole_at : (l : List Slot) → AllByRecursion IsEntry (entries_of l) → (i : ℕ) (d : Slot) → i < length l → length (get_or l i d).bytes.items ≡ page_size
 whole_at l h i d lt = sym (length-map (get_or l i d).bytes.items (λ b. b % 256)) ∙ (all_at IsEntry entry_of l h i d lt).count
 
 pub all_take : {X Y : Type 0} (P : Y → Type 0) (f : X → Y) (l : List X) (i : ℕ) → ((k : ℕ) (d : X) → k < i → k < length l → P (f (get_or l k d))) → AllByRecursion P (take i (map f l))

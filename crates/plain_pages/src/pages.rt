@@ -1,7 +1,7 @@
 //! The mapped pages, and the calls that map, find and change them: the plain program of the definitions.
 ghost use Rattle.std.specs.Prelude.{◌≡◌, ◌≤◌, ◌<◌, ◌+◌, ◌*◌, ◌^◌, length, if◌then◌else◌, MatchOption, IfOk, IfErr, IfSome, OnOk, OnErr, ⊤};
 ghost use Rattle.std.specs.FinMap as map;
-ghost use Rattle.emu_model.specs.Access.{no_marks, page_gives};
+ghost use Rattle.emu_model.specs.Access.{no_marks, page_gives, page_size};
 ghost use Rattle.emu_model.specs.Pages.{free_run, least_unmapped, mapped, protected, unmapped, with_bytes};
 ghost use Rattle.emu_model.specs.SoundState.{IsSoundMemory};
 ghost use Rattle.guest_pages.specs.MapFault.{map_fault, protect_answer};
@@ -80,7 +80,7 @@ impl Pages {
     pub fn find(&self, page: u64) -> Option<(Rights, &[u8])>
         ensures found { MatchOption result (map.get self.now.pages page ≡ None)
             (λ f. map.get self.now.pages page ≡ Some (record { rights = f.0; bytes = f.1.now })) }
-        ensures whole { MatchOption result ⊤ (λ f. length f.1.now ≡ 4096) }
+        ensures whole { MatchOption result ⊤ (λ f. length f.1.now ≡ page_size) }
     {
         match find_slot(&self.slots, page) {
             None => None,
@@ -152,8 +152,8 @@ impl Pages {
     /// Replaces the bytes of a page from place `at` on; a page that isn't mapped stays so.
     pub fn write(&mut self, page: u64, at: usize, bytes: &[u8])
         requires number { page < 2 ^ 52 }
-        requires within { at + length bytes.now ≤ 4096 }
-        ensures { self.new ≡ with_bytes self.old (page * 4096 + at) bytes.now }
+        requires within { at + length bytes.now ≤ page_size }
+        ensures { self.new ≡ with_bytes self.old (page * page_size + at) bytes.now }
     {
         write_slot(&mut self.slots, page, at, bytes);
     }
@@ -161,9 +161,9 @@ impl Pages {
     /// Replaces the bytes of a page from place `at` on where it may be written, and answers whether it may.
     pub fn store(&mut self, page: u64, at: usize, bytes: &[u8]) -> bool
         requires number { page < 2 ^ 52 }
-        requires within { at + length bytes.now ≤ 4096 }
+        requires within { at + length bytes.now ≤ page_size }
         ensures allowed { result ≡ page_gives (map.get self.old.pages page) Kind.Write }
-        ensures bytes { self.new ≡ (if result then with_bytes self.old (page * 4096 + at) bytes.now else self.old) }
+        ensures bytes { self.new ≡ (if result then with_bytes self.old (page * page_size + at) bytes.now else self.old) }
     {
         store_slot(&mut self.slots, page, at, bytes)
     }

@@ -3,17 +3,14 @@ ghost use Rattle.std.specs.Prelude.{◌≡◌, ◌≤◌, ◌<◌, ◌+◌, ◌^
 ghost use Rattle.std.specs.List.{AllByRecursion, filter};
 ghost use Rattle.std.specs.Ordering.{nat_cmp};
 ghost use Rattle.std.specs.FinMap.{contains_key, find};
-ghost use Rattle.emu_model.specs.Access.{page_gives};
+ghost use Rattle.emu_model.specs.Access.{page_gives, page_size};
 ghost use Rattle.emu_model.specs.Pages.{free_run, is_among, is_free, least_mapped, least_unmapped, zeros};
 ghost use Rattle.emu_model.specs.SoundState.{AreBytes};
 ghost use Rattle.emu_model.specs.WithinPage.{overwritten, page_with_bytes};
 ghost use Rattle.plain_pages.specs.Slots.{IsAscending, IsBelow, IsFrom, IsAt, IsEntry, all_changed, changed, entries_of, page_with_rights, pages_of, zeroed_entries};
 
-use emu_model::{Kind, Rights};
+use emu_model::{Kind, PAGE_BYTES, Rights};
 use std::alloc::{AllocError, Global};
-
-/// The number of bytes of a page.
-const PAGE_BYTES: usize = 4096;
 
 /// A mapped page.
 #[derive(Drop)]
@@ -93,7 +90,7 @@ fn write_at(slots: &mut [Slot], page: u64, i: usize, at: usize, bytes: &[u8])
     requires place { IsAt slots.old page i }
     requires ascending { IsAscending (entries_of slots.old) }
     requires whole { AllByRecursion IsEntry (entries_of slots.old) }
-    requires within { at + length bytes.now ≤ 4096 }
+    requires within { at + length bytes.now ≤ page_size }
     ensures { entries_of slots.new ≡ changed (page_with_bytes at bytes.now) page (entries_of slots.old) }
 {
     overwrite(&mut slots[i].bytes, at, bytes);
@@ -103,7 +100,7 @@ fn write_at(slots: &mut [Slot], page: u64, i: usize, at: usize, bytes: &[u8])
 pub fn write_slot(slots: &mut [Slot], page: u64, at: usize, bytes: &[u8])
     requires ascending { IsAscending (entries_of slots.old) }
     requires whole { AllByRecursion IsEntry (entries_of slots.old) }
-    requires within { at + length bytes.now ≤ 4096 }
+    requires within { at + length bytes.now ≤ page_size }
     ensures { entries_of slots.new ≡ changed (page_with_bytes at bytes.now) page (entries_of slots.old) }
 {
     if let Some(i) = find_slot(slots, page) {
@@ -115,7 +112,7 @@ pub fn write_slot(slots: &mut [Slot], page: u64, at: usize, bytes: &[u8])
 pub fn store_slot(slots: &mut [Slot], page: u64, at: usize, bytes: &[u8]) -> bool
     requires ascending { IsAscending (entries_of slots.old) }
     requires whole { AllByRecursion IsEntry (entries_of slots.old) }
-    requires within { at + length bytes.now ≤ 4096 }
+    requires within { at + length bytes.now ≤ page_size }
     ensures allowed { result ≡ page_gives (find nat_cmp page (entries_of slots.old)) Kind.Write }
     ensures entries { entries_of slots.new ≡ (if result then changed (page_with_bytes at bytes.now) page (entries_of slots.old) else entries_of slots.old) }
 {

@@ -2,6 +2,7 @@
 //! listing is refused.
 use crate::toy::Toy;
 use asm_layout::{AsmError, assemble_with};
+use emu_model::PAGE_BYTES;
 use std::io;
 
 /// Writes bytes in hexadecimal.
@@ -17,9 +18,9 @@ pub(crate) fn report(rt: HostRuntime, listing: &str) -> io::Result<()> {
     match assemble_with::<Toy>(rt.alloc(), listing) {
         Ok(file) => {
             println!(rt; "{} bytes", file.len())?;
-            if file.len() >= 4096 {
+            if file.len() >= PAGE_BYTES {
                 write_bytes(rt, &file[..176])?;
-                write_bytes(rt, &file[4096..])?;
+                write_bytes(rt, &file[PAGE_BYTES..])?;
             }
             Ok(())
         }

@@ -4,12 +4,13 @@
 use asm_image::{AsmError, assemble};
 use asm_text::{aim, parse_line};
 use asm_tokens::Target;
+use emu_model::PAGE_BYTES;
 use insn_decode::{Insn, encode};
 use listing_model::Body;
 use std::io;
 
 /// Where the code stands in a file.
-const CODE: usize = 4096;
+const CODE: usize = PAGE_BYTES;
 
 /// The address of the first instruction.
 const FIRST: u64 = 0x40_0000;

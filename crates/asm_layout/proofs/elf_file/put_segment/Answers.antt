@@ -1,7 +1,7 @@
 use Rattle.std.proofs.Common.{ℕ, List, ◌++◌}
 use Rattle.byteorder.specs.Endian.{little_bytes}
 use Rattle.asm_layout.proofs.Appended.{on_ok, two}
-use Rattle.listing_model.specs.File.{page}
+use Rattle.emu_model.specs.Access.{page_size}
 use Rattle.asm_layout.proofs.elf_file.put_segment.Goals as goal
 
 pub returns : goal.returns
@@ -17,7 +17,7 @@ returns c =
     let f7 : List ℕ = c.put_64-5.new.file.items in
     let f8 : List ℕ = c.put_64-6.new.file.items in
     let b7 : List ℕ = little_bytes 8 s.memory_size in
-    let b8 : List ℕ = little_bytes 8 page in
+    let b8 : List ℕ = little_bytes 8 page_size in
     let t6 : List ℕ = little_bytes 8 s.file_size ++ (b7 ++ b8) in
     let t5 : List ℕ = little_bytes 8 s.address ++ t6 in
     let t4 : List ℕ = little_bytes 8 s.address ++ t5 in

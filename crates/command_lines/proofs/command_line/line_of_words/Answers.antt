@@ -1,5 +1,6 @@
 use Rattle.std.proofs.Common.{map, length, string_bytes, Result, IfOk, sym, ◌∙◌, subst, arith}
 use Rattle.std.proofs.lemmas.List.{length-map}
+use Rattle.emu_system.proofs.FirstWords.{within_limits}
 use Rattle.command_model.specs.declared.command_line.Line.{Line}
 use Rattle.command_model.specs.declared.command_line.WordsFault.{WordsFault}
 use Rattle.command_model.specs.CommandLine.{line_of_words}
@@ -16,8 +17,8 @@ pub returns-clause-arguments : goal.returns-clause-arguments
 returns-clause-arguments c =
     let ws = map string_bytes c.args.words.now in
     subst (λ (r : Result Line WordsFault). IfOk r (HasArguments ws)) (sym c.command_of_words.ensures)
-    (arguments_fit ws (omega (arith, length-map c.args.words.now string_bytes))
-    (sym c.in_default.is ∙ c.first_too_long.ensures.place) (sym c.in_default-first_with_zero.is ∙ c.first_with_zero.ensures.place)
+    (arguments_fit ws
+    (within_limits ws (omega (arith, length-map c.args.words.now string_bytes)) (sym c.in_default.is ∙ c.first_too_long.ensures.place) (sym c.in_default-first_with_zero.is ∙ c.first_with_zero.ensures.place))
     (line_of_words ws) (words_places ws))
 
 pub returns-clause-limit : goal.returns-clause-limit

@@ -1,7 +1,7 @@
 use Rattle.std.proofs.Common.{◌≡◌, ◌<◌, ◌≤◌, ◌+◌, ◌-◌, ◌%◌, ◌^◌, ℕ, true, None, List, take, drop, length, refl, sym, ap, subst, ◌∙◌, arith}
 use Rattle.std.proofs.lemmas.List.{length-take, length-drop, take_all}
 use Rattle.emu_model.specs.declared.access.Kind.TheVariants.{Write}
-use Rattle.emu_model.specs.Access.{Memory, refused}
+use Rattle.emu_model.specs.Access.{Memory, refused, page_size}
 use Rattle.emu_model.specs.Pages.{with_bytes}
 use Rattle.emu_model.specs.WithinPage.{none_refused_within}
 use Rattle.element_loops.proofs.RunLoads.{joined_allowed}
@@ -10,23 +10,23 @@ use Rattle.element_loops.proofs.border.put_over.Goals as goal
 
 pub returns-clause-allowed : goal.returns-clause-allowed
 returns-clause-allowed c = λ is.
-    let f : ℕ = 4096 - c.args.at % 4096 in
-    let b : ℕ = (c.args.at + (4096 - c.args.at % 4096)) % 2 ^ 64 in
+    let f : ℕ = page_size - c.args.at % page_size in
+    let b : ℕ = (c.args.at + (page_size - c.args.at % page_size)) % 2 ^ 64 in
     let n : ℕ = length c.args.bytes.now in
-    let long : length (take (4096 - c.args.at % 4096) c.args.bytes.now) ≡ 4096 - c.args.at % 4096 = omega (arith, length-take (4096 - c.args.at % 4096) c.args.bytes.now, c.if-bytes-first.false) in
+    let long : length (take (page_size - c.args.at % page_size) c.args.bytes.now) ≡ page_size - c.args.at % page_size = omega (arith, length-take (page_size - c.args.at % page_size) c.args.bytes.now, c.if-bytes-first.false) in
     let one : refused c.args.mem.now c.args.at f Write ≡ None = subst (λ n. refused c.args.mem.now c.args.at n Write ≡ None) long (c.if-not-put_bytes.ensures.allowed refl) in
-    let fits : b % 4096 + (n - f) ≤ 4096 = omega (arith, c.requires) in
+    let fits : b % page_size + (n - f) ≤ page_size = omega (arith, c.requires) in
     let word : b < 2 ^ 64 = omega arith in
     let two : refused c.args.mem.now b (n - f) Write ≡ None = none_refused_within c.args.mem.now b (n - f) word fits Write (sym c.may_write.ensures ∙ c.if-not-may_write.false) in
     joined_allowed c.args.mem.now Write c.args.at n f (n - f) b one two refl (omega arith) (omega arith) (omega arith)
 
 pub returns-clause-written : goal.returns-clause-written
 returns-clause-written c = λ is.
-    let f : ℕ = 4096 - c.args.at % 4096 in
-    let b : ℕ = (c.args.at + (4096 - c.args.at % 4096)) % 2 ^ 64 in
+    let f : ℕ = page_size - c.args.at % page_size in
+    let b : ℕ = (c.args.at + (page_size - c.args.at % page_size)) % 2 ^ 64 in
     let n : ℕ = length c.args.bytes.now in
     let bs : List ℕ = c.args.bytes.now in
-    let fits : b % 4096 + (n - f) ≤ 4096 = omega (arith, c.requires) in
+    let fits : b % page_size + (n - f) ≤ page_size = omega (arith, c.requires) in
     let word : b < 2 ^ 64 = omega arith in
     let two : refused c.args.mem.now b (n - f) Write ≡ None = none_refused_within c.args.mem.now b (n - f) word fits Write (sym c.may_write.ensures ∙ c.if-not-may_write.false) in
     let first : c.put_bytes-2.new.mem ≡ with_bytes c.args.mem.now c.args.at (take f bs) = c.if-not-put_bytes.ensures.written refl in

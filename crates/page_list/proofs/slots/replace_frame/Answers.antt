@@ -1,5 +1,6 @@
 use Rattle.std.proofs.Common.{◌≡◌, ◌≤◌, ◌+◌, ℕ, List, Option, Some, None, IfSome, refl, ap, subst, ◌∙◌, sym, arith}
 use Rattle.std.proofs.lemmas.List.{get_or_default}
+use Rattle.emu_model.specs.Access.{page_size}
 use Rattle.emu_model.specs.Pages.{zeros}
 use Rattle.emu_model.specs.PageEquations.{zeros_is}
 use Rattle.frame_arena.specs.Frames.{Frames, Live, IsLive, Takes, bytes_of, count_of, zeroed}
@@ -13,9 +14,9 @@ use Rattle.page_list.proofs.Codes.{code_moved, code_number}
 use Rattle.page_list.proofs.Held.{slot_there, frame_is_held, named_at, sole_less, counts-own, own-own, room-own, entries-own, other_than, taken_spare, taken_sole, taken_counts, taken_bytes, taken_block, taken_room, taken_total, taken_live, still_named}
 use Rattle.page_list.proofs.slots.replace_frame.Goals as goal
 
-zeroed_is : as_bytes zeroed ≡ zeros 4096
+zeroed_is : as_bytes zeroed ≡ zeros page_size
 unfolding zeroed
-zeroed_is = ap as_bytes (sym (zeros_is 4096)) ∙ as_bytes-zeros 4096
+zeroed_is = ap as_bytes (sym (zeros_is page_size)) ∙ as_bytes-zeros page_size
 
 block_is : (live : Live) (o : Option ℕ) → as_bytes (block_bytes live o) ≡ bytes_in live o
 block_is live None = zeroed_is

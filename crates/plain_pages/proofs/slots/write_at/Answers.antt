@@ -1,6 +1,7 @@
 use Rattle.std.proofs.Common.{◌≡◌, length, get_or, sym, ap, ◌∙◌, arith}
 use Rattle.std.specs.Vec.{with_items}
 use Rattle.std.proofs.lemmas.List.{with_items_is, get_or_default}
+use Rattle.emu_model.specs.Access.{page_size}
 use Rattle.emu_model.specs.WithinPage.{overwritten, page_with_bytes, length_overwritten}
 use Rattle.plain_pages.specs.declared.slots.Slot.{Slot}
 use Rattle.page_list.specs.Bytes.{as_bytes, as_bytes-same}
@@ -11,7 +12,7 @@ use Rattle.plain_pages.proofs.Maps.{set_changed}
 use Rattle.plain_pages.proofs.slots.write_at.Goals as goal
 
 -- the bytes of the slot before
-before : (c : goal.After-slots-1) → length (get_or c.args.slots.now c.args.i c.index-slots-i.result).bytes.items ≡ 4096
+before : (c : goal.After-slots-1) → length (get_or c.args.slots.now c.args.i c.index-slots-i.result).bytes.items ≡ page_size
 before c = whole_at c.args.slots.now c.requires.whole c.args.i c.index-slots-i.result c.requires.place.within
 
 after : (c : goal.After-slots-1) → (with_items (get_or c.args.slots.now c.args.i c.index-slots-i.result).bytes c.overwrite.new.bytes).items ≡ overwritten c.args.at c.args.bytes.now (get_or c.args.slots.now c.args.i c.index-slots-i.result).bytes.items

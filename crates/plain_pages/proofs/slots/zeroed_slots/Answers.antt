@@ -1,4 +1,5 @@
 use Rattle.std.proofs.Common.{◌≡◌, ◌+◌, ◌-◌, ◌++◌, suc, ap, subst, ◌∙◌, arith, List}
+use Rattle.emu_model.specs.Access.{page_size}
 use Rattle.plain_pages.specs.declared.slots.Slot.{Slot}
 use Rattle.page_list.specs.Bytes.{as_bytes}
 use Rattle.plain_pages.specs.Slots.{entries_of, zeroed_entries}
@@ -15,5 +16,5 @@ loop-number-preserved c =
     let s : Slot = record { number = k; rights = c.args.rights; bytes = c.in_ok-bytes.bytes } in
     ap (λ (l : List Slot). entries_of l ++ zeroed_entries (k + 1) (end - (k + 1)) c.args.rights) c.in_ok-push.ensures.items
     ∙ zeroed_next c.loop-number.slots.items s k (end - (k + 1)) c.args.rights all
-    (ap (λ bytes. (k, record { rights = c.args.rights; bytes = bytes })) (ap as_bytes c.in_ok-bytes.ensures ∙ as_bytes-zeros 4096))
+    (ap (λ bytes. (k, record { rights = c.args.rights; bytes = bytes })) (ap as_bytes c.in_ok-bytes.ensures ∙ as_bytes-zeros page_size))
     (subst (λ n. entries_of c.loop-number.slots.items ++ zeroed_entries k n c.args.rights ≡ all) left c.loop-number.invariant)

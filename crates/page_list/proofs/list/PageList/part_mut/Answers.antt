@@ -1,7 +1,7 @@
 use Rattle.std.proofs.Common.{◌≡◌, ◌<◌, ◌≤◌, ◌-◌, ◌%◌, true, List, length, take, drop, get_or, Option, Some, ℕ, ap, ◌∙◌, sym, subst, refl, arith}
 use Rattle.std.proofs.lemmas.Bool.{eqb-true}
 use Rattle.std.proofs.lemmas.List.{length-map, take-map}
-use Rattle.emu_model.specs.Access.{Page}
+use Rattle.emu_model.specs.Access.{Page, page_size}
 use Rattle.emu_model.specs.WithinPage.{overwritten, page_with_bytes}
 use Rattle.frame_arena.proofs.Callers.{sole_live}
 use Rattle.frame_arena.specs.Frames.{Live, bytes_of, count_of}
@@ -16,14 +16,14 @@ use Rattle.page_list.proofs.list.PageList.part_mut.Goals as goal
 
 -- the page of the slot x, in the block k, with w from place `at` on
 page_after : (live : Live) (x : Slot) (k at : ℕ) (w : List ℕ) (sole : count_of live k ≡ 1) → frame_of x ≡ Some k →
-    (entry_in (after_write live k (overwritten at (take (4096 - at) w) (bytes_of live k)) sole) x).1 ≡ page_with_bytes at (take (4096 - at) (as_bytes w)) (entry_in live x).1
+    (entry_in (after_write live k (overwritten at (take (page_size - at) w) (bytes_of live k)) sole) x).1 ≡ page_with_bytes at (take (page_size - at) (as_bytes w)) (entry_in live x).1
 page_after live x k at w sole is =
-    let old = bytes_of live k in let z = overwritten at (take (4096 - at) w) old in
+    let old = bytes_of live k in let z = overwritten at (take (page_size - at) w) old in
     ap (λ (o : Option ℕ). record { rights = x.rights; bytes = bytes_in (after_write live k z sole) o }) is
     ∙ ap (λ (b : List ℕ). record { rights = x.rights; bytes = as_bytes b }) (bytes-written_same live k z sole)
-    ∙ ap (λ (b : List ℕ). record { rights = x.rights; bytes = b }) (as_bytes-overwritten at (take (4096 - at) w) old)
-    ∙ ap (λ (b : List ℕ). record { rights = x.rights; bytes = overwritten at b (as_bytes old) }) (sym (take-map (λ b. b % 256) (4096 - at) w))
-    ∙ ap (λ (o : Option ℕ). record { rights = x.rights; bytes = overwritten at (take (4096 - at) (as_bytes w)) (bytes_in live o) }) (sym is)
+    ∙ ap (λ (b : List ℕ). record { rights = x.rights; bytes = b }) (as_bytes-overwritten at (take (page_size - at) w) old)
+    ∙ ap (λ (b : List ℕ). record { rights = x.rights; bytes = overwritten at b (as_bytes old) }) (sym (take-map (λ b. b % 256) (page_size - at) w))
+    ∙ ap (λ (o : Option ℕ). record { rights = x.rights; bytes = overwritten at (take (page_size - at) (as_bytes w)) (bytes_in live o) }) (sym is)
 
 -- the frame of a page alone names its block
 sole_at : (live : Live) (ss : List Slot) (i k : ℕ) → frame_at ss i ≡ Some k → is_sole live (frame_at ss i) ≡ true → count_of live k ≡ 1
@@ -45,7 +45,7 @@ invariant_of-self-lent c w =
     let k = c.own_frame-2.result.now in let is : frame_at ss i ≡ Some k = c.own_frame-2.ensures in
     let sole : count_of live k ≡ 1 = sole_at live ss i k is c.ensure_own.ensures.sole in let at = c.args.at in
     let kept = counts_after a.arena b a.slots.items ss ms c.self.invariant.counts c.ensure_own.ensures.changes in
-    let inv = c.self.invariant in let e = c.ensure_own.ensures in let z = overwritten at (take (4096 - at) w) (bytes_of live k) in
+    let inv = c.self.invariant in let e = c.ensure_own.ensures in let z = overwritten at (take (page_size - at) w) (bytes_of live k) in
     record {
       counts = λ f. counts-written live k z sole f ∙ kept f;
       own = own-written live k z sole ss e.own;
@@ -84,7 +84,7 @@ returns c =
       (
         refl,
         λ w.
-            let z = overwritten at (take (4096 - at) w) old in let g : Page → Page = page_with_bytes at (take (4096 - at) (as_bytes w)) in let after = after_write live k z sole in
+            let z = overwritten at (take (page_size - at) w) old in let g : Page → Page = page_with_bytes at (take (page_size - at) (as_bytes w)) in let after = after_write live k z sole in
             let pages : entries_in after ss ≡ changed_at g i (entries_in a.arena.live a.slots.items) =
             written live after k (bytes-written live k z sole) g ss i x l there is once (page_after live x k at w sole is) ∙ ap (λ (es : List Entry). changed_at g i es) c.ensure_own.ensures.entries in
             let marks : marks_in after ms ≡ marks_in a.arena.live ms =

@@ -1,7 +1,7 @@
 use Rattle.std.proofs.Common.{length, map, sum_by, string_bytes, ap, arith}
 use Rattle.std.proofs.lemmas.List.{length-map, take_all}
-use Rattle.command_lines.proofs.FirstWords.{bytes_more, long_at, long_nowhere}
-use Rattle.command_lines.proofs.command_words.first_too_long.Goals as goal
+use Rattle.emu_system.proofs.FirstWords.{bytes_more, long_at, long_nowhere}
+use Rattle.emu_system.proofs.arguments.first_too_long.Goals as goal
 
 pub loop-place-preserved : goal.loop-place-preserved
 loop-place-preserved c =
