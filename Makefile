@@ -1,6 +1,6 @@
 # Installs svemu, the runner, the lengths and the manual page: make install PREFIX=/usr/local DESTDIR=
-# The program is the one that ./svemu runs: that of dist/, which needs neither kit nor proof, or the one that was built here; sources that have
-# changed are built first.
+# The program is the one that ./svemu runs: that of dist/, which needs neither kit nor proof, or the one that was built
+# here; sources that have changed are built first.
 # PROGRAM=FILE installs another.
 
 PREFIX = /usr/local

@@ -1,8 +1,8 @@
 // A dot product: a multiply and add in each lane, and one fold at the end.
 //
-// What to look at: `_m` (merging). In the last turn some lanes may be outside of the predicate; they keep the sums of the turns
-// before. Where `_z` stands they lose them, at some lengths and not at others, which is the bug of lost_sums.c. The fold takes all
-// lanes (ptrue), since every lane has a sum, also those that the last turn left out.
+// What to look at: `_m` (merging). In the last turn some lanes may be outside of the predicate; they keep the sums of
+// the turns before. Where `_z` stands they lose them, at some lengths and not at others, which is the bug of
+// lost_sums.c. The fold takes all lanes (ptrue), since every lane has a sum, also those that the last turn left out.
 //
 // There are 1,000 products: at 128 bits (4 lanes) the last turn is full, at 384 (12 lanes) it has 4 of 12.
 

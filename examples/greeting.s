@@ -1,7 +1,7 @@
 // Writes a line that stands in two pieces, by one call of writev.
 //
-// The table that the call takes is laid out by directives: `.quad` has the address of a label in one place and a number in the next,
-// and `.align` puts it at a multiple of 8. Strings need no length of their own; the table says it.
+// The table that the call takes is laid out by directives: `.quad` has the address of a label in one place and a number
+// in the next, and `.align` puts it at a multiple of 8. Strings need no length of their own; the table says it.
   mov x0, #1
   adr x1, pieces
   mov x2, #2

@@ -1,9 +1,10 @@
 // Counts how often each letter stands in a text, with a gather and a scatter.
 //
-// What to look at: a vector of letters may hold the same letter twice. With one counter a letter, both lanes would load the same
-// counter, add 1 and store it, and one of them would be lost: more of them, the longer the vector. So each lane has a counter of its own
-// for each letter, at letter * lanes + lane. No two lanes of a vector ever meet, the scatter is free of conflicts whatever
-// the length, and the counters of a letter stand side by side, for one load and one fold at the end.
+// What to look at: a vector of letters may hold the same letter twice. With one counter a letter, both lanes would load
+// the same counter, add 1 and store it, and one of them would be lost: more of them, the longer the vector. So each
+// lane has a counter of its own for each letter, at letter * lanes + lane. No two lanes of a vector ever meet, the
+// scatter is free of conflicts whatever the length, and the counters of a letter stand side by side, for one load and
+// one fold at the end.
 //
 // The table is made for the longest vector, which has 64 lanes of 32 bits.
 

@@ -1,8 +1,8 @@
 // Adds eleven words, a whole vector of them at a time, and ends with their sum, 44, as its status.
 //
-// Nothing here says how long a vector is. `whilelo` makes a lane active where a word is left for it, so the last turn takes what is
-// there and no more, and `incw` counts on by the lanes that a vector has. Look at the steps: with vectors of 128 bits the loop is
-// gone through three times, with 256 bits twice, and from 384 bits on once.
+// Nothing here says how long a vector is. `whilelo` makes a lane active where a word is left for it, so the last turn
+// takes what is there and no more, and `incw` counts on by the lanes that a vector has. Look at the steps: with vectors
+// of 128 bits the loop is gone through three times, with 256 bits twice, and from 384 bits on once.
   .entry start
 start:
   adr x1, words

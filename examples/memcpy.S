@@ -1,11 +1,12 @@
 // Copies bytes by whilelo.
 //
-// What to look at: the loop has no tail. whilelo makes a predicate whose lane k is active where x3 + k is below the count, so in
-// the last turn the lanes past the end are inactive: they load nothing and store nothing. The loop's end is the same instruction:
-// b.first goes on while the first lane is active. Nowhere does the code say how long a vector is; incb does.
+// What to look at: the loop has no tail. whilelo makes a predicate whose lane k is active where x3 + k is below the
+// count, so in the last turn the lanes past the end are inactive: they load nothing and store nothing. The loop's end
+// is the same instruction: b.first goes on while the first lane is active. Nowhere does the code say how long a vector
+// is; incb does.
 //
-// The 44 bytes of the text go into the middle of a frame of dots, and the frame is written: one byte too many or too few would
-// show. Compare the number of steps at 128 and at 2048 bits.
+// The 44 bytes of the text go into the middle of a frame of dots, and the frame is written: one byte too many or too
+// few would show. Compare the number of steps at 128 and at 2048 bits.
 
         .text
         .global memcpy

@@ -1,5 +1,5 @@
-// Adds up words lane by lane, but by a wrong count: there are 64 of them, and not 2,000. The loads go on behind the last one, where
-// no page is mapped, and trap.
+// Adds up words lane by lane, but by a wrong count: there are 64 of them, and not 2,000. The loads go on behind the
+// last one, where no page is mapped, and trap.
   .entry start
 start:
   adr x1, words

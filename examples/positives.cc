@@ -1,8 +1,9 @@
 // Keeps the positive ones of 1,000 numbers, in their order, by the library Highway.
 //
-// What to look at: `CompressBlendedStore` is a `compact` of the active lanes and a store of as many. The loop is written once for all
-// lengths, as in C with intrinsics: `FirstN` becomes `whilelo`, and the last turn has no tail of its own. The check is a number that depends
-// on each number that is kept and on its place, so it shows a lane that is lost or out of order. It is the same at each length.
+// What to look at: `CompressBlendedStore` is a `compact` of the active lanes and a store of as many. The loop is
+// written once for all lengths, as in C with intrinsics: `FirstN` becomes `whilelo`, and the last turn has no tail of
+// its own. The check is a number that depends on each number that is kept and on its place, so it shows a lane that is
+// lost or out of order. It is the same at each length.
 //
 // It needs no C++ library: nothing in it throws, asks for a type at run time or allocates.
 

@@ -1,11 +1,11 @@
 // A kernel at every length that one run can set.
 //
-// A program may lower its vector length, and raise it again up to the one that it began with: prctl with PR_SVE_SET_VL, which
-// answers the length in bytes. So the bug of lost_sums.c is found in one run, and not in one for each length.
+// A program may lower its vector length, and raise it again up to the one that it began with: prctl with PR_SVE_SET_VL,
+// which answers the length in bytes. So the bug of lost_sums.c is found in one run, and not in one for each length.
 //
-// What to look at: where `main` asks for more than there is, the answer is the length that it began with. Behind each call the
-// predicates are false and of the vectors only the low 128 bits are left; so no value of a vector type may live across the call,
-// nor a number of lanes, and `sum` is kept out of `main`.
+// What to look at: where `main` asks for more than there is, the answer is the length that it began with. Behind each
+// call the predicates are false and of the vectors only the low 128 bits are left; so no value of a vector type may
+// live across the call, nor a number of lanes, and `sum` is kept out of `main`.
 
 #include <arm_sve.h>
 #include "guest.h"

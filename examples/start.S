@@ -1,6 +1,6 @@
-// The start of a freestanding program: calls main(argc, argv) and exits with what it returns. No library stands behind it.
-// The four functions below it are those that compilers call without being asked; the linker drops the ones that nobody calls,
-// and a program may define its own.
+// The start of a freestanding program: calls main(argc, argv) and exits with what it returns. No library stands behind
+// it. The four functions below it are those that compilers call without being asked; the linker drops the ones that
+// nobody calls, and a program may define its own.
 
         .section .text._start, "ax"
         .global _start
@@ -22,7 +22,8 @@ memcpy: mov x3, #0
         b.first 1b
         ret
 
-// memmove(to, from, count) answers to. Where copying upwards would overwrite what is still to be read, it copies downwards.
+// memmove(to, from, count) answers to. Where copying upwards would overwrite what is still to be read, it copies
+// downwards.
         .section .text.memmove, "ax"
         .weak memmove
 memmove:

@@ -1,13 +1,13 @@
 // Measures a string by first-faulting loads.
 //
-// What to look at: a string's end isn't known before it is read, so a vector load may reach past it, and behind it there may be no
-// memory at all. ldff1b traps only where its first active lane can't be read. Where a later lane can't, it clears the bits of the
-// first-fault register (FFR) from that lane on, and rdffr tells which lanes hold bytes of memory. So the loop reads a vector at a
-// time, and never needs a byte behind the string.
+// What to look at: a string's end isn't known before it is read, so a vector load may reach past it, and behind it
+// there may be no memory at all. ldff1b traps only where its first active lane can't be read. Where a later lane can't,
+// it clears the bits of the first-fault register (FFR) from that lane on, and rdffr tells which lanes hold bytes of
+// memory. So the loop reads a vector at a time, and never needs a byte behind the string.
 //
-// The string stands at the end of a page, its last byte, the 0, at the page's last byte, and the next page isn't mapped. At 2048
-// bits the first load asks for 256 bytes, of which 52 are there; at 128 the fourth asks for 16, of which 4 are there. With ld1b in
-// the place of ldff1b the program ends with `trap read` instead.
+// The string stands at the end of a page, its last byte, the 0, at the page's last byte, and the next page isn't
+// mapped. At 2048 bits the first load asks for 256 bytes, of which 52 are there; at 128 the fourth asks for 16, of
+// which 4 are there. With ld1b in the place of ldff1b the program ends with `trap read` instead.
 
         .text
         .global strlen

@@ -12,7 +12,8 @@ trap 'rm -rf "$scratch"' EXIT
 trap 'exit 1' HUP INT TERM
 mkdir "$scratch/files"
 
-# Makes a script of the cases: what `src/main.rt` of command_cases says of its lines. A stream that fails can't be had here, so such a line is copied.
+# Makes a script of the cases: what `src/main.rt` of command_cases says of its lines. A stream that fails can't be had
+# here, so such a line is copied.
 awk -v quote="'" '
     function quoted(text) {
         gsub(quote, quote "\\" quote quote, text)

@@ -1,4 +1,5 @@
-# Tests that the commands which the documents show write what stands below them: lines behind four blanks, a command behind `$ `.
+# Tests that the commands which the documents show write what stands below them: lines behind four blanks, a command
+# behind `$ `.
 
 # Cuts a document into its commands and what each should write: the files 1.command, 1.wanted and so on in a folder.
 samples_of() {

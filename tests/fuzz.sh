@@ -1,6 +1,7 @@
 #!/bin/sh
-# Random input for the program for so many seconds: tests/fuzz.sh SECONDS [SEED]. The program is the one that SVEMU names, else the one
-# that ./svemu runs. The last line is 'N cases of seed S, M bad'; a bad case is told with its number and its seed, by which it comes again.
+# Random input for the program for so many seconds: tests/fuzz.sh SECONDS [SEED]. The program is the one that SVEMU
+# names, else the one that ./svemu runs. The last line is 'N cases of seed S, M bad'; a bad case is told with its number
+# and its seed, by which it comes again.
 set -u
 
 here=$(CDPATH='' cd -- "$(dirname -- "$0")/.." && pwd) || exit 2

@@ -1,4 +1,5 @@
-# Tests of the example listings by the commands asm, dis and dbg: made, run, shown, assembled again from what is shown, and debugged.
+# Tests of the example listings by the commands asm, dis and dbg: made, run, shown, assembled again from what is shown,
+# and debugged.
 
 # A listing that has nothing but the code of an image, as `dis` shows it: the texts of its lines.
 listing_of() {
@@ -58,7 +59,8 @@ listing_refusals() {
     ended "an option that asm doesn't have" 121 '' 'refused words UnknownOption at 1\n'
 }
 
-# The texts of words of every line of both tables, but for those with a target, through GNU's assembler: to the words that `asm` makes.
+# The texts of words of every line of both tables, but for those with a target, through GNU's assembler: to the words
+# that `asm` makes.
 gnu_texts() {
     if ! are_there aarch64-linux-gnu-as aarch64-linux-gnu-objcopy; then
         skip "texts through GNU's assembler" "aarch64-linux-gnu-as isn't on this machine"

@@ -10,7 +10,8 @@ block() {
         within' docs/TESTING_YOUR_CODE.md
 }
 
-# Writes the files of the page that have these names to a new folder, and its commands behind this line to a file there; runs these.
+# Writes the files of the page that have these names to a new folder, and its commands behind this line to a file there;
+# runs these.
 recipe() {
     name=$1
     commands=$2

@@ -1,5 +1,5 @@
-/* Preloaded into a program, it refuses one of its allocations: the one whose number, counted from 1, REFUSE has. It then
- * writes a byte to the file descriptor 9, by which its caller knows that there was such an allocation.
+/* Preloaded into a program, it refuses one of its allocations: the one whose number, counted from 1, REFUSE has. It
+ * then writes a byte to the file descriptor 9, by which its caller knows that there was such an allocation.
  * tests/wanting.sh says how it is built and used. */
 #include <errno.h>
 #include <stdlib.h>

@@ -1,5 +1,5 @@
 # shellcheck shell=sh
-# shellcheck disable=SC2016,SC2034,SC2154 # shells that are called expand them; tools.sh reads input, and sets the others
+# shellcheck disable=SC2016,SC2034,SC2154 # shells that are called expand them; tools.sh reads input and sets the others
 # Tests of tools/svemu-runner and tools/svemu-lengths; tools.sh reads it.
 
 # Makes a program that stands for svemu of the lines of its input.

@@ -1,6 +1,7 @@
 # shellcheck shell=sh
 # shellcheck disable=SC2016,SC2154 # shells that are called expand them; tools.sh sets the others
-# Tests of ./svemu, make install, tools/release and .ci/run, in a checkout of two crates with a program and a kit that are stand-ins; tools.sh reads it.
+# Tests of ./svemu, make install, tools/release and .ci/run, in a checkout of two crates with a program and a kit that
+# are stand-ins; tools.sh reads it.
 
 # Makes the checkout, and a kit whose `rt` builds a program that says the last line of its source.
 make_checkout() {

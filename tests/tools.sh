@@ -145,7 +145,8 @@ manual_page() {
     holds "without a warning" [ ! -s "$scratch/errors" ]
 }
 
-# The program of dist/ for AArch64, where it is of these sources: the examples, a listing made, shown and debugged, and the cases over real files.
+# The program of dist/ for AArch64, where it is of these sources: the examples, a listing made, shown and debugged, and
+# the cases over real files.
 aarch64() {
     if ! are_there qemu-aarch64; then
         skip "the program for AArch64" "qemu-aarch64 isn't on this machine"

@@ -1,5 +1,5 @@
-/* What a program of the Rattle kit asks of C beside the C library: its arguments, errno and the heap. The kit has it as machine code for x86-64;
-   this is the same for another host, where tools/release links it. */
+/* What a program of the Rattle kit asks of C beside the C library: its arguments, errno and the heap. The kit has it as
+   machine code for x86-64; this is the same for another host, where tools/release links it. */
 #include <errno.h>
 #include <stdint.h>
 #include <stdlib.h>
@@ -13,7 +13,8 @@ __attribute__((constructor)) static void keep(int argc, char **argv)
     words = argv;
 }
 
-/* Copies an argument without its byte 0: its length, -2 where there is no room for it, -1 where there is no such argument. */
+/* Copies an argument without its byte 0: its length, -2 where there is no room for it, -1 where there is no such
+   argument. */
 intptr_t rattle_arg(uintptr_t number, char *into, uintptr_t room)
 {
     uintptr_t length;

@@ -17,8 +17,8 @@ STREAM_BYTES = 16777216
 # How a program ended: the beginning of the lines that say so.
 ENDING = rb"(?:exit \d+|trap [-a-z]+ 0x[0-9a-f]+ at 0x[0-9a-f]+|spent)"
 
-# A line by which `step` or `go` say where they stopped: what stopped them, the steps since the start and the program counter; or
-# how the program ended, and the steps.
+# A line by which `step` or `go` say where they stopped: what stopped them, the steps since the start and the program
+# counter; or how the program ended, and the steps.
 STOP = re.compile(rb"(?:(step|break|watch \d+) after (\d+) steps at 0x([0-9a-f]{16})|(" + ENDING + rb" after (\d+) steps))\n")
 
 WHY = {118: "a word isn't text", 120: "there is no memory", 124: "the input couldn't be read",

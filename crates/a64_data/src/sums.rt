@@ -50,8 +50,8 @@ fn is_overflow(a: u64, b: u64, carry: bool, w: u32, sum: u64) -> bool
     first == second && both != first
 }
 
-/// The sum of two numbers and a carry, with its flags: the top bit, whether the sum is 0, whether the unsigned sum doesn't
-/// fit, and whether the signed sum doesn't.
+/// The sum of two numbers and a carry, with its flags: the top bit, whether the sum is 0, whether the unsigned sum
+/// doesn't fit, and whether the signed sum doesn't.
 #[inline(always)]
 pub(crate) fn add_flags(a: u64, b: u64, carry: bool, w: u32) -> (u64, Flags)
     requires width { (w ≡ 32) ⊎ (w ≡ 64) }

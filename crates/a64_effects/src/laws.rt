@@ -8,6 +8,6 @@ ghost use Rattle.a64_effects.specs.Effects.{performed};
 
 /// What an A64 instruction leaves of a sound state is sound: each number and list keeps its range and its length.
 pub fn effects_keep_soundness()
-    ensures { (form : A64Form) (c : Core) (v : Vectors) (m : Memory) → IsSoundCore c → IsSoundVectors v → IsSoundMemory m
-        → IsSoundDone (performed form c v m) }
+    ensures { (form : A64Form) (c : Core) (v : Vectors) (m : Memory) → IsSoundCore c → IsSoundVectors v
+        → IsSoundMemory m → IsSoundDone (performed form c v m) }
 {}

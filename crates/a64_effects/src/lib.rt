@@ -1,5 +1,5 @@
-//! The definitions of what A64 instructions do: to the scalar registers, to the program counter, and by loads and stores; and
-//! the plain types that they match on.
+//! The definitions of what A64 instructions do: to the scalar registers, to the program counter, and by loads and
+//! stores; and the plain types that they match on.
 #![tactic(auto)]
 
 pub mod groups;

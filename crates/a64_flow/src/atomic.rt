@@ -1,4 +1,5 @@
-//! Loads and stores of the same bytes as one step, at multiples of their size. Each step is done as a whole, so the order asks for nothing.
+//! Loads and stores of the same bytes as one step, at multiples of their size. Each step is done as a whole, so the
+//! order asks for nothing.
 ghost use Rattle.std.specs.Prelude.{◌≡◌, ◌≤◌, Bool, [], true, None, MatchResult};
 ghost use Rattle.a64_insn.specs.declared.form.A64Form.{A64Form};
 ghost use Rattle.emu_model.specs.declared.access.Kind.{Kind};
@@ -45,8 +46,8 @@ pub(crate) fn exec(core: &mut Core, mem: &mut Mem, log: &mut AccessLog, i: &A64)
     }
 }
 
-/// `ldadd`, `ldclr`, `ldeor`, `ldset`, `ldsmax`, `ldsmin`, `ldumax`, `ldumin`, `swp`: Rt gets the old value, and memory what op makes of it and
-/// Rs.
+/// `ldadd`, `ldclr`, `ldeor`, `ldset`, `ldsmax`, `ldsmin`, `ldumax`, `ldumin`, `swp`: Rt gets the old value, and memory
+/// what op makes of it and Rs.
 fn atomic(
     core: &mut Core,
     mem: &mut Mem,
@@ -58,7 +59,8 @@ fn atomic(
     rt: Reg,
 ) -> Result<(), Trap>
     requires { log.old.items ≡ [] }
-    ensures { (acquires : Bool) (releases : Bool) (v : Vectors) → access (A64Form.Atomic op size acquires releases rs rn rt) core.old v mem.old
+    ensures { (acquires : Bool) (releases : Bool) (v : Vectors)
+        → access (A64Form.Atomic op size acquires releases rs rn rt) core.old v mem.old
         ≡ ended result core.new v mem.new log.new.items }
 {
     test_sp(core, rn.get() == 31)?;
@@ -82,7 +84,8 @@ fn compare_swap(
     rt: Reg,
 ) -> Result<(), Trap>
     requires { log.old.items ≡ [] }
-    ensures { (acquires : Bool) (releases : Bool) (v : Vectors) → access (A64Form.CompareSwap size acquires releases rs rn rt) core.old v mem.old
+    ensures { (acquires : Bool) (releases : Bool) (v : Vectors)
+        → access (A64Form.CompareSwap size acquires releases rs rn rt) core.old v mem.old
         ≡ ended result core.new v mem.new log.new.items }
 {
     test_sp(core, rn.get() == 31)?;
@@ -99,15 +102,15 @@ fn compare_swap(
     Ok(())
 }
 
-/// The value of n bytes that may be read and written. A trap has the first byte that may not be read, or else the first that may not be
-/// written.
+/// The value of n bytes that may be read and written. A trap has the first byte that may not be read, or else the first
+/// that may not be written.
 fn granted(mem: &mut Mem, address: u64, n: u32) -> Result<u64, Trap>
     requires some { 1 ≤ n }
     requires most { n ≤ 8 }
-    ensures result { MatchResult result
-        (λ o. (refused mem.old address n Kind.Read ≡ None) × ((refused mem.old address n Kind.Write ≡ None) × (o ≡ value mem.old address n)))
-        (λ trap. (c : CoreState) (v : Vectors) (d : Done)
-        → step.unless_refused (refused mem.old address n Kind.Read) (refused mem.old address n Kind.Write) c v mem.old d ≡ quietly c v mem.old (Effect.Trap trap)) }
+    ensures result { MatchResult result (λ o. (refused mem.old address n Kind.Read ≡ None)
+        × ((refused mem.old address n Kind.Write ≡ None) × (o ≡ value mem.old address n)))
+        (λ trap. (c : CoreState) (v : Vectors) (d : Done) → step.unless_refused (refused mem.old address n Kind.Read)
+        (refused mem.old address n Kind.Write) c v mem.old d ≡ quietly c v mem.old (Effect.Trap trap)) }
     ensures memory { mem.new ≡ mem.old }
 {
     let old = match mem.load(address, n, Kind::Read) {
@@ -128,7 +131,8 @@ fn granted(mem: &mut Mem, address: u64, n: u32) -> Result<u64, Trap>
     }
 }
 
-/// What n bytes with this value become by a register's, n at most 8; of a number that has more bytes the lowest are stored.
+/// What n bytes with this value become by a register's, n at most 8; of a number that has more bytes the lowest are
+/// stored.
 fn updated(op: AtomicOp, n: u32, old: u64, by: u64) -> u128
     requires some { 1 ≤ n }
     requires most { n ≤ 8 }

@@ -29,7 +29,8 @@ pub(crate) fn branch(core: &mut Core, op: BranchOp, imm26: U<26>) -> Effect
 
 /// `b.cond`: to the target where the condition holds.
 pub(crate) fn branch_cond(core: &Core, imm19: U<19>, cond: U<4>) -> Effect
-    ensures { (v : Vectors) (m : Memory) → flow (A64Form.BranchCond imm19 cond) core.now v m ≡ quietly core.now v m result }
+    ensures { (v : Vectors) (m : Memory)
+        → flow (A64Form.BranchCond imm19 cond) core.now v m ≡ quietly core.now v m result }
 {
     branch_if(
         Cond::of_number(cond).holds(core.flags()),
@@ -39,7 +40,8 @@ pub(crate) fn branch_cond(core: &Core, imm19: U<19>, cond: U<4>) -> Effect
 
 /// `cbz`, `cbnz`: to the target where the register is 0, or isn't.
 pub(crate) fn compare(core: &Core, op: CompareOp, sf: bool, imm19: U<19>, rt: Reg) -> Effect
-    ensures { (v : Vectors) (m : Memory) → flow (A64Form.Compare op sf imm19 rt) core.now v m ≡ quietly core.now v m result }
+    ensures { (v : Vectors) (m : Memory)
+        → flow (A64Form.Compare op sf imm19 rt) core.now v m ≡ quietly core.now v m result }
 {
     let v = operand(core, sf, rt);
     let taken = match op {
@@ -51,7 +53,8 @@ pub(crate) fn compare(core: &Core, op: CompareOp, sf: bool, imm19: U<19>, rt: Re
 
 /// `tbz`, `tbnz`: to the target where bit b5:b40 of the register is 0, or is 1.
 pub(crate) fn test(core: &Core, op: TestOp, b5: bool, b40: U<5>, imm14: U<14>, rt: Reg) -> Effect
-    ensures { (v : Vectors) (m : Memory) → flow (A64Form.Test op b5 b40 imm14 rt) core.now v m ≡ quietly core.now v m result }
+    ensures { (v : Vectors) (m : Memory)
+        → flow (A64Form.Test op b5 b40 imm14 rt) core.now v m ≡ quietly core.now v m result }
 {
     let place = 32 * u32::from(b5) + b40.get();
     let digit = (core.x(rt) >> place) % 2;

@@ -46,7 +46,8 @@ pub(crate) fn put_loaded(core: &mut Core, vec: &mut VecRegs, t: Transfer, rt: Re
     requires most { n ≤ greatest_of t }
     requires size { IsLowSize (8 * n) }
     requires small { v < 256 ^ n }
-    ensures { table.with_element t rt n v (record { core = core.old; vectors = vec.old }) ≡ record { core = core.new; vectors = vec.new } }
+    ensures { table.with_element t rt n v (record { core = core.old; vectors = vec.old })
+        ≡ record { core = core.new; vectors = vec.new } }
 {
     if is_vector(t) {
         vec.set_low(rt, 8 * n, v);
@@ -70,8 +71,9 @@ fn store_one(
     requires some { 1 ≤ n }
     requires most { n ≤ 16 }
     requires empty { log.old.items ≡ [] }
-    ensures { (after : CoreState → CoreState) → table.stored_to t (reach mem.old Kind.Write (record { lane = 0; register = rt; address = address; bytes = n } ∷ [])) after core.now vec.now mem.old
-        ≡ followed_by after result core.now vec.now mem.new log.new.items }
+    ensures { (after : CoreState → CoreState) → table.stored_to t
+        (reach mem.old Kind.Write (record { lane = 0; register = rt; address = address; bytes = n } ∷ [])) after
+        core.now vec.now mem.old ≡ followed_by after result core.now vec.now mem.new log.new.items }
 {
     let v = stored_value(core, vec, t, rt);
     store_here(mem, log, v, address, n)
@@ -93,8 +95,9 @@ fn load_one(
     requires most { n ≤ greatest_of t }
     requires size { IsLowSize (8 * n) }
     requires empty { log.old.items ≡ [] }
-    ensures { (after : CoreState → CoreState) → table.loaded_to t (reach mem.old Kind.Read (record { lane = 0; register = rt; address = address; bytes = n } ∷ [])) after core.old vec.old mem.old
-        ≡ followed_by after result core.new vec.new mem.new log.new.items }
+    ensures { (after : CoreState → CoreState) → table.loaded_to t
+        (reach mem.old Kind.Read (record { lane = 0; register = rt; address = address; bytes = n } ∷ [])) after core.old
+        vec.old mem.old ≡ followed_by after result core.new vec.new mem.new log.new.items }
 {
     let v = load_here(mem, log, address, n)?;
     put_loaded(core, vec, t, rt, n, v);
@@ -116,7 +119,8 @@ pub(crate) fn single(
     requires most { n ≤ greatest_of t }
     requires size { IsLowSize (8 * n) }
     requires empty { log.old.items ≡ [] }
-    ensures { (after : CoreState → CoreState) → table.transferred t (table.elements_from (table.moved t rt) address n) after core.old vec.old mem.old
+    ensures { (after : CoreState → CoreState)
+        → table.transferred t (table.elements_from (table.moved t rt) address n) after core.old vec.old mem.old
         ≡ followed_by after result core.new vec.new mem.new log.new.items }
 {
     match t {
@@ -145,7 +149,8 @@ fn store_couple_sized(
     requires some { 1 ≤ n }
     requires most { n ≤ 16 }
     requires empty { log.old.items ≡ [] }
-    ensures { (after : CoreState → CoreState) → table.stored_to t (reach mem.old Kind.Write (table.elements_from (rt ∷ rt2 ∷ []) address n)) after core.now vec.now mem.old
+    ensures { (after : CoreState → CoreState) → table.stored_to t
+        (reach mem.old Kind.Write (table.elements_from (rt ∷ rt2 ∷ []) address n)) after core.now vec.now mem.old
         ≡ followed_by after result core.now vec.now mem.new log.new.items }
 {
     match n {
@@ -171,7 +176,8 @@ fn store_couple(
     requires some { 1 ≤ n }
     requires most { n ≤ 16 }
     requires empty { log.old.items ≡ [] }
-    ensures { (after : CoreState → CoreState) → table.stored_to t (reach mem.old Kind.Write (table.elements_from (rt ∷ rt2 ∷ []) address n)) after core.now vec.now mem.old
+    ensures { (after : CoreState → CoreState) → table.stored_to t
+        (reach mem.old Kind.Write (table.elements_from (rt ∷ rt2 ∷ []) address n)) after core.now vec.now mem.old
         ≡ followed_by after result core.now vec.now mem.new log.new.items }
 {
     let first = stored_value(core, vec, t, rt);
@@ -197,7 +203,8 @@ fn load_couple_sized(
     requires most { n ≤ greatest_of t }
     requires size { IsLowSize (8 * n) }
     requires empty { log.old.items ≡ [] }
-    ensures { (after : CoreState → CoreState) → table.loaded_to t (reach mem.old Kind.Read (table.elements_from (rt ∷ rt2 ∷ []) address n)) after core.old vec.old mem.old
+    ensures { (after : CoreState → CoreState) → table.loaded_to t
+        (reach mem.old Kind.Read (table.elements_from (rt ∷ rt2 ∷ []) address n)) after core.old vec.old mem.old
         ≡ followed_by after result core.new vec.new mem.new log.new.items }
 {
     match n {
@@ -223,7 +230,8 @@ fn load_couple(
     requires most { n ≤ greatest_of t }
     requires size { IsLowSize (8 * n) }
     requires empty { log.old.items ≡ [] }
-    ensures { (after : CoreState → CoreState) → table.loaded_to t (reach mem.old Kind.Read (table.elements_from (rt ∷ rt2 ∷ []) address n)) after core.old vec.old mem.old
+    ensures { (after : CoreState → CoreState) → table.loaded_to t
+        (reach mem.old Kind.Read (table.elements_from (rt ∷ rt2 ∷ []) address n)) after core.old vec.old mem.old
         ≡ followed_by after result core.new vec.new mem.new log.new.items }
 {
     let first = load_here(mem, log, address, n)?;
@@ -233,8 +241,8 @@ fn load_couple(
     Ok(())
 }
 
-/// Stores or loads two registers, one behind the other. A store that is refused at the second has stored the first; a load
-/// that is refused changes neither.
+/// Stores or loads two registers, one behind the other. A store that is refused at the second has stored the first; a
+/// load that is refused changes neither.
 pub(crate) fn couple(
     core: &mut Core,
     vec: &mut VecRegs,
@@ -250,7 +258,8 @@ pub(crate) fn couple(
     requires most { n ≤ greatest_of t }
     requires size { IsLowSize (8 * n) }
     requires empty { log.old.items ≡ [] }
-    ensures { (after : CoreState → CoreState) → table.transferred t (table.elements_from (rt ∷ rt2 ∷ []) address n) after core.old vec.old mem.old
+    ensures { (after : CoreState → CoreState)
+        → table.transferred t (table.elements_from (rt ∷ rt2 ∷ []) address n) after core.old vec.old mem.old
         ≡ followed_by after result core.new vec.new mem.new log.new.items }
 {
     match t {

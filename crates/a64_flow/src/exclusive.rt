@@ -1,4 +1,5 @@
-//! Exclusive and ordered accesses, at multiples of their size. Each step is done as a whole, so the order asks for nothing.
+//! Exclusive and ordered accesses, at multiples of their size. Each step is done as a whole, so the order asks for
+//! nothing.
 ghost use Rattle.std.specs.Prelude.{◌≡◌, [], true};
 ghost use Rattle.a64_insn.specs.declared.form.A64Form.{A64Form};
 ghost use Rattle.a64_insn.specs.declared.ops.LoadExOp.{LoadExOp as LoadName};
@@ -58,7 +59,8 @@ fn store_ex(
     rt: Reg,
 ) -> Result<(), Trap>
     requires { log.old.items ≡ [] }
-    ensures { (op : StoreName) → access (A64Form.StoreEx op size rs rn rt) core.old vec.old mem.old ≡ ended result core.new vec.new mem.new log.new.items }
+    ensures { (op : StoreName) → access (A64Form.StoreEx op size rs rn rt) core.old vec.old mem.old
+        ≡ ended result core.new vec.new mem.new log.new.items }
 {
     test_sp(core, rn.get() == 31)?;
     let (address, n) = (core.x_sp(rn), bytes_of(size));
@@ -83,7 +85,8 @@ fn load_ex(
     rt: Reg,
 ) -> Result<(), Trap>
     requires { log.old.items ≡ [] }
-    ensures { (op : LoadName) → access (A64Form.LoadEx op size rn rt) core.old vec.old mem.old ≡ ended result core.new vec.new mem.new log.new.items }
+    ensures { (op : LoadName) → access (A64Form.LoadEx op size rn rt) core.old vec.old mem.old
+        ≡ ended result core.new vec.new mem.new log.new.items }
 {
     test_sp(core, rn.get() == 31)?;
     let (address, n) = (core.x_sp(rn), bytes_of(size));
@@ -105,7 +108,8 @@ fn ordered(
     rt: Reg,
 ) -> Result<(), Trap>
     requires { log.old.items ≡ [] }
-    ensures { access (A64Form.Ordered op size rn rt) core.old vec.old mem.old ≡ ended result core.new vec.new mem.new log.new.items }
+    ensures { access (A64Form.Ordered op size rn rt) core.old vec.old mem.old
+        ≡ ended result core.new vec.new mem.new log.new.items }
 {
     test_sp(core, rn.get() == 31)?;
     let (address, n) = (core.x_sp(rn), bytes_of(size));

@@ -9,8 +9,8 @@ use a64_effects::Transfer;
 use a64_insn::OrderedOp;
 use emu_bits::{Reg, U};
 
-/// By V, size and opc: of a vector register a store or a load; of a general register a store, or a load with zeros above or with its
-/// sign to 64 or 32 bits, and a prefetch at size 3.
+/// By V, size and opc: of a vector register a store or a load; of a general register a store, or a load with zeros
+/// above or with its sign to 64 or 32 bits, and a prefetch at size 3.
 pub(crate) fn transfer(v: bool, size: U<2>, opc: U<2>) -> Transfer
     ensures { result ≡ table.transfer v size opc }
 {

@@ -24,9 +24,9 @@ use core_regs::{Core, Effect};
 use guest_mem::{AccessLog, Mem};
 use vec_regs::VecRegs;
 
-/// Does an instruction of the branch and system rows, or a load or store of general or vector registers, and says how the step goes
-/// on. The elements that were loaded or stored are logged in order. A trap changes no register; a store that traps has
-/// stored and logged the elements before the one that was refused.
+/// Does an instruction of the branch and system rows, or a load or store of general or vector registers, and says how
+/// the step goes on. The elements that were loaded or stored are logged in order. A trap changes no register; a store
+/// that traps has stored and logged the elements before the one that was refused.
 pub fn exec(
     core: &mut Core,
     vec: &mut VecRegs,

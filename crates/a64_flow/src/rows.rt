@@ -1,5 +1,5 @@
-//! The rows that load or store general registers. Each tests SP where it is the base, then the address where the row asks
-//! for alignment, and then its elements one after the other. What comes behind is done where none was refused.
+//! The rows that load or store general registers. Each tests SP where it is the base, then the address where the row
+//! asks for alignment, and then its elements one after the other. What comes behind is done where none was refused.
 ghost use Rattle.std.specs.Prelude.{◌≡◌, []};
 ghost use Rattle.a64_effects.specs.Groups.{access};
 ghost use Rattle.a64_flow.specs.Ends.{ended};

@@ -20,8 +20,8 @@ use emu_bits::Reg;
 use guest_mem::{AccessLog, Mem};
 use vec_regs::VecRegs;
 
-/// Loads or stores one register where no test refuses it, and answers whether it did. Else nothing is changed, and so it
-/// is with a prefetch.
+/// Loads or stores one register where no test refuses it, and answers whether it did. Else nothing is changed, and so
+/// it is with a prefetch.
 #[inline(always)]
 pub(crate) fn moved(
     core: &mut Core,
@@ -103,6 +103,9 @@ fn is_misaligned(core: &Core, rn: Reg) -> bool
 {
     rn.get() == 31 && core.x_sp(rn) % 16 != 0
 }
+
+// In the next three functions the arms read alike: each is compiled for its own size of access, so that the move is one
+// instruction of the host.
 
 /// Loads a general register with copies of the top bit. The rows share it.
 #[inline(never)]

@@ -10,7 +10,8 @@ use emu_bits::Word;
 /// The name that has this base word in the line of `FMove`.
 #[tactic(auto, unfolding(crate::specs::BitMoves::f_move))]
 pub fn f_move_op(word: u32) -> Option<FMoveOp>
-    ensures { MatchOption result (number_of word f_move.words ≡ None) (λ op. number_of word f_move.words ≡ Some (f_move_number op)) }
+    ensures { MatchOption result (number_of word f_move.words ≡ None)
+        (λ op. number_of word f_move.words ≡ Some (f_move_number op)) }
 {
     match word {
         0x1e26_0000 => Some(FMoveOp::WdSn),

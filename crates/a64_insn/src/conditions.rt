@@ -1,23 +1,35 @@
 //! The lines' conditions.
 ghost use Rattle.std.specs.Prelude.{◌≡◌};
 ghost use Rattle.emu_bits.specs.Fields.{bit};
-ghost use Rattle.a64_insn.specs.Data.{has_bitmask, is_below_width, move_wide_holds_for, bitfield_holds_for, extract_holds_for, add_reg_holds_for, add_ext_holds_for};
-ghost use Rattle.a64_insn.specs.Memory.{is_access, is_prefetch, is_not_base, keeps_base, writeback_holds_for, is_offset_extension, ls_reg_holds_for, ls_literal_holds_for, is_pair, loads_two, pair_keeps_base, pair_holds_for, store_ex_holds_for};
+ghost use Rattle.a64_insn.specs.Data.{
+  has_bitmask,
+  is_below_width,
+  move_wide_holds_for,
+  bitfield_holds_for,
+  extract_holds_for,
+  add_reg_holds_for,
+  add_ext_holds_for,
+};
+ghost use Rattle.a64_insn.specs.Memory.{
+  is_access,
+  is_prefetch,
+  is_not_base,
+  keeps_base,
+  writeback_holds_for,
+  is_offset_extension,
+  ls_reg_holds_for,
+  ls_literal_holds_for,
+  is_pair,
+  loads_two,
+  pair_keeps_base,
+  pair_holds_for,
+  store_ex_holds_for,
+};
 ghost use Rattle.a64_insn.specs.BitMoves.{move_imm_holds_for};
 ghost use Rattle.a64_insn.specs.Rows.{meets_form};
 
 use crate::form::A64Form;
-use emu_bits::{Reg, U, bitmask};
-
-/// The condition of each line that has one, over the fields that it reads; other lines have none.
-macro_rules! condition_of {
-    ($form:ident: $($($line:ident)*: $fields:tt => $holds:expr;)*) => {
-        match *$form {
-            $($(A64Form::$line $fields => $holds,)*)*
-            _ => true,
-        }
-    };
-}
+use emu_bits::{Reg, U, bitmask, condition_of};
 
 /// Whether a form meets its line's condition. It is inlined where a form is made, so that just its own line's condition
 /// is tested.
@@ -26,7 +38,7 @@ macro_rules! condition_of {
 pub fn meets(form: &A64Form) -> bool
     ensures { result ≡ meets_form form.now }
 {
-    condition_of!(form:
+    condition_of!(A64Form, form:
         LogicImm: { sf, n, immr, imms, .. } => has_bitmask(sf, n, immr, imms);
         MoveWide: { sf, hw, .. } => move_wide_holds(sf, hw);
         Bitfield: { sf, n, r, s, .. } => bitfield_holds(sf, n, r, s);

@@ -1,8 +1,43 @@
 //! The names of data processing with their base words, which have all fields 0.
 ghost use Rattle.std.specs.Prelude.{◌≡◌, ◌<◌, Some, None, MatchOption, get_or, length};
 ghost use Rattle.emu_bits.specs.Rows.{number_of};
-ghost use Rattle.a64_insn.specs.Data.{adr, add_imm, logic_imm, move_wide, bitfield, logic_reg, add_reg, add_ext, add_carry, cond_reg, cond_imm, select, mul_add, mul_long, mul_high, two_source, one_source, rev};
-ghost use Rattle.a64_insn.specs.Numbers.{add_carry_number, add_number, adr_number, bitfield_number, cond_compare_number, logic_imm_number, logic_reg_number, move_wide_number, mul_add_number, mul_high_number, mul_long_number, one_source_number, rev_number, select_number, two_source_number};
+ghost use Rattle.a64_insn.specs.Data.{
+  adr,
+  add_imm,
+  logic_imm,
+  move_wide,
+  bitfield,
+  logic_reg,
+  add_reg,
+  add_ext,
+  add_carry,
+  cond_reg,
+  cond_imm,
+  select,
+  mul_add,
+  mul_long,
+  mul_high,
+  two_source,
+  one_source,
+  rev,
+};
+ghost use Rattle.a64_insn.specs.Numbers.{
+  add_carry_number,
+  add_number,
+  adr_number,
+  bitfield_number,
+  cond_compare_number,
+  logic_imm_number,
+  logic_reg_number,
+  move_wide_number,
+  mul_add_number,
+  mul_high_number,
+  mul_long_number,
+  one_source_number,
+  rev_number,
+  select_number,
+  two_source_number,
+};
 
 use crate::ops::{
     AddCarryOp, AddOp, AdrOp, BitfieldOp, CondCompareOp, LogicImmOp, LogicRegOp, MoveWideOp,
@@ -13,7 +48,8 @@ use emu_bits::Word;
 /// The name that has this base word in the line of `Adr`.
 #[tactic(auto, unfolding(crate::specs::Data::adr))]
 pub fn adr_op(word: u32) -> Option<AdrOp>
-    ensures { MatchOption result (number_of word adr.words ≡ None) (λ op. number_of word adr.words ≡ Some (adr_number op)) }
+    ensures { MatchOption result (number_of word adr.words ≡ None)
+        (λ op. number_of word adr.words ≡ Some (adr_number op)) }
 {
     match word {
         0x1000_0000 => Some(AdrOp::Adr),
@@ -38,7 +74,8 @@ pub fn adr_word(op: AdrOp) -> Word
 /// The name that has this base word in the line of `AddImm`.
 #[tactic(auto, unfolding(crate::specs::Data::add_imm))]
 pub fn add_imm_op(word: u32) -> Option<AddOp>
-    ensures { MatchOption result (number_of word add_imm.words ≡ None) (λ op. number_of word add_imm.words ≡ Some (add_number op)) }
+    ensures { MatchOption result (number_of word add_imm.words ≡ None)
+        (λ op. number_of word add_imm.words ≡ Some (add_number op)) }
 {
     match word {
         0x1100_0000 => Some(AddOp::Add),
@@ -67,7 +104,8 @@ pub fn add_imm_word(op: AddOp) -> Word
 /// The name that has this base word in the line of `LogicImm`.
 #[tactic(auto, unfolding(crate::specs::Data::logic_imm))]
 pub fn logic_imm_op(word: u32) -> Option<LogicImmOp>
-    ensures { MatchOption result (number_of word logic_imm.words ≡ None) (λ op. number_of word logic_imm.words ≡ Some (logic_imm_number op)) }
+    ensures { MatchOption result (number_of word logic_imm.words ≡ None)
+        (λ op. number_of word logic_imm.words ≡ Some (logic_imm_number op)) }
 {
     match word {
         0x1200_0000 => Some(LogicImmOp::And),
@@ -96,7 +134,8 @@ pub fn logic_imm_word(op: LogicImmOp) -> Word
 /// The name that has this base word in the line of `MoveWide`.
 #[tactic(auto, unfolding(crate::specs::Data::move_wide))]
 pub fn move_wide_op(word: u32) -> Option<MoveWideOp>
-    ensures { MatchOption result (number_of word move_wide.words ≡ None) (λ op. number_of word move_wide.words ≡ Some (move_wide_number op)) }
+    ensures { MatchOption result (number_of word move_wide.words ≡ None)
+        (λ op. number_of word move_wide.words ≡ Some (move_wide_number op)) }
 {
     match word {
         0x1280_0000 => Some(MoveWideOp::Movn),
@@ -123,7 +162,8 @@ pub fn move_wide_word(op: MoveWideOp) -> Word
 /// The name that has this base word in the line of `Bitfield`.
 #[tactic(auto, unfolding(crate::specs::Data::bitfield))]
 pub fn bitfield_op(word: u32) -> Option<BitfieldOp>
-    ensures { MatchOption result (number_of word bitfield.words ≡ None) (λ op. number_of word bitfield.words ≡ Some (bitfield_number op)) }
+    ensures { MatchOption result (number_of word bitfield.words ≡ None)
+        (λ op. number_of word bitfield.words ≡ Some (bitfield_number op)) }
 {
     match word {
         0x1300_0000 => Some(BitfieldOp::Sbfm),
@@ -150,7 +190,8 @@ pub fn bitfield_word(op: BitfieldOp) -> Word
 /// The name that has this base word in the line of `LogicReg`.
 #[tactic(auto, unfolding(crate::specs::Data::logic_reg))]
 pub fn logic_reg_op(word: u32) -> Option<LogicRegOp>
-    ensures { MatchOption result (number_of word logic_reg.words ≡ None) (λ op. number_of word logic_reg.words ≡ Some (logic_reg_number op)) }
+    ensures { MatchOption result (number_of word logic_reg.words ≡ None)
+        (λ op. number_of word logic_reg.words ≡ Some (logic_reg_number op)) }
 {
     match word {
         0x0a00_0000 => Some(LogicRegOp::And),
@@ -187,7 +228,8 @@ pub fn logic_reg_word(op: LogicRegOp) -> Word
 /// The name that has this base word in the line of `AddReg`.
 #[tactic(auto, unfolding(crate::specs::Data::add_reg))]
 pub fn add_reg_op(word: u32) -> Option<AddOp>
-    ensures { MatchOption result (number_of word add_reg.words ≡ None) (λ op. number_of word add_reg.words ≡ Some (add_number op)) }
+    ensures { MatchOption result (number_of word add_reg.words ≡ None)
+        (λ op. number_of word add_reg.words ≡ Some (add_number op)) }
 {
     match word {
         0x0b00_0000 => Some(AddOp::Add),
@@ -216,7 +258,8 @@ pub fn add_reg_word(op: AddOp) -> Word
 /// The name that has this base word in the line of `AddExt`.
 #[tactic(auto, unfolding(crate::specs::Data::add_ext))]
 pub fn add_ext_op(word: u32) -> Option<AddOp>
-    ensures { MatchOption result (number_of word add_ext.words ≡ None) (λ op. number_of word add_ext.words ≡ Some (add_number op)) }
+    ensures { MatchOption result (number_of word add_ext.words ≡ None)
+        (λ op. number_of word add_ext.words ≡ Some (add_number op)) }
 {
     match word {
         0x0b20_0000 => Some(AddOp::Add),
@@ -245,7 +288,8 @@ pub fn add_ext_word(op: AddOp) -> Word
 /// The name that has this base word in the line of `AddCarry`.
 #[tactic(auto, unfolding(crate::specs::Data::add_carry))]
 pub fn add_carry_op(word: u32) -> Option<AddCarryOp>
-    ensures { MatchOption result (number_of word add_carry.words ≡ None) (λ op. number_of word add_carry.words ≡ Some (add_carry_number op)) }
+    ensures { MatchOption result (number_of word add_carry.words ≡ None)
+        (λ op. number_of word add_carry.words ≡ Some (add_carry_number op)) }
 {
     match word {
         0x1a00_0000 => Some(AddCarryOp::Adc),
@@ -274,7 +318,8 @@ pub fn add_carry_word(op: AddCarryOp) -> Word
 /// The name that has this base word in the line of `CondReg`.
 #[tactic(auto, unfolding(crate::specs::Data::cond_reg))]
 pub fn cond_reg_op(word: u32) -> Option<CondCompareOp>
-    ensures { MatchOption result (number_of word cond_reg.words ≡ None) (λ op. number_of word cond_reg.words ≡ Some (cond_compare_number op)) }
+    ensures { MatchOption result (number_of word cond_reg.words ≡ None)
+        (λ op. number_of word cond_reg.words ≡ Some (cond_compare_number op)) }
 {
     match word {
         0x3a40_0000 => Some(CondCompareOp::Ccmn),
@@ -299,7 +344,8 @@ pub fn cond_reg_word(op: CondCompareOp) -> Word
 /// The name that has this base word in the line of `CondImm`.
 #[tactic(auto, unfolding(crate::specs::Data::cond_imm))]
 pub fn cond_imm_op(word: u32) -> Option<CondCompareOp>
-    ensures { MatchOption result (number_of word cond_imm.words ≡ None) (λ op. number_of word cond_imm.words ≡ Some (cond_compare_number op)) }
+    ensures { MatchOption result (number_of word cond_imm.words ≡ None)
+        (λ op. number_of word cond_imm.words ≡ Some (cond_compare_number op)) }
 {
     match word {
         0x3a40_0800 => Some(CondCompareOp::Ccmn),
@@ -324,7 +370,8 @@ pub fn cond_imm_word(op: CondCompareOp) -> Word
 /// The name that has this base word in the line of `Select`.
 #[tactic(auto, unfolding(crate::specs::Data::select))]
 pub fn select_op(word: u32) -> Option<SelectOp>
-    ensures { MatchOption result (number_of word select.words ≡ None) (λ op. number_of word select.words ≡ Some (select_number op)) }
+    ensures { MatchOption result (number_of word select.words ≡ None)
+        (λ op. number_of word select.words ≡ Some (select_number op)) }
 {
     match word {
         0x1a80_0000 => Some(SelectOp::Csel),
@@ -353,7 +400,8 @@ pub fn select_word(op: SelectOp) -> Word
 /// The name that has this base word in the line of `MulAdd`.
 #[tactic(auto, unfolding(crate::specs::Data::mul_add))]
 pub fn mul_add_op(word: u32) -> Option<MulAddOp>
-    ensures { MatchOption result (number_of word mul_add.words ≡ None) (λ op. number_of word mul_add.words ≡ Some (mul_add_number op)) }
+    ensures { MatchOption result (number_of word mul_add.words ≡ None)
+        (λ op. number_of word mul_add.words ≡ Some (mul_add_number op)) }
 {
     match word {
         0x1b00_0000 => Some(MulAddOp::Madd),
@@ -378,7 +426,8 @@ pub fn mul_add_word(op: MulAddOp) -> Word
 /// The name that has this base word in the line of `MulLong`.
 #[tactic(auto, unfolding(crate::specs::Data::mul_long))]
 pub fn mul_long_op(word: u32) -> Option<MulLongOp>
-    ensures { MatchOption result (number_of word mul_long.words ≡ None) (λ op. number_of word mul_long.words ≡ Some (mul_long_number op)) }
+    ensures { MatchOption result (number_of word mul_long.words ≡ None)
+        (λ op. number_of word mul_long.words ≡ Some (mul_long_number op)) }
 {
     match word {
         0x9b20_0000 => Some(MulLongOp::Smaddl),
@@ -407,7 +456,8 @@ pub fn mul_long_word(op: MulLongOp) -> Word
 /// The name that has this base word in the line of `MulHigh`.
 #[tactic(auto, unfolding(crate::specs::Data::mul_high))]
 pub fn mul_high_op(word: u32) -> Option<MulHighOp>
-    ensures { MatchOption result (number_of word mul_high.words ≡ None) (λ op. number_of word mul_high.words ≡ Some (mul_high_number op)) }
+    ensures { MatchOption result (number_of word mul_high.words ≡ None)
+        (λ op. number_of word mul_high.words ≡ Some (mul_high_number op)) }
 {
     match word {
         0x9b40_7c00 => Some(MulHighOp::Smulh),
@@ -432,7 +482,8 @@ pub fn mul_high_word(op: MulHighOp) -> Word
 /// The name that has this base word in the line of `TwoSource`.
 #[tactic(auto, unfolding(crate::specs::Data::two_source))]
 pub fn two_source_op(word: u32) -> Option<TwoSourceOp>
-    ensures { MatchOption result (number_of word two_source.words ≡ None) (λ op. number_of word two_source.words ≡ Some (two_source_number op)) }
+    ensures { MatchOption result (number_of word two_source.words ≡ None)
+        (λ op. number_of word two_source.words ≡ Some (two_source_number op)) }
 {
     match word {
         0x1ac0_0800 => Some(TwoSourceOp::Udiv),
@@ -465,7 +516,8 @@ pub fn two_source_word(op: TwoSourceOp) -> Word
 /// The name that has this base word in the line of `OneSource`.
 #[tactic(auto, unfolding(crate::specs::Data::one_source))]
 pub fn one_source_op(word: u32) -> Option<OneSourceOp>
-    ensures { MatchOption result (number_of word one_source.words ≡ None) (λ op. number_of word one_source.words ≡ Some (one_source_number op)) }
+    ensures { MatchOption result (number_of word one_source.words ≡ None)
+        (λ op. number_of word one_source.words ≡ Some (one_source_number op)) }
 {
     match word {
         0x5ac0_0000 => Some(OneSourceOp::Rbit),
@@ -494,7 +546,8 @@ pub fn one_source_word(op: OneSourceOp) -> Word
 /// The name that has this base word in the line of `Rev`.
 #[tactic(auto, unfolding(crate::specs::Data::rev))]
 pub fn rev_op(word: u32) -> Option<RevOp>
-    ensures { MatchOption result (number_of word rev.words ≡ None) (λ op. number_of word rev.words ≡ Some (rev_number op)) }
+    ensures { MatchOption result (number_of word rev.words ≡ None)
+        (λ op. number_of word rev.words ≡ Some (rev_number op)) }
 {
     match word {
         0x5ac0_0800 => Some(RevOp::RevW),

@@ -2,7 +2,16 @@
 ghost use Rattle.std.specs.Prelude.{◌≡◌, ◌<◌, Some, None, MatchOption, get_or, length};
 ghost use Rattle.emu_bits.specs.Rows.{number_of};
 ghost use Rattle.a64_insn.specs.Flow.{branch, compare, test_branch, branch_reg, except, barrier, read_sys, write_sys};
-ghost use Rattle.a64_insn.specs.Numbers.{barrier_number, branch_number, branch_reg_number, compare_number, except_number, read_sys_number, test_number, write_sys_number};
+ghost use Rattle.a64_insn.specs.Numbers.{
+  barrier_number,
+  branch_number,
+  branch_reg_number,
+  compare_number,
+  except_number,
+  read_sys_number,
+  test_number,
+  write_sys_number,
+};
 
 use crate::ops::{
     BarrierOp, BranchOp, BranchRegOp, CompareOp, ExceptOp, ReadSysOp, TestOp, WriteSysOp,
@@ -12,7 +21,8 @@ use emu_bits::Word;
 /// The name that has this base word in the line of `Branch`.
 #[tactic(auto, unfolding(crate::specs::Flow::branch))]
 pub fn branch_op(word: u32) -> Option<BranchOp>
-    ensures { MatchOption result (number_of word branch.words ≡ None) (λ op. number_of word branch.words ≡ Some (branch_number op)) }
+    ensures { MatchOption result (number_of word branch.words ≡ None)
+        (λ op. number_of word branch.words ≡ Some (branch_number op)) }
 {
     match word {
         0x1400_0000 => Some(BranchOp::B),
@@ -37,7 +47,8 @@ pub fn branch_word(op: BranchOp) -> Word
 /// The name that has this base word in the line of `Compare`.
 #[tactic(auto, unfolding(crate::specs::Flow::compare))]
 pub fn compare_op(word: u32) -> Option<CompareOp>
-    ensures { MatchOption result (number_of word compare.words ≡ None) (λ op. number_of word compare.words ≡ Some (compare_number op)) }
+    ensures { MatchOption result (number_of word compare.words ≡ None)
+        (λ op. number_of word compare.words ≡ Some (compare_number op)) }
 {
     match word {
         0x3400_0000 => Some(CompareOp::Cbz),
@@ -62,7 +73,8 @@ pub fn compare_word(op: CompareOp) -> Word
 /// The name that has this base word in the line of `Test`.
 #[tactic(auto, unfolding(crate::specs::Flow::test_branch))]
 pub fn test_op(word: u32) -> Option<TestOp>
-    ensures { MatchOption result (number_of word test_branch.words ≡ None) (λ op. number_of word test_branch.words ≡ Some (test_number op)) }
+    ensures { MatchOption result (number_of word test_branch.words ≡ None)
+        (λ op. number_of word test_branch.words ≡ Some (test_number op)) }
 {
     match word {
         0x3600_0000 => Some(TestOp::Tbz),
@@ -87,7 +99,8 @@ pub fn test_word(op: TestOp) -> Word
 /// The name that has this base word in the line of `BranchReg`.
 #[tactic(auto, unfolding(crate::specs::Flow::branch_reg))]
 pub fn branch_reg_op(word: u32) -> Option<BranchRegOp>
-    ensures { MatchOption result (number_of word branch_reg.words ≡ None) (λ op. number_of word branch_reg.words ≡ Some (branch_reg_number op)) }
+    ensures { MatchOption result (number_of word branch_reg.words ≡ None)
+        (λ op. number_of word branch_reg.words ≡ Some (branch_reg_number op)) }
 {
     match word {
         0xd61f_0000 => Some(BranchRegOp::Br),
@@ -114,7 +127,8 @@ pub fn branch_reg_word(op: BranchRegOp) -> Word
 /// The name that has this base word in the line of `Except`.
 #[tactic(auto, unfolding(crate::specs::Flow::except))]
 pub fn except_op(word: u32) -> Option<ExceptOp>
-    ensures { MatchOption result (number_of word except.words ≡ None) (λ op. number_of word except.words ≡ Some (except_number op)) }
+    ensures { MatchOption result (number_of word except.words ≡ None)
+        (λ op. number_of word except.words ≡ Some (except_number op)) }
 {
     match word {
         0xd400_0001 => Some(ExceptOp::Svc),
@@ -141,7 +155,8 @@ pub fn except_word(op: ExceptOp) -> Word
 /// The name that has this base word in the line of `Barrier`.
 #[tactic(auto, unfolding(crate::specs::Flow::barrier))]
 pub fn barrier_op(word: u32) -> Option<BarrierOp>
-    ensures { MatchOption result (number_of word barrier.words ≡ None) (λ op. number_of word barrier.words ≡ Some (barrier_number op)) }
+    ensures { MatchOption result (number_of word barrier.words ≡ None)
+        (λ op. number_of word barrier.words ≡ Some (barrier_number op)) }
 {
     match word {
         0xd503_305f => Some(BarrierOp::Clrex),
@@ -170,7 +185,8 @@ pub fn barrier_word(op: BarrierOp) -> Word
 /// The name that has this base word in the line of `ReadSys`.
 #[tactic(auto, unfolding(crate::specs::Flow::read_sys))]
 pub fn read_sys_op(word: u32) -> Option<ReadSysOp>
-    ensures { MatchOption result (number_of word read_sys.words ≡ None) (λ op. number_of word read_sys.words ≡ Some (read_sys_number op)) }
+    ensures { MatchOption result (number_of word read_sys.words ≡ None)
+        (λ op. number_of word read_sys.words ≡ Some (read_sys_number op)) }
 {
     match word {
         0xd53b_d040 => Some(ReadSysOp::Tpidr),
@@ -197,7 +213,8 @@ pub fn read_sys_word(op: ReadSysOp) -> Word
 /// The name that has this base word in the line of `WriteSys`.
 #[tactic(auto, unfolding(crate::specs::Flow::write_sys))]
 pub fn write_sys_op(word: u32) -> Option<WriteSysOp>
-    ensures { MatchOption result (number_of word write_sys.words ≡ None) (λ op. number_of word write_sys.words ≡ Some (write_sys_number op)) }
+    ensures { MatchOption result (number_of word write_sys.words ≡ None)
+        (λ op. number_of word write_sys.words ≡ Some (write_sys_number op)) }
 {
     match word {
         0xd51b_d040 => Some(WriteSysOp::Tpidr),

@@ -68,7 +68,8 @@ pub enum A64Form {
         rn: Reg,
         rd: Reg,
     },
-    /// `and`, `bic`, `orr`, `orn`, `eor`, `eon`, `ands`, `bics Rd, Rn, Rm{, lsl #0}`: shift is 0 lsl, 1 lsr, 2 asr, 3 ror.
+    /// `and`, `bic`, `orr`, `orn`, `eor`, `eon`, `ands`, `bics Rd, Rn, Rm{, lsl #0}`: shift is 0 lsl, 1 lsr, 2 asr, 3
+    /// ror.
     LogicReg {
         op: LogicRegOp,
         sf: bool,
@@ -88,7 +89,8 @@ pub enum A64Form {
         rn: Reg,
         rd: Reg,
     },
-    /// `add`, `adds`, `sub`, `subs Rd|SP, Rn|SP, Rm, ext #a`: ext is 0 uxtb, 1 uxth, 2 uxtw, 3 uxtx, 4 sxtb, 5 sxth, 6 sxtw, 7 sxtx.
+    /// `add`, `adds`, `sub`, `subs Rd|SP, Rn|SP, Rm, ext #a`: ext is 0 uxtb, 1 uxth, 2 uxtw, 3 uxtx, 4 sxtb, 5 sxth, 6
+    /// sxtw, 7 sxtx.
     AddExt {
         op: AddOp,
         sf: bool,
@@ -195,7 +197,8 @@ pub enum A64Form {
         imm19: U<19>,
         rt: Reg,
     },
-    /// `tbz`, `tbnz Rt, #b, target`: a branch to PC plus 4·imm14, imm14 signed, where bit b5:b40 of a register is 0 or is 1.
+    /// `tbz`, `tbnz Rt, #b, target`: a branch to PC plus 4·imm14, imm14 signed, where bit b5:b40 of a register is 0 or
+    /// is 1.
     Test {
         op: TestOp,
         b5: bool,
@@ -268,7 +271,8 @@ pub enum A64Form {
         rn: Reg,
         rt: Reg,
     },
-    /// `ldr`, `str` and their kinds, at `[Xn|SP, Rm, ext #a]`: ext is 2 uxtw, 3 lsl, 6 sxtw, 7 sxtx; with s the offset counts accesses, else bytes.
+    /// `ldr`, `str` and their kinds, at `[Xn|SP, Rm, ext #a]`: ext is 2 uxtw, 3 lsl, 6 sxtw, 7 sxtx; with s the offset
+    /// counts accesses, else bytes.
     LsReg {
         size: U<2>,
         v: bool,
@@ -286,7 +290,8 @@ pub enum A64Form {
         imm19: U<19>,
         rt: Reg,
     },
-    /// `stp`, `ldp`, `ldpsw`, `stnp`, `ldnp Rt, Rt2, place`: mode is 0 stnp and ldnp, 1 post, 2 offset, 3 pre; l is true in loads; imm7, signed, counts accesses of one register.
+    /// `stp`, `ldp`, `ldpsw`, `stnp`, `ldnp Rt, Rt2, place`: mode is 0 stnp and ldnp, 1 post, 2 offset, 3 pre; l is
+    /// true in loads; imm7, signed, counts accesses of one register.
     Pair {
         opc: U<2>,
         v: bool,
@@ -297,7 +302,8 @@ pub enum A64Form {
         rn: Reg,
         rt: Reg,
     },
-    /// `stxr`, `stlxr Ws, Rt, [Xn|SP]`: a store of 2^size bytes where the exclusive monitor has them; Ws is 0 where it is made, else 1.
+    /// `stxr`, `stlxr Ws, Rt, [Xn|SP]`: a store of 2^size bytes where the exclusive monitor has them; Ws is 0 where it
+    /// is made, else 1.
     StoreEx {
         op: StoreExOp,
         size: U<2>,
@@ -319,8 +325,8 @@ pub enum A64Form {
         rn: Reg,
         rt: Reg,
     },
-    /// `ldadd`, `ldclr`, `ldeor`, `ldset`, `ldsmax`, `ldsmin`, `ldumax`, `ldumin`, `swp Rs, Rt, [Xn|SP]`: a load of 2^size bytes to Rt and a store of what
-    /// op makes of them and Rs, as one step.
+    /// `ldadd`, `ldclr`, `ldeor`, `ldset`, `ldsmax`, `ldsmin`, `ldumax`, `ldumin`, `swp Rs, Rt, [Xn|SP]`: a load of
+    /// 2^size bytes to Rt and a store of what op makes of them and Rs, as one step.
     Atomic {
         op: AtomicOp,
         size: U<2>,
@@ -330,7 +336,8 @@ pub enum A64Form {
         rn: Reg,
         rt: Reg,
     },
-    /// `cas Rs, Rt, [Xn|SP]`: a load of 2^size bytes to Rs, and, where they equal what Rs had, a store of Rt, as one step.
+    /// `cas Rs, Rt, [Xn|SP]`: a load of 2^size bytes to Rs, and, where they equal what Rs had, a store of Rt, as one
+    /// step.
     CompareSwap {
         size: U<2>,
         acquires: bool,
@@ -345,7 +352,8 @@ pub enum A64Form {
         rn: Reg,
         rd: Reg,
     },
-    /// `movi`, `mvni`: the byte abc:defgh, placed or spread as cmode says, in each part of a vector register's 128 bits, or 64 where q is false; op says mvni, but where cmode is 14.
+    /// `movi`, `mvni`: the byte abc:defgh, placed or spread as cmode says, in each part of a vector register's 128
+    /// bits, or 64 where q is false; op says mvni, but where cmode is 14.
     MoveImm {
         q: bool,
         op: bool,

@@ -10,7 +10,8 @@ use emu_bits::Word;
 /// The name that has this base word in the line of `StoreEx`.
 #[tactic(auto, unfolding(crate::specs::Memory::store_ex))]
 pub fn store_ex_op(word: u32) -> Option<StoreExOp>
-    ensures { MatchOption result (number_of word store_ex.words ≡ None) (λ op. number_of word store_ex.words ≡ Some (store_ex_number op)) }
+    ensures { MatchOption result (number_of word store_ex.words ≡ None)
+        (λ op. number_of word store_ex.words ≡ Some (store_ex_number op)) }
 {
     match word {
         0x0800_7c00 => Some(StoreExOp::Stxr),
@@ -35,7 +36,8 @@ pub fn store_ex_word(op: StoreExOp) -> Word
 /// The name that has this base word in the line of `LoadEx`.
 #[tactic(auto, unfolding(crate::specs::Memory::load_ex))]
 pub fn load_ex_op(word: u32) -> Option<LoadExOp>
-    ensures { MatchOption result (number_of word load_ex.words ≡ None) (λ op. number_of word load_ex.words ≡ Some (load_ex_number op)) }
+    ensures { MatchOption result (number_of word load_ex.words ≡ None)
+        (λ op. number_of word load_ex.words ≡ Some (load_ex_number op)) }
 {
     match word {
         0x085f_7c00 => Some(LoadExOp::Ldxr),
@@ -60,7 +62,8 @@ pub fn load_ex_word(op: LoadExOp) -> Word
 /// The name that has this base word in the line of `Ordered`.
 #[tactic(auto, unfolding(crate::specs::Memory::ordered))]
 pub fn ordered_op(word: u32) -> Option<OrderedOp>
-    ensures { MatchOption result (number_of word ordered.words ≡ None) (λ op. number_of word ordered.words ≡ Some (ordered_number op)) }
+    ensures { MatchOption result (number_of word ordered.words ≡ None)
+        (λ op. number_of word ordered.words ≡ Some (ordered_number op)) }
 {
     match word {
         0x089f_fc00 => Some(OrderedOp::Stlr),
@@ -85,7 +88,8 @@ pub fn ordered_word(op: OrderedOp) -> Word
 /// The name that has this base word in the line of `Atomic`.
 #[tactic(auto, unfolding(crate::specs::Memory::atomic))]
 pub fn atomic_op(word: u32) -> Option<AtomicOp>
-    ensures { MatchOption result (number_of word atomic.words ≡ None) (λ op. number_of word atomic.words ≡ Some (atomic_number op)) }
+    ensures { MatchOption result (number_of word atomic.words ≡ None)
+        (λ op. number_of word atomic.words ≡ Some (atomic_number op)) }
 {
     match word {
         0x3820_0000 => Some(AtomicOp::Ldadd),

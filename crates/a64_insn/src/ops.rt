@@ -212,8 +212,8 @@ pub enum OrderedOp {
     Ldar,
 }
 
-/// What a load and store as one step makes of the old bytes and of a register: their sum, the bytes without the bits of the register, the
-/// exclusive or, the or, the greater and the smaller, signed and unsigned, and the register itself.
+/// What a load and store as one step makes of the old bytes and of a register: their sum, the bytes without the bits of
+/// the register, the exclusive or, the or, the greater and the smaller, signed and unsigned, and the register itself.
 #[derive(Clone, Copy)]
 pub enum AtomicOp {
     Ldadd,

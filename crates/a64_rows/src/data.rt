@@ -2,8 +2,48 @@
 ghost use Rattle.std.specs.Prelude.{◌≡◌};
 ghost use Rattle.emu_bits.specs.Rows.{encode, row_in};
 ghost use Rattle.emu_bits.specs.RowLaws.{IsShape};
-ghost use Rattle.a64_insn.specs.declared.form.A64Form.TheVariants.{Adr, AddImm, LogicImm, MoveWide, Bitfield, Extract, LogicReg, AddReg, AddExt, AddCarry, CondReg, CondImm, Select, MulAdd, MulLong, MulHigh, TwoSource, OneSource, Rev};
-ghost use Rattle.a64_insn.specs.Data.{adr, add_imm, logic_imm, move_wide, bitfield, extract, logic_reg, add_reg, add_ext, add_carry, cond_reg, cond_imm, select, mul_add, mul_long, mul_high, two_source, one_source, rev};
+ghost use Rattle.a64_insn.specs.declared.form.A64Form.TheVariants.{
+  Adr,
+  AddImm,
+  LogicImm,
+  MoveWide,
+  Bitfield,
+  Extract,
+  LogicReg,
+  AddReg,
+  AddExt,
+  AddCarry,
+  CondReg,
+  CondImm,
+  Select,
+  MulAdd,
+  MulLong,
+  MulHigh,
+  TwoSource,
+  OneSource,
+  Rev,
+};
+ghost use Rattle.a64_insn.specs.Data.{
+  adr,
+  add_imm,
+  logic_imm,
+  move_wide,
+  bitfield,
+  extract,
+  logic_reg,
+  add_reg,
+  add_ext,
+  add_carry,
+  cond_reg,
+  cond_imm,
+  select,
+  mul_add,
+  mul_long,
+  mul_high,
+  two_source,
+  one_source,
+  rev,
+};
 ghost use Rattle.a64_insn.specs.Rows.{row_of};
 ghost use Rattle.a64_rows.specs.Seen.{seen};
 

@@ -1,14 +1,52 @@
 //! The instruction of a word: a line is chosen by bits that are outside of the fields of all lines left, and the lines
 //! that these bits leave are tried in turn.
 //!
-//! `Site` names the place of the call. Each place has these functions for itself, so that the compiler can take them into their caller where
-//! it is the only one.
+//! `Site` names the place of the call. Each place has these functions for itself, so that the compiler can take them
+//! into their caller where it is the only one.
 ghost use Rattle.std.specs.Prelude.{◌≡◌, [], ◌∷◌};
 ghost use Rattle.emu_bits.specs.Rows.{decode};
 ghost use Rattle.a64_insn.specs.Table.{a64_table};
-ghost use Rattle.a64_insn.specs.Data.{logic_imm, move_wide, bitfield, extract, add_reg, add_ext, cond_reg, cond_imm, mul_add, mul_long, mul_high, two_source, one_source, rev};
-ghost use Rattle.a64_insn.specs.Flow.{branch, branch_cond, branch_reg, compare, test_branch, except, hint, barrier, read_sys, write_sys};
-ghost use Rattle.a64_insn.specs.Memory.{ls_unscaled, ls_post, ls_pre, ls_reg, ls_literal, pair, store_ex, load_ex, ordered, atomic, compare_swap};
+ghost use Rattle.a64_insn.specs.Data.{
+  logic_imm,
+  move_wide,
+  bitfield,
+  extract,
+  add_reg,
+  add_ext,
+  cond_reg,
+  cond_imm,
+  mul_add,
+  mul_long,
+  mul_high,
+  two_source,
+  one_source,
+  rev,
+};
+ghost use Rattle.a64_insn.specs.Flow.{
+  branch,
+  branch_cond,
+  branch_reg,
+  compare,
+  test_branch,
+  except,
+  hint,
+  barrier,
+  read_sys,
+  write_sys,
+};
+ghost use Rattle.a64_insn.specs.Memory.{
+  ls_unscaled,
+  ls_post,
+  ls_pre,
+  ls_reg,
+  ls_literal,
+  pair,
+  store_ex,
+  load_ex,
+  ordered,
+  atomic,
+  compare_swap,
+};
 ghost use Rattle.a64_rows.specs.Left.{lines_11_10};
 ghost use Rattle.a64_rows.specs.Seen.{seen};
 

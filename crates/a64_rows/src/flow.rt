@@ -2,8 +2,30 @@
 ghost use Rattle.std.specs.Prelude.{◌≡◌};
 ghost use Rattle.emu_bits.specs.Rows.{encode, row_in};
 ghost use Rattle.emu_bits.specs.RowLaws.{IsShape};
-ghost use Rattle.a64_insn.specs.declared.form.A64Form.TheVariants.{Branch, BranchCond, Compare, Test, BranchReg, Except, Hint, Barrier, ReadSys, WriteSys};
-ghost use Rattle.a64_insn.specs.Flow.{branch, branch_cond, compare, test_branch, branch_reg, except, hint, barrier, read_sys, write_sys};
+ghost use Rattle.a64_insn.specs.declared.form.A64Form.TheVariants.{
+  Branch,
+  BranchCond,
+  Compare,
+  Test,
+  BranchReg,
+  Except,
+  Hint,
+  Barrier,
+  ReadSys,
+  WriteSys,
+};
+ghost use Rattle.a64_insn.specs.Flow.{
+  branch,
+  branch_cond,
+  compare,
+  test_branch,
+  branch_reg,
+  except,
+  hint,
+  barrier,
+  read_sys,
+  write_sys,
+};
 ghost use Rattle.a64_insn.specs.Rows.{row_of};
 ghost use Rattle.a64_rows.specs.Seen.{seen};
 

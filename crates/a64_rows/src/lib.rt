@@ -28,8 +28,8 @@ pub fn decode_a64(w: u32) -> Option<A64>
     decode_a64_at::<()>(w)
 }
 
-/// The same for one place of a program, which any type may name: the place has the code for itself, and the compiler can take it into the
-/// caller, where a form never has to lie in memory.
+/// The same for one place of a program, which any type may name: the place has the code for itself, and the compiler
+/// can take it into the caller, where a form never has to lie in memory.
 pub fn decode_a64_at<Site>(w: u32) -> Option<A64>
     ensures table { seen result ≡ decode a64_table w }
     ensures form { result ≡ instruction a64_table w }

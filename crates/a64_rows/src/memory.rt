@@ -2,8 +2,34 @@
 ghost use Rattle.std.specs.Prelude.{◌≡◌};
 ghost use Rattle.emu_bits.specs.Rows.{encode, row_in};
 ghost use Rattle.emu_bits.specs.RowLaws.{IsShape};
-ghost use Rattle.a64_insn.specs.declared.form.A64Form.TheVariants.{LsUnsigned, LsUnscaled, LsPost, LsPre, LsReg, LsLiteral, Pair, StoreEx, LoadEx, Ordered, Atomic, CompareSwap};
-ghost use Rattle.a64_insn.specs.Memory.{ls_unsigned, ls_unscaled, ls_post, ls_pre, ls_reg, ls_literal, pair, store_ex, load_ex, ordered, atomic, compare_swap};
+ghost use Rattle.a64_insn.specs.declared.form.A64Form.TheVariants.{
+  LsUnsigned,
+  LsUnscaled,
+  LsPost,
+  LsPre,
+  LsReg,
+  LsLiteral,
+  Pair,
+  StoreEx,
+  LoadEx,
+  Ordered,
+  Atomic,
+  CompareSwap,
+};
+ghost use Rattle.a64_insn.specs.Memory.{
+  ls_unsigned,
+  ls_unscaled,
+  ls_post,
+  ls_pre,
+  ls_reg,
+  ls_literal,
+  pair,
+  store_ex,
+  load_ex,
+  ordered,
+  atomic,
+  compare_swap,
+};
 ghost use Rattle.a64_insn.specs.Rows.{row_of};
 ghost use Rattle.a64_rows.specs.Seen.{seen};
 

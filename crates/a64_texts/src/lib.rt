@@ -145,13 +145,14 @@ pub fn texts_of_lines()
     ensures { TextsOfLines }
 {}
 
-/// The text of each instruction, but for a bitmask whose rotation isn't the least, is read as the instruction: at any address that it
-/// stands at.
+/// The text of each instruction, but for a bitmask whose rotation isn't the least, is read as the instruction: at any
+/// address that it stands at.
 pub fn printed_text_is_read()
     ensures { (f : A64Form) (pc : ℕ) → IsRow (row_of f) → is_canonical_form f ≡ true → pc < 2 ^ 64 → IsReadBack f pc }
 {}
 
 /// A word whose target's bits are 0, aimed at a target that its field can reach, is a word of the table.
 pub fn aimed_words_are_rows()
-    ensures { (f : A64Form) (pc t w : ℕ) → IsRow (row_of f) → aimed (reach f) (unaimed_word f) pc t ≡ Some w → in_table w ≡ true }
+    ensures { (f : A64Form) (pc t w : ℕ) → IsRow (row_of f) → aimed (reach f) (unaimed_word f) pc t ≡ Some w
+        → in_table w ≡ true }
 {}

@@ -1,7 +1,7 @@
 //! The lines of patterns, and their numbers by name.
 
-/// The lines of patterns: those of the instruction table in its order, where offsets in registers have six, and behind them that of
-/// other names.
+/// The lines of patterns: those of the instruction table in its order, where offsets in registers have six, and behind
+/// them that of other names.
 #[derive(Clone, Copy)]
 pub enum TextLine {
     Adr,

@@ -11,7 +11,8 @@ use asm_text::Tables;
 pub use listing_model::{ListingFault, ListingWhy};
 use std::alloc::Global;
 
-/// The file that a listing makes: its header, its code and its data. Or the first refusal, with its line; or that memory was wanting.
+/// The file that a listing makes: its header, its code and its data. Or the first refusal, with its line; or that
+/// memory was wanting.
 pub fn assemble(alloc: Global, text: &str) -> Result<Vec<u8>, AsmError>
     ensures { IsMade result (image_of statements text.now) }
 {

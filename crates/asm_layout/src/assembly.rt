@@ -62,7 +62,8 @@ fn lay_line<T: Instructions>(
     number: u32,
     text: &str,
 ) -> Result<(), Stop>
-    ensures { (l : Layout T.Insn) → IsDraft T.has_target draft.old l → IsPlaced T.has_target result draft.new (placed_line T.statements number l (line_of T.statements text.now)) }
+    ensures { (l : Layout T.Insn) → IsDraft T.has_target draft.old l
+        → IsPlaced T.has_target result draft.new (placed_line T.statements number l (line_of T.statements text.now)) }
 {
     match read_line::<T>(alloc, text) {
         Err(fault) => Err(stop_of(fault)),
@@ -116,7 +117,8 @@ fn build<T: Instructions>(
     requires small_bss { bss ≤ 2 ^ 30 }
     requires room { AllHaveRoom (length code.old) (length values.old) holes.now }
     requires aimable { AllAimable T.has_target holes.now }
-    ensures { (l : Layout T.Insn) → ArePartsOf l code.old values.old labels.now entry.now holes.now bss → IsMade result (file_from T.statements (Ok l)) }
+    ensures { (l : Layout T.Insn) → ArePartsOf l code.old values.old labels.now entry.now holes.now bss
+        → IsMade result (file_from T.statements (Ok l)) }
 {
     match fill::<T>(code, values, labels, holes) {
         Ok(()) => (),

@@ -49,7 +49,8 @@ pub const MOST: u64 = 1 << 24;
 /// Bytes of memory that may stand behind the data.
 pub const MOST_BSS: u64 = 1 << 30;
 
-/// What the lines so far leave: the bytes of the sections, with zeros where something is to be filled in, and what is to be filled in.
+/// What the lines so far leave: the bytes of the sections, with zeros where something is to be filled in, and what is
+/// to be filled in.
 #[derive(Drop)]
 pub struct Draft<I> {
     pub code: Vec<u8>,

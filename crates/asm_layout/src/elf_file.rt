@@ -71,7 +71,8 @@ struct Segment {
 
 /// Appends the program header of a segment.
 fn put_segment(file: &mut Vec<u8>, segment: Segment) -> Result<(), OutOfMemory>
-    ensures { OnOk result (file.new.items ≡ file.old.items ++ elf.program_header segment.flags segment.offset segment.address segment.file_size segment.memory_size) }
+    ensures { OnOk result (file.new.items ≡ file.old.items
+        ++ elf.program_header segment.flags segment.offset segment.address segment.file_size segment.memory_size) }
 {
     put_32(file, 1)?;
     put_32(file, segment.flags)?;

@@ -1,6 +1,20 @@
 //! Holes filled, once all labels are known.
 ghost use Rattle.std.specs.Prelude.{◌≡◌, ◌+◌, ◌≤◌, ◌^◌, List, length};
-ghost use Rattle.asm_layout.specs.Filling.{AllAimable, AllHaveRoom, ArePieces, FillsHole, FindsTarget, HasRoom, IsAimableGap, IsFilled, IsPatch, patch_bytes, piece_of, put_at, target_of};
+ghost use Rattle.asm_layout.specs.Filling.{
+  AllAimable,
+  AllHaveRoom,
+  ArePieces,
+  FillsHole,
+  FindsTarget,
+  HasRoom,
+  IsAimableGap,
+  IsFilled,
+  IsPatch,
+  patch_bytes,
+  piece_of,
+  put_at,
+  target_of,
+};
 ghost use Rattle.listing_model.specs.File.{rounded};
 ghost use Rattle.listing_model.specs.Image.{address_of, base, contents_of, filled};
 ghost use Rattle.listing_model.specs.Layout.{Placed};
@@ -156,8 +170,8 @@ pub fn fill<T: Instructions>(
     requires small { length code.old ≤ 2 ^ 24 }
     requires room { AllHaveRoom (length code.old) (length values.old) holes.now }
     requires aimable { AllAimable T.has_target holes.now }
-    ensures { (ps : List (Placed T.Insn)) → ArePieces ps code.old values.old holes.now
-        → IsFilled result code.new values.new (contents_of T.statements (length code.old) (address_of (length code.old) labels.now) ps) }
+    ensures { (ps : List (Placed T.Insn)) → ArePieces ps code.old values.old holes.now → IsFilled result code.new
+        values.new (contents_of T.statements (length code.old) (address_of (length code.old) labels.now) ps) }
 {
     for hole in holes {
         match fill_hole::<T>(code, values, labels, hole) {

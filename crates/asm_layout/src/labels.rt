@@ -45,7 +45,8 @@ impl Labels {
 
     /// Adds a label. False where one of its name stands already.
     pub fn add(&mut self, name: Name, place: Place) -> Result<bool, OutOfMemory>
-        ensures { IfOk result (λ new. MatchBool new ((label_named name self.old ≡ None) × (self.new ≡ self.old ++ labeled_at name place ∷ [])) (IsSome (label_named name self.old))) }
+        ensures { IfOk result (λ new. MatchBool new ((label_named name self.old ≡ None)
+            × (self.new ≡ self.old ++ labeled_at name place ∷ [])) (IsSome (label_named name self.old))) }
     {
         let Ok(old) = self.places.insert(name.text, place) else {
             return Err(AllocError);

@@ -1,5 +1,5 @@
-//! Listings made into executables, over any reader of instructions: labels by their hash, the bytes of sections as they come, and
-//! holes that are filled once all labels are known.
+//! Listings made into executables, over any reader of instructions: labels by their hash, the bytes of sections as they
+//! come, and holes that are filled once all labels are known.
 #![tactic(auto)]
 
 mod assembly;

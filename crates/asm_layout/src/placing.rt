@@ -1,6 +1,19 @@
 //! Lines put behind those before.
 ghost use Rattle.std.specs.Prelude.{◌≡◌, ◌≤◌, [], ◌∷◌, None, Ok, is_some, map};
-ghost use Rattle.asm_layout.specs.Draft.{IsDraft, IsPut, IsPlaced, IsSized, IsSizedDirective, IsFirstEntry, ChecksPlace, AddsLabel, body_misplaced, misplaced_at, with_body, with_pieces};
+ghost use Rattle.asm_layout.specs.Draft.{
+  IsDraft,
+  IsPut,
+  IsPlaced,
+  IsSized,
+  IsSizedDirective,
+  IsFirstEntry,
+  ChecksPlace,
+  AddsLabel,
+  body_misplaced,
+  misplaced_at,
+  with_body,
+  with_pieces,
+};
 ghost use Rattle.asm_lines.specs.Aimable.{IsAimable};
 ghost use Rattle.listing_model.specs.declared.directive.Directive.TheVariants as Directive;
 ghost use Rattle.listing_model.specs.declared.line.Body.TheVariants as Body;
@@ -29,7 +42,8 @@ fn put_number<T: Instructions>(
     target: Target,
 ) -> Result<(), Stop>
     requires { size ≤ 8 }
-    ensures { (l : Layout T.Insn) → IsDraft T.has_target draft.old l → IsPut T.has_target result draft.new (with_pieces line (number_piece size target ∷ []) l) }
+    ensures { (l : Layout T.Insn) → IsDraft T.has_target draft.old l
+        → IsPut T.has_target result draft.new (with_pieces line (number_piece size target ∷ []) l) }
 {
     match target {
         Target::Address(x) => put(draft, &x.to_le_bytes()[..size as usize]),
@@ -45,7 +59,8 @@ fn put_numbers<T: Instructions>(
     values: Vec<Target>,
 ) -> Result<(), Stop>
     requires { size ≤ 8 }
-    ensures { (l : Layout T.Insn) → IsDraft T.has_target draft.old l → IsPut T.has_target result draft.new (with_pieces line (map (number_piece size) values.items) l) }
+    ensures { (l : Layout T.Insn) → IsDraft T.has_target draft.old l
+        → IsPut T.has_target result draft.new (with_pieces line (map (number_piece size) values.items) l) }
 {
     for target in values {
         match put_number::<T>(draft, line, size, target) {
@@ -58,7 +73,8 @@ fn put_numbers<T: Instructions>(
 
 /// Adds memory behind the data.
 fn add_bss<T: Instructions>(draft: &mut Draft<T::Insn>, line: u32, count: u64) -> Result<(), Stop>
-    ensures { (l : Layout T.Insn) → IsDraft T.has_target draft.old l → IsPut T.has_target result draft.new (with_body T.statements line l (Body.Directive (Directive.Bss count))) }
+    ensures { (l : Layout T.Insn) → IsDraft T.has_target draft.old l
+        → IsPut T.has_target result draft.new (with_body T.statements line l (Body.Directive (Directive.Bss count))) }
 {
     if count > MOST_BSS - draft.bss {
         return Err(Stop::Refused(ListingWhy::TooLarge));
@@ -75,7 +91,8 @@ fn put_entry<T: Instructions>(
     name: Name,
 ) -> Result<(), Stop>
     requires { draft.old.entry ≡ None }
-    ensures { (l : Layout T.Insn) → IsDraft T.has_target draft.old l → IsPut T.has_target result draft.new (with_body T.statements line l (Body.Directive (Directive.Entry name))) }
+    ensures { (l : Layout T.Insn) → IsDraft T.has_target draft.old l
+        → IsPut T.has_target result draft.new (with_body T.statements line l (Body.Directive (Directive.Entry name))) }
 {
     draft.entry = Some(Name::of(alloc, name.text.as_str())?);
     put_hole(draft, line, Gap::Mention(name), 0)
@@ -90,7 +107,8 @@ fn put_directive<T: Instructions>(
 ) -> Result<(), Stop>
     requires sized { IsSizedDirective directive }
     requires first { IsFirstEntry draft.old (Body.Directive directive) }
-    ensures { (l : Layout T.Insn) → IsDraft T.has_target draft.old l → IsPut T.has_target result draft.new (with_body T.statements line l (Body.Directive directive)) }
+    ensures { (l : Layout T.Insn) → IsDraft T.has_target draft.old l
+        → IsPut T.has_target result draft.new (with_body T.statements line l (Body.Directive directive)) }
 {
     match directive {
         Directive::Code => {
@@ -120,7 +138,8 @@ fn put_body<T: Instructions>(
     requires sized { IsSized body }
     requires first { IsFirstEntry draft.old body }
     requires aimable { IsAimable T.has_target body }
-    ensures { (l : Layout T.Insn) → IsDraft T.has_target draft.old l → IsPut T.has_target result draft.new (with_body T.statements line l body) }
+    ensures { (l : Layout T.Insn) → IsDraft T.has_target draft.old l
+        → IsPut T.has_target result draft.new (with_body T.statements line l body) }
 {
     match body {
         Body::Nothing => Ok(()),
@@ -193,7 +212,8 @@ pub fn place_line<T: Instructions>(
 ) -> Result<(), Stop>
     requires sized { IsSized line.body }
     requires aimable { IsAimable T.has_target line.body }
-    ensures { (l : Layout T.Insn) → IsDraft T.has_target draft.old l → IsPlaced T.has_target result draft.new (placed_line T.statements number l (Ok line)) }
+    ensures { (l : Layout T.Insn) → IsDraft T.has_target draft.old l
+        → IsPlaced T.has_target result draft.new (placed_line T.statements number l (Ok line)) }
 {
     let Line { label, body } = line;
     if is_entry(&body) && draft.entry.is_some() {

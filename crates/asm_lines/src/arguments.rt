@@ -29,7 +29,8 @@ pub fn whole_number(text: &str, at: usize) -> Option<i128>
 /// The number that the tokens from a place on write, no less than 0 and below 2^64.
 pub fn one_natural(text: &str, at: usize) -> Result<u64, AsmFault>
     requires { IsCharBoundary text.now at }
-    ensures read { Answers result (directives.one_natural (2 ^ 64) (directives.whole_number (tokens (drop at text.now)))) }
+    ensures read { Answers result
+        (directives.one_natural (2 ^ 64) (directives.whole_number (tokens (drop at text.now)))) }
     ensures wanting { result ≢ Err AsmFault.OutOfMemory }
 {
     let value = whole_number(text, at).ok_or(AsmFault::BadOperands)?;
@@ -39,7 +40,8 @@ pub fn one_natural(text: &str, at: usize) -> Result<u64, AsmFault>
 /// The number that the tokens from a place on write, a power of two up to 4,096.
 pub fn one_alignment(text: &str, at: usize) -> Result<u32, AsmFault>
     requires { IsCharBoundary text.now at }
-    ensures read { Answers result (directives.alignment (directives.one_natural (2 ^ 32) (directives.whole_number (tokens (drop at text.now))))) }
+    ensures read { Answers result
+        (directives.alignment (directives.one_natural (2 ^ 32) (directives.whole_number (tokens (drop at text.now))))) }
     ensures wanting { result ≢ Err AsmFault.OutOfMemory }
 {
     let value = whole_number(text, at).ok_or(AsmFault::BadOperands)?;

@@ -19,8 +19,8 @@ pub trait Instructions {
     /// Its text has a target.
     ghost has_target: { Self.Insn → Type 0 };
 
-    /// The instruction of a name and of the text behind it, and its target where it has one; or UnknownName, BadOperands or
-    /// OutOfRange. Memory is wanting only for a label that the statement ends in.
+    /// The instruction of a name and of the text behind it, and its target where it has one; or UnknownName,
+    /// BadOperands or OutOfRange. Memory is wanting only for a label that the statement ends in.
     fn read(alloc: Global, name: &str, rest: &str) -> Result<(Self::Insn, Option<Target>), AsmFault>
         ensures read { Answers result (statements.reads name.now (tokens rest.now)) }
         ensures target { IfOk result (λ r. IsSome r.1 → has_target r.0) }

@@ -1,4 +1,5 @@
-//! The lines of a listing, read from their text: labels and directives, and the statements of instructions by any reader of them.
+//! The lines of a listing, read from their text: labels and directives, and the statements of instructions by any
+//! reader of them.
 #![tactic(auto)]
 
 mod arguments;

@@ -16,7 +16,8 @@ use std::alloc::{AllocError, Global};
 /// The label that the tokens from a place on begin with, and the place behind it.
 fn leading_label(text: &str, at: usize) -> Option<(Argument, usize)>
     requires { IsCharBoundary text.now at }
-    ensures found { MatchOption result (leading_label (tokens (drop at text.now)) ≡ None) (λ r. IsLabel text.now at (argument_of text.now r.0) r.1) }
+    ensures found { MatchOption result (leading_label (tokens (drop at text.now)) ≡ None)
+        (λ r. IsLabel text.now at (argument_of text.now r.0) r.1) }
     ensures cut { IfSome result (λ r. IsCharBoundary text.now r.1) }
     ensures label_cut { IfSome result (λ r. MayBeCut text.now r.0) }
 {
@@ -31,7 +32,8 @@ fn leading_label(text: &str, at: usize) -> Option<(Argument, usize)>
 /// The argument that the tokens from a place on begin with, and the place behind it.
 fn leading_argument(text: &str, at: usize, labels: bool) -> Option<(Argument, usize)>
     requires { IsCharBoundary text.now at }
-    ensures found { MatchOption result (leading labels (tokens (drop at text.now)) ≡ None) (λ r. IsLeading labels text.now at (argument_of text.now r.0) r.1) }
+    ensures found { MatchOption result (leading labels (tokens (drop at text.now)) ≡ None)
+        (λ r. IsLeading labels text.now at (argument_of text.now r.0) r.1) }
     ensures cut { IfSome result (λ r. IsCharBoundary text.now r.1) }
     ensures label_cut { IfSome result (λ r. MayBeCut text.now r.0) }
 {
@@ -60,7 +62,8 @@ fn is_a_comma(token: &str) -> bool
 /// The argument that stands from a place on before the first comma, and the place behind the comma, if there is one.
 fn one_argument(text: &str, at: usize, labels: bool) -> Option<(Argument, Option<usize>)>
     requires { IsCharBoundary text.now at }
-    ensures found { MatchOption result (directives.argument labels (part_of (tokens (drop at text.now))) ≡ None) (λ r. IsPart labels text.now at (argument_of text.now r.0) r.1) }
+    ensures found { MatchOption result (directives.argument labels (part_of (tokens (drop at text.now))) ≡ None)
+        (λ r. IsPart labels text.now at (argument_of text.now r.0) r.1) }
     ensures label_cut { IfSome result (λ r. MayBeCut text.now r.0) }
 {
     match leading_argument(text, at, labels) {
@@ -163,7 +166,8 @@ fn add_argument(
     requires some { 1 ≤ size }
     requires few { size ≤ 8 }
     ensures added { IfOk result (Adds labels size text.now at numbers.old numbers.new) }
-    ensures refused { IfErr result (λ e. IfSome (refusal e) (λ why. (why ≡ ListingWhy.BadOperands) × (directives.argument labels (part_of (tokens (drop at text.now))) ≡ None))) }
+    ensures refused { IfErr result (λ e. IfSome (refusal e) (λ why. (why ≡ ListingWhy.BadOperands)
+        × (directives.argument labels (part_of (tokens (drop at text.now))) ≡ None))) }
 {
     match one_argument(text, at, labels) {
         None => Err(AsmFault::BadOperands),

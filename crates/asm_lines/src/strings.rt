@@ -38,11 +38,13 @@ fn escape(c: u8) -> Option<u8>
     }
 }
 
-/// Adds what stands for itself at a place of a string, and the escape behind it. The place where the string goes on, if it does.
+/// Adds what stands for itself at a place of a string, and the escape behind it. The place where the string goes on, if
+/// it does.
 fn add_part(token: &str, at: usize, out: &mut String) -> Result<Option<usize>, AsmFault>
     requires { IsCharBoundary token.now at }
     ensures part { IfOk result (AddsPart token.now at (string_bytes out.old) (string_bytes out.new)) }
-    ensures refused { IfErr result (λ e. IfSome (refusal e) (λ why. (why ≡ ListingWhy.BadOperands) × (directives.contents false (drop at token.now) ≡ None))) }
+    ensures refused { IfErr result (λ e. IfSome (refusal e)
+        (λ why. (why ≡ ListingWhy.BadOperands) × (directives.contents false (drop at token.now) ≡ None))) }
 {
     let bytes = token.as_bytes();
     let end = plain_end(bytes, at);

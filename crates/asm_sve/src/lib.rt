@@ -10,8 +10,8 @@ use sve_rows::decode_sve;
 use sve_texts::SveTexts;
 use text_code::{fault, read};
 
-/// The instruction of a statement, by its name and what stands behind it. Its refusals are those of the patterns of the SVE lines; it
-/// takes no memory.
+/// The instruction of a statement, by its name and what stands behind it. Its refusals are those of the patterns of the
+/// SVE lines; it takes no memory.
 pub fn read_sve(name: &str, rest: &str) -> Result<Sve, AsmFault>
     ensures read { IfOk result (λ i. IsRead name.now rest.now i) }
     ensures refused { IfErr result (λ e. IsRefused name.now rest.now e) }

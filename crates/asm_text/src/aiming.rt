@@ -28,7 +28,8 @@ fn patterns(form: &A64Form) -> &'static [Pattern]
     }
 }
 
-/// An instruction whose text has a target, aimed at an address from where it stands; none where its field can't reach that.
+/// An instruction whose text has a target, aimed at an address from where it stands; none where its field can't reach
+/// that.
 pub fn aim(i: &Insn, pc: u64, target: u64) -> Option<Insn>
     requires { HasTarget i.now }
     ensures aimed { result ≡ aimed_at i.now pc target }

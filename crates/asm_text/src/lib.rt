@@ -46,7 +46,8 @@ pub fn parse_line(alloc: Global, text: &str) -> Result<Line, AsmFault>
 /// Whatever is read is canonical: each instruction that the definitions read in a statement, by its name and the tokens
 /// behind it; that of a line; and one that they aim at an address.
 pub fn what_is_read_is_canonical()
-    ensures statements { (name : List ℕ) (behind : List (List ℕ)) → IfOk (reads name behind) (λ said. is_canonical said.0 ≡ true) }
+    ensures statements { (name : List ℕ) (behind : List (List ℕ))
+        → IfOk (reads name behind) (λ said. is_canonical said.0 ≡ true) }
     ensures lines { (text : List ℕ) → IfOk (line_of statements text) (λ line. HasCanonical line.body) }
     ensures aimed { (i : Insn) (pc target : ℕ) → IfSome (aimed_at i pc target) (λ j. is_canonical j ≡ true) }
 {}

@@ -1,7 +1,7 @@
 //! Tokens and numbers of a line of a listing, found in its text, and what lines name: labels and addresses.
 //!
-//! A place is counted in bytes from the beginning of the text. A token or a number is read from a place on as if the text began
-//! there, and a comment goes on to the text's end.
+//! A place is counted in bytes from the beginning of the text. A token or a number is read from a place on as if the
+//! text began there, and a comment goes on to the text's end.
 #![tactic(auto)]
 
 mod fault;

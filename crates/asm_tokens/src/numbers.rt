@@ -1,5 +1,21 @@
 //! Numbers of a text.
-ghost use Rattle.std.specs.Prelude.{◌≡◌, ◌<◌, ◌≤◌, ◌-◌, ◌^◌, ◌≤ℤ◌, pos, ℕ, None, drop, length, min, option_map, IfSome, MatchOption};
+ghost use Rattle.std.specs.Prelude.{
+  ◌≡◌,
+  ◌<◌,
+  ◌≤◌,
+  ◌-◌,
+  ◌^◌,
+  ◌≤ℤ◌,
+  pos,
+  ℕ,
+  None,
+  drop,
+  length,
+  min,
+  option_map,
+  IfSome,
+  MatchOption,
+};
 ghost use Rattle.std.specs.Str.{IsCharBoundary};
 ghost use Rattle.text_tokens.specs.Layout.{is_sign};
 ghost use Rattle.text_tokens.specs.Numbers.{digits_in, number_of, numeral, signed_number, unsigned_number};
@@ -55,7 +71,8 @@ fn is_mark(mark: u8, token: &[u8]) -> bool
 /// The number without signs that begins with the next token, and the place behind it.
 fn unsigned(text: &str, at: usize) -> Option<(u128, usize)>
     requires { IsCharBoundary text.now at }
-    ensures number { MatchOption result (unsigned_number (tokens (drop at text.now)) ≡ None) (λ r. IsNumber (unsigned_number (tokens (drop at text.now))) text.now at (pos r.0) r.1) }
+    ensures number { MatchOption result (unsigned_number (tokens (drop at text.now)) ≡ None)
+        (λ r. IsNumber (unsigned_number (tokens (drop at text.now))) text.now at (pos r.0) r.1) }
     ensures cut { IfSome result (λ r. IsCharBoundary text.now r.1) }
     ensures small { IfSome result (λ r. r.0 < 2 ^ 127) }
 {
@@ -67,7 +84,8 @@ fn unsigned(text: &str, at: usize) -> Option<(u128, usize)>
 /// The number that begins with the next token, with its `-`, and the place behind it.
 fn signed(text: &str, at: usize) -> Option<(i128, usize)>
     requires { IsCharBoundary text.now at }
-    ensures number { MatchOption result (signed_number (tokens (drop at text.now)) ≡ None) (λ r. IsNumber (signed_number (tokens (drop at text.now))) text.now at r.0 r.1) }
+    ensures number { MatchOption result (signed_number (tokens (drop at text.now)) ≡ None)
+        (λ r. IsNumber (signed_number (tokens (drop at text.now))) text.now at r.0 r.1) }
     ensures cut { IfSome result (λ r. IsCharBoundary text.now r.1) }
 {
     let token = next_token(text, at)?;
@@ -80,11 +98,12 @@ fn signed(text: &str, at: usize) -> Option<(i128, usize)>
     }
 }
 
-/// The number that begins with the next token, with its `#` and `-`, and the place behind it. A magnitude over 2^127 - 1 counts as
-/// that.
+/// The number that begins with the next token, with its `#` and `-`, and the place behind it. A magnitude over
+/// 2^127 - 1 counts as that.
 pub fn number(text: &str, at: usize) -> Option<(i128, usize)>
     requires { IsCharBoundary text.now at }
-    ensures number { MatchOption result (number_of (tokens (drop at text.now)) ≡ None) (λ r. IsNumber (number_of (tokens (drop at text.now))) text.now at r.0 r.1) }
+    ensures number { MatchOption result (number_of (tokens (drop at text.now)) ≡ None)
+        (λ r. IsNumber (number_of (tokens (drop at text.now))) text.now at r.0 r.1) }
     ensures cut { IfSome result (λ r. IsCharBoundary text.now r.1) }
 {
     let token = next_token(text, at)?;

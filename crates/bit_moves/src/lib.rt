@@ -14,8 +14,8 @@ use core_regs::{Core, Effect};
 use emu_bits::{Reg, U};
 use vec_regs::VecRegs;
 
-/// Does a bit move, and goes on behind it. Only Rd changes: a general register, or the low 32, 64 or 128 bits of a vector register,
-/// whose bits above are 0.
+/// Does a bit move, and goes on behind it. Only Rd changes: a general register, or the low 32, 64 or 128 bits of a
+/// vector register, whose bits above are 0.
 #[tactic(auto, unfolding(a64_insn::specs::BitMoves::move_imm))]
 pub fn exec(core: &mut Core, vec: &mut VecRegs, i: &A64) -> Effect
     requires { is_bit_move i.now ≡ true }

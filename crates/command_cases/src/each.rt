@@ -76,7 +76,8 @@ fn show_ranges(rt: HostRuntime, calls: &[Moved], whole: &Done, given: &[u8]) -> 
 }
 
 /// Does a line `OBJECT WORD ..`: the command line as it is, and then again for each call that it made of the object,
-/// with this call failing. Writes those that end otherwise, or leave the streams otherwise, and how many calls there were.
+/// with this call failing. Writes those that end otherwise, or leave the streams otherwise, and how many calls there
+/// were.
 pub fn do_each(rt: HostRuntime, scene: &Scene, text: &str) -> io::Result<()> {
     let (name, line) = text.split_once(' ').unwrap_or((text, ""));
     let Some(object) = object_of(name) else {

@@ -8,19 +8,21 @@
 //! - `given TEXT`: the next command reads this text.
 //! - `supply COUNT BYTE`: the next command reads so many bytes of one value, behind what it was given.
 //! - `images NUMBER ..`: of the next command, these calls for a file fail, counted from 0.
-//! - `input MOST NUMBER ..`, and so `output` and `errors`: of the next command, the stream moves so many bytes by one call at most, 4,096 where it
-//!   isn't said, and these calls fail.
-//! - `line WORD ..`: a command line, with one space between two words. What it writes to the output is kept as a file where `> NAME` stands at the end.
+//! - `input MOST NUMBER ..`, and so `output` and `errors`: of the next command, the stream moves so many bytes by one
+//!   call at most, 4,096 where it isn't said, and these calls fail.
+//! - `line WORD ..`: a command line, with one space between two words. What it writes to the output is kept as a file
+//!   where `> NAME` stands at the end.
 //! - `each OBJECT WORD ..`: a command line as it is, and then again for each call that it made of `images`, `input`,
 //!   `output` or `errors`, with this call failing.
 //!
-//! Of a command, its ending and its status are written, then what it put on the output and on the errors: how many bytes, and their lines where they
-//! are text, but those whose last word is four zeros or more, as most registers are; of other bytes each row of 16 that aren't all zero, behind its offset.
+//! Of a command, its ending and its status are written, then what it put on the output and on the errors: how many
+//! bytes, and their lines where they are text, but those whose last word is four zeros or more, as most registers are;
+//! of other bytes each row of 16 that aren't all zero, behind its offset.
 //!
 //! Of `each`, how the command ends as it is; then how it ends by a fault of the object, how many calls there were, and
-//! of how many the ending is another, or the streams don't stand, byte by byte, as they stood when the command made this
-//! call without a failure. Then come, of each stream, how many bytes had been moved at the first of the calls and at the
-//! last, and how many there are.
+//! of how many the ending is another, or the streams don't stand, byte by byte, as they stood when the command made
+//! this call without a failure. Then come, of each stream, how many bytes had been moved at the first of the calls and
+//! at the last, and how many there are.
 #![tactic(auto)]
 
 mod done;

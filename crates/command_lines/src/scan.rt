@@ -1,8 +1,41 @@
 //! The words behind a command's name, read one after the other.
-ghost use Rattle.std.specs.Prelude.{◌≡◌, ◌≤◌, ◌&&◌, ℕ, codes, drop, map, length, string_bytes, is_some, slice_get, MatchResult, Some, None, Err};
+ghost use Rattle.std.specs.Prelude.{
+  ◌≡◌,
+  ◌≤◌,
+  ◌&&◌,
+  ℕ,
+  codes,
+  drop,
+  map,
+  length,
+  string_bytes,
+  is_some,
+  slice_get,
+  MatchResult,
+  Some,
+  None,
+  Err,
+};
 ghost use Rattle.std.specs.Str.{bytes_eq};
 ghost use Rattle.emu_system.specs.Arguments.{most_arguments};
-ghost use Rattle.command_model.specs.CommandLine.{given, is_option, line_of, end_of, nothing_seen, option_of, read_item, read_option, read_plain, read_value, read_word, read_words, refused, takes_arguments, value_of_word, with_machine};
+ghost use Rattle.command_model.specs.CommandLine.{
+  given,
+  is_option,
+  line_of,
+  end_of,
+  nothing_seen,
+  option_of,
+  read_item,
+  read_option,
+  read_plain,
+  read_value,
+  read_word,
+  read_words,
+  refused,
+  takes_arguments,
+  value_of_word,
+  with_machine,
+};
 ghost use Rattle.command_lines.specs.Scan.{Leaves};
 
 use crate::command_words::word;
@@ -39,7 +72,15 @@ impl Model for Seen {
 
     ghost Value = { Seen };
 
-    ghost view = { λ s. record { plain = s.plain.items; number = s.number; vl = s.length; budget = s.budget; pages = s.pages; awaited = s.awaited; args = s.args } };
+    ghost view = { λ s. record {
+      plain = s.plain.items;
+      number = s.number;
+      vl = s.length;
+      budget = s.budget;
+      pages = s.pages;
+      awaited = s.awaited;
+      args = s.args;
+    } };
 }
 
 /// A refusal at a place.
@@ -206,7 +247,9 @@ pub fn read_words(command: Command, words: &[String]) -> Result<Seen, WordsFault
 /// The place of a plain word, which is counted from 0. Err is that it is missing.
 fn plain_word(seen: &Seen, k: usize, count: usize) -> Result<usize, WordsFault>
     requires { count ≤ most_arguments }
-    ensures { MatchResult result (λ place. slice_get seen.now.plain k ≡ Some place) (λ fault. (slice_get seen.now.plain k ≡ None) × (fault ≡ record { why = WordsWhy.MissingWord; place = count })) }
+    ensures { MatchResult result (λ place. slice_get seen.now.plain k ≡ Some place)
+        (λ fault. (slice_get seen.now.plain k ≡ None)
+        × (fault ≡ record { why = WordsWhy.MissingWord; place = count })) }
 {
     match seen.plain.get(k) {
         Some(place) => Ok(*place),
@@ -217,7 +260,8 @@ fn plain_word(seen: &Seen, k: usize, count: usize) -> Result<usize, WordsFault>
 /// The vector length and the budget of a machine. Err is that one is missing.
 fn length_and_budget(seen: &Seen, count: usize) -> Result<(Length, u64), WordsFault>
     requires { count ≤ most_arguments }
-    ensures { MatchResult result (λ said. (seen.now.vl ≡ Some said.0) × (seen.now.budget ≡ Some said.1)) (λ fault. (line : ℕ → ℕ → Line) → with_machine count seen.now.vl seen.now.budget line ≡ Err fault) }
+    ensures { MatchResult result (λ said. (seen.now.vl ≡ Some said.0) × (seen.now.budget ≡ Some said.1))
+        (λ fault. (line : ℕ → ℕ → Line) → with_machine count seen.now.vl seen.now.budget line ≡ Err fault) }
 {
     let Some(length) = seen.length else {
         return Err(fault(WordsWhy::MissingLength, count));

@@ -1,6 +1,13 @@
 //! The command line as a command with its values.
 ghost use Rattle.std.specs.Prelude.{◌≡◌, ◌≤◌, length};
-ghost use Rattle.command_model.specs.CommandLine.{command_of, option_text, options_of, plain_words_of, takes_arguments, takes_number};
+ghost use Rattle.command_model.specs.CommandLine.{
+  command_of,
+  option_text,
+  options_of,
+  plain_words_of,
+  takes_arguments,
+  takes_number,
+};
 
 use emu_model::Length;
 use thiserror::Error;
@@ -71,7 +78,8 @@ pub enum Line {
     Dis {
         file: usize,
     },
-    /// Runs a debugger session of the script in the file that the word at `script` names, over a program as `Run` runs it.
+    /// Runs a debugger session of the script in the file that the word at `script` names, over a program as `Run` runs
+    /// it.
     Dbg {
         file: usize,
         script: usize,
@@ -97,7 +105,8 @@ pub enum Line {
         /// The greatest number of mapped pages at each length.
         pages: u32,
     },
-    /// Runs the contexts of a program, as `Run` runs it, under the schedule in the file that the word at `schedule` names.
+    /// Runs the contexts of a program, as `Run` runs it, under the schedule in the file that the word at `schedule`
+    /// names.
     Threads {
         file: usize,
         schedule: usize,

@@ -1,13 +1,11 @@
 -- What a sweep of an image with its input promises, and how it ends.
-use Rattle.std.specs.Prelude.{◌≡◌, ℕ, Bool, true, false, nat_eq, List, Option, Result, Ok, Err, IfSome}
+use Rattle.std.specs.Prelude.{◌≡◌, ℕ, Bool, true, false, nat_eq, List, Option, IfSome}
 use Rattle.emu_outcome.specs.Outcome.{Outcome}
 use Rattle.emu_outcome.specs.declared.ending.Ending.{Ending}
 use Rattle.emu_outcome.specs.declared.ending.Ending.TheVariants.{Done, TooLong, WriteFault, ErrorsFault, OutOfMemory}
 use Rattle.emu_system.specs.Gained.{Gains}
 use Rattle.sweep_model.specs.Sweep.{stream_limit}
-use Rattle.vl_sweep.specs.declared.lengths.SweepEnd.{SweepEnd}
 use Rattle.vl_sweep.specs.declared.lengths.SweepEnd.TheVariants as sweeps
-use Rattle.commands.specs.Endings.{ended_by}
 use Rattle.commands.specs.Promises.{is_failure}
 
 -- how a sweep ends that has its input

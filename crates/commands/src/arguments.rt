@@ -14,7 +14,8 @@ pub fn arguments(
 ) -> Result<Vec<String>, AllocError>
     requires file { file < length words.now }
     requires args { args ≤ length words.now }
-    ensures { IfOk result (λ list. map string_bytes list.items ≡ program_arguments (map string_bytes words.now) file args) }
+    ensures { IfOk result
+        (λ list. map string_bytes list.items ≡ program_arguments (map string_bytes words.now) file args) }
 {
     let mut list = Vec::new(alloc);
     push_word(alloc, &mut list, word(words, file))?;

@@ -10,7 +10,14 @@ ghost use Rattle.dbg_model.specs.Commands.{has_back};
 ghost use Rattle.dbg_model.specs.Script.{script_of_file};
 ghost use Rattle.dbg_model.specs.Session as model;
 ghost use Rattle.dbg_scripts.specs.Reading.{IsErrorOf};
-ghost use Rattle.emu_outcome.specs.Outcome.{file_limit, outcome_of_commands, outcome_of_script, outcome_of_session, outcome_of_session_back, over_whole};
+ghost use Rattle.emu_outcome.specs.Outcome.{
+  file_limit,
+  outcome_of_commands,
+  outcome_of_script,
+  outcome_of_session,
+  outcome_of_session_back,
+  over_whole,
+};
 ghost use Rattle.commands.specs.Endings.{ending_of_back, ending_of_session};
 ghost use Rattle.commands.specs.Lines.{ends_dbg, text_goes_back};
 ghost use Rattle.commands.specs.Programs.{arguments_of, opening_of};
@@ -80,7 +87,8 @@ fn debug_machine<I: Source, O: Sink, E: Sink>(
 ) -> Ending
     requires failed { machine.old.failed ≡ false }
     requires forward { has_back script.now ≡ false }
-    ensures outcome { Meets (λ i. Some (outcome_of_session i (model.session script.now budget (with_input machine.old.parts i)))) result
+    ensures outcome { Meets
+        (λ i. Some (outcome_of_session i (model.session script.now budget (with_input machine.old.parts i)))) result
         (now (I.left input.old) (O.held output.old) (E.held errors.old))
         (now (I.left input.new) (O.held output.new) (E.held errors.new)) }
     ensures read_cause { Causes (result ≡ Ending.ReadFault) (I.faults input.old) (I.faults input.new) }
@@ -118,7 +126,8 @@ fn debug_forward<I: Source, O: Sink, E: Sink>(
     ensures write_cause { Causes (result ≡ Ending.WriteFault) (O.faults output.old) (O.faults output.new) }
     ensures errors_cause { Causes (result ≡ Ending.ErrorsFault) (E.faults errors.old) (E.faults errors.new) }
     ensures no_file { result ≢ Ending.FileFault }
-    ensures memory_first { result ≡ Ending.OutOfMemory → (input.new ≡ input.old) × (output.new ≡ output.old) × (errors.new ≡ errors.old) }
+    ensures memory_first { result ≡ Ending.OutOfMemory
+        → (input.new ≡ input.old) × (output.new ≡ output.old) × (errors.new ≡ errors.old) }
     ensures kind { ends_dbg result ≡ true }
 {
     match open_machine(alloc, bytes, image, words, program) {
@@ -151,8 +160,9 @@ fn debug_input<O: Sink, E: Sink>(
     requires args { program.now.args ≤ length words.now }
     requires arguments { AreArguments (arguments_of (map string_bytes words.now) program.now) }
     requires pages { program.now.pages ≤ most_mapped_pages }
-    ensures outcome { Writes (outcome_of_session_back script.now program.now.budget (opening_of bytes.now (seen_image image.now) (map string_bytes words.now) program.now) input.now) result
-        (O.held output.old) (O.held output.new) (E.held errors.old) (E.held errors.new) }
+    ensures outcome { Writes (outcome_of_session_back script.now program.now.budget
+        (opening_of bytes.now (seen_image image.now) (map string_bytes words.now) program.now) input.now)
+        result (O.held output.old) (O.held output.new) (E.held errors.old) (E.held errors.new) }
     ensures write_cause { Causes (result ≡ Ending.WriteFault) (O.faults output.old) (O.faults output.new) }
     ensures errors_cause { Causes (result ≡ Ending.ErrorsFault) (E.faults errors.old) (E.faults errors.new) }
     ensures memory_first { result ≡ Ending.OutOfMemory → (output.new ≡ output.old) × (errors.new ≡ errors.old) }
@@ -188,8 +198,9 @@ fn debug_back<I: Source, O: Sink, E: Sink>(
     requires args { program.now.args ≤ length words.now }
     requires arguments { AreArguments (arguments_of (map string_bytes words.now) program.now) }
     requires pages { program.now.pages ≤ most_mapped_pages }
-    ensures outcome { MeetsSweep (λ i. Some (over_whole (outcome_of_session_back script.now program.now.budget (opening_of bytes.now (seen_image image.now) (map string_bytes words.now) program.now)) i)) result
-        (now (I.left input.old) (O.held output.old) (E.held errors.old))
+    ensures outcome { MeetsSweep (λ i. Some (over_whole (outcome_of_session_back script.now program.now.budget
+        (opening_of bytes.now (seen_image image.now) (map string_bytes words.now) program.now)) i))
+        result (now (I.left input.old) (O.held output.old) (E.held errors.old))
         (now (I.left input.new) (O.held output.new) (E.held errors.new)) }
     ensures read_cause { Causes (result ≡ Ending.ReadFault) (I.faults input.old) (I.faults input.new) }
     ensures write_cause { Causes (result ≡ Ending.WriteFault) (O.faults output.old) (O.faults output.new) }
@@ -211,7 +222,8 @@ fn debug_back<I: Source, O: Sink, E: Sink>(
     }
 }
 
-/// Runs the session of a script over an image. Where the script goes back, the input is read to its end before the machine is opened.
+/// Runs the session of a script over an image. Where the script goes back, the input is read to its end before the
+/// machine is opened.
 fn debug_script<I: Source, O: Sink, E: Sink>(
     alloc: Global,
     bytes: &[u8],
@@ -228,8 +240,9 @@ fn debug_script<I: Source, O: Sink, E: Sink>(
     requires args { program.now.args ≤ length words.now }
     requires arguments { AreArguments (arguments_of (map string_bytes words.now) program.now) }
     requires pages { program.now.pages ≤ most_mapped_pages }
-    ensures outcome { MeetsBy (settles_by (has_back script.now)) (λ i. Some (outcome_of_commands i program.now.budget (opening_of bytes.now (seen_image image.now) (map string_bytes words.now) program.now) script.now)) result
-        (now (I.left input.old) (O.held output.old) (E.held errors.old))
+    ensures outcome { MeetsBy (settles_by (has_back script.now)) (λ i. Some (outcome_of_commands i program.now.budget
+        (opening_of bytes.now (seen_image image.now) (map string_bytes words.now) program.now) script.now))
+        result (now (I.left input.old) (O.held output.old) (E.held errors.old))
         (now (I.left input.new) (O.held output.new) (E.held errors.new)) }
     ensures read_cause { Causes (result ≡ Ending.ReadFault) (I.faults input.old) (I.faults input.new) }
     ensures write_cause { Causes (result ≡ Ending.WriteFault) (O.faults output.old) (O.faults output.new) }
@@ -250,9 +263,10 @@ fn debug_script<I: Source, O: Sink, E: Sink>(
     }
 }
 
-/// Runs the session of a script's bytes over an image, or refuses the script. Done where the session came to its end; ScriptRefused, and
-/// where the script goes back TooLong where the input has more than 16,777,216 bytes, each behind its line on the errors, a fault of a
-/// stream, or OutOfMemory before anything is written, and before anything is taken where the script goes only forward.
+/// Runs the session of a script's bytes over an image, or refuses the script. Done where the session came to its end;
+/// ScriptRefused, and where the script goes back TooLong where the input has more than 16,777,216 bytes, each behind
+/// its line on the errors, a fault of a stream, or OutOfMemory before anything is written, and before anything is taken
+/// where the script goes only forward.
 pub fn debug_image<I: Source, O: Sink, E: Sink>(
     alloc: Global,
     bytes: &[u8],
@@ -270,8 +284,10 @@ pub fn debug_image<I: Source, O: Sink, E: Sink>(
     requires args { program.now.args ≤ length words.now }
     requires arguments { AreArguments (arguments_of (map string_bytes words.now) program.now) }
     requires pages { program.now.pages ≤ most_mapped_pages }
-    ensures outcome { MeetsBy (settles_by (text_goes_back text.now)) (λ i. Some (outcome_of_script i program.now.budget (opening_of bytes.now (seen_image image.now) (map string_bytes words.now) program.now) (script_of_file text.now))) result
-        (now (I.left input.old) (O.held output.old) (E.held errors.old))
+    ensures outcome { MeetsBy (settles_by (text_goes_back text.now)) (λ i. Some (outcome_of_script i program.now.budget
+        (opening_of bytes.now (seen_image image.now) (map string_bytes words.now) program.now)
+        (script_of_file text.now)))
+        result (now (I.left input.old) (O.held output.old) (E.held errors.old))
         (now (I.left input.new) (O.held output.new) (E.held errors.new)) }
     ensures read_cause { Causes (result ≡ Ending.ReadFault) (I.faults input.old) (I.faults input.new) }
     ensures write_cause { Causes (result ≡ Ending.WriteFault) (O.faults output.old) (O.faults output.new) }

@@ -45,12 +45,14 @@ pub fn file_bytes<F: Images, E: Sink>(
     errors: &mut E,
 ) -> Result<Vec<u8>, Ending>
     ensures told { F.named files.new ≡ F.named files.old }
-    ensures content { IfSome (F.named files.old) (λ named. GivesFile (get named name.now) result (E.held errors.old) (E.held errors.new)) }
+    ensures content { IfSome (F.named files.old)
+        (λ named. GivesFile (get named name.now) result (E.held errors.old) (E.held errors.new)) }
     ensures kind { IfErr result (λ ending. stops_any ending ≡ true) }
     ensures limit { IfOk result (λ bytes. vec_len bytes ≤ file_limit) }
     ensures unread { IfErr result (EndsUnread (F.named files.old) name.now) }
     ensures missing { MissesNamed (F.named files.old) name.now → result ≡ Err Ending.FileFault }
-    ensures file_cause { result ≡ Err Ending.FileFault → Rose (F.faults files.old) (F.faults files.new) ⊎ MissesNamed (F.named files.old) name.now }
+    ensures file_cause { result ≡ Err Ending.FileFault
+        → Rose (F.faults files.old) (F.faults files.new) ⊎ MissesNamed (F.named files.old) name.now }
     ensures file_kept { result ≢ Err Ending.FileFault → F.faults files.new ≡ F.faults files.old }
     ensures files_later { F.faults files.old ≤ F.faults files.new }
     ensures errors_cause { Causes (result ≡ Err Ending.ErrorsFault) (E.faults errors.old) (E.faults errors.new) }

@@ -1,5 +1,23 @@
 //! The command `asm`: from the file of a listing to the executable that it makes.
-ghost use Rattle.std.specs.Prelude.{◌≡◌, ◌≢◌, ◌<◌, ◌≤◌, ◌⊎◌, ℕ, [], map, length, string_bytes, get_or, IfSome, List, Option, Some, false, true};
+ghost use Rattle.std.specs.Prelude.{
+  ◌≡◌,
+  ◌≢◌,
+  ◌<◌,
+  ◌≤◌,
+  ◌⊎◌,
+  ℕ,
+  [],
+  map,
+  length,
+  string_bytes,
+  get_or,
+  IfSome,
+  List,
+  Option,
+  Some,
+  false,
+  true,
+};
 ghost use Rattle.io_gate.specs.Images.{MissesNamed};
 ghost use Rattle.io_gate.specs.Streams.{Rose, Causes};
 ghost use Rattle.asm_layout.specs.Assembly.{IsMade};
@@ -45,7 +63,8 @@ fn assemble_bytes<O: Sink, E: Sink>(
     errors: &mut E,
 ) -> Ending
     requires { length bytes.now ≤ file_limit }
-    ensures outcome { (input : Option (List ℕ)) → Meets (λ _. Some (outcome_of_listing (image_of_bytes statements bytes.now))) result
+    ensures outcome { (input : Option (List ℕ))
+        → Meets (λ _. Some (outcome_of_listing (image_of_bytes statements bytes.now))) result
         (now input (O.held output.old) (E.held errors.old)) (now input (O.held output.new) (E.held errors.new)) }
     ensures write_cause { Causes (result ≡ Ending.WriteFault) (O.faults output.old) (O.faults output.new) }
     ensures errors_cause { Causes (result ≡ Ending.ErrorsFault) (E.faults errors.old) (E.faults errors.new) }
@@ -65,9 +84,9 @@ fn assemble_bytes<O: Sink, E: Sink>(
     }
 }
 
-/// Reads the file of a listing, whose name is the word at `listing`, and puts the executable that it makes. Done where all of it was put; FileFault where reading failed
-/// or no file has the name, TooLong over 67,108,864 bytes and ListingRefused, each behind its line on the errors, a fault of a stream, or OutOfMemory before
-/// anything is written.
+/// Reads the file of a listing, whose name is the word at `listing`, and puts the executable that it makes. Done where
+/// all of it was put; FileFault where reading failed or no file has the name, TooLong over 67,108,864 bytes and
+/// ListingRefused, each behind its line on the errors, a fault of a stream, or OutOfMemory before anything is written.
 pub fn assemble_file<F: Images, O: Sink, E: Sink>(
     alloc: Global,
     words: &[String],
@@ -77,12 +96,14 @@ pub fn assemble_file<F: Images, O: Sink, E: Sink>(
     errors: &mut E,
 ) -> Ending
     requires { listing < length words.now }
-    ensures outcome { (input : Option (List ℕ)) → IfSome (F.named files.old) (λ named. Meets (outcome_over (map string_bytes words.now) (Line.Asm listing) named) result
+    ensures outcome { (input : Option (List ℕ)) → IfSome (F.named files.old)
+        (λ named. Meets (outcome_over (map string_bytes words.now) (Line.Asm listing) named) result
         (now input (O.held output.old) (E.held errors.old)) (now input (O.held output.new) (E.held errors.new))) }
     ensures file_cause { result ≡ Ending.FileFault → Rose (F.faults files.old) (F.faults files.new)
         ⊎ MissesNamed (F.named files.old) (get_or (map string_bytes words.now) listing []) }
     ensures file_kept { result ≢ Ending.FileFault → F.faults files.new ≡ F.faults files.old }
-    ensures missing { MissesNamed (F.named files.old) (get_or (map string_bytes words.now) listing []) → result ≡ Ending.FileFault }
+    ensures missing { MissesNamed (F.named files.old) (get_or (map string_bytes words.now) listing [])
+        → result ≡ Ending.FileFault }
     ensures file_first { result ≡ Ending.FileFault → (output.new ≡ output.old) × (errors.new ≡ errors.old) }
     ensures files_later { F.faults files.old ≤ F.faults files.new }
     ensures memory_first { result ≡ Ending.OutOfMemory → (output.new ≡ output.old) × (errors.new ≡ errors.old) }

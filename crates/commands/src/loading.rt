@@ -40,7 +40,8 @@ fn load_bytes<O: Sink, E: Sink>(
     output: &mut O,
     errors: &mut E,
 ) -> Ending
-    ensures outcome { (input : Option (List ℕ)) → Meets (λ _. Some (outcome_of_loaded bytes.now (elf bytes.now load_pages))) result
+    ensures outcome { (input : Option (List ℕ))
+        → Meets (λ _. Some (outcome_of_loaded bytes.now (elf bytes.now load_pages))) result
         (now input (O.held output.old) (E.held errors.old)) (now input (O.held output.new) (E.held errors.new)) }
     ensures write_cause { Causes (result ≡ Ending.WriteFault) (O.faults output.old) (O.faults output.new) }
     ensures errors_cause { Causes (result ≡ Ending.ErrorsFault) (E.faults errors.old) (E.faults errors.new) }
@@ -62,15 +63,17 @@ fn load_bytes<O: Sink, E: Sink>(
     }
 }
 
-/// Makes the load program of a number, runs it at each vector length, and puts a line on each run. Done where all of it was put; ListingRefused and ImageRefused,
-/// each behind its line on the errors, a fault of a stream, or OutOfMemory before anything is written.
+/// Makes the load program of a number, runs it at each vector length, and puts a line on each run. Done where all of it
+/// was put; ListingRefused and ImageRefused, each behind its line on the errors, a fault of a stream, or OutOfMemory
+/// before anything is written.
 pub fn load_number<O: Sink, E: Sink>(
     alloc: Global,
     number: u64,
     output: &mut O,
     errors: &mut E,
 ) -> Ending
-    ensures outcome { (input : Option (List ℕ)) → Meets (λ _. Some (outcome_of_load (image_of statements (listing number)))) result
+    ensures outcome { (input : Option (List ℕ))
+        → Meets (λ _. Some (outcome_of_load (image_of statements (listing number)))) result
         (now input (O.held output.old) (E.held errors.old)) (now input (O.held output.new) (E.held errors.new)) }
     ensures write_cause { Causes (result ≡ Ending.WriteFault) (O.faults output.old) (O.faults output.new) }
     ensures errors_cause { Causes (result ≡ Ending.ErrorsFault) (E.faults errors.old) (E.faults errors.new) }

@@ -57,7 +57,13 @@ pub fn open_machine(
     requires file { program.now.file < program.now.args }
     requires args { program.now.args ≤ length words.now }
     requires arguments { AreArguments (arguments_of (map string_bytes words.now) program.now) }
-    ensures { IfOk result (λ m. m ≡ record { parts = opening bytes.now (seen_image image.now) (arguments_of (map string_bytes words.now) program.now) program.now.length program.now.pages; accesses = []; failed = false; saved = [] }) }
+    ensures { IfOk result (λ m. m ≡ record {
+      parts = opening bytes.now (seen_image image.now)
+          (arguments_of (map string_bytes words.now) program.now) program.now.length program.now.pages;
+      accesses = [];
+      failed = false;
+      saved = [];
+    }) }
 {
     let args = arguments(alloc, words, program.file, program.args)?;
     Machine::open(alloc, bytes, image, &args, program.length, program.pages)
@@ -76,7 +82,9 @@ pub fn open_marked(
     requires args { program.now.args ≤ length words.now }
     requires arguments { AreArguments (arguments_of (map string_bytes words.now) program.now) }
     requires pages { program.now.pages ≤ most_mapped_pages }
-    ensures parts { IfOk result (λ m. m.parts ≡ parts_with (opening_of bytes.now (seen_image image.now) (map string_bytes words.now) program.now) (fresh_marks program.now.pages)) }
+    ensures parts { IfOk result (λ m. m.parts
+        ≡ parts_with (opening_of bytes.now (seen_image image.now) (map string_bytes words.now) program.now)
+        (fresh_marks program.now.pages)) }
     ensures places { IfOk result (λ m. length m.saved ≡ 16) }
     ensures failed { IfOk result (λ m. m.failed ≡ false) }
 {

@@ -1,5 +1,20 @@
 //! The command `run`: from the file of a program to its report.
-ghost use Rattle.std.specs.Prelude.{◌≡◌, ◌≢◌, ◌<◌, ◌≤◌, ◌⊎◌, [], map, length, string_bytes, get_or, IfSome, Some, false, true};
+ghost use Rattle.std.specs.Prelude.{
+  ◌≡◌,
+  ◌≢◌,
+  ◌<◌,
+  ◌≤◌,
+  ◌⊎◌,
+  [],
+  map,
+  length,
+  string_bytes,
+  get_or,
+  IfSome,
+  Some,
+  false,
+  true,
+};
 ghost use Rattle.io_gate.specs.Images.{MissesNamed};
 ghost use Rattle.io_gate.specs.Streams.{Rose, Causes, HasCause};
 ghost use Rattle.io_gate.specs.Pieces.{PutsAll};
@@ -81,7 +96,8 @@ fn run_machine<I: Source, O: Sink, E: Sink>(
     requires going { has_ended machine.old ≡ false }
     requires within { machine.old.parts.steps ≤ budget }
     ensures outcome { Meets (λ i. Some (outcome_of_run i (run (with_input machine.old.parts i) budget))) result
-        (now (I.left input.old) (O.held output.old) (E.held errors.old)) (now (I.left input.new) (O.held output.new) (E.held errors.new)) }
+        (now (I.left input.old) (O.held output.old) (E.held errors.old))
+        (now (I.left input.new) (O.held output.new) (E.held errors.new)) }
     ensures read_cause { Causes (result ≡ Ending.ReadFault) (I.faults input.old) (I.faults input.new) }
     ensures write_cause { Causes (result ≡ Ending.WriteFault) (O.faults output.old) (O.faults output.new) }
     ensures errors_cause { Causes (result ≡ Ending.ErrorsFault) (E.faults errors.old) (E.faults errors.new) }
@@ -110,13 +126,17 @@ fn run_image<I: Source, O: Sink, E: Sink>(
     requires file { program.now.file < program.now.args }
     requires args { program.now.args ≤ length words.now }
     requires arguments { AreArguments (arguments_of (map string_bytes words.now) program.now) }
-    ensures outcome { Meets (λ i. Some (outcome_of_image bytes.now (arguments_of (map string_bytes words.now) program.now) i program.now.length program.now.budget program.now.pages (elf bytes.now program.now.pages))) result
-        (now (I.left input.old) (O.held output.old) (E.held errors.old)) (now (I.left input.new) (O.held output.new) (E.held errors.new)) }
+    ensures outcome { Meets
+        (λ i. Some (outcome_of_image bytes.now (arguments_of (map string_bytes words.now) program.now)
+        i program.now.length program.now.budget program.now.pages (elf bytes.now program.now.pages)))
+        result (now (I.left input.old) (O.held output.old) (E.held errors.old))
+        (now (I.left input.new) (O.held output.new) (E.held errors.new)) }
     ensures read_cause { Causes (result ≡ Ending.ReadFault) (I.faults input.old) (I.faults input.new) }
     ensures write_cause { Causes (result ≡ Ending.WriteFault) (O.faults output.old) (O.faults output.new) }
     ensures errors_cause { Causes (result ≡ Ending.ErrorsFault) (E.faults errors.old) (E.faults errors.new) }
     ensures no_file { result ≢ Ending.FileFault }
-    ensures memory_first { result ≡ Ending.OutOfMemory → (input.new ≡ input.old) × (output.new ≡ output.old) × (errors.new ≡ errors.old) }
+    ensures memory_first { result ≡ Ending.OutOfMemory
+        → (input.new ≡ input.old) × (output.new ≡ output.old) × (errors.new ≡ errors.old) }
     ensures kind { ends_run result ≡ true }
 {
     match read(bytes, program.pages) {
@@ -131,9 +151,10 @@ fn run_image<I: Source, O: Sink, E: Sink>(
     }
 }
 
-/// Reads the file of a program, and runs it: `program` says where among `words` its name and its arguments stand, its vector length, its budget of steps and its limit of
-/// pages. The ending is the run's; or FileFault where reading failed or no file has the name, TooLong over 67,108,864 bytes, ImageRefused, each refusal
-/// behind its line on the errors, a fault of a stream, or OutOfMemory before anything is taken or written.
+/// Reads the file of a program, and runs it: `program` says where among `words` its name and its arguments stand, its
+/// vector length, its budget of steps and its limit of pages. The ending is the run's; or FileFault where reading
+/// failed or no file has the name, TooLong over 67,108,864 bytes, ImageRefused, each refusal behind its line on the
+/// errors, a fault of a stream, or OutOfMemory before anything is taken or written.
 pub fn run_file<F: Images, I: Source, O: Sink, E: Sink>(
     alloc: Global,
     words: &[String],
@@ -146,15 +167,20 @@ pub fn run_file<F: Images, I: Source, O: Sink, E: Sink>(
     requires file { program.now.file < program.now.args }
     requires args { program.now.args ≤ length words.now }
     requires arguments { AreArguments (arguments_of (map string_bytes words.now) program.now) }
-    ensures outcome { IfSome (F.named files.old) (λ named. Meets (outcome_over (map string_bytes words.now) (run_line_of program.now) named) result
-        (now (I.left input.old) (O.held output.old) (E.held errors.old)) (now (I.left input.new) (O.held output.new) (E.held errors.new))) }
+    ensures outcome { IfSome (F.named files.old)
+        (λ named. Meets (outcome_over (map string_bytes words.now) (run_line_of program.now) named) result
+        (now (I.left input.old) (O.held output.old) (E.held errors.old))
+        (now (I.left input.new) (O.held output.new) (E.held errors.new))) }
     ensures file_cause { result ≡ Ending.FileFault → Rose (F.faults files.old) (F.faults files.new)
         ⊎ MissesNamed (F.named files.old) (get_or (map string_bytes words.now) program.now.file []) }
     ensures file_kept { result ≢ Ending.FileFault → F.faults files.new ≡ F.faults files.old }
-    ensures missing { MissesNamed (F.named files.old) (get_or (map string_bytes words.now) program.now.file []) → result ≡ Ending.FileFault }
-    ensures file_first { result ≡ Ending.FileFault → (input.new ≡ input.old) × (output.new ≡ output.old) × (errors.new ≡ errors.old) }
+    ensures missing { MissesNamed (F.named files.old) (get_or (map string_bytes words.now) program.now.file [])
+        → result ≡ Ending.FileFault }
+    ensures file_first { result ≡ Ending.FileFault
+        → (input.new ≡ input.old) × (output.new ≡ output.old) × (errors.new ≡ errors.old) }
     ensures files_later { F.faults files.old ≤ F.faults files.new }
-    ensures memory_first { result ≡ Ending.OutOfMemory → (input.new ≡ input.old) × (output.new ≡ output.old) × (errors.new ≡ errors.old) }
+    ensures memory_first { result ≡ Ending.OutOfMemory
+        → (input.new ≡ input.old) × (output.new ≡ output.old) × (errors.new ≡ errors.old) }
     ensures read_cause { Causes (result ≡ Ending.ReadFault) (I.faults input.old) (I.faults input.new) }
     ensures write_cause { Causes (result ≡ Ending.WriteFault) (O.faults output.old) (O.faults output.new) }
     ensures errors_cause { Causes (result ≡ Ending.ErrorsFault) (E.faults errors.old) (E.faults errors.new) }

@@ -1,5 +1,20 @@
 //! The command `sweep`: from the file of a program to a line on its run at each vector length.
-ghost use Rattle.std.specs.Prelude.{◌≡◌, ◌≢◌, ◌<◌, ◌≤◌, ◌⊎◌, [], map, length, string_bytes, get_or, IfSome, Some, false, true};
+ghost use Rattle.std.specs.Prelude.{
+  ◌≡◌,
+  ◌≢◌,
+  ◌<◌,
+  ◌≤◌,
+  ◌⊎◌,
+  [],
+  map,
+  length,
+  string_bytes,
+  get_or,
+  IfSome,
+  Some,
+  false,
+  true,
+};
 ghost use Rattle.io_gate.specs.Images.{MissesNamed};
 ghost use Rattle.io_gate.specs.Streams.{Rose, Causes};
 ghost use Rattle.elf_image.specs.Images.{seen_image};
@@ -66,8 +81,9 @@ fn sweep_input<O: Sink, E: Sink>(
     requires file { program.now.file < program.now.args }
     requires args { program.now.args ≤ length words.now }
     requires arguments { AreArguments (swept_arguments (map string_bytes words.now) program.now) }
-    ensures outcome { Writes (outcome_of_sweep (sweep_of bytes.now (seen_image image.now) (swept_arguments (map string_bytes words.now) program.now) program.now.pages program.now.budget input.now)) result
-        (O.held output.old) (O.held output.new) (E.held errors.old) (E.held errors.new) }
+    ensures outcome { Writes (outcome_of_sweep (sweep_of bytes.now (seen_image image.now)
+        (swept_arguments (map string_bytes words.now) program.now) program.now.pages program.now.budget input.now))
+        result (O.held output.old) (O.held output.new) (E.held errors.old) (E.held errors.new) }
     ensures write_cause { Causes (result ≡ Ending.WriteFault) (O.faults output.old) (O.faults output.new) }
     ensures errors_cause { Causes (result ≡ Ending.ErrorsFault) (E.faults errors.old) (E.faults errors.new) }
     ensures kind { ends_swept result ≡ true }
@@ -110,8 +126,11 @@ fn sweep_image<I: Source, O: Sink, E: Sink>(
     requires file { program.now.file < program.now.args }
     requires args { program.now.args ≤ length words.now }
     requires arguments { AreArguments (swept_arguments (map string_bytes words.now) program.now) }
-    ensures outcome { MeetsSweep (λ i. Some (outcome_of_lengths bytes.now (swept_arguments (map string_bytes words.now) program.now) i program.now.budget program.now.pages (seen_image image.now))) result
-        (now (I.left input.old) (O.held output.old) (E.held errors.old)) (now (I.left input.new) (O.held output.new) (E.held errors.new)) }
+    ensures outcome { MeetsSweep
+        (λ i. Some (outcome_of_lengths bytes.now (swept_arguments (map string_bytes words.now) program.now)
+        i program.now.budget program.now.pages (seen_image image.now)))
+        result (now (I.left input.old) (O.held output.old) (E.held errors.old))
+        (now (I.left input.new) (O.held output.new) (E.held errors.new)) }
     ensures read_cause { Causes (result ≡ Ending.ReadFault) (I.faults input.old) (I.faults input.new) }
     ensures write_cause { Causes (result ≡ Ending.WriteFault) (O.faults output.old) (O.faults output.new) }
     ensures errors_cause { Causes (result ≡ Ending.ErrorsFault) (E.faults errors.old) (E.faults errors.new) }
@@ -142,8 +161,11 @@ fn sweep_bytes<I: Source, O: Sink, E: Sink>(
     requires file { program.now.file < program.now.args }
     requires args { program.now.args ≤ length words.now }
     requires arguments { AreArguments (swept_arguments (map string_bytes words.now) program.now) }
-    ensures outcome { MeetsSweep (λ i. Some (outcome_of_swept bytes.now (swept_arguments (map string_bytes words.now) program.now) i program.now.budget program.now.pages (elf bytes.now program.now.pages))) result
-        (now (I.left input.old) (O.held output.old) (E.held errors.old)) (now (I.left input.new) (O.held output.new) (E.held errors.new)) }
+    ensures outcome { MeetsSweep
+        (λ i. Some (outcome_of_swept bytes.now (swept_arguments (map string_bytes words.now) program.now)
+        i program.now.budget program.now.pages (elf bytes.now program.now.pages)))
+        result (now (I.left input.old) (O.held output.old) (E.held errors.old))
+        (now (I.left input.new) (O.held output.new) (E.held errors.new)) }
     ensures read_cause { Causes (result ≡ Ending.ReadFault) (I.faults input.old) (I.faults input.new) }
     ensures write_cause { Causes (result ≡ Ending.WriteFault) (O.faults output.old) (O.faults output.new) }
     ensures errors_cause { Causes (result ≡ Ending.ErrorsFault) (E.faults errors.old) (E.faults errors.new) }
@@ -159,10 +181,12 @@ fn sweep_bytes<I: Source, O: Sink, E: Sink>(
     }
 }
 
-/// Reads the file of a program, then the input to its end, and runs the program at each vector length over the whole of it: `program` says where among `words` its name
-/// and its arguments stand, its budget of steps and its limit of pages. Done where a line on each length was put; or FileFault where reading failed or no file has the
-/// name, TooLong over 67,108,864 bytes, ImageRefused, TooLong where the input, or behind the lines of the lengths before it the output or the errors of a run, have more than
-/// 16,777,216 bytes, each refusal behind its line on the errors, a fault of a stream, or OutOfMemory.
+/// Reads the file of a program, then the input to its end, and runs the program at each vector length over the whole of
+/// it: `program` says where among `words` its name and its arguments stand, its budget of steps and its limit of pages.
+/// Done where a line on each length was put; or FileFault where reading failed or no file has the name, TooLong over
+/// 67,108,864 bytes, ImageRefused, TooLong where the input, or behind the lines of the lengths before it the output or
+/// the errors of a run, have more than 16,777,216 bytes, each refusal behind its line on the errors, a fault of a
+/// stream, or OutOfMemory.
 pub fn sweep_file<F: Images, I: Source, O: Sink, E: Sink>(
     alloc: Global,
     words: &[String],
@@ -175,13 +199,17 @@ pub fn sweep_file<F: Images, I: Source, O: Sink, E: Sink>(
     requires file { program.now.file < program.now.args }
     requires args { program.now.args ≤ length words.now }
     requires arguments { AreArguments (swept_arguments (map string_bytes words.now) program.now) }
-    ensures outcome { IfSome (F.named files.old) (λ named. MeetsSweep (outcome_over (map string_bytes words.now) (sweep_line_of program.now) named) result
-        (now (I.left input.old) (O.held output.old) (E.held errors.old)) (now (I.left input.new) (O.held output.new) (E.held errors.new))) }
+    ensures outcome { IfSome (F.named files.old)
+        (λ named. MeetsSweep (outcome_over (map string_bytes words.now) (sweep_line_of program.now) named) result
+        (now (I.left input.old) (O.held output.old) (E.held errors.old))
+        (now (I.left input.new) (O.held output.new) (E.held errors.new))) }
     ensures file_cause { result ≡ Ending.FileFault → Rose (F.faults files.old) (F.faults files.new)
         ⊎ MissesNamed (F.named files.old) (get_or (map string_bytes words.now) program.now.file []) }
     ensures file_kept { result ≢ Ending.FileFault → F.faults files.new ≡ F.faults files.old }
-    ensures missing { MissesNamed (F.named files.old) (get_or (map string_bytes words.now) program.now.file []) → result ≡ Ending.FileFault }
-    ensures file_first { result ≡ Ending.FileFault → (input.new ≡ input.old) × (output.new ≡ output.old) × (errors.new ≡ errors.old) }
+    ensures missing { MissesNamed (F.named files.old) (get_or (map string_bytes words.now) program.now.file [])
+        → result ≡ Ending.FileFault }
+    ensures file_first { result ≡ Ending.FileFault
+        → (input.new ≡ input.old) × (output.new ≡ output.old) × (errors.new ≡ errors.old) }
     ensures files_later { F.faults files.old ≤ F.faults files.new }
     ensures read_cause { Causes (result ≡ Ending.ReadFault) (I.faults input.old) (I.faults input.new) }
     ensures write_cause { Causes (result ≡ Ending.WriteFault) (O.faults output.old) (O.faults output.new) }

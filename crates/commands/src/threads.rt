@@ -1,5 +1,20 @@
 //! The command `threads`: from the image of a program and the text of a schedule to the report of its contexts.
-ghost use Rattle.std.specs.Prelude.{◌≡◌, ◌≢◌, ◌<◌, ◌≤◌, ◌++◌, map, length, string_bytes, IfOk, MatchResult, Some, Ok, false, true};
+ghost use Rattle.std.specs.Prelude.{
+  ◌≡◌,
+  ◌≢◌,
+  ◌<◌,
+  ◌≤◌,
+  ◌++◌,
+  map,
+  length,
+  string_bytes,
+  IfOk,
+  MatchResult,
+  Some,
+  Ok,
+  false,
+  true,
+};
 ghost use Rattle.io_gate.specs.Streams.{Causes, HasCause};
 ghost use Rattle.io_gate.specs.Pieces.{PutsAll};
 ghost use Rattle.elf_image.specs.Images.{seen_image};
@@ -34,7 +49,8 @@ use thread_model::WorldEnding;
 /// The schedule of a file's bytes. Err is its first refusal, or want of memory.
 fn schedule_of(alloc: Global, bytes: &[u8]) -> Result<Schedule, ScheduleError>
     requires { length bytes.now ≤ file_limit }
-    ensures { MatchResult result (λ read. schedule_of_file bytes.now ≡ Ok read) (IsErrorOf (schedule_of_file bytes.now)) }
+    ensures { MatchResult result
+        (λ read. schedule_of_file bytes.now ≡ Ok read) (IsErrorOf (schedule_of_file bytes.now)) }
 {
     match str::from_utf8(bytes) {
         Ok(text) => read_schedule(alloc, text),
@@ -120,7 +136,8 @@ fn put_contexts<E: Sink>(world: &World, errors: &mut E) -> Result<(), Failed>
 
 /// Puts the line of a world that stopped, and the registers of its contexts.
 fn put_world<E: Sink>(world: &World, stop: WorldEnding, errors: &mut E) -> Result<(), Failed>
-    ensures bytes { PutsAll (E.held errors.old) (E.held errors.new) (stop_line stop world.now.world.steps ++ contexts_lines world.now.world) result }
+    ensures bytes { PutsAll (E.held errors.old) (E.held errors.new)
+        (stop_line stop world.now.world.steps ++ contexts_lines world.now.world) result }
     ensures cause { HasCause (E.faults errors.old) (E.faults errors.new) result }
 {
     put_stop(stop, world.steps(), errors)?;
@@ -138,7 +155,8 @@ fn run_world<I: Source, O: Sink, E: Sink>(
 ) -> Ending
     requires going { has_ended world.old ≡ false }
     requires within { world.old.world.steps ≤ budget }
-    ensures outcome { Meets (λ i. Some (outcome_of_world i (model.threads schedule.now budget (with_input world.old.world i)))) result
+    ensures outcome { Meets
+        (λ i. Some (outcome_of_world i (model.threads schedule.now budget (with_input world.old.world i)))) result
         (now (I.left input.old) (O.held output.old) (E.held errors.old))
         (now (I.left input.new) (O.held output.new) (E.held errors.new)) }
     ensures read_cause { Causes (result ≡ Ending.ReadFault) (I.faults input.old) (I.faults input.new) }
@@ -155,8 +173,9 @@ fn run_world<I: Source, O: Sink, E: Sink>(
     }
 }
 
-/// Runs the contexts of an image under the schedule of a file's bytes, or refuses the schedule. The ending is the run's; ScheduleRefused
-/// behind its line on the errors, a fault of a stream, or OutOfMemory before anything is taken or written.
+/// Runs the contexts of an image under the schedule of a file's bytes, or refuses the schedule. The ending is the
+/// run's; ScheduleRefused behind its line on the errors, a fault of a stream, or OutOfMemory before anything is taken
+/// or written.
 pub fn thread_image<I: Source, O: Sink, E: Sink>(
     alloc: Global,
     bytes: &[u8],
@@ -174,14 +193,16 @@ pub fn thread_image<I: Source, O: Sink, E: Sink>(
     requires args { program.now.args ≤ length words.now }
     requires arguments { AreArguments (arguments_of (map string_bytes words.now) program.now) }
     ensures outcome { Meets (λ i. Some (outcome_of_schedule i program.now.budget
-        (opened (opening_of bytes.now (seen_image image.now) (map string_bytes words.now) program.now)) (schedule_of_file text.now))) result
-        (now (I.left input.old) (O.held output.old) (E.held errors.old))
+        (opened (opening_of bytes.now (seen_image image.now) (map string_bytes words.now) program.now))
+        (schedule_of_file text.now)))
+        result (now (I.left input.old) (O.held output.old) (E.held errors.old))
         (now (I.left input.new) (O.held output.new) (E.held errors.new)) }
     ensures read_cause { Causes (result ≡ Ending.ReadFault) (I.faults input.old) (I.faults input.new) }
     ensures write_cause { Causes (result ≡ Ending.WriteFault) (O.faults output.old) (O.faults output.new) }
     ensures errors_cause { Causes (result ≡ Ending.ErrorsFault) (E.faults errors.old) (E.faults errors.new) }
     ensures no_file { result ≢ Ending.FileFault }
-    ensures memory_first { result ≡ Ending.OutOfMemory → (input.new ≡ input.old) × (output.new ≡ output.old) × (errors.new ≡ errors.old) }
+    ensures memory_first { result ≡ Ending.OutOfMemory
+        → (input.new ≡ input.old) × (output.new ≡ output.old) × (errors.new ≡ errors.old) }
     ensures kind { ends_threads result ≡ true }
 {
     match schedule_of(alloc, text) {

@@ -1,5 +1,20 @@
 //! Lines of two files: that of a program, and that of what is obeyed over it.
-ghost use Rattle.std.specs.Prelude.{◌≡◌, ◌≢◌, ◌<◌, ◌≤◌, ◌⊎◌, [], map, length, string_bytes, get_or, IfSome, Some, false, true};
+ghost use Rattle.std.specs.Prelude.{
+  ◌≡◌,
+  ◌≢◌,
+  ◌<◌,
+  ◌≤◌,
+  ◌⊎◌,
+  [],
+  map,
+  length,
+  string_bytes,
+  get_or,
+  IfSome,
+  Some,
+  false,
+  true,
+};
 ghost use Rattle.emu_model.specs.Access.{most_mapped_pages};
 ghost use Rattle.io_gate.specs.Images.{MissesNamed};
 ghost use Rattle.io_gate.specs.Streams.{Rose, Causes};
@@ -11,7 +26,16 @@ ghost use Rattle.emu_outcome.specs.Outcome.{file_at, file_limit};
 ghost use Rattle.commands.specs.Programs.{arguments_of, opening_of};
 ghost use Rattle.commands.specs.Promises.{settles_by, NamesNoFile};
 ghost use Rattle.commands.specs.Meets.{now, MeetsBy};
-ghost use Rattle.commands.specs.SecondFiles.{ends_by, file_reads_first, outcome_by, outcome_from, outcome_of_both, outcome_with, text_reads_first, TakesLater};
+ghost use Rattle.commands.specs.SecondFiles.{
+  ends_by,
+  file_reads_first,
+  outcome_by,
+  outcome_from,
+  outcome_of_both,
+  outcome_with,
+  text_reads_first,
+  TakesLater,
+};
 
 use crate::debugger::debug_image;
 use crate::files::{ending_after_line, file_bytes};
@@ -52,15 +76,16 @@ fn obey_text<I: Source, O: Sink, E: Sink>(
     requires args { program.now.args ≤ length words.now }
     requires arguments { AreArguments (arguments_of (map string_bytes words.now) program.now) }
     requires pages { program.now.pages ≤ most_mapped_pages }
-    ensures outcome { MeetsBy (settles_by (text_reads_first second text.now)) (λ i. Some (outcome_from second text.now i program.now.budget
-        (opening_of bytes.now (seen_image image.now) (map string_bytes words.now) program.now))) result
-        (now (I.left input.old) (O.held output.old) (E.held errors.old))
+    ensures outcome { MeetsBy (settles_by (text_reads_first second text.now)) (λ i. Some (outcome_from second text.now
+        i program.now.budget (opening_of bytes.now (seen_image image.now) (map string_bytes words.now) program.now)))
+        result (now (I.left input.old) (O.held output.old) (E.held errors.old))
         (now (I.left input.new) (O.held output.new) (E.held errors.new)) }
     ensures read_cause { Causes (result ≡ Ending.ReadFault) (I.faults input.old) (I.faults input.new) }
     ensures write_cause { Causes (result ≡ Ending.WriteFault) (O.faults output.old) (O.faults output.new) }
     ensures errors_cause { Causes (result ≡ Ending.ErrorsFault) (E.faults errors.old) (E.faults errors.new) }
     ensures no_file { result ≢ Ending.FileFault }
-    ensures memory_first { text_reads_first second text.now ≡ false → result ≡ Ending.OutOfMemory → input.new ≡ input.old }
+    ensures memory_first { text_reads_first second text.now ≡ false → result ≡ Ending.OutOfMemory
+        → input.new ≡ input.old }
     ensures memory_unwritten { result ≡ Ending.OutOfMemory → (output.new ≡ output.old) × (errors.new ≡ errors.old) }
     ensures kind { ends_by second result ≡ true }
 {
@@ -91,15 +116,17 @@ fn obey_bytes<I: Source, O: Sink, E: Sink>(
     requires args { program.now.args ≤ length words.now }
     requires arguments { AreArguments (arguments_of (map string_bytes words.now) program.now) }
     requires pages { program.now.pages ≤ most_mapped_pages }
-    ensures outcome { MeetsBy (settles_by (text_reads_first second text.now)) (λ i. Some (outcome_by second bytes.now text.now
-        (arguments_of (map string_bytes words.now) program.now) i program.now (elf bytes.now program.now.pages))) result
-        (now (I.left input.old) (O.held output.old) (E.held errors.old))
+    ensures outcome { MeetsBy (settles_by (text_reads_first second text.now))
+        (λ i. Some (outcome_by second bytes.now text.now
+        (arguments_of (map string_bytes words.now) program.now) i program.now (elf bytes.now program.now.pages)))
+        result (now (I.left input.old) (O.held output.old) (E.held errors.old))
         (now (I.left input.new) (O.held output.new) (E.held errors.new)) }
     ensures read_cause { Causes (result ≡ Ending.ReadFault) (I.faults input.old) (I.faults input.new) }
     ensures write_cause { Causes (result ≡ Ending.WriteFault) (O.faults output.old) (O.faults output.new) }
     ensures errors_cause { Causes (result ≡ Ending.ErrorsFault) (E.faults errors.old) (E.faults errors.new) }
     ensures no_file { result ≢ Ending.FileFault }
-    ensures memory_first { text_reads_first second text.now ≡ false → result ≡ Ending.OutOfMemory → input.new ≡ input.old }
+    ensures memory_first { text_reads_first second text.now ≡ false → result ≡ Ending.OutOfMemory
+        → input.new ≡ input.old }
     ensures memory_unwritten { result ≡ Ending.OutOfMemory → (output.new ≡ output.old) × (errors.new ≡ errors.old) }
     ensures kind { ends_by second result ≡ true }
 {
@@ -132,17 +159,21 @@ fn obey_second<F: Images, I: Source, O: Sink, E: Sink>(
     requires args { program.now.args ≤ length words.now }
     requires arguments { AreArguments (arguments_of (map string_bytes words.now) program.now) }
     requires pages { program.now.pages ≤ most_mapped_pages }
-    ensures outcome { IfSome (F.named files.old) (λ named. MeetsBy (settles_by (file_reads_first second (file_at (map string_bytes words.now) named place)))
+    ensures outcome { IfSome (F.named files.old)
+        (λ named. MeetsBy (settles_by (file_reads_first second (file_at (map string_bytes words.now) named place)))
         (outcome_with second bytes.now (map string_bytes words.now) program.now place named) result
         (now (I.left input.old) (O.held output.old) (E.held errors.old))
         (now (I.left input.new) (O.held output.new) (E.held errors.new))) }
     ensures file_cause { result ≡ Ending.FileFault → Rose (F.faults files.old) (F.faults files.new)
         ⊎ MissesNamed (F.named files.old) (get_or (map string_bytes words.now) place []) }
     ensures file_kept { result ≢ Ending.FileFault → F.faults files.new ≡ F.faults files.old }
-    ensures missing { MissesNamed (F.named files.old) (get_or (map string_bytes words.now) place []) → result ≡ Ending.FileFault }
-    ensures file_first { result ≡ Ending.FileFault → (input.new ≡ input.old) × (output.new ≡ output.old) × (errors.new ≡ errors.old) }
+    ensures missing { MissesNamed (F.named files.old) (get_or (map string_bytes words.now) place [])
+        → result ≡ Ending.FileFault }
+    ensures file_first { result ≡ Ending.FileFault
+        → (input.new ≡ input.old) × (output.new ≡ output.old) × (errors.new ≡ errors.old) }
     ensures files_later { F.faults files.old ≤ F.faults files.new }
-    ensures memory_first { TakesLater second (F.named files.old) (get_or (map string_bytes words.now) place []) → result ≡ Ending.OutOfMemory → input.new ≡ input.old }
+    ensures memory_first { TakesLater second (F.named files.old) (get_or (map string_bytes words.now) place [])
+        → result ≡ Ending.OutOfMemory → input.new ≡ input.old }
     ensures memory_unwritten { result ≡ Ending.OutOfMemory → (output.new ≡ output.old) × (errors.new ≡ errors.old) }
     ensures read_cause { Causes (result ≡ Ending.ReadFault) (I.faults input.old) (I.faults input.new) }
     ensures write_cause { Causes (result ≡ Ending.WriteFault) (O.faults output.old) (O.faults output.new) }
@@ -157,11 +188,13 @@ fn obey_second<F: Images, I: Source, O: Sink, E: Sink>(
     }
 }
 
-/// Reads the file of a program, then the second file, whose name is the word at `place`, and obeys it over the program, which `program` says as for
-/// `run_file`: a session's script, or the schedule under which the program's contexts run. The ending is Done where a session came to its end, or that of the
-/// run; or FileFault where reading failed or no file has one of the names, TooLong over 67,108,864 bytes, ImageRefused, then ScriptRefused or
-/// ScheduleRefused, and where a script goes back TooLong where the input has more than 16,777,216 bytes, each refusal behind its line on the errors, a fault of a
-/// stream, or OutOfMemory before anything is written, and before anything is taken where no script goes back.
+/// Reads the file of a program, then the second file, whose name is the word at `place`, and obeys it over the program,
+/// which `program` says as for `run_file`: a session's script, or the schedule under which the program's contexts run.
+/// The ending is Done where a session came to its end, or that of the run; or FileFault where reading failed or no file
+/// has one of the names, TooLong over 67,108,864 bytes, ImageRefused, then ScriptRefused or ScheduleRefused, and where
+/// a script goes back TooLong where the input has more than 16,777,216 bytes, each refusal behind its line on the
+/// errors, a fault of a stream, or OutOfMemory before anything is written, and before anything is taken where no script
+/// goes back.
 pub fn obey_files<F: Images, I: Source, O: Sink, E: Sink>(
     alloc: Global,
     words: &[String],
@@ -178,19 +211,23 @@ pub fn obey_files<F: Images, I: Source, O: Sink, E: Sink>(
     requires args { program.now.args ≤ length words.now }
     requires arguments { AreArguments (arguments_of (map string_bytes words.now) program.now) }
     requires pages { program.now.pages ≤ most_mapped_pages }
-    ensures outcome { IfSome (F.named files.old) (λ named. MeetsBy (settles_by (file_reads_first second (file_at (map string_bytes words.now) named place)))
+    ensures outcome { IfSome (F.named files.old)
+        (λ named. MeetsBy (settles_by (file_reads_first second (file_at (map string_bytes words.now) named place)))
         (outcome_of_both second (map string_bytes words.now) program.now place named) result
         (now (I.left input.old) (O.held output.old) (E.held errors.old))
         (now (I.left input.new) (O.held output.new) (E.held errors.new))) }
     ensures file_cause { result ≡ Ending.FileFault → Rose (F.faults files.old) (F.faults files.new)
         ⊎ NamesNoFile (outcome_of_both second (map string_bytes words.now) program.now place) (F.named files.old) }
     ensures file_kept { result ≢ Ending.FileFault → F.faults files.new ≡ F.faults files.old }
-    ensures missing { NamesNoFile (outcome_of_both second (map string_bytes words.now) program.now place) (F.named files.old)
-        → (result ≡ Ending.FileFault) ⊎ (result ≡ Ending.OutOfMemory) }
-    ensures missing_first { MissesNamed (F.named files.old) (get_or (map string_bytes words.now) program.now.file []) → result ≡ Ending.FileFault }
-    ensures file_first { result ≡ Ending.FileFault → (input.new ≡ input.old) × (output.new ≡ output.old) × (errors.new ≡ errors.old) }
+    ensures missing { NamesNoFile (outcome_of_both second (map string_bytes words.now) program.now place)
+        (F.named files.old) → (result ≡ Ending.FileFault) ⊎ (result ≡ Ending.OutOfMemory) }
+    ensures missing_first { MissesNamed (F.named files.old) (get_or (map string_bytes words.now) program.now.file [])
+        → result ≡ Ending.FileFault }
+    ensures file_first { result ≡ Ending.FileFault
+        → (input.new ≡ input.old) × (output.new ≡ output.old) × (errors.new ≡ errors.old) }
     ensures files_later { F.faults files.old ≤ F.faults files.new }
-    ensures memory_first { TakesLater second (F.named files.old) (get_or (map string_bytes words.now) place []) → result ≡ Ending.OutOfMemory → input.new ≡ input.old }
+    ensures memory_first { TakesLater second (F.named files.old) (get_or (map string_bytes words.now) place [])
+        → result ≡ Ending.OutOfMemory → input.new ≡ input.old }
     ensures memory_unwritten { result ≡ Ending.OutOfMemory → (output.new ≡ output.old) × (errors.new ≡ errors.old) }
     ensures read_cause { Causes (result ≡ Ending.ReadFault) (I.faults input.old) (I.faults input.new) }
     ensures write_cause { Causes (result ≡ Ending.WriteFault) (O.faults output.old) (O.faults output.new) }

@@ -30,9 +30,11 @@ impl Model for Core {
 
     ghost coded = { coded_core };
 
-    ghost view = { λ a. record { x = a.x; sp = a.sp; pc = a.pc; flags = a.flags; tpidr = a.tpidr; monitor = a.monitor } };
+    ghost view = { λ a.
+        record { x = a.x; sp = a.sp; pc = a.pc; flags = a.flags; tpidr = a.tpidr; monitor = a.monitor } };
 
-    ghost invariant = { λ a. IsSoundCore (record { x = a.x; sp = a.sp; pc = a.pc; flags = a.flags; tpidr = a.tpidr; monitor = a.monitor }) };
+    ghost invariant = { λ a. IsSoundCore
+        (record { x = a.x; sp = a.sp; pc = a.pc; flags = a.flags; tpidr = a.tpidr; monitor = a.monitor }) };
 }
 
 /// A number modulo 2^width, with no mask to be made.

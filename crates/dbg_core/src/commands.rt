@@ -38,8 +38,11 @@ fn obey<I: Source, O: Sink, E: Sink>(
 ) -> SessionEnd
     requires failed { machine.old.failed ≡ false }
     requires within { IsTrue (is_within command.now) }
-    ensures obeys { Obeys (model.obeyed command.now marks.now budget) machine.old.parts machine.new.parts (I.left input.old) (I.left input.new) (O.held output.old) (O.held output.new) (E.held errors.old) (E.held errors.new) result }
-    ensures leaves { Leaves (model.obeyed command.now marks.now budget) budget machine.old.parts machine.new (I.left input.old) (I.left input.new) result }
+    ensures obeys { Obeys (model.obeyed command.now marks.now budget) machine.old.parts machine.new.parts
+        (I.left input.old) (I.left input.new) (O.held output.old) (O.held output.new) (E.held errors.old)
+        (E.held errors.new) result }
+    ensures leaves { Leaves (model.obeyed command.now marks.now budget) budget machine.old.parts machine.new
+        (I.left input.old) (I.left input.new) result }
     ensures done { result ≡ SessionEnd.Done → machine.new.failed ≡ false }
     ensures read_cause { Causes (result ≡ SessionEnd.ReadFault) (I.faults input.old) (I.faults input.new) }
     ensures write_cause { Causes (result ≡ SessionEnd.WriteFault) (O.faults output.old) (O.faults output.new) }
@@ -54,13 +57,13 @@ fn obey<I: Source, O: Sink, E: Sink>(
     }
 }
 
-/// Obeys the commands of a script, of which none goes back, by a machine with a budget of steps. What the commands print goes
-/// to `output`, between the bytes that the program writes there.
+/// Obeys the commands of a script, of which none goes back, by a machine with a budget of steps. What the commands
+/// print goes to `output`, between the bytes that the program writes there.
 ///
-/// A fault is answered only where that stream failed, and then the session is broken off: what was put are first bytes of what the whole
-/// session puts, and no more was taken. `WriteFault` also stands for the session's own lines: the machine is then as the commands leave it,
-/// up to the one whose line wasn't put. After a fault in a step the machine has ended, before that step, except that bytes which its call took
-/// are stored. It takes no memory.
+/// A fault is answered only where that stream failed, and then the session is broken off: what was put are first bytes
+/// of what the whole session puts, and no more was taken. `WriteFault` also stands for the session's own lines: the
+/// machine is then as the commands leave it, up to the one whose line wasn't put. After a fault in a step the machine
+/// has ended, before that step, except that bytes which its call took are stored. It takes no memory.
 pub fn session<I: Source, O: Sink, E: Sink>(
     machine: &mut Machine,
     script: &Script,
@@ -71,11 +74,16 @@ pub fn session<I: Source, O: Sink, E: Sink>(
 ) -> SessionEnd
     requires failed { machine.old.failed ≡ false }
     requires forward { has_back script.now ≡ false }
-    ensures state { Becomes (model.session script.now budget) machine.old.parts machine.new.parts (I.left input.old) (I.left input.new) (is_fault result) }
-    ensures input { TakesWithin (model.session script.now budget) machine.old.parts (I.left input.old) (I.left input.new) (is_fault result) }
-    ensures output { Puts (λ st. (model.session script.now budget st).output) machine.old.parts (I.left input.old) (O.held output.old) (O.held output.new) (is_fault result) }
-    ensures errors { Puts (λ st. (model.session script.now budget st).errors) machine.old.parts (I.left input.old) (E.held errors.old) (E.held errors.new) (is_fault result) }
-    ensures stands { IfSome (I.left input.old) (λ bytes. StandsIn script.now budget (with_input machine.old.parts bytes) machine.new (I.left input.new)) }
+    ensures state { Becomes (model.session script.now budget) machine.old.parts machine.new.parts (I.left input.old)
+        (I.left input.new) (is_fault result) }
+    ensures input { TakesWithin (model.session script.now budget) machine.old.parts (I.left input.old)
+        (I.left input.new) (is_fault result) }
+    ensures output { Puts (λ st. (model.session script.now budget st).output) machine.old.parts (I.left input.old)
+        (O.held output.old) (O.held output.new) (is_fault result) }
+    ensures errors { Puts (λ st. (model.session script.now budget st).errors) machine.old.parts (I.left input.old)
+        (E.held errors.old) (E.held errors.new) (is_fault result) }
+    ensures stands { IfSome (I.left input.old)
+        (λ bytes. StandsIn script.now budget (with_input machine.old.parts bytes) machine.new (I.left input.new)) }
     ensures done { result ≡ SessionEnd.Done → machine.new.failed ≡ false }
     ensures line { machine.new.failed ≡ false → is_fault result ≡ true → result ≡ SessionEnd.WriteFault }
     ensures unspent { machine.new.failed ≡ true → machine.new.parts.steps < budget }

@@ -18,9 +18,11 @@ use emu_report::{
 };
 use io_gate::{Failed, Sink};
 
-/// Puts the line that says how the machine ended, or that its budget is spent. Err is that the sink failed, with a first part put.
+/// Puts the line that says how the machine ended, or that its budget is spent. Err is that the sink failed, with a
+/// first part put.
 pub fn put_ending<S: Sink>(machine: &Machine, sink: &mut S) -> Result<(), Failed>
-    ensures bytes { PutsAll (S.held sink.old) (S.held sink.new) (ending_line machine.now.parts machine.now.parts.ended) result }
+    ensures bytes { PutsAll (S.held sink.old) (S.held sink.new)
+        (ending_line machine.now.parts machine.now.parts.ended) result }
     ensures cause { HasCause (S.faults sink.old) (S.faults sink.new) result }
 {
     match machine.ending() {
@@ -30,8 +32,8 @@ pub fn put_ending<S: Sink>(machine: &Machine, sink: &mut S) -> Result<(), Failed
     }
 }
 
-/// Puts what comes of `n` steps of a machine that had counted `steps`: that they were counted, or how the machine ended. Err is
-/// that the sink failed, with a first part put.
+/// Puts what comes of `n` steps of a machine that had counted `steps`: that they were counted, or how the machine
+/// ended. Err is that the sink failed, with a first part put.
 pub fn put_stepped<S: Sink>(
     steps: u64,
     n: u64,
@@ -60,8 +62,8 @@ pub fn put_met<S: Sink>(stop: Met, machine: &Machine, sink: &mut S) -> Result<()
     }
 }
 
-/// Puts the line of what stopped `go`: how the machine ended, that a watch was touched, that a break was reached, or that the
-/// budget is spent. Err is that the output failed, with a first part put.
+/// Puts the line of what stopped `go`: how the machine ended, that a watch was touched, that a break was reached, or
+/// that the budget is spent. Err is that the output failed, with a first part put.
 pub fn put_stop<O: Sink>(machine: &Machine, stop: &Stop, output: &mut O) -> Result<(), Failed>
     requires { HasEnded stop.now machine.now.parts }
     ensures bytes { PutsAll (O.held output.old) (O.held output.new) (line_of_stop stop.now machine.now.parts) result }
@@ -77,7 +79,8 @@ pub fn put_stop<O: Sink>(machine: &Machine, stop: &Stop, output: &mut O) -> Resu
 
 /// Puts the scalar registers and the vector length of a machine.
 fn put_machine_scalars<S: Sink>(machine: &Machine, sink: &mut S) -> Result<(), Failed>
-    ensures bytes { PutsAll (S.held sink.old) (S.held sink.new) (scalar_lines machine.now.parts.core machine.now.parts.vectors.bits) result }
+    ensures bytes { PutsAll (S.held sink.old) (S.held sink.new)
+        (scalar_lines machine.now.parts.core machine.now.parts.vectors.bits) result }
     ensures cause { HasCause (S.faults sink.old) (S.faults sink.new) result }
 {
     put_scalars(machine.core(), machine.vec(), sink)
@@ -126,11 +129,12 @@ pub fn put_shown<S: Sink>(command: &Command, machine: &Machine, sink: &mut S) ->
     }
 }
 
-/// Puts what a command prints of a machine that it has moved no further than so: for `step` that its steps were counted, and
-/// nothing for `go`, `back`, a break or a watch. Err is that the output failed, with a first part put.
+/// Puts what a command prints of a machine that it has moved no further than so: for `step` that its steps were
+/// counted, and nothing for `go`, `back`, a break or a watch. Err is that the output failed, with a first part put.
 pub fn show<O: Sink>(machine: &Machine, command: &Command, output: &mut O) -> Result<(), Failed>
     requires { IsTrue (is_within command.now) }
-    ensures bytes { PutsAll (O.held output.old) (O.held output.new) (shown_behind command.now machine.now.parts) result }
+    ensures bytes { PutsAll (O.held output.old) (O.held output.new)
+        (shown_behind command.now machine.now.parts) result }
     ensures cause { HasCause (O.faults output.old) (O.faults output.new) result }
 {
     match command {

@@ -22,8 +22,10 @@ fn run_to<I: Source, O: Sink, E: Sink>(
     errors: &mut E,
 ) -> SessionEnd
     requires { machine.old.failed ≡ false }
-    ensures obeys { Obeys (λ st. run st target) machine.old.parts machine.new.parts (I.left input.old) (I.left input.new) (O.held output.old) (O.held output.new) (E.held errors.old) (E.held errors.new) result }
-    ensures leaves { Leaves (λ st. run st target) target machine.old.parts machine.new (I.left input.old) (I.left input.new) result }
+    ensures obeys { Obeys (λ st. run st target) machine.old.parts machine.new.parts (I.left input.old)
+        (I.left input.new) (O.held output.old) (O.held output.new) (E.held errors.old) (E.held errors.new) result }
+    ensures leaves { Leaves (λ st. run st target) target machine.old.parts machine.new (I.left input.old)
+        (I.left input.new) result }
     ensures failed { machine.new.failed ≡ is_fault result }
     ensures read_cause { Causes (result ≡ SessionEnd.ReadFault) (I.faults input.old) (I.faults input.new) }
     ensures write_cause { Causes (result ≡ SessionEnd.WriteFault) (O.faults output.old) (O.faults output.new) }
@@ -50,8 +52,11 @@ pub fn step<I: Source, O: Sink, E: Sink>(
     errors: &mut E,
 ) -> SessionEnd
     requires { machine.old.failed ≡ false }
-    ensures obeys { Obeys (stepped (machine.old.parts.steps + n) budget) machine.old.parts machine.new.parts (I.left input.old) (I.left input.new) (O.held output.old) (O.held output.new) (E.held errors.old) (E.held errors.new) result }
-    ensures leaves { Leaves (stepped (machine.old.parts.steps + n) budget) budget machine.old.parts machine.new (I.left input.old) (I.left input.new) result }
+    ensures obeys { Obeys (stepped (machine.old.parts.steps + n) budget) machine.old.parts machine.new.parts
+        (I.left input.old) (I.left input.new) (O.held output.old) (O.held output.new) (E.held errors.old)
+        (E.held errors.new) result }
+    ensures leaves { Leaves (stepped (machine.old.parts.steps + n) budget) budget machine.old.parts machine.new
+        (I.left input.old) (I.left input.new) result }
     ensures done { result ≡ SessionEnd.Done → machine.new.failed ≡ false }
     ensures read_cause { Causes (result ≡ SessionEnd.ReadFault) (I.faults input.old) (I.faults input.new) }
     ensures write_cause { Causes (result ≡ SessionEnd.WriteFault) (O.faults output.old) (O.faults output.new) }
@@ -67,8 +72,8 @@ pub fn step<I: Source, O: Sink, E: Sink>(
     }
 }
 
-/// `go`: takes steps until the machine ends, a watch is touched, the program counter stands on a break or the budget is spent, tested in this
-/// order behind each step, and puts which it was.
+/// `go`: takes steps until the machine ends, a watch is touched, the program counter stands on a break or the budget is
+/// spent, tested in this order behind each step, and puts which it was.
 pub fn go<I: Source, O: Sink, E: Sink>(
     machine: &mut Machine,
     marks: &Points,
@@ -78,8 +83,11 @@ pub fn go<I: Source, O: Sink, E: Sink>(
     errors: &mut E,
 ) -> SessionEnd
     requires { machine.old.failed ≡ false }
-    ensures obeys { Obeys (λ st. go marks.now st (budget - st.parts.steps)) machine.old.parts machine.new.parts (I.left input.old) (I.left input.new) (O.held output.old) (O.held output.new) (E.held errors.old) (E.held errors.new) result }
-    ensures leaves { Leaves (λ st. go marks.now st (budget - st.parts.steps)) budget machine.old.parts machine.new (I.left input.old) (I.left input.new) result }
+    ensures obeys { Obeys (λ st. go marks.now st (budget - st.parts.steps)) machine.old.parts machine.new.parts
+        (I.left input.old) (I.left input.new) (O.held output.old) (O.held output.new) (E.held errors.old)
+        (E.held errors.new) result }
+    ensures leaves { Leaves (λ st. go marks.now st (budget - st.parts.steps)) budget machine.old.parts machine.new
+        (I.left input.old) (I.left input.new) result }
     ensures done { result ≡ SessionEnd.Done → machine.new.failed ≡ false }
     ensures read_cause { Causes (result ≡ SessionEnd.ReadFault) (I.faults input.old) (I.faults input.new) }
     ensures write_cause { Causes (result ≡ SessionEnd.WriteFault) (O.faults output.old) (O.faults output.new) }
@@ -103,8 +111,11 @@ fn go_free<I: Source, O: Sink, E: Sink>(
     errors: &mut E,
 ) -> SessionEnd
     requires { machine.old.failed ≡ false }
-    ensures obeys { Obeys (λ st. go no_marks st (budget - st.parts.steps)) machine.old.parts machine.new.parts (I.left input.old) (I.left input.new) (O.held output.old) (O.held output.new) (E.held errors.old) (E.held errors.new) result }
-    ensures leaves { Leaves (λ st. go no_marks st (budget - st.parts.steps)) budget machine.old.parts machine.new (I.left input.old) (I.left input.new) result }
+    ensures obeys { Obeys (λ st. go no_marks st (budget - st.parts.steps)) machine.old.parts machine.new.parts
+        (I.left input.old) (I.left input.new) (O.held output.old) (O.held output.new) (E.held errors.old)
+        (E.held errors.new) result }
+    ensures leaves { Leaves (λ st. go no_marks st (budget - st.parts.steps)) budget machine.old.parts machine.new
+        (I.left input.old) (I.left input.new) result }
     ensures done { result ≡ SessionEnd.Done → machine.new.failed ≡ false }
     ensures read_cause { Causes (result ≡ SessionEnd.ReadFault) (I.faults input.old) (I.faults input.new) }
     ensures write_cause { Causes (result ≡ SessionEnd.WriteFault) (O.faults output.old) (O.faults output.new) }
@@ -128,8 +139,11 @@ fn go_marked<I: Source, O: Sink, E: Sink>(
     errors: &mut E,
 ) -> SessionEnd
     requires { machine.old.failed ≡ false }
-    ensures obeys { Obeys (λ st. go marks.now st (budget - st.parts.steps)) machine.old.parts machine.new.parts (I.left input.old) (I.left input.new) (O.held output.old) (O.held output.new) (E.held errors.old) (E.held errors.new) result }
-    ensures leaves { Leaves (λ st. go marks.now st (budget - st.parts.steps)) budget machine.old.parts machine.new (I.left input.old) (I.left input.new) result }
+    ensures obeys { Obeys (λ st. go marks.now st (budget - st.parts.steps)) machine.old.parts machine.new.parts
+        (I.left input.old) (I.left input.new) (O.held output.old) (O.held output.new) (E.held errors.old)
+        (E.held errors.new) result }
+    ensures leaves { Leaves (λ st. go marks.now st (budget - st.parts.steps)) budget machine.old.parts machine.new
+        (I.left input.old) (I.left input.new) result }
     ensures done { result ≡ SessionEnd.Done → machine.new.failed ≡ false }
     ensures read_cause { Causes (result ≡ SessionEnd.ReadFault) (I.faults input.old) (I.faults input.new) }
     ensures write_cause { Causes (result ≡ SessionEnd.WriteFault) (O.faults output.old) (O.faults output.new) }

@@ -130,8 +130,8 @@ impl Points {
         }
     }
 
-    /// What stops a machine that has taken a step: the least watch that the step touched, else a break. None where there is neither, or
-    /// the machine has ended.
+    /// What stops a machine that has taken a step: the least watch that the step touched, else a break. None where
+    /// there is neither, or the machine has ended.
     pub(crate) fn point_met(&self, machine: &Machine) -> Option<Met>
         ensures { result ≡ mark_met self.now machine.now.accesses machine.now.parts }
     {

@@ -5,10 +5,11 @@ ghost use Rattle.dbg_model.specs.declared.script.Command.{Command};
 ghost use Rattle.dbg_model.specs.Session.{session};
 ghost use Rattle.dbg_model.specs.Reached.{IsReached};
 
-/// The machine of a session, after any commands, is one that steps lead to from where it began: no more of them than the budget leaves
-/// there, and none past the machine's end. So each line of a session shows a machine that the run from the same start, with the same
-/// budget, passes.
+/// The machine of a session, after any commands, is one that steps lead to from where it began: no more of them than
+/// the budget leaves there, and none past the machine's end. So each line of a session shows a machine that the run
+/// from the same start, with the same budget, passes.
 #[tactic(auto, using(crate::specs::Reached::sessions_are_reached))]
 pub fn sessions_move_by_steps()
-    ensures { (commands : List Command) (budget : ℕ) (st : State) → IsReached (budget - st.parts.steps) st (session commands budget st) }
+    ensures { (commands : List Command) (budget : ℕ) (st : State)
+        → IsReached (budget - st.parts.steps) st (session commands budget st) }
 {}

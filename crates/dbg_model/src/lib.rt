@@ -1,5 +1,5 @@
-//! The definitions of a debugger: what a script's text says, and what its commands make of a machine and print; and the plain types
-//! that they match on.
+//! The definitions of a debugger: what a script's text says, and what its commands make of a machine and print; and the
+//! plain types that they match on.
 #![tactic(auto)]
 
 pub mod laws;

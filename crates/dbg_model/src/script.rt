@@ -58,7 +58,8 @@ pub enum Stop {
 pub enum Command {
     /// `step N`: takes N steps, at least 1.
     Step(u64),
-    /// `go`: takes steps until the machine ends, a watch is touched, the program counter stands on a break, or the budget is spent.
+    /// `go`: takes steps until the machine ends, a watch is touched, the program counter stands on a break, or the
+    /// budget is spent.
     Go,
     /// `break A`: adds a break at an address.
     Break(u64),
@@ -89,8 +90,8 @@ fn is_back(command: &Command) -> bool
     matches!(command, Command::Back(_))
 }
 
-/// The commands of a script, in order. The numbers of each are in its ranges, at most 64 are breaks and at most 64 are watches.
-/// Contracts see the list of the commands.
+/// The commands of a script, in order. The numbers of each are in its ranges, at most 64 are breaks and at most 64 are
+/// watches. Contracts see the list of the commands.
 #[derive(Drop)]
 pub struct Script {
     commands: Vec<Command>,
@@ -133,8 +134,8 @@ impl Script {
         self.commands.iter().any(|command| is_back(command))
     }
 
-    /// Appends a command whose numbers are in their ranges; a Break or Watch is one of fewer than 64 before it. Err is want
-    /// of memory, and leaves the script as it was.
+    /// Appends a command whose numbers are in their ranges; a Break or Watch is one of fewer than 64 before it. Err is
+    /// want of memory, and leaves the script as it was.
     pub fn push(&mut self, command: Command) -> Result<(), AllocError>
         requires within { IsTrue (is_within command) }
         requires room { HasRoom self.old command }

@@ -1,6 +1,17 @@
 //! The command that the words of a line are.
 ghost use Rattle.std.specs.Prelude.{◌≡◌, ◌<◌, map, length, IfOk};
-ghost use Rattle.dbg_model.specs.Script.{back_of, break_of, command_of, lanes_of, mem_of, preg_of, step_of, watch_of, whole, zreg_of};
+ghost use Rattle.dbg_model.specs.Script.{
+  back_of,
+  break_of,
+  command_of,
+  lanes_of,
+  mem_of,
+  preg_of,
+  step_of,
+  watch_of,
+  whole,
+  zreg_of,
+};
 
 use crate::arguments::{argument, size_argument};
 use dbg_model::{Command, ScriptWhy};
@@ -98,8 +109,8 @@ fn predicate(k: u64) -> Pred
     Pred::at(k as u32, 0)
 }
 
-/// The command that a line's words are, of which there is at least one: UnknownCommand, then for each argument MissingWord, BadNumber and
-/// OutOfRange, then ExtraWord.
+/// The command that a line's words are, of which there is at least one: UnknownCommand, then for each argument
+/// MissingWord, BadNumber and OutOfRange, then ExtraWord.
 pub fn command_of(words: &[&str]) -> Result<Command, ScriptWhy>
     requires { 0 < length words.now }
     ensures command { result ≡ command_of (map (λ word. word.now) words.now) }

@@ -98,9 +98,9 @@ fn read_line(
 
 /// Reads a script: one command in each line, but for lines without a word and lines that begin with `#`.
 ///
-/// The refusal is the first: TooManyLines, with line 10,001, where there are more than 10,000 lines; then line by line UnknownCommand,
-/// for each argument MissingWord, BadNumber and OutOfRange, then ExtraWord and TooMany. OutOfMemory is want of memory. NotUtf8 isn't
-/// answered, since a text is UTF-8.
+/// The refusal is the first: TooManyLines, with line 10,001, where there are more than 10,000 lines; then line by line
+/// UnknownCommand, for each argument MissingWord, BadNumber and OutOfRange, then ExtraWord and TooMany. OutOfMemory is
+/// want of memory. NotUtf8 isn't answered, since a text is UTF-8.
 pub fn read_script(alloc: Global, text: &str) -> Result<Script, ScriptError>
     ensures { MatchResult result (λ read. script text.now ≡ Ok read) (IsErrorOf (script text.now)) }
 {

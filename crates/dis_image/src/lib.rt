@@ -6,7 +6,15 @@ ghost use Rattle.std.specs.List.{All};
 ghost use Rattle.byteorder.specs.Endian.{little_number};
 ghost use Rattle.emu_run.specs.Registers.{lines_of};
 ghost use Rattle.emu_run.specs.Step.{decode as instruction_of};
-ghost use Rattle.insn_texts.specs.Disassembly.{word_text, word_line, skipped, word_count, line_at, segment_lines, dis_of};
+ghost use Rattle.insn_texts.specs.Disassembly.{
+  word_text,
+  word_line,
+  skipped,
+  word_count,
+  line_at,
+  segment_lines,
+  dis_of,
+};
 ghost use Rattle.elf_image.specs.Images.{seen_image};
 ghost use Rattle.elf_image.specs.Loadable.{IsLoadableSegment, AreLoadable};
 ghost use Rattle.dis_image.specs.Segments.{executable_lines};
@@ -90,7 +98,8 @@ fn put_some<S: Sink>(
     requires loadable { IsLoadableSegment file.now segment.now }
     requires few { count ≤ 15 }
     requires within { first + count ≤ word_count segment.now.address segment.now.file_size }
-    ensures bytes { PutsAll (S.held sink.old) (S.held sink.new) (lines_of count (λ k. line_at file.now segment.now (skipped segment.now.address + 4 * (first + k)))) result }
+    ensures bytes { PutsAll (S.held sink.old) (S.held sink.new)
+        (lines_of count (λ k. line_at file.now segment.now (skipped segment.now.address + 4 * (first + k)))) result }
     ensures cause { HasCause (S.faults sink.old) (S.faults sink.new) result }
 {
     let mut text = Text::new();
@@ -138,7 +147,8 @@ fn put_executable<S: Sink>(file: &[u8], segment: &Segment, sink: &mut S) -> Resu
 /// Puts the lines of those of some segments that are executable.
 fn put_segments<S: Sink>(file: &[u8], segments: &[Segment], sink: &mut S) -> Result<(), Failed>
     requires { All (IsLoadableSegment file.now) segments.now }
-    ensures bytes { PutsAll (S.held sink.old) (S.held sink.new) (flat_map (executable_lines file.now) segments.now) result }
+    ensures bytes { PutsAll (S.held sink.old) (S.held sink.new)
+        (flat_map (executable_lines file.now) segments.now) result }
     ensures cause { HasCause (S.faults sink.old) (S.faults sink.new) result }
 {
     for segment in segments {
@@ -147,8 +157,9 @@ fn put_segments<S: Sink>(file: &[u8], segments: &[Segment], sink: &mut S) -> Res
     Ok(())
 }
 
-/// Puts the lines of an image that was read from a file: for each executable segment, in the order of the program headers, one for
-/// each whole word of its file bytes at an address that is a multiple of 4. After `Failed` some of their first bytes were put.
+/// Puts the lines of an image that was read from a file: for each executable segment, in the order of the program
+/// headers, one for each whole word of its file bytes at an address that is a multiple of 4. After `Failed` some of
+/// their first bytes were put.
 pub fn put_dis<S: Sink>(file: &[u8], image: &Image, sink: &mut S) -> Result<(), Failed>
     requires { AreLoadable file.now image.now.segments.items }
     ensures bytes { PutsAll (S.held sink.old) (S.held sink.new) (dis_of file.now (seen_image image.now)) result }

@@ -11,7 +11,8 @@ use sve_rows::encode_sve;
 use sve_texts::SveTexts;
 use text_print::print_word;
 
-/// Puts the text of an instruction in place of `out`. None shows an address, so it is the same wherever the instruction stands.
+/// Puts the text of an instruction in place of `out`. None shows an address, so it is the same wherever the instruction
+/// stands.
 pub fn print_sve(i: &Sve, out: &mut ArrayString<96>)
     ensures { out.new.bytes ≡ text_of_form i.now }
 {

@@ -25,8 +25,8 @@ pub fn print(i: &Insn, pc: u64, out: &mut ArrayString<96>)
     }
 }
 
-/// The text of each instruction, but for a bitmask whose rotation isn't the least, is read as the instruction, over both tables
-/// together: at any address that it stands at, the line that has only this text.
+/// The text of each instruction, but for a bitmask whose rotation isn't the least, is read as the instruction, over
+/// both tables together: at any address that it stands at, the line that has only this text.
 pub fn printed_text_is_read()
     ensures { (i : Insn) (pc : ℕ) → IsInstruction i → is_canonical i ≡ true → pc < 2 ^ 64 → IsReadBack i pc }
 {}

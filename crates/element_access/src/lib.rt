@@ -1,5 +1,5 @@
-//! The load and the store of one element, noted in the log of accesses; its extension to a lane, and the test of SP before an
-//! access.
+//! The load and the store of one element, noted in the log of accesses; its extension to a lane, and the test of SP
+//! before an access.
 #![tactic(auto)]
 
 mod lanes;
@@ -71,7 +71,8 @@ pub fn load(mem: &mut Mem, log: &mut AccessLog, address: u64, n: u32) -> Result<
     requires some { 1 ≤ n }
     requires most { n ≤ 16 }
     requires room { array_vec_len log.old < 1024 }
-    ensures result { MatchResult result (λ v. (refused mem.old address n Kind.Read ≡ None) × (v ≡ value mem.old address n))
+    ensures result { MatchResult result
+        (λ v. (refused mem.old address n Kind.Read ≡ None) × (v ≡ value mem.old address n))
         (λ trap. (trap.kind ≡ TrapKind.Read) × (refused mem.old address n Kind.Read ≡ Some trap.address)) }
     ensures small { MatchResult result (λ v. v < 256 ^ n) (λ trap. ⊤) }
     ensures memory { mem.new ≡ mem.old }
@@ -88,7 +89,8 @@ pub fn load_here(mem: &mut Mem, log: &mut AccessLog, address: u64, n: u32) -> Re
     requires some { 1 ≤ n }
     requires most { n ≤ 16 }
     requires room { array_vec_len log.old < 1024 }
-    ensures result { MatchResult result (λ v. (refused mem.old address n Kind.Read ≡ None) × (v ≡ value mem.old address n))
+    ensures result { MatchResult result
+        (λ v. (refused mem.old address n Kind.Read ≡ None) × (v ≡ value mem.old address n))
         (λ trap. (trap.kind ≡ TrapKind.Read) × (refused mem.old address n Kind.Read ≡ Some trap.address)) }
     ensures small { MatchResult result (λ v. v < 256 ^ n) (λ trap. ⊤) }
     ensures memory { mem.new ≡ mem.old }
@@ -117,7 +119,8 @@ pub fn load_u64(mem: &mut Mem, log: &mut AccessLog, address: u64, n: u32) -> Res
     requires some { 1 ≤ n }
     requires most { n ≤ 8 }
     requires room { array_vec_len log.old < 1024 }
-    ensures result { MatchResult result (λ v. (refused mem.old address n Kind.Read ≡ None) × (v ≡ value mem.old address n))
+    ensures result { MatchResult result
+        (λ v. (refused mem.old address n Kind.Read ≡ None) × (v ≡ value mem.old address n))
         (λ trap. (trap.kind ≡ TrapKind.Read) × (refused mem.old address n Kind.Read ≡ Some trap.address)) }
     ensures memory { mem.new ≡ mem.old }
     ensures log { MatchResult result

@@ -41,8 +41,8 @@ pub fn tests_sp(plan: &Plan, vec: &VecRegs) -> bool
     plan.has_sp_base && has_element(plan, vec)
 }
 
-/// Loads all elements one by one, at most N, and then writes the registers. It isn't inlined, so that its buffers take no time where
-/// they aren't used.
+/// Loads all elements one by one, at most N, and then writes the registers. It isn't inlined, so that its buffers take
+/// no time where they aren't used.
 #[inline(never)]
 fn load_buffered<const N: usize>(
     plan: &Plan,
@@ -54,7 +54,8 @@ fn load_buffered<const N: usize>(
     requires plan { IsPlan plan.now vec.old }
     requires room { plan.now.lanes * plan.now.registers ≤ N }
     requires empty { log.old.items ≡ [] }
-    ensures { (c : CoreState) → loaded_to (reach mem.old Kind.Read (elements_of (layout_of plan.now vec.old))) (loaded_by plan.now.target plan.now.is_signed (layout_of plan.now vec.old) mem.old vec.old) c vec.old mem.old
+    ensures { (c : CoreState) → loaded_to (reach mem.old Kind.Read (elements_of (layout_of plan.now vec.old)))
+        (loaded_by plan.now.target plan.now.is_signed (layout_of plan.now vec.old) mem.old vec.old) c vec.old mem.old
         ≡ record { core = c; vectors = vec.new; memory = mem.new; accesses = log.new.items; effect = result } }
 {
     match load_values::<N>(plan, vec, mem, log) {
@@ -66,11 +67,13 @@ fn load_buffered<const N: usize>(
     }
 }
 
-/// Loads all elements one by one and then writes the registers. A buffer of 64 elements serves gathers, and everything at 128 bits.
+/// Loads all elements one by one and then writes the registers. A buffer of 64 elements serves gathers, and everything
+/// at 128 bits.
 fn load_elements(plan: &Plan, vec: &mut VecRegs, mem: &mut Mem, log: &mut AccessLog) -> Effect
     requires plan { IsPlan plan.now vec.old }
     requires empty { log.old.items ≡ [] }
-    ensures { (c : CoreState) → loaded_to (reach mem.old Kind.Read (elements_of (layout_of plan.now vec.old))) (loaded_by plan.now.target plan.now.is_signed (layout_of plan.now vec.old) mem.old vec.old) c vec.old mem.old
+    ensures { (c : CoreState) → loaded_to (reach mem.old Kind.Read (elements_of (layout_of plan.now vec.old)))
+        (loaded_by plan.now.target plan.now.is_signed (layout_of plan.now vec.old) mem.old vec.old) c vec.old mem.old
         ≡ record { core = c; vectors = vec.new; memory = mem.new; accesses = log.new.items; effect = result } }
 {
     if most_elements(plan, vec) <= 64 {
@@ -80,8 +83,8 @@ fn load_elements(plan: &Plan, vec: &mut VecRegs, mem: &mut Mem, log: &mut Access
     }
 }
 
-/// Loads all elements and then writes the registers, and says how the step goes on. The elements that were loaded are logged in
-/// order. A trap changes no register.
+/// Loads all elements and then writes the registers, and says how the step goes on. The elements that were loaded are
+/// logged in order. A trap changes no register.
 pub fn load(
     plan: &Plan,
     core: &Core,
@@ -103,8 +106,8 @@ pub fn load(
     load_elements(plan, vec, mem, log)
 }
 
-/// Stores all elements in order, and says how the step goes on. The elements that were stored are logged in order. A trap has
-/// stored and logged the elements before the one that was refused.
+/// Stores all elements in order, and says how the step goes on. The elements that were stored are logged in order. A
+/// trap has stored and logged the elements before the one that was refused.
 pub fn store(plan: &Plan, core: &Core, vec: &VecRegs, mem: &mut Mem, log: &mut AccessLog) -> Effect
     requires plan { IsPlan plan.now vec.now }
     requires empty { log.old.items ≡ [] }
@@ -120,8 +123,8 @@ pub fn store(plan: &Plan, core: &Core, vec: &VecRegs, mem: &mut Mem, log: &mut A
     }
 }
 
-/// As `load` does, but element by element whatever the plan is: for plans that have a loop of their own elsewhere, which
-/// doesn't take this one. It isn't inlined, and `load` keeps the one caller that it is compiled into.
+/// As `load` does, but element by element whatever the plan is: for plans that have a loop of their own elsewhere,
+/// which doesn't take this one. It isn't inlined, and `load` keeps the one caller that it is compiled into.
 #[inline(never)]
 pub fn load_each(
     plan: &Plan,

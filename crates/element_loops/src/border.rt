@@ -7,13 +7,14 @@ ghost use Rattle.emu_model.specs.Pages.{bytes_at, with_bytes};
 use emu_model::PAGE_SIZE;
 use guest_mem::{Kind, Mem};
 
-/// Copies the bytes from an address on, up to the end of its page and at most `most`, to a place of a buffer, and answers how many
-/// they are. None where the page may not be read.
+/// Copies the bytes from an address on, up to the end of its page and at most `most`, to a place of a buffer, and
+/// answers how many they are. None where the page may not be read.
 fn copy_part(mem: &mut Mem, at: u64, most: usize, bytes: &mut [u8], place: usize) -> Option<usize>
     requires { place + most ≤ length bytes.old }
     ensures few { IfSome result (λ n. n ≤ most) }
     ensures allowed { IfSome result (λ n. refused mem.old at n Kind.Read ≡ None) }
-    ensures here { IfSome result (λ n. (j : ℕ) → j < n → get_or bytes.new (place + j) 0 ≡ get_or (bytes_at mem.old at n) j 0) }
+    ensures here { IfSome result
+        (λ n. (j : ℕ) → j < n → get_or bytes.new (place + j) 0 ≡ get_or (bytes_at mem.old at n) j 0) }
     ensures before { (j : ℕ) → j < place → get_or bytes.new j 0 ≡ get_or bytes.old j 0 }
     ensures behind { IfSome result (λ n. (j : ℕ) → place + n ≤ j → get_or bytes.new j 0 ≡ get_or bytes.old j 0) }
     ensures long { length bytes.new ≡ length bytes.old }
@@ -29,12 +30,13 @@ fn copy_part(mem: &mut Mem, at: u64, most: usize, bytes: &mut [u8], place: usize
     }
 }
 
-/// Fills the first `total` places of a buffer with the bytes from an address on, which end in its page or in the next, and says whether
-/// they may be read. The other places stay.
+/// Fills the first `total` places of a buffer with the bytes from an address on, which end in its page or in the next,
+/// and says whether they may be read. The other places stay.
 pub(crate) fn joined(mem: &mut Mem, base: u64, total: usize, bytes: &mut [u8]) -> bool
     requires { total ≤ length bytes.old }
     ensures allowed { result ≡ true → refused mem.old base total Kind.Read ≡ None }
-    ensures bytes { result ≡ true → (j : ℕ) → j < total → get_or bytes.new j 0 ≡ get_or (bytes_at mem.old base total) j 0 }
+    ensures bytes { result ≡ true → (j : ℕ) → j < total
+        → get_or bytes.new j 0 ≡ get_or (bytes_at mem.old base total) j 0 }
     ensures behind { result ≡ true → (j : ℕ) → total ≤ j → get_or bytes.new j 0 ≡ get_or bytes.old j 0 }
     ensures long { length bytes.new ≡ length bytes.old }
     ensures memory { mem.new ≡ mem.old }

@@ -1,5 +1,5 @@
-//! Loads and stores of the elements of vector registers, one after the other, by a plan: how many elements there are, which
-//! lanes have them, where they are in memory, and which registers they belong to.
+//! Loads and stores of the elements of vector registers, one after the other, by a plan: how many elements there are,
+//! which lanes have them, where they are in memory, and which registers they belong to.
 #![tactic(auto)]
 
 mod access;

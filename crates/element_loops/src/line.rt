@@ -23,7 +23,8 @@ use emu_bits::{Pred, Reg};
 use guest_mem::{AccessLog, Kind, Mem};
 use vec_regs::VecRegs;
 
-/// Writes a register whose lane k is made of the element at place `at + k * step` among bytes, or 0 where the lane isn't kept.
+/// Writes a register whose lane k is made of the element at place `at + k * step` among bytes, or 0 where the lane
+/// isn't kept.
 fn set_made(
     plan: &Plan,
     vec: &mut VecRegs,
@@ -38,7 +39,9 @@ fn set_made(
     requires few { whole ≤ vec.old.bits / 64 }
     requires room { (k : ℕ) → k < vec.old.bits / plan.now.bits → at + k * step + plan.now.bytes ≤ length bytes.now }
     // whatever function gives the lanes
-    ensures { (f : ℕ → ℕ) → ((k : ℕ) → k < vec.old.bits / plan.now.bits → f k ≡ (if is_kept whole pg plan.now.bits vec.old k then lane_at plan.now.is_signed plan.now.bits plan.now.bytes bytes.now at step k else 0))
+    ensures { (f : ℕ → ℕ)
+        → ((k : ℕ) → k < vec.old.bits / plan.now.bits → f k ≡ (if is_kept whole pg plan.now.bits vec.old k
+        then lane_at plan.now.is_signed plan.now.bits plan.now.bytes bytes.now at step k else 0))
         → vec.new ≡ with_lanes plan.now.bits f zd vec.old }
 {
     let count = vec.length().bits() / 64;
@@ -82,7 +85,9 @@ pub(crate) fn set_placed(
     requires few { whole ≤ vec.old.bits / 64 }
     requires room { (k : ℕ) → k < vec.old.bits / plan.now.bits → at + k * step + plan.now.bytes ≤ length bytes.now }
     // whatever function gives the lanes
-    ensures { (f : ℕ → ℕ) → ((k : ℕ) → k < vec.old.bits / plan.now.bits → f k ≡ (if is_kept whole pg plan.now.bits vec.old k then lane_at plan.now.is_signed plan.now.bits plan.now.bytes bytes.now at step k else 0))
+    ensures { (f : ℕ → ℕ)
+        → ((k : ℕ) → k < vec.old.bits / plan.now.bits → f k ≡ (if is_kept whole pg plan.now.bits vec.old k
+        then lane_at plan.now.is_signed plan.now.bits plan.now.bytes bytes.now at step k else 0))
         → vec.new ≡ with_lanes plan.now.bits f zd vec.old }
 {
     let _length = vec.length();
@@ -101,7 +106,8 @@ fn set_register(plan: &Plan, vec: &mut VecRegs, bytes: &[u8], line: &Run, j: u32
     requires room { plan.now.lanes * plan.now.registers * plan.now.bytes ≤ length bytes.now }
     requires few { line.now.whole ≤ vec.old.bits / 64 }
     // whatever function gives the lanes
-    ensures { (f : ℕ → ℕ) → ((k : ℕ) → k < plan.now.lanes → f k ≡ lane_in bytes.now plan.now line.now.pg line.now.whole vec.old j k)
+    ensures { (f : ℕ → ℕ)
+        → ((k : ℕ) → k < plan.now.lanes → f k ≡ lane_in bytes.now plan.now line.now.pg line.now.whole vec.old j k)
         → vec.new ≡ with_lanes plan.now.bits f ((plan.now.register + j) % 32) vec.old }
 {
     let pg = line.pg;
@@ -126,7 +132,8 @@ fn set_registers(plan: &Plan, vec: &mut VecRegs, bytes: &[u8], line: &Run)
     requires room { plan.now.lanes * plan.now.registers * plan.now.bytes ≤ length bytes.now }
     requires few { line.now.whole ≤ vec.old.bits / 64 }
     // whatever function gives the lanes
-    ensures { (f : ℕ → ℕ → ℕ) → ((j k : ℕ) → j < plan.now.registers → k < plan.now.lanes → f j k ≡ lane_in bytes.now plan.now line.now.pg line.now.whole vec.old j k)
+    ensures { (f : ℕ → ℕ → ℕ) → ((j k : ℕ) → j < plan.now.registers → k < plan.now.lanes
+        → f j k ≡ lane_in bytes.now plan.now line.now.pg line.now.whole vec.old j k)
         → vec.new ≡ with_taken plan.now.bits f plan.now.register plan.now.registers vec.old }
 {
     for j in 0..plan.registers {
@@ -153,7 +160,8 @@ fn take_bytes(plan: &Plan, vec: &mut VecRegs, bytes: &[u8], log: &mut AccessLog,
     requires empty { log.old.items ≡ [] }
     ensures logged { log.new.items ≡ accesses_of false (elements_of (layout_of plan.now vec.old)) }
     // whatever function gives the lanes
-    ensures registers { (f : ℕ → ℕ → ℕ) → ((j k : ℕ) → j < plan.now.registers → k < plan.now.lanes → f j k ≡ lane_in bytes.now plan.now line.now.pg line.now.whole vec.old j k)
+    ensures registers { (f : ℕ → ℕ → ℕ) → ((j k : ℕ) → j < plan.now.registers → k < plan.now.lanes
+        → f j k ≡ lane_in bytes.now plan.now line.now.pg line.now.whole vec.old j k)
         → vec.new ≡ with_taken plan.now.bits f plan.now.register plan.now.registers vec.old }
 {
     let _length = vec.length();
@@ -161,8 +169,8 @@ fn take_bytes(plan: &Plan, vec: &mut VecRegs, bytes: &[u8], log: &mut AccessLog,
     set_registers(plan, vec, bytes, line);
 }
 
-/// Loads the elements that end in the next page, and writes the registers, where both pages may be read, and says whether it did. Else
-/// nothing is changed. It isn't inlined, so that its buffer takes no time where it isn't used.
+/// Loads the elements that end in the next page, and writes the registers, where both pages may be read, and says
+/// whether it did. Else nothing is changed. It isn't inlined, so that its buffer takes no time where it isn't used.
 #[inline(never)]
 fn take_across(
     plan: &Plan,
@@ -177,7 +185,8 @@ fn take_across(
     requires target { plan.now.target ≡ Target.Registers }
     requires empty { log.old.items ≡ [] }
     ensures loaded { result ≡ true → AreLoaded mem.old (elements_of (layout_of plan.now vec.old)) log.new.items }
-    ensures registers { result ≡ true → vec.new ≡ loaded_by plan.now.target plan.now.is_signed (layout_of plan.now vec.old) mem.old vec.old }
+    ensures registers { result ≡ true
+        → vec.new ≡ loaded_by plan.now.target plan.now.is_signed (layout_of plan.now vec.old) mem.old vec.old }
     ensures kept { result ≡ false → vec.new ≡ vec.old }
     ensures unlogged { result ≡ false → log.new ≡ log.old }
     ensures memory { mem.new ≡ mem.old }
@@ -194,8 +203,8 @@ fn take_across(
     true
 }
 
-/// Loads the elements and writes the registers, where the elements of all lanes are in pages that may be read, and says whether it
-/// did. Else nothing is changed.
+/// Loads the elements and writes the registers, where the elements of all lanes are in pages that may be read, and says
+/// whether it did. Else nothing is changed.
 pub(crate) fn take_line(
     plan: &Plan,
     vec: &mut VecRegs,
@@ -209,7 +218,8 @@ pub(crate) fn take_line(
     requires target { plan.now.target ≡ Target.Registers }
     requires empty { log.old.items ≡ [] }
     ensures loaded { result ≡ true → AreLoaded mem.old (elements_of (layout_of plan.now vec.old)) log.new.items }
-    ensures registers { result ≡ true → vec.new ≡ loaded_by plan.now.target plan.now.is_signed (layout_of plan.now vec.old) mem.old vec.old }
+    ensures registers { result ≡ true
+        → vec.new ≡ loaded_by plan.now.target plan.now.is_signed (layout_of plan.now vec.old) mem.old vec.old }
     ensures kept { result ≡ false → vec.new ≡ vec.old }
     ensures unlogged { result ≡ false → log.new ≡ log.old }
     ensures memory { mem.new ≡ mem.old }

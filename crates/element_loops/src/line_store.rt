@@ -1,4 +1,5 @@
-//! Stores of elements that are one behind the other and aren't lanes as they are: narrowed ones, and those of structures.
+//! Stores of elements that are one behind the other and aren't lanes as they are: narrowed ones, and those of
+//! structures.
 ghost use Rattle.std.specs.Prelude.{◌≡◌, ◌≤◌, ◌<◌, ◌+◌, ◌*◌, ℕ, [], true, false, take, get_or, length};
 ghost use Rattle.std.specs.Int.{bytes_low_first};
 ghost use Rattle.sve_effects.specs.VectorElements.{elements_of};
@@ -109,15 +110,16 @@ fn are_all_on(plan: &Plan, vec: &VecRegs, line: &Run) -> bool
     line.whole == vec.length().bits() / 64
 }
 
-/// Stores the elements of all lanes at once, where all are on and they are in pages that may be written, and says whether it did. Else
-/// nothing is changed. It isn't inlined, so that its buffer takes no time where it isn't used.
+/// Stores the elements of all lanes at once, where all are on and they are in pages that may be written, and says
+/// whether it did. Else nothing is changed. It isn't inlined, so that its buffer takes no time where it isn't used.
 #[inline(never)]
 fn store_all(plan: &Plan, vec: &VecRegs, mem: &mut Mem, log: &mut AccessLog, line: &Run) -> bool
     requires plan { IsPlan plan.now vec.now }
     requires line { IsLine line.now.base line.now.pg line.now.whole plan.now vec.now }
     requires target { plan.now.target ≡ Target.Registers }
     requires empty { log.old.items ≡ [] }
-    ensures stored { result ≡ true → let l = layout_of plan.now vec.now in AreStored (stored_by plan.now.target l vec.now) mem.old (elements_of l) mem.new log.new.items }
+    ensures stored { result ≡ true → let l = layout_of plan.now vec.now in
+        AreStored (stored_by plan.now.target l vec.now) mem.old (elements_of l) mem.new log.new.items }
     ensures kept { result ≡ false → mem.new ≡ mem.old }
     ensures unlogged { result ≡ false → log.new ≡ log.old }
 {
@@ -138,7 +140,8 @@ fn store_all(plan: &Plan, vec: &VecRegs, mem: &mut Mem, log: &mut AccessLog, lin
 fn store_registers(plan: &Plan, vec: &VecRegs, mem: &mut Mem, log: &mut AccessLog) -> bool
     requires plan { IsPlan plan.now vec.now }
     requires empty { log.old.items ≡ [] }
-    ensures stored { result ≡ true → let l = layout_of plan.now vec.now in AreStored (stored_by plan.now.target l vec.now) mem.old (elements_of l) mem.new log.new.items }
+    ensures stored { result ≡ true → let l = layout_of plan.now vec.now in
+        AreStored (stored_by plan.now.target l vec.now) mem.old (elements_of l) mem.new log.new.items }
     ensures kept { result ≡ false → mem.new ≡ mem.old }
     ensures unlogged { result ≡ false → log.new ≡ log.old }
 {
@@ -152,7 +155,8 @@ fn store_registers(plan: &Plan, vec: &VecRegs, mem: &mut Mem, log: &mut AccessLo
 pub(crate) fn store_line(plan: &Plan, vec: &VecRegs, mem: &mut Mem, log: &mut AccessLog) -> bool
     requires plan { IsPlan plan.now vec.now }
     requires empty { log.old.items ≡ [] }
-    ensures stored { result ≡ true → let l = layout_of plan.now vec.now in AreStored (stored_by plan.now.target l vec.now) mem.old (elements_of l) mem.new log.new.items }
+    ensures stored { result ≡ true → let l = layout_of plan.now vec.now in
+        AreStored (stored_by plan.now.target l vec.now) mem.old (elements_of l) mem.new log.new.items }
     ensures kept { result ≡ false → mem.new ≡ mem.old }
     ensures unlogged { result ≡ false → log.new ≡ log.old }
 {

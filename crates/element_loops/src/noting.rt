@@ -18,7 +18,8 @@ use vec_regs::VecRegs;
 fn note_lane(plan: &Plan, log: &mut AccessLog, at: u64, write: bool)
     requires some { 1 ≤ plan.now.registers }
     requires room { array_vec_len log.old + plan.now.registers ≤ 1024 }
-    ensures items { log.new.items ≡ log.old.items ++ each plan.now.registers (λ i. record { address = address (at + i * plan.now.bytes); bytes = plan.now.bytes; write = write }) }
+    ensures items { log.new.items ≡ log.old.items ++ each plan.now.registers
+        (λ i. record { address = address (at + i * plan.now.bytes); bytes = plan.now.bytes; write = write }) }
     ensures len { array_vec_len log.new ≡ array_vec_len log.old + plan.now.registers }
 {
     if plan.registers == 1 {
@@ -32,8 +33,8 @@ fn note_lane(plan: &Plan, log: &mut AccessLog, at: u64, write: bool)
     }
 }
 
-/// Notes the elements of lane k, the first of which is at an address, if it has some, and answers how many lanes are done:
-/// where it has none, all of those that are seen at once to have none.
+/// Notes the elements of lane k, the first of which is at an address, if it has some, and answers how many lanes are
+/// done: where it has none, all of those that are seen at once to have none.
 fn note_next(
     plan: &Plan,
     vec: &VecRegs,

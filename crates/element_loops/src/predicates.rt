@@ -55,7 +55,8 @@ fn take_line(
     requires line { IsLine line.now.base line.now.pg line.now.whole plan.now vec.old }
     requires empty { log.old.items ≡ [] }
     ensures loaded { result ≡ true → AreLoaded mem.old (elements_of (layout_of plan.now vec.old)) log.new.items }
-    ensures registers { result ≡ true → vec.new ≡ loaded_by plan.now.target plan.now.is_signed (layout_of plan.now vec.old) mem.old vec.old }
+    ensures registers { result ≡ true
+        → vec.new ≡ loaded_by plan.now.target plan.now.is_signed (layout_of plan.now vec.old) mem.old vec.old }
     ensures kept { result ≡ false → vec.new ≡ vec.old }
     ensures unlogged { result ≡ false → log.new ≡ log.old }
     ensures memory { mem.new ≡ mem.old }
@@ -82,7 +83,8 @@ pub(crate) fn take_bits(
     requires target { plan.now.target ≡ Target.Predicate pt }
     requires empty { log.old.items ≡ [] }
     ensures loaded { result ≡ true → AreLoaded mem.old (elements_of (layout_of plan.now vec.old)) log.new.items }
-    ensures registers { result ≡ true → vec.new ≡ loaded_by plan.now.target plan.now.is_signed (layout_of plan.now vec.old) mem.old vec.old }
+    ensures registers { result ≡ true
+        → vec.new ≡ loaded_by plan.now.target plan.now.is_signed (layout_of plan.now vec.old) mem.old vec.old }
     ensures kept { result ≡ false → vec.new ≡ vec.old }
     ensures unlogged { result ≡ false → log.new ≡ log.old }
     ensures memory { mem.new ≡ mem.old }
@@ -117,7 +119,8 @@ fn put_line(
     requires target { plan.now.target ≡ Target.Predicate pt }
     requires line { IsLine line.now.base line.now.pg line.now.whole plan.now vec.now }
     requires empty { log.old.items ≡ [] }
-    ensures stored { result ≡ true → let l = layout_of plan.now vec.now in AreStored (stored_by plan.now.target l vec.now) mem.old (elements_of l) mem.new log.new.items }
+    ensures stored { result ≡ true → let l = layout_of plan.now vec.now in
+        AreStored (stored_by plan.now.target l vec.now) mem.old (elements_of l) mem.new log.new.items }
     ensures kept { result ≡ false → mem.new ≡ mem.old }
     ensures unlogged { result ≡ false → log.new ≡ log.old }
 {
@@ -142,7 +145,8 @@ pub(crate) fn put_bits(
     requires plan { IsPlan plan.now vec.now }
     requires target { plan.now.target ≡ Target.Predicate pt }
     requires empty { log.old.items ≡ [] }
-    ensures stored { result ≡ true → let l = layout_of plan.now vec.now in AreStored (stored_by plan.now.target l vec.now) mem.old (elements_of l) mem.new log.new.items }
+    ensures stored { result ≡ true → let l = layout_of plan.now vec.now in
+        AreStored (stored_by plan.now.target l vec.now) mem.old (elements_of l) mem.new log.new.items }
     ensures kept { result ≡ false → mem.new ≡ mem.old }
     ensures unlogged { result ≡ false → log.new ≡ log.old }
 {

@@ -21,8 +21,8 @@ use emu_bits::Pred;
 use guest_mem::{Access, AccessLog, Kind, Mem};
 use vec_regs::VecRegs;
 
-/// Loads the one element, which lane k has, and writes it to each active lane, where it is in a page that may be read, and says whether
-/// it did. Else nothing is changed.
+/// Loads the one element, which lane k has, and writes it to each active lane, where it is in a page that may be read,
+/// and says whether it did. Else nothing is changed.
 fn take_found(
     plan: &Plan,
     vec: &mut VecRegs,
@@ -38,7 +38,8 @@ fn take_found(
     requires within { k < plan.now.lanes }
     requires empty { log.old.items ≡ [] }
     ensures loaded { result ≡ true → AreLoaded mem.old (elements_of (layout_of plan.now vec.old)) log.new.items }
-    ensures registers { result ≡ true → vec.new ≡ loaded_by plan.now.target plan.now.is_signed (layout_of plan.now vec.old) mem.old vec.old }
+    ensures registers { result ≡ true
+        → vec.new ≡ loaded_by plan.now.target plan.now.is_signed (layout_of plan.now vec.old) mem.old vec.old }
     ensures kept { result ≡ false → vec.new ≡ vec.old }
     ensures unlogged { result ≡ false → log.new ≡ log.old }
     ensures memory { mem.new ≡ mem.old }
@@ -74,7 +75,8 @@ pub(crate) fn take_one(
     requires target { plan.now.target ≡ Target.Replicated pg }
     requires empty { log.old.items ≡ [] }
     ensures loaded { result ≡ true → AreLoaded mem.old (elements_of (layout_of plan.now vec.old)) log.new.items }
-    ensures registers { result ≡ true → vec.new ≡ loaded_by plan.now.target plan.now.is_signed (layout_of plan.now vec.old) mem.old vec.old }
+    ensures registers { result ≡ true
+        → vec.new ≡ loaded_by plan.now.target plan.now.is_signed (layout_of plan.now vec.old) mem.old vec.old }
     ensures kept { result ≡ false → vec.new ≡ vec.old }
     ensures unlogged { result ≡ false → log.new ≡ log.old }
     ensures memory { mem.new ≡ mem.old }
@@ -116,8 +118,8 @@ fn quad_of(plan: &Plan, vec: &VecRegs) -> Option<Run>
     })
 }
 
-/// Loads 128 bits of elements and writes them again and again, where they are in a page that may be read, and says whether it did. Else
-/// nothing is changed.
+/// Loads 128 bits of elements and writes them again and again, where they are in a page that may be read, and says
+/// whether it did. Else nothing is changed.
 fn take_first(
     plan: &Plan,
     vec: &mut VecRegs,
@@ -132,7 +134,8 @@ fn take_first(
     requires front { IsFront line.now.front plan.now vec.old }
     requires empty { log.old.items ≡ [] }
     ensures loaded { result ≡ true → AreLoaded mem.old (elements_of (layout_of plan.now vec.old)) log.new.items }
-    ensures registers { result ≡ true → vec.new ≡ loaded_by plan.now.target plan.now.is_signed (layout_of plan.now vec.old) mem.old vec.old }
+    ensures registers { result ≡ true
+        → vec.new ≡ loaded_by plan.now.target plan.now.is_signed (layout_of plan.now vec.old) mem.old vec.old }
     ensures kept { result ≡ false → vec.new ≡ vec.old }
     ensures unlogged { result ≡ false → log.new ≡ log.old }
     ensures memory { mem.new ≡ mem.old }
@@ -168,7 +171,8 @@ pub(crate) fn take_quad(plan: &Plan, vec: &mut VecRegs, mem: &mut Mem, log: &mut
     requires target { plan.now.target ≡ Target.Repeated }
     requires empty { log.old.items ≡ [] }
     ensures loaded { result ≡ true → AreLoaded mem.old (elements_of (layout_of plan.now vec.old)) log.new.items }
-    ensures registers { result ≡ true → vec.new ≡ loaded_by plan.now.target plan.now.is_signed (layout_of plan.now vec.old) mem.old vec.old }
+    ensures registers { result ≡ true
+        → vec.new ≡ loaded_by plan.now.target plan.now.is_signed (layout_of plan.now vec.old) mem.old vec.old }
     ensures kept { result ≡ false → vec.new ≡ vec.old }
     ensures unlogged { result ≡ false → log.new ≡ log.old }
     ensures memory { mem.new ≡ mem.old }

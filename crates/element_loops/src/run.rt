@@ -17,8 +17,8 @@ use emu_bits::Pred;
 use guest_mem::{AccessLog, Mem};
 use vec_regs::VecRegs;
 
-/// Where elements begin, how many lanes have one, before the first that may not, how many words have one in all of their
-/// lanes, before the first that may not, and the predicate of the lanes behind these words.
+/// Where elements begin, how many lanes have one, before the first that may not, how many words have one in all of
+/// their lanes, before the first that may not, and the predicate of the lanes behind these words.
 #[derive(Clone, Copy)]
 pub struct Run {
     pub base: u64,
@@ -124,7 +124,8 @@ fn load_registers(plan: &Plan, vec: &mut VecRegs, mem: &mut Mem, log: &mut Acces
     requires plan { IsPlan plan.now vec.old }
     requires empty { log.old.items ≡ [] }
     ensures loaded { result ≡ true → AreLoaded mem.old (elements_of (layout_of plan.now vec.old)) log.new.items }
-    ensures registers { result ≡ true → vec.new ≡ loaded_by plan.now.target plan.now.is_signed (layout_of plan.now vec.old) mem.old vec.old }
+    ensures registers { result ≡ true
+        → vec.new ≡ loaded_by plan.now.target plan.now.is_signed (layout_of plan.now vec.old) mem.old vec.old }
     ensures kept { result ≡ false → vec.new ≡ vec.old }
     ensures unlogged { result ≡ false → log.new ≡ log.old }
     ensures memory { mem.new ≡ mem.old }
@@ -135,13 +136,14 @@ fn load_registers(plan: &Plan, vec: &mut VecRegs, mem: &mut Mem, log: &mut Acces
     }
 }
 
-/// Loads elements that are one behind the other, or the one element, and writes the registers, where all of the elements may be read
-/// and nothing is in the way, and says whether it did. Else nothing is changed.
+/// Loads elements that are one behind the other, or the one element, and writes the registers, where all of the
+/// elements may be read and nothing is in the way, and says whether it did. Else nothing is changed.
 pub fn load_run(plan: &Plan, vec: &mut VecRegs, mem: &mut Mem, log: &mut AccessLog) -> bool
     requires plan { IsPlan plan.now vec.old }
     requires empty { log.old.items ≡ [] }
     ensures loaded { result ≡ true → AreLoaded mem.old (elements_of (layout_of plan.now vec.old)) log.new.items }
-    ensures registers { result ≡ true → vec.new ≡ loaded_by plan.now.target plan.now.is_signed (layout_of plan.now vec.old) mem.old vec.old }
+    ensures registers { result ≡ true
+        → vec.new ≡ loaded_by plan.now.target plan.now.is_signed (layout_of plan.now vec.old) mem.old vec.old }
     ensures kept { result ≡ false → vec.new ≡ vec.old }
     ensures unlogged { result ≡ false → log.new ≡ log.old }
     ensures memory { mem.new ≡ mem.old }

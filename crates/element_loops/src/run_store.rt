@@ -34,8 +34,8 @@ fn put_register(vec: &VecRegs, r: Reg, bytes: &mut [u8])
     }
 }
 
-/// Stores d lanes of a register from lane k on, all of which are on, where they fit their page and it may be written, and answers how
-/// many were stored.
+/// Stores d lanes of a register from lane k on, all of which are on, where they fit their page and it may be written,
+/// and answers how many were stored.
 fn put_lanes(
     plan: &Plan,
     vec: &VecRegs,
@@ -51,7 +51,8 @@ fn put_lanes(
     requires within { k + d ≤ plan.now.lanes }
     requires fits { address (run.now.base + k * plan.now.bytes) % page_size + d * plan.now.bytes ≤ page_size }
     requires on { (i : ℕ) → k ≤ i → i < k + d → let l = layout_of plan.now vec.now in l.is_on i ≡ true }
-    requires bytes { (j : ℕ) → j < vec.now.bits / 8 → get_or bytes.now j 0 ≡ get_or (read_z vec.now ((plan.now.register + 0) % 32)) j 0 }
+    requires bytes { (j : ℕ) → j < vec.now.bits / 8
+        → get_or bytes.now j 0 ≡ get_or (read_z vec.now ((plan.now.register + 0) % 32)) j 0 }
     requires whole { length (read_z vec.now ((plan.now.register + 0) % 32)) ≡ vec.now.bits / 8 }
     requires long { length bytes.now ≡ 256 }
     requires count { array_vec_len log.old ≤ k }
@@ -105,8 +106,8 @@ fn lanes_on(plan: &Plan, vec: &VecRegs, run: &Run, k: u32, most: u32) -> u32
     active_from(vec, pg, plan.bits, k, most)
 }
 
-/// Stores the lanes of a register from lane k on up to the first that isn't on, as far as they are in one page, where it may be
-/// written, and answers how many were stored.
+/// Stores the lanes of a register from lane k on up to the first that isn't on, as far as they are in one page, where
+/// it may be written, and answers how many were stored.
 fn put_some(
     plan: &Plan,
     vec: &VecRegs,
@@ -120,7 +121,8 @@ fn put_some(
     requires run { IsRun run.now.base run.now.pg run.now.whole plan.now vec.now }
     requires front { IsFront run.now.front plan.now vec.now }
     requires within { k < plan.now.lanes }
-    requires bytes { (j : ℕ) → j < vec.now.bits / 8 → get_or bytes.now j 0 ≡ get_or (read_z vec.now ((plan.now.register + 0) % 32)) j 0 }
+    requires bytes { (j : ℕ) → j < vec.now.bits / 8
+        → get_or bytes.now j 0 ≡ get_or (read_z vec.now ((plan.now.register + 0) % 32)) j 0 }
     requires whole { length (read_z vec.now ((plan.now.register + 0) % 32)) ≡ vec.now.bits / 8 }
     requires long { length bytes.now ≡ 256 }
     requires count { array_vec_len log.old ≤ k }
@@ -141,8 +143,8 @@ fn put_some(
     put_lanes(plan, vec, mem, log, run, bytes, k, d)
 }
 
-/// Stores as many lanes from lane k on as `put_some` does, or else lane k by itself, which may be off, and answers how many lanes are
-/// done.
+/// Stores as many lanes from lane k on as `put_some` does, or else lane k by itself, which may be off, and answers how
+/// many lanes are done.
 fn put_next(
     plan: &Plan,
     vec: &VecRegs,
@@ -156,7 +158,8 @@ fn put_next(
     requires run { IsRun run.now.base run.now.pg run.now.whole plan.now vec.now }
     requires front { IsFront run.now.front plan.now vec.now }
     requires within { k < plan.now.lanes }
-    requires bytes { (j : ℕ) → j < vec.now.bits / 8 → get_or bytes.now j 0 ≡ get_or (read_z vec.now ((plan.now.register + 0) % 32)) j 0 }
+    requires bytes { (j : ℕ) → j < vec.now.bits / 8
+        → get_or bytes.now j 0 ≡ get_or (read_z vec.now ((plan.now.register + 0) % 32)) j 0 }
     requires whole { length (read_z vec.now ((plan.now.register + 0) % 32)) ≡ vec.now.bits / 8 }
     requires long { length bytes.now ≡ 256 }
     requires count { array_vec_len log.old ≤ k }
@@ -165,7 +168,8 @@ fn put_next(
     // whatever the memory was before the first store
     ensures stored { (m : Memory) → let l = layout_of plan.now vec.now in
         AreStored (stored_by plan.now.target l vec.now) m (elements_below l k) mem.old log.old.items
-        → MatchResult result (λ d. AreStored (stored_by plan.now.target l vec.now) m (elements_below l (k + d)) mem.new log.new.items)
+        → MatchResult result
+        (λ d. AreStored (stored_by plan.now.target l vec.now) m (elements_below l (k + d)) mem.new log.new.items)
         (λ trap. StopsStore (stored_by plan.now.target l vec.now) m (elements_of l) mem.new log.new.items trap) }
 {
     if !is_on(plan, vec, k) {

@@ -1,5 +1,21 @@
 //! The loop of a store over its elements.
-ghost use Rattle.std.specs.Prelude.{◌≡◌, ◌≤◌, ◌<◌, ◌+◌, ◌*◌, ◌/◌, ◌^◌, ℕ, [], MatchResult, Bool, false, true, get_or, if◌then◌else◌};
+ghost use Rattle.std.specs.Prelude.{
+  ◌≡◌,
+  ◌≤◌,
+  ◌<◌,
+  ◌+◌,
+  ◌*◌,
+  ◌/◌,
+  ◌^◌,
+  ℕ,
+  [],
+  MatchResult,
+  Bool,
+  false,
+  true,
+  get_or,
+  if◌then◌else◌,
+};
 ghost use Rattle.arrayvec.specs.ArrayVec.{array_vec_len};
 ghost use Rattle.emu_bits.specs.Fields.{bit};
 ghost use Rattle.emu_bits.specs.Operations.{number_of_bits};
@@ -49,7 +65,8 @@ pub(crate) fn stored_value(plan: &Plan, vec: &VecRegs, k: u32, j: u32) -> u64
     requires plan { IsPlan plan.now vec.now }
     requires lane { k < plan.now.lanes }
     requires register { j < plan.now.registers }
-    ensures { let l = layout_of plan.now vec.now in result ≡ stored_by plan.now.target l vec.now (element_of_lane l k j) }
+    ensures { let l = layout_of plan.now vec.now in result
+        ≡ stored_by plan.now.target l vec.now (element_of_lane l k j) }
 {
     match plan.target {
         Target::Predicate(pt) => {
@@ -75,7 +92,8 @@ fn store_lane(
     // whatever the memory was before the first store
     ensures { (m : Memory) → let l = layout_of plan.now vec.now in
         AreStored (stored_by plan.now.target l vec.now) m (elements_below l k) mem.old log.old.items
-        → MatchResult result (λ x. AreStored (stored_by plan.now.target l vec.now) m (elements_below l (k + 1)) mem.new log.new.items)
+        → MatchResult result
+        (λ x. AreStored (stored_by plan.now.target l vec.now) m (elements_below l (k + 1)) mem.new log.new.items)
         (λ trap. StopsStore (stored_by plan.now.target l vec.now) m (elements_of l) mem.new log.new.items trap) }
 {
     for j in 0..plan.registers {
@@ -104,7 +122,8 @@ pub(crate) fn put_lane(
     // whatever the memory was before the first store
     ensures { (m : Memory) → let l = layout_of plan.now vec.now in
         AreStored (stored_by plan.now.target l vec.now) m (elements_below l k) mem.old log.old.items
-        → MatchResult result (λ x. AreStored (stored_by plan.now.target l vec.now) m (elements_below l (k + 1)) mem.new log.new.items)
+        → MatchResult result
+        (λ x. AreStored (stored_by plan.now.target l vec.now) m (elements_below l (k + 1)) mem.new log.new.items)
         (λ trap. StopsStore (stored_by plan.now.target l vec.now) m (elements_of l) mem.new log.new.items trap) }
 {
     if is_on(plan, vec, k) {

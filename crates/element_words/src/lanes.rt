@@ -61,7 +61,8 @@ fn word(e: u32, n: u32, is_signed: bool, bytes: &[u8], at: usize, step: usize, k
     requires most { n ≤ 8 }
     requires few { k ≤ 256 }
     requires room { (q : ℕ) → q < 64 / e → at + (k + q) * step + n ≤ length bytes.now }
-    ensures { (t : ℕ) → t < 8 → result / 2 ^ (8 * t) % 256 ≡ byte_in (e / 8) (λ q. lane_at is_signed e n bytes.now at step (k + q)) t }
+    ensures { (t : ℕ) → t < 8
+        → result / 2 ^ (8 * t) % 256 ≡ byte_in (e / 8) (λ q. lane_at is_signed e n bytes.now at step (k + q)) t }
 {
     let m = modulus(e);
     let mut so_far: u64 = 0;
@@ -72,8 +73,8 @@ fn word(e: u32, n: u32, is_signed: bool, bytes: &[u8], at: usize, step: usize, k
     so_far
 }
 
-/// Makes the first `count` words of a register, lane by lane. The sizes are constants where it is called, so that each pair of them
-/// is compiled by itself.
+/// Makes the first `count` words of a register, lane by lane. The sizes are constants where it is called, so that each
+/// pair of them is compiled by itself.
 #[inline(always)]
 pub(crate) fn put_each(
     e: u32,
@@ -91,7 +92,8 @@ pub(crate) fn put_each(
     requires few { count ≤ 32 }
     requires long { count ≤ length words.old }
     requires room { (k : ℕ) → k < count * (64 / e) → at + k * step + n ≤ length bytes.now }
-    ensures bytes { (j : ℕ) → j < 8 * count → byte_of 8 words.new j ≡ byte_in (e / 8) (lane_at is_signed e n bytes.now at step) j }
+    ensures bytes { (j : ℕ) → j < 8 * count
+        → byte_of 8 words.new j ≡ byte_in (e / 8) (lane_at is_signed e n bytes.now at step) j }
     ensures above { (k : ℕ) → count ≤ k → get_or words.new k 0 ≡ get_or words.old k 0 }
     ensures length { length words.new ≡ length words.old }
 {
@@ -117,7 +119,8 @@ pub(crate) fn put_extended(
     requires few { count ≤ 32 }
     requires long { count ≤ length words.old }
     requires room { (k : ℕ) → k < count * (64 / e) → at + k * step + n ≤ length bytes.now }
-    ensures bytes { (j : ℕ) → j < 8 * count → byte_of 8 words.new j ≡ byte_in (e / 8) (lane_at is_signed e n bytes.now at step) j }
+    ensures bytes { (j : ℕ) → j < 8 * count
+        → byte_of 8 words.new j ≡ byte_in (e / 8) (lane_at is_signed e n bytes.now at step) j }
     ensures above { (k : ℕ) → count ≤ k → get_or words.new k 0 ≡ get_or words.old k 0 }
     ensures length { length words.new ≡ length words.old }
 {

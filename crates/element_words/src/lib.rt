@@ -1,5 +1,5 @@
-//! The words of registers that elements in memory make: lanes whose elements stand at equal distances among bytes, one behind the
-//! other, every second, every third or every fourth.
+//! The words of registers that elements in memory make: lanes whose elements stand at equal distances among bytes, one
+//! behind the other, every second, every third or every fourth.
 #![tactic(auto)]
 
 mod lanes;
@@ -14,8 +14,8 @@ ghost use Rattle.element_words.specs.Placed.{lane_at};
 use crate::lanes::put_extended;
 use crate::whole::{copy_words, put_apart};
 
-/// Makes the first `count` words of a register: lane k, of e bits, is the element of n bytes at place `at + k * step`, little-endian
-/// and extended to the lane by its sign or by zeros.
+/// Makes the first `count` words of a register: lane k, of e bits, is the element of n bytes at place `at + k * step`,
+/// little-endian and extended to the lane by its sign or by zeros.
 pub fn put_words(
     e: u32,
     n: u32,
@@ -32,7 +32,8 @@ pub fn put_words(
     requires few { count ≤ 32 }
     requires long { count ≤ length words.old }
     requires room { (k : ℕ) → k < count * (64 / e) → at + k * step + n ≤ length bytes.now }
-    ensures bytes { (j : ℕ) → j < 8 * count → byte_of 8 words.new j ≡ byte_in (e / 8) (lane_at is_signed e n bytes.now at step) j }
+    ensures bytes { (j : ℕ) → j < 8 * count
+        → byte_of 8 words.new j ≡ byte_in (e / 8) (lane_at is_signed e n bytes.now at step) j }
     ensures above { (k : ℕ) → count ≤ k → get_or words.new k 0 ≡ get_or words.old k 0 }
     ensures length { length words.new ≡ length words.old }
 {

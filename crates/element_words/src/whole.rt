@@ -15,7 +15,8 @@ pub(crate) fn copy_words(e: u32, n: u32, bytes: &[u8], at: usize, count: usize, 
     requires few { count ≤ 32 }
     requires long { count ≤ length words.old }
     requires room { (k : ℕ) → k < count * (64 / e) → at + k * n + n ≤ length bytes.now }
-    ensures bytes { (j : ℕ) → j < 8 * count → byte_of 8 words.new j ≡ byte_in (e / 8) (lane_at false e n bytes.now at n) j }
+    ensures bytes { (j : ℕ) → j < 8 * count
+        → byte_of 8 words.new j ≡ byte_in (e / 8) (lane_at false e n bytes.now at n) j }
     ensures above { (k : ℕ) → count ≤ k → get_or words.new k 0 ≡ get_or words.old k 0 }
     ensures length { length words.new ≡ length words.old }
 {
@@ -39,7 +40,8 @@ pub(crate) fn put_apart(
     requires few { count ≤ 32 }
     requires long { count ≤ length words.old }
     requires room { (k : ℕ) → k < count * (64 / e) → at + k * step + n ≤ length bytes.now }
-    ensures bytes { (j : ℕ) → j < 8 * count → byte_of 8 words.new j ≡ byte_in (e / 8) (lane_at false e n bytes.now at step) j }
+    ensures bytes { (j : ℕ) → j < 8 * count
+        → byte_of 8 words.new j ≡ byte_in (e / 8) (lane_at false e n bytes.now at step) j }
     ensures above { (k : ℕ) → count ≤ k → get_or words.new k 0 ≡ get_or words.old k 0 }
     ensures length { length words.new ≡ length words.old }
 {

@@ -31,9 +31,9 @@ pub struct Image {
     pub segments: ArrayVec<Segment, 64>,
 }
 
-/// The image of a file where at most `limit` pages may be mapped, the stack's 256 among them, or the first fault of the file
-/// in the order of the checks: first those of the header, then of each program header in order, last `NoSegments` and
-/// `TooManyPages`.
+/// The image of a file where at most `limit` pages may be mapped, the stack's 256 among them, or the first fault of the
+/// file in the order of the checks: first those of the header, then of each program header in order, last `NoSegments`
+/// and `TooManyPages`.
 pub fn read(bytes: &[u8], limit: u32) -> Result<Image, ElfFault>
     ensures image { seen result ≡ elf bytes.now limit }
     ensures loadable { IfOk (seen result) (IsLoadable bytes.now limit) }

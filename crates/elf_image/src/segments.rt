@@ -1,7 +1,21 @@
 //! The segments of the program headers.
 ghost use Rattle.std.specs.Prelude.{◌≡◌, ◌+◌, ◌<◌, ◌≤◌, ◌^◌, length, [], IfOk};
 ghost use Rattle.std.specs.List.{All};
-ghost use Rattle.emu_system.specs.Image.{header_at, is_load, is_segment, segment_of, segment_fault, segments_from, overlaps_any, share_a_page, first_page, end_page, headers_address, pages_of, e_phoff};
+ghost use Rattle.emu_system.specs.Image.{
+  header_at,
+  is_load,
+  is_segment,
+  segment_of,
+  segment_fault,
+  segments_from,
+  overlaps_any,
+  share_a_page,
+  first_page,
+  end_page,
+  headers_address,
+  pages_of,
+  e_phoff,
+};
 ghost use Rattle.elf_image.specs.Images.{seen_header, seen_segments, HasHeaders};
 ghost use Rattle.elf_image.specs.Loadable.{AreLoadable};
 

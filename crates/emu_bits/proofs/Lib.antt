@@ -5,3 +5,4 @@ pub mod Elements
 pub mod AllBelow
 pub mod Places
 pub mod Encoding
+pub mod LineNumbers

@@ -14,7 +14,8 @@ pub struct Flags {
 }
 
 impl Flags {
-    /// The flags of the number NZCV, N at the top, as a conditional compare's field and bits 31 to 28 of the system register have it.
+    /// The flags of the number NZCV, N at the top, as a conditional compare's field and bits 31 to 28 of the system
+    /// register have it.
     pub fn of_number(number: U<4>) -> Self
         ensures { result ≡ flags_of_number number }
     {

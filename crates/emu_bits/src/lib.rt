@@ -5,6 +5,7 @@ pub mod bitmasks;
 pub mod fields;
 pub mod flags;
 pub mod insn_words;
+mod macros;
 pub mod numbers;
 
 pub use bitmasks::{bitmask, bitmask_fields};

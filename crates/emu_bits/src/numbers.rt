@@ -1,6 +1,15 @@
 //! Numbers of so many bits, read as signed and extended, and sums with their flags.
 ghost use Rattle.std.specs.Prelude.{◌≡◌, ◌-◌, ◌<◌, ◌≤◌, ◌^◌, ◌⊎◌, pos, ◌+ℤ◌};
-ghost use Rattle.emu_bits.specs.Numbers.{unsigned, signed, sign_extended, extended_bits, extended, sum_of, flags_of_sum, is_out_of_range};
+ghost use Rattle.emu_bits.specs.Numbers.{
+  unsigned,
+  signed,
+  sign_extended,
+  extended_bits,
+  extended,
+  sum_of,
+  flags_of_sum,
+  is_out_of_range,
+};
 ghost use Rattle.emu_bits.specs.Fields.{bit};
 
 use crate::fields::U;
@@ -42,7 +51,8 @@ pub fn sign_extended(v: u64, n: u32, w: u32) -> u64
     low_bits(sext(v, n).cast_unsigned(), w)
 }
 
-/// The low 8, 16, 32 or 64 bits of a number, extended to 64 bits: 0 uxtb, 1 uxth, 2 uxtw, 3 uxtx, 4 sxtb, 5 sxth, 6 sxtw, 7 sxtx.
+/// The low 8, 16, 32 or 64 bits of a number, extended to 64 bits: 0 uxtb, 1 uxth, 2 uxtw, 3 uxtx, 4 sxtb, 5 sxth, 6
+/// sxtw, 7 sxtx.
 pub fn extended(ext: U<3>, v: u64) -> u64
     ensures { result ≡ extended ext v }
 {

@@ -5,7 +5,17 @@ ghost use Rattle.emu_system.specs.Start.{with_input};
 ghost use Rattle.emu_system.specs.SystemCall.{action};
 ghost use Rattle.linux_calls.specs.Ends.{OfInput, is_fault};
 ghost use Rattle.linux_calls.specs.Names.{NamesRead, NamesWrite};
-ghost use Rattle.emu_machine.specs.Ends.{step_end, step_by, left_by, is_undone, is_unput, Becomes, TakesWithin, PutsAlways, IsKept};
+ghost use Rattle.emu_machine.specs.Ends.{
+  step_end,
+  step_by,
+  left_by,
+  is_undone,
+  is_unput,
+  Becomes,
+  TakesWithin,
+  PutsAlways,
+  IsKept,
+};
 ghost use Rattle.emu_machine.specs.Machines.{call_made, has_ended};
 
 use crate::ends::StepEnd;
@@ -24,15 +34,21 @@ impl Machine {
     ) -> StepEnd
         requires going { has_ended self.old ≡ false }
         requires room { self.old.parts.steps < 2 ^ 64 - 1 }
-        ensures state { Becomes call_made self.old.parts self.new.parts (I.left input.old) (I.left input.new) (is_undone result) }
-        ensures machine { OfInput (action self.old.parts) (I.left input.old) (λ bytes. is_undone result ≡ false → self.new.parts ≡ (call_made (with_input self.old.parts bytes)).parts) }
+        ensures state { Becomes call_made self.old.parts self.new.parts (I.left input.old) (I.left input.new)
+            (is_undone result) }
+        ensures machine { OfInput (action self.old.parts) (I.left input.old)
+            (λ bytes. is_undone result ≡ false → self.new.parts ≡ (call_made (with_input self.old.parts bytes)).parts) }
         ensures input { TakesWithin call_made self.old.parts (I.left input.old) (I.left input.new) (is_undone result) }
-        ensures output { PutsAlways (λ st. (call_made st).output) self.old.parts (O.held output.old) (O.held output.new) (is_undone result) }
-        ensures errors { PutsAlways (λ st. (call_made st).errors) self.old.parts (E.held errors.old) (E.held errors.new) (is_undone result) }
+        ensures output { PutsAlways (λ st. (call_made st).output) self.old.parts (O.held output.old) (O.held output.new)
+            (is_undone result) }
+        ensures errors { PutsAlways (λ st. (call_made st).errors) self.old.parts (E.held errors.old) (E.held errors.new)
+            (is_undone result) }
         ensures end { is_undone result ≡ false → result ≡ step_end self.new.parts.ended }
-        ensures ends { (bytes : List ℕ) → is_undone result ≡ false → result ≡ step_end (call_made (with_input self.old.parts bytes)).parts.ended }
+        ensures ends { (bytes : List ℕ) → is_undone result ≡ false
+            → result ≡ step_end (call_made (with_input self.old.parts bytes)).parts.ended }
         ensures counted { result ≡ StepEnd.Going → self.new.parts.steps ≡ self.old.parts.steps + 1 }
-        ensures kept { is_undone result ≡ true → IsKept self.old.parts self.new.parts (I.left input.old) (I.left input.new) }
+        ensures kept { is_undone result ≡ true
+            → IsKept self.old.parts self.new.parts (I.left input.old) (I.left input.new) }
         ensures unstored { is_unput result ≡ true → self.new.parts ≡ self.old.parts }
         ensures accesses { self.new.accesses ≡ self.old.accesses }
         ensures failed { self.new.failed ≡ is_undone result }

@@ -1,5 +1,5 @@
-//! What a world of several contexts asks of its machine: other registers, single accesses to the memory, and the steps of calls that
-//! the world makes itself.
+//! What a world of several contexts asks of its machine: other registers, single accesses to the memory, and the steps
+//! of calls that the world makes itself.
 ghost use Rattle.std.specs.Prelude.{◌≡◌, ◌<◌, ◌≤◌, ◌+◌, ◌-◌, ◌^◌, IfOk};
 ghost use Rattle.emu_model.specs.Access.{refused};
 ghost use Rattle.emu_model.specs.LoadsAndStores.{after_store, done_unless, loaded};
@@ -15,7 +15,8 @@ use vec_regs::VecRegs;
 impl Machine {
     /// Exchanges the scalar and the vector registers with the machine's own.
     pub fn swap(&mut self, core: &mut Core, vec: &mut VecRegs)
-        ensures machine { self.new ≡ record self.old { parts = record self.old.parts { core = core.old; vectors = vec.old } } }
+        ensures machine { self.new
+            ≡ record self.old { parts = record self.old.parts { core = core.old; vectors = vec.old } } }
         ensures core { core.new ≡ self.old.parts.core }
         ensures vec { vec.new ≡ self.old.parts.vectors }
     {
@@ -26,7 +27,8 @@ impl Machine {
     /// The same of registers in boxes, by their boxes alone.
     #[inline(always)]
     pub fn swap_boxes(&mut self, core: &mut Box<Core>, vec: &mut Box<VecRegs>)
-        ensures machine { self.new ≡ record self.old { parts = record self.old.parts { core = core.old.value; vectors = vec.old.value } } }
+        ensures machine { self.new
+            ≡ record self.old { parts = record self.old.parts { core = core.old.value; vectors = vec.old.value } } }
         ensures core { core.new.value ≡ self.old.parts.core }
         ensures vec { vec.new.value ≡ self.old.parts.vectors }
     {
@@ -49,8 +51,11 @@ impl Machine {
     pub fn store(&mut self, address: u64, n: u32, v: u128) -> Result<(), Denied>
         requires some { 1 ≤ n }
         requires most { n ≤ 16 }
-        ensures machine { self.new ≡ record self.old { parts = record self.old.parts { memory = after_store self.old.parts.memory address n v } } }
-        ensures value { result ≡ done_unless (refused self.old.parts.memory address n Kind.Write) Kind.Write (record {}) }
+        ensures machine { self.new ≡ record self.old {
+          parts = record self.old.parts { memory = after_store self.old.parts.memory address n v };
+        } }
+        ensures value { result
+            ≡ done_unless (refused self.old.parts.memory address n Kind.Write) Kind.Write (record {}) }
     {
         self.memory.store(address, n, v)
     }
@@ -74,7 +79,8 @@ impl Machine {
         self.core.set_monitor(None);
     }
 
-    /// Counts a step that leaves the registers and the memory as they are, and ends the machine with this code, where there is one.
+    /// Counts a step that leaves the registers and the memory as they are, and ends the machine with this code, where
+    /// there is one.
     pub fn count_step(&mut self, code: Option<u8>)
         requires { self.old.parts.steps < 2 ^ 64 - 1 }
         ensures { self.new ≡ record self.old { parts = counted_to code self.old.parts } }

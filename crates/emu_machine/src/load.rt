@@ -18,7 +18,8 @@ pub fn load_segments(pages: &mut Pages, file: &[u8], segments: &[Segment])
     requires loadable { AreLoadable file.now segments.now }
     requires empty { pages.old.pages ≡ map.empty }
     requires within_limit { pages_of segments.now ≤ pages.old.limit }
-    ensures { pages.new ≡ record pages.old { pages = map.from_entries (flat_map (segment_pages file.now) segments.now) } }
+    ensures { pages.new
+        ≡ record pages.old { pages = map.from_entries (flat_map (segment_pages file.now) segments.now) } }
 {
     for segment in segments {
         load_segment(pages, file, segment);
@@ -29,7 +30,8 @@ pub fn load_segments(pages: &mut Pages, file: &[u8], segments: &[Segment])
 fn load_segment(pages: &mut Pages, file: &[u8], segment: &Segment)
     requires loadable { IsLoadableSegment file.now segment.now }
     requires free { map_fault pages.old (first_page segment.now) (page_count segment.now) ≡ None }
-    ensures { HasPages (first_page segment.now) (page_count segment.now) (segment_page file.now segment.now) pages.old pages.new }
+    ensures { HasPages (first_page segment.now) (page_count segment.now)
+        (segment_page file.now segment.now) pages.old pages.new }
 {
     let first = segment.address / PAGE_SIZE;
     let end = end_page(segment);

@@ -1,5 +1,22 @@
 //! The machine, its step and its run.
-ghost use Rattle.std.specs.Prelude.{◌≡◌, ◌<◌, ◌≤◌, ◌+◌, ◌-◌, ◌^◌, List, [], ℕ, ⊤, IfSome, Some, None, is_none, true, false};
+ghost use Rattle.std.specs.Prelude.{
+  ◌≡◌,
+  ◌<◌,
+  ◌≤◌,
+  ◌+◌,
+  ◌-◌,
+  ◌^◌,
+  List,
+  [],
+  ℕ,
+  ⊤,
+  IfSome,
+  Some,
+  None,
+  is_none,
+  true,
+  false,
+};
 ghost use Rattle.io_gate.specs.Streams.{Causes};
 ghost use Rattle.emu_bits.specs.Fields.{field};
 ghost use Rattle.emu_model.specs.SoundState.{IsSoundBreak};
@@ -10,7 +27,20 @@ ghost use Rattle.emu_system.specs.SystemCall.{call, quiet, went_on};
 ghost use Rattle.emu_machine.specs.Accesses.{run_accesses};
 ghost use Rattle.emu_machine.specs.Advances.{Advances, EndsBy, MatchCall, left_by_effect, progress_by};
 ghost use Rattle.linux_calls.specs.Names.{NamesRead};
-ghost use Rattle.emu_machine.specs.Ends.{step_end, run_end, run_end_of, is_undone, is_unput, is_broken_off, Becomes, OfStep, TakesWithin, Puts, PutsAlways, IsKept};
+ghost use Rattle.emu_machine.specs.Ends.{
+  step_end,
+  run_end,
+  run_end_of,
+  is_undone,
+  is_unput,
+  is_broken_off,
+  Becomes,
+  OfStep,
+  TakesWithin,
+  Puts,
+  PutsAlways,
+  IsKept,
+};
 ghost use Rattle.emu_machine.specs.Machines.{has_ended, is_at_call, is_svc, makes_call, MakesRead, MakesWrite};
 
 use crate::ends::{Progress, RunEnd, StepEnd, run_end_of, step_end};
@@ -27,8 +57,8 @@ use io_gate::{Sink, Source};
 use std::marker::Model;
 use vec_regs::VecRegs;
 
-/// A machine. Contracts see its parts, the accesses of its last step, whether a stream has failed in one of its steps, and what
-/// its marks keep beside their pages.
+/// A machine. Contracts see its parts, the accesses of its last step, whether a stream has failed in one of its steps,
+/// and what its marks keep beside their pages.
 #[derive(Drop)]
 pub struct Machine {
     // in boxes, so that they can be exchanged and moved as they are
@@ -54,7 +84,14 @@ impl Model for Machine {
     ghost coded = { coded_machine };
 
     ghost view = { λ a. record {
-      parts = record { core = a.core.value; vectors = a.vec.value; memory = a.memory; brk = a.brk; steps = a.steps; ended = a.ended };
+      parts = record {
+        core = a.core.value;
+        vectors = a.vec.value;
+        memory = a.memory;
+        brk = a.brk;
+        steps = a.steps;
+        ended = a.ended;
+      };
       accesses = a.log.items;
       failed = a.failed;
       saved = a.saved.items;
@@ -74,7 +111,19 @@ impl Machine {
         saved: Vec<Saved>,
     ) -> Machine
         requires { IsSoundBreak brk }
-        ensures { result ≡ record { parts = record { core = registers.core.value; vectors = registers.vec.value; memory = memory; brk = brk; steps = 0; ended = None }; accesses = []; failed = false; saved = saved.items } }
+        ensures { result ≡ record {
+          parts = record {
+            core = registers.core.value;
+            vectors = registers.vec.value;
+            memory = memory;
+            brk = brk;
+            steps = 0;
+            ended = None;
+          };
+          accesses = [];
+          failed = false;
+          saved = saved.items;
+        } }
     {
         let Registers { core, vec, words } = registers;
         Machine {
@@ -133,8 +182,8 @@ impl Machine {
         &self.memory
     }
 
-    /// The elements that the last step loaded or stored, in order: their addresses and numbers of bytes. Empty before the
-    /// first step, and after a call.
+    /// The elements that the last step loaded or stored, in order: their addresses and numbers of bytes. Empty before
+    /// the first step, and after a call.
     pub fn accesses(&self) -> &[Access]
         ensures { result.now ≡ self.now.accesses }
     {
@@ -156,7 +205,8 @@ impl Machine {
     /// Goes on at an address, and counts the step.
     pub(crate) fn go_on(&mut self, address: u64)
         requires { self.old.parts.steps < 2 ^ 64 - 1 }
-        ensures parts { self.new.parts ≡ went_on self.old.parts self.old.parts.core self.old.parts.vectors self.old.parts.memory address }
+        ensures parts { self.new.parts
+            ≡ went_on self.old.parts self.old.parts.core self.old.parts.vectors self.old.parts.memory address }
         ensures accesses { self.new.accesses ≡ self.old.accesses }
         ensures failed { self.new.failed ≡ self.old.failed }
         ensures saved { self.new.saved ≡ self.old.saved }
@@ -196,7 +246,8 @@ impl Machine {
         requires going { has_ended self.old ≡ false }
         requires room { self.old.parts.steps < 2 ^ 64 - 1 }
         requires clear { self.old.accesses ≡ [] }
-        ensures turn { MatchCall result ((input : List ℕ) → model.turn self.old.parts input ≡ call self.old.parts input) ((input : List ℕ) → model.turn self.old.parts input ≡ quiet self.new.parts input) }
+        ensures turn { MatchCall result ((input : List ℕ) → model.turn self.old.parts input ≡ call self.old.parts input)
+            ((input : List ℕ) → model.turn self.old.parts input ≡ quiet self.new.parts input) }
         ensures kept { MatchCall result (self.new ≡ self.old) (self.new.failed ≡ false) }
         ensures svc { result ≡ Progress.AtCall → is_at_call self.old.parts ≡ true }
         ensures alone { MatchCall result ⊤ (makes_call self.old.parts ≡ false) }
@@ -228,7 +279,10 @@ impl Machine {
         requires going { has_ended self.old ≡ false }
         requires room { self.old.parts.steps < 2 ^ 64 - 1 }
         requires clear { self.old.accesses ≡ [] }
-        ensures turn { MatchCall result ((input : List ℕ) → model.executed self.old.parts input (model.a64 (Some insn.now)) ≡ call self.old.parts input) ((input : List ℕ) → model.executed self.old.parts input (model.a64 (Some insn.now)) ≡ quiet self.new.parts input) }
+        ensures turn { MatchCall result ((input : List ℕ)
+            → model.executed self.old.parts input (model.a64 (Some insn.now)) ≡ call self.old.parts input)
+            ((input : List ℕ)
+            → model.executed self.old.parts input (model.a64 (Some insn.now)) ≡ quiet self.new.parts input) }
         ensures kept { MatchCall result (self.new ≡ self.old) (self.new.failed ≡ false) }
         ensures svc { result ≡ Progress.AtCall → is_svc (model.a64 (Some insn.now)) ≡ true }
         ensures alone { MatchCall result ⊤ (is_svc (model.a64 (Some insn.now)) ≡ false) }
@@ -247,14 +301,17 @@ impl Machine {
         self.leave_insn(effect)
     }
 
-    /// Does the instruction of a word that may be in a row of SVE. It isn't inlined, so that no form of SVE is in the loop.
+    /// Does the instruction of a word that may be in a row of SVE. It isn't inlined, so that no form of SVE is in the
+    /// loop.
     #[inline(never)]
     fn vector(&mut self, word: u32) -> Progress
         requires going { has_ended self.old ≡ false }
         requires room { self.old.parts.steps < 2 ^ 64 - 1 }
         requires clear { self.old.accesses ≡ [] }
         requires word { field word 27 2 ≡ 0 }
-        ensures turn { MatchCall result ((input : List ℕ) → model.executed self.old.parts input (model.decode word) ≡ call self.old.parts input) ((input : List ℕ) → model.executed self.old.parts input (model.decode word) ≡ quiet self.new.parts input) }
+        ensures turn { MatchCall result
+            ((input : List ℕ) → model.executed self.old.parts input (model.decode word) ≡ call self.old.parts input)
+            ((input : List ℕ) → model.executed self.old.parts input (model.decode word) ≡ quiet self.new.parts input) }
         ensures kept { MatchCall result (self.new ≡ self.old) (self.new.failed ≡ false) }
         ensures svc { result ≡ Progress.AtCall → is_svc (model.decode word) ≡ true }
         ensures alone { MatchCall result ⊤ (is_svc (model.decode word) ≡ false) }
@@ -284,11 +341,11 @@ impl Machine {
     /// Takes one step: the word at the program counter is fetched and decoded, and its instruction is done. The marks
     /// and what they keep stay, whatever it answers.
     ///
-    /// What a step that is done makes of the machine rests on the input only at a call that takes bytes of it, and how it ends never does.
-    /// `Going` and `Exit` count the step, and `Trap` doesn't. A fault of a stream is answered exactly where that stream failed, and the
-    /// machine has then ended with the step not done: it is as before, but that bytes which the call took are stored. No step wants
-    /// memory. The accesses are those of this step whatever it answers: a trap leaves those of the elements before the one that was
-    /// refused, and a call leaves none.
+    /// What a step that is done makes of the machine rests on the input only at a call that takes bytes of it, and how
+    /// it ends never does. `Going` and `Exit` count the step, and `Trap` doesn't. A fault of a stream is answered
+    /// exactly where that stream failed, and the machine has then ended with the step not done: it is as before, but
+    /// that bytes which the call took are stored. No step wants memory. The accesses are those of this step whatever it
+    /// answers: a trap leaves those of the elements before the one that was refused, and a call leaves none.
     pub fn step<I: Source, O: Sink, E: Sink>(
         &mut self,
         input: &mut I,
@@ -297,15 +354,21 @@ impl Machine {
     ) -> StepEnd
         requires going { has_ended self.old ≡ false }
         requires room { self.old.parts.steps < 2 ^ 64 - 1 }
-        ensures state { Becomes model.step self.old.parts self.new.parts (I.left input.old) (I.left input.new) (is_undone result) }
-        ensures machine { OfStep self.old.parts (I.left input.old) (λ bytes. is_undone result ≡ false → self.new.parts ≡ (model.step (with_input self.old.parts bytes)).parts) }
+        ensures state { Becomes model.step self.old.parts self.new.parts (I.left input.old) (I.left input.new)
+            (is_undone result) }
+        ensures machine { OfStep self.old.parts (I.left input.old) (λ bytes. is_undone result ≡ false
+            → self.new.parts ≡ (model.step (with_input self.old.parts bytes)).parts) }
         ensures input { TakesWithin model.step self.old.parts (I.left input.old) (I.left input.new) (is_undone result) }
-        ensures output { PutsAlways (λ st. (model.step st).output) self.old.parts (O.held output.old) (O.held output.new) (is_undone result) }
-        ensures errors { PutsAlways (λ st. (model.step st).errors) self.old.parts (E.held errors.old) (E.held errors.new) (is_undone result) }
+        ensures output { PutsAlways
+            (λ st. (model.step st).output) self.old.parts (O.held output.old) (O.held output.new) (is_undone result) }
+        ensures errors { PutsAlways
+            (λ st. (model.step st).errors) self.old.parts (E.held errors.old) (E.held errors.new) (is_undone result) }
         ensures end { is_undone result ≡ false → result ≡ step_end self.new.parts.ended }
-        ensures ends { (bytes : List ℕ) → is_undone result ≡ false → result ≡ step_end (model.step (with_input self.old.parts bytes)).parts.ended }
+        ensures ends { (bytes : List ℕ) → is_undone result ≡ false
+            → result ≡ step_end (model.step (with_input self.old.parts bytes)).parts.ended }
         ensures counted { result ≡ StepEnd.Going → self.new.parts.steps ≡ self.old.parts.steps + 1 }
-        ensures kept { is_undone result ≡ true → IsKept self.old.parts self.new.parts (I.left input.old) (I.left input.new) }
+        ensures kept { is_undone result ≡ true
+            → IsKept self.old.parts self.new.parts (I.left input.old) (I.left input.new) }
         ensures unstored { is_unput result ≡ true → self.new.parts ≡ self.old.parts }
         ensures accesses { self.new.accesses ≡ model.accesses self.old.parts }
         ensures undone { is_undone result ≡ true → self.new.accesses ≡ [] }
@@ -351,7 +414,8 @@ impl Machine {
     fn once(&mut self) -> Progress
         requires going { has_ended self.old ≡ false }
         requires room { self.old.parts.steps < 2 ^ 64 - 1 }
-        ensures turn { MatchCall result ((input : List ℕ) → model.turn self.old.parts input ≡ call self.old.parts input) ((input : List ℕ) → model.turn self.old.parts input ≡ quiet self.new.parts input) }
+        ensures turn { MatchCall result ((input : List ℕ) → model.turn self.old.parts input ≡ call self.old.parts input)
+            ((input : List ℕ) → model.turn self.old.parts input ≡ quiet self.new.parts input) }
         ensures kept { MatchCall result (self.new.parts ≡ self.old.parts) ⊤ }
         ensures svc { result ≡ Progress.AtCall → is_at_call self.old.parts ≡ true }
         ensures ended { EndsBy result self.new.parts }
@@ -366,10 +430,10 @@ impl Machine {
 
     /// Takes steps until the machine has ended or has counted `budget` steps in all, which is `Spent`.
     ///
-    /// After a fault of a stream, which is answered exactly where that stream failed, the machine has ended. It then stands before the
-    /// step that wasn't done: it is what a run with a budget of the steps counted so far leaves, but that bytes which the call took are
-    /// stored. No run wants memory, and each leaves the marks. The accesses are those of the last step that was taken,
-    /// done or not, and as before where none was.
+    /// After a fault of a stream, which is answered exactly where that stream failed, the machine has ended. It then
+    /// stands before the step that wasn't done: it is what a run with a budget of the steps counted so far leaves, but
+    /// that bytes which the call took are stored. No run wants memory, and each leaves the marks. The accesses are
+    /// those of the last step that was taken, done or not, and as before where none was.
     pub fn run<I: Source, O: Sink, E: Sink>(
         &mut self,
         budget: u64,
@@ -379,15 +443,22 @@ impl Machine {
     ) -> RunEnd
         requires going { has_ended self.old ≡ false }
         requires within { self.old.parts.steps ≤ budget }
-        ensures state { Becomes (λ st. runs.run st budget) self.old.parts self.new.parts (I.left input.old) (I.left input.new) (is_broken_off result) }
-        ensures input { TakesWithin (λ st. runs.run st budget) self.old.parts (I.left input.old) (I.left input.new) (is_broken_off result) }
-        ensures output { Puts (λ st. (runs.run st budget).output) self.old.parts (I.left input.old) (O.held output.old) (O.held output.new) (is_broken_off result) }
-        ensures errors { Puts (λ st. (runs.run st budget).errors) self.old.parts (I.left input.old) (E.held errors.old) (E.held errors.new) (is_broken_off result) }
+        ensures state { Becomes (λ st. runs.run st budget) self.old.parts self.new.parts (I.left input.old)
+            (I.left input.new) (is_broken_off result) }
+        ensures input { TakesWithin (λ st. runs.run st budget) self.old.parts (I.left input.old) (I.left input.new)
+            (is_broken_off result) }
+        ensures output { Puts (λ st. (runs.run st budget).output) self.old.parts (I.left input.old) (O.held output.old)
+            (O.held output.new) (is_broken_off result) }
+        ensures errors { Puts (λ st. (runs.run st budget).errors) self.old.parts (I.left input.old) (E.held errors.old)
+            (E.held errors.new) (is_broken_off result) }
         ensures end { is_broken_off result ≡ false → result ≡ run_end self.new.parts.ended }
         ensures spent { result ≡ RunEnd.Spent → self.new.parts.steps ≡ budget }
-        ensures accesses { IfSome (I.left input.old) (λ bytes. is_broken_off result ≡ false → self.new.accesses ≡ run_accesses self.old.accesses self.old.parts bytes budget) }
+        ensures accesses { IfSome (I.left input.old) (λ bytes. is_broken_off result ≡ false
+            → self.new.accesses ≡ run_accesses self.old.accesses self.old.parts bytes budget) }
         ensures undone { is_broken_off result ≡ true → self.new.accesses ≡ [] }
-        ensures kept { IfSome (I.left input.old) (λ bytes. is_broken_off result ≡ true → IsKept (runs.run (with_input self.old.parts bytes) self.new.parts.steps).parts self.new.parts (Some (runs.run (with_input self.old.parts bytes) self.new.parts.steps).input) (I.left input.new)) }
+        ensures kept { IfSome (I.left input.old) (λ bytes. is_broken_off result ≡ true
+            → IsKept (runs.run (with_input self.old.parts bytes) self.new.parts.steps).parts self.new.parts
+            (Some (runs.run (with_input self.old.parts bytes) self.new.parts.steps).input) (I.left input.new)) }
         ensures unspent { is_broken_off result ≡ true → self.new.parts.steps < budget }
         ensures unended { is_broken_off result ≡ true → is_none self.new.parts.ended ≡ true }
         ensures failed { self.new.failed ≡ is_broken_off result }

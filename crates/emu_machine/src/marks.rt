@@ -1,5 +1,22 @@
 //! Marks of a machine: each is none, or keeps the machine as it once was.
-ghost use Rattle.std.specs.Prelude.{◌≡◌, ◌≤◌, ◌<◌, ◌+◌, length as len, set, get_or, is_some, IfOk, IsSome, Some, None, [], map, string_bytes, false};
+ghost use Rattle.std.specs.Prelude.{
+  ◌≡◌,
+  ◌≤◌,
+  ◌<◌,
+  ◌+◌,
+  length as len,
+  set,
+  get_or,
+  is_some,
+  IfOk,
+  IsSome,
+  Some,
+  None,
+  [],
+  map,
+  string_bytes,
+  false,
+};
 ghost use Rattle.std.specs.FinMap as finmap;
 ghost use Rattle.std.specs.List.{count_by};
 ghost use Rattle.emu_model.specs.Access.{most_mapped_pages};
@@ -20,8 +37,8 @@ use guest_pages::{OutOfMemory, Pages};
 use std::alloc::Global;
 
 impl Machine {
-    /// The machine of an image before its first step, as `open` makes it, with sixteen marks, which are none. Its memory has three
-    /// frames for each of the pages. The only error is want of memory, and no later call takes memory.
+    /// The machine of an image before its first step, as `open` makes it, with sixteen marks, which are none. Its
+    /// memory has three frames for each of the pages. The only error is want of memory, and no later call takes memory.
     pub fn open_marked(
         alloc: Global,
         bytes: &[u8],
@@ -33,7 +50,8 @@ impl Machine {
         requires loadable { IsLoadable bytes.now pages (seen_image image.now) }
         requires arguments { AreArguments (map string_bytes args.now) }
         requires few { pages ≤ most_mapped_pages }
-        ensures parts { IfOk result (λ m. m.parts ≡ parts_with (opening bytes.now (seen_image image.now) (map string_bytes args.now) length pages) (fresh_marks pages)) }
+        ensures parts { IfOk result (λ m. m.parts ≡ parts_with
+            (opening bytes.now (seen_image image.now) (map string_bytes args.now) length pages) (fresh_marks pages)) }
         ensures places { IfOk result (λ m. len m.saved ≡ 16) }
         ensures accesses { IfOk result (λ m. m.accesses ≡ []) }
         ensures failed { IfOk result (λ m. m.failed ≡ false) }
@@ -56,8 +74,10 @@ impl Machine {
     pub fn spare(&self) -> u32
         ensures most { result ≤ self.now.parts.memory.marks.unmarked }
         ensures least { self.now.parts.memory.marks.unmarked ≤ result + finmap.len self.now.parts.memory.pages }
-        ensures one_mark { 0 < len self.now.parts.memory.marks.list → count_by is_some self.now.parts.memory.marks.list ≤ 1
-            → self.now.parts.memory.limit + finmap.len self.now.parts.memory.pages ≤ self.now.parts.memory.marks.unmarked }
+        ensures one_mark { 0 < len self.now.parts.memory.marks.list
+            → count_by is_some self.now.parts.memory.marks.list ≤ 1
+            → self.now.parts.memory.limit + finmap.len self.now.parts.memory.pages
+            ≤ self.now.parts.memory.marks.unmarked }
         ensures room { self.now.parts.memory.limit ≤ result + finmap.len self.now.parts.memory.pages }
     {
         self.memory.pages().spare()
@@ -76,9 +96,11 @@ impl Machine {
         requires index { k < len self.old.parts.memory.marks.list }
         requires place { k < len self.old.saved }
         requires none { get_or self.old.parts.memory.marks.list k None ≡ None }
-        requires room { self.old.parts.memory.limit + finmap.len self.old.parts.memory.pages ≤ self.old.parts.memory.marks.unmarked }
+        requires room { self.old.parts.memory.limit + finmap.len self.old.parts.memory.pages
+            ≤ self.old.parts.memory.marks.unmarked }
         ensures parts { self.new.parts ≡ parts_with self.old.parts self.new.parts.memory.marks }
-        ensures pages { self.new.parts.memory.marks.list ≡ set self.old.parts.memory.marks.list k (Some self.old.parts.memory.pages) }
+        ensures pages { self.new.parts.memory.marks.list
+            ≡ set self.old.parts.memory.marks.list k (Some self.old.parts.memory.pages) }
         ensures saved { self.new.saved ≡ set self.old.saved k (saved_of self.old.parts) }
         ensures accesses { self.new.accesses ≡ self.old.accesses }
         ensures failed { self.new.failed ≡ self.old.failed }
@@ -99,8 +121,8 @@ impl Machine {
         self.memory.pages_mut().drop_mark(k);
     }
 
-    /// Makes the machine that of mark `k`, which hadn't ended, with the number of steps that it had counted. A machine that has
-    /// ended, or in which a stream has failed, goes back too.
+    /// Makes the machine that of mark `k`, which hadn't ended, with the number of steps that it had counted. A machine
+    /// that has ended, or in which a stream has failed, goes back too.
     pub fn restore(&mut self, k: u32)
         requires index { k < len self.old.parts.memory.marks.list }
         requires place { k < len self.old.saved }

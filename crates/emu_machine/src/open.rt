@@ -22,9 +22,10 @@ use guest_pages::{OutOfMemory, Pages};
 use std::alloc::Global;
 
 impl Machine {
-    /// The machine of an image before its first step: in memory the pages of its segments with the file's bytes and those of the
-    /// stack with the arguments; all registers 0 but PC, which is the entry, and SP; vectors of `length` bits, all of them 0; and
-    /// the break behind the highest segment. It has no marks. The only error is want of memory.
+    /// The machine of an image before its first step: in memory the pages of its segments with the file's bytes and
+    /// those of the stack with the arguments; all registers 0 but PC, which is the entry, and SP; vectors of `length`
+    /// bits, all of them 0; and the break behind the highest segment. It has no marks. The only error is want of
+    /// memory.
     ///
     /// The image was read from these bytes, with `pages` as the greatest number of mapped pages. The arguments are
     /// within their limits, as `are_arguments` tests.
@@ -38,7 +39,12 @@ impl Machine {
     ) -> Result<Machine, OutOfMemory>
         requires loadable { IsLoadable bytes.now pages (seen_image image.now) }
         requires arguments { AreArguments (map string_bytes args.now) }
-        ensures { IfOk result (λ m. m ≡ record { parts = opening bytes.now (seen_image image.now) (map string_bytes args.now) length pages; accesses = []; failed = false; saved = [] }) }
+        ensures { IfOk result (λ m. m ≡ record {
+          parts = opening bytes.now (seen_image image.now) (map string_bytes args.now) length pages;
+          accesses = [];
+          failed = false;
+          saved = [];
+        }) }
     {
         let memory = Pages::new(alloc, pages)?;
         let registers = Registers::unset(alloc, length)?;
@@ -59,7 +65,13 @@ impl Machine {
         requires empty { memory.pages ≡ finmap.empty }
         requires core { registers.core.value ≡ zero_core }
         requires vectors { registers.vec.value ≡ zero_vectors registers.vec.value.most }
-        ensures { result ≡ record { parts = parts_with (opening bytes.now (seen_image image.now) (map string_bytes args.now) registers.vec.value.most memory.limit) memory.marks; accesses = []; failed = false; saved = saved.items } }
+        ensures { result ≡ record {
+          parts = parts_with (opening bytes.now (seen_image image.now)
+              (map string_bytes args.now) registers.vec.value.most memory.limit) memory.marks;
+          accesses = [];
+          failed = false;
+          saved = saved.items;
+        } }
     {
         let layout = Layout::of(args);
         load_program(&mut memory, bytes, image, args, layout);

@@ -18,7 +18,8 @@ pub fn load_program(pages: &mut Pages, file: &[u8], image: &Image, args: &[Strin
     requires arguments { AreArguments (map string_bytes args.now) }
     requires layout { IsLayout (map string_bytes args.now) layout }
     requires empty { pages.old.pages ≡ finmap.empty }
-    ensures { pages.new ≡ record pages.old { pages = pages_at_start file.now (seen_image image.now) (map string_bytes args.now) } }
+    ensures { pages.new
+        ≡ record pages.old { pages = pages_at_start file.now (seen_image image.now) (map string_bytes args.now) } }
 {
     load_segments(pages, file, &image.segments);
     load_stack(pages, image, args, layout);

@@ -3,7 +3,17 @@ ghost use Rattle.std.specs.Prelude.{◌≡◌, ◌+◌, ◌*◌, ◌-◌, ◌≤
 ghost use Rattle.emu_model.specs.Pages.{with_bytes};
 ghost use Rattle.emu_system.specs.ArgumentLimits.{AreArguments};
 ghost use Rattle.emu_system.specs.Image.{stack_page_count};
-ghost use Rattle.emu_system.specs.Stack.{aligned, argument_addresses, argument_bytes, first_stack_page, last_words, random_bytes, stack_page, start_words, word_bytes};
+ghost use Rattle.emu_system.specs.Stack.{
+  aligned,
+  argument_addresses,
+  argument_bytes,
+  first_stack_page,
+  last_words,
+  random_bytes,
+  stack_page,
+  start_words,
+  word_bytes,
+};
 ghost use Rattle.elf_image.specs.Images.{seen_image};
 ghost use Rattle.guest_pages.specs.MapFault.{map_fault};
 ghost use Rattle.emu_machine.specs.Layouts.{IsLayout};
@@ -108,12 +118,14 @@ fn aligned(address: u64) -> u64
     address - address % 16
 }
 
-/// Maps the pages of the stack, which are free, with the words, the bytes of AT_RANDOM and the arguments in their places and 0 elsewhere.
+/// Maps the pages of the stack, which are free, with the words, the bytes of AT_RANDOM and the arguments in their
+/// places and 0 elsewhere.
 pub fn load_stack(pages: &mut Pages, image: &Image, args: &[String], layout: Layout)
     requires arguments { AreArguments (map string_bytes args.now) }
     requires layout { IsLayout (map string_bytes args.now) layout }
     requires free { map_fault pages.old first_stack_page stack_page_count ≡ None }
-    ensures { HasPages first_stack_page stack_page_count (stack_page (seen_image image.now) (map string_bytes args.now)) pages.old pages.new }
+    ensures { HasPages first_stack_page stack_page_count
+        (stack_page (seen_image image.now) (map string_bytes args.now)) pages.old pages.new }
 {
     // nothing refuses it
     let _ = pages.map(FIRST_PAGE, PAGE_COUNT, RIGHTS);
@@ -162,7 +174,8 @@ fn put_words(pages: &mut Pages, address: u64, words: &[u64])
 fn put_addresses(pages: &mut Pages, address: u64, first: u64, args: &[String])
     requires room { address + 8 * length args.now ≤ 2 ^ 47 }
     requires arguments { first + length (argument_bytes (map string_bytes args.now)) ≤ 2 ^ 47 }
-    ensures { pages.new ≡ with_bytes pages.old address (word_bytes (argument_addresses first (map string_bytes args.now))) }
+    ensures { pages.new
+        ≡ with_bytes pages.old address (word_bytes (argument_addresses first (map string_bytes args.now))) }
 {
     let mut at = address;
     let mut argument = first;
@@ -177,7 +190,8 @@ fn put_addresses(pages: &mut Pages, address: u64, first: u64, args: &[String])
 fn put_start_words(pages: &mut Pages, image: &Image, args: &[String], layout: Layout)
     requires arguments { AreArguments (map string_bytes args.now) }
     requires layout { IsLayout (map string_bytes args.now) layout }
-    ensures { pages.new ≡ with_bytes pages.old layout.words (word_bytes (start_words (seen_image image.now) (map string_bytes args.now))) }
+    ensures { pages.new ≡ with_bytes pages.old layout.words
+        (word_bytes (start_words (seen_image image.now) (map string_bytes args.now))) }
 {
     let count = args.len() as u64;
     put_words(pages, layout.words, &[count]);
@@ -186,7 +200,8 @@ fn put_start_words(pages: &mut Pages, image: &Image, args: &[String], layout: La
     put_words(pages, rest, &last_words(image, layout.random));
 }
 
-/// The words behind the addresses of the arguments: the 0 behind them, the 0 of an empty environment, and the auxiliary vector.
+/// The words behind the addresses of the arguments: the 0 behind them, the 0 of an empty environment, and the auxiliary
+/// vector.
 #[tactic(auto, unfolding(emu_system::specs::Stack::last_words))]
 fn last_words(image: &Image, random: u64) -> [u64; 28]
     ensures { result ≡ last_words (seen_image image.now) random }

@@ -32,8 +32,8 @@ pub enum Ending {
     ScriptRefused(ScriptFault),
     /// The schedule was refused.
     ScheduleRefused(ScheduleFault),
-    /// A file is longer than this many bytes; or, of `sweep` and of a session that goes back, the input is, or, of `sweep`, the output
-    /// or the errors of a run are.
+    /// A file is longer than this many bytes; or, of `sweep` and of a session that goes back, the input is, or, of
+    /// `sweep`, the output or the errors of a run are.
     TooLong(u64),
     /// A file couldn't be read, or there is none of its name.
     FileFault,
@@ -48,8 +48,8 @@ pub enum Ending {
 }
 
 impl Ending {
-    /// The status of the process: the program's own, 128 plus the signal of a trap, 0 where `asm`, `dis`, `dbg`, `load` or `sweep`
-    /// came to its end, or one from 119 to 127.
+    /// The status of the process: the program's own, 128 plus the signal of a trap, 0 where `asm`, `dis`, `dbg`, `load`
+    /// or `sweep` came to its end, or one from 119 to 127.
     pub fn status(&self) -> u8
         ensures { result ≡ status_of self.now }
     {

@@ -7,7 +7,21 @@ ghost use Rattle.emu_model.specs.Pages.{peeked};
 ghost use Rattle.vec_model.specs.Lanes.{read_z};
 ghost use Rattle.emu_run.specs.Text.{hex, space};
 ghost use Rattle.emu_run.specs.Registers.{lines_of};
-ghost use Rattle.dbg_model.specs.Session.{behind_steps, break_line, byte_text, lane_text, lanes_line, length_line, memory_line, memory_lines, p_line, size_letter, step_line, watch_line, z_line};
+ghost use Rattle.dbg_model.specs.Session.{
+  behind_steps,
+  break_line,
+  byte_text,
+  lane_text,
+  lanes_line,
+  length_line,
+  memory_line,
+  memory_lines,
+  p_line,
+  size_letter,
+  step_line,
+  watch_line,
+  z_line,
+};
 
 use crate::endings::push_address;
 use crate::registers::{Kind, push_name, put_line};
@@ -156,7 +170,8 @@ fn push_byte(text: &mut Text, byte: Option<u8>)
 /// Appends the lanes of a Z register.
 fn push_lanes(text: &mut Text, k: Reg, size: Esize, vec: &VecRegs)
     requires { length text.old ≤ 100 }
-    ensures text { text.new ≡ text.old ++ lines_of (vec.now.bits / size_of size) (lane_text (size_of size) (read_z vec.now k)) }
+    ensures text { text.new
+        ≡ text.old ++ lines_of (vec.now.bits / size_of size) (lane_text (size_of size) (read_z vec.now k)) }
     ensures len { length text.new ≤ length text.old + 768 }
 {
     let bits = size.bits();

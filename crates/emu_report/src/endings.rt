@@ -3,7 +3,16 @@ ghost use Rattle.std.specs.Prelude.{◌≡◌, ◌≤◌, ◌+◌, ◌++◌, len
 ghost use Rattle.io_gate.specs.Streams.{HasCause};
 ghost use Rattle.io_gate.specs.Pieces.{PutsAll};
 ghost use Rattle.command_model.specs.WorldReports.{stuck_line};
-ghost use Rattle.emu_run.specs.Reports.{address_text, after_steps, exit_line, exit_text, spent_line, spent_text, trap_line, trap_text};
+ghost use Rattle.emu_run.specs.Reports.{
+  address_text,
+  after_steps,
+  exit_line,
+  exit_text,
+  spent_line,
+  spent_text,
+  trap_line,
+  trap_text,
+};
 
 use crate::names::trap_name;
 use crate::text::Text;

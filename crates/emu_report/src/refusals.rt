@@ -3,7 +3,17 @@ ghost use Rattle.std.specs.Prelude.{◌≡◌, ◌≤◌, ◌+◌, ◌++◌, len
 ghost use Rattle.io_gate.specs.Streams.{HasCause};
 ghost use Rattle.io_gate.specs.Pieces.{PutsAll};
 ghost use Rattle.emu_run.specs.Text.{newline};
-ghost use Rattle.command_model.specs.Refusals.{at_index, at_line, at_place, image_line, listing_line, schedule_line, script_line, too_long_line, words_line};
+ghost use Rattle.command_model.specs.Refusals.{
+  at_index,
+  at_line,
+  at_place,
+  image_line,
+  listing_line,
+  schedule_line,
+  script_line,
+  too_long_line,
+  words_line,
+};
 
 use crate::names::{fault_index, fault_name, listing_name, schedule_name, script_name, words_name};
 use crate::text::Text;

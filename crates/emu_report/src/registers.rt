@@ -4,7 +4,16 @@ ghost use Rattle.std.specs.Fmt.{decimal};
 ghost use Rattle.command_model.specs.WorldReports.{context_lines, thread_line};
 ghost use Rattle.emu_bits.specs.Fields.{bit};
 ghost use Rattle.emu_run.specs.Text.{hex, space, newline};
-ghost use Rattle.emu_run.specs.Registers.{bit_digits, flag_digits, lines_of, numbered, register_line, scalar_lines, vector_lines, word_line};
+ghost use Rattle.emu_run.specs.Registers.{
+  bit_digits,
+  flag_digits,
+  lines_of,
+  numbered,
+  register_line,
+  scalar_lines,
+  vector_lines,
+  word_line,
+};
 ghost use Rattle.io_gate.specs.Streams.{HasCause};
 ghost use Rattle.io_gate.specs.Pieces.{PutsAll};
 ghost use Rattle.emu_report.specs.VectorLines.{count_of, line_of};
@@ -23,12 +32,14 @@ pub(crate) enum Kind {
     P,
 }
 
-/// Puts the lines of all registers: `x0` to `x30`, `sp`, `pc`, `nzcv`, `tpidr`, `vl`, `z0` to `z31`, `p0` to `p15` and `ffr`.
+/// Puts the lines of all registers: `x0` to `x30`, `sp`, `pc`, `nzcv`, `tpidr`, `vl`, `z0` to `z31`, `p0` to `p15` and
+/// `ffr`.
 ///
-/// A vector register has two hexadecimal digits a byte, and a predicate and FFR one for each four bits, the most significant
-/// first.
+/// A vector register has two hexadecimal digits a byte, and a predicate and FFR one for each four bits, the most
+/// significant first.
 pub fn put_registers<S: Sink>(core: &Core, vec: &VecRegs, sink: &mut S) -> Result<(), Failed>
-    ensures bytes { PutsAll (S.held sink.old) (S.held sink.new) (scalar_lines core.now vec.now.bits ++ vector_lines vec.now) result }
+    ensures bytes { PutsAll (S.held sink.old) (S.held sink.new)
+        (scalar_lines core.now vec.now.bits ++ vector_lines vec.now) result }
     ensures cause { HasCause (S.faults sink.old) (S.faults sink.new) result }
 {
     put_scalars(core, vec, sink)?;
@@ -55,7 +66,8 @@ fn put_thread<S: Sink>(k: u32, sink: &mut S) -> Result<(), Failed>
     text.put(sink)
 }
 
-/// Puts the lines of the scalar registers: `x0` to `x30`, `sp`, `pc`, `nzcv`, `tpidr`, and of the vector length in bits, `vl`.
+/// Puts the lines of the scalar registers: `x0` to `x30`, `sp`, `pc`, `nzcv`, `tpidr`, and of the vector length in
+/// bits, `vl`.
 pub fn put_scalars<S: Sink>(core: &Core, vec: &VecRegs, sink: &mut S) -> Result<(), Failed>
     ensures bytes { PutsAll (S.held sink.old) (S.held sink.new) (scalar_lines core.now vec.now.bits) result }
     ensures cause { HasCause (S.faults sink.old) (S.faults sink.new) result }
@@ -129,7 +141,8 @@ fn push_line(text: &mut Text, kind: Kind, k: u32, vec: &VecRegs)
 
 /// Puts the line of FFR.
 pub fn put_ffr<S: Sink>(vec: &VecRegs, sink: &mut S) -> Result<(), Failed>
-    ensures bytes { PutsAll (S.held sink.old) (S.held sink.new) (register_line (codes "ffr") (bit_digits vec.now.ffr)) result }
+    ensures bytes { PutsAll (S.held sink.old) (S.held sink.new)
+        (register_line (codes "ffr") (bit_digits vec.now.ffr)) result }
     ensures cause { HasCause (S.faults sink.old) (S.faults sink.new) result }
 {
     let bits = vec.length().bits();
@@ -142,7 +155,8 @@ pub fn put_ffr<S: Sink>(vec: &VecRegs, sink: &mut S) -> Result<(), Failed>
 /// Appends the lines of `x0` to `x30`.
 fn push_x_lines(text: &mut Text, core: &Core)
     requires { length text.old ≤ 500 }
-    ensures text { text.new ≡ text.old ++ lines_of 31 (λ k. word_line (numbered (codes "x") k) (get_or core.now.x k 0)) }
+    ensures text { text.new ≡ text.old ++ lines_of 31
+        (λ k. word_line (numbered (codes "x") k) (get_or core.now.x k 0)) }
     ensures len { length text.new ≤ length text.old + 1209 }
 {
     'registers: for k in 0..31 {

@@ -80,8 +80,8 @@ impl Text {
         }
     }
 
-    /// Appends so many hexadecimal digits of a number that is given by words, the lowest first: its lowest digits, the most
-    /// significant of them first.
+    /// Appends so many hexadecimal digits of a number that is given by words, the lowest first: its lowest digits, the
+    /// most significant of them first.
     pub fn push_words(&mut self, words: &[u64], digits: u32)
         requires within { digits ≤ 16 * length words.now }
         requires room { length self.old + digits ≤ 2048 }

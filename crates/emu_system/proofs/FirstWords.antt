@@ -1,5 +1,5 @@
 -- The first word that is too long, or that has a byte 0, and words that are a program's arguments because none is.
-use Rattle.std.proofs.Common.{◌≡◌, inl, inr, ◌<◌, ◌≤◌, ℕ, zero, suc, ◌+◌, Bool, true, false, not, ◌&&◌, ◌↔◌, cond, List, [], ◌∷◌, map, length, get_or, take, sum_by, Option, Some, None, is_none, is_some, IsTrue, refl, sym, ap, ap₂, subst, ◌∙◌, arith, nat_lt}
+use Rattle.std.proofs.Common.{◌≡◌, inl, inr, ◌<◌, ◌≤◌, ℕ, zero, suc, ◌+◌, Bool, true, false, not, ◌&&◌, ◌↔◌, cond, List, [], ◌∷◌, map, length, get_or, take, sum_by, Option, Some, None, is_none, is_some, IsTrue, refl, sym, ap, ap₂, subst, ◌∙◌, arith, nat_le, nat_lt}
 use Rattle.std.specs.List.{AllPass, find, position, prefix_len, range_with_len}
 use Rattle.std.proofs.lemmas.Bool.{cases_lt}
 use Rattle.std.proofs.lemmas.Bool.Decides.{nat_tests}
@@ -79,6 +79,9 @@ find_no p a (suc n) j none low high = no_first p a j (p a) (find p (range_with_l
 at_least : (n count : ℕ) → nat_lt n count ≡ false → count ≤ n
 at_least n count h = grind (arith, nat_tests)
 
+small_enough : (n most : ℕ) → nat_le n most ≡ true → n ≤ most
+small_enough n most h = grind (arith, nat_tests)
+
 -- no word by which they have too many
 none_too_long : (ws : List (List ℕ)) → first_too_long ws ≡ None → sum_by length ws ≤ most_argument_bytes
 none_too_long [] none = omega arith
@@ -123,24 +126,28 @@ zero_refuted ws k at are =
 many_refuted : (ws : List (List ℕ)) → most_arguments < length ws → AreArguments ws → ⊥
 many_refuted ws many are = let few = are.few in omega arith
 
+-- a number that is too great isn't small enough
+pub not_both : (n : ℕ) → most_arguments < n → nat_le n most_arguments ≡ true → ⊥
+not_both n many few = let le = small_enough n most_arguments few in omega arith
+
 refuted : {P : Type 0} → (P → ⊥) → IsTrue false ↔ P
 refuted h = (λ no. cc, λ p. absurd (h p))
 
 -- what the first words say of so few of them
-told_by_first : (ws : List (List ℕ)) (long zero : Option ℕ) → length ws ≤ most_arguments → long ≡ first_too_long ws → zero ≡ first_with_zero ws → IsTrue (is_none long && is_none zero) ↔ AreArguments ws
+told_by_first : (ws : List (List ℕ)) (long with_zero : Option ℕ) → length ws ≤ most_arguments → long ≡ first_too_long ws → with_zero ≡ first_with_zero ws → IsTrue (is_none long && is_none with_zero) ↔ AreArguments ws
 told_by_first ws None None few short free = (λ _. within_limits ws few short free, λ _. refl)
 told_by_first ws None (Some k) few short at = refuted (zero_refuted ws k at)
-told_by_first ws (Some k) zero few at free = refuted (long_refuted ws k at)
+told_by_first ws (Some k) with_zero few at free = refuted (long_refuted ws k at)
 
 none_is : (o : Option ℕ) (b : Bool) → is_some o ≡ not b → is_none o ≡ b
 none_is o b e = ap not e ∙ not_not b
 
 -- the answer of the third test, where the other two have passed, that of the second where it fails, and that of the first
-pub told_last : (ws : List (List ℕ)) (long zero : Option ℕ) (short free : Bool) → length ws ≤ most_arguments → long ≡ first_too_long ws → zero ≡ first_with_zero ws
-    → is_some long ≡ not short → is_some zero ≡ not free → short ≡ true → IsTrue free ↔ AreArguments ws
-told_last ws long zero short free few is_long is_zero s f passed =
-    subst (λ (b : Bool). IsTrue b ↔ AreArguments ws) (ap (λ (b : Bool). b && is_none zero) (none_is long short s ∙ passed) ∙ none_is zero free f)
-    (told_by_first ws long zero few is_long is_zero)
+pub told_last : (ws : List (List ℕ)) (long with_zero : Option ℕ) (short free : Bool) → length ws ≤ most_arguments → long ≡ first_too_long ws → with_zero ≡ first_with_zero ws
+    → is_some long ≡ not short → is_some with_zero ≡ not free → short ≡ true → IsTrue free ↔ AreArguments ws
+told_last ws long with_zero short free few is_long is_zero s f passed =
+    subst (λ (b : Bool). IsTrue b ↔ AreArguments ws) (ap (λ (b : Bool). b && is_none with_zero) (none_is long short s ∙ passed) ∙ none_is with_zero free f)
+    (told_by_first ws long with_zero few is_long is_zero)
 
 pub told_long : (ws : List (List ℕ)) (long : Option ℕ) (short answer : Bool) → length ws ≤ most_arguments → long ≡ first_too_long ws
     → is_some long ≡ not short → answer ≡ short → answer ≡ false → IsTrue answer ↔ AreArguments ws

@@ -7,7 +7,8 @@ ghost use Rattle.field_words.specs.Places.{is_one, Comes, by_quarters, by_halves
 #[inline(always)]
 fn exchanged(x: u64, stay: u64, low: u64, by: u32) -> u64
     requires { by < 64 }
-    ensures { (s : ℕ) → s < 64 → is_one result s ≡ ((is_one stay s && is_one x s) || ((nat_le by s && (is_one low (s - by) && is_one x (s - by))) || (is_one low s && is_one x (s + by)))) }
+    ensures { (s : ℕ) → s < 64 → is_one result s ≡ ((is_one stay s && is_one x s)
+        || ((nat_le by s && (is_one low (s - by) && is_one x (s - by))) || (is_one low s && is_one x (s + by)))) }
 {
     stay & x | ((low & x) << by | low & x >> by)
 }

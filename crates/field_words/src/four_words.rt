@@ -1,5 +1,21 @@
 //! Fields among the 256 bits of four words, the lowest word first.
-ghost use Rattle.std.specs.Prelude.{◌≡◌, ◌<◌, ◌≤◌, ◌+◌, ◌-◌, ◌*◌, ◌/◌, ◌%◌, ◌&&◌, ℕ, false, nat_eq, nat_lt, get_or, if◌then◌else◌};
+ghost use Rattle.std.specs.Prelude.{
+  ◌≡◌,
+  ◌<◌,
+  ◌≤◌,
+  ◌+◌,
+  ◌-◌,
+  ◌*◌,
+  ◌/◌,
+  ◌%◌,
+  ◌&&◌,
+  ℕ,
+  false,
+  nat_eq,
+  nat_lt,
+  get_or,
+  if◌then◌else◌,
+};
 ghost use Rattle.field_words.specs.Places.{IsField, is_one, bit_of, zipped, every_second, joined, transposed, reversed};
 
 use crate::exchanges::{apart, backwards, in_turn};
@@ -65,7 +81,8 @@ fn zipped_at(a: &[u64; 4], b: &[u64; 4], from: u32, w: u32, bits: u32, i: u32) -
     requires field { IsField w }
     requires from { from ≤ 128 }
     requires few { i < 4 }
-    ensures { (s : ℕ) → s < 64 → is_one result s ≡ (nat_lt (64 * i + s) bits && zipped w from (bit_of a.now) (bit_of b.now) (64 * i + s)) }
+    ensures { (s : ℕ) → s < 64
+        → is_one result s ≡ (nat_lt (64 * i + s) bits && zipped w from (bit_of a.now) (bit_of b.now) (64 * i + s)) }
 {
     if bits <= 64 * i {
         0
@@ -126,7 +143,8 @@ fn zip_words(a: &[u64; 4], b: &[u64; 4], from: u32, w: u32, bits: u32) -> [u64; 
 fn second_fields(low: u64, high: u64, skip: u32, w: u32) -> u64
     requires field { IsField w }
     requires within { skip ≤ w }
-    ensures { (s : ℕ) → s < 64 → is_one result s ≡ (if nat_lt s 32 then every_second w skip (is_one low) s else every_second w skip (is_one high) (s - 32)) }
+    ensures { (s : ℕ) → s < 64 → is_one result s
+        ≡ (if nat_lt s 32 then every_second w skip (is_one low) s else every_second w skip (is_one high) (s - 32)) }
 {
     let first = apart(low >> skip, w);
     let second = apart(high >> skip, w);
@@ -161,7 +179,8 @@ fn join(a: &[u64; 4], b: &[u64; 4], at: u32) -> [u64; 4]
     [a[0] | w0, a[1] | w1, a[2] | w2, a[3] | w3]
 }
 
-/// Every second field of w bits of the first, and then of the second, the first from bit `skip` on. Both have so many bits.
+/// Every second field of w bits of the first, and then of the second, the first from bit `skip` on. Both have so many
+/// bits.
 pub fn uzp(a: &[u64; 4], b: &[u64; 4], skip: u32, w: u32, bits: u32) -> [u64; 4]
     requires field { IsField w }
     requires within { skip ≤ w }
@@ -169,7 +188,8 @@ pub fn uzp(a: &[u64; 4], b: &[u64; 4], skip: u32, w: u32, bits: u32) -> [u64; 4]
     requires whole { bits % 16 ≡ 0 }
     requires first { (j : ℕ) → bits ≤ j → bit_of a.now j ≡ false }
     requires second { (j : ℕ) → bits ≤ j → bit_of b.now j ≡ false }
-    ensures fields { (j : ℕ) → j < bits → bit_of result j ≡ joined (bits / 2) (every_second w skip (bit_of a.now)) (every_second w skip (bit_of b.now)) j }
+    ensures fields { (j : ℕ) → j < bits → bit_of result j
+        ≡ joined (bits / 2) (every_second w skip (bit_of a.now)) (every_second w skip (bit_of b.now)) j }
     ensures above { (j : ℕ) → bits ≤ j → bit_of result j ≡ false }
 {
     if bits <= 64 {
@@ -189,7 +209,8 @@ fn uzp_word(a: &[u64; 4], b: &[u64; 4], skip: u32, w: u32, bits: u32) -> u64
     requires whole { bits % 16 ≡ 0 }
     requires first { (j : ℕ) → bits ≤ j → bit_of a.now j ≡ false }
     requires second { (j : ℕ) → bits ≤ j → bit_of b.now j ≡ false }
-    ensures { (s : ℕ) → s < 64 → is_one result s ≡ joined (bits / 2) (every_second w skip (bit_of a.now)) (every_second w skip (bit_of b.now)) s }
+    ensures { (s : ℕ) → s < 64 → is_one result s
+        ≡ joined (bits / 2) (every_second w skip (bit_of a.now)) (every_second w skip (bit_of b.now)) s }
 {
     let first = second_fields(a[0], 0, skip, w);
     let second = second_fields(b[0], 0, skip, w);
@@ -205,7 +226,8 @@ fn uzp_words(a: &[u64; 4], b: &[u64; 4], skip: u32, w: u32, bits: u32) -> [u64; 
     requires whole { bits % 16 ≡ 0 }
     requires first { (j : ℕ) → bits ≤ j → bit_of a.now j ≡ false }
     requires second { (j : ℕ) → bits ≤ j → bit_of b.now j ≡ false }
-    ensures fields { (j : ℕ) → j < bits → bit_of result j ≡ joined (bits / 2) (every_second w skip (bit_of a.now)) (every_second w skip (bit_of b.now)) j }
+    ensures fields { (j : ℕ) → j < bits → bit_of result j
+        ≡ joined (bits / 2) (every_second w skip (bit_of a.now)) (every_second w skip (bit_of b.now)) j }
     ensures above { (j : ℕ) → bits ≤ j → bit_of result j ≡ false }
 {
     let low = every_second_field(a, skip, w);

@@ -1,5 +1,5 @@
 -- Where the frames of an arena lie, as one is taken, given back or cut off.
-use Rattle.std.proofs.Common.{◌≡◌, ℕ, ◌+◌, ◌*◌, ◌<◌, List, length, get_or, sym, ap, subst, ◌∙◌, arith, Some, None, Option}
+use Rattle.std.proofs.Common.{◌≡◌, ℕ, ◌+◌, ◌*◌, ◌<◌, List, length, get_or, sym, ap, subst, ◌∙◌, arith, Some, Option}
 use Rattle.std.proofs.lemmas.List.{get_or_read}
 use denote.RawPtr.{Ptr, block_ptr, block_of, count_of}
 use Rattle.emu_model.specs.Access.{page_size}

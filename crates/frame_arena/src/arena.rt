@@ -29,8 +29,8 @@ impl Model for Frame {
     ghost view = { λ f. f.number };
 }
 
-/// One region of blocks. Contracts see the bytes of the blocks in use by their numbers and how many frames name each, how
-/// many are spare, and how many there are.
+/// One region of blocks. Contracts see the bytes of the blocks in use by their numbers and how many frames name each,
+/// how many are spare, and how many there are.
 pub struct FrameArena {
     // the frames that were cut off the region so far, by their numbers
     slots: Vec<Slot>,
@@ -69,7 +69,19 @@ impl Frame {
 
 impl FrameArena {
     ghost use Rattle.std.specs.Borrow.{sem};
-    ghost use Rattle.frame_arena.specs.Frames.{IsLive, IsSole, bytes_of, count_of, fresh, freed, given, lowered, shared, zeroed, Takes};
+    ghost use Rattle.frame_arena.specs.Frames.{
+      IsLive,
+      IsSole,
+      bytes_of,
+      count_of,
+      fresh,
+      freed,
+      given,
+      lowered,
+      shared,
+      zeroed,
+      Takes,
+    };
     ghost use Rattle.frame_arena.specs.LendingFrames.{LendsFrame, LendsPart};
 
     /// An arena of that many frames, all spare. No byte of the region is read or written.
@@ -103,7 +115,8 @@ impl FrameArena {
 
     /// A spare frame becomes live, and its 4,096 bytes are 0. None exactly where no frame is spare.
     pub fn take(&mut self) -> Option<Frame>
-        ensures { MatchOption result ((self.old.spare ≡ 0) × (self.new ≡ self.old)) (λ f. Takes self.old f zeroed self.new) }
+        ensures { MatchOption result ((self.old.spare ≡ 0) × (self.new ≡ self.old))
+            (λ f. Takes self.old f zeroed self.new) }
     {
         if self.given > 0 {
             let free = mem::replace(&mut self.free, FreeList::empty());
@@ -197,7 +210,8 @@ impl FrameArena {
     /// A spare block takes the bytes of a frame's block. None exactly where no block is spare.
     pub fn copy(&mut self, f: &Frame) -> Option<Frame>
         requires { IsLive self.old f.now }
-        ensures { MatchOption result ((self.old.spare ≡ 0) × (self.new ≡ self.old)) (λ c. Takes self.old c (bytes_of self.old.live f.now) self.new) }
+        ensures { MatchOption result ((self.old.spare ≡ 0) × (self.new ≡ self.old))
+            (λ c. Takes self.old c (bytes_of self.old.live f.now) self.new) }
     {
         let mut bytes = [0; PAGE_BYTES];
         bytes.copy_from_slice(self.bytes(f));

@@ -1,5 +1,21 @@
 //! The place of a block in the table: its page and how many frames name it, where the block is in use.
-ghost use Rattle.std.specs.Prelude.{◌≡◌, ◌≤◌, ◌<◌, ◌+◌, ◌-◌, ◌^◌, ◌==◌, IsSome, Some, None, [], length, take, drop, unwrap_or};
+ghost use Rattle.std.specs.Prelude.{
+  ◌≡◌,
+  ◌≤◌,
+  ◌<◌,
+  ◌+◌,
+  ◌-◌,
+  ◌^◌,
+  ◌==◌,
+  IsSome,
+  Some,
+  None,
+  [],
+  length,
+  take,
+  drop,
+  unwrap_or,
+};
 ghost use Rattle.std.specs.Borrow.{sem};
 ghost use Rattle.emu_model.specs.Access.{page_size};
 ghost use Rattle.frame_arena.specs.Frames.{zeroed};

@@ -22,8 +22,8 @@ impl Model for Memory {
     ghost also_owns = { λ m. bytes_at m.ptr m.size };
 }
 
-/// The right, and the duty, to give the region back to its allocator: a lease can't be dropped, so whoever has one has it until [`Memory::free`]
-/// takes it with the whole region.
+/// The right, and the duty, to give the region back to its allocator: a lease can't be dropped, so whoever has one has
+/// it until [`Memory::free`] takes it with the whole region.
 pub struct Lease<A: Allocator> {
     marker: PhantomData<A>,
     ghost alloc: { A },
@@ -39,7 +39,8 @@ impl Memory {
     /// A region of `size` bytes. None where the allocator has none.
     pub fn new<A: Allocator>(alloc: &A, size: usize) -> Option<(Memory, Lease<A>)>
         requires { IsRegionSize size }
-        ensures { IfSome result (λ m. (m.0.size ≡ size) × (m.1.alloc ≡ alloc.now) × (m.1.ptr ≡ m.0.ptr) × (m.1.size ≡ size) × (m.0.ptr ≡ block_ptr (block_of m.0.ptr) (count_of m.0.ptr))) }
+        ensures { IfSome result (λ m. (m.0.size ≡ size) × (m.1.alloc ≡ alloc.now) × (m.1.ptr ≡ m.0.ptr)
+            × (m.1.size ≡ size) × (m.0.ptr ≡ block_ptr (block_of m.0.ptr) (count_of m.0.ptr))) }
     {
         match alloc.allocate(size, 16) {
             Ok(ptr) => {

@@ -15,8 +15,9 @@ use vec_regs::VecRegs;
 #[inline(never)]
 fn test_stack(plan: &Plan, core: &Core, vec: &VecRegs) -> Result<(), Trap>
     requires { IsPlan plan.now vec.now }
-    ensures { let misaligned : Bool = tests_sp plan.now.has_sp_base (elements_of (layout_of plan.now vec.now)) && not (nat_eq (core.now.sp % 16) 0) in
-        MatchResult result (λ x. misaligned ≡ false) (λ trap. (misaligned ≡ true) × (trap ≡ record { kind = TrapKind.SpAlign; address = core.now.sp })) }
+    ensures { let misaligned : Bool = tests_sp plan.now.has_sp_base (elements_of (layout_of plan.now vec.now))
+        && not (nat_eq (core.now.sp % 16) 0) in MatchResult result (λ x. misaligned ≡ false)
+        (λ trap. (misaligned ≡ true) × (trap ≡ record { kind = TrapKind.SpAlign; address = core.now.sp })) }
 {
     test_sp(core, tests_sp(plan, vec))
 }
@@ -25,8 +26,9 @@ fn test_stack(plan: &Plan, core: &Core, vec: &VecRegs) -> Result<(), Trap>
 #[inline(always)]
 pub(crate) fn test_base(plan: &Plan, core: &Core, vec: &VecRegs) -> Result<(), Trap>
     requires { IsPlan plan.now vec.now }
-    ensures { let misaligned : Bool = tests_sp plan.now.has_sp_base (elements_of (layout_of plan.now vec.now)) && not (nat_eq (core.now.sp % 16) 0) in
-        MatchResult result (λ x. misaligned ≡ false) (λ trap. (misaligned ≡ true) × (trap ≡ record { kind = TrapKind.SpAlign; address = core.now.sp })) }
+    ensures { let misaligned : Bool = tests_sp plan.now.has_sp_base (elements_of (layout_of plan.now vec.now))
+        && not (nat_eq (core.now.sp % 16) 0) in MatchResult result (λ x. misaligned ≡ false)
+        (λ trap. (misaligned ≡ true) × (trap ≡ record { kind = TrapKind.SpAlign; address = core.now.sp })) }
 {
     if plan.has_sp_base {
         return test_stack(plan, core, vec);

@@ -1,5 +1,22 @@
 //! Gathers.
-ghost use Rattle.std.specs.Prelude.{ℕ, ◌≡◌, ◌≤◌, ◌<◌, ◌+◌, ◌*◌, ◌/◌, ◌++◌, ◌∷◌, [], ⊤, MatchResult, None, Some, false, true};
+ghost use Rattle.std.specs.Prelude.{
+  ℕ,
+  ◌≡◌,
+  ◌≤◌,
+  ◌<◌,
+  ◌+◌,
+  ◌*◌,
+  ◌/◌,
+  ◌++◌,
+  ◌∷◌,
+  [],
+  ⊤,
+  MatchResult,
+  None,
+  Some,
+  false,
+  true,
+};
 ghost use Rattle.arrayvec.specs.ArrayVec.{array_vec_len};
 ghost use Rattle.emu_model.specs.Access.{Memory, refused, value};
 ghost use Rattle.emu_model.specs.Elements.{reach};
@@ -109,11 +126,13 @@ fn load_word<const E: u32, const N: u32>(
     requires bits { E ≡ plan.now.bits }
     requires bytes { N ≡ plan.now.bytes }
     requires within { i < vec.now.bits / 64 }
-    requires loaded { AreLoaded mem.old (elements_below (layout_of plan.now vec.now) (i * (64 / plan.now.bits))) log.old.items }
+    requires loaded { AreLoaded mem.old
+        (elements_below (layout_of plan.now vec.now) (i * (64 / plan.now.bits))) log.old.items }
     ensures loaded { let l = layout_of plan.now vec.now in MatchResult result
         (λ word. AreLoaded mem.old (elements_below l ((i + 1) * (64 / plan.now.bits))) log.new.items)
         (λ trap. StopsLoad mem.old (elements_of l) log.new.items trap) }
-    ensures word { MatchResult result (λ word. word ≡ word_of_lanes plan.now.bits (lane_value plan.now vec.now mem.old) i) (λ trap. ⊤) }
+    ensures word { MatchResult result
+        (λ word. word ≡ word_of_lanes plan.now.bits (lane_value plan.now vec.now mem.old) i) (λ trap. ⊤) }
     ensures memory { mem.new ≡ mem.old }
 {
     let _length = vec.length();
@@ -146,7 +165,8 @@ fn load_words<const E: u32, const N: u32>(
     ensures loaded { let l = layout_of plan.now vec.now in MatchResult result
         (λ x. AreLoaded mem.old (elements_of l) log.new.items)
         (λ trap. StopsLoad mem.old (elements_of l) log.new.items trap) }
-    ensures words { MatchResult result (λ x. AreWords plan.now vec.now mem.old (vec.now.bits / 64) words.new) (λ trap. ⊤) }
+    ensures words { MatchResult result (λ x. AreWords plan.now vec.now mem.old (vec.now.bits / 64) words.new)
+        (λ trap. ⊤) }
     ensures memory { mem.new ≡ mem.old }
 {
     let plan = *plan;
@@ -240,7 +260,8 @@ fn load_indexed(plan: &Plan, vec: &mut VecRegs, mem: &mut Mem, log: &mut AccessL
     requires gather { IsGather plan.now }
     requires indexed { IsIndexed plan.now }
     requires empty { log.old.items ≡ [] }
-    ensures { (c : CoreState) → loaded_to (reach mem.old Kind.Read (elements_of (layout_of plan.now vec.old))) (loaded_by plan.now.target plan.now.is_signed (layout_of plan.now vec.old) mem.old vec.old) c vec.old mem.old
+    ensures { (c : CoreState) → loaded_to (reach mem.old Kind.Read (elements_of (layout_of plan.now vec.old)))
+        (loaded_by plan.now.target plan.now.is_signed (layout_of plan.now vec.old) mem.old vec.old) c vec.old mem.old
         ≡ record { core = c; vectors = vec.new; memory = mem.new; accesses = log.new.items; effect = result } }
 {
     match load_all(plan, vec, mem, log) {
@@ -280,7 +301,8 @@ pub fn load_unrefused(plan: &Plan, vec: &mut VecRegs, mem: &mut Mem, log: &mut A
     requires gather { IsGather plan.now }
     requires empty { log.old.items ≡ [] }
     ensures loaded { result ≡ true → AreLoaded mem.old (elements_of (layout_of plan.now vec.old)) log.new.items }
-    ensures registers { result ≡ true → vec.new ≡ loaded_by plan.now.target plan.now.is_signed (layout_of plan.now vec.old) mem.old vec.old }
+    ensures registers { result ≡ true
+        → vec.new ≡ loaded_by plan.now.target plan.now.is_signed (layout_of plan.now vec.old) mem.old vec.old }
     ensures kept { result ≡ false → vec.new ≡ vec.old }
     ensures unlogged { result ≡ false → log.new.items ≡ [] }
     ensures memory { mem.new ≡ mem.old }

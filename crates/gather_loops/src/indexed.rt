@@ -2,7 +2,15 @@
 ghost use Rattle.std.specs.Prelude.{◌≡◌, ◌<◌, true};
 ghost use Rattle.element_loops.specs.Layouts.{IsPlan, layout_of};
 ghost use Rattle.element_loops.specs.declared.plan.OnLanes.{OnLanes};
-ghost use Rattle.gather_loops.specs.Indexing.{AreOffsets, IsIndex, IsIndexed, IsUsual, has_offsets, has_predicate, offset_of};
+ghost use Rattle.gather_loops.specs.Indexing.{
+  AreOffsets,
+  IsIndex,
+  IsIndexed,
+  IsUsual,
+  has_offsets,
+  has_predicate,
+  offset_of,
+};
 
 use element_loops::place::word;
 use element_loops::sizes::scaled;

@@ -39,7 +39,8 @@ fn store_lane<const E: u32, const N: u32>(
     // whatever the memory was before the first store
     ensures stored { (m : Memory) → let l = layout_of plan.now vec.now in
         AreStored (stored_by plan.now.target l vec.now) m (elements_below l k) mem.old log.old.items
-        → MatchResult result (λ x. AreStored (stored_by plan.now.target l vec.now) m (elements_below l (k + 1)) mem.new log.new.items)
+        → MatchResult result
+        (λ x. AreStored (stored_by plan.now.target l vec.now) m (elements_below l (k + 1)) mem.new log.new.items)
         (λ trap. StopsStore (stored_by plan.now.target l vec.now) m (elements_of l) mem.new log.new.items trap) }
 {
     let _room = position(plan, vec, k, 0);

@@ -7,7 +7,8 @@ use std::marker::Model;
 use thread_model::Standing;
 use vec_regs::VecRegs;
 
-/// A context of a world, whose registers are in boxes, so that they can be exchanged as they are. Contracts see it as a record.
+/// A context of a world, whose registers are in boxes, so that they can be exchanged as they are. Contracts see it as a
+/// record.
 #[derive(Drop)]
 pub struct Context {
     /// The scalar registers.

@@ -41,7 +41,8 @@ pub fn are_all_gone(contexts: &[Context]) -> bool
 /// Says how a context stands.
 pub fn stand(contexts: &mut [Context], k: usize, standing: Standing)
     requires { k < length contexts.old }
-    ensures { contexts.new ≡ set contexts.old k (record (get_or contexts.old k worlds.no_context) { standing = standing }) }
+    ensures { contexts.new
+        ≡ set contexts.old k (record (get_or contexts.old k worlds.no_context) { standing = standing }) }
 {
     let context = &mut contexts[k];
     context.standing = standing;
@@ -56,7 +57,8 @@ pub fn set_clear(contexts: &mut [Context], k: usize, address: u64)
     context.clear = address;
 }
 
-/// Makes ready the contexts that wait at an address, those with the lowest numbers first and at most `most`, and answers how many.
+/// Makes ready the contexts that wait at an address, those with the lowest numbers first and at most `most`, and
+/// answers how many.
 pub fn wake(contexts: &mut [Context], address: u64, most: u64) -> u64
     ensures contexts { contexts.new ≡ worlds.woken address most contexts.old }
     ensures count { result ≡ worlds.wake_count address most contexts.old }

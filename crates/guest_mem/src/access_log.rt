@@ -8,8 +8,8 @@ use arrayvec::ArrayVec;
 use emu_model::access::Access;
 use std::marker::Model;
 
-/// The accesses of one step, in order, lower first. 1,024 is the most that an instruction makes (`ld4b` at 2,048 bits). Contracts
-/// see it as they see an `ArrayVec`.
+/// The accesses of one step, in order, lower first. 1,024 is the most that an instruction makes (`ld4b` at 2,048 bits).
+/// Contracts see it as they see an `ArrayVec`.
 #[derive(Drop)]
 pub struct AccessLog {
     cells: [Access; 1024],
@@ -76,7 +76,8 @@ impl AccessLog {
     /// Appends so many accesses of n bytes each, one behind the other. There must be room.
     pub fn push_run(&mut self, base: u64, n: u32, count: u32, write: bool)
         requires { array_vec_len self.old + count ≤ 1024 }
-        ensures items { self.new.items ≡ self.old.items ++ each count (λ i. record { address = address (base + i * n); bytes = n; write = write }) }
+        ensures items { self.new.items ≡ self.old.items ++ each count
+            (λ i. record { address = address (base + i * n); bytes = n; write = write }) }
         ensures len { array_vec_len self.new ≡ array_vec_len self.old + count }
     {
         let first = self.len;
@@ -92,7 +93,8 @@ impl AccessLog {
 
 /// Makes all of these accesses of n bytes each, one behind the other.
 fn fill(cells: &mut [Access], base: u64, n: u32, write: bool)
-    ensures { cells.new ≡ each (length cells.old) (λ i. record { address = address (base + i * n); bytes = n; write = write }) }
+    ensures { cells.new ≡ each (length cells.old)
+        (λ i. record { address = address (base + i * n); bytes = n; write = write }) }
 {
     let mut at = base;
     for i in 0..cells.len() {

@@ -1,5 +1,29 @@
 //! The mapped pages, and the calls that map, find and change them.
-ghost use Rattle.std.specs.Prelude.{◌≡◌, ◌≤◌, ◌<◌, ◌+◌, ◌*◌, ◌^◌, length, set, get_or, is_some, IsSome, Some, None, false, if◌then◌else◌, MatchOption, IfOk, IfSome, OnOk, OnErr, IsTrue, option_map, ⊤};
+ghost use Rattle.std.specs.Prelude.{
+  ◌≡◌,
+  ◌≤◌,
+  ◌<◌,
+  ◌+◌,
+  ◌*◌,
+  ◌^◌,
+  length,
+  set,
+  get_or,
+  is_some,
+  IsSome,
+  Some,
+  None,
+  false,
+  if◌then◌else◌,
+  MatchOption,
+  IfOk,
+  IfSome,
+  OnOk,
+  OnErr,
+  IsTrue,
+  option_map,
+  ⊤,
+};
 ghost use Rattle.std.specs.FinMap as map;
 ghost use Rattle.std.specs.List.{count_by};
 ghost use mathlib.Core.Option.{none};
@@ -20,11 +44,10 @@ use crate::places::{
     store_page, taken, unmapped_page, write_page,
 };
 use emu_model::{Kind, PAGE_BYTES, Rights};
+pub use page_list::OutOfMemory;
 use page_list::PageList;
 use std::alloc::Global;
 use std::marker::Model;
-
-pub use page_list::OutOfMemory;
 
 /// Why pages can't be mapped.
 #[derive(Clone, Copy, Debug, PartialEq, Eq)]
@@ -41,8 +64,8 @@ pub struct Unmapped {
     pub page: u64,
 }
 
-/// The mapped pages. Contracts see them as a finite map from page to rights and bytes, the greatest number of pages, and the
-/// marks, each none or such a map.
+/// The mapped pages. Contracts see them as a finite map from page to rights and bytes, the greatest number of pages,
+/// and the marks, each none or such a map.
 #[derive(Drop)]
 pub struct Pages {
     list: PageList,
@@ -106,7 +129,8 @@ impl Pages {
     /// The same, and puts a page that it finds into the look-up cache, of which no contract speaks.
     #[inline(always)]
     pub fn seek(&mut self, page: u64) -> Option<(Rights, &[u8])>
-        ensures* unchanged { sem 𝓛 (follows_so the_row the_row self.entry.ghost_name none (λ _ _. ⊤) (λ m. m ≡ self.old)) }
+        ensures* unchanged { sem 𝓛
+            (follows_so the_row the_row self.entry.ghost_name none (λ _ _. ⊤) (λ m. m ≡ self.old)) }
         ensures found { MatchOption result (map.get self.old.pages page ≡ None)
             (λ f. map.get self.old.pages page ≡ Some (record { rights = f.0; bytes = f.1.now })) }
         ensures whole { MatchOption result ⊤ (λ f. length f.1.now ≡ page_size) }
@@ -120,7 +144,8 @@ impl Pages {
     /// The bytes of a page that has the right for `kind`, with the look-up cache as in `seek`.
     #[inline(always)]
     pub fn seek_for(&mut self, page: u64, kind: Kind) -> Option<&[u8]>
-        ensures* unchanged { sem 𝓛 (follows_so the_row the_row self.entry.ghost_name none (λ _ _. ⊤) (λ m. m ≡ self.old)) }
+        ensures* unchanged { sem 𝓛
+            (follows_so the_row the_row self.entry.ghost_name none (λ _ _. ⊤) (λ m. m ≡ self.old)) }
         ensures found { MatchOption result (page_gives (map.get self.old.pages page) kind ≡ false)
             (λ s. IsOpen (map.get self.old.pages page) kind s.now) }
         ensures whole { MatchOption result ⊤ (λ s. length s.now ≡ page_size) }
@@ -134,7 +159,8 @@ impl Pages {
     /// The same by the look-up cache alone.
     #[inline(always)]
     fn seek_data(&mut self, page: u64, kind: Kind) -> Option<&[u8]>
-        ensures* unchanged { sem 𝓛 (follows_so the_row the_row self.entry.ghost_name none (λ _ _. ⊤) (λ m. m ≡ self.old)) }
+        ensures* unchanged { sem 𝓛
+            (follows_so the_row the_row self.entry.ghost_name none (λ _ _. ⊤) (λ m. m ≡ self.old)) }
         ensures found { MatchOption result (page_gives (map.get self.old.pages page) kind ≡ false)
             (λ s. IsOpen (map.get self.old.pages page) kind s.now) }
         ensures whole { MatchOption result ⊤ (λ s. length s.now ≡ page_size) }
@@ -154,7 +180,8 @@ impl Pages {
     /// The bytes of a page that may be fetched from: the one at hand, or else it is looked for.
     #[inline(always)]
     fn seek_code(&mut self, page: u64) -> Option<&[u8]>
-        ensures* unchanged { sem 𝓛 (follows_so the_row the_row self.entry.ghost_name none (λ _ _. ⊤) (λ m. m ≡ self.old)) }
+        ensures* unchanged { sem 𝓛
+            (follows_so the_row the_row self.entry.ghost_name none (λ _ _. ⊤) (λ m. m ≡ self.old)) }
         ensures found { MatchOption result (page_gives (map.get self.old.pages page) Kind.Fetch ≡ false)
             (λ s. IsOpen (map.get self.old.pages page) Kind.Fetch s.now) }
         ensures whole { MatchOption result ⊤ (λ s. length s.now ≡ page_size) }
@@ -170,7 +197,8 @@ impl Pages {
 
     /// The 4,096 bytes of a page, for writing. None exactly where the page isn't mapped.
     pub fn find_mut(&mut self, page: u64) -> Option<&mut [u8]>
-        ensures* writes_back { sem 𝓛 (LendsIf the_row (Array byte 0) self.entry result (with_part self.old page 0) self.old) }
+        ensures* writes_back { sem 𝓛
+            (LendsIf the_row (Array byte 0) self.entry result (with_part self.old page 0) self.old) }
         ensures found { option_map (λ s. s.now) result ≡ option_map (λ p. p.bytes) (map.get self.old.pages page) }
         ensures whole { MatchOption result ⊤ (λ s. length s.now ≡ page_size) }
     {
@@ -205,9 +233,9 @@ impl Pages {
         self.list.part_mut(i, at, count)
     }
 
-    /// Maps `count` pages from page `first` on, with these rights and their bytes 0. `Taken` has the least of them that is
-    /// mapped already; else `Full` comes exactly where there would be more pages than the limit. An Err leaves the pages as
-    /// they were.
+    /// Maps `count` pages from page `first` on, with these rights and their bytes 0. `Taken` has the least of them that
+    /// is mapped already; else `Full` comes exactly where there would be more pages than the limit. An Err leaves the
+    /// pages as they were.
     pub fn map(&mut self, first: u64, count: u64, rights: Rights) -> Result<(), MapFault>
         requires begins { 1 ≤ first }
         requires ends { first + count ≤ 2 ^ 35 }
@@ -237,8 +265,8 @@ impl Pages {
         remove_pages(&mut self.list, first, count);
     }
 
-    /// Gives `count` pages from page `first` on these rights. `Unmapped` has the least of them that isn't mapped, and then no
-    /// page is changed.
+    /// Gives `count` pages from page `first` on these rights. `Unmapped` has the least of them that isn't mapped, and
+    /// then no page is changed.
     pub fn protect(&mut self, first: u64, count: u64, rights: Rights) -> Result<(), Unmapped>
         requires { first + count ≤ 2 ^ 35 }
         ensures result { result ≡ protect_answer (least_unmapped self.old.pages first count) }
@@ -252,8 +280,8 @@ impl Pages {
         Ok(())
     }
 
-    /// The greatest page, from page 1 on, from which `count` pages are unmapped that end at or below page `below`. None exactly
-    /// where there is no such page.
+    /// The greatest page, from page 1 on, from which `count` pages are unmapped that end at or below page `below`. None
+    /// exactly where there is no such page.
     pub fn free_run(&self, count: u64, below: u64) -> Option<u64>
         ensures { result ≡ free_run self.now.pages count below }
     {
@@ -275,7 +303,8 @@ impl Pages {
         requires number { page < 2 ^ 52 }
         requires within { at + length bytes.now ≤ page_size }
         ensures allowed { result ≡ page_gives (map.get self.old.pages page) Kind.Write }
-        ensures bytes { self.new ≡ (if result then with_bytes self.old (page * page_size + at) bytes.now else self.old) }
+        ensures bytes { self.new
+            ≡ (if result then with_bytes self.old (page * page_size + at) bytes.now else self.old) }
     {
         store_page(&mut self.list, &mut self.cache, page, at, bytes)
     }
@@ -304,7 +333,8 @@ impl Pages {
     pub fn spare(&self) -> u32
         ensures most { result ≤ self.now.marks.unmarked }
         ensures least { self.now.marks.unmarked ≤ result + map.len self.now.pages }
-        ensures one_mark { 0 < length self.now.marks.list → count_by is_some self.now.marks.list ≤ 1 → self.now.limit + map.len self.now.pages ≤ self.now.marks.unmarked }
+        ensures one_mark { 0 < length self.now.marks.list → count_by is_some self.now.marks.list ≤ 1
+            → self.now.limit + map.len self.now.pages ≤ self.now.marks.unmarked }
         ensures room { self.now.limit ≤ result + map.len self.now.pages }
     {
         self.list.spare()

@@ -1,12 +1,42 @@
 //! The places of pages in the list, which has them in the order of their numbers.
-ghost use Rattle.std.specs.Prelude.{◌≡◌, ◌≤◌, ◌<◌, ◌+◌, ◌^◌, length, take, drop, if◌then◌else◌, not, true, false, MatchOption, IfNone, IfSome, IsTrue, Some};
+ghost use Rattle.std.specs.Prelude.{
+  ◌≡◌,
+  ◌≤◌,
+  ◌<◌,
+  ◌+◌,
+  ◌^◌,
+  length,
+  take,
+  drop,
+  if◌then◌else◌,
+  not,
+  true,
+  false,
+  MatchOption,
+  IfNone,
+  IfSome,
+  IsTrue,
+  Some,
+};
 ghost use Rattle.std.specs.List.{AllByRecursion, filter};
 ghost use Rattle.std.specs.Ordering.{nat_cmp};
 ghost use Rattle.std.specs.FinMap.{contains_key, find};
 ghost use Rattle.emu_model.specs.Access.{page_gives, page_size};
 ghost use Rattle.emu_model.specs.Pages.{is_among, least_mapped, least_unmapped};
 ghost use Rattle.emu_model.specs.WithinPage.{page_with_bytes};
-ghost use Rattle.guest_pages.specs.Places.{IsAscending, IsBelow, IsFrom, IsAt, IsRight, all_changed, cached, changed, entry_at, page_with_rights, pages_of};
+ghost use Rattle.guest_pages.specs.Places.{
+  IsAscending,
+  IsBelow,
+  IsFrom,
+  IsAt,
+  IsRight,
+  all_changed,
+  cached,
+  changed,
+  entry_at,
+  page_with_rights,
+  pages_of,
+};
 
 use crate::cache::Cache;
 use emu_model::{Kind, Rights};
@@ -77,7 +107,8 @@ fn search(list: &PageList, cache: &mut Cache, page: u64) -> Option<usize>
 pub fn search_code(list: &mut PageList, cache: &mut Cache, page: u64) -> Option<usize>
     requires ascending { IsAscending list.old.pages }
     requires right { IsRight list.old.pages cache.old }
-    ensures place { MatchOption result (page_gives (find nat_cmp page list.old.pages) Kind.Fetch ≡ false) (IsAt list.old.pages page) }
+    ensures place { MatchOption result (page_gives (find nat_cmp page list.old.pages) Kind.Fetch ≡ false)
+        (IsAt list.old.pages page) }
     ensures allowed { IfSome result (λ i. (entry_at list.old.pages i).1.rights.x ≡ true) }
     ensures pages { list.new.pages ≡ list.old.pages }
     ensures limit { list.new.limit ≡ list.old.limit }
@@ -152,7 +183,8 @@ pub fn store_page(
     requires right { IsRight list.old.pages cache.old }
     requires within { at + length bytes.now ≤ page_size }
     ensures allowed { result ≡ page_gives (find nat_cmp page list.old.pages) Kind.Write }
-    ensures pages { list.new.pages ≡ (if result then changed (page_with_bytes at bytes.now) page list.old.pages else list.old.pages) }
+    ensures pages { list.new.pages
+        ≡ (if result then changed (page_with_bytes at bytes.now) page list.old.pages else list.old.pages) }
     ensures limit { list.new.limit ≡ list.old.limit }
     ensures marks { (list.new.marks ≡ list.old.marks) × (list.new.unmarked ≡ list.old.unmarked) }
     ensures right { IsRight list.new.pages cache.new }

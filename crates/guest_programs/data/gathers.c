@@ -1,5 +1,5 @@
-/* Loads and stores at addresses that are in registers: a sparse matrix, permutations, a table that is looked up, a linked list that
-   many lanes follow, a histogram whose lanes don't meet, gathers from bases and from narrow lanes. */
+/* Loads and stores at addresses that are in registers: a sparse matrix, permutations, a table that is looked up, a
+   linked list that many lanes follow, a histogram whose lanes don't meet, gathers from bases and from narrow lanes. */
 #include "guest.h"
 #include <arm_sve.h>
 
@@ -118,7 +118,8 @@ static NOINLINE u64 follow(u64 n, u32 steps)
     return sum;
 }
 
-/* a lane waits while an earlier one of the same step counts in the same place: what it reads back isn't its own number */
+/* a lane waits while an earlier one of the same step counts in the same place: what it reads back isn't its own
+   number */
 static NOINLINE void count(i32 n)
 {
     static u32 owner[256];

@@ -1,5 +1,5 @@
-/* An allocator over brk for small blocks and over mmap for large ones, and what uses it: lists, a search tree, a hash table that
-   grows, a sorted array that grows, and blocks that are given back and taken again. */
+/* An allocator over brk for small blocks and over mmap for large ones, and what uses it: lists, a search tree, a hash
+   table that grows, a sorted array that grows, and blocks that are given back and taken again. */
 #include "guest.h"
 
 enum { LARGE = 65536, CLASSES = 12, HEAD = 16 };

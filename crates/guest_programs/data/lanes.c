@@ -1,6 +1,6 @@
-/* The instructions on lanes and predicates by the intrinsics of the Arm C Language Extensions: each works on whole vectors of
-   numbers that look random, under a predicate that looks random too, and a hash of what it leaves is printed. So what is
-   printed differs with the vector length. */
+/* The instructions on lanes and predicates by the intrinsics of the Arm C Language Extensions: each works on whole
+   vectors of numbers that look random, under a predicate that looks random too, and a hash of what it leaves is
+   printed. So what is printed differs with the vector length. */
 #include "guest.h"
 #include <arm_sve.h>
 #include <stdint.h>

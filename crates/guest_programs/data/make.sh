@@ -34,7 +34,8 @@ by_gcc heap -O2
 by_clang parser -O3
 by_gcc spills -O3
 
-# A line of the list of runs: FILE BITS BUDGET INPUT [ARG ..]. What a run is expected to write, and how it ends, by qemu-aarch64.
+# A line of the list of runs: FILE BITS BUDGET INPUT [ARG ..]. What a run is expected to write, and how it ends, by
+# qemu-aarch64.
 expected() {
     while read -r file bits budget input args; do
         quads=$((bits / 128))

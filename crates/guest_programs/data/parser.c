@@ -1,5 +1,6 @@
-/* A calculator that reads its input one byte a call: lines of expressions over whole numbers of 64 bits with variables, functions
-   and conditions, each answered by a line or by an error that names its place. Its arguments set variables, as `a=5`. */
+/* A calculator that reads its input one byte a call: lines of expressions over whole numbers of 64 bits with variables,
+   functions and conditions, each answered by a line or by an error that names its place. Its arguments set variables,
+   as `a=5`. */
 #include "guest.h"
 
 enum { TOKENS = 128 };

@@ -1,5 +1,5 @@
-/* A picture of bytes: blending, a threshold, a box blur, edges, a histogram that evens it out, mirrored and turned pictures, a
-   scaled one, and counts of what is in it. All are plain loops. */
+/* A picture of bytes: blending, a threshold, a box blur, edges, a histogram that evens it out, mirrored and turned
+   pictures, a scaled one, and counts of what is in it. All are plain loops. */
 #include "guest.h"
 
 enum { WIDE = 67, HIGH = 23, SIZE = WIDE * HIGH };

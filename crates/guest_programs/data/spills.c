@@ -1,5 +1,5 @@
-/* Functions whose vectors and predicates live across calls, so that they are kept on the stack: recursion over vectors, many of them at
-   once, callee-saved ones, and alternating recursion that passes them as arguments. */
+/* Functions whose vectors and predicates live across calls, so that they are kept on the stack: recursion over vectors,
+   many of them at once, callee-saved ones, and alternating recursion that passes them as arguments. */
 #include "guest.h"
 #include <arm_sve.h>
 

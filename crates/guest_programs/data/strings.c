@@ -1,5 +1,5 @@
-/* Strings by first-faulting loads: their lengths, a character's place, comparison and copying, up to the last byte before a page that
-   isn't mapped. The pages come from mmap; every second one is given back. */
+/* Strings by first-faulting loads: their lengths, a character's place, comparison and copying, up to the last byte
+   before a page that isn't mapped. The pages come from mmap; every second one is given back. */
 #include "guest.h"
 #include <arm_sve.h>
 

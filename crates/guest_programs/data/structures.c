@@ -1,5 +1,6 @@
-/* Arrays of structures, taken apart and put together by the loads and stores of two, three and four registers: complex numbers,
-   pixels of three and four colours, points, a transposed matrix, and a queue of records of different widths. */
+/* Arrays of structures, taken apart and put together by the loads and stores of two, three and four registers: complex
+   numbers, pixels of three and four colours, points, a transposed matrix, and a queue of records of different
+   widths. */
 #include "guest.h"
 #include <arm_sve.h>
 

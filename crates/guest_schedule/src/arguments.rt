@@ -15,7 +15,8 @@ fn number(word: &str) -> Result<u64, ScheduleWhy>
     }
 }
 
-/// The turn of a line of so many words: OutOfRange where it has no step, then ExtraWord where there are more than two words.
+/// The turn of a line of so many words: OutOfRange where it has no step, then ExtraWord where there are more than two
+/// words.
 fn turn(count: usize, place: u64, steps: u64) -> Result<(u64, u64), ScheduleWhy>
     ensures turn { result ≡ turn count place steps }
     ensures steps { IfOk result (λ turn. 1 ≤ turn.1) }
@@ -29,8 +30,8 @@ fn turn(count: usize, place: u64, steps: u64) -> Result<(u64, u64), ScheduleWhy>
     Ok((place, steps))
 }
 
-/// The turn that a line's words are, or its first refusal: MissingWord where there are fewer than two words, BadNumber where one of the
-/// first two is no number, then OutOfRange and ExtraWord.
+/// The turn that a line's words are, or its first refusal: MissingWord where there are fewer than two words, BadNumber
+/// where one of the first two is no number, then OutOfRange and ExtraWord.
 pub fn turn_of(words: &[&str]) -> Result<(u64, u64), ScheduleWhy>
     ensures turn { result ≡ turn_of (map (λ word. word.now) words.now) }
     ensures steps { IfOk result (λ turn. 1 ≤ turn.1) }

@@ -79,9 +79,9 @@ fn read_line(
 
 /// Reads a schedule: one turn in each line, but for lines without a word and lines that begin with `#`.
 ///
-/// The refusal is the first: TooManyLines, with line 100,001, where there are more than 100,000 lines; then line by line MissingWord,
-/// BadNumber, OutOfRange and ExtraWord; last NoTurn, with line 0, where there is no turn. OutOfMemory is want
-/// of memory. NotUtf8 isn't answered, since a text is UTF-8.
+/// The refusal is the first: TooManyLines, with line 100,001, where there are more than 100,000 lines; then line by
+/// line MissingWord, BadNumber, OutOfRange and ExtraWord; last NoTurn, with line 0, where there is no turn. OutOfMemory
+/// is want of memory. NotUtf8 isn't answered, since a text is UTF-8.
 pub fn read_schedule(alloc: Global, text: &str) -> Result<Schedule, ScheduleError>
     ensures { MatchResult result (λ read. schedule text.now ≡ Ok read) (IsErrorOf (schedule text.now)) }
 {

@@ -1,5 +1,5 @@
 -- The answers of steps, by their names.
-use Rattle.std.proofs.Common.{◌≡◌, false, Option, Some, None, is_none, refl, sym, ◌∙◌}
+use Rattle.std.proofs.Common.{◌≡◌, false, Option, Some, None, is_none, refl, sym}
 use Rattle.emu_model.specs.declared.trap.Ended.{Ended}
 use Rattle.emu_model.specs.declared.trap.Ended.TheVariants.{Exit, Trap}
 use Rattle.emu_machine.specs.declared.ends.StepEnd.{StepEnd}

@@ -19,8 +19,9 @@ use guest_contexts::is_some_watching;
 use io_gate::{Sink, Source};
 
 impl Held {
-    /// Takes steps of a context, which is ready: at least one, and more until `until` are counted in all, the next one makes a call, or
-    /// one ends the world. Where another context has a monitor, which each store may empty, it takes one alone.
+    /// Takes steps of a context, which is ready: at least one, and more until `until` are counted in all, the next one
+    /// makes a call, or one ends the world. Where another context has a monitor, which each store may empty, it takes
+    /// one alone.
     #[inline(always)]
     pub(crate) fn go<I: Source, O: Sink, E: Sink>(
         &mut self,
@@ -34,17 +35,25 @@ impl Held {
         requires below { self.old.world.steps < until }
         requires within { k < length self.old.world.contexts }
         requires ready { (worlds.context self.old.world k).standing ≡ standing.Ready }
-        ensures steps { TakesSteps k until self.old.world self.new.world (last_end result self.new.world.ended) (I.left input.old) (I.left input.new) (O.held output.old) (O.held output.new) (E.held errors.old) (E.held errors.new) }
+        ensures steps { TakesSteps k until self.old.world self.new.world (last_end result self.new.world.ended)
+            (I.left input.old) (I.left input.new) (O.held output.old) (O.held output.new) (E.held errors.old)
+            (E.held errors.new) }
         ensures over { result ≡ Went.Over → is_none self.new.world.ended ≡ false }
         ensures failed { self.new.failed ≡ is_undone (last_end result self.new.world.ended) }
         ensures last { self.new.world.last ≡ k }
         ensures living { is_undone (last_end result self.new.world.ended) ≡ false → IsLiving self.new.world }
-        ensures read_cause { Causes (last_end result self.new.world.ended ≡ StepEnd.ReadFault) (I.faults input.old) (I.faults input.new) }
-        ensures write_cause { Causes (last_end result self.new.world.ended ≡ StepEnd.WriteFault) (O.faults output.old) (O.faults output.new) }
-        ensures errors_cause { Causes (last_end result self.new.world.ended ≡ StepEnd.ErrorsFault) (E.faults errors.old) (E.faults errors.new) }
-        ensures read_named { last_end result self.new.world.ended ≡ StepEnd.ReadFault → NamesRead (last_machine self.new.world).core }
-        ensures write_named { last_end result self.new.world.ended ≡ StepEnd.WriteFault → MakesWrite (last_machine self.new.world) 1 }
-        ensures errors_named { last_end result self.new.world.ended ≡ StepEnd.ErrorsFault → MakesWrite (last_machine self.new.world) 2 }
+        ensures read_cause { Causes (last_end result self.new.world.ended ≡ StepEnd.ReadFault) (I.faults input.old)
+            (I.faults input.new) }
+        ensures write_cause { Causes (last_end result self.new.world.ended ≡ StepEnd.WriteFault) (O.faults output.old)
+            (O.faults output.new) }
+        ensures errors_cause { Causes (last_end result self.new.world.ended ≡ StepEnd.ErrorsFault) (E.faults errors.old)
+            (E.faults errors.new) }
+        ensures read_named { last_end result self.new.world.ended ≡ StepEnd.ReadFault
+            → NamesRead (last_machine self.new.world).core }
+        ensures write_named { last_end result self.new.world.ended ≡ StepEnd.WriteFault
+            → MakesWrite (last_machine self.new.world) 1 }
+        ensures errors_named { last_end result self.new.world.ended ≡ StepEnd.ErrorsFault
+            → MakesWrite (last_machine self.new.world) 2 }
     {
         self.bring(k);
         let before = self.steps();
@@ -71,13 +80,14 @@ impl Held {
         }
     }
 
-    /// Takes steps of the context whose registers the machine has, until the next one makes a call, `until` are counted in all, or
-    /// one ends the world, and says whether one has. Where a context has a monitor it takes none.
+    /// Takes steps of the context whose registers the machine has, until the next one makes a call, `until` are counted
+    /// in all, or one ends the world, and says whether one has. Where a context has a monitor it takes none.
     #[inline(always)]
     fn advance(&mut self, until: u64) -> bool
         requires calling { IsCalling self.old }
         requires below { self.old.world.steps < until }
-        ensures steps { MatchBool result (AdvancesToEnd until self.old.world self.new.world) (AdvancesOn until self.old.world self.new.world) }
+        ensures steps { MatchBool result (AdvancesToEnd until self.old.world self.new.world)
+            (AdvancesOn until self.old.world self.new.world) }
         ensures failed { self.new.failed ≡ false }
     {
         if self.unwatched {

@@ -10,11 +10,12 @@ use guest_contexts::error_answer;
 use thread_model::{Standing, ThreadCall, ThreadErrno};
 
 impl Held {
-    /// Makes the call of the context whose registers the machine has, where it makes one and that speaks of contexts. None exactly
-    /// where it doesn't, and then nothing is changed.
+    /// Makes the call of the context whose registers the machine has, where it makes one and that speaks of contexts.
+    /// None exactly where it doesn't, and then nothing is changed.
     pub(crate) fn call(&mut self, calls: bool) -> Option<StepEnd>
         requires { IsCalling self.old }
-        ensures made { MatchOption result (calls ≡ true → model.action self.old.world self.old.world.last ≡ model.alone) (λ end. (calls ≡ true) × IsMade (model.action self.old.world self.old.world.last) self.old self.new end) }
+        ensures made { MatchOption result (calls ≡ true → model.action self.old.world self.old.world.last ≡ model.alone)
+            (λ end. (calls ≡ true) × IsMade (model.action self.old.world self.old.world.last) self.old self.new end) }
         ensures kept { result ≡ None → self.new ≡ self.old }
     {
         if calls { self.named_call() } else { None }
@@ -23,7 +24,8 @@ impl Held {
     /// The same where a call is made.
     fn named_call(&mut self) -> Option<StepEnd>
         requires { IsCalling self.old }
-        ensures made { MatchOption result (model.action self.old.world self.old.world.last ≡ model.alone) (λ end. IsMade (model.action self.old.world self.old.world.last) self.old self.new end) }
+        ensures made { MatchOption result (model.action self.old.world self.old.world.last ≡ model.alone)
+            (λ end. IsMade (model.action self.old.world self.old.world.last) self.old self.new end) }
         ensures kept { result ≡ None → self.new ≡ self.old }
     {
         match self.name() {
@@ -48,7 +50,9 @@ impl Held {
     /// The call that sets the clear address, and answers what names the context.
     fn set_tid_address(&mut self) -> StepEnd
         requires { IsCalling self.old }
-        ensures { IsMade (model.action_of ThreadCall.SetTidAddress (worlds.context self.old.world self.old.world.last).core self.old.world self.old.world.last) self.old self.new result }
+        ensures { IsMade (model.action_of ThreadCall.SetTidAddress
+            (worlds.context self.old.world self.old.world.last).core self.old.world self.old.world.last)
+            self.old self.new result }
     {
         let address = self.argument(0);
         let id = self.id();
@@ -60,7 +64,9 @@ impl Held {
     /// The call that answers what names the context.
     fn gettid(&mut self) -> StepEnd
         requires { IsCalling self.old }
-        ensures { IsMade (model.action_of ThreadCall.Gettid (worlds.context self.old.world self.old.world.last).core self.old.world self.old.world.last) self.old self.new result }
+        ensures { IsMade (model.action_of ThreadCall.Gettid
+            (worlds.context self.old.world self.old.world.last).core self.old.world self.old.world.last)
+            self.old self.new result }
     {
         let id = self.id();
         self.answer(id);
@@ -85,10 +91,12 @@ impl Held {
         StepEnd::Going
     }
 
-    /// Stores 0 at the clear address of the context, where there is one and it may be written, and makes ready the context of the
-    /// lowest number that waits there.
+    /// Stores 0 at the clear address of the context, where there is one and it may be written, and makes ready the
+    /// context of the lowest number that waits there.
     fn clear_word(&mut self)
-        ensures { self.new ≡ record self.old { world = model.cleared self.old.world (worlds.context self.old.world self.old.world.last).clear } }
+        ensures { self.new ≡ record self.old {
+          world = model.cleared self.old.world (worlds.context self.old.world self.old.world.last).clear;
+        } }
     {
         let address = self.clear();
         if address == 0 || self.put_word(address, 0) {

@@ -26,7 +26,8 @@ impl Held {
     /// The call of flags, a stack, the address of a word, a thread pointer and a clear address.
     pub(crate) fn clone_context(&mut self) -> StepEnd
         requires { IsCalling self.old }
-        ensures { IsMade (model.starting (worlds.context self.old.world self.old.world.last).core self.old.world) self.old self.new result }
+        ensures { IsMade (model.starting (worlds.context self.old.world self.old.world.last).core self.old.world)
+            self.old self.new result }
     {
         let flags = self.argument(0);
         if are_unknown(flags) {
@@ -43,7 +44,8 @@ impl Held {
 
     /// Whether the parent's word is to be stored and may not be.
     fn is_parent_refused(&mut self) -> bool
-        ensures refused { result ≡ is_parent_refused (worlds.context self.old.world self.old.world.last).core self.old.world }
+        ensures refused { result
+            ≡ is_parent_refused (worlds.context self.old.world self.old.world.last).core self.old.world }
         ensures unchanged { self.new ≡ self.old }
     {
         let flags = self.argument(0);
@@ -55,7 +57,8 @@ impl Held {
     fn start(&mut self) -> StepEnd
         requires calling { IsCalling self.old }
         requires room { length self.old.world.contexts < 64 }
-        requires parent { is_parent_refused (worlds.context self.old.world self.old.world.last).core self.old.world ≡ false }
+        requires parent { is_parent_refused (worlds.context self.old.world self.old.world.last).core self.old.world
+            ≡ false }
         ensures { IsMade model.starts self.old self.new result }
     {
         let flags = self.argument(0);
@@ -73,8 +76,11 @@ impl Held {
     /// Stores what names a context where its caller asks for it.
     fn tell_parent(&mut self, id: u64)
         requires id { id ≡ model.thread_id (length self.old.world.contexts) }
-        requires parent { is_parent_refused (worlds.context self.old.world self.old.world.last).core self.old.world ≡ false }
-        ensures { self.new ≡ record self.old { world = model.parent_told self.old.world (worlds.context self.old.world self.old.world.last).core } }
+        requires parent { is_parent_refused (worlds.context self.old.world self.old.world.last).core self.old.world
+            ≡ false }
+        ensures { self.new ≡ record self.old {
+          world = model.parent_told self.old.world (worlds.context self.old.world self.old.world.last).core;
+        } }
     {
         let flags = self.argument(0);
         let parent = self.argument(2);

@@ -19,7 +19,8 @@ impl Held {
     /// The call of an address, an operation, a number and a time.
     pub(crate) fn futex(&mut self) -> StepEnd
         requires { IsCalling self.old }
-        ensures { IsMade (model.futex (worlds.context self.old.world self.old.world.last).core self.old.world.memory) self.old self.new result }
+        ensures { IsMade (model.futex (worlds.context self.old.world self.old.world.last).core self.old.world.memory)
+            self.old self.new result }
     {
         let address = self.argument(0);
         let asked = self.argument(1);
@@ -40,7 +41,8 @@ impl Held {
     /// Waits at the word of an address, where it is the one that is expected.
     fn wait(&mut self) -> StepEnd
         requires { IsCalling self.old }
-        ensures { IsMade (model.waiting (worlds.context self.old.world self.old.world.last).core self.old.world.memory) self.old self.new result }
+        ensures { IsMade (model.waiting (worlds.context self.old.world self.old.world.last).core self.old.world.memory)
+            self.old self.new result }
     {
         let address = self.argument(0);
         let value = self.argument(2);

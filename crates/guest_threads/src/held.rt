@@ -43,16 +43,24 @@ impl Model for Held {
 
     ghost coded = { coded_held };
 
-    ghost view = { λ a. record { world = world_of a.machine.parts a.last a.contexts.items; failed = a.machine.failed } };
+    ghost view = { λ a.
+        record { world = world_of a.machine.parts a.last a.contexts.items; failed = a.machine.failed } };
 
-    ghost invariant = { λ a. IsInside a.last a.contexts.items (vec_capacity a.contexts) (length a.spares.items) a.numbers.items a.unwatched };
+    ghost invariant = { λ a. IsInside a.last a.contexts.items (vec_capacity a.contexts)
+        (length a.spares.items) a.numbers.items a.unwatched };
 }
 
 /// Exchanges the machine's registers with those of the context at a place.
 fn exchange(machine: &mut Machine, contexts: &mut Vec<Context>, k: usize)
     requires { k < length contexts.old.items }
-    ensures machine { machine.new ≡ record machine.old { parts = record machine.old.parts { core = (get_or contexts.old.items k worlds.no_context).core; vectors = (get_or contexts.old.items k worlds.no_context).vectors } } }
-    ensures contexts { contexts.new.items ≡ set contexts.old.items k (with_machine (get_or contexts.old.items k worlds.no_context) machine.old.parts) }
+    ensures machine { machine.new ≡ record machine.old {
+      parts = record machine.old.parts {
+        core = (get_or contexts.old.items k worlds.no_context).core;
+        vectors = (get_or contexts.old.items k worlds.no_context).vectors;
+      };
+    } }
+    ensures contexts { contexts.new.items
+        ≡ set contexts.old.items k (with_machine (get_or contexts.old.items k worlds.no_context) machine.old.parts) }
     ensures room { vec_capacity contexts.new ≡ vec_capacity contexts.old }
 {
     let context = &mut contexts[k];
@@ -68,8 +76,8 @@ fn stays_unwatched(unwatched: bool, core: &Core) -> bool
 }
 
 impl Held {
-    /// The world of a machine, which hasn't ended, with context 0 alone. The memory of all contexts is taken, and where it is wanting
-    /// the machine is dropped.
+    /// The world of a machine, which hasn't ended, with context 0 alone. The memory of all contexts is taken, and where
+    /// it is wanting the machine is dropped.
     pub(crate) fn open(alloc: Global, machine: Machine) -> Result<Held, OutOfMemory>
         requires { machine_has_ended machine ≡ false }
         ensures { IfOk result (λ w. w ≡ record { world = worlds.opened machine.parts; failed = false }) }

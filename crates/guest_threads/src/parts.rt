@@ -1,4 +1,5 @@
-//! What the calls that speak of contexts read and change: of the context whose registers the machine has, and of what is shared.
+//! What the calls that speak of contexts read and change: of the context whose registers the machine has, and of what
+//! is shared.
 ghost use Rattle.std.specs.Prelude.{◌≡◌, ◌<◌, ◌≤◌, ◌+◌, ◌-◌, ◌^◌, MatchOption, is_some, length, set, true, false};
 ghost use Rattle.emu_machine.specs.Contexts.{ended_with};
 ghost use Rattle.emu_model.specs.Access.{refused, value};
@@ -59,7 +60,9 @@ impl Held {
 
     /// The 4 bytes from an address. None exactly where one of them may not be read.
     pub(crate) fn word(&mut self, address: u64) -> Option<u64>
-        ensures word { MatchOption result (is_some (refused self.old.world.memory address 4 Kind.Read) ≡ true) (λ v. (is_some (refused self.old.world.memory address 4 Kind.Read) ≡ false) × (v ≡ value self.old.world.memory address 4)) }
+        ensures word { MatchOption result (is_some (refused self.old.world.memory address 4 Kind.Read) ≡ true)
+            (λ v. (is_some (refused self.old.world.memory address 4 Kind.Read) ≡ false)
+            × (v ≡ value self.old.world.memory address 4)) }
         ensures unchanged { self.new ≡ self.old }
     {
         match self.machine.load(address, 4, Kind::Read) {
@@ -79,7 +82,9 @@ impl Held {
     /// Stores 4 bytes where they may be written, and says whether they may not.
     pub(crate) fn put_word(&mut self, address: u64, v: u64) -> bool
         ensures refused { result ≡ is_some (refused self.old.world.memory address 4 Kind.Write) }
-        ensures world { self.new ≡ record self.old { world = record self.old.world { memory = after_store self.old.world.memory address 4 v } } }
+        ensures world { self.new ≡ record self.old {
+          world = record self.old.world { memory = after_store self.old.world.memory address 4 v };
+        } }
     {
         self.machine.store(address, 4, u128::from(v)).is_err()
     }
@@ -95,14 +100,20 @@ impl Held {
     /// Counts a step that leaves the registers as they are, and ends the world with this code, where there is one.
     pub(crate) fn count_step(&mut self, code: Option<u8>)
         requires { self.old.world.steps < 2 ^ 64 - 1 }
-        ensures { self.new ≡ record self.old { world = record self.old.world { steps = self.old.world.steps + 1; ended = ended_with code self.old.world.ended } } }
+        ensures { self.new ≡ record self.old {
+          world = record self.old.world
+              { steps = self.old.world.steps + 1; ended = ended_with code self.old.world.ended };
+        } }
     {
         self.machine.count_step(code);
     }
 
     /// Says how the context stands.
     pub(crate) fn stand(&mut self, standing: Standing)
-        ensures { self.new ≡ record self.old { world = worlds.with_context self.old.world self.old.world.last (record (worlds.context self.old.world self.old.world.last) { standing = standing }) } }
+        ensures { self.new ≡ record self.old {
+          world = worlds.with_context self.old.world self.old.world.last
+              (record (worlds.context self.old.world self.old.world.last) { standing = standing });
+        } }
     {
         stand(&mut self.contexts, self.last, standing);
         self.numbers = ready(&self.contexts);
@@ -119,14 +130,18 @@ impl Held {
 
     /// Sets the clear address of the context.
     pub(crate) fn set_clear(&mut self, address: u64)
-        ensures { self.new ≡ record self.old { world = worlds.with_context self.old.world self.old.world.last (record (worlds.context self.old.world self.old.world.last) { clear = address }) } }
+        ensures { self.new ≡ record self.old {
+          world = worlds.with_context self.old.world self.old.world.last
+              (record (worlds.context self.old.world self.old.world.last) { clear = address });
+        } }
     {
         set_clear(&mut self.contexts, self.last, address);
         self.numbers = ready(&self.contexts);
         self.unwatched = false;
     }
 
-    /// Makes ready the contexts that wait at an address, those with the lowest numbers first and at most `most`, and answers how many.
+    /// Makes ready the contexts that wait at an address, those with the lowest numbers first and at most `most`, and
+    /// answers how many.
     pub(crate) fn wake(&mut self, address: u64, most: u64) -> u64
         ensures world { self.new ≡ record self.old { world = worlds.with_woken self.old.world address most } }
         ensures count { result ≡ worlds.wake_count address most self.old.world.contexts }

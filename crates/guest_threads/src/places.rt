@@ -54,7 +54,8 @@ impl Held {
     #[inline(always)]
     pub(crate) fn pick(&self, turns: &[(u64, u64)], place: &Place) -> Option<usize>
         requires { IsPlace self.now.world turns.now place.now }
-        ensures { MatchOption result (worlds.some_ready self.now.world ≡ false) (λ k. IsPicked self.now.world turns.now place.now k) }
+        ensures { MatchOption result (worlds.some_ready self.now.world ≡ false)
+            (λ k. IsPicked self.now.world turns.now place.now k) }
     {
         if place.used != 0 {
             return Some(place.held);
@@ -75,7 +76,8 @@ impl Held {
         requires most { used ≤ (model.turn_at turns.now turn).1 }
         requires context { k ≡ self.now.world.last }
         requires schedule { IsSchedule turns.now }
-        ensures place { result ≡ model.next_place self.now.world turns.now (record { turn = turn; used = used - 1; held = k }) k }
+        ensures place { result
+            ≡ model.next_place self.now.world turns.now (record { turn = turn; used = used - 1; held = k }) k }
         ensures is_place { IsPlace self.now.world turns.now result }
     {
         if self.is_over(turns, turn, used, k) {
@@ -105,7 +107,8 @@ impl Held {
         requires turn { turn < length turns.now }
         requires most { used ≤ (model.turn_at turns.now turn).1 }
         requires context { k ≡ self.now.world.last }
-        ensures over { result ≡ true → (used ≡ (model.turn_at turns.now turn).1) ⊎ (worlds.is_ready (worlds.context self.now.world k) ≡ false) }
+        ensures over { result ≡ true
+            → (used ≡ (model.turn_at turns.now turn).1) ⊎ (worlds.is_ready (worlds.context self.now.world k) ≡ false) }
         ensures on { result ≡ false → used < (model.turn_at turns.now turn).1 }
         ensures ready { result ≡ false → IsReadyAt self.now.world k }
     {

@@ -2,7 +2,17 @@
 ghost use Rattle.std.specs.Prelude.{◌≡◌, ◌<◌, ◌≤◌, IfSome, is_none, true, false};
 ghost use Rattle.emu_machine.specs.Machines.{MakesWrite};
 ghost use Rattle.guest_schedule.specs.Turns.{IsSchedule};
-ghost use Rattle.guest_threads.specs.Ends.{has_ended, end_of_world, world_end_of, is_broken_off, last_machine, Becomes, IsKeptAt, TakesWithin, Puts};
+ghost use Rattle.guest_threads.specs.Ends.{
+  has_ended,
+  end_of_world,
+  world_end_of,
+  is_broken_off,
+  last_machine,
+  Becomes,
+  IsKeptAt,
+  TakesWithin,
+  Puts,
+};
 ghost use Rattle.io_gate.specs.Streams.{Causes};
 ghost use Rattle.linux_calls.specs.Names.{NamesRead};
 ghost use Rattle.thread_model.specs.Living.{IsLiving};
@@ -19,8 +29,8 @@ use io_gate::{Sink, Source};
 use thread_model::Place;
 
 impl Held {
-    /// Takes the steps that the turns of a schedule name, until the world has ended, no context is ready, or `budget` steps are
-    /// counted in all. It isn't inlined, so that what its loop reads is in registers.
+    /// Takes the steps that the turns of a schedule name, until the world has ended, no context is ready, or `budget`
+    /// steps are counted in all. It isn't inlined, so that what its loop reads is in registers.
     #[inline(never)]
     pub(crate) fn follow<I: Source, O: Sink, E: Sink>(
         &mut self,
@@ -33,14 +43,20 @@ impl Held {
         requires going { has_ended self.old ≡ false }
         requires within { self.old.world.steps ≤ budget }
         requires schedule { IsSchedule schedule.now }
-        ensures state { Becomes (model.threads schedule.now budget) self.old.world self.new.world (I.left input.old) (I.left input.new) (is_broken_off result) }
-        ensures input { TakesWithin (model.threads schedule.now budget) self.old.world (I.left input.old) (I.left input.new) (is_broken_off result) }
-        ensures output { Puts (λ st. (model.threads schedule.now budget st).output) self.old.world (I.left input.old) (O.held output.old) (O.held output.new) (is_broken_off result) }
-        ensures errors { Puts (λ st. (model.threads schedule.now budget st).errors) self.old.world (I.left input.old) (E.held errors.old) (E.held errors.new) (is_broken_off result) }
+        ensures state { Becomes (model.threads schedule.now budget) self.old.world self.new.world (I.left input.old)
+            (I.left input.new) (is_broken_off result) }
+        ensures input { TakesWithin (model.threads schedule.now budget) self.old.world (I.left input.old)
+            (I.left input.new) (is_broken_off result) }
+        ensures output { Puts (λ st. (model.threads schedule.now budget st).output) self.old.world (I.left input.old)
+            (O.held output.old) (O.held output.new) (is_broken_off result) }
+        ensures errors { Puts (λ st. (model.threads schedule.now budget st).errors) self.old.world (I.left input.old)
+            (E.held errors.old) (E.held errors.new) (is_broken_off result) }
         ensures end { is_broken_off result ≡ false → result ≡ end_of_world self.new.world }
         ensures spent { result ≡ WorldEnd.Spent → self.new.world.steps ≡ budget }
         ensures living { IsLiving self.old.world → IsLiving self.new.world }
-        ensures kept { IfSome (I.left input.old) (λ bytes. is_broken_off result ≡ true → IsKeptAt (model.threads schedule.now self.new.world.steps (with_input self.old.world bytes)) self.new.world (I.left input.new)) }
+        ensures kept { IfSome (I.left input.old) (λ bytes. is_broken_off result ≡ true → IsKeptAt
+            (model.threads schedule.now self.new.world.steps (with_input self.old.world bytes)) self.new.world
+            (I.left input.new)) }
         ensures unended { is_broken_off result ≡ true → is_none self.new.world.ended ≡ true }
         ensures unspent { is_broken_off result ≡ true → self.new.world.steps < budget }
         ensures failed { self.new.failed ≡ is_broken_off result }

@@ -36,23 +36,36 @@ impl Held {
         requires room { self.old.world.steps < 2 ^ 64 - 1 }
         requires within { k < length self.old.world.contexts }
         requires ready { (worlds.context self.old.world k).standing ≡ standing.Ready }
-        ensures state { Becomes (λ st. model.stepped st k) self.old.world self.new.world (I.left input.old) (I.left input.new) (is_undone (last_end result self.new.world.ended)) }
-        ensures input { TakesWithin (λ st. model.stepped st k) self.old.world (I.left input.old) (I.left input.new) (is_undone (last_end result self.new.world.ended)) }
-        ensures output { PutsAlways (λ st. (model.stepped st k).output) self.old.world (O.held output.old) (O.held output.new) (is_undone (last_end result self.new.world.ended)) }
-        ensures errors { PutsAlways (λ st. (model.stepped st k).errors) self.old.world (E.held errors.old) (E.held errors.new) (is_undone (last_end result self.new.world.ended)) }
-        ensures end { is_undone (last_end result self.new.world.ended) ≡ false → last_end result self.new.world.ended ≡ step_end self.new.world.ended }
+        ensures state { Becomes (λ st. model.stepped st k) self.old.world self.new.world (I.left input.old)
+            (I.left input.new) (is_undone (last_end result self.new.world.ended)) }
+        ensures input { TakesWithin (λ st. model.stepped st k) self.old.world (I.left input.old) (I.left input.new)
+            (is_undone (last_end result self.new.world.ended)) }
+        ensures output { PutsAlways (λ st. (model.stepped st k).output) self.old.world (O.held output.old)
+            (O.held output.new) (is_undone (last_end result self.new.world.ended)) }
+        ensures errors { PutsAlways (λ st. (model.stepped st k).errors) self.old.world (E.held errors.old)
+            (E.held errors.new) (is_undone (last_end result self.new.world.ended)) }
+        ensures end { is_undone (last_end result self.new.world.ended) ≡ false
+            → last_end result self.new.world.ended ≡ step_end self.new.world.ended }
         ensures over { result ≡ Went.Over → is_none self.new.world.ended ≡ false }
-        ensures counted { last_end result self.new.world.ended ≡ StepEnd.Going → self.new.world.steps ≡ self.old.world.steps + 1 }
-        ensures kept { is_undone (last_end result self.new.world.ended) ≡ true → IsKept self.old.world self.new.world k (I.left input.old) (I.left input.new) }
+        ensures counted { last_end result self.new.world.ended ≡ StepEnd.Going
+            → self.new.world.steps ≡ self.old.world.steps + 1 }
+        ensures kept { is_undone (last_end result self.new.world.ended) ≡ true
+            → IsKept self.old.world self.new.world k (I.left input.old) (I.left input.new) }
         ensures failed { self.new.failed ≡ is_undone (last_end result self.new.world.ended) }
         ensures last { self.new.world.last ≡ k }
         ensures living { is_undone (last_end result self.new.world.ended) ≡ false → IsLiving self.new.world }
-        ensures read_cause { Causes (last_end result self.new.world.ended ≡ StepEnd.ReadFault) (I.faults input.old) (I.faults input.new) }
-        ensures write_cause { Causes (last_end result self.new.world.ended ≡ StepEnd.WriteFault) (O.faults output.old) (O.faults output.new) }
-        ensures errors_cause { Causes (last_end result self.new.world.ended ≡ StepEnd.ErrorsFault) (E.faults errors.old) (E.faults errors.new) }
-        ensures read_named { last_end result self.new.world.ended ≡ StepEnd.ReadFault → NamesRead (last_machine self.new.world).core }
-        ensures write_named { last_end result self.new.world.ended ≡ StepEnd.WriteFault → MakesWrite (last_machine self.new.world) 1 }
-        ensures errors_named { last_end result self.new.world.ended ≡ StepEnd.ErrorsFault → MakesWrite (last_machine self.new.world) 2 }
+        ensures read_cause { Causes (last_end result self.new.world.ended ≡ StepEnd.ReadFault) (I.faults input.old)
+            (I.faults input.new) }
+        ensures write_cause { Causes (last_end result self.new.world.ended ≡ StepEnd.WriteFault) (O.faults output.old)
+            (O.faults output.new) }
+        ensures errors_cause { Causes (last_end result self.new.world.ended ≡ StepEnd.ErrorsFault) (E.faults errors.old)
+            (E.faults errors.new) }
+        ensures read_named { last_end result self.new.world.ended ≡ StepEnd.ReadFault
+            → NamesRead (last_machine self.new.world).core }
+        ensures write_named { last_end result self.new.world.ended ≡ StepEnd.WriteFault
+            → MakesWrite (last_machine self.new.world) 1 }
+        ensures errors_named { last_end result self.new.world.ended ≡ StepEnd.ErrorsFault
+            → MakesWrite (last_machine self.new.world) 2 }
     {
         let end = self.one(k, input, output, errors);
         went_by(end)
@@ -60,8 +73,9 @@ impl Held {
 
     /// Takes one step of a context, which is ready.
     ///
-    /// After a fault of a stream, which is answered exactly where that stream failed, the world has ended with the step not done: it
-    /// is as before, but that bytes which the call took are stored, and that the context of the step is the last.
+    /// After a fault of a stream, which is answered exactly where that stream failed, the world has ended with the step
+    /// not done: it is as before, but that bytes which the call took are stored, and that the context of the step is
+    /// the last.
     fn one<I: Source, O: Sink, E: Sink>(
         &mut self,
         k: usize,
@@ -73,13 +87,18 @@ impl Held {
         requires room { self.old.world.steps < 2 ^ 64 - 1 }
         requires within { k < length self.old.world.contexts }
         requires ready { (worlds.context self.old.world k).standing ≡ standing.Ready }
-        ensures state { Becomes (λ st. model.stepped st k) self.old.world self.new.world (I.left input.old) (I.left input.new) (is_undone result) }
-        ensures input { TakesWithin (λ st. model.stepped st k) self.old.world (I.left input.old) (I.left input.new) (is_undone result) }
-        ensures output { PutsAlways (λ st. (model.stepped st k).output) self.old.world (O.held output.old) (O.held output.new) (is_undone result) }
-        ensures errors { PutsAlways (λ st. (model.stepped st k).errors) self.old.world (E.held errors.old) (E.held errors.new) (is_undone result) }
+        ensures state { Becomes (λ st. model.stepped st k) self.old.world self.new.world (I.left input.old)
+            (I.left input.new) (is_undone result) }
+        ensures input { TakesWithin (λ st. model.stepped st k) self.old.world (I.left input.old) (I.left input.new)
+            (is_undone result) }
+        ensures output { PutsAlways (λ st. (model.stepped st k).output) self.old.world (O.held output.old)
+            (O.held output.new) (is_undone result) }
+        ensures errors { PutsAlways (λ st. (model.stepped st k).errors) self.old.world (E.held errors.old)
+            (E.held errors.new) (is_undone result) }
         ensures end { is_undone result ≡ false → result ≡ step_end self.new.world.ended }
         ensures counted { result ≡ StepEnd.Going → self.new.world.steps ≡ self.old.world.steps + 1 }
-        ensures kept { is_undone result ≡ true → IsKept self.old.world self.new.world k (I.left input.old) (I.left input.new) }
+        ensures kept { is_undone result ≡ true
+            → IsKept self.old.world self.new.world k (I.left input.old) (I.left input.new) }
         ensures failed { self.new.failed ≡ is_undone result }
         ensures last { self.new.world.last ≡ k }
         ensures living { is_undone result ≡ false → IsLiving self.new.world }
@@ -103,14 +122,15 @@ impl Held {
 
     /// Whether the next step of the context whose registers the machine has makes a call.
     fn is_calling(&mut self) -> bool
-        ensures call { result ≡ model.makes_call (worlds.joined self.old.world (worlds.context self.old.world self.old.world.last)) }
+        ensures call { result
+            ≡ model.makes_call (worlds.joined self.old.world (worlds.context self.old.world self.old.world.last)) }
         ensures unchanged { self.new ≡ self.old }
     {
         makes_call(&mut self.machine)
     }
 
-    /// Takes the step of a machine alone, with the context whose registers the machine has. `calls` says whether it makes a call,
-    /// which empties all monitors; any other step empties those of other contexts that it writes to.
+    /// Takes the step of a machine alone, with the context whose registers the machine has. `calls` says whether it
+    /// makes a call, which empties all monitors; any other step empties those of other contexts that it writes to.
     fn step<I: Source, O: Sink, E: Sink>(
         &mut self,
         calls: bool,
@@ -119,13 +139,18 @@ impl Held {
         errors: &mut E,
     ) -> StepEnd
         requires { IsCalling self.old }
-        ensures state { Becomes (λ st. stepped_as calls st) self.old.world self.new.world (I.left input.old) (I.left input.new) (is_undone result) }
-        ensures input { TakesWithin (λ st. stepped_as calls st) self.old.world (I.left input.old) (I.left input.new) (is_undone result) }
-        ensures output { PutsAlways (λ st. (stepped_as calls st).output) self.old.world (O.held output.old) (O.held output.new) (is_undone result) }
-        ensures errors { PutsAlways (λ st. (stepped_as calls st).errors) self.old.world (E.held errors.old) (E.held errors.new) (is_undone result) }
+        ensures state { Becomes (λ st. stepped_as calls st) self.old.world self.new.world (I.left input.old)
+            (I.left input.new) (is_undone result) }
+        ensures input { TakesWithin (λ st. stepped_as calls st) self.old.world (I.left input.old) (I.left input.new)
+            (is_undone result) }
+        ensures output { PutsAlways (λ st. (stepped_as calls st).output) self.old.world (O.held output.old)
+            (O.held output.new) (is_undone result) }
+        ensures errors { PutsAlways (λ st. (stepped_as calls st).errors) self.old.world (E.held errors.old)
+            (E.held errors.new) (is_undone result) }
         ensures end { is_undone result ≡ false → result ≡ step_end self.new.world.ended }
         ensures counted { result ≡ StepEnd.Going → self.new.world.steps ≡ self.old.world.steps + 1 }
-        ensures kept { is_undone result ≡ true → IsKept self.old.world self.new.world self.old.world.last (I.left input.old) (I.left input.new) }
+        ensures kept { is_undone result ≡ true
+            → IsKept self.old.world self.new.world self.old.world.last (I.left input.old) (I.left input.new) }
         ensures failed { self.new.failed ≡ is_undone result }
         ensures last { self.new.world.last ≡ self.old.world.last }
         ensures living { is_undone result ≡ false → IsLiving self.new.world }

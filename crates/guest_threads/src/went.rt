@@ -4,7 +4,8 @@ ghost use Rattle.guest_threads.specs.Named.{went_by};
 
 use emu_machine::StepEnd;
 
-/// How steps of a context ended. What code or trap ended the world is with the machine, so that no answer of a loop is in memory.
+/// How steps of a context ended. What code or trap ended the world is with the machine, so that no answer of a loop is
+/// in memory.
 #[derive(Clone, Copy)]
 pub(crate) enum Went {
     /// The world goes on.

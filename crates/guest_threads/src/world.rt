@@ -1,7 +1,17 @@
 //! A world of guest threads: it is opened from a machine, runs under a schedule, and shows its contexts.
 ghost use Rattle.std.specs.Prelude.{◌≡◌, ◌<◌, ◌≤◌, IfOk, IfSome, is_none, length, true, false};
 ghost use Rattle.emu_machine.specs.Machines.{has_ended as machine_has_ended, MakesWrite};
-ghost use Rattle.guest_threads.specs.Ends.{has_ended, end_of_world, is_broken_off, last_machine, AllWait, Becomes, IsKeptAt, TakesWithin, Puts};
+ghost use Rattle.guest_threads.specs.Ends.{
+  has_ended,
+  end_of_world,
+  is_broken_off,
+  last_machine,
+  AllWait,
+  Becomes,
+  IsKeptAt,
+  TakesWithin,
+  Puts,
+};
 ghost use Rattle.io_gate.specs.Streams.{Causes};
 ghost use Rattle.linux_calls.specs.Names.{NamesRead};
 ghost use Rattle.thread_model.specs.Threads as model;
@@ -19,8 +29,8 @@ use std::alloc::Global;
 use std::marker::Model;
 use vec_regs::VecRegs;
 
-/// A world. Contracts see what its contexts share, the contexts, and whether a stream has failed in one of its steps. A world that
-/// hasn't ended has a context that hasn't left.
+/// A world. Contracts see what its contexts share, the contexts, and whether a stream has failed in one of its steps. A
+/// world that hasn't ended has a context that hasn't left.
 #[derive(Drop)]
 pub struct World {
     held: Held,
@@ -40,8 +50,8 @@ impl Model for World {
 }
 
 impl World {
-    /// The world of a machine, which hasn't ended, with context 0 alone. The memory of all contexts is taken, and where it is wanting
-    /// the machine is dropped.
+    /// The world of a machine, which hasn't ended, with context 0 alone. The memory of all contexts is taken, and where
+    /// it is wanting the machine is dropped.
     pub fn open(alloc: Global, machine: Machine) -> Result<World, OutOfMemory>
         requires { machine_has_ended machine ≡ false }
         ensures { IfOk result (λ w. w ≡ record { world = worlds.opened machine.parts; failed = false }) }
@@ -75,11 +85,12 @@ impl World {
         self.held.context(k)
     }
 
-    /// Takes the steps that a schedule names, until the world has ended, no context is ready, or `budget` steps are counted in all.
+    /// Takes the steps that a schedule names, until the world has ended, no context is ready, or `budget` steps are
+    /// counted in all.
     ///
-    /// After a fault of a stream, which is answered exactly where that stream failed, the world has ended. It then stands before the
-    /// step that wasn't done: it is what a run with a budget of the steps counted so far leaves, but that bytes which the call took are
-    /// stored, and that the context of that step is the last. No run wants memory.
+    /// After a fault of a stream, which is answered exactly where that stream failed, the world has ended. It then
+    /// stands before the step that wasn't done: it is what a run with a budget of the steps counted so far leaves, but
+    /// that bytes which the call took are stored, and that the context of that step is the last. No run wants memory.
     pub fn run<I: Source, O: Sink, E: Sink>(
         &mut self,
         schedule: &Schedule,
@@ -90,14 +101,20 @@ impl World {
     ) -> WorldEnd
         requires going { has_ended self.old ≡ false }
         requires within { self.old.world.steps ≤ budget }
-        ensures state { Becomes (model.threads schedule.now budget) self.old.world self.new.world (I.left input.old) (I.left input.new) (is_broken_off result) }
-        ensures input { TakesWithin (model.threads schedule.now budget) self.old.world (I.left input.old) (I.left input.new) (is_broken_off result) }
-        ensures output { Puts (λ st. (model.threads schedule.now budget st).output) self.old.world (I.left input.old) (O.held output.old) (O.held output.new) (is_broken_off result) }
-        ensures errors { Puts (λ st. (model.threads schedule.now budget st).errors) self.old.world (I.left input.old) (E.held errors.old) (E.held errors.new) (is_broken_off result) }
+        ensures state { Becomes (model.threads schedule.now budget) self.old.world self.new.world (I.left input.old)
+            (I.left input.new) (is_broken_off result) }
+        ensures input { TakesWithin (model.threads schedule.now budget) self.old.world (I.left input.old)
+            (I.left input.new) (is_broken_off result) }
+        ensures output { Puts (λ st. (model.threads schedule.now budget st).output) self.old.world (I.left input.old)
+            (O.held output.old) (O.held output.new) (is_broken_off result) }
+        ensures errors { Puts (λ st. (model.threads schedule.now budget st).errors) self.old.world (I.left input.old)
+            (E.held errors.old) (E.held errors.new) (is_broken_off result) }
         ensures end { is_broken_off result ≡ false → result ≡ end_of_world self.new.world }
         ensures spent { result ≡ WorldEnd.Spent → self.new.world.steps ≡ budget }
         ensures stuck { result ≡ WorldEnd.Stuck → AllWait self.new.world }
-        ensures kept { IfSome (I.left input.old) (λ bytes. is_broken_off result ≡ true → IsKeptAt (model.threads schedule.now self.new.world.steps (with_input self.old.world bytes)) self.new.world (I.left input.new)) }
+        ensures kept { IfSome (I.left input.old) (λ bytes. is_broken_off result ≡ true → IsKeptAt
+            (model.threads schedule.now self.new.world.steps (with_input self.old.world bytes)) self.new.world
+            (I.left input.new)) }
         ensures unended { is_broken_off result ≡ true → is_none self.new.world.ended ≡ true }
         ensures unspent { is_broken_off result ≡ true → self.new.world.steps < budget }
         ensures failed { self.new.failed ≡ is_broken_off result }

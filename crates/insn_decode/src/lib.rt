@@ -53,7 +53,8 @@ pub fn decode_sve_word(w: u32) -> Option<Sve>
     decode_sve_here(w)
 }
 
-/// The instruction of a word that isn't in a row of SVE, for one place of a program. None exactly where it is in no row of a table.
+/// The instruction of a word that isn't in a row of SVE, for one place of a program. None exactly where it is in no row
+/// of a table.
 #[inline(always)]
 pub fn decode_a64_word<Site>(w: u32) -> Option<A64>
     requires { ¬ (field w 27 2 ≡ 0) }

@@ -1,6 +1,7 @@
 //! What an instruction does to the registers and to memory, by the group that its row is of.
 //!
-//! This is the one place that chooses the crate of a row: the machine does its instructions by it, and so do the programs of cases.
+//! This is the one place that chooses the crate of a row: the machine does its instructions by it, and so do the
+//! programs of cases.
 #![tactic(auto)]
 
 ghost use Rattle.std.specs.Prelude.{◌≡◌, [], true, false};
@@ -8,7 +9,14 @@ ghost use Rattle.emu_model.specs.declared.trap.Effect.{Effect};
 ghost use Rattle.emu_run.specs.Step.{performed};
 ghost use Rattle.a64_effects.specs.Effects as a64;
 ghost use Rattle.sve_effects.specs.Rows as sve;
-ghost use Rattle.sve_effects.specs.Effects.{group_of, layout, vector_elements, first_fault, is_first_fault, loads_signed};
+ghost use Rattle.sve_effects.specs.Effects.{
+  group_of,
+  layout,
+  vector_elements,
+  first_fault,
+  is_first_fault,
+  loads_signed,
+};
 ghost use Rattle.sve_effects.specs.declared.groups.Group.TheVariants as Group;
 ghost use Rattle.sve_loads.specs.Plans.{is_first_contiguous};
 ghost use Rattle.element_loops.specs.Listed.{listed};
@@ -22,8 +30,8 @@ use sve_effects::Group;
 use sve_insn::{Sve, SveForm};
 use vec_regs::VecRegs;
 
-/// Does an instruction, logs the elements that it loads or stores, and says what it leaves to the step: to go on, to branch, to make
-/// a call, or to trap.
+/// Does an instruction, logs the elements that it loads or stores, and says what it leaves to the step: to go on, to
+/// branch, to make a call, or to trap.
 #[inline(always)]
 pub fn perform(
     core: &mut Core,
@@ -33,7 +41,13 @@ pub fn perform(
     insn: &Insn,
 ) -> Effect
     requires { log.old.items ≡ [] }
-    ensures { performed insn.now core.old vec.old memory.old ≡ record { core = core.new; vectors = vec.new; memory = memory.new; accesses = log.new.items; effect = result } }
+    ensures { performed insn.now core.old vec.old memory.old ≡ record {
+      core = core.new;
+      vectors = vec.new;
+      memory = memory.new;
+      accesses = log.new.items;
+      effect = result;
+    } }
 {
     match insn {
         Insn::A64(insn) => perform_a64(core, vec, memory, log, insn),
@@ -52,7 +66,13 @@ pub fn perform_a64(
     insn: &A64,
 ) -> Effect
     requires { log.old.items ≡ [] }
-    ensures { a64.performed insn.now core.old vec.old memory.old ≡ record { core = core.new; vectors = vec.new; memory = memory.new; accesses = log.new.items; effect = result } }
+    ensures { a64.performed insn.now core.old vec.old memory.old ≡ record {
+      core = core.new;
+      vectors = vec.new;
+      memory = memory.new;
+      accesses = log.new.items;
+      effect = result;
+    } }
 {
     match a64_effects::group_of(insn.form()) {
         A64Group::Data => a64_data::exec(core, insn),
@@ -72,7 +92,13 @@ pub fn perform_sve(
     insn: &Sve,
 ) -> Effect
     requires { log.old.items ≡ [] }
-    ensures { sve.performed insn.now core.old vec.old memory.old ≡ record { core = core.new; vectors = vec.new; memory = memory.new; accesses = log.new.items; effect = result } }
+    ensures { sve.performed insn.now core.old vec.old memory.old ≡ record {
+      core = core.new;
+      vectors = vec.new;
+      memory = memory.new;
+      accesses = log.new.items;
+      effect = result;
+    } }
 {
     match sve_effects::group_of(insn.form()) {
         // apart, so that each chooses its crate by the group that is known here
@@ -103,7 +129,13 @@ fn load(
 ) -> Effect
     requires group { group_of insn.now ≡ Group.Loads }
     requires empty { log.old.items ≡ [] }
-    ensures { sve.performed insn.now core.old vec.old memory.old ≡ record { core = core.new; vectors = vec.new; memory = memory.new; accesses = log.new.items; effect = result } }
+    ensures { sve.performed insn.now core.old vec.old memory.old ≡ record {
+      core = core.new;
+      vectors = vec.new;
+      memory = memory.new;
+      accesses = log.new.items;
+      effect = result;
+    } }
 {
     sve_loads::load(core, vec, memory, log, insn)
 }
@@ -120,7 +152,13 @@ fn store(
 ) -> Effect
     requires group { group_of insn.now ≡ Group.Stores }
     requires empty { log.old.items ≡ [] }
-    ensures { sve.performed insn.now core.old vec.old memory.old ≡ record { core = core.new; vectors = vec.new; memory = memory.new; accesses = log.new.items; effect = result } }
+    ensures { sve.performed insn.now core.old vec.old memory.old ≡ record {
+      core = core.new;
+      vectors = vec.new;
+      memory = memory.new;
+      accesses = log.new.items;
+      effect = result;
+    } }
 {
     sve_loads::store(core, vec, memory, log, insn)
 }
@@ -137,7 +175,13 @@ fn gather(
 ) -> Effect
     requires group { group_of insn.now ≡ Group.Gathers }
     requires empty { log.old.items ≡ [] }
-    ensures { sve.performed insn.now core.old vec.old memory.old ≡ record { core = core.new; vectors = vec.new; memory = memory.new; accesses = log.new.items; effect = result } }
+    ensures { sve.performed insn.now core.old vec.old memory.old ≡ record {
+      core = core.new;
+      vectors = vec.new;
+      memory = memory.new;
+      accesses = log.new.items;
+      effect = result;
+    } }
 {
     sve_gather::load(core, vec, memory, log, insn)
 }
@@ -154,7 +198,13 @@ fn scatter(
 ) -> Effect
     requires group { group_of insn.now ≡ Group.Scatters }
     requires empty { log.old.items ≡ [] }
-    ensures { sve.performed insn.now core.old vec.old memory.old ≡ record { core = core.new; vectors = vec.new; memory = memory.new; accesses = log.new.items; effect = result } }
+    ensures { sve.performed insn.now core.old vec.old memory.old ≡ record {
+      core = core.new;
+      vectors = vec.new;
+      memory = memory.new;
+      accesses = log.new.items;
+      effect = result;
+    } }
 {
     sve_gather::store(core, vec, memory, log, insn)
 }
@@ -169,7 +219,13 @@ fn load_first_fault(
 ) -> Effect
     requires own { is_first_fault insn.now ≡ true }
     requires empty { log.old.items ≡ [] }
-    ensures { first_fault insn.now core.old vec.old memory.old ≡ record { core = core.new; vectors = vec.new; memory = memory.new; accesses = log.new.items; effect = result } }
+    ensures { first_fault insn.now core.old vec.old memory.old ≡ record {
+      core = core.new;
+      vectors = vec.new;
+      memory = memory.new;
+      accesses = log.new.items;
+      effect = result;
+    } }
 {
     if load_unrefused(core, vec, memory, log, insn) {
         return Effect::Next;
@@ -189,8 +245,13 @@ fn load_unrefused(
 ) -> bool
     requires own { is_first_fault insn.now ≡ true }
     requires empty { log.old.items ≡ [] }
-    ensures loaded { result ≡ true → first_fault insn.now core.now vec.old memory.old
-        ≡ record { core = core.now; vectors = vec.new; memory = memory.new; accesses = log.new.items; effect = Effect.Next } }
+    ensures loaded { result ≡ true → first_fault insn.now core.now vec.old memory.old ≡ record {
+      core = core.now;
+      vectors = vec.new;
+      memory = memory.new;
+      accesses = log.new.items;
+      effect = Effect.Next;
+    } }
     ensures kept { result ≡ false → vec.new ≡ vec.old }
     ensures unlogged { result ≡ false → log.new.items ≡ [] }
     ensures memory { memory.new ≡ memory.old }
@@ -214,7 +275,13 @@ pub fn load_listed(
 ) -> Effect
     requires own { is_first_fault insn.now ≡ true }
     requires empty { log.old.items ≡ [] }
-    ensures { first_fault insn.now core.old vec.old memory.old ≡ record { core = core.new; vectors = vec.new; memory = memory.new; accesses = log.new.items; effect = result } }
+    ensures { first_fault insn.now core.old vec.old memory.old ≡ record {
+      core = core.new;
+      vectors = vec.new;
+      memory = memory.new;
+      accesses = log.new.items;
+      effect = result;
+    } }
 {
     let list = elements_of(core, vec, insn);
     sve_ffr::exec(core, vec, memory, log, insn, &list)
@@ -224,7 +291,8 @@ pub fn load_listed(
 #[tactic(auto, using(crate::proofs::Gathered::others_are_gathered))]
 fn elements_of(core: &Core, vec: &VecRegs, insn: &Sve) -> ElementList
     requires { is_first_fault insn.now ≡ true }
-    ensures elements { listed (layout insn.now core.now vec.now).register result ≡ vector_elements insn.now core.now vec.now }
+    ensures elements { listed (layout insn.now core.now vec.now).register result
+        ≡ vector_elements insn.now core.now vec.now }
     ensures bytes { result.bytes ≡ (layout insn.now core.now vec.now).bytes }
     ensures is_signed { result.signed ≡ loads_signed insn.now }
 {

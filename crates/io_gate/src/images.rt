@@ -26,9 +26,9 @@ pub trait Images {
     /// How often it has failed, up to 2^64 - 1.
     ghost faults: { Self → ℕ };
 
-    /// All bytes of the file, at most `limit` of them. `Failed` comes only where the count rose, and any other answer leaves the
-    /// count as it was. Where the files are told, `Missing` comes for a name that none has, and memory is wanting for no such
-    /// name.
+    /// All bytes of the file, at most `limit` of them. `Failed` comes only where the count rose, and any other answer
+    /// leaves the count as it was. Where the files are told, `Missing` comes for a name that none has, and memory is
+    /// wanting for no such name.
     fn read_whole(
         &mut self,
         alloc: Global,

@@ -1,5 +1,22 @@
 //! A source and a sink in memory.
-ghost use Rattle.std.specs.Prelude.{◌≡◌, ◌<◌, ◌≤◌, ◌+◌, ◌++◌, [], Some, true, false, is_err, IsErr, min, take, drop, length, IfOk};
+ghost use Rattle.std.specs.Prelude.{
+  ◌≡◌,
+  ◌<◌,
+  ◌≤◌,
+  ◌+◌,
+  ◌++◌,
+  [],
+  Some,
+  true,
+  false,
+  is_err,
+  IsErr,
+  min,
+  take,
+  drop,
+  length,
+  IfOk,
+};
 ghost use Rattle.io_gate.specs.Streams.{HasCause, TakesAtMost, TakesFirst, TakesSome, KeepsRest, PutsSome, PutsPrefix};
 ghost use Rattle.io_gate.specs.Calls.{counts_if};
 ghost use Rattle.io_gate.specs.Calls.{is_due, uncalled, after_call};
@@ -177,7 +194,8 @@ impl Sink for MemSink {
         ensures cause { HasCause self.old.calls.faults self.new.calls.faults result }
         ensures portion { IfOk result (λ n. n ≡ min self.old.most (length piece.now)) }
         ensures due { is_due self.old.calls ≡ true → IsErr result × (self.new.wanting ≡ self.old.wanting) }
-        ensures wanting { is_due self.old.calls ≡ false → self.new.wanting ≡ counts_if (is_err result) self.old.wanting }
+        ensures wanting { is_due self.old.calls ≡ false
+            → self.new.wanting ≡ counts_if (is_err result) self.old.wanting }
         ensures calls { self.new.calls ≡ after_call (is_err result) self.old.calls }
         ensures most { self.new.most ≡ self.old.most }
     {

@@ -1,5 +1,22 @@
 //! Files in memory.
-ghost use Rattle.std.specs.Prelude.{◌≡◌, ◌≢◌, ◌<◌, ◌≤◌, ◌^◌, ◌↔◌, Some, None, true, IfOk, Ok, Err, IsOk, IsTrue, vec_len, option_map};
+ghost use Rattle.std.specs.Prelude.{
+  ◌≡◌,
+  ◌≢◌,
+  ◌<◌,
+  ◌≤◌,
+  ◌^◌,
+  ◌↔◌,
+  Some,
+  None,
+  true,
+  IfOk,
+  Ok,
+  Err,
+  IsOk,
+  IsTrue,
+  vec_len,
+  option_map,
+};
 ghost use Rattle.std.specs.FinMap.{get};
 ghost use Rattle.io_gate.specs.Streams.{Causes};
 ghost use Rattle.io_gate.specs.Images.{ReadsNamed, MissesNamed, whole_file};
@@ -80,7 +97,8 @@ pub fn read_named(
     ensures limit { IfOk result (λ bytes. vec_len bytes ≤ limit) }
     ensures content { ReadsNamed (Some (named_files files.now)) name.now limit result }
     ensures missing { result ≡ Err ImagesError.Missing → MissesNamed (Some (named_files files.now)) name.now }
-    ensures wanting { result ≡ Err ImagesError.OutOfMemory → IsOk (whole_file (get (named_files files.now) name.now) limit) }
+    ensures wanting { result ≡ Err ImagesError.OutOfMemory
+        → IsOk (whole_file (get (named_files files.now) name.now) limit) }
     ensures unfailing { result ≢ Err ImagesError.Failed }
 {
     let Some(bytes) = file_of(files, name) else {

@@ -65,7 +65,8 @@ impl<'a> Source for SliceSource<'a> {
     fn take(&mut self, into: &mut [u8]) -> Result<usize, Failed>
         requires { 0 < length into.old }
         ensures count { TakesAtMost result into.old }
-        ensures bytes { TakesFirst (Some (drop self.old.place self.old.bytes)) (Some (drop self.new.place self.new.bytes)) into.new result }
+        ensures bytes { TakesFirst (Some (drop self.old.place self.old.bytes))
+            (Some (drop self.new.place self.new.bytes)) into.new result }
         ensures some { TakesSome (Some (drop self.old.place self.old.bytes)) result }
         ensures rest { KeepsRest into.old into.new result }
         ensures cause { HasCause 0 0 result }

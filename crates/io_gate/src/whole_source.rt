@@ -20,8 +20,8 @@ pub enum ReadEnd {
     OutOfMemory,
 }
 
-/// All bytes that a source has left, at most `limit` of them: TooLong comes exactly where `limit` + 1 bytes came, and no more than
-/// these are taken. Failed comes only where the source's count of faults rose.
+/// All bytes that a source has left, at most `limit` of them: TooLong comes exactly where `limit` + 1 bytes came, and
+/// no more than these are taken. Failed comes only where the source's count of faults rose.
 pub fn read_all<I: Source>(alloc: Global, input: &mut I, limit: usize) -> Result<Vec<u8>, ReadEnd>
     ensures limit { IfOk result (λ bytes. vec_len bytes ≤ limit) }
     ensures content { ReadsAll (I.left input.old) (I.left input.new) limit result }

@@ -10,8 +10,7 @@ use Rattle.std.proofs.lemmas.Simd.{get_or_narrower, get_or_wider}
 use Rattle.std.specs.Simd.Lanes.{digits_l, number_l, zip2, Each1}
 use Rattle.emu_model.specs.SoundState.{IsVectorLength}
 use Rattle.emu_model.specs.Lists.{each}
-use Rattle.emu_model.specs.ListLaws.{length-each, get_or-each}
-use Rattle.emu_model.specs.State.{Vectors}
+use Rattle.emu_model.specs.ListLaws.{get_or-each}
 use Rattle.vec_model.specs.Active.{active}
 use Rattle.vec_model.specs.Lanes.{lane}
 use Rattle.vec_model.specs.LaneSizes.{IsLaneSize}

@@ -1,5 +1,5 @@
 -- A fold that takes a start in place of each lane that isn't active is the fold of the active ones.
-use Rattle.std.proofs.Common.{◌≡◌, ◌<◌, ◌+◌, ℕ, zero, suc, Bool, true, false, cond, List, [], ◌∷◌, length, map, get_or, if◌then◌else◌, refl, sym, ap, ap₂, ◌∙◌, arith}
+use Rattle.std.proofs.Common.{◌≡◌, ◌<◌, ◌+◌, ℕ, zero, suc, Bool, true, false, cond, List, [], ◌∷◌, length, map, get_or, if◌then◌else◌, refl, ap, ap₂, ◌∙◌, arith}
 use Rattle.lane_kernels.specs.Chunks.{taken}
 use Rattle.sve_effects.specs.LaneLoop.{folded}
 

@@ -1,10 +1,10 @@
 -- Vectors that are the same in 128 bits, and what is read of them.
-use Rattle.std.proofs.Common.{◌≡◌, ◌≤◌, ◌+◌, ◌-◌, ◌*◌, ◌/◌, ◌%◌, ℕ, Bool, true, false, if◌then◌else◌, List, [], take, drop, get_or, inl, inr, refl, ap, ap₂, sym, ◌∙◌, arith}
+use Rattle.std.proofs.Common.{◌≡◌, ◌≤◌, ◌+◌, ◌-◌, ◌*◌, ◌/◌, ℕ, Bool, if◌then◌else◌, List, [], take, drop, get_or, inl, inr, refl, ap, ap₂, sym, ◌∙◌, arith}
 use Rattle.std.proofs.lemmas.List.{take-take, drop-take, drop-drop}
 use Rattle.emu_model.specs.State.{Vectors}
 use Rattle.sve_effects.specs.LaneLoop.{lane_of, covering_lane, is_active}
 use Rattle.vec_model.specs.Active.{active}
-use Rattle.vec_model.specs.Lanes.{read_z, lane, number}
+use Rattle.vec_model.specs.Lanes.{read_z, number}
 use Rattle.vec_model.specs.LaneSizes.{IsLaneSize}
 
 -- the predicates are the same, and part i of each Z register, its 128 bits from 128 * i on

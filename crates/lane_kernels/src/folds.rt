@@ -12,7 +12,8 @@ use lane_pack::Quad;
 use std::simd::Simd;
 use vec_regs::VecRegs;
 
-/// A fold whose start stands for the lanes that aren't active: a step by it changes neither itself nor what a step made.
+/// A fold whose start stands for the lanes that aren't active: a step by it changes neither itself nor what a step
+/// made.
 pub trait Reduction: LaneWiseFold {
     /// The start, of the bits of a lane.
     ghost start: { Self → ℕ → ℕ };
@@ -29,7 +30,8 @@ pub trait Reduction: LaneWiseFold {
     ghost start_kept: { (s : Self) (e : ℕ) → IsLaneSize e → Self.step s e (start s e) (start s e) ≡ start s e };
 
     /// And what a step made.
-    ghost step_kept: { (s : Self) (e n a : ℕ) → IsLaneSize e → Self.step s e (Self.step s e n a) (start s e) ≡ Self.step s e n a };
+    ghost step_kept: { (s : Self) (e n a : ℕ) → IsLaneSize e
+        → Self.step s e (Self.step s e n a) (start s e) ≡ Self.step s e n a };
 }
 
 /// The lanes of 128 bits of zn, with the start in place of those that aren't active.
@@ -42,7 +44,8 @@ fn active_or_start<T: Quad<W>, F: Reduction, const W: usize>(
     i: u32,
 ) -> [T; W]
     requires { i < vec.now.bits / 128 }
-    ensures lanes { (j : ℕ) → j < W → get_or (map T.number result) j 0 ≡ (if is_active T.BITS vec.now pg (i * W + j) then lane_of T.BITS vec.now zn (i * W + j) else F.Reduction.start op.now T.BITS) }
+    ensures lanes { (j : ℕ) → j < W → get_or (map T.number result) j 0 ≡ (if is_active T.BITS vec.now pg (i * W + j)
+        then lane_of T.BITS vec.now zn (i * W + j) else F.Reduction.start op.now T.BITS) }
     ensures count { length result ≡ W }
 {
     let _length = vec.length();
@@ -70,7 +73,8 @@ fn fold_lanes<T: Quad<W>, F: Reduction, const W: usize>(
     pg: Pred,
     zn: Reg,
 ) -> u64
-    ensures { result ≡ folding T.BITS pg (F.LaneWiseFold.step op.now T.BITS) (F.Reduction.start op.now T.BITS) zn vec.now }
+    ensures { result
+        ≡ folding T.BITS pg (F.LaneWiseFold.step op.now T.BITS) (F.Reduction.start op.now T.BITS) zn vec.now }
 {
     let _length = vec.length();
     let mut so_far = op.start_of(T::BITS);

@@ -178,7 +178,8 @@ impl<T: Lane, F: LaneWise3, const W: usize> Op3<T, W> for F {
     #[inline(always)]
     fn chunk(&self, a: Simd<T, W>, b: Simd<T, W>, c: Simd<T, W>) -> Simd<T, W>
         requires { (0 < W) × (W ≤ 64) }
-        ensures { result ≡ zip3 (λ a b c. T.of_number (F.entry self.now T.BITS (T.number a) (T.number b) (T.number c))) a b c }
+        ensures { result
+            ≡ zip3 (λ a b c. T.of_number (F.entry self.now T.BITS (T.number a) (T.number b) (T.number c))) a b c }
     {
         let a = a.to_array();
         let b = b.to_array();
@@ -194,7 +195,8 @@ fn each3<T: Lane, F: LaneWise3>(op: &F, a: &[T], b: &[T], c: &[T], out: &mut [T]
     requires second { length b.now ≡ length a.now }
     requires third { length c.now ≡ length a.now }
     requires out { length out.old ≡ length a.now }
-    ensures { out.new ≡ zip3 (λ a b c. T.of_number (F.entry op.now T.BITS (T.number a) (T.number b) (T.number c))) a.now b.now c.now }
+    ensures { out.new
+        ≡ zip3 (λ a b c. T.of_number (F.entry op.now T.BITS (T.number a) (T.number b) (T.number c))) a.now b.now c.now }
 {
     for k in 0..a.len() {
         out[k] = one3(op, a[k], b[k], c[k]);

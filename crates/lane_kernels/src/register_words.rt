@@ -30,12 +30,14 @@ pub trait Chunks<T: Quad<W>, const W: usize>: Gives {
     fn chunk(&self, vec: &VecRegs, i: u32) -> [T; W]
         requires within { i < vec.now.bits / 128 }
         requires width { W ≤ 16 }
-        ensures { (j : ℕ) → j < W → get_or (map T.number result) j 0 ≡ Self.value self.now T.BITS vec.now (i * W + j) % 2 ^ T.BITS };
+        ensures { (j : ℕ) → j < W
+            → get_or (map T.number result) j 0 ≡ Self.value self.now T.BITS vec.now (i * W + j) % 2 ^ T.BITS };
 }
 
 /// Gives lanes each of which stands on the same 128 bits of the registers alone, and on the predicates.
 pub trait Local: Gives {
-    ghost local: { (s : Self) (e i k : ℕ) (v w : Vectors) → IsLaneSize e → k * e / 128 ≡ i → SamePart i v w → Self.value s e v k ≡ Self.value s e w k };
+    ghost local: { (s : Self) (e i k : ℕ) (v w : Vectors) → IsLaneSize e → k * e / 128 ≡ i → SamePart i v w
+        → Self.value s e v k ≡ Self.value s e w k };
 }
 
 /// Writes each lane of a register. Where 128 bits have few lanes, and there are four times 128 bits or a multiple, four
@@ -102,7 +104,9 @@ fn put_part<T: Quad<W>, L: Local + Chunks<T, W>, const W: usize>(
 )
     requires { i < vec.old.bits / 128 }
     // whatever the registers were before the first part
-    ensures { (v : Vectors) (words : List ℕ) → read_z v zd ≡ bytes_of (v.bits / 8) words → vec.old ≡ written T.BITS (L.Gives.value lanes.now T.BITS v) i zd v → vec.new ≡ written T.BITS (L.Gives.value lanes.now T.BITS v) (i + 1) zd v }
+    ensures { (v : Vectors) (words : List ℕ) → read_z v zd ≡ bytes_of (v.bits / 8) words
+        → vec.old ≡ written T.BITS (L.Gives.value lanes.now T.BITS v) i zd v
+        → vec.new ≡ written T.BITS (L.Gives.value lanes.now T.BITS v) (i + 1) zd v }
 {
     let _length = vec.length();
     let pair = T::packed(lanes.chunk(vec, i));
@@ -117,7 +121,8 @@ fn fill<T: Quad<W>, L: Chunks<T, W>, const W: usize>(
     words: &mut [u64; 32],
 )
     requires { (k : ℕ) → get_or words.old k 0 ≡ 0 }
-    ensures words { (i : ℕ) → i < vec.now.bits / 64 → get_or words.new i 0 ≡ packed T.BITS (each (64 / T.BITS) (λ j. L.value lanes.now T.BITS vec.now (i * (64 / T.BITS) + j))) }
+    ensures words { (i : ℕ) → i < vec.now.bits / 64 → get_or words.new i 0
+        ≡ packed T.BITS (each (64 / T.BITS) (λ j. L.value lanes.now T.BITS vec.now (i * (64 / T.BITS) + j))) }
     ensures above { AreZeroFrom (vec.now.bits / 64) words.new }
 {
     let length = vec.length();
@@ -138,7 +143,8 @@ fn register_of<L: Chunks<u8, 16> + Chunks<u16, 8> + Chunks<u32, 4> + Chunks<u64,
 )
     requires size { IsLaneSize e }
     requires zeros { (k : ℕ) → get_or words.old k 0 ≡ 0 }
-    ensures words { (i : ℕ) → i < vec.now.bits / 64 → get_or words.new i 0 ≡ packed e (each (64 / e) (λ j. L.Gives.value lanes.now e vec.now (i * (64 / e) + j))) }
+    ensures words { (i : ℕ) → i < vec.now.bits / 64
+        → get_or words.new i 0 ≡ packed e (each (64 / e) (λ j. L.Gives.value lanes.now e vec.now (i * (64 / e) + j))) }
     ensures above { AreZeroFrom (vec.now.bits / 64) words.new }
 {
     match e {

@@ -1,4 +1,5 @@
-//! What gives the lanes of a register 128 bits at a time: registers, operations of their lanes, and choices by a predicate.
+//! What gives the lanes of a register 128 bits at a time: registers, operations of their lanes, and choices by a
+//! predicate.
 ghost use Rattle.std.specs.Prelude.{◌≡◌, ◌<◌, ◌≤◌, ◌+◌, ◌*◌, ◌/◌, ◌%◌, ◌^◌, ℕ, map, get_or, if◌then◌else◌, refl};
 ghost use Rattle.std.proofs.Common.{ap, ap₂};
 ghost use Rattle.std.specs.Prelude.{[], ◌∷◌};
@@ -121,7 +122,8 @@ impl<F: LaneWise2> Gives for Map2<F> {
 }
 
 impl<F: LaneWise2> Local for Map2<F> {
-    ghost local = { λ s e i k v w size at same. ap₂ (F.entry s.op e) (same_lane e i k s.zn v w size at same) (same_lane e i k s.zm v w size at same) };
+    ghost local = { λ s e i k v w size at same. ap₂ (F.entry s.op e) (same_lane e i k s.zn v w size at same)
+        (same_lane e i k s.zm v w size at same) };
 }
 
 impl<T: Quad<W>, F: LaneWise2, const W: usize> Chunks<T, W> for Map2<F> {
@@ -151,7 +153,9 @@ impl<F: LaneWise3> Gives for Map3<F> {
 }
 
 impl<F: LaneWise3> Local for Map3<F> {
-    ghost local = { λ s e i k v w size at same. ap₂ (λ (f : ℕ → ℕ) (z : ℕ). f z) (ap₂ (F.entry s.op e) (same_lane e i k s.za v w size at same) (same_lane e i k s.zn v w size at same)) (same_lane e i k s.zm v w size at same) };
+    ghost local = { λ s e i k v w size at same. ap₂ (λ (f : ℕ → ℕ) (z : ℕ). f z)
+        (ap₂ (F.entry s.op e) (same_lane e i k s.za v w size at same) (same_lane e i k s.zn v w size at same))
+        (same_lane e i k s.zm v w size at same) };
 }
 
 impl<T: Quad<W>, F: LaneWise3, const W: usize> Chunks<T, W> for Map3<F> {
@@ -187,7 +191,10 @@ impl Gives for Select {
 }
 
 impl Local for Select {
-    ghost local = { λ s e i k v w size at same. same_choice (is_active e v s.pg k) (is_active e w s.pg k) (lane_of e v s.zn k) (lane_of e v s.zm k) (lane_of e w s.zn k) (lane_of e w s.zm k) (same_active e i k s.pg v w same) (same_lane e i k s.zn v w size at same) (same_lane e i k s.zm v w size at same) };
+    ghost local = { λ s e i k v w size at same. same_choice (is_active e v s.pg k)
+        (is_active e w s.pg k) (lane_of e v s.zn k) (lane_of e v s.zm k) (lane_of e w s.zn k)
+        (lane_of e w s.zm k) (same_active e i k s.pg v w same) (same_lane e i k s.zn v w size at same)
+        (same_lane e i k s.zm v w size at same) };
 }
 
 impl<T: Quad<W>, const W: usize> Chunks<T, W> for Select {
@@ -212,7 +219,10 @@ impl<L: Gives> Gives for Merged<L> {
 }
 
 impl<L: Local> Local for Merged<L> {
-    ghost local = { λ s e i k v w size at same. same_choice (is_active e v s.pg k) (is_active e w s.pg k) (L.Gives.value s.lanes e v k) (lane_of e v s.zd k) (L.Gives.value s.lanes e w k) (lane_of e w s.zd k) (same_active e i k s.pg v w same) (L.local s.lanes e i k v w size at same) (same_lane e i k s.zd v w size at same) };
+    ghost local = { λ s e i k v w size at same. same_choice (is_active e v s.pg k) (is_active e w s.pg k)
+        (L.Gives.value s.lanes e v k) (lane_of e v s.zd k) (L.Gives.value s.lanes e w k)
+        (lane_of e w s.zd k) (same_active e i k s.pg v w same) (L.local s.lanes e i k v w size at same)
+        (same_lane e i k s.zd v w size at same) };
 }
 
 impl<T: Quad<W>, L: Chunks<T, W>, const W: usize> Chunks<T, W> for Merged<L> {
@@ -235,11 +245,18 @@ pub struct Updated<F> {
 }
 
 impl<F: LaneWise3> Gives for Updated<F> {
-    ghost value = { λ s e v k. if is_active e v s.pg k then F.entry s.op e (lane_of e v s.zd k) (lane_of e v s.zn k) (lane_of e v s.zm k) else lane_of e v s.zd k };
+    ghost value = { λ s e v k. if is_active e v s.pg k
+        then F.entry s.op e (lane_of e v s.zd k) (lane_of e v s.zn k) (lane_of e v s.zm k) else lane_of e v s.zd k };
 }
 
 impl<F: LaneWise3> Local for Updated<F> {
-    ghost local = { λ s e i k v w size at same. same_choice (is_active e v s.pg k) (is_active e w s.pg k) (F.entry s.op e (lane_of e v s.zd k) (lane_of e v s.zn k) (lane_of e v s.zm k)) (lane_of e v s.zd k) (F.entry s.op e (lane_of e w s.zd k) (lane_of e w s.zn k) (lane_of e w s.zm k)) (lane_of e w s.zd k) (same_active e i k s.pg v w same) (ap₂ (λ (f : ℕ → ℕ) (z : ℕ). f z) (ap₂ (F.entry s.op e) (same_lane e i k s.zd v w size at same) (same_lane e i k s.zn v w size at same)) (same_lane e i k s.zm v w size at same)) (same_lane e i k s.zd v w size at same) };
+    ghost local = { λ s e i k v w size at same. same_choice (is_active e v s.pg k) (is_active e w s.pg k)
+        (F.entry s.op e (lane_of e v s.zd k) (lane_of e v s.zn k) (lane_of e v s.zm k)) (lane_of e v s.zd k)
+        (F.entry s.op e (lane_of e w s.zd k) (lane_of e w s.zn k) (lane_of e w s.zm k))
+        (lane_of e w s.zd k) (same_active e i k s.pg v w same) (ap₂ (λ (f : ℕ → ℕ) (z : ℕ). f z)
+        (ap₂ (F.entry s.op e) (same_lane e i k s.zd v w size at same) (same_lane e i k s.zn v w size at same))
+        (same_lane e i k s.zm v w size at same))
+        (same_lane e i k s.zd v w size at same) };
 }
 
 impl<T: Quad<W>, F: LaneWise3, const W: usize> Chunks<T, W> for Updated<F> {
@@ -275,7 +292,9 @@ impl<L: Gives> Gives for Zeroed<L> {
 }
 
 impl<L: Local> Local for Zeroed<L> {
-    ghost local = { λ s e i k v w size at same. same_choice (is_active e v s.pg k) (is_active e w s.pg k) (L.Gives.value s.lanes e v k) 0 (L.Gives.value s.lanes e w k) 0 (same_active e i k s.pg v w same) (L.local s.lanes e i k v w size at same) refl };
+    ghost local = { λ s e i k v w size at same. same_choice (is_active e v s.pg k) (is_active e w s.pg k)
+        (L.Gives.value s.lanes e v k) 0 (L.Gives.value s.lanes e w k) 0 (same_active e i k s.pg v w same)
+        (L.local s.lanes e i k v w size at same) refl };
 }
 
 impl<T: Quad<W>, L: Chunks<T, W>, const W: usize> Chunks<T, W> for Zeroed<L> {
@@ -292,7 +311,8 @@ impl<T: Quad<W>, L: Chunks<T, W>, const W: usize> Chunks<T, W> for Zeroed<L> {
 pub(crate) fn part_of(vec: &VecRegs, pg: Pred, i: u32) -> u16
     requires { i < vec.now.bits / 128 }
     // whatever the lanes of 128 bits
-    ensures { (e w j : ℕ) → IsLaneSize e → w * e ≡ 128 → j < w → is_set result (j * (e / 8)) ≡ is_active e vec.now pg (i * w + j) }
+    ensures { (e w j : ℕ) → IsLaneSize e → w * e ≡ 128 → j < w
+        → is_set result (j * (e / 8)) ≡ is_active e vec.now pg (i * w + j) }
 {
     let _length = vec.length();
     let words = vec.p_words(pg);

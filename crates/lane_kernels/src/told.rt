@@ -1,5 +1,24 @@
 //! Tests of the lanes of registers, 128 bits at a time, and the words of a predicate that they make.
-ghost use Rattle.std.specs.Prelude.{◌≡◌, ◌<◌, ◌≤◌, ◌+◌, ◌*◌, ◌/◌, ◌%◌, ◌^◌, ◌&&◌, ℕ, Bool, not, nat_eq, nat_lt, map, get_or, length, false};
+ghost use Rattle.std.specs.Prelude.{
+  ◌≡◌,
+  ◌<◌,
+  ◌≤◌,
+  ◌+◌,
+  ◌*◌,
+  ◌/◌,
+  ◌%◌,
+  ◌^◌,
+  ◌&&◌,
+  ℕ,
+  Bool,
+  not,
+  nat_eq,
+  nat_lt,
+  map,
+  get_or,
+  length,
+  false,
+};
 ghost use Rattle.std.specs.Prelude.{[], ◌∷◌};
 ghost use Rattle.std.specs.Simd.Lanes.{digits_l, number_l, mask_l};
 ghost use Rattle.emu_bits.specs.Fields.{bit};
@@ -83,7 +102,8 @@ impl<T: Quad<W>, F: LaneWiseTest2, const W: usize> ToldChunks<T, W> for Compared
     }
 }
 
-/// A test, at 64 bits, of the lanes of a register, extended by their sign or by zeros, and of the 64-bit lanes that cover them.
+/// A test, at 64 bits, of the lanes of a register, extended by their sign or by zeros, and of the 64-bit lanes that
+/// cover them.
 #[derive(Clone, Copy)]
 pub struct ComparedWide<F> {
     pub op: F,
@@ -93,7 +113,8 @@ pub struct ComparedWide<F> {
 }
 
 impl<F: LaneWiseTest2> Tells for ComparedWide<F> {
-    ghost answer = { λ s e v k. F.entry s.op 64 (extended_by s.signed 64 e (lane_of e v s.zn k)) (covering_lane e v s.zm k) };
+    ghost answer = { λ s e v k. F.entry s.op 64 (extended_by s.signed 64 e (lane_of e v s.zn k))
+        (covering_lane e v s.zm k) };
 }
 
 impl<T: Quad<W>, F: LaneWiseTest2, const W: usize> ToldChunks<T, W> for ComparedWide<F> {
@@ -134,7 +155,8 @@ fn each_wide<T: Lane, F: LaneWiseTest2>(
     requires told { length told.old ≡ length a.now }
     requires width { length a.now * T.BITS ≡ 128 }
     ensures count { length told.new ≡ length told.old }
-    ensures told { (j : ℕ) → j < length a.now → get_or told.new j false ≡ F.entry op.now 64 (extended_by signed 64 T.BITS (get_or (map T.number a.now) j 0)) (get_or b (j * T.BITS / 64) 0) }
+    ensures told { (j : ℕ) → j < length a.now → get_or told.new j false ≡ F.entry op.now 64
+        (extended_by signed 64 T.BITS (get_or (map T.number a.now) j 0)) (get_or b (j * T.BITS / 64) 0) }
 {
     for j in 0..a.len() {
         told[j] = op.one(extended(signed, a[j]), b[j * T::BITS as usize / 64]);
@@ -146,7 +168,8 @@ fn each_wide<T: Lane, F: LaneWiseTest2>(
 fn ones_where<T: Lane>(told: &[bool], lanes: &mut [T])
     requires { length lanes.old ≡ length told.now }
     ensures count { length lanes.new ≡ length lanes.old }
-    ensures lanes { (j : ℕ) → j < length told.now → get_or (map T.number lanes.new) j 0 ≡ bit (get_or told.now j false) % 2 ^ T.BITS }
+    ensures lanes { (j : ℕ) → j < length told.now
+        → get_or (map T.number lanes.new) j 0 ≡ bit (get_or told.now j false) % 2 ^ T.BITS }
 {
     for j in 0..told.len() {
         lanes[j] = T::from_u64(u64::from(told[j]));
@@ -165,12 +188,14 @@ fn mask_of(bytes: Simd<u8, 16>) -> u64
 /// Which of the 16 bytes of two words are not 0, by a bit each.
 #[inline(always)]
 fn bytes_set(low: u64, high: u64) -> u16
-    ensures { (s : ℕ) → s < 16 → is_set result s ≡ not (nat_eq (get_or (low ∷ high ∷ []) (s / 8) 0 / 2 ^ (8 * (s % 8)) % 256) 0) }
+    ensures { (s : ℕ) → s < 16
+        → is_set result s ≡ not (nat_eq (get_or (low ∷ high ∷ []) (s / 8) 0 / 2 ^ (8 * (s % 8)) % 256) 0) }
 {
     mask_of(Simd::from_array([low, high]).to_le_bytes()) as u16
 }
 
-/// The bits of a predicate for 128 bits of a register: the lowest bit of a lane's field is 1 where told, and all others are 0.
+/// The bits of a predicate for 128 bits of a register: the lowest bit of a lane's field is 1 where told, and all others
+/// are 0.
 #[inline(always)]
 fn part_told<T: Quad<W>, const W: usize>(told: [bool; W]) -> u16
     ensures { (s : ℕ) → s < 16 → is_set result s ≡ field_bit (T.BITS / 8) (λ j. get_or told.entry j false) s }
@@ -192,7 +217,8 @@ fn joined(parts: [u16; 16]) -> [u64; 4]
 /// The words of a predicate whose lanes are told.
 #[inline(always)]
 fn words_told<T: Quad<W>, L: ToldChunks<T, W>, const W: usize>(vec: &VecRegs, lanes: &L) -> [u64; 4]
-    ensures { (b : ℕ) → bit_of result b ≡ (nat_lt b (vec.now.bits / 8) && field_bit (T.BITS / 8) (L.Tells.answer lanes.now T.BITS vec.now) b) }
+    ensures { (b : ℕ) → bit_of result b
+        ≡ (nat_lt b (vec.now.bits / 8) && field_bit (T.BITS / 8) (L.Tells.answer lanes.now T.BITS vec.now) b) }
 {
     let _length = vec.length();
     let mut parts = [0u16; 16];
@@ -202,8 +228,8 @@ fn words_told<T: Quad<W>, L: ToldChunks<T, W>, const W: usize>(vec: &VecRegs, la
     joined(parts)
 }
 
-/// The words of a predicate whose lanes of e bits are told, of 8, 16, 32 or 64 bits: the lowest bit of a lane's field is 1 where
-/// told, and all others are 0.
+/// The words of a predicate whose lanes of e bits are told, of 8, 16, 32 or 64 bits: the lowest bit of a lane's field
+/// is 1 where told, and all others are 0.
 #[inline(always)]
 pub fn told<L: ToldChunks<u8, 16> + ToldChunks<u16, 8> + ToldChunks<u32, 4> + ToldChunks<u64, 2>>(
     vec: &VecRegs,
@@ -211,7 +237,8 @@ pub fn told<L: ToldChunks<u8, 16> + ToldChunks<u16, 8> + ToldChunks<u32, 4> + To
     lanes: &L,
 ) -> [u64; 4]
     requires { IsLaneSize e }
-    ensures { (b : ℕ) → bit_of result b ≡ (nat_lt b (vec.now.bits / 8) && field_bit (e / 8) (L.Tells.answer lanes.now e vec.now) b) }
+    ensures { (b : ℕ)
+        → bit_of result b ≡ (nat_lt b (vec.now.bits / 8) && field_bit (e / 8) (L.Tells.answer lanes.now e vec.now) b) }
 {
     match e {
         8 => words_told::<u8, L, 16>(vec, lanes),

@@ -1,5 +1,5 @@
 -- The greater and the smaller of two signed numbers as a lane.
-use Rattle.std.proofs.Common.{◌≡◌, ◌<◌, ◌≤◌, ◌+◌, ◌-◌, ◌*◌, ◌%◌, ◌^◌, ℕ, ℤ, Bool, true, false, cond, suc, inl, inr, refl, sym, ap, ◌∙◌, arith}
+use Rattle.std.proofs.Common.{◌≡◌, ◌<◌, ◌-◌, ◌%◌, ◌^◌, ℕ, ℤ, true, false, cond, suc, inl, inr, ap, ◌∙◌, arith}
 use Rattle.std.specs.Prelude.{int_lt, pos, negsuc, ◌-ℤ◌, nat_lt}
 use Rattle.std.proofs.Math.Nat.{mod-eq_of_lt}
 use Rattle.std.proofs.lemmas.Bool.{cases_lt, lt-ltb, le-ltb}

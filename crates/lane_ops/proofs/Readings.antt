@@ -1,5 +1,5 @@
 -- Lanes read as signed: how far two are apart, and what a shift to the right leaves of one.
-use Rattle.std.proofs.Common.{◌≡◌, ◌⊎◌, ◌<◌, ◌≤◌, ◌+◌, ◌-◌, ◌*◌, ◌/◌, ◌%◌, ◌^◌, ℕ, ℤ, Bool, true, false, cond, min, nat_lt, suc, inl, inr, refl, sym, ap, ap₂, subst, ◌∙◌, arith, pos, negsuc, ◌-ℤ◌}
+use Rattle.std.proofs.Common.{◌≡◌, ◌⊎◌, ◌<◌, ◌≤◌, ◌+◌, ◌-◌, ◌*◌, ◌/◌, ◌%◌, ◌^◌, ℕ, ℤ, true, false, cond, min, nat_lt, suc, inl, inr, refl, sym, ap, ap₂, subst, ◌∙◌, arith, pos, negsuc, ◌-ℤ◌}
 use Rattle.std.specs.Prelude.{int_lt, unsigned_abs}
 use Rattle.std.specs.Int.{int_shr}
 use Rattle.std.specs.Int.Signed.{mag}

@@ -1,7 +1,7 @@
 //! The functions of lanes of SVE instructions as operations on lanes, one struct for each name.
 //!
-//! A struct stands for all lane types (8, 16, 32 and 64 bits, the manual's esize). What it makes of lanes is its entry of the
-//! table of functions of lanes.
+//! A struct stands for all lane types (8, 16, 32 and 64 bits, the manual's esize). What it makes of lanes is its entry
+//! of the table of functions of lanes.
 #![tactic(auto)]
 
 mod logic;

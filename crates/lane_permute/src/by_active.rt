@@ -1,5 +1,17 @@
 //! Permutes by active lanes.
-ghost use Rattle.std.specs.Prelude.{◌≡◌, ◌<◌, ◌≤◌, ◌+◌, ℕ, length, slice_set, nat_lt, if◌then◌else◌, MatchOption, is_some};
+ghost use Rattle.std.specs.Prelude.{
+  ◌≡◌,
+  ◌<◌,
+  ◌≤◌,
+  ◌+◌,
+  ℕ,
+  length,
+  slice_set,
+  nat_lt,
+  if◌then◌else◌,
+  MatchOption,
+  is_some,
+};
 ghost use Rattle.sve_effects.specs.FirstLast.{first_where, last_where};
 ghost use Rattle.sve_effects.specs.FirstLastLaws.{IsFirstWhere, IsLastWhere};
 ghost use Rattle.sve_effects.specs.Permute as model;
@@ -20,8 +32,8 @@ pub fn compact<T: Lane>(mask: &[bool], a: &[T], out: &mut [T])
     clear_from(count, out);
 }
 
-/// The lanes of `a` from the first active one to the last, all between, then the lanes of `b`, which stand alone where no lane is
-/// active (splice). `mask` tells which lanes are active.
+/// The lanes of `a` from the first active one to the last, all between, then the lanes of `b`, which stand alone where
+/// no lane is active (splice). `mask` tells which lanes are active.
 pub fn splice<T: Lane>(mask: &[bool], a: &[T], b: &[T], out: &mut [T])
     requires mask { length mask.now ≡ length out.old }
     requires first { length a.now ≡ length out.old }
@@ -32,12 +44,13 @@ pub fn splice<T: Lane>(mask: &[bool], a: &[T], b: &[T], out: &mut [T])
     spliced(a, b, from, count, out);
 }
 
-/// The last active lane; or, where `after` is true, the lane after it, which is lane 0 after the last lane of all (lastb, lasta).
-/// None exactly where no lane is active. `mask` tells which lanes are active.
+/// The last active lane; or, where `after` is true, the lane after it, which is lane 0 after the last lane of all
+/// (lastb, lasta). None exactly where no lane is active. `mask` tells which lanes are active.
 pub fn last<T: Lane>(mask: &[bool], a: &[T], after: bool) -> Option<T>
     requires { length mask.now ≡ length a.now }
     ensures none { is_some result ≡ is_some (last_where (length a.now) (active_by mask.now)) }
-    ensures lane { MatchOption result (Unit {0}) (λ x. T.number x ≡ number_at T.number a.now (last_lane after (active_by mask.now) (length a.now))) }
+    ensures lane { MatchOption result (Unit {0})
+        (λ x. T.number x ≡ number_at T.number a.now (last_lane after (active_by mask.now) (length a.now))) }
 {
     let k = last_active(mask)?;
     Some(a[if after { lane_after(k, a.len()) } else { k }])
@@ -83,7 +96,8 @@ fn put_active<T: Lane>(is_active: bool, lane: T, count: usize, out: &mut [T]) ->
 
 /// Writes 0 to each lane from one on.
 fn clear_from<T: Lane>(from: usize, out: &mut [T])
-    ensures { (i : ℕ) → i < length out.old → number_at T.number out.new i ≡ (if nat_lt i from then number_at T.number out.old i else 0) }
+    ensures { (i : ℕ) → i < length out.old
+        → number_at T.number out.new i ≡ (if nat_lt i from then number_at T.number out.old i else 0) }
 {
     let zero = zero();
     for k in from..out.len() {
@@ -94,7 +108,8 @@ fn clear_from<T: Lane>(from: usize, out: &mut [T])
 /// The run of a splice by these active lanes: its first lane, and how many lanes it has.
 fn run_of(mask: &[bool]) -> (usize, usize)
     ensures within { result.0 + result.1 ≤ length mask.now }
-    ensures places { (k : ℕ) → model.spliced result.0 result.1 k ≡ splice_place (active_by mask.now) (length mask.now) k }
+    ensures places { (k : ℕ)
+        → model.spliced result.0 result.1 k ≡ splice_place (active_by mask.now) (length mask.now) k }
 {
     match first_active(mask) {
         Some(from) => match last_active(mask) {

@@ -12,7 +12,8 @@ use lane_pack::Lane;
 pub fn tbl<T: Lane>(a: &[T], at: &[T], out: &mut [T])
     requires first { length a.now ≡ length out.old }
     requires places { length at.now ≡ length out.old }
-    ensures { IsPermuted T.number a.now a.now 0 (λ k. indexed_place (number_at T.number at.now k) (length out.old)) out.new }
+    ensures { IsPermuted T.number a.now a.now 0
+        (λ k. indexed_place (number_at T.number at.now k) (length out.old)) out.new }
 {
     chosen(a, at, out);
 }
@@ -21,7 +22,8 @@ pub fn tbl<T: Lane>(a: &[T], at: &[T], out: &mut [T])
 #[inline(always)]
 pub fn chosen<T: Lane>(a: &[T], at: &[T], out: &mut [T])
     requires { length at.now ≡ length out.old }
-    ensures { IsPermuted T.number a.now a.now 0 (λ k. indexed_place (number_at T.number at.now k) (length a.now)) out.new }
+    ensures { IsPermuted T.number a.now a.now 0
+        (λ k. indexed_place (number_at T.number at.now k) (length a.now)) out.new }
 {
     let zero = zero();
     for k in 0..out.len() {
@@ -29,12 +31,13 @@ pub fn chosen<T: Lane>(a: &[T], at: &[T], out: &mut [T])
     }
 }
 
-/// Lanes of half the size, of the low half of `a`, or of its high half where `high` is true, extended by their sign or by zeros
-/// (sunpklo, sunpkhi, uunpklo, uunpkhi).
+/// Lanes of half the size, of the low half of `a`, or of its high half where `high` is true, extended by their sign or
+/// by zeros (sunpklo, sunpkhi, uunpklo, uunpkhi).
 pub fn widen<T: Lane, H: Lane>(a: &[H], high: bool, signed: bool, out: &mut [T])
     requires lanes { length a.now ≡ 2 * length out.old }
     requires bits { T.BITS ≡ 2 * H.BITS }
-    ensures { (k : ℕ) → k < length out.old → number_at T.number out.new k ≡ extended_by signed T.BITS H.BITS (taken (number_at H.number a.now) (number_at H.number a.now) 0 0 (half_place high (length out.old) k)) }
+    ensures { (k : ℕ) → k < length out.old → number_at T.number out.new k ≡ extended_by signed T.BITS H.BITS
+        (taken (number_at H.number a.now) (number_at H.number a.now) 0 0 (half_place high (length out.old) k)) }
 {
     let n = out.len();
     let first = first_of_half(high, n);
@@ -73,7 +76,8 @@ pub(crate) fn zero<T: Lane>() -> T
 #[inline(always)]
 fn indexed<T: Lane>(a: &[T], i: u64, none: T) -> T
     requires { T.number none ≡ 0 }
-    ensures { T.number result ≡ taken (number_at T.number a.now) (number_at T.number a.now) 0 0 (indexed_place i (length a.now)) }
+    ensures { T.number result
+        ≡ taken (number_at T.number a.now) (number_at T.number a.now) 0 0 (indexed_place i (length a.now)) }
 {
     if i < a.len() as u64 {
         a[i as usize]

@@ -1,8 +1,8 @@
 //! Permutes of lanes over slices: each lane of a result comes from one lane of a source, from a scalar, or is 0.
 //!
-//! Lanes stand in the order of their places, the lowest first; contracts speak of their numbers. A permute that keeps runs of lanes
-//! together copies them as slices; the others go pair by pair or lane by lane, and over slices of a length that is known when they
-//! are compiled, as the lanes of 128 bits, they become shuffles.
+//! Lanes stand in the order of their places, the lowest first; contracts speak of their numbers. A permute that keeps
+//! runs of lanes together copies them as slices; the others go pair by pair or lane by lane, and over slices of a
+//! length that is known when they are compiled, as the lanes of 128 bits, they become shuffles.
 #![tactic(auto)]
 
 mod by_active;

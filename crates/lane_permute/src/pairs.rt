@@ -81,8 +81,8 @@ fn pairs_of_pairs<T: Lane>(a: &[T], b: &[T], odd: usize, out: &mut [T])
     }
 }
 
-/// The even lanes of both sources one after the other, or the odd lanes where `odd` is 1: a cursor goes through the first source,
-/// and then one through the second.
+/// The even lanes of both sources one after the other, or the odd lanes where `odd` is 1: a cursor goes through the
+/// first source, and then one through the second.
 #[inline(always)]
 fn every_other<T: Lane>(a: &[T], b: &[T], odd: usize, out: &mut [T])
     requires odd { odd ≤ 1 }

@@ -1,10 +1,10 @@
 -- The starts of folds: each is a lane, and a step by it changes neither itself nor what a step made.
-use Rattle.std.proofs.Common.{◌≡◌, ◌<◌, ◌≤◌, ◌+◌, ◌-◌, ◌*◌, ◌%◌, ◌^◌, ℕ, ℤ, Bool, true, false, cond, min, max, inl, inr, refl, sym, ap, ◌∙◌, arith, bit_and, pos, negsuc, ◌-ℤ◌}
+use Rattle.std.proofs.Common.{◌≡◌, ◌<◌, ◌≤◌, ◌+◌, ◌-◌, ◌%◌, ◌^◌, ℕ, ℤ, false, cond, min, max, inl, inr, refl, sym, ap, ◌∙◌, arith, bit_and, pos, negsuc, ◌-ℤ◌}
 use Rattle.std.specs.Prelude.{int_lt}
 use Rattle.std.specs.Int.{int_max, int_min}
 use Rattle.std.specs.Int.Bits.{bit_or, bit_xor, or_zero_r, xor_zero_r}
 use Rattle.std.proofs.Math.Nat.{mod-lt, mod-mod, mod-eq_of_lt, zero-mod}
-use Rattle.std.proofs.Math.Pow.{pow-lt, pow-sub-lt}
+use Rattle.std.proofs.Math.Pow.{pow-lt}
 use Rattle.std.proofs.lemmas.Bool.{cases_lt}
 use Rattle.std.proofs.lemmas.Int.{ints}
 use Rattle.std.proofs.lemmas.Nat.{pow_pos, and_mask}

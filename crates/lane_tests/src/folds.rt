@@ -3,7 +3,27 @@ ghost use Rattle.std.specs.Prelude.{◌+◌, ◌-◌, ◌^◌, max, min, bit_and
 ghost use Rattle.std.specs.Int.{int_max, int_min};
 ghost use Rattle.std.proofs.lemmas.Nat.{pow_pos};
 ghost use Rattle.emu_bits.specs.Numbers.{signed, sign_extended};
-ghost use Rattle.lane_tests.specs.Kept.{least_small, greatest_small, ones_small, sum_kept, signed_sum_kept, signed_sum_none, max_kept, max_none, min_kept, min_none, or_kept, or_none, xor_kept, xor_none, and_kept, and_none, smax_kept, smin_kept, unsigned_small};
+ghost use Rattle.lane_tests.specs.Kept.{
+  least_small,
+  greatest_small,
+  ones_small,
+  sum_kept,
+  signed_sum_kept,
+  signed_sum_none,
+  max_kept,
+  max_none,
+  min_kept,
+  min_none,
+  or_kept,
+  or_none,
+  xor_kept,
+  xor_none,
+  and_kept,
+  and_none,
+  smax_kept,
+  smin_kept,
+  unsigned_small,
+};
 ghost use Rattle.sve_effects.specs.declared.lane_functions.LaneOp.{LaneOp};
 ghost use Rattle.sve_effects.specs.Lane.{lane_op};
 ghost use Rattle.sve_effects.specs.Fold.{reduce_step, reduce_start};
@@ -98,7 +118,8 @@ impl Reduction for Smaxv {
 
     ghost start_kept = { λ s e size. smax_kept e (2 ^ (e - 1)) size (least_small e size) };
 
-    ghost step_kept = { λ s e n a size. smax_kept e (lane_op LaneOp.Smax e n a) size (unsigned_small (int_max (signed n e) (signed a e)) e) };
+    ghost step_kept = { λ s e n a size. smax_kept e (lane_op LaneOp.Smax e n a) size
+        (unsigned_small (int_max (signed n e) (signed a e)) e) };
 }
 
 /// The greatest unsigned lane.
@@ -154,7 +175,8 @@ impl Reduction for Sminv {
 
     ghost start_kept = { λ s e size. smin_kept e (2 ^ (e - 1) - 1) size (greatest_small e size) };
 
-    ghost step_kept = { λ s e n a size. smin_kept e (lane_op LaneOp.Smin e n a) size (unsigned_small (int_min (signed n e) (signed a e)) e) };
+    ghost step_kept = { λ s e n a size. smin_kept e (lane_op LaneOp.Smin e n a) size
+        (unsigned_small (int_min (signed n e) (signed a e)) e) };
 }
 
 /// The smallest unsigned lane.

@@ -1,7 +1,7 @@
 //! Comparisons and folds of lanes as operations, one struct for each name.
 //!
-//! A struct stands for all lane types (8, 16, 32 and 64 bits, the manual's esize). What it tells of lanes, or makes of the value so
-//! far and a lane, is its entry of the definitions.
+//! A struct stands for all lane types (8, 16, 32 and 64 bits, the manual's esize). What it tells of lanes, or makes of
+//! the value so far and a lane, is its entry of the definitions.
 #![tactic(auto)]
 
 mod compares;

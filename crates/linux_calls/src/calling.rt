@@ -7,7 +7,17 @@ ghost use Rattle.vec_model.specs.Writes.{after_call};
 ghost use Rattle.emu_system.specs.declared.system_call.Errno.{Errno};
 ghost use Rattle.emu_system.specs.SystemCall as model;
 ghost use Rattle.linux_calls.specs.Done.{IsDone};
-ghost use Rattle.linux_calls.specs.Ends.{OfInput, Stores, behind, caller, does_put, does_take, end_of, is_fault, is_put_fault};
+ghost use Rattle.linux_calls.specs.Ends.{
+  OfInput,
+  Stores,
+  behind,
+  caller,
+  does_put,
+  does_take,
+  end_of,
+  is_fault,
+  is_put_fault,
+};
 ghost use Rattle.linux_calls.specs.Names.{HasNumber, NamesRead, NamesWrite};
 ghost use Rattle.emu_system.specs.Gained.{Gains};
 ghost use Rattle.linux_calls.specs.Replies.{value_of};
@@ -28,9 +38,9 @@ use vec_regs::VecRegs;
 
 /// Makes the call whose number is in x8, with its arguments in x0 to x5. The program counter stays at the call.
 ///
-/// File 0 is the input, file 1 the output and file 2 the stream of errors. A fault of one of them is answered exactly where it failed.
-/// The registers and the break are then as before the call, bytes that were taken are stored, and bytes that were put stay put.
-/// Whatever is answered, the marks of the memory stay as they are. No call wants memory.
+/// File 0 is the input, file 1 the output and file 2 the stream of errors. A fault of one of them is answered exactly
+/// where it failed. The registers and the break are then as before the call, bytes that were taken are stored, and
+/// bytes that were put stay put. Whatever is answered, the marks of the memory stay as they are. No call wants memory.
 pub fn call<I: Source, O: Sink, E: Sink>(
     core: &mut Core,
     vec: &mut VecRegs,
@@ -41,12 +51,15 @@ pub fn call<I: Source, O: Sink, E: Sink>(
     errors: &mut E,
 ) -> CallEnd
     requires { IsSoundBreak brk.old }
-    ensures state { OfInput (model.action (caller core.old vec.old mem.old brk.old)) (I.left input.old) (λ bytes. is_fault result ≡ false
-        → behind result core.new vec.new mem.new brk.new ≡ (model.call (caller core.old vec.old mem.old brk.old) bytes).parts) }
+    ensures state { OfInput (model.action (caller core.old vec.old mem.old brk.old)) (I.left input.old)
+        (λ bytes. is_fault result ≡ false → behind result core.new vec.new mem.new brk.new
+        ≡ (model.call (caller core.old vec.old mem.old brk.old) bytes).parts) }
     ensures input { IfSome (I.left input.old) (λ bytes. is_fault result ≡ false
         → I.left input.new ≡ Some (model.call (caller core.old vec.old mem.old brk.old) bytes).input) }
-    ensures output { (bytes : List ℕ) → IfSome (O.held output.old) (λ had. Gains (is_fault result) (O.held output.new) had (model.call (caller core.old vec.old mem.old brk.old) bytes).output) }
-    ensures errors { (bytes : List ℕ) → IfSome (E.held errors.old) (λ had. Gains (is_fault result) (E.held errors.new) had (model.call (caller core.old vec.old mem.old brk.old) bytes).errors) }
+    ensures output { (bytes : List ℕ) → IfSome (O.held output.old) (λ had. Gains (is_fault result)
+        (O.held output.new) had (model.call (caller core.old vec.old mem.old brk.old) bytes).output) }
+    ensures errors { (bytes : List ℕ) → IfSome (E.held errors.old) (λ had. Gains (is_fault result)
+        (E.held errors.new) had (model.call (caller core.old vec.old mem.old brk.old) bytes).errors) }
     ensures end { is_fault result ≡ false → result ≡ end_of (model.action (caller core.old vec.old mem.old brk.old)) }
     ensures sound { IsSoundBreak brk.new }
 
@@ -55,11 +68,13 @@ pub fn call<I: Source, O: Sink, E: Sink>(
 
     // an error changes nothing but the registers
     ensures refused { (error : Errno) → model.action (caller core.old vec.old mem.old brk.old) ≡ model.fails error
-        → (mem.new ≡ mem.old) × (brk.new ≡ brk.old) × (input.new ≡ input.old) × (output.new ≡ output.old) × (errors.new ≡ errors.old) }
+        → (mem.new ≡ mem.old) × (brk.new ≡ brk.old) × (input.new ≡ input.old) × (output.new ≡ output.old)
+        × (errors.new ≡ errors.old) }
 
     // where a stream failed
     ensures kept { is_fault result ≡ true → (core.new ≡ core.old) × (vec.new ≡ vec.old) × (brk.new ≡ brk.old) }
-    ensures stored { is_fault result ≡ true → Stores (model.action (caller core.old vec.old mem.old brk.old)) mem.old mem.new (I.left input.old) (I.left input.new) }
+    ensures stored { is_fault result ≡ true → Stores
+        (model.action (caller core.old vec.old mem.old brk.old)) mem.old mem.new (I.left input.old) (I.left input.new) }
     ensures unstored { is_put_fault result ≡ true → mem.new ≡ mem.old }
     ensures read_cause { Causes (result ≡ CallEnd.ReadFault) (I.faults input.old) (I.faults input.new) }
     ensures write_cause { Causes (result ≡ CallEnd.WriteFault) (O.faults output.old) (O.faults output.new) }
@@ -69,9 +84,12 @@ pub fn call<I: Source, O: Sink, E: Sink>(
     ensures errors_named { result ≡ CallEnd.ErrorsFault → NamesWrite core.old 2 }
 
     // a stream that the call doesn't speak of
-    ensures untaken { does_take (model.action (caller core.old vec.old mem.old brk.old)) ≡ false → input.new ≡ input.old }
-    ensures output_kept { does_put 1 (model.action (caller core.old vec.old mem.old brk.old)) ≡ false → output.new ≡ output.old }
-    ensures errors_kept { does_put 2 (model.action (caller core.old vec.old mem.old brk.old)) ≡ false → errors.new ≡ errors.old }
+    ensures untaken { does_take (model.action (caller core.old vec.old mem.old brk.old)) ≡ false
+        → input.new ≡ input.old }
+    ensures output_kept { does_put 1 (model.action (caller core.old vec.old mem.old brk.old)) ≡ false
+        → output.new ≡ output.old }
+    ensures errors_kept { does_put 2 (model.action (caller core.old vec.old mem.old brk.old)) ≡ false
+        → errors.new ≡ errors.old }
 {
     let name = name_of_call(core);
     make(name, core, vec, mem, brk, input, output, errors)
@@ -90,10 +108,23 @@ fn make<I: Source, O: Sink, E: Sink>(
 ) -> CallEnd
     requires number { HasNumber name (model.number_of_call core.old) }
     requires sound { IsSoundBreak brk.old }
-    ensures done { IsDone (model.action_of name core.old vec.old mem.old brk.old)
-        (record { core = core.old; vectors = vec.old; memory = mem.old; brk = brk.old; left = I.left input.old; output = O.held output.old; errors = E.held errors.old })
-        (record { core = core.new; vectors = vec.new; memory = mem.new; brk = brk.new; left = I.left input.new; output = O.held output.new; errors = E.held errors.new })
-        (input.new ≡ input.old) (output.new ≡ output.old) (errors.new ≡ errors.old) result }
+    ensures done { IsDone (model.action_of name core.old vec.old mem.old brk.old) (record {
+      core = core.old;
+      vectors = vec.old;
+      memory = mem.old;
+      brk = brk.old;
+      left = I.left input.old;
+      output = O.held output.old;
+      errors = E.held errors.old;
+    }) (record {
+      core = core.new;
+      vectors = vec.new;
+      memory = mem.new;
+      brk = brk.new;
+      left = I.left input.new;
+      output = O.held output.new;
+      errors = E.held errors.new;
+    }) (input.new ≡ input.old) (output.new ≡ output.old) (errors.new ≡ errors.old) result }
     ensures marks { mem.new.marks ≡ mem.old.marks }
     ensures unstored { is_put_fault result ≡ true → mem.new ≡ mem.old }
     ensures read_cause { Causes (result ≡ CallEnd.ReadFault) (I.faults input.old) (I.faults input.new) }

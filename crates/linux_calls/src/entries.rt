@@ -21,12 +21,14 @@ pub const MOST_RANGES: usize = 1024;
 /// The ranges of one call.
 pub type Ranges = ArrayVec<Range, MOST_RANGES>;
 
-/// The ranges (file, address, count) of a call that needs a right to their bytes, as they stand there, each cut to the most
-/// bytes of one call.
+/// The ranges (file, address, count) of a call that needs a right to their bytes, as they stand there, each cut to the
+/// most bytes of one call.
 pub fn read_vector(core: &Core, mem: &mut Mem, kind: Kind, ranges: &mut Ranges) -> Result<(), Errno>
     requires { ranges.old.items ≡ [] }
-    ensures refused { IfErr result (λ error. (moves : List Range → model.Action) → model.with_vector kind moves core.now mem.old ≡ model.fails error) }
-    ensures ranges { OnOk result ((moves : List Range → model.Action) → model.with_vector kind moves core.now mem.old ≡ moves ranges.new.items) }
+    ensures refused { IfErr result (λ error. (moves : List Range → model.Action)
+        → model.with_vector kind moves core.now mem.old ≡ model.fails error) }
+    ensures ranges { OnOk result
+        ((moves : List Range → model.Action) → model.with_vector kind moves core.now mem.old ≡ moves ranges.new.items) }
     ensures granted { OnOk result (AreGranted mem.old kind ranges.new.items) }
     ensures unchanged { mem.new ≡ mem.old }
 {
@@ -72,8 +74,10 @@ fn load(mem: &mut Mem, address: u64) -> u64
 
 /// Cuts ranges to the most bytes of one call, and tests them.
 fn cut_entries(mem: &mut Mem, kind: Kind, ranges: &mut Ranges) -> Result<(), Errno>
-    ensures refused { IfErr result (λ error. (moves : List Range → model.Action) → model.with_entries kind moves ranges.old.items mem.old ≡ model.fails error) }
-    ensures ranges { OnOk result ((moves : List Range → model.Action) → model.with_entries kind moves ranges.old.items mem.old ≡ moves ranges.new.items) }
+    ensures refused { IfErr result (λ error. (moves : List Range → model.Action)
+        → model.with_entries kind moves ranges.old.items mem.old ≡ model.fails error) }
+    ensures ranges { OnOk result ((moves : List Range → model.Action)
+        → model.with_entries kind moves ranges.old.items mem.old ≡ moves ranges.new.items) }
     ensures granted { OnOk result (AreGranted mem.old kind ranges.new.items) }
     ensures unchanged { mem.new ≡ mem.old }
 {

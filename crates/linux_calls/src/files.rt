@@ -23,7 +23,8 @@ use io_gate::{Failed, Sink, Source};
 
 /// ioctl(file): no file is a terminal.
 pub fn ioctl(core: &Core) -> Reply
-    ensures { (v : Vectors) (m : Memory) (brk : Break) → model.action_of CallName.Ioctl core.now v m brk ≡ replied result }
+    ensures { (v : Vectors) (m : Memory) (brk : Break)
+        → model.action_of CallName.Ioctl core.now v m brk ≡ replied result }
 {
     if file_of(core) < 3 {
         Reply::Error(Errno::ENOTTY)
@@ -34,8 +35,11 @@ pub fn ioctl(core: &Core) -> Reply
 
 /// read(file, address, count): bytes of the input are taken to the buffer, and their number is answered.
 pub fn read<S: Source>(core: &Core, mem: &mut Mem, input: &mut S) -> Result<Reply, Failed>
-    ensures replied { (v : Vectors) (brk : Break) → IfOk result (HasTaken (model.action_of CallName.Read core.now v mem.old brk) mem.old mem.new (S.left input.old) (S.left input.new) (input.new ≡ input.old)) }
-    ensures failed { (v : Vectors) (brk : Break) → OnErr result (HasBrokenOff (model.action_of CallName.Read core.now v mem.old brk) mem.old mem.new (S.left input.old) (S.left input.new)) }
+    ensures replied { (v : Vectors) (brk : Break)
+        → IfOk result (HasTaken (model.action_of CallName.Read core.now v mem.old brk) mem.old mem.new
+        (S.left input.old) (S.left input.new) (input.new ≡ input.old)) }
+    ensures failed { (v : Vectors) (brk : Break) → OnErr result (HasBrokenOff
+        (model.action_of CallName.Read core.now v mem.old brk) mem.old mem.new (S.left input.old) (S.left input.new)) }
     ensures file { OnErr result (model.file_of core.now ≡ 0) }
     ensures marks { mem.new.marks ≡ mem.old.marks }
     ensures cause { HasCause (S.faults input.old) (S.faults input.new) result }
@@ -52,8 +56,11 @@ pub fn read<S: Source>(core: &Core, mem: &mut Mem, input: &mut S) -> Result<Repl
 /// readv(file, address, count): the same to the ranges whose entries stand at the address.
 #[inline(never)]
 pub fn readv<S: Source>(core: &Core, mem: &mut Mem, input: &mut S) -> Result<Reply, Failed>
-    ensures replied { (v : Vectors) (brk : Break) → IfOk result (HasTaken (model.action_of CallName.Readv core.now v mem.old brk) mem.old mem.new (S.left input.old) (S.left input.new) (input.new ≡ input.old)) }
-    ensures failed { (v : Vectors) (brk : Break) → OnErr result (HasBrokenOff (model.action_of CallName.Readv core.now v mem.old brk) mem.old mem.new (S.left input.old) (S.left input.new)) }
+    ensures replied { (v : Vectors) (brk : Break)
+        → IfOk result (HasTaken (model.action_of CallName.Readv core.now v mem.old brk) mem.old mem.new
+        (S.left input.old) (S.left input.new) (input.new ≡ input.old)) }
+    ensures failed { (v : Vectors) (brk : Break) → OnErr result (HasBrokenOff
+        (model.action_of CallName.Readv core.now v mem.old brk) mem.old mem.new (S.left input.old) (S.left input.new)) }
     ensures file { OnErr result (model.file_of core.now ≡ 0) }
     ensures marks { mem.new.marks ≡ mem.old.marks }
     ensures cause { HasCause (S.faults input.old) (S.faults input.new) result }
@@ -71,8 +78,10 @@ pub fn readv<S: Source>(core: &Core, mem: &mut Mem, input: &mut S) -> Result<Rep
 /// Takes bytes of the input to ranges.
 fn take<S: Source>(mem: &mut Mem, ranges: &[Range], input: &mut S) -> Result<Reply, Failed>
     requires { AreGranted mem.old Kind.Write ranges.now }
-    ensures replied { IfOk result (HasTaken (model.takes ranges.now) mem.old mem.new (S.left input.old) (S.left input.new) (input.new ≡ input.old)) }
-    ensures failed { OnErr result (HasBrokenOff (model.takes ranges.now) mem.old mem.new (S.left input.old) (S.left input.new)) }
+    ensures replied { IfOk result (HasTaken (model.takes ranges.now) mem.old mem.new (S.left input.old)
+        (S.left input.new) (input.new ≡ input.old)) }
+    ensures failed { OnErr result
+        (HasBrokenOff (model.takes ranges.now) mem.old mem.new (S.left input.old) (S.left input.new)) }
     ensures marks { mem.new.marks ≡ mem.old.marks }
     ensures cause { HasCause (S.faults input.old) (S.faults input.new) result }
 {
@@ -87,8 +96,9 @@ pub fn write<O: Sink, E: Sink>(
     output: &mut O,
     errors: &mut E,
 ) -> Result<Reply, CallEnd>
-    ensures written { (v : Vectors) (brk : Break) → HasWritten (model.action_of CallName.Write core.now v mem.old brk) mem.old
-        (O.held output.old) (O.held output.new) (output.new ≡ output.old) (E.held errors.old) (E.held errors.new) (errors.new ≡ errors.old) result }
+    ensures written { (v : Vectors) (brk : Break) → HasWritten
+        (model.action_of CallName.Write core.now v mem.old brk) mem.old (O.held output.old) (O.held output.new)
+        (output.new ≡ output.old) (E.held errors.old) (E.held errors.new) (errors.new ≡ errors.old) result }
     ensures file { IfErr result (λ end. end ≡ fault_of (model.file_of core.now)) }
     ensures sink { IfErr result (λ end. IsTrue (model.is_sink (model.file_of core.now))) }
     ensures unchanged { mem.new ≡ mem.old }
@@ -113,8 +123,9 @@ pub fn writev<O: Sink, E: Sink>(
     output: &mut O,
     errors: &mut E,
 ) -> Result<Reply, CallEnd>
-    ensures written { (v : Vectors) (brk : Break) → HasWritten (model.action_of CallName.Writev core.now v mem.old brk) mem.old
-        (O.held output.old) (O.held output.new) (output.new ≡ output.old) (E.held errors.old) (E.held errors.new) (errors.new ≡ errors.old) result }
+    ensures written { (v : Vectors) (brk : Break) → HasWritten
+        (model.action_of CallName.Writev core.now v mem.old brk) mem.old (O.held output.old) (O.held output.new)
+        (output.new ≡ output.old) (E.held errors.old) (E.held errors.new) (errors.new ≡ errors.old) result }
     ensures file { IfErr result (λ end. end ≡ fault_of (model.file_of core.now)) }
     ensures sink { IfErr result (λ end. IsTrue (model.is_sink (model.file_of core.now))) }
     ensures unchanged { mem.new ≡ mem.old }
@@ -151,8 +162,10 @@ fn put<O: Sink, E: Sink>(
     requires granted { AreGranted mem.old Kind.Read ranges.now }
     ensures replied { IfOk result (HasPut (model.puts file ranges.now)) }
     ensures failed { IfErr result (FailsAt (model.puts file ranges.now)) }
-    ensures output { PutsTo 1 (model.puts file ranges.now) mem.old (O.held output.old) (O.held output.new) (output.new ≡ output.old) (is_err result) }
-    ensures errors { PutsTo 2 (model.puts file ranges.now) mem.old (E.held errors.old) (E.held errors.new) (errors.new ≡ errors.old) (is_err result) }
+    ensures output { PutsTo 1 (model.puts file ranges.now) mem.old (O.held output.old) (O.held output.new)
+        (output.new ≡ output.old) (is_err result) }
+    ensures errors { PutsTo 2 (model.puts file ranges.now) mem.old (E.held errors.old) (E.held errors.new)
+        (errors.new ≡ errors.old) (is_err result) }
     ensures unchanged { mem.new ≡ mem.old }
     ensures write_cause { Causes (result ≡ Err CallEnd.WriteFault) (O.faults output.old) (O.faults output.new) }
     ensures errors_cause { Causes (result ≡ Err CallEnd.ErrorsFault) (E.faults errors.old) (E.faults errors.new) }

@@ -18,12 +18,14 @@ const PR_SVE_SET_VL: u64 = 50;
 /// prctl's option that asks for the vector length.
 const PR_SVE_GET_VL: u64 = 51;
 
-/// prctl(option, bytes): Ok is the vector length that it sets, which is at most the starting one. Err is what it answers where it
-/// sets none.
+/// prctl(option, bytes): Ok is the vector length that it sets, which is at most the starting one. Err is what it
+/// answers where it sets none.
 pub fn prctl(core: &Core, vec: &VecRegs) -> Result<Length, Reply>
-    ensures set { (m : Memory) (brk : Break) → IfOk result (λ bits. model.action_of CallName.Prctl core.now vec.now m brk ≡ model.sets_length bits) }
+    ensures set { (m : Memory) (brk : Break)
+        → IfOk result (λ bits. model.action_of CallName.Prctl core.now vec.now m brk ≡ model.sets_length bits) }
     ensures within { IfOk result (λ bits. bits ≤ vec.now.most) }
-    ensures replied { (m : Memory) (brk : Break) → IfErr result (λ reply. model.action_of CallName.Prctl core.now vec.now m brk ≡ replied reply) }
+    ensures replied { (m : Memory) (brk : Break)
+        → IfErr result (λ reply. model.action_of CallName.Prctl core.now vec.now m brk ≡ replied reply) }
 {
     let option = argument(core, 0);
     if option == PR_SVE_GET_VL {

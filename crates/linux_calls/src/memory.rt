@@ -85,7 +85,9 @@ pub fn map(mem: &mut Mem, length: u64, prot: u64, flags: u64) -> Reply
 
 /// Maps the highest `count` pages that are free one after the other, and answers their address.
 fn map_highest(mem: &mut Mem, count: u64, rights: Rights) -> Reply
-    ensures done { (brk : Break) → HasDone (model.mapping_at (free_run mem.old.pages count (model.highest / page_size)) mem.old count rights) mem.old brk mem.new brk result }
+    ensures done { (brk : Break)
+        → HasDone (model.mapping_at (free_run mem.old.pages count (model.highest / page_size)) mem.old count rights)
+        mem.old brk mem.new brk result }
     ensures marks { mem.new.marks ≡ mem.old.marks }
 {
     let Some(first) = mem.pages().free_run(count, HIGHEST / PAGE_SIZE) else {
@@ -99,7 +101,8 @@ fn map_highest(mem: &mut Mem, count: u64, rights: Rights) -> Reply
 
 /// mprotect(address, length, rights): gives the pages of the range these rights, if all are mapped.
 pub fn protect(mem: &mut Mem, address: u64, length: u64, prot: u64) -> Reply
-    ensures done { (brk : Break) → HasDone (model.protection mem.old address length prot) mem.old brk mem.new brk result }
+    ensures done { (brk : Break)
+        → HasDone (model.protection mem.old address length prot) mem.old brk mem.new brk result }
     ensures marks { mem.new.marks ≡ mem.old.marks }
 {
     if address % PAGE_SIZE != 0 || prot > 7 {

@@ -48,7 +48,8 @@ pub fn take_ranges<S: Source>(
 ) -> Result<u64, Failed>
     requires few { total ranges.now ≤ 0x7FFFF000 }
     requires writable { list_any (is_denied mem.old Kind.Write) ranges.now ≡ false }
-    ensures took { Took (total ranges.now) (filled mem.old ranges.now) mem.new (S.left source.old) (S.left source.new) result }
+    ensures took { Took (total ranges.now) (filled mem.old ranges.now) mem.new (S.left source.old)
+        (S.left source.new) result }
     ensures all { IfOk result (λ n. IfSome (S.left source.old) (λ bytes. n ≡ min (total ranges.now) (length bytes))) }
     ensures cause { HasCause (S.faults source.old) (S.faults source.new) result }
 {

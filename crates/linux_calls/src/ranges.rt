@@ -1,4 +1,5 @@
-//! Ranges of the guest's bytes: whether they have a right, and the bytes that go from there to a sink and from a source there.
+//! Ranges of the guest's bytes: whether they have a right, and the bytes that go from there to a sink and from a source
+//! there.
 ghost use Rattle.std.specs.Prelude.{◌≡◌, ◌<◌, ◌≤◌, min, length, None, is_none, true, IfOk, IfSome};
 ghost use Rattle.io_gate.specs.Streams.{HasCause, TakesSome};
 ghost use Rattle.io_gate.specs.Pieces.{PutsAll};
@@ -71,7 +72,8 @@ fn take_piece<S: Source>(
 ) -> Result<usize, Failed>
     requires some { 0 < most }
     requires writable { allowed mem.old Kind.Write address ≡ true }
-    ensures took { Took (to_page_end address most) (with_bytes mem.old address) mem.new (S.left source.old) (S.left source.new) result }
+    ensures took { Took (to_page_end address most) (with_bytes mem.old address) mem.new (S.left source.old)
+        (S.left source.new) result }
     ensures some { TakesSome (S.left source.old) result }
     ensures cause { HasCause (S.faults source.old) (S.faults source.new) result }
 {

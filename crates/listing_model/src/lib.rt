@@ -1,4 +1,5 @@
-//! What a listing is and what it makes, as definitions: its lines, where each of them stands, the file, and the first refusal.
+//! What a listing is and what it makes, as definitions: its lines, where each of them stands, the file, and the first
+//! refusal.
 //!
 //! How the statements of instructions are read is a parameter of these definitions.
 #![tactic(auto)]

@@ -84,7 +84,8 @@ fn push_later_number(text: &mut String, number: u64, j: u32) -> Result<(), OutOf
 /// Appends the seven numbers of a line of data from this one on. Err is want of memory.
 fn push_later_numbers(text: &mut String, number: u64, from: u32) -> Result<(), OutOfMemory>
     requires { from + 7 ≤ 20000 }
-    ensures { OnOk result (string_bytes text.new ≡ string_bytes text.old ++ flat_map (later_number number) (range_with_len from 7)) }
+    ensures { OnOk result
+        (string_bytes text.new ≡ string_bytes text.old ++ flat_map (later_number number) (range_with_len from 7)) }
 {
     'numbers: for i in 0..7 {
         push_later_number(text, number, from + i)?;
@@ -104,8 +105,8 @@ fn push_data_line(text: &mut String, number: u64, k: u32) -> Result<(), OutOfMem
     text.push_str("\n")
 }
 
-/// The listing of a program that sums up 20,000 numbers and finds the greatest of them: its instructions, and 2,500 lines of eight
-/// numbers, the number j of which is `(number + j) * (j + 1)` in 32 bits. Err is want of memory.
+/// The listing of a program that sums up 20,000 numbers and finds the greatest of them: its instructions, and 2,500
+/// lines of eight numbers, the number j of which is `(number + j) * (j + 1)` in 32 bits. Err is want of memory.
 pub fn load_listing(alloc: Global, number: u64) -> Result<String, OutOfMemory>
     ensures { IfOk result (λ text. string_bytes text ≡ listing number) }
 {

@@ -1,5 +1,5 @@
 -- What a run into a sink that held nothing says of the run alone.
-use Rattle.std.proofs.Common.{◌≡◌, ℕ, Bool, true, false, List, [], length, sum_by, Option, Some, refl, sym, subst, ◌∙◌, arith}
+use Rattle.std.proofs.Common.{◌≡◌, ℕ, Bool, false, List, [], length, sum_by, Option, Some, refl, sym, subst, ◌∙◌, arith}
 use Rattle.emu_machine.specs.Ends.{Becomes, Puts}
 use Rattle.emu_machine.specs.declared.machine.Machine.{Machine}
 use Rattle.emu_model.specs.State.{Parts, State}

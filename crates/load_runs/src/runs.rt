@@ -58,7 +58,8 @@ fn run_at(
     requires loadable { IsLoadable bytes.now 512 (seen_image image.now) }
     requires arguments { map string_bytes args.now ≡ load_args }
     requires nothing_written { output.old.held ≡ [] }
-    ensures run { IfOk result (λ machine. HasRun (model.run_at bytes.now (seen_image image.now) length) machine output.new) }
+    ensures run { IfOk result
+        (λ machine. HasRun (model.run_at bytes.now (seen_image image.now) length) machine output.new) }
 {
     let mut machine = Machine::open(alloc, bytes, image, args, length, LOAD_PAGES)?;
     let mut input = SliceSource::new(b"");
@@ -91,11 +92,12 @@ fn push_line_at(
     }
 }
 
-/// Runs the image of a load program at each vector length from 128 to 2048 bits, without input, and gives the lines on the runs: how
-/// each ended, its steps, and all that it wrote to file 1. The memory of one length is given back before the next is opened.
+/// Runs the image of a load program at each vector length from 128 to 2048 bits, without input, and gives the lines on
+/// the runs: how each ended, its steps, and all that it wrote to file 1. The memory of one length is given back before
+/// the next is opened.
 ///
-/// The image was read from these bytes, with 512 as the greatest number of mapped pages. Err is want of memory: for a machine, for what
-/// a run writes, or for the lines.
+/// The image was read from these bytes, with 512 as the greatest number of mapped pages. Err is want of memory: for a
+/// machine, for what a run writes, or for the lines.
 pub fn load_lines(alloc: Global, bytes: &[u8], image: &Image) -> Result<MemSink, OutOfMemory>
     requires loadable { IsLoadable bytes.now 512 (seen_image image.now) }
     ensures lines { IfOk result (λ lines. lines.held ≡ load_text bytes.now (seen_image image.now)) }

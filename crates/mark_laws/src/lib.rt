@@ -1,5 +1,5 @@
-//! That steps don't look at the marks of a memory: with other marks a machine takes the same steps. The marks that a machine has
-//! stay as they are.
+//! That steps don't look at the marks of a memory: with other marks a machine takes the same steps. The marks that a
+//! machine has stay as they are.
 #![tactic(auto)]
 
 ghost use Rattle.std.specs.Prelude.{◌≡◌, ◌≤◌, ◌-◌, ℕ};
@@ -28,9 +28,10 @@ pub fn runs_pass_marks_by()
     ensures { (st : State) (k : ℕ) (x : Marks) → until_end (state_with st x) k ≡ state_with (until_end st k) x }
 {}
 
-/// A machine that goes back to what it was behind the first j of n steps, with whatever marks it has by then, and takes the others
-/// again, is what it was behind all n, with these marks.
+/// A machine that goes back to what it was behind the first j of n steps, with whatever marks it has by then, and takes
+/// the others again, is what it was behind all n, with these marks.
 #[tactic(auto, using(crate::specs::Steps::again_with))]
 pub fn steps_are_taken_again()
-    ensures { (st : State) (j n : ℕ) (x : Marks) → j ≤ n → until_end (state_with (until_end st j) x) (n - j) ≡ state_with (until_end st n) x }
+    ensures { (st : State) (j n : ℕ) (x : Marks) → j ≤ n
+        → until_end (state_with (until_end st j) x) (n - j) ≡ state_with (until_end st n) x }
 {}

@@ -1,9 +1,43 @@
 //! The list of pages.
-ghost use Rattle.std.specs.Prelude.{◌≡◌, ◌≤◌, ◌<◌, ◌+◌, ◌*◌, ◌^◌, ◌++◌, ◌↔◌, [], length, take, drop, set, get_or, replicate, true, is_some, Some, None, IsSome, IfOk, IsTrue};
+ghost use Rattle.std.specs.Prelude.{
+  ◌≡◌,
+  ◌≤◌,
+  ◌<◌,
+  ◌+◌,
+  ◌*◌,
+  ◌^◌,
+  ◌++◌,
+  ◌↔◌,
+  [],
+  length,
+  take,
+  drop,
+  set,
+  get_or,
+  replicate,
+  true,
+  is_some,
+  Some,
+  None,
+  IsSome,
+  IfOk,
+  IsTrue,
+};
 ghost use Rattle.std.specs.List.{AllByRecursion, count_by};
 ghost use Rattle.emu_model.specs.Access.{page_size, most_mapped_pages};
 ghost use Rattle.emu_model.specs.WithinPage.{page_with_bytes};
-ghost use Rattle.page_list.specs.Entries.{IsAscending, IsAtHand, IsBelow, IsFetched, IsFrom, changed_at, entry_at, no_page, page_with_rights, zeroed_entries};
+ghost use Rattle.page_list.specs.Entries.{
+  IsAscending,
+  IsAtHand,
+  IsBelow,
+  IsFetched,
+  IsFrom,
+  changed_at,
+  entry_at,
+  no_page,
+  page_with_rights,
+  zeroed_entries,
+};
 
 use crate::code::{CodePage, NO_CODE, NO_PAGE};
 use crate::slots::{
@@ -45,7 +79,8 @@ impl PageList {
 
     /// No pages, with room for `limit` of them. No later call takes memory.
     pub fn new(alloc: Global, limit: u32) -> Result<PageList, OutOfMemory>
-        ensures { IfOk result (λ l. l ≡ record { pages = []; limit = limit; code = no_page; marks = []; unmarked = limit }) }
+        ensures { IfOk result
+            (λ l. l ≡ record { pages = []; limit = limit; code = no_page; marks = []; unmarked = limit }) }
     {
         let slots = Vec::with_capacity(alloc, limit as usize)?;
         let arena = FrameArena::new(alloc, limit)?;
@@ -191,7 +226,8 @@ impl PageList {
         requires place { at ≤ length self.old.pages }
         requires ends { first + count ≤ 2 ^ 35 }
         requires room { length self.old.pages + count ≤ self.old.limit }
-        ensures pages { self.new.pages ≡ take at self.old.pages ++ (zeroed_entries first count rights ++ drop at self.old.pages) }
+        ensures pages { self.new.pages
+            ≡ take at self.old.pages ++ (zeroed_entries first count rights ++ drop at self.old.pages) }
         ensures limit { self.new.limit ≡ self.old.limit }
         ensures marks { self.new.marks ≡ self.old.marks }
         ensures unmarked { self.new.unmarked ≡ self.old.unmarked }
@@ -217,7 +253,8 @@ impl PageList {
     /// No pages and no marks, with room for `limit` pages and for sixteen marks of as many. No later call takes memory.
     pub fn with_marks(alloc: Global, limit: u32) -> Result<PageList, OutOfMemory>
         requires { limit ≤ most_mapped_pages }
-        ensures { IfOk result (λ l. l ≡ record { pages = []; limit = limit; code = no_page; marks = replicate 16 None; unmarked = 3 * limit }) }
+        ensures { IfOk result (λ l. l
+            ≡ record { pages = []; limit = limit; code = no_page; marks = replicate 16 None; unmarked = 3 * limit }) }
     {
         let slots = Vec::with_capacity(alloc, limit as usize)?;
         let arena = FrameArena::new(alloc, 3 * limit)?;
@@ -242,7 +279,8 @@ impl PageList {
     pub fn spare(&self) -> u32
         ensures most { result ≤ self.now.unmarked }
         ensures least { self.now.unmarked ≤ result + length self.now.pages }
-        ensures one_mark { 0 < length self.now.marks → count_by is_some self.now.marks ≤ 1 → self.now.limit + length self.now.pages ≤ self.now.unmarked }
+        ensures one_mark { 0 < length self.now.marks → count_by is_some self.now.marks ≤ 1
+            → self.now.limit + length self.now.pages ≤ self.now.unmarked }
         ensures room { self.now.limit ≤ result + length self.now.pages }
     {
         let _marks = &self.marks;

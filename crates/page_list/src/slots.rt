@@ -1,5 +1,28 @@
 //! The slots of lists, and the frames that they hold.
-ghost use Rattle.std.specs.Prelude.{◌≡◌, ◌≤◌, ◌<◌, ◌+◌, ◌-◌, ◌^◌, ◌++◌, ◌∷◌, ℕ, List, [], true, false, length, set, take, drop, IfSome, IsSome, Some, None, option_map};
+ghost use Rattle.std.specs.Prelude.{
+  ◌≡◌,
+  ◌≤◌,
+  ◌<◌,
+  ◌+◌,
+  ◌-◌,
+  ◌^◌,
+  ◌++◌,
+  ◌∷◌,
+  ℕ,
+  List,
+  [],
+  true,
+  false,
+  length,
+  set,
+  take,
+  drop,
+  IfSome,
+  IsSome,
+  Some,
+  None,
+  option_map,
+};
 ghost use Rattle.std.specs.Bool.{OnTrue};
 ghost use Rattle.std.specs.Vec.{vec_len, vec_capacity};
 ghost use Rattle.emu_model.specs.Access.{page_size};
@@ -8,7 +31,34 @@ ghost use Rattle.emu_model.specs.SoundState.{AreBytes};
 ghost use Rattle.frame_arena.specs.Frames.{IsLive, Takes, bytes_of, count_of};
 ghost use Rattle.page_list.specs.declared.slots.Slot.{Slot};
 ghost use Rattle.page_list.specs.declared.slots.Hold.TheVariants.{Own};
-ghost use Rattle.page_list.specs.Slots.{AreBeside, AreHeld, AreOwn, Changes, HasRoom, IsCode, block_bytes, bytes_in, code_after, emptied_slot, entries_in, frame_at, given_if, hold_frame, holders, is_own, is_sole, owned_hold, owned_slot, shared_hold, shared_if, shared_slot, shared_slots, slot_at, sole_in, zeroed_slots};
+ghost use Rattle.page_list.specs.Slots.{
+  AreBeside,
+  AreHeld,
+  AreOwn,
+  Changes,
+  HasRoom,
+  IsCode,
+  block_bytes,
+  bytes_in,
+  code_after,
+  emptied_slot,
+  entries_in,
+  frame_at,
+  given_if,
+  hold_frame,
+  holders,
+  is_own,
+  is_sole,
+  owned_hold,
+  owned_slot,
+  shared_hold,
+  shared_if,
+  shared_slot,
+  shared_slots,
+  slot_at,
+  sole_in,
+  zeroed_slots,
+};
 
 use crate::code::CodePage;
 use emu_model::{PAGE_BYTES, Rights};
@@ -241,7 +291,8 @@ fn replace_frame(slots: &mut Vec<Slot>, arena: &mut FrameArena, code: &mut CodeP
     ensures code { IsCode slots.old.items code.old → IsCode slots.new.items code.new }
     ensures changes { Changes arena.old arena.new slots.old.items slots.new.items }
     ensures own { AreOwn arena.new.live slots.new.items }
-    ensures room { arena.old.spare + sole_in arena.old.live slots.old.items ≤ arena.new.spare + sole_in arena.new.live slots.new.items }
+    ensures room { arena.old.spare + sole_in arena.old.live slots.old.items
+        ≤ arena.new.spare + sole_in arena.new.live slots.new.items }
     ensures length { length slots.new.items ≡ length slots.old.items }
     ensures capacity { vec_capacity slots.new ≡ vec_capacity slots.old }
 {
@@ -265,7 +316,8 @@ fn make_own(slots: &mut Vec<Slot>, arena: &mut FrameArena, code: &mut CodePage, 
     ensures code { IsCode slots.old.items code.old → IsCode slots.new.items code.new }
     ensures changes { Changes arena.old arena.new slots.old.items slots.new.items }
     ensures own { AreOwn arena.new.live slots.new.items }
-    ensures room { arena.old.spare + sole_in arena.old.live slots.old.items ≤ arena.new.spare + sole_in arena.new.live slots.new.items }
+    ensures room { arena.old.spare + sole_in arena.old.live slots.old.items
+        ≤ arena.new.spare + sole_in arena.new.live slots.new.items }
     ensures length { length slots.new.items ≡ length slots.old.items }
     ensures capacity { vec_capacity slots.new ≡ vec_capacity slots.old }
 {
@@ -295,7 +347,8 @@ pub(crate) fn ensure_own(
     ensures code { IsCode slots.old.items code.old → IsCode slots.new.items code.new }
     ensures changes { Changes arena.old arena.new slots.old.items slots.new.items }
     ensures own { AreOwn arena.new.live slots.new.items }
-    ensures room { arena.old.spare + sole_in arena.old.live slots.old.items ≤ arena.new.spare + sole_in arena.new.live slots.new.items }
+    ensures room { arena.old.spare + sole_in arena.old.live slots.old.items
+        ≤ arena.new.spare + sole_in arena.new.live slots.new.items }
     ensures length { length slots.new.items ≡ length slots.old.items }
     ensures capacity { vec_capacity slots.new ≡ vec_capacity slots.old }
 {
@@ -310,7 +363,8 @@ fn pop_given(slots: &mut Vec<Slot>, arena: &mut FrameArena)
     requires held { AreHeld arena.old.live slots.old.items }
     ensures slots { slots.new.items ≡ take (length slots.new.items) slots.old.items }
     ensures changes { Changes arena.old arena.new slots.old.items slots.new.items }
-    ensures room { (others : List Slot) → AreBeside arena.old.live slots.old.items others → HasRoom arena.old arena.new slots.old.items slots.new.items others }
+    ensures room { (others : List Slot) → AreBeside arena.old.live slots.old.items others
+        → HasRoom arena.old arena.new slots.old.items slots.new.items others }
     ensures length { length slots.new.items + 1 ≡ length slots.old.items }
     ensures capacity { vec_capacity slots.new ≡ vec_capacity slots.old }
 {
@@ -348,7 +402,8 @@ pub(crate) fn pop_all(slots: &mut Vec<Slot>, arena: &mut FrameArena, count: usiz
     requires held { AreHeld arena.old.live slots.old.items }
     ensures slots { slots.new.items ≡ take (length slots.new.items) slots.old.items }
     ensures changes { Changes arena.old arena.new slots.old.items slots.new.items }
-    ensures room { (others : List Slot) → AreBeside arena.old.live slots.old.items others → HasRoom arena.old arena.new slots.old.items slots.new.items others }
+    ensures room { (others : List Slot) → AreBeside arena.old.live slots.old.items others
+        → HasRoom arena.old arena.new slots.old.items slots.new.items others }
     ensures length { length slots.new.items + count ≡ length slots.old.items }
     ensures capacity { vec_capacity slots.new ≡ vec_capacity slots.old }
 {
@@ -469,7 +524,8 @@ pub(crate) fn pop_every(slots: &mut Vec<Slot>, arena: &mut FrameArena)
     requires { AreHeld arena.old.live slots.old.items }
     ensures none { slots.new.items ≡ [] }
     ensures changes { Changes arena.old arena.new slots.old.items [] }
-    ensures room { (others : List Slot) → AreBeside arena.old.live slots.old.items others → HasRoom arena.old arena.new slots.old.items [] others }
+    ensures room { (others : List Slot) → AreBeside arena.old.live slots.old.items others
+        → HasRoom arena.old arena.new slots.old.items [] others }
     ensures capacity { vec_capacity slots.new ≡ vec_capacity slots.old }
 {
     for i in 0..slots.len() {
@@ -504,7 +560,8 @@ pub(crate) fn clear_mark(mark: &mut Mark, arena: &mut FrameArena)
     ensures none { mark.new.slots.items ≡ [] }
     ensures unset { mark.new.set ≡ false }
     ensures changes { Changes arena.old arena.new mark.old.slots.items [] }
-    ensures room { (others : List Slot) → AreBeside arena.old.live mark.old.slots.items others → HasRoom arena.old arena.new mark.old.slots.items [] others }
+    ensures room { (others : List Slot) → AreBeside arena.old.live mark.old.slots.items others
+        → HasRoom arena.old arena.new mark.old.slots.items [] others }
     ensures capacity { vec_capacity mark.new.slots ≡ vec_capacity mark.old.slots }
 {
     pop_every(&mut mark.slots, arena);
@@ -514,7 +571,8 @@ pub(crate) fn clear_mark(mark: &mut Mark, arena: &mut FrameArena)
 /// Moves the last `count` slots to place `at`.
 pub(crate) fn move_back(slots: &mut Vec<Slot>, at: usize, count: usize)
     requires { at + count ≤ length slots.old.items }
-    ensures slots { slots.new.items ≡ take at slots.old.items ++ (drop (length slots.old.items - at - count) (drop at slots.old.items) ++ take (length slots.old.items - at - count) (drop at slots.old.items)) }
+    ensures slots { slots.new.items ≡ take at slots.old.items ++ (drop (length slots.old.items - at - count)
+        (drop at slots.old.items) ++ take (length slots.old.items - at - count) (drop at slots.old.items)) }
     ensures capacity { vec_capacity slots.new ≡ vec_capacity slots.old }
 {
     slots[at..].rotate_right(count);
@@ -523,7 +581,8 @@ pub(crate) fn move_back(slots: &mut Vec<Slot>, at: usize, count: usize)
 /// Moves `count` slots from place `at` on to the end.
 pub(crate) fn move_to_end(slots: &mut Vec<Slot>, at: usize, count: usize)
     requires { at + count ≤ length slots.old.items }
-    ensures slots { slots.new.items ≡ take at slots.old.items ++ (drop count (drop at slots.old.items) ++ take count (drop at slots.old.items)) }
+    ensures slots { slots.new.items
+        ≡ take at slots.old.items ++ (drop count (drop at slots.old.items) ++ take count (drop at slots.old.items)) }
     ensures capacity { vec_capacity slots.new ≡ vec_capacity slots.old }
 {
     slots[at..].rotate_left(count);

@@ -1,5 +1,21 @@
 //! The mapped pages, and the calls that map, find and change them: the plain program of the definitions.
-ghost use Rattle.std.specs.Prelude.{◌≡◌, ◌≤◌, ◌<◌, ◌+◌, ◌*◌, ◌^◌, length, if◌then◌else◌, MatchOption, IfOk, IfErr, IfSome, OnOk, OnErr, ⊤};
+ghost use Rattle.std.specs.Prelude.{
+  ◌≡◌,
+  ◌≤◌,
+  ◌<◌,
+  ◌+◌,
+  ◌*◌,
+  ◌^◌,
+  length,
+  if◌then◌else◌,
+  MatchOption,
+  IfOk,
+  IfErr,
+  IfSome,
+  OnOk,
+  OnErr,
+  ⊤,
+};
 ghost use Rattle.std.specs.FinMap as map;
 ghost use Rattle.emu_model.specs.Access.{no_marks, page_gives, page_size};
 ghost use Rattle.emu_model.specs.Pages.{free_run, least_unmapped, mapped, protected, unmapped, with_bytes};
@@ -26,7 +42,8 @@ pub enum MapError {
     OutOfMemory,
 }
 
-/// The mapped pages. Contracts see them as a finite map from page to rights and bytes, and the greatest number of pages.
+/// The mapped pages. Contracts see them as a finite map from page to rights and bytes, and the greatest number of
+/// pages.
 #[derive(Drop)]
 pub struct Pages {
     alloc: Global,
@@ -91,9 +108,9 @@ impl Pages {
         }
     }
 
-    /// Maps `count` pages from page `first` on, with these rights and their bytes 0. `Taken` has the least of them that is
-    /// mapped already; else `Full` comes exactly where there would be more pages than the limit. An Err leaves the pages as
-    /// they were.
+    /// Maps `count` pages from page `first` on, with these rights and their bytes 0. `Taken` has the least of them that
+    /// is mapped already; else `Full` comes exactly where there would be more pages than the limit. An Err leaves the
+    /// pages as they were.
     pub fn map(&mut self, first: u64, count: u64, rights: Rights) -> Result<(), MapError>
         requires begins { 1 ≤ first }
         requires ends { first + count ≤ 2 ^ 35 }
@@ -126,8 +143,8 @@ impl Pages {
         remove_slots(&mut self.slots, first, count);
     }
 
-    /// Gives `count` pages from page `first` on these rights. `Unmapped` has the least of them that isn't mapped, and then no
-    /// page is changed.
+    /// Gives `count` pages from page `first` on these rights. `Unmapped` has the least of them that isn't mapped, and
+    /// then no page is changed.
     pub fn protect(&mut self, first: u64, count: u64, rights: Rights) -> Result<(), Unmapped>
         requires { first + count ≤ 2 ^ 35 }
         ensures result { result ≡ protect_answer (least_unmapped self.old.pages first count) }
@@ -141,8 +158,8 @@ impl Pages {
         Ok(())
     }
 
-    /// The greatest page, from page 1 on, from which `count` pages are unmapped that end at or below page `below`. None exactly
-    /// where there is no such page.
+    /// The greatest page, from page 1 on, from which `count` pages are unmapped that end at or below page `below`. None
+    /// exactly where there is no such page.
     pub fn free_run(&self, count: u64, below: u64) -> Option<u64>
         ensures { result ≡ free_run self.now.pages count below }
     {
@@ -163,7 +180,8 @@ impl Pages {
         requires number { page < 2 ^ 52 }
         requires within { at + length bytes.now ≤ page_size }
         ensures allowed { result ≡ page_gives (map.get self.old.pages page) Kind.Write }
-        ensures bytes { self.new ≡ (if result then with_bytes self.old (page * page_size + at) bytes.now else self.old) }
+        ensures bytes { self.new
+            ≡ (if result then with_bytes self.old (page * page_size + at) bytes.now else self.old) }
     {
         store_slot(&mut self.slots, page, at, bytes)
     }

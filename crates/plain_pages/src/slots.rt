@@ -1,5 +1,26 @@
 //! The slots of the mapped pages, in the order of their numbers.
-ghost use Rattle.std.specs.Prelude.{◌≡◌, ◌≤◌, ◌<◌, ◌+◌, ◌^◌, ◌++◌, length, take, drop, if◌then◌else◌, not, ◌&&◌, nat_le, nat_lt, MatchOption, IfNone, IfOk, OnErr, OnOk, IsTrue};
+ghost use Rattle.std.specs.Prelude.{
+  ◌≡◌,
+  ◌≤◌,
+  ◌<◌,
+  ◌+◌,
+  ◌^◌,
+  ◌++◌,
+  length,
+  take,
+  drop,
+  if◌then◌else◌,
+  not,
+  ◌&&◌,
+  nat_le,
+  nat_lt,
+  MatchOption,
+  IfNone,
+  IfOk,
+  OnErr,
+  OnOk,
+  IsTrue,
+};
 ghost use Rattle.std.specs.List.{AllByRecursion, filter};
 ghost use Rattle.std.specs.Ordering.{nat_cmp};
 ghost use Rattle.std.specs.FinMap.{contains_key, find};
@@ -7,7 +28,19 @@ ghost use Rattle.emu_model.specs.Access.{page_gives, page_size};
 ghost use Rattle.emu_model.specs.Pages.{free_run, is_among, is_free, least_mapped, least_unmapped, zeros};
 ghost use Rattle.emu_model.specs.SoundState.{AreBytes};
 ghost use Rattle.emu_model.specs.WithinPage.{overwritten, page_with_bytes};
-ghost use Rattle.plain_pages.specs.Slots.{IsAscending, IsBelow, IsFrom, IsAt, IsEntry, all_changed, changed, entries_of, page_with_rights, pages_of, zeroed_entries};
+ghost use Rattle.plain_pages.specs.Slots.{
+  IsAscending,
+  IsBelow,
+  IsFrom,
+  IsAt,
+  IsEntry,
+  all_changed,
+  changed,
+  entries_of,
+  page_with_rights,
+  pages_of,
+  zeroed_entries,
+};
 
 use emu_model::{Kind, PAGE_BYTES, Rights};
 use std::alloc::{AllocError, Global};
@@ -114,7 +147,8 @@ pub fn store_slot(slots: &mut [Slot], page: u64, at: usize, bytes: &[u8]) -> boo
     requires whole { AllByRecursion IsEntry (entries_of slots.old) }
     requires within { at + length bytes.now ≤ page_size }
     ensures allowed { result ≡ page_gives (find nat_cmp page (entries_of slots.old)) Kind.Write }
-    ensures entries { entries_of slots.new ≡ (if result then changed (page_with_bytes at bytes.now) page (entries_of slots.old) else entries_of slots.old) }
+    ensures entries { entries_of slots.new ≡ (if result
+        then changed (page_with_bytes at bytes.now) page (entries_of slots.old) else entries_of slots.old) }
 {
     match find_slot(slots, page) {
         Some(i) if slots[i].rights.w => {

@@ -1,5 +1,24 @@
 //! First, last and next lanes, the predicate test, loops and counts, by the words of predicates.
-ghost use Rattle.std.specs.Prelude.{◌≡◌, ◌<◌, ◌≤◌, ◌+◌, ◌-◌, ◌*◌, ◌/◌, ◌%◌, ◌^◌, ◌⊎◌, ℕ, suc, true, ◌&&◌, length, min, IfSome, nat_lt};
+ghost use Rattle.std.specs.Prelude.{
+  ◌≡◌,
+  ◌<◌,
+  ◌≤◌,
+  ◌+◌,
+  ◌-◌,
+  ◌*◌,
+  ◌/◌,
+  ◌%◌,
+  ◌^◌,
+  ◌⊎◌,
+  ℕ,
+  suc,
+  true,
+  ◌&&◌,
+  length,
+  min,
+  IfSome,
+  nat_lt,
+};
 ghost use Rattle.emu_bits.specs.Flags.{size_of};
 ghost use Rattle.emu_model.specs.Lists.{each};
 ghost use Rattle.pred_bits.specs.LaneBits as lane_bits;
@@ -25,7 +44,8 @@ use emu_bits::{Esize, Flags, low_bits};
 fn whole_lane_words(g: &PredBits, a: &PredBits, e: Esize) -> [u64; 4]
     requires same { length a.now ≡ length g.now }
     requires whole { length g.now % (size_of e / 8) ≡ 0 }
-    ensures { (b : ℕ) → bit_of result b ≡ field_bit (size_of e / 8) (among (lanes_of (size_of e) (length g.now)) (λ k. active (size_of e) g.now k && active (size_of e) a.now k)) b }
+    ensures { (b : ℕ) → bit_of result b ≡ field_bit (size_of e / 8) (among (lanes_of (size_of e) (length g.now))
+        (λ k. active (size_of e) g.now k && active (size_of e) a.now k)) b }
 {
     starts_in_both(&g.words, &a.words, e)
 }
@@ -36,7 +56,8 @@ fn first_lane_words(g: &PredBits, a: &PredBits, e: Esize) -> [u64; 4]
     requires same { length a.now ≡ length g.now }
     requires whole { length g.now % (size_of e / 8) ≡ 0 }
     requires few { length g.now ≤ 64 }
-    ensures { (b : ℕ) → bit_of result b ≡ field_bit (size_of e / 8) (among (lanes_of (size_of e) (length g.now)) (λ k. active (size_of e) g.now k && active (size_of e) a.now k)) b }
+    ensures { (b : ℕ) → bit_of result b ≡ field_bit (size_of e / 8) (among (lanes_of (size_of e) (length g.now))
+        (λ k. active (size_of e) g.now k && active (size_of e) a.now k)) b }
 {
     starts_in_first(&g.words, &a.words, e)
 }
@@ -45,7 +66,8 @@ fn first_lane_words(g: &PredBits, a: &PredBits, e: Esize) -> [u64; 4]
 #[inline(always)]
 fn lane_words(g: &PredBits, a: &PredBits, e: Esize) -> [u64; 4]
     requires { length a.now ≡ length g.now }
-    ensures { (b : ℕ) → bit_of result b ≡ field_bit (size_of e / 8) (among (lanes_of (size_of e) (length g.now)) (λ k. active (size_of e) g.now k && active (size_of e) a.now k)) b }
+    ensures { (b : ℕ) → bit_of result b ≡ field_bit (size_of e / 8) (among (lanes_of (size_of e) (length g.now))
+        (λ k. active (size_of e) g.now k && active (size_of e) a.now k)) b }
 {
     let words = starts_in_both(&g.words, &a.words, e);
     let rest = g.bits % (e.bits() / 8);
@@ -73,7 +95,8 @@ fn lane_at(place: Option<u32>, e: Esize) -> Option<u32>
 #[inline(always)]
 pub(crate) fn first_set(g: &PredBits, a: &PredBits, e: Esize) -> Option<u32>
     requires { length a.now ≡ length g.now }
-    ensures value { result ≡ model.first_set (lanes_of (size_of e) (length g.now)) (active (size_of e) g.now) (active (size_of e) a.now) }
+    ensures value { result
+        ≡ model.first_set (lanes_of (size_of e) (length g.now)) (active (size_of e) g.now) (active (size_of e) a.now) }
     ensures within { IfSome result (λ k. k < lanes_of (size_of e) (length g.now)) }
 {
     let _bits = g.bits();
@@ -93,7 +116,8 @@ pub(crate) fn first_lane(g: &PredBits, e: Esize) -> Option<u32>
 #[inline(always)]
 pub(crate) fn last_is_set(g: &PredBits, a: &PredBits, e: Esize) -> bool
     requires { length a.now ≡ length g.now }
-    ensures { result ≡ model.last_is_set (lanes_of (size_of e) (length g.now)) (active (size_of e) g.now) (active (size_of e) a.now) }
+    ensures { result ≡ model.last_is_set (lanes_of (size_of e) (length g.now)) (active (size_of e) g.now)
+        (active (size_of e) a.now) }
 {
     let _bits = g.bits();
     let on = lane_words(g, g, e);
@@ -101,8 +125,8 @@ pub(crate) fn last_is_set(g: &PredBits, a: &PredBits, e: Esize) -> bool
     last_is_in(&on, &set)
 }
 
-/// The flags of a predicate test: N whether the first active lane is set, Z whether no active lane is, C whether the last active
-/// lane isn't, V clear.
+/// The flags of a predicate test: N whether the first active lane is set, Z whether no active lane is, C whether the
+/// last active lane isn't, V clear.
 #[inline(always)]
 pub fn pred_test(g: &PredBits, a: &PredBits, e: Esize) -> Flags
     requires { length a.now ≡ length g.now }
@@ -114,8 +138,8 @@ pub fn pred_test(g: &PredBits, a: &PredBits, e: Esize) -> Flags
     test_words(&on, &set)
 }
 
-/// The first active lane behind the last one that is set in `before`, alone, and the flags of its predicate test, by the
-/// words of the lanes that are active and of those that are set.
+/// The first active lane behind the last one that is set in `before`, alone, and the flags of its predicate test, by
+/// the words of the lanes that are active and of those that are set.
 #[inline(always)]
 fn next_words(
     g: &PredBits,
@@ -125,10 +149,14 @@ fn next_words(
     set: &[u64; 4],
 ) -> (PredBits, Flags)
     requires same { length before.now ≡ length g.now }
-    requires on { (b : ℕ) → bit_of on.now b ≡ field_bit (size_of e / 8) (among (lanes_of (size_of e) (length g.now)) (λ k. active (size_of e) g.now k && active (size_of e) g.now k)) b }
-    requires set { (b : ℕ) → bit_of set.now b ≡ field_bit (size_of e / 8) (among (lanes_of (size_of e) (length before.now)) (λ k. active (size_of e) before.now k && active (size_of e) before.now k)) b }
+    requires on { (b : ℕ) → bit_of on.now b ≡ field_bit (size_of e / 8) (among (lanes_of (size_of e) (length g.now))
+        (λ k. active (size_of e) g.now k && active (size_of e) g.now k)) b }
+    requires set { (b : ℕ)
+        → bit_of set.now b ≡ field_bit (size_of e / 8) (among (lanes_of (size_of e) (length before.now))
+        (λ k. active (size_of e) before.now k && active (size_of e) before.now k)) b }
     ensures lane { result.0 ≡ only_next (size_of e) (length g.now) g.now before.now }
-    ensures flags { result.1 ≡ model.pred_test (size_of e) (length g.now) g.now (only_next (size_of e) (length g.now) g.now before.now) }
+    ensures flags { result.1
+        ≡ model.pred_test (size_of e) (length g.now) g.now (only_next (size_of e) (length g.now) g.now before.now) }
 {
     let bits = g.bits();
     let rest = behind(on, last_bit(set));
@@ -154,7 +182,8 @@ pub fn next_tested(g: &PredBits, before: &PredBits, e: Esize) -> (PredBits, Flag
     requires same { length before.now ≡ length g.now }
     requires whole { length g.now % (size_of e / 8) ≡ 0 }
     ensures lane { result.0 ≡ only_next (size_of e) (length g.now) g.now before.now }
-    ensures flags { result.1 ≡ model.pred_test (size_of e) (length g.now) g.now (only_next (size_of e) (length g.now) g.now before.now) }
+    ensures flags { result.1
+        ≡ model.pred_test (size_of e) (length g.now) g.now (only_next (size_of e) (length g.now) g.now before.now) }
 {
     if g.bits() <= 64 {
         let on = first_lane_words(g, g, e);
@@ -210,7 +239,8 @@ fn is_inclusive(test: WhileTest) -> bool
     }
 }
 
-/// What is added to numbers of so many bits, for their order as unsigned ones to be the order that the condition of a loop tests.
+/// What is added to numbers of so many bits, for their order as unsigned ones to be the order that the condition of a
+/// loop tests.
 #[inline(always)]
 fn offset(test: WhileTest, width: u32) -> u64
     requires { (width ≡ 32) ⊎ (width ≡ 64) }
@@ -265,8 +295,8 @@ fn while_count(test: WhileTest, from: u64, to: u64, width: u32, lanes: u32) -> u
     }
 }
 
-/// The lanes of a loop: a lane is set where the condition holds of `from`, `from` + 1 and so on up to the lane's number, and of
-/// `to`, each modulo 2^width. The result has `bits` bits, at most 256, which are whole fields.
+/// The lanes of a loop: a lane is set where the condition holds of `from`, `from` + 1 and so on up to the lane's
+/// number, and of `to`, each modulo 2^width. The result has `bits` bits, at most 256, which are whole fields.
 #[inline(always)]
 pub fn while_bits(test: WhileTest, from: u64, to: u64, width: u32, e: Esize, bits: u32) -> PredBits
     requires width { (width ≡ 32) ⊎ (width ≡ 64) }

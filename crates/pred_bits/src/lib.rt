@@ -1,8 +1,8 @@
 //! Predicates of up to 256 bits, kept as four words of 64 bits, and what SVE instructions make of them.
 //!
-//! Contracts see a predicate as the list of its bits, the lowest first. A lane of e bits has the field of e / 8 bits from bit
-//! k * e / 8 on, and is active, or set, where the lowest of them is 1. The predicates of one call have the same number of bits.
-//! No call allocates.
+//! Contracts see a predicate as the list of its bits, the lowest first. A lane of e bits has the field of e / 8 bits
+//! from bit k * e / 8 on, and is active, or set, where the lowest of them is 1. The predicates of one call have the
+//! same number of bits. No call allocates.
 #![tactic(auto)]
 
 mod lanes;

@@ -1,5 +1,26 @@
 //! Predicates as four words: bits of words, and the first bit, the last bit and the number of bits that are 1.
-ghost use Rattle.std.specs.Prelude.{◌≡◌, ◌≢◌, ◌<◌, ◌≤◌, ◌+◌, ◌*◌, ◌/◌, ◌%◌, ◌&&◌, ℕ, nat_eq, nat_lt, length, get_or, bit_and, set, replicate, false, IfSome, if◌then◌else◌};
+ghost use Rattle.std.specs.Prelude.{
+  ◌≡◌,
+  ◌≢◌,
+  ◌<◌,
+  ◌≤◌,
+  ◌+◌,
+  ◌*◌,
+  ◌/◌,
+  ◌%◌,
+  ◌&&◌,
+  ℕ,
+  nat_eq,
+  nat_lt,
+  length,
+  get_or,
+  bit_and,
+  set,
+  replicate,
+  false,
+  IfSome,
+  if◌then◌else◌,
+};
 ghost use Rattle.std.specs.Int.{bit_at};
 ghost use Rattle.emu_bits.specs.Flags.{size_of};
 ghost use Rattle.sve_effects.specs.FirstLast.{first_where, last_where, count_where, answer_at};
@@ -23,7 +44,8 @@ pub fn with_bit(word: u64, at: u32, v: bool) -> u64
 /// A logical operation on each bit of words.
 #[inline(always)]
 pub fn logic(op: LogicOp, g: u64, a: u64, b: u64) -> u64
-    ensures { (i : ℕ) → i < 64 → nat_eq (bit_at result i) 1 ≡ logic_bit op (nat_eq (bit_at g i) 1) (nat_eq (bit_at a i) 1) (nat_eq (bit_at b i) 1) }
+    ensures { (i : ℕ) → i < 64 → nat_eq (bit_at result i) 1
+        ≡ logic_bit op (nat_eq (bit_at g i) 1) (nat_eq (bit_at a i) 1) (nat_eq (bit_at b i) 1) }
 {
     match op {
         LogicOp::And => g & (a & b),

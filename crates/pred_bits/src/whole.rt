@@ -56,8 +56,8 @@ pub fn ones(bits: u32) -> PredBits
     upto(false, None, bits)
 }
 
-/// The active bits up to the first of them that is 1 in `a`, which itself counts where `after` (brka), and does not else (brkb).
-/// Inactive bits are those of `before` where `keep`, else 0.
+/// The active bits up to the first of them that is 1 in `a`, which itself counts where `after` (brka), and does not
+/// else (brkb). Inactive bits are those of `before` where `keep`, else 0.
 #[inline(always)]
 pub fn brk(after: bool, keep: bool, g: &PredBits, a: &PredBits, before: &PredBits) -> PredBits
     requires first { length a.now ≡ length g.now }
@@ -72,8 +72,8 @@ pub fn brk(after: bool, keep: bool, g: &PredBits, a: &PredBits, before: &PredBit
     }
 }
 
-/// The active bits up to the first of them that is 1 in `b`, as `brk`, where `a` is 1 at the last active bit (brkpa, brkpb);
-/// else 0.
+/// The active bits up to the first of them that is 1 in `b`, as `brk`, where `a` is 1 at the last active bit (brkpa,
+/// brkpb); else 0.
 #[inline(always)]
 pub fn brkp(after: bool, g: &PredBits, a: &PredBits, b: &PredBits) -> PredBits
     requires first { length a.now ≡ length g.now }

@@ -10,8 +10,8 @@ use sve_effects::{Group, group_of};
 use sve_insn::Sve;
 use vec_regs::VecRegs;
 
-/// Does an instruction of the data rows: it writes its destination, a vector register of VL bits, a predicate or a general register,
-/// and nothing else. The step goes on behind the instruction.
+/// Does an instruction of the data rows: it writes its destination, a vector register of VL bits, a predicate or a
+/// general register, and nothing else. The step goes on behind the instruction.
 #[inline(always)]
 pub fn exec(core: &mut Core, vec: &mut VecRegs, i: &Sve) -> Effect
     requires { is_data i.now ≡ true }

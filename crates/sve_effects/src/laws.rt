@@ -8,6 +8,6 @@ ghost use Rattle.sve_effects.specs.Rows.{performed};
 
 /// What an SVE instruction leaves of a sound state is sound: each number and list keeps its range and its length.
 pub fn effects_keep_soundness()
-    ensures { (form : SveForm) (c : Core) (v : Vectors) (m : Memory) → IsSoundCore c → IsSoundVectors v → IsSoundMemory m
-        → IsSoundDone (performed form c v m) }
+    ensures { (form : SveForm) (c : Core) (v : Vectors) (m : Memory) → IsSoundCore c → IsSoundVectors v
+        → IsSoundMemory m → IsSoundDone (performed form c v m) }
 {}

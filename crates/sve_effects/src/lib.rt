@@ -1,5 +1,5 @@
-//! The definitions of what SVE instructions do: functions of lanes and loops over them, and one equation for each form; and the
-//! plain types that they match on.
+//! The definitions of what SVE instructions do: functions of lanes and loops over them, and one equation for each form;
+//! and the plain types that they match on.
 #![tactic(auto)]
 
 pub mod groups;

@@ -3,7 +3,8 @@ ghost use Rattle.std.specs.Prelude.{ℕ, Bool};
 ghost use Rattle.sve_effects.specs.FirstLast.{first_where, last_where};
 ghost use Rattle.sve_effects.specs.FirstLastLaws.{IsFirstWhere, IsLastWhere};
 
-/// A logical operation of two predicates under a third: bic, orn, nor and nand complement as their names say, and sel chooses.
+/// A logical operation of two predicates under a third: bic, orn, nor and nand complement as their names say, and sel
+/// chooses.
 #[derive(Clone, Copy, PartialEq, Eq, Debug)]
 pub enum LogicOp {
     And,
@@ -25,8 +26,8 @@ pub enum WhileTest {
     Ls,
 }
 
-/// The first place and the last place meet the test, and nothing before the first or behind the last does. Where there is none,
-/// nothing meets the test.
+/// The first place and the last place meet the test, and nothing before the first or behind the last does. Where there
+/// is none, nothing meets the test.
 pub fn first_and_last_meet_the_test()
     ensures first { (n : ℕ) (test : ℕ → Bool) → IsFirstWhere n test (first_where n test) }
     ensures last { (n : ℕ) (test : ℕ → Bool) → IsLastWhere n test (last_where n test) }

@@ -1,7 +1,8 @@
 //! Functions of lanes: what SVE instructions make of them.
 //!
-//! A lane is a number of e bits, 8, 16, 32 or 64 (the manual's esize), in the low bits of a word; a result has zeros above. Each
-//! function is one for all widths, and is the definition of its name; `apply`, `test` and `unary` take the name as a value.
+//! A lane is a number of e bits, 8, 16, 32 or 64 (the manual's esize), in the low bits of a word; a result has zeros
+//! above. Each function is one for all widths, and is the definition of its name; `apply`, `test` and `unary` take the
+//! name as a value.
 #![tactic(auto)]
 
 mod compare;

@@ -12,8 +12,8 @@ use crate::sums::{
 };
 use sve_effects::LaneOp;
 
-/// A function of two lanes of e bits, by its name: the definition of the name. The second may be any number, as the amount of a
-/// shift is.
+/// A function of two lanes of e bits, by its name: the definition of the name. The second may be any number, as the
+/// amount of a shift is.
 pub fn apply(op: LaneOp, e: u32, a: u64, b: u64) -> u64
     requires { IsLaneSize e }
     ensures value { result ≡ lane_op op e a b }

@@ -113,7 +113,8 @@ fn reversed_bits(e: u32, a: u64) -> u64
     }
 }
 
-/// A function of one lane, by its name: the definition of the name. An extension or a reversal takes parts shorter than the lane.
+/// A function of one lane, by its name: the definition of the name. An extension or a reversal takes parts shorter than
+/// the lane.
 pub fn unary(op: UnaryOp, e: u32, a: u64) -> u64
     requires size { IsLaneSize e }
     requires within { a < 2 ^ e }

@@ -86,7 +86,8 @@ pub(crate) fn write(
     requires size { IsLaneSize e }
     requires count { array_vec_len values.now ≡ vec.old.bits / e }
     // whatever function gives the values, and whatever function is the same before the end
-    ensures { (f h : ℕ → ℕ) → values.now.items ≡ each (vec.old.bits / e) f → ((k : ℕ) → model.is_before end k ≡ true → f k ≡ h k)
+    ensures { (f h : ℕ → ℕ) → values.now.items ≡ each (vec.old.bits / e) f
+        → ((k : ℕ) → model.is_before end k ≡ true → f k ≡ h k)
         → vec.new ≡ with_lanes e (λ k. if model.is_before end k then h k else 0) zt vec.old }
 {
     let lanes = vec.length().bits() / e;

@@ -24,10 +24,11 @@ pub fn is_own(i: &Sve) -> bool
     matches!(group_of(i.form()), Group::FirstFaults)
 }
 
-/// Does a first-faulting or non-faulting load of the elements of a list, and says how the step goes on. The lanes of the list
-/// have to be the active lanes of the row in order, and its bytes and its sign have to be the row's. The elements that were loaded
-/// are logged in order. A trap changes no register. It comes where SP is the base, isn't a multiple of 16 and a lane is active;
-/// else where the element of the first active lane is refused, unless the load is non-faulting.
+/// Does a first-faulting or non-faulting load of the elements of a list, and says how the step goes on. The lanes of
+/// the list have to be the active lanes of the row in order, and its bytes and its sign have to be the row's. The
+/// elements that were loaded are logged in order. A trap changes no register. It comes where SP is the base, isn't a
+/// multiple of 16 and a lane is active; else where the element of the first active lane is refused, unless the load is
+/// non-faulting.
 pub fn exec(
     core: &mut Core,
     vec: &mut VecRegs,
@@ -37,11 +38,13 @@ pub fn exec(
     list: &ElementList,
 ) -> Effect
     requires own { is_first_fault i.now ≡ true }
-    requires lanes { let l = layout i.now core.old vec.old in lanes_of (listed l.register list.now) ≡ lanes_of (vector_elements i.now core.old vec.old) }
+    requires lanes { let l = layout i.now core.old vec.old in lanes_of (listed l.register list.now)
+        ≡ lanes_of (vector_elements i.now core.old vec.old) }
     requires bytes { let l = layout i.now core.old vec.old in list.now.bytes ≡ l.bytes }
     requires is_signed { list.now.signed ≡ loads_signed i.now }
     requires empty { log.old.items ≡ [] }
-    ensures { let l = layout i.now core.old vec.old in first_fault_of i.now (listed l.register list.now) core.old vec.old mem.old
+    ensures { let l = layout i.now core.old vec.old in
+        first_fault_of i.now (listed l.register list.now) core.old vec.old mem.old
         ≡ record { core = core.new; vectors = vec.new; memory = mem.new; accesses = log.new.items; effect = result } }
 {
     let row = row::row_of(i);

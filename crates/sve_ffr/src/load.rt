@@ -40,7 +40,8 @@ fn tests_sp(row: &Row, list: &ElementList) -> bool
 fn test_first(mem: &mut Mem, row: &Row, list: &ElementList) -> Result<(), Trap>
     requires some { 1 ≤ list.now.bytes }
     requires most { list.now.bytes ≤ 8 }
-    ensures result { let denied : Option ℕ = if row.now.is_non_fault then None else first_refused mem.old (listed row.now.register list.now) in
+    ensures result { let denied : Option ℕ = if row.now.is_non_fault then None
+        else first_refused mem.old (listed row.now.register list.now) in
         MatchResult result (λ x. denied ≡ None) (λ trap. (denied ≡ Some trap.address) × (trap.kind ≡ TrapKind.Read)) }
     ensures memory { mem.new ≡ mem.old }
 {
@@ -63,7 +64,8 @@ fn load(vec: &mut VecRegs, mem: &mut Mem, log: &mut AccessLog, row: &Row, list: 
     requires most { list.now.bytes ≤ 8 }
     requires lanes { AreFrom 0 (vec.old.bits / row.now.bits) (lanes_of (listed row.now.register list.now)) }
     requires empty { log.old.items ≡ [] }
-    ensures { (c : CoreState) → first_fault_loaded list.now.signed row.now.bits row.now.register (listed row.now.register list.now) c vec.old mem.old
+    ensures { (c : CoreState) → first_fault_loaded list.now.signed row.now.bits row.now.register
+        (listed row.now.register list.now) c vec.old mem.old
         ≡ record { core = c; vectors = vec.new; memory = mem.new; accesses = log.new.items; effect = Effect.Next } }
 {
     let lanes = vec.length().bits() / row.bits;

@@ -9,8 +9,8 @@ use element_loops::sizes::{dtype_bits, dtype_bytes, element_bytes, is_sp};
 use emu_bits::{Reg, U};
 use sve_insn::{Sve, SveForm};
 
-/// The bits of lanes, the bytes of elements, which bound those of a list, the register that is loaded, whether the base is SP, and
-/// whether no element traps.
+/// The bits of lanes, the bytes of elements, which bound those of a list, the register that is loaded, whether the base
+/// is SP, and whether no element traps.
 #[derive(Clone, Copy)]
 pub struct Row {
     pub bits: u32,
@@ -22,7 +22,13 @@ pub struct Row {
 
 /// A contiguous row.
 fn contiguous(dtype: U<4>, rn: Reg, zt: Reg, is_non_fault: bool) -> Row
-    ensures value { result ≡ record { bits = table.dtype_bits dtype; bytes = table.dtype_bytes dtype; register = zt; has_sp_base = nat_eq rn 31; is_non_fault = is_non_fault } }
+    ensures value { result ≡ record {
+      bits = table.dtype_bits dtype;
+      bytes = table.dtype_bytes dtype;
+      register = zt;
+      has_sp_base = nat_eq rn 31;
+      is_non_fault = is_non_fault;
+    } }
     ensures size { IsLaneSize result.bits }
     ensures some { 1 ≤ result.bytes }
     ensures most { result.bytes ≤ 8 }
@@ -39,7 +45,8 @@ fn contiguous(dtype: U<4>, rn: Reg, zt: Reg, is_non_fault: bool) -> Row
 /// A gather from a base register.
 fn from_base(bits: u32, msz: U<2>, rn: Reg, zt: Reg) -> Row
     requires { IsLaneSize bits }
-    ensures value { result ≡ record { bits = bits; bytes = 2 ^ msz; register = zt; has_sp_base = nat_eq rn 31; is_non_fault = false } }
+    ensures value { result
+        ≡ record { bits = bits; bytes = 2 ^ msz; register = zt; has_sp_base = nat_eq rn 31; is_non_fault = false } }
     ensures size { IsLaneSize result.bits }
     ensures some { 1 ≤ result.bytes }
     ensures most { result.bytes ≤ 8 }
@@ -56,7 +63,8 @@ fn from_base(bits: u32, msz: U<2>, rn: Reg, zt: Reg) -> Row
 /// A gather from the lanes of a vector register.
 fn at_vector(bits: u32, msz: U<2>, zt: Reg) -> Row
     requires { IsLaneSize bits }
-    ensures value { result ≡ record { bits = bits; bytes = 2 ^ msz; register = zt; has_sp_base = false; is_non_fault = false } }
+    ensures value { result
+        ≡ record { bits = bits; bytes = 2 ^ msz; register = zt; has_sp_base = false; is_non_fault = false } }
     ensures size { IsLaneSize result.bits }
     ensures some { 1 ≤ result.bytes }
     ensures most { result.bytes ≤ 8 }

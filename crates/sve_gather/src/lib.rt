@@ -5,7 +5,16 @@ mod plans;
 
 ghost use Rattle.std.specs.Prelude.{◌≡◌, [], true, false};
 ghost use Rattle.emu_model.specs.declared.trap.Effect.{Effect};
-ghost use Rattle.sve_effects.specs.Effects.{first_fault, layout, vector_elements, vector_load, vector_store, is_gather, is_scatter, loads_signed};
+ghost use Rattle.sve_effects.specs.Effects.{
+  first_fault,
+  layout,
+  vector_elements,
+  vector_load,
+  vector_store,
+  is_gather,
+  is_scatter,
+  loads_signed,
+};
 ghost use Rattle.element_loops.specs.Listed.{listed};
 ghost use Rattle.sve_gather.specs.Plans.{is_first_gather};
 
@@ -14,7 +23,8 @@ use guest_mem::{AccessLog, ElementList, Mem};
 use sve_insn::Sve;
 use vec_regs::VecRegs;
 
-/// Does a gather, and says how the step goes on. The elements that were loaded are logged in order. A trap changes no register.
+/// Does a gather, and says how the step goes on. The elements that were loaded are logged in order. A trap changes no
+/// register.
 #[tactic(auto, using(crate::specs::PlanLaws::gather_planned, crate::specs::PlanLaws::gathers))]
 pub fn load(core: &Core, vec: &mut VecRegs, mem: &mut Mem, log: &mut AccessLog, i: &Sve) -> Effect
     requires own { is_gather i.now ≡ true }
@@ -26,8 +36,8 @@ pub fn load(core: &Core, vec: &mut VecRegs, mem: &mut Mem, log: &mut AccessLog, 
     gather_loops::load(&plan, core, vec, mem, log)
 }
 
-/// Does a scatter, and says how the step goes on. The elements that were stored are logged in order; one that traps has stored
-/// and logged the elements before the one that was refused.
+/// Does a scatter, and says how the step goes on. The elements that were stored are logged in order; one that traps has
+/// stored and logged the elements before the one that was refused.
 #[tactic(auto, using(crate::specs::PlanLaws::scatter_planned, crate::specs::PlanLaws::scatters))]
 pub fn store(core: &Core, vec: &VecRegs, mem: &mut Mem, log: &mut AccessLog, i: &Sve) -> Effect
     requires own { is_scatter i.now ≡ true }
@@ -43,7 +53,8 @@ pub fn store(core: &Core, vec: &VecRegs, mem: &mut Mem, log: &mut AccessLog, i: 
 #[tactic(auto, using(crate::specs::PlanLaws::first_gathers, crate::specs::PlanLaws::first_planned, crate::specs::PlanLaws::first_signed, crate::specs::PlanLaws::first_bytes, crate::specs::PlanLaws::first_single))]
 pub fn elements(core: &Core, vec: &VecRegs, i: &Sve) -> ElementList
     requires { is_first_gather i.now ≡ true }
-    ensures elements { let l = layout i.now core.now vec.now in listed l.register result ≡ vector_elements i.now core.now vec.now }
+    ensures elements { let l = layout i.now core.now vec.now in listed l.register result
+        ≡ vector_elements i.now core.now vec.now }
     ensures bytes { let l = layout i.now core.now vec.now in result.bytes ≡ l.bytes }
     ensures is_signed { result.signed ≡ loads_signed i.now }
 {
@@ -62,8 +73,13 @@ pub fn load_unrefused(
 ) -> bool
     requires own { is_first_gather i.now ≡ true }
     requires empty { log.old.items ≡ [] }
-    ensures loaded { result ≡ true → first_fault i.now core.now vec.old mem.old
-        ≡ record { core = core.now; vectors = vec.new; memory = mem.new; accesses = log.new.items; effect = Effect.Next } }
+    ensures loaded { result ≡ true → first_fault i.now core.now vec.old mem.old ≡ record {
+      core = core.now;
+      vectors = vec.new;
+      memory = mem.new;
+      accesses = log.new.items;
+      effect = Effect.Next;
+    } }
     ensures kept { result ≡ false → vec.new ≡ vec.old }
     ensures unlogged { result ≡ false → log.new.items ≡ [] }
     ensures memory { mem.new ≡ mem.old }

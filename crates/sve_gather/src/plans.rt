@@ -85,22 +85,38 @@ pub(crate) fn plan(core: &Core, vec: &VecRegs, i: &Sve) -> Plan
     ensures value { result ≡ table.plan_of i.now core.now vec.now }
 {
     match *i.form() {
-        SveForm::GatherSx { msz, xs, zm, u, pg, rn, zt, .. } => scattered(vec, 32, msz, pg, zt, words(core, rn, xs, zm, 1), !u, is_sp(rn)),
-        SveForm::GatherSxScaled { msz, xs, zm, u, pg, rn, zt, .. } => scattered(vec, 32, msz, pg, zt, words(core, rn, xs, zm, element_bytes(msz)), !u, is_sp(rn)),
-        SveForm::GatherDx { msz, xs, zm, u, pg, rn, zt, .. } => scattered(vec, 64, msz, pg, zt, words(core, rn, xs, zm, 1), !u, is_sp(rn)),
-        SveForm::GatherDxScaled { msz, xs, zm, u, pg, rn, zt, .. } => scattered(vec, 64, msz, pg, zt, words(core, rn, xs, zm, element_bytes(msz)), !u, is_sp(rn)),
-        SveForm::GatherD { msz, zm, u, pg, rn, zt, .. } => scattered(vec, 64, msz, pg, zt, offsets(core, rn, zm, 1), !u, is_sp(rn)),
-        SveForm::GatherDScaled { msz, zm, u, pg, rn, zt, .. } => scattered(vec, 64, msz, pg, zt, offsets(core, rn, zm, element_bytes(msz)), !u, is_sp(rn)),
-        SveForm::GatherSv { msz, imm5, u, pg, zn, zt, .. } => scattered(vec, 32, msz, pg, zt, vector(zn, imm5, msz), !u, false),
-        SveForm::GatherDv { msz, imm5, u, pg, zn, zt, .. } => scattered(vec, 64, msz, pg, zt, vector(zn, imm5, msz), !u, false),
-        SveForm::ScatterSx { msz, zm, xs, pg, rn, zt } => scattered(vec, 32, msz, pg, zt, words(core, rn, xs, zm, 1), false, is_sp(rn)),
-        SveForm::ScatterSxScaled { msz, zm, xs, pg, rn, zt } => scattered(vec, 32, msz, pg, zt, words(core, rn, xs, zm, element_bytes(msz)), false, is_sp(rn)),
-        SveForm::ScatterDx { msz, zm, xs, pg, rn, zt } => scattered(vec, 64, msz, pg, zt, words(core, rn, xs, zm, 1), false, is_sp(rn)),
-        SveForm::ScatterDxScaled { msz, zm, xs, pg, rn, zt } => scattered(vec, 64, msz, pg, zt, words(core, rn, xs, zm, element_bytes(msz)), false, is_sp(rn)),
-        SveForm::ScatterD { msz, zm, pg, rn, zt } => scattered(vec, 64, msz, pg, zt, offsets(core, rn, zm, 1), false, is_sp(rn)),
-        SveForm::ScatterDScaled { msz, zm, pg, rn, zt } => scattered(vec, 64, msz, pg, zt, offsets(core, rn, zm, element_bytes(msz)), false, is_sp(rn)),
-        SveForm::ScatterSv { msz, imm5, pg, zn, zt } => scattered(vec, 32, msz, pg, zt, vector(zn, imm5, msz), false, false),
-        SveForm::ScatterDv { msz, imm5, pg, zn, zt } => scattered(vec, 64, msz, pg, zt, vector(zn, imm5, msz), false, false),
+        SveForm::GatherSx { msz, xs, zm, u, pg, rn, zt, .. } =>
+            scattered(vec, 32, msz, pg, zt, words(core, rn, xs, zm, 1), !u, is_sp(rn)),
+        SveForm::GatherSxScaled { msz, xs, zm, u, pg, rn, zt, .. } =>
+            scattered(vec, 32, msz, pg, zt, words(core, rn, xs, zm, element_bytes(msz)), !u, is_sp(rn)),
+        SveForm::GatherDx { msz, xs, zm, u, pg, rn, zt, .. } =>
+            scattered(vec, 64, msz, pg, zt, words(core, rn, xs, zm, 1), !u, is_sp(rn)),
+        SveForm::GatherDxScaled { msz, xs, zm, u, pg, rn, zt, .. } =>
+            scattered(vec, 64, msz, pg, zt, words(core, rn, xs, zm, element_bytes(msz)), !u, is_sp(rn)),
+        SveForm::GatherD { msz, zm, u, pg, rn, zt, .. } =>
+            scattered(vec, 64, msz, pg, zt, offsets(core, rn, zm, 1), !u, is_sp(rn)),
+        SveForm::GatherDScaled { msz, zm, u, pg, rn, zt, .. } =>
+            scattered(vec, 64, msz, pg, zt, offsets(core, rn, zm, element_bytes(msz)), !u, is_sp(rn)),
+        SveForm::GatherSv { msz, imm5, u, pg, zn, zt, .. } =>
+            scattered(vec, 32, msz, pg, zt, vector(zn, imm5, msz), !u, false),
+        SveForm::GatherDv { msz, imm5, u, pg, zn, zt, .. } =>
+            scattered(vec, 64, msz, pg, zt, vector(zn, imm5, msz), !u, false),
+        SveForm::ScatterSx { msz, zm, xs, pg, rn, zt } =>
+            scattered(vec, 32, msz, pg, zt, words(core, rn, xs, zm, 1), false, is_sp(rn)),
+        SveForm::ScatterSxScaled { msz, zm, xs, pg, rn, zt } =>
+            scattered(vec, 32, msz, pg, zt, words(core, rn, xs, zm, element_bytes(msz)), false, is_sp(rn)),
+        SveForm::ScatterDx { msz, zm, xs, pg, rn, zt } =>
+            scattered(vec, 64, msz, pg, zt, words(core, rn, xs, zm, 1), false, is_sp(rn)),
+        SveForm::ScatterDxScaled { msz, zm, xs, pg, rn, zt } =>
+            scattered(vec, 64, msz, pg, zt, words(core, rn, xs, zm, element_bytes(msz)), false, is_sp(rn)),
+        SveForm::ScatterD { msz, zm, pg, rn, zt } =>
+            scattered(vec, 64, msz, pg, zt, offsets(core, rn, zm, 1), false, is_sp(rn)),
+        SveForm::ScatterDScaled { msz, zm, pg, rn, zt } =>
+            scattered(vec, 64, msz, pg, zt, offsets(core, rn, zm, element_bytes(msz)), false, is_sp(rn)),
+        SveForm::ScatterSv { msz, imm5, pg, zn, zt } =>
+            scattered(vec, 32, msz, pg, zt, vector(zn, imm5, msz), false, false),
+        SveForm::ScatterDv { msz, imm5, pg, zn, zt } =>
+            scattered(vec, 64, msz, pg, zt, vector(zn, imm5, msz), false, false),
         _ => unreachable!(),
     }
 }

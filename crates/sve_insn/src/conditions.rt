@@ -2,22 +2,35 @@
 ghost use Rattle.std.specs.Prelude.{◌≡◌};
 ghost use Rattle.emu_bits.specs.Fields.{bit};
 ghost use Rattle.sve_insn.specs.Numbers.{binary_number, reduce_number, unary_number, write_ffr_number};
-ghost use Rattle.sve_insn.specs.Conditions.{is_no_byte, is_no_doubleword, is_word_or_doubleword, is_halfword_or_word, binary_holds_for, has_tsz, unary_least_size, unary_holds_for, shifts_no_byte, has_bitmask, reduce_holds_for, has_lane_size, break_first_holds_for, write_ffr_holds_for, is_register, fits_lane, store_reg_holds_for, extends_to_word, extends_to_doubleword, gather_word_holds_for, gather_scaled_word_holds_for, gather_scaled_doubleword_holds_for};
+ghost use Rattle.sve_insn.specs.Conditions.{
+  is_no_byte,
+  is_no_doubleword,
+  is_word_or_doubleword,
+  is_halfword_or_word,
+  binary_holds_for,
+  has_tsz,
+  unary_least_size,
+  unary_holds_for,
+  shifts_no_byte,
+  has_bitmask,
+  reduce_holds_for,
+  has_lane_size,
+  break_first_holds_for,
+  write_ffr_holds_for,
+  is_register,
+  fits_lane,
+  store_reg_holds_for,
+  extends_to_word,
+  extends_to_doubleword,
+  gather_word_holds_for,
+  gather_scaled_word_holds_for,
+  gather_scaled_doubleword_holds_for,
+};
 ghost use Rattle.sve_insn.specs.Rows.{meets_form};
 
 use crate::form::SveForm;
 use crate::ops::{BinaryOp, ReduceOp, UnaryOp, WriteFfrOp};
-use emu_bits::{Pred, Reg, U, bitmask};
-
-/// The condition of each line that has one, over the fields that it reads; other lines have none.
-macro_rules! condition_of {
-    ($form:ident: $($($line:ident)*: $fields:tt => $holds:expr;)*) => {
-        match *$form {
-            $($(SveForm::$line $fields => $holds,)*)*
-            _ => true,
-        }
-    };
-}
+use emu_bits::{Pred, Reg, U, bitmask, condition_of};
 
 /// Whether a form meets its line's condition. It is inlined where a form is made, so that just its own line's condition
 /// is tested.
@@ -26,7 +39,7 @@ macro_rules! condition_of {
 pub fn meets(form: &SveForm) -> bool
     ensures { result ≡ meets_form form.now }
 {
-    condition_of!(form:
+    condition_of!(SveForm, form:
         Binary: { op, size, .. } => binary_holds(op, size);
         BinaryWide PlainWide CmpWide: { size, .. } => is_no_doubleword(size);
         ShiftImm PlainShift: { tszh, tszl, .. } => has_tsz(tszh, tszl);

@@ -1,8 +1,35 @@
 //! The names of folds, counts and permutes with their base words, which have all fields 0.
 ghost use Rattle.std.specs.Prelude.{◌≡◌, ◌<◌, Some, None, MatchOption, get_or, length};
 ghost use Rattle.emu_bits.specs.Rows.{number_of};
-ghost use Rattle.sve_insn.specs.Folds.{reduce, inc_x, inc_z, sat_x, sat_z, add_length, insert_scalar, unpack, interleave, interleave_p, unpack_p, copy_reg, last_active, cond_last};
-ghost use Rattle.sve_insn.specs.Numbers.{add_length_number, cond_last_number, copy_reg_number, inc_number, insert_number, interleave_number, last_number, reduce_number, sat_number, unpack_number, unpack_p_number};
+ghost use Rattle.sve_insn.specs.Folds.{
+  reduce,
+  inc_x,
+  inc_z,
+  sat_x,
+  sat_z,
+  add_length,
+  insert_scalar,
+  unpack,
+  interleave,
+  interleave_p,
+  unpack_p,
+  copy_reg,
+  last_active,
+  cond_last,
+};
+ghost use Rattle.sve_insn.specs.Numbers.{
+  add_length_number,
+  cond_last_number,
+  copy_reg_number,
+  inc_number,
+  insert_number,
+  interleave_number,
+  last_number,
+  reduce_number,
+  sat_number,
+  unpack_number,
+  unpack_p_number,
+};
 
 use crate::ops::{
     AddLengthOp, CondLastOp, CopyRegOp, IncOp, InsertOp, InterleaveOp, LastOp, ReduceOp, SatOp,
@@ -13,7 +40,8 @@ use emu_bits::Word;
 /// The name that has this base word in the line of `Reduce`.
 #[tactic(auto, unfolding(crate::specs::Folds::reduce))]
 pub fn reduce_op(word: u32) -> Option<ReduceOp>
-    ensures { MatchOption result (number_of word reduce.words ≡ None) (λ op. number_of word reduce.words ≡ Some (reduce_number op)) }
+    ensures { MatchOption result (number_of word reduce.words ≡ None)
+        (λ op. number_of word reduce.words ≡ Some (reduce_number op)) }
 {
     match word {
         0x0400_2000 => Some(ReduceOp::Saddv),
@@ -52,7 +80,8 @@ pub fn reduce_word(op: ReduceOp) -> Word
 /// The name that has this base word in the line of `IncX`.
 #[tactic(auto, unfolding(crate::specs::Folds::inc_x))]
 pub fn inc_x_op(word: u32) -> Option<IncOp>
-    ensures { MatchOption result (number_of word inc_x.words ≡ None) (λ op. number_of word inc_x.words ≡ Some (inc_number op)) }
+    ensures { MatchOption result (number_of word inc_x.words ≡ None)
+        (λ op. number_of word inc_x.words ≡ Some (inc_number op)) }
 {
     match word {
         0x0430_e000 => Some(IncOp::Inc),
@@ -77,7 +106,8 @@ pub fn inc_x_word(op: IncOp) -> Word
 /// The name that has this base word in the line of `IncZ`.
 #[tactic(auto, unfolding(crate::specs::Folds::inc_z))]
 pub fn inc_z_op(word: u32) -> Option<IncOp>
-    ensures { MatchOption result (number_of word inc_z.words ≡ None) (λ op. number_of word inc_z.words ≡ Some (inc_number op)) }
+    ensures { MatchOption result (number_of word inc_z.words ≡ None)
+        (λ op. number_of word inc_z.words ≡ Some (inc_number op)) }
 {
     match word {
         0x0430_c000 => Some(IncOp::Inc),
@@ -102,7 +132,8 @@ pub fn inc_z_word(op: IncOp) -> Word
 /// The name that has this base word in the line of `SatX`.
 #[tactic(auto, unfolding(crate::specs::Folds::sat_x))]
 pub fn sat_x_op(word: u32) -> Option<SatOp>
-    ensures { MatchOption result (number_of word sat_x.words ≡ None) (λ op. number_of word sat_x.words ≡ Some (sat_number op)) }
+    ensures { MatchOption result (number_of word sat_x.words ≡ None)
+        (λ op. number_of word sat_x.words ≡ Some (sat_number op)) }
 {
     match word {
         0x0420_f000 => Some(SatOp::Sqinc),
@@ -131,7 +162,8 @@ pub fn sat_x_word(op: SatOp) -> Word
 /// The name that has this base word in the line of `SatZ`.
 #[tactic(auto, unfolding(crate::specs::Folds::sat_z))]
 pub fn sat_z_op(word: u32) -> Option<SatOp>
-    ensures { MatchOption result (number_of word sat_z.words ≡ None) (λ op. number_of word sat_z.words ≡ Some (sat_number op)) }
+    ensures { MatchOption result (number_of word sat_z.words ≡ None)
+        (λ op. number_of word sat_z.words ≡ Some (sat_number op)) }
 {
     match word {
         0x0420_c000 => Some(SatOp::Sqinc),
@@ -160,7 +192,8 @@ pub fn sat_z_word(op: SatOp) -> Word
 /// The name that has this base word in the line of `AddLength`.
 #[tactic(auto, unfolding(crate::specs::Folds::add_length))]
 pub fn add_length_op(word: u32) -> Option<AddLengthOp>
-    ensures { MatchOption result (number_of word add_length.words ≡ None) (λ op. number_of word add_length.words ≡ Some (add_length_number op)) }
+    ensures { MatchOption result (number_of word add_length.words ≡ None)
+        (λ op. number_of word add_length.words ≡ Some (add_length_number op)) }
 {
     match word {
         0x0420_5000 => Some(AddLengthOp::Addvl),
@@ -185,7 +218,8 @@ pub fn add_length_word(op: AddLengthOp) -> Word
 /// The name that has this base word in the line of `Insert`.
 #[tactic(auto, unfolding(crate::specs::Folds::insert_scalar))]
 pub fn insert_scalar_op(word: u32) -> Option<InsertOp>
-    ensures { MatchOption result (number_of word insert_scalar.words ≡ None) (λ op. number_of word insert_scalar.words ≡ Some (insert_number op)) }
+    ensures { MatchOption result (number_of word insert_scalar.words ≡ None)
+        (λ op. number_of word insert_scalar.words ≡ Some (insert_number op)) }
 {
     match word {
         0x0524_3800 => Some(InsertOp::InsrR),
@@ -210,7 +244,8 @@ pub fn insert_scalar_word(op: InsertOp) -> Word
 /// The name that has this base word in the line of `Unpack`.
 #[tactic(auto, unfolding(crate::specs::Folds::unpack))]
 pub fn unpack_op(word: u32) -> Option<UnpackOp>
-    ensures { MatchOption result (number_of word unpack.words ≡ None) (λ op. number_of word unpack.words ≡ Some (unpack_number op)) }
+    ensures { MatchOption result (number_of word unpack.words ≡ None)
+        (λ op. number_of word unpack.words ≡ Some (unpack_number op)) }
 {
     match word {
         0x0530_3800 => Some(UnpackOp::Sunpklo),
@@ -239,7 +274,8 @@ pub fn unpack_word(op: UnpackOp) -> Word
 /// The name that has this base word in the line of `Interleave`.
 #[tactic(auto, unfolding(crate::specs::Folds::interleave))]
 pub fn interleave_op(word: u32) -> Option<InterleaveOp>
-    ensures { MatchOption result (number_of word interleave.words ≡ None) (λ op. number_of word interleave.words ≡ Some (interleave_number op)) }
+    ensures { MatchOption result (number_of word interleave.words ≡ None)
+        (λ op. number_of word interleave.words ≡ Some (interleave_number op)) }
 {
     match word {
         0x0520_6000 => Some(InterleaveOp::Zip1),
@@ -272,7 +308,8 @@ pub fn interleave_word(op: InterleaveOp) -> Word
 /// The name that has this base word in the line of `InterleaveP`.
 #[tactic(auto, unfolding(crate::specs::Folds::interleave_p))]
 pub fn interleave_p_op(word: u32) -> Option<InterleaveOp>
-    ensures { MatchOption result (number_of word interleave_p.words ≡ None) (λ op. number_of word interleave_p.words ≡ Some (interleave_number op)) }
+    ensures { MatchOption result (number_of word interleave_p.words ≡ None)
+        (λ op. number_of word interleave_p.words ≡ Some (interleave_number op)) }
 {
     match word {
         0x0520_4000 => Some(InterleaveOp::Zip1),
@@ -305,7 +342,8 @@ pub fn interleave_p_word(op: InterleaveOp) -> Word
 /// The name that has this base word in the line of `UnpackP`.
 #[tactic(auto, unfolding(crate::specs::Folds::unpack_p))]
 pub fn unpack_p_op(word: u32) -> Option<UnpackPOp>
-    ensures { MatchOption result (number_of word unpack_p.words ≡ None) (λ op. number_of word unpack_p.words ≡ Some (unpack_p_number op)) }
+    ensures { MatchOption result (number_of word unpack_p.words ≡ None)
+        (λ op. number_of word unpack_p.words ≡ Some (unpack_p_number op)) }
 {
     match word {
         0x0530_4000 => Some(UnpackPOp::Punpklo),
@@ -330,7 +368,8 @@ pub fn unpack_p_word(op: UnpackPOp) -> Word
 /// The name that has this base word in the line of `CopyReg`.
 #[tactic(auto, unfolding(crate::specs::Folds::copy_reg))]
 pub fn copy_reg_op(word: u32) -> Option<CopyRegOp>
-    ensures { MatchOption result (number_of word copy_reg.words ≡ None) (λ op. number_of word copy_reg.words ≡ Some (copy_reg_number op)) }
+    ensures { MatchOption result (number_of word copy_reg.words ≡ None)
+        (λ op. number_of word copy_reg.words ≡ Some (copy_reg_number op)) }
 {
     match word {
         0x0528_a000 => Some(CopyRegOp::CpyR),
@@ -355,7 +394,8 @@ pub fn copy_reg_word(op: CopyRegOp) -> Word
 /// The name that has this base word in the line of `Last`.
 #[tactic(auto, unfolding(crate::specs::Folds::last_active))]
 pub fn last_active_op(word: u32) -> Option<LastOp>
-    ensures { MatchOption result (number_of word last_active.words ≡ None) (λ op. number_of word last_active.words ≡ Some (last_number op)) }
+    ensures { MatchOption result (number_of word last_active.words ≡ None)
+        (λ op. number_of word last_active.words ≡ Some (last_number op)) }
 {
     match word {
         0x0520_a000 => Some(LastOp::LastaR),
@@ -384,7 +424,8 @@ pub fn last_active_word(op: LastOp) -> Word
 /// The name that has this base word in the line of `CondLast`.
 #[tactic(auto, unfolding(crate::specs::Folds::cond_last))]
 pub fn cond_last_op(word: u32) -> Option<CondLastOp>
-    ensures { MatchOption result (number_of word cond_last.words ≡ None) (λ op. number_of word cond_last.words ≡ Some (cond_last_number op)) }
+    ensures { MatchOption result (number_of word cond_last.words ≡ None)
+        (λ op. number_of word cond_last.words ≡ Some (cond_last_number op)) }
 {
     match word {
         0x0530_a000 => Some(CondLastOp::ClastaR),

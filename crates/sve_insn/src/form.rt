@@ -15,13 +15,14 @@ use std::marker::Model;
 
 /// An instruction's form: the line of the table and the raw bits of its fields, highest first.
 ///
-/// Lanes have 8·2^size bits: size is 0 b, 1 h, 2 s, 3 d, and T in the operands is that letter. zd, zdn, zda, zt, zn, zm and
-/// za are vector registers, vd the low lane of one, pd, pdn, pdm, pt, pn and pm predicates, rd, rdn, rn and rm general
-/// registers. A lane is active where its bit of the governing predicate pg is set; /m keeps the other lanes, /z makes them 0.
-/// A pattern is 0 pow2, 1 to 8 vl1 to vl8, 9 to 13 vl16 to vl256, 29 mul4, 30 mul3, 31 all; others count no lane.
+/// Lanes have 8·2^size bits: size is 0 b, 1 h, 2 s, 3 d, and T in the operands is that letter. zd, zdn, zda, zt, zn, zm
+/// and za are vector registers, vd the low lane of one, pd, pdn, pdm, pt, pn and pm predicates, rd, rdn, rn and rm
+/// general registers. A lane is active where its bit of the governing predicate pg is set; /m keeps the other lanes, /z
+/// makes them 0. A pattern is 0 pow2, 1 to 8 vl1 to vl8, 9 to 13 vl16 to vl256, 29 mul4, 30 mul3, 31 all; others count
+/// no lane.
 ///
-/// Elements of memory have 2^msz bytes, #s is msz, and Xn is rn, whose number 31 is SP. In gathers u is true where the sign
-/// isn't extended, and ff in first-faulting ones (`ldff1`).
+/// Elements of memory have 2^msz bytes, #s is msz, and Xn is rn, whose number 31 is SP. In gathers u is true where the
+/// sign isn't extended, and ff in first-faulting ones (`ldff1`).
 #[derive(Clone, Copy)]
 #[rattlefmt::skip]
 pub enum SveForm {

@@ -1,8 +1,40 @@
 //! The names of results lane by lane with their base words, which have all fields 0.
 ghost use Rattle.std.specs.Prelude.{◌≡◌, ◌<◌, Some, None, MatchOption, get_or, length};
 ghost use Rattle.emu_bits.specs.Rows.{number_of};
-ghost use Rattle.sve_insn.specs.Lanes.{binary, binary_wide, shift_imm, unary, mul_add_z, mul_add_d, plain, logic_z, plain_wide, plain_shift, index_z, dot, dot_indexed, wide_imm, min_max_imm, bitmask_z};
-ghost use Rattle.sve_insn.specs.Numbers.{binary_number, bitmask_z_number, dot_number, dot_indexed_number, index_number, logic_z_number, min_max_imm_number, mul_add_d_number, mul_add_z_number, plain_number, shift_number, shift_imm_number, unary_number, wide_imm_number};
+ghost use Rattle.sve_insn.specs.Lanes.{
+  binary,
+  binary_wide,
+  shift_imm,
+  unary,
+  mul_add_z,
+  mul_add_d,
+  plain,
+  logic_z,
+  plain_wide,
+  plain_shift,
+  index_z,
+  dot,
+  dot_indexed,
+  wide_imm,
+  min_max_imm,
+  bitmask_z,
+};
+ghost use Rattle.sve_insn.specs.Numbers.{
+  binary_number,
+  bitmask_z_number,
+  dot_number,
+  dot_indexed_number,
+  index_number,
+  logic_z_number,
+  min_max_imm_number,
+  mul_add_d_number,
+  mul_add_z_number,
+  plain_number,
+  shift_number,
+  shift_imm_number,
+  unary_number,
+  wide_imm_number,
+};
 
 use crate::ops::{
     BinaryOp, BitmaskZOp, DotIndexedOp, DotOp, IndexOp, LogicZOp, MinMaxImmOp, MulAddDOp,
@@ -13,7 +45,8 @@ use emu_bits::Word;
 /// The name that has this base word in the line of `Binary`.
 #[tactic(auto, unfolding(crate::specs::Lanes::binary))]
 pub fn binary_op(word: u32) -> Option<BinaryOp>
-    ensures { MatchOption result (number_of word binary.words ≡ None) (λ op. number_of word binary.words ≡ Some (binary_number op)) }
+    ensures { MatchOption result (number_of word binary.words ≡ None)
+        (λ op. number_of word binary.words ≡ Some (binary_number op)) }
 {
     match word {
         0x0400_0000 => Some(BinaryOp::Add),
@@ -86,7 +119,8 @@ pub fn binary_word(op: BinaryOp) -> Word
 /// The name that has this base word in the line of `BinaryWide`.
 #[tactic(auto, unfolding(crate::specs::Lanes::binary_wide))]
 pub fn binary_wide_op(word: u32) -> Option<ShiftOp>
-    ensures { MatchOption result (number_of word binary_wide.words ≡ None) (λ op. number_of word binary_wide.words ≡ Some (shift_number op)) }
+    ensures { MatchOption result (number_of word binary_wide.words ≡ None)
+        (λ op. number_of word binary_wide.words ≡ Some (shift_number op)) }
 {
     match word {
         0x0418_8000 => Some(ShiftOp::Asr),
@@ -113,7 +147,8 @@ pub fn binary_wide_word(op: ShiftOp) -> Word
 /// The name that has this base word in the line of `ShiftImm`.
 #[tactic(auto, unfolding(crate::specs::Lanes::shift_imm))]
 pub fn shift_imm_op(word: u32) -> Option<ShiftImmOp>
-    ensures { MatchOption result (number_of word shift_imm.words ≡ None) (λ op. number_of word shift_imm.words ≡ Some (shift_imm_number op)) }
+    ensures { MatchOption result (number_of word shift_imm.words ≡ None)
+        (λ op. number_of word shift_imm.words ≡ Some (shift_imm_number op)) }
 {
     match word {
         0x0400_8000 => Some(ShiftImmOp::Asr),
@@ -142,7 +177,8 @@ pub fn shift_imm_word(op: ShiftImmOp) -> Word
 /// The name that has this base word in the line of `Unary`.
 #[tactic(auto, unfolding(crate::specs::Lanes::unary))]
 pub fn unary_op(word: u32) -> Option<UnaryOp>
-    ensures { MatchOption result (number_of word unary.words ≡ None) (λ op. number_of word unary.words ≡ Some (unary_number op)) }
+    ensures { MatchOption result (number_of word unary.words ≡ None)
+        (λ op. number_of word unary.words ≡ Some (unary_number op)) }
 {
     match word {
         0x0410_a000 => Some(UnaryOp::Sxtb),
@@ -197,7 +233,8 @@ pub fn unary_word(op: UnaryOp) -> Word
 /// The name that has this base word in the line of `MulAddZ`.
 #[tactic(auto, unfolding(crate::specs::Lanes::mul_add_z))]
 pub fn mul_add_z_op(word: u32) -> Option<MulAddZOp>
-    ensures { MatchOption result (number_of word mul_add_z.words ≡ None) (λ op. number_of word mul_add_z.words ≡ Some (mul_add_z_number op)) }
+    ensures { MatchOption result (number_of word mul_add_z.words ≡ None)
+        (λ op. number_of word mul_add_z.words ≡ Some (mul_add_z_number op)) }
 {
     match word {
         0x0400_4000 => Some(MulAddZOp::Mla),
@@ -222,7 +259,8 @@ pub fn mul_add_z_word(op: MulAddZOp) -> Word
 /// The name that has this base word in the line of `MulAddD`.
 #[tactic(auto, unfolding(crate::specs::Lanes::mul_add_d))]
 pub fn mul_add_d_op(word: u32) -> Option<MulAddDOp>
-    ensures { MatchOption result (number_of word mul_add_d.words ≡ None) (λ op. number_of word mul_add_d.words ≡ Some (mul_add_d_number op)) }
+    ensures { MatchOption result (number_of word mul_add_d.words ≡ None)
+        (λ op. number_of word mul_add_d.words ≡ Some (mul_add_d_number op)) }
 {
     match word {
         0x0400_c000 => Some(MulAddDOp::Mad),
@@ -247,7 +285,8 @@ pub fn mul_add_d_word(op: MulAddDOp) -> Word
 /// The name that has this base word in the line of `Plain`.
 #[tactic(auto, unfolding(crate::specs::Lanes::plain))]
 pub fn plain_op(word: u32) -> Option<PlainOp>
-    ensures { MatchOption result (number_of word plain.words ≡ None) (λ op. number_of word plain.words ≡ Some (plain_number op)) }
+    ensures { MatchOption result (number_of word plain.words ≡ None)
+        (λ op. number_of word plain.words ≡ Some (plain_number op)) }
 {
     match word {
         0x0420_0000 => Some(PlainOp::Add),
@@ -280,7 +319,8 @@ pub fn plain_word(op: PlainOp) -> Word
 /// The name that has this base word in the line of `LogicZ`.
 #[tactic(auto, unfolding(crate::specs::Lanes::logic_z))]
 pub fn logic_z_op(word: u32) -> Option<LogicZOp>
-    ensures { MatchOption result (number_of word logic_z.words ≡ None) (λ op. number_of word logic_z.words ≡ Some (logic_z_number op)) }
+    ensures { MatchOption result (number_of word logic_z.words ≡ None)
+        (λ op. number_of word logic_z.words ≡ Some (logic_z_number op)) }
 {
     match word {
         0x0420_3000 => Some(LogicZOp::And),
@@ -309,7 +349,8 @@ pub fn logic_z_word(op: LogicZOp) -> Word
 /// The name that has this base word in the line of `PlainWide`.
 #[tactic(auto, unfolding(crate::specs::Lanes::plain_wide))]
 pub fn plain_wide_op(word: u32) -> Option<ShiftOp>
-    ensures { MatchOption result (number_of word plain_wide.words ≡ None) (λ op. number_of word plain_wide.words ≡ Some (shift_number op)) }
+    ensures { MatchOption result (number_of word plain_wide.words ≡ None)
+        (λ op. number_of word plain_wide.words ≡ Some (shift_number op)) }
 {
     match word {
         0x0420_8000 => Some(ShiftOp::Asr),
@@ -336,7 +377,8 @@ pub fn plain_wide_word(op: ShiftOp) -> Word
 /// The name that has this base word in the line of `PlainShift`.
 #[tactic(auto, unfolding(crate::specs::Lanes::plain_shift))]
 pub fn plain_shift_op(word: u32) -> Option<ShiftOp>
-    ensures { MatchOption result (number_of word plain_shift.words ≡ None) (λ op. number_of word plain_shift.words ≡ Some (shift_number op)) }
+    ensures { MatchOption result (number_of word plain_shift.words ≡ None)
+        (λ op. number_of word plain_shift.words ≡ Some (shift_number op)) }
 {
     match word {
         0x0420_9000 => Some(ShiftOp::Asr),
@@ -363,7 +405,8 @@ pub fn plain_shift_word(op: ShiftOp) -> Word
 /// The name that has this base word in the line of `Index`.
 #[tactic(auto, unfolding(crate::specs::Lanes::index_z))]
 pub fn index_z_op(word: u32) -> Option<IndexOp>
-    ensures { MatchOption result (number_of word index_z.words ≡ None) (λ op. number_of word index_z.words ≡ Some (index_number op)) }
+    ensures { MatchOption result (number_of word index_z.words ≡ None)
+        (λ op. number_of word index_z.words ≡ Some (index_number op)) }
 {
     match word {
         0x0420_4000 => Some(IndexOp::ImmImm),
@@ -392,7 +435,8 @@ pub fn index_z_word(op: IndexOp) -> Word
 /// The name that has this base word in the line of `Dot`.
 #[tactic(auto, unfolding(crate::specs::Lanes::dot))]
 pub fn dot_op(word: u32) -> Option<DotOp>
-    ensures { MatchOption result (number_of word dot.words ≡ None) (λ op. number_of word dot.words ≡ Some (dot_number op)) }
+    ensures { MatchOption result (number_of word dot.words ≡ None)
+        (λ op. number_of word dot.words ≡ Some (dot_number op)) }
 {
     match word {
         0x4400_0000 => Some(DotOp::Sdot),
@@ -417,7 +461,8 @@ pub fn dot_word(op: DotOp) -> Word
 /// The name that has this base word in the line of `DotIndexed`.
 #[tactic(auto, unfolding(crate::specs::Lanes::dot_indexed))]
 pub fn dot_indexed_op(word: u32) -> Option<DotIndexedOp>
-    ensures { MatchOption result (number_of word dot_indexed.words ≡ None) (λ op. number_of word dot_indexed.words ≡ Some (dot_indexed_number op)) }
+    ensures { MatchOption result (number_of word dot_indexed.words ≡ None)
+        (λ op. number_of word dot_indexed.words ≡ Some (dot_indexed_number op)) }
 {
     match word {
         0x44a0_0000 => Some(DotIndexedOp::SdotS),
@@ -446,7 +491,8 @@ pub fn dot_indexed_word(op: DotIndexedOp) -> Word
 /// The name that has this base word in the line of `WideImm`.
 #[tactic(auto, unfolding(crate::specs::Lanes::wide_imm))]
 pub fn wide_imm_op(word: u32) -> Option<WideImmOp>
-    ensures { MatchOption result (number_of word wide_imm.words ≡ None) (λ op. number_of word wide_imm.words ≡ Some (wide_imm_number op)) }
+    ensures { MatchOption result (number_of word wide_imm.words ≡ None)
+        (λ op. number_of word wide_imm.words ≡ Some (wide_imm_number op)) }
 {
     match word {
         0x2520_c000 => Some(WideImmOp::Add),
@@ -481,7 +527,8 @@ pub fn wide_imm_word(op: WideImmOp) -> Word
 /// The name that has this base word in the line of `MinMaxImm`.
 #[tactic(auto, unfolding(crate::specs::Lanes::min_max_imm))]
 pub fn min_max_imm_op(word: u32) -> Option<MinMaxImmOp>
-    ensures { MatchOption result (number_of word min_max_imm.words ≡ None) (λ op. number_of word min_max_imm.words ≡ Some (min_max_imm_number op)) }
+    ensures { MatchOption result (number_of word min_max_imm.words ≡ None)
+        (λ op. number_of word min_max_imm.words ≡ Some (min_max_imm_number op)) }
 {
     match word {
         0x2528_c000 => Some(MinMaxImmOp::Smax),
@@ -512,7 +559,8 @@ pub fn min_max_imm_word(op: MinMaxImmOp) -> Word
 /// The name that has this base word in the line of `BitmaskZ`.
 #[tactic(auto, unfolding(crate::specs::Lanes::bitmask_z))]
 pub fn bitmask_z_op(word: u32) -> Option<BitmaskZOp>
-    ensures { MatchOption result (number_of word bitmask_z.words ≡ None) (λ op. number_of word bitmask_z.words ≡ Some (bitmask_z_number op)) }
+    ensures { MatchOption result (number_of word bitmask_z.words ≡ None)
+        (λ op. number_of word bitmask_z.words ≡ Some (bitmask_z_number op)) }
 {
     match word {
         0x0500_0000 => Some(BitmaskZOp::Orr),

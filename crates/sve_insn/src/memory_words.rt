@@ -10,7 +10,8 @@ use emu_bits::Word;
 /// The name that has this base word in the line of `LoadManyImm`.
 #[tactic(auto, unfolding(crate::specs::Memory::load_many_imm))]
 pub fn load_many_imm_op(word: u32) -> Option<LoadManyOp>
-    ensures { MatchOption result (number_of word load_many_imm.words ≡ None) (λ op. number_of word load_many_imm.words ≡ Some (load_many_number op)) }
+    ensures { MatchOption result (number_of word load_many_imm.words ≡ None)
+        (λ op. number_of word load_many_imm.words ≡ Some (load_many_number op)) }
 {
     match word {
         0xa420_e000 => Some(LoadManyOp::Ld2),
@@ -37,7 +38,8 @@ pub fn load_many_imm_word(op: LoadManyOp) -> Word
 /// The name that has this base word in the line of `LoadManyReg`.
 #[tactic(auto, unfolding(crate::specs::Memory::load_many_reg))]
 pub fn load_many_reg_op(word: u32) -> Option<LoadManyOp>
-    ensures { MatchOption result (number_of word load_many_reg.words ≡ None) (λ op. number_of word load_many_reg.words ≡ Some (load_many_number op)) }
+    ensures { MatchOption result (number_of word load_many_reg.words ≡ None)
+        (λ op. number_of word load_many_reg.words ≡ Some (load_many_number op)) }
 {
     match word {
         0xa420_c000 => Some(LoadManyOp::Ld2),
@@ -64,7 +66,8 @@ pub fn load_many_reg_word(op: LoadManyOp) -> Word
 /// The name that has this base word in the line of `StoreManyImm`.
 #[tactic(auto, unfolding(crate::specs::Memory::store_many_imm))]
 pub fn store_many_imm_op(word: u32) -> Option<StoreManyOp>
-    ensures { MatchOption result (number_of word store_many_imm.words ≡ None) (λ op. number_of word store_many_imm.words ≡ Some (store_many_number op)) }
+    ensures { MatchOption result (number_of word store_many_imm.words ≡ None)
+        (λ op. number_of word store_many_imm.words ≡ Some (store_many_number op)) }
 {
     match word {
         0xe430_e000 => Some(StoreManyOp::St2),
@@ -91,7 +94,8 @@ pub fn store_many_imm_word(op: StoreManyOp) -> Word
 /// The name that has this base word in the line of `StoreManyReg`.
 #[tactic(auto, unfolding(crate::specs::Memory::store_many_reg))]
 pub fn store_many_reg_op(word: u32) -> Option<StoreManyOp>
-    ensures { MatchOption result (number_of word store_many_reg.words ≡ None) (λ op. number_of word store_many_reg.words ≡ Some (store_many_number op)) }
+    ensures { MatchOption result (number_of word store_many_reg.words ≡ None)
+        (λ op. number_of word store_many_reg.words ≡ Some (store_many_number op)) }
 {
     match word {
         0xe420_6000 => Some(StoreManyOp::St2),

@@ -247,7 +247,8 @@ pub enum LastOp {
     LastbV,
 }
 
-/// The lane after the last active one or that one, where one is active, to a general (r) or a vector register (v), or to each lane (z).
+/// The lane after the last active one or that one, where one is active, to a general (r) or a vector register (v), or
+/// to each lane (z).
 #[derive(Clone, Copy)]
 pub enum CondLastOp {
     ClastaR,

@@ -1,8 +1,37 @@
 //! The names of predicates with their base words, which have all fields 0.
 ghost use Rattle.std.specs.Prelude.{◌≡◌, ◌<◌, Some, None, MatchOption, get_or, length};
 ghost use Rattle.emu_bits.specs.Rows.{number_of};
-ghost use Rattle.sve_insn.specs.Predicates.{cmp_vec, cmp_wide, cmp_u_imm, cmp_s_imm, logic_p, break_first, break_pair, ptrue, read_ffr, write_ffr, inc_p, inc_p_z, while_compare, cterm};
-ghost use Rattle.sve_insn.specs.Numbers.{break_number, break_pair_number, cmp_s_imm_number, cmp_u_imm_number, cmp_vec_number, cmp_wide_number, cterm_number, inc_p_number, logic_p_number, ptrue_number, read_ffr_number, while_number, write_ffr_number};
+ghost use Rattle.sve_insn.specs.Predicates.{
+  cmp_vec,
+  cmp_wide,
+  cmp_u_imm,
+  cmp_s_imm,
+  logic_p,
+  break_first,
+  break_pair,
+  ptrue,
+  read_ffr,
+  write_ffr,
+  inc_p,
+  inc_p_z,
+  while_compare,
+  cterm,
+};
+ghost use Rattle.sve_insn.specs.Numbers.{
+  break_number,
+  break_pair_number,
+  cmp_s_imm_number,
+  cmp_u_imm_number,
+  cmp_vec_number,
+  cmp_wide_number,
+  cterm_number,
+  inc_p_number,
+  logic_p_number,
+  ptrue_number,
+  read_ffr_number,
+  while_number,
+  write_ffr_number,
+};
 
 use crate::ops::{
     BreakOp, BreakPairOp, CmpSImmOp, CmpUImmOp, CmpVecOp, CmpWideOp, CtermOp, IncPOp, LogicPOp,
@@ -13,7 +42,8 @@ use emu_bits::Word;
 /// The name that has this base word in the line of `CmpVec`.
 #[tactic(auto, unfolding(crate::specs::Predicates::cmp_vec))]
 pub fn cmp_vec_op(word: u32) -> Option<CmpVecOp>
-    ensures { MatchOption result (number_of word cmp_vec.words ≡ None) (λ op. number_of word cmp_vec.words ≡ Some (cmp_vec_number op)) }
+    ensures { MatchOption result (number_of word cmp_vec.words ≡ None)
+        (λ op. number_of word cmp_vec.words ≡ Some (cmp_vec_number op)) }
 {
     match word {
         0x2400_0000 => Some(CmpVecOp::Cmphs),
@@ -46,7 +76,8 @@ pub fn cmp_vec_word(op: CmpVecOp) -> Word
 /// The name that has this base word in the line of `CmpWide`.
 #[tactic(auto, unfolding(crate::specs::Predicates::cmp_wide))]
 pub fn cmp_wide_op(word: u32) -> Option<CmpWideOp>
-    ensures { MatchOption result (number_of word cmp_wide.words ≡ None) (λ op. number_of word cmp_wide.words ≡ Some (cmp_wide_number op)) }
+    ensures { MatchOption result (number_of word cmp_wide.words ≡ None)
+        (λ op. number_of word cmp_wide.words ≡ Some (cmp_wide_number op)) }
 {
     match word {
         0x2400_2000 => Some(CmpWideOp::Cmpeq),
@@ -87,7 +118,8 @@ pub fn cmp_wide_word(op: CmpWideOp) -> Word
 /// The name that has this base word in the line of `CmpUImm`.
 #[tactic(auto, unfolding(crate::specs::Predicates::cmp_u_imm))]
 pub fn cmp_u_imm_op(word: u32) -> Option<CmpUImmOp>
-    ensures { MatchOption result (number_of word cmp_u_imm.words ≡ None) (λ op. number_of word cmp_u_imm.words ≡ Some (cmp_u_imm_number op)) }
+    ensures { MatchOption result (number_of word cmp_u_imm.words ≡ None)
+        (λ op. number_of word cmp_u_imm.words ≡ Some (cmp_u_imm_number op)) }
 {
     match word {
         0x2420_0000 => Some(CmpUImmOp::Cmphs),
@@ -116,7 +148,8 @@ pub fn cmp_u_imm_word(op: CmpUImmOp) -> Word
 /// The name that has this base word in the line of `CmpSImm`.
 #[tactic(auto, unfolding(crate::specs::Predicates::cmp_s_imm))]
 pub fn cmp_s_imm_op(word: u32) -> Option<CmpSImmOp>
-    ensures { MatchOption result (number_of word cmp_s_imm.words ≡ None) (λ op. number_of word cmp_s_imm.words ≡ Some (cmp_s_imm_number op)) }
+    ensures { MatchOption result (number_of word cmp_s_imm.words ≡ None)
+        (λ op. number_of word cmp_s_imm.words ≡ Some (cmp_s_imm_number op)) }
 {
     match word {
         0x2500_0000 => Some(CmpSImmOp::Cmpge),
@@ -149,7 +182,8 @@ pub fn cmp_s_imm_word(op: CmpSImmOp) -> Word
 /// The name that has this base word in the line of `LogicP`.
 #[tactic(auto, unfolding(crate::specs::Predicates::logic_p))]
 pub fn logic_p_op(word: u32) -> Option<LogicPOp>
-    ensures { MatchOption result (number_of word logic_p.words ≡ None) (λ op. number_of word logic_p.words ≡ Some (logic_p_number op)) }
+    ensures { MatchOption result (number_of word logic_p.words ≡ None)
+        (λ op. number_of word logic_p.words ≡ Some (logic_p_number op)) }
 {
     match word {
         0x2500_4000 => Some(LogicPOp::And),
@@ -184,7 +218,8 @@ pub fn logic_p_word(op: LogicPOp) -> Word
 /// The name that has this base word in the line of `Break`.
 #[tactic(auto, unfolding(crate::specs::Predicates::break_first))]
 pub fn break_first_op(word: u32) -> Option<BreakOp>
-    ensures { MatchOption result (number_of word break_first.words ≡ None) (λ op. number_of word break_first.words ≡ Some (break_number op)) }
+    ensures { MatchOption result (number_of word break_first.words ≡ None)
+        (λ op. number_of word break_first.words ≡ Some (break_number op)) }
 {
     match word {
         0x2510_4000 => Some(BreakOp::Brka),
@@ -209,7 +244,8 @@ pub fn break_first_word(op: BreakOp) -> Word
 /// The name that has this base word in the line of `BreakPair`.
 #[tactic(auto, unfolding(crate::specs::Predicates::break_pair))]
 pub fn break_pair_op(word: u32) -> Option<BreakPairOp>
-    ensures { MatchOption result (number_of word break_pair.words ≡ None) (λ op. number_of word break_pair.words ≡ Some (break_pair_number op)) }
+    ensures { MatchOption result (number_of word break_pair.words ≡ None)
+        (λ op. number_of word break_pair.words ≡ Some (break_pair_number op)) }
 {
     match word {
         0x2500_c000 => Some(BreakPairOp::Brkpa),
@@ -234,7 +270,8 @@ pub fn break_pair_word(op: BreakPairOp) -> Word
 /// The name that has this base word in the line of `Ptrue`.
 #[tactic(auto, unfolding(crate::specs::Predicates::ptrue))]
 pub fn ptrue_op(word: u32) -> Option<PtrueOp>
-    ensures { MatchOption result (number_of word ptrue.words ≡ None) (λ op. number_of word ptrue.words ≡ Some (ptrue_number op)) }
+    ensures { MatchOption result (number_of word ptrue.words ≡ None)
+        (λ op. number_of word ptrue.words ≡ Some (ptrue_number op)) }
 {
     match word {
         0x2518_e000 => Some(PtrueOp::Ptrue),
@@ -259,7 +296,8 @@ pub fn ptrue_word(op: PtrueOp) -> Word
 /// The name that has this base word in the line of `ReadFfr`.
 #[tactic(auto, unfolding(crate::specs::Predicates::read_ffr))]
 pub fn read_ffr_op(word: u32) -> Option<ReadFfrOp>
-    ensures { MatchOption result (number_of word read_ffr.words ≡ None) (λ op. number_of word read_ffr.words ≡ Some (read_ffr_number op)) }
+    ensures { MatchOption result (number_of word read_ffr.words ≡ None)
+        (λ op. number_of word read_ffr.words ≡ Some (read_ffr_number op)) }
 {
     match word {
         0x2518_f000 => Some(ReadFfrOp::Rdffr),
@@ -284,7 +322,8 @@ pub fn read_ffr_word(op: ReadFfrOp) -> Word
 /// The name that has this base word in the line of `WriteFfr`.
 #[tactic(auto, unfolding(crate::specs::Predicates::write_ffr))]
 pub fn write_ffr_op(word: u32) -> Option<WriteFfrOp>
-    ensures { MatchOption result (number_of word write_ffr.words ≡ None) (λ op. number_of word write_ffr.words ≡ Some (write_ffr_number op)) }
+    ensures { MatchOption result (number_of word write_ffr.words ≡ None)
+        (λ op. number_of word write_ffr.words ≡ Some (write_ffr_number op)) }
 {
     match word {
         0x252c_9000 => Some(WriteFfrOp::Setffr),
@@ -309,7 +348,8 @@ pub fn write_ffr_word(op: WriteFfrOp) -> Word
 /// The name that has this base word in the line of `IncP`.
 #[tactic(auto, unfolding(crate::specs::Predicates::inc_p))]
 pub fn inc_p_op(word: u32) -> Option<IncPOp>
-    ensures { MatchOption result (number_of word inc_p.words ≡ None) (λ op. number_of word inc_p.words ≡ Some (inc_p_number op)) }
+    ensures { MatchOption result (number_of word inc_p.words ≡ None)
+        (λ op. number_of word inc_p.words ≡ Some (inc_p_number op)) }
 {
     match word {
         0x252c_8800 => Some(IncPOp::Incp),
@@ -334,7 +374,8 @@ pub fn inc_p_word(op: IncPOp) -> Word
 /// The name that has this base word in the line of `IncPZ`.
 #[tactic(auto, unfolding(crate::specs::Predicates::inc_p_z))]
 pub fn inc_p_z_op(word: u32) -> Option<IncPOp>
-    ensures { MatchOption result (number_of word inc_p_z.words ≡ None) (λ op. number_of word inc_p_z.words ≡ Some (inc_p_number op)) }
+    ensures { MatchOption result (number_of word inc_p_z.words ≡ None)
+        (λ op. number_of word inc_p_z.words ≡ Some (inc_p_number op)) }
 {
     match word {
         0x252c_8000 => Some(IncPOp::Incp),
@@ -359,7 +400,8 @@ pub fn inc_p_z_word(op: IncPOp) -> Word
 /// The name that has this base word in the line of `While`.
 #[tactic(auto, unfolding(crate::specs::Predicates::while_compare))]
 pub fn while_compare_op(word: u32) -> Option<WhileOp>
-    ensures { MatchOption result (number_of word while_compare.words ≡ None) (λ op. number_of word while_compare.words ≡ Some (while_number op)) }
+    ensures { MatchOption result (number_of word while_compare.words ≡ None)
+        (λ op. number_of word while_compare.words ≡ Some (while_number op)) }
 {
     match word {
         0x2520_0400 => Some(WhileOp::Whilelt),
@@ -388,7 +430,8 @@ pub fn while_compare_word(op: WhileOp) -> Word
 /// The name that has this base word in the line of `Cterm`.
 #[tactic(auto, unfolding(crate::specs::Predicates::cterm))]
 pub fn cterm_op(word: u32) -> Option<CtermOp>
-    ensures { MatchOption result (number_of word cterm.words ≡ None) (λ op. number_of word cterm.words ≡ Some (cterm_number op)) }
+    ensures { MatchOption result (number_of word cterm.words ≡ None)
+        (λ op. number_of word cterm.words ≡ Some (cterm_number op)) }
 {
     match word {
         0x25a0_2000 => Some(CtermOp::Ctermeq),

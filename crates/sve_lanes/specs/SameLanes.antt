@@ -1,5 +1,5 @@
 -- Lane i of each 128 bits is the same where those bits are.
-use Rattle.std.proofs.Common.{◌≡◌, ◌<◌, ◌*◌, ◌/◌, ◌%◌, ◌+◌, ℕ, inl, inr, arith}
+use Rattle.std.proofs.Common.{◌≡◌, ◌*◌, ◌/◌, ◌%◌, ℕ, inl, inr, arith}
 use Rattle.emu_model.specs.State.{Vectors}
 use Rattle.lane_kernels.specs.Parts.{SamePart, same_lane}
 use Rattle.sve_effects.specs.LaneLoop.{lane_of}

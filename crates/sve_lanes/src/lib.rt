@@ -22,8 +22,9 @@ use core_regs::Core;
 use sve_insn::{Sve, SveForm};
 use vec_regs::VecRegs;
 
-/// Does an instruction of the rows that work lane by lane: its destination has the lanes that the instruction makes of its
-/// operands, and in the merging rows the inactive lanes keep their value. Lanes have 8, 16, 32 or 64 bits (the manual's esize).
+/// Does an instruction of the rows that work lane by lane: its destination has the lanes that the instruction makes of
+/// its operands, and in the merging rows the inactive lanes keep their value. Lanes have 8, 16, 32 or 64 bits (the
+/// manual's esize).
 #[inline(always)]
 pub fn exec(core: &Core, vec: &mut VecRegs, i: &Sve)
     requires { is_vector_data i.now ≡ true }

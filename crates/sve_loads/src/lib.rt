@@ -1,5 +1,6 @@
-//! SVE loads and stores of consecutive elements: contiguous ones, of structures, of whole registers, replicated and repeated; and
-//! contiguous first-faulting and non-faulting loads: their elements, and the load where no element is refused.
+//! SVE loads and stores of consecutive elements: contiguous ones, of structures, of whole registers, replicated and
+//! repeated; and contiguous first-faulting and non-faulting loads: their elements, and the load where no element is
+//! refused.
 #![tactic(auto)]
 
 mod bases;
@@ -9,7 +10,16 @@ mod shape;
 
 ghost use Rattle.std.specs.Prelude.{◌≡◌, [], true, false};
 ghost use Rattle.emu_model.specs.declared.trap.Effect.{Effect};
-ghost use Rattle.sve_effects.specs.Effects.{first_fault, layout, vector_elements, vector_load, vector_store, is_contiguous_load, is_contiguous_store, loads_signed};
+ghost use Rattle.sve_effects.specs.Effects.{
+  first_fault,
+  layout,
+  vector_elements,
+  vector_load,
+  vector_store,
+  is_contiguous_load,
+  is_contiguous_store,
+  loads_signed,
+};
 ghost use Rattle.element_loops.specs.Listed.{listed};
 ghost use Rattle.sve_loads.specs.Plans.{is_first_contiguous};
 
@@ -18,7 +28,8 @@ use guest_mem::{AccessLog, ElementList, Mem};
 use sve_insn::Sve;
 use vec_regs::VecRegs;
 
-/// Does a load, and says how the step goes on. The elements that were loaded are logged in order. A trap changes no register.
+/// Does a load, and says how the step goes on. The elements that were loaded are logged in order. A trap changes no
+/// register.
 #[tactic(auto, using(crate::specs::PlanLaws::load_planned))]
 pub fn load(core: &Core, vec: &mut VecRegs, mem: &mut Mem, log: &mut AccessLog, i: &Sve) -> Effect
     requires own { is_contiguous_load i.now ≡ true }
@@ -30,8 +41,8 @@ pub fn load(core: &Core, vec: &mut VecRegs, mem: &mut Mem, log: &mut AccessLog, 
     element_loops::load(&plan, core, vec, mem, log)
 }
 
-/// Does a store, and says how the step goes on. The elements that were stored are logged in order; a store that traps has stored
-/// and logged the elements before the one that was refused.
+/// Does a store, and says how the step goes on. The elements that were stored are logged in order; a store that traps
+/// has stored and logged the elements before the one that was refused.
 #[tactic(auto, using(crate::specs::PlanLaws::store_planned))]
 pub fn store(core: &Core, vec: &VecRegs, mem: &mut Mem, log: &mut AccessLog, i: &Sve) -> Effect
     requires own { is_contiguous_store i.now ≡ true }
@@ -43,11 +54,13 @@ pub fn store(core: &Core, vec: &VecRegs, mem: &mut Mem, log: &mut AccessLog, i: 
     element_loops::store(&plan, core, vec, mem, log)
 }
 
-/// The elements of a contiguous first-faulting or non-faulting load: the lanes and addresses of its active lanes, in order.
+/// The elements of a contiguous first-faulting or non-faulting load: the lanes and addresses of its active lanes, in
+/// order.
 #[tactic(auto, using(crate::specs::PlanLaws::first_planned, crate::specs::PlanLaws::first_signed, crate::specs::PlanLaws::first_bytes))]
 pub fn elements(core: &Core, vec: &VecRegs, i: &Sve) -> ElementList
     requires { is_first_contiguous i.now ≡ true }
-    ensures elements { let l = layout i.now core.now vec.now in listed l.register result ≡ vector_elements i.now core.now vec.now }
+    ensures elements { let l = layout i.now core.now vec.now in listed l.register result
+        ≡ vector_elements i.now core.now vec.now }
     ensures bytes { let l = layout i.now core.now vec.now in result.bytes ≡ l.bytes }
     ensures is_signed { result.signed ≡ loads_signed i.now }
 {
@@ -65,8 +78,13 @@ pub fn load_unrefused(
 ) -> bool
     requires own { is_first_contiguous i.now ≡ true }
     requires empty { log.old.items ≡ [] }
-    ensures loaded { result ≡ true → first_fault i.now core.now vec.old mem.old
-        ≡ record { core = core.now; vectors = vec.new; memory = mem.new; accesses = log.new.items; effect = Effect.Next } }
+    ensures loaded { result ≡ true → first_fault i.now core.now vec.old mem.old ≡ record {
+      core = core.now;
+      vectors = vec.new;
+      memory = mem.new;
+      accesses = log.new.items;
+      effect = Effect.Next;
+    } }
     ensures kept { result ≡ false → vec.new ≡ vec.old }
     ensures unlogged { result ≡ false → log.new.items ≡ [] }
     ensures memory { mem.new ≡ mem.old }

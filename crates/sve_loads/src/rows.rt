@@ -106,8 +106,10 @@ pub(crate) fn load_plan(core: &Core, vec: &VecRegs, i: &Sve) -> Plan
         SveForm::LoadNtReg { msz, rm, pg, rn, zt } => by_register(core, vec, by_size(msz, msz, 1), pg, rn, rm, zt),
         SveForm::LoadQuadImm { msz, imm4, pg, rn, zt } => quad_imm(core, vec, msz, imm4, pg, rn, zt),
         SveForm::LoadQuadReg { msz, rm, pg, rn, zt } => quad_reg(core, vec, msz, rm, pg, rn, zt),
-        SveForm::LoadManyImm { op, msz, imm4, pg, rn, zt } => by_imm(core, vec, by_size(msz, msz, loaded_registers(op)), pg, rn, imm4, zt),
-        SveForm::LoadManyReg { op, msz, rm, pg, rn, zt } => by_register(core, vec, by_size(msz, msz, loaded_registers(op)), pg, rn, rm, zt),
+        SveForm::LoadManyImm { op, msz, imm4, pg, rn, zt } =>
+            by_imm(core, vec, by_size(msz, msz, loaded_registers(op)), pg, rn, imm4, zt),
+        SveForm::LoadManyReg { op, msz, rm, pg, rn, zt } =>
+            by_register(core, vec, by_size(msz, msz, loaded_registers(op)), pg, rn, rm, zt),
         SveForm::LoadOne { dtypeh, imm6, dtypel, pg, rn, zt } => one(core, vec, dtypeh, imm6, dtypel, pg, rn, zt),
         SveForm::LoadZ { imm9h, imm9l, rn, zt } => whole_z(core, vec, imm9h, imm9l, rn, zt),
         SveForm::LoadP { imm9h, imm9l, rn, pt } => whole_p(core, vec, imm9h, imm9l, rn, pt),
@@ -124,11 +126,14 @@ pub(crate) fn store_plan(core: &Core, vec: &VecRegs, i: &Sve) -> Plan
 {
     match *i.form() {
         SveForm::StoreImm { msz, size, imm4, pg, rn, zt } => by_imm(core, vec, by_size(size, msz, 1), pg, rn, imm4, zt),
-        SveForm::StoreReg { msz, size, rm, pg, rn, zt } => by_register(core, vec, by_size(size, msz, 1), pg, rn, rm, zt),
+        SveForm::StoreReg { msz, size, rm, pg, rn, zt } =>
+            by_register(core, vec, by_size(size, msz, 1), pg, rn, rm, zt),
         SveForm::StoreNtImm { msz, imm4, pg, rn, zt } => by_imm(core, vec, by_size(msz, msz, 1), pg, rn, imm4, zt),
         SveForm::StoreNtReg { msz, rm, pg, rn, zt } => by_register(core, vec, by_size(msz, msz, 1), pg, rn, rm, zt),
-        SveForm::StoreManyImm { op, msz, imm4, pg, rn, zt } => by_imm(core, vec, by_size(msz, msz, stored_registers(op)), pg, rn, imm4, zt),
-        SveForm::StoreManyReg { op, msz, rm, pg, rn, zt } => by_register(core, vec, by_size(msz, msz, stored_registers(op)), pg, rn, rm, zt),
+        SveForm::StoreManyImm { op, msz, imm4, pg, rn, zt } =>
+            by_imm(core, vec, by_size(msz, msz, stored_registers(op)), pg, rn, imm4, zt),
+        SveForm::StoreManyReg { op, msz, rm, pg, rn, zt } =>
+            by_register(core, vec, by_size(msz, msz, stored_registers(op)), pg, rn, rm, zt),
         SveForm::StoreZ { imm9h, imm9l, rn, zt } => whole_z(core, vec, imm9h, imm9l, rn, zt),
         SveForm::StoreP { imm9h, imm9l, rn, pt } => whole_p(core, vec, imm9h, imm9l, rn, pt),
         _ => unreachable!(),

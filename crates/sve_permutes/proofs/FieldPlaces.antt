@@ -6,12 +6,12 @@ use Rattle.emu_bits.specs.Fields.{bit}
 use Rattle.emu_model.specs.SoundState.{IsVectorLength}
 use Rattle.emu_model.specs.ListLaws.{length-each, get_or-each, each_same}
 use Rattle.emu_model.specs.State.{Vectors}
-use Rattle.field_words.specs.Places.{IsField, zipped, every_second, joined, transposed, reversed}
+use Rattle.field_words.specs.Places.{IsField, zipped, every_second, joined, transposed}
 use Rattle.field_words.proofs.FourWords.{trn_end}
 use Rattle.sve_effects.specs.declared.places.Place.{Place}
 use Rattle.sve_effects.specs.declared.places.Place.TheVariants.{FirstLane, SecondLane, Scalar, Zero}
 use Rattle.sve_effects.specs.LaneLoop.{is_active}
-use Rattle.sve_effects.specs.Permute.{taken, half_place, zip_place, uzp_place, trn_place}
+use Rattle.sve_effects.specs.Permute.{taken, zip_place, uzp_place, trn_place}
 use Rattle.sve_effects.specs.PermuteRows.{moved_fields, after_unpack_p, is_high_p}
 use Rattle.sve_effects.specs.PermuteRows as model
 use Rattle.sve_insn.specs.declared.ops.UnpackPOp.{UnpackPOp}

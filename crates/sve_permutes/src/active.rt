@@ -44,7 +44,8 @@ pub(crate) fn spliced(vec: &mut VecRegs, e: u32, pg: Pred, zm: Reg, zdn: Reg)
 fn run_of(vec: &VecRegs, e: u32, pg: Pred) -> (usize, usize)
     requires { IsLaneSize e }
     ensures within { result.0 + result.1 ≤ vec.now.bits / e }
-    ensures places { (k : ℕ) → place.spliced result.0 result.1 k ≡ splice_place (is_active e vec.now pg) (vec.now.bits / e) k }
+    ensures places { (k : ℕ)
+        → place.spliced result.0 result.1 k ≡ splice_place (is_active e vec.now pg) (vec.now.bits / e) k }
 {
     match first_active(vec, e, pg) {
         Some(from) => match last_active(vec, e, pg) {
@@ -60,7 +61,8 @@ fn run_of(vec: &VecRegs, e: u32, pg: Pred) -> (usize, usize)
 fn is_idle(vec: &VecRegs, pg: Pred, i: u32) -> bool
     requires { i < vec.now.bits / 64 }
     // whatever the size of lanes
-    ensures { result ≡ true → (e j : ℕ) → IsLaneSize e → j < 64 / e → is_active e vec.now pg (i * (64 / e) + j) ≡ false }
+    ensures { result ≡ true → (e j : ℕ) → IsLaneSize e → j < 64 / e
+        → is_active e vec.now pg (i * (64 / e) + j) ≡ false }
 {
     let _length = vec.length();
     let words = vec.p_words(pg);
@@ -137,8 +139,8 @@ pub(crate) fn last_active(vec: &VecRegs, e: u32, pg: Pred) -> Option<u32>
     None
 }
 
-/// The lane that the last active one of n names: the one after it where `after` is true, which is lane 0 after the last lane of
-/// all or where none is active; else that one, or the last lane of all where none is active.
+/// The lane that the last active one of n names: the one after it where `after` is true, which is lane 0 after the last
+/// lane of all or where none is active; else that one, or the last lane of all where none is active.
 pub(crate) fn lane_by_last(after: bool, n: u32, last: Option<u32>) -> u32
     requires some { 0 < n }
     requires within { IfSome last (λ k. k < n) }

@@ -1,8 +1,32 @@
 //! Permutes of which 128 bits of each source, or of both, make 128 bits of the result.
-ghost use Rattle.std.specs.Prelude.{◌≡◌, ◌<◌, ◌≤◌, ◌+◌, ◌*◌, ◌/◌, ◌%◌, ◌^◌, ℕ, map, get_or, nat_eq, nat_lt, if◌then◌else◌};
+ghost use Rattle.std.specs.Prelude.{
+  ◌≡◌,
+  ◌<◌,
+  ◌≤◌,
+  ◌+◌,
+  ◌*◌,
+  ◌/◌,
+  ◌%◌,
+  ◌^◌,
+  ℕ,
+  map,
+  get_or,
+  nat_eq,
+  nat_lt,
+  if◌then◌else◌,
+};
 ghost use Rattle.emu_bits.specs.Fields.{bit};
 ghost use Rattle.sve_effects.specs.LaneLoop.{lane_of};
-ghost use Rattle.sve_effects.specs.Permute.{taken, joined, zip_place, uzp_place, trn_place, rev_place, insr_place, ext_place};
+ghost use Rattle.sve_effects.specs.Permute.{
+  taken,
+  joined,
+  zip_place,
+  uzp_place,
+  trn_place,
+  rev_place,
+  insr_place,
+  ext_place,
+};
 
 use emu_bits::Reg;
 use lane_kernels::register_words::{Chunks, Gives};
@@ -170,7 +194,8 @@ impl<T: Quad<W>, const W: usize> Chunks<T, W> for Turns {
     }
 }
 
-/// The 64 bits of each source that 128 bits of lanes in turn come from: of the low half of the source, or of its high half.
+/// The 64 bits of each source that 128 bits of lanes in turn come from: of the low half of the source, or of its high
+/// half.
 #[inline(always)]
 fn half_of(second: bool, quads: u32, i: u32) -> u32
     requires within { i < quads }
@@ -196,7 +221,8 @@ fn start_of(from: u32, n: u32) -> u32
 fn joined_quad<T: Quad<W>, const W: usize>(vec: &VecRegs, zn: Reg, zm: Reg, at: u32) -> [T; W]
     requires within { at < 2 * (vec.now.bits / 128) }
     requires width { W ≤ 16 }
-    ensures { (t : ℕ) → t < W → get_or (map T.number result) t 0 ≡ taken (lane_of T.BITS vec.now zn) (lane_of T.BITS vec.now zm) 0 0 (joined (vec.now.bits / T.BITS) (at * W + t)) % 2 ^ T.BITS }
+    ensures { (t : ℕ) → t < W → get_or (map T.number result) t 0 ≡ taken (lane_of T.BITS vec.now zn)
+        (lane_of T.BITS vec.now zm) 0 0 (joined (vec.now.bits / T.BITS) (at * W + t)) % 2 ^ T.BITS }
 {
     let quads = vec.length().bits() / 128;
     if at < quads {
@@ -210,7 +236,8 @@ fn joined_quad<T: Quad<W>, const W: usize>(vec: &VecRegs, zn: Reg, zm: Reg, at: 
 #[inline(always)]
 fn lane_below<T: Lane>(vec: &VecRegs, scalar: u64, zn: Reg, k: u32) -> T
     requires { k < vec.now.bits / T.BITS }
-    ensures { T.number result ≡ taken (lane_of T.BITS vec.now zn) (lane_of T.BITS vec.now zn) scalar 0 (insr_place k) % 2 ^ T.BITS }
+    ensures { T.number result
+        ≡ taken (lane_of T.BITS vec.now zn) (lane_of T.BITS vec.now zn) scalar 0 (insr_place k) % 2 ^ T.BITS }
 {
     T::from_u64(if k == 0 {
         scalar

@@ -20,7 +20,8 @@ fn zipped(second: bool, w: u32, bits: u32, a: &[u64; 4], b: &[u64; 4]) -> [u64; 
     requires whole { bits % 16 ≡ 0 }
     requires first { AreClearFrom bits a.now }
     requires second { AreClearFrom bits b.now }
-    ensures fields { (j : ℕ) → j < bits → bit_of result j ≡ taken (bit_of_field w (j % w) a.now) (bit_of_field w (j % w) b.now) false false (zip_place second (bits / w) (j / w)) }
+    ensures fields { (j : ℕ) → j < bits → bit_of result j ≡ taken (bit_of_field w (j % w) a.now)
+        (bit_of_field w (j % w) b.now) false false (zip_place second (bits / w) (j / w)) }
     ensures above { AreClearFrom bits result }
 {
     zip(a, b, begin(second, bits / 2), w, bits)
@@ -33,7 +34,8 @@ fn unzipped(second: bool, w: u32, bits: u32, a: &[u64; 4], b: &[u64; 4]) -> [u64
     requires whole { bits % 16 ≡ 0 }
     requires first { AreClearFrom bits a.now }
     requires second { AreClearFrom bits b.now }
-    ensures fields { (j : ℕ) → j < bits → bit_of result j ≡ taken (bit_of_field w (j % w) a.now) (bit_of_field w (j % w) b.now) false false (uzp_place second (bits / w) (j / w)) }
+    ensures fields { (j : ℕ) → j < bits → bit_of result j ≡ taken (bit_of_field w (j % w) a.now)
+        (bit_of_field w (j % w) b.now) false false (uzp_place second (bits / w) (j / w)) }
     ensures above { AreClearFrom bits result }
 {
     uzp(a, b, begin(second, w), w, bits)
@@ -46,7 +48,8 @@ fn transposed(second: bool, w: u32, bits: u32, a: &[u64; 4], b: &[u64; 4]) -> [u
     requires whole { bits % 16 ≡ 0 }
     requires first { AreClearFrom bits a.now }
     requires second { AreClearFrom bits b.now }
-    ensures fields { (j : ℕ) → j < bits → bit_of result j ≡ taken (bit_of_field w (j % w) a.now) (bit_of_field w (j % w) b.now) false false (trn_place second (j / w)) }
+    ensures fields { (j : ℕ) → j < bits → bit_of result j
+        ≡ taken (bit_of_field w (j % w) a.now) (bit_of_field w (j % w) b.now) false false (trn_place second (j / w)) }
     ensures above { AreClearFrom bits result }
 {
     trn(a, b, begin(second, w), w)
@@ -59,7 +62,8 @@ fn interleaved_words(op: InterleaveOp, w: u32, bits: u32, a: &[u64; 4], b: &[u64
     requires whole { bits % 16 ≡ 0 }
     requires first { AreClearFrom bits a.now }
     requires second { AreClearFrom bits b.now }
-    ensures fields { (j : ℕ) → j < bits → bit_of result j ≡ taken (bit_of_field w (j % w) a.now) (bit_of_field w (j % w) b.now) false false (interleave_place op (bits / w) (j / w)) }
+    ensures fields { (j : ℕ) → j < bits → bit_of result j ≡ taken (bit_of_field w (j % w) a.now)
+        (bit_of_field w (j % w) b.now) false false (interleave_place op (bits / w) (j / w)) }
     ensures above { AreClearFrom bits result }
 {
     match op {

@@ -1,8 +1,9 @@
 //! The permutes that leave the general registers as they are.
-ghost use Rattle.std.specs.Prelude.{◌≡◌, ◌<◌, ◌^◌, true};
+ghost use Rattle.std.specs.Prelude.{◌≡◌, ◌<◌, ◌/◌, ◌^◌, true};
 ghost use Rattle.sve_insn.specs.declared.form.SveForm.{SveForm};
 ghost use Rattle.sve_insn.specs.Conditions.{is_no_byte};
 ghost use Rattle.sve_effects.specs.LaneLoop.{lane_of};
+ghost use Rattle.sve_effects.specs.Permute.{zip_place, uzp_place, trn_place};
 ghost use Rattle.sve_effects.specs.PermuteRows as model;
 ghost use Rattle.sve_effects.specs.Effects as effects;
 ghost use Rattle.vec_model.specs.LaneSizes.{IsLaneSize};
@@ -70,67 +71,40 @@ pub(crate) fn interleave(
 {
     let e = lane_bits(size);
     match op {
-        InterleaveOp::Zip1 => permuted(
-            vec,
-            e,
-            zd,
-            &Zipped {
-                second: false,
-                zn,
-                zm,
-            },
-        ),
-        InterleaveOp::Zip2 => permuted(
-            vec,
-            e,
-            zd,
-            &Zipped {
-                second: true,
-                zn,
-                zm,
-            },
-        ),
-        InterleaveOp::Uzp1 => permuted(
-            vec,
-            e,
-            zd,
-            &Unzipped {
-                second: false,
-                zn,
-                zm,
-            },
-        ),
-        InterleaveOp::Uzp2 => permuted(
-            vec,
-            e,
-            zd,
-            &Unzipped {
-                second: true,
-                zn,
-                zm,
-            },
-        ),
-        InterleaveOp::Trn1 => permuted(
-            vec,
-            e,
-            zd,
-            &Transposed {
-                second: false,
-                zn,
-                zm,
-            },
-        ),
-        InterleaveOp::Trn2 => permuted(
-            vec,
-            e,
-            zd,
-            &Transposed {
-                second: true,
-                zn,
-                zm,
-            },
-        ),
+        InterleaveOp::Zip1 => zip(vec, false, e, zn, zm, zd),
+        InterleaveOp::Zip2 => zip(vec, true, e, zn, zm, zd),
+        InterleaveOp::Uzp1 => unzip(vec, false, e, zn, zm, zd),
+        InterleaveOp::Uzp2 => unzip(vec, true, e, zn, zm, zd),
+        InterleaveOp::Trn1 => transpose(vec, false, e, zn, zm, zd),
+        InterleaveOp::Trn2 => transpose(vec, true, e, zn, zm, zd),
     }
+}
+
+/// Writes the lanes of two registers in turn: of their low halves, or of their high halves where `second` is true.
+#[inline(always)]
+fn zip(vec: &mut VecRegs, second: bool, e: u32, zn: Reg, zm: Reg, zd: Reg)
+    requires { IsLaneSize e }
+    ensures { vec.new ≡ model.moved e (zip_place second (vec.old.bits / e)) zn zm 0 zd vec.old }
+{
+    permuted(vec, e, zd, &Zipped { second, zn, zm });
+}
+
+/// Writes the even lanes of two registers one after the other, or the odd lanes where `second` is true.
+#[inline(always)]
+fn unzip(vec: &mut VecRegs, second: bool, e: u32, zn: Reg, zm: Reg, zd: Reg)
+    requires { IsLaneSize e }
+    ensures { vec.new ≡ model.moved e (uzp_place second (vec.old.bits / e)) zn zm 0 zd vec.old }
+{
+    permuted(vec, e, zd, &Unzipped { second, zn, zm });
+}
+
+/// Writes the even lanes of two registers in turn, or the odd lanes where `second` is true.
+#[inline(always)]
+fn transpose(vec: &mut VecRegs, second: bool, e: u32, zn: Reg, zm: Reg, zd: Reg)
+    requires { IsLaneSize e }
+    ensures { vec.new ≡ model.moved e (trn_place second) zn zm 0 zd vec.old }
+{
+    permuted(vec, e, zd, &Transposed { second, zn, zm });
 }
 
 pub(crate) fn interleave_p(

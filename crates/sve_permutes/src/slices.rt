@@ -53,7 +53,9 @@ fn flags_in<const N: usize>(vec: &VecRegs, e: u32, pg: Pred) -> [bool; N]
 fn set_lanes<T: Lane>(vec: &mut VecRegs, zd: Reg, lanes: &[T])
     requires { length lanes.now ≡ vec.old.bits / T.BITS }
     // whatever function gives the lanes' numbers
-    ensures { (f : ℕ → ℕ) → ((k : ℕ) → k < vec.old.bits / T.BITS → get_or (map T.number lanes.now) k 0 ≡ f k % 2 ^ T.BITS) → vec.new ≡ with_lanes T.BITS f zd vec.old }
+    ensures { (f : ℕ → ℕ)
+        → ((k : ℕ) → k < vec.old.bits / T.BITS → get_or (map T.number lanes.now) k 0 ≡ f k % 2 ^ T.BITS)
+        → vec.new ≡ with_lanes T.BITS f zd vec.old }
 {
     let _length = vec.length();
     let mut words = [0; 32];
@@ -92,7 +94,8 @@ pub(crate) fn compacted_lanes<T: Lane, const N: usize>(
 )
     requires whole { N * T.BITS ≡ 2048 }
     requires few { N ≤ 256 }
-    ensures { vec.new ≡ model.moved T.BITS (compact_place (is_active T.BITS vec.old pg) (vec.old.bits / T.BITS)) zn zn 0 zd vec.old }
+    ensures { vec.new
+        ≡ model.moved T.BITS (compact_place (is_active T.BITS vec.old pg) (vec.old.bits / T.BITS)) zn zn 0 zd vec.old }
 {
     let n = (vec.length().bits() / T::BITS) as usize;
     let mask: [bool; N] = flags_in(vec, T::BITS, pg);

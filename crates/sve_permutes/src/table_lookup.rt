@@ -20,7 +20,8 @@ use vec_regs::VecRegs;
 /// Writes the lanes of zn that the lanes of zm number to zd, and 0 where there is none.
 pub(crate) fn table(vec: &mut VecRegs, e: u32, zm: Reg, zn: Reg, zd: Reg)
     requires { IsLaneSize e }
-    ensures { vec.new ≡ model.moved e (λ k. indexed_place (lane_of e vec.old zm k) (vec.old.bits / e)) zn zn 0 zd vec.old }
+    ensures { vec.new
+        ≡ model.moved e (λ k. indexed_place (lane_of e vec.old zm k) (vec.old.bits / e)) zn zn 0 zd vec.old }
 {
     match e {
         8 => looked_up::<u8, 16, 256>(vec, zm, zn, zd),
@@ -40,7 +41,8 @@ fn looked_up<T: Quad<W>, const W: usize, const N: usize>(
     requires whole { N * T.BITS ≡ 2048 }
     requires few { N ≤ 256 }
     requires width { W ≤ 16 }
-    ensures { vec.new ≡ model.moved T.BITS (λ k. indexed_place (lane_of T.BITS vec.old zm k) (vec.old.bits / T.BITS)) zn zn 0 zd vec.old }
+    ensures { vec.new ≡ model.moved T.BITS
+        (λ k. indexed_place (lane_of T.BITS vec.old zm k) (vec.old.bits / T.BITS)) zn zn 0 zd vec.old }
 {
     let _length = vec.length();
     let mut words = [0; 32];
@@ -60,7 +62,9 @@ fn fill<T: Quad<W>, const W: usize, const N: usize>(
     requires few { N ≤ 256 }
     requires width { W ≤ 16 }
     requires zeros { (k : ℕ) → get_or words.old k 0 ≡ 0 }
-    ensures words { (i : ℕ) → i < vec.now.bits / 64 → get_or words.new i 0 ≡ packed T.BITS (each (64 / T.BITS) (λ j. taken (lane_of T.BITS vec.now zn) (lane_of T.BITS vec.now zn) 0 0 (indexed_place (lane_of T.BITS vec.now zm (i * (64 / T.BITS) + j)) (vec.now.bits / T.BITS)))) }
+    ensures words { (i : ℕ) → i < vec.now.bits / 64 → get_or words.new i 0
+        ≡ packed T.BITS (each (64 / T.BITS) (λ j. taken (lane_of T.BITS vec.now zn) (lane_of T.BITS vec.now zn) 0 0
+        (indexed_place (lane_of T.BITS vec.now zm (i * (64 / T.BITS) + j)) (vec.now.bits / T.BITS)))) }
     ensures above { AreZeroFrom (vec.now.bits / 64) words.new }
 {
     let _length = vec.length();
@@ -77,7 +81,8 @@ fn fill<T: Quad<W>, const W: usize, const N: usize>(
 fn chosen_quad<T: Quad<W>, const W: usize>(vec: &VecRegs, lanes: &[T], zm: Reg, i: u32) -> [T; W]
     requires within { i < vec.now.bits / 128 }
     requires width { W ≤ 16 }
-    ensures { (j : ℕ) → j < W → number_at T.number result j ≡ taken (number_at T.number lanes.now) (number_at T.number lanes.now) 0 0 (indexed_place (lane_of T.BITS vec.now zm (i * W + j)) (length lanes.now)) }
+    ensures { (j : ℕ) → j < W → number_at T.number result j ≡ taken (number_at T.number lanes.now)
+        (number_at T.number lanes.now) 0 0 (indexed_place (lane_of T.BITS vec.now zm (i * W + j)) (length lanes.now)) }
 {
     let _length = vec.length();
     let _words = vec.z_words(zm);

@@ -68,7 +68,8 @@ pub fn logic(
 /// `sel`.
 #[tactic(auto, using(crate::proofs::Lengths::length_given))]
 pub fn select(vec: &mut VecRegs, pm: Pred, pg: Pred, pn: Pred, pd: Pred)
-    ensures { vec.new ≡ with_p vec.old pd (model.logic LogicOp.Sel (predicate_bits vec.old) (read_p vec.old pg) (read_p vec.old pn) (read_p vec.old pm)) }
+    ensures { vec.new ≡ with_p vec.old pd
+        (model.logic LogicOp.Sel (predicate_bits vec.old) (read_p vec.old pg) (read_p vec.old pn) (read_p vec.old pm)) }
 {
     let bits = pred_bits::logic(LogicOp::Sel, &read(vec, pg), &read(vec, pn), &read(vec, pm));
     write(vec, pd, &bits);

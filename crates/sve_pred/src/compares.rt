@@ -232,7 +232,8 @@ fn compared_lanes(
 ) -> PredBits
     requires fits { model.IsOfLane (lane_bits size) operand.now }
     requires told { model.IsTold (lane_bits size) test vec.now zn operand.now words.now }
-    ensures value { result ≡ table.compared (lane_bits size) pg (model.answer test (lane_bits size) vec.now zn operand.now) vec.now }
+    ensures value { result
+        ≡ table.compared (lane_bits size) pg (model.answer test (lane_bits size) vec.now zn operand.now) vec.now }
     ensures length { length result ≡ predicate_bits vec.now }
 {
     compared(vec, test, esize(size), pg, zn, operand, words)
@@ -253,8 +254,10 @@ fn compare(
 )
     requires fits { model.IsOfLane (lane_bits size) operand.now }
     requires told { model.IsTold (lane_bits size) test vec.old zn operand.now words.now }
-    ensures registers { core.new ≡ (put_compared (lane_bits size) pg pd (model.answer test (lane_bits size) vec.old zn operand.now) core.old vec.old).core }
-    ensures vectors { vec.new ≡ (put_compared (lane_bits size) pg pd (model.answer test (lane_bits size) vec.old zn operand.now) core.old vec.old).vectors }
+    ensures registers { core.new ≡ (put_compared (lane_bits size) pg pd
+        (model.answer test (lane_bits size) vec.old zn operand.now) core.old vec.old).core }
+    ensures vectors { vec.new ≡ (put_compared (lane_bits size) pg pd
+        (model.answer test (lane_bits size) vec.old zn operand.now) core.old vec.old).vectors }
 {
     let bits = compared_lanes(vec, test, size, pg, zn, operand, words);
     set_test_lanes(core, &read(vec, pg), &bits, size);

@@ -5,7 +5,17 @@ ghost use Rattle.emu_model.specs.State.{read_x};
 ghost use Rattle.sve_effects.specs.Lane.{lane_op};
 ghost use Rattle.sve_effects.specs.Effects.{predicate};
 ghost use Rattle.sve_effects.specs.LaneLoop.{lane_bits, lane_of};
-ghost use Rattle.sve_effects.specs.PredicateRows.{predicate_bits, set_lanes_of, ptrue_flags, ones, while_of, while_result, counted_by, terminates, termination_flags};
+ghost use Rattle.sve_effects.specs.PredicateRows.{
+  predicate_bits,
+  set_lanes_of,
+  ptrue_flags,
+  ones,
+  while_of,
+  while_result,
+  counted_by,
+  terminates,
+  termination_flags,
+};
 ghost use Rattle.sve_effects.specs.Pattern.{pattern_count};
 ghost use Rattle.sve_effects.specs.Predicate.{only_next, lanes_below, pred_test};
 ghost use Rattle.sve_insn.specs.declared.form.SveForm.TheVariants as form;
@@ -35,7 +45,8 @@ const ALL_LANES: u32 = 31;
 #[inline(always)]
 #[tactic(auto, using(crate::proofs::Lengths::lengths))]
 fn next_bits(vec: &VecRegs, size: U<2>, pg: Pred, pdn: Pred) -> (PredBits, Flags)
-    ensures value { result.0 ≡ only_next (lane_bits size) (predicate_bits vec.now) (read_p vec.now pg) (read_p vec.now pdn) }
+    ensures value { result.0
+        ≡ only_next (lane_bits size) (predicate_bits vec.now) (read_p vec.now pg) (read_p vec.now pdn) }
     ensures length { length result.0 ≡ predicate_bits vec.now }
     ensures flags { result.1 ≡ pred_test (lane_bits size) (predicate_bits vec.now) (read_p vec.now pg)
         (only_next (lane_bits size) (predicate_bits vec.now) (read_p vec.now pg) (read_p vec.now pdn)) }
@@ -77,7 +88,8 @@ fn ptrue_flags(op: PtrueOp) -> bool
 #[inline(always)]
 #[tactic(auto, using(crate::proofs::Lengths::lengths))]
 fn ptrue_bits(vec: &VecRegs, size: U<2>, pattern: U<5>) -> PredBits
-    ensures value { result ≡ lanes_below (lane_bits size) (predicate_bits vec.now) (pattern_count pattern (vec.now.bits / lane_bits size)) }
+    ensures value { result ≡ lanes_below (lane_bits size) (predicate_bits vec.now)
+        (pattern_count pattern (vec.now.bits / lane_bits size)) }
     ensures length { length result ≡ predicate_bits vec.now }
 {
     let e = esize(size);
@@ -99,7 +111,8 @@ fn put_pattern_tested(core: &mut Core, vec: &mut VecRegs, size: U<2>, pattern: U
 /// lanes.
 #[inline(never)]
 fn put_pattern_counted(vec: &mut VecRegs, size: U<2>, pattern: U<5>, pd: Pred)
-    ensures { vec.new ≡ with_p vec.old pd (lanes_below (lane_bits size) (predicate_bits vec.old) (pattern_count pattern (vec.old.bits / lane_bits size))) }
+    ensures { vec.new ≡ with_p vec.old pd (lanes_below (lane_bits size) (predicate_bits vec.old)
+        (pattern_count pattern (vec.old.bits / lane_bits size))) }
 {
     let bits = ptrue_bits(vec, size, pattern);
     write(vec, pd, &bits);
@@ -110,7 +123,8 @@ fn put_pattern_counted(vec: &mut VecRegs, size: U<2>, pattern: U<5>, pd: Pred)
 #[tactic(auto, using(crate::proofs::Lengths::lengths))]
 fn all_bits(vec: &VecRegs, size: U<2>, pattern: U<5>) -> PredBits
     requires { pattern ≡ 31 }
-    ensures value { result ≡ lanes_below (lane_bits size) (predicate_bits vec.now) (pattern_count pattern (vec.now.bits / lane_bits size)) }
+    ensures value { result ≡ lanes_below (lane_bits size) (predicate_bits vec.now)
+        (pattern_count pattern (vec.now.bits / lane_bits size)) }
     ensures length { length result ≡ predicate_bits vec.now }
 {
     let _length = vec.length().bits();
@@ -181,7 +195,8 @@ fn counted_lanes<F: LaneWise2 + Copy>(vec: &mut VecRegs, op: F, e: u32, n: u64, 
 
 /// `incp`, `decp` of a Z register.
 pub fn inc_p_z(vec: &mut VecRegs, op: IncPOp, size: U<2>, pm: Pred, zdn: Reg)
-    ensures { vec.new ≡ with_lanes (lane_bits size) (λ k. lane_op (counted_by op) (lane_bits size) (lane_of (lane_bits size) vec.old zdn k) (set_lanes_of (lane_bits size) pm vec.old)) zdn vec.old }
+    ensures { vec.new ≡ with_lanes (lane_bits size) (λ k. lane_op (counted_by op) (lane_bits size)
+        (lane_of (lane_bits size) vec.old zdn k) (set_lanes_of (lane_bits size) pm vec.old)) zdn vec.old }
 {
     let e = esize(size).bits();
     let n = set_lanes(vec, size, pm);
@@ -274,7 +289,9 @@ fn terminates(op: CtermOp, width: u32, a: u64, b: u64) -> bool
 
 /// `ctermeq`, `ctermne`.
 pub fn cterm(core: &mut Core, op: CtermOp, sf: bool, rm: Reg, rn: Reg)
-    ensures { core.new ≡ record core.old { flags = termination_flags (terminates op (width_of sf) (read_x core.old rn) (read_x core.old rm)) core.old.flags } }
+    ensures { core.new ≡ record core.old {
+      flags = termination_flags (terminates op (width_of sf) (read_x core.old rn) (read_x core.old rm)) core.old.flags;
+    } }
 {
     let ends = terminates(op, width(sf), core.x(rn), core.x(rm));
     let flags = core.flags();

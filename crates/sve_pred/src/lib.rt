@@ -15,8 +15,8 @@ use core_regs::{Core, Effect};
 use sve_insn::{Sve, SveForm};
 use vec_regs::VecRegs;
 
-/// Does an instruction of the rows on predicates: a predicate, FFR, a general register, the lanes of a Z register or the flags
-/// change; the step goes on behind the instruction.
+/// Does an instruction of the rows on predicates: a predicate, FFR, a general register, the lanes of a Z register or
+/// the flags change; the step goes on behind the instruction.
 #[inline(always)]
 pub fn exec(core: &mut Core, vec: &mut VecRegs, i: &Sve) -> Effect
     requires { is_predicate i.now ≡ true }

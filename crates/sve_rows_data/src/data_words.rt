@@ -1,6 +1,19 @@
 //! The word of each form, by groups of the table's lines.
 ghost use Rattle.std.specs.Prelude.{MatchOption};
-ghost use Rattle.sve_insn.specs.declared.lines.TheConstants.{BINARY, DOT_INDEXED, INC_Z, INDEX, MUL_ADD_D, MUL_ADD_Z, PLAIN, PREFIX_P, READ_LENGTH, REDUCE, SAT_X, UNARY};
+ghost use Rattle.sve_insn.specs.declared.lines.TheConstants.{
+  BINARY,
+  DOT_INDEXED,
+  INC_Z,
+  INDEX,
+  MUL_ADD_D,
+  MUL_ADD_Z,
+  PLAIN,
+  PREFIX_P,
+  READ_LENGTH,
+  REDUCE,
+  SAT_X,
+  UNARY,
+};
 ghost use Rattle.sve_insn.specs.Lines.{IsOutside, IsWordOf};
 
 use crate::folds::{

@@ -3,7 +3,23 @@
 ghost use Rattle.std.specs.Prelude.{◌≡◌, [], ◌∷◌};
 ghost use Rattle.emu_bits.specs.Rows.{decode};
 ghost use Rattle.sve_insn.specs.Table.{data_lines};
-ghost use Rattle.sve_insn.specs.Lanes.{binary, binary_wide, shift_imm, unary, mul_add_z, mul_add_d, plain, logic_z, plain_wide, plain_shift, index_z, prefix_p, prefix, dot, dot_indexed};
+ghost use Rattle.sve_insn.specs.Lanes.{
+  binary,
+  binary_wide,
+  shift_imm,
+  unary,
+  mul_add_z,
+  mul_add_d,
+  plain,
+  logic_z,
+  plain_wide,
+  plain_shift,
+  index_z,
+  prefix_p,
+  prefix,
+  dot,
+  dot_indexed,
+};
 ghost use Rattle.sve_insn.specs.Folds.{reduce, count_elements, inc_x, inc_z, sat_x, sat_z, add_length, read_length};
 ghost use Rattle.sve_insn.specs.Seen.{seen};
 
@@ -15,7 +31,8 @@ use crate::lanes::{
 use emu_bits::bits;
 use sve_insn::Sve;
 
-/// The operation, fold or count that a word is, found by bits 15 to 13, or none where the word is in no row of these lines.
+/// The operation, fold or count that a word is, found by bits 15 to 13, or none where the word is in no row of these
+/// lines.
 #[inline(always)]
 pub fn find_data(w: u32) -> Option<Sve>
     ensures { seen result ≡ decode data_lines w }

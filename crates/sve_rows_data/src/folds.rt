@@ -2,7 +2,16 @@
 ghost use Rattle.std.specs.Prelude.{◌≡◌};
 ghost use Rattle.emu_bits.specs.Rows.{encode, row_in};
 ghost use Rattle.emu_bits.specs.RowLaws.{IsShape};
-ghost use Rattle.sve_insn.specs.declared.form.SveForm.TheVariants.{Reduce, Count, IncX, IncZ, SatX, SatZ, AddLength, ReadLength};
+ghost use Rattle.sve_insn.specs.declared.form.SveForm.TheVariants.{
+  Reduce,
+  Count,
+  IncX,
+  IncZ,
+  SatX,
+  SatZ,
+  AddLength,
+  ReadLength,
+};
 ghost use Rattle.sve_insn.specs.Folds.{reduce, count_elements, inc_x, inc_z, sat_x, sat_z, add_length, read_length};
 ghost use Rattle.sve_insn.specs.Rows.{row_of};
 ghost use Rattle.sve_insn.specs.Seen.{seen};

@@ -2,8 +2,40 @@
 ghost use Rattle.std.specs.Prelude.{◌≡◌};
 ghost use Rattle.emu_bits.specs.Rows.{encode, row_in};
 ghost use Rattle.emu_bits.specs.RowLaws.{IsShape};
-ghost use Rattle.sve_insn.specs.declared.form.SveForm.TheVariants.{Binary, BinaryWide, ShiftImm, Unary, MulAddZ, MulAddD, Plain, LogicZ, PlainWide, PlainShift, Index, PrefixP, Prefix, Dot, DotIndexed};
-ghost use Rattle.sve_insn.specs.Lanes.{binary, binary_wide, shift_imm, unary, mul_add_z, mul_add_d, plain, logic_z, plain_wide, plain_shift, index_z, prefix_p, prefix, dot, dot_indexed};
+ghost use Rattle.sve_insn.specs.declared.form.SveForm.TheVariants.{
+  Binary,
+  BinaryWide,
+  ShiftImm,
+  Unary,
+  MulAddZ,
+  MulAddD,
+  Plain,
+  LogicZ,
+  PlainWide,
+  PlainShift,
+  Index,
+  PrefixP,
+  Prefix,
+  Dot,
+  DotIndexed,
+};
+ghost use Rattle.sve_insn.specs.Lanes.{
+  binary,
+  binary_wide,
+  shift_imm,
+  unary,
+  mul_add_z,
+  mul_add_d,
+  plain,
+  logic_z,
+  plain_wide,
+  plain_shift,
+  index_z,
+  prefix_p,
+  prefix,
+  dot,
+  dot_indexed,
+};
 ghost use Rattle.sve_insn.specs.Rows.{row_of};
 ghost use Rattle.sve_insn.specs.Seen.{seen};
 

@@ -3,8 +3,47 @@
 ghost use Rattle.std.specs.Prelude.{◌≡◌, [], ◌∷◌};
 ghost use Rattle.emu_bits.specs.Rows.{decode};
 ghost use Rattle.sve_insn.specs.Table.{memory_lines};
-ghost use Rattle.sve_insn.specs.Memory.{load_z, load_p, store_z, gather_sx, gather_sx_scaled, store_reg, load_imm, load_nf, load_nt_imm, load_nt_reg, load_many_imm, load_many_reg, load_one, store_imm, store_nt_imm, store_nt_reg, store_many_imm, store_many_reg, store_p, gather_dx, gather_dx_scaled, gather_d, gather_d_scaled, gather_sv, gather_dv, scatter_sx, scatter_sx_scaled, scatter_dx, scatter_dx_scaled, scatter_d, scatter_d_scaled, scatter_sv, scatter_dv};
-ghost use Rattle.sve_rows_memory.specs.Left.{contiguous_loads, all_stores, scatters_and_immediate_stores, plain_scatters_and_immediate_stores};
+ghost use Rattle.sve_insn.specs.Memory.{
+  load_z,
+  load_p,
+  store_z,
+  gather_sx,
+  gather_sx_scaled,
+  store_reg,
+  load_imm,
+  load_nf,
+  load_nt_imm,
+  load_nt_reg,
+  load_many_imm,
+  load_many_reg,
+  load_one,
+  store_imm,
+  store_nt_imm,
+  store_nt_reg,
+  store_many_imm,
+  store_many_reg,
+  store_p,
+  gather_dx,
+  gather_dx_scaled,
+  gather_d,
+  gather_d_scaled,
+  gather_sv,
+  gather_dv,
+  scatter_sx,
+  scatter_sx_scaled,
+  scatter_dx,
+  scatter_dx_scaled,
+  scatter_d,
+  scatter_d_scaled,
+  scatter_sv,
+  scatter_dv,
+};
+ghost use Rattle.sve_rows_memory.specs.Left.{
+  contiguous_loads,
+  all_stores,
+  scatters_and_immediate_stores,
+  plain_scatters_and_immediate_stores,
+};
 ghost use Rattle.sve_insn.specs.Seen.{seen};
 
 use crate::gathers::{

@@ -2,8 +2,26 @@
 ghost use Rattle.std.specs.Prelude.{◌≡◌};
 ghost use Rattle.emu_bits.specs.Rows.{encode, row_in};
 ghost use Rattle.emu_bits.specs.RowLaws.{IsShape};
-ghost use Rattle.sve_insn.specs.declared.form.SveForm.TheVariants.{GatherSx, GatherSxScaled, GatherDx, GatherDxScaled, GatherD, GatherDScaled, GatherSv, GatherDv};
-ghost use Rattle.sve_insn.specs.Memory.{gather_sx, gather_sx_scaled, gather_dx, gather_dx_scaled, gather_d, gather_d_scaled, gather_sv, gather_dv};
+ghost use Rattle.sve_insn.specs.declared.form.SveForm.TheVariants.{
+  GatherSx,
+  GatherSxScaled,
+  GatherDx,
+  GatherDxScaled,
+  GatherD,
+  GatherDScaled,
+  GatherSv,
+  GatherDv,
+};
+ghost use Rattle.sve_insn.specs.Memory.{
+  gather_sx,
+  gather_sx_scaled,
+  gather_dx,
+  gather_dx_scaled,
+  gather_d,
+  gather_d_scaled,
+  gather_sv,
+  gather_dv,
+};
 ghost use Rattle.sve_insn.specs.Rows.{row_of};
 ghost use Rattle.sve_insn.specs.Seen.{seen};
 

@@ -2,8 +2,36 @@
 ghost use Rattle.std.specs.Prelude.{◌≡◌};
 ghost use Rattle.emu_bits.specs.Rows.{encode, row_in};
 ghost use Rattle.emu_bits.specs.RowLaws.{IsShape};
-ghost use Rattle.sve_insn.specs.declared.form.SveForm.TheVariants.{LoadZ, LoadP, LoadImm, LoadReg, LoadFf, LoadNf, LoadNtImm, LoadNtReg, LoadQuadImm, LoadQuadReg, LoadManyImm, LoadManyReg, LoadOne};
-ghost use Rattle.sve_insn.specs.Memory.{load_z, load_p, load_imm, load_reg, load_ff, load_nf, load_nt_imm, load_nt_reg, load_quad_imm, load_quad_reg, load_many_imm, load_many_reg, load_one};
+ghost use Rattle.sve_insn.specs.declared.form.SveForm.TheVariants.{
+  LoadZ,
+  LoadP,
+  LoadImm,
+  LoadReg,
+  LoadFf,
+  LoadNf,
+  LoadNtImm,
+  LoadNtReg,
+  LoadQuadImm,
+  LoadQuadReg,
+  LoadManyImm,
+  LoadManyReg,
+  LoadOne,
+};
+ghost use Rattle.sve_insn.specs.Memory.{
+  load_z,
+  load_p,
+  load_imm,
+  load_reg,
+  load_ff,
+  load_nf,
+  load_nt_imm,
+  load_nt_reg,
+  load_quad_imm,
+  load_quad_reg,
+  load_many_imm,
+  load_many_reg,
+  load_one,
+};
 ghost use Rattle.sve_insn.specs.Rows.{row_of};
 ghost use Rattle.sve_insn.specs.Seen.{seen};
 

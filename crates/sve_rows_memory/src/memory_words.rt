@@ -1,6 +1,29 @@
 //! The word of each form, by groups of the table's lines.
 ghost use Rattle.std.specs.Prelude.{MatchOption};
-ghost use Rattle.sve_insn.specs.declared.lines.TheConstants.{GATHER_D, GATHER_DV, GATHER_DX, GATHER_D_SCALED, GATHER_SX, LOAD_IMM, LOAD_MANY_IMM, LOAD_NF, LOAD_NT_IMM, LOAD_ONE, LOAD_QUAD_REG, LOAD_Z, SCATTER_D, SCATTER_DV, SCATTER_DX_SCALED, SCATTER_SX, STORE_IMM, STORE_MANY_IMM, STORE_NT_REG, STORE_P, STORE_REG, STORE_Z};
+ghost use Rattle.sve_insn.specs.declared.lines.TheConstants.{
+  GATHER_D,
+  GATHER_DV,
+  GATHER_DX,
+  GATHER_D_SCALED,
+  GATHER_SX,
+  LOAD_IMM,
+  LOAD_MANY_IMM,
+  LOAD_NF,
+  LOAD_NT_IMM,
+  LOAD_ONE,
+  LOAD_QUAD_REG,
+  LOAD_Z,
+  SCATTER_D,
+  SCATTER_DV,
+  SCATTER_DX_SCALED,
+  SCATTER_SX,
+  STORE_IMM,
+  STORE_MANY_IMM,
+  STORE_NT_REG,
+  STORE_P,
+  STORE_REG,
+  STORE_Z,
+};
 ghost use Rattle.sve_insn.specs.Lines.{IsOutside, IsWordOf};
 
 use crate::gathers::{

@@ -2,8 +2,26 @@
 ghost use Rattle.std.specs.Prelude.{◌≡◌};
 ghost use Rattle.emu_bits.specs.Rows.{encode, row_in};
 ghost use Rattle.emu_bits.specs.RowLaws.{IsShape};
-ghost use Rattle.sve_insn.specs.declared.form.SveForm.TheVariants.{ScatterSx, ScatterSxScaled, ScatterDx, ScatterDxScaled, ScatterD, ScatterDScaled, ScatterSv, ScatterDv};
-ghost use Rattle.sve_insn.specs.Memory.{scatter_sx, scatter_sx_scaled, scatter_dx, scatter_dx_scaled, scatter_d, scatter_d_scaled, scatter_sv, scatter_dv};
+ghost use Rattle.sve_insn.specs.declared.form.SveForm.TheVariants.{
+  ScatterSx,
+  ScatterSxScaled,
+  ScatterDx,
+  ScatterDxScaled,
+  ScatterD,
+  ScatterDScaled,
+  ScatterSv,
+  ScatterDv,
+};
+ghost use Rattle.sve_insn.specs.Memory.{
+  scatter_sx,
+  scatter_sx_scaled,
+  scatter_dx,
+  scatter_dx_scaled,
+  scatter_d,
+  scatter_d_scaled,
+  scatter_sv,
+  scatter_dv,
+};
 ghost use Rattle.sve_insn.specs.Rows.{row_of};
 ghost use Rattle.sve_insn.specs.Seen.{seen};
 

@@ -2,8 +2,26 @@
 ghost use Rattle.std.specs.Prelude.{◌≡◌};
 ghost use Rattle.emu_bits.specs.Rows.{encode, row_in};
 ghost use Rattle.emu_bits.specs.RowLaws.{IsShape};
-ghost use Rattle.sve_insn.specs.declared.form.SveForm.TheVariants.{StoreZ, StoreReg, StoreImm, StoreNtImm, StoreNtReg, StoreManyImm, StoreManyReg, StoreP};
-ghost use Rattle.sve_insn.specs.Memory.{store_z, store_reg, store_imm, store_nt_imm, store_nt_reg, store_many_imm, store_many_reg, store_p};
+ghost use Rattle.sve_insn.specs.declared.form.SveForm.TheVariants.{
+  StoreZ,
+  StoreReg,
+  StoreImm,
+  StoreNtImm,
+  StoreNtReg,
+  StoreManyImm,
+  StoreManyReg,
+  StoreP,
+};
+ghost use Rattle.sve_insn.specs.Memory.{
+  store_z,
+  store_reg,
+  store_imm,
+  store_nt_imm,
+  store_nt_reg,
+  store_many_imm,
+  store_many_reg,
+  store_p,
+};
 ghost use Rattle.sve_insn.specs.Rows.{row_of};
 ghost use Rattle.sve_insn.specs.Seen.{seen};
 

@@ -4,7 +4,23 @@ ghost use Rattle.std.specs.Prelude.{◌≡◌, [], ◌∷◌};
 ghost use Rattle.emu_bits.specs.Rows.{decode};
 ghost use Rattle.sve_insn.specs.Table.{move_lines};
 ghost use Rattle.sve_insn.specs.Lanes.{bitmask_z, copy_imm};
-ghost use Rattle.sve_insn.specs.Folds.{dup_reg, dup_lane, insert_scalar, rev_z, unpack, table_lookup, interleave, interleave_p, unpack_p, rev_p, compact, splice, copy_reg, last_active, cond_last};
+ghost use Rattle.sve_insn.specs.Folds.{
+  dup_reg,
+  dup_lane,
+  insert_scalar,
+  rev_z,
+  unpack,
+  table_lookup,
+  interleave,
+  interleave_p,
+  unpack_p,
+  rev_p,
+  compact,
+  splice,
+  copy_reg,
+  last_active,
+  cond_last,
+};
 ghost use Rattle.sve_rows_moves.specs.Left.{permutes_and_selections, lane_moves};
 ghost use Rattle.sve_insn.specs.Seen.{seen};
 
@@ -16,7 +32,8 @@ use crate::permutes::{
 use emu_bits::bits;
 use sve_insn::Sve;
 
-/// The immediate, permute or selection that a word is, found by bit 21, or none where the word is in no row of these lines.
+/// The immediate, permute or selection that a word is, found by bit 21, or none where the word is in no row of these
+/// lines.
 #[inline(always)]
 pub fn find_moves(w: u32) -> Option<Sve>
     ensures { seen result ≡ decode move_lines w }

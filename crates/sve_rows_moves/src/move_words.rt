@@ -1,6 +1,15 @@
 //! The word of each form, by groups of the table's lines.
 ghost use Rattle.std.specs.Prelude.{MatchOption};
-ghost use Rattle.sve_insn.specs.declared.lines.TheConstants.{BITMASK_Z, COMPACT, COND_LAST, DUP_REG, INTERLEAVE, REV_P, SELECT_Z, TABLE};
+ghost use Rattle.sve_insn.specs.declared.lines.TheConstants.{
+  BITMASK_Z,
+  COMPACT,
+  COND_LAST,
+  DUP_REG,
+  INTERLEAVE,
+  REV_P,
+  SELECT_Z,
+  TABLE,
+};
 ghost use Rattle.sve_insn.specs.Lines.{IsOutside, IsWordOf};
 
 use crate::immediates::{bitmask_z_bits, copy_imm_bits};

@@ -2,9 +2,44 @@
 ghost use Rattle.std.specs.Prelude.{◌≡◌};
 ghost use Rattle.emu_bits.specs.Rows.{encode, row_in};
 ghost use Rattle.emu_bits.specs.RowLaws.{IsShape};
-ghost use Rattle.sve_insn.specs.declared.form.SveForm.TheVariants.{SelectZ, DupReg, DupLane, Insert, RevZ, Unpack, Table, Interleave, InterleaveP, UnpackP, RevP, Compact, Splice, Ext, CopyReg, Last, CondLast};
+ghost use Rattle.sve_insn.specs.declared.form.SveForm.TheVariants.{
+  SelectZ,
+  DupReg,
+  DupLane,
+  Insert,
+  RevZ,
+  Unpack,
+  Table,
+  Interleave,
+  InterleaveP,
+  UnpackP,
+  RevP,
+  Compact,
+  Splice,
+  Ext,
+  CopyReg,
+  Last,
+  CondLast,
+};
 ghost use Rattle.sve_insn.specs.Lanes.{select_z};
-ghost use Rattle.sve_insn.specs.Folds.{dup_reg, dup_lane, insert_scalar, rev_z, unpack, table_lookup, interleave, interleave_p, unpack_p, rev_p, compact, splice, ext, copy_reg, last_active, cond_last};
+ghost use Rattle.sve_insn.specs.Folds.{
+  dup_reg,
+  dup_lane,
+  insert_scalar,
+  rev_z,
+  unpack,
+  table_lookup,
+  interleave,
+  interleave_p,
+  unpack_p,
+  rev_p,
+  compact,
+  splice,
+  ext,
+  copy_reg,
+  last_active,
+  cond_last,
+};
 ghost use Rattle.sve_insn.specs.Rows.{row_of};
 ghost use Rattle.sve_insn.specs.Seen.{seen};
 

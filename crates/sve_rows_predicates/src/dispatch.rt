@@ -4,8 +4,34 @@ ghost use Rattle.std.specs.Prelude.{◌≡◌, [], ◌∷◌};
 ghost use Rattle.emu_bits.specs.Rows.{decode};
 ghost use Rattle.sve_insn.specs.Table.{predicate_lines};
 ghost use Rattle.sve_insn.specs.Lanes.{wide_imm, min_max_imm, dup_imm};
-ghost use Rattle.sve_insn.specs.Predicates.{cmp_vec, cmp_wide, cmp_u_imm, logic_p, select_p, break_first, break_next, first_active, next_active, ptrue, pfalse, read_ffr, read_ffr_all, write_ffr, count_p, inc_p, inc_p_z, while_compare, cterm};
-ghost use Rattle.sve_rows_predicates.specs.Left.{predicates_and_immediates, signed_compares_and_predicates, pairs_and_single_predicates, single_predicates, counts_and_immediates};
+ghost use Rattle.sve_insn.specs.Predicates.{
+  cmp_vec,
+  cmp_wide,
+  cmp_u_imm,
+  logic_p,
+  select_p,
+  break_first,
+  break_next,
+  first_active,
+  next_active,
+  ptrue,
+  pfalse,
+  read_ffr,
+  read_ffr_all,
+  write_ffr,
+  count_p,
+  inc_p,
+  inc_p_z,
+  while_compare,
+  cterm,
+};
+ghost use Rattle.sve_rows_predicates.specs.Left.{
+  predicates_and_immediates,
+  signed_compares_and_predicates,
+  pairs_and_single_predicates,
+  single_predicates,
+  counts_and_immediates,
+};
 ghost use Rattle.sve_insn.specs.Seen.{seen};
 
 use crate::compares::{cmp_s_imm, cmp_u_imm, cmp_vec, cmp_wide, cterm, while_compare};
@@ -18,8 +44,8 @@ use crate::predicates::{
 use emu_bits::bits;
 use sve_insn::Sve;
 
-/// The compare, operation on predicates, count of them or operation with an immediate that a word is, found by bit 24, or
-/// none where the word is in no row of these lines.
+/// The compare, operation on predicates, count of them or operation with an immediate that a word is, found by bit 24,
+/// or none where the word is in no row of these lines.
 #[inline(always)]
 pub fn find_predicates(w: u32) -> Option<Sve>
     ensures { seen result ≡ decode predicate_lines w }

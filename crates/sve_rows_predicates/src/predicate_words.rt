@@ -1,6 +1,17 @@
 //! The word of each form, by groups of the table's lines.
 ghost use Rattle.std.specs.Prelude.{MatchOption};
-ghost use Rattle.sve_insn.specs.declared.lines.TheConstants.{BREAK_NEXT, CMP_S_IMM, CMP_VEC, COUNT_P, CTERM, DUP_IMM, LOGIC_P, PTEST, WIDE_IMM, WRITE_FFR};
+ghost use Rattle.sve_insn.specs.declared.lines.TheConstants.{
+  BREAK_NEXT,
+  CMP_S_IMM,
+  CMP_VEC,
+  COUNT_P,
+  CTERM,
+  DUP_IMM,
+  LOGIC_P,
+  PTEST,
+  WIDE_IMM,
+  WRITE_FFR,
+};
 ghost use Rattle.sve_insn.specs.Lines.{IsOutside, IsWordOf};
 
 use crate::compares::{
@@ -15,7 +26,8 @@ use crate::predicates::{
 };
 use sve_insn::SveForm;
 
-/// The word of a compare, an operation on predicates, a count of them or an operation with an immediate; none of another form.
+/// The word of a compare, an operation on predicates, a count of them or an operation with an immediate; none of
+/// another form.
 pub fn predicate_word(form: &SveForm) -> Option<u32>
     ensures { MatchOption result (IsOutside CMP_VEC DUP_IMM form.now) (λ w. IsWordOf form.now w) }
 {

@@ -2,8 +2,36 @@
 ghost use Rattle.std.specs.Prelude.{◌≡◌};
 ghost use Rattle.emu_bits.specs.Rows.{encode, row_in};
 ghost use Rattle.emu_bits.specs.RowLaws.{IsShape};
-ghost use Rattle.sve_insn.specs.declared.form.SveForm.TheVariants.{LogicP, SelectP, Break, BreakPair, BreakNext, Ptest, First, Next, Ptrue, Pfalse, ReadFfr, ReadFfrAll, WriteFfr};
-ghost use Rattle.sve_insn.specs.Predicates.{logic_p, select_p, break_first, break_pair, break_next, ptest, first_active, next_active, ptrue, pfalse, read_ffr, read_ffr_all, write_ffr};
+ghost use Rattle.sve_insn.specs.declared.form.SveForm.TheVariants.{
+  LogicP,
+  SelectP,
+  Break,
+  BreakPair,
+  BreakNext,
+  Ptest,
+  First,
+  Next,
+  Ptrue,
+  Pfalse,
+  ReadFfr,
+  ReadFfrAll,
+  WriteFfr,
+};
+ghost use Rattle.sve_insn.specs.Predicates.{
+  logic_p,
+  select_p,
+  break_first,
+  break_pair,
+  break_next,
+  ptest,
+  first_active,
+  next_active,
+  ptrue,
+  pfalse,
+  read_ffr,
+  read_ffr_all,
+  write_ffr,
+};
 ghost use Rattle.sve_insn.specs.Rows.{row_of};
 ghost use Rattle.sve_insn.specs.Seen.{seen};
 

@@ -10,7 +10,6 @@ use Rattle.text_model.specs.Words.{dictionary}
 use Rattle.text_model.specs.Statement.{Statement}
 use Rattle.text_model.specs.ReadBack.{reads_text}
 use Rattle.sve_insn.specs.Conditions.{is_no_byte, is_no_doubleword, is_word_or_doubleword, is_halfword_or_word, binary_holds_for, has_tsz, unary_least_size, unary_holds_for, shifts_no_byte, has_bitmask, reduce_holds_for, has_lane_size, break_first_holds_for, write_ffr_holds_for, is_register, fits_lane, store_reg_holds_for, extends_to_word, extends_to_doubleword, gather_word_holds_for, gather_scaled_word_holds_for, gather_scaled_doubleword_holds_for}
-use Rattle.sve_insn.specs.Predicates.{ptrue}
 use Rattle.sve_insn.specs.Table.{sve_table}
 
 abbrev read : List ℕ → Result Statement Refusal

@@ -1,7 +1,7 @@
 -- Each word of a line has a pattern.
-use Rattle.std.proofs.Common.{◌≡◌, ℕ, Bool, true, Some, List, [], ◌∷◌, ◌&&◌, refl}
+use Rattle.std.proofs.Common.{◌≡◌, ℕ, Bool, true, Some, List, [], ◌∷◌, ◌&&◌}
 use Rattle.std.proofs.lemmas.Bool.{and_parts}
-use Rattle.emu_bits.specs.Rows.{Place, Line, Row, values, row_in}
+use Rattle.emu_bits.specs.Rows.{Line, Row, row_in}
 use Rattle.emu_bits.proofs.Encoding.{answer_of}
 use Rattle.sve_texts.specs.Entry.{Entry, texts_in}
 use Rattle.sve_insn.specs.declared.form.SveForm.{SveForm}

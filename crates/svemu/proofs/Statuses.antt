@@ -3,7 +3,7 @@ use Rattle.std.proofs.Common.{◌≡◌, ◌<◌, ◌⊎◌, inl, inr, ℕ, true
 use Rattle.emu_outcome.specs.Outcome.{Outcome}
 use Rattle.emu_outcome.specs.Statuses.{status_of}
 use Rattle.emu_outcome.specs.declared.ending.Ending.{Ending}
-use Rattle.emu_outcome.specs.declared.ending.Ending.TheVariants.{WordsRefused, FileFault, ReadFault, WriteFault, ErrorsFault, OutOfMemory}
+use Rattle.emu_outcome.specs.declared.ending.Ending.TheVariants.{FileFault, ReadFault, WriteFault, ErrorsFault}
 use Rattle.command_model.specs.declared.command_line.Line.{Line}
 use Rattle.command_model.specs.declared.command_line.WordsFault.{WordsFault}
 use Rattle.commands.specs.Lines.{may_end, RefusesLine}

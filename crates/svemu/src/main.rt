@@ -1,5 +1,6 @@
-//! svemu: runs a static AArch64 program with the Scalable Vector Extension at a chosen vector length, by itself, in a debugger or with
-//! its threads under a schedule, or at each length; makes executables of listings, shows the instructions of executables, and runs a load program that it makes.
+//! svemu: runs a static AArch64 program with the Scalable Vector Extension at a chosen vector length, by itself, in a
+//! debugger or with its threads under a schedule, or at each length; makes executables of listings, shows the
+//! instructions of executables, and runs a load program that it makes.
 #![tactic(auto)]
 
 ghost use Rattle.std.specs.Prelude.{◌≡◌, ◌≢◌};

@@ -21,7 +21,9 @@ pub fn status_of<F: Images, I: Source, O: Sink, E: Sink>(
 ) -> u8
     // Where no count of faults rose, the status is that of the result's ending, or of want of memory; where there is no
     // result, that of a missing file, or of want of memory.
-    ensures complete { IfSome (F.named files.old) (λ named. (bytes : List ℕ) → IsOutcome (line (map string_bytes words.now)) (I.left input.old) (result_of (map string_bytes words.now) named bytes) bytes
+    ensures complete { IfSome (F.named files.old)
+        (λ named. (bytes : List ℕ) → IsOutcome (line (map string_bytes words.now))
+        (I.left input.old) (result_of (map string_bytes words.now) named bytes) bytes
         → IsQuiet (F.faults files.old) (F.faults files.new) → IsQuiet (I.faults input.old) (I.faults input.new)
         → IsQuiet (O.faults output.old) (O.faults output.new) → IsQuiet (E.faults errors.old) (E.faults errors.new)
         → CompletesWith (result_of (map string_bytes words.now) named bytes) result) }

@@ -1,6 +1,6 @@
 -- Laws of a sweep: which lines stand before the first length at which a stream is too long.
-use Rattle.std.proofs.Common.{◌≡◌, ◌<◌, ◌≤◌, ◌+◌, ◌*◌, ℕ, Bool, true, false, ◌&&◌, cond, List, [], ◌∷◌, ◌++◌, map, flat_map, take, drop, refl, sym, ap, ap₂, ◌∙◌, append-nil, append_assoc, take-append-drop, arith}
-use Rattle.std.specs.List.{list_all, range_with_len, take_while}
+use Rattle.std.proofs.Common.{◌≡◌, ◌<◌, ◌≤◌, ◌+◌, ◌*◌, ℕ, Bool, true, false, ◌&&◌, cond, List, [], ◌∷◌, ◌++◌, flat_map, drop, refl, sym, ap, ap₂, ◌∙◌, append-nil, append_assoc, take-append-drop, arith}
+use Rattle.std.specs.List.{list_all, take_while}
 use Rattle.std.proofs.lemmas.List.FromFn.{map-range_with_len_more, take-map-range_with_len}
 use Rattle.std.proofs.lemmas.List.Folds.{list_all-append}
 use Rattle.std.proofs.lemmas.List.Sums.{take_while-cons}

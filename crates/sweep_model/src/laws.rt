@@ -10,7 +10,8 @@ pub fn outputs_part_at_the_least_place()
     ensures { (first output : List ℕ) → IsParting first output (common_prefix_len nat_eq first output) }
 {}
 
-/// Where the output and the errors fit at each length, the lines before the first length at which they don't are all sixteen.
+/// Where the output and the errors fit at each length, the lines before the first length at which they don't are all
+/// sixteen.
 #[tactic(auto, using(crate::specs::SweepLaws::lines_whole))]
 pub fn a_sweep_that_fits_is_whole()
     ensures { (s : Sweep) → fits s ≡ true → text_before s ≡ sweep_text s }

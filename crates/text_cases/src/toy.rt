@@ -27,7 +27,8 @@ fn first_token(text: &str) -> Option<Token>
 /// The one token of a text.
 fn one_token(alloc: Global, text: &str) -> Result<Name, AsmFault>
     ensures read { Answers result (toy.one_token (tokens text.now)) }
-    ensures wanting { result ≡ Err AsmFault.OutOfMemory → (token : List ℕ) × (toy.one_token (tokens text.now) ≡ Ok token) }
+    ensures wanting { result ≡ Err AsmFault.OutOfMemory
+        → (token : List ℕ) × (toy.one_token (tokens text.now) ≡ Ok token) }
 {
     let token = first_token(text).ok_or(AsmFault::BadOperands)?;
     if next_token(text, token.to).is_some() {

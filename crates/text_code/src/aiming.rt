@@ -9,8 +9,8 @@ use crate::bits::{Built, width_of};
 use crate::choosing::ones_of;
 use text_model::{Kind, Parts, Slot};
 
-/// How a target is shown: the address `by` times the signed number at its parts, behind the instruction's, which is rounded down to a
-/// multiple of `page`.
+/// How a target is shown: the address `by` times the signed number at its parts, behind the instruction's, which is
+/// rounded down to a multiple of `page`.
 #[derive(Clone, Copy)]
 pub struct Reach {
     pub by: u16,

@@ -61,11 +61,14 @@ fn raised(style: Style, item: Item) -> Item
     }
 }
 
-/// The items of a statement, one for each slot, those that were left out put in; none where there are too few or too many.
+/// The items of a statement, one for each slot, those that were left out put in; none where there are too few or too
+/// many.
 pub fn filled(slots: &[Slot], items: &[Item]) -> Option<ArrayVec<Item, MOST>>
     requires sound { are_sound slots.now ≡ true }
     requires few { length slots.now ≤ 24 }
-    ensures { MatchOption result ((v : ℕ) → same_classes (items_in slots.now v) (filled false slots.now items.now) ≡ false) (λ r. r.items ≡ filled false slots.now items.now) }
+    ensures { MatchOption result
+        ((v : ℕ) → same_classes (items_in slots.now v) (filled false slots.now items.now) ≡ false)
+        (λ r. r.items ≡ filled false slots.now items.now) }
 {
     let (mut left, mut next) = (slots, items);
     let mut all = ArrayVec::new();

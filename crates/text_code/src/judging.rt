@@ -72,7 +72,8 @@ fn still_fine(fine: bool, slot: Slot, word: u32, value: u128) -> bool
 /// Whether the items are those that the slots show of a word.
 fn judged(slots: &[Slot], items: &[Item], word: u32) -> Result<(), Refusal>
     requires { are_sound slots.now ≡ true }
-    ensures { result ≡ verdict (same_classes (items_in slots.now word) items.now) (are_shown slots.now items.now word) tt }
+    ensures { result
+        ≡ verdict (same_classes (items_in slots.now word) items.now) (are_shown slots.now items.now word) tt }
 {
     let (mut left, mut next) = (slots, items);
     let mut fine = true;
@@ -110,7 +111,8 @@ pub fn has_target(slots: &[Slot]) -> bool
     slots.iter().any(|slot| is_target(slot.codec.kind))
 }
 
-/// The word that a pattern of the name with this base and these slots reads in a statement's items, whatever the table says of it.
+/// The word that a pattern of the name with this base and these slots reads in a statement's items, whatever the table
+/// says of it.
 pub fn answer(base: u32, slots: &[Slot], items: &[Item]) -> Result<u32, Refusal>
     requires sound { are_sound slots.now ≡ true }
     requires few { length slots.now ≤ 24 }

@@ -86,7 +86,8 @@ fn signed(bits: u32, v: u64, by: u16) -> u128
     }
 }
 
-/// What a slot shows of the number v, which has some bits: a word's value, or twice a number, and one more where it is negative.
+/// What a slot shows of the number v, which has some bits: a word's value, or twice a number, and one more where it is
+/// negative.
 pub fn shown(kind: Kind, bits: u32, v: u64) -> u128
     requires sound { is_sound_kind kind bits ≡ true }
     requires narrow { bits ≤ 32 }

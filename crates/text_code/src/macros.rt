@@ -1,5 +1,5 @@
-//! Words for writing the patterns of a table as constants. A macro names what stands in scope where it is called: `END`, `Name`, `Pattern`,
-//! `Spot`, the module `names`, and the slots that it is given.
+//! Words for writing the patterns of a table as constants. A macro names what stands in scope where it is called:
+//! `END`, `Name`, `Pattern`, `Spot`, the module `names`, and the slots that it is given.
 
 /// Slots, and behind them the end, up to the 24 places of a pattern.
 #[macro_export]

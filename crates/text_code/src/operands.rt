@@ -31,7 +31,8 @@ fn item_of_number(value: i128) -> Item
 /// The item that a statement goes on with at a place, and the place behind it; none where no token is left.
 fn next_item(rest: &str, at: usize) -> Option<(Item, usize)>
     requires { IsCharBoundary rest.now at }
-    ensures item { MatchOption result (tokens (drop at rest.now) ≡ []) (λ r. items_behind 0 (tokens (drop at rest.now)) ≡ r.0 ∷ items_behind 0 (tokens (drop r.1 rest.now))) }
+    ensures item { MatchOption result (tokens (drop at rest.now) ≡ [])
+        (λ r. items_behind 0 (tokens (drop at rest.now)) ≡ r.0 ∷ items_behind 0 (tokens (drop r.1 rest.now))) }
     ensures cut { IfSome result (λ r. IsCharBoundary rest.now r.1) }
     ensures behind { IfSome result (λ r. at < r.1) }
 {
@@ -47,7 +48,8 @@ fn next_item(rest: &str, at: usize) -> Option<(Item, usize)>
 
 /// The items of a statement behind its name; none where there are more than any instruction's text has.
 pub fn items(rest: &str) -> Option<ArrayVec<Item, MOST>>
-    ensures { MatchOption result (24 < length (items_of (tokens rest.now))) (λ is. is.items ≡ items_of (tokens rest.now)) }
+    ensures { MatchOption result (24 < length (items_of (tokens rest.now)))
+        (λ is. is.items ≡ items_of (tokens rest.now)) }
 {
     let mut items = ArrayVec::new();
     let mut at = 0;

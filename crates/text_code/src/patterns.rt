@@ -8,8 +8,8 @@ use text_lists::slot;
 use text_lists::slots::END;
 use text_model::Slot;
 
-/// A pattern: the number of its name, the word whose bits the name settles, and the numbers of the slots that show the others, up to
-/// [`END`].
+/// A pattern: the number of its name, the word whose bits the name settles, and the numbers of the slots that show the
+/// others, up to [`END`].
 #[derive(Clone, Copy)]
 pub struct Pattern {
     pub name: u16,

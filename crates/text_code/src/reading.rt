@@ -1,12 +1,41 @@
 //! Statements read by the patterns of a table.
-ghost use Rattle.std.specs.Prelude.{◌≡◌, ◌≤◌, ◌∷◌, if◌then◌else◌, [], ℕ, Bool, true, None, get_or, List, Ok, Err, IfOk, MatchResult, length};
+ghost use Rattle.std.specs.Prelude.{
+  ◌≡◌,
+  ◌≤◌,
+  ◌∷◌,
+  if◌then◌else◌,
+  [],
+  ℕ,
+  Bool,
+  true,
+  None,
+  get_or,
+  List,
+  Ok,
+  Err,
+  IfOk,
+  MatchResult,
+  length,
+};
 ghost use Rattle.text_tokens.specs.Tokens.{tokens};
 ghost use Rattle.text_model.specs.Reading.{Pattern as TablePattern, later};
 ghost use Rattle.text_model.specs.Statement.{is_address, untargeted, lowered, reads_tokens};
 ghost use Rattle.text_model.specs.Writing.{flat};
 ghost use Rattle.text_code.specs.Tables.{pattern_of, patterns_of};
 ghost use Rattle.text_code.specs.Sound.{are_sound};
-ghost use Rattle.text_code.specs.Reads.{with_name, at_spot, at_spots, are_spots, all_sound, answer_named, reads_named, read_of, aim_at, statement_of, IsCut};
+ghost use Rattle.text_code.specs.Reads.{
+  with_name,
+  at_spot,
+  at_spots,
+  are_spots,
+  all_sound,
+  answer_named,
+  reads_named,
+  read_of,
+  aim_at,
+  statement_of,
+  IsCut,
+};
 ghost use Rattle.text_code.specs.Judging.{answer_to};
 ghost use Rattle.text_code.specs.Places.{kept_or_zero};
 
@@ -109,8 +138,8 @@ fn later(a: Refusal, b: Refusal) -> Refusal
     }
 }
 
-/// The word that a pattern with this base and these slots reads in items, the second ones where it has a target, whatever the table
-/// says of it.
+/// The word that a pattern with this base and these slots reads in items, the second ones where it has a target,
+/// whatever the table says of it.
 fn answer_by(
     base: u32,
     slots: &[Slot],
@@ -120,7 +149,8 @@ fn answer_by(
 ) -> Result<u32, Refusal>
     requires sound { are_sound slots.now ≡ true }
     requires few { length slots.now ≤ 24 }
-    ensures { result ≡ answer_to (record { name = []; base = base; slots = slots.now }) (if aimed then untargeted.now else items.now) }
+    ensures { result ≡ answer_to (record { name = []; base = base; slots = slots.now })
+        (if aimed then untargeted.now else items.now) }
 {
     if aimed {
         answer(base, slots, untargeted)
@@ -129,7 +159,8 @@ fn answer_by(
     }
 }
 
-/// The word that a pattern reads in items, and whether it has a target. The second items are for a pattern that has one.
+/// The word that a pattern reads in items, and whether it has a target. The second items are for a pattern that has
+/// one.
 fn read_by<T: Table>(
     table: &T,
     pattern: &Pattern,
@@ -137,7 +168,8 @@ fn read_by<T: Table>(
     untargeted: &[Item],
 ) -> Result<(u32, bool), Refusal>
     requires { all_sound (pattern_of pattern.now ∷ []) ≡ true }
-    ensures { read_of result ≡ answer_named (T.in_table table.now) (pattern_of pattern.now) (record { items = items.now; untargeted = untargeted.now }) }
+    ensures { read_of result ≡ answer_named (T.in_table table.now) (pattern_of pattern.now)
+        (record { items = items.now; untargeted = untargeted.now }) }
 {
     let slots = pattern.slots();
     let aimed = has_target(&slots);
@@ -153,7 +185,8 @@ fn read_by<T: Table>(
     }
 }
 
-/// The word that the patterns at some spots read in items: that of the first which reads one, else the refusal that stands last.
+/// The word that the patterns at some spots read in items: that of the first which reads one, else the refusal that
+/// stands last.
 fn read_among<T: Table>(
     table: &T,
     spots: &[Spot],
@@ -162,7 +195,8 @@ fn read_among<T: Table>(
 ) -> Result<(u32, bool), Refusal>
     requires within { are_spots (T.lines table.now) spots.now ≡ true }
     requires sound { all_sound (at_spots (T.lines table.now) spots.now) ≡ true }
-    ensures { read_of result ≡ reads_named (T.in_table table.now) (at_spots (T.lines table.now) spots.now) (record { items = items.now; untargeted = untargeted.now }) }
+    ensures { read_of result ≡ reads_named (T.in_table table.now) (at_spots (T.lines table.now) spots.now)
+        (record { items = items.now; untargeted = untargeted.now }) }
 {
     let mut left = spots;
     let mut refusal = Refusal::UnknownName;
@@ -194,10 +228,12 @@ fn target_of(aimed: bool, label: Option<Token>, last: Option<Item>) -> Option<Ai
     if aimed { target_at(label, last) } else { None }
 }
 
-/// What the patterns of a table make of a name and what stands behind it: the word that the first of them reads, else the refusal
-/// that stands last.
+/// What the patterns of a table make of a name and what stands behind it: the word that the first of them reads, else
+/// the refusal that stands last.
 pub fn read<T: Table>(table: &T, name: &str, rest: &str) -> Result<Found, Refusal>
-    ensures read { MatchResult result (λ f. reads_tokens (T.in_table table.now) (flat (T.lines table.now)) name.now (tokens rest.now) ≡ Ok (statement_of rest.now f)) (λ e. reads_tokens (T.in_table table.now) (flat (T.lines table.now)) name.now (tokens rest.now) ≡ Err e) }
+    ensures read { MatchResult result (λ f. reads_tokens (T.in_table table.now)
+        (flat (T.lines table.now)) name.now (tokens rest.now) ≡ Ok (statement_of rest.now f))
+        (λ e. reads_tokens (T.in_table table.now) (flat (T.lines table.now)) name.now (tokens rest.now) ≡ Err e) }
     ensures held { IfOk result (λ f. T.in_table table.now f.word ≡ true) }
     ensures label { IfOk result (λ f. IsCut rest.now f.target) }
 {

@@ -13,7 +13,8 @@ use text_model::{Item, Kind, Slot};
 /// The value that a slot prints of a word that stands at pc: of a target its address.
 fn printed(slot: Slot, word: u32, pc: u64) -> u128
     requires { is_sound slot ≡ true }
-    ensures { result ≡ printed slot.codec.kind (bits_in (places slot.codec.parts)) (joined (places slot.codec.parts) word) pc }
+    ensures { result
+        ≡ printed slot.codec.kind (bits_in (places slot.codec.parts)) (joined (places slot.codec.parts) word) pc }
 {
     let parts = slot.codec.parts;
     let number = number_of(parts, word);

@@ -31,7 +31,8 @@ pub fn lower(token: &[u8]) -> Option<ArrayVec<u8, LONGEST>>
 
 /// The number that one or two digits without a leading zero are, and what stands behind them.
 fn numbered(bytes: &[u8]) -> Option<(u8, &[u8])>
-    ensures { MatchOption result (numbered bytes.now ≡ None) (λ r. numbered bytes.now ≡ Some (record { value = r.0; rest = r.1.now })) }
+    ensures { MatchOption result (numbered bytes.now ≡ None)
+        (λ r. numbered bytes.now ≡ Some (record { value = r.0; rest = r.1.now })) }
 {
     match bytes {
         [c, d, rest @ ..] if c.is_ascii_digit() && d.is_ascii_digit() && *c != b'0' => {
@@ -44,7 +45,8 @@ fn numbered(bytes: &[u8]) -> Option<(u8, &[u8])>
 
 /// Whether a family has a register of this letter, number and suffix.
 fn is_of(family: &Family, letter: u8, number: u8, suffix: &[u8]) -> bool
-    ensures { result ≡ (letter == family.now.letter && (same_name suffix.now family.now.suffix.now && nat_lt number family.now.count)) }
+    ensures { result ≡ (letter == family.now.letter
+        && (same_name suffix.now family.now.suffix.now && nat_lt number family.now.count)) }
 {
     letter == family.letter && suffix == family.suffix.as_bytes() && number < family.count
 }

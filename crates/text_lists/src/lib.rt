@@ -1,5 +1,5 @@
-//! The names of instructions and the slots of their texts, each in a list by its number. So the patterns of the tables hold numbers in the
-//! place of pointers, and a program that has them starts without touching them.
+//! The names of instructions and the slots of their texts, each in a list by its number. So the patterns of the tables
+//! hold numbers in the place of pointers, and a program that has them starts without touching them.
 #![tactic(auto)]
 
 pub mod atomic_names;

@@ -120,7 +120,8 @@ pub const RD_OF_LANE: u8 = 35;
 /// A `w` register, or `x` for doublewords, as bits 23 to 22 have, which another slot tells: bits 9 to 5.
 pub const R_X_OF_LANE: u8 = 36;
 
-/// A `w` register, or `x` for doublewords, as bits 23 to 22 have, which another slot tells: bits 9 to 5, of which 31 is the stack pointer.
+/// A `w` register, or `x` for doublewords, as bits 23 to 22 have, which another slot tells: bits 9 to 5, of which 31 is
+/// the stack pointer.
 pub const RN_SP_OF_LANE: u8 = 37;
 
 /// A `w` register, or `x` for doublewords, as bits 23 to 22 have, which another slot tells: bits 20 to 16.
@@ -707,7 +708,8 @@ pub const TARGET_IMM14: u8 = 226;
 /// A target: bits 23 to 5 and bits 30 to 29 signed, behind the instruction's address.
 pub const TARGET_23_5_30_29: u8 = 227;
 
-/// A target: bits 23 to 5 and bits 30 to 29 signed, times 4096, behind the instruction's address, which is rounded down to a multiple of 4096.
+/// A target: bits 23 to 5 and bits 30 to 29 signed, times 4096, behind the instruction's address, which is rounded down
+/// to a multiple of 4096.
 pub const TARGET_23_5_30_29_BY_PAGE: u8 = 228;
 
 // ---- behind the others

@@ -24,8 +24,8 @@ const FAMILIES: [u8; 49] = [
     NONE, NONE, NONE, NONE, NONE, NONE, NONE, NONE, NONE, NONE, NONE, NONE, NONE, NONE, NONE,
 ];
 
-/// Where each class's row begins in [`PLACES`]; a word stands as far behind that as its value says. Rows share their room: where a class has
-/// no word of a value, that of another may stand.
+/// Where each class's row begins in [`PLACES`]; a word stands as far behind that as its value says. Rows share their
+/// room: where a class has no word of a value, that of another may stand.
 const ROWS: [u8; 49] = [
     // no items of a text, numbers, marks
     NONE, NONE, 14, 15, 16, 17, 18, 19, 20,

@@ -125,8 +125,8 @@ fn chosen_among<T: Table>(table: &T, first: u8, count: u8, word: u32) -> Option<
     }
 }
 
-/// Puts the text of a word at pc in place of `out`: that of the first pattern that shows it, among those of so many lines of a table
-/// from one on. It is empty where none does.
+/// Puts the text of a word at pc in place of `out`: that of the first pattern that shows it, among those of so many
+/// lines of a table from one on. It is empty where none does.
 pub fn print_word<T: Table>(
     table: &T,
     first: u8,

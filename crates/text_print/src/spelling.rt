@@ -1,7 +1,14 @@
 //! Tokens of words.
 ghost use Rattle.std.specs.Prelude.{◌≡◌, ℕ, ◌<◌, ◌≤◌, true, ◌∷◌, ◌++◌, length};
 ghost use Rattle.text_model.specs.Words.{dictionary, two_digits, spelled_word, spelled};
-ghost use Rattle.text_print.specs.ByClass.{family_at, spelled_by, is_short_register, word_at, spelled_at, is_short_word};
+ghost use Rattle.text_print.specs.ByClass.{
+  family_at,
+  spelled_by,
+  is_short_register,
+  word_at,
+  spelled_at,
+  is_short_word,
+};
 
 use crate::by_class::{family_place, word_place};
 use crate::numerals::{Piece, push_ascii};

@@ -6,7 +6,7 @@ use Rattle.emu_model.specs.declared.access.Kind.TheVariants.{Read}
 use Rattle.emu_model.specs.Access.{Memory, refused}
 use Rattle.emu_model.specs.Elements.{Element, Reach, reach, reach_from}
 use Rattle.sve_effects.specs.FirstFault.{element_at, first_refused, first_suppressed, unsuppressed, is_refused}
-use Rattle.sve_effects.specs.VectorElements.{Layout, elements_below, elements_of}
+use Rattle.sve_effects.specs.VectorElements.{Layout, elements_below}
 use Rattle.element_access.specs.ReachLaws.{all_of}
 use Rattle.element_loops.specs.SoFar.{element_of_lane}
 use Rattle.element_loops.proofs.Lists.{one_element}

@@ -1,7 +1,6 @@
 -- A first-faulting load of which no element is refused is the plain load, where FFR is all ones.
 use Rattle.std.proofs.Common.{◌≡◌, ◌<◌, ℕ, ◌+◌, ◌*◌, ◌/◌, ◌%◌, ◌^◌, Bool, true, false, ◌&&◌, not, List, [], ◌∷◌, get_or, Option, Some, None, nat_eq, if◌then◌else◌, refl, sym, ap, subst, ◌∙◌, arith}
 use Rattle.emu_model.specs.declared.access.Access.{Access}
-use Rattle.emu_model.specs.declared.access.Kind.TheVariants.{Read}
 use Rattle.emu_model.specs.declared.trap.Effect.TheVariants.{Next}
 use Rattle.emu_model.specs.declared.trap.TrapKind.TheVariants.{SpAlign}
 use Rattle.emu_model.specs.Access.{Memory, value}
@@ -10,14 +9,14 @@ use Rattle.emu_model.specs.Elements.{Element, accesses_of}
 use Rattle.emu_model.specs.SoundState.{IsVectorLength}
 use Rattle.emu_model.specs.ListLaws.{each_same}
 use Rattle.emu_model.specs.State.{Core, Vectors}
-use Rattle.vec_model.specs.Lanes.{byte_in, with_z, with_ffr, with_lanes}
+use Rattle.vec_model.specs.Lanes.{byte_in, with_z, with_lanes}
 use Rattle.vec_model.specs.LaneSizes.{IsLaneSize}
 use Rattle.vec_regs.proofs.PackedLanes.{below_quotient}
 use Rattle.sve_effects.specs.Lane.{extended_by}
 use Rattle.sve_effects.specs.FirstFaultParts.{first_fault_lane, with_first_fault, first_fault_loaded}
-use Rattle.sve_effects.specs.FirstFault.{element_at, first_refused, first_suppressed, unsuppressed, cleared_from, first_cleared, is_before, loaded_from, loaded_unless}
+use Rattle.sve_effects.specs.FirstFault.{element_at, first_refused, first_suppressed, unsuppressed, cleared_from, is_before, loaded_from, loaded_unless}
 use Rattle.sve_effects.specs.VectorElements.{Layout, elements_of}
-use Rattle.sve_effects.specs.VectorLoadStore.{loaded_lane, with_loaded, tests_sp, is_misaligned}
+use Rattle.sve_effects.specs.VectorLoadStore.{loaded_lane, with_loaded, tests_sp}
 use Rattle.element_access.specs.ReachLaws.{AreLoaded}
 use Rattle.element_loops.specs.declared.plan.Plan.{Plan}
 use Rattle.element_loops.specs.declared.plan.Target.{Target}

@@ -54,8 +54,14 @@ pub fn load(plan: &Plan, core: &Core, vec: &mut VecRegs, mem: &mut Mem, log: &mu
     requires one { plan.now.registers ≡ 1 }
     requires empty { log.old.items ≡ [] }
     // a first-faulting load, and a non-faulting one
-    ensures loaded { result ≡ true → (is_non_fault : Bool) → first_fault_by is_non_fault plan.now core.now vec.old mem.old
-        ≡ record { core = core.now; vectors = vec.new; memory = mem.new; accesses = log.new.items; effect = Effect.Next } }
+    ensures loaded { result ≡ true → (is_non_fault : Bool)
+        → first_fault_by is_non_fault plan.now core.now vec.old mem.old ≡ record {
+          core = core.now;
+          vectors = vec.new;
+          memory = mem.new;
+          accesses = log.new.items;
+          effect = Effect.Next;
+        } }
     ensures kept { result ≡ false → vec.new ≡ vec.old }
     ensures unlogged { result ≡ false → log.new.items ≡ [] }
     ensures memory { mem.new ≡ mem.old }
@@ -80,8 +86,14 @@ pub fn load_gather(
     requires gather { IsGather plan.now }
     requires empty { log.old.items ≡ [] }
     // a first-faulting load, and a non-faulting one
-    ensures loaded { result ≡ true → (is_non_fault : Bool) → first_fault_by is_non_fault plan.now core.now vec.old mem.old
-        ≡ record { core = core.now; vectors = vec.new; memory = mem.new; accesses = log.new.items; effect = Effect.Next } }
+    ensures loaded { result ≡ true → (is_non_fault : Bool)
+        → first_fault_by is_non_fault plan.now core.now vec.old mem.old ≡ record {
+          core = core.now;
+          vectors = vec.new;
+          memory = mem.new;
+          accesses = log.new.items;
+          effect = Effect.Next;
+        } }
     ensures kept { result ≡ false → vec.new ≡ vec.old }
     ensures unlogged { result ≡ false → log.new.items ≡ [] }
     ensures memory { mem.new ≡ mem.old }

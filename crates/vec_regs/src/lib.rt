@@ -1,8 +1,9 @@
 //! The vector registers of a machine: 32 Z registers, 16 predicates and FFR, kept as words of 64 bits.
 //!
-//! Contracts see them as `Vectors` of `emu_model`: lists of bytes and of bits, the lowest first, as many as the present vector
-//! length has, which is at most the starting one. Bits at or above the present length are 0, and every call keeps them so. A call
-//! changes the register that it names and nothing else, and copies no other; `set_length` and `after_call` clear.
+//! Contracts see them as `Vectors` of `emu_model`: lists of bytes and of bits, the lowest first, as many as the present
+//! vector length has, which is at most the starting one. Bits at or above the present length are 0, and every call
+//! keeps them so. A call changes the register that it names and nothing else, and copies no other; `set_length` and
+//! `after_call` clear.
 #![tactic(auto)]
 
 mod lower;
@@ -27,8 +28,8 @@ use emu_bits::{Pred, Reg};
 pub use emu_model::Length;
 use std::marker::Model;
 
-/// The vector registers of a machine, of the present vector length (VL), which may change up to the starting one. Contracts see
-/// them as a record.
+/// The vector registers of a machine, of the present vector length (VL), which may change up to the starting one.
+/// Contracts see them as a record.
 #[derive(Drop)]
 pub struct VecRegs {
     z: [[u64; 32]; 32],
@@ -197,8 +198,8 @@ impl VecRegs {
         self.set_z_words(r, &words);
     }
 
-    /// Makes l the vector length, which is at most the starting one: the low 128 bits of each Z register stay, and its other bits,
-    /// the predicates and FFR are 0.
+    /// Makes l the vector length, which is at most the starting one: the low 128 bits of each Z register stay, and its
+    /// other bits, the predicates and FFR are 0.
     pub fn set_length(&mut self, l: Length)
         requires { l ≤ self.old.most }
         ensures { self.new ≡ cleared l self.old }
@@ -323,8 +324,8 @@ impl VecRegs {
         self.set_z_words(zd, &words);
     }
 
-    /// Writes the VL / e fields of a predicate register, e / 8 bits each: a flag is the lowest bit of its field, and the other
-    /// bits are 0.
+    /// Writes the VL / e fields of a predicate register, e / 8 bits each: a flag is the lowest bit of its field, and
+    /// the other bits are 0.
     pub fn set_fields(&mut self, e: u32, pd: Pred, flags: &[bool])
         requires size { IsLaneSize e }
         requires flags { length flags.now ≡ self.old.bits / e }

@@ -41,7 +41,8 @@ pub fn pack(e: u32, lanes: &[u64]) -> [u64; 32]
 pub fn pack_fields(e: u32, flags: &[bool]) -> [u64; 4]
     requires size { IsLaneSize e }
     requires few { length flags.now * (e / 8) ≤ 256 }
-    ensures fields { (i : ℕ) → i < length flags.now * (e / 8) → bit_of result i ≡ field_bit (e / 8) (λ k. get_or flags.now k false) i }
+    ensures fields { (i : ℕ) → i < length flags.now * (e / 8)
+        → bit_of result i ≡ field_bit (e / 8) (λ k. get_or flags.now k false) i }
     ensures above { AreClearFrom (length flags.now * (e / 8)) result }
 {
     let w = e as usize / 8;

@@ -1,5 +1,5 @@
 -- The line of a length, by what its run left.
-use Rattle.std.proofs.Common.{◌≡◌, ℕ, Bool, true, List, ◌++◌, length, take, Option, Some, None, IfSome, MatchOption, Bor, sym, ap, subst, ◌∙◌}
+use Rattle.std.proofs.Common.{◌≡◌, ℕ, Bool, true, List, ◌++◌, length, take, Option, Some, None, IfSome, MatchOption, Bor, ap, ◌∙◌}
 use Rattle.std.proofs.lemmas.Option.{IfSome_then}
 use Rattle.emu_model.specs.State.{Parts}
 use Rattle.emu_system.specs.GainedLaws.{put_first}

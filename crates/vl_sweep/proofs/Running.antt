@@ -1,9 +1,9 @@
 -- What a run into bounded sinks says of the run alone: by a sink that isn't full, that it was whole; by a full one, that it wrote too much.
-use Rattle.std.proofs.Common.{◌≡◌, ◌≤◌, ◌+◌, ℕ, Bool, true, false, ◌&&◌, nat_eq, nat_le, List, [], ◌++◌, length, Option, Some, refl, sym, ap, ap₂, subst, ◌∙◌, arith, length-append}
+use Rattle.std.proofs.Common.{◌≡◌, ◌≤◌, ℕ, Bool, true, false, ◌&&◌, nat_eq, nat_le, List, [], length, Option, Some, refl, sym, ap, ap₂, subst, ◌∙◌, arith, length-append}
 use Rattle.std.proofs.lemmas.Bool.Decides.{nat_tests}
 use Rattle.io_gate.specs.Streams.{Causes, Rose}
 use Rattle.emu_model.specs.State.{Parts, State}
-use Rattle.emu_system.specs.Gained.{Gains, GainedFirst}
+use Rattle.emu_system.specs.Gained.{Gains}
 use Rattle.emu_system.specs.Start.{with_input}
 use Rattle.emu_run.specs.Run.{run}
 use Rattle.emu_machine.specs.Ends.{Becomes, Puts, is_broken_off}

@@ -1,5 +1,5 @@
 -- The bytes that two outputs share from a place on.
-use Rattle.std.proofs.Common.{◌≡◌, ◌<◌, ◌≤◌, ◌+◌, ℕ, Bool, true, false, cond, nat_eq, List, [], ◌∷◌, length, drop, get_or, min, ap, ◌∙◌, arith}
+use Rattle.std.proofs.Common.{◌≡◌, ◌<◌, ◌≤◌, ◌+◌, ℕ, true, false, cond, nat_eq, List, ◌∷◌, length, drop, get_or, min, ap, ◌∙◌, arith}
 use Rattle.std.proofs.lemmas.Bool.Decides.{nat_tests}
 use Rattle.std.proofs.lemmas.List.{at_drop_more, length-drop}
 use Rattle.std.proofs.lemmas.List.Sums.{common_prefix_len-le}

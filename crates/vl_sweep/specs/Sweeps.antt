@@ -1,5 +1,5 @@
 -- The sweep of an image, and how it ends.
-use Rattle.std.specs.Prelude.{◌≡◌, ◌⊎◌, ℕ, Bool, true, false, List, ◌++◌, length, Option, Some, IfSome, Result, MatchResult}
+use Rattle.std.specs.Prelude.{◌≡◌, ℕ, Bool, true, false, List, ◌++◌, Option, Some, IfSome, Result, MatchResult}
 use Rattle.emu_model.specs.State.{State}
 use Rattle.emu_machine.specs.declared.machine.Machine.{Machine}
 use Rattle.emu_system.specs.Gained.{GainedFirst}

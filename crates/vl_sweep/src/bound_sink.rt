@@ -7,8 +7,8 @@ use io_gate::{Failed, Sink};
 use std::alloc::{AllocError, Global};
 use std::marker::Model;
 
-/// A sink that keeps in memory what it is given, at most `LIMIT` bytes. It fails once it is full, and only then. Contracts see the
-/// bytes that it holds, and how often it failed.
+/// A sink that keeps in memory what it is given, at most `LIMIT` bytes. It fails once it is full, and only then.
+/// Contracts see the bytes that it holds, and how often it failed.
 #[derive(Drop)]
 pub struct BoundSink<const LIMIT: usize> {
     bytes: Vec<u8>,

@@ -1,5 +1,19 @@
 //! The lengths, one after the other.
-ghost use Rattle.std.specs.Prelude.{◌≡◌, ◌<◌, ◌+◌, ◌*◌, ◌++◌, [], map, string_bytes, false, true, IfSome, MatchOption, Some};
+ghost use Rattle.std.specs.Prelude.{
+  ◌≡◌,
+  ◌<◌,
+  ◌+◌,
+  ◌*◌,
+  ◌++◌,
+  [],
+  map,
+  string_bytes,
+  false,
+  true,
+  IfSome,
+  MatchOption,
+  Some,
+};
 ghost use Rattle.io_gate.specs.Streams.{Causes};
 ghost use Rattle.elf_image.specs.Images.{seen_image};
 ghost use Rattle.elf_image.specs.Loadable.{IsLoadable};
@@ -54,7 +68,8 @@ pub fn length_behind(shorter: u32) -> Length
     Length::of_bits(128 * (shorter + 1)).unwrap()
 }
 
-/// The machine of an image at a length as its run leaves it, and what it wrote. Err is that it wrote too much, or want of memory.
+/// The machine of an image at a length as its run leaves it, and what it wrote. Err is that it wrote too much, or want
+/// of memory.
 fn run_at(
     alloc: Global,
     bytes: &[u8],
@@ -71,7 +86,9 @@ fn run_at(
     requires arguments { AreArguments (map string_bytes args.now) }
     requires nothing_written { written.old ≡ record { held = []; faults = 0 } }
     requires no_errors { errors.old ≡ record { held = []; faults = 0 } }
-    ensures run { IsRunAt (model.run_at (sweep_of bytes.now (seen_image image.now) (map string_bytes args.now) pages budget input.now) length) result written.new errors.new }
+    ensures run { IsRunAt (model.run_at
+        (sweep_of bytes.now (seen_image image.now) (map string_bytes args.now) pages budget input.now) length)
+        result written.new errors.new }
 {
     let Ok(mut machine) = Machine::open(alloc, bytes, image, args, length, pages) else {
         return Err(SweepEnd::OutOfMemory);
@@ -97,8 +114,8 @@ fn chosen<'a>(first: Option<&'a [u8]>, written: &'a [u8]) -> &'a [u8]
     }
 }
 
-/// Runs an image at a length, and puts its line. Done is that the line was put; `written` then has what the run wrote. The output at
-/// 128 bits is `first`, or at that length what the run itself writes.
+/// Runs an image at a length, and puts its line. Done is that the line was put; `written` then has what the run wrote.
+/// The output at 128 bits is `first`, or at that length what the run itself writes.
 fn sweep_at<O: Sink>(
     alloc: Global,
     bytes: &[u8],
@@ -117,9 +134,17 @@ fn sweep_at<O: Sink>(
     requires arguments { AreArguments (map string_bytes args.now) }
     requires nothing_written { written.old ≡ record { held = []; faults = 0 } }
     requires no_errors { errors.old ≡ record { held = []; faults = 0 } }
-    requires first { MatchOption first (length ≡ 128) (λ f. f.now ≡ (model.run_at (sweep_of bytes.now (seen_image image.now) (map string_bytes args.now) pages budget input.now) 128).output) }
-    ensures line { PutsLine result (fits_at (sweep_of bytes.now (seen_image image.now) (map string_bytes args.now) pages budget input.now) length) (O.held output.old) (O.held output.new) (line_at (sweep_of bytes.now (seen_image image.now) (map string_bytes args.now) pages budget input.now) length) }
-    ensures written { result ≡ SweepEnd.Done → written.new ≡ record { held = (model.run_at (sweep_of bytes.now (seen_image image.now) (map string_bytes args.now) pages budget input.now) length).output; faults = 0 } }
+    requires first { MatchOption first (length ≡ 128) (λ f. f.now ≡ (model.run_at
+        (sweep_of bytes.now (seen_image image.now) (map string_bytes args.now) pages budget input.now) 128).output) }
+    ensures line { PutsLine result
+        (fits_at (sweep_of bytes.now (seen_image image.now) (map string_bytes args.now) pages budget input.now) length)
+        (O.held output.old) (O.held output.new) (line_at
+        (sweep_of bytes.now (seen_image image.now) (map string_bytes args.now) pages budget input.now) length) }
+    ensures written { result ≡ SweepEnd.Done → written.new ≡ record {
+      held = (model.run_at
+          (sweep_of bytes.now (seen_image image.now) (map string_bytes args.now) pages budget input.now) length).output;
+      faults = 0;
+    } }
     ensures errors { result ≡ SweepEnd.Done → errors.new.faults ≡ 0 }
     ensures write_cause { Causes (result ≡ SweepEnd.WriteFault) (O.faults output.old) (O.faults output.new) }
 {
@@ -163,9 +188,12 @@ fn sweep_lengths<O: Sink>(
     requires no_first { first.old ≡ record { held = []; faults = 0 } }
     requires nothing_written { written.old ≡ record { held = []; faults = 0 } }
     requires no_errors { errors.old ≡ record { held = []; faults = 0 } }
-    ensures lines { IfSome (O.held output.old) (λ had. Gains (is_broken_off result) (O.held output.new) had (text_before (sweep_of bytes.now (seen_image image.now) (map string_bytes args.now) pages budget input.now))) }
-    ensures fits { result ≡ SweepEnd.Done → fits (sweep_of bytes.now (seen_image image.now) (map string_bytes args.now) pages budget input.now) ≡ true }
-    ensures too_long { result ≡ SweepEnd.TooLong → fits (sweep_of bytes.now (seen_image image.now) (map string_bytes args.now) pages budget input.now) ≡ false }
+    ensures lines { IfSome (O.held output.old) (λ had. Gains (is_broken_off result) (O.held output.new) had
+        (text_before (sweep_of bytes.now (seen_image image.now) (map string_bytes args.now) pages budget input.now))) }
+    ensures fits { result ≡ SweepEnd.Done
+        → fits (sweep_of bytes.now (seen_image image.now) (map string_bytes args.now) pages budget input.now) ≡ true }
+    ensures too_long { result ≡ SweepEnd.TooLong
+        → fits (sweep_of bytes.now (seen_image image.now) (map string_bytes args.now) pages budget input.now) ≡ false }
     ensures write_cause { Causes (result ≡ SweepEnd.WriteFault) (O.faults output.old) (O.faults output.new) }
 {
     let end = sweep_at(
@@ -210,12 +238,12 @@ fn sweep_lengths<O: Sink>(
     SweepEnd::Done
 }
 
-/// Runs an image at each vector length from 128 to 2048 bits, each time with the whole input, and puts a line on each run: how it
-/// ended, its steps, how many bytes it wrote, and where its output parts from that at 128 bits. The memory of one length is given
-/// back before the next is opened.
+/// Runs an image at each vector length from 128 to 2048 bits, each time with the whole input, and puts a line on each
+/// run: how it ended, its steps, how many bytes it wrote, and where its output parts from that at 128 bits. The memory
+/// of one length is given back before the next is opened.
 ///
-/// The image was read from these bytes, with `pages` as the greatest number of mapped pages. The arguments are those that
-/// `are_arguments` accepts. The budget is that of each length.
+/// The image was read from these bytes, with `pages` as the greatest number of mapped pages. The arguments are those
+/// that `are_arguments` accepts. The budget is that of each length.
 pub fn sweep<O: Sink>(
     alloc: Global,
     bytes: &[u8],
@@ -229,11 +257,16 @@ pub fn sweep<O: Sink>(
     requires loadable { IsLoadable bytes.now pages (seen_image image.now) }
     requires arguments { AreArguments (map string_bytes args.now) }
     // Done is that the output gained the sixteen lines, each of which is that of the run alone.
-    ensures whole { result ≡ SweepEnd.Done → IfSome (O.held output.old) (λ had. O.held output.new ≡ Some (had ++ sweep_text (sweep_of bytes.now (seen_image image.now) (map string_bytes args.now) pages budget input.now))) }
-    // Whatever the end, the output gained the lines before the first length at which a stream is too long, or first bytes of them.
-    ensures lines { IfSome (O.held output.old) (λ had. Gains (is_broken_off result) (O.held output.new) had (text_before (sweep_of bytes.now (seen_image image.now) (map string_bytes args.now) pages budget input.now))) }
-    ensures fits { result ≡ SweepEnd.Done → fits (sweep_of bytes.now (seen_image image.now) (map string_bytes args.now) pages budget input.now) ≡ true }
-    ensures too_long { result ≡ SweepEnd.TooLong → fits (sweep_of bytes.now (seen_image image.now) (map string_bytes args.now) pages budget input.now) ≡ false }
+    ensures whole { result ≡ SweepEnd.Done → IfSome (O.held output.old) (λ had. O.held output.new ≡ Some (had
+        ++ sweep_text (sweep_of bytes.now (seen_image image.now) (map string_bytes args.now) pages budget input.now))) }
+    // Whatever the end, the output gained the lines before the first length at which a stream is too long, or first
+    // bytes of them.
+    ensures lines { IfSome (O.held output.old) (λ had. Gains (is_broken_off result) (O.held output.new) had
+        (text_before (sweep_of bytes.now (seen_image image.now) (map string_bytes args.now) pages budget input.now))) }
+    ensures fits { result ≡ SweepEnd.Done
+        → fits (sweep_of bytes.now (seen_image image.now) (map string_bytes args.now) pages budget input.now) ≡ true }
+    ensures too_long { result ≡ SweepEnd.TooLong
+        → fits (sweep_of bytes.now (seen_image image.now) (map string_bytes args.now) pages budget input.now) ≡ false }
     ensures write_cause { Causes (result ≡ SweepEnd.WriteFault) (O.faults output.old) (O.faults output.new) }
 {
     let Ok(mut first) = Kept::new(alloc) else {

@@ -74,7 +74,8 @@ pub fn put_run_line<O: Sink>(
     errors: usize,
     output: &mut O,
 ) -> Result<(), Failed>
-    ensures bytes { PutsAll (O.held output.old) (O.held output.new) (run_line bits first.now machine.now.parts written.now errors) result }
+    ensures bytes { PutsAll (O.held output.old) (O.held output.new)
+        (run_line bits first.now machine.now.parts written.now errors) result }
     ensures cause { HasCause (O.faults output.old) (O.faults output.new) result }
 {
     let mut text = Text::new();

@@ -1,4 +1,4 @@
-use Rattle.std.proofs.Common.{◌≡◌, ◌≤◌, ◌<◌, ◌+◌, ◌*◌, ◌/◌, ◌∙◌, arith}
+use Rattle.std.proofs.Common.{◌≡◌, ◌≤◌, ◌<◌, ◌*◌, ◌/◌, ◌∙◌, arith}
 use Rattle.unrefused_loads.proofs.Ffr.{one_word, one_byte, all_bits}
 use Rattle.unrefused_loads.proofs.is_all_true.Goals as goal
 

@@ -1,4 +1,4 @@
-use Rattle.std.proofs.Common.{◌<◌, ◌≤◌, ◌+◌, ◌*◌, ◌/◌, ℕ, length, refl, arith}
+use Rattle.std.proofs.Common.{◌<◌, ◌+◌, ◌*◌, ◌/◌, length, refl, arith}
 use Rattle.element_words.specs.Placed.{lane_at}
 use Rattle.element_words.proofs.Words.{lanes_few, lane_below, one_more_word, kept_above}
 use Rattle.element_words.proofs.lanes.put_each.Goals as goal

@@ -1,4 +1,4 @@
-use Rattle.std.proofs.Common.{◌≡◌, ◌<◌, ◌≤◌, ◌*◌, ◌/◌, ℕ, get_or, length}
+use Rattle.std.proofs.Common.{◌≡◌, ◌<◌, ◌≤◌, ◌*◌, ◌/◌, ℕ, get_or}
 use Rattle.vec_model.specs.Lanes.{byte_in}
 use Rattle.vec_regs.specs.Words.{byte_of}
 use Rattle.element_words.specs.Placed.{lane_at}

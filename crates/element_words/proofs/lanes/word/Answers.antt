@@ -1,4 +1,4 @@
-use Rattle.std.proofs.Common.{◌≡◌, ◌<◌, ◌+◌, ◌-◌, ◌/◌, ◌*◌, ◌^◌, ℕ, arith}
+use Rattle.std.proofs.Common.{◌+◌, ◌-◌, arith}
 use Rattle.std.proofs.lemmas.Nat.{pow_pos}
 use Rattle.element_words.specs.Placed.{lane_at}
 use Rattle.element_words.proofs.Words.{word_bytes, word_starts, word_more, word_small, word_fits}

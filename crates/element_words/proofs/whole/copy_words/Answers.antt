@@ -1,5 +1,5 @@
-use Rattle.std.proofs.Common.{◌<◌, ◌≤◌, ◌+◌, ◌*◌, ◌∙◌, length, refl, arith}
-use Rattle.element_words.proofs.Words.{copied_lanes, kept_above, one_more_copied, word_room}
+use Rattle.std.proofs.Common.{◌<◌, ◌∙◌, length, refl, arith}
+use Rattle.element_words.proofs.Words.{copied_lanes, kept_above, one_more_copied}
 use Rattle.element_words.proofs.whole.copy_words.Goals as goal
 
 pub loop-i-init : goal.loop-i-init

@@ -1,5 +1,4 @@
-use Rattle.std.proofs.Common.{arith, ◌≡◌, ◌/◌, ◌*◌, ◌+◌, ◌%◌, take, sym, ap, ◌∙◌, if◌then◌else◌}
-use Rattle.std.specs.Int.{bytes_low_first}
+use Rattle.std.proofs.Common.{arith, ◌/◌, ◌*◌, ◌+◌, ◌%◌, take, sym, ap, ◌∙◌, if◌then◌else◌}
 use Rattle.emu_model.specs.Access.{Memory, stored, page_size}
 use Rattle.emu_model.specs.Pages.{with_bytes}
 use Rattle.guest_mem.proofs.Numbers.{low_2, low_4, low_8, stored_in_page}

@@ -1,4 +1,4 @@
-use Rattle.std.proofs.Common.{◌≡◌, ◌∙◌, ◌<◌, ◌+◌, ◌*◌, ◌/◌, ◌%◌, ◌^◌, ℕ, ap}
+use Rattle.std.proofs.Common.{◌∙◌, ◌<◌, ◌+◌, ◌*◌, ◌/◌, ◌%◌, ◌^◌, ap}
 use Rattle.std.proofs.Math.Nat.{mod-eq_of_lt}
 use Rattle.vec_model.specs.Lanes.{read_z}
 use Rattle.lane_kernels.proofs.PairLanes.{lane_read_small, inside_register}

@@ -1,4 +1,4 @@
-use Rattle.std.proofs.Common.{◌≡◌, ◌∙◌, ◌<◌, ◌+◌, ◌*◌, ◌/◌, ℕ, Bool, length, refl, sym, ap, arith}
+use Rattle.std.proofs.Common.{◌≡◌, ◌∙◌, ◌<◌, ◌+◌, ◌*◌, ℕ, Bool, length, refl, sym, ap, arith}
 use Rattle.sve_effects.specs.LaneLoop.{folded, is_active, lane_of}
 use Rattle.lane_kernels.proofs.Reductions.{all_folded, none_folded}
 use Rattle.lane_kernels.proofs.folds.fold_lanes.Goals as goal

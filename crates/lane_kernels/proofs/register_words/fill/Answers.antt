@@ -1,4 +1,4 @@
-use Rattle.std.proofs.Common.{◌≡◌, ◌∙◌, ◌<◌, ◌≤◌, ◌+◌, ◌*◌, ◌/◌, ◌%◌, ◌^◌, ℕ, List, length, map, get_or, set, sym, ap, arith}
+use Rattle.std.proofs.Common.{◌≡◌, ◌∙◌, ◌<◌, ◌≤◌, ◌+◌, ◌*◌, ◌/◌, ℕ, List, length, map, get_or, set, ap, arith}
 use Rattle.std.proofs.lemmas.List.{length-map, length-set}
 use Rattle.emu_model.specs.Lists.{each}
 use Rattle.vec_regs.specs.Packed.{packed}

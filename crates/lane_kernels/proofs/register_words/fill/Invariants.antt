@@ -1,4 +1,4 @@
-use Rattle.std.proofs.Common.{◌≡◌, ◌<◌, ◌≤◌, ◌+◌, ◌*◌, ◌/◌, ℕ, get_or, length}
+use Rattle.std.proofs.Common.{◌≡◌, ◌<◌, ◌≤◌, ◌+◌, ◌*◌, ◌/◌, ℕ, get_or}
 use Rattle.emu_model.specs.Lists.{each}
 use Rattle.vec_regs.specs.Packed.{packed}
 use Rattle.lane_kernels.proofs.register_words.fill.Given as goal

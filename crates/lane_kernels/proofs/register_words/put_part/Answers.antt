@@ -1,4 +1,4 @@
-use Rattle.std.proofs.Common.{◌≡◌, ◌∙◌, ◌<◌, ◌≤◌, ◌+◌, ◌*◌, ◌/◌, ◌%◌, ◌^◌, ℕ, List, length, map, get_or, ap, subst, arith}
+use Rattle.std.proofs.Common.{◌≡◌, ◌∙◌, ◌<◌, ◌+◌, ◌*◌, ◌/◌, ◌%◌, ◌^◌, ℕ, List, length, map, get_or, ap, subst, arith}
 use Rattle.std.proofs.lemmas.List.{length-map}
 use Rattle.emu_model.specs.SoundState.{IsVectorLength}
 use Rattle.emu_model.specs.Lists.{each}

@@ -1,4 +1,4 @@
-use Rattle.std.proofs.Common.{◌<◌, ◌^◌, refl, arith}
+use Rattle.std.proofs.Common.{refl, arith}
 use Rattle.lane_kernels.proofs.ToldBits.{byte_flags}
 use Rattle.lane_kernels.proofs.told.bytes_set.Goals as goal
 

@@ -1,4 +1,4 @@
-use Rattle.std.proofs.Common.{◌≡◌, ◌∙◌, ◌<◌, [], ◌∷◌, ℕ, Bool, false, List, length, map, get_or, ap, arith}
+use Rattle.std.proofs.Common.{◌≡◌, ◌∙◌, [], ◌∷◌, ℕ, false, List, length, map, get_or, ap, arith}
 use Rattle.std.proofs.lemmas.List.{length-map}
 use Rattle.lane_kernels.proofs.ToldBits.{part_bits, both_words}
 use Rattle.lane_kernels.proofs.told.part_told.Goals as goal

@@ -1,4 +1,4 @@
-use Rattle.std.proofs.Common.{◌≡◌, ◌<◌, ◌≤◌, ◌+◌, ◌*◌, ◌/◌, ◌^◌, ◌∙◌, ℕ, Bool, false, List, length, get_or, replicate, set, refl, ap, arith}
+use Rattle.std.proofs.Common.{◌≡◌, ◌<◌, ◌∙◌, ℕ, Bool, false, List, length, get_or, replicate, refl, ap, arith}
 use Rattle.std.proofs.lemmas.List.{length-set}
 use Rattle.vec_regs.proofs.PackedLanes.{still}
 use Rattle.vec_regs.proofs.Views.{zero_word}

@@ -1,5 +1,4 @@
-use Rattle.std.proofs.Common.{◌≡◌, ◌∙◌, ◌<◌, ◌≤◌, ◌+◌, ◌-◌, ◌*◌, ◌%◌, ◌^◌, ℕ, map, take, drop, sym, ap, ap₂, subst, arith}
-use Rattle.std.specs.Simd.Lanes.{number_l}
+use Rattle.std.proofs.Common.{◌≡◌, ◌∙◌, ◌<◌, ◌≤◌, ◌+◌, ◌-◌, ◌*◌, ◌%◌, ◌^◌, ℕ, sym, ap, ap₂, subst, arith}
 use Rattle.lane_pack.proofs.Places.{grown, unshifted, lane_back}
 use Rattle.lane_pack.proofs.packed_words.word_of.Goals as goal
 

@@ -1,4 +1,4 @@
-use Rattle.std.proofs.Common.{◌≡◌, ◌<◌, ◌≤◌, ◌∙◌, ℕ, true, false, nat_lt, if◌then◌else◌, length, ap, arith}
+use Rattle.std.proofs.Common.{◌≡◌, ◌<◌, ◌∙◌, ℕ, true, false, nat_lt, if◌then◌else◌, length, ap, arith}
 use Rattle.std.proofs.lemmas.Bool.Decides.{nat_tests}
 use Rattle.sve_effects.specs.declared.places.Place.TheVariants.{FirstLane, Zero}
 use Rattle.sve_effects.specs.Permute.{taken}

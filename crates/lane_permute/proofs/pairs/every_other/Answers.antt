@@ -1,4 +1,4 @@
-use Rattle.std.proofs.Common.{◌≡◌, ◌<◌, ◌≤◌, ◌+◌, ◌-◌, ◌*◌, ◌∙◌, ℕ, length, sym, arith}
+use Rattle.std.proofs.Common.{◌<◌, ◌≤◌, ◌+◌, ◌-◌, ◌*◌, ◌∙◌, ℕ, length, sym, arith}
 use Rattle.sve_effects.specs.Permute.{taken, joined}
 use Rattle.lane_permute.specs.Slices.{number_at}
 use Rattle.lane_permute.proofs.Turns.{joined_first, joined_second}

@@ -1,4 +1,4 @@
-use Rattle.std.proofs.Common.{◌≡◌, ◌++◌, ◌∙◌, List, [], ◌∷◌, length, slice_set, ap₂, arith}
+use Rattle.std.proofs.Common.{◌≡◌, ◌++◌, List, length, slice_set, ap₂, arith}
 use Rattle.lane_permute.proofs.Copied.{moved_up, one_written}
 use Rattle.lane_permute.proofs.runs.insr.Goals as goal
 

@@ -1,4 +1,4 @@
-use Rattle.std.proofs.Common.{◌≡◌, ◌+◌, ◌-◌, ◌++◌, ◌∙◌, List, take, drop, length, ap, ap₂, arith}
+use Rattle.std.proofs.Common.{◌≡◌, ◌+◌, ◌-◌, ◌++◌, ◌∙◌, List, take, drop, ap₂, arith}
 use Rattle.lane_permute.proofs.Copied.{window_is}
 use Rattle.lane_permute.proofs.runs.window.Goals as goal
 

@@ -1,4 +1,4 @@
-use Rattle.std.proofs.Common.{◌≡◌, List, ◌++◌, sym, append-nil, arith}
+use Rattle.std.proofs.Common.{sym, append-nil, arith}
 use Rattle.load_runs.proofs.Appended.{digits_all, digits_more}
 use Rattle.load_runs.proofs.lines.push_digits.Goals as goal
 

@@ -1,4 +1,4 @@
-use Rattle.std.proofs.Common.{◌≡◌, arith}
+use Rattle.std.proofs.Common.{arith}
 use Rattle.elf_image.specs.Images.{seen_image}
 use Rattle.load_runs.proofs.Appended.{all_lines, one_more}
 use Rattle.load_runs.proofs.runs.load_lines.Goals as goal

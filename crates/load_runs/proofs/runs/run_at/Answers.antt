@@ -1,4 +1,4 @@
-use Rattle.std.proofs.Common.{◌≡◌, ℕ, List, [], drop, Some, map, string_bytes, sym, ap, subst, refl, ◌∙◌}
+use Rattle.std.proofs.Common.{ℕ, List, [], drop, Some, map, string_bytes, sym, ap, subst, refl, ◌∙◌}
 use Rattle.elf_image.specs.Images.{seen_image}
 use Rattle.emu_machine.specs.Ends.{is_broken_off}
 use Rattle.emu_machine.specs.declared.machine.Machine.{Machine}
@@ -6,7 +6,6 @@ use Rattle.emu_model.specs.State.{Parts}
 use Rattle.emu_run.specs.Run.{run}
 use Rattle.emu_system.specs.Start.{opening, with_input}
 use Rattle.io_gate.specs.Lent.{Lent}
-use Rattle.io_gate.specs.Memory.{Drain}
 use Rattle.load_model.specs.Load.{load_budget, load_pages}
 use Rattle.load_runs.specs.Runs.{HasRun}
 use Rattle.load_runs.proofs.Running.{are_arguments, has_run}

@@ -1,4 +1,4 @@
-use Rattle.std.proofs.Common.{◌≡◌, ◌<◌, ◌≤◌, ◌+◌, ◌*◌, ◌/◌, ℕ, length, arith}
+use Rattle.std.proofs.Common.{arith}
 use Rattle.lane_kernels.proofs.PairLanes.{register_room}
 use Rattle.sve_lanes.proofs.lanes.one_by_one.Goals as goal
 

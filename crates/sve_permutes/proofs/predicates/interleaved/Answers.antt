@@ -1,5 +1,4 @@
-use Rattle.std.proofs.Common.{◌≡◌, ◌≤◌, ◌/◌, ◌%◌, ap, sym, subst, ◌∙◌, arith}
-use Rattle.field_words.specs.Places.{IsField}
+use Rattle.std.proofs.Common.{◌≡◌, ◌/◌, ap, sym, subst, ◌∙◌}
 use Rattle.sve_effects.specs.Permute.{interleave_place}
 use Rattle.vec_regs.specs.Words.{AreClearFrom}
 use Rattle.sve_permutes.proofs.FieldPlaces.{field_size, fields_written}

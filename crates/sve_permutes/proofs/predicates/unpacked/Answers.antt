@@ -1,4 +1,4 @@
-use Rattle.std.proofs.Common.{◌≡◌, ◌≤◌, ◌*◌, ◌/◌, ◌%◌, replicate, ap, sym, subst, ◌∙◌, inl, refl, arith}
+use Rattle.std.proofs.Common.{◌≡◌, ◌*◌, ◌/◌, replicate, ap, subst, ◌∙◌}
 use Rattle.emu_bits.specs.Fields.{bit}
 use Rattle.vec_regs.specs.Words.{bit_of, AreClearFrom}
 use Rattle.sve_permutes.proofs.FieldPlaces.{zip_above, half_written}

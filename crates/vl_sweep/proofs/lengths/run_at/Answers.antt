@@ -1,4 +1,4 @@
-use Rattle.std.proofs.Common.{◌≡◌, ℕ, List, [], drop, Some, false, sym, ap, subst, refl, ◌∙◌}
+use Rattle.std.proofs.Common.{◌≡◌, drop, Some, false, sym, ap, subst, refl, ◌∙◌}
 use Rattle.emu_machine.specs.Ends.{is_broken_off}
 use Rattle.emu_machine.specs.declared.machine.Machine.{Machine}
 use Rattle.emu_model.specs.State.{Parts}

@@ -1,4 +1,4 @@
-use Rattle.std.proofs.Common.{◌≡◌, ℕ, List, map, string_bytes, sym, ap, ◌∙◌}
+use Rattle.std.proofs.Common.{map, string_bytes, ap, ◌∙◌}
 use Rattle.elf_image.specs.Images.{seen_image}
 use Rattle.vl_sweep.specs.Bounded.{Bounded}
 use Rattle.vl_sweep.specs.Sweeps.{sweep_of}

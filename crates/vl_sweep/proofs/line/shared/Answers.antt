@@ -1,5 +1,5 @@
-use Rattle.std.proofs.Common.{◌≡◌, sym, arith}
-use Rattle.vl_sweep.proofs.Shared.{share_end, share_more, share_none}
+use Rattle.std.proofs.Common.{arith}
+use Rattle.vl_sweep.proofs.Shared.{share_end}
 use Rattle.vl_sweep.proofs.line.shared.Goals as goal
 
 pub returns : goal.returns

@@ -1,4 +1,4 @@
-use Rattle.std.proofs.Common.{◌≡◌, ◌<◌, ℕ, ◌+◌, ◌-◌, length, is_none, true, false, ap, sym, refl, subst, ◌∙◌, arith}
+use Rattle.std.proofs.Common.{◌≡◌, ◌<◌, ℕ, ◌+◌, ◌-◌, is_none, true, false, ap, sym, refl, subst, ◌∙◌, arith}
 use Rattle.emu_machine.specs.Ends.{is_undone}
 use Rattle.emu_machine.proofs.Advanced.{none_broken, not_both}
 use Rattle.emu_machine.specs.declared.ends.StepEnd.{StepEnd}

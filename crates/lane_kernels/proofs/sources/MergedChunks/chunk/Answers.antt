@@ -1,4 +1,4 @@
-use Rattle.std.proofs.Common.{◌≡◌, ◌∙◌, ◌^◌}
+use Rattle.std.proofs.Common.{◌∙◌, ◌^◌}
 use Rattle.lane_kernels.proofs.PairLanes.{picked}
 use Rattle.lane_kernels.proofs.sources.MergedChunks.chunk.Goals as goal
 

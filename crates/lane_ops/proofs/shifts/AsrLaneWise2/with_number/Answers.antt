@@ -1,4 +1,4 @@
-use Rattle.std.proofs.Common.{◌≡◌, ◌<◌, ◌-◌, ◌%◌, ◌^◌, ℕ, min, ap, ◌∙◌, arith}
+use Rattle.std.proofs.Common.{◌≡◌, ◌-◌, ◌%◌, ◌^◌, min, ap, ◌∙◌, arith}
 use Rattle.emu_bits.specs.Operations.{asr}
 use Rattle.lane_ops.proofs.Readings.{some_bits, signed_far}
 use Rattle.lane_ops.proofs.shifts.AsrLaneWise2.with_number.Goals as goal

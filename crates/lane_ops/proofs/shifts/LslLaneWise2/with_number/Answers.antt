@@ -1,4 +1,4 @@
-use Rattle.std.proofs.Common.{◌≡◌, ◌≤◌, ℕ, ◌∙◌, arith}
+use Rattle.std.proofs.Common.{◌≤◌, ◌∙◌, arith}
 use Rattle.lane_ops.proofs.Readings.{left_none}
 use Rattle.lane_ops.proofs.shifts.LslLaneWise2.with_number.Goals as goal
 

@@ -1,4 +1,4 @@
-use Rattle.std.proofs.Common.{◌≡◌, ◌<◌, ◌≤◌, ◌^◌, ℕ, subst, ◌∙◌, arith}
+use Rattle.std.proofs.Common.{◌<◌, ◌≤◌, ◌^◌, subst, ◌∙◌, arith}
 use Rattle.lane_ops.proofs.Readings.{right_none}
 use Rattle.lane_ops.proofs.shifts.LsrLaneWise2.with_number.Goals as goal
 

@@ -1,4 +1,4 @@
-use Rattle.std.proofs.Common.{◌%◌, ◌^◌, ℕ, ap, ◌∙◌, ◌-ℤ◌}
+use Rattle.std.proofs.Common.{◌%◌, ◌^◌, ap, ◌∙◌, ◌-ℤ◌}
 use Rattle.std.specs.Prelude.{unsigned_abs}
 use Rattle.emu_bits.specs.Numbers.{signed}
 use Rattle.lane_ops.proofs.Readings.{some_bits, from_zero}

@@ -1,4 +1,4 @@
-use Rattle.std.proofs.Common.{◌≡◌, ◌<◌, ◌^◌, ℕ, sym, subst, ◌∙◌}
+use Rattle.std.proofs.Common.{◌<◌, ◌^◌, ℕ, sym, subst, ◌∙◌}
 use Rattle.lane_ops.proofs.Readings.{some_bits, distance_below, distance_above}
 use Rattle.lane_ops.proofs.sums.SabdLaneWise2.one.Goals as goal
 

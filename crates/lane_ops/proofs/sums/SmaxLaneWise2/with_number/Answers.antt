@@ -1,4 +1,4 @@
-use Rattle.std.proofs.Common.{◌%◌, ◌^◌, ℕ, ap, ◌∙◌}
+use Rattle.std.proofs.Common.{◌%◌, ◌^◌, ap, ◌∙◌}
 use Rattle.std.specs.Int.{int_max}
 use Rattle.emu_bits.specs.Numbers.{signed, unsigned_int}
 use Rattle.lane_ops.proofs.Readings.{read_again}

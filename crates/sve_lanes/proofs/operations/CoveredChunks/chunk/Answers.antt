@@ -1,4 +1,4 @@
-use Rattle.std.proofs.Common.{◌≡◌, ◌∙◌, ◌<◌, ◌+◌, ◌*◌, ◌/◌, ◌%◌, ◌^◌, ℕ, Bool, cond, map, get_or, inl, inr, ap}
+use Rattle.std.proofs.Common.{◌∙◌, ◌+◌, ◌*◌, ◌/◌, ◌%◌, ◌^◌, ℕ, Bool, cond, map, get_or, inl, inr, ap}
 use Rattle.std.proofs.lemmas.Bool.{cases_lt}
 use Rattle.sve_effects.specs.LaneLoop.{lane_of}
 use Rattle.sve_lanes.proofs.Places.{lower_set, upper_clear, bits_inside, covered_first, covered_second}

@@ -1,7 +1,7 @@
 use Rattle.std.proofs.Common.{◌≡◌, ◌<◌, ◌+◌, ◌*◌, ◌/◌, ◌%◌, ◌^◌, ◌∙◌, ℕ, nat_lt, if◌then◌else◌, length, sym, ap, subst, arith}
 use Rattle.lane_permute.specs.Slices.{number_at}
 use Rattle.sve_effects.specs.LaneLoop.{lane_of}
-use Rattle.sve_effects.specs.Permute.{taken, joined, ext_place}
+use Rattle.sve_effects.specs.Permute.{taken, joined}
 use Rattle.sve_permutes.proofs.ChunkPlaces.{ext_chunk, quads_of_lanes, quad_below, some_lanes, some_product}
 use Rattle.sve_permutes.proofs.chunks.ExtractedChunks.chunk.Goals as goal
 
