@@ -61,10 +61,11 @@ use vec_regs::VecRegs;
 /// and what its marks keep beside their pages.
 #[derive(Drop)]
 pub struct Machine {
+    // first, so that its address is the machine's, and a step needs one register of the host for both
+    pub(crate) memory: Mem,
     // in boxes, so that they can be exchanged and moved as they are
     pub(crate) core: Box<Core>,
     pub(crate) vec: Box<VecRegs>,
-    pub(crate) memory: Mem,
     pub(crate) log: AccessLog,
     // no part of what contracts see: a step does the same whatever it has
     pub(crate) words: DecodedWords,
@@ -191,6 +192,8 @@ impl Machine {
     }
 
     /// Ends by a trap, with no step counted.
+    #[cold]
+    #[inline(never)]
     fn trap(&mut self, kind: TrapKind, address: u64) -> Progress
         ensures parts { self.new.parts ≡ model.trapped self.old.parts kind address }
         ensures accesses { self.new.accesses ≡ self.old.accesses }
@@ -399,15 +402,18 @@ impl Machine {
         ensures going { MatchCall result (has_ended self.new ≡ false) ⊤ }
         ensures below { MatchCall result (self.new.parts.steps < until) ⊤ }
     {
-        while self.steps < until {
+        // the budget is asked for behind the step, so that no answer of it is kept to the next turn
+        'turns: loop {
             self.log.clear();
             match self.plain() {
                 Progress::GoesOn => {}
                 Progress::Trapped => return Progress::Trapped,
                 Progress::AtCall => return Progress::AtCall,
             }
+            if self.steps() >= until {
+                return Progress::GoesOn;
+            }
         }
-        Progress::GoesOn
     }
 
     /// A step that makes no call, with the log emptied. At a call nothing else is changed.
