@@ -7,6 +7,7 @@ mod branches;
 mod elements;
 mod exclusive;
 mod fields;
+mod general;
 mod indexed;
 mod numbers;
 mod offsets;

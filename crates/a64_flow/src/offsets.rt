@@ -22,6 +22,7 @@ use vec_regs::VecRegs;
 
 /// One register, or none for a prefetch, at an address from a base, by V, size and opc. It isn't inlined, so that it
 /// takes no room in the row, which does by itself what nothing refuses.
+#[cold]
 #[inline(never)]
 pub(crate) fn from_base(
     core: &mut Core,

@@ -1,17 +1,17 @@
 //! One register at an address from a base, which may be written back. The forms differ in their addresses alone: each
 //! says where its access goes, and one function does them all.
-ghost use Rattle.std.specs.Prelude.{◌≡◌, [], Bool, true};
+ghost use Rattle.std.specs.Prelude.{◌≡◌, [], Bool, true, IfSome, None};
 ghost use Rattle.a64_insn.specs.declared.form.A64Form.{A64Form};
 ghost use Rattle.emu_model.specs.Access.{Memory};
 ghost use Rattle.emu_model.specs.State.{Vectors};
 ghost use Rattle.a64_effects.specs.Groups.{access};
-ghost use Rattle.a64_effects.specs.LoadStore.{transferred_by};
-ghost use Rattle.a64_flow.specs.Ends.{ended};
+ghost use Rattle.a64_effects.specs.LoadStore.{transferred_by, unchanged};
+ghost use Rattle.a64_flow.specs.Ends.{done_with, ended};
 ghost use Rattle.a64_flow.specs.Groups.{is_single};
 ghost use Rattle.a64_flow.specs.Singles.{behind, row_of};
 
 use crate::offsets::from_base;
-use crate::unrefused::moved;
+use crate::unrefused::{moved, moved_general};
 use crate::{indexed, offsets};
 use a64_insn::{A64, A64Form};
 use core_regs::{Core, Trap};
@@ -45,16 +45,26 @@ pub(crate) fn exec(
     requires empty { log.old.items ≡ [] }
     ensures { access i.now core.old vec.old mem.old ≡ ended result core.new vec.new mem.new log.new.items }
 {
-    let s = single_of(core, i);
-    transfer_at(core, vec, mem, log, &s)
+    match attempted(core, mem, log, i) {
+        None => Ok(()),
+        Some(s) => transfer_at(core, vec, mem, log, &s),
+    }
 }
 
-/// What a row loads or stores.
+/// Does the access of a row where it is one of a general register, with zeros above, that no test refuses; else it
+/// answers the access, and nothing is changed. Each form has the access for itself: what its address leaves open isn't
+/// kept beside it.
 #[inline(always)]
-fn single_of(core: &Core, i: &A64) -> Single
-    requires { is_single i.now ≡ true }
-    ensures { (w : Vectors) → (m : Memory) → access i.now core.now w m
-        ≡ transferred_by (row_of result) core.now w m }
+fn attempted(core: &mut Core, mem: &mut Mem, log: &mut AccessLog, i: &A64) -> Option<Single>
+    requires own { is_single i.now ≡ true }
+    requires empty { log.old.items ≡ [] }
+    ensures done { result ≡ None → (w : Vectors) → access i.now core.old w mem.old
+        ≡ done_with unchanged core.new w mem.new log.new.items }
+    ensures left { IfSome result (λ s. (w : Vectors) → (m : Memory) → access i.now core.old w m
+        ≡ transferred_by (row_of s) core.old w m) }
+    ensures core { IfSome result (λ s. core.new ≡ core.old) }
+    ensures memory { IfSome result (λ s. mem.new ≡ mem.old) }
+    ensures log { IfSome result (λ s. log.new.items ≡ []) }
 {
     match *i.form() {
         A64Form::LsUnsigned {
@@ -64,7 +74,10 @@ fn single_of(core: &Core, i: &A64) -> Single
             imm12,
             rn,
             rt,
-        } => offsets::unsigned(core, size, v, opc, imm12, rn, rt),
+        } => {
+            let s = offsets::unsigned(core, size, v, opc, imm12, rn, rt);
+            attempted_at(core, mem, log, s)
+        }
         A64Form::LsUnscaled {
             size,
             v,
@@ -72,7 +85,10 @@ fn single_of(core: &Core, i: &A64) -> Single
             imm9,
             rn,
             rt,
-        } => offsets::unscaled(core, size, v, opc, imm9, rn, rt),
+        } => {
+            let s = offsets::unscaled(core, size, v, opc, imm9, rn, rt);
+            attempted_at(core, mem, log, s)
+        }
         A64Form::LsReg {
             size,
             v,
@@ -82,7 +98,10 @@ fn single_of(core: &Core, i: &A64) -> Single
             s,
             rn,
             rt,
-        } => offsets::register(core, size, v, opc, rm, ext, s, rn, rt),
+        } => {
+            let s = offsets::register(core, size, v, opc, rm, ext, s, rn, rt);
+            attempted_at(core, mem, log, s)
+        }
         A64Form::LsPost {
             size,
             v,
@@ -90,7 +109,10 @@ fn single_of(core: &Core, i: &A64) -> Single
             imm9,
             rn,
             rt,
-        } => indexed::post(core, size, v, opc, imm9, rn, rt),
+        } => {
+            let s = indexed::post(core, size, v, opc, imm9, rn, rt);
+            attempted_at(core, mem, log, s)
+        }
         A64Form::LsPre {
             size,
             v,
@@ -98,12 +120,34 @@ fn single_of(core: &Core, i: &A64) -> Single
             imm9,
             rn,
             rt,
-        } => indexed::pre(core, size, v, opc, imm9, rn, rt),
+        } => {
+            let s = indexed::pre(core, size, v, opc, imm9, rn, rt);
+            attempted_at(core, mem, log, s)
+        }
         _ => unreachable!(),
     }
 }
 
-/// Does an access, and writes the base back where it was done.
+/// Does an access of a general register, with zeros above, that no test refuses, and writes the base back; else it
+/// answers the access, and nothing is changed.
+#[inline(always)]
+fn attempted_at(core: &mut Core, mem: &mut Mem, log: &mut AccessLog, s: Single) -> Option<Single>
+    requires { log.old.items ≡ [] }
+    ensures done { result ≡ None → (w : Vectors) → transferred_by (row_of s) core.old w mem.old
+        ≡ done_with unchanged core.new w mem.new log.new.items }
+    ensures left { IfSome result (λ left. left ≡ s) }
+    ensures core { IfSome result (λ left. core.new ≡ core.old) }
+    ensures memory { IfSome result (λ left. mem.new ≡ mem.old) }
+    ensures log { IfSome result (λ left. log.new.items ≡ []) }
+{
+    if moved_general(core, mem, log, &s) {
+        write_back(core, s.rn, s.back);
+        return None;
+    }
+    Some(s)
+}
+
+/// Does an access that wasn't done so, and writes the base back where it was done.
 #[inline(always)]
 fn transfer_at(
     core: &mut Core,

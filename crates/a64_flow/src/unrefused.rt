@@ -1,7 +1,7 @@
 //! Accesses of one register that no test refuses. Each answers whether it was done: an answer with a trap would lie in
 //! memory, and take as long as the access.
 ghost use Rattle.std.specs.Prelude.{◌≡◌, ◌≤◌, ◌*◌, ◌∷◌, [], false, true, nat_eq};
-ghost use Rattle.emu_model.specs.State.{Core as CoreState};
+ghost use Rattle.emu_model.specs.State.{Core as CoreState, Vectors};
 ghost use Rattle.emu_model.specs.declared.access.Kind.{Kind};
 ghost use Rattle.emu_model.specs.Elements.{reach};
 ghost use Rattle.a64_effects.specs.LoadStore as table;
@@ -12,6 +12,7 @@ ghost use Rattle.vec_regs.specs.Packed.{IsLowSize};
 
 use crate::elements::{put_loaded, stored_value};
 use crate::fields::{access_bytes, transfer};
+use crate::general;
 use crate::singles::Single;
 use a64_effects::Transfer;
 use core_regs::Core;
@@ -20,8 +21,31 @@ use emu_bits::Reg;
 use guest_mem::{AccessLog, Mem};
 use vec_regs::VecRegs;
 
-/// Loads or stores one register where no test refuses it, and answers whether it did. Else nothing is changed, and so
-/// it is with a prefetch.
+/// Loads or stores one general register, with zeros above, where no test refuses it, and answers whether it did. Else
+/// nothing is changed, and so it is with any other access.
+#[inline(always)]
+pub(crate) fn moved_general(core: &mut Core, mem: &mut Mem, log: &mut AccessLog, s: &Single) -> bool
+    requires { log.old.items ≡ [] }
+    ensures done { result ≡ true → (w : Vectors) → (after : CoreState → CoreState)
+        → transferred_by (from_base s.now.v s.now.size s.now.opc s.now.rn s.now.rt s.now.address after)
+        core.old w mem.old
+        ≡ done_with after core.new w mem.new log.new.items }
+    ensures core { result ≡ false → core.new ≡ core.old }
+    ensures memory { result ≡ false → mem.new ≡ mem.old }
+    ensures log { result ≡ false → log.new.items ≡ [] }
+{
+    if s.v || s.opc.get() >= 2 || is_misaligned(core, s.rn) {
+        return false;
+    }
+    if s.opc.get() == 0 {
+        general::stored(core, mem, log, s.size, s.rt, s.address)
+    } else {
+        general::loaded(core, mem, log, s.size, s.rt, s.address)
+    }
+}
+
+/// Loads or stores a vector register, or loads with copies of the top bit, where no test refuses it, and answers
+/// whether it did. Else nothing is changed, and so it is with any other access.
 #[inline(always)]
 pub(crate) fn moved(
     core: &mut Core,
@@ -44,7 +68,7 @@ pub(crate) fn moved(
         return false;
     }
     let n = access_bytes(s.v, s.size, s.opc);
-    moved_as(
+    moved_rarely(
         core,
         vec,
         mem,
@@ -57,9 +81,9 @@ pub(crate) fn moved(
     )
 }
 
-/// The same of what is moved, where the base may be used.
+/// The same of a vector register, or of a load with copies of the top bit, where the base may be used.
 #[inline(always)]
-fn moved_as(
+fn moved_rarely(
     core: &mut Core,
     vec: &mut VecRegs,
     mem: &mut Mem,
@@ -85,14 +109,12 @@ fn moved_as(
     ensures log { result ≡ false → log.new.items ≡ [] }
 {
     match t {
-        Transfer::Store => stored(core, vec, mem, log, t, rt, address, n),
-        Transfer::Load => loaded(core, vec, mem, log, t, rt, address, n),
         Transfer::LoadSigned | Transfer::LoadSigned32 => loaded_signed(
             core, vec, mem, log, t, rt, address, n,
         ),
         Transfer::StoreVector => stored_vector(core, vec, mem, log, t, rt, address, n),
         Transfer::LoadVector => loaded_vector(core, vec, mem, log, t, rt, address, n),
-        Transfer::Prefetch => false,
+        Transfer::Store | Transfer::Load | Transfer::Prefetch => false,
     }
 }
 

@@ -1,0 +1,152 @@
+//! Loads and stores of one general register, with zeros above, that no test refuses and that cross no page. Neither
+//! function is inlined, so that the loop of a run keeps the registers of the host that an access takes.
+ghost use Rattle.std.specs.Prelude.{◌≡◌, ◌≤◌, ◌*◌, ◌^◌, ◌∷◌, [], false, true};
+ghost use Rattle.emu_model.specs.State.{Core as CoreState, Vectors};
+ghost use Rattle.emu_model.specs.declared.access.Kind.{Kind};
+ghost use Rattle.emu_model.specs.Elements.{reach};
+ghost use Rattle.a64_effects.specs.LoadStore as table;
+ghost use Rattle.a64_effects.specs.declared.transfer.Transfer.{Transfer};
+ghost use Rattle.a64_flow.specs.Ends.{done_with};
+ghost use Rattle.vec_regs.specs.Packed.{IsLowSize};
+
+use core_regs::Core;
+use emu_bits::{Reg, U};
+use emu_model::PAGE_SIZE;
+use guest_mem::{Access, AccessLog, Kind, Mem};
+
+/// Stores 2^size bytes of a register, and answers whether it did. Else nothing is changed.
+#[inline(never)]
+pub(crate) fn stored(
+    core: &Core,
+    mem: &mut Mem,
+    log: &mut AccessLog,
+    size: U<2>,
+    rt: Reg,
+    address: u64,
+) -> bool
+    requires { log.old.items ≡ [] }
+    ensures done { result ≡ true → (w : Vectors) → (after : CoreState → CoreState)
+        → table.stored_to Transfer.Store
+        (reach mem.old Kind.Write (record { lane = 0; register = rt; address = address; bytes = 2 ^ size } ∷ []))
+        after core.now w mem.old
+        ≡ done_with after core.now w mem.new log.new.items }
+    ensures memory { result ≡ false → mem.new ≡ mem.old }
+    ensures log { result ≡ false → log.new.items ≡ [] }
+{
+    match size.get() {
+        0 => stored_bytes(core, mem, log, rt, address, 1),
+        1 => stored_bytes(core, mem, log, rt, address, 2),
+        2 => stored_bytes(core, mem, log, rt, address, 4),
+        _ => stored_bytes(core, mem, log, rt, address, 8),
+    }
+}
+
+/// Loads 2^size bytes to a register, and answers whether it did. Else nothing is changed.
+#[inline(never)]
+pub(crate) fn loaded(
+    core: &mut Core,
+    mem: &mut Mem,
+    log: &mut AccessLog,
+    size: U<2>,
+    rt: Reg,
+    address: u64,
+) -> bool
+    requires { log.old.items ≡ [] }
+    ensures done { result ≡ true → (w : Vectors) → (after : CoreState → CoreState)
+        → table.loaded_to Transfer.Load
+        (reach mem.old Kind.Read (record { lane = 0; register = rt; address = address; bytes = 2 ^ size } ∷ []))
+        after core.old w mem.old
+        ≡ done_with after core.new w mem.new log.new.items }
+    ensures core { result ≡ false → core.new ≡ core.old }
+    ensures memory { result ≡ false → mem.new ≡ mem.old }
+    ensures log { result ≡ false → log.new.items ≡ [] }
+{
+    match size.get() {
+        0 => loaded_bytes(core, mem, log, rt, address, 1),
+        1 => loaded_bytes(core, mem, log, rt, address, 2),
+        2 => loaded_bytes(core, mem, log, rt, address, 4),
+        _ => loaded_bytes(core, mem, log, rt, address, 8),
+    }
+}
+
+/// Stores the low n bytes of a register.
+#[inline(always)]
+fn stored_bytes(
+    core: &Core,
+    mem: &mut Mem,
+    log: &mut AccessLog,
+    rt: Reg,
+    address: u64,
+    n: u32,
+) -> bool
+    requires some { 1 ≤ n }
+    requires most { n ≤ 8 }
+    requires empty { log.old.items ≡ [] }
+    ensures done { result ≡ true → (w : Vectors) → (after : CoreState → CoreState)
+        → table.stored_to Transfer.Store
+        (reach mem.old Kind.Write (record { lane = 0; register = rt; address = address; bytes = n } ∷ []))
+        after core.now w mem.old
+        ≡ done_with after core.now w mem.new log.new.items }
+    ensures memory { result ≡ false → mem.new ≡ mem.old }
+    ensures log { result ≡ false → log.new.items ≡ [] }
+{
+    if address % PAGE_SIZE + u64::from(n) > PAGE_SIZE {
+        return false;
+    }
+    match mem.store(address, n, u128::from(core.x(rt))) {
+        Ok(()) => {
+            note(log, address, n, true);
+            true
+        }
+        Err(_) => false,
+    }
+}
+
+/// Loads n bytes to a register.
+#[inline(always)]
+fn loaded_bytes(
+    core: &mut Core,
+    mem: &mut Mem,
+    log: &mut AccessLog,
+    rt: Reg,
+    address: u64,
+    n: u32,
+) -> bool
+    requires some { 1 ≤ n }
+    requires most { n ≤ 8 }
+    requires size { IsLowSize (8 * n) }
+    requires empty { log.old.items ≡ [] }
+    ensures done { result ≡ true → (w : Vectors) → (after : CoreState → CoreState)
+        → table.loaded_to Transfer.Load
+        (reach mem.old Kind.Read (record { lane = 0; register = rt; address = address; bytes = n } ∷ []))
+        after core.old w mem.old
+        ≡ done_with after core.new w mem.new log.new.items }
+    ensures core { result ≡ false → core.new ≡ core.old }
+    ensures memory { result ≡ false → mem.new ≡ mem.old }
+    ensures log { result ≡ false → log.new.items ≡ [] }
+{
+    if address % PAGE_SIZE + u64::from(n) > PAGE_SIZE {
+        return false;
+    }
+    match mem.load(address, n, Kind::Read) {
+        Ok(v) => {
+            note(log, address, n, false);
+            core.set_x(rt, 64, v as u64);
+            true
+        }
+        Err(_) => false,
+    }
+}
+
+/// Makes the log one access. It is emptied first, so that the place of the access is known.
+#[inline(always)]
+fn note(log: &mut AccessLog, address: u64, n: u32, write: bool)
+    ensures { log.new.items ≡ record { address = address; bytes = n; write = write } ∷ [] }
+{
+    log.clear();
+    log.push(Access {
+        address,
+        bytes: n,
+        write,
+    });
+}
