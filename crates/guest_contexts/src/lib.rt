@@ -7,6 +7,7 @@ mod monitors;
 mod numbers;
 mod room;
 mod standings;
+mod turns;
 
 pub use context::{Context, Started};
 pub use copies::{copy_core, copy_vectors};
@@ -14,3 +15,4 @@ pub use monitors::{empty_monitors, is_some_watching, note_accesses};
 pub use numbers::{error_answer, thread_call};
 pub use room::{Spare, spares};
 pub use standings::{are_all_gone, is_some_ready, ready, set_clear, stand, wake};
+pub use turns::{Rest, place_among, rest_of};

@@ -9,3 +9,5 @@ pub mod Steps
 pub mod Stood
 pub mod Views
 pub mod Named
+pub mod Followed
+pub mod WholeTurns

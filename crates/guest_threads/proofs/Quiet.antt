@@ -126,14 +126,14 @@ quiet_lives zero k w v same living = subst (λ (x : World). IsLiving x) (sym sam
 quiet_lives (suc n) k w v (u, (so_far, s)) living = λ _. stays_living v k s.at.within (ap is_standing_gone s.at.ready)
 
 module _ (k : ℕ) (w : World) where
-  from_brought : (n : ℕ) (v : World) → AreQuiet (suc n) k (taken_by_context k w) v → AreQuiet (suc n) k w v
+  pub from_brought : (n : ℕ) (v : World) → AreQuiet (suc n) k (taken_by_context k w) v → AreQuiet (suc n) k w v
   from_brought zero v (u, (same, s)) =
       let first : IsQuiet k (taken_by_context k w) v = subst (λ (x : World). IsQuiet k x v) same s in
       (w, (refl, record { is = λ input. sym (one_last w k input) ∙ first.is input; goes = first.goes; counted = first.counted; at = first.at }))
   from_brought (suc n) v (u, (so_far, s)) = (u, (from_brought n u so_far, s))
 
   -- the world before the last step
-  before_last : (n : ℕ) (at v : World) → AreQuiet n k (taken_by_context k w) at → ((input : List ℕ) → one at k input ≡ quietly v input)
+  pub before_last : (n : ℕ) (at v : World) → AreQuiet n k (taken_by_context k w) at → ((input : List ℕ) → one at k input ≡ quietly v input)
       → (x : World) × (AreQuiet n k w x × (((input : List ℕ) → one x k input ≡ quietly v input) × (x.steps ≡ at.steps)))
   before_last zero at v same is =
       (w, (refl, (λ input. sym (one_last w k input) ∙ subst (λ (x : World). one x k input ≡ quietly v input) same (is input), sym (ap (λ (x : World). x.steps) same))))

@@ -233,6 +233,15 @@ stuck_by w (Some (Trap t)) b is none spent = absurd (cc)
 pub unspent_stuck : (w : World) → some_ready w ≡ false → end_of_world w ≡ Spent → ⊥
 unspent_stuck w none spent = stuck_by w w.ended (some_ready w) refl none spent
 
+-- one that has ended isn't
+over_unspent : (w : World) (e : Option Ended) → is_none e ≡ false → world_end (ending w e) ≡ Spent → ⊥
+over_unspent w None over spent = absurd (cc)
+over_unspent w (Some (Exit code)) over spent = absurd (cc)
+over_unspent w (Some (Trap t)) over spent = absurd (cc)
+
+pub ended_unspent : (w : World) → is_none w.ended ≡ false → end_of_world w ≡ Spent → ⊥
+ended_unspent w over spent = over_unspent w w.ended over spent
+
 -- a step that goes on has no other answer
 pub going_is_no : (r x : StepEnd) → (Going ≡ x → ⊥) → r ≡ Going → r ≡ x → ⊥
 going_is_no r x other going is = other (sym going ∙ is)

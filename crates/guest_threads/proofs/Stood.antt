@@ -1,26 +1,23 @@
--- Where a run of a world stands before a step of a context, and how steps that move no byte of a stream bring it on within a turn.
-use Rattle.std.proofs.Common.{◌≡◌, ◌<◌, ℕ, zero, suc, ◌+◌, Bool, true, false, ◌&&◌, List, Option, is_none, if◌then◌else◌, refl, sym, ap, subst, ◌∙◌, arith}
+-- Steps of a context that move no byte of a stream, within a turn: how what holds before them is brought on, and where they lead.
+use Rattle.std.proofs.Common.{◌≡◌, ◌<◌, ℕ, zero, suc, ◌+◌, Bool, true, List, is_none, if◌then◌else◌, refl, sym, ap, subst, ◌∙◌, arith}
 use Rattle.std.proofs.lemmas.Bool.{ne_eqb}
 use Rattle.thread_model.specs.declared.thread.Place.{Place}
-use Rattle.thread_model.specs.Threads.{goes_on, next_place, pick, ready_at, stepped, turn_at}
-use Rattle.thread_model.specs.Worlds.{World, is_standing_ready, some_ready}
+use Rattle.thread_model.specs.Threads.{next_place, pick, ready_at, turn_at}
+use Rattle.thread_model.specs.Worlds.{World, is_standing_ready}
 use Rattle.guest_threads.specs.Ends.{IsReadyAt}
-use Rattle.guest_threads.specs.Quiet.{AreQuiet, IsQuiet}
-use Rattle.guest_threads.proofs.Picked.{place_at, some_by, stays_on}
-use Rattle.guest_threads.proofs.Runs.{LeadsRun, Ran, ran_step, run_counts}
-use Rattle.guest_threads.proofs.Stands.{Stands, stands_on}
-use Rattle.guest_threads.proofs.Steps.{quiet_becomes, quiet_errors, quiet_output, quiet_takes}
+use Rattle.guest_threads.specs.Quiet.{AreQuiet, IsFollowed, IsQuiet}
+use Rattle.guest_threads.proofs.Picked.{place_at, stays_on}
 
 -- the place of a context's next step behind so many steps of it, all in one turn
 abbrev pub moved : Place → ℕ → ℕ → Place
 moved p k zero = p
 moved p k (suc n) = place_at p.turn (p.used + suc n) k
 
-moved_turn : (p : Place) (k n : ℕ) → (moved p k n).turn ≡ p.turn
+pub moved_turn : (p : Place) (k n : ℕ) → (moved p k n).turn ≡ p.turn
 moved_turn p k zero = refl
 moved_turn p k (suc n) = refl
 
-moved_used : (p : Place) (k n : ℕ) → (moved p k n).used ≡ p.used + n
+pub moved_used : (p : Place) (k n : ℕ) → (moved p k n).used ≡ p.used + n
 moved_used p k zero = omega arith
 moved_used p k (suc n) = refl
 
@@ -31,28 +28,23 @@ next_moved w schedule p k n last is =
     ∙ ap (λ (u : ℕ). next_place w schedule (place_at p.turn u k) k) (moved_used p k n)
     ∙ ap (λ (x : Place). next_place w schedule x k) (sym is)
 
-module _ (schedule : List (ℕ × ℕ)) (budget k : ℕ) (old : World) (told left ho hp eo ep : Option (List ℕ)) where
+-- a fact that each quiet step of the schedule brings on, before the budget is spent
+abbrev pub BringsOn : List (ℕ × ℕ) → ℕ → (Place → World → Type 0) → Type 0
+BringsOn schedule budget P = (p q : Place) (w v : World) → P p w → IsFollowed schedule p w q v → is_none w.ended ≡ true → w.steps < budget → P q v
+
+module _ (schedule : List (ℕ × ℕ)) (budget k : ℕ) (P : Place → World → Type 0) (on : BringsOn schedule budget P) where
+  -- the next step is one of context k
   pub record Stood (place : Place) (now : World) : Type 0 where
-    pub leads : LeadsRun schedule budget place old now told left ho hp eo ep
-    pub stands : Stands schedule old told place now left
+    pub holds : P place now
     pub picked : k ≡ pick now schedule place
     pub at : IsReadyAt now k
     pub goes : is_none now.ended ≡ true
 
-  pub stood_goes : (place : Place) (now : World) → Stood place now → goes_on now ≡ true
-  stood_goes place now s = ap (λ (b : Bool). b && some_ready now) s.goes ∙ some_by now k s.at
-
   stood_one : (place : Place) (p q : World) → Stood place p → IsQuiet k p q → place.used + 1 < (turn_at schedule place.turn).1 → p.steps < budget → Stood (place_at place.turn (place.used + 1) k) q
   stood_one place p q s one more below =
-      let r : Ran (λ st. stepped st k) p q left left hp hp ep ep false =
-      ran_step k p q left left hp hp ep ep false (quiet_becomes p q k one.is left false) (quiet_takes p q k one.is left false refl) (quiet_output p q k one.is hp false) (quiet_errors p q k one.is ep false) in
-      let next : next_place q schedule place k ≡ place_at place.turn (place.used + 1) k = sym (stays_on q schedule place k (λ e. omega (arith, e, more)) (ap is_standing_ready one.at.ready)) in
-      let goes : goes_on p ≡ true = stood_goes place p s in
+      let next : place_at place.turn (place.used + 1) k ≡ next_place q schedule place k = stays_on q schedule place k (λ e. omega (arith, e, more)) (ap is_standing_ready one.at.ready) in
       record {
-        leads = subst (λ (x : Place). LeadsRun schedule budget x old q told left ho hp eo ep) next
-            (run_counts schedule budget place old p q told left left ho hp hp eo ep ep s.leads goes below k s.picked one.counted r);
-        stands = subst (λ (x : Place). Stands schedule old told x q left) next
-            (stands_on schedule budget place old p left ho hp eo ep q k left hp ep told s.leads r goes s.picked one.counted s.stands);
+        holds = on place (place_at place.turn (place.used + 1) k) p q s.holds (record { context = k; picked = s.picked; at = s.at; quiet = one; next = next }) s.goes below;
         picked = sym (ap (λ (b : Bool). if b then ready_at q (turn_at schedule place.turn).0 else k) (ne_eqb (place.used + 1) 0 (λ e. omega (arith, e))));
         at = one.at;
         goes = one.goes;

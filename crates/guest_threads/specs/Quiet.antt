@@ -5,9 +5,12 @@ use Rattle.emu_machine.specs.declared.ends.Progress.TheVariants.{GoesOn, Trapped
 use Rattle.emu_machine.specs.declared.ends.StepEnd.{StepEnd}
 use Rattle.emu_machine.specs.declared.ends.StepEnd.TheVariants.{Going}
 use Rattle.emu_machine.specs.Ends.{is_undone, step_end}
-use Rattle.thread_model.specs.Threads.{one, quietly, stepped}
+use Rattle.thread_model.specs.declared.thread.Place.{Place}
+use Rattle.thread_model.specs.Threads.{next_place, one, pick, quietly, stepped}
 use Rattle.thread_model.specs.Worlds.{World}
-use Rattle.guest_threads.specs.Ends.{Becomes, IsKept, IsReadyAt, PutsAlways, TakesWithin}
+use Rattle.guest_threads.specs.declared.turns.TurnEnd.{TurnEnd}
+use Rattle.guest_threads.specs.declared.turns.TurnEnd.TheVariants.{Whole, Within, Over}
+use Rattle.guest_threads.specs.Ends.{Becomes, IsKept, IsPlace, IsReadyAt, PutsAlways, TakesWithin}
 
 -- a step of context k makes `v` of `w`, and both go on
 pub record IsQuiet (k : ℕ) (w v : World) : Type 0 where
@@ -42,6 +45,49 @@ abbrev pub has_trapped : Progress → Bool
 has_trapped GoesOn = false
 has_trapped Trapped = true
 has_trapped AtCall = false
+
+-- ---- steps of a schedule
+
+-- the step of a place of the schedule is quiet, and the next one is of place q
+pub record IsFollowed (schedule : List (ℕ × ℕ)) (p : Place) (w : World) (q : Place) (v : World) : Type 0 where
+  pub context : ℕ
+  pub picked : context ≡ pick w schedule p
+  pub at : IsReadyAt w context
+  pub quiet : IsQuiet context w v
+  pub next : q ≡ next_place v schedule p context
+
+-- and so do so many follow each other
+abbrev pub AreFollowed : ℕ → List (ℕ × ℕ) → Place → World → Place → World → Type 0
+AreFollowed zero schedule p w q v = (q ≡ p) × (v ≡ w)
+AreFollowed (suc n) schedule p w q v = (o : Place) × (u : World) × (AreFollowed n schedule p w o u × IsFollowed schedule o u q v)
+
+-- some do, and the world goes on
+pub record FollowsOn (schedule : List (ℕ × ℕ)) (budget : ℕ) (p : Place) (w : World) (q : Place) (v : World) : Type 0 where
+  pub count : ℕ
+  pub followed : AreFollowed count schedule p w q v
+  pub goes : is_none v.ended ≡ true
+  pub most : v.steps ≤ budget
+  pub placed : IsPlace v schedule q
+
+-- the one behind them ends the world
+pub record FollowsToEnd (schedule : List (ℕ × ℕ)) (budget : ℕ) (p : Place) (w v : World) : Type 0 where
+  pub count : ℕ
+  pub place : Place
+  pub at : World
+  pub followed : AreFollowed count schedule p w place at
+  pub context : ℕ
+  pub picked : context ≡ pick at schedule place
+  pub ready : IsReadyAt at context
+  pub goes : is_none at.ended ≡ true
+  pub below : at.steps < budget
+  pub is : (input : List ℕ) → one at context input ≡ quietly v input
+  pub ended : is_none v.ended ≡ false
+
+-- a fact of each way that the steps of a turn may come
+abbrev pub MatchTurn : TurnEnd → Type 0 → (Place → Type 0) → Type 0 → Type 0
+MatchTurn Whole P Q R = P
+MatchTurn (Within place) P Q R = Q place
+MatchTurn Over P Q R = R
 
 -- ---- steps of context k of which all but the last are quiet
 

@@ -109,6 +109,14 @@ impl Held {
         self.machine.steps()
     }
 
+    /// The context whose registers the machine has.
+    pub(crate) fn last(&self) -> usize
+        ensures value { result ≡ self.now.world.last }
+        ensures within { result < length self.now.world.contexts }
+    {
+        self.last
+    }
+
     /// The number of contexts, those that have left included: at least one.
     pub(crate) fn contexts(&self) -> u32
         ensures value { result ≡ length self.now.world.contexts }
@@ -139,9 +147,10 @@ impl Held {
     {
         let last = self.last;
         if k != last {
-            self.unwatched = stays_unwatched(self.unwatched, self.machine.core());
+            let unwatched = stays_unwatched(self.unwatched, self.machine.core());
             exchange(&mut self.machine, &mut self.contexts, last);
             exchange(&mut self.machine, &mut self.contexts, k);
+            self.unwatched = unwatched;
             self.last = k;
         }
     }

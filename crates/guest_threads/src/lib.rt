@@ -15,6 +15,7 @@ mod places;
 mod run;
 mod step;
 mod svc;
+mod turns;
 mod went;
 mod world;
 

@@ -1,11 +1,12 @@
 //! Where a run is in its schedule.
-ghost use Rattle.std.specs.Prelude.{◌≡◌, ◌<◌, ◌≤◌, ◌+◌, ◌-◌, ◌%◌, ◌^◌, ◌⊎◌, MatchOption, length, true, false};
+ghost use Rattle.std.specs.Prelude.{◌≡◌, ◌<◌, ◌≤◌, ◌+◌, ◌-◌, ◌^◌, ◌⊎◌, MatchOption, length, true, false};
 ghost use Rattle.guest_schedule.specs.Turns.{IsSchedule};
 ghost use Rattle.guest_threads.specs.Ends.{IsPlace, IsPicked, IsReadyAt};
 ghost use Rattle.thread_model.specs.Threads as model;
 ghost use Rattle.thread_model.specs.Worlds as worlds;
 
 use crate::held::Held;
+use guest_contexts::place_among;
 use thread_model::Place;
 
 /// The number of steps that are counted in all when the turn of a place, or the budget, is used up.
@@ -36,17 +37,18 @@ pub(crate) fn used_behind(used: u64, before: u64, after: u64) -> u64
     used + (after - before)
 }
 
-/// The remainder of a number, which mostly is the number itself.
+/// The turn behind a turn.
 #[inline(always)]
-fn remainder(number: u64, count: u64) -> u64
-    requires { 0 < count }
-    ensures { result ≡ number % count }
+pub(crate) fn next_turn(turns: &[(u64, u64)], turn: usize) -> usize
+    requires { turn < length turns.now }
+    ensures is { result ≡ model.next_turn turns.now turn }
+    ensures within { result < length turns.now }
 {
-    if number < count {
-        number
-    } else {
-        number % count
+    let next = turn + 1;
+    if next == turns.len() {
+        return 0;
     }
+    next
 }
 
 impl Held {
@@ -61,10 +63,9 @@ impl Held {
             return Some(place.held);
         }
         let count = self.numbers.len() as u64;
-        if count == 0 {
+        let Some(at) = place_among(turns[place.turn].0, count) else {
             return None;
-        }
-        let at = remainder(turns[place.turn].0, count);
+        };
         Some(self.numbers[at as usize])
     }
 
@@ -81,16 +82,8 @@ impl Held {
         ensures is_place { IsPlace self.now.world turns.now result }
     {
         if self.is_over(turns, turn, used, k) {
-            let next = turn + 1;
-            if next == turns.len() {
-                return Place {
-                    turn: 0,
-                    used: 0,
-                    held: 0,
-                };
-            }
             return Place {
-                turn: next,
+                turn: next_turn(turns, turn),
                 used: 0,
                 held: 0,
             };

@@ -24,7 +24,7 @@ use crate::held::Held;
 use crate::places::{turn_until, used_behind};
 use crate::went::Went;
 use emu_machine::{Ended, StepEnd};
-use guest_contexts::is_some_ready;
+use guest_contexts::{Rest, rest_of};
 use io_gate::{Sink, Source};
 use thread_model::Place;
 
@@ -87,7 +87,11 @@ impl Held {
             }
             let after = self.steps();
             let used = used_behind(place.used, before, after);
-            place = self.next_place(schedule, place.turn, used, k);
+            let next = self.next_place(schedule, place.turn, used, k);
+            let Some(there) = self.take_turns(schedule, next, budget) else {
+                return self.end();
+            };
+            place = there;
         }
         self.end()
     }
@@ -97,13 +101,10 @@ impl Held {
         ensures { result ≡ end_of_world self.now.world }
     {
         match self.machine.ending() {
-            None => {
-                if is_some_ready(&self.contexts) {
-                    WorldEnd::Spent
-                } else {
-                    WorldEnd::Stuck
-                }
-            }
+            None => match rest_of(&self.contexts) {
+                Rest::Spent => WorldEnd::Spent,
+                Rest::Stuck => WorldEnd::Stuck,
+            },
             Some(Ended::Exit(code)) => WorldEnd::Exit(code),
             Some(Ended::Trap(trap)) => WorldEnd::Trap(trap, self.machine.core().pc()),
         }

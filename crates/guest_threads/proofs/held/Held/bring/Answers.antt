@@ -31,6 +31,6 @@ invariant_of-self c =
     let f = c.exchange-then-k-last.ensures in
     let within = within_list m i.last c.args.k i.contexts.items (subst (λ (h : WorldHeld). c.args.k < length h.world.contexts) (sym c.self.view_is) c.requires) in
     inside_brought (vec_capacity i.contexts) (length i.spares.items) i.numbers.items m c.exchange.new.machine.parts i.last c.args.k i.contexts.items c.exchange.new.contexts.items c.exchange-then-k-last.new.contexts.items
-    (vec_capacity c.exchange-then-k-last.new.contexts) i.unwatched c.stays_unwatched-self-inside.result c.self.invariant within
-    (λ h. let known = c.stays_unwatched-self-inside.ensures h in (known.0, ap (λ (x : Core). is_some x.monitor) (sym c.core.ensures) ∙ known.1))
+    (vec_capacity c.exchange-then-k-last.new.contexts) i.unwatched c.stays_unwatched-unwatched.result c.self.invariant within
+    (λ h. let known = c.stays_unwatched-unwatched.ensures h in (known.0, ap (λ (x : Core). is_some x.monitor) (sym c.core.ensures) ∙ known.1))
     (ap (λ (s : MachineState). s.parts) e.machine) e.contexts f.contexts (f.room ∙ e.room)

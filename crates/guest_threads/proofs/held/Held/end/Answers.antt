@@ -6,12 +6,12 @@ use Rattle.guest_threads.proofs.Picked.{spent_of, stuck_of}
 use Rattle.guest_threads.proofs.Views.{world_is}
 use Rattle.guest_threads.proofs.held.Held.end.Goals as goal
 
-pub returns-then-is_some_ready : goal.returns-then-is_some_ready
-returns-then-is_some_ready c =
-    let some = c.is_some_ready.ensures ∙ ap (λ (x : List Context). list_any is_ready x) c.deref.ensures.value ∙ sym (some_ready_same c.self.inside.machine.parts c.self.inside.last c.self.inside.contexts.items) ∙ ap (λ (w : World). some_ready w) (world_is c.self.inside.machine c.self.inside.last c.self.inside.contexts.items c.args.self.now c.self.view_is) in
-    spent_of c.args.self.now.world (ap (λ (w : World). w.ended) (sym (world_is c.self.inside.machine c.self.inside.last c.self.inside.contexts.items c.args.self.now c.self.view_is)) ∙ sym c.ending.ensures ∙ c.in-None.is) (sym some ∙ c.if-is_some_ready.true)
+pub returns-in-Spent : goal.returns-in-Spent
+returns-in-Spent c =
+    let some = ap (λ (x : List Context). list_any is_ready x) c.deref.ensures.value ∙ sym (some_ready_same c.self.inside.machine.parts c.self.inside.last c.self.inside.contexts.items) ∙ ap (λ (w : World). some_ready w) (world_is c.self.inside.machine c.self.inside.last c.self.inside.contexts.items c.args.self.now c.self.view_is) in
+    spent_of c.args.self.now.world (ap (λ (w : World). w.ended) (sym (world_is c.self.inside.machine c.self.inside.last c.self.inside.contexts.items c.args.self.now c.self.view_is)) ∙ sym c.ending.ensures ∙ c.in-None.is) (sym some ∙ c.rest_of.ensures.spent c.in-Spent.is)
 
-pub returns-else-is_some_ready : goal.returns-else-is_some_ready
-returns-else-is_some_ready c =
-    let some = c.is_some_ready.ensures ∙ ap (λ (x : List Context). list_any is_ready x) c.deref.ensures.value ∙ sym (some_ready_same c.self.inside.machine.parts c.self.inside.last c.self.inside.contexts.items) ∙ ap (λ (w : World). some_ready w) (world_is c.self.inside.machine c.self.inside.last c.self.inside.contexts.items c.args.self.now c.self.view_is) in
-    stuck_of c.args.self.now.world (ap (λ (w : World). w.ended) (sym (world_is c.self.inside.machine c.self.inside.last c.self.inside.contexts.items c.args.self.now c.self.view_is)) ∙ sym c.ending.ensures ∙ c.in-None.is) (sym some ∙ c.if-is_some_ready.false)
+pub returns-in-Stuck : goal.returns-in-Stuck
+returns-in-Stuck c =
+    let some = ap (λ (x : List Context). list_any is_ready x) c.deref.ensures.value ∙ sym (some_ready_same c.self.inside.machine.parts c.self.inside.last c.self.inside.contexts.items) ∙ ap (λ (w : World). some_ready w) (world_is c.self.inside.machine c.self.inside.last c.self.inside.contexts.items c.args.self.now c.self.view_is) in
+    stuck_of c.args.self.now.world (ap (λ (w : World). w.ended) (sym (world_is c.self.inside.machine c.self.inside.last c.self.inside.contexts.items c.args.self.now c.self.view_is)) ∙ sym c.ending.ensures ∙ c.in-None.is) (sym some ∙ c.rest_of.ensures.stuck c.in-Stuck.is)

@@ -1,21 +1,23 @@
-use Rattle.std.proofs.Common.{◌≡◌, ◌<◌, ℕ, ◌+◌, ◌-◌, is_none, true, false, ap, sym, refl, subst, ◌∙◌, arith}
+use Rattle.std.proofs.Common.{◌≡◌, ◌<◌, ◌+◌, ◌-◌, is_none, true, false, ap, sym, refl, subst, ◌∙◌, arith}
 use Rattle.emu_machine.specs.Ends.{is_undone}
-use Rattle.emu_machine.proofs.Advanced.{none_broken, not_both}
+use Rattle.emu_machine.proofs.Advanced.{causes_not, none_broken, not_both}
 use Rattle.emu_machine.specs.declared.ends.StepEnd.{StepEnd}
 use Rattle.emu_machine.specs.declared.ends.StepEnd.TheVariants.{Going, ReadFault, WriteFault, ErrorsFault}
 use Rattle.thread_model.specs.Worlds.{World}
 use Rattle.thread_model.specs.declared.thread.Place.{Place}
-use Rattle.thread_model.specs.Threads.{next_place, turn_at}
 use Rattle.guest_threads.specs.declared.went.Went.{Went}
 use Rattle.guest_threads.specs.Ends.{world_end_of, is_broken_off}
 use Rattle.guest_threads.specs.Named.{last_end}
+use Rattle.guest_threads.specs.Quiet.{TakesSteps}
 use Rattle.guest_threads.proofs.Composed.{leads_start}
 use Rattle.guest_threads.proofs.Picked.{has_one, place_at}
-use Rattle.guest_threads.proofs.Quiet.{quiet_lives, quiet_steps}
-use Rattle.guest_threads.proofs.Stood.{moved, next_moved, stood_goes, stood_on}
-use Rattle.guest_threads.proofs.Runs.{ran_step, ran_when, LeadsRun, run_counts, run_stops, run_spends, run_sticks, broken_as, unbroken, not_going, end_as, goes_on_after, unended, stops, sticks, read_of, write_of, errors_of, never_spent, going_is_no, causes_from, lives_on}
+use Rattle.guest_threads.proofs.Quiet.{ends_lives, quiet_lives, quiet_steps}
+use Rattle.guest_threads.proofs.Followed.{Reached, before_end, followed_after, followed_by, followed_lives, goes_ready, going_by, ran_over, reached_behind, reached_on}
+use Rattle.guest_threads.proofs.Stood.{moved}
+use Rattle.guest_threads.proofs.WholeTurns.{begins_behind}
+use Rattle.guest_threads.proofs.Runs.{ended_unspent, ran_step, ran_when, run_stops, run_spends, run_sticks, broken_as, unbroken, not_going, end_as, goes_on_after, unended, stops, sticks, read_of, write_of, errors_of, never_spent, going_is_no, causes_from, lives_on}
 use Rattle.guest_threads.proofs.Named.{not_on}
-use Rattle.guest_threads.proofs.Stands.{Stands, kept_there, stands_on, stands_start, stands_there}
+use Rattle.guest_threads.proofs.Stands.{kept_there, stands_start, stands_there}
 use Rattle.guest_threads.proofs.held.Held.follow.Goals as goal
 
 pub loop-place-init : goal.loop-place-init
@@ -60,8 +62,8 @@ used_behind-used-requires g c =
     let after = c.steps-after.ensures in
     record { on = omega (arith, steps, after, counted, taken); fits = let fits = until.fits in omega (arith, steps, after, counted, taken, near, fits) }
 
-pub next_place-place-requires : goal.next_place-place-requires
-next_place-place-requires g c =
+pub next_place-next-requires : goal.next_place-next-requires
+next_place-next-requires g c =
     let p = c.loop-place.self.world in
     let t = c.go.ensures.steps in
     let near = t.below in
@@ -81,18 +83,35 @@ next_place-place-requires g c =
       schedule = c.requires.schedule;
     }
 
+pub take_turns-requires : goal.take_turns-requires
+take_turns-requires g c =
+    let q = c.go.new.self.world in
+    let end : StepEnd = last_end c.go.result q.ended in
+    let on : end ≡ Going = ap (λ (w : Went). last_end w q.ended) c.in-On.is in
+    let t = c.go.ensures.steps in
+    let near = t.below in
+    let within = c.turn_until-until.ensures.within in
+    let counted : q.steps ≡ t.at.steps + 1 = t.counted on in
+    record {
+      going = goes_on_after c.go.new.self end on (t.ends (ap is_undone on)) c.go.ensures.failed;
+      within = omega (arith, counted, near, within);
+      place = c.next_place-next.ensures.is_place;
+      begins = begins_behind q c.args.schedule.now (place_at c.loop-place.place.turn (c.used_behind-used.result - 1) c.in-Some.k) c.next_place-next.result c.in-Some.k c.next_place-next.ensures.place;
+      schedule = c.requires.schedule;
+    }
+
 pub loop-place-smaller : goal.loop-place-smaller
 loop-place-smaller g c =
     let p = c.loop-place.self.world in
+    let q = c.go.new.self.world in
     let t = c.go.ensures.steps in
     let near = t.below in
-    let steps = c.steps-before.ensures in
-    let until = c.turn_until-until.ensures in
-    let turn = until.turn in
-    let within = until.within in
+    let within = c.turn_until-until.ensures.within in
     let taken : t.at.steps ≡ p.steps + t.count = quiet_steps t.count c.in-Some.k p t.at t.quiet in
-    let counted : c.go.new.self.world.steps ≡ t.at.steps + 1 = t.counted (ap (λ (w : Went). last_end w c.go.new.self.world.ended) c.in-On.is) in
-    omega (arith, counted, taken, near, within, steps)
+    let counted : q.steps ≡ t.at.steps + 1 = t.counted (ap (λ (w : Went). last_end w q.ended) c.in-On.is) in
+    let d = c.in-Some-take_turns.ensures.steps in
+    let after = followed_after c.args.schedule.now d.count c.next_place-next.result c.in-Some-take_turns.there q c.take_turns.new.self.world d.followed in
+    omega (arith, counted, taken, near, within, after)
 
 pub loop-place-preserved : goal.loop-place-preserved
 loop-place-preserved g c =
@@ -102,48 +121,91 @@ loop-place-preserved g c =
     let on : end ≡ Going = ap (λ (w : Went). last_end w q.ended) c.in-On.is in
     let k = c.in-Some.k in
     let t = c.go.ensures.steps in
-    let at = t.at in
     let steps = c.steps-before.ensures in
     let until = c.turn_until-until.ensures in
-    let within = until.within in
     let turn = until.turn in
-    let near = t.below in
-    let below : at.steps < c.args.budget = omega (arith, near, within) in
-    let taken : at.steps ≡ p.steps + t.count = quiet_steps t.count k p at t.quiet in
-    let more : c.loop-place.place.used + t.count < (turn_at c.args.schedule.now c.loop-place.place.turn).1 = omega (arith, near, turn, taken, steps) in
-    let picked = c.in-Some.ensures in
-    let place = moved c.loop-place.place k t.count in
-    let stood = stood_on c.args.schedule.now c.args.budget k c.args.self.now.world (g.I.Source.left c.args.input.now) (g.I.Source.left c.loop-place.input) (g.O.Sink.held c.args.output.now) (g.O.Sink.held c.loop-place.output) (g.E.Sink.held c.args.errors.now) (g.E.Sink.held c.loop-place.errors) t.count c.loop-place.place p at
-    (record {
-      leads = c.loop-place.invariant.leads;
-      stands = c.loop-place.invariant.stands;
-      picked = picked.is;
-      at = picked.at;
-      goes = unended p.ended c.loop-place.self.failed c.loop-place.invariant.going;
-    }) t.quiet more below in
-    let goes_so = stood_goes c.args.schedule.now c.args.budget k c.args.self.now.world (g.I.Source.left c.args.input.now) (g.I.Source.left c.loop-place.input) (g.O.Sink.held c.args.output.now) (g.O.Sink.held c.loop-place.output) (g.E.Sink.held c.args.errors.now) (g.E.Sink.held c.loop-place.errors) place at stood in
-    let stepped_so = ran_step k at q (g.I.Source.left c.loop-place.input) (g.I.Source.left c.go.new.input) (g.O.Sink.held c.loop-place.output) (g.O.Sink.held c.go.new.output) (g.E.Sink.held c.loop-place.errors) (g.E.Sink.held c.go.new.errors) (is_undone end) t.state t.input t.output t.errors in
-    let counted : q.steps ≡ at.steps + 1 = t.counted on in
+    let taken : t.at.steps ≡ p.steps + t.count = quiet_steps t.count k p t.at t.quiet in
+    let counted : q.steps ≡ t.at.steps + 1 = t.counted on in
     let after = c.steps-after.ensures in
     let is = c.used_behind-used.ensures in
-    let last : Place = place_at c.loop-place.place.turn (c.used_behind-used.result - 1) k in
-    let gone : last ≡ place_at c.loop-place.place.turn (c.loop-place.place.used + t.count) k =
-    ap (λ (n : ℕ). place_at c.loop-place.place.turn n k) (omega (arith, is, steps, after, counted, taken)) in
-    let next : next_place q c.args.schedule.now place k ≡ c.next_place-place.result =
-    next_moved q c.args.schedule.now c.loop-place.place k t.count last gone ∙ sym c.next_place-place.ensures.place in
-    let r = ran_when _ _ _ _ _ _ _ _ _ _ _ (ap is_undone on) stepped_so in
+    let next : Place = c.next_place-next.result in
+    let behind : Reached c.args.schedule.now c.args.budget c.args.self.now.world (g.I.Source.left c.args.input.now) (g.I.Source.left c.go.new.input) (g.O.Sink.held c.args.output.now) (g.O.Sink.held c.go.new.output) (g.E.Sink.held c.args.errors.now) (g.E.Sink.held c.go.new.errors) next q =
+    reached_behind c.args.schedule.now c.args.budget c.args.self.now.world (g.I.Source.left c.args.input.now) (g.I.Source.left c.loop-place.input) (g.O.Sink.held c.args.output.now) (g.O.Sink.held c.loop-place.output) (g.E.Sink.held c.args.errors.now) (g.E.Sink.held c.loop-place.errors)
+    c.loop-place.place k c.turn_until-until.result p (record { leads = c.loop-place.invariant.leads; stands = c.loop-place.invariant.stands }) (unended p.ended c.loop-place.self.failed c.loop-place.invariant.going) c.in-Some.ensures until.within (omega (arith, turn, steps))
+    (g.I.Source.left c.go.new.input) (g.O.Sink.held c.go.new.output) (g.E.Sink.held c.go.new.errors) q c.used_behind-used.result next
+    (subst (λ (e : StepEnd). TakesSteps k c.turn_until-until.result p q e (g.I.Source.left c.loop-place.input) (g.I.Source.left c.go.new.input) (g.O.Sink.held c.loop-place.output) (g.O.Sink.held c.go.new.output) (g.E.Sink.held c.loop-place.errors) (g.E.Sink.held c.go.new.errors)) on t)
+    (omega (arith, is, steps, after, counted, taken)) c.next_place-next.ensures.place in
+    let goes : is_none q.ended ≡ true = unended q.ended c.go.new.self.failed (goes_on_after c.go.new.self end on (t.ends (ap is_undone on)) c.go.ensures.failed) in
+    let read = c.go.ensures.read_cause.kept (going_is_no end ReadFault (λ (e : Going ≡ ReadFault). cc) on) ∙ c.loop-place.invariant.read in
+    let write = c.go.ensures.write_cause.kept (going_is_no end WriteFault (λ (e : Going ≡ WriteFault). cc) on) ∙ c.loop-place.invariant.write in
+    let errors = c.go.ensures.errors_cause.kept (going_is_no end ErrorsFault (λ (e : Going ≡ ErrorsFault). cc) on) ∙ c.loop-place.invariant.errors in
+    let v = c.take_turns.new.self.world in
+    let d = c.in-Some-take_turns.ensures.steps in
+    let there = followed_by c.args.schedule.now c.args.budget (λ x u. Reached c.args.schedule.now c.args.budget c.args.self.now.world (g.I.Source.left c.args.input.now) (g.I.Source.left c.go.new.input) (g.O.Sink.held c.args.output.now) (g.O.Sink.held c.go.new.output) (g.E.Sink.held c.args.errors.now) (g.E.Sink.held c.go.new.errors) x u)
+    (reached_on c.args.schedule.now c.args.budget c.args.self.now.world (g.I.Source.left c.args.input.now) (g.I.Source.left c.go.new.input) (g.O.Sink.held c.args.output.now) (g.O.Sink.held c.go.new.output) (g.E.Sink.held c.args.errors.now) (g.E.Sink.held c.go.new.errors))
+    d.count next c.in-Some-take_turns.there q v d.followed behind goes d.most in
     record {
-      going = goes_on_after c.go.new.self end on (t.ends (ap is_undone on)) c.go.ensures.failed;
-      within = omega (arith, counted, below);
-      placed = c.next_place-place.ensures.is_place;
-      leads = subst (λ x. LeadsRun c.args.schedule.now c.args.budget x c.args.self.now.world q (g.I.Source.left c.args.input.now) (g.I.Source.left c.go.new.input) (g.O.Sink.held c.args.output.now) (g.O.Sink.held c.go.new.output) (g.E.Sink.held c.args.errors.now) (g.E.Sink.held c.go.new.errors)) next
-          (run_counts c.args.schedule.now c.args.budget place c.args.self.now.world at q _ _ _ _ _ _ _ _ _ stood.leads goes_so below k stood.picked counted r);
-      stands = subst (λ x. Stands c.args.schedule.now c.args.self.now.world (g.I.Source.left c.args.input.now) x q (g.I.Source.left c.go.new.input)) next
-          (stands_on c.args.schedule.now c.args.budget place c.args.self.now.world at _ _ _ _ _ q k _ _ _ _ stood.leads r goes_so stood.picked counted stood.stands);
-      living = λ _. c.go.ensures.living (ap is_undone on);
-      read = c.go.ensures.read_cause.kept (going_is_no end ReadFault (λ (e : Going ≡ ReadFault). cc) on) ∙ c.loop-place.invariant.read;
-      write = c.go.ensures.write_cause.kept (going_is_no end WriteFault (λ (e : Going ≡ WriteFault). cc) on) ∙ c.loop-place.invariant.write;
-      errors = c.go.ensures.errors_cause.kept (going_is_no end ErrorsFault (λ (e : Going ≡ ErrorsFault). cc) on) ∙ c.loop-place.invariant.errors;
+      going = going_by c.take_turns.new.self d.goes c.take_turns.ensures.failed;
+      within = d.most;
+      placed = d.placed;
+      leads = there.0.leads;
+      stands = there.0.stands;
+      living = λ _. followed_lives c.args.schedule.now d.count next c.in-Some-take_turns.there q v d.followed (c.go.ensures.living (ap is_undone on));
+      read = read;
+      write = write;
+      errors = errors;
+    }
+
+-- a step of a whole turn ended the world
+pub returns-in_default-take_turns : goal.returns-in_default-take_turns
+returns-in_default-take_turns g c =
+    let p = c.loop-place.self.world in
+    let q = c.go.new.self.world in
+    let end : StepEnd = last_end c.go.result q.ended in
+    let on : end ≡ Going = ap (λ (w : Went). last_end w q.ended) c.in-On.is in
+    let k = c.in-Some.k in
+    let t = c.go.ensures.steps in
+    let steps = c.steps-before.ensures in
+    let until = c.turn_until-until.ensures in
+    let turn = until.turn in
+    let taken : t.at.steps ≡ p.steps + t.count = quiet_steps t.count k p t.at t.quiet in
+    let counted : q.steps ≡ t.at.steps + 1 = t.counted on in
+    let after = c.steps-after.ensures in
+    let is = c.used_behind-used.ensures in
+    let next : Place = c.next_place-next.result in
+    let behind : Reached c.args.schedule.now c.args.budget c.args.self.now.world (g.I.Source.left c.args.input.now) (g.I.Source.left c.go.new.input) (g.O.Sink.held c.args.output.now) (g.O.Sink.held c.go.new.output) (g.E.Sink.held c.args.errors.now) (g.E.Sink.held c.go.new.errors) next q =
+    reached_behind c.args.schedule.now c.args.budget c.args.self.now.world (g.I.Source.left c.args.input.now) (g.I.Source.left c.loop-place.input) (g.O.Sink.held c.args.output.now) (g.O.Sink.held c.loop-place.output) (g.E.Sink.held c.args.errors.now) (g.E.Sink.held c.loop-place.errors)
+    c.loop-place.place k c.turn_until-until.result p (record { leads = c.loop-place.invariant.leads; stands = c.loop-place.invariant.stands }) (unended p.ended c.loop-place.self.failed c.loop-place.invariant.going) c.in-Some.ensures until.within (omega (arith, turn, steps))
+    (g.I.Source.left c.go.new.input) (g.O.Sink.held c.go.new.output) (g.E.Sink.held c.go.new.errors) q c.used_behind-used.result next
+    (subst (λ (e : StepEnd). TakesSteps k c.turn_until-until.result p q e (g.I.Source.left c.loop-place.input) (g.I.Source.left c.go.new.input) (g.O.Sink.held c.loop-place.output) (g.O.Sink.held c.go.new.output) (g.E.Sink.held c.loop-place.errors) (g.E.Sink.held c.go.new.errors)) on t)
+    (omega (arith, is, steps, after, counted, taken)) c.next_place-next.ensures.place in
+    let goes : is_none q.ended ≡ true = unended q.ended c.go.new.self.failed (goes_on_after c.go.new.self end on (t.ends (ap is_undone on)) c.go.ensures.failed) in
+    let read = c.go.ensures.read_cause.kept (going_is_no end ReadFault (λ (e : Going ≡ ReadFault). cc) on) ∙ c.loop-place.invariant.read in
+    let write = c.go.ensures.write_cause.kept (going_is_no end WriteFault (λ (e : Going ≡ WriteFault). cc) on) ∙ c.loop-place.invariant.write in
+    let errors = c.go.ensures.errors_cause.kept (going_is_no end ErrorsFault (λ (e : Going ≡ ErrorsFault). cc) on) ∙ c.loop-place.invariant.errors in
+    let v = c.take_turns.new.self.world in
+    let d = c.in_default-take_turns.ensures.steps in
+    let fine : is_broken_off c.end-in_default-take_turns.result ≡ false = ap is_broken_off c.end-in_default-take_turns.ensures ∙ unbroken v in
+    let r = ran_when _ _ _ _ _ _ _ _ _ _ _ (sym fine)
+    (ran_over c.args.schedule.now c.args.budget c.args.self.now.world (g.I.Source.left c.args.input.now) (g.I.Source.left c.go.new.input) (g.O.Sink.held c.args.output.now) (g.O.Sink.held c.go.new.output) (g.E.Sink.held c.args.errors.now) (g.E.Sink.held c.go.new.errors) next q v behind goes d) in
+    record {
+      state = r.state;
+      input = r.input;
+      output = r.output;
+      errors = r.errors;
+      end = λ _. c.end-in_default-take_turns.ensures;
+      spent = λ h. absurd (ended_unspent v d.ended (sym c.end-in_default-take_turns.ensures ∙ h));
+      living = λ _. ends_lives v d.ended;
+      kept = none_broken _ _ _ fine;
+      unended = λ h. not_both _ _ fine h;
+      unspent = λ h. not_both _ _ fine h;
+      failed = c.take_turns.ensures.failed ∙ sym fine;
+      read_cause = causes_not _ _ _ read (λ h. not_both _ _ fine (ap is_broken_off h));
+      write_cause = causes_not _ _ _ write (λ h. not_both _ _ fine (ap is_broken_off h));
+      errors_cause = causes_not _ _ _ errors (λ h. not_both _ _ fine (ap is_broken_off h));
+      read_named = λ h. not_both _ _ fine (ap is_broken_off h);
+      write_named = λ h. not_both _ _ fine (ap is_broken_off h);
+      errors_named = λ h. not_both _ _ fine (ap is_broken_off h);
     }
 
 pub returns-in_default-go : goal.returns-in_default-go
@@ -160,25 +222,18 @@ returns-in_default-go g c =
     let turn = until.turn in
     let near = t.below in
     let below : at.steps < c.args.budget = omega (arith, near, within) in
-    let taken : at.steps ≡ p.steps + t.count = quiet_steps t.count k p at t.quiet in
-    let more : c.loop-place.place.used + t.count < (turn_at c.args.schedule.now c.loop-place.place.turn).1 = omega (arith, near, turn, taken, steps) in
     let picked = c.in-Some.ensures in
     let place = moved c.loop-place.place k t.count in
-    let stood = stood_on c.args.schedule.now c.args.budget k c.args.self.now.world (g.I.Source.left c.args.input.now) (g.I.Source.left c.loop-place.input) (g.O.Sink.held c.args.output.now) (g.O.Sink.held c.loop-place.output) (g.E.Sink.held c.args.errors.now) (g.E.Sink.held c.loop-place.errors) t.count c.loop-place.place p at
-    (record {
-      leads = c.loop-place.invariant.leads;
-      stands = c.loop-place.invariant.stands;
-      picked = picked.is;
-      at = picked.at;
-      goes = unended p.ended c.loop-place.self.failed c.loop-place.invariant.going;
-    }) t.quiet more below in
-    let goes_so = stood_goes c.args.schedule.now c.args.budget k c.args.self.now.world (g.I.Source.left c.args.input.now) (g.I.Source.left c.loop-place.input) (g.O.Sink.held c.args.output.now) (g.O.Sink.held c.loop-place.output) (g.E.Sink.held c.args.errors.now) (g.E.Sink.held c.loop-place.errors) place at stood in
+    let stood = before_end c.args.schedule.now c.args.budget c.args.self.now.world (g.I.Source.left c.args.input.now) (g.I.Source.left c.loop-place.input) (g.O.Sink.held c.args.output.now) (g.O.Sink.held c.loop-place.output) (g.E.Sink.held c.args.errors.now) (g.E.Sink.held c.loop-place.errors)
+    c.loop-place.place k c.turn_until-until.result p (record { leads = c.loop-place.invariant.leads; stands = c.loop-place.invariant.stands }) (unended p.ended c.loop-place.self.failed c.loop-place.invariant.going) picked within (omega (arith, turn, steps))
+    t.count at t.quiet near in
+    let goes_so = goes_ready at k stood.goes stood.at in
     let stepped_so = ran_step k at q (g.I.Source.left c.loop-place.input) (g.I.Source.left c.go.new.input) (g.O.Sink.held c.loop-place.output) (g.O.Sink.held c.go.new.output) (g.E.Sink.held c.loop-place.errors) (g.E.Sink.held c.go.new.errors) (is_undone end) t.state t.input t.output t.errors in
     let other = not_on c.go.result q.ended c.in_default-go.not-On c.go.ensures.over in
     let is : c.end_of.result ≡ world_end_of q end = c.end_of.ensures ∙ ap (λ (r : StepEnd). world_end_of q r) c.last_end-end.ensures in
     let broken : is_undone end ≡ is_broken_off c.end_of.result = broken_as q end ∙ ap is_broken_off (sym is) in
     let r = ran_when _ _ _ _ _ _ _ _ _ _ _ broken
-    (run_stops c.args.schedule.now c.args.budget place c.args.self.now.world at q _ _ _ _ _ _ _ _ _ stood.leads goes_so below k stood.picked (is_undone end) stepped_so
+    (run_stops c.args.schedule.now c.args.budget place c.args.self.now.world at q _ _ _ _ _ _ _ _ _ stood.holds.leads goes_so below k stood.picked (is_undone end) stepped_so
     (λ (fine : is_undone end ≡ false). stops q (not_going q.ended end (t.ends fine) other))) in
     record {
       state = r.state;
@@ -190,7 +245,7 @@ returns-in_default-go g c =
       living = λ h. lives_on at q k end (g.I.Source.left c.loop-place.input) (g.I.Source.left c.go.new.input) c.go.ensures.living t.kept (quiet_lives t.count k p at t.quiet (c.loop-place.invariant.living h));
       kept = kept_there c.args.schedule.now c.args.self.now.world at q k (g.I.Source.left c.args.input.now) (g.I.Source.left c.loop-place.input) (g.I.Source.left c.go.new.input) (is_broken_off c.end_of.result)
           (λ h. t.kept (broken ∙ h)) c.go.ensures.last
-          (stands_there c.args.schedule.now c.args.budget place c.args.self.now.world at _ _ _ _ _ _ stood.leads stood.stands);
+          (stands_there c.args.schedule.now c.args.budget place c.args.self.now.world at _ _ _ _ _ _ stood.holds.leads stood.holds.stands);
       unended = λ h. ap (λ (w : World). is_none w.ended) (t.kept (broken ∙ h)).is ∙ stood.goes;
       unspent = λ h. let same = ap (λ (w : World). w.steps) (t.kept (broken ∙ h)).is in omega (arith, same, below);
       failed = c.go.ensures.failed ∙ broken;

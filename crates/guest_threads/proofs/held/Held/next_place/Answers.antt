@@ -1,20 +1,13 @@
 use Rattle.std.proofs.Common.{◌≡◌, ◌+◌, ◌-◌, ℕ, ap, sym, ◌∙◌, arith}
-use Rattle.guest_threads.proofs.Picked.{goes_over, over_behind, place_at, stays_on, turn_over, turn_on, placed_at}
+use Rattle.guest_threads.proofs.Picked.{goes_over, over_behind, place_at, stays_on, placed_at}
 use Rattle.thread_model.specs.Worlds.{is_standing_ready}
 use Rattle.guest_threads.proofs.held.Held.next_place.Goals as goal
 
-pub returns-then-next-turns : goal.returns-then-next-turns
-returns-then-next-turns c = record {
-  place = goes_over c.args.self.now.world c.args.turns.now (place_at c.args.turn (c.args.used - 1) c.args.k) c.args.k 0
-      (over_behind c.args.self.now.world c.args.turns.now c.args.turn c.args.used c.args.k c.requires.some (c.is_over.ensures.over c.if-is_over.true)) (turn_over c.args.turns.now c.args.turn c.if-next-turns.true);
-  is_place = placed_at c.args.self.now.world c.args.turns.now 0 c.requires.schedule.steps c.requires.schedule.some;
-}
-
 pub returns-then-is_over : goal.returns-then-is_over
 returns-then-is_over c = record {
-  place = goes_over c.args.self.now.world c.args.turns.now (place_at c.args.turn (c.args.used - 1) c.args.k) c.args.k (c.args.turn + 1)
-      (over_behind c.args.self.now.world c.args.turns.now c.args.turn c.args.used c.args.k c.requires.some (c.is_over.ensures.over c.if-is_over.true)) (turn_on c.args.turns.now c.args.turn c.if-next-turns.false);
-  is_place = placed_at c.args.self.now.world c.args.turns.now (c.args.turn + 1) c.requires.schedule.steps (omega (arith, c.requires.turn, c.if-next-turns.false));
+  place = goes_over c.args.self.now.world c.args.turns.now (place_at c.args.turn (c.args.used - 1) c.args.k) c.args.k c.next_turn.result
+      (over_behind c.args.self.now.world c.args.turns.now c.args.turn c.args.used c.args.k c.requires.some (c.is_over.ensures.over c.if-is_over.true)) c.next_turn.ensures.is;
+  is_place = placed_at c.args.self.now.world c.args.turns.now c.next_turn.result c.requires.schedule.steps c.next_turn.ensures.within;
 }
 
 pub returns : goal.returns
