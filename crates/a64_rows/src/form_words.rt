@@ -1,8 +1,5 @@
 //! The word of each form, by groups of the table's lines.
-ghost use Rattle.std.specs.Prelude.{◌≡◌, MatchOption, true};
-ghost use Rattle.emu_bits.specs.Rows.{encode};
-ghost use Rattle.emu_bits.specs.RowLaws.{IsShape};
-ghost use Rattle.a64_insn.specs.Rows.{row_of, meets_form};
+ghost use Rattle.std.specs.Prelude.{MatchOption};
 ghost use Rattle.a64_insn.specs.declared.lines.TheConstants as line;
 ghost use Rattle.a64_rows.specs.Lines.{IsOutside, IsWordOf};
 
@@ -21,54 +18,51 @@ use crate::memory::{
     atomic_bits, compare_swap_bits, load_ex_bits, ls_literal_bits, ls_post_bits, ls_pre_bits,
     ls_reg_bits, ls_unscaled_bits, ls_unsigned_bits, ordered_bits, pair_bits, store_ex_bits,
 };
-use a64_insn::{A64, A64Form};
+use a64_insn::A64Form;
 
-/// The word of each form.
+/// The word of a form.
 #[tactic(auto, using(crate::proofs::Laws::is_listed))]
-pub fn word_of(i: &A64) -> u32
-    ensures table { result ≡ encode (row_of i.now) }
-    ensures shape { IsShape (row_of i.now) }
-    ensures met { meets_form i.now ≡ true }
+pub fn word_of(form: &A64Form) -> u32
+    ensures { IsWordOf form.now result }
 {
-    let form = i.form();
-    if let Some(w) = immediate_word(form) {
+    if let Some(w) = immediate_word(*form) {
         return w;
     }
-    if let Some(w) = moved_word(form) {
+    if let Some(w) = moved_word(*form) {
         return w;
     }
-    if let Some(w) = register_word(form) {
+    if let Some(w) = register_word(*form) {
         return w;
     }
-    if let Some(w) = conditional_word(form) {
+    if let Some(w) = conditional_word(*form) {
         return w;
     }
-    if let Some(w) = product_word(form) {
+    if let Some(w) = product_word(*form) {
         return w;
     }
-    if let Some(w) = flow_word(form) {
+    if let Some(w) = flow_word(*form) {
         return w;
     }
-    if let Some(w) = offset_access_word(form) {
+    if let Some(w) = offset_access_word(*form) {
         return w;
     }
-    if let Some(w) = other_access_word(form) {
+    if let Some(w) = other_access_word(*form) {
         return w;
     }
-    if let Some(w) = atomic_access_word(form) {
+    if let Some(w) = atomic_access_word(*form) {
         return w;
     }
-    let Some(w) = bit_move_word(form) else {
+    let Some(w) = bit_move_word(*form) else {
         unreachable!()
     };
     w
 }
 
 /// The word of an address, or a sum or a logical operation with an immediate; none of another form.
-fn immediate_word(form: &A64Form) -> Option<u32>
-    ensures { MatchOption result (IsOutside line.ADR line.LOGIC_IMM form.now) (λ w. IsWordOf form.now w) }
+fn immediate_word(form: A64Form) -> Option<u32>
+    ensures { MatchOption result (IsOutside line.ADR line.LOGIC_IMM form) (λ w. IsWordOf form w) }
 {
-    match *form {
+    match form {
         A64Form::Adr {
             op,
             immlo,
@@ -97,10 +91,10 @@ fn immediate_word(form: &A64Form) -> Option<u32>
 }
 
 /// The word of a move of an immediate or a bitfield, or an extraction; none of another form.
-fn moved_word(form: &A64Form) -> Option<u32>
-    ensures { MatchOption result (IsOutside line.MOVE_WIDE line.EXTRACT form.now) (λ w. IsWordOf form.now w) }
+fn moved_word(form: A64Form) -> Option<u32>
+    ensures { MatchOption result (IsOutside line.MOVE_WIDE line.EXTRACT form) (λ w. IsWordOf form w) }
 {
-    match *form {
+    match form {
         A64Form::MoveWide {
             op,
             sf,
@@ -130,10 +124,10 @@ fn moved_word(form: &A64Form) -> Option<u32>
 }
 
 /// The word of a logical operation or a sum of registers; none of another form.
-fn register_word(form: &A64Form) -> Option<u32>
-    ensures { MatchOption result (IsOutside line.LOGIC_REG line.ADD_CARRY form.now) (λ w. IsWordOf form.now w) }
+fn register_word(form: A64Form) -> Option<u32>
+    ensures { MatchOption result (IsOutside line.LOGIC_REG line.ADD_CARRY form) (λ w. IsWordOf form w) }
 {
-    match *form {
+    match form {
         A64Form::LogicReg {
             op,
             sf,
@@ -167,10 +161,10 @@ fn register_word(form: &A64Form) -> Option<u32>
 }
 
 /// The word of a comparison or a selection under a condition; none of another form.
-fn conditional_word(form: &A64Form) -> Option<u32>
-    ensures { MatchOption result (IsOutside line.COND_REG line.SELECT form.now) (λ w. IsWordOf form.now w) }
+fn conditional_word(form: A64Form) -> Option<u32>
+    ensures { MatchOption result (IsOutside line.COND_REG line.SELECT form) (λ w. IsWordOf form w) }
 {
-    match *form {
+    match form {
         A64Form::CondReg {
             op,
             sf,
@@ -200,10 +194,10 @@ fn conditional_word(form: &A64Form) -> Option<u32>
 }
 
 /// The word of a product, or an operation on two registers or on one; none of another form.
-fn product_word(form: &A64Form) -> Option<u32>
-    ensures { MatchOption result (IsOutside line.MUL_ADD line.REV form.now) (λ w. IsWordOf form.now w) }
+fn product_word(form: A64Form) -> Option<u32>
+    ensures { MatchOption result (IsOutside line.MUL_ADD line.REV form) (λ w. IsWordOf form w) }
 {
-    match *form {
+    match form {
         A64Form::MulAdd {
             op,
             sf,
@@ -222,10 +216,10 @@ fn product_word(form: &A64Form) -> Option<u32>
 }
 
 /// The word of a branch, an exception or a system instruction; none of another form.
-fn flow_word(form: &A64Form) -> Option<u32>
-    ensures { MatchOption result (IsOutside line.BRANCH line.WRITE_SYS form.now) (λ w. IsWordOf form.now w) }
+fn flow_word(form: A64Form) -> Option<u32>
+    ensures { MatchOption result (IsOutside line.BRANCH line.WRITE_SYS form) (λ w. IsWordOf form w) }
 {
-    match *form {
+    match form {
         A64Form::Branch { op, imm26 } => Some(branch_bits(op, imm26)),
         A64Form::BranchCond { imm19, cond } => Some(branch_cond_bits(imm19, cond)),
         A64Form::Compare { op, sf, imm19, rt } => Some(compare_bits(op, sf, imm19, rt)),
@@ -247,10 +241,10 @@ fn flow_word(form: &A64Form) -> Option<u32>
 }
 
 /// The word of a load or store at an immediate offset; none of another form.
-fn offset_access_word(form: &A64Form) -> Option<u32>
-    ensures { MatchOption result (IsOutside line.LS_UNSIGNED line.LS_PRE form.now) (λ w. IsWordOf form.now w) }
+fn offset_access_word(form: A64Form) -> Option<u32>
+    ensures { MatchOption result (IsOutside line.LS_UNSIGNED line.LS_PRE form) (λ w. IsWordOf form w) }
 {
-    match *form {
+    match form {
         A64Form::LsUnsigned {
             size,
             v,
@@ -288,10 +282,10 @@ fn offset_access_word(form: &A64Form) -> Option<u32>
 }
 
 /// The word of a load or store at another place, of a pair, or exclusive or ordered; none of another form.
-fn other_access_word(form: &A64Form) -> Option<u32>
-    ensures { MatchOption result (IsOutside line.LS_REG line.ORDERED form.now) (λ w. IsWordOf form.now w) }
+fn other_access_word(form: A64Form) -> Option<u32>
+    ensures { MatchOption result (IsOutside line.LS_REG line.ORDERED form) (λ w. IsWordOf form w) }
 {
-    match *form {
+    match form {
         A64Form::LsReg {
             size,
             v,
@@ -327,10 +321,10 @@ fn other_access_word(form: &A64Form) -> Option<u32>
 }
 
 /// The word of a load and store as one step; none of another form.
-fn atomic_access_word(form: &A64Form) -> Option<u32>
-    ensures { MatchOption result (IsOutside line.ATOMIC line.COMPARE_SWAP form.now) (λ w. IsWordOf form.now w) }
+fn atomic_access_word(form: A64Form) -> Option<u32>
+    ensures { MatchOption result (IsOutside line.ATOMIC line.COMPARE_SWAP form) (λ w. IsWordOf form w) }
 {
-    match *form {
+    match form {
         A64Form::Atomic {
             op,
             size,
@@ -353,10 +347,10 @@ fn atomic_access_word(form: &A64Form) -> Option<u32>
 }
 
 /// The word of a bit move; none of another form.
-fn bit_move_word(form: &A64Form) -> Option<u32>
-    ensures { MatchOption result (IsOutside line.F_MOVE line.MOVE_IMM form.now) (λ w. IsWordOf form.now w) }
+fn bit_move_word(form: A64Form) -> Option<u32>
+    ensures { MatchOption result (IsOutside line.F_MOVE line.MOVE_IMM form) (λ w. IsWordOf form w) }
 {
-    match *form {
+    match form {
         A64Form::FMove { op, rn, rd } => Some(f_move_bits(op, rn, rd)),
         A64Form::MoveImm {
             q,

@@ -44,7 +44,7 @@ pub fn encode_a64(i: &A64) -> u32
     ensures row { decode a64_table result ≡ Some (row_of i.now) }
     ensures back { instruction a64_table result ≡ Some i.now }
 {
-    word_of(i)
+    word_of(i.form())
 }
 
 /// Each word of a row decodes to that row, so no word is in two.

@@ -31,29 +31,29 @@ use sve_insn::SveForm;
 pub fn data_word(form: &SveForm) -> Option<u32>
     ensures { MatchOption result (IsOutside BINARY READ_LENGTH form.now) (λ w. IsWordOf form.now w) }
 {
-    if let Some(w) = merging_word(form) {
+    if let Some(w) = merging_word(*form) {
         return Some(w);
     }
-    if let Some(w) = product_word(form) {
+    if let Some(w) = product_word(*form) {
         return Some(w);
     }
-    if let Some(w) = unpredicated_word(form) {
+    if let Some(w) = unpredicated_word(*form) {
         return Some(w);
     }
-    if let Some(w) = copy_or_dot_word(form) {
+    if let Some(w) = copy_or_dot_word(*form) {
         return Some(w);
     }
-    if let Some(w) = fold_or_count_word(form) {
+    if let Some(w) = fold_or_count_word(*form) {
         return Some(w);
     }
-    saturating_or_length_word(form)
+    saturating_or_length_word(*form)
 }
 
 /// The word of an operation under a predicate; none of another form.
-fn merging_word(form: &SveForm) -> Option<u32>
-    ensures { MatchOption result (IsOutside BINARY UNARY form.now) (λ w. IsWordOf form.now w) }
+fn merging_word(form: SveForm) -> Option<u32>
+    ensures { MatchOption result (IsOutside BINARY UNARY form) (λ w. IsWordOf form w) }
 {
-    match *form {
+    match form {
         SveForm::Binary {
             op,
             size,
@@ -88,10 +88,10 @@ fn merging_word(form: &SveForm) -> Option<u32>
 }
 
 /// The word of a product with a sum; none of another form.
-fn product_word(form: &SveForm) -> Option<u32>
-    ensures { MatchOption result (IsOutside MUL_ADD_Z MUL_ADD_D form.now) (λ w. IsWordOf form.now w) }
+fn product_word(form: SveForm) -> Option<u32>
+    ensures { MatchOption result (IsOutside MUL_ADD_Z MUL_ADD_D form) (λ w. IsWordOf form w) }
 {
-    match *form {
+    match form {
         SveForm::MulAddZ {
             op,
             size,
@@ -113,10 +113,10 @@ fn product_word(form: &SveForm) -> Option<u32>
 }
 
 /// The word of an operation without a predicate, or of a series; none of another form.
-fn unpredicated_word(form: &SveForm) -> Option<u32>
-    ensures { MatchOption result (IsOutside PLAIN INDEX form.now) (λ w. IsWordOf form.now w) }
+fn unpredicated_word(form: SveForm) -> Option<u32>
+    ensures { MatchOption result (IsOutside PLAIN INDEX form) (λ w. IsWordOf form w) }
 {
-    match *form {
+    match form {
         SveForm::Plain {
             op,
             size,
@@ -146,10 +146,10 @@ fn unpredicated_word(form: &SveForm) -> Option<u32>
 }
 
 /// The word of a copy or a dot product; none of another form.
-fn copy_or_dot_word(form: &SveForm) -> Option<u32>
-    ensures { MatchOption result (IsOutside PREFIX_P DOT_INDEXED form.now) (λ w. IsWordOf form.now w) }
+fn copy_or_dot_word(form: SveForm) -> Option<u32>
+    ensures { MatchOption result (IsOutside PREFIX_P DOT_INDEXED form) (λ w. IsWordOf form w) }
 {
-    match *form {
+    match form {
         SveForm::PrefixP {
             size,
             m,
@@ -171,10 +171,10 @@ fn copy_or_dot_word(form: &SveForm) -> Option<u32>
 }
 
 /// The word of a fold, or of a count that is not saturated; none of another form.
-fn fold_or_count_word(form: &SveForm) -> Option<u32>
-    ensures { MatchOption result (IsOutside REDUCE INC_Z form.now) (λ w. IsWordOf form.now w) }
+fn fold_or_count_word(form: SveForm) -> Option<u32>
+    ensures { MatchOption result (IsOutside REDUCE INC_Z form) (λ w. IsWordOf form w) }
 {
-    match *form {
+    match form {
         SveForm::Reduce {
             op,
             size,
@@ -207,10 +207,10 @@ fn fold_or_count_word(form: &SveForm) -> Option<u32>
 }
 
 /// The word of a saturating count or a vector length; none of another form.
-fn saturating_or_length_word(form: &SveForm) -> Option<u32>
-    ensures { MatchOption result (IsOutside SAT_X READ_LENGTH form.now) (λ w. IsWordOf form.now w) }
+fn saturating_or_length_word(form: SveForm) -> Option<u32>
+    ensures { MatchOption result (IsOutside SAT_X READ_LENGTH form) (λ w. IsWordOf form w) }
 {
-    match *form {
+    match form {
         SveForm::SatX {
             op,
             size,

@@ -49,44 +49,44 @@ use sve_insn::SveForm;
 pub fn memory_word(form: &SveForm) -> Option<u32>
     ensures { MatchOption result (IsOutside LOAD_Z SCATTER_DV form.now) (λ w. IsWordOf form.now w) }
 {
-    if let Some(w) = whole_register_word(form) {
+    if let Some(w) = whole_register_word(*form) {
         return Some(w);
     }
-    if let Some(w) = s_gather_or_store_word(form) {
+    if let Some(w) = s_gather_or_store_word(*form) {
         return Some(w);
     }
-    if let Some(w) = typed_load_word(form) {
+    if let Some(w) = typed_load_word(*form) {
         return Some(w);
     }
-    if let Some(w) = sized_load_word(form) {
+    if let Some(w) = sized_load_word(*form) {
         return Some(w);
     }
-    if let Some(w) = many_or_one_load_word(form) {
+    if let Some(w) = many_or_one_load_word(*form) {
         return Some(w);
     }
-    if let Some(w) = one_register_store_word(form) {
+    if let Some(w) = one_register_store_word(*form) {
         return Some(w);
     }
-    if let Some(w) = many_or_whole_store_word(form) {
+    if let Some(w) = many_or_whole_store_word(*form) {
         return Some(w);
     }
-    if let Some(w) = offset_gather_word(form) {
+    if let Some(w) = offset_gather_word(*form) {
         return Some(w);
     }
-    if let Some(w) = vector_gather_word(form) {
+    if let Some(w) = vector_gather_word(*form) {
         return Some(w);
     }
-    if let Some(w) = extended_scatter_word(form) {
+    if let Some(w) = extended_scatter_word(*form) {
         return Some(w);
     }
-    plain_scatter_word(form)
+    plain_scatter_word(*form)
 }
 
 /// The word of a load of a whole register, or of a store of a Z register; none of another form.
-fn whole_register_word(form: &SveForm) -> Option<u32>
-    ensures { MatchOption result (IsOutside LOAD_Z STORE_Z form.now) (λ w. IsWordOf form.now w) }
+fn whole_register_word(form: SveForm) -> Option<u32>
+    ensures { MatchOption result (IsOutside LOAD_Z STORE_Z form) (λ w. IsWordOf form w) }
 {
-    match *form {
+    match form {
         SveForm::LoadZ {
             imm9h,
             imm9l,
@@ -110,10 +110,10 @@ fn whole_register_word(form: &SveForm) -> Option<u32>
 }
 
 /// The word of a gather of S lanes at extended offsets, or of a store at a register offset; none of another form.
-fn s_gather_or_store_word(form: &SveForm) -> Option<u32>
-    ensures { MatchOption result (IsOutside GATHER_SX STORE_REG form.now) (λ w. IsWordOf form.now w) }
+fn s_gather_or_store_word(form: SveForm) -> Option<u32>
+    ensures { MatchOption result (IsOutside GATHER_SX STORE_REG form) (λ w. IsWordOf form w) }
 {
-    match *form {
+    match form {
         SveForm::GatherSx {
             msz,
             xs,
@@ -147,10 +147,10 @@ fn s_gather_or_store_word(form: &SveForm) -> Option<u32>
 }
 
 /// The word of a load whose lanes may be wider than its elements; none of another form.
-fn typed_load_word(form: &SveForm) -> Option<u32>
-    ensures { MatchOption result (IsOutside LOAD_IMM LOAD_NF form.now) (λ w. IsWordOf form.now w) }
+fn typed_load_word(form: SveForm) -> Option<u32>
+    ensures { MatchOption result (IsOutside LOAD_IMM LOAD_NF form) (λ w. IsWordOf form w) }
 {
-    match *form {
+    match form {
         SveForm::LoadImm {
             dtype,
             imm4,
@@ -184,10 +184,10 @@ fn typed_load_word(form: &SveForm) -> Option<u32>
 }
 
 /// The word of a non-temporal load, or of one that is repeated in each 128 bits; none of another form.
-fn sized_load_word(form: &SveForm) -> Option<u32>
-    ensures { MatchOption result (IsOutside LOAD_NT_IMM LOAD_QUAD_REG form.now) (λ w. IsWordOf form.now w) }
+fn sized_load_word(form: SveForm) -> Option<u32>
+    ensures { MatchOption result (IsOutside LOAD_NT_IMM LOAD_QUAD_REG form) (λ w. IsWordOf form w) }
 {
-    match *form {
+    match form {
         SveForm::LoadNtImm {
             msz,
             imm4,
@@ -221,10 +221,10 @@ fn sized_load_word(form: &SveForm) -> Option<u32>
 }
 
 /// The word of a load to several registers, or of one element to all lanes; none of another form.
-fn many_or_one_load_word(form: &SveForm) -> Option<u32>
-    ensures { MatchOption result (IsOutside LOAD_MANY_IMM LOAD_ONE form.now) (λ w. IsWordOf form.now w) }
+fn many_or_one_load_word(form: SveForm) -> Option<u32>
+    ensures { MatchOption result (IsOutside LOAD_MANY_IMM LOAD_ONE form) (λ w. IsWordOf form w) }
 {
-    match *form {
+    match form {
         SveForm::LoadManyImm {
             op,
             msz,
@@ -254,10 +254,10 @@ fn many_or_one_load_word(form: &SveForm) -> Option<u32>
 }
 
 /// The word of a store at an immediate offset, or of a non-temporal one; none of another form.
-fn one_register_store_word(form: &SveForm) -> Option<u32>
-    ensures { MatchOption result (IsOutside STORE_IMM STORE_NT_REG form.now) (λ w. IsWordOf form.now w) }
+fn one_register_store_word(form: SveForm) -> Option<u32>
+    ensures { MatchOption result (IsOutside STORE_IMM STORE_NT_REG form) (λ w. IsWordOf form w) }
 {
-    match *form {
+    match form {
         SveForm::StoreImm {
             msz,
             size,
@@ -285,10 +285,10 @@ fn one_register_store_word(form: &SveForm) -> Option<u32>
 }
 
 /// The word of a store of several registers, or of a whole predicate; none of another form.
-fn many_or_whole_store_word(form: &SveForm) -> Option<u32>
-    ensures { MatchOption result (IsOutside STORE_MANY_IMM STORE_P form.now) (λ w. IsWordOf form.now w) }
+fn many_or_whole_store_word(form: SveForm) -> Option<u32>
+    ensures { MatchOption result (IsOutside STORE_MANY_IMM STORE_P form) (λ w. IsWordOf form w) }
 {
-    match *form {
+    match form {
         SveForm::StoreManyImm {
             op,
             msz,
@@ -316,10 +316,10 @@ fn many_or_whole_store_word(form: &SveForm) -> Option<u32>
 }
 
 /// The word of a gather of D lanes at offsets that are extended, or in bytes; none of another form.
-fn offset_gather_word(form: &SveForm) -> Option<u32>
-    ensures { MatchOption result (IsOutside GATHER_DX GATHER_D form.now) (λ w. IsWordOf form.now w) }
+fn offset_gather_word(form: SveForm) -> Option<u32>
+    ensures { MatchOption result (IsOutside GATHER_DX GATHER_D form) (λ w. IsWordOf form w) }
 {
-    match *form {
+    match form {
         SveForm::GatherDx {
             msz,
             xs,
@@ -354,10 +354,10 @@ fn offset_gather_word(form: &SveForm) -> Option<u32>
 }
 
 /// The word of a gather of D lanes at scaled offsets, or of one at the addresses of a vector; none of another form.
-fn vector_gather_word(form: &SveForm) -> Option<u32>
-    ensures { MatchOption result (IsOutside GATHER_D_SCALED GATHER_DV form.now) (λ w. IsWordOf form.now w) }
+fn vector_gather_word(form: SveForm) -> Option<u32>
+    ensures { MatchOption result (IsOutside GATHER_D_SCALED GATHER_DV form) (λ w. IsWordOf form w) }
 {
-    match *form {
+    match form {
         SveForm::GatherDScaled {
             msz,
             zm,
@@ -390,10 +390,10 @@ fn vector_gather_word(form: &SveForm) -> Option<u32>
 }
 
 /// The word of a scatter at extended offsets; none of another form.
-fn extended_scatter_word(form: &SveForm) -> Option<u32>
-    ensures { MatchOption result (IsOutside SCATTER_SX SCATTER_DX_SCALED form.now) (λ w. IsWordOf form.now w) }
+fn extended_scatter_word(form: SveForm) -> Option<u32>
+    ensures { MatchOption result (IsOutside SCATTER_SX SCATTER_DX_SCALED form) (λ w. IsWordOf form w) }
 {
-    match *form {
+    match form {
         SveForm::ScatterSx {
             msz,
             zm,
@@ -431,10 +431,10 @@ fn extended_scatter_word(form: &SveForm) -> Option<u32>
 }
 
 /// The word of a scatter at 64-bit offsets or at the addresses of a vector; none of another form.
-fn plain_scatter_word(form: &SveForm) -> Option<u32>
-    ensures { MatchOption result (IsOutside SCATTER_D SCATTER_DV form.now) (λ w. IsWordOf form.now w) }
+fn plain_scatter_word(form: SveForm) -> Option<u32>
+    ensures { MatchOption result (IsOutside SCATTER_D SCATTER_DV form) (λ w. IsWordOf form w) }
 {
-    match *form {
+    match form {
         SveForm::ScatterD {
             msz,
             zm,

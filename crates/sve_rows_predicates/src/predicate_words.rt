@@ -31,26 +31,26 @@ use sve_insn::SveForm;
 pub fn predicate_word(form: &SveForm) -> Option<u32>
     ensures { MatchOption result (IsOutside CMP_VEC DUP_IMM form.now) (λ w. IsWordOf form.now w) }
 {
-    if let Some(w) = compare_word(form) {
+    if let Some(w) = compare_word(*form) {
         return Some(w);
     }
-    if let Some(w) = logic_or_break_word(form) {
+    if let Some(w) = logic_or_break_word(*form) {
         return Some(w);
     }
-    if let Some(w) = single_predicate_word(form) {
+    if let Some(w) = single_predicate_word(*form) {
         return Some(w);
     }
-    if let Some(w) = predicate_count_word(form) {
+    if let Some(w) = predicate_count_word(*form) {
         return Some(w);
     }
-    immediate_word(form)
+    immediate_word(*form)
 }
 
 /// The word of a compare of vectors; none of another form.
-fn compare_word(form: &SveForm) -> Option<u32>
-    ensures { MatchOption result (IsOutside CMP_VEC CMP_S_IMM form.now) (λ w. IsWordOf form.now w) }
+fn compare_word(form: SveForm) -> Option<u32>
+    ensures { MatchOption result (IsOutside CMP_VEC CMP_S_IMM form) (λ w. IsWordOf form w) }
 {
-    match *form {
+    match form {
         SveForm::CmpVec {
             op,
             size,
@@ -88,10 +88,10 @@ fn compare_word(form: &SveForm) -> Option<u32>
 }
 
 /// The word of a logical operation or a break; none of another form.
-fn logic_or_break_word(form: &SveForm) -> Option<u32>
-    ensures { MatchOption result (IsOutside LOGIC_P BREAK_NEXT form.now) (λ w. IsWordOf form.now w) }
+fn logic_or_break_word(form: SveForm) -> Option<u32>
+    ensures { MatchOption result (IsOutside LOGIC_P BREAK_NEXT form) (λ w. IsWordOf form w) }
 {
-    match *form {
+    match form {
         SveForm::LogicP {
             op,
             s,
@@ -123,10 +123,10 @@ fn logic_or_break_word(form: &SveForm) -> Option<u32>
 }
 
 /// The word of an operation on one predicate or FFR; none of another form.
-fn single_predicate_word(form: &SveForm) -> Option<u32>
-    ensures { MatchOption result (IsOutside PTEST WRITE_FFR form.now) (λ w. IsWordOf form.now w) }
+fn single_predicate_word(form: SveForm) -> Option<u32>
+    ensures { MatchOption result (IsOutside PTEST WRITE_FFR form) (λ w. IsWordOf form w) }
 {
-    match *form {
+    match form {
         SveForm::Ptest { pg, pn } => Some(ptest_bits(pg, pn)),
         SveForm::First { pg, pdn } => Some(first_active_bits(pg, pdn)),
         SveForm::Next { size, pg, pdn } => Some(next_active_bits(size, pg, pdn)),
@@ -145,10 +145,10 @@ fn single_predicate_word(form: &SveForm) -> Option<u32>
 }
 
 /// The word of a count of predicates, or of a compare of general registers; none of another form.
-fn predicate_count_word(form: &SveForm) -> Option<u32>
-    ensures { MatchOption result (IsOutside COUNT_P CTERM form.now) (λ w. IsWordOf form.now w) }
+fn predicate_count_word(form: SveForm) -> Option<u32>
+    ensures { MatchOption result (IsOutside COUNT_P CTERM form) (λ w. IsWordOf form w) }
 {
-    match *form {
+    match form {
         SveForm::CountP { size, pg, pn, rd } => Some(count_p_bits(size, pg, pn, rd)),
         SveForm::IncP { op, size, pm, rdn } => Some(inc_p_bits(op, size, pm, rdn)),
         SveForm::IncPZ { op, size, pm, zdn } => Some(inc_p_z_bits(op, size, pm, zdn)),
@@ -166,10 +166,10 @@ fn predicate_count_word(form: &SveForm) -> Option<u32>
 }
 
 /// The word of an operation with an immediate; none of another form.
-fn immediate_word(form: &SveForm) -> Option<u32>
-    ensures { MatchOption result (IsOutside WIDE_IMM DUP_IMM form.now) (λ w. IsWordOf form.now w) }
+fn immediate_word(form: SveForm) -> Option<u32>
+    ensures { MatchOption result (IsOutside WIDE_IMM DUP_IMM form) (λ w. IsWordOf form w) }
 {
-    match *form {
+    match form {
         SveForm::WideImm {
             op,
             size,
