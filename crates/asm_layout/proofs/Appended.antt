@@ -1,5 +1,5 @@
 -- Bytes appended one after the other, as a file is written.
-use Rattle.std.proofs.Common.{◌≡◌, ℕ, ◌+◌, ◌-◌, ◌==◌, ◌&&◌, ◌≤◌, ◌∙◌, true, false, List, [], ◌++◌, append_assoc, Result, Ok, Err, length, length-append, refl, sym, ap, arith}
+use Rattle.std.proofs.Common.{◌≡◌, ℕ, ◌+◌, ◌-◌, ◌==◌, ◌&&◌, ◌≤◌, ◌∙◌, true, false, List, [], ◌++◌, append_assoc, Result, Ok, Err, is_ok, if◌then◌else◌, length, length-append, refl, sym, ap, arith}
 use Rattle.std.specs.Prelude.{OnOk}
 use Rattle.std.proofs.lemmas.Bool.{cond-true, cond-false}
 use Rattle.std.proofs.lemmas.List.{length-replicate}
@@ -13,6 +13,11 @@ two f g h b c d e = e ∙ ap (λ (xs : List ℕ). xs ++ c) d ∙ append_assoc f 
 pub on_ok : {A E : Type 0} {P Q : Type 0} (r : Result A E) → (P → Q) → OnOk r P → OnOk r Q
 on_ok (Ok x) f h = f h
 on_ok (Err e) f h = h
+
+-- the same behind a call whose clause speaks of both answers
+pub if_ok : {A E : Type 0} {P : Type 0} (r : Result A E) (new xs ys : List ℕ) → new ≡ (if is_ok r then xs else ys) → (new ≡ xs → P) → OnOk r P
+if_ok (Ok x) new xs ys h f = f h
+if_ok (Err e) new xs ys h f = tt
 
 pub one_segment : (entry bss : ℕ) (code values f0 f1 f2 f3 f4 : List ℕ) → (length values == 0 && bss == 0) ≡ true → f0 ≡ [] → f1 ≡ f0 ++ elf_header entry 1
     → f2 ≡ f1 ++ code_header (length code) → f3 ≡ padded page_size f2 → f4 ≡ f3 ++ code → f4 ≡ file_of entry code values bss

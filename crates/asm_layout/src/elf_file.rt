@@ -38,23 +38,24 @@ fn pad(file: &mut Vec<u8>, size: usize) -> Result<(), OutOfMemory>
     file.resize(size, 0)
 }
 
-/// The identification: ELF, of class ELFCLASS64, little endian, of version 1.
-const IDENTIFICATION: [u8; 16] = [0x7F, 0x45, 0x4C, 0x46, 2, 1, 1, 0, 0, 0, 0, 0, 0, 0, 0, 0];
+/// In front of the entry: ELF, of class ELFCLASS64, little endian, of version 1; an executable, for AArch64, of version 1.
+const IDENTIFICATION: [u8; 24] = [
+    0x7F, 0x45, 0x4C, 0x46, 2, 1, 1, 0, 0, 0, 0, 0, 0, 0, 0, 0, 2, 0, 183, 0, 1, 0, 0, 0,
+];
+
+/// Behind the entry: the program headers stand at byte 64, and section headers nowhere; there are no flags; this header
+/// has 64 bytes, and a program header 56.
+const SIZES: [u8; 24] = [
+    64, 0, 0, 0, 0, 0, 0, 0, 0, 0, 0, 0, 0, 0, 0, 0, 0, 0, 0, 0, 64, 0, 56, 0,
+];
 
 /// Appends the header of an executable with so many segments.
 fn put_header(file: &mut Vec<u8>, entry: u64, segments: u16) -> Result<(), OutOfMemory>
     ensures { OnOk result (file.new.items ≡ file.old.items ++ elf.elf_header entry segments) }
 {
     file.extend_from_slice(&IDENTIFICATION)?;
-    put_16(file, 2)?;
-    put_16(file, 183)?;
-    put_32(file, 1)?;
     put_64(file, entry)?;
-    put_64(file, 64)?;
-    put_64(file, 0)?;
-    put_32(file, 0)?;
-    put_16(file, 64)?;
-    put_16(file, 56)?;
+    file.extend_from_slice(&SIZES)?;
     put_16(file, segments)?;
     file.extend_from_slice(&[0; 6])
 }

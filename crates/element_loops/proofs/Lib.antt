@@ -10,3 +10,4 @@ pub mod RunLoads
 pub mod RunStores
 pub mod Lines
 pub mod Repeats
+pub mod WordBytes

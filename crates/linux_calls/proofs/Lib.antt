@@ -6,3 +6,4 @@ pub mod Mapped
 pub mod Rewritten
 pub mod Takings
 pub mod Written
+pub mod Accounted

@@ -1,8 +1,8 @@
 -- Bytes that are taken piece after piece, and stored one after the other.
-use Rattle.std.proofs.Common.{◌≡◌, ◌<◌, ◌≤◌, ℕ, suc, ◌+◌, ◌-◌, ◌^◌, List, [], ◌∷◌, ◌++◌, length, take, drop, Option, Some, None, IfSome, Result, Ok, Err, true, false, refl, sym, ap, subst, ◌∙◌, arith}
+use Rattle.std.proofs.Common.{◌≡◌, ◌<◌, ◌≤◌, ℕ, suc, ◌+◌, ◌-◌, ◌^◌, List, [], ◌∷◌, ◌++◌, length, take, drop, min, Option, Some, None, IfSome, Result, Ok, Err, true, false, refl, sym, ap, subst, ◌∙◌, arith}
 use Rattle.std.proofs.Math.Seq.{take-add}
 use Rattle.std.proofs.Math.Nat.{mod-mod}
-use Rattle.std.proofs.lemmas.List.{drop-drop, take-append-drop, length-take, length-append}
+use Rattle.std.proofs.lemmas.List.{drop-drop, take-append-drop, length-take, length-drop, length-append}
 use Rattle.std.specs.Result.{IsErr}
 use Rattle.io_gate.specs.Streams.{KeepsRest, TakesAtMost, TakesFirst}
 use Rattle.emu_model.specs.declared.access.Kind.TheVariants.{Write}
@@ -115,3 +115,29 @@ counted most n stored now told left p = (subst (λ k. Takes k stored now told le
 pub took_none_more : {E : Type 0} (r : Result ℕ E) (most count : ℕ) (stored : List ℕ → Memory) (now : Memory) (told left : Option (List ℕ)) → IsErr r → count ≤ most → Takes count stored now told left → Took most stored now told left r
 took_none_more (Ok n) most count stored now told left is few p = let no : false ≡ true = is in cc
 took_none_more (Err e) most count stored now told left is few p = record { count = count; few = few; takes = p; answer = tt }
+
+-- ---- how many there were, where the input tells its bytes
+
+module _ (count : ℕ) (stored : List ℕ → Memory) (now : Memory) where
+  cut_off : (bytes : List ℕ) (left : Option (List ℕ)) → Takes count stored now (Some bytes) left → count ≡ min count (length bytes)
+  cut_off bytes left p = sym p.long ∙ ap length p.first.0 ∙ length-take count bytes
+
+  -- all that there is room for
+  pub all_taken : (most : ℕ) (told left : Option (List ℕ)) → count ≡ most → Takes count stored now told left → IfSome told (λ bytes. count ≡ min most (length bytes))
+  all_taken most None left full p = tt
+  all_taken most (Some bytes) left full p = omega (arith, full, cut_off bytes left p)
+
+  -- those and n more, the last that were left
+  pub all_left : (n room most : ℕ) (told left : Option (List ℕ)) → count + n ≤ most → n < room → Takes count stored now told left → IfSome left (λ bytes. n ≡ min room (length bytes)) → IfSome told (λ bytes. count + n ≡ min most (length bytes))
+  all_left n room most None left few short p h = tt
+  all_left n room most (Some bytes) left few short p h =
+      let rest : n ≡ min room (length (drop count bytes)) = subst (λ (o : Option (List ℕ)). IfSome o (λ bytes. n ≡ min room (length bytes))) p.first.1 h in
+      omega (arith, few, short, rest, cut_off bytes left p, length-drop count bytes)
+
+  -- and none were left
+  pub none_left : (n most : ℕ) (told left : Option (List ℕ)) → count ≤ most → n ≡ 0 → Takes count stored now told left → IfSome left (λ bytes. n ≡ 0 → bytes ≡ []) → IfSome told (λ bytes. count ≡ min most (length bytes))
+  none_left n most None left few zero p h = tt
+  none_left n most (Some bytes) left few zero p h =
+      let rest : n ≡ 0 → drop count bytes ≡ [] = subst (λ (o : Option (List ℕ)). IfSome o (λ bytes. n ≡ 0 → bytes ≡ [])) p.first.1 h in
+      let none : length (drop count bytes) ≡ 0 = ap length (rest zero) in
+      omega (arith, few, none, cut_off bytes left p, length-drop count bytes)

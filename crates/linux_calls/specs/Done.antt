@@ -1,12 +1,15 @@
 -- What a call makes of all that it sees, once its action is known.
 use Rattle.std.specs.Prelude.{◌≡◌, ℕ, true, false, List, Option, Some, IfSome}
+use Rattle.io_gate.specs.Streams.{Causes}
 use Rattle.emu_model.specs.declared.program_break.Break.{Break}
 use Rattle.emu_model.specs.Access.{Memory}
 use Rattle.emu_model.specs.State.{Core, Vectors, Parts}
 use Rattle.emu_model.specs.SoundState.{IsSoundBreak}
 use Rattle.emu_system.specs.SystemCall.{Action, done_by}
 use Rattle.linux_calls.specs.declared.end.CallEnd.{CallEnd}
-use Rattle.linux_calls.specs.Ends.{OfInput, Stores, behind, caller, does_put, does_take, end_of, is_fault}
+use Rattle.linux_calls.specs.declared.end.CallEnd.TheVariants.{ReadFault, WriteFault, ErrorsFault}
+use Rattle.linux_calls.specs.Ends.{OfInput, Stores, behind, caller, does_put, does_take, end_of, is_fault, is_put_fault}
+use Rattle.linux_calls.specs.Names.{NamesRead, NamesWrite}
 use Rattle.emu_system.specs.Gained.{Gains}
 
 -- the parts of a machine, what is left of the input, and what the sinks hold
@@ -34,3 +37,15 @@ pub record IsDone (action : Action) (old new : Around) (same_input same_output s
   pub untaken : does_take action ≡ false → same_input
   pub output_kept : does_put 1 action ≡ false → same_output
   pub errors_kept : does_put 2 action ≡ false → same_errors
+
+-- How a call ended, by the streams' counts of faults before it and behind it: a fault comes only where the call names the stream
+-- and its count rose. The marks stay, and a call that a sink broke off stored nothing.
+pub record IsAccounted (call_end : CallEnd) (core : Core) (old new : Memory) (read_before read_behind written_before written_behind errors_before errors_behind : ℕ) : Type 0 where
+  pub marks : new.marks ≡ old.marks
+  pub unstored : is_put_fault call_end ≡ true → new ≡ old
+  pub read_cause : Causes (call_end ≡ ReadFault) read_before read_behind
+  pub write_cause : Causes (call_end ≡ WriteFault) written_before written_behind
+  pub errors_cause : Causes (call_end ≡ ErrorsFault) errors_before errors_behind
+  pub read_named : call_end ≡ ReadFault → NamesRead core
+  pub write_named : call_end ≡ WriteFault → NamesWrite core 1
+  pub errors_named : call_end ≡ ErrorsFault → NamesWrite core 2

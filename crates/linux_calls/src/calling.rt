@@ -6,7 +6,7 @@ ghost use Rattle.vec_model.specs.AfterCall.{cleared};
 ghost use Rattle.vec_model.specs.Writes.{after_call};
 ghost use Rattle.emu_system.specs.declared.system_call.Errno.{Errno};
 ghost use Rattle.emu_system.specs.SystemCall as model;
-ghost use Rattle.linux_calls.specs.Done.{IsDone};
+ghost use Rattle.linux_calls.specs.Done.{IsAccounted, IsDone};
 ghost use Rattle.linux_calls.specs.Ends.{
   OfInput,
   Stores,
@@ -125,14 +125,8 @@ fn make<I: Source, O: Sink, E: Sink>(
       output = O.held output.new;
       errors = E.held errors.new;
     }) (input.new ≡ input.old) (output.new ≡ output.old) (errors.new ≡ errors.old) result }
-    ensures marks { mem.new.marks ≡ mem.old.marks }
-    ensures unstored { is_put_fault result ≡ true → mem.new ≡ mem.old }
-    ensures read_cause { Causes (result ≡ CallEnd.ReadFault) (I.faults input.old) (I.faults input.new) }
-    ensures write_cause { Causes (result ≡ CallEnd.WriteFault) (O.faults output.old) (O.faults output.new) }
-    ensures errors_cause { Causes (result ≡ CallEnd.ErrorsFault) (E.faults errors.old) (E.faults errors.new) }
-    ensures read_named { result ≡ CallEnd.ReadFault → NamesRead core.old }
-    ensures write_named { result ≡ CallEnd.WriteFault → NamesWrite core.old 1 }
-    ensures errors_named { result ≡ CallEnd.ErrorsFault → NamesWrite core.old 2 }
+    ensures accounted { IsAccounted result core.old mem.old mem.new (I.faults input.old) (I.faults input.new)
+        (O.faults output.old) (O.faults output.new) (E.faults errors.old) (E.faults errors.new) }
 {
     match name {
         CallName::Exit | CallName::ExitGroup => CallEnd::Exit((argument(core, 0) % 256) as u8),

@@ -1,11 +1,12 @@
 -- Registers as lists of lanes.
-use Rattle.std.proofs.Common.{◌≡◌, ◌<◌, ◌≤◌, ◌+◌, ◌*◌, ◌/◌, ◌%◌, ◌^◌, ℕ, zero, suc, Bool, true, false, nat_lt, if◌then◌else◌, List, [], ◌∷◌, map, length, take, drop, replicate, get_or, inl, inr, refl, sym, ap, ap₂, subst, ◌∙◌, arith}
+use Rattle.std.proofs.Common.{◌≡◌, ◌<◌, ◌≤◌, ◌+◌, ◌*◌, ◌/◌, ◌%◌, ◌^◌, ℕ, zero, suc, Bool, true, false, nat_lt, if◌then◌else◌, List, [], ◌∷◌, map, length, take, drop, replicate, get_or, set, inl, inr, refl, sym, ap, ap₂, subst, ◌∙◌, arith}
 use Rattle.std.proofs.Math.Nat.{mod-mod, mod-lt, mod-eq_of_lt, pow-le-pow_right, zero-div}
 use Rattle.std.specs.Prelude.{ℤ, pos, negsuc}
 use Rattle.std.proofs.Math.Path.{fun_ext}
 use Rattle.std.proofs.lemmas.Bool.{cases_lt}
 use Rattle.std.proofs.lemmas.Bool.Decides.{nat_tests}
-use Rattle.std.proofs.lemmas.List.{take-map, drop-map, drop_all, get_or_past, get_or-take, get_or-drop, length-map, length-take, length-drop}
+use Rattle.std.proofs.lemmas.List.{take-map, drop-map, drop_all, get_or_past, get_or-take, get_or-drop, get_or-set_other, length-map, length-take, length-drop}
+use Rattle.std.proofs.lemmas.List.Edits.{fill_by_more}
 use Rattle.std.proofs.lemmas.List.FromFn.{fill_by_all}
 use Rattle.std.specs.List.{range_with_len}
 use Rattle.std.specs.Simd.Lanes.{number_l}
@@ -204,6 +205,17 @@ pub no_flags : (n k : ℕ) → get_or (replicate n false) k false ≡ false
 no_flags zero k = refl
 no_flags (suc n) zero = refl
 no_flags (suc n) (suc k) = no_flags n k
+
+-- flags that are set one after the other
+module _ (on : ℕ → Bool) (flags : List Bool) (k : ℕ) (b : Bool) where
+  pub flag_set : k < length flags → b ≡ on k → ((i : ℕ) → i < k → get_or flags i false ≡ on i) → (i : ℕ) → i < k + 1 → get_or (set flags k b) i false ≡ on i
+  flag_set room is done i h = subst (λ (b : Bool). get_or (set flags k b) i false ≡ on i) (sym is) (fill_by_more on flags k false room done i h)
+
+  pub flags_still : ((i : ℕ) → k ≤ i → get_or flags i false ≡ false) → (i : ℕ) → k + 1 ≤ i → get_or (set flags k b) i false ≡ false
+  flags_still rest i h =
+      let other : i ≡ k → ⊥ = λ s. omega arith in
+      let behind : k ≤ i = omega arith in
+      get_or-set_other flags k i b false other ∙ rest i behind
 
 pub active_behind : (e bits k : ℕ) (flags : List Bool) (words : List ℕ) → IsLaneSize e → IsVectorLength bits → flags ≡ bits_of (bits / 8) words → bits / e ≤ k → active e flags k ≡ false
 active_behind e bits k flags words size l is h =

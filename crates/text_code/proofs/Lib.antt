@@ -13,3 +13,5 @@ pub mod Spots
 pub mod Whole
 pub mod Parts
 pub mod LineParts
+pub mod Parted
+pub mod Targets

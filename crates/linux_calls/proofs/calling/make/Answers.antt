@@ -1,9 +1,14 @@
-use Rattle.std.proofs.Common.{◌≡◌, refl, sym, ap, subst}
-use Rattle.emu_system.specs.SystemCall.{Action}
+use Rattle.std.proofs.Common.{◌≡◌, inl, inr, refl, sym, ap, subst}
+use Rattle.emu_model.specs.Access.{Memory}
+use Rattle.emu_system.specs.declared.system_call.CallName.{CallName}
 use Rattle.emu_system.specs.declared.system_call.CallName.TheVariants.{Read, Write, Readv, Writev, Prctl}
+use Rattle.emu_system.specs.SystemCall.{Action, number_of_call}
 use Rattle.linux_calls.specs.declared.end.CallEnd.{CallEnd}
-use Rattle.linux_calls.specs.declared.end.CallEnd.TheVariants.{Returned, ReadFault}
+use Rattle.linux_calls.specs.declared.end.CallEnd.TheVariants.{Returned, ReadFault, WriteFault, ErrorsFault}
+use Rattle.linux_calls.specs.Ends.{is_fault}
+use Rattle.linux_calls.specs.Names.{HasNumber}
 use Rattle.linux_calls.specs.Done.{Around, IsDone}
+use Rattle.linux_calls.proofs.Accounted.{accounted, accounted_put, accounted_read, none_caused}
 use Rattle.linux_calls.proofs.Finished.{done_failed, done_length, done_replied, done_still, done_taken, done_unwritten, done_written, named}
 use Rattle.linux_calls.proofs.calling.make.Goals as goal
 
@@ -79,3 +84,70 @@ returns-in_default-clause-done g c =
     named (λ (a : Action) (e : CallEnd). IsDone a (record { core = c.args.core.now; vectors = c.args.vec.now; memory = c.args.mem.now; brk = c.args.brk.now; left = g.I.Source.left c.args.input.now; output = g.O.Sink.held c.args.output.now; errors = g.E.Sink.held c.args.errors.now }) (record { core = c.answer-in_default.new.core; vectors = c.answer-in_default.new.vec; memory = c.make_still-reply.new.mem; brk = c.make_still-reply.new.brk; left = g.I.Source.left c.args.input.now; output = g.O.Sink.held c.args.output.now; errors = g.E.Sink.held c.args.errors.now }) (c.args.input.now ≡ c.args.input.now) (c.args.output.now ≡ c.args.output.now) (c.args.errors.now ≡ c.args.errors.now) e) c.args.core.now c.args.vec.now c.args.mem.now c.args.brk.now c.args.name c.args.name c.answer-in_default.result Returned refl c.answer-in_default.ensures.end
     (done_still c.args.core.now c.args.vec.now c.args.mem.now c.args.brk.now (g.I.Source.left c.args.input.now) (g.O.Sink.held c.args.output.now) (g.E.Sink.held c.args.errors.now) (c.args.input.now ≡ c.args.input.now) (c.args.output.now ≡ c.args.output.now) (c.args.errors.now ≡ c.args.errors.now) c.answer-in_default.new.core c.answer-in_default.new.vec c.make_still-reply.new.mem c.make_still-reply.new.brk (g.I.Source.left c.args.input.now) (g.O.Sink.held c.args.output.now) (g.E.Sink.held c.args.errors.now) c.make_still-reply.ensures.sound
     refl refl refl refl refl refl c.answer-in_default.ensures.vectors _ c.make_still-reply.result (c.make_still-reply.ensures.done c.args.vec.now) c.answer-in_default.ensures.core)
+
+pub returns-in-Ok-clause-accounted : goal.returns-in-Ok-clause-accounted
+returns-in-Ok-clause-accounted g c =
+    accounted c.args.core.now c.args.mem.now c.read.new.mem (g.I.Source.faults c.args.input.now) (g.I.Source.faults c.read.new.input) (g.O.Sink.faults c.args.output.now) (g.O.Sink.faults c.args.output.now) (g.E.Sink.faults c.args.errors.now)
+    (g.E.Sink.faults c.args.errors.now) c.answer.result (ap is_fault c.answer.ensures.end) c.in-Ok.ensures.marks c.in-Ok.ensures.cause.kept refl refl
+
+pub returns-in-Err-clause-accounted : goal.returns-in-Err-clause-accounted
+returns-in-Err-clause-accounted g c =
+    let e = c.in-Err.ensures in
+    let number = subst (λ (n : CallName). HasNumber n (number_of_call c.args.core.now)) c.in-Read.is c.requires.number in
+    accounted_read c.args.core.now c.args.mem.now c.read.new.mem (g.I.Source.faults c.args.input.now) (g.I.Source.faults c.read.new.input) (g.O.Sink.faults c.args.output.now) (g.O.Sink.faults c.args.output.now) (g.E.Sink.faults c.args.errors.now)
+    (g.E.Sink.faults c.args.errors.now) (record { call = inl number; file = e.file }) e.marks e.cause.later e.cause.failed refl refl
+
+pub returns-in-Ok-readv-clause-accounted : goal.returns-in-Ok-readv-clause-accounted
+returns-in-Ok-readv-clause-accounted g c =
+    accounted c.args.core.now c.args.mem.now c.readv.new.mem (g.I.Source.faults c.args.input.now) (g.I.Source.faults c.readv.new.input) (g.O.Sink.faults c.args.output.now) (g.O.Sink.faults c.args.output.now) (g.E.Sink.faults c.args.errors.now)
+    (g.E.Sink.faults c.args.errors.now) c.answer-in-Ok-readv.result (ap is_fault c.answer-in-Ok-readv.ensures.end) c.in-Ok-readv.ensures.marks c.in-Ok-readv.ensures.cause.kept refl refl
+
+pub returns-in-Err-readv-clause-accounted : goal.returns-in-Err-readv-clause-accounted
+returns-in-Err-readv-clause-accounted g c =
+    let e = c.in-Err-readv.ensures in
+    let number = subst (λ (n : CallName). HasNumber n (number_of_call c.args.core.now)) c.in-Readv.is c.requires.number in
+    accounted_read c.args.core.now c.args.mem.now c.readv.new.mem (g.I.Source.faults c.args.input.now) (g.I.Source.faults c.readv.new.input) (g.O.Sink.faults c.args.output.now) (g.O.Sink.faults c.args.output.now) (g.E.Sink.faults c.args.errors.now)
+    (g.E.Sink.faults c.args.errors.now) (record { call = inr number; file = e.file }) e.marks e.cause.later e.cause.failed refl refl
+
+pub returns-in-Ok-write-clause-accounted : goal.returns-in-Ok-write-clause-accounted
+returns-in-Ok-write-clause-accounted g c =
+    let e = c.in-Ok-write.ensures in
+    accounted c.args.core.now c.args.mem.now c.write.new.mem (g.I.Source.faults c.args.input.now) (g.I.Source.faults c.args.input.now) (g.O.Sink.faults c.args.output.now) (g.O.Sink.faults c.write.new.output) (g.E.Sink.faults c.args.errors.now)
+    (g.E.Sink.faults c.write.new.errors) c.answer-in-Ok-write.result (ap is_fault c.answer-in-Ok-write.ensures.end) (ap (λ (m : Memory). m.marks) e.unchanged) refl
+    (none_caused c.in-Ok-write.reply WriteFault _ _ e.write_cause) (none_caused c.in-Ok-write.reply ErrorsFault _ _ e.errors_cause)
+
+pub returns-in-Err-write-clause-accounted : goal.returns-in-Err-write-clause-accounted
+returns-in-Err-write-clause-accounted g c =
+    let e = c.in-Err-write.ensures in
+    let number = subst (λ (n : CallName). HasNumber n (number_of_call c.args.core.now)) c.in-Write.is c.requires.number in
+    accounted_put c.args.core.now c.args.mem.now c.write.new.mem (g.I.Source.faults c.args.input.now) (g.I.Source.faults c.args.input.now) (g.O.Sink.faults c.args.output.now) (g.O.Sink.faults c.write.new.output) (g.E.Sink.faults c.args.errors.now)
+    (g.E.Sink.faults c.write.new.errors) c.in-Err-write.end (inl number) e.file e.sink e.unchanged refl e.write_cause e.errors_cause
+
+pub returns-in-Ok-writev-clause-accounted : goal.returns-in-Ok-writev-clause-accounted
+returns-in-Ok-writev-clause-accounted g c =
+    let e = c.in-Ok-writev.ensures in
+    accounted c.args.core.now c.args.mem.now c.writev.new.mem (g.I.Source.faults c.args.input.now) (g.I.Source.faults c.args.input.now) (g.O.Sink.faults c.args.output.now) (g.O.Sink.faults c.writev.new.output) (g.E.Sink.faults c.args.errors.now)
+    (g.E.Sink.faults c.writev.new.errors) c.answer-in-Ok-writev.result (ap is_fault c.answer-in-Ok-writev.ensures.end) (ap (λ (m : Memory). m.marks) e.unchanged) refl
+    (none_caused c.in-Ok-writev.reply WriteFault _ _ e.write_cause) (none_caused c.in-Ok-writev.reply ErrorsFault _ _ e.errors_cause)
+
+pub returns-in-Err-writev-clause-accounted : goal.returns-in-Err-writev-clause-accounted
+returns-in-Err-writev-clause-accounted g c =
+    let e = c.in-Err-writev.ensures in
+    let number = subst (λ (n : CallName). HasNumber n (number_of_call c.args.core.now)) c.in-Writev.is c.requires.number in
+    accounted_put c.args.core.now c.args.mem.now c.writev.new.mem (g.I.Source.faults c.args.input.now) (g.I.Source.faults c.args.input.now) (g.O.Sink.faults c.args.output.now) (g.O.Sink.faults c.writev.new.output) (g.E.Sink.faults c.args.errors.now)
+    (g.E.Sink.faults c.writev.new.errors) c.in-Err-writev.end (inr number) e.file e.sink e.unchanged refl e.write_cause e.errors_cause
+
+pub returns-in-Ok-prctl-clause-accounted : goal.returns-in-Ok-prctl-clause-accounted
+returns-in-Ok-prctl-clause-accounted g c =
+    accounted c.args.core.now c.args.mem.now c.args.mem.now (g.I.Source.faults c.args.input.now) (g.I.Source.faults c.args.input.now) (g.O.Sink.faults c.args.output.now) (g.O.Sink.faults c.args.output.now) (g.E.Sink.faults c.args.errors.now)
+    (g.E.Sink.faults c.args.errors.now) c.set_length.result (ap is_fault c.set_length.ensures.end) refl refl refl refl
+
+pub returns-in-Err-prctl-clause-accounted : goal.returns-in-Err-prctl-clause-accounted
+returns-in-Err-prctl-clause-accounted g c =
+    accounted c.args.core.now c.args.mem.now c.args.mem.now (g.I.Source.faults c.args.input.now) (g.I.Source.faults c.args.input.now) (g.O.Sink.faults c.args.output.now) (g.O.Sink.faults c.args.output.now) (g.E.Sink.faults c.args.errors.now)
+    (g.E.Sink.faults c.args.errors.now) c.answer-in-Err-prctl.result (ap is_fault c.answer-in-Err-prctl.ensures.end) refl refl refl refl
+
+pub returns-in_default-clause-accounted : goal.returns-in_default-clause-accounted
+returns-in_default-clause-accounted g c =
+    accounted c.args.core.now c.args.mem.now c.make_still-reply.new.mem (g.I.Source.faults c.args.input.now) (g.I.Source.faults c.args.input.now) (g.O.Sink.faults c.args.output.now) (g.O.Sink.faults c.args.output.now) (g.E.Sink.faults c.args.errors.now)
+    (g.E.Sink.faults c.args.errors.now) c.answer-in_default.result (ap is_fault c.answer-in_default.ensures.end) c.make_still-reply.ensures.marks refl refl refl

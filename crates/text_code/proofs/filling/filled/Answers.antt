@@ -1,5 +1,6 @@
 use Rattle.std.proofs.Common.{length, sym, ap, ◌∙◌, arith}
-use Rattle.text_code.proofs.Steps.{rest_sound, kept_out, kept_given, lacking, over}
+use Rattle.text_code.proofs.Slots.{style_sound}
+use Rattle.text_code.proofs.Steps.{first_sound, rest_sound, kept_out, kept_given, lacking, over}
 use Rattle.text_code.proofs.filling.filled.Goals as goal
 
 pub loop-slot-preserved-then-out : goal.loop-slot-preserved-then-out
@@ -31,3 +32,9 @@ pub returns-in_default-split_first : goal.returns-in_default-split_first
 returns-in_default-split_first c =
     lacking c.args.slots.now c.loop-slot.left.now c.in-Some.more.now c.args.items.now c.loop-slot.next.now c.loop-slot.all.items c.in-Some.slot.now c.loop-slot.out c.is_left_out-out.result c.copied.result
     c.in-Some.ensures.cases.0 (c.copied.ensures ∙ c.first.ensures.value) c.is_left_out-out.ensures c.in_default-split_first.ensures.cases c.if-out.false c.loop-slot.invariant.0 c.loop-slot.invariant.1
+
+pub left_out-requires : goal.left_out-requires
+left_out-requires c = first_sound c.loop-slot.left.now c.in-Some.more.now c.in-Some.slot.now c.in-Some.ensures.cases.0 c.loop-slot.invariant.2
+
+pub raised-requires : goal.raised-requires
+raised-requires c = style_sound c.in-Some.slot.now (first_sound c.loop-slot.left.now c.in-Some.more.now c.in-Some.slot.now c.in-Some.ensures.cases.0 c.loop-slot.invariant.2)

@@ -1,6 +1,9 @@
-use Rattle.std.proofs.Common.{ℕ, ◌^◌, ◌<◌, refl, sym, subst}
-use Rattle.text_model.specs.Slots.{places, bits_in}
-use Rattle.text_code.proofs.Slots.{narrow, kind_sound}
+use Rattle.std.proofs.Common.{ℕ, ◌*◌, ◌^◌, ◌<◌, refl, sym, ap, ap₂, ◌∙◌, subst}
+use Rattle.text_model.specs.declared.slots.Kind.{Kind}
+use Rattle.text_model.specs.Slots.{places, bits_in, joined, shown, address}
+use Rattle.text_model.specs.Text.{printed}
+use Rattle.text_code.proofs.Slots.{parts_sound, narrow, kind_sound}
+use Rattle.text_code.proofs.Targets.{target_sound, printed_as_shown}
 use Rattle.text_code.proofs.showing.printed.Goals as goal
 
 pub number_of-number-requires-clause-narrow : goal.number_of-number-requires-clause-narrow
@@ -14,3 +17,26 @@ shown-requires c =
       narrow = narrow c.args.slot c.width_of.result c.requires e;
       small = subst (λ (n : ℕ). c.number_of-number.result < 2 ^ n) (sym e) c.number_of-number.ensures.small;
     }
+
+pub number_of-number-requires-clause-parts : goal.number_of-number-requires-clause-parts
+number_of-number-requires-clause-parts c = parts_sound c.args.slot c.requires
+
+pub address-requires-clause-sound : goal.address-requires-clause-sound
+address-requires-clause-sound c = target_sound c.args.slot c.in-Target.by c.in-Target.page c.in-Target.is c.requires
+
+pub width_of-requires : goal.width_of-requires
+width_of-requires c = parts_sound c.args.slot c.requires
+
+pub returns-in-Target : goal.returns-in-Target
+returns-in-Target c =
+    let b : ℕ = bits_in (places c.args.slot.codec.parts) in
+    let v : ℕ = joined (places c.args.slot.codec.parts) c.args.word in
+    ap (λ (x : ℕ). 2 * x) (c.from.ensures ∙ c.address.ensures ∙ ap (λ (v : ℕ). address c.in-Target.by c.in-Target.page b v c.args.pc) c.number_of-number.ensures.value)
+    ∙ ap (λ (k : Kind). printed k b v c.args.pc) (sym c.in-Target.is)
+
+pub returns-in_default : goal.returns-in_default
+returns-in_default c =
+    let k : Kind = c.args.slot.codec.kind in
+    let b : ℕ = bits_in (places c.args.slot.codec.parts) in
+    let v : ℕ = joined (places c.args.slot.codec.parts) c.args.word in
+    c.shown.ensures ∙ ap₂ (shown k) c.width_of.ensures.value c.number_of-number.ensures.value ∙ printed_as_shown k b v c.args.pc c.in_default.not-Target
