@@ -1,124 +1,105 @@
 //! Bitmask immediates, sums, readings of numbers, and the fields of words.
+use crate::numbers::{are_numbers, is_number};
 use crate::scalars::nzcv;
 use emu_bits::{
     Esize, Pred, PredLow, Reg, U, Word, add_flags, bitmask, bitmask_fields, bits, low_bits, sext,
     sign_extended,
 };
 use emu_model::Length;
-use std::alloc::Global;
 
-/// What is made of numbers by the calls of this file.
-pub fn answer(alloc: Global, name: &str, numbers: [u64; 4]) -> Option<String> {
+/// Whether an answer is what the calls of this file make of numbers; false where a name or a number is none of a case.
+pub fn is_answer(name: &str, numbers: [u64; 4], answer: &str) -> bool {
     match name {
-        "bitmask" => mask(alloc, numbers),
-        "fields" => fields(alloc, numbers),
-        "sum" => sum(alloc, numbers),
-        "signed" | "low" | "extended" => reading(alloc, name, numbers),
-        "word" => word(alloc, numbers),
-        "lanes" => lanes(alloc, numbers),
-        _ => number(alloc, name, numbers),
+        "bitmask" => mask(numbers, answer),
+        "fields" => fields(numbers, answer),
+        "sum" => sum(numbers, answer),
+        "signed" | "low" | "extended" => reading(name, numbers, answer),
+        "word" => word(numbers, answer),
+        "lanes" => lanes(numbers, answer),
+        _ => number(name, low(numbers[0]), answer),
     }
 }
 
-/// The number 64 or 32, which are the widths of scalar registers.
-fn is_wide(width: u64) -> Option<bool> {
-    match width {
-        64 => Some(true),
-        32 => Some(false),
-        _ => None,
-    }
+/// The low 32 bits of a number.
+pub fn low(number: u64) -> u32 {
+    (number % (1 << 32)) as u32
 }
 
-fn text(alloc: Global, value: Option<u64>) -> Option<String> {
-    match value {
-        Some(value) => format!(in alloc; "{value:x}").ok(),
-        None => String::from_str(alloc, "none").ok(),
-    }
-}
-
-fn mask(alloc: Global, numbers: [u64; 4]) -> Option<String> {
+fn mask(numbers: [u64; 4], answer: &str) -> bool {
     let n = numbers[0] != 0;
-    let (immr, imms) = (
-        u32::try_from(numbers[1]).ok()?,
-        u32::try_from(numbers[2]).ok()?,
-    );
+    let (immr, imms) = (low(numbers[1]), low(numbers[2]));
     if immr >= 64 || imms >= 64 {
-        return None;
+        return false;
     }
-    let value = if is_wide(numbers[3])? {
-        bitmask(n, immr, imms, 64)
-    } else {
-        bitmask(n, immr, imms, 32)
+    let found = match numbers[3] {
+        64 => bitmask(n, immr, imms, 64),
+        32 => bitmask(n, immr, imms, 32),
+        _ => return false,
     };
-    text(alloc, value)
+    is_number(answer, found)
 }
 
-fn fields(alloc: Global, numbers: [u64; 4]) -> Option<String> {
-    let found = if is_wide(numbers[1])? {
-        bitmask_fields(numbers[0], 64)
-    } else {
-        bitmask_fields(numbers[0], 32)
+fn fields(numbers: [u64; 4], answer: &str) -> bool {
+    let found = match numbers[1] {
+        64 => bitmask_fields(numbers[0], 64),
+        32 => bitmask_fields(numbers[0], 32),
+        _ => return false,
     };
     match found {
         Some((n, immr, imms)) => {
-            let n = u32::from(n);
-            format!(in alloc; "{n:x} {immr:x} {imms:x}").ok()
+            are_numbers(answer, &[u64::from(n), u64::from(immr), u64::from(imms)])
         }
-        None => text(alloc, None),
+        None => is_number(answer, None),
     }
 }
 
-fn sum(alloc: Global, numbers: [u64; 4]) -> Option<String> {
+fn sum(numbers: [u64; 4], answer: &str) -> bool {
     let [a, b, carry, width] = numbers;
     let carry = carry != 0;
-    let (sum, flags) = if is_wide(width)? {
-        add_flags(a, b, carry, 64)
-    } else if a <= 0xFFFF_FFFF && b <= 0xFFFF_FFFF {
-        add_flags(a, b, carry, 32)
-    } else {
-        return None;
+    let (sum, flags) = match width {
+        64 => add_flags(a, b, carry, 64),
+        32 if a <= 0xFFFF_FFFF && b <= 0xFFFF_FFFF => add_flags(a, b, carry, 32),
+        _ => return false,
     };
-    let flags = nzcv(flags);
-    format!(in alloc; "{sum:x} {flags:04b}").ok()
+    are_numbers(answer, &[sum, nzcv(flags)])
 }
 
 /// A number read as signed, its low bits, or its extension by its sign.
-fn reading(alloc: Global, name: &str, numbers: [u64; 4]) -> Option<String> {
+fn reading(name: &str, numbers: [u64; 4], answer: &str) -> bool {
     let v = numbers[0];
-    let count = u32::try_from(numbers[1]).ok()?;
-    let width = u32::try_from(numbers[2]).ok()?;
+    let (count, width) = (low(numbers[1]), low(numbers[2]));
     if count > 64 || width > 64 {
-        return None;
+        return false;
     }
     if name == "low" {
-        return text(alloc, Some(low_bits(v, count)));
+        return is_number(answer, Some(low_bits(v, count)));
     }
     if count == 0 {
-        return None;
+        return false;
     }
     if name == "signed" {
-        let signed = sext(v, count);
-        return format!(in alloc; "{signed}").ok();
+        return answer.parse::<i64>().ok() == Some(sext(v, count));
     }
-    text(alloc, Some(sign_extended(v, count, width)))
+    is_number(answer, Some(sign_extended(v, count, width)))
 }
 
-fn number(alloc: Global, name: &str, numbers: [u64; 4]) -> Option<String> {
-    let v = u32::try_from(numbers[0]).ok()?;
+fn number(name: &str, v: u32, answer: &str) -> bool {
     let found = match name {
         "number" => U::<12>::new(v).map(|found| found.get()),
         "predicate" => Pred::new(v).map(|found| found.get()),
         "low-predicate" => PredLow::new(v).map(|found| found.get()),
-        _ => return None,
+        _ => return false,
     };
-    text(alloc, found.map(u64::from))
+    is_number(answer, found.map(u64::from))
 }
 
-fn word(alloc: Global, numbers: [u64; 4]) -> Option<String> {
-    let number = U::<16>::new(u32::try_from(numbers[2]).ok()?)?;
-    let register = Reg::new(u32::try_from(numbers[3]).ok()?)?;
+fn word(numbers: [u64; 4], answer: &str) -> bool {
     let begun = Word {
-        bits: u32::try_from(numbers[0]).ok()?,
+        bits: low(numbers[0]),
+    };
+    let (Some(number), Some(register)) = (U::<16>::new(low(numbers[2])), Reg::new(low(numbers[3])))
+    else {
+        return false;
     };
     let word = begun
         .flag(numbers[1] != 0, 31)
@@ -126,17 +107,22 @@ fn word(alloc: Global, numbers: [u64; 4]) -> Option<String> {
         .reg(register, 0)
         .bits;
     let (read, number) = (bits(word, 20, 5), U::<16>::at(word, 5).get());
-    format!(in alloc; "{word:x} {read:x} {number:x}").ok()
+    are_numbers(
+        answer,
+        &[u64::from(word), u64::from(read), u64::from(number)],
+    )
 }
 
-fn lanes(alloc: Global, numbers: [u64; 4]) -> Option<String> {
-    let length = Length::of_bits(u32::try_from(numbers[0]).ok()?)?;
+fn lanes(numbers: [u64; 4], answer: &str) -> bool {
     let size = match numbers[1] {
         8 => Esize::B,
         16 => Esize::H,
         32 => Esize::S,
         64 => Esize::D,
-        _ => return None,
+        _ => return false,
     };
-    text(alloc, Some(u64::from(length.lanes(size))))
+    match Length::of_bits(low(numbers[0])) {
+        Some(length) => is_number(answer, Some(u64::from(length.lanes(size)))),
+        None => false,
+    }
 }

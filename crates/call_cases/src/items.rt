@@ -1,14 +1,14 @@
 //! The items of a line: numbers, text, and how a call ends.
+use line_words::number_of_word;
 use linux_calls::CallEnd;
 use std::alloc::{AllocError, Global};
 
 /// The value of the first item of a name.
 pub fn find<'a>(line: &'a str, name: &str) -> Option<&'a str> {
     for item in line.split(' ') {
-        if let Some((found, value)) = item.split_once('=') {
-            if found == name {
-                return Some(value);
-            }
+        let (found, value) = item.split_once('=').unwrap_or((item, ""));
+        if found == name {
+            return Some(value);
         }
     }
     None
@@ -22,20 +22,35 @@ pub fn find_number(line: &str, name: &str, other: u64) -> Option<u64> {
     }
 }
 
-/// A number; behind a `-` it is taken from 2^64.
+/// The same below 2^32.
+pub fn find_small(line: &str, name: &str, other: u32) -> Option<u32> {
+    u32::try_from(find_number(line, name, u64::from(other))?).ok()
+}
+
+/// A number, decimal or behind `0x` hexadecimal; behind a `-` it is taken from 2^64.
 pub fn number(text: &str) -> Option<u64> {
     match text.strip_prefix("-") {
-        Some(digits) => Some(0u64.wrapping_sub(magnitude(digits)?)),
-        None => magnitude(text),
+        Some(digits) => Some(0u64.wrapping_sub(number_of_word(digits)?)),
+        None => number_of_word(text),
     }
 }
 
-/// A number of decimal digits, or of hexadecimal ones behind `0x`.
-fn magnitude(digits: &str) -> Option<u64> {
-    match digits.strip_prefix("0x") {
-        Some(digits) => u64::from_str_radix(digits, 16).ok(),
-        None => digits.parse::<u64>().ok(),
+/// Seven numbers, with `,` between them; 0 for one that isn't there.
+pub fn numbers(text: &str) -> Option<[u64; 7]> {
+    let mut found = [0; 7];
+    let mut parts = text.split(',');
+    for place in found.iter_mut() {
+        if let Some(part) = parts.next() {
+            *place = number(part)?;
+        }
     }
+    Some(found)
+}
+
+/// An address, and what stands behind the `:` behind it.
+pub fn at(value: &str) -> Option<(u64, &str)> {
+    let (address, rest) = value.split_once(':').unwrap_or((value, ""));
+    Some((number(address)?, rest))
 }
 
 /// The byte that stands for a byte of text: `.` for 0.
@@ -52,13 +67,12 @@ pub fn bytes_of(alloc: Global, text: &str) -> Result<Vec<u8>, AllocError> {
     Ok(bytes)
 }
 
-/// Whether bytes are those of text.
-pub fn are_text(bytes: &[u8], text: &str) -> bool {
-    bytes.len() == text.len()
-        && bytes
-            .iter()
-            .zip(text.as_bytes())
-            .all(|(byte, letter)| *byte == byte_of(*letter))
+/// Whether bytes are those of text. Not where memory is wanting.
+pub fn are_text(alloc: Global, bytes: &[u8], text: &str) -> bool {
+    match bytes_of(alloc, text) {
+        Ok(wanted) => wanted.as_slice() == bytes,
+        Err(_) => false,
+    }
 }
 
 /// How a call ends, and x0 behind one that returns. None where the text isn't in the form of a case.

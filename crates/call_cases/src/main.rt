@@ -37,18 +37,26 @@ mod play;
 mod registers;
 mod scalars;
 
-use std::alloc::Global;
 use std::io;
 
 /// The first item of a case that isn't as the line has it, or the whole line.
-fn difference(alloc: Global, line: &str) -> Option<&str> {
-    if !line.contains(" = ") {
-        return play::difference(alloc, line);
+fn difference(rt: HostRuntime, line: &str) -> Option<&str> {
+    match line.split_once(" = ") {
+        None => play::difference(rt.alloc(), line),
+        Some((asked, answer)) if numbers::agrees(asked, answer) => None,
+        Some(_) => Some(line),
     }
-    if numbers::agrees(alloc, line) == Some(true) {
-        return None;
+}
+
+/// Looks at a case, and writes it where it differs; whether it does.
+fn compare(rt: HostRuntime, line: &str) -> io::Result<bool> {
+    match difference(rt, line) {
+        Some(item) => {
+            println!(rt; "differs at {item}: {line}")?;
+            Ok(true)
+        }
+        None => Ok(false),
     }
-    Some(line)
 }
 
 fn main(rt: HostRuntime) -> io::Result<()> {
@@ -60,10 +68,8 @@ fn main(rt: HostRuntime) -> io::Result<()> {
             continue;
         }
         cases = cases.saturating_add(1);
-        if let Some(item) = difference(rt.alloc(), line.as_str()) {
-            differ = differ.saturating_add(1);
-            println!(rt; "differs at {item}: {line}")?;
-        }
+        let differs = compare(rt, line.as_str())?;
+        differ = differ.saturating_add(u64::from(differs));
     }
     println!(rt; "{cases} cases, {differ} differ")
 }

@@ -20,55 +20,80 @@
 //!   address and size; then the monitor emptied, and the flags that weren't written.
 use crate::{bits, scalars};
 use lane_pack::Lane;
-use std::alloc::Global;
 
-/// Up to four hexadecimal numbers, with a space between them; 0 for one that isn't there.
+/// A number of hexadecimal digits.
+fn hexadecimal(word: &str) -> Option<u64> {
+    u64::from_str_radix(word, 16).ok()
+}
+
+/// Up to four numbers, with a space between them; 0 for one that isn't there.
 fn numbers_of(text: &str) -> Option<[u64; 4]> {
     let mut numbers = [0; 4];
     let mut words = text.split(' ');
     for place in numbers.iter_mut() {
         if let Some(word) = words.next() {
-            *place = u64::from_str_radix(word, 16).ok()?;
+            *place = hexadecimal(word)?;
         }
     }
     Some(numbers)
 }
 
-/// The sum, the difference and the product of the lanes of two numbers.
-fn lane<T: Lane>(alloc: Global, a: u64, b: u64) -> Option<String> {
+/// Whether an answer is just these numbers, with a space between them.
+pub fn are_numbers(answer: &str, found: &[u64]) -> bool {
+    let mut words = answer.split(' ');
+    for number in found {
+        match words.next() {
+            Some(word) if hexadecimal(word) == Some(*number) => {}
+            _ => return false,
+        }
+    }
+    words.next().is_none()
+}
+
+/// Whether an answer is this number, or `none` where there is none.
+pub fn is_number(answer: &str, found: Option<u64>) -> bool {
+    match found {
+        Some(number) => hexadecimal(answer) == Some(number),
+        None => answer == "none",
+    }
+}
+
+/// Whether an answer is the sum, the difference and the product of the lanes of two numbers.
+fn lane<T: Lane>(a: u64, b: u64, answer: &str) -> bool {
     let (a, b) = (T::from_u64(a), T::from_u64(b));
     let (sum, difference) = (a.add_mod(b).to_u64(), a.sub_mod(b).to_u64());
-    format!(in alloc; "{sum:x} {difference:x} {:x}", a.mul_mod(b).to_u64()).ok()
+    are_numbers(answer, &[sum, difference, a.mul_mod(b).to_u64()])
 }
 
 /// The same of lanes of so many bits.
-fn lanes(alloc: Global, numbers: [u64; 4]) -> Option<String> {
+fn lanes(numbers: [u64; 4], answer: &str) -> bool {
     let [width, a, b, _] = numbers;
     match width {
-        8 => lane::<u8>(alloc, a, b),
-        16 => lane::<u16>(alloc, a, b),
-        32 => lane::<u32>(alloc, a, b),
-        64 => lane::<u64>(alloc, a, b),
-        _ => None,
+        8 => lane::<u8>(a, b, answer),
+        16 => lane::<u16>(a, b, answer),
+        32 => lane::<u32>(a, b, answer),
+        64 => lane::<u64>(a, b, answer),
+        _ => false,
     }
 }
 
-/// What is made of the numbers. None where a name or a number is none of a case, or memory is wanting.
-fn answer(alloc: Global, name: &str, numbers: [u64; 4]) -> Option<String> {
+/// Whether an answer is what is made of the numbers; false where a name or a number is none of a case.
+fn is_answer(name: &str, numbers: [u64; 4], answer: &str) -> bool {
     match name {
-        "register" => scalars::register(alloc, numbers),
-        "stack" => scalars::stack(alloc, numbers),
-        "scalars" => scalars::scalars(alloc, numbers),
-        "lane" => lanes(alloc, numbers),
-        "condition" => scalars::condition(alloc, numbers),
-        _ => bits::answer(alloc, name, numbers),
+        "register" => scalars::register(numbers, answer),
+        "stack" => scalars::stack(numbers, answer),
+        "scalars" => scalars::scalars(numbers, answer),
+        "lane" => lanes(numbers, answer),
+        "condition" => scalars::condition(numbers, answer),
+        _ => bits::is_answer(name, numbers, answer),
     }
 }
 
-/// Whether the answer of a line is what it says. None where it is no case.
-pub fn agrees(alloc: Global, line: &str) -> Option<bool> {
-    let (asked, wanted) = line.split_once(" = ")?;
-    let (name, numbers) = asked.split_once(' ')?;
-    let found = answer(alloc, name, numbers_of(numbers)?)?;
-    Some(found.as_str() == wanted)
+/// Whether a line of what is asked has this answer; false where it is no case.
+pub fn agrees(asked: &str, answer: &str) -> bool {
+    let (name, words) = asked.split_once(' ').unwrap_or((asked, ""));
+    match numbers_of(words) {
+        Some(numbers) => is_answer(name, numbers, answer),
+        None => false,
+    }
 }

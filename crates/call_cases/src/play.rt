@@ -1,12 +1,14 @@
 //! A case: its memory and its streams, and the items of its line one after the other.
-ghost use Rattle.std.specs.Prelude.{IsTrue};
+ghost use Rattle.std.specs.Prelude.{◌≤◌, IfSome, IsTrue};
 ghost use Rattle.emu_model.specs.SoundState.{IsSoundBreak};
 
-use crate::items::{are_text, byte_of, bytes_of, end_of, find, find_number, number};
-use crate::registers::{MONITOR, are_same, core_of, distinct, is_core, vectors_of};
-use emu_model::{Break, Length, PAGE_SIZE};
+use crate::items::{
+    are_text, at, byte_of, bytes_of, end_of, find, find_number, find_small, number, numbers,
+};
+use crate::registers::{General, MONITOR, are_same, core_of, distinct, is_core, vectors_of};
+use emu_model::{Break, Length, PAGE_BYTES, PAGE_SIZE};
 use guest_mem::Mem;
-use guest_pages::{Pages, Rights};
+use guest_pages::{MapFault, Pages, Rights};
 use io_gate::{MemSink, MemSource};
 use linux_calls::{CallEnd, call};
 use std::alloc::Global;
@@ -24,6 +26,7 @@ const PRCTL: u64 = 167;
 /// The lengths, the memory, the break and the streams of a case.
 #[derive(Drop)]
 struct Play {
+    alloc: Global,
     /// The starting vector length, and the present one.
     most: Length,
     length: Length,
@@ -43,7 +46,7 @@ pub fn difference(alloc: Global, line: &str) -> Option<&str> {
         return Some(line);
     };
     for item in line.split(' ') {
-        if play.meets(item) != Some(true) {
+        if !play.meets(item) {
             return Some(item);
         }
     }
@@ -55,10 +58,8 @@ fn has_data(line: &str) -> bool {
     find(line, "data").is_some() || find(line, "entry").is_some()
 }
 
-/// The memory of a case.
-fn memory_of(alloc: Global, line: &str) -> Option<Mem> {
-    let limit = u32::try_from(find_number(line, "pages", 16_384)?).ok()?;
-    let mut pages = Pages::new(alloc, limit).ok()?;
+/// Maps the pages of a case.
+fn map_all(pages: &mut Pages, has_data: bool) -> Result<(), MapFault> {
     let code = Rights {
         r: true,
         w: false,
@@ -69,56 +70,65 @@ fn memory_of(alloc: Global, line: &str) -> Option<Mem> {
         w: true,
         x: false,
     };
-    pages.map(CODE, 1, code).ok()?;
-    if has_data(line) {
-        pages.map(DATA, 1, data).ok()?;
+    pages.map(CODE, 1, code)?;
+    if has_data {
+        pages.map(DATA, 1, data)?;
     }
-    pages.map(STACK, 256, data).ok()?;
-    for item in line.split(' ') {
-        let (name, value) = item.split_once('=')?;
-        match name {
-            "data" => put_data(&mut pages, value)?,
-            "entry" => put_entry(&mut pages, value)?,
-            _ => {}
-        }
-    }
-    Some(Mem::new(pages))
+    pages.map(STACK, 256, data)
 }
 
-/// Puts a byte at an address in the page of data.
-fn put_byte(pages: &mut Pages, address: u64, byte: u8) -> Option<()> {
-    if address / PAGE_SIZE != DATA {
+/// Puts bytes at an address in the page of data. None where they don't lie within it.
+fn put(pages: &mut Pages, address: u64, bytes: &[u8]) -> Option<()> {
+    let place = (address % PAGE_SIZE) as usize;
+    if address / PAGE_SIZE != DATA || bytes.len() > PAGE_BYTES - place {
         return None;
     }
-    pages.write(DATA, (address % PAGE_SIZE) as usize, &[byte]);
+    pages.write(DATA, place, bytes);
     Some(())
 }
 
 /// Puts `ADDRESS:TEXT` into the page of data.
-fn put_data(pages: &mut Pages, value: &str) -> Option<()> {
-    let (address, text) = value.split_once(':')?;
-    let address = number(address)?;
-    for (k, letter) in (0u64..).zip(text.as_bytes()) {
-        put_byte(pages, address.wrapping_add(k), byte_of(*letter))?;
-    }
-    Some(())
+fn put_data(alloc: Global, pages: &mut Pages, value: &str) -> Option<()> {
+    let (address, text) = at(value)?;
+    put(pages, address, &bytes_of(alloc, text).ok()?)
 }
 
 /// Puts `ADDRESS:BASE,LENGTH` into the page of data.
 fn put_entry(pages: &mut Pages, value: &str) -> Option<()> {
-    let (address, entry) = value.split_once(':')?;
-    let (base, length) = entry.split_once(',')?;
-    let address = number(address)?;
-    put_number(pages, address, number(base)?)?;
-    put_number(pages, address.wrapping_add(8), number(length)?)
+    let (address, entry) = at(value)?;
+    let [base, length, ..] = numbers(entry)?;
+    put(pages, address, &base.to_le_bytes())?;
+    put(pages, address.wrapping_add(8), &length.to_le_bytes())
 }
 
-/// Puts a number of 8 bytes.
-fn put_number(pages: &mut Pages, address: u64, value: u64) -> Option<()> {
-    for (k, byte) in (0u64..).zip(value.to_le_bytes()) {
-        put_byte(pages, address.wrapping_add(k), byte)?;
+/// Puts the bytes that a line has.
+fn put_all(alloc: Global, pages: &mut Pages, line: &str) -> Option<()> {
+    for item in line.split(' ') {
+        if let Some(value) = item.strip_prefix("data=") {
+            put_data(alloc, pages, value)?;
+        } else if let Some(value) = item.strip_prefix("entry=") {
+            put_entry(pages, value)?;
+        }
     }
     Some(())
+}
+
+/// The memory of a case.
+fn memory_of(alloc: Global, line: &str) -> Option<Mem> {
+    let mut pages = Pages::new(alloc, find_small(line, "pages", 16_384)?).ok()?;
+    map_all(&mut pages, has_data(line)).ok()?;
+    put_all(alloc, &mut pages, line)?;
+    Some(Mem::new(pages))
+}
+
+/// The most bytes that a stream moves by one take or put.
+fn portion_of(line: &str) -> Option<usize>
+    ensures { IfSome result (λ most. 1 ≤ most) }
+{
+    match find_number(line, "portion", 4096) {
+        Some(most) if most > 0 => Some(most as usize),
+        _ => None,
+    }
 }
 
 /// The numbers of the takes and puts of a case that fail.
@@ -130,20 +140,16 @@ fn failing(alloc: Global, line: &str) -> Option<Vec<u64>> {
     Some(fails)
 }
 
-/// The input of a case, which gives at most so many bytes a take.
-fn source_of(alloc: Global, line: &str, most: usize) -> Option<MemSource> {
-    if most == 0 {
-        return None;
-    }
+/// The input of a case.
+fn source_of(alloc: Global, line: &str) -> Option<MemSource> {
+    let most = portion_of(line)?;
     let bytes = bytes_of(alloc, find(line, "input").unwrap_or("")).ok()?;
     Some(MemSource::new(bytes, most, failing(alloc, line)?))
 }
 
-/// A sink of a case, which accepts at most so many bytes a put.
-fn sink_of(alloc: Global, line: &str, most: usize) -> Option<MemSink> {
-    if most == 0 {
-        return None;
-    }
+/// A sink of a case.
+fn sink_of(alloc: Global, line: &str) -> Option<MemSink> {
+    let most = portion_of(line)?;
     Some(MemSink::new(alloc, most, failing(alloc, line)?))
 }
 
@@ -157,54 +163,59 @@ fn is_sound(brk: Break) -> bool
         && brk.now <= 0x7F00_0000_0000
 }
 
+/// x0 to x30 before a call, with its number and its arguments, which are 0 where they aren't given.
+fn general_of(text: &str) -> Option<General> {
+    let [name, x0, x1, x2, x3, x4, x5] = numbers(text)?;
+    let mut general = distinct();
+    general[..6].copy_from_slice(&[x0, x1, x2, x3, x4, x5]);
+    general[8] = name;
+    Some(general)
+}
+
 impl Play {
     /// A case before its first call. None where an item isn't in its form, or there is no memory for it.
     fn of(alloc: Global, line: &str) -> Option<Play> {
-        let length = Length::of_bits(u32::try_from(find_number(line, "vl", 128)?).ok()?)?;
-        let most = find_number(line, "portion", 4096)? as usize;
+        let length = Length::of_bits(find_small(line, "vl", 128)?)?;
         let start = if has_data(line) { 0x40_2000 } else { 0x40_1000 };
         Some(Play {
+            alloc,
             most: length,
             length,
             memory: memory_of(alloc, line)?,
             brk: Break { start, now: start },
-            input: source_of(alloc, line, most)?,
-            output: sink_of(alloc, line, most)?,
-            errors: sink_of(alloc, line, most)?,
+            input: source_of(alloc, line)?,
+            output: sink_of(alloc, line)?,
+            errors: sink_of(alloc, line)?,
             has_ended: false,
         })
     }
 
-    /// Whether an item is as the line has it. None where it isn't in its form.
-    fn meets(&mut self, item: &str) -> Option<bool> {
-        let (name, value) = item.split_once('=')?;
+    /// Whether an item is in its form and as the line has it.
+    fn meets(&mut self, item: &str) -> bool {
+        let (name, value) = item.split_once('=').unwrap_or((item, ""));
         match name {
-            "call" => {
-                let (numbers, end) = value.split_once(':')?;
-                self.calls(numbers, end)
-            }
-            "vl" | "pages" | "input" | "portion" | "fail" | "data" | "entry" => Some(true),
+            "call" => self.calls(value) == Some(true),
+            "vl" | "pages" | "input" | "portion" | "fail" | "data" | "entry" => true,
             _ => self.has(name, value),
         }
     }
 
     /// Makes a call, and whether it ends so. None where it isn't in its form, or the program has ended before.
-    fn calls(&mut self, numbers: &str, end: &str) -> Option<bool> {
+    fn calls(&mut self, value: &str) -> Option<bool> {
+        let (numbers, end) = value.split_once(':')?;
+        let general = general_of(numbers)?;
         let (end, answer) = end_of(end)?;
-        let mut general = distinct();
-        let mut numbers = numbers.split(',');
-        let name = number(numbers.next()?)?;
-        general[8] = name;
-        for x in general.iter_mut().take(6) {
-            *x = match numbers.next() {
-                Some(text) => number(text)?,
-                None => 0,
-            };
-        }
         if self.has_ended || !is_sound(self.brk) {
             return None;
         }
-        let mut core = core_of(&general);
+        Some(self.ends(&general, end, answer))
+    }
+
+    /// Makes a call with these registers, and whether it ends so, and x0 is this answer where it returns.
+    fn ends(&mut self, general: &General, end: CallEnd, answer: u64) -> bool
+        requires { IsSoundBreak self.old.brk }
+    {
+        let mut core = core_of(general);
         let mut vec = vectors_of(self.most, self.length, false);
         let found = call(
             &mut core,
@@ -222,29 +233,25 @@ impl Play {
         } else {
             (general[0], MONITOR)
         };
-        if returned && name == PRCTL {
+        if returned && general[8] == PRCTL {
             self.length = vec.length();
         }
         let wanted = vectors_of(self.most, self.length, returned);
-        Some(found == end && is_core(&core, &general, x0, monitor) && are_same(&vec, &wanted))
+        found == end && is_core(&core, general, x0, monitor) && are_same(&vec, &wanted)
     }
 
     /// Whether the memory and the streams are so.
-    fn has(&self, name: &str, value: &str) -> Option<bool> {
+    fn has(&self, name: &str, value: &str) -> bool {
         match name {
-            "mapped" => Some(u64::from(self.memory.pages().mapped()) == number(value)?),
-            "length" => Some(u64::from(self.length.bits()) == number(value)?),
-            "output" => Some(are_text(self.output.kept(), value)),
-            "errors" => Some(are_text(self.errors.kept(), value)),
-            "memory" => {
-                let (address, text) = value.split_once(':')?;
-                Some(self.has_bytes(number(address)?, text))
-            }
-            "page" => {
-                let (address, rights) = value.split_once(':')?;
-                Some(self.has_rights(number(address)?, rights))
-            }
-            _ => None,
+            "mapped" => number(value) == Some(u64::from(self.memory.pages().mapped())),
+            "length" => number(value) == Some(u64::from(self.length.bits())),
+            "output" => are_text(self.alloc, self.output.kept(), value),
+            "errors" => are_text(self.alloc, self.errors.kept(), value),
+            _ => match at(value) {
+                Some((address, text)) if name == "memory" => self.has_bytes(address, text),
+                Some((address, rights)) => name == "page" && self.has_rights(address, rights),
+                None => false,
+            },
         }
     }
 

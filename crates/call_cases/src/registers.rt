@@ -37,9 +37,7 @@ pub fn distinct() -> General {
 pub fn core_of(general: &General) -> Core {
     let mut core = Core::new();
     for (number, x) in (0u32..).zip(general.iter()) {
-        if let Some(r) = Reg::new(number) {
-            core.set_x(r, 64, *x);
-        }
+        core.set_x(Reg::at(number, 0), 64, *x);
     }
     core.set_x_sp(Reg::at(31, 0), 64, SP);
     core.set_pc(PC);
@@ -57,10 +55,8 @@ pub fn is_core(core: &Core, general: &General, x0: u64, monitor: Option<(u64, u3
         && core.flags() == FLAGS
         && core.monitor() == monitor;
     for (number, x) in (0u32..).zip(general.iter()) {
-        if let Some(r) = Reg::new(number) {
-            let wanted = if number == 0 { x0 } else { *x };
-            same = same && core.x(r) == wanted;
-        }
+        let wanted = if number == 0 { x0 } else { *x };
+        same = same && core.x(Reg::at(number, 0)) == wanted;
     }
     same
 }
@@ -72,15 +68,11 @@ pub fn vectors_of(most: Length, length: Length, is_behind: bool) -> VecRegs {
     if length.bits() <= most.bits() {
         vec.set_length(length);
     }
+    let (bytes, flags) = if is_behind { (16, 0) } else { (256, 256) };
     for number in 0..32 {
-        if let Some(r) = Reg::new(number) {
-            fill_vector(&mut vec, r, if is_behind { 16 } else { 256 });
-        }
-        if let Some(r) = Pred::new(number) {
-            fill_predicate(&mut vec, r, if is_behind { 0 } else { 256 });
-        }
+        fill_vector(&mut vec, Reg::at(number, 0), bytes);
+        fill_flags(&mut vec, Pred::new(number), flags);
     }
-    fill_ffr(&mut vec, if is_behind { 0 } else { 256 });
     vec
 }
 
@@ -94,20 +86,14 @@ fn fill_vector(vec: &mut VecRegs, r: Reg, most: u32) {
     }
 }
 
-/// Sets the first flags of a predicate, at most so many.
-fn fill_predicate(vec: &mut VecRegs, r: Pred, most: u32) {
+/// Sets the first flags of a predicate, or of FFR, at most so many.
+fn fill_flags(vec: &mut VecRegs, of: Option<Pred>, most: u32) {
     for k in 0..most {
         if k < vec.length().bits() / 8 {
-            vec.set_p_bit(r, k, true);
-        }
-    }
-}
-
-/// The same of FFR.
-fn fill_ffr(vec: &mut VecRegs, most: u32) {
-    for k in 0..most {
-        if k < vec.length().bits() / 8 {
-            vec.set_ffr_bit(k, true);
+            match of {
+                Some(r) => vec.set_p_bit(r, k, true),
+                None => vec.set_ffr_bit(k, true),
+            }
         }
     }
 }
@@ -118,9 +104,8 @@ pub fn are_same(a: &VecRegs, b: &VecRegs) -> bool {
         && a.length() == b.length()
         && a.ffr_words() == b.ffr_words();
     for number in 0..32 {
-        if let Some(r) = Reg::new(number) {
-            same = same && a.z_words(r) == b.z_words(r);
-        }
+        let r = Reg::at(number, 0);
+        same = same && a.z_words(r) == b.z_words(r);
         if let Some(r) = Pred::new(number) {
             same = same && a.p_words(r) == b.p_words(r);
         }
