@@ -17,8 +17,9 @@ pub record Now : Type 0 where
 abbrev pub now : Option (List ℕ) → Option (List ℕ) → Option (List ℕ) → Now
 now input output errors = record { input = input; output = output; errors = errors }
 
--- Where nothing failed, the command ends as the outcome for what the input had says, and the streams gained and lost just its bytes; after a failure they
--- gained first bytes of these, and lost no more. What the ending and the outcome share whatever the input has is `settles`.
+-- Where nothing failed, the command ends as the outcome for what the input had says, and the streams gained and lost just its
+-- bytes; after a failure they gained first bytes of these, and lost no more. What the ending and the outcome share whatever the
+-- input has is `settles`.
 pub record MeetsBy (settles : Option Outcome → Ending → Type 0) (outcome : List ℕ → Option Outcome) (ending : Ending) (old new : Now) : Type 0 where
   pub ends : IfSome old.input (λ bytes. is_failure ending ≡ false → EndsAs (outcome bytes) ending)
   pub settled : is_failure ending ≡ false → (bytes : List ℕ) → settles (outcome bytes) ending
