@@ -2,6 +2,7 @@ pub mod Advanced
 pub mod Breaks
 pub mod CallLaws
 pub mod Composed
+pub mod InTurns
 pub mod Kept
 pub mod Laid
 pub mod Left

@@ -16,6 +16,7 @@ ghost use Rattle.std.specs.Prelude.{
   is_none,
   true,
   false,
+  length,
 };
 ghost use Rattle.io_gate.specs.Streams.{Causes};
 ghost use Rattle.emu_bits.specs.Fields.{field};
@@ -26,6 +27,8 @@ ghost use Rattle.emu_run.specs.Step as model;
 ghost use Rattle.emu_system.specs.SystemCall.{call, quiet, went_on};
 ghost use Rattle.emu_machine.specs.Accesses.{run_accesses};
 ghost use Rattle.emu_machine.specs.Advances.{Advances, EndsBy, MatchCall, left_by_effect, progress_by};
+ghost use Rattle.emu_machine.specs.InTurns.{AdvancesInTurns};
+ghost use Rattle.guest_contexts.specs.Begins.{IsTurn};
 ghost use Rattle.linux_calls.specs.Names.{NamesRead};
 ghost use Rattle.emu_machine.specs.Ends.{
   step_end,
@@ -50,6 +53,7 @@ use a64_insn::A64;
 use core_regs::{Core, Effect};
 use decoded_words::DecodedWords;
 use emu_model::{Break, Ended, Kind, Trap, TrapKind};
+use guest_contexts::{Context, Turn, begin_next};
 use guest_mem::{Access, AccessLog, Mem};
 use insn_decode::{decode_a64_word, may_be_sve};
 use insn_exec::{perform_a64, perform_sve};
@@ -392,7 +396,6 @@ impl Machine {
     }
 
     /// Takes steps until the next one makes a call, `until` steps are counted in all, or one ends the machine.
-    #[inline(never)]
     pub fn advance(&mut self, until: u64) -> Progress
         requires going { has_ended self.old ≡ false }
         requires within { self.old.parts.steps < until }
@@ -402,16 +405,56 @@ impl Machine {
         ensures going { MatchCall result (has_ended self.new ≡ false) ⊤ }
         ensures below { MatchCall result (self.new.parts.steps < until) ⊤ }
     {
-        // the budget is asked for behind the step, so that no answer of it is kept to the next turn
-        'turns: loop {
+        let mut turn = Turn::alone(until);
+        self.advance_in_turns(&[], &[], &mut [], &mut turn)
+    }
+
+    /// Takes steps under a schedule, turn after turn: until the next one makes a call, one ends the machine, or a turn
+    /// is used up and the next one isn't begun. The machine has the registers of the turn's context, and `contexts`
+    /// those of all others; `numbers` are those of the contexts that are ready. It is the one loop of all runs: with
+    /// no schedule it takes the steps of a turn alone.
+    #[inline(never)]
+    pub fn advance_in_turns(
+        &mut self,
+        schedule: &[(u64, u64)],
+        numbers: &[usize],
+        contexts: &mut [Context],
+        turn: &mut Turn,
+    ) -> Progress
+        requires going { has_ended self.old ≡ false }
+        requires within { self.old.parts.steps < turn.old.until }
+        requires turn { 0 < length schedule.now → IsTurn schedule.now numbers.now contexts.old turn.old }
+        ensures steps { AdvancesInTurns schedule.now numbers.now
+            (record { machine = self.old; turn = turn.old; contexts = contexts.old })
+            (record { machine = self.new; turn = turn.new; contexts = contexts.new }) result }
+        ensures turn { 0 < length schedule.now → IsTurn schedule.now numbers.now contexts.new turn.new }
+        ensures count { length contexts.new ≡ length contexts.old }
+        ensures failed { self.new.failed ≡ false }
+        ensures saved { self.new.saved ≡ self.old.saved }
+        ensures going { MatchCall result (has_ended self.new ≡ false) ⊤ }
+        ensures below { MatchCall result (self.new.parts.steps < turn.new.until) ⊤ }
+    {
+        // a proof knows by this that the number fits its type
+        let _until = turn.until;
+        // what is asked of the turn is asked behind the step, so that no answer of it is kept to the next one
+        loop {
             self.log.clear();
             match self.plain() {
                 Progress::GoesOn => {}
                 Progress::Trapped => return Progress::Trapped,
                 Progress::AtCall => return Progress::AtCall,
             }
-            if self.steps() >= until {
-                return Progress::GoesOn;
+            if self.steps() >= turn.until {
+                if !begin_next(
+                    schedule,
+                    numbers,
+                    contexts,
+                    turn,
+                    &mut self.core,
+                    &mut self.vec,
+                ) {
+                    return Progress::GoesOn;
+                }
             }
         }
     }

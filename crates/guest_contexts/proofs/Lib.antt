@@ -1,3 +1,4 @@
+pub mod Begins
 pub mod Copied
 pub mod Found
 pub mod Kept

@@ -1,6 +1,7 @@
 //! Contexts of guest threads: each with the registers that it has while it isn't in the machine, and how it stands.
 #![tactic(auto)]
 
+mod begin;
 mod context;
 mod copies;
 mod monitors;
@@ -9,6 +10,7 @@ mod room;
 mod standings;
 mod turns;
 
+pub use begin::{Turn, begin_next, next_turn};
 pub use context::{Context, Started};
 pub use copies::{copy_core, copy_vectors};
 pub use monitors::{empty_monitors, is_some_watching, note_accesses};

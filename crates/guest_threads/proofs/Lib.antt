@@ -1,5 +1,6 @@
 pub mod Composed
 pub mod Inside
+pub mod InTurns
 pub mod Made
 pub mod Picked
 pub mod Quiet

@@ -1,7 +1,7 @@
 -- The context that takes the next step, found among those that are ready.
-use Rattle.std.proofs.Common.{◌≡◌, ◌<◌, ◌⊎◌, inl, inr, ℕ, zero, suc, ◌+◌, ◌-◌, ◌%◌, Bool, true, false, not, ◌||◌, ◌&&◌, List, [], ◌∷◌, Option, None, length, get_or, nat_eq, if◌then◌else◌, refl, sym, ap, subst, ◌∙◌, arith}
+use Rattle.std.proofs.Common.{◌≡◌, ◌<◌, ◌⊎◌, inl, inr, ℕ, ◌+◌, ◌-◌, ◌%◌, Bool, true, false, not, ◌||◌, List, Option, None, length, get_or, nat_eq, if◌then◌else◌, refl, sym, ap, subst, ◌∙◌, arith}
 use Rattle.std.specs.List.{All, list_all, list_any}
-use Rattle.std.proofs.lemmas.Bool.{eq-eqb, leb-true, ne_eqb}
+use Rattle.std.proofs.lemmas.Bool.{eq-eqb, ne_eqb}
 use Rattle.std.proofs.lemmas.List.Folds.{list_any_at}
 use Rattle.emu_model.specs.State.{Parts}
 use Rattle.thread_model.specs.declared.thread.Place.{Place}
@@ -14,6 +14,7 @@ use Rattle.guest_threads.specs.declared.ends.WorldEnd.TheVariants.{Spent, Stuck}
 use Rattle.thread_model.specs.Threads.{ending, is_over, next_place, next_turn, turn_at, ready_at}
 use Rattle.thread_model.specs.Worlds.{World, Context, context, no_context, is_ready, is_standing_ready, ready, some_ready}
 use Rattle.guest_contexts.specs.Laid.{laid, world_of}
+use Rattle.guest_contexts.proofs.Begins.{has_one}
 use Rattle.guest_contexts.specs.Standings.{ready_among, IsReadyIn}
 use Rattle.guest_contexts.proofs.Laid.{laid_length, ready_at_same, ready_same, some_ready_same}
 use Rattle.guest_contexts.proofs.Lists.{default_same}
@@ -46,14 +47,6 @@ picked_held w schedule p placed used =
 or_true : (b : Bool) → (b || true) ≡ true
 or_true true = refl
 or_true false = refl
-
-and_first : (a b : Bool) → (a && b) ≡ true → a ≡ true
-and_first true b h = refl
-and_first false b h = cc
-
-and_second : (a b : Bool) → (a && b) ≡ true → b ≡ true
-and_second true b h = h
-and_second false b h = cc
 
 is_none_by : (b : Bool) → (b ≡ true → ⊥) → b ≡ false
 is_none_by true h = absurd (h refl)
@@ -95,12 +88,6 @@ stuck_of w none h = sym (ap (λ (e : Option Ended). world_end (ending w e)) none
 abbrev pub place_at : ℕ → ℕ → ℕ → Place
 place_at turn used held = record { turn = turn; used = used; held = held }
 
--- a turn has a step
-pub has_one : (schedule : List (ℕ × ℕ)) (t : ℕ) → list_all has_steps schedule ≡ true → t < length schedule → 0 < (turn_at schedule t).1
-has_one [] t all h = absurd (omega (arith, h))
-has_one (x ∷ xs) zero all h = leb-true 1 x.1 (and_first (has_steps x) (list_all has_steps xs) all)
-has_one (x ∷ xs) (suc t) all h = has_one xs t (and_second (has_steps x) (list_all has_steps xs) all) (omega (arith, h))
-
 -- whether the turn is over
 pub is_over_by : (w : World) (schedule : List (ℕ × ℕ)) (p : Place) (k : ℕ) → (p.used + 1 ≡ (turn_at schedule p.turn).1) ⊎ (is_ready (context w k) ≡ false) → is_over w schedule p k ≡ true
 is_over_by w schedule p k (inl last) = ap (λ (b : Bool). b || not (is_ready (context w k))) (eq-eqb (p.used + 1) (turn_at schedule p.turn).1 last)
@@ -124,12 +111,6 @@ stays_on w schedule p k more ready_so =
     let on : is_over w schedule p k ≡ false =
     ap (λ (b : Bool). b || not (is_ready (context w k))) (ne_eqb (p.used + 1) (turn_at schedule p.turn).1 more) ∙ ap (λ (b : Bool). false || not b) ready_so in
     sym (ap (λ (b : Bool). if b then place_at (next_turn schedule p.turn) 0 0 else place_at p.turn (p.used + 1) k) on)
-
-pub turn_over : (schedule : List (ℕ × ℕ)) (t : ℕ) → t + 1 ≡ length schedule → 0 ≡ next_turn schedule t
-turn_over schedule t h = sym (ap (λ (b : Bool). if b then 0 else t + 1) (eq-eqb (t + 1) (length schedule) h))
-
-pub turn_on : (schedule : List (ℕ × ℕ)) (t : ℕ) → (t + 1 ≡ length schedule → ⊥) → t + 1 ≡ next_turn schedule t
-turn_on schedule t h = sym (ap (λ (b : Bool). if b then 0 else t + 1) (ne_eqb (t + 1) (length schedule) h))
 
 pub not_true : (b : Bool) → not b ≡ true → b ≡ false
 not_true true h = cc

@@ -49,7 +49,7 @@ makes_same m = ap (λ (b : Bool). nat_eq (m.core.pc % 4) 0 && is_none (refused m
 -- ---- steps of a machine, as those of the context whose registers it has
 
 module _ (last : ℕ) (cs : List Context) (within : last < length cs) (ready : (get_or cs last no_context).standing ≡ Ready) (free : list_any has_monitor cs ≡ false) where
-  one_quiet : (p q : Parts) → machine.makes_call p ≡ false → ((input : List ℕ) → turn p input ≡ quiet q input) → (input : List ℕ) → one (world_of p last cs) last input ≡ quietly (world_of q last cs) input
+  pub one_quiet : (p q : Parts) → machine.makes_call p ≡ false → ((input : List ℕ) → turn p input ≡ quiet q input) → (input : List ℕ) → one (world_of p last cs) last input ≡ quietly (world_of q last cs) input
   one_quiet p q none turns input =
       let w : World = world_of p last cs in
       let same : joined w (context w last) ≡ p = joined_is p last cs within in
@@ -71,7 +71,7 @@ module _ (last : ℕ) (cs : List Context) (within : last < length cs) (ready : (
     at = record { within = subst (λ (n : ℕ). last < n) (sym (laid_length q last cs)) within; ready = standing_is q last cs within ∙ ready };
   }
 
-  alone_quiet : (n : ℕ) (p q : Parts) → AreAlone n p q → AreQuiet n last (world_of p last cs) (world_of q last cs)
+  pub alone_quiet : (n : ℕ) (p q : Parts) → AreAlone n p q → AreQuiet n last (world_of p last cs) (world_of q last cs)
   alone_quiet zero p q same = ap (λ (m : Parts). world_of m last cs) same
   alone_quiet (suc n) p q (r, (so_far, a)) = (world_of r last cs, (alone_quiet n p r so_far, quiet_step r q a))
 

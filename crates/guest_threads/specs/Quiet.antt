@@ -1,15 +1,14 @@
 -- Steps of one context that move no byte of a stream, one after the other.
-use Rattle.std.specs.Prelude.{◌≡◌, ◌<◌, ◌≤◌, ℕ, zero, suc, ◌+◌, Bool, List, Option, true, false, is_none}
+use Rattle.std.specs.Prelude.{◌≡◌, ◌<◌, ◌≤◌, ℕ, zero, suc, ◌+◌, Bool, List, length, Option, true, false, is_none}
 use Rattle.emu_machine.specs.declared.ends.Progress.{Progress}
 use Rattle.emu_machine.specs.declared.ends.Progress.TheVariants.{GoesOn, Trapped, AtCall}
 use Rattle.emu_machine.specs.declared.ends.StepEnd.{StepEnd}
 use Rattle.emu_machine.specs.declared.ends.StepEnd.TheVariants.{Going}
 use Rattle.emu_machine.specs.Ends.{is_undone, step_end}
 use Rattle.thread_model.specs.declared.thread.Place.{Place}
-use Rattle.thread_model.specs.Threads.{next_place, one, pick, quietly, stepped}
+use Rattle.guest_contexts.specs.declared.begin.Turn.{Turn}
+use Rattle.thread_model.specs.Threads.{next_place, one, pick, quietly, stepped, turn_at}
 use Rattle.thread_model.specs.Worlds.{World}
-use Rattle.guest_threads.specs.declared.turns.TurnEnd.{TurnEnd}
-use Rattle.guest_threads.specs.declared.turns.TurnEnd.TheVariants.{Whole, Within, Over}
 use Rattle.guest_threads.specs.Ends.{Becomes, IsKept, IsPlace, IsReadyAt, PutsAlways, TakesWithin}
 
 -- a step of context k makes `v` of `w`, and both go on
@@ -83,11 +82,12 @@ pub record FollowsToEnd (schedule : List (ℕ × ℕ)) (budget : ℕ) (p : Place
   pub is : (input : List ℕ) → one at context input ≡ quietly v input
   pub ended : is_none v.ended ≡ false
 
--- a fact of each way that the steps of a turn may come
-abbrev pub MatchTurn : TurnEnd → Type 0 → (Place → Type 0) → Type 0 → Type 0
-MatchTurn Whole P Q R = P
-MatchTurn (Within place) P Q R = Q place
-MatchTurn Over P Q R = R
+-- the world is behind some steps of a turn or before its first one
+pub record StopsWithin (schedule : List (ℕ × ℕ)) (turn : Turn) (v : World) : Type 0 where
+  pub place : turn.place < length schedule
+  pub before : turn.before < length v.contexts
+  pub begun : (turn_at schedule turn.place).1 ≤ turn.until
+  pub on : turn.until ≤ v.steps + (turn_at schedule turn.place).1
 
 -- ---- steps of context k of which all but the last are quiet
 

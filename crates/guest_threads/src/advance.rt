@@ -99,21 +99,6 @@ impl Held {
         self.unwatched = true;
         has_trapped(self.machine.advance(until))
     }
-
-    /// The same where it is known that no context has a monitor. Where it isn't known it takes none.
-    #[inline(always)]
-    pub(crate) fn advance_unwatched(&mut self, until: u64) -> bool
-        requires calling { IsCalling self.old }
-        requires below { self.old.world.steps < until }
-        ensures steps { MatchBool result (AdvancesToEnd until self.old.world self.new.world)
-            (AdvancesOn until self.old.world self.new.world) }
-        ensures failed { self.new.failed ≡ false }
-    {
-        if self.unwatched {
-            return has_trapped(self.machine.advance(until));
-        }
-        false
-    }
 }
 
 /// Whether the last one of steps trapped.

@@ -6,7 +6,7 @@ ghost use Rattle.thread_model.specs.Threads as model;
 ghost use Rattle.thread_model.specs.Worlds as worlds;
 
 use crate::held::Held;
-use guest_contexts::place_among;
+use guest_contexts::{next_turn, place_among};
 use thread_model::Place;
 
 /// The number of steps that are counted in all when the turn of a place, or the budget, is used up.
@@ -35,20 +35,6 @@ pub(crate) fn used_behind(used: u64, before: u64, after: u64) -> u64
     ensures { result ≡ used + (after - before) }
 {
     used + (after - before)
-}
-
-/// The turn behind a turn.
-#[inline(always)]
-pub(crate) fn next_turn(turns: &[(u64, u64)], turn: usize) -> usize
-    requires { turn < length turns.now }
-    ensures is { result ≡ model.next_turn turns.now turn }
-    ensures within { result < length turns.now }
-{
-    let next = turn + 1;
-    if next == turns.len() {
-        return 0;
-    }
-    next
 }
 
 impl Held {

@@ -1,29 +1,20 @@
-//! Whole turns of a schedule, one after the other, by a loop of their own.
-ghost use Rattle.std.specs.Prelude.{◌≡◌, ◌<◌, ◌≤◌, MatchOption, length, false};
+//! Whole turns of a schedule, one after the other, by the loop of the machine.
+ghost use Rattle.std.specs.Prelude.{◌≡◌, ◌<◌, ◌≤◌, ◌+◌, ◌-◌, MatchOption, if◌then◌else◌, length, nat_eq, false};
 ghost use Rattle.guest_schedule.specs.Turns.{IsSchedule};
 ghost use Rattle.guest_threads.specs.Ends.{has_ended, IsPlace};
-ghost use Rattle.guest_threads.specs.Quiet.{FollowsOn, FollowsToEnd, MatchTurn};
+ghost use Rattle.guest_threads.specs.Quiet.{FollowsOn, FollowsToEnd, StopsWithin};
 ghost use Rattle.thread_model.specs.Threads as model;
+ghost use Rattle.thread_model.specs.Worlds as worlds;
 
 use crate::held::Held;
-use crate::places::next_turn;
+use emu_machine::Progress;
+use guest_contexts::{Turn, next_turn};
 use thread_model::Place;
 
-/// How far the steps of a turn came.
-#[derive(Clone, Copy)]
-pub(crate) enum TurnEnd {
-    /// The whole turn is used up.
-    Whole,
-    /// The next step is of this place, in the turn: it makes a call, or isn't taken here.
-    Within(Place),
-    /// The last step ended the world.
-    Over,
-}
-
 impl Held {
-    /// Takes the steps of whole turns from the beginning of a turn on, by a loop of their own, and answers the place of
-    /// the next step: while none of the contexts has a monitor, no step makes a call, and each turn ends within the
-    /// budget. None exactly where a step ended the world.
+    /// Takes the steps of whole turns from the beginning of a turn on, and answers the place of the next step: while
+    /// none of the contexts has a monitor, no step makes a call, and each turn ends within the budget. None exactly
+    /// where a step ended the world.
     #[inline(always)]
     pub(crate) fn take_turns(
         &mut self,
@@ -43,69 +34,77 @@ impl Held {
         if from.used != 0 {
             return Some(from);
         }
-        if !self.unwatched {
+        let Some(until) = turn_end(turns, from.turn, self.steps(), budget) else {
             return Some(from);
-        }
-        let mut turn = from.turn;
-        'whole: loop {
-            match self.take_turn(turns, turn, budget) {
-                TurnEnd::Whole => turn = next_turn(turns, turn),
-                TurnEnd::Within(place) => return Some(place),
-                TurnEnd::Over => return None,
-            }
-        }
-    }
-
-    /// Takes the steps of a turn from its beginning on, where it ends within the budget.
-    #[inline(always)]
-    fn take_turn(&mut self, turns: &[(u64, u64)], turn: usize, budget: u64) -> TurnEnd
-        requires going { has_ended self.old ≡ false }
-        requires within { self.old.world.steps ≤ budget }
-        requires turn { turn < length turns.now }
-        requires schedule { IsSchedule turns.now }
-        ensures steps { MatchTurn result
-            (FollowsOn turns.now budget (record { turn = turn; used = 0; held = 0 }) self.old.world
-            (record { turn = model.next_turn turns.now turn; used = 0; held = 0 }) self.new.world)
-            (λ place. FollowsOn turns.now budget (record { turn = turn; used = 0; held = 0 }) self.old.world place
-            self.new.world)
-            (FollowsToEnd turns.now budget (record { turn = turn; used = 0; held = 0 }) self.old.world
-            self.new.world) }
-        ensures counted { result ≡ TurnEnd.Whole → self.old.world.steps < self.new.world.steps }
-        ensures failed { self.new.failed ≡ false }
-    {
-        let start = Place {
-            turn,
-            used: 0,
-            held: 0,
         };
-        let before = self.steps();
-        let steps = turns[turn].1;
-        if budget - before < steps {
-            return TurnEnd::Within(start);
-        }
-        let Some(k) = self.pick(turns, &start) else {
-            return TurnEnd::Within(start);
+        let Some(k) = self.pick(turns, &from) else {
+            return Some(from);
         };
         let last = self.last();
         self.bring(k);
-        let until = before + steps;
-        if self.advance_unwatched(until) {
-            return TurnEnd::Over;
-        }
-        let after = self.steps();
-        if after >= until {
-            return TurnEnd::Whole;
-        }
-        if after == before {
-            // no step was taken, so the registers are again those of the context of the last one
+        if !self.unwatched {
             self.bring(last);
-            return TurnEnd::Within(start);
+            return Some(from);
         }
-        let used = after - before;
-        TurnEnd::Within(Place {
-            turn,
-            used,
-            held: k,
-        })
+        let mut turn = Turn {
+            place: from.turn,
+            context: k,
+            before: last,
+            until,
+            budget,
+        };
+        let progress = self
+            .machine
+            .advance_in_turns(turns, &self.numbers, &mut self.contexts, &mut turn);
+        self.last = turn.context;
+        match progress {
+            Progress::Trapped => None,
+            Progress::GoesOn => Some(Place {
+                turn: next_turn(turns, turn.place),
+                used: 0,
+                held: 0,
+            }),
+            Progress::AtCall => Some(self.stop_within(turns, &turn)),
+        }
     }
+
+    /// The place of the next step, which isn't taken here, in a turn that has begun. Where none of its steps was taken
+    /// the registers are again those of the context of the last one.
+    fn stop_within(&mut self, turns: &[(u64, u64)], turn: &Turn) -> Place
+        requires { StopsWithin turns.now turn.now self.old.world }
+        ensures turn { result.turn ≡ turn.now.place }
+        ensures used { result.used
+            ≡ self.old.world.steps - (turn.now.until - (model.turn_at turns.now turn.now.place).1) }
+        ensures held { result.held ≡ (if nat_eq result.used 0 then 0 else turn.now.context) }
+        ensures world { self.new
+            ≡ (if nat_eq result.used 0
+            then record self.old { world = worlds.taken_by_context turn.now.before self.old.world } else self.old) }
+    {
+        let begun = turn.until - turns[turn.place].1;
+        let used = self.steps() - begun;
+        if used == 0 {
+            self.bring(turn.before);
+        }
+        Place {
+            turn: turn.place,
+            used,
+            held: if used == 0 { 0 } else { turn.context },
+        }
+    }
+}
+
+/// The number of steps that are counted in all when a turn that begins is used up. None where that is more than the
+/// budget.
+#[inline(always)]
+fn turn_end(turns: &[(u64, u64)], turn: usize, steps: u64, budget: u64) -> Option<u64>
+    requires turn { turn < length turns.now }
+    requires within { steps ≤ budget }
+    ensures { MatchOption result (budget < steps + (model.turn_at turns.now turn).1)
+        (λ until. (until ≡ steps + (model.turn_at turns.now turn).1) × (until ≤ budget)) }
+{
+    let more = turns[turn].1;
+    if budget - steps < more {
+        return None;
+    }
+    Some(steps + more)
 }

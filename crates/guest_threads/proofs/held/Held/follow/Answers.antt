@@ -10,7 +10,8 @@ use Rattle.guest_threads.specs.Ends.{world_end_of, is_broken_off}
 use Rattle.guest_threads.specs.Named.{last_end}
 use Rattle.guest_threads.specs.Quiet.{TakesSteps}
 use Rattle.guest_threads.proofs.Composed.{leads_start}
-use Rattle.guest_threads.proofs.Picked.{has_one, place_at}
+use Rattle.guest_contexts.proofs.Begins.{has_one}
+use Rattle.guest_threads.proofs.Picked.{place_at}
 use Rattle.guest_threads.proofs.Quiet.{ends_lives, quiet_lives, quiet_steps}
 use Rattle.guest_threads.proofs.Followed.{Reached, before_end, followed_after, followed_by, followed_lives, goes_ready, going_by, ran_over, reached_behind, reached_on}
 use Rattle.guest_threads.proofs.Stood.{moved}

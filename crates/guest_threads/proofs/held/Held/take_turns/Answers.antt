@@ -1,79 +1,59 @@
-use Rattle.std.proofs.Common.{ℕ, refl, sym, subst, arith}
+use Rattle.std.proofs.Common.{◌<◌, ℕ, List, length, refl, sym, ap, subst, ◌∙◌, arith}
+use Rattle.std.specs.Vec.{with_items}
+use Rattle.std.proofs.lemmas.List.{with_items_is}
+use Rattle.emu_machine.specs.InTurns.{InTurn}
+use Rattle.guest_contexts.specs.Laid.{world_of}
 use Rattle.thread_model.specs.Threads.{next_turn}
-use Rattle.thread_model.specs.Worlds.{World}
-use Rattle.guest_threads.specs.Quiet.{AreFollowed}
-use Rattle.guest_threads.proofs.Followed.{followed_then, going_by}
-use Rattle.guest_threads.proofs.Made.{unfailed_of}
+use Rattle.thread_model.specs.Worlds.{Context}
+use Rattle.guest_threads.specs.Ends.{WorldHeld}
+use Rattle.guest_threads.specs.Quiet.{FollowsOn, FollowsToEnd, StopsWithin}
+use Rattle.guest_threads.proofs.InTurns.{begun_here, stops_at, stops_within, turns_end, turns_over, turns_stop}
 use Rattle.guest_threads.proofs.Picked.{place_at}
-use Rattle.guest_threads.proofs.Runs.{unended}
-use Rattle.guest_threads.proofs.WholeTurns.{begins_at}
 use Rattle.guest_threads.proofs.held.Held.take_turns.Goals as goal
 
-pub whole-init : goal.whole-init
-whole-init c = record {
-  going = c.requires.going;
-  within = c.requires.within;
-  turn = c.requires.place.turn;
-  follows = (0, (begins_at c.args.from c.if-from-ne0.false (c.requires.begins c.if-from-ne0.false), refl));
-}
+pub stop_within-requires : goal.stop_within-requires
+stop_within-requires c =
+    let begun = begun_here c.args.turns.now c.deref.result.now c.args.budget c.args.from c.args.self.now.world c.args.self.now c.bring.new.self c.self.inside.machine c.self.inside.last
+    c.self.inside.contexts.items c.deref_mut.result.now c.self.inside.numbers.items c.in-Some-pick.k c.last-last.result c.in-Some.until refl c.bring.ensures c.self.view_is
+    c.deref_mut.ensures.value c.deref.ensures.0 c.self.invariant.ready (c.self.invariant.quiet c.if-not-self.false) c.self.invariant.last c.requires.going c.if-from-ne0.false (c.requires.begins c.if-from-ne0.false)
+    c.requires.place.turn c.requires.schedule c.in-Some-pick.ensures c.last-last.ensures.value (let value = c.last-last.ensures.value in let inside = c.last-last.ensures.within in subst (λ (n : ℕ). n < length c.args.self.now.world.contexts) value inside)
+    (let is = c.in-Some.ensures.0 in let steps = c.steps.ensures in omega (arith, is, steps)) c.in-Some.ensures.1 in
+    let x : InTurn = (record { machine = c.advance_in_turns-progress.new.self; turn = c.advance_in_turns-progress.new.turn; contexts = c.advance_in_turns-progress.new.contexts }) in
+    let s = turns_stop c.args.turns.now c.deref.result.now c.args.budget c.args.from c.args.self.now.world (record { machine = c.self.inside.machine; turn = record { place = c.args.from.turn; context = c.in-Some-pick.k; before = c.last-last.result; until = c.in-Some.until; budget = c.args.budget }; contexts = c.deref_mut.result.now }) x begun (c.in-AtCall.ensures.steps) in
+    subst (λ (l : List Context). StopsWithin c.args.turns.now c.advance_in_turns-progress.new.turn (world_of c.advance_in_turns-progress.new.self.parts c.advance_in_turns-progress.new.turn.context l)) (sym (with_items_is c.self.inside.contexts c.advance_in_turns-progress.new.contexts (let count = c.advance_in_turns-progress.ensures.count in let value = c.deref_mut.ensures.value in count ∙ ap (λ (l : List Context). length l) value ∙ sym c.self.inside.contexts.ok.0)))
+    (stops_within c.args.turns.now c.deref.result.now c.args.budget c.args.from c.args.self.now.world x s (c.advance_in_turns-progress.ensures.turn c.requires.schedule.some).place)
 
-pub take_turn-requires : goal.take_turn-requires
-take_turn-requires c = record {
-  going = c.whole.invariant.going;
-  within = c.whole.invariant.within;
-  turn = c.whole.invariant.turn;
-  schedule = c.requires.schedule;
-}
+pub returns-in-Trapped-clause-steps : goal.returns-in-Trapped-clause-steps
+returns-in-Trapped-clause-steps c =
+    let begun = begun_here c.args.turns.now c.deref.result.now c.args.budget c.args.from c.args.self.now.world c.args.self.now c.bring.new.self c.self.inside.machine c.self.inside.last
+    c.self.inside.contexts.items c.deref_mut.result.now c.self.inside.numbers.items c.in-Some-pick.k c.last-last.result c.in-Some.until refl c.bring.ensures c.self.view_is
+    c.deref_mut.ensures.value c.deref.ensures.0 c.self.invariant.ready (c.self.invariant.quiet c.if-not-self.false) c.self.invariant.last c.requires.going c.if-from-ne0.false (c.requires.begins c.if-from-ne0.false)
+    c.requires.place.turn c.requires.schedule c.in-Some-pick.ensures c.last-last.ensures.value (let value = c.last-last.ensures.value in let inside = c.last-last.ensures.within in subst (λ (n : ℕ). n < length c.args.self.now.world.contexts) value inside)
+    (let is = c.in-Some.ensures.0 in let steps = c.steps.ensures in omega (arith, is, steps)) c.in-Some.ensures.1 in
+    subst (λ (l : List Context). FollowsToEnd c.args.turns.now c.args.budget c.args.from c.args.self.now.world (world_of c.advance_in_turns-progress.new.self.parts c.advance_in_turns-progress.new.turn.context l)) (sym (with_items_is c.self.inside.contexts c.advance_in_turns-progress.new.contexts (let count = c.advance_in_turns-progress.ensures.count in let value = c.deref_mut.ensures.value in count ∙ ap (λ (l : List Context). length l) value ∙ sym c.self.inside.contexts.ok.0)))
+    (turns_end c.args.turns.now c.deref.result.now c.args.budget c.args.from c.args.self.now.world (record { machine = c.self.inside.machine; turn = record { place = c.args.from.turn; context = c.in-Some-pick.k; before = c.last-last.result; until = c.in-Some.until; budget = c.args.budget }; contexts = c.deref_mut.result.now }) (record { machine = c.advance_in_turns-progress.new.self; turn = c.advance_in_turns-progress.new.turn; contexts = c.advance_in_turns-progress.new.contexts }) begun c.in-Trapped.ensures.steps)
 
-pub whole-preserved : goal.whole-preserved
-whole-preserved c =
-    let d = c.in-Whole.ensures.steps in
-    let v : World = c.take_turn.new.self.world in
-    let so_far = c.whole.invariant.follows in
-    let turn : ℕ = c.whole.turn in
-    record {
-      going = going_by c.take_turn.new.self d.goes c.take_turn.ensures.failed;
-      within = d.most;
-      turn = c.next_turn-turn.ensures.within;
-      follows = subst (λ (t : ℕ). (n : ℕ) × AreFollowed n c.args.turns.now c.args.from c.args.self.now.world (place_at t 0 0) v) (sym c.next_turn-turn.ensures.is)
-          (followed_then c.args.turns.now d.count so_far.0 c.args.from (place_at turn 0 0) (place_at (next_turn c.args.turns.now turn) 0 0) c.args.self.now.world c.whole.self.world v so_far.1 d.followed);
-    }
+pub returns-in-GoesOn-clause-steps : goal.returns-in-GoesOn-clause-steps
+returns-in-GoesOn-clause-steps c =
+    let begun = begun_here c.args.turns.now c.deref.result.now c.args.budget c.args.from c.args.self.now.world c.args.self.now c.bring.new.self c.self.inside.machine c.self.inside.last
+    c.self.inside.contexts.items c.deref_mut.result.now c.self.inside.numbers.items c.in-Some-pick.k c.last-last.result c.in-Some.until refl c.bring.ensures c.self.view_is
+    c.deref_mut.ensures.value c.deref.ensures.0 c.self.invariant.ready (c.self.invariant.quiet c.if-not-self.false) c.self.invariant.last c.requires.going c.if-from-ne0.false (c.requires.begins c.if-from-ne0.false)
+    c.requires.place.turn c.requires.schedule c.in-Some-pick.ensures c.last-last.ensures.value (let value = c.last-last.ensures.value in let inside = c.last-last.ensures.within in subst (λ (n : ℕ). n < length c.args.self.now.world.contexts) value inside)
+    (let is = c.in-Some.ensures.0 in let steps = c.steps.ensures in omega (arith, is, steps)) c.in-Some.ensures.1 in
+    let d = turns_over c.args.turns.now c.deref.result.now c.args.budget c.args.from c.args.self.now.world (record { machine = c.self.inside.machine; turn = record { place = c.args.from.turn; context = c.in-Some-pick.k; before = c.last-last.result; until = c.in-Some.until; budget = c.args.budget }; contexts = c.deref_mut.result.now }) (record { machine = c.advance_in_turns-progress.new.self; turn = c.advance_in_turns-progress.new.turn; contexts = c.advance_in_turns-progress.new.contexts }) begun c.in-GoesOn.ensures.steps in
+    subst (λ (l : List Context). FollowsOn c.args.turns.now c.args.budget c.args.from c.args.self.now.world (place_at c.next_turn.result 0 0) (world_of c.advance_in_turns-progress.new.self.parts c.advance_in_turns-progress.new.turn.context l)) (sym (with_items_is c.self.inside.contexts c.advance_in_turns-progress.new.contexts (let count = c.advance_in_turns-progress.ensures.count in let value = c.deref_mut.ensures.value in count ∙ ap (λ (l : List Context). length l) value ∙ sym c.self.inside.contexts.ok.0)))
+    (subst (λ (t : ℕ). FollowsOn c.args.turns.now c.args.budget c.args.from c.args.self.now.world (place_at t 0 0) (world_of c.advance_in_turns-progress.new.self.parts c.advance_in_turns-progress.new.turn.context c.advance_in_turns-progress.new.contexts)) (sym c.next_turn.ensures.is) d)
 
-pub whole-smaller : goal.whole-smaller
-whole-smaller c =
-    let d = c.in-Whole.ensures.steps in
-    let most = d.most in
-    let counted = c.take_turn.ensures.counted c.in-Whole.is in
-    omega (arith, most, counted)
-
-pub returns-in-Within : goal.returns-in-Within
-returns-in-Within c =
-    let d = c.in-Within.ensures.steps in
-    let so_far = c.whole.invariant.follows in
-    let r = followed_then c.args.turns.now d.count so_far.0 c.args.from (place_at c.whole.turn 0 0) c.in-Within.place c.args.self.now.world c.whole.self.world c.take_turn.new.self.world so_far.1 d.followed in
-    record {
-      steps = record { count = r.0; followed = r.1; goes = d.goes; most = d.most; placed = d.placed };
-      failed = c.take_turn.ensures.failed;
-    }
-
-pub returns-in-Over : goal.returns-in-Over
-returns-in-Over c =
-    let d = c.in-Over.ensures.steps in
-    let so_far = c.whole.invariant.follows in
-    let r = followed_then c.args.turns.now d.count so_far.0 c.args.from (place_at c.whole.turn 0 0) d.place c.args.self.now.world c.whole.self.world d.at so_far.1 d.followed in
-    record {
-      steps = record { count = r.0; place = d.place; at = d.at; followed = r.1; context = d.context; picked = d.picked; ready = d.ready; goes = d.goes; below = d.below; is = d.is; ended = d.ended };
-      failed = c.take_turn.ensures.failed;
-    }
-
-pub returns-then-from-ne0 : goal.returns-then-from-ne0
-returns-then-from-ne0 c = record {
-  steps = record { count = 0; followed = (refl, refl); goes = unended c.args.self.now.world.ended c.args.self.now.failed c.requires.going; most = c.requires.within; placed = c.requires.place };
-  failed = unfailed_of c.args.self.now c.requires.going;
-}
-
-pub returns-then-not-self : goal.returns-then-not-self
-returns-then-not-self c = record {
-  steps = record { count = 0; followed = (refl, refl); goes = unended c.args.self.now.world.ended c.args.self.now.failed c.requires.going; most = c.requires.within; placed = c.requires.place };
-  failed = unfailed_of c.args.self.now c.requires.going;
-}
+pub returns-in-AtCall-clause-steps : goal.returns-in-AtCall-clause-steps
+returns-in-AtCall-clause-steps c =
+    let begun = begun_here c.args.turns.now c.deref.result.now c.args.budget c.args.from c.args.self.now.world c.args.self.now c.bring.new.self c.self.inside.machine c.self.inside.last
+    c.self.inside.contexts.items c.deref_mut.result.now c.self.inside.numbers.items c.in-Some-pick.k c.last-last.result c.in-Some.until refl c.bring.ensures c.self.view_is
+    c.deref_mut.ensures.value c.deref.ensures.0 c.self.invariant.ready (c.self.invariant.quiet c.if-not-self.false) c.self.invariant.last c.requires.going c.if-from-ne0.false (c.requires.begins c.if-from-ne0.false)
+    c.requires.place.turn c.requires.schedule c.in-Some-pick.ensures c.last-last.ensures.value (let value = c.last-last.ensures.value in let inside = c.last-last.ensures.within in subst (λ (n : ℕ). n < length c.args.self.now.world.contexts) value inside)
+    (let is = c.in-Some.ensures.0 in let steps = c.steps.ensures in omega (arith, is, steps)) c.in-Some.ensures.1 in
+    let x : InTurn = (record { machine = c.advance_in_turns-progress.new.self; turn = c.advance_in_turns-progress.new.turn; contexts = c.advance_in_turns-progress.new.contexts }) in
+    let s = turns_stop c.args.turns.now c.deref.result.now c.args.budget c.args.from c.args.self.now.world (record { machine = c.self.inside.machine; turn = record { place = c.args.from.turn; context = c.in-Some-pick.k; before = c.last-last.result; until = c.in-Some.until; budget = c.args.budget }; contexts = c.deref_mut.result.now }) x begun c.in-AtCall.ensures.steps in
+    let laid : WorldHeld = record { world = world_of c.advance_in_turns-progress.new.self.parts c.advance_in_turns-progress.new.turn.context (with_items c.self.inside.contexts c.advance_in_turns-progress.new.contexts).items; failed = c.advance_in_turns-progress.new.self.failed } in
+    stops_at c.args.turns.now c.deref.result.now c.args.budget c.args.from c.args.self.now.world x s c.stop_within.result laid c.stop_within.new.self
+    (ap (λ (l : List Context). world_of c.advance_in_turns-progress.new.self.parts c.advance_in_turns-progress.new.turn.context l) (with_items_is c.self.inside.contexts c.advance_in_turns-progress.new.contexts (let count = c.advance_in_turns-progress.ensures.count in let value = c.deref_mut.ensures.value in count ∙ ap (λ (l : List Context). length l) value ∙ sym c.self.inside.contexts.ok.0)))
+    c.stop_within.ensures.turn c.stop_within.ensures.used c.stop_within.ensures.held c.stop_within.ensures.world
