@@ -1,14 +1,13 @@
 //! One register at an address from a base, which may be written back. The forms differ in their addresses alone: each
-//! says where its access goes, and one function does them all.
-ghost use Rattle.std.specs.Prelude.{◌≡◌, [], Bool, true, IfSome, None};
+//! says where its access goes. Each form does the accesses that `general` takes for itself, and one function does all
+//! others.
+ghost use Rattle.std.specs.Prelude.{◌≡◌, [], true, IfSome};
 ghost use Rattle.a64_insn.specs.declared.form.A64Form.{A64Form};
-ghost use Rattle.emu_model.specs.Access.{Memory};
-ghost use Rattle.emu_model.specs.State.{Vectors};
 ghost use Rattle.a64_effects.specs.Groups.{access};
-ghost use Rattle.a64_effects.specs.LoadStore.{transferred_by, unchanged};
-ghost use Rattle.a64_flow.specs.Ends.{done_with, ended};
+ghost use Rattle.a64_effects.specs.LoadStore.{transferred_by};
+ghost use Rattle.a64_flow.specs.Ends.{ended};
 ghost use Rattle.a64_flow.specs.Groups.{is_single};
-ghost use Rattle.a64_flow.specs.Singles.{behind, row_of};
+ghost use Rattle.a64_flow.specs.Singles.{IsTried, behind, row_of};
 
 use crate::offsets::from_base;
 use crate::unrefused::{moved, moved_general};
@@ -58,13 +57,7 @@ pub(crate) fn exec(
 fn attempted(core: &mut Core, mem: &mut Mem, log: &mut AccessLog, i: &A64) -> Option<Single>
     requires own { is_single i.now ≡ true }
     requires empty { log.old.items ≡ [] }
-    ensures done { result ≡ None → (w : Vectors) → access i.now core.old w mem.old
-        ≡ done_with unchanged core.new w mem.new log.new.items }
-    ensures left { IfSome result (λ s. (w : Vectors) → (m : Memory) → access i.now core.old w m
-        ≡ transferred_by (row_of s) core.old w m) }
-    ensures core { IfSome result (λ s. core.new ≡ core.old) }
-    ensures memory { IfSome result (λ s. mem.new ≡ mem.old) }
-    ensures log { IfSome result (λ s. log.new.items ≡ []) }
+    ensures { IsTried (access i.now core.old) result core.old core.new mem.old mem.new log.new.items }
 {
     match *i.form() {
         A64Form::LsUnsigned {
@@ -133,12 +126,9 @@ fn attempted(core: &mut Core, mem: &mut Mem, log: &mut AccessLog, i: &A64) -> Op
 #[inline(always)]
 fn attempted_at(core: &mut Core, mem: &mut Mem, log: &mut AccessLog, s: Single) -> Option<Single>
     requires { log.old.items ≡ [] }
-    ensures done { result ≡ None → (w : Vectors) → transferred_by (row_of s) core.old w mem.old
-        ≡ done_with unchanged core.new w mem.new log.new.items }
-    ensures left { IfSome result (λ left. left ≡ s) }
-    ensures core { IfSome result (λ left. core.new ≡ core.old) }
-    ensures memory { IfSome result (λ left. mem.new ≡ mem.old) }
-    ensures log { IfSome result (λ left. log.new.items ≡ []) }
+    ensures tried { IsTried (transferred_by (row_of s) core.old) result
+        core.old core.new mem.old mem.new log.new.items }
+    ensures same { IfSome result (λ left. left ≡ s) }
 {
     if moved_general(core, mem, log, &s) {
         write_back(core, s.rn, s.back);

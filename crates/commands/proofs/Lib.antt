@@ -1,4 +1,5 @@
 pub mod Assembling
+pub mod Causing
 pub mod Copies
 pub mod Disassembling
 pub mod Lines

@@ -9,10 +9,11 @@ use Rattle.emu_system.specs.Start.{with_input}
 use Rattle.emu_system.specs.SystemCall.{Action, fails, answers, maps, moves_break, sets_length, takes, puts, exits, action, call, done_by, total}
 use Rattle.linux_calls.specs.declared.end.CallEnd.{CallEnd}
 use Rattle.linux_calls.specs.declared.end.CallEnd.TheVariants.{Returned, Exit, ReadFault, WriteFault, ErrorsFault}
-use Rattle.linux_calls.specs.Ends.{OfInput, Stores, behind, caller, does_take, end_of, is_fault}
+use Rattle.linux_calls.specs.Ends.{OfInput, Stores, behind, caller, does_take, end_of, is_fault, is_put_fault}
 use Rattle.emu_system.specs.Gained.{Gains}
 use Rattle.emu_machine.specs.declared.ends.StepEnd.{StepEnd}
-use Rattle.emu_machine.specs.Ends.{Becomes, LeftOf, Puts, TakesWithin, is_undone, left_by, step_by, step_end}
+use Rattle.emu_machine.specs.declared.ends.StepEnd.TheVariants.{Going, Exit as StepExit, Trap as StepTrap, ReadFault as StepReadFault, WriteFault as StepWriteFault, ErrorsFault as StepErrorsFault}
+use Rattle.emu_machine.specs.Ends.{Becomes, IsKept, LeftOf, Puts, TakesWithin, is_undone, is_unput, left_by, step_by, step_end}
 use Rattle.emu_machine.specs.Machines.{call_made}
 
 undone_by : (end : CallEnd) → is_undone (step_by end) ≡ is_fault end
@@ -128,15 +129,105 @@ of_told (takes ranges) bytes P h = h
 of_told (puts file ranges) bytes P h = h bytes
 of_told (exits code) bytes P h = h bytes
 
+-- ---- how the machine stands behind it
+
+end_by_left : (end : CallEnd) (m : Parts) → m.ended ≡ None → is_fault end ≡ false → step_by end ≡ step_end (left_by end m).ended
+end_by_left Returned m none done = ap step_end (sym none)
+end_by_left (Exit code) m none done = refl
+end_by_left ReadFault m none done = let no : true ≡ false = done in cc
+end_by_left WriteFault m none done = let no : true ≡ false = done in cc
+end_by_left ErrorsFault m none done = let no : true ≡ false = done in cc
+
+count_by_left : (end : CallEnd) (m : Parts) → step_by end ≡ Going → (left_by end m).steps ≡ m.steps + 1
+count_by_left Returned m going = refl
+count_by_left (Exit code) m going = refl
+count_by_left ReadFault m going = let no : StepReadFault ≡ Going = going in cc
+count_by_left WriteFault m going = let no : StepWriteFault ≡ Going = going in cc
+count_by_left ErrorsFault m going = let no : StepErrorsFault ≡ Going = going in cc
+
+fault_left : (end : CallEnd) (m : Parts) → is_fault end ≡ true → left_by end m ≡ m
+fault_left Returned m fault = let no : false ≡ true = fault in cc
+fault_left (Exit code) m fault = let no : false ≡ true = fault in cc
+fault_left ReadFault m fault = refl
+fault_left WriteFault m fault = refl
+fault_left ErrorsFault m fault = refl
+
+unput_by : (end : CallEnd) → is_unput (step_by end) ≡ is_put_fault end
+unput_by Returned = refl
+unput_by (Exit code) = refl
+unput_by ReadFault = refl
+unput_by WriteFault = refl
+unput_by ErrorsFault = refl
+
+put_is_fault : (end : CallEnd) → is_put_fault end ≡ true → is_fault end ≡ true
+put_is_fault Returned put = put
+put_is_fault (Exit code) put = put
+put_is_fault ReadFault put = refl
+put_is_fault WriteFault put = refl
+put_is_fault ErrorsFault put = refl
+
+-- the call that a step's answer comes from
+abbrev call_of : StepEnd → CallEnd
+call_of Going = Returned
+call_of (StepExit code) = Exit code
+call_of (StepTrap t) = Returned
+call_of StepReadFault = ReadFault
+call_of StepWriteFault = WriteFault
+call_of StepErrorsFault = ErrorsFault
+
+call_of_step : (end : CallEnd) → call_of (step_by end) ≡ end
+call_of_step Returned = refl
+call_of_step (Exit code) = refl
+call_of_step ReadFault = refl
+call_of_step WriteFault = refl
+call_of_step ErrorsFault = refl
+
 module _ (end : CallEnd) (r : StepEnd) (p q : Parts) (is : r ≡ step_by end) (same : p ≡ q) where
-  undone : is_fault end ≡ is_undone r
+  pub undone : is_fault end ≡ is_undone r
   undone = sym (undone_by end) ∙ ap is_undone (sym is)
+
+  -- the call's answer by the step's
+  pub ended_as : (x : StepEnd) → r ≡ x → end ≡ call_of x
+  ended_as x so = sym (call_of_step end) ∙ ap call_of (sym is ∙ so)
 
   pub end_made : (bytes : List ℕ) → p.ended ≡ None → (is_fault end ≡ false → end ≡ end_of (action p)) → is_undone r ≡ false → r ≡ step_end (call_made (with_input q bytes)).parts.ended
   end_made bytes none ends fine =
       is ∙ ap step_by (ends (undone ∙ fine)) ∙ ends_as (action p) p bytes none ∙ ap (λ (x : Parts). step_end (call x bytes).parts.ended) same
 
   module _ (c : Core) (v : Vectors) (m : Memory) (brk : Break) (new : Parts) (none : p.ended ≡ None) (left : new ≡ left_by end (record p { core = c; vectors = v; memory = m; brk = brk })) where
+    pub end_left : is_undone r ≡ false → r ≡ step_end new.ended
+    end_left fine = is ∙ end_by_left end (record p { core = c; vectors = v; memory = m; brk = brk }) none (undone ∙ fine) ∙ ap (λ (x : Parts). step_end x.ended) (sym left)
+
+    pub count_left : r ≡ Going → new.steps ≡ q.steps + 1
+    count_left going =
+        ap (λ (x : Parts). x.steps) left ∙ count_by_left end (record p { core = c; vectors = v; memory = m; brk = brk }) (sym is ∙ going) ∙ ap (λ (x : Parts). x.steps + 1) same
+
+    -- where it wasn't done
+    faulted : is_fault end ≡ true → (c ≡ p.core) × (v ≡ p.vectors) × (brk ≡ p.brk) → new ≡ record q { memory = m }
+    faulted fault kept =
+        left
+        ∙ fault_left end (record p { core = c; vectors = v; memory = m; brk = brk }) fault
+        ∙ ap (λ (x : Core). record p { core = x; vectors = v; memory = m; brk = brk }) kept.0
+        ∙ ap (λ (x : Vectors). record p { vectors = x; memory = m; brk = brk }) kept.1
+        ∙ ap (λ (x : Break). record p { memory = m; brk = x }) kept.2
+        ∙ ap (λ (x : Parts). record x { memory = m }) same
+
+    pub kept_left : (told now : Option (List ℕ)) → (is_fault end ≡ true → (c ≡ p.core) × (v ≡ p.vectors) × (brk ≡ p.brk)) → (is_fault end ≡ true → Stores (action p) p.memory m told now) → is_undone r ≡ true → IsKept q new told now
+    kept_left told now kept stored broken =
+        let fault = undone ∙ broken in
+        let so : new ≡ record q { memory = m } = faulted fault (kept fault) in
+        let memory : new.memory ≡ m = ap (λ (x : Parts). x.memory) so in
+        record {
+          is = so ∙ ap (λ (x : Memory). record q { memory = x }) (sym memory);
+          stored = subst (λ (x : Memory). Stores (action q) q.memory x told now) (sym memory) (subst (λ (x : Parts). Stores (action x) x.memory m told now) same (stored fault));
+        }
+
+    pub unstored_left : (is_fault end ≡ true → (c ≡ p.core) × (v ≡ p.vectors) × (brk ≡ p.brk)) → (is_put_fault end ≡ true → m ≡ p.memory) → is_unput r ≡ true → new ≡ q
+    unstored_left kept stays unput =
+        let put : is_put_fault end ≡ true = sym (unput_by end) ∙ ap is_unput (sym is) ∙ unput in
+        let fault = put_is_fault end put in
+        faulted fault (kept fault) ∙ ap (λ (x : Memory). record q { memory = x }) (stays put ∙ ap (λ (x : Parts). x.memory) same)
+
     made_at : (bytes : List ℕ) → (is_fault end ≡ false → behind end c v m brk ≡ (call (without_steps p) bytes).parts) → is_undone r ≡ false → new ≡ (call_made (with_input q bytes)).parts
     made_at bytes made fine =
         left

@@ -1,11 +1,11 @@
 -- A run, step after step: what has come to the streams so far, and what remains.
-use Rattle.std.proofs.Common.{◌≡◌, ◌<◌, ◌≤◌, ℕ, ◌+◌, ◌-◌, Bool, true, false, List, Option, Some, None, IfSome, MatchBool, is_none, is_some, refl, sym, ap, subst, ◌∙◌, arith, ◌||◌}
+use Rattle.std.proofs.Common.{◌≡◌, ◌<◌, ◌≤◌, ℕ, ◌+◌, ◌-◌, Bool, true, false, List, length, Option, Some, None, IfSome, MatchBool, is_none, is_some, refl, sym, ap, subst, ◌∙◌, arith, ◌||◌}
 use Rattle.emu_model.specs.declared.trap.Ended.{Ended}
 use Rattle.emu_model.specs.declared.trap.Ended.TheVariants.{Exit, Trap}
 use Rattle.emu_model.specs.State.{Parts, State}
 use Rattle.emu_system.specs.Start.{with_input}
 use Rattle.emu_system.specs.SystemCall.{Turn, action, call, quiet}
-use Rattle.emu_run.specs.Step.{step, turn}
+use Rattle.emu_run.specs.Step.{step, taken_by, turn}
 use Rattle.emu_run.specs.Run.{run}
 use Rattle.emu_run.specs.RunLaws.{moves_not, step_moves, until_end_moves, run_moves, run_on, run_ended, run_spent, run_behind}
 use Rattle.emu_machine.specs.declared.ends.StepEnd.{StepEnd}
@@ -14,8 +14,9 @@ use Rattle.emu_machine.specs.declared.ends.RunEnd.{RunEnd}
 use Rattle.emu_machine.specs.declared.ends.RunEnd.TheVariants.{Exit as RunExit, Trap as RunTrap, Spent, ReadFault as RunReadFault, WriteFault as RunWriteFault, ErrorsFault as RunErrorsFault}
 use Rattle.io_gate.specs.Streams.{Causes, Rose}
 use Rattle.linux_calls.specs.Ends.{OfInput}
+use Rattle.linux_calls.specs.Names.{NamesRead}
 use Rattle.emu_system.specs.Gained.{Gains}
-use Rattle.emu_machine.specs.Ends.{Becomes, OfStep, TakesWithin, Puts, PutsAlways, step_end, run_end, run_end_of, is_undone, is_unput, is_broken_off}
+use Rattle.emu_machine.specs.Ends.{Becomes, IsKept, LeftOf, OfStep, TakesWithin, Puts, PutsAlways, step_end, run_end, run_end_of, is_undone, is_unput, is_broken_off}
 use Rattle.emu_machine.specs.Machines.{MachineState, call_made, has_ended, is_at_call}
 use Rattle.emu_machine.proofs.CallLaws.{of_all, of_each}
 use Rattle.emu_machine.proofs.Composed.{Blind, Moving, Came, Comes, Led, Leads, came_at, comes_by, comes_cut, comes_same, comes_still, gains_none, leads_on, leads_end}
@@ -66,6 +67,17 @@ module _ (m p : Parts) (held_old held_new : Option (List ℕ)) (b : Bool) (same 
 
 -- and leaves what the call leaves, and ends as it ends
 module _ (m p : Parts) (b : Bool) (same : p ≡ m) (is : (input : List ℕ) → turn m input ≡ call m input) where
+  stepped_by_call : (bytes : List ℕ) → call_made (with_input p bytes) ≡ step (with_input m bytes)
+  stepped_by_call bytes = ap (λ (x : Parts). call_made (with_input x bytes)) same ∙ ap (λ (t : Turn). taken_by (with_input m bytes) t) (sym (is bytes))
+
+  pub becomes_by_call : (new : Parts) (told left : Option (List ℕ)) → Becomes call_made p new told left b → Becomes step m new told left b
+  becomes_by_call new None left h = tt
+  becomes_by_call new (Some bytes) left h = λ fine. subst (λ (s : State). (new ≡ s.parts) × (left ≡ Some s.input)) (stepped_by_call bytes) (h fine)
+
+  pub takes_by_call : (told left : Option (List ℕ)) → TakesWithin call_made p told left b → TakesWithin step m told left b
+  takes_by_call None left h = tt
+  takes_by_call (Some bytes) left h = λ broken. subst (λ (s : State). LeftOf bytes (length s.input) left) (stepped_by_call bytes) (h broken)
+
   pub ends_by_call : (bytes : List ℕ) (r : StepEnd) → (b ≡ false → r ≡ step_end (call_made (with_input p bytes)).parts.ended) → b ≡ false → r ≡ step_end (step (with_input m bytes)).parts.ended
   ends_by_call bytes r h fine = h fine ∙ ap (λ (x : Parts). step_end (call x bytes).parts.ended) same ∙ ap (λ (t : Turn). step_end t.parts.ended) (sym (is bytes))
 
@@ -240,6 +252,10 @@ failed_as r x failed is f = f ∙ broken_as r ∙ ap is_broken_off (sym is)
 -- a step that goes on has no other answer
 pub going_is_no : (r x : StepEnd) → (Going ≡ x → ⊥) → r ≡ Going → r ≡ x → ⊥
 going_is_no r x other going is = other (sym going ∙ is)
+
+-- a call that wasn't done leaves what x8 and x0 name
+pub still_reads : (p q : Parts) (told left : Option (List ℕ)) → IsKept p q told left → NamesRead p.core → NamesRead q.core
+still_reads p q told left kept names = subst NamesRead (sym (ap (λ (m : Parts). m.core) kept.is)) names
 
 -- a cause in the last step is one in the run, where the count stayed before it
 pub causes_from : (P Q : Type 0) (a b c : ℕ) → b ≡ a → Causes P b c → (Q → P) → (P → Q) → Causes Q a c

@@ -1,21 +1,27 @@
 -- The turn of a step, by its fetch and its instruction.
 use Rattle.std.specs.Prelude.{⊤}
-use Rattle.std.proofs.Common.{◌≡◌, ℕ, ◌%◌, Bool, true, false, ◌&&◌, List, [], Option, Some, None, Ok, Err, is_none, nat_eq, refl, ap, sym, ◌∙◌, eq-eqb, if◌then◌else◌}
+use Rattle.std.proofs.Common.{◌≡◌, ℕ, ◌%◌, ◌+◌, Bool, true, false, ◌&&◌, List, [], Option, Some, None, Ok, Err, is_none, nat_eq, refl, ap, sym, subst, ◌∙◌, eq-eqb, if◌then◌else◌}
 use Rattle.std.proofs.lemmas.Bool.{ne_eqb}
+use Rattle.a64_insn.specs.declared.form.A64Form.TheVariants.{Except}
+use Rattle.a64_insn.specs.declared.ops.ExceptOp.TheVariants.{Svc}
 use Rattle.emu_model.specs.declared.access.Denied.{Denied}
 use Rattle.emu_model.specs.declared.access.Kind.{Kind}
 use Rattle.emu_model.specs.declared.access.Kind.TheVariants.{Fetch}
-use Rattle.emu_model.specs.declared.trap.TrapKind.TheVariants.{PcAlign, Undefined}
+use Rattle.emu_model.specs.declared.trap.TrapKind.{TrapKind}
+use Rattle.emu_model.specs.declared.trap.TrapKind.TheVariants.{PcAlign, Undefined, Fetch as TrapFetch}
 use Rattle.emu_model.specs.Access.{refused, value}
 use Rattle.emu_model.specs.LoadsAndStores.{done_unless}
 use Rattle.emu_model.specs.State.{Parts}
 use Rattle.emu_run.specs.declared.insn.Insn.{Insn}
+use Rattle.emu_run.specs.declared.insn.Insn.TheVariants.{A64}
 use Rattle.emu_run.specs.Step.{accesses, decode, executed, executed_accesses, fetched, fetched_accesses, trapped, turn}
 use Rattle.emu_system.specs.SystemCall.{call, quiet}
-use Rattle.emu_machine.specs.Advances.{MatchCall}
+use Rattle.emu_machine.specs.Advances.{EndsBy, MatchCall}
 use Rattle.emu_machine.specs.declared.ends.Progress.{Progress}
 use Rattle.emu_machine.specs.declared.ends.Progress.TheVariants.{GoesOn, Trapped, AtCall}
-use Rattle.emu_machine.specs.Machines.{is_at_call, is_svc, makes_call}
+use Rattle.emu_machine.specs.Machines.{MachineState, has_ended, is_at_call, is_svc, makes_call}
+use Rattle.emu_machine.proofs.Left.{HasDone}
+use Rattle.emu_machine.proofs.Performed.{not_failed}
 
 -- an access that was done
 pub done_is : (o : Option ℕ) (kind : Kind) (x y : ℕ) → Ok x ≡ done_unless o kind y → (o ≡ None) × (x ≡ y)
@@ -83,3 +89,97 @@ executed_as AtCall insn m n p same turns is = λ input. turns input ∙ ap (λ (
 -- a word that is in no row
 pub undefined_as : (m n : Parts) (word : ℕ) → decode word ≡ None → n ≡ trapped m Undefined m.core.pc → (input : List ℕ) → executed m input (decode word) ≡ quiet n input
 undefined_as m n word none is input = ap (λ (i : Option Insn). executed m input i) none ∙ ap (λ (p : Parts). quiet p input) (sym is)
+
+-- svc accesses no element
+svc_none : (m : Parts) (insn : Option Insn) → is_svc insn ≡ true → executed_accesses m insn ≡ []
+svc_none m (Some (A64 (Except Svc imm16))) is = refl
+svc_none m insn is = cc
+
+pub call_none : (m : Parts) → is_at_call m ≡ true → accesses m ≡ []
+call_none m is = by_fetch (nat_eq (m.core.pc % 4) 0) (refused m.memory m.core.pc 4 Fetch)
+  where
+    by_fetch : (b : Bool) (o : Option ℕ) → (if b then fetched_accesses m o else []) ≡ []
+    by_fetch true None = svc_none m (decode (value m.memory m.core.pc 4)) is
+    by_fetch true (Some a) = refl
+    by_fetch false o = refl
+
+-- ---- a step that traps before its instruction
+
+-- what a step that makes no call makes of a machine
+pub record HasStepped (old new : MachineState) (r : Progress) : Type 0 where
+  pub turn : MatchCall r ((input : List ℕ) → turn old.parts input ≡ call old.parts input) ((input : List ℕ) → turn old.parts input ≡ quiet new.parts input)
+  pub kept : MatchCall r (new ≡ old) (new.failed ≡ false)
+  pub svc : r ≡ AtCall → is_at_call old.parts ≡ true
+  pub alone : MatchCall r ⊤ (makes_call old.parts ≡ false)
+  pub ended : EndsBy r new.parts
+  pub counted : r ≡ GoesOn → new.parts.steps ≡ old.parts.steps + 1
+  pub accesses : new.accesses ≡ accesses old.parts
+  pub saved : new.saved ≡ old.saved
+
+-- `at` is the machine as it traps
+pub has_trapped : (old at new : MachineState) (r : Progress) (kind : TrapKind) (a : ℕ) → at ≡ old → has_ended old ≡ false → old.accesses ≡ [] → r ≡ Trapped
+    → new.parts ≡ trapped at.parts kind a → new.accesses ≡ at.accesses → new.failed ≡ at.failed → new.saved ≡ at.saved
+    → makes_call old.parts ≡ false → ((input : List ℕ) → turn old.parts input ≡ quiet (trapped old.parts kind a) input) → accesses old.parts ≡ [] → HasStepped old new r
+has_trapped old at new r kind a same going clear is parts log failed saved alone turns none =
+    let left : new.parts ≡ trapped old.parts kind a = parts ∙ ap (λ (s : MachineState). trapped s.parts kind a) same in
+    subst (λ (x : Progress). HasStepped old new x) (sym is) (record {
+      turn = λ input. turns input ∙ ap (λ (p : Parts). quiet p input) (sym left);
+      kept = failed ∙ ap (λ (s : MachineState). s.failed) same ∙ not_failed old going;
+      svc = λ h. cc;
+      alone = alone;
+      ended = ap (λ (p : Parts). is_none p.ended) left;
+      counted = λ h. cc;
+      accesses = log ∙ ap (λ (s : MachineState). s.accesses) same ∙ clear ∙ sym none;
+      saved = saved ∙ ap (λ (s : MachineState). s.saved) same;
+    })
+
+-- the program counter isn't a multiple of 4
+module _ (m : Parts) (odd : m.core.pc % 4 ≡ 0 → ⊥) where
+  pub turn_of_odd : (input : List ℕ) → turn m input ≡ quiet (trapped m PcAlign m.core.pc) input
+  turn_of_odd input = ap (λ (b : Bool). if b then fetched m input (refused m.memory m.core.pc 4 Fetch) else quiet (trapped m PcAlign m.core.pc) input) (ne_eqb (m.core.pc % 4) 0 odd)
+
+  pub accesses_of_odd : accesses m ≡ []
+  accesses_of_odd = ap (λ (b : Bool). if b then fetched_accesses m (refused m.memory m.core.pc 4 Fetch) else []) (ne_eqb (m.core.pc % 4) 0 odd)
+
+-- the word can't be fetched
+denied_is : (o : Option ℕ) (y : ℕ) (d : Denied) → Err d ≡ done_unless o Fetch y → o ≡ Some d.address
+denied_is None y d is = cc
+denied_is (Some a) y d is = cc
+
+module _ (m : Parts) (d : Denied) (aligned : m.core.pc % 4 ≡ 0) (is : Err d ≡ done_unless (refused m.memory m.core.pc 4 Fetch) Fetch (value m.memory m.core.pc 4)) where
+  pub turn_of_refused : (input : List ℕ) → turn m input ≡ quiet (trapped m TrapFetch d.address) input
+  turn_of_refused input =
+      ap (λ (b : Bool). if b then fetched m input (refused m.memory m.core.pc 4 Fetch) else quiet (trapped m PcAlign m.core.pc) input) (eq-eqb (m.core.pc % 4) 0 aligned)
+      ∙ ap (λ (o : Option ℕ). fetched m input o) (denied_is (refused m.memory m.core.pc 4 Fetch) (value m.memory m.core.pc 4) d is)
+
+  pub accesses_of_refused : accesses m ≡ []
+  accesses_of_refused =
+      ap (λ (b : Bool). if b then fetched_accesses m (refused m.memory m.core.pc 4 Fetch) else []) (eq-eqb (m.core.pc % 4) 0 aligned)
+      ∙ ap (λ (o : Option ℕ). fetched_accesses m o) (denied_is (refused m.memory m.core.pc 4 Fetch) (value m.memory m.core.pc 4) d is)
+
+-- the word is in no row
+module _ (m : Parts) (word : ℕ) (has : HasFetched m word) (none : decode word ≡ None) where
+  pub turn_of_none : (input : List ℕ) → turn m input ≡ quiet (trapped m Undefined m.core.pc) input
+  turn_of_none input = turn_executes m word has input ∙ ap (λ (i : Option Insn). executed m input i) none
+
+  pub accesses_of_none : accesses m ≡ []
+  accesses_of_none = sym (accesses_of_word m word has) ∙ ap (λ (i : Option Insn). executed_accesses m i) none
+
+  pub makes_no_row : makes_call m ≡ false
+  makes_no_row = sym (makes_of_word m word has) ∙ ap is_svc none
+
+-- ---- a step that does the instruction of its word, on the machine as the fetch left it
+
+pub has_stepped : (word : ℕ) (insn : Option Insn) (old at new : MachineState) (r : Progress) → at ≡ old → HasFetched old.parts word → insn ≡ decode word → HasDone insn at new r → HasStepped old new r
+has_stepped word insn old at new r same has is done =
+    let d : HasDone (decode word) old new r = subst (λ (m : MachineState). HasDone (decode word) m new r) same (subst (λ (i : Option Insn). HasDone i at new r) is done) in
+    record {
+      turn = executed_as r (decode word) old.parts old.parts new.parts refl (turn_executes old.parts word has) d.turn;
+      kept = d.kept;
+      svc = λ h. sym (call_of_word old.parts word has) ∙ d.svc h;
+      alone = alone_as r (is_svc (decode word)) (makes_call old.parts) (makes_of_word old.parts word has) d.alone;
+      ended = d.ended;
+      counted = d.counted;
+      accesses = d.accesses ∙ accesses_of_word old.parts word has;
+      saved = d.saved;
+    }

@@ -1,10 +1,12 @@
 -- Lanes that are given by the same numbers.
-use Rattle.std.proofs.Common.{◌≡◌, ◌/◌, ◌%◌, ◌*◌, ◌^◌, ℕ, Bool, true, false, if◌then◌else◌, refl, ap}
+use Rattle.std.proofs.Common.{◌≡◌, ◌/◌, ◌%◌, ◌*◌, ◌^◌, ◌∙◌, ℕ, Bool, true, false, if◌then◌else◌, refl, ap, ap₂}
 use Rattle.emu_model.specs.ListLaws.{each_same}
 use Rattle.emu_model.specs.State.{Vectors}
 use Rattle.sve_effects.specs.declared.places.Place.{Place}
 use Rattle.sve_effects.specs.declared.places.Place.TheVariants.{FirstLane, Scalar}
-use Rattle.sve_effects.specs.LaneLoop.{lane_of, is_active, merging}
+use Rattle.sve_effects.specs.declared.lane_functions.LaneOp.{LaneOp}
+use Rattle.sve_effects.specs.Lane.{lane_op}
+use Rattle.sve_effects.specs.LaneLoop.{lane_of, is_active, merging, plain}
 use Rattle.sve_effects.specs.Permute.{taken, copy_place}
 use Rattle.sve_effects.specs.PermuteRows.{moved}
 use Rattle.vec_model.specs.Lanes.{with_z, with_lanes, byte_in}
@@ -23,3 +25,10 @@ copied_is e pg scalar zd v =
 -- the same places
 pub spliced_is : (e zn zm zd : ℕ) (v : Vectors) (p q : ℕ → Place) → ((k : ℕ) → p k ≡ q k) → moved e p zn zm 0 zd v ≡ moved e q zn zm 0 zd v
 spliced_is e zn zm zd v p q is = same_lanes e (λ k. taken (lane_of e v zn) (lane_of e v zm) 0 0 (p k)) (λ k. taken (lane_of e v zn) (lane_of e v zm) 0 0 (q k)) zd v (λ k. ap (taken (lane_of e v zn) (lane_of e v zm) 0 0) (is k))
+
+-- an operation on each lane and a count
+pub counted_is : (e e' n n' : ℕ) (op op' : LaneOp) (zdn : ℕ) (v w : Vectors) → w ≡ plain e (λ k. lane_op op e (lane_of e v zdn k) n) zdn v → op ≡ op' → e ≡ e' → n ≡ n'
+    → w ≡ plain e' (λ k. lane_op op' e' (lane_of e' v zdn k) n') zdn v
+counted_is e e' n n' op op' zdn v w is p q r =
+    is ∙ ap₂ (λ (e n : ℕ). plain e (λ k. lane_op op e (lane_of e v zdn k) n) zdn v) q r
+    ∙ ap (λ (op : LaneOp). plain e' (λ k. lane_op op e' (lane_of e' v zdn k) n') zdn v) p

@@ -14,6 +14,11 @@ use Rattle.sve_effects.specs.Predicate.{lanes_of}
 pub length_given : (p : List Bool) (m n : ℕ) (f : ℕ → Bool) → p ≡ each m f → m ≡ n → length p ≡ n
 length_given p m n f e s = ap length e ∙ length-each m f ∙ s
 
+-- what is made of three predicates, as they are read
+pub of_three : (made : ℕ → List Bool → List Bool → List Bool → List Bool) (p g a b : List Bool) (n : ℕ) (g' a' b' : List Bool) → p ≡ made (length g) g a b → length g ≡ n → g ≡ g' → a ≡ a' → b ≡ b' → p ≡ made n g' a' b'
+of_three made p g a b n g' a' b' is count r s t =
+    is ∙ ap (λ (k : ℕ). made k g a b) count ∙ ap (λ (x : List Bool). made n x a b) r ∙ ap (λ (x : List Bool). made n g' x b) s ∙ ap (λ (x : List Bool). made n g' a' x) t
+
 -- the bits of a predicate are whole fields
 pub whole_fields : (e : Esize) (bits m : ℕ) → IsVectorLength bits → m ≡ bits / 8 → m % (size_of e / 8) ≡ 0
 whole_fields B bits m h is = omega arith

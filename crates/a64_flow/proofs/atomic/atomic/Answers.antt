@@ -1,4 +1,4 @@
-use Rattle.std.proofs.Common.{arith, ap, ◌∙◌, ◌≡◌, ◌%◌, ◌^◌, ◌*◌}
+use Rattle.std.proofs.Common.{arith, rules, ap, ◌∙◌, ◌≡◌, ◌%◌, ◌^◌, ◌*◌}
 use Rattle.a64_effects.specs.Atomic as step
 use Rattle.a64_flow.proofs.atomic.atomic.Goals as goal
 
@@ -10,3 +10,15 @@ returns c acquires releases v =
     let new : c.updated-new.result ≡ step.updated c.args.op c.bytes_of-n.result c.in_ok-old.old (step.low_bytes c.bytes_of-n.result c.args.core.now c.args.rs) =
     c.updated-new.ensures ∙ ap (λ b. step.updated c.args.op c.bytes_of-n.result c.in_ok-old.old b) by in
     grind (arith, by, new, c.exchange.ensures c.set_x.new.self v)
+
+pub returns-in_err-test_sp : goal.returns-in_err-test_sp
+returns-in_err-test_sp c = search rules
+
+pub returns-in_err-test_multiple : goal.returns-in_err-test_multiple
+returns-in_err-test_multiple c = search rules
+
+pub returns-in_err-old : goal.returns-in_err-old
+returns-in_err-old c = search rules
+
+pub exchange-requires-clause-writable : goal.exchange-requires-clause-writable
+exchange-requires-clause-writable c = search rules

@@ -10,6 +10,8 @@ use Rattle.commands.specs.Meets.{now}
 use Rattle.commands.proofs.MayEnd.{kind_put}
 use Rattle.commands.proofs.Sessions.{forward_script, is_refused, obeyed_script, of_script, refused_script}
 use Rattle.commands.proofs.Settled.{failed_either}
+use Rattle.emu_outcome.specs.declared.ending.Ending.TheVariants as ends
+use Rattle.commands.proofs.Causing.{ended_cause, ended_other, no_cause}
 use Rattle.commands.proofs.debugger.debug_image.Goals as goal
 
 pub returns-in-Err-Refused-clause-outcome : goal.returns-in-Err-Refused-clause-outcome
@@ -33,3 +35,21 @@ returns-in-Ok-clause-memory_first g c = λ forward. c.debug_script.ensures.memor
 
 pub returns-in-Err-Refused-clause-kind : goal.returns-in-Err-Refused-clause-kind
 returns-in-Err-Refused-clause-kind g c = subst (λ (x : Ending). ends_dbg x ≡ true) (sym c.ending_after_line.ensures) (kind_put ends_dbg c.put_script_refusal.result _ refl refl)
+
+pub returns-in-Err-Refused-clause-read_cause : goal.returns-in-Err-Refused-clause-read_cause
+returns-in-Err-Refused-clause-read_cause g c = no_cause _ (ended_other c.put_script_refusal.result (ends.ScriptRefused _) c.ending_after_line.result ends.ReadFault c.ending_after_line.ensures (λ e. cc) (λ e. cc))
+
+pub returns-in-Err-Refused-clause-write_cause : goal.returns-in-Err-Refused-clause-write_cause
+returns-in-Err-Refused-clause-write_cause g c = no_cause _ (ended_other c.put_script_refusal.result (ends.ScriptRefused _) c.ending_after_line.result ends.WriteFault c.ending_after_line.ensures (λ e. cc) (λ e. cc))
+
+pub returns-in-Err-Refused-clause-errors_cause : goal.returns-in-Err-Refused-clause-errors_cause
+returns-in-Err-Refused-clause-errors_cause g c = ended_cause _ _ c.put_script_refusal.result (ends.ScriptRefused _) c.ending_after_line.result c.ending_after_line.ensures (λ e. cc) c.put_script_refusal.ensures.cause
+
+pub returns-in-Err-Refused-clause-no_file : goal.returns-in-Err-Refused-clause-no_file
+returns-in-Err-Refused-clause-no_file g c = ended_other c.put_script_refusal.result (ends.ScriptRefused _) c.ending_after_line.result ends.FileFault c.ending_after_line.ensures (λ e. cc) (λ e. cc)
+
+pub returns-in-Err-Refused-clause-memory_first : goal.returns-in-Err-Refused-clause-memory_first
+returns-in-Err-Refused-clause-memory_first g c = λ _ e. absurd (ended_other c.put_script_refusal.result (ends.ScriptRefused _) c.ending_after_line.result ends.OutOfMemory c.ending_after_line.ensures (λ e. cc) (λ e. cc) e)
+
+pub returns-in-Err-Refused-clause-memory_unwritten : goal.returns-in-Err-Refused-clause-memory_unwritten
+returns-in-Err-Refused-clause-memory_unwritten g c = λ e. absurd (ended_other c.put_script_refusal.result (ends.ScriptRefused _) c.ending_after_line.result ends.OutOfMemory c.ending_after_line.ensures (λ e. cc) (λ e. cc) e)

@@ -6,6 +6,8 @@ use Rattle.commands.proofs.MayEnd.{kind_put}
 use Rattle.emu_outcome.specs.Outcome.{file_limit}
 use Rattle.commands.specs.Lines.{stops_any}
 use Rattle.emu_outcome.specs.declared.ending.Ending.{Ending}
+use Rattle.emu_outcome.specs.declared.ending.Ending.TheVariants as ends
+use Rattle.commands.proofs.Causing.{ended_cause, ended_other, err_cause, no_cause}
 use Rattle.commands.proofs.files.file_bytes.Goals as goal
 
 pub returns-in-Err-Failed-clause-content : goal.returns-in-Err-Failed-clause-content
@@ -44,3 +46,24 @@ returns-in-Err-OutOfMemory-clause-missing g c = λ missing. absurd (is_there (g.
 
 pub returns-in-Err-TooLong-clause-kind : goal.returns-in-Err-TooLong-clause-kind
 returns-in-Err-TooLong-clause-kind g c = subst (λ (x : Ending). stops_any x ≡ true) (sym c.ending_after_line.ensures) (kind_put stops_any c.put_too_long.result (TooLong file_limit) refl refl)
+
+pub returns-in-Err-TooLong-clause-errors_cause : goal.returns-in-Err-TooLong-clause-errors_cause
+returns-in-Err-TooLong-clause-errors_cause g c = err_cause _ _ _ _ _ refl (ended_cause _ _ c.put_too_long.result (ends.TooLong file_limit) c.ending_after_line.result c.ending_after_line.ensures (λ t. cc) c.put_too_long.ensures.cause)
+
+pub returns-in-Err-TooLong-clause-file_cause : goal.returns-in-Err-TooLong-clause-file_cause
+returns-in-Err-TooLong-clause-file_cause g c = λ fault. absurd (ended_other c.put_too_long.result (ends.TooLong file_limit) c.ending_after_line.result ends.FileFault c.ending_after_line.ensures (λ t. cc) (λ t. cc) (let t : c.ending_after_line.result ≡ ends.FileFault = cc in t))
+
+pub returns-in-Err-TooLong-clause-file_still : goal.returns-in-Err-TooLong-clause-file_still
+returns-in-Err-TooLong-clause-file_still g c = λ fault. absurd (ended_other c.put_too_long.result (ends.TooLong file_limit) c.ending_after_line.result ends.FileFault c.ending_after_line.ensures (λ t. cc) (λ t. cc) (let t : c.ending_after_line.result ≡ ends.FileFault = cc in t))
+
+pub returns-in-Err-TooLong-clause-memory_still : goal.returns-in-Err-TooLong-clause-memory_still
+returns-in-Err-TooLong-clause-memory_still g c = λ wanting. absurd (ended_other c.put_too_long.result (ends.TooLong file_limit) c.ending_after_line.result ends.OutOfMemory c.ending_after_line.ensures (λ t. cc) (λ t. cc) (let t : c.ending_after_line.result ≡ ends.OutOfMemory = cc in t))
+
+pub returns-in-Err-Failed-clause-errors_cause : goal.returns-in-Err-Failed-clause-errors_cause
+returns-in-Err-Failed-clause-errors_cause g c = no_cause _ (λ e. cc)
+
+pub returns-in-Err-Missing-clause-errors_cause : goal.returns-in-Err-Missing-clause-errors_cause
+returns-in-Err-Missing-clause-errors_cause g c = no_cause _ (λ e. cc)
+
+pub returns-in-Err-OutOfMemory-clause-errors_cause : goal.returns-in-Err-OutOfMemory-clause-errors_cause
+returns-in-Err-OutOfMemory-clause-errors_cause g c = no_cause _ (λ e. cc)

@@ -12,7 +12,7 @@ use Rattle.commands.specs.Meets.{now, MeetsLine}
 use Rattle.commands.specs.declared.program.Program.{Program}
 use Rattle.commands.specs.Programs.{outcome_over, debug_line_of, run_line_of, sweep_line_of, threads_line_of}
 use Rattle.commands.proofs.Lines.{cause_of_line, missing_of_line, names_none}
-use Rattle.commands.specs.Lines.{may_end, sweeps, EndsMissing, MissesFirst, TakesLast}
+use Rattle.commands.specs.Lines.{may_end, names_file, sweeps, takes_input, EndsMissing, MissesFirst, TakesLast}
 use Rattle.commands.proofs.NamedFiles.{told_so}
 use Rattle.commands.proofs.line.run_line.Goals as goal
 
@@ -209,3 +209,57 @@ returns-in-Threads-clause-missing_first g c =
 
 pub returns-in-Threads-clause-kind : goal.returns-in-Threads-clause-kind
 returns-in-Threads-clause-kind g c = subst (λ (l : Line). may_end l c.obey_files-in-Threads.result ≡ true) (sym c.in-Threads.is) c.obey_files-in-Threads.ensures.kind
+
+pub returns-in-Run-clause-without_input : goal.returns-in-Run-clause-without_input
+returns-in-Run-clause-without_input g c = λ other. absurd (let t : true ≡ false = sym (ap (λ (l : Line). takes_input (Ok l)) c.in-Run.is) ∙ other in cc)
+
+pub returns-in-Run-clause-no_input : goal.returns-in-Run-clause-no_input
+returns-in-Run-clause-no_input g c = λ other. absurd (let t : true ≡ false = sym (ap (λ (l : Line). takes_input (Ok l)) c.in-Run.is) ∙ other in cc)
+
+pub returns-in-Run-clause-no_errors : goal.returns-in-Run-clause-no_errors
+returns-in-Run-clause-no_errors g c = λ other. absurd (let t : true ≡ false = sym (ap (λ (l : Line). takes_input (Ok l)) c.in-Run.is) ∙ other in cc)
+
+pub returns-in-Run-clause-no_file : goal.returns-in-Run-clause-no_file
+returns-in-Run-clause-no_file g c = λ other. absurd (let t : true ≡ false = sym (ap (λ (l : Line). names_file (Ok l)) c.in-Run.is) ∙ other in cc)
+
+pub returns-in-Dbg-clause-without_input : goal.returns-in-Dbg-clause-without_input
+returns-in-Dbg-clause-without_input g c = λ other. absurd (let t : true ≡ false = sym (ap (λ (l : Line). takes_input (Ok l)) c.in-Dbg.is) ∙ other in cc)
+
+pub returns-in-Dbg-clause-no_input : goal.returns-in-Dbg-clause-no_input
+returns-in-Dbg-clause-no_input g c = λ other. absurd (let t : true ≡ false = sym (ap (λ (l : Line). takes_input (Ok l)) c.in-Dbg.is) ∙ other in cc)
+
+pub returns-in-Dbg-clause-no_errors : goal.returns-in-Dbg-clause-no_errors
+returns-in-Dbg-clause-no_errors g c = λ other. absurd (let t : true ≡ false = sym (ap (λ (l : Line). takes_input (Ok l)) c.in-Dbg.is) ∙ other in cc)
+
+pub returns-in-Dbg-clause-no_file : goal.returns-in-Dbg-clause-no_file
+returns-in-Dbg-clause-no_file g c = λ other. absurd (let t : true ≡ false = sym (ap (λ (l : Line). names_file (Ok l)) c.in-Dbg.is) ∙ other in cc)
+
+pub returns-in-Sweep-clause-without_input : goal.returns-in-Sweep-clause-without_input
+returns-in-Sweep-clause-without_input g c = λ other. absurd (let t : true ≡ false = sym (ap (λ (l : Line). takes_input (Ok l)) c.in-Sweep.is) ∙ other in cc)
+
+pub returns-in-Sweep-clause-no_input : goal.returns-in-Sweep-clause-no_input
+returns-in-Sweep-clause-no_input g c = λ other. absurd (let t : true ≡ false = sym (ap (λ (l : Line). takes_input (Ok l)) c.in-Sweep.is) ∙ other in cc)
+
+pub returns-in-Sweep-clause-no_errors : goal.returns-in-Sweep-clause-no_errors
+returns-in-Sweep-clause-no_errors g c = λ other. absurd (let t : true ≡ false = sym (ap (λ (l : Line). takes_input (Ok l)) c.in-Sweep.is) ∙ other in cc)
+
+pub returns-in-Sweep-clause-no_file : goal.returns-in-Sweep-clause-no_file
+returns-in-Sweep-clause-no_file g c = λ other. absurd (let t : true ≡ false = sym (ap (λ (l : Line). names_file (Ok l)) c.in-Sweep.is) ∙ other in cc)
+
+pub returns-in-Threads-clause-without_input : goal.returns-in-Threads-clause-without_input
+returns-in-Threads-clause-without_input g c = λ other. absurd (let t : true ≡ false = sym (ap (λ (l : Line). takes_input (Ok l)) c.in-Threads.is) ∙ other in cc)
+
+pub returns-in-Threads-clause-no_input : goal.returns-in-Threads-clause-no_input
+returns-in-Threads-clause-no_input g c = λ other. absurd (let t : true ≡ false = sym (ap (λ (l : Line). takes_input (Ok l)) c.in-Threads.is) ∙ other in cc)
+
+pub returns-in-Threads-clause-no_errors : goal.returns-in-Threads-clause-no_errors
+returns-in-Threads-clause-no_errors g c = λ other. absurd (let t : true ≡ false = sym (ap (λ (l : Line). takes_input (Ok l)) c.in-Threads.is) ∙ other in cc)
+
+pub returns-in-Threads-clause-no_file : goal.returns-in-Threads-clause-no_file
+returns-in-Threads-clause-no_file g c = λ other. absurd (let t : true ≡ false = sym (ap (λ (l : Line). names_file (Ok l)) c.in-Threads.is) ∙ other in cc)
+
+pub returns-in-Asm-clause-no_file : goal.returns-in-Asm-clause-no_file
+returns-in-Asm-clause-no_file g c = λ other. absurd (let t : true ≡ false = sym (ap (λ (l : Line). names_file (Ok l)) c.in-Asm.is) ∙ other in cc)
+
+pub returns-in-Dis-clause-no_file : goal.returns-in-Dis-clause-no_file
+returns-in-Dis-clause-no_file g c = λ other. absurd (let t : true ≡ false = sym (ap (λ (l : Line). names_file (Ok l)) c.in-Dis.is) ∙ other in cc)

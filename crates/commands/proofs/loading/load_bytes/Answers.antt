@@ -9,6 +9,8 @@ use Rattle.commands.specs.Lines.{ends_load}
 use Rattle.commands.proofs.LoadPrograms.{lines_put, program_refused}
 use Rattle.commands.proofs.MayEnd.{kind_done, kind_put}
 use Rattle.commands.proofs.Meetings.{nothing_meets}
+use Rattle.emu_outcome.specs.declared.ending.Ending.TheVariants as ends
+use Rattle.commands.proofs.Causing.{done_cause, done_other, ended_cause, ended_loud, ended_other, no_cause}
 use Rattle.commands.proofs.loading.load_bytes.Goals as goal
 
 pub returns-in-Ok-load_lines-clause-outcome : goal.returns-in-Ok-load_lines-clause-outcome
@@ -30,3 +32,54 @@ returns-in-Ok-load_lines-clause-kind g c = subst (λ (x : Ending). ends_load x �
 
 pub returns-in-Err-clause-kind : goal.returns-in-Err-clause-kind
 returns-in-Err-clause-kind g c = subst (λ (x : Ending). ends_load x ≡ true) (sym c.ending_after_line.ensures) (kind_put ends_load c.put_image_refusal.result (ImageRefused c.in-Err.fault) refl refl)
+
+pub returns-in-Err-clause-write_cause : goal.returns-in-Err-clause-write_cause
+returns-in-Err-clause-write_cause g c = no_cause _ (ended_other c.put_image_refusal.result (ends.ImageRefused c.in-Err.fault) c.ending_after_line.result ends.WriteFault c.ending_after_line.ensures (λ e. cc) (λ e. cc))
+
+pub returns-in-Err-clause-errors_cause : goal.returns-in-Err-clause-errors_cause
+returns-in-Err-clause-errors_cause g c = ended_cause _ _ c.put_image_refusal.result (ends.ImageRefused c.in-Err.fault) c.ending_after_line.result c.ending_after_line.ensures (λ e. cc) c.put_image_refusal.ensures.cause
+
+pub returns-in-Err-clause-no_file : goal.returns-in-Err-clause-no_file
+returns-in-Err-clause-no_file g c = ended_other c.put_image_refusal.result (ends.ImageRefused c.in-Err.fault) c.ending_after_line.result ends.FileFault c.ending_after_line.ensures (λ e. cc) (λ e. cc)
+
+pub returns-in-Err-clause-no_read : goal.returns-in-Err-clause-no_read
+returns-in-Err-clause-no_read g c = ended_other c.put_image_refusal.result (ends.ImageRefused c.in-Err.fault) c.ending_after_line.result ends.ReadFault c.ending_after_line.ensures (λ e. cc) (λ e. cc)
+
+pub returns-in-Err-clause-memory_first : goal.returns-in-Err-clause-memory_first
+returns-in-Err-clause-memory_first g c = λ e. absurd (ended_other c.put_image_refusal.result (ends.ImageRefused c.in-Err.fault) c.ending_after_line.result ends.OutOfMemory c.ending_after_line.ensures (λ e. cc) (λ e. cc) e)
+
+pub returns-in-Err-clause-no_errors : goal.returns-in-Err-clause-no_errors
+returns-in-Err-clause-no_errors g c = λ silent. absurd (ended_loud c.put_image_refusal.result (ends.ImageRefused c.in-Err.fault) c.ending_after_line.result c.ending_after_line.ensures refl silent)
+
+pub returns-in-Err-load_lines-clause-write_cause : goal.returns-in-Err-load_lines-clause-write_cause
+returns-in-Err-load_lines-clause-write_cause g c = no_cause _ (λ e. cc)
+
+pub returns-in-Err-load_lines-clause-errors_cause : goal.returns-in-Err-load_lines-clause-errors_cause
+returns-in-Err-load_lines-clause-errors_cause g c = no_cause _ (λ e. cc)
+
+pub returns-in-Err-load_lines-clause-no_file : goal.returns-in-Err-load_lines-clause-no_file
+returns-in-Err-load_lines-clause-no_file g c = λ e. cc
+
+pub returns-in-Err-load_lines-clause-no_read : goal.returns-in-Err-load_lines-clause-no_read
+returns-in-Err-load_lines-clause-no_read g c = λ e. cc
+
+pub returns-in-Err-load_lines-clause-no_errors : goal.returns-in-Err-load_lines-clause-no_errors
+returns-in-Err-load_lines-clause-no_errors g c = λ _. refl
+
+pub returns-in-Ok-load_lines-clause-write_cause : goal.returns-in-Ok-load_lines-clause-write_cause
+returns-in-Ok-load_lines-clause-write_cause g c = done_cause _ _ c.put_all.result c.ending_after_output.result c.ending_after_output.ensures c.put_all.ensures.cause
+
+pub returns-in-Ok-load_lines-clause-errors_cause : goal.returns-in-Ok-load_lines-clause-errors_cause
+returns-in-Ok-load_lines-clause-errors_cause g c = no_cause _ (done_other c.put_all.result c.ending_after_output.result ends.ErrorsFault c.ending_after_output.ensures (λ e. cc) (λ e. cc))
+
+pub returns-in-Ok-load_lines-clause-no_file : goal.returns-in-Ok-load_lines-clause-no_file
+returns-in-Ok-load_lines-clause-no_file g c = done_other c.put_all.result c.ending_after_output.result ends.FileFault c.ending_after_output.ensures (λ e. cc) (λ e. cc)
+
+pub returns-in-Ok-load_lines-clause-no_read : goal.returns-in-Ok-load_lines-clause-no_read
+returns-in-Ok-load_lines-clause-no_read g c = done_other c.put_all.result c.ending_after_output.result ends.ReadFault c.ending_after_output.ensures (λ e. cc) (λ e. cc)
+
+pub returns-in-Ok-load_lines-clause-memory_first : goal.returns-in-Ok-load_lines-clause-memory_first
+returns-in-Ok-load_lines-clause-memory_first g c = λ e. absurd (done_other c.put_all.result c.ending_after_output.result ends.OutOfMemory c.ending_after_output.ensures (λ e. cc) (λ e. cc) e)
+
+pub returns-in-Ok-load_lines-clause-no_errors : goal.returns-in-Ok-load_lines-clause-no_errors
+returns-in-Ok-load_lines-clause-no_errors g c = λ _. refl

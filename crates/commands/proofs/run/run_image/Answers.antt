@@ -10,6 +10,8 @@ use Rattle.commands.proofs.Runs.{of_image, refused_image, opened_image}
 use Rattle.commands.proofs.MayEnd.{kind_put}
 use Rattle.commands.specs.Lines.{ends_run}
 use Rattle.emu_outcome.specs.declared.ending.Ending.{Ending}
+use Rattle.emu_outcome.specs.declared.ending.Ending.TheVariants as ends
+use Rattle.commands.proofs.Causing.{ended_cause, ended_other, no_cause}
 use Rattle.commands.proofs.run.run_image.Goals as goal
 
 pub returns-in-Err-clause-outcome : goal.returns-in-Err-clause-outcome
@@ -32,3 +34,30 @@ returns-in-Ok-open_machine-clause-outcome g c =
 
 pub returns-in-Err-clause-kind : goal.returns-in-Err-clause-kind
 returns-in-Err-clause-kind g c = subst (λ (x : Ending). ends_run x ≡ true) (sym c.ending_after_line.ensures) (kind_put ends_run c.put_image_refusal.result (ImageRefused c.in-Err.fault) refl refl)
+
+pub returns-in-Err-clause-read_cause : goal.returns-in-Err-clause-read_cause
+returns-in-Err-clause-read_cause g c = no_cause _ (ended_other c.put_image_refusal.result (ends.ImageRefused c.in-Err.fault) c.ending_after_line.result ends.ReadFault c.ending_after_line.ensures (λ e. cc) (λ e. cc))
+
+pub returns-in-Err-clause-write_cause : goal.returns-in-Err-clause-write_cause
+returns-in-Err-clause-write_cause g c = no_cause _ (ended_other c.put_image_refusal.result (ends.ImageRefused c.in-Err.fault) c.ending_after_line.result ends.WriteFault c.ending_after_line.ensures (λ e. cc) (λ e. cc))
+
+pub returns-in-Err-clause-errors_cause : goal.returns-in-Err-clause-errors_cause
+returns-in-Err-clause-errors_cause g c = ended_cause _ _ c.put_image_refusal.result (ends.ImageRefused c.in-Err.fault) c.ending_after_line.result c.ending_after_line.ensures (λ e. cc) c.put_image_refusal.ensures.cause
+
+pub returns-in-Err-clause-no_file : goal.returns-in-Err-clause-no_file
+returns-in-Err-clause-no_file g c = ended_other c.put_image_refusal.result (ends.ImageRefused c.in-Err.fault) c.ending_after_line.result ends.FileFault c.ending_after_line.ensures (λ e. cc) (λ e. cc)
+
+pub returns-in-Err-clause-memory_first : goal.returns-in-Err-clause-memory_first
+returns-in-Err-clause-memory_first g c = λ e. absurd (ended_other c.put_image_refusal.result (ends.ImageRefused c.in-Err.fault) c.ending_after_line.result ends.OutOfMemory c.ending_after_line.ensures (λ e. cc) (λ e. cc) e)
+
+pub returns-in-Err-open_machine-clause-read_cause : goal.returns-in-Err-open_machine-clause-read_cause
+returns-in-Err-open_machine-clause-read_cause g c = no_cause _ (λ e. cc)
+
+pub returns-in-Err-open_machine-clause-write_cause : goal.returns-in-Err-open_machine-clause-write_cause
+returns-in-Err-open_machine-clause-write_cause g c = no_cause _ (λ e. cc)
+
+pub returns-in-Err-open_machine-clause-errors_cause : goal.returns-in-Err-open_machine-clause-errors_cause
+returns-in-Err-open_machine-clause-errors_cause g c = no_cause _ (λ e. cc)
+
+pub returns-in-Err-open_machine-clause-no_file : goal.returns-in-Err-open_machine-clause-no_file
+returns-in-Err-open_machine-clause-no_file g c = λ e. cc

@@ -4,6 +4,10 @@ use Rattle.commands.proofs.Meetings.{broken_run, reported_run}
 use Rattle.commands.proofs.MayEnd.{kind_put, kind_run}
 use Rattle.commands.specs.Lines.{ends_run}
 use Rattle.emu_outcome.specs.declared.ending.Ending.{Ending}
+use Rattle.emu_machine.specs.declared.ends.RunEnd.{RunEnd}
+use Rattle.emu_outcome.specs.declared.ending.Ending.TheVariants.{FileFault, ReadFault, WriteFault, ErrorsFault, OutOfMemory}
+use Rattle.commands.specs.Endings.{ending_by}
+use Rattle.commands.proofs.Causing.{cause_as, cause_behind, cause_of_none, ended_cause, ended_other, not_failed, run_fails, run_no_file, run_no_memory, run_reads, run_writes}
 use Rattle.commands.proofs.run.run_machine.Goals as goal
 
 pub returns-then-is_failure-clause-outcome : goal.returns-then-is_failure-clause-outcome
@@ -24,3 +28,33 @@ pub returns-clause-kind : goal.returns-clause-kind
 returns-clause-kind g c =
     subst (λ (x : Ending). ends_run x ≡ true) (sym c.ending_after_line.ensures)
     (kind_put ends_run c.put_report.result c.ending_of_run-ending.result refl (subst (λ (x : Ending). ends_run x ≡ true) (sym c.ending_of_run-ending.ensures) (kind_run c.run-end.result c.pc.result)))
+
+pub returns-then-is_failure-clause-read_cause : goal.returns-then-is_failure-clause-read_cause
+returns-then-is_failure-clause-read_cause g c = cause_as _ _ (λ e. run_reads c.run-end.result c.pc.result (sym c.ending_of_run-ending.ensures ∙ e)) (λ e. c.ending_of_run-ending.ensures ∙ ap (λ (r : RunEnd). ending_by r c.pc.result) e) c.run-end.ensures.read_cause
+
+pub returns-then-is_failure-clause-write_cause : goal.returns-then-is_failure-clause-write_cause
+returns-then-is_failure-clause-write_cause g c = cause_as _ _ (λ e. run_writes c.run-end.result c.pc.result (sym c.ending_of_run-ending.ensures ∙ e)) (λ e. c.ending_of_run-ending.ensures ∙ ap (λ (r : RunEnd). ending_by r c.pc.result) e) c.run-end.ensures.write_cause
+
+pub returns-then-is_failure-clause-errors_cause : goal.returns-then-is_failure-clause-errors_cause
+returns-then-is_failure-clause-errors_cause g c = cause_as _ _ (λ e. run_fails c.run-end.result c.pc.result (sym c.ending_of_run-ending.ensures ∙ e)) (λ e. c.ending_of_run-ending.ensures ∙ ap (λ (r : RunEnd). ending_by r c.pc.result) e) c.run-end.ensures.errors_cause
+
+pub returns-then-is_failure-clause-no_file : goal.returns-then-is_failure-clause-no_file
+returns-then-is_failure-clause-no_file g c = λ e. run_no_file c.run-end.result c.pc.result (sym c.ending_of_run-ending.ensures ∙ e)
+
+pub returns-then-is_failure-clause-no_memory : goal.returns-then-is_failure-clause-no_memory
+returns-then-is_failure-clause-no_memory g c = λ e. run_no_memory c.run-end.result c.pc.result (sym c.ending_of_run-ending.ensures ∙ e)
+
+pub returns-clause-read_cause : goal.returns-clause-read_cause
+returns-clause-read_cause g c = cause_of_none _ _ (λ e. not_failed c.ending_of_run-ending.result ReadFault (sym c.is_failure.ensures ∙ c.if-is_failure.false) refl (c.ending_of_run-ending.ensures ∙ ap (λ (r : RunEnd). ending_by r c.pc.result) e)) (ended_other c.put_report.result c.ending_of_run-ending.result c.ending_after_line.result ReadFault c.ending_after_line.ensures (λ e. cc) (not_failed c.ending_of_run-ending.result ReadFault (sym c.is_failure.ensures ∙ c.if-is_failure.false) refl)) c.run-end.ensures.read_cause
+
+pub returns-clause-write_cause : goal.returns-clause-write_cause
+returns-clause-write_cause g c = cause_of_none _ _ (λ e. not_failed c.ending_of_run-ending.result WriteFault (sym c.is_failure.ensures ∙ c.if-is_failure.false) refl (c.ending_of_run-ending.ensures ∙ ap (λ (r : RunEnd). ending_by r c.pc.result) e)) (ended_other c.put_report.result c.ending_of_run-ending.result c.ending_after_line.result WriteFault c.ending_after_line.ensures (λ e. cc) (not_failed c.ending_of_run-ending.result WriteFault (sym c.is_failure.ensures ∙ c.if-is_failure.false) refl)) c.run-end.ensures.write_cause
+
+pub returns-clause-errors_cause : goal.returns-clause-errors_cause
+returns-clause-errors_cause g c = cause_behind _ _ _ (λ e. not_failed c.ending_of_run-ending.result ErrorsFault (sym c.is_failure.ensures ∙ c.if-is_failure.false) refl (c.ending_of_run-ending.ensures ∙ ap (λ (r : RunEnd). ending_by r c.pc.result) e)) c.run-end.ensures.errors_cause (ended_cause _ _ c.put_report.result c.ending_of_run-ending.result c.ending_after_line.result c.ending_after_line.ensures (not_failed c.ending_of_run-ending.result ErrorsFault (sym c.is_failure.ensures ∙ c.if-is_failure.false) refl) c.put_report.ensures.cause)
+
+pub returns-clause-no_file : goal.returns-clause-no_file
+returns-clause-no_file g c = ended_other c.put_report.result c.ending_of_run-ending.result c.ending_after_line.result FileFault c.ending_after_line.ensures (λ e. cc) (not_failed c.ending_of_run-ending.result FileFault (sym c.is_failure.ensures ∙ c.if-is_failure.false) refl)
+
+pub returns-clause-no_memory : goal.returns-clause-no_memory
+returns-clause-no_memory g c = ended_other c.put_report.result c.ending_of_run-ending.result c.ending_after_line.result OutOfMemory c.ending_after_line.ensures (λ e. cc) (not_failed c.ending_of_run-ending.result OutOfMemory (sym c.is_failure.ensures ∙ c.if-is_failure.false) refl)

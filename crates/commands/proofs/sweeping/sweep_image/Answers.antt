@@ -10,6 +10,8 @@ use Rattle.commands.specs.Lines.{ends_sweep}
 use Rattle.commands.proofs.MayEnd.{kind_put, swept_sweep}
 use Rattle.commands.proofs.Sweeps.{accepts_it, lines_over, settles_as, takes_all}
 use Rattle.commands.proofs.WholeInputs.{long_meets, read_meets, stops_as, unread_meets}
+use Rattle.emu_outcome.specs.declared.ending.Ending.TheVariants as ends
+use Rattle.commands.proofs.Causing.{ended_cause, ended_other, no_cause}
 use Rattle.commands.proofs.sweeping.sweep_image.Goals as goal
 
 pub returns-in-Ok-clause-outcome : goal.returns-in-Ok-clause-outcome
@@ -57,3 +59,12 @@ returns-in-Ok-clause-kind g c = swept_sweep c.sweep_input.result c.sweep_input.e
 
 pub returns-in-Err-TooLong-clause-kind : goal.returns-in-Err-TooLong-clause-kind
 returns-in-Err-TooLong-clause-kind g c = subst (λ (x : Ending). ends_sweep x ≡ true) (sym c.ending_after_line.ensures) (kind_put ends_sweep c.put_too_long.result (TooLong stream_limit) refl refl)
+
+pub returns-in-Err-TooLong-clause-write_cause : goal.returns-in-Err-TooLong-clause-write_cause
+returns-in-Err-TooLong-clause-write_cause g c = no_cause _ (ended_other c.put_too_long.result (ends.TooLong stream_limit) c.ending_after_line.result ends.WriteFault c.ending_after_line.ensures (λ e. cc) (λ e. cc))
+
+pub returns-in-Err-TooLong-clause-errors_cause : goal.returns-in-Err-TooLong-clause-errors_cause
+returns-in-Err-TooLong-clause-errors_cause g c = ended_cause _ _ c.put_too_long.result (ends.TooLong stream_limit) c.ending_after_line.result c.ending_after_line.ensures (λ e. cc) c.put_too_long.ensures.cause
+
+pub returns-in-Err-TooLong-clause-no_file : goal.returns-in-Err-TooLong-clause-no_file
+returns-in-Err-TooLong-clause-no_file g c = ended_other c.put_too_long.result (ends.TooLong stream_limit) c.ending_after_line.result ends.FileFault c.ending_after_line.ensures (λ e. cc) (λ e. cc)

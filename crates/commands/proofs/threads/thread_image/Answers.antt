@@ -12,6 +12,8 @@ use Rattle.commands.specs.Meets.{now}
 use Rattle.commands.proofs.MayEnd.{kind_put}
 use Rattle.commands.proofs.Meetings.{nothing_meets}
 use Rattle.commands.proofs.Worlds.{followed_schedule, is_refused, of_schedule, refused_schedule}
+use Rattle.emu_outcome.specs.declared.ending.Ending.TheVariants as ends
+use Rattle.commands.proofs.Causing.{ended_cause, ended_other, no_cause}
 use Rattle.commands.proofs.threads.thread_image.Goals as goal
 
 pub returns-in-Err-Refused-clause-outcome : goal.returns-in-Err-Refused-clause-outcome
@@ -38,3 +40,18 @@ returns-clause-outcome g c =
 
 pub returns-in-Err-Refused-clause-kind : goal.returns-in-Err-Refused-clause-kind
 returns-in-Err-Refused-clause-kind g c = subst (λ (x : Ending). ends_threads x ≡ true) (sym c.ending_after_line.ensures) (kind_put ends_threads c.put_schedule_refusal.result _ refl refl)
+
+pub returns-in-Err-Refused-clause-read_cause : goal.returns-in-Err-Refused-clause-read_cause
+returns-in-Err-Refused-clause-read_cause g c = no_cause _ (ended_other c.put_schedule_refusal.result (ends.ScheduleRefused _) c.ending_after_line.result ends.ReadFault c.ending_after_line.ensures (λ e. cc) (λ e. cc))
+
+pub returns-in-Err-Refused-clause-write_cause : goal.returns-in-Err-Refused-clause-write_cause
+returns-in-Err-Refused-clause-write_cause g c = no_cause _ (ended_other c.put_schedule_refusal.result (ends.ScheduleRefused _) c.ending_after_line.result ends.WriteFault c.ending_after_line.ensures (λ e. cc) (λ e. cc))
+
+pub returns-in-Err-Refused-clause-errors_cause : goal.returns-in-Err-Refused-clause-errors_cause
+returns-in-Err-Refused-clause-errors_cause g c = ended_cause _ _ c.put_schedule_refusal.result (ends.ScheduleRefused _) c.ending_after_line.result c.ending_after_line.ensures (λ e. cc) c.put_schedule_refusal.ensures.cause
+
+pub returns-in-Err-Refused-clause-no_file : goal.returns-in-Err-Refused-clause-no_file
+returns-in-Err-Refused-clause-no_file g c = ended_other c.put_schedule_refusal.result (ends.ScheduleRefused _) c.ending_after_line.result ends.FileFault c.ending_after_line.ensures (λ e. cc) (λ e. cc)
+
+pub returns-in-Err-Refused-clause-memory_first : goal.returns-in-Err-Refused-clause-memory_first
+returns-in-Err-Refused-clause-memory_first g c = λ e. absurd (ended_other c.put_schedule_refusal.result (ends.ScheduleRefused _) c.ending_after_line.result ends.OutOfMemory c.ending_after_line.ensures (λ e. cc) (λ e. cc) e)

@@ -6,6 +6,8 @@ use Rattle.commands.specs.Programs.{arguments_of}
 use Rattle.commands.specs.Meets.{now}
 use Rattle.commands.specs.SecondFiles.{ends_by, text_reads_first}
 use Rattle.commands.proofs.TwoFiles.{accepted_by, refused_by, refuses_kind}
+use Rattle.emu_outcome.specs.declared.ending.Ending.TheVariants as ends
+use Rattle.commands.proofs.Causing.{ended_cause, ended_other, no_cause}
 use Rattle.commands.proofs.two_files.obey_bytes.Goals as goal
 
 pub returns-in-Err-clause-outcome : goal.returns-in-Err-clause-outcome
@@ -22,3 +24,21 @@ returns-in-Ok-clause-outcome g c =
 
 pub returns-in-Err-clause-kind : goal.returns-in-Err-clause-kind
 returns-in-Err-clause-kind g c = subst (λ (x : Ending). ends_by c.args.second x ≡ true) (sym c.ending_after_line.ensures) (refuses_kind c.args.second c.put_image_refusal.result c.in-Err.fault)
+
+pub returns-in-Err-clause-read_cause : goal.returns-in-Err-clause-read_cause
+returns-in-Err-clause-read_cause g c = no_cause _ (ended_other c.put_image_refusal.result (ends.ImageRefused c.in-Err.fault) c.ending_after_line.result ends.ReadFault c.ending_after_line.ensures (λ e. cc) (λ e. cc))
+
+pub returns-in-Err-clause-write_cause : goal.returns-in-Err-clause-write_cause
+returns-in-Err-clause-write_cause g c = no_cause _ (ended_other c.put_image_refusal.result (ends.ImageRefused c.in-Err.fault) c.ending_after_line.result ends.WriteFault c.ending_after_line.ensures (λ e. cc) (λ e. cc))
+
+pub returns-in-Err-clause-errors_cause : goal.returns-in-Err-clause-errors_cause
+returns-in-Err-clause-errors_cause g c = ended_cause _ _ c.put_image_refusal.result (ends.ImageRefused c.in-Err.fault) c.ending_after_line.result c.ending_after_line.ensures (λ e. cc) c.put_image_refusal.ensures.cause
+
+pub returns-in-Err-clause-no_file : goal.returns-in-Err-clause-no_file
+returns-in-Err-clause-no_file g c = ended_other c.put_image_refusal.result (ends.ImageRefused c.in-Err.fault) c.ending_after_line.result ends.FileFault c.ending_after_line.ensures (λ e. cc) (λ e. cc)
+
+pub returns-in-Err-clause-memory_first : goal.returns-in-Err-clause-memory_first
+returns-in-Err-clause-memory_first g c = λ _ e. absurd (ended_other c.put_image_refusal.result (ends.ImageRefused c.in-Err.fault) c.ending_after_line.result ends.OutOfMemory c.ending_after_line.ensures (λ e. cc) (λ e. cc) e)
+
+pub returns-in-Err-clause-memory_unwritten : goal.returns-in-Err-clause-memory_unwritten
+returns-in-Err-clause-memory_unwritten g c = λ e. absurd (ended_other c.put_image_refusal.result (ends.ImageRefused c.in-Err.fault) c.ending_after_line.result ends.OutOfMemory c.ending_after_line.ensures (λ e. cc) (λ e. cc) e)

@@ -1,6 +1,6 @@
-use Rattle.std.proofs.Common.{inl, inr, ℕ, List, [], get_or, Option, Err, IfSome, map, string_bytes, sym, ap, subst}
+use Rattle.std.proofs.Common.{inl, inr, ℕ, List, [], get_or, Option, Err, IfSome, map, string_bytes, sym, ap, subst, ◌≡◌, refl}
 use Rattle.io_gate.specs.Images.{MissesNamed}
-use Rattle.io_gate.specs.Streams.{Rose}
+use Rattle.io_gate.specs.Streams.{Rose, Causes}
 use Rattle.emu_outcome.specs.Outcome.{Outcome, Files, file_at}
 use Rattle.emu_outcome.specs.declared.ending.Ending.{Ending}
 use Rattle.emu_system.specs.Image.{elf}
@@ -13,6 +13,8 @@ use Rattle.commands.specs.declared.two_files.SecondFile.{SecondFile}
 use Rattle.commands.proofs.NamedFiles.{found_file_by, names_missing, over, over_two, second_misses, second_missing, unread_file, unread_missing}
 use Rattle.commands.proofs.Settled.{unread_either}
 use Rattle.commands.proofs.MayEnd.{stops_by}
+use Rattle.emu_outcome.specs.declared.ending.Ending.TheVariants as ends
+use Rattle.commands.proofs.Causing.{no_cause, unread_cause, unread_no_read, unread_no_write}
 use Rattle.commands.proofs.two_files.obey_files.Goals as goal
 
 -- what comes of the bytes of both files
@@ -73,3 +75,15 @@ returns-in-Err-clause-missing g c = λ names.
 
 pub returns-in-Err-clause-kind : goal.returns-in-Err-clause-kind
 returns-in-Err-clause-kind g c = stops_by c.args.second c.in-Err.ending c.in-Err.ensures.kind
+
+pub returns-in-Err-clause-read_cause : goal.returns-in-Err-clause-read_cause
+returns-in-Err-clause-read_cause g c = no_cause _ (unread_no_read (g.F.Images.named c.args.files.now) c.word.result.now c.in-Err.ending c.in-Err.ensures.unread)
+
+pub returns-in-Err-clause-write_cause : goal.returns-in-Err-clause-write_cause
+returns-in-Err-clause-write_cause g c = no_cause _ (unread_no_write (g.F.Images.named c.args.files.now) c.word.result.now c.in-Err.ending c.in-Err.ensures.unread)
+
+pub returns-in-Err-clause-errors_cause : goal.returns-in-Err-clause-errors_cause
+returns-in-Err-clause-errors_cause g c = unread_cause _ _ _ _ _ refl c.in-Err.ensures.errors_cause
+
+pub returns-in-Ok-clause-errors_cause : goal.returns-in-Ok-clause-errors_cause
+returns-in-Ok-clause-errors_cause g c = subst (λ (n : ℕ). Causes (c.obey_second.result ≡ ends.ErrorsFault) n (g.E.Sink.faults c.obey_second.new.errors)) (ap g.E.Sink.faults c.in-Ok.ensures.read_still) c.obey_second.ensures.errors_cause

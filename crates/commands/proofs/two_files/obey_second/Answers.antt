@@ -1,4 +1,7 @@
-use Rattle.std.proofs.Common.{ℕ, List, Option, Some, map, string_bytes, ap}
+use Rattle.std.proofs.Common.{ℕ, List, Option, Some, map, string_bytes, ap, ◌≡◌, refl, subst, ◌⊎◌, Err}
+use Rattle.emu_outcome.specs.declared.ending.Ending.{Ending}
+use Rattle.io_gate.specs.Images.{MissesNamed}
+use Rattle.io_gate.specs.Streams.{Causes, Rose}
 use Rattle.emu_outcome.specs.Outcome.{Outcome, Files, file_at}
 use Rattle.emu_system.specs.Image.{elf}
 use Rattle.commands.specs.Programs.{arguments_of}
@@ -10,6 +13,8 @@ use Rattle.commands.proofs.NamedFiles.{over, told_so, unread_file}
 use Rattle.commands.proofs.Settled.{unread_either}
 use Rattle.commands.proofs.TwoFiles.{found_second, read_later}
 use Rattle.commands.proofs.MayEnd.{stops_by}
+use Rattle.emu_outcome.specs.declared.ending.Ending.TheVariants as ends
+use Rattle.commands.proofs.Causing.{no_cause, unread_cause, unread_no_read, unread_no_write}
 use Rattle.commands.proofs.two_files.obey_second.Goals as goal
 
 -- what comes of the bytes of the second file
@@ -37,3 +42,25 @@ returns-in-Ok-clause-memory_first g c = λ later.
 
 pub returns-in-Err-clause-kind : goal.returns-in-Err-clause-kind
 returns-in-Err-clause-kind g c = stops_by c.args.second c.in-Err.ending c.in-Err.ensures.kind
+
+pub returns-in-Err-clause-read_cause : goal.returns-in-Err-clause-read_cause
+returns-in-Err-clause-read_cause g c = no_cause _ (unread_no_read (g.F.Images.named c.args.files.now) c.word.result.now c.in-Err.ending c.in-Err.ensures.unread)
+
+pub returns-in-Err-clause-write_cause : goal.returns-in-Err-clause-write_cause
+returns-in-Err-clause-write_cause g c = no_cause _ (unread_no_write (g.F.Images.named c.args.files.now) c.word.result.now c.in-Err.ending c.in-Err.ensures.unread)
+
+pub returns-in-Err-clause-errors_cause : goal.returns-in-Err-clause-errors_cause
+returns-in-Err-clause-errors_cause g c = unread_cause _ _ _ _ _ refl c.in-Err.ensures.errors_cause
+
+pub returns-in-Ok-clause-errors_cause : goal.returns-in-Ok-clause-errors_cause
+returns-in-Ok-clause-errors_cause g c = subst (λ (n : ℕ). Causes (c.obey_bytes.result ≡ ends.ErrorsFault) n (g.E.Sink.faults c.obey_bytes.new.errors)) (ap g.E.Sink.faults c.in-Ok.ensures.read_still) c.obey_bytes.ensures.errors_cause
+
+pub returns-in-Ok-clause-file_cause : goal.returns-in-Ok-clause-file_cause
+returns-in-Ok-clause-file_cause g c = λ fault. absurd (c.obey_bytes.ensures.no_file fault)
+
+pub returns-in-Ok-clause-file_first : goal.returns-in-Ok-clause-file_first
+returns-in-Ok-clause-file_first g c = λ fault. absurd (c.obey_bytes.ensures.no_file fault)
+
+pub returns-in-Err-clause-file_cause : goal.returns-in-Err-clause-file_cause
+returns-in-Err-clause-file_cause g c = λ fault.
+    subst (λ (name : List ℕ). Rose (g.F.Images.faults c.args.files.now) (g.F.Images.faults c.file_bytes.new.files) ⊎ MissesNamed (g.F.Images.named c.args.files.now) name) c.word.ensures (c.in-Err.ensures.file_cause (ap (λ (x : Ending). Err x) fault))

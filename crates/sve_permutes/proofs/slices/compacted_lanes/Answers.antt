@@ -24,3 +24,23 @@ returns g c =
     (λ k h. permuted_mod g.T.Lane.number e n m (length front) c.lanes_in-a.result c.lanes_in-a.result c.compact.new.out a a (λ l. compact_place (active_by (take m c.flags_in-mask.result)) l) same long
     c.lanes_in-a.ensures.lanes c.lanes_in-a.ensures.above c.lanes_in-a.ensures.lanes c.lanes_in-a.ensures.above count c.compact.ensures k h
     ∙ ap (λ (act : ℕ → Bool). taken a a 0 0 (compact_place act n k) % 2 ^ e) active)
+
+pub split_at_mut-front-requires : goal.split_at_mut-front-requires
+split_at_mut-front-requires g c =
+    let same : c.bits.result / c.BITS.result ≡ c.args.vec.now.bits / g.T.Lane.BITS = ap₂ (λ x y. x / y) (c.bits.ensures.value ∙ c.length.ensures.value) c.BITS.ensures in
+    omega arith
+
+pub compact-requires-clause-mask : goal.compact-requires-clause-mask
+compact-requires-clause-mask g c =
+    let same : c.bits.result / c.BITS.result ≡ c.args.vec.now.bits / g.T.Lane.BITS = ap₂ (λ x y. x / y) (c.bits.ensures.value ∙ c.length.ensures.value) c.BITS.ensures in
+    omega arith
+
+pub compact-requires-clause-first : goal.compact-requires-clause-first
+compact-requires-clause-first g c =
+    let same : c.bits.result / c.BITS.result ≡ c.args.vec.now.bits / g.T.Lane.BITS = ap₂ (λ x y. x / y) (c.bits.ensures.value ∙ c.length.ensures.value) c.BITS.ensures in
+    omega arith
+
+pub set_lanes-requires : goal.set_lanes-requires
+set_lanes-requires g c =
+    let same : c.bits.result / c.BITS.result ≡ c.args.vec.now.bits / g.T.Lane.BITS = ap₂ (λ x y. x / y) (c.bits.ensures.value ∙ c.length.ensures.value) c.BITS.ensures in
+    omega arith

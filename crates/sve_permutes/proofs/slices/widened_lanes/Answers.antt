@@ -5,7 +5,7 @@ use Rattle.sve_effects.specs.Lane.{extended_by}
 use Rattle.sve_effects.specs.LaneLoop.{lane_of}
 use Rattle.sve_effects.specs.Permute.{taken, half_place}
 use Rattle.sve_effects.specs.PermuteRows.{is_high, is_signed}
-use Rattle.sve_permutes.proofs.LaneArrays.{cut_lanes, half_lanes, extended_mod}
+use Rattle.sve_permutes.proofs.LaneArrays.{cut_lanes, half_lanes, lanes_few, extended_mod}
 use Rattle.sve_permutes.proofs.slices.widened_lanes.Goals as goal
 
 pub returns : goal.returns
@@ -37,3 +37,27 @@ returns g c =
     ∙ ap (λ l. extended_by s e h (number_at f (take (2 * m) lanes) (hi * l + k))) count
     ∙ extended_mod s e h (number_at f (take (2 * m) lanes) (hi * n + k)) (a (hi * n + k)) less cut (c.lanes_in-a.ensures.small (hi * n + k))
     ∙ ap (λ h. extended_by s e h (lane_of h v c.args.zn (hi * n + k)) % 2 ^ e) (sym half))
+
+pub split_at_mut-front-requires : goal.split_at_mut-front-requires
+split_at_mut-front-requires g c =
+    let same : c.bits.result / c.BITS.result ≡ c.args.vec.now.bits / g.T.Lane.BITS = ap₂ (λ x y. x / y) (c.bits.ensures.value ∙ c.length.ensures.value) c.BITS.ensures in
+    let few : c.args.vec.now.bits / g.T.Lane.BITS ≤ g.row.N = lanes_few g.T.Lane.BITS g.row.N c.args.vec.now.bits g.met.T.Lane.width c.length.ensures.length c.requires.whole in
+    omega arith
+
+pub set_lanes-requires : goal.set_lanes-requires
+set_lanes-requires g c =
+    let same : c.bits.result / c.BITS.result ≡ c.args.vec.now.bits / g.T.Lane.BITS = ap₂ (λ x y. x / y) (c.bits.ensures.value ∙ c.length.ensures.value) c.BITS.ensures in
+    let few : c.args.vec.now.bits / g.T.Lane.BITS ≤ g.row.N = lanes_few g.T.Lane.BITS g.row.N c.args.vec.now.bits g.met.T.Lane.width c.length.ensures.length c.requires.whole in
+    omega arith
+
+pub overflow_mul-n : goal.overflow_mul-n
+overflow_mul-n g c =
+    let same : c.bits.result / c.BITS.result ≡ c.args.vec.now.bits / g.T.Lane.BITS = ap₂ (λ x y. x / y) (c.bits.ensures.value ∙ c.length.ensures.value) c.BITS.ensures in
+    let twice : c.args.vec.now.bits / g.H.Lane.BITS ≡ 2 * (c.args.vec.now.bits / g.T.Lane.BITS) = half_lanes g.T.Lane.BITS g.H.Lane.BITS c.args.vec.now.bits g.met.H.Lane.width c.length.ensures.length c.requires.bits in
+    omega arith
+
+pub widen-requires-clause-lanes : goal.widen-requires-clause-lanes
+widen-requires-clause-lanes g c =
+    let same : c.bits.result / c.BITS.result ≡ c.args.vec.now.bits / g.T.Lane.BITS = ap₂ (λ x y. x / y) (c.bits.ensures.value ∙ c.length.ensures.value) c.BITS.ensures in
+    let twice : c.args.vec.now.bits / g.H.Lane.BITS ≡ 2 * (c.args.vec.now.bits / g.T.Lane.BITS) = half_lanes g.T.Lane.BITS g.H.Lane.BITS c.args.vec.now.bits g.met.H.Lane.width c.length.ensures.length c.requires.bits in
+    omega arith

@@ -1,8 +1,13 @@
-use Rattle.std.proofs.Common.{◌≡◌, Some, None, ap, ◌∙◌}
+use Rattle.std.proofs.Common.{◌≡◌, Some, None, refl, ap, subst, ◌∙◌}
 use Rattle.emu_model.specs.State.{Core, Parts, Vectors}
-use Rattle.emu_machine.specs.Machines.{MachineState}
-use Rattle.emu_machine.proofs.CallLaws.{end_made, errors_made, not_ended, output_made, parts_made, state_made, taken_within}
+use Rattle.linux_calls.specs.declared.end.CallEnd.TheVariants.{ReadFault as CallReadFault, WriteFault as CallWriteFault, ErrorsFault as CallErrorsFault}
+use Rattle.linux_calls.specs.Names.{NamesRead, NamesWrite}
+use Rattle.emu_machine.specs.declared.ends.StepEnd.TheVariants.{ReadFault, WriteFault, ErrorsFault}
+use Rattle.emu_machine.specs.Ends.{step_by}
+use Rattle.emu_machine.specs.Machines.{MachineState, has_ended}
+use Rattle.emu_machine.proofs.CallLaws.{count_left, end_left, end_made, ended_as, errors_made, kept_left, not_ended, output_made, parts_made, state_made, taken_within, undone, unstored_left}
 use Rattle.emu_machine.proofs.Kept.{left_keeps}
+use Rattle.emu_machine.proofs.Runs.{causes_from}
 use Rattle.emu_machine.proofs.machine.Machine.call.Goals as goal
 
 abbrev before : (g : _) → goal.After-leave g → Parts
@@ -19,39 +24,47 @@ seen g c =
 going : (g : _) (c : goal.After-leave g) → (before g c).ended ≡ None
 going g c = ap (λ (s : MachineState). s.parts.ended) c.self.view_is ∙ not_ended c.args.self.now.parts.ended c.args.self.now.failed c.requires.going
 
-pub returns-clause-state : goal.returns-clause-state
-returns-clause-state g c =
-    state_made c.call-end.result c.leave.result (before g c) c.args.self.now.parts c.leave.ensures.end (seen g c)
-    c.call-end.new.core c.call-end.new.vec c.call-end.new.mem c.call-end.new.brk c.leave.new.self.parts (going g c) c.leave.ensures.parts (g.I.Source.left c.args.input.now) (g.I.Source.left c.call-end.new.input)
-    c.call-end.ensures.state c.call-end.ensures.input
+pub leave-requires-clause-going : goal.leave-requires-clause-going
+leave-requires-clause-going g c = ap has_ended c.self.view_is ∙ c.requires.going
 
-pub returns-clause-machine : goal.returns-clause-machine
-returns-clause-machine g c =
-    parts_made c.call-end.result c.leave.result (before g c) c.args.self.now.parts c.leave.ensures.end (seen g c)
-    c.call-end.new.core c.call-end.new.vec c.call-end.new.mem c.call-end.new.brk c.leave.new.self.parts (going g c) c.leave.ensures.parts (g.I.Source.left c.args.input.now) c.call-end.ensures.state
-
-pub returns-clause-ends : goal.returns-clause-ends
-returns-clause-ends g c =
-    λ bytes. end_made c.call-end.result c.leave.result (before g c) c.args.self.now.parts c.leave.ensures.end (seen g c) bytes (going g c) c.call-end.ensures.end
-
-pub returns-clause-input : goal.returns-clause-input
-returns-clause-input g c =
-    taken_within c.call-end.result c.leave.result (before g c) c.args.self.now.parts c.leave.ensures.end (seen g c) (g.I.Source.left c.args.input.now) (g.I.Source.left c.call-end.new.input) c.call-end.new.mem
-    c.call-end.ensures.stored (λ e. ap g.I.Source.left (c.call-end.ensures.untaken e))
-
-pub returns-clause-output : goal.returns-clause-output
-returns-clause-output g c =
-    λ bytes. output_made c.call-end.result c.leave.result (before g c) c.args.self.now.parts c.leave.ensures.end (seen g c) (Some bytes) (g.O.Sink.held c.args.output.now) (g.O.Sink.held c.call-end.new.output)
-    c.call-end.ensures.output
-
-pub returns-clause-errors : goal.returns-clause-errors
-returns-clause-errors g c =
-    λ bytes. errors_made c.call-end.result c.leave.result (before g c) c.args.self.now.parts c.leave.ensures.end (seen g c) (Some bytes) (g.E.Sink.held c.args.errors.now) (g.E.Sink.held c.call-end.new.errors)
-    c.call-end.ensures.errors
-
-pub returns-clause-marks : goal.returns-clause-marks
-returns-clause-marks g c =
-    let b = before g c in
-    left_keeps c.call-end.result (record b { core = c.call-end.new.core; vectors = c.call-end.new.vec; memory = c.call-end.new.mem; brk = c.call-end.new.brk }) c.leave.new.self.parts c.leave.ensures.parts
-    ∙ c.call-end.ensures.marks
-    ∙ ap (λ (s : MachineState). s.parts.memory.marks) c.self.view_is
+pub returns : goal.returns
+returns g c =
+    let end = c.call-end.result in
+    let r = c.leave.result in
+    let p = before g c in
+    let q = c.args.self.now.parts in
+    let new = c.leave.new.self.parts in
+    let n = c.call-end.new in
+    let e = c.call-end.ensures in
+    let is = c.leave.ensures.end in
+    let left = c.leave.ensures.parts in
+    let same = seen g c in
+    let none = going g c in
+    let told = g.I.Source.left c.args.input.now in
+    let now = g.I.Source.left c.call-end.new.input in
+    let fell = undone end r p q is same in
+    record {
+      state = state_made end r p q is same n.core n.vec n.mem n.brk new none left told now e.state e.input;
+      machine = parts_made end r p q is same n.core n.vec n.mem n.brk new none left told e.state;
+      input = taken_within end r p q is same told now n.mem e.stored (λ u. ap g.I.Source.left (e.untaken u));
+      output = λ bytes. output_made end r p q is same (Some bytes) (g.O.Sink.held c.args.output.now) (g.O.Sink.held c.call-end.new.output) e.output;
+      errors = λ bytes. errors_made end r p q is same (Some bytes) (g.E.Sink.held c.args.errors.now) (g.E.Sink.held c.call-end.new.errors) e.errors;
+      end = end_left end r p q is same n.core n.vec n.mem n.brk new none left;
+      ends = λ bytes. end_made end r p q is same bytes none e.end;
+      counted = count_left end r p q is same n.core n.vec n.mem n.brk new none left;
+      kept = kept_left end r p q is same n.core n.vec n.mem n.brk new none left told now e.kept e.stored;
+      unstored = unstored_left end r p q is same n.core n.vec n.mem n.brk new none left e.kept e.unstored;
+      accesses = c.leave.ensures.accesses ∙ ap (λ (s : MachineState). s.accesses) c.self.view_is;
+      failed = c.leave.ensures.failed ∙ fell;
+      marks = left_keeps end (record p { core = n.core; vectors = n.vec; memory = n.mem; brk = n.brk }) new left ∙ e.marks ∙ ap (λ (s : MachineState). s.parts.memory.marks) c.self.view_is;
+      saved = c.leave.ensures.saved ∙ ap (λ (s : MachineState). s.saved) c.self.view_is;
+      read_cause = causes_from (end ≡ CallReadFault) (r ≡ ReadFault) (g.I.Source.faults c.args.input.now) (g.I.Source.faults c.args.input.now) (g.I.Source.faults c.call-end.new.input) refl e.read_cause
+          (ended_as end r p q is same ReadFault) (λ (so : end ≡ CallReadFault). is ∙ ap step_by so);
+      write_cause = causes_from (end ≡ CallWriteFault) (r ≡ WriteFault) (g.O.Sink.faults c.args.output.now) (g.O.Sink.faults c.args.output.now) (g.O.Sink.faults c.call-end.new.output) refl e.write_cause
+          (ended_as end r p q is same WriteFault) (λ (so : end ≡ CallWriteFault). is ∙ ap step_by so);
+      errors_cause = causes_from (end ≡ CallErrorsFault) (r ≡ ErrorsFault) (g.E.Sink.faults c.args.errors.now) (g.E.Sink.faults c.args.errors.now) (g.E.Sink.faults c.call-end.new.errors) refl e.errors_cause
+          (ended_as end r p q is same ErrorsFault) (λ (so : end ≡ CallErrorsFault). is ∙ ap step_by so);
+      read_named = λ h. subst (λ (x : Parts). NamesRead x.core) same (e.read_named (ended_as end r p q is same ReadFault h));
+      write_named = λ h. subst (λ (x : Parts). NamesWrite x.core 1) same (e.write_named (ended_as end r p q is same WriteFault h));
+      errors_named = λ h. subst (λ (x : Parts). NamesWrite x.core 2) same (e.errors_named (ended_as end r p q is same ErrorsFault h));
+    }

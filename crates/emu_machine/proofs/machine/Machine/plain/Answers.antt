@@ -1,91 +1,175 @@
-use Rattle.std.proofs.Common.{◌≡◌, ℕ, ◌%◌, Some, Option, Ok, ap, sym, ◌∙◌, arith}
+use Rattle.std.proofs.Common.{◌≡◌, ℕ, ◌%◌, Some, None, Ok, Err, refl, ap, sym, ◌∙◌}
 use Rattle.emu_model.specs.Access.{Memory, refused, value}
 use Rattle.emu_model.specs.LoadsAndStores.{done_unless}
 use Rattle.emu_model.specs.declared.access.Kind.TheVariants.{Fetch}
-use Rattle.emu_model.specs.declared.program_break.Break.{Break}
-use Rattle.emu_model.specs.declared.trap.Ended.{Ended}
-use Rattle.emu_model.specs.State.{Core, Parts, Vectors}
-use Rattle.emu_run.specs.declared.insn.Insn.{Insn}
+use Rattle.emu_model.specs.declared.trap.TrapKind.TheVariants.{PcAlign, Undefined, Fetch as TrapFetch}
+use Rattle.emu_model.specs.State.{Core}
 use Rattle.emu_run.specs.declared.insn.Insn.TheVariants.{A64}
-use Rattle.emu_run.specs.Step.{a64, decode, executed, executed_accesses}
-use Rattle.emu_machine.specs.Machines.{MachineState, is_svc, makes_call}
-use Rattle.emu_machine.proofs.Turns.{HasFetched, turn_executes, accesses_of_word, call_of_word, executed_as, alone_as, makes_of_word}
-use Rattle.emu_machine.proofs.machine.Machine.plain.Goals.{After-vector, After-scalar}
+use Rattle.emu_run.specs.Step.{a64, decode, trapped}
+use Rattle.emu_system.specs.SystemCall.{quiet}
+use Rattle.emu_machine.specs.declared.machine.Machine.TheInside.{Inside}
+use Rattle.emu_machine.specs.Machines.{MachineState}
+use Rattle.emu_machine.proofs.Left.{HasDone}
+use Rattle.emu_machine.proofs.Turns.{HasFetched, HasStepped, accesses_of_none, accesses_of_odd, accesses_of_refused, has_stepped, has_trapped, makes_no_row, makes_none, makes_refused, turn_of_none, turn_of_odd, turn_of_refused}
+use Rattle.emu_machine.proofs.machine.Machine.plain.Goals.{After-trap, After-trap-in-Err, After-trap-in-None, After-vector, After-scalar}
 use Rattle.emu_machine.proofs.machine.Machine.plain.Goals as goal
 
-fetched_at : (core : Core) (memory : Memory) (m : Parts) (pc word : ℕ) → core ≡ m.core → memory ≡ m.memory → pc ≡ core.pc → m.core.pc % 4 ≡ 0 → Ok word ≡ done_unless (refused memory pc 4 Fetch) Fetch (value memory pc 4) → HasFetched m word
-fetched_at core memory m pc word same_core same_memory at aligned is = record {
-  aligned = aligned;
-  done = is
-      ∙ ap (λ (p : ℕ). done_unless (refused memory p 4 Fetch) Fetch (value memory p 4)) (at ∙ ap (λ (c : Core). c.pc) same_core)
-      ∙ ap (λ (x : Memory). done_unless (refused x m.core.pc 4 Fetch) Fetch (value x m.core.pc 4)) same_memory;
+-- a machine that is open, as it is seen with this memory
+abbrev seen : Inside → Memory → MachineState
+seen i memory = record {
+  parts = record { core = i.core.value; vectors = i.vec.value; memory = memory; brk = i.brk; steps = i.steps; ended = i.ended };
+  accesses = i.log.items;
+  failed = i.failed;
+  saved = i.saved.items;
 }
 
 -- a fetch leaves the machine as it was
-fetched_parts : (core : Core) (vectors : Vectors) (memory n : Memory) (brk : Break) (steps : ℕ) (ended : Option Ended) (m : Parts) → n ≡ memory
-    → record { core = core; vectors = vectors; memory = memory; brk = brk; steps = steps; ended = ended } ≡ m → record { core = core; vectors = vectors; memory = n; brk = brk; steps = steps; ended = ended } ≡ m
-fetched_parts core vectors memory n brk steps ended m same is = ap (λ (x : Memory). record { core = core; vectors = vectors; memory = x; brk = brk; steps = steps; ended = ended }) same ∙ is
+fetched_same : (i : Inside) (memory : Memory) (old : MachineState) → memory ≡ i.memory → seen i i.memory ≡ old → seen i memory ≡ old
+fetched_same i memory old same is = ap (λ (x : Memory). seen i x) same ∙ is
 
--- ---- a word that may be of SVE
+-- its program counter, as it was read
+at_pc : (i : Inside) (core : Core) (pc : ℕ) (old : MachineState) → pc ≡ core.pc → core ≡ i.core.value → seen i i.memory ≡ old → pc ≡ old.parts.core.pc
+at_pc i core pc old at same is = at ∙ ap (λ (x : Core). x.pc) same ∙ ap (λ (s : MachineState). s.parts.core.pc) is
 
-fetched_v : (c : After-vector) → HasFetched c.args.self.now.parts c.in-Ok.word
-fetched_v c =
-    let e = c.self.view_is in let p : c.pc-pc.result ≡ c.self.inside.core.value.pc = c.pc-pc.ensures.value ∙ ap (λ (x : Core). x.pc) c.deref.ensures in
-    fetched_at c.self.inside.core.value c.self.inside.memory c.args.self.now.parts c.pc-pc.result c.in-Ok.word (ap (λ (s : MachineState). s.parts.core) e) (ap (λ (s : MachineState). s.parts.memory) e) p (grind arith) (sym c.in-Ok.is ∙ c.load.ensures.value)
+-- what the fetch answered
+module _ (i : Inside) (pc : ℕ) (old : MachineState) (at : pc ≡ old.parts.core.pc) (is : seen i i.memory ≡ old) where
+  fetched_at : (word : ℕ) → pc % 4 ≡ 0 → Ok word ≡ done_unless (refused i.memory pc 4 Fetch) Fetch (value i.memory pc 4) → HasFetched old.parts word
+  fetched_at word aligned done = record {
+    aligned = ap (λ n. n % 4) (sym at) ∙ aligned;
+    done = done
+        ∙ ap (λ n. done_unless (refused i.memory n 4 Fetch) Fetch (value i.memory n 4)) at
+        ∙ ap (λ (s : MachineState). done_unless (refused s.parts.memory old.parts.core.pc 4 Fetch) Fetch (value s.parts.memory old.parts.core.pc 4)) is;
+  }
 
-same_v : (c : After-vector) → record { core = c.self.inside.core.value; vectors = c.self.inside.vec.value; memory = c.load.new.self; brk = c.self.inside.brk; steps = c.self.inside.steps; ended = c.self.inside.ended } ≡ c.args.self.now.parts
-same_v c =
+-- ---- a step that traps before its instruction
+
+odd : (c : After-trap) → HasStepped c.args.self.now c.trap.new.self c.trap.result
+odd c =
     let i = c.self.inside in
-    fetched_parts i.core.value i.vec.value i.memory c.load.new.self i.brk i.steps i.ended c.args.self.now.parts c.load.ensures.unchanged (ap (λ (s : MachineState). s.parts) c.self.view_is)
+    let old = c.args.self.now in
+    let at = at_pc i c.deref.result.now c.pc-pc.result old c.pc-pc.ensures.value c.deref.ensures c.self.view_is in
+    let is_odd : old.parts.core.pc % 4 ≡ 0 → ⊥ = λ e. c.if-pc-ne0.true (ap (λ n. n % 4) at ∙ e) in
+    has_trapped old old c.trap.new.self c.trap.result PcAlign c.pc-pc.result refl c.requires.going c.requires.clear c.trap.ensures.progress c.trap.ensures.parts
+    c.trap.ensures.accesses c.trap.ensures.failed c.trap.ensures.saved (makes_none old.parts is_odd)
+    (λ input. turn_of_odd old.parts is_odd input ∙ ap (λ n. quiet (trapped old.parts PcAlign n) input) (sym at)) (accesses_of_odd old.parts is_odd)
 
-pub returns-then-may_be_sve-clause-turn : goal.returns-then-may_be_sve-clause-turn
-returns-then-may_be_sve-clause-turn c =
-    executed_as c.vector.result (decode c.in-Ok.word) c.args.self.now.parts _ _ (same_v c) (turn_executes c.args.self.now.parts c.in-Ok.word (fetched_v c)) c.vector.ensures.turn
+pub returns-then-pc-ne0 : goal.returns-then-pc-ne0
+returns-then-pc-ne0 c =
+    let d = odd c in
+    record {
+      turn = d.turn;
+      kept = d.kept;
+      svc = d.svc;
+      alone = d.alone;
+      ended = d.ended;
+      counted = d.counted;
+      accesses = d.accesses;
+      saved = d.saved;
+    }
 
-pub returns-then-may_be_sve-clause-svc : goal.returns-then-may_be_sve-clause-svc
-returns-then-may_be_sve-clause-svc c = λ h. sym (call_of_word c.args.self.now.parts c.in-Ok.word (fetched_v c)) ∙ c.vector.ensures.svc h
-
-pub returns-then-may_be_sve-clause-accesses : goal.returns-then-may_be_sve-clause-accesses
-returns-then-may_be_sve-clause-accesses c =
-    c.vector.ensures.accesses ∙ ap (λ (m : Parts). executed_accesses m (decode c.in-Ok.word)) (same_v c) ∙ accesses_of_word c.args.self.now.parts c.in-Ok.word (fetched_v c)
-
--- ---- an A64 instruction
-
-fetched_e : (c : After-scalar) → HasFetched c.args.self.now.parts c.in-Ok.word
-fetched_e c =
-    let e = c.self.view_is in let p : c.pc-pc.result ≡ c.self.inside.core.value.pc = c.pc-pc.ensures.value ∙ ap (λ (x : Core). x.pc) c.deref.ensures in
-    fetched_at c.self.inside.core.value c.self.inside.memory c.args.self.now.parts c.pc-pc.result c.in-Ok.word (ap (λ (s : MachineState). s.parts.core) e) (ap (λ (s : MachineState). s.parts.memory) e) p (grind arith) (sym c.in-Ok.is ∙ c.load.ensures.value)
-
-same_e : (c : After-scalar) → record { core = c.self.inside.core.value; vectors = c.self.inside.vec.value; memory = c.load.new.self; brk = c.self.inside.brk; steps = c.self.inside.steps; ended = c.self.inside.ended } ≡ c.args.self.now.parts
-same_e c =
+denied : (c : After-trap-in-Err) → HasStepped c.args.self.now c.trap-in-Err.new.self c.trap-in-Err.result
+denied c =
     let i = c.self.inside in
-    fetched_parts i.core.value i.vec.value i.memory c.load.new.self i.brk i.steps i.ended c.args.self.now.parts c.load.ensures.unchanged (ap (λ (s : MachineState). s.parts) c.self.view_is)
+    let old = c.args.self.now in
+    let at = at_pc i c.deref.result.now c.pc-pc.result old c.pc-pc.ensures.value c.deref.ensures c.self.view_is in
+    let aligned : old.parts.core.pc % 4 ≡ 0 = ap (λ n. n % 4) (sym at) ∙ c.if-pc-ne0.false in
+    let refuses : Err c.in-Err.denied ≡ done_unless (refused old.parts.memory old.parts.core.pc 4 Fetch) Fetch (value old.parts.memory old.parts.core.pc 4) =
+    sym c.in-Err.is ∙ c.load.ensures.value
+    ∙ ap (λ n. done_unless (refused i.memory n 4 Fetch) Fetch (value i.memory n 4)) at
+    ∙ ap (λ (s : MachineState). done_unless (refused s.parts.memory old.parts.core.pc 4 Fetch) Fetch (value s.parts.memory old.parts.core.pc 4)) c.self.view_is in
+    has_trapped old (seen i c.load.new.self) c.trap-in-Err.new.self c.trap-in-Err.result TrapFetch c.in-Err.denied.address (fetched_same i c.load.new.self old c.load.ensures.unchanged c.self.view_is)
+    c.requires.going c.requires.clear c.trap-in-Err.ensures.progress c.trap-in-Err.ensures.parts c.trap-in-Err.ensures.accesses c.trap-in-Err.ensures.failed c.trap-in-Err.ensures.saved
+    (makes_refused old.parts c.in-Err.denied refuses) (turn_of_refused old.parts c.in-Err.denied aligned refuses) (accesses_of_refused old.parts c.in-Err.denied aligned refuses)
 
-insn_is : (c : After-scalar) → Some (A64 c.in-Some.insn) ≡ decode c.in-Ok.word
-insn_is c = ap a64 (sym c.in-Some.is) ∙ c.decode_a64_word.ensures.table
+pub returns-in-Err : goal.returns-in-Err
+returns-in-Err c =
+    let d = denied c in
+    record {
+      turn = d.turn;
+      kept = d.kept;
+      svc = d.svc;
+      alone = d.alone;
+      ended = d.ended;
+      counted = d.counted;
+      accesses = d.accesses;
+      saved = d.saved;
+    }
 
-pub returns-in-Some-clause-turn : goal.returns-in-Some-clause-turn
-returns-in-Some-clause-turn c =
-    let p = c.args.self.now.parts in
-    executed_as c.scalar.result (Some (A64 c.in-Some.insn)) p _ _ (same_e c) (λ input. turn_executes p c.in-Ok.word (fetched_e c) input ∙ ap (λ (i : Option Insn). executed p input i) (sym (insn_is c))) c.scalar.ensures.turn
+undefined : (c : After-trap-in-None) → HasStepped c.args.self.now c.trap-in-None.new.self c.trap-in-None.result
+undefined c =
+    let i = c.self.inside in
+    let old = c.args.self.now in
+    let at = at_pc i c.deref.result.now c.pc-pc.result old c.pc-pc.ensures.value c.deref.ensures c.self.view_is in
+    let has = fetched_at i c.pc-pc.result old at c.self.view_is c.in-Ok.word c.if-pc-ne0.false (sym c.in-Ok.is ∙ c.load.ensures.value) in
+    let none : decode c.in-Ok.word ≡ None = sym c.decode_a64_word.ensures.table ∙ ap a64 c.in-None.is in
+    has_trapped old (seen i c.load.new.self) c.trap-in-None.new.self c.trap-in-None.result Undefined c.pc-pc.result (fetched_same i c.load.new.self old c.load.ensures.unchanged c.self.view_is)
+    c.requires.going c.requires.clear c.trap-in-None.ensures.progress c.trap-in-None.ensures.parts c.trap-in-None.ensures.accesses c.trap-in-None.ensures.failed c.trap-in-None.ensures.saved
+    (makes_no_row old.parts c.in-Ok.word has none)
+    (λ input. turn_of_none old.parts c.in-Ok.word has none input ∙ ap (λ n. quiet (trapped old.parts Undefined n) input) (sym at)) (accesses_of_none old.parts c.in-Ok.word has none)
 
-pub returns-in-Some-clause-accesses : goal.returns-in-Some-clause-accesses
-returns-in-Some-clause-accesses c =
-    let p = c.args.self.now.parts in
-    c.scalar.ensures.accesses
-    ∙ ap (λ (m : Parts). executed_accesses m (Some (A64 c.in-Some.insn))) (same_e c)
-    ∙ ap (λ (i : Option Insn). executed_accesses p i) (insn_is c)
-    ∙ accesses_of_word p c.in-Ok.word (fetched_e c)
+pub returns-in-None : goal.returns-in-None
+returns-in-None c =
+    let d = undefined c in
+    record {
+      turn = d.turn;
+      kept = d.kept;
+      svc = d.svc;
+      alone = d.alone;
+      ended = d.ended;
+      counted = d.counted;
+      accesses = d.accesses;
+      saved = d.saved;
+    }
 
-pub returns-in-Some-clause-svc : goal.returns-in-Some-clause-svc
-returns-in-Some-clause-svc c = λ h. sym (call_of_word c.args.self.now.parts c.in-Ok.word (fetched_e c)) ∙ ap is_svc (sym (insn_is c)) ∙ c.scalar.ensures.svc h
+-- ---- a step that does an instruction
 
--- ---- whether it makes a call
+of_vector : (c : After-vector) → HasStepped c.args.self.now c.vector.new.self c.vector.result
+of_vector c =
+    let i = c.self.inside in
+    let old = c.args.self.now in
+    let at = at_pc i c.deref.result.now c.pc-pc.result old c.pc-pc.ensures.value c.deref.ensures c.self.view_is in
+    let has = fetched_at i c.pc-pc.result old at c.self.view_is c.in-Ok.word c.if-pc-ne0.false (sym c.in-Ok.is ∙ c.load.ensures.value) in
+    let e = c.vector.ensures in
+    let done : HasDone (decode c.in-Ok.word) (seen i c.load.new.self) c.vector.new.self c.vector.result =
+    record { turn = e.turn; kept = e.kept; svc = e.svc; alone = e.alone; ended = e.ended; counted = e.counted; accesses = e.accesses; saved = e.saved } in
+    has_stepped c.in-Ok.word (decode c.in-Ok.word) old (seen i c.load.new.self) c.vector.new.self c.vector.result (fetched_same i c.load.new.self old c.load.ensures.unchanged c.self.view_is) has refl done
 
-pub returns-then-may_be_sve-clause-alone : goal.returns-then-may_be_sve-clause-alone
-returns-then-may_be_sve-clause-alone c =
-    alone_as c.vector.result (is_svc (decode c.in-Ok.word)) (makes_call c.args.self.now.parts) (makes_of_word c.args.self.now.parts c.in-Ok.word (fetched_v c)) c.vector.ensures.alone
+pub returns-then-may_be_sve : goal.returns-then-may_be_sve
+returns-then-may_be_sve c =
+    let d = of_vector c in
+    record {
+      turn = d.turn;
+      kept = d.kept;
+      svc = d.svc;
+      alone = d.alone;
+      ended = d.ended;
+      counted = d.counted;
+      accesses = d.accesses;
+      saved = d.saved;
+    }
 
-pub returns-in-Some-clause-alone : goal.returns-in-Some-clause-alone
-returns-in-Some-clause-alone c =
-    alone_as c.scalar.result (is_svc (Some (A64 c.in-Some.insn))) (makes_call c.args.self.now.parts) (ap is_svc (insn_is c) ∙ makes_of_word c.args.self.now.parts c.in-Ok.word (fetched_e c)) c.scalar.ensures.alone
+of_scalar : (c : After-scalar) → HasStepped c.args.self.now c.scalar.new.self c.scalar.result
+of_scalar c =
+    let i = c.self.inside in
+    let old = c.args.self.now in
+    let at = at_pc i c.deref.result.now c.pc-pc.result old c.pc-pc.ensures.value c.deref.ensures c.self.view_is in
+    let has = fetched_at i c.pc-pc.result old at c.self.view_is c.in-Ok.word c.if-pc-ne0.false (sym c.in-Ok.is ∙ c.load.ensures.value) in
+    let e = c.scalar.ensures in
+    let done : HasDone (Some (A64 c.in-Some.insn)) (seen i c.load.new.self) c.scalar.new.self c.scalar.result =
+    record { turn = e.turn; kept = e.kept; svc = e.svc; alone = e.alone; ended = e.ended; counted = e.counted; accesses = e.accesses; saved = e.saved } in
+    has_stepped c.in-Ok.word (Some (A64 c.in-Some.insn)) old (seen i c.load.new.self) c.scalar.new.self c.scalar.result (fetched_same i c.load.new.self old c.load.ensures.unchanged c.self.view_is) has
+    (ap a64 (sym c.in-Some.is) ∙ c.decode_a64_word.ensures.table) done
+
+pub returns-in-Some : goal.returns-in-Some
+returns-in-Some c =
+    let d = of_scalar c in
+    record {
+      turn = d.turn;
+      kept = d.kept;
+      svc = d.svc;
+      alone = d.alone;
+      ended = d.ended;
+      counted = d.counted;
+      accesses = d.accesses;
+      saved = d.saved;
+    }

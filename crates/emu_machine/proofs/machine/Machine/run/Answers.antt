@@ -1,17 +1,16 @@
 use Rattle.std.proofs.Common.{◌≡◌, ◌<◌, ◌+◌, List, IfSome, is_none, refl, ap, sym, subst, ◌∙◌, arith, true, false}
 use Rattle.emu_model.specs.declared.access.Access.{Access}
 use Rattle.emu_model.specs.State.{Parts}
-use Rattle.emu_run.specs.Step.{step}
+use Rattle.emu_run.specs.Step.{accesses, step}
 use Rattle.emu_machine.specs.Accesses.{run_accesses}
 use Rattle.emu_machine.specs.declared.ends.StepEnd.TheVariants.{Going, ReadFault, WriteFault, ErrorsFault}
-use Rattle.linux_calls.specs.Names.{NamesRead}
 use Rattle.emu_machine.specs.Ends.{IsKept, is_undone, is_unput, is_broken_off, run_end_of, step_end}
 use Rattle.emu_machine.specs.Machines.{MachineState, MakesWrite}
 use Rattle.emu_machine.proofs.Kept.{ahead_keeps, turn_keeps}
 use Rattle.emu_machine.proofs.Logs.{Logs, logs_start, logs_on, logs_end, logs_as, logs_spent}
 use Rattle.emu_machine.proofs.Stands.{stands_start, stands_on, stands_there, kept_there}
 use Rattle.emu_machine.proofs.Composed.{leads_start}
-use Rattle.emu_machine.proofs.Runs.{Ran, broken_as, done_by_end, going_by, not_ended, run_counts, run_stops, run_spends, not_going, goes_on_after, ran_as, ran_when, end_as, failed_as, last_step, going_is_no, causes_from, ran_step}
+use Rattle.emu_machine.proofs.Runs.{Ran, broken_as, done_by_end, going_by, not_ended, run_counts, run_stops, run_spends, not_going, goes_on_after, ran_as, ran_when, end_as, failed_as, last_step, going_is_no, causes_from, ran_step, still_reads}
 use Rattle.emu_machine.proofs.Advanced.{causes_not, last_logs, last_ran, leads_ahead, logs_ahead, none_broken, not_both, spent_logs, spent_ran, stands_ahead}
 use Rattle.emu_machine.proofs.machine.Machine.run.Goals as goal
 
@@ -47,7 +46,7 @@ loop-self-preserved g c =
       within = omega (arith, counted, below);
       leads = run_counts c.args.budget _ p q _ _ _ _ _ _ _ _ _ leads ahead.goes below counted
           (ran_when _ _ _ _ _ _ _ _ _ _ _ (ap is_undone c.in-Going.is) stepped);
-      logs = subst (λ (log : List Access). Logs c.args.budget c.args.self.now.accesses c.args.self.now.parts (g.I.Source.left c.args.input.now) log q (g.I.Source.left c.step.new.input)) (sym c.step.ensures.accesses)
+      logs = subst (λ (log : List Access). Logs c.args.budget c.args.self.now.accesses c.args.self.now.parts (g.I.Source.left c.args.input.now) log q (g.I.Source.left c.step.new.input)) {x = accesses c.advance.new.self.parts} (sym c.step.ensures.accesses)
           (logs_on c.args.budget _ _ _ p _ _ _ _ _ q _ _ _ ahead.goes below _ leads
           (ran_when _ _ _ _ _ _ _ _ _ _ _ (ap is_undone c.in-Going.is) stepped) logs counted);
       stands = stands_on c.args.budget _ p _ _ _ _ _ q _ _ _ _ leads
@@ -146,7 +145,7 @@ returns-in_default g c =
       errors = r.errors;
       end = end_as c.step.result c.run_end_of-in_default.result q.ended c.run_end_of-in_default.ensures c.step.ensures.end;
       accesses = logs_as _ _ _ _ _ _ _ (broken_as c.step.result ∙ ap is_broken_off (sym c.run_end_of-in_default.ensures))
-          (λ (fine : is_undone c.step.result ≡ false). subst (λ (log : List Access). IfSome (g.I.Source.left c.args.input.now) (λ bytes. log ≡ run_accesses c.args.self.now.accesses c.args.self.now.parts bytes c.args.budget)) (sym c.step.ensures.accesses)
+          (λ (fine : is_undone c.step.result ≡ false). subst (λ (log : List Access). IfSome (g.I.Source.left c.args.input.now) (λ bytes. log ≡ run_accesses c.args.self.now.accesses c.args.self.now.parts bytes c.args.budget)) {x = accesses c.advance.new.self.parts} (sym c.step.ensures.accesses)
           (logs_end c.args.budget _ _ _ p _ _ _ _ _ q _ _ _ ahead.goes below _ leads
           (ran_when _ _ _ _ _ _ _ _ _ _ _ fine stepped) logs (not_going q.ended c.step.result (c.step.ensures.end fine) c.in_default.not-Going)));
       undone = λ h. c.step.ensures.undone (undone h);
@@ -161,11 +160,11 @@ returns-in_default g c =
       write_cause = causes_from _ _ _ _ _ c.loop-self.invariant.write c.step.ensures.write_cause (last_step c.step.result c.run_end_of-in_default.result _ c.run_end_of-in_default.ensures) (λ (e : c.step.result ≡ WriteFault). c.run_end_of-in_default.ensures ∙ ap run_end_of e);
       errors_cause = causes_from _ _ _ _ _ c.loop-self.invariant.errors c.step.ensures.errors_cause (last_step c.step.result c.run_end_of-in_default.result _ c.run_end_of-in_default.ensures) (λ (e : c.step.result ≡ ErrorsFault). c.run_end_of-in_default.ensures ∙ ap run_end_of e);
       read_named = λ h. let r = last_step c.step.result c.run_end_of-in_default.result _ c.run_end_of-in_default.ensures h in
-          subst (λ (m : Parts). NamesRead m.core) (sym (c.step.ensures.kept (ap is_undone r)).is) (c.step.ensures.read_named r).names;
+          still_reads p q (g.I.Source.left c.loop-self.input) (g.I.Source.left c.step.new.input) (c.step.ensures.kept (ap is_undone r)) (c.step.ensures.read_named r).names;
       write_named = λ h. let r = last_step c.step.result c.run_end_of-in_default.result _ c.run_end_of-in_default.ensures h in
-          subst (λ (m : Parts). MakesWrite m 1) (sym (c.step.ensures.unstored (ap is_unput r))) (c.step.ensures.write_named r);
+          subst (λ (m : Parts). MakesWrite m 1) {x = c.advance.new.self.parts} (sym (c.step.ensures.unstored (ap is_unput r))) (c.step.ensures.write_named r);
       errors_named = λ h. let r = last_step c.step.result c.run_end_of-in_default.result _ c.run_end_of-in_default.ensures h in
-          subst (λ (m : Parts). MakesWrite m 2) (sym (c.step.ensures.unstored (ap is_unput r))) (c.step.ensures.errors_named r);
+          subst (λ (m : Parts). MakesWrite m 2) {x = c.advance.new.self.parts} (sym (c.step.ensures.unstored (ap is_unput r))) (c.step.ensures.errors_named r);
     }
 
 pub returns-clause-state : goal.returns-clause-state

@@ -1,11 +1,14 @@
-use Rattle.std.proofs.Common.{◌≡◌, ℕ, List, Option, Some, false, ap, sym, refl, ◌∙◌}
+use Rattle.std.proofs.Common.{◌≡◌, ◌+◌, ℕ, List, Option, Some, false, is_none, ap, subst, sym, refl, ◌∙◌}
 use Rattle.emu_model.specs.State.{Parts}
 use Rattle.emu_system.specs.SystemCall.{Turn, call, quiet}
 use Rattle.emu_run.specs.Step.{step, turn}
-use Rattle.emu_machine.specs.Ends.{is_undone, is_unput, step_end}
+use Rattle.linux_calls.specs.Names.{NamesRead, NamesWrite}
+use Rattle.emu_machine.specs.Ends.{IsKept, is_undone, is_unput, step_end}
 use Rattle.emu_machine.proofs.Kept.{turn_keeps}
 use Rattle.emu_machine.proofs.Advanced.{causes_not, counted_as, not_both, turned}
-use Rattle.emu_machine.proofs.Runs.{Ran, done_by_end, ends_by_call, made_by_call, puts_by_call, puts_errors_by_call, quietly_made, quietly_ran, unput_by_end}
+use Rattle.emu_machine.proofs.Performed.{still_goes}
+use Rattle.emu_machine.proofs.Turns.{call_none}
+use Rattle.emu_machine.proofs.Runs.{Ran, becomes_by_call, done_by_end, ends_by_call, goes, made_by_call, puts_by_call, puts_errors_by_call, quietly_made, quietly_ran, takes_by_call, unput_by_end}
 use Rattle.emu_machine.proofs.machine.Machine.step.Goals as goal
 
 turns : (g : _) (c : goal.After-step_end g) (input : List ℕ) → turn c.args.self.now.parts input ≡ quiet c.once.new.self.parts input
@@ -34,7 +37,7 @@ returns-in_default g c =
       end = λ _. ended g c;
       ends = λ bytes _. ended g c ∙ ap (λ (t : Turn). step_end t.parts.ended) (sym (turns g c bytes));
       counted = λ going. counted_as c.once.result m q c.in_default.not-AtCall c.once.ensures.ended c.once.ensures.counted (sym going ∙ ended g c);
-      kept = λ h. not_both _ _ (done g c) h;
+      kept = λ h. not_both (is_undone c.step_end.result) (IsKept c.args.self.now.parts c.once.new.self.parts (g.I.Source.left c.args.input.now) (g.I.Source.left c.args.input.now)) (done g c) h;
       unstored = λ h. not_both _ _ (ap is_unput (ended g c) ∙ unput_by_end c.once.new.self.parts.ended) h;
       accesses = c.once.ensures.accesses;
       undone = λ h. not_both _ _ (done g c) h;
@@ -56,21 +59,39 @@ same g c = c.in-AtCall.ensures.kept
 calls : (g : _) (c : goal.After-call g) (input : List ℕ) → turn c.args.self.now.parts input ≡ call c.args.self.now.parts input
 calls g c input = c.in-AtCall.ensures.turn input
 
-pub returns-in-AtCall-clause-machine : goal.returns-in-AtCall-clause-machine
-returns-in-AtCall-clause-machine g c =
-    made_by_call c.args.self.now.parts c.once.new.self.parts (is_undone c.call.result) (same g c) (calls g c) (g.I.Source.left c.args.input.now) c.call.new.self.parts
-    (c.once.ensures.svc c.in-AtCall.is) c.call.ensures.machine
+pub call-requires-clause-going : goal.call-requires-clause-going
+call-requires-clause-going g c =
+    still_goes c.once.new.self (ap (λ (p : Parts). is_none p.ended) c.in-AtCall.ensures.kept ∙ goes c.args.self.now.parts.ended c.args.self.now.failed c.requires.going) c.once.ensures.failed
 
-pub returns-in-AtCall-clause-ends : goal.returns-in-AtCall-clause-ends
-returns-in-AtCall-clause-ends g c = λ bytes. ends_by_call c.args.self.now.parts c.once.new.self.parts (is_undone c.call.result) (same g c) (calls g c) bytes c.call.result (c.call.ensures.ends bytes)
-
-pub returns-in-AtCall-clause-output : goal.returns-in-AtCall-clause-output
-returns-in-AtCall-clause-output g c =
-    puts_by_call c.args.self.now.parts c.once.new.self.parts (g.O.Sink.held c.args.output.now) (g.O.Sink.held c.call.new.output) (is_undone c.call.result) (same g c) (calls g c) c.call.ensures.output
-
-pub returns-in-AtCall-clause-errors : goal.returns-in-AtCall-clause-errors
-returns-in-AtCall-clause-errors g c =
-    puts_errors_by_call c.args.self.now.parts c.once.new.self.parts (g.E.Sink.held c.args.errors.now) (g.E.Sink.held c.call.new.errors) (is_undone c.call.result) (same g c) (calls g c) c.call.ensures.errors
-
-pub returns-in-AtCall-clause-marks : goal.returns-in-AtCall-clause-marks
-returns-in-AtCall-clause-marks g c = c.call.ensures.marks ∙ ap (λ (p : Parts). p.memory.marks) (same g c)
+pub returns-in-AtCall : goal.returns-in-AtCall
+returns-in-AtCall g c =
+    let m = c.args.self.now.parts in
+    let p = c.once.new.self.parts in
+    let is : p ≡ m = same g c in
+    let broken = is_undone c.call.result in
+    let told = g.I.Source.left c.args.input.now in
+    let left = g.I.Source.left c.call.new.input in
+    let at = c.once.ensures.svc c.in-AtCall.is in
+    record {
+      state = becomes_by_call m p broken is (calls g c) c.call.new.self.parts told left c.call.ensures.state;
+      machine = made_by_call m p broken is (calls g c) told c.call.new.self.parts at c.call.ensures.machine;
+      input = takes_by_call m p broken is (calls g c) told left c.call.ensures.input;
+      output = puts_by_call m p (g.O.Sink.held c.args.output.now) (g.O.Sink.held c.call.new.output) broken is (calls g c) c.call.ensures.output;
+      errors = puts_errors_by_call m p (g.E.Sink.held c.args.errors.now) (g.E.Sink.held c.call.new.errors) broken is (calls g c) c.call.ensures.errors;
+      end = c.call.ensures.end;
+      ends = λ bytes. ends_by_call m p broken is (calls g c) bytes c.call.result (c.call.ensures.ends bytes);
+      counted = λ going. c.call.ensures.counted going ∙ ap (λ (x : Parts). x.steps + 1) is;
+      kept = λ h. subst (λ (x : Parts). IsKept x c.call.new.self.parts (g.I.Source.left c.args.input.now) (g.I.Source.left c.call.new.input)) is (c.call.ensures.kept h);
+      unstored = λ h. c.call.ensures.unstored h ∙ is;
+      accesses = c.call.ensures.accesses ∙ c.once.ensures.accesses;
+      undone = λ h. c.call.ensures.accesses ∙ c.once.ensures.accesses ∙ call_none c.args.self.now.parts at;
+      failed = c.call.ensures.failed;
+      marks = c.call.ensures.marks ∙ ap (λ (x : Parts). x.memory.marks) is;
+      saved = c.call.ensures.saved ∙ c.once.ensures.saved;
+      read_cause = c.call.ensures.read_cause;
+      write_cause = c.call.ensures.write_cause;
+      errors_cause = c.call.ensures.errors_cause;
+      read_named = λ h. record { svc = at; names = subst (λ (x : Parts). NamesRead x.core) is (c.call.ensures.read_named h) };
+      write_named = λ h. record { svc = at; names = subst (λ (x : Parts). NamesWrite x.core 1) is (c.call.ensures.write_named h) };
+      errors_named = λ h. record { svc = at; names = subst (λ (x : Parts). NamesWrite x.core 2) is (c.call.ensures.errors_named h) };
+    }
