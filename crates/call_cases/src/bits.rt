@@ -85,12 +85,36 @@ fn reading(name: &str, numbers: [u64; 4], answer: &str) -> bool {
 
 fn number(name: &str, v: u32, answer: &str) -> bool {
     let found = match name {
-        "number" => U::<12>::new(v).map(|found| found.get()),
-        "predicate" => Pred::new(v).map(|found| found.get()),
-        "low-predicate" => PredLow::new(v).map(|found| found.get()),
+        "number" => twelve_bits(v),
+        "predicate" => predicate(v),
+        "low-predicate" => low_predicate(v),
         _ => return false,
     };
-    is_number(answer, found.map(u64::from))
+    is_number(answer, found)
+}
+
+/// A number of 12 bits, where it is one.
+fn twelve_bits(v: u32) -> Option<u64> {
+    match U::<12>::new(v) {
+        Some(found) => Some(u64::from(found.get())),
+        None => None,
+    }
+}
+
+/// The number of a predicate, where it is one.
+fn predicate(v: u32) -> Option<u64> {
+    match Pred::new(v) {
+        Some(found) => Some(u64::from(found.get())),
+        None => None,
+    }
+}
+
+/// The number of a low predicate, where it is one.
+fn low_predicate(v: u32) -> Option<u64> {
+    match PredLow::new(v) {
+        Some(found) => Some(u64::from(found.get())),
+        None => None,
+    }
 }
 
 fn word(numbers: [u64; 4], answer: &str) -> bool {

@@ -1,7 +1,8 @@
-//! The items of a line: numbers, text, and how a call ends.
+//! The items of a line: numbers, text, and how a call ends. Where one isn't in the form of a case, it is 0, and the
+//! flag that is lent says that not all is well.
 use line_words::number_of_word;
 use linux_calls::CallEnd;
-use std::alloc::{AllocError, Global};
+use std::alloc::Global;
 
 /// The value of the first item of a name.
 pub fn find<'a>(line: &'a str, name: &str) -> Option<&'a str> {
@@ -14,43 +15,65 @@ pub fn find<'a>(line: &'a str, name: &str) -> Option<&'a str> {
     None
 }
 
-/// The number of the first item of a name, or another where there is none. None where the item has no number.
-pub fn find_number(line: &str, name: &str, other: u64) -> Option<u64> {
+/// The number of the first item of a name, or another where there is none.
+pub fn find_number(line: &str, name: &str, other: u64, is_well: &mut bool) -> u64 {
     match find(line, name) {
-        Some(text) => number(text),
-        None => Some(other),
+        Some(text) => number(text, is_well),
+        None => other,
     }
 }
 
 /// The same below 2^32.
-pub fn find_small(line: &str, name: &str, other: u32) -> Option<u32> {
-    u32::try_from(find_number(line, name, u64::from(other))?).ok()
+pub fn find_small(line: &str, name: &str, other: u32, is_well: &mut bool) -> u32 {
+    let found = find_number(line, name, u64::from(other), is_well);
+    if found < 1 << 32 {
+        return found as u32;
+    }
+    *is_well = false;
+    0
 }
 
 /// A number, decimal or behind `0x` hexadecimal; behind a `-` it is taken from 2^64.
-pub fn number(text: &str) -> Option<u64> {
+pub fn number(text: &str, is_well: &mut bool) -> u64 {
     match text.strip_prefix("-") {
-        Some(digits) => Some(0u64.wrapping_sub(number_of_word(digits)?)),
-        None => number_of_word(text),
+        Some(digits) => 0u64.wrapping_sub(number_above(digits, is_well)),
+        None => number_above(text, is_well),
     }
 }
 
+/// The same of a word with no `-` before it.
+fn number_above(word: &str, is_well: &mut bool) -> u64 {
+    match number_of_word(word) {
+        Some(number) => number,
+        None => {
+            *is_well = false;
+            0
+        }
+    }
+}
+
+/// Whether text is this number.
+pub fn is_number(text: &str, wanted: u64) -> bool {
+    let mut is_well = true;
+    number(text, &mut is_well) == wanted && is_well
+}
+
 /// Seven numbers, with `,` between them; 0 for one that isn't there.
-pub fn numbers(text: &str) -> Option<[u64; 7]> {
+pub fn numbers(text: &str, is_well: &mut bool) -> [u64; 7] {
     let mut found = [0; 7];
     let mut parts = text.split(',');
     for place in found.iter_mut() {
         if let Some(part) = parts.next() {
-            *place = number(part)?;
+            *place = number(part, is_well);
         }
     }
-    Some(found)
+    found
 }
 
 /// An address, and what stands behind the `:` behind it.
-pub fn at(value: &str) -> Option<(u64, &str)> {
+pub fn at<'a>(value: &'a str, is_well: &mut bool) -> (u64, &'a str) {
     let (address, rest) = value.split_once(':').unwrap_or((value, ""));
-    Some((number(address)?, rest))
+    (number(address, is_well), rest)
 }
 
 /// The byte that stands for a byte of text: `.` for 0.
@@ -58,32 +81,44 @@ pub fn byte_of(letter: u8) -> u8 {
     if letter == b'.' { 0 } else { letter }
 }
 
-/// The bytes of text.
-pub fn bytes_of(alloc: Global, text: &str) -> Result<Vec<u8>, AllocError> {
+/// The bytes of text. It isn't well where memory is wanting.
+pub fn bytes_of(alloc: Global, text: &str, is_well: &mut bool) -> Vec<u8> {
     let mut bytes = Vec::new(alloc);
     for letter in text.as_bytes() {
-        bytes.push(byte_of(*letter))?;
+        *is_well = *is_well && bytes.push(byte_of(*letter)).is_ok();
     }
-    Ok(bytes)
+    bytes
 }
 
-/// Whether bytes are those of text. Not where memory is wanting.
-pub fn are_text(alloc: Global, bytes: &[u8], text: &str) -> bool {
-    match bytes_of(alloc, text) {
-        Ok(wanted) => wanted.as_slice() == bytes,
-        Err(_) => false,
+/// Whether bytes are those of text.
+pub fn are_text(bytes: &[u8], text: &str) -> bool {
+    let letters = text.as_bytes();
+    let mut same = letters.len() == bytes.len();
+    for k in 0..letters.len() {
+        same = same && k < bytes.len() && bytes[k] == byte_of(letters[k]);
     }
+    same
 }
 
-/// How a call ends, and x0 behind one that returns. None where the text isn't in the form of a case.
-pub fn end_of(text: &str) -> Option<(CallEnd, u64)> {
+/// How a call ends, and x0 behind one that returns.
+pub fn end_of(text: &str, is_well: &mut bool) -> (CallEnd, u64) {
     match text {
-        "read-fault" => Some((CallEnd::ReadFault, 0)),
-        "write-fault" => Some((CallEnd::WriteFault, 0)),
-        "errors-fault" => Some((CallEnd::ErrorsFault, 0)),
+        "read-fault" => (CallEnd::ReadFault, 0),
+        "write-fault" => (CallEnd::WriteFault, 0),
+        "errors-fault" => (CallEnd::ErrorsFault, 0),
         _ => match text.strip_prefix("exit/") {
-            Some(code) => Some((CallEnd::Exit(code.parse::<u8>().ok()?), 0)),
-            None => Some((CallEnd::Returned, number(text)?)),
+            Some(code) => (CallEnd::Exit(code_of(code, is_well)), 0),
+            None => (CallEnd::Returned, number(text, is_well)),
         },
     }
+}
+
+/// The code of a program that ends.
+fn code_of(text: &str, is_well: &mut bool) -> u8 {
+    let code = number_above(text, is_well);
+    if code < 256 {
+        return code as u8;
+    }
+    *is_well = false;
+    0
 }

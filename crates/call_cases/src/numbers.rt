@@ -26,16 +26,20 @@ fn hexadecimal(word: &str) -> Option<u64> {
     u64::from_str_radix(word, 16).ok()
 }
 
-/// Up to four numbers, with a space between them; 0 for one that isn't there.
-fn numbers_of(text: &str) -> Option<[u64; 4]> {
+/// Up to four numbers, with a space between them; 0 for one that isn't there, and for one that is none, where the flag
+/// that is lent says that not all is well.
+fn numbers_of(text: &str, is_well: &mut bool) -> [u64; 4] {
     let mut numbers = [0; 4];
     let mut words = text.split(' ');
     for place in numbers.iter_mut() {
         if let Some(word) = words.next() {
-            *place = hexadecimal(word)?;
+            match hexadecimal(word) {
+                Some(number) => *place = number,
+                None => *is_well = false,
+            }
         }
     }
-    Some(numbers)
+    numbers
 }
 
 /// Whether an answer is just these numbers, with a space between them.
@@ -92,8 +96,7 @@ fn is_answer(name: &str, numbers: [u64; 4], answer: &str) -> bool {
 /// Whether a line of what is asked has this answer; false where it is no case.
 pub fn agrees(asked: &str, answer: &str) -> bool {
     let (name, words) = asked.split_once(' ').unwrap_or((asked, ""));
-    match numbers_of(words) {
-        Some(numbers) => is_answer(name, numbers, answer),
-        None => false,
-    }
+    let mut is_well = true;
+    let numbers = numbers_of(words, &mut is_well);
+    is_well && is_answer(name, numbers, answer)
 }

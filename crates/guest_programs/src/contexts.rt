@@ -9,18 +9,17 @@
 //! The line of a case has its end and the number of steps, and then for each context its program counter, x0 and a
 //! number that all of x0 to x30, sp and tpidr make, in hexadecimal with `.` between them. `tests/threads.py` makes the
 //! lines and works out the answers.
-ghost use Rattle.std.specs.Prelude.{◌≡◌, IfOk, None, false};
+ghost use Rattle.std.specs.Prelude.{◌≡◌, IfSome, None, false};
 
-use crate::PAGES;
-use crate::image::{file_of, lines_of};
+use crate::image::{lines_of, machine_of};
+use crate::items;
 use core_regs::Core;
-use elf_image::read;
 use emu_bits::Reg;
-use emu_machine::{Length, Machine};
+use emu_machine::Length;
 use guest_schedule::{Schedule, ScheduleError, read_schedule};
-use guest_threads::World;
+use guest_threads::{World, WorldEnd};
 use io_gate::{NoFaultSource, StdSink};
-use std::alloc::{AllocError, Global};
+use std::alloc::Global;
 use std::io;
 
 /// The program of the cases that follow, without a length where none was named, and the numbers of cases and of those
@@ -36,8 +35,8 @@ pub struct Contexts {
 /// A program's vector length and its words. None where a line isn't of that form.
 fn program_of(line: &str) -> Option<(Length, &str)> {
     let (length, words) = line.split_once('|')?;
-    let bits = length.split(' ').next()?.parse::<u32>().ok()?;
-    Some((Length::of_bits(bits)?, words))
+    let ([bits, ..], _) = items::parts(length, ' ');
+    Some((items::length(bits)?, words))
 }
 
 /// A case's budget and its schedule. None where a line isn't of that form.
@@ -46,21 +45,14 @@ fn case_of(line: &str) -> Option<(u64, &str)> {
     Some((budget.parse::<u64>().ok()?, schedule))
 }
 
-/// The world of a program's words. Err is want of memory, or words that can't be read.
-fn world_of(alloc: Global, length: Length, words: &str) -> Result<World, AllocError>
-    ensures ended { IfOk result (λ w. w.world.ended ≡ None) }
-    ensures failed { IfOk result (λ w. w.failed ≡ false) }
-    ensures steps { IfOk result (λ w. w.world.steps ≡ 0) }
+/// The world of a program's words. None where they can't be run, or memory is wanting.
+fn world_of(alloc: Global, length: Length, words: &str) -> Option<World>
+    ensures ended { IfSome result (λ w. w.world.ended ≡ None) }
+    ensures failed { IfSome result (λ w. w.failed ≡ false) }
+    ensures steps { IfSome result (λ w. w.world.steps ≡ 0) }
 {
-    let file = file_of(alloc, words)?;
-    let args = Vec::new(alloc);
-    match read(&file, PAGES) {
-        Ok(image) => World::open(
-            alloc,
-            Machine::open(alloc, &file, &image, &args, length, PAGES)?,
-        ),
-        Err(_) => Err(AllocError),
-    }
+    let machine = machine_of(alloc, words, length)?;
+    World::open(alloc, machine).ok()
 }
 
 /// A number that x0 to x30, sp and tpidr make.
@@ -87,6 +79,29 @@ fn show(rt: HostRuntime, world: &World) -> io::Result<()> {
     println!(rt; "")
 }
 
+/// Runs a world on what the guest writes, and says how that ended.
+fn run_world(rt: HostRuntime, world: &mut World, budget: u64, schedule: &Schedule) -> WorldEnd
+    requires ended { world.old.world.ended ≡ None }
+    requires failed { world.old.failed ≡ false }
+    requires steps { world.old.world.steps ≡ 0 }
+{
+    let mut input = NoFaultSource::new(Vec::new(rt.alloc()), 1);
+    let mut output = StdSink::new(rt.stdout());
+    let mut errors = StdSink::new(rt.stderr());
+    world.run(schedule, budget, &mut input, &mut output, &mut errors)
+}
+
+/// Runs a world, and writes how it ended.
+fn play_world(rt: HostRuntime, mut world: World, budget: u64, schedule: &Schedule) -> io::Result<()>
+    requires ended { world.world.ended ≡ None }
+    requires failed { world.failed ≡ false }
+    requires steps { world.world.steps ≡ 0 }
+{
+    let end = run_world(rt, &mut world, budget, schedule);
+    print!(rt; "{end:?} {}:", world.steps())?;
+    show(rt, &world)
+}
+
 impl Contexts {
     /// No program yet.
     pub fn new(alloc: Global) -> Contexts {
@@ -103,15 +118,10 @@ impl Contexts {
         let Some(length) = self.length else {
             return println!(rt; "no program");
         };
-        let Ok(mut world) = world_of(rt.alloc(), length, self.words.as_str()) else {
-            return println!(rt; "no world");
-        };
-        let mut input = NoFaultSource::new(Vec::new(rt.alloc()), 1);
-        let mut output = StdSink::new(rt.stdout());
-        let mut errors = StdSink::new(rt.stderr());
-        let end = world.run(schedule, budget, &mut input, &mut output, &mut errors);
-        print!(rt; "{end:?} {}:", world.steps())?;
-        show(rt, &world)
+        match world_of(rt.alloc(), length, self.words.as_str()) {
+            Some(world) => play_world(rt, world, budget, schedule),
+            None => println!(rt; "no world"),
+        }
     }
 
     /// Goes on with the program of a line.

@@ -1,6 +1,6 @@
 //! Executables, field by field.
 use crate::image::put;
-use crate::items::{number, numbers};
+use crate::items::number;
 use std::alloc::{AllocError, Global};
 
 /// The fields of the first file: an offset, a size in bytes, a value.
@@ -36,19 +36,13 @@ pub fn first(alloc: Global) -> Result<Vec<u8>, AllocError> {
     Ok(file)
 }
 
-/// Changes a file by an item; false where it is no item that does.
-pub fn change(file: &mut Vec<u8>, name: &str, value: &str) -> Option<bool> {
+/// Changes a file by the numbers of an item: a field, or a program header.
+pub fn change(file: &mut [u8], name: &str, numbers: [u64; 8]) -> bool {
     match name {
-        "length" => file.resize(number(value)? as usize, 0).ok()?,
-        "put" => {
-            let [offset, size, value, ..] = numbers(value)?;
-            put(file, offset as usize, size as usize, value);
-        }
-        "header" => put_header(file, numbers(value)?),
-        "words" => put_words(file, value)?,
-        _ => return Some(false),
+        "put" => put(file, numbers[0] as usize, numbers[1] as usize, numbers[2]),
+        _ => put_header(file, numbers),
     }
-    Some(true)
+    true
 }
 
 /// Writes a program header.
@@ -67,12 +61,12 @@ fn put_header(file: &mut [u8], numbers: [u64; 8]) {
 }
 
 /// Writes words from an offset on.
-fn put_words(file: &mut [u8], value: &str) -> Option<()> {
+pub fn put_words(file: &mut [u8], value: &str) -> Option<bool> {
     let mut parts = value.split(',');
     let mut at = number(parts.next()?)? as usize;
     for word in parts {
         put(file, at, 4, number(word)?);
         at = at.saturating_add(4);
     }
-    Some(())
+    Some(true)
 }

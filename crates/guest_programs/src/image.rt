@@ -1,4 +1,9 @@
-//! The executable of a program's words, and texts of several lines that stand in one.
+//! The executable of a program's words, the machine of an executable, and texts of several lines that stand in one.
+ghost use Rattle.std.specs.Prelude.{◌≡◌, IfSome, None, false};
+
+use crate::PAGES;
+use elf_image::read;
+use emu_machine::{Length, Machine, are_arguments};
 use std::alloc::{AllocError, Global};
 
 /// The fields of a file with three program headers, which begins at 0x400000: an offset, a size in bytes, a value.
@@ -79,6 +84,37 @@ pub fn file_of(alloc: Global, words: &str) -> Result<Vec<u8>, AllocError> {
     }
     put_words(&mut file, words);
     Ok(file)
+}
+
+/// The machine of a file. None where the file is no image that can be run, the arguments are too many or too long, or
+/// memory is wanting.
+pub fn open(
+    alloc: Global,
+    file: &[u8],
+    args: &[String],
+    length: Length,
+    pages: u32,
+) -> Option<Machine>
+    ensures failed { IfSome result (λ m. m.failed ≡ false) }
+    ensures steps { IfSome result (λ m. m.parts.steps ≡ 0) }
+    ensures going { IfSome result (λ m. m.parts.ended ≡ None) }
+{
+    let image = read(file, pages).ok()?;
+    if !are_arguments(args) {
+        return None;
+    }
+    Machine::open(alloc, file, &image, args, length, pages).ok()
+}
+
+/// The machine of a program's words. None where they can't be run, or memory is wanting.
+pub fn machine_of(alloc: Global, words: &str, length: Length) -> Option<Machine>
+    ensures failed { IfSome result (λ m. m.failed ≡ false) }
+    ensures steps { IfSome result (λ m. m.parts.steps ≡ 0) }
+    ensures going { IfSome result (λ m. m.parts.ended ≡ None) }
+{
+    let file = file_of(alloc, words).ok()?;
+    let args = Vec::new(alloc);
+    open(alloc, &file, &args, length, PAGES)
 }
 
 /// The text whose lines have `;` between them here.

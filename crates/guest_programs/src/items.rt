@@ -1,5 +1,5 @@
 //! The values of items: numbers, lists of them, and arguments.
-use emu_model::Rights;
+use emu_model::{Length, Rights};
 use std::alloc::{AllocError, Global};
 
 /// A number of decimal digits, or of hexadecimal ones behind `0x`.
@@ -8,11 +8,6 @@ pub fn number(text: &str) -> Option<u64> {
         Some(digits) => u64::from_str_radix(digits, 16).ok(),
         None => text.parse::<u64>().ok(),
     }
-}
-
-/// The same below 2^32.
-pub fn small(text: &str) -> Option<u32> {
-    u32::try_from(number(text)?).ok()
 }
 
 /// Eight numbers, with `,` between them; 0 for one that isn't there.
@@ -27,9 +22,15 @@ pub fn numbers(text: &str) -> Option<[u64; 8]> {
     Some(found)
 }
 
-/// Whether a text has just these numbers, with `,` between them.
-pub fn are_numbers(text: &str, wanted: &[u64]) -> bool {
-    let mut parts = text.split(',');
+/// The number at the front of a value, and what stands behind its `,`, which is empty where there is none.
+pub fn counted(value: &str) -> Option<(u64, &str)> {
+    let (digits, rest) = value.split_once(',').unwrap_or((value, ""));
+    Some((number(digits)?, rest))
+}
+
+/// Whether a text has just these numbers, with a mark between them.
+pub fn are_numbers(text: &str, mark: char, wanted: &[u64]) -> bool {
+    let mut parts = text.split(mark);
     for value in wanted {
         match parts.next() {
             Some(part) if number(part) == Some(*value) => {}
@@ -37,6 +38,25 @@ pub fn are_numbers(text: &str, wanted: &[u64]) -> bool {
         }
     }
     parts.next().is_none()
+}
+
+/// The first four parts of a text with a mark between them, empty where there is none, and how many there are.
+pub fn parts(text: &str, mark: char) -> ([&str; 4], usize) {
+    let mut found = [""; 4];
+    let mut count = 0;
+    let mut rest = text.split(mark);
+    for place in 0..4 {
+        if let Some(part) = rest.next() {
+            found[place] = part;
+            count = place + 1;
+        }
+    }
+    (found, count)
+}
+
+/// A vector length of so many bits.
+pub fn length(bits: &str) -> Option<Length> {
+    Length::of_bits(bits.parse::<u32>().ok()?)
 }
 
 /// Rights as a number.

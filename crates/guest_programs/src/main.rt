@@ -26,7 +26,7 @@ mod sessions;
 
 use crate::contexts::Contexts;
 use crate::images::Images;
-use io_gate::FileImages;
+use std::alloc::Global;
 use std::io;
 
 /// So many pages of the guest may be mapped.
@@ -55,37 +55,66 @@ fn kind_of(name: &str) -> Kind {
     }
 }
 
-/// Writes what is to be said behind the lines of a kind.
-fn end(rt: HostRuntime, kind: Kind, images: &Images, contexts: &Contexts) -> io::Result<()> {
-    match kind {
-        Kind::Image => images.count(rt),
-        Kind::Context => contexts.count(rt),
-        _ => Ok(()),
+/// What the lines are, and what is kept from line to line.
+#[derive(Drop)]
+struct Reader {
+    kind: Kind,
+    images: Images,
+    contexts: Contexts,
+}
+
+impl Reader {
+    /// No kind yet.
+    fn new(alloc: Global) -> Reader {
+        Reader {
+            kind: Kind::Unknown,
+            images: Images::new(alloc),
+            contexts: Contexts::new(alloc),
+        }
+    }
+
+    /// Writes what is to be said behind the lines of a kind.
+    fn end(&self, rt: HostRuntime) -> io::Result<()> {
+        match self.kind {
+            Kind::Image => self.images.count(rt),
+            Kind::Context => self.contexts.count(rt),
+            _ => Ok(()),
+        }
+    }
+
+    /// Goes on with the kind of a name.
+    fn turn_to(&mut self, rt: HostRuntime, name: &str) -> io::Result<()> {
+        self.end(rt)?;
+        self.kind = kind_of(name);
+        println!(rt; "= {name}")
+    }
+
+    /// Obeys a line of the kind.
+    fn play(&mut self, rt: HostRuntime, line: &str) -> io::Result<()> {
+        match self.kind {
+            Kind::Program => programs::play(rt, line),
+            Kind::Session => sessions::play(rt, line),
+            Kind::Schedule => schedules::play(rt, line),
+            Kind::Image => self.images.play(rt, line),
+            Kind::Context => self.contexts.play(rt, line),
+            Kind::Unknown => println!(rt; "no kind: {line}"),
+        }
+    }
+
+    /// Obeys a line.
+    fn obey(&mut self, rt: HostRuntime, line: &str) -> io::Result<()> {
+        match line.strip_prefix("= ") {
+            Some(name) => self.turn_to(rt, name),
+            None => self.play(rt, line),
+        }
     }
 }
 
 fn main(rt: HostRuntime) -> io::Result<()> {
-    let mut files = FileImages::new(&rt);
-    let mut images = Images::new(rt.alloc());
-    let mut contexts = Contexts::new(rt.alloc());
-    let mut kind = Kind::Unknown;
+    let mut reader = Reader::new(rt.alloc());
     for line in rt.lines(rt.alloc()) {
         let line = line?;
-        let text = line.as_str();
-        if let Some(name) = text.strip_prefix("= ") {
-            end(rt, kind, &images, &contexts)?;
-            kind = kind_of(name);
-            println!(rt; "{line}")?;
-            continue;
-        }
-        match kind {
-            Kind::Program => programs::play(rt, &mut files, text)?,
-            Kind::Session => sessions::play(rt, text)?,
-            Kind::Schedule => schedules::play(rt, text)?,
-            Kind::Image => images.play(rt, text)?,
-            Kind::Context => contexts.play(rt, text)?,
-            Kind::Unknown => println!(rt; "no kind: {line}")?,
-        }
+        reader.obey(rt, line.as_str())?;
     }
-    end(rt, kind, &images, &contexts)
+    reader.end(rt)
 }

@@ -1,8 +1,8 @@
 //! What is so of a machine.
-use crate::items::{number, of_rights};
+use crate::items::{are_numbers, counted, number, of_rights};
 use emu_bits::Reg;
 use emu_machine::{Ended, Machine};
-use emu_model::PAGE_SIZE;
+use emu_model::{PAGE_SIZE, Trap};
 use emu_report::put_registers;
 use io_gate::MemSink;
 use std::alloc::Global;
@@ -11,13 +11,10 @@ use std::alloc::Global;
 pub fn is_so(alloc: Global, machine: &Machine, name: &str, value: &str) -> Option<bool> {
     match name {
         "monitor" => Some(machine.core().monitor().is_none() && value == "none"),
-        "steps" => Some(machine.steps() == number(value)?),
-        "ending" => has_ending(alloc, machine, value),
-        "signal" => match machine.ending()? {
-            Ended::Trap(trap) => Some(u64::from(trap.signal()) == number(value)?),
-            Ended::Exit(_) => None,
-        },
-        "accesses" => has_accesses(machine, value),
+        "steps" => Some(number(value) == Some(machine.steps())),
+        "ending" => Some(has_ending(alloc, machine, value)),
+        "signal" => Some(has_signal(machine, value)),
+        "accesses" => Some(has_accesses(machine, value)),
         "stack" | "word" | "bytes" | "zeros" | "unmapped" | "page" | "mapped" => {
             has_memory(machine, name, value)
         }
@@ -25,48 +22,53 @@ pub fn is_so(alloc: Global, machine: &Machine, name: &str, value: &str) -> Optio
     }
 }
 
-/// Whether a machine has ended so, and whether it knows.
-fn has_ending(alloc: Global, machine: &Machine, value: &str) -> Option<bool> {
+/// Whether a machine has ended by a trap of this signal.
+fn has_signal(machine: &Machine, value: &str) -> bool {
     match machine.ending() {
-        None => match value {
-            "fault" => Some(machine.ended()),
-            "none" => Some(!machine.ended()),
-            _ => Some(false),
-        },
-        Some(Ended::Exit(code)) => {
-            let wanted = number(value.strip_prefix("exit/")?)?;
-            Some(machine.ended() && wanted == u64::from(code))
-        }
-        Some(Ended::Trap(trap)) => {
-            let (kind, address) = value.strip_prefix("trap/")?.split_once('/')?;
-            let found = format!(in alloc; "{:?}", trap.kind).ok()?;
-            let is_address = number(address)? == trap.address;
-            Some(machine.ended() && found.as_str() == kind && is_address)
-        }
+        Some(Ended::Trap(trap)) => number(value) == Some(u64::from(trap.signal())),
+        _ => false,
     }
 }
 
+/// Whether a machine has ended so, and whether it knows.
+fn has_ending(alloc: Global, machine: &Machine, value: &str) -> bool {
+    match machine.ending() {
+        None if machine.ended() => value == "fault",
+        None => value == "none",
+        Some(Ended::Exit(code)) => machine.ended() && is_exit(code, value),
+        Some(Ended::Trap(trap)) => machine.ended() && is_trap(alloc, trap, value) == Some(true),
+    }
+}
+
+/// Whether this is an exit by a code.
+fn is_exit(code: u8, value: &str) -> bool {
+    match value.strip_prefix("exit/") {
+        Some(text) => number(text) == Some(u64::from(code)),
+        None => false,
+    }
+}
+
+/// Whether this is a trap. None where memory is wanting, or the item isn't in its form.
+fn is_trap(alloc: Global, trap: Trap, value: &str) -> Option<bool> {
+    let (kind, address) = value.strip_prefix("trap/")?.split_once('/')?;
+    let found = format!(in alloc; "{:?}", trap.kind).ok()?;
+    Some(found.as_str() == kind && number(address) == Some(trap.address))
+}
+
 /// Whether the accesses of the last step are these.
-fn has_accesses(machine: &Machine, value: &str) -> Option<bool> {
+fn has_accesses(machine: &Machine, value: &str) -> bool {
     if value == "-" {
-        return Some(machine.accesses().is_empty());
+        return machine.accesses().is_empty();
     }
     let mut wanted = value.split(',');
     for access in machine.accesses() {
-        let (address, rest) = wanted.next()?.split_once('/')?;
-        let (bytes, kind) = rest.split_once('/')?;
-        let found = (number(address)?, number(bytes)?, number(kind)?);
-        if found
-            != (
-                access.address,
-                u64::from(access.bytes),
-                u64::from(access.write),
-            )
-        {
-            return Some(false);
+        let (bytes, write) = (u64::from(access.bytes), u64::from(access.write));
+        let text = wanted.next().unwrap_or("");
+        if !are_numbers(text, '/', &[access.address, bytes, write]) {
+            return false;
         }
     }
-    Some(wanted.next().is_none())
+    wanted.next().is_none()
 }
 
 /// The 8 bytes at an address as a number, or none where one of them isn't mapped.
@@ -79,27 +81,29 @@ fn word_at(machine: &Machine, address: u64) -> Option<u64> {
 }
 
 /// Whether words of 8 bytes stand from an address on.
-fn has_words(machine: &Machine, address: u64, value: &str) -> Option<bool> {
+fn has_words(machine: &Machine, address: u64, value: &str) -> bool {
     let mut at = address;
+    let mut are = true;
     for word in value.split(',') {
-        if word_at(machine, at)? != number(word)? {
-            return Some(false);
-        }
+        let wanted = number(word);
+        are = are && wanted.is_some() && word_at(machine, at) == wanted;
         at = at.wrapping_add(8);
     }
-    Some(true)
+    are
 }
 
 /// Whether bytes stand from an address on.
-fn has_bytes(machine: &Machine, address: u64, value: &str) -> Option<bool> {
+fn has_bytes(machine: &Machine, address: u64, value: &str) -> bool {
     let mut at = address;
+    let mut are = true;
     for byte in value.split(',') {
-        if u64::from(machine.mem().peek(at)?) != number(byte)? {
-            return Some(false);
-        }
+        are = match machine.mem().peek(at) {
+            Some(found) => are && number(byte) == Some(u64::from(found)),
+            None => false,
+        };
         at = at.wrapping_add(1);
     }
-    Some(true)
+    are
 }
 
 /// Whether so many zeros stand from an address on.
@@ -111,50 +115,86 @@ fn has_zeros(machine: &Machine, address: u64, count: u64) -> bool {
     are
 }
 
-/// The address of an item, and what stands behind it.
-fn at(value: &str) -> Option<(u64, &str)> {
-    let (address, rest) = value.split_once(',').unwrap_or((value, ""));
-    Some((number(address)?, rest))
-}
-
-/// Whether the memory is as an item has it.
+/// Whether the memory is as an item has it. None where the item isn't in its form.
 fn has_memory(machine: &Machine, name: &str, value: &str) -> Option<bool> {
     if name == "stack" {
-        return has_words(machine, machine.core().x_sp(Reg::at(31, 0)), value);
+        let pointer = machine.core().x_sp(Reg::at(31, 0));
+        return Some(has_words(machine, pointer, value));
     }
-    let pages = machine.mem().pages();
-    let (address, rest) = at(value)?;
+    let (address, rest) = counted(value)?;
     match name {
-        "word" => has_words(machine, address, rest),
-        "bytes" => has_bytes(machine, address, rest),
+        "word" => Some(has_words(machine, address, rest)),
+        "bytes" => Some(has_bytes(machine, address, rest)),
         "zeros" => Some(has_zeros(machine, address, number(rest)?)),
         "unmapped" => Some(machine.mem().peek(address).is_none()),
-        "mapped" => Some(u64::from(pages.mapped()) == address),
-        _ => {
-            let (rights, _) = pages.find(address / PAGE_SIZE)?;
-            Some(of_rights(rights) == number(rest)?)
-        }
+        "mapped" => Some(u64::from(machine.mem().pages().mapped()) == address),
+        _ => Some(is_page(machine, address, number(rest)?)),
+    }
+}
+
+/// Whether a page is mapped with these rights.
+fn is_page(machine: &Machine, address: u64, rights: u64) -> bool {
+    match machine.mem().pages().find(address / PAGE_SIZE) {
+        Some((found, _)) => of_rights(found) == rights,
+        None => false,
+    }
+}
+
+/// The lines of the registers. None where memory is wanting.
+fn registers_of(alloc: Global, machine: &Machine) -> Option<MemSink> {
+    let mut sink = MemSink::new(alloc, 1 << 20, Vec::new(alloc));
+    match put_registers(machine.core(), machine.vec(), &mut sink) {
+        Ok(()) => Some(sink),
+        Err(_) => None,
     }
 }
 
 /// Whether the lines of the registers have this text behind a name; or name just these where their text has another
-/// digit than 0.
+/// digit than 0. None where memory is wanting.
 fn has_register(alloc: Global, machine: &Machine, name: &str, value: &str) -> Option<bool> {
-    let mut sink = MemSink::new(alloc, 1 << 20, Vec::new(alloc));
-    put_registers(machine.core(), machine.vec(), &mut sink).ok()?;
-    let mut wanted = value.split(',');
-    for line in std::str::from_utf8(sink.kept()).ok()?.lines() {
-        let (register, text) = line.split_once(' ')?;
+    let sink = registers_of(alloc, machine)?;
+    match std::str::from_utf8(sink.kept()) {
+        Ok(lines) => Some(has_line(lines, name, value)),
+        Err(_) => None,
+    }
+}
+
+/// Whether lines have this text behind a name; or name just these where their text has another digit than 0.
+fn has_line(lines: &str, name: &str, value: &str) -> bool {
+    if name == "nonzero" {
+        return are_nonzero(lines, value);
+    }
+    text_of(lines, name) == Some(value)
+}
+
+/// What stands behind a name in lines.
+fn text_of<'a>(lines: &'a str, name: &str) -> Option<&'a str> {
+    for line in lines.lines() {
+        let (register, text) = line.split_once(' ').unwrap_or(("", line));
         if register == name {
-            return Some(text == value);
-        }
-        let is_named = name == "nonzero" && !text.as_bytes().iter().all(|byte| *byte == b'0');
-        if is_named {
-            let next = wanted.next()?;
-            if next != register {
-                return Some(false);
-            }
+            return Some(text);
         }
     }
-    Some(name == "nonzero" && wanted.next().is_none())
+    None
+}
+
+/// Whether a text has no other digit than 0.
+fn is_zero(text: &str) -> bool {
+    let mut are = true;
+    for byte in text.as_bytes() {
+        are = are && *byte == b'0';
+    }
+    are
+}
+
+/// Whether just these names have another digit than 0 behind them in lines.
+fn are_nonzero(lines: &str, names: &str) -> bool {
+    let mut wanted = names.split(',');
+    for line in lines.lines() {
+        let (register, text) = line.split_once(' ').unwrap_or(("", line));
+        if !is_zero(text) && wanted.next() != Some(register) {
+            return false;
+        }
+    }
+    wanted.next().is_none()
 }

@@ -1,9 +1,10 @@
 //! A case: its file and its machine, and the items of its line one after the other.
 use crate::PAGES;
-use crate::file::{change, first};
-use crate::items::{are_numbers, arguments, number, numbers, of_rights, small};
+use crate::file::{change, first, put_words};
+use crate::image::open;
+use crate::items::{are_numbers, arguments, counted, number, numbers, of_rights, parts};
 use crate::opened::is_so;
-use elf_image::read;
+use elf_image::{Image, read};
 use emu_machine::{Length, Machine, RunEnd, StepEnd, are_arguments};
 use io_gate::{MemSink, NoFaultSource};
 use std::alloc::Global;
@@ -44,21 +45,6 @@ pub fn difference<'a>(alloc: Global, start: &'a str, line: &'a str) -> Option<&'
     }
 }
 
-/// The machine of a file. None where the file is refused or memory is wanting.
-fn open(
-    alloc: Global,
-    file: &[u8],
-    args: &[String],
-    length: Length,
-    pages: u32,
-) -> Option<Machine> {
-    let image = read(file, pages).ok()?;
-    if !are_arguments(args) {
-        return None;
-    }
-    Machine::open(alloc, file, &image, args, length, pages).ok()
-}
-
 /// A sink that takes so many bytes by one put, of which one may fail.
 fn sink(alloc: Global, portion: u64, fail: Option<u64>) -> Option<MemSink> {
     let mut fails = Vec::new(alloc);
@@ -84,80 +70,114 @@ fn is_end(end: RunEnd, name: &str) -> bool {
     }
 }
 
-/// Takes a step of a machine, or runs it on to a number of steps, and whether that ends so. None where it has ended or
-/// has taken more.
+/// Takes a step of a machine, and whether that doesn't end it. None where it has ended.
 fn goes(
     alloc: Global,
     machine: &mut Machine,
-    value: &str,
     output: &mut MemSink,
     errors: &mut MemSink,
 ) -> Option<bool> {
+    if machine.ended() || machine.steps() == u64::MAX {
+        return None;
+    }
     let mut input = NoFaultSource::new(Vec::new(alloc), 1);
-    let Some((budget, end)) = value.split_once(',') else {
-        if machine.ended() || machine.steps() == u64::MAX {
-            return None;
-        }
-        let found = machine.step(&mut input, output, errors);
-        return Some(found == StepEnd::Going && value == "going");
-    };
-    let budget = number(budget)?;
+    Some(machine.step(&mut input, output, errors) == StepEnd::Going)
+}
+
+/// Runs a machine on to a number of steps, and whether that ends by what is named. None where it has ended or has
+/// taken more.
+fn runs(
+    alloc: Global,
+    machine: &mut Machine,
+    budget: u64,
+    end: &str,
+    output: &mut MemSink,
+    errors: &mut MemSink,
+) -> Option<bool> {
     if machine.ended() || machine.steps() > budget {
         return None;
     }
+    let mut input = NoFaultSource::new(Vec::new(alloc), 1);
     let found = machine.run(budget, &mut input, output, errors);
     Some(is_end(found, end))
+}
+
+/// Whether a program may be started with arguments. None where memory is wanting.
+fn are_taken(alloc: Global, value: &str) -> Option<bool> {
+    let args = arguments(alloc, value).ok()?;
+    Some(are_arguments(&args))
+}
+
+/// Whether a sink has been given this text.
+fn has_kept(sink: &MemSink, value: &str) -> bool {
+    sink.kept() == value.as_bytes()
 }
 
 impl Scene {
     /// The first file, and no machine.
     fn of(alloc: Global) -> Option<Scene> {
+        let length = Length::of_bits(128)?;
+        let file = first(alloc).ok()?;
         Some(Scene {
             alloc,
-            file: first(alloc).ok()?,
+            file,
             pages: PAGES,
-            length: Length::of_bits(128)?,
+            length,
             portion: 8,
             fail: None,
             machine: None,
-            output: sink(alloc, 8, None)?,
-            errors: sink(alloc, 8, None)?,
+            output: MemSink::new(alloc, 8, Vec::new(alloc)),
+            errors: MemSink::new(alloc, 8, Vec::new(alloc)),
         })
     }
 
     /// Whether an item is as the line has it. None where it isn't in its form.
     fn meets(&mut self, item: &str) -> Option<bool> {
         let (name, value) = item.split_once('=')?;
-        if change(&mut self.file, name, value)? {
-            return Some(true);
-        }
         match name {
-            "pages" => self.pages = small(value)?,
-            "vl" => self.length = Length::of_bits(small(value)?)?,
-            "portion" => self.portion = number(value)?,
-            "fail" => self.fail = Some(number(value)?),
-            "open" => self.opens(value)?,
-            "run" | "step" => {
-                let machine = self.machine.as_mut()?;
-                return goes(
-                    self.alloc,
-                    machine,
-                    value,
-                    &mut self.output,
-                    &mut self.errors,
-                );
-            }
-            _ => return self.has(name, value),
+            "words" => put_words(&mut self.file, value),
+            "put" | "header" => Some(change(&mut self.file, name, numbers(value)?)),
+            "length" | "pages" | "vl" | "portion" | "fail" => self.set(name, number(value)?),
+            "open" => self.opens(value),
+            "step" => self.steps(value),
+            "run" => self.runs(value),
+            _ => self.has(name, value),
+        }
+    }
+
+    /// Sets the file's length, or how the machine is opened. None where that can't be so, or memory is wanting.
+    fn set(&mut self, name: &str, number: u64) -> Option<bool> {
+        match name {
+            "length" => self.file.resize(number as usize, 0).ok()?,
+            "portion" => self.portion = number,
+            "fail" => self.fail = Some(number),
+            "pages" => self.pages = u32::try_from(number).ok()?,
+            _ => self.length = Length::of_bits(u32::try_from(number).ok()?)?,
         }
         Some(true)
     }
 
     /// Opens the machine.
-    fn opens(&mut self, value: &str) -> Option<()> {
+    fn opens(&mut self, value: &str) -> Option<bool> {
         let args = arguments(self.alloc, value).ok()?;
         self.machine = Some(open(self.alloc, &self.file, &args, self.length, self.pages)?);
         self.output = sink(self.alloc, self.portion, self.fail)?;
-        Some(())
+        Some(true)
+    }
+
+    /// Takes a step of the machine.
+    fn steps(&mut self, value: &str) -> Option<bool> {
+        let machine = self.machine.as_mut()?;
+        let is_going = goes(self.alloc, machine, &mut self.output, &mut self.errors)?;
+        Some(is_going && value == "going")
+    }
+
+    /// Runs the machine on.
+    fn runs(&mut self, value: &str) -> Option<bool> {
+        let (budget, end) = counted(value)?;
+        let machine = self.machine.as_mut()?;
+        let (output, errors) = (&mut self.output, &mut self.errors);
+        runs(self.alloc, machine, budget, end, output, errors)
     }
 
     /// Whether the file, the arguments, the output or the machine are so.
@@ -166,12 +186,10 @@ impl Scene {
             "refused" => self.is_refused(&self.file, value),
             "cuts" => self.has_cuts(value),
             "image" | "segment" => self.has_image(name, value),
-            "taken" | "untaken" => {
-                let args = arguments(self.alloc, value).ok()?;
-                Some(are_arguments(&args) == (name == "taken"))
-            }
-            "output" => Some(self.output.kept() == value.as_bytes()),
-            "errors" => Some(self.errors.kept() == value.as_bytes()),
+            "taken" => are_taken(self.alloc, value),
+            "untaken" => Some(are_taken(self.alloc, value) == Some(false)),
+            "output" => Some(has_kept(&self.output, value)),
+            "errors" => Some(has_kept(&self.errors, value)),
             _ => is_so(self.alloc, self.machine.as_ref()?, name, value),
         }
     }
@@ -185,14 +203,15 @@ impl Scene {
 
     /// Whether the file is refused by a fault where it is cut to any of these lengths.
     fn has_cuts(&self, value: &str) -> Option<bool> {
-        let (least, rest) = value.split_once(',')?;
-        let (end, name) = rest.split_once(',')?;
+        let ([least, end, name, ..], count) = parts(value, ',');
+        if count != 3 {
+            return None;
+        }
         for length in number(least)?..number(end)? {
             let length = length as usize;
-            if length > self.file.len() {
-                return Some(false);
-            }
-            if !self.is_refused(&self.file[..length], name)? {
+            if length > self.file.len()
+                || self.is_refused(&self.file[..length], name) != Some(true)
+            {
                 return Some(false);
             }
         }
@@ -203,21 +222,31 @@ impl Scene {
     fn has_image(&self, name: &str, value: &str) -> Option<bool> {
         let image = read(&self.file, self.pages).ok()?;
         if name == "image" {
-            let phnum = u64::from(image.phnum);
-            let count = image.segments.len() as u64;
-            return Some(are_numbers(value, &[image.entry, image.phdr, phnum, count]));
+            return Some(is_image(&image, value));
         }
-        let [place, ..] = numbers(value)?;
-        let segment = image.segments.as_slice().get(place as usize)?;
-        let found = [
-            place,
-            u64::from(segment.index),
-            segment.address,
-            segment.offset,
-            segment.file_size,
-            segment.memory_size,
-            of_rights(segment.rights),
-        ];
-        Some(are_numbers(value, &found))
+        has_segment(&image, value)
     }
+}
+
+/// Whether an image is so.
+fn is_image(image: &Image, value: &str) -> bool {
+    let phnum = u64::from(image.phnum);
+    let count = image.segments.len() as u64;
+    are_numbers(value, ',', &[image.entry, image.phdr, phnum, count])
+}
+
+/// Whether a segment of an image is so.
+fn has_segment(image: &Image, value: &str) -> Option<bool> {
+    let [place, ..] = numbers(value)?;
+    let segment = image.segments.as_slice().get(place as usize)?;
+    let found = [
+        place,
+        u64::from(segment.index),
+        segment.address,
+        segment.offset,
+        segment.file_size,
+        segment.memory_size,
+        of_rights(segment.rights),
+    ];
+    Some(are_numbers(value, ',', &found))
 }

@@ -9,12 +9,13 @@ ghost use Rattle.dbg_model.specs.Commands.{has_back};
 ghost use Rattle.emu_machine.specs.Machines.{has_ended};
 
 use crate::PAGES;
-use crate::image::{file_of, lines_of};
+use crate::image::{file_of, lines_of, machine_of};
+use crate::items::{length, parts};
 use dbg_back::{BackEnd, session_back};
 use dbg_core::{Script, ScriptError, SessionEnd, read_script, session};
 use elf_image::read;
 use emu_machine::{Length, Machine};
-use io_gate::{Sink, SliceSource, StdSink};
+use io_gate::{SliceSource, StdSink};
 use std::alloc::{AllocError, Global};
 use std::io;
 
@@ -30,32 +31,18 @@ struct Case<'a> {
 
 /// What a line asks for. None where it isn't of that form.
 fn case_of(line: &str) -> Option<Case<'_>> {
-    let mut parts = line.split('|');
-    let mut numbers = parts.next()?.split(' ');
-    let length = Length::of_bits(numbers.next()?.parse::<u32>().ok()?)?;
-    let budget = numbers.next()?.parse::<u64>().ok()?;
-    let words = parts.next()?;
-    let script = parts.next()?;
-    let input = parts.next().unwrap_or("");
+    let ([numbers, words, script, input], count) = parts(line, '|');
+    if count < 3 {
+        return None;
+    }
+    let ([bits, budget, ..], _) = parts(numbers, ' ');
     Some(Case {
-        length,
-        budget,
+        length: length(bits)?,
+        budget: budget.parse::<u64>().ok()?,
         words,
         script,
         input,
     })
-}
-
-/// The machine of a program's words. Err is want of memory, or words that can't be read.
-fn machine_of(alloc: Global, case: &Case) -> Result<Machine, AllocError>
-    ensures { IfOk result (λ m. m.failed ≡ false) }
-{
-    let file = file_of(alloc, case.words)?;
-    let args = Vec::new(alloc);
-    match read(&file, PAGES) {
-        Ok(image) => Machine::open(alloc, &file, &image, &args, case.length, PAGES),
-        Err(_) => Err(AllocError),
-    }
 }
 
 /// The machine of a program's words, with marks, which are none. Err is want of memory, or words that can't be read.
@@ -94,16 +81,10 @@ fn name_of_back_end(end: BackEnd) -> &'static str {
 }
 
 /// Runs the session of a script that goes forward, and says how it ended.
-fn forward<O: Sink, E: Sink>(
-    alloc: Global,
-    case: &Case,
-    script: &Script,
-    output: &mut O,
-    errors: &mut E,
-) -> &'static str
+fn forward(rt: HostRuntime, case: &Case, script: &Script) -> &'static str
     requires { has_back script.now ≡ false }
 {
-    let Ok(mut machine) = machine_of(alloc, case) else {
+    let Some(mut machine) = machine_of(rt.alloc(), case.words, case.length) else {
         return "no machine";
     };
     let mut input = SliceSource::new(case.input.as_bytes());
@@ -112,20 +93,14 @@ fn forward<O: Sink, E: Sink>(
         script,
         case.budget,
         &mut input,
-        output,
-        errors,
+        &mut StdSink::new(rt.stdout()),
+        &mut StdSink::new(rt.stderr()),
     ))
 }
 
 /// Runs the session of a script that may go back, and says how it ended.
-fn back<O: Sink, E: Sink>(
-    alloc: Global,
-    case: &Case,
-    script: &Script,
-    output: &mut O,
-    errors: &mut E,
-) -> &'static str {
-    let Ok(mut machine) = marked_machine_of(alloc, case) else {
+fn back(rt: HostRuntime, case: &Case, script: &Script) -> &'static str {
+    let Ok(mut machine) = marked_machine_of(rt.alloc(), case) else {
         return "no machine";
     };
     name_of_back_end(session_back(
@@ -133,9 +108,18 @@ fn back<O: Sink, E: Sink>(
         script,
         case.budget,
         case.input.as_bytes(),
-        output,
-        errors,
+        &mut StdSink::new(rt.stdout()),
+        &mut StdSink::new(rt.stderr()),
     ))
+}
+
+/// Runs the session of a script, and says how it ended.
+fn run(rt: HostRuntime, case: &Case, script: &Script) -> &'static str {
+    if script.has_back() {
+        back(rt, case, script)
+    } else {
+        forward(rt, case, script)
+    }
 }
 
 /// Runs the session of a line, and writes how it ended.
@@ -146,19 +130,14 @@ pub fn play(rt: HostRuntime, line: &str) -> io::Result<()> {
     let Ok(text) = lines_of(rt.alloc(), case.script) else {
         return println!(rt; "no memory: {line}");
     };
-    let script = match read_script(rt.alloc(), text.as_str()) {
-        Ok(script) => script,
-        Err(ScriptError::Refused(fault)) => {
-            return println!(rt; "refused script {:?} at line {}", fault.why, fault.line);
+    match read_script(rt.alloc(), text.as_str()) {
+        Ok(script) => {
+            let end = run(rt, &case, &script);
+            println!(rt; "{end}")
         }
-        Err(ScriptError::OutOfMemory) => return println!(rt; "no memory: {line}"),
-    };
-    let mut output = StdSink::new(rt.stdout());
-    let mut errors = StdSink::new(rt.stderr());
-    let end = if script.has_back() {
-        back(rt.alloc(), &case, &script, &mut output, &mut errors)
-    } else {
-        forward(rt.alloc(), &case, &script, &mut output, &mut errors)
-    };
-    println!(rt; "{end}")
+        Err(ScriptError::Refused(fault)) => {
+            println!(rt; "refused script {:?} at line {}", fault.why, fault.line)
+        }
+        Err(ScriptError::OutOfMemory) => println!(rt; "no memory: {line}"),
+    }
 }

@@ -6,7 +6,6 @@ ghost use Rattle.lane_kernels.specs.Chunks.{zip3};
 use lane_kernels::kernels::{Op1, Op2, Op3, Test2, compare, map1, map2, map3};
 use std::cell::Cell;
 use std::simd::Simd;
-use std::test::Fail;
 
 /// Calls of the lane function, and of the chunk function.
 #[derive(Drop)]
@@ -29,6 +28,11 @@ impl Counted {
 
     fn count_chunk(&self) {
         self.chunks.set(self.chunks.get().wrapping_add(1));
+    }
+
+    /// The calls of the chunk function, and of the lane function.
+    fn calls(&self) -> (u32, u32) {
+        (self.chunks.get(), self.lanes.get())
     }
 }
 
@@ -113,33 +117,54 @@ impl<const W: usize> Test2<u8, W> for Counted {
     }
 }
 
-#[test]
-fn two_chunks_and_a_lane(rt: HostRuntime) -> Result<(), Fail> {
-    let a = [200u8; 65];
-    let b = [100u8; 65];
-    let mut out = [0u8; 65];
-    let one = Counted::new();
-    map1::<u8, Counted, 32>(&one, &a, &mut out);
-    assert_eq!(rt; out, [201u8; 65]);
-    assert_eq!(rt; (one.chunks.get(), one.lanes.get()), (2, 1));
-    let two = Counted::new();
-    map2::<u8, Counted, 32>(&two, &a, &b, &mut out);
-    assert_eq!(rt; out, [44u8; 65]);
-    assert_eq!(rt; (two.chunks.get(), two.lanes.get()), (2, 1));
-    let three = Counted::new();
-    map3::<u8, Counted, 32>(&three, &a, &b, &b, &mut out);
-    assert_eq!(rt; out, [144u8; 65]);
-    assert_eq!(rt; (three.chunks.get(), three.lanes.get()), (2, 1));
-    let four = Counted::new();
+/// Two chunks and a lane of the first operand.
+const A: [u8; 65] = [200; 65];
+
+/// Two chunks and a lane of the other operands.
+const B: [u8; 65] = [100; 65];
+
+/// What an operation on one operand makes, and its calls.
+fn mapped_one() -> ([u8; 65], (u32, u32)) {
+    let mut out = [0; 65];
+    let counted = Counted::new();
+    map1::<u8, Counted, 32>(&counted, &A, &mut out);
+    (out, counted.calls())
+}
+
+/// The same on two operands.
+fn mapped_two() -> ([u8; 65], (u32, u32)) {
+    let mut out = [0; 65];
+    let counted = Counted::new();
+    map2::<u8, Counted, 32>(&counted, &A, &B, &mut out);
+    (out, counted.calls())
+}
+
+/// The same on three operands.
+fn mapped_three() -> ([u8; 65], (u32, u32)) {
+    let mut out = [0; 65];
+    let counted = Counted::new();
+    map3::<u8, Counted, 32>(&counted, &A, &B, &B, &mut out);
+    (out, counted.calls())
+}
+
+/// What a test of two operands tells, and its calls.
+fn compared() -> ([bool; 65], (u32, u32)) {
     let mut told = [false; 65];
-    compare::<u8, Counted, 32>(&four, &a, &a, &mut told);
-    assert_eq!(rt; told, [true; 65]);
-    assert_eq!(rt; (four.chunks.get(), four.lanes.get()), (2, 1));
-    Ok(())
+    let counted = Counted::new();
+    compare::<u8, Counted, 32>(&counted, &A, &A, &mut told);
+    (told, counted.calls())
 }
 
 #[test]
-fn no_lanes_no_calls(rt: HostRuntime) -> Result<(), Fail> {
+fn two_chunks_and_a_lane(rt: HostRuntime) {
+    assert_eq!(rt; mapped_one(), ([201; 65], (2, 1)));
+    assert_eq!(rt; mapped_two(), ([44; 65], (2, 1)));
+    assert_eq!(rt; mapped_three(), ([144; 65], (2, 1)));
+    assert_eq!(rt; compared(), ([true; 65], (2, 1)));
+}
+
+#[test]
+fn no_lanes_no_calls(rt: HostRuntime) {
     let none = Counted::new();
     let mut out = [0u8; 0];
     let mut told = [false; 0];
@@ -147,6 +172,5 @@ fn no_lanes_no_calls(rt: HostRuntime) -> Result<(), Fail> {
     map2::<u8, Counted, 32>(&none, &[], &[], &mut out);
     map3::<u8, Counted, 32>(&none, &[], &[], &[], &mut out);
     compare::<u8, Counted, 32>(&none, &[], &[], &mut told);
-    assert_eq!(rt; (none.chunks.get(), none.lanes.get()), (0, 0));
-    Ok(())
+    assert_eq!(rt; none.calls(), (0, 0));
 }

@@ -29,8 +29,7 @@ fn gives<S: Source>(
             Err(Failed) => failed = failed.saturating_add(1),
         }
     }
-    assert_eq!(rt; bytes.as_slice(), want.0);
-    assert_eq!(rt; failed, want.1);
+    assert_eq!(rt; (bytes.as_slice(), failed), want);
     Ok(())
 }
 
@@ -90,14 +89,30 @@ impl Write for Stalled {
     }
 }
 
+/// The number of a call that fails.
+fn one(alloc: Global, call: u64) -> Result<Vec<u64>, AllocError> {
+    let mut fails = Vec::new(alloc);
+    fails.push(call)?;
+    Ok(fails)
+}
+
+/// A source of five bytes, two a call, whose second call fails.
+fn failing_source(alloc: Global) -> Result<MemSource, AllocError> {
+    let fails = one(alloc, 1)?;
+    Ok(MemSource::new(FIVE.to_vec(alloc)?, 2, fails))
+}
+
+/// A source of five bytes, nine a call, of which none fails.
+fn whole_source(alloc: Global) -> Result<NoFaultSource, AllocError> {
+    Ok(NoFaultSource::new(FIVE.to_vec(alloc)?, 9))
+}
+
 #[test]
 fn sources_in_memory_give_all(rt: HostRuntime) -> Result<(), Fail> {
-    let mut fails = Vec::new(rt.alloc());
-    fails.push(1)?;
-    let mut source = MemSource::new(FIVE.to_vec(rt.alloc())?, 2, fails);
-    gives(&rt, rt.alloc(), &mut source, 5, (FIVE, 1))?;
-    let mut source = NoFaultSource::new(FIVE.to_vec(rt.alloc())?, 9);
-    gives(&rt, rt.alloc(), &mut source, 3, (FIVE, 0))?;
+    let mut failing = failing_source(rt.alloc())?;
+    let mut whole = whole_source(rt.alloc())?;
+    gives(&rt, rt.alloc(), &mut failing, 5, (FIVE, 1))?;
+    gives(&rt, rt.alloc(), &mut whole, 3, (FIVE, 0))?;
     Ok(())
 }
 
@@ -106,12 +121,13 @@ fn a_put_that_fails_leaves_a_prefix(rt: HostRuntime) -> Result<(), Fail> {
     let mut fails = Vec::new(rt.alloc());
     fails.push(1)?;
     let mut sink = MemSink::new(rt.alloc(), 4, fails);
-    assert_eq!(rt; put_all(&mut sink, b"123456"), Err(Failed));
-    assert_eq!(rt; sink.kept(), b"1234".as_slice());
-    assert_eq!(rt; put_all(&mut sink, b"789ab"), Ok(()));
-    assert_eq!(rt; put_all(&mut sink, b""), Ok(()));
-    assert_eq!(rt; sink.kept(), b"1234789ab".as_slice());
-    assert_eq!(rt; sink.wanting(), 0);
+    let failed = put_all(&mut sink, b"123456");
+    let is_prefix = sink.kept() == b"1234".as_slice();
+    let more = put_all(&mut sink, b"789ab");
+    let none = put_all(&mut sink, b"");
+    assert_eq!(rt; [failed, more, none], [Err(Failed), Ok(()), Ok(())]);
+    assert!(rt; is_prefix);
+    assert_eq!(rt; (sink.kept(), sink.wanting()), (b"1234789ab".as_slice(), 0));
     Ok(())
 }
 
@@ -129,9 +145,7 @@ fn two_files(alloc: Global) -> Result<Vec<(String, Vec<u8>)>, AllocError> {
 
 #[test]
 fn files_in_memory_are_read_whole(rt: HostRuntime) -> Result<(), Fail> {
-    let mut fails = Vec::new(rt.alloc());
-    fails.push(3)?;
-    let mut files = MemImages::new(two_files(rt.alloc())?, fails);
+    let mut files = MemImages::new(two_files(rt.alloc())?, one(rt.alloc(), 3)?);
     let table = [
         ("a", 3, Ok(FILE)),
         ("a", 2, Err(ImagesError::TooLong)),
@@ -158,19 +172,24 @@ fn a_reader_is_a_source(rt: HostRuntime) -> Result<(), Fail> {
     Ok(())
 }
 
+/// What three puts answer on a writer that takes two bytes, then none, then fails.
+fn stalled_puts() -> [Result<usize, Failed>; 3] {
+    let mut sink = StdSink::new(Stalled { calls: 0 });
+    [sink.put(b"123"), sink.put(b"3"), sink.put(b"3")]
+}
+
 #[test]
 fn a_writer_is_a_sink(rt: HostRuntime) -> Result<(), Fail> {
     fs::write(&rt, "written.bin", "")?;
     let mut sink = StdSink::new(fs::create(&rt, "written.bin")?);
-    assert_eq!(rt; put_all(&mut sink, b"hi\n"), Ok(()));
+    let put = put_all(&mut sink, b"hi\n");
+    let bytes = fs::read(&rt, "written.bin")?;
+    assert_eq!(rt; (put, bytes.as_slice()), (Ok(()), b"hi\n".as_slice()));
     assert_eq!(rt;
-        fs::read(&rt, "written.bin")?.as_slice(),
-        b"hi\n".as_slice()
+        stalled_puts(),
+        [Ok(2), Err(Failed), Err(Failed)],
+        "two bytes, a write of no bytes, an error"
     );
-    let mut sink = StdSink::new(Stalled { calls: 0 });
-    assert_eq!(rt; sink.put(b"123"), Ok(2));
-    assert_eq!(rt; sink.put(b"3"), Err(Failed), "a write of no bytes");
-    assert_eq!(rt; sink.put(b"3"), Err(Failed), "an error");
     Ok(())
 }
 

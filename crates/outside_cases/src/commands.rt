@@ -32,15 +32,42 @@ fn rights_of(number: u64) -> Rights {
     }
 }
 
-/// The command of a line.
-pub fn command_of(line: &str) -> Option<Command> {
+/// The first word of a line, and the four behind it: their numbers, and the third of them as it stands.
+#[derive(Clone, Copy)]
+pub struct Words<'a> {
+    pub name: &'a str,
+    pub numbers: [u64; 4],
+    pub third: &'a str,
+}
+
+/// The words of a line, empty where they aren't there.
+pub fn words_of(line: &str) -> Words<'_> {
     let mut words = line.split(' ');
-    let name = words.next()?;
-    let a = number(words.next());
-    let b = number(words.next());
-    let c = number(words.next());
-    let d = number(words.next());
-    match name {
+    let name = words.next().unwrap_or("");
+    let first = number(words.next().unwrap_or(""));
+    let second = number(words.next().unwrap_or(""));
+    let third = words.next().unwrap_or("");
+    let last = number(words.next().unwrap_or(""));
+    Words {
+        name,
+        numbers: [first, second, number(third), last],
+        third,
+    }
+}
+
+/// The number that a word says, decimal or hexadecimal behind `0x`; 0 where it is none.
+fn number(word: &str) -> u64 {
+    let found = match word.strip_prefix("0x") {
+        Some(digits) => u64::from_str_radix(digits, 16),
+        None => u64::from_str_radix(word, 10),
+    };
+    found.unwrap_or(0)
+}
+
+/// The command of a line.
+pub fn command_of(words: &Words) -> Option<Command> {
+    let [a, b, c, d] = words.numbers;
+    match words.name {
         "map" => Some(Command::Map(a, b, rights_of(c))),
         "unmap" => Some(Command::Unmap(a, b)),
         "protect" => Some(Command::Protect(a, b, rights_of(c))),
@@ -53,15 +80,6 @@ pub fn command_of(line: &str) -> Option<Command> {
         "free" => Some(Command::Free(a, b)),
         "mapped" => Some(Command::Mapped),
         _ => None,
-    }
-}
-
-/// The number that a word says, decimal or hexadecimal behind `0x`; 0 where there is none.
-pub fn number(word: Option<&str>) -> u64 {
-    let text = word.unwrap_or("");
-    match text.strip_prefix("0x") {
-        Some(digits) => u64::from_str_radix(digits, 16).unwrap_or(0),
-        None => text.parse::<u64>().unwrap_or(0),
     }
 }
 

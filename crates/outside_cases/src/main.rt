@@ -21,7 +21,9 @@
 #![tactic(auto)]
 
 mod answers;
+mod cases;
 mod commands;
+mod digits;
 mod marks;
 mod memory;
 mod named_words;
@@ -31,94 +33,10 @@ mod programs;
 mod state;
 mod sve_names;
 
+use crate::cases::agrees;
 use crate::named_words::line_agrees;
 use crate::pages::Both;
-use crate::state::State;
-use core_regs::Effect;
-use guest_mem::AccessLog;
-use insn_decode::{Insn, decode};
-use insn_exec::{load_listed, perform};
-use std::alloc::Global;
 use std::io;
-use vec_regs::Length;
-
-/// Does an instruction, counts the elements that it loads or stores, and says what it leaves to the step.
-fn effect_of(state: &mut State, insn: &Insn) -> Effect {
-    let mut log = AccessLog::new();
-    let (core, vec, memory) = (&mut state.core, &mut state.vec, &mut state.memory);
-    let effect = perform(core, vec, memory, &mut log, insn);
-    state.accesses = Some(log.as_slice().len());
-    effect
-}
-
-/// Does an instruction, and goes on as its effect says. None where it is a call.
-fn step(state: &mut State, insn: &Insn) -> Option<()> {
-    let effect = effect_of(state, insn);
-    go_on(state, effect)
-}
-
-/// Does a first-faulting or non-faulting load element by element, and goes on as its effect says. None where it is
-/// none.
-fn step_listed(state: &mut State, insn: &Insn) -> Option<()> {
-    match insn {
-        Insn::Sve(insn) if sve_ffr::is_own(insn) => {
-            let (core, vec, memory) = (&mut state.core, &mut state.vec, &mut state.memory);
-            let mut log = AccessLog::new();
-            let effect = load_listed(core, vec, memory, &mut log, insn);
-            state.accesses = Some(log.as_slice().len());
-            go_on(state, effect)
-        }
-        _ => None,
-    }
-}
-
-/// Goes on as an effect says. None where it is a call.
-fn go_on(state: &mut State, effect: Effect) -> Option<()> {
-    let pc = state.core.pc();
-    match effect {
-        Effect::Next => state.core.set_pc(pc.wrapping_add(4)),
-        Effect::Branch(target) => state.core.set_pc(target),
-        Effect::Trap(trap) => state.trap = Some(trap),
-        Effect::Call => return None,
-    }
-    Some(())
-}
-
-/// The state after a step by the case: before it, with what differs.
-fn wanted_after(
-    alloc: Global,
-    word: u32,
-    length: Length,
-    before: &str,
-    after: &str,
-) -> Option<State> {
-    let mut state = State::read(alloc, word, length, before)?;
-    let pc = state.core.pc();
-    state.core.set_pc(pc.wrapping_add(4));
-    state.set_all(after)?;
-    if state.trap.is_some() {
-        state.core.set_pc(pc);
-    }
-    Some(state)
-}
-
-/// Whether an instruction does what a case has. None where the line is no case of an instruction that makes no call.
-fn agrees(alloc: Global, line: &str) -> Option<bool> {
-    let mut columns = line.split('\t');
-    let word = u32::from_str_radix(columns.next()?, 16).ok()?;
-    let length = Length::of_bits(columns.next()?.parse::<u32>().ok()?)?;
-    let before = columns.next()?;
-    let after = columns.next()?;
-    let insn = decode(word)?;
-    let mut state = State::read(alloc, word, length, before)?;
-    let wanted = wanted_after(alloc, word, length, before, after)?;
-    step(&mut state, &insn)?;
-    let has_monitor = after.split(' ').any(|item| item.starts_with("monitor="));
-    let is_monitor = !has_monitor || state.core.monitor() == wanted.core.monitor();
-    let mut listed = State::read(alloc, word, length, before)?;
-    let is_listed = step_listed(&mut listed, &insn).is_none() || listed.is_same(&wanted);
-    Some(is_monitor && is_listed && state.is_same(&wanted))
-}
 
 /// How many lines there are of a kind, and how many of them differ.
 #[derive(Clone, Copy)]
@@ -154,7 +72,7 @@ impl Counts {
     /// Compares the line of a word.
     fn play(&mut self, rt: HostRuntime, line: &str) -> io::Result<()> {
         let differs = if line.split('\t').count() == 4 {
-            let differs = agrees(rt.alloc(), line) != Some(true);
+            let differs = !agrees(rt.alloc(), line);
             self.cases.add(differs);
             differs
         } else {
@@ -175,25 +93,42 @@ impl Counts {
     }
 }
 
+/// What the lines so far came to, of words and of pages.
+#[derive(Drop)]
+struct Played {
+    counts: Counts,
+    pages: Both,
+    /// Whether the lines of pages have begun.
+    are_pages: bool,
+}
+
+impl Played {
+    /// Plays a line.
+    fn play(&mut self, rt: HostRuntime, line: &str) -> io::Result<()> {
+        if line == "= pages" {
+            self.are_pages = true;
+            self.counts.write(rt)?;
+            return println!(rt; "{line}");
+        }
+        if self.are_pages {
+            return self.pages.play(rt, line);
+        }
+        self.counts.play(rt, line)
+    }
+}
+
 fn main(rt: HostRuntime) -> io::Result<()> {
-    let mut counts = Counts {
-        cases: Count::new(),
-        words: Count::new(),
+    let mut played = Played {
+        counts: Counts {
+            cases: Count::new(),
+            words: Count::new(),
+        },
+        pages: Both::first(rt.alloc())?,
+        are_pages: false,
     };
-    let mut pages = Both::first(rt.alloc())?;
-    let mut are_pages = false;
     for line in rt.lines(rt.alloc()) {
         let line = line?;
-        let text = line.as_str();
-        if text == "= pages" {
-            counts.write(rt)?;
-            println!(rt; "{line}")?;
-            are_pages = true;
-        } else if are_pages {
-            pages.play(rt, text)?;
-        } else {
-            counts.play(rt, text)?;
-        }
+        played.play(rt, line.as_str())?;
     }
-    pages.count(rt)
+    played.pages.count(rt)
 }

@@ -1,7 +1,7 @@
 //! Marks of the pages that the program runs with, and the commands that led to what each of them keeps, by which the
 //! plain program goes back: it obeys them anew.
 use crate::answers::Answer;
-use crate::commands::{Command, number};
+use crate::commands::{Command, Words};
 use crate::programs::by_plain_list;
 use std::alloc::{AllocError, Global};
 
@@ -17,11 +17,9 @@ pub enum Change {
 }
 
 /// The command about a mark that a line is.
-pub fn change_of(line: &str) -> Option<Change> {
-    let mut words = line.split(' ');
-    let name = words.next()?;
-    let k = u32::try_from(number(words.next())).unwrap_or(u32::MAX);
-    match name {
+pub fn change_of(words: &Words) -> Option<Change> {
+    let k = words.numbers[0].min(u64::from(u32::MAX)) as u32;
+    match words.name {
         "mark" => Some(Change::Mark(k)),
         "drop" => Some(Change::Drop(k)),
         "restore" => Some(Change::Restore(k)),
@@ -124,7 +122,7 @@ impl Past {
         };
         *plain = plain_pages::Pages::new(self.alloc, self.limit)?;
         for command in &commands {
-            let _ = by_plain_list(plain, command);
+            let _ = by_plain_list(plain, *command);
         }
         self.commands = commands;
         Ok(())

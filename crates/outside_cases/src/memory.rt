@@ -1,9 +1,9 @@
 //! Memory over the mapped pages: loads, stores and slices, which may go across pages.
-use crate::commands::number;
+use crate::commands::Words;
 use guest_mem::{Denied, Kind, Mem};
 
 /// What a line about memory answers.
-#[derive(Clone, Copy, PartialEq, Eq, Debug)]
+#[derive(Clone, Copy, Debug)]
 pub enum Reply {
     /// A little-endian number.
     Loaded(u64),
@@ -19,10 +19,10 @@ pub enum Reply {
 }
 
 /// The kind of access of a word.
-fn kind_of(word: Option<&str>) -> Kind {
+fn kind_of(word: &str) -> Kind {
     match word {
-        Some("fetch") => Kind::Fetch,
-        Some("write") => Kind::Write,
+        "fetch" => Kind::Fetch,
+        "write" => Kind::Write,
         _ => Kind::Read,
     }
 }
@@ -64,22 +64,23 @@ fn fill(memory: &mut Mem, address: u64, most: u64, byte: u64) -> Reply {
     })
 }
 
-/// What a line about memory answers, or none where it isn't one.
-pub fn reply_of(memory: &mut Mem, line: &str) -> Option<Reply> {
-    let mut words = line.split(' ');
-    let name = words.next()?;
-    let address = number(words.next());
-    let count = number(words.next());
-    let last = words.next();
-    Some(match name {
-        "load" => load(memory, address, count, kind_of(last)),
-        "put" => put(memory, address, count, number(last)),
-        "peek" => Reply::Peeked(memory.peek(address)),
-        "slice" => {
-            let found = memory.slice_at(address, count as usize, kind_of(last));
-            Reply::Slice(found.map(|bytes| bytes.len()))
-        }
-        "fill" => fill(memory, address, count, number(last)),
-        _ => return None,
+/// How many bytes there are in a slice that is lent for reading or fetching.
+fn slice(memory: &mut Mem, address: u64, most: u64, kind: Kind) -> Reply {
+    Reply::Slice(match memory.slice_at(address, most as usize, kind) {
+        None => None,
+        Some(bytes) => Some(bytes.len()),
     })
+}
+
+/// What a line about memory answers, or none where it isn't one.
+pub fn reply_of(memory: &mut Mem, words: &Words) -> Option<Reply> {
+    let [address, count, last, _] = words.numbers;
+    match words.name {
+        "load" => Some(load(memory, address, count, kind_of(words.third))),
+        "put" => Some(put(memory, address, count, last)),
+        "peek" => Some(Reply::Peeked(memory.peek(address))),
+        "slice" => Some(slice(memory, address, count, kind_of(words.third))),
+        "fill" => Some(fill(memory, address, count, last)),
+        _ => None,
+    }
 }

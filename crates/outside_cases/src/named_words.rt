@@ -1,6 +1,6 @@
 //! A word with the name of its form, against the instruction that it is.
 use crate::names::form_name;
-use insn_decode::{again, decode, encode};
+use insn_decode::{Insn, again, decode, encode};
 
 /// Whether the word of a line is an instruction of the form that the line names, and that instruction's word; or is in
 /// no row, as the line says.
@@ -18,11 +18,15 @@ pub fn line_agrees(line: &str) -> bool {
 /// The same of a word and the form that is named for it.
 fn word_agrees(word: u32, form: &str) -> bool {
     match decode(word) {
-        Some(insn) => {
-            form_name(&insn) == form
-                && encode(&insn) == word
-                && again(&insn).is_some_and(|same| encode(&same) == word)
-        }
+        Some(insn) => form_name(&insn) == form && encode(&insn) == word && is_again(&insn, word),
         None => form == "-",
+    }
+}
+
+/// Whether the instruction that an instruction is again has this word.
+fn is_again(insn: &Insn, word: u32) -> bool {
+    match again(insn) {
+        Some(same) => encode(&same) == word,
+        None => false,
     }
 }

@@ -14,12 +14,12 @@ pub fn form_name(insn: &Insn) -> &'static str {
 
 /// The name of an A64 form.
 fn a64_name(form: &A64Form) -> Option<&'static str> {
-    data_name(form).or(flow_name(form)).or(memory_name(form))
+    data_name(*form).or(flow_name(*form)).or(memory_name(*form))
 }
 
 /// The name of a form of data processing.
-fn data_name(form: &A64Form) -> Option<&'static str> {
-    Some(match *form {
+fn data_name(form: A64Form) -> Option<&'static str> {
+    Some(match form {
         A64Form::Adr { .. } => "Adr",
         A64Form::AddImm { .. } => "AddImm",
         A64Form::LogicImm { .. } => "LogicImm",
@@ -44,8 +44,8 @@ fn data_name(form: &A64Form) -> Option<&'static str> {
 }
 
 /// The name of a form of branches, exceptions and system.
-fn flow_name(form: &A64Form) -> Option<&'static str> {
-    Some(match *form {
+fn flow_name(form: A64Form) -> Option<&'static str> {
+    Some(match form {
         A64Form::Branch { .. } => "Branch",
         A64Form::BranchCond { .. } => "BranchCond",
         A64Form::Compare { .. } => "Compare",
@@ -61,8 +61,8 @@ fn flow_name(form: &A64Form) -> Option<&'static str> {
 }
 
 /// The name of a form of loads, stores and bit moves.
-fn memory_name(form: &A64Form) -> Option<&'static str> {
-    Some(match *form {
+fn memory_name(form: A64Form) -> Option<&'static str> {
+    Some(match form {
         A64Form::LsUnsigned { .. } => "LsUnsigned",
         A64Form::LsUnscaled { .. } => "LsUnscaled",
         A64Form::LsPost { .. } => "LsPost",

@@ -23,8 +23,8 @@ ghost use Rattle.std.specs.Prelude.{◌≤◌};
 ghost use Rattle.emu_model.specs.Access.{most_mapped_pages};
 
 use crate::answers::Answer;
-use crate::commands::{command_of, number};
-use crate::marks::{Past, change_of, changed};
+use crate::commands::{Command, Words, command_of, words_of};
+use crate::marks::{Change, Past, change_of, changed};
 use crate::memory::reply_of;
 use crate::programs::{by_list, by_plain_list};
 use emu_model::MOST_MAPPED_PAGES;
@@ -48,13 +48,13 @@ pub struct Both {
 impl Both {
     /// No pages, of which at most 40 may be mapped.
     pub fn first(alloc: Global) -> Result<Both, AllocError> {
-        Both::new(alloc, LIMIT)
+        Both::new(alloc, guest_pages::Pages::new(alloc, LIMIT)?, LIMIT)
     }
 
-    /// No pages, of which at most so many may be mapped.
-    fn new(alloc: Global, limit: u32) -> Result<Both, AllocError> {
+    /// No pages, which these are too, and of which at most so many may be mapped.
+    fn new(alloc: Global, pages: guest_pages::Pages, limit: u32) -> Result<Both, AllocError> {
         Ok(Both {
-            memory: Mem::new(guest_pages::Pages::new(alloc, limit)?),
+            memory: Mem::new(pages),
             plain: plain_pages::Pages::new(alloc, limit)?,
             past: Past::new(alloc, limit)?,
             commands: 0,
@@ -62,39 +62,37 @@ impl Both {
         })
     }
 
-    /// No pages from here on, of which at most so many may be mapped.
-    fn begin(
-        &mut self,
-        alloc: Global,
-        pages: guest_pages::Pages,
-        limit: u32,
-    ) -> Result<(), AllocError> {
-        self.memory = Mem::new(pages);
-        self.plain = plain_pages::Pages::new(alloc, limit)?;
-        self.past = Past::new(alloc, limit)?;
+    /// No pages from here on, of which at most so many may be mapped, with marks or with none.
+    fn begin(&mut self, alloc: Global, limit: u32, is_marked: bool) -> Result<(), AllocError>
+        requires { limit ≤ most_mapped_pages }
+    {
+        let pages = if is_marked {
+            guest_pages::Pages::with_marks(alloc, limit)?
+        } else {
+            guest_pages::Pages::new(alloc, limit)?
+        };
+        let mut next = Both::new(alloc, pages, limit)?;
+        next.commands = self.commands;
+        next.differ = self.differ;
+        *self = next;
         Ok(())
     }
 
-    /// Obeys the command of a line, and writes what it answers.
-    fn obey(&mut self, rt: HostRuntime, line: &str) -> io::Result<()> {
-        if let Some(reply) = reply_of(&mut self.memory, line) {
-            self.commands = self.commands.saturating_add(1);
-            return println!(rt; "{line}: {reply:?}");
-        }
-        if let Some(change) = change_of(line) {
-            self.commands = self.commands.saturating_add(1);
-            let answer = changed(self.memory.pages_mut(), change);
-            if answer == Answer::Done {
-                self.past.follow(&mut self.plain, change)?;
-            }
-            return println!(rt; "{line}: {answer:?}");
-        }
-        let Some(command) = command_of(line) else {
-            return println!(rt; "{line}: no command");
-        };
+    /// Changes a mark, and writes what that answers.
+    fn change(&mut self, rt: HostRuntime, line: &str, change: Change) -> io::Result<()> {
         self.commands = self.commands.saturating_add(1);
-        let answer = by_list(self.memory.pages_mut(), &command);
-        let other = by_plain_list(&mut self.plain, &command);
+        let answer = changed(self.memory.pages_mut(), change);
+        if answer == Answer::Done {
+            self.past.follow(&mut self.plain, change)?;
+        }
+        println!(rt; "{line}: {answer:?}")
+    }
+
+    /// Obeys a command by both programs, and writes what they answer.
+    fn obey(&mut self, rt: HostRuntime, line: &str, command: Command) -> io::Result<()> {
+        self.commands = self.commands.saturating_add(1);
+        let answer = by_list(self.memory.pages_mut(), command);
+        let other = by_plain_list(&mut self.plain, command);
         self.past.add(command)?;
         if answer == other {
             return println!(rt; "{line}: {answer:?}");
@@ -103,21 +101,30 @@ impl Both {
         println!(rt; "{line}: {answer:?}, and by the plain program {other:?}")
     }
 
+    /// Obeys the command of a line, and writes what it answers.
+    fn answer(&mut self, rt: HostRuntime, line: &str, words: &Words) -> io::Result<()> {
+        if let Some(reply) = reply_of(&mut self.memory, words) {
+            self.commands = self.commands.saturating_add(1);
+            return println!(rt; "{line}: {reply:?}");
+        }
+        if let Some(change) = change_of(words) {
+            return self.change(rt, line, change);
+        }
+        if let Some(command) = command_of(words) {
+            return self.obey(rt, line, command);
+        }
+        println!(rt; "{line}: no command")
+    }
+
     /// Obeys a line.
     pub fn play(&mut self, rt: HostRuntime, line: &str) -> io::Result<()> {
-        if let Some(limit) = line.strip_prefix("new ") {
-            let limit = limit_of(limit);
-            let pages = guest_pages::Pages::new(rt.alloc(), limit)?;
-            self.begin(rt.alloc(), pages, limit)?;
+        let words = words_of(line);
+        if words.name == "new" || words.name == "marked" {
+            let limit = limit_of(words.numbers[0]);
+            self.begin(rt.alloc(), limit, words.name == "marked")?;
             return println!(rt; "{line}: Done");
         }
-        if let Some(limit) = line.strip_prefix("marked ") {
-            let limit = limit_of(limit);
-            let pages = guest_pages::Pages::with_marks(rt.alloc(), limit)?;
-            self.begin(rt.alloc(), pages, limit)?;
-            return println!(rt; "{line}: Done");
-        }
-        self.obey(rt, line)
+        self.answer(rt, line, &words)
     }
 
     /// Writes how many commands there were, and of how many the answers differ.
@@ -126,9 +133,9 @@ impl Both {
     }
 }
 
-/// The greatest number of mapped pages, as a word says it, modulo the greatest that may be chosen.
-fn limit_of(word: &str) -> u32
+/// The greatest number of mapped pages that a number says, modulo the greatest that may be chosen.
+fn limit_of(number: u64) -> u32
     ensures { result ≤ most_mapped_pages }
 {
-    (number(Some(word)) % MOST_MAPPED_PAGES) as u32
+    (number % MOST_MAPPED_PAGES) as u32
 }

@@ -8,7 +8,7 @@ use crate::commands::{Command, are_pages, are_places, row_from};
 /// What a command answers over some pages; what the ranges of the calls shut out is refused.
 macro_rules! obeyed {
     ($pages:ident, $command:ident, $of_map:ident, $seek:ident, $lend:ident, $part:ident) => {
-        match *$command {
+        match $command {
             Command::Map(first, count, rights) if first >= 1 && are_pages(first, count) => {
                 $of_map($pages.map(first, count, rights))
             }
@@ -92,11 +92,11 @@ fn write_row(pages: &mut plain_pages::Pages, page: u64, at: usize, row: &[u8]) -
 }
 
 /// What a command answers over the pages that the program runs with.
-pub fn by_list(pages: &mut guest_pages::Pages, command: &Command) -> Answer {
+pub fn by_list(pages: &mut guest_pages::Pages, command: Command) -> Answer {
     obeyed!(pages, command, of_map, seek, lend, part)
 }
 
 /// What it answers over the plain ones.
-pub fn by_plain_list(pages: &mut plain_pages::Pages, command: &Command) -> Answer {
+pub fn by_plain_list(pages: &mut plain_pages::Pages, command: Command) -> Answer {
     obeyed!(pages, command, of_plain_map, find, write_byte, write_row)
 }

@@ -1,5 +1,5 @@
 //! The state of a case: registers, pages and a trap, read from items `name=value`.
-use arrayvec::ArrayVec;
+use crate::digits::{byte_at, count_of, letter_and_number, number, small};
 use core_regs::{Core, Trap, TrapKind};
 use emu_bits::{Flags, Pred, Reg};
 use emu_model::PAGE_SIZE;
@@ -19,248 +19,239 @@ pub struct State {
     pub core: Core,
     pub vec: VecRegs,
     pub memory: Mem,
-    /// The numbers of the mapped pages.
-    mapped: ArrayVec<u64, MOST_PAGES>,
+    /// The numbers of the mapped pages, and then zeros: no page has the number 0.
+    mapped: [u64; MOST_PAGES],
     /// The trap of the step, after one that trapped.
     pub trap: Option<Trap>,
     /// How many elements the step loaded or stored, where that was counted, or where the case has it.
     pub accesses: Option<usize>,
+    /// Whether the last items that were set name the monitor.
+    has_monitor: bool,
+    /// Whether all items were in the form of a case, and the step made no call.
+    pub is_well: bool,
 }
 
 impl State {
     /// The state before a step of this word at a vector length: its items, with registers that aren't given 0, and the
-    /// page of the word, which may be read and executed. None where an item isn't in the form of a case, or there is no
-    /// memory for it.
+    /// page of the word, which may be read and executed. None where there is no memory for it.
     pub fn read(alloc: Global, word: u32, length: Length, items: &str) -> Option<State> {
+        let Ok(pages) = Pages::new(alloc, MOST_PAGES as u32) else {
+            return None;
+        };
         let mut state = State {
             core: Core::new(),
             vec: VecRegs::new(length),
-            memory: Mem::new(Pages::new(alloc, MOST_PAGES as u32).ok()?),
-            mapped: ArrayVec::new(),
+            memory: Mem::new(pages),
+            mapped: [0; MOST_PAGES],
             trap: None,
             accesses: None,
+            has_monitor: false,
+            is_well: true,
         };
-        state.set_all(items)?;
+        state.set_all(items);
         let pc = state.core.pc();
-        state.map(pc, "rx")?;
-        for (k, byte) in (0u64..).zip(word.to_le_bytes()) {
-            state.put_byte(pc.wrapping_add(k), byte)?;
+        state.map(pc, "rx");
+        for k in 0..4u32 {
+            let byte = (word >> (8 * k)) % 256;
+            state.put_byte(pc.wrapping_add(u64::from(k)), byte as u8);
         }
         Some(state)
     }
 
     /// Sets what the items name.
-    pub fn set_all(&mut self, items: &str) -> Option<()> {
+    pub fn set_all(&mut self, items: &str) {
+        self.has_monitor = false;
         for item in items.split(' ') {
-            if !item.is_empty() {
-                let (name, value) = item.split_once('=')?;
-                self.set(name, value)?;
+            match item.split_once('=') {
+                Some((name, value)) => self.set(name, value),
+                None => self.is_well = self.is_well && item.is_empty(),
             }
         }
-        Some(())
     }
 
-    fn set(&mut self, name: &str, value: &str) -> Option<()> {
+    /// Sets what a name names.
+    fn set(&mut self, name: &str, value: &str) {
+        let (first, second) = value.split_once(':').unwrap_or((value, ""));
         match name {
             "page" => {
-                let (address, rights) = value.split_once(':')?;
-                self.map(number(address)?, rights)
+                let address = number(first, &mut self.is_well);
+                self.map(address, second);
             }
             "mem" => {
-                let (address, digits) = value.split_once(':')?;
-                self.put_bytes(number(address)?, digits)
+                let address = number(first, &mut self.is_well);
+                self.put_bytes(address, second.as_bytes());
             }
-            "monitor" => {
-                self.core.set_monitor(monitor_of(value)?);
-                Some(())
+            "monitor" => self.set_monitor(first, second),
+            "accesses" => self.accesses = Some(small(value, &mut self.is_well) as usize),
+            "trap" => self.set_trap(first, second),
+            "ffr" => set_bits(&mut self.vec, None, value.as_bytes(), &mut self.is_well),
+            _ => self.set_register(name, value),
+        }
+    }
+
+    /// Sets the monitor to `ADDRESS:BYTES`, or to `none`.
+    fn set_monitor(&mut self, address: &str, size: &str) {
+        self.has_monitor = true;
+        let monitor = if address == "none" {
+            None
+        } else {
+            let address = number(address, &mut self.is_well);
+            Some((address, small(size, &mut self.is_well)))
+        };
+        self.core.set_monitor(monitor);
+    }
+
+    /// Sets the trap to `KIND:ADDRESS`.
+    fn set_trap(&mut self, kind: &str, address: &str) {
+        let address = number(address, &mut self.is_well);
+        match trap_kind(kind) {
+            Some(kind) => self.trap = Some(Trap { kind, address }),
+            None => self.is_well = false,
+        }
+    }
+
+    /// Sets a register that has a name of its own. Flags are four binary digits, read as hexadecimal ones.
+    fn set_register(&mut self, name: &str, value: &str) {
+        match name {
+            "nzcv" => self
+                .core
+                .set_flags(flags_of(number(value, &mut self.is_well))),
+            "pc" => self.core.set_pc(number(value, &mut self.is_well)),
+            "tpidr" => self.core.set_tpidr(number(value, &mut self.is_well)),
+            "sp" => {
+                let sp = number(value, &mut self.is_well);
+                self.core.set_x_sp(Reg::at(31, 0), 64, sp);
             }
-            "accesses" => {
-                self.accesses = Some(value.parse::<usize>().ok()?);
-                Some(())
-            }
-            "trap" => {
-                let (kind, address) = value.split_once(':')?;
-                self.trap = Some(Trap {
-                    kind: trap_kind(kind)?,
-                    address: number(address)?,
-                });
-                Some(())
-            }
-            "ffr" => self.set_bits(None, value),
             _ => self.set_numbered(name, value),
         }
     }
 
-    /// Sets the register that a letter and a number name, or one that has a name of its own.
-    fn set_numbered(&mut self, name: &str, value: &str) -> Option<()> {
-        if let Some(r) = number_behind(name, "z") {
-            return self.set_vector(Reg::new(r)?, value);
+    /// Sets the register that a letter and a number name.
+    fn set_numbered(&mut self, name: &str, value: &str) {
+        let (letter, r) = letter_and_number(name.as_bytes());
+        if letter == b'x' && r < 32 {
+            let x = number(value, &mut self.is_well);
+            self.core.set_x(Reg::at(r, 0), 64, x);
+        } else if letter == b'z' && r < 32 {
+            set_vector(
+                &mut self.vec,
+                Reg::at(r, 0),
+                value.as_bytes(),
+                &mut self.is_well,
+            );
+        } else if letter == b'p' && r < 16 {
+            set_bits(
+                &mut self.vec,
+                Pred::new(r),
+                value.as_bytes(),
+                &mut self.is_well,
+            );
+        } else {
+            self.is_well = false;
         }
-        if let Some(r) = number_behind(name, "p") {
-            return self.set_bits(Some(Pred::new(r)?), value);
-        }
-        self.set_register(name, number(value)?)
-    }
-
-    /// Sets the bytes of a Z register from pairs of hexadecimal digits, the most significant first.
-    fn set_vector(&mut self, r: Reg, digits: &str) -> Option<()> {
-        for (k, pair) in (0u32..).zip(digits.as_bytes().chunks(2).rev()) {
-            let byte = match *pair {
-                [high, low] => digit(high)? << 4 | digit(low)?,
-                _ => return None,
-            };
-            if k >= self.vec.length().bits() / 8 {
-                return None;
-            }
-            self.vec.set_z_byte(r, k, byte);
-        }
-        Some(())
-    }
-
-    /// Sets the bits of a predicate, or of FFR, from hexadecimal digits, the most significant first.
-    fn set_bits(&mut self, of: Option<Pred>, digits: &str) -> Option<()> {
-        for (k, c) in (0u32..).zip(digits.as_bytes().iter().rev()) {
-            self.set_four_bits(of, k.checked_mul(4)?, digit(*c)?)?;
-        }
-        Some(())
-    }
-
-    /// Sets four bits of it from a place on.
-    fn set_four_bits(&mut self, of: Option<Pred>, first: u32, four: u8) -> Option<()> {
-        for j in 0..4 {
-            let place = first.checked_add(j)?;
-            if place >= self.vec.length().bits() / 8 {
-                return None;
-            }
-            let set = four >> j & 1 == 1;
-            match of {
-                Some(r) => self.vec.set_p_bit(r, place, set),
-                None => self.vec.set_ffr_bit(place, set),
-            }
-        }
-        Some(())
-    }
-
-    /// Sets the register that is named. Flags are four binary digits, read as hexadecimal ones.
-    fn set_register(&mut self, name: &str, v: u64) -> Option<()> {
-        match name {
-            "nzcv" => self.core.set_flags(Flags {
-                n: v & 0x1000 != 0,
-                z: v & 0x100 != 0,
-                c: v & 0x10 != 0,
-                v: v & 1 != 0,
-            }),
-            "pc" => self.core.set_pc(v),
-            "tpidr" => self.core.set_tpidr(v),
-            "sp" => self.core.set_x_sp(Reg::new(31)?, 64, v),
-            _ => {
-                let number = name.strip_prefix("x")?.parse::<u32>().ok()?;
-                self.core.set_x(Reg::new(number)?, 64, v);
-            }
-        }
-        Some(())
     }
 
     /// Maps the page of an address.
-    fn map(&mut self, address: u64, rights: &str) -> Option<()> {
+    fn map(&mut self, address: u64, rights: &str) {
         let page = address / PAGE_SIZE;
-        if page == 0 || page >= PAGE_NUMBERS {
-            return None;
+        let place = self.memory.pages().mapped() as usize;
+        let rights = rights_of(rights, &mut self.is_well);
+        if page == 0 || page >= PAGE_NUMBERS || place >= MOST_PAGES {
+            self.is_well = false;
+            return;
         }
-        self.memory
-            .pages_mut()
-            .map(page, 1, rights_of(rights)?)
-            .ok()?;
-        self.mapped.try_push(page).ok()
+        match self.memory.pages_mut().map(page, 1, rights) {
+            Ok(()) => self.mapped[place] = page,
+            Err(_) => self.is_well = false,
+        }
     }
 
     /// Puts the bytes of pairs of hexadecimal digits.
-    fn put_bytes(&mut self, address: u64, digits: &str) -> Option<()> {
-        for (k, pair) in (0u64..).zip(digits.as_bytes().chunks(2)) {
-            let byte = match *pair {
-                [high, low] => digit(high)? << 4 | digit(low)?,
-                _ => return None,
-            };
-            self.put_byte(address.wrapping_add(k), byte)?;
+    fn put_bytes(&mut self, address: u64, digits: &[u8]) {
+        for k in 0..count_of(digits, &mut self.is_well) {
+            let byte = byte_at(digits, k, &mut self.is_well);
+            self.put_byte(address.wrapping_add(u64::from(k)), byte);
         }
-        Some(())
     }
 
     /// Puts a byte of a page, whatever the page's rights are.
-    fn put_byte(&mut self, address: u64, byte: u8) -> Option<()> {
+    fn put_byte(&mut self, address: u64, byte: u8) {
         let page = address / PAGE_SIZE;
-        self.memory.pages().find(page)?;
+        self.is_well = self.is_well && self.memory.pages().is_mapped(page);
         self.memory
             .pages_mut()
             .write(page, (address % PAGE_SIZE) as usize, &[byte]);
-        Some(())
     }
 
-    /// Whether all registers but the monitor, the flags, the trap and the pages are the same, these with their rights
-    /// and all of their bytes, and the accesses are as many as the other state has, where it has their number.
+    /// Whether both states are well and all registers, the flags, the trap and the pages are the same, these with their
+    /// rights and all of their bytes; the monitor is the same where the items of the other state name it last, and the
+    /// accesses are as many as the other state has, where it has their number.
     pub fn is_same(&self, other: &State) -> bool {
-        self.trap == other.trap
+        self.is_well
+            && other.is_well
+            && self.trap == other.trap
             && (other.accesses.is_none() || self.accesses == other.accesses)
+            && (!other.has_monitor || self.core.monitor() == other.core.monitor())
             && are_same(&self.core, &other.core)
             && are_same_vectors(&self.vec, &other.vec)
-            && self.mapped == other.mapped
-            && self
-                .mapped
-                .iter()
-                .all(|page| self.has_page_of(other, *page))
+            && self.has_pages_of(other)
     }
 
-    /// Whether a page has the rights and the bytes that it has in the other state.
-    fn has_page_of(&self, other: &State, page: u64) -> bool {
-        self.memory.pages().find(page) == other.memory.pages().find(page)
-    }
-}
-
-fn number(digits: &str) -> Option<u64> {
-    u64::from_str_radix(digits, 16).ok()
-}
-
-/// The number behind a letter.
-fn number_behind(name: &str, letter: &str) -> Option<u32> {
-    name.strip_prefix(letter)?.parse::<u32>().ok()
-}
-
-fn digit(c: u8) -> Option<u8> {
-    match c {
-        b'0'..=b'9' => Some(c - b'0'),
-        b'a'..=b'f' => Some(c - b'a' + 10),
-        _ => None,
+    /// Whether the same pages are mapped, with the same rights and bytes.
+    fn has_pages_of(&self, other: &State) -> bool {
+        let mut same = self.mapped == other.mapped;
+        for page in &self.mapped {
+            same = same && self.memory.pages().find(*page) == other.memory.pages().find(*page);
+        }
+        same
     }
 }
 
-fn rights_of(letters: &str) -> Option<Rights> {
-    match letters {
-        "r" => Some(Rights {
-            r: true,
-            w: false,
-            x: false,
-        }),
-        "rw" => Some(Rights {
-            r: true,
-            w: true,
-            x: false,
-        }),
-        "rx" => Some(Rights {
-            r: true,
-            w: false,
-            x: true,
-        }),
-        _ => None,
+/// Sets the bytes of a Z register from pairs of hexadecimal digits, the most significant first.
+fn set_vector(vec: &mut VecRegs, r: Reg, digits: &[u8], is_well: &mut bool) {
+    let count = count_of(digits, is_well);
+    for k in 0..count {
+        let byte = byte_at(digits, count - 1 - k, is_well);
+        if k < vec.length().bits() / 8 {
+            vec.set_z_byte(r, k, byte);
+        } else {
+            *is_well = false;
+        }
     }
 }
 
-/// The monitor of `ADDRESS:BYTES` or `none`.
-fn monitor_of(value: &str) -> Option<Option<(u64, u32)>> {
-    if value == "none" {
-        return Some(None);
+/// Sets the bits of a predicate, or of FFR, from pairs of hexadecimal digits, the most significant first.
+fn set_bits(vec: &mut VecRegs, of: Option<Pred>, digits: &[u8], is_well: &mut bool) {
+    let count = count_of(digits, is_well);
+    for place in 0..count * 8 {
+        let byte = byte_at(digits, count - 1 - place / 8, is_well);
+        let set = byte >> (place % 8) & 1 == 1;
+        if place >= vec.length().bits() / 8 {
+            *is_well = false;
+            return;
+        }
+        match of {
+            Some(r) => vec.set_p_bit(r, place, set),
+            None => vec.set_ffr_bit(place, set),
+        }
     }
-    let (address, size) = value.split_once(':')?;
-    Some(Some((number(address)?, size.parse::<u32>().ok()?)))
+}
+
+/// The flags of four binary digits that were read as hexadecimal ones.
+fn flags_of(v: u64) -> Flags {
+    Flags {
+        n: v & 0x1000 != 0,
+        z: v & 0x100 != 0,
+        c: v & 0x10 != 0,
+        v: v & 1 != 0,
+    }
+}
+
+/// The rights of `r`, `rw` or `rx`; not well where it is none of them.
+fn rights_of(letters: &str, is_well: &mut bool) -> Rights {
+    let (w, x) = (letters == "rw", letters == "rx");
+    *is_well = *is_well && (w || x || letters == "r");
+    Rights { r: true, w, x }
 }
 
 fn trap_kind(name: &str) -> Option<TrapKind> {
@@ -278,9 +269,8 @@ fn trap_kind(name: &str) -> Option<TrapKind> {
 fn are_same(a: &Core, b: &Core) -> bool {
     let mut same = a.flags() == b.flags() && a.pc() == b.pc() && a.tpidr() == b.tpidr();
     for number in 0..32 {
-        if let Some(r) = Reg::new(number) {
-            same = same && a.x(r) == b.x(r) && a.x_sp(r) == b.x_sp(r);
-        }
+        let r = Reg::at(number, 0);
+        same = same && a.x(r) == b.x(r) && a.x_sp(r) == b.x_sp(r);
     }
     same
 }
@@ -288,12 +278,8 @@ fn are_same(a: &Core, b: &Core) -> bool {
 fn are_same_vectors(a: &VecRegs, b: &VecRegs) -> bool {
     let mut same = a.ffr_words() == b.ffr_words();
     for number in 0..32 {
-        if let Some(r) = Reg::new(number) {
-            same = same && a.z_words(r) == b.z_words(r);
-        }
-        if let Some(r) = Pred::new(number) {
-            same = same && a.p_words(r) == b.p_words(r);
-        }
+        let (r, p) = (Reg::at(number, 0), Pred::at(number, 0));
+        same = same && a.z_words(r) == b.z_words(r) && a.p_words(p) == b.p_words(p);
     }
     same
 }

@@ -4,18 +4,18 @@ use sve_insn::SveForm;
 
 /// The name of a form.
 pub fn sve_name(form: &SveForm) -> Option<&'static str> {
-    lane_name(form)
-        .or(fold_name(form))
-        .or(predicate_name(form))
-        .or(load_name(form))
-        .or(store_name(form))
-        .or(scattered_name(form))
+    lane_name(*form)
+        .or(fold_name(*form))
+        .or(predicate_name(*form))
+        .or(load_name(*form))
+        .or(store_name(*form))
+        .or(scattered_name(*form))
 }
 
 /// The name of a form of lanes.
 #[inline(never)]
-fn lane_name(form: &SveForm) -> Option<&'static str> {
-    Some(match *form {
+fn lane_name(form: SveForm) -> Option<&'static str> {
+    Some(match form {
         SveForm::Binary { .. } => "Binary",
         SveForm::BinaryWide { .. } => "BinaryWide",
         SveForm::ShiftImm { .. } => "ShiftImm",
@@ -43,8 +43,8 @@ fn lane_name(form: &SveForm) -> Option<&'static str> {
 
 /// The name of a form of folds, counts and permutes.
 #[inline(never)]
-fn fold_name(form: &SveForm) -> Option<&'static str> {
-    Some(match *form {
+fn fold_name(form: SveForm) -> Option<&'static str> {
+    Some(match form {
         SveForm::Reduce { .. } => "Reduce",
         SveForm::Count { .. } => "Count",
         SveForm::IncX { .. } => "IncX",
@@ -75,8 +75,8 @@ fn fold_name(form: &SveForm) -> Option<&'static str> {
 
 /// The name of a form of predicates.
 #[inline(never)]
-fn predicate_name(form: &SveForm) -> Option<&'static str> {
-    Some(match *form {
+fn predicate_name(form: SveForm) -> Option<&'static str> {
+    Some(match form {
         SveForm::CmpVec { .. } => "CmpVec",
         SveForm::CmpWide { .. } => "CmpWide",
         SveForm::CmpUImm { .. } => "CmpUImm",
@@ -105,8 +105,8 @@ fn predicate_name(form: &SveForm) -> Option<&'static str> {
 
 /// The name of a form of contiguous loads.
 #[inline(never)]
-fn load_name(form: &SveForm) -> Option<&'static str> {
-    Some(match *form {
+fn load_name(form: SveForm) -> Option<&'static str> {
+    Some(match form {
         SveForm::LoadImm { .. } => "LoadImm",
         SveForm::LoadReg { .. } => "LoadReg",
         SveForm::LoadFf { .. } => "LoadFf",
@@ -126,8 +126,8 @@ fn load_name(form: &SveForm) -> Option<&'static str> {
 
 /// The name of a form of contiguous stores.
 #[inline(never)]
-fn store_name(form: &SveForm) -> Option<&'static str> {
-    Some(match *form {
+fn store_name(form: SveForm) -> Option<&'static str> {
+    Some(match form {
         SveForm::StoreImm { .. } => "StoreImm",
         SveForm::StoreReg { .. } => "StoreReg",
         SveForm::StoreNtImm { .. } => "StoreNtImm",
@@ -142,8 +142,8 @@ fn store_name(form: &SveForm) -> Option<&'static str> {
 
 /// The name of a form of gather loads and scatter stores.
 #[inline(never)]
-fn scattered_name(form: &SveForm) -> Option<&'static str> {
-    Some(match *form {
+fn scattered_name(form: SveForm) -> Option<&'static str> {
+    Some(match form {
         SveForm::GatherSx { .. } => "GatherSx",
         SveForm::GatherSxScaled { .. } => "GatherSxScaled",
         SveForm::GatherDx { .. } => "GatherDx",

@@ -1,8 +1,0 @@
-use Rattle.guest_threads.proofs.Picked.{turn_over, turn_on}
-use Rattle.guest_threads.proofs.places.next_turn.Goals as goal
-
-pub returns-then-next-turns-clause-is : goal.returns-then-next-turns-clause-is
-returns-then-next-turns-clause-is c = turn_over c.args.turns.now c.args.turn c.if-next-turns.true
-
-pub returns-clause-is : goal.returns-clause-is
-returns-clause-is c = turn_on c.args.turns.now c.args.turn c.if-next-turns.false
