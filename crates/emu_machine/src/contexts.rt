@@ -1,15 +1,18 @@
 //! What a world of several contexts asks of its machine: other registers, single accesses to the memory, and the steps
 //! of calls that the world makes itself.
-ghost use Rattle.std.specs.Prelude.{◌≡◌, ◌<◌, ◌≤◌, ◌+◌, ◌-◌, ◌^◌, IfOk};
+ghost use Rattle.std.specs.Prelude.{◌≡◌, ◌<◌, ◌≤◌, ◌+◌, ◌-◌, ◌^◌, IfOk, get_or, length, set};
 ghost use Rattle.emu_model.specs.Access.{refused};
 ghost use Rattle.emu_model.specs.LoadsAndStores.{after_store, done_unless, loaded};
 ghost use Rattle.emu_system.specs.SystemCall.{returned};
 ghost use Rattle.emu_machine.specs.Contexts.{counted_to, without_monitor};
+ghost use Rattle.guest_contexts.specs.Laid.{with_machine};
+ghost use Rattle.thread_model.specs.Worlds as worlds;
 
 use crate::machine::Machine;
 use core_regs::Core;
 use emu_bits::Reg;
 use emu_model::{Denied, Ended, Kind};
+use guest_contexts::{Context, exchange};
 use vec_regs::VecRegs;
 
 impl Machine {
@@ -24,16 +27,20 @@ impl Machine {
         std::mem::swap(&mut *self.vec, vec);
     }
 
-    /// The same of registers in boxes, by their boxes alone.
+    /// Exchanges them with those of the context at a place, by their boxes alone.
     #[inline(always)]
-    pub fn swap_boxes(&mut self, core: &mut Box<Core>, vec: &mut Box<VecRegs>)
-        ensures machine { self.new
-            ≡ record self.old { parts = record self.old.parts { core = core.old.value; vectors = vec.old.value } } }
-        ensures core { core.new.value ≡ self.old.parts.core }
-        ensures vec { vec.new.value ≡ self.old.parts.vectors }
+    pub fn exchange(&mut self, contexts: &mut [Context], k: usize)
+        requires { k < length contexts.old }
+        ensures machine { self.new ≡ record self.old {
+          parts = record self.old.parts {
+            core = (get_or contexts.old k worlds.no_context).core;
+            vectors = (get_or contexts.old k worlds.no_context).vectors;
+          };
+        } }
+        ensures contexts { contexts.new
+            ≡ set contexts.old k (with_machine (get_or contexts.old k worlds.no_context) self.old.parts) }
     {
-        std::mem::swap(&mut self.core, core);
-        std::mem::swap(&mut self.vec, vec);
+        exchange(&mut self.core, &mut self.vec, contexts, k);
     }
 
     /// Loads n bytes, 1 to 16, as a little-endian number, if none is refused.

@@ -27,8 +27,8 @@ ghost use Rattle.emu_run.specs.Step as model;
 ghost use Rattle.emu_system.specs.SystemCall.{call, quiet, went_on};
 ghost use Rattle.emu_machine.specs.Accesses.{run_accesses};
 ghost use Rattle.emu_machine.specs.Advances.{Advances, EndsBy, MatchCall, left_by_effect, progress_by};
-ghost use Rattle.emu_machine.specs.InTurns.{AdvancesInTurns};
-ghost use Rattle.guest_contexts.specs.Begins.{IsTurn};
+ghost use Rattle.emu_machine.specs.InTurns.{AdvancesInTurns, turn_of};
+ghost use Rattle.guest_contexts.specs.Begins.{IsTurn, begins_next};
 ghost use Rattle.linux_calls.specs.Names.{NamesRead};
 ghost use Rattle.emu_machine.specs.Ends.{
   step_end,
@@ -395,6 +395,32 @@ impl Machine {
         }
     }
 
+    /// Takes steps until the next one makes a call, `until` steps are counted in all, or one ends the machine. It is
+    /// compiled into its one caller.
+    #[inline(always)]
+    fn take_steps(&mut self, until: u64) -> Progress
+        requires going { has_ended self.old ≡ false }
+        requires within { self.old.parts.steps < until }
+        ensures steps { Advances until self.old self.new result }
+        ensures failed { self.new.failed ≡ false }
+        ensures saved { self.new.saved ≡ self.old.saved }
+        ensures going { MatchCall result (has_ended self.new ≡ false) ⊤ }
+        ensures below { MatchCall result (self.new.parts.steps < until) ⊤ }
+    {
+        // what is asked of the number is asked behind the step, so that no answer of it is kept to the next one
+        loop {
+            self.log.clear();
+            match self.plain() {
+                Progress::GoesOn => {}
+                Progress::Trapped => return Progress::Trapped,
+                Progress::AtCall => return Progress::AtCall,
+            }
+            if self.steps() >= until {
+                return Progress::GoesOn;
+            }
+        }
+    }
+
     /// Takes steps until the next one makes a call, `until` steps are counted in all, or one ends the machine.
     pub fn advance(&mut self, until: u64) -> Progress
         requires going { has_ended self.old ≡ false }
@@ -427,6 +453,8 @@ impl Machine {
         ensures steps { AdvancesInTurns schedule.now numbers.now
             (record { machine = self.old; turn = turn.old; contexts = contexts.old })
             (record { machine = self.new; turn = turn.new; contexts = contexts.new }) result }
+        ensures stopped { result ≡ Progress.GoesOn → begins_next schedule.now numbers.now
+            (turn_of (record { machine = self.new; turn = turn.new; contexts = contexts.new })) ≡ false }
         ensures turn { 0 < length schedule.now → IsTurn schedule.now numbers.now contexts.new turn.new }
         ensures count { length contexts.new ≡ length contexts.old }
         ensures failed { self.new.failed ≡ false }
@@ -434,27 +462,21 @@ impl Machine {
         ensures going { MatchCall result (has_ended self.new ≡ false) ⊤ }
         ensures below { MatchCall result (self.new.parts.steps < turn.new.until) ⊤ }
     {
-        // a proof knows by this that the number fits its type
-        let _until = turn.until;
-        // what is asked of the turn is asked behind the step, so that no answer of it is kept to the next one
         loop {
-            self.log.clear();
-            match self.plain() {
+            match self.take_steps(turn.until) {
                 Progress::GoesOn => {}
                 Progress::Trapped => return Progress::Trapped,
                 Progress::AtCall => return Progress::AtCall,
             }
-            if self.steps() >= turn.until {
-                if !begin_next(
-                    schedule,
-                    numbers,
-                    contexts,
-                    turn,
-                    &mut self.core,
-                    &mut self.vec,
-                ) {
-                    return Progress::GoesOn;
-                }
+            if !begin_next(
+                schedule,
+                numbers,
+                contexts,
+                turn,
+                &mut self.core,
+                &mut self.vec,
+            ) {
+                return Progress::GoesOn;
             }
         }
     }

@@ -1,31 +1,24 @@
 -- What is so behind a turn that is used up, where the next one begins.
-use Rattle.std.proofs.Common.{◌≡◌, ◌<◌, ℕ, zero, suc, ◌+◌, Bool, true, false, ◌&&◌, if◌then◌else◌, is_some, List, [], ◌∷◌, length, get_or, set, refl, sym, ap, subst, ◌∙◌, arith}
-use Rattle.std.proofs.lemmas.Bool.{eq-eqb, leb-true, ne_eqb}
+use Rattle.std.proofs.Common.{◌≡◌, ◌<◌, ◌≤◌, ◌⊎◌, inl, inr, ℕ, zero, suc, ◌+◌, Bool, true, false, not, ◌&&◌, ◌||◌, if◌then◌else◌, nat_eq, nat_le, nat_lt, is_some, List, [], ◌∷◌, length, get_or, set, refl, sym, ap, subst, ◌∙◌, arith}
+use Rattle.std.proofs.lemmas.Bool.{and_from, and_parts, eq-eqb, le-leb, leb-true, lt-ltb, ne_eqb, or_left, or_right}
 use Rattle.std.proofs.lemmas.List.{length-set}
 use Rattle.std.specs.List.{list_all, list_any}
 use Rattle.emu_model.specs.State.{Core, Parts, Vectors}
 use Rattle.guest_schedule.specs.Turns.{has_steps}
 use Rattle.thread_model.specs.Threads.{next_turn, turn_at}
 use Rattle.thread_model.specs.Worlds.{Context, no_context, taken_by_context}
+use Rattle.guest_contexts.specs.Begins.{TurnAt, begins_next, context_of}
 use Rattle.guest_contexts.specs.Laid.{world_of}
 use Rattle.guest_contexts.specs.Standings.{AreReady, has_monitor}
 use Rattle.guest_contexts.proofs.Kept.{ready_set, unwatched_at, unwatched_set}
 use Rattle.guest_contexts.proofs.Laid.{brought}
 use Rattle.guest_contexts.proofs.Lists.{default_same}
 
-and_first : (a b : Bool) → (a && b) ≡ true → a ≡ true
-and_first true b h = refl
-and_first false b h = cc
-
-and_second : (a b : Bool) → (a && b) ≡ true → b ≡ true
-and_second true b h = h
-and_second false b h = cc
-
 -- a turn has a step
 pub has_one : (schedule : List (ℕ × ℕ)) (t : ℕ) → list_all has_steps schedule ≡ true → t < length schedule → 0 < (turn_at schedule t).1
 has_one [] t all h = absurd (omega (arith, h))
-has_one (x ∷ xs) zero all h = leb-true 1 x.1 (and_first (has_steps x) (list_all has_steps xs) all)
-has_one (x ∷ xs) (suc t) all h = has_one xs t (and_second (has_steps x) (list_all has_steps xs) all) (omega (arith, h))
+has_one (x ∷ xs) zero all h = leb-true 1 x.1 (and_parts (has_steps x) (list_all has_steps xs) all).0
+has_one (x ∷ xs) (suc t) all h = has_one xs t (and_parts (has_steps x) (list_all has_steps xs) all).1 (omega (arith, h))
 
 -- a turn of the schedule, whatever stands for one that isn't there
 pub turn_is : (schedule : List (ℕ × ℕ)) (t : ℕ) → t < length schedule → get_or schedule t (0, 0) ≡ turn_at schedule t
@@ -36,6 +29,37 @@ turn_over schedule t h = sym (ap (λ (b : Bool). if b then 0 else t + 1) (eq-eqb
 
 pub turn_on : (schedule : List (ℕ × ℕ)) (t : ℕ) → (t + 1 ≡ length schedule → ⊥) → t + 1 ≡ next_turn schedule t
 turn_on schedule t h = sym (ap (λ (b : Bool). if b then 0 else t + 1) (ne_eqb (t + 1) (length schedule) h))
+
+-- ---- whether the next one begins
+
+module _ (schedule : List (ℕ × ℕ)) (numbers : List ℕ) (old : TurnAt) where
+  abbrev next : ℕ × ℕ
+  next = turn_at schedule (next_turn schedule old.turn.place)
+
+  abbrev scheduled : Bool
+  scheduled = nat_lt 0 (length schedule)
+
+  abbrev fits : Bool
+  fits = nat_le (old.turn.until + next.1) old.turn.budget
+
+  abbrev some_ready : Bool
+  some_ready = nat_lt 0 (length numbers)
+
+  abbrev same : Bool
+  same = nat_eq (context_of numbers next) old.turn.context
+
+  abbrev free : Bool
+  free = same || not (is_some old.core.monitor)
+
+  free_by : (context_of numbers next ≡ old.turn.context) ⊎ (is_some old.core.monitor ≡ false) → free ≡ true
+  free_by (inl own) = or_left same (not (is_some old.core.monitor)) (eq-eqb (context_of numbers next) old.turn.context own)
+  free_by (inr none) = or_right same (not (is_some old.core.monitor)) (ap not none)
+
+  pub one_begins : 0 < length schedule → old.turn.until + next.1 ≤ old.turn.budget → 0 < length numbers → (context_of numbers next ≡ old.turn.context) ⊎ (is_some old.core.monitor ≡ false)
+      → true ≡ begins_next schedule numbers old
+  one_begins some most one is =
+      sym (and_from scheduled (fits && (some_ready && free)) (lt-ltb 0 (length schedule) some)
+      (and_from fits (some_ready && free) (le-leb (old.turn.until + next.1) old.turn.budget most) (and_from some_ready free (lt-ltb 0 (length numbers) one) (free_by is))))
 
 -- the registers of context k took the place of those of the one at `last`, which went back to it
 pub record IsChanged (numbers : List ℕ) (last k : ℕ) (cs : List Context) (c : Core) (v : Vectors) (new : List Context) (d : Core) (u : Vectors) : Type 0 where

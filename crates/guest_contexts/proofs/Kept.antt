@@ -2,12 +2,13 @@
 use Rattle.std.proofs.Common.{◌≡◌, ◌<◌, ℕ, zero, suc, Bool, true, false, ◌||◌, is_some, List, [], ◌∷◌, length, get_or, map, set, refl, sym, ap, subst, ◌∙◌}
 use Rattle.std.specs.Prelude.{◌↔◌}
 use Rattle.std.specs.List.{list_any, range_with_len}
+use Rattle.std.proofs.lemmas.Bool.{or_parts}
 use Rattle.std.proofs.lemmas.List.{length-map, length-set}
 use Rattle.emu_model.specs.State.{Parts}
 use Rattle.thread_model.specs.Worlds.{Context, is_ready, no_context}
 use Rattle.guest_contexts.specs.Laid.{laid, with_machine}
 use Rattle.guest_contexts.specs.Standings.{AreReady, has_monitor, ready_among}
-use Rattle.guest_contexts.proofs.Laid.{filter_of, neither}
+use Rattle.guest_contexts.proofs.Laid.{filter_of}
 use Rattle.guest_contexts.proofs.Lists.{filter_same, same_any, same_at}
 
 -- ---- the numbers of those that are ready
@@ -65,14 +66,14 @@ pub unwatched_set : (k : ℕ) (cs : List Context) (c : Context) → list_any has
 unwatched_set zero [] c h none = refl
 unwatched_set (suc k) [] c h none = refl
 unwatched_set zero (x ∷ cs) c h none =
-    let both = neither (has_monitor x) (list_any has_monitor cs) h in ap (λ (b : Bool). b || list_any has_monitor cs) none ∙ both.1
+    let both = or_parts (has_monitor x) (list_any has_monitor cs) h in ap (λ (b : Bool). b || list_any has_monitor cs) none ∙ both.1
 unwatched_set (suc k) (x ∷ cs) c h none =
-    let both = neither (has_monitor x) (list_any has_monitor cs) h in ap (λ (b : Bool). b || list_any has_monitor (set cs k c)) both.0 ∙ unwatched_set k cs c both.1 none
+    let both = or_parts (has_monitor x) (list_any has_monitor cs) h in ap (λ (b : Bool). b || list_any has_monitor (set cs k c)) both.0 ∙ unwatched_set k cs c both.1 none
 
 pub unwatched_laid : (m : Parts) (k : ℕ) (cs : List Context) → list_any has_monitor cs ≡ false → is_some m.core.monitor ≡ false → list_any has_monitor (laid m k cs) ≡ false
 unwatched_laid m k cs h none = unwatched_set k cs (with_machine (get_or cs k no_context) m) h none
 
 pub unwatched_at : (cs : List Context) (k : ℕ) → list_any has_monitor cs ≡ false → has_monitor (get_or cs k no_context) ≡ false
 unwatched_at [] k h = refl
-unwatched_at (c ∷ cs) zero h = (neither (has_monitor c) (list_any has_monitor cs) h).0
-unwatched_at (c ∷ cs) (suc k) h = unwatched_at cs k (neither (has_monitor c) (list_any has_monitor cs) h).1
+unwatched_at (c ∷ cs) zero h = (or_parts (has_monitor c) (list_any has_monitor cs) h).0
+unwatched_at (c ∷ cs) (suc k) h = unwatched_at cs k (or_parts (has_monitor c) (list_any has_monitor cs) h).1

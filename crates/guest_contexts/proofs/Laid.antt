@@ -1,5 +1,6 @@
 -- A world whose machine has the registers of one of its contexts, and what changes of its machine and of its contexts make of it.
-use Rattle.std.proofs.Common.{◌≡◌, ◌<◌, ℕ, zero, suc, ◌-◌, Bool, true, false, ◌&&◌, ◌||◌, is_some, List, [], ◌∷◌, ◌++◌, length, get_or, set, map, Option, Some, None, nat_lt, if◌then◌else◌, refl, sym, ap, subst, ◌∙◌, arith}
+use Rattle.std.proofs.Common.{◌≡◌, ◌<◌, ℕ, zero, suc, ◌-◌, true, false, ◌&&◌, is_some, List, [], ◌∷◌, ◌++◌, length, get_or, set, map, Option, Some, None, nat_lt, if◌then◌else◌, refl, sym, ap, subst, ◌∙◌, arith}
+use Rattle.std.proofs.lemmas.Bool.{or_parts}
 use Rattle.std.proofs.lemmas.List.{get_or-set_same, length-set, set-set, set-get_or, map-set}
 use Rattle.std.specs.Prelude.{filter, min}
 use Rattle.std.specs.List.{list_any, list_all, range_with_len}
@@ -168,14 +169,10 @@ kept_monitor : (made : List Access) (c : Context) (monitor : Option (ℕ × ℕ)
 kept_monitor made c None is none = ap (λ (x : Option (ℕ × ℕ)). with_monitor (monitor_behind made x) c) is ∙ ap (λ (x : Option (ℕ × ℕ)). with_monitor x c) (sym is)
 kept_monitor made c (Some monitor) is none = cc
 
-pub neither : (a b : Bool) → (a || b) ≡ false → (a ≡ false) × (b ≡ false)
-neither true b h = cc
-neither false b h = (refl, h)
-
 pub unwatched : (made : List Access) (cs : List Context) → list_any has_monitor cs ≡ false → map (behind_accesses made) cs ≡ cs
 unwatched made [] h = refl
 unwatched made (c ∷ cs) h =
-    let both = neither (has_monitor c) (list_any has_monitor cs) h in
+    let both = or_parts (has_monitor c) (list_any has_monitor cs) h in
     ap (λ (d : Context). d ∷ map (behind_accesses made) cs) (kept_monitor made c c.core.monitor refl both.0)
     ∙ ap (λ (l : List Context). c ∷ l) (unwatched made cs both.1)
 

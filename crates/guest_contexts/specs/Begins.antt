@@ -1,5 +1,5 @@
 -- The turn of a schedule that begins behind one that is used up.
-use Rattle.std.specs.Prelude.{◌≡◌, ◌<◌, ◌≤◌, ◌+◌, ◌%◌, ◌^◌, ℕ, false, List, length, get_or}
+use Rattle.std.specs.Prelude.{◌≡◌, ◌<◌, ◌≤◌, ◌+◌, ◌%◌, ◌^◌, ℕ, Bool, false, not, ◌&&◌, ◌||◌, is_some, nat_eq, nat_le, nat_lt, List, length, get_or}
 use Rattle.std.specs.List.{list_any}
 use Rattle.emu_model.specs.State.{Core, Parts, Vectors}
 use Rattle.guest_schedule.specs.Turns.{IsSchedule}
@@ -29,6 +29,18 @@ pub record TurnAt : Type 0 where
 -- the world of a machine that has these registers
 abbrev pub world_at : Parts → TurnAt → World
 world_at m a = world_of (record m { core = a.core; vectors = a.vectors }) a.turn.context a.contexts
+
+-- the context of a turn that begins
+abbrev pub context_of : List ℕ → ℕ × ℕ → ℕ
+context_of numbers turn = get_or numbers (turn.0 % length numbers) 0
+
+-- whether a turn begins behind this one, which is used up: there is a schedule, its next turn ends within the budget, a context is
+-- ready, and the turn's context is the one that the machine has, or that one has no monitor
+abbrev pub begins_next : List (ℕ × ℕ) → List ℕ → TurnAt → Bool
+begins_next schedule numbers old =
+    let next : ℕ × ℕ = turn_at schedule (next_turn schedule old.turn.place) in
+    nat_lt 0 (length schedule) && (nat_le (old.turn.until + next.1) old.turn.budget && (nat_lt 0 (length numbers)
+    && (nat_eq (context_of numbers next) old.turn.context || not (is_some old.core.monitor))))
 
 -- behind the turn `old`, which is used up, `new` begins: the next one of the schedule, with the context at its place among those
 -- that are ready; the world is the same, but for the context that the machine has

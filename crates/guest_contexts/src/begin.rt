@@ -1,6 +1,6 @@
 //! The turn of a schedule that begins behind one that is used up, and the exchange of registers that it asks for.
-ghost use Rattle.std.specs.Prelude.{◌≡◌, ◌<◌, MatchBool, get_or, length, set};
-ghost use Rattle.guest_contexts.specs.Begins.{Begins, IsTurn};
+ghost use Rattle.std.specs.Prelude.{◌≡◌, ◌<◌, ◌≤◌, ◌+◌, MatchBool, MatchOption, get_or, length, set};
+ghost use Rattle.guest_contexts.specs.Begins.{Begins, IsTurn, begins_next};
 ghost use Rattle.thread_model.specs.Threads as model;
 ghost use Rattle.thread_model.specs.Worlds as worlds;
 
@@ -28,7 +28,7 @@ impl Turn {
     /// The steps of a machine alone, until so many are counted in all.
     #[inline(always)]
     pub fn alone(until: u64) -> Turn
-        ensures { result.until ≡ until }
+        ensures { result ≡ record { place = 0; context = 0; before = 0; until = until; budget = until } }
     {
         Turn {
             place: 0,
@@ -54,9 +54,25 @@ pub fn next_turn(turns: &[(u64, u64)], turn: usize) -> usize
     next
 }
 
+/// The number of steps that are counted in all when a turn that begins is used up. None exactly where that is more than
+/// the budget.
+#[inline(always)]
+pub fn turn_end(turns: &[(u64, u64)], turn: usize, steps: u64, budget: u64) -> Option<u64>
+    requires turn { turn < length turns.now }
+    requires within { steps ≤ budget }
+    ensures { MatchOption result (budget < steps + (model.turn_at turns.now turn).1)
+        (λ until. (until ≡ steps + (model.turn_at turns.now turn).1) × (until ≤ budget)) }
+{
+    let more = turns[turn].1;
+    if budget - steps < more {
+        return None;
+    }
+    Some(steps + more)
+}
+
 /// Exchanges registers with those of the context at a place, by their boxes alone.
 #[inline(always)]
-fn exchange(core: &mut Box<Core>, vec: &mut Box<VecRegs>, contexts: &mut [Context], k: usize)
+pub fn exchange(core: &mut Box<Core>, vec: &mut Box<VecRegs>, contexts: &mut [Context], k: usize)
     requires { k < length contexts.old }
     ensures core { core.new.value ≡ (get_or contexts.old k worlds.no_context).core }
     ensures vec { vec.new.value ≡ (get_or contexts.old k worlds.no_context).vectors }
@@ -70,8 +86,8 @@ fn exchange(core: &mut Box<Core>, vec: &mut Box<VecRegs>, contexts: &mut [Contex
 }
 
 /// Begins the turn behind one that is used up: the machine gets the registers of its context, and those that it had go
-/// back to theirs. Nothing is begun, and nothing changed, where there is no schedule, no context is ready, the turn
-/// doesn't end within the budget, or another context follows one that has a monitor.
+/// back to theirs. Nothing is begun, and nothing changed, exactly where there is no schedule, no context is ready, the
+/// turn doesn't end within the budget, or another context follows one that has a monitor.
 #[inline(always)]
 pub fn begin_next(
     schedule: &[(u64, u64)],
@@ -82,7 +98,13 @@ pub fn begin_next(
     vec: &mut Box<VecRegs>,
 ) -> bool
     requires { 0 < length schedule.now → IsTurn schedule.now numbers.now contexts.old turn.old }
-    ensures { MatchBool result
+    ensures begins { result ≡ begins_next schedule.now numbers.now (record {
+      turn = turn.old;
+      core = core.old.value;
+      vectors = vec.old.value;
+      contexts = contexts.old;
+    }) }
+    ensures turn { MatchBool result
         (Begins schedule.now numbers.now
         (record { turn = turn.old; core = core.old.value; vectors = vec.old.value; contexts = contexts.old })
         (record { turn = turn.new; core = core.new.value; vectors = vec.new.value; contexts = contexts.new }))
@@ -92,10 +114,9 @@ pub fn begin_next(
         return false;
     }
     let place = next_turn(schedule, turn.place);
-    let steps = schedule[place].1;
-    if turn.budget - turn.until < steps {
+    let Some(until) = turn_end(schedule, place, turn.until, turn.budget) else {
         return false;
-    }
+    };
     let Some(at) = place_among(schedule[place].0, numbers.len() as u64) else {
         return false;
     };
@@ -112,7 +133,7 @@ pub fn begin_next(
         place,
         context: k,
         before: last,
-        until: turn.until + steps,
+        until,
         budget: turn.budget,
     };
     true

@@ -10,7 +10,7 @@ mod room;
 mod standings;
 mod turns;
 
-pub use begin::{Turn, begin_next, next_turn};
+pub use begin::{Turn, begin_next, exchange, next_turn, turn_end};
 pub use context::{Context, Started};
 pub use copies::{copy_core, copy_vectors};
 pub use monitors::{empty_monitors, is_some_watching, note_accesses};

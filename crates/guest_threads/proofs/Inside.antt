@@ -38,13 +38,12 @@ module _ (capacity spares : ℕ) (numbers : List ℕ) where
       }
 
   -- a machine that has exchanged its registers with those of its context, and then with those of context k
-  pub inside_brought : (m m1 : Parts) (last k : ℕ) (cs cs1 cs2 : List Context) (capacity2 : ℕ) (u v : Bool) → IsInside last cs capacity spares numbers u → k < length cs
-      → (v ≡ true → (u ≡ true) × (is_some m.core.monitor ≡ false)) → m1 ≡ loaded m (get_or cs last no_context) → cs1 ≡ laid m last cs → cs2 ≡ laid m1 k cs1 → capacity2 ≡ capacity
-      → IsInside k cs2 capacity2 spares numbers v
-  inside_brought m m1 last k cs cs1 cs2 capacity2 u v i within knows same first second room =
+  pub inside_brought : (m m1 : Parts) (last k : ℕ) (cs cs1 cs2 : List Context) (u v : Bool) → IsInside last cs capacity spares numbers u → k < length cs
+      → (v ≡ true → (u ≡ true) × (is_some m.core.monitor ≡ false)) → m1 ≡ loaded m (get_or cs last no_context) → cs1 ≡ laid m last cs → cs2 ≡ laid m1 k cs1
+      → IsInside k cs2 capacity spares numbers v
+  inside_brought m m1 last k cs cs1 cs2 u v i within knows same first second =
       let here : IsInside k cs capacity spares numbers u = record { last = within; most = i.most; room = i.room; spare = i.spare; ready = i.ready; quiet = i.quiet } in
       let one : IsInside k cs1 capacity spares numbers v = subst (λ (l : List Context). IsInside k l capacity spares numbers v) (sym first) (inside_laid m last k cs u v here knows) in
       let none : v ≡ true → (v ≡ true) × (is_some m1.core.monitor ≡ false) =
       λ h. (h, ap (λ (x : Parts). is_some x.core.monitor) same ∙ unwatched_at cs last (i.quiet (knows h).0)) in
-      let two : IsInside k cs2 capacity spares numbers v = subst (λ (l : List Context). IsInside k l capacity spares numbers v) (sym second) (inside_laid m1 k k cs1 v v one none) in
-      subst (λ (n : ℕ). IsInside k cs2 n spares numbers v) (sym room) two
+      subst (λ (l : List Context). IsInside k l capacity spares numbers v) (sym second) (inside_laid m1 k k cs1 v v one none)

@@ -1,7 +1,7 @@
 -- The context that takes the next step, found among those that are ready.
 use Rattle.std.proofs.Common.{◌≡◌, ◌<◌, ◌⊎◌, inl, inr, ℕ, ◌+◌, ◌-◌, ◌%◌, Bool, true, false, not, ◌||◌, List, Option, None, length, get_or, nat_eq, if◌then◌else◌, refl, sym, ap, subst, ◌∙◌, arith}
 use Rattle.std.specs.List.{All, list_all, list_any}
-use Rattle.std.proofs.lemmas.Bool.{eq-eqb, ne_eqb}
+use Rattle.std.proofs.lemmas.Bool.{eq-eqb, false_from_ne_true, ne_eqb, or_right}
 use Rattle.std.proofs.lemmas.List.Folds.{list_any_at}
 use Rattle.emu_model.specs.State.{Parts}
 use Rattle.thread_model.specs.declared.thread.Place.{Place}
@@ -14,10 +14,9 @@ use Rattle.guest_threads.specs.declared.ends.WorldEnd.TheVariants.{Spent, Stuck}
 use Rattle.thread_model.specs.Threads.{ending, is_over, next_place, next_turn, turn_at, ready_at}
 use Rattle.thread_model.specs.Worlds.{World, Context, context, no_context, is_ready, is_standing_ready, ready, some_ready}
 use Rattle.guest_contexts.specs.Laid.{laid, world_of}
-use Rattle.guest_contexts.proofs.Begins.{has_one}
+use Rattle.guest_contexts.proofs.Begins.{has_one, turn_is}
 use Rattle.guest_contexts.specs.Standings.{ready_among, IsReadyIn}
 use Rattle.guest_contexts.proofs.Laid.{laid_length, ready_at_same, ready_same, some_ready_same}
-use Rattle.guest_contexts.proofs.Lists.{default_same}
 use Rattle.guest_threads.specs.Ends.{IsPicked, IsPlace, IsReadyAt, end_of_world, world_end}
 
 pub standing_of : (s : Standing) → is_standing_ready s ≡ true → s ≡ Ready
@@ -44,17 +43,9 @@ picked_held w schedule p placed used =
       some = some_by w p.held (placed.held off);
     }
 
-or_true : (b : Bool) → (b || true) ≡ true
-or_true true = refl
-or_true false = refl
-
-is_none_by : (b : Bool) → (b ≡ true → ⊥) → b ≡ false
-is_none_by true h = absurd (h refl)
-is_none_by false h = refl
-
 -- none is ready
 pub picked_none : (m : Parts) (last : ℕ) (cs : List Context) (numbers : List ℕ) → (list_any is_ready cs ≡ true → 0 < length numbers) → length numbers ≡ 0 → some_ready (world_of m last cs) ≡ false
-picked_none m last cs numbers some none = some_ready_same m last cs ∙ is_none_by (list_any is_ready cs) (λ h. let e = some h in omega (arith, e, none))
+picked_none m last cs numbers some none = some_ready_same m last cs ∙ false_from_ne_true (list_any is_ready cs) (λ h. let e = some h in omega (arith, e, none))
 
 -- the one at a place
 pub picked_at : (m : Parts) (last : ℕ) (cs : List Context) (schedule : List (ℕ × ℕ)) (p : Place) (numbers : List ℕ) (at k : ℕ) → numbers ≡ ready_among cs → All (IsReadyIn cs) numbers
@@ -64,7 +55,7 @@ picked_at m last cs schedule p numbers at k are each used within is_at below her
     let one = each at 0 below in
     let so : IsReadyIn cs k = subst (λ (n : ℕ). IsReadyIn cs n) (sym here) one in
     let all : numbers ≡ ready w = are ∙ sym (ready_same m last cs) in
-    let place : get_or schedule p.turn (0, 0) ≡ turn_at schedule p.turn = default_same schedule p.turn (0, 0) (0, 1) within in
+    let place : get_or schedule p.turn (0, 0) ≡ turn_at schedule p.turn = turn_is schedule p.turn within in
     let ready_so : IsReadyAt w k = ready_here m last cs k so.within so.ready in
     record {
       is = here
@@ -91,7 +82,7 @@ place_at turn used held = record { turn = turn; used = used; held = held }
 -- whether the turn is over
 pub is_over_by : (w : World) (schedule : List (ℕ × ℕ)) (p : Place) (k : ℕ) → (p.used + 1 ≡ (turn_at schedule p.turn).1) ⊎ (is_ready (context w k) ≡ false) → is_over w schedule p k ≡ true
 is_over_by w schedule p k (inl last) = ap (λ (b : Bool). b || not (is_ready (context w k))) (eq-eqb (p.used + 1) (turn_at schedule p.turn).1 last)
-is_over_by w schedule p k (inr gone) = ap (λ (b : Bool). nat_eq (p.used + 1) (turn_at schedule p.turn).1 || not b) gone ∙ or_true (nat_eq (p.used + 1) (turn_at schedule p.turn).1)
+is_over_by w schedule p k (inr gone) = ap (λ (b : Bool). nat_eq (p.used + 1) (turn_at schedule p.turn).1 || not b) gone ∙ or_right (nat_eq (p.used + 1) (turn_at schedule p.turn).1) true refl
 
 -- the same of a turn of which so many steps are used up
 pub over_behind : (w : World) (schedule : List (ℕ × ℕ)) (turn used k : ℕ) → 0 < used → (used ≡ (turn_at schedule turn).1) ⊎ (is_ready (context w k) ≡ false)
@@ -111,17 +102,6 @@ stays_on w schedule p k more ready_so =
     let on : is_over w schedule p k ≡ false =
     ap (λ (b : Bool). b || not (is_ready (context w k))) (ne_eqb (p.used + 1) (turn_at schedule p.turn).1 more) ∙ ap (λ (b : Bool). false || not b) ready_so in
     sym (ap (λ (b : Bool). if b then place_at (next_turn schedule p.turn) 0 0 else place_at p.turn (p.used + 1) k) on)
-
-pub not_true : (b : Bool) → not b ≡ true → b ≡ false
-not_true true h = cc
-not_true false h = refl
-
-pub not_false : (b : Bool) → not b ≡ false → b ≡ true
-not_false true h = refl
-not_false false h = cc
-
-pub turn_same : (schedule : List (ℕ × ℕ)) (t : ℕ) → t < length schedule → (get_or schedule t (0, 0)).1 ≡ (turn_at schedule t).1
-turn_same schedule t h = ap (λ (x : ℕ × ℕ). x.1) (default_same schedule t (0, 0) (0, 1) h)
 
 pub placed_at : (w : World) (schedule : List (ℕ × ℕ)) (t : ℕ) → list_all has_steps schedule ≡ true → t < length schedule → IsPlace w schedule (place_at t 0 0)
 placed_at w schedule t all within = record { turn = within; used = has_one schedule t all within; held = λ (h : true ≡ false). cc }

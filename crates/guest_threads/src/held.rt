@@ -1,8 +1,6 @@
 //! A machine with the contexts whose registers it doesn't have, and the exchange of their registers with the machine's.
-ghost use Rattle.std.specs.Prelude.{◌≡◌, ◌<◌, ◌≤◌, ℕ, IfOk, get_or, is_some, set, length, true, false};
-ghost use Rattle.std.specs.Vec.{vec_capacity};
+ghost use Rattle.std.specs.Prelude.{◌≡◌, ◌<◌, ◌≤◌, IfOk, is_some, length, true, false};
 ghost use Rattle.emu_machine.specs.Machines.{has_ended as machine_has_ended};
-ghost use Rattle.guest_contexts.specs.Laid.{with_machine};
 ghost use Rattle.thread_model.specs.Worlds as worlds;
 
 use arrayvec::ArrayVec;
@@ -48,23 +46,6 @@ impl Model for Held {
 
     ghost invariant = { λ a. IsInside a.last a.contexts.items (vec_capacity a.contexts)
         (length a.spares.items) a.numbers.items a.unwatched };
-}
-
-/// Exchanges the machine's registers with those of the context at a place.
-fn exchange(machine: &mut Machine, contexts: &mut Vec<Context>, k: usize)
-    requires { k < length contexts.old.items }
-    ensures machine { machine.new ≡ record machine.old {
-      parts = record machine.old.parts {
-        core = (get_or contexts.old.items k worlds.no_context).core;
-        vectors = (get_or contexts.old.items k worlds.no_context).vectors;
-      };
-    } }
-    ensures contexts { contexts.new.items
-        ≡ set contexts.old.items k (with_machine (get_or contexts.old.items k worlds.no_context) machine.old.parts) }
-    ensures room { vec_capacity contexts.new ≡ vec_capacity contexts.old }
-{
-    let context = &mut contexts[k];
-    machine.swap_boxes(&mut context.core, &mut context.vec);
 }
 
 /// Whether it is known that none of the contexts has a monitor, once these registers are back at theirs.
@@ -148,8 +129,9 @@ impl Held {
         let last = self.last;
         if k != last {
             let unwatched = stays_unwatched(self.unwatched, self.machine.core());
-            exchange(&mut self.machine, &mut self.contexts, last);
-            exchange(&mut self.machine, &mut self.contexts, k);
+            let contexts = &mut *self.contexts;
+            self.machine.exchange(contexts, last);
+            self.machine.exchange(contexts, k);
             self.unwatched = unwatched;
             self.last = k;
         }

@@ -1,5 +1,5 @@
 //! Whole turns of a schedule, one after the other, by the loop of the machine.
-ghost use Rattle.std.specs.Prelude.{◌≡◌, ◌<◌, ◌≤◌, ◌+◌, ◌-◌, MatchOption, if◌then◌else◌, length, nat_eq, false};
+ghost use Rattle.std.specs.Prelude.{◌≡◌, ◌≤◌, ◌-◌, MatchOption, if◌then◌else◌, nat_eq, false};
 ghost use Rattle.guest_schedule.specs.Turns.{IsSchedule};
 ghost use Rattle.guest_threads.specs.Ends.{has_ended, IsPlace};
 ghost use Rattle.guest_threads.specs.Quiet.{FollowsOn, FollowsToEnd, StopsWithin};
@@ -8,7 +8,7 @@ ghost use Rattle.thread_model.specs.Worlds as worlds;
 
 use crate::held::Held;
 use emu_machine::Progress;
-use guest_contexts::{Turn, next_turn};
+use guest_contexts::{Turn, next_turn, turn_end};
 use thread_model::Place;
 
 impl Held {
@@ -91,20 +91,4 @@ impl Held {
             held: if used == 0 { 0 } else { turn.context },
         }
     }
-}
-
-/// The number of steps that are counted in all when a turn that begins is used up. None where that is more than the
-/// budget.
-#[inline(always)]
-fn turn_end(turns: &[(u64, u64)], turn: usize, steps: u64, budget: u64) -> Option<u64>
-    requires turn { turn < length turns.now }
-    requires within { steps ≤ budget }
-    ensures { MatchOption result (budget < steps + (model.turn_at turns.now turn).1)
-        (λ until. (until ≡ steps + (model.turn_at turns.now turn).1) × (until ≤ budget)) }
-{
-    let more = turns[turn].1;
-    if budget - steps < more {
-        return None;
-    }
-    Some(steps + more)
 }

@@ -3,7 +3,6 @@ use Rattle.std.specs.Vec.{with_items}
 use Rattle.std.proofs.lemmas.List.{with_items_is}
 use Rattle.emu_machine.specs.InTurns.{InTurn}
 use Rattle.guest_contexts.specs.Laid.{world_of}
-use Rattle.thread_model.specs.Threads.{next_turn}
 use Rattle.thread_model.specs.Worlds.{Context}
 use Rattle.guest_threads.specs.Ends.{WorldHeld}
 use Rattle.guest_threads.specs.Quiet.{FollowsOn, FollowsToEnd, StopsWithin}

@@ -1,0 +1,15 @@
+use Rattle.std.proofs.Common.{◌≡◌, ◌<◌, ◌-◌, false}
+use Rattle.emu_machine.specs.Advances.{IsAhead}
+use Rattle.emu_machine.specs.Machines.{has_ended}
+use Rattle.emu_machine.proofs.machine.Machine.take_steps.Given as goal
+
+abbrev pub invariant-loop-self : goal.invariant-loop-self
+invariant-loop-self l = record {
+  going : has_ended l.self ≡ false;
+  below : l.self.parts.steps < l.until;
+  saved : l.self.saved ≡ l.fn.self.saved;
+  ahead : IsAhead l.fn.self.parts l.self.parts l.fn.self.accesses l.self.accesses;
+}
+
+abbrev pub decreases-loop-self : goal.decreases-loop-self
+decreases-loop-self l = l.until - l.self.parts.steps
