@@ -1,17 +1,18 @@
 -- What a line promises where its input told its bytes, and where it rests on none; and that the program is complete.
 use Rattle.std.proofs.Common.{◌≡◌, ◌⊎◌, inl, inr, ℕ, Bool, true, false, List, Option, Some, None, Result, IfSome, MatchBool, refl, sym, ap, subst, ◌∙◌}
+use Rattle.std.proofs.lemmas.Option.{IfSome_then}
 use Rattle.io_gate.specs.Streams.{Rose}
 use Rattle.emu_outcome.specs.Outcome.{Outcome, Files, result_of}
 use Rattle.emu_outcome.specs.declared.ending.Ending.{Ending}
 use Rattle.emu_outcome.specs.declared.ending.Ending.TheVariants.{FileFault, ReadFault, WriteFault, ErrorsFault, OutOfMemory}
 use Rattle.command_model.specs.declared.command_line.Line.{Line}
 use Rattle.command_model.specs.declared.command_line.WordsFault.{WordsFault}
-use Rattle.commands.specs.Lines.{reads_first, takes_input, IsOutcome}
+use Rattle.commands.specs.Lines.{reads_first, takes_input, IsOutcome, SettlesLine}
 use Rattle.commands.specs.Meets.{MeetsLine, now}
 use Rattle.commands.proofs.Settled.{rests_ends}
 use Rattle.emu_system.specs.Gained.{Gains}
-use Rattle.commands.specs.Promises.{is_failure, rests_on_none, output_of, errors_of, CountsFor, EndsAs, NamesNoFile}
-use Rattle.svemu.specs.Headline.{Completes, IsQuiet}
+use Rattle.commands.specs.Promises.{is_failure, rests_on_none, output_of, errors_of, taken_of, CountsFor, EndsAs, Loses, NamesNoFile}
+use Rattle.svemu_call.specs.Headline.{Completes, IsQuiet}
 
 -- ---- for the input that was told, and for any where the line rests on none
 
@@ -50,7 +51,7 @@ module _ (words : List (List ℕ)) (result : Ending) (o0 e0 o1 e1 : Option (List
         | false ↦ λ _ told. meets_told l files bytes left (subst (λ (t : Option (List ℕ)). MeetsLine words files l (result_of words files) result (now t o0 e0) (now left o1 e1)) told m)
       ] refl of
 
-  pub meets_for : (named : Option Files) (l : Result Line WordsFault) (told left : Option (List ℕ))
+  meets_for : (named : Option Files) (l : Result Line WordsFault) (told left : Option (List ℕ))
       → IfSome named (λ files. MeetsLine words files l (result_of words files) result (now told o0 e0) (now left o1 e1))
       → (takes_input l ≡ false → (input : Option (List ℕ)) → IfSome named (λ files. MeetsLine words files l (result_of words files) result (now input o0 e0) (now input o1 e1)))
       → IfSome named (λ files. (bytes : List ℕ) → IsOutcome l told (result_of words files bytes) bytes → MeetsFor files bytes)
@@ -60,6 +61,31 @@ module _ (words : List (List ℕ)) (result : Ending) (o0 e0 o1 e1 : Option (List
         | true ↦ λ _ is. meets_machine l files bytes told left is meets
         | false ↦ λ still _. meets_told l files bytes (Some bytes) (without still (Some bytes))
       ] refl of
+
+  -- ---- each clause of the top call by itself
+
+  pub settled_of : (named : Option Files) (l : Result Line WordsFault) (told left : Option (List ℕ)) → IfSome named (λ files. MeetsLine words files l (result_of words files) result (now told o0 e0) (now left o1 e1))
+      → IfSome named (λ files. is_failure result ≡ false → (bytes : List ℕ) → SettlesLine words files l (result_of words files bytes) result)
+  settled_of named l told left meets = IfSome_then named meets (λ files met. met.settled)
+
+  pub input_of : (named : Option Files) (l : Result Line WordsFault) (told left : Option (List ℕ)) → IfSome named (λ files. MeetsLine words files l (result_of words files) result (now told o0 e0) (now left o1 e1))
+      → IfSome named (λ files. IfSome told (λ bytes. Loses (is_failure result) left bytes (taken_of (result_of words files bytes))))
+  input_of named l told left meets = IfSome_then named meets (λ files met. met.input)
+
+  pub ends_for : (named : Option Files) (l : Result Line WordsFault) (told left : Option (List ℕ)) → IfSome named (λ files. MeetsLine words files l (result_of words files) result (now told o0 e0) (now left o1 e1))
+      → (takes_input l ≡ false → (input : Option (List ℕ)) → IfSome named (λ files. MeetsLine words files l (result_of words files) result (now input o0 e0) (now input o1 e1)))
+      → IfSome named (λ files. (bytes : List ℕ) → IsOutcome l told (result_of words files bytes) bytes → is_failure result ≡ false → EndsAs (result_of words files bytes) result)
+  ends_for named l told left meets without = IfSome_then named (meets_for named l told left meets without) (λ files met bytes of. (met bytes of).ends)
+
+  pub output_for : (named : Option Files) (l : Result Line WordsFault) (told left : Option (List ℕ)) → IfSome named (λ files. MeetsLine words files l (result_of words files) result (now told o0 e0) (now left o1 e1))
+      → (takes_input l ≡ false → (input : Option (List ℕ)) → IfSome named (λ files. MeetsLine words files l (result_of words files) result (now input o0 e0) (now input o1 e1)))
+      → IfSome named (λ files. (bytes : List ℕ) → IsOutcome l told (result_of words files bytes) bytes → IfSome o0 (λ had. Gains (is_failure result) o1 had (output_of (result_of words files bytes))))
+  output_for named l told left meets without = IfSome_then named (meets_for named l told left meets without) (λ files met bytes of. (met bytes of).output)
+
+  pub errors_for : (named : Option Files) (l : Result Line WordsFault) (told left : Option (List ℕ)) → IfSome named (λ files. MeetsLine words files l (result_of words files) result (now told o0 e0) (now left o1 e1))
+      → (takes_input l ≡ false → (input : Option (List ℕ)) → IfSome named (λ files. MeetsLine words files l (result_of words files) result (now input o0 e0) (now input o1 e1)))
+      → IfSome named (λ files. (bytes : List ℕ) → IsOutcome l told (result_of words files bytes) bytes → IfSome e0 (λ had. Gains (is_failure result) e1 had (errors_of (result_of words files bytes))))
+  errors_for named l told left meets without = IfSome_then named (meets_for named l told left meets without) (λ files met bytes of. (met bytes of).errors)
 
 -- ---- completeness
 

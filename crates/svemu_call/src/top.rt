@@ -27,7 +27,7 @@ ghost use Rattle.commands.specs.Promises.{
   Loses,
   NamesNoFile,
 };
-ghost use Rattle.svemu.specs.Headline.{IsQuiet, Completes};
+ghost use Rattle.svemu_call.specs.Headline.{IsQuiet, Completes};
 
 use commands::command;
 use emu_outcome::Ending;

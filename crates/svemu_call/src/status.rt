@@ -3,7 +3,7 @@ ghost use Rattle.std.specs.Prelude.{◌≡◌, ◌<◌, ◌⊎◌, ℕ, List, ma
 ghost use Rattle.command_model.specs.CommandLine.{line};
 ghost use Rattle.emu_outcome.specs.Outcome.{result_of};
 ghost use Rattle.commands.specs.Lines.{IsOutcome};
-ghost use Rattle.svemu.specs.Headline.{IsQuiet, CompletesWith, MayEndWith};
+ghost use Rattle.svemu_call.specs.Headline.{IsQuiet, CompletesWith, MayEndWith};
 
 use crate::top::svemu;
 use io_gate::{Images, Sink, Source};

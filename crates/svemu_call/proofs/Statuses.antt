@@ -7,7 +7,7 @@ use Rattle.emu_outcome.specs.declared.ending.Ending.TheVariants.{FileFault, Read
 use Rattle.command_model.specs.declared.command_line.Line.{Line}
 use Rattle.command_model.specs.declared.command_line.WordsFault.{WordsFault}
 use Rattle.commands.specs.Lines.{may_end, RefusesLine}
-use Rattle.svemu.specs.Headline.{Completes, CompletesWith, MayEndWith}
+use Rattle.svemu_call.specs.Headline.{Completes, CompletesWith, MayEndWith}
 
 pub completes_with : (o : Option Outcome) (ending : Ending) (status : ℕ) → status ≡ status_of ending → Completes o ending → CompletesWith o status
 completes_with None ending status is (inl e) = inl (is ∙ ap status_of e)

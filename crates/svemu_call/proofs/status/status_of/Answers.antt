@@ -2,8 +2,8 @@ use Rattle.std.proofs.Common.{map, string_bytes}
 use Rattle.std.proofs.lemmas.Option.{IfSome_then}
 use Rattle.command_model.specs.CommandLine.{line}
 use Rattle.emu_outcome.specs.Outcome.{result_of}
-use Rattle.svemu.proofs.Statuses.{completes_with, status_of_file, status_of_read, status_of_write, status_of_errors, status_of_refused, status_of_line}
-use Rattle.svemu.proofs.status.status_of.Goals as goal
+use Rattle.svemu_call.proofs.Statuses.{completes_with, status_of_file, status_of_read, status_of_write, status_of_errors, status_of_refused, status_of_line}
+use Rattle.svemu_call.proofs.status.status_of.Goals as goal
 
 pub returns-clause-complete : goal.returns-clause-complete
 returns-clause-complete g c =
