@@ -1,6 +1,7 @@
 //! The files and the streams that commands are done over.
 ghost use Rattle.std.specs.Prelude.{◌≤◌, IfOk};
 
+use crate::bytes::{bytes_of, filled, lines_of, put_all, words_of};
 use crate::done::{Done, done_over};
 use crate::watched::Object;
 use io_gate::{MemImages, MemSink, MemSource};
@@ -75,37 +76,6 @@ fn sink_of(alloc: Global, text: &str, more: Option<u64>) -> Result<MemSink, Allo
     Ok(MemSink::new(alloc, most, fails))
 }
 
-/// The words of a text that has one space between two; an empty text has none.
-fn words_of(alloc: Global, text: &str) -> Result<Vec<String>, AllocError> {
-    let mut words = Vec::new(alloc);
-    if text.is_empty() {
-        return Ok(words);
-    }
-    for word in text.split(' ') {
-        words.push(String::from_str(alloc, word)?)?;
-    }
-    Ok(words)
-}
-
-/// The bytes of a text of hexadecimal numbers.
-fn bytes_of(alloc: Global, text: &str) -> Result<Vec<u8>, AllocError> {
-    let mut bytes = Vec::new(alloc);
-    for word in text.split(' ') {
-        if let Ok(byte) = u8::from_str_radix(word, 16) {
-            bytes.push(byte)?;
-        }
-    }
-    Ok(bytes)
-}
-
-/// So many bytes of one value: `COUNT BYTE`.
-fn filled(alloc: Global, text: &str) -> Result<Vec<u8>, AllocError> {
-    let (count, byte) = text.split_once(' ').unwrap_or((text, ""));
-    let count = count.parse::<usize>().unwrap_or(0);
-    let byte = u8::from_str_radix(byte, 16).unwrap_or(0);
-    vec![in alloc; byte; count]
-}
-
 impl Scene {
     /// No files, and streams that don't fail.
     pub fn new(alloc: Global) -> Scene {
@@ -148,6 +118,26 @@ impl Scene {
         self.hold(alloc, name, Vec::from_slice(alloc, bytes)?)
     }
 
+    /// Keeps a copy of a file under another name; of one that isn't there, an empty file.
+    fn copy(&mut self, alloc: Global, name: &str, other: &str) -> Result<(), AllocError> {
+        let mut bytes = Vec::new(alloc);
+        for file in &self.files {
+            if file.0.as_str() == other {
+                bytes.extend_from_slice(&file.1)?;
+            }
+        }
+        self.hold(alloc, name, bytes)
+    }
+
+    /// Writes numbers to a file.
+    fn put(&mut self, name: &str, text: &str) {
+        for file in self.files.iter_mut() {
+            if file.0.as_str() == name {
+                put_all(&mut file.1, text);
+            }
+        }
+    }
+
     /// Takes a line that makes a file or says how streams behave; false where it is none.
     pub fn set(&mut self, alloc: Global, line: &str) -> Result<bool, AllocError> {
         let (first, more) = line.split_once(' ').unwrap_or((line, ""));
@@ -159,6 +149,9 @@ impl Scene {
             }
             "bytes" => self.hold(alloc, name, bytes_of(alloc, last)?)?,
             "fill" => self.hold(alloc, name, filled(alloc, last)?)?,
+            "lines" => self.hold(alloc, name, lines_of(alloc, last)?)?,
+            "copy" => self.copy(alloc, name, last)?,
+            "put" => self.put(name, last),
             "given" => self.given.extend_from_slice(more.as_bytes())?,
             "supply" => self.given.extend_from_slice(&filled(alloc, more)?)?,
             "images" => self.images.push_str(more)?,

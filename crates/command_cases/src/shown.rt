@@ -1,4 +1,5 @@
 //! Bytes as lines.
+use crate::done::Done;
 use std::{io, str};
 
 /// Whether a byte is a printing character of ASCII or a newline.
@@ -50,4 +51,32 @@ pub fn show(rt: HostRuntime, name: &str, bytes: &[u8]) -> io::Result<()> {
         Ok(text) if bytes.iter().all(|byte| is_plain(*byte)) => show_lines(rt, text),
         _ => show_rows(rt, bytes),
     }
+}
+
+/// The number of 64 bits that FNV-1a makes of bytes.
+fn digest(bytes: &[u8]) -> u64 {
+    let mut digest = 0xCBF2_9CE4_8422_2325_u64;
+    for byte in bytes {
+        digest = (digest ^ u64::from(*byte)).wrapping_mul(0x100_0000_01B3);
+    }
+    digest
+}
+
+/// The first line of bytes; an empty one where they are no text.
+fn first_line(bytes: &[u8]) -> &str {
+    let text = str::from_utf8(bytes).unwrap_or("");
+    text.lines().next().unwrap_or("")
+}
+
+/// Writes how many bytes there are, and the number that they make.
+fn show_digest(rt: HostRuntime, name: &str, bytes: &[u8]) -> io::Result<()> {
+    print!(rt; "; {name} {} {:016x}", bytes.len(), digest(bytes))
+}
+
+/// Writes a line of how a command ended.
+pub fn show_brief(rt: HostRuntime, done: &Done) -> io::Result<()> {
+    print!(rt; "{:?}, status {}", done.ending, done.ending.status())?;
+    show_digest(rt, "output", &done.output)?;
+    show_digest(rt, "errors", &done.errors)?;
+    println!(rt; ": {}", first_line(&done.errors))
 }
