@@ -5,7 +5,7 @@ use Rattle.std.proofs.lemmas.Bool.Decides.{nat_tests}
 use Rattle.std.proofs.lemmas.List.{get_or-set_same, get_or_past, set-get_or, set-set}
 use Rattle.std.proofs.lemmas.List.FromFn.{fill_by_all}
 use Rattle.byteorder.specs.Endian.{little_number}
-use Rattle.guest_mem.proofs.Numbers.{number_of_part}
+use Rattle.emu_model.proofs.LittleEndian.{number_of_part}
 use Rattle.emu_model.specs.SoundState.{IsVectorLength}
 use Rattle.emu_model.specs.Lists.{each}
 use Rattle.emu_model.specs.ListLaws.{length-each, get_or-each, each_same}

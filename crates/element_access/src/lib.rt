@@ -1,8 +1,6 @@
-//! The load and the store of one element, noted in the log of accesses; its extension to a lane, and the test of SP
-//! before an access.
+//! The load and the store of one element, noted in the log of accesses, and the test of SP before an access.
 #![tactic(auto)]
 
-mod lanes;
 mod stack;
 
 ghost use Rattle.std.specs.Prelude.{◌≡◌, ◌≤◌, ◌<◌, ◌+◌, ◌^◌, ◌++◌, ◌∷◌, [], ⊤, MatchResult, None, Some, false, true};
@@ -13,7 +11,6 @@ ghost use Rattle.emu_model.specs.declared.trap.TrapKind.{TrapKind};
 
 use core_regs::{Trap, TrapKind};
 use guest_mem::{Access, AccessLog, Kind, Mem};
-pub use lanes::extended;
 pub use stack::test_sp;
 
 /// Stores the low n bytes of a number, n at most 16, and logs the access. A trap stores and logs nothing.

@@ -8,7 +8,7 @@ use Rattle.byteorder.specs.Endian.{little_number}
 use Rattle.emu_model.specs.Lists.{each}
 use Rattle.emu_model.specs.ListLaws.{length-each, get_or-each}
 use Rattle.emu_model.specs.WithinPage.{number_in}
-use Rattle.guest_mem.proofs.Numbers.{number_of_part}
+use Rattle.emu_model.proofs.LittleEndian.{number_of_part}
 use Rattle.vec_model.specs.Lanes.{byte_in}
 use Rattle.vec_model.specs.LaneSizes.{IsLaneSize}
 use Rattle.vec_regs.specs.Packed.{packed}

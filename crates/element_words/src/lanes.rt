@@ -7,7 +7,7 @@ ghost use Rattle.vec_regs.specs.Words.{byte_of};
 ghost use Rattle.element_words.specs.Placed.{lane_at};
 
 use byteorder::{ByteOrder, LittleEndian};
-use element_access::extended;
+use vec_regs::extended;
 
 /// The little-endian number of n bytes from a place on.
 #[inline(always)]

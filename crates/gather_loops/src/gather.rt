@@ -35,11 +35,11 @@ ghost use Rattle.gather_loops.specs.Gathers.{AreWords, IsGather, lane_value, wor
 use crate::base::test_base;
 use crate::indexed::{Index, address, index_of, is_indexed, is_on};
 use core_regs::{Core, Effect, Trap};
-use element_access::{extended, load_here};
+use element_access::load_here;
 use element_loops::Plan;
 use element_loops::place::{position, register_at};
 use guest_mem::{AccessLog, Mem};
-use vec_regs::VecRegs;
+use vec_regs::{VecRegs, extended};
 
 /// The little-endian number of n bytes, n at most 8, and logs the access. A trap logs nothing.
 #[inline(always)]

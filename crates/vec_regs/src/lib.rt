@@ -6,6 +6,7 @@
 //! `after_call` clear.
 #![tactic(auto)]
 
+mod extension;
 mod lower;
 mod numbers;
 mod packing;
@@ -26,6 +27,7 @@ ghost use Rattle.vec_regs.specs.Words.{byte_with_pair, bytes_of, bits_of, AreZer
 
 use emu_bits::{Pred, Reg};
 pub use emu_model::Length;
+pub use extension::extended;
 use std::marker::Model;
 
 /// The vector registers of a machine, of the present vector length (VL), which may change up to the starting one.

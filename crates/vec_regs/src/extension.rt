@@ -1,4 +1,4 @@
-//! Elements as lanes.
+//! Elements of memory as lanes.
 ghost use Rattle.std.specs.Prelude.{◌≡◌, ◌≤◌, ◌*◌, if◌then◌else◌};
 ghost use Rattle.emu_bits.specs.Numbers as numbers;
 
