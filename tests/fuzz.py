@@ -2,6 +2,7 @@
 debugger scripts. Nothing is compared but that each call ends within five seconds, by a status of docs/MANUAL.md and the line
 that goes with it, and does the same when it is made again. Called by tests/fuzz.sh: fuzz.py PROGRAM SECONDS SEED."""
 
+import itertools
 import os
 import random
 import re
@@ -37,14 +38,17 @@ SIGNALS = {
 }
 
 
-def lines_of(path, count=20000):
+def lines_behind(path, first, go_on):
+    """The lines of a file behind its line `first`, as long as they go on."""
     with open(os.path.join(TOP, path), encoding="utf-8") as file:
-        return [line.rstrip("\n") for _, line in zip(range(count), file)]
+        lines = file.read().split("\n")
+    return list(itertools.takewhile(go_on, lines[lines.index(first) + 1 :]))
 
 
-TEXTS = [line.split("\t") for line in lines_of("crates/text_cases/stdin") if "\t" in line]
-WORDS = [int(text[0], 16) for text in TEXTS]
-STATEMENTS = [text[1] for text in TEXTS]
+# The texts of the listing of all instructions, and the words that its disassembly shows behind their addresses.
+STATEMENTS = lines_behind("crates/command_cases/stdin", "file texts.s", lambda line: line != ".")
+SHOWN = lines_behind("crates/command_cases/stdout", "line dis texts.elf", lambda line: not line.startswith("errors: "))
+WORDS = [int(line.split()[1], 16) for line in SHOWN if line.startswith("  ")]
 DIRECTIVES = [
     ".code", ".data", ".byte 1, 2", ".half -1", ".word 0x10", ".quad start", '.ascii "a\\n\\0"', ".zero 16", ".align 8",
     ".bss 64", ".entry start", "start:", "loop: nop", "b start", "cbz x0, loop", "adr x1, start", "// a comment",
