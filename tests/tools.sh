@@ -176,7 +176,7 @@ aarch64() {
     holds "on AArch64: the cases over real files" sh tests/cases.sh "$scratch/on-aarch64"
 }
 
-# The lying executables of guest_programs, worked out anew.
+# The lying executables of call_cases, worked out anew.
 lying_images() {
     if ! command -v python3 >/dev/null; then
         skip "the table of lying executables" "there is no python3"

@@ -124,7 +124,7 @@ def differences(items, folder):
 def main():
     cases, differ, known = 0, 0, collections.Counter()
     with open(os.path.join(HERE, "..", "stdin")) as file, tempfile.TemporaryDirectory() as folder:
-        for line in file:
+        for line in file.read().partition("= calls\n")[2].partition("\n= ")[0].splitlines():
             line = line.strip()
             if not line or line.startswith("#") or " = " in line:
                 continue

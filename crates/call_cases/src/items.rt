@@ -26,8 +26,13 @@ pub fn find_number(line: &str, name: &str, other: u64, is_well: &mut bool) -> u6
 /// The same below 2^32.
 pub fn find_small(line: &str, name: &str, other: u32, is_well: &mut bool) -> u32 {
     let found = find_number(line, name, u64::from(other), is_well);
-    if found < 1 << 32 {
-        return found as u32;
+    small(found, is_well)
+}
+
+/// A number that is below 2^32.
+pub fn small(number: u64, is_well: &mut bool) -> u32 {
+    if number < 1 << 32 {
+        return number as u32;
     }
     *is_well = false;
     0
@@ -68,6 +73,18 @@ pub fn numbers(text: &str, is_well: &mut bool) -> [u64; 7] {
         }
     }
     found
+}
+
+/// Whether text has just these numbers, with `,` between them.
+pub fn are_numbers(text: &str, wanted: &[u64]) -> bool {
+    let mut parts = text.split(',');
+    for value in wanted {
+        match parts.next() {
+            Some(part) if is_number(part, *value) => {}
+            _ => return false,
+        }
+    }
+    parts.next().is_none()
 }
 
 /// An address, and what stands behind the `:` behind it.

@@ -1,10 +1,15 @@
-//! Makes calls of the system and of functions of numbers, and writes the lines of cases that differ.
+//! Makes calls of the system and of functions of numbers, reads executables and schedules, and writes the lines of
+//! cases that differ.
 //!
-//! A line is a case. An empty one and one that begins with `#` are left out. One with ` = ` says what a function makes
-//! of numbers (`numbers.rt`); any other one is of the system: calls of one program after the other, and what they
-//! answer.
+//! A line `= KIND` of standard input says what the lines behind it are, up to the next such line. Each is a case, but
+//! an empty one, and one that begins with `#`:
 //!
-//! The items of such a line are `NAME=VALUE`, with a space between them. A number is decimal, or hexadecimal behind
+//! - `calls`: with ` = ` in it, what a function makes of numbers (`numbers.rt`); without, calls of one program after
+//!   the other, and what they answer;
+//! - `schedules`: texts of schedules, and what is read of them (`schedules.rt`);
+//! - `images`: executables, and what is read of them (`images.rt`), where a line that begins with `from` is no case.
+//!
+//! The items of a line of calls are `NAME=VALUE`, with a space between them. A number is decimal, or hexadecimal behind
 //! `0x`; behind a `-` it is taken from 2^64. Of text, `.` is the byte 0.
 //!
 //! What there is before the first call:
@@ -31,45 +36,111 @@
 #![tactic(auto)]
 
 mod bits;
+mod file;
+mod images;
 mod items;
 mod numbers;
 mod play;
 mod registers;
 mod scalars;
+mod schedules;
 
+use std::alloc::Global;
 use std::io;
 
-/// The first item of a case that isn't as the line has it, or the whole line.
-fn difference(rt: HostRuntime, line: &str) -> Option<&str> {
+/// What a line of standard input is.
+#[derive(Clone, Copy)]
+enum Kind {
+    Call,
+    Image,
+    Schedule,
+    Unknown,
+}
+
+/// The kind of a name.
+fn kind_of(name: &str) -> Kind {
+    match name {
+        "calls" => Kind::Call,
+        "images" => Kind::Image,
+        "schedules" => Kind::Schedule,
+        _ => Kind::Unknown,
+    }
+}
+
+/// What the lines are, the items that each case of images begins with, and how many cases there were, and of how many
+/// an item differs.
+#[derive(Drop)]
+struct Reader {
+    alloc: Global,
+    kind: Kind,
+    start: String,
+    cases: u64,
+    differ: u64,
+}
+
+/// The first item of a case of calls that isn't as the line has it, or the whole line.
+fn call_difference(alloc: Global, line: &str) -> Option<&str> {
     match line.split_once(" = ") {
-        None => play::difference(rt.alloc(), line),
+        None => play::difference(alloc, line),
         Some((asked, answer)) if numbers::agrees(asked, answer) => None,
         Some(_) => Some(line),
     }
 }
 
-/// Looks at a case, and writes it where it differs; whether it does.
-fn compare(rt: HostRuntime, line: &str) -> io::Result<bool> {
-    match difference(rt, line) {
-        Some(item) => {
-            println!(rt; "differs at {item}: {line}")?;
-            Ok(true)
+impl Reader {
+    /// No kind yet.
+    fn new(alloc: Global) -> Reader {
+        Reader {
+            alloc,
+            kind: Kind::Unknown,
+            start: String::new(alloc),
+            cases: 0,
+            differ: 0,
         }
-        None => Ok(false),
+    }
+
+    /// The first item of a case that isn't as the line has it, or the whole line.
+    fn difference<'a>(&'a self, line: &'a str) -> Option<&'a str> {
+        match self.kind {
+            Kind::Call => call_difference(self.alloc, line),
+            Kind::Image => images::difference(self.alloc, self.start.as_str(), line),
+            Kind::Schedule if schedules::agrees(self.alloc, line) => None,
+            _ => Some(line),
+        }
+    }
+
+    /// Looks at a case, and writes it where it differs; whether it does.
+    fn compare(&self, rt: HostRuntime, line: &str) -> io::Result<bool> {
+        match self.difference(line) {
+            Some(item) => {
+                println!(rt; "differs at {item}: {line}")?;
+                Ok(true)
+            }
+            None => Ok(false),
+        }
+    }
+
+    /// Obeys a line.
+    fn obey(&mut self, rt: HostRuntime, line: &str) -> io::Result<()> {
+        if let Some(name) = line.strip_prefix("= ") {
+            self.kind = kind_of(name);
+        } else if let Some(items) = line.strip_prefix("from") {
+            self.start.clear();
+            self.start.push_str(items)?;
+        } else if !line.is_empty() && !line.starts_with('#') {
+            self.cases = self.cases.saturating_add(1);
+            let differs = self.compare(rt, line)?;
+            self.differ = self.differ.saturating_add(u64::from(differs));
+        }
+        Ok(())
     }
 }
 
 fn main(rt: HostRuntime) -> io::Result<()> {
-    let mut cases: u64 = 0;
-    let mut differ: u64 = 0;
+    let mut reader = Reader::new(rt.alloc());
     for line in rt.lines(rt.alloc()) {
         let line = line?;
-        if line.is_empty() || line.starts_with('#') {
-            continue;
-        }
-        cases = cases.saturating_add(1);
-        let differs = compare(rt, line.as_str())?;
-        differ = differ.saturating_add(u64::from(differs));
+        reader.obey(rt, line.as_str())?;
     }
-    println!(rt; "{cases} cases, {differ} differ")
+    println!(rt; "{} cases, {} differ", reader.cases, reader.differ)
 }
