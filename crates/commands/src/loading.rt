@@ -20,8 +20,8 @@ use emu_report::{put_image_refusal, put_listing_refusal};
 use io_gate::{Sink, put_all};
 use load_model::LOAD_PAGES;
 use load_program::load_listing;
-use load_runs::load_lines;
 use std::alloc::Global;
+use vl_sweep::load_lines;
 
 /// The executable of the load program that a number makes. Err is the listing's first refusal, or want of memory.
 fn load_file(alloc: Global, number: u64) -> Result<Vec<u8>, AsmError>

@@ -1,7 +1,7 @@
 use Rattle.std.proofs.Common.{arith}
 use Rattle.elf_image.specs.Images.{seen_image}
-use Rattle.load_runs.proofs.Appended.{all_lines, one_more}
-use Rattle.load_runs.proofs.runs.load_lines.Goals as goal
+use Rattle.vl_sweep.proofs.LoadAppended.{all_lines, one_more}
+use Rattle.vl_sweep.proofs.load_runs.load_lines.Goals as goal
 
 pub lengths-init : goal.lengths-init
 lengths-init c = c.empty_sink-lines.ensures

@@ -1,7 +1,7 @@
 use Rattle.std.proofs.Common.{ℕ, List, ◌++◌, ap, ◌∙◌}
 use Rattle.elf_image.specs.Images.{seen_image}
-use Rattle.load_runs.proofs.Appended.{line_is}
-use Rattle.load_runs.proofs.runs.push_line_at.Goals as goal
+use Rattle.vl_sweep.proofs.LoadAppended.{line_is}
+use Rattle.vl_sweep.proofs.load_runs.push_line_at.Goals as goal
 
 pub returns-in-Ok : goal.returns-in-Ok
 returns-in-Ok c = record {

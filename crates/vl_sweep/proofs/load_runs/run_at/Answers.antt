@@ -7,9 +7,9 @@ use Rattle.emu_run.specs.Run.{run}
 use Rattle.emu_system.specs.Start.{opening, with_input}
 use Rattle.io_gate.specs.Lent.{Lent}
 use Rattle.load_model.specs.Load.{load_budget, load_pages}
-use Rattle.load_runs.specs.Runs.{HasRun}
-use Rattle.load_runs.proofs.Running.{are_arguments, has_run}
-use Rattle.load_runs.proofs.runs.run_at.Goals as goal
+use Rattle.vl_sweep.specs.LoadRuns.{HasRun}
+use Rattle.vl_sweep.proofs.LoadRunning.{are_arguments, has_run}
+use Rattle.vl_sweep.proofs.load_runs.run_at.Goals as goal
 
 pub open-requires-clause-arguments : goal.open-requires-clause-arguments
 open-requires-clause-arguments c = are_arguments (map string_bytes c.args.args.now) c.requires.arguments

@@ -1,20 +1,20 @@
-//! The runs, one length after the other.
+//! The runs of a load program, one length after the other.
 ghost use Rattle.std.specs.Prelude.{◌≡◌, ◌++◌, [], map, string_bytes, IfOk, OnOk};
 ghost use Rattle.elf_image.specs.Images.{seen_image};
 ghost use Rattle.elf_image.specs.Loadable.{IsLoadable};
 ghost use Rattle.emu_machine.specs.Ends.{is_broken_off};
 ghost use Rattle.load_model.specs.Load as model;
 ghost use Rattle.load_model.specs.Load.{line_at, load_args, load_text};
-ghost use Rattle.load_runs.specs.Runs.{HasRun};
+ghost use Rattle.vl_sweep.specs.LoadRuns.{HasRun};
 
-use crate::lines::push_run_line;
+use crate::lengths::length_behind;
+use crate::load_lines::push_run_line;
 use elf_image::Image;
 use emu_machine::{Machine, RunEnd};
 use emu_model::Length;
 use io_gate::{MemSink, SliceSource};
 use load_model::{LOAD_BUDGET, LOAD_PAGES};
 use std::alloc::{AllocError, Global};
-use vl_sweep::length_behind;
 
 /// Want of memory.
 pub type OutOfMemory = AllocError;

@@ -1,12 +1,12 @@
-//! The line of a run.
+//! The line of a run of a load program.
 ghost use Rattle.std.specs.Prelude.{◌≡◌, ◌++◌, OnOk};
 ghost use Rattle.emu_run.specs.Text.{hex};
 ghost use Rattle.load_model.specs.Load.{bytes_text, run_line};
 
+use crate::line::push_head;
 use emu_machine::Machine;
 use emu_report::Text;
 use io_gate::{Failed, MemSink, Sink};
-use vl_sweep::push_head;
 
 /// Appends a text.
 fn push_text(text: &Text, lines: &mut MemSink) -> Result<(), Failed>
