@@ -2,7 +2,8 @@
 """Compares sessions of `svemu dbg` that go back with sessions that don't, and with runs.
 
 usage: back.py PROGRAM           the last line is 'N sessions, M commands, K differ'
-       back.py --cases PROGRAM   prints sessions for crates/guest_programs, and what they have to write
+       back.py --cases PROGRAM   prints sessions as lines for crates/command_cases, and to the errors what is to be
+                                 written of them
 
 Where a session stands is worked out here: how many steps it has counted, whether it has trapped, and the furthest
 count.
@@ -19,7 +20,7 @@ import tempfile
 GUEST = "~{}^"
 ENTRY = 0x400000
 
-# Each program has data from 0x401000 on, up to where its break begins, 0x404000, as in crates/guest_programs.
+# Each program has data from 0x401000 on, up to where its break begins, 0x404000, as `w.elf` of crates/command_cases.
 DATA = "\n.data\n.zero 12288\n"
 # Each has its listing, its vector length in bits, its pages, its input, and commands that look at what it changes.
 PROGRAMS = {
@@ -291,6 +292,20 @@ FIXED = [
 ]
 
 
+def case_of(program, script, wanted):
+    """The lines of a session, and what is to be written of it. Lines that end in four zeros or more are left out."""
+    words = " ".join(program.words()).lower()
+    lines = ["copy w.elf base.elf", f"put w.elf 4096 4 {words}", f"lines s.txt {';'.join(script)}"]
+    if program.input:
+        lines.append(f"given {program.input}")
+    lines.append(f"line dbg w.elf s.txt --vl {program.bits} --budget {program.budget}")
+    answer = ["Done, status 0"]
+    for name, text in zip(("output", "errors"), wanted):
+        answer.append(f"{name}: {len(text)} bytes")
+        answer += [f"  {line}" for line in text.splitlines() if not re.search(" 0000+$", line)]
+    return "\n".join(lines), "\n".join(answer)
+
+
 def main():
     show = sys.argv[1] == "--cases"
     svemu = sys.argv[-1]
@@ -303,9 +318,9 @@ def main():
             program = programs[name]
             wanted = program.expected(script)
             if show:
-                words = " ".join(program.words())
-                print(f"{program.bits} {program.budget}|{words}|{';'.join(script)}|{program.input}")
-                print(f"{wanted[0]}Done", file=sys.stderr)
+                lines, answer = case_of(program, script, wanted)
+                print(lines)
+                print(answer, file=sys.stderr)
                 continue
             sessions, commands = sessions + 1, commands + len(script)
             found = program.session(script)

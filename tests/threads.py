@@ -1,15 +1,17 @@
 #!/usr/bin/env python3
 """Programs of several contexts, and what they come to under schedules, by an interpreter of its own.
 
-usage: threads.py --write FOLDER    writes the last section of FOLDER/stdin and of FOLDER/stdout, from `= contexts` on
+usage: threads.py --write FOLDER    writes the last part of FOLDER/stdin and of FOLDER/stdout, from the line on that
+                                    says it is worked out here
        threads.py --check FOLDER    compares these with what it would write
        threads.py --show NAME       prints the words of a program
 
 It shares nothing with svemu: words are made and read here by the Arm manual, and contexts, calls and schedules are as
-crates/thread_model/specs defines them. A line `program LENGTH | WORDS` of stdin names the program of the lines behind
-it, and each of these has a budget, and behind `|` the lines of a schedule with `;` between them. The image is that of
-crates/guest_programs: the words stand at 0x400000, a page at 0x402000 may be read and written, and a page at 0x403000
-may be read.
+crates/thread_model/specs defines them. FOLDER is crates/command_cases, whose main.rt says what the lines are. A file
+`w.elf` has the words of a program at 0x400000, a page at 0x402000 that may be read and written, and a page at 0x403000
+that may be read. Behind it stand its schedules, each with a line of what the program comes to under it: the ending and
+the status, that nothing is written to the output, and the length and the FNV-1a digest of all that is written to the
+errors, with its first line. That text has every register of every context.
 """
 import random
 import sys
@@ -18,6 +20,7 @@ CODE, DATA, READ_ONLY, PAGE = 0x400000, 0x402000, 0x403000, 4096
 STACK_END = 0x7FFFFFFFF000
 MASK = 2**64 - 1
 FLAGS = 0x10F00
+BITS = 128
 
 
 # ---- words
@@ -445,18 +448,18 @@ class World:
             place += 1
             ready = self.ready()
             if not ready:
-                return "Stuck"
+                return ("Stuck",)
             k = ready[turn % len(ready)]
             for _ in range(count):
                 if self.steps >= budget:
-                    return "Spent"
+                    return ("Spent",)
                 end = self.step(k)
                 if end is not None:
                     return end
                 if self.contexts[k].state != "ready":
                     break
             if not self.ready():
-                return "Stuck"
+                return ("Stuck",)
 
     def step(self, k):
         c = self.contexts[k]
@@ -476,7 +479,7 @@ class World:
                 return end
             self.do(c, word)
         except Trap as t:
-            return f"Trap(Trap {{ kind: {t.kind}, address: {t.address} }}, {c.pc})"
+            return ("Trap", t.kind, t.address, c.pc)
         self.steps += 1
         if self.written is not None:
             a, n = self.written
@@ -499,14 +502,14 @@ class World:
             back(-e)
 
         if number == 94:
-            return f"Exit({x[0] % 256})"
+            return ("Exit", x[0] % 256)
         if number == 93:
             c.state = "gone"
             if c.clear and m.refused(c.clear, 4, "w") is None:
                 m.save(c.clear, 4, 0)
                 self.wake(c.clear, 1)
             if all(other.state == "gone" for other in self.contexts):
-                return f"Exit({x[0] % 256})"
+                return ("Exit", x[0] % 256)
             return None
         if number == 96:
             c.clear = x[0]
@@ -555,7 +558,7 @@ class World:
 
     def access(self, a, n, right):
         if a % n:
-            raise Trap("Align", a)
+            raise Trap("AccessAlign", a)
         at = self.memory.refused(a, n, right)
         if at is not None:
             raise Trap({"r": "Read", "w": "Write"}[right], at)
@@ -661,15 +664,53 @@ class World:
         c.pc = next_pc & MASK
 
 
-def shown(world, end):
-    """The line of a case: its end, its steps, and of each context pc, x0 and a number of all its registers."""
-    contexts = []
-    for c in world.contexts:
-        digest = 0
-        for v in c.x + [c.sp, c.tpidr]:
-            digest = (digest * 0x100000001B3 & MASK) ^ v
-        contexts.append(f" {c.pc:x}.{c.x[0]:x}.{digest:x}")
-    return f"{end} {world.steps}:" + "".join(contexts)
+# The traps that there may be here: what they are called in a line, and their signals.
+TRAPS = {
+    "Undefined": ("undefined", 4), "PcAlign": ("pc-align", 7), "AccessAlign": ("access-align", 7),
+    "Fetch": ("fetch", 11), "Read": ("read", 11), "Write": ("write", 11),
+}
+
+
+def registers(c):
+    """The lines of a context's registers. No program here has an instruction of vectors, and all of these are 0."""
+    lines = [f"x{k} {v:016x}" for k, v in enumerate(c.x)]
+    lines += [f"sp {c.sp:016x}", f"pc {c.pc:016x}", f"nzcv {c.n:d}{c.z:d}{c.c:d}{c.v:d}", f"tpidr {c.tpidr:016x}"]
+    lines.append(f"vl {BITS}")
+    lines += [f"z{k} {0:0{BITS // 4}x}" for k in range(32)]
+    lines += [f"p{k} {0:0{BITS // 32}x}" for k in range(16)]
+    return [*lines, f"ffr {0:0{BITS // 32}x}"]
+
+
+def told(world, end):
+    """The ending as it is named, its status, and the lines of the errors."""
+    if end[0] == "Exit":
+        name, status, line = f"Exit({end[1]})", end[1], f"exit {end[1]}"
+    elif end[0] == "Trap":
+        _, kind, address, pc = end
+        name = f"Trap(Trap {{ kind: {kind}, address: {address} }}, {pc})"
+        called, signal = TRAPS[kind]
+        status, line = 128 + signal, f"trap {called} 0x{address:016x} at 0x{pc:016x}"
+    else:
+        name, status, line = end[0], {"Stuck": 119, "Spent": 123}[end[0]], end[0].lower()
+    lines = [f"{line} after {world.steps} steps"]
+    for k, c in enumerate(world.contexts):
+        lines += [f"thread {k}", *registers(c)]
+    return name, status, lines
+
+
+def digest(data):
+    """The number of 64 bits that FNV-1a makes of bytes."""
+    made = 0xCBF29CE484222325
+    for byte in data:
+        made = (made ^ byte) * 0x100000001B3 & MASK
+    return made
+
+
+def shown(name, status, lines):
+    """What is written of a command that puts nothing on the output, and these lines on the errors."""
+    errors = "".join(line + "\n" for line in lines).encode()
+    return (f"{name}, status {status}; output 0 {digest(b''):016x}; "
+            f"errors {len(errors)} {digest(errors):016x}: {lines[0]}")
 
 
 # ---- cases
@@ -686,41 +727,86 @@ def schedules(rng, count):
         yield [(rng.randrange(12), rng.choice((1, 1, 1, 2, 3, 5, 8, 40))) for _ in range(rng.randrange(1, 9))]
 
 
+# Schedules that are refused, with the first line that is at fault.
 REFUSED = [
-    ("", "NoTurn at 0"),
-    ("# nothing; ;", "NoTurn at 0"),
-    ("0 1;1", "MissingWord at 2"),
-    ("x", "MissingWord at 1"),
-    ("0 x", "BadNumber at 1"),
-    ("0 0", "OutOfRange at 1"),
-    ("0 1;;1 1 1", "ExtraWord at 3"),
-    ("0 18446744073709551616", "BadNumber at 1"),
+    ("", "NoTurn", 0),
+    ("# nothing; ;", "NoTurn", 0),
+    ("0 1;1", "MissingWord", 2),
+    ("x", "MissingWord", 1),
+    ("0 x", "BadNumber", 1),
+    ("0 0", "OutOfRange", 1),
+    ("0 1;;1 1 1", "ExtraWord", 3),
+    ("0 18446744073709551616", "BadNumber", 1),
 ]
 
+# The file that each program is a copy of: 4 pages, of which the first has the headers.
+BASE = [
+    "fill base.elf 16384 00",
+    "put base.elf 0 4 464c457f",
+    "put base.elf 4 3 10102",
+    "put base.elf 16 2 2 b7",
+    "put base.elf 20 4 1",
+    f"put base.elf 24 8 {CODE:x} 40",
+    "put base.elf 52 2 40 38 3",
+]
+for number, (rights, base) in enumerate(((5, CODE), (6, DATA), (4, READ_ONLY))):
+    BASE += [
+        f"put base.elf {64 + 56 * number} 4 1 {rights:x}",
+        f"put base.elf {72 + 56 * number} 8 {PAGE * (number + 1):x} {base:x} {base:x} 1000 1000 1000",
+    ]
 
-def program_line(name):
-    return "program 128 | " + " ".join(f"{w:08X}" for w in PROGRAMS[name][0])
+
+def sp_at_start(arguments):
+    """SP lies 16-aligned below the bytes of the arguments, 16 bytes, and words of 8 bytes: the number of the arguments,
+    their addresses, two ends and 13 pairs."""
+    below = STACK_END - sum(len(argument) + 1 for argument in arguments) - 16 & ~15
+    return below - 8 * (1 + len(arguments) + 2 + 2 * 13) & ~15
 
 
-def cases(sp):
-    """The lines of stdin and of stdout."""
+def program_lines(name):
+    return ["copy w.elf base.elf", "put w.elf 4096 4 " + " ".join(f"{w:08x}" for w in PROGRAMS[name][0])]
+
+
+def case_lines(schedule, budget):
+    return [f"lines turns {schedule}".rstrip(" "), f"brief threads w.elf turns --vl {BITS} --budget {budget}"]
+
+
+def runs():
+    """The name of each program, and its schedules with a budget each."""
     rng = random.Random(42)
-    lines, answers = [], []
-    for name, (words, shows) in PROGRAMS.items():
-        lines += [f"# {shows}", program_line(name)]
+    for name in PROGRAMS:
+        made = []
         for n, schedule in enumerate(schedules(rng, 100 if name in MANY else 40)):
             budget = rng.choice((100, 200, 400)) if n % 7 == 3 or name == "started" else 2000
+            made.append((schedule, budget))
+        yield name, made
+
+
+def cases():
+    """The lines of stdin, those of stdout, and how many cases there are."""
+    sp = sp_at_start(["w.elf"])
+    lines, count = list(BASE), len(REFUSED)
+    answers = list(lines)
+
+    def put(new):
+        lines.extend(new)
+        answers.extend(new)
+
+    for name, made in runs():
+        words, shows = PROGRAMS[name]
+        put(["", f"# {shows}", *program_lines(name)])
+        count += len(made)
+        for schedule, budget in made:
             world = World(words, sp)
             end = world.run(schedule, budget)
-            lines.append(f"{budget}|" + ";".join(f"{t} {s}" for t, s in schedule))
-            answers.append(shown(world, end))
-    cases = len(answers) + len(REFUSED)
-    lines += ["# schedules that are refused", program_line("stuck")]
-    for schedule, why in REFUSED:
-        lines.append(f"100|{schedule}")
-        answers.append(why)
-    answers.append(f"{cases} cases, {len(REFUSED)} schedules refused")
-    return lines, answers
+            put(case_lines(";".join(f"{t} {s}" for t, s in schedule), budget))
+            answers.append(shown(*told(world, end)))
+    put(["", "# schedules that are refused", *program_lines("stuck")])
+    for schedule, why, line in REFUSED:
+        put(case_lines(schedule, 100))
+        name = f"ScheduleRefused(ScheduleFault {{ line: {line}, why: {why} }})"
+        answers.append(shown(name, 122, [f"refused schedule {why} at line {line}"]))
+    return lines, answers, count
 
 
 def main(words):
@@ -729,13 +815,13 @@ def main(words):
         return 0
     if words[:1] not in (["--write"], ["--check"]) or len(words) != 2:
         raise SystemExit(__doc__)
-    lines, answers = cases(SP_AT_START)
+    lines, answers, count = cases()
     for name, text in (("stdin", lines), ("stdout", answers)):
         file, made = f"{words[1]}/{name}", ("\n".join(text) + "\n").encode()
         with open(file, "rb") as stands:
             before, section, found = stands.read().partition(SECTION)
         if not section:
-            print(f"{file} has no section {SECTION.decode().strip()!r}")
+            print(f"{file} has no line {SECTION.decode().strip()!r}")
             return 1
         if words[0] == "--write":
             with open(file, "wb") as stands:
@@ -743,12 +829,11 @@ def main(words):
         elif found != made:
             print(f"{file} isn't what tests/threads.py works out")
             return 1
-    print(answers[-1])
+    print(f"{count} cases, {len(REFUSED)} schedules refused")
     return 0
 
 
-SP_AT_START = STACK_END - 256
-SECTION = b"\n= contexts\n"
+SECTION = b"\n# ---- contexts, worked out by tests/threads.py\n"
 
 if __name__ == "__main__":
     sys.exit(main(sys.argv[1:]))

@@ -140,5 +140,5 @@ threads() {
     tried_schedules
     schedules_and_stand_ins
     schedules_refused
-    holds "the cases of contexts" python3 tests/threads.py --check crates/guest_programs
+    holds "the cases of contexts" python3 tests/threads.py --check crates/command_cases
 }

@@ -1,7 +1,7 @@
 #!/bin/sh
 # Makes the images and what is expected of them. With cross compilers, binutils and qemu-user of Debian 12 at hand:
 #   sh make.sh            the images
-#   sh make.sh expected   and the outputs, statuses and numbers of steps, by qemu-aarch64
+#   sh make.sh expected   and writes the outputs, statuses and numbers of steps, by qemu-aarch64
 set -eu
 cd "$(dirname "$0")"
 
@@ -34,21 +34,22 @@ by_gcc heap -O2
 by_clang parser -O3
 by_gcc spills -O3
 
-# A line of the list of runs: FILE BITS BUDGET INPUT [ARG ..]. What a run is expected to write, and how it ends, by
-# qemu-aarch64.
+# Of each run of an image in ../stdin, what it writes and how it ends, by qemu-aarch64.
 expected() {
-    while read -r file bits budget input args; do
+    sed -nE 's/^(line|brief) run ([a-z]+[.]elf) --vl ([0-9]+) --budget [0-9]+( -- )?/\2 \3 /p' ../stdin |
+    while read -r file bits args; do
+        [ -e "$file" ] || continue
         quads=$((bits / 128))
-        [ "$input" = - ] && from=/dev/null || from=$input
+        [ "$file" = parser.elf ] && from=parser.in || from=/dev/null
         # shellcheck disable=SC2086
         qemu-aarch64 -cpu "max,pauth=off,sve-max-vq=$quads,sve-default-vector-length=$((bits / 8))" "./$file" $args <"$from" && status=0 || status=$?
         # shellcheck disable=SC2086
         steps=$(qemu-aarch64 -cpu "max,pauth=off,sve-max-vq=$quads,sve-default-vector-length=$((bits / 8))" -singlestep -d exec,nochain \
             -D /dev/stderr "./$file" $args <"$from" 2>&1 >/dev/null | grep -c '^Trace') || :
-        echo "$file $bits $budget $input${args:+ $args}: exit $status after $steps steps"
+        echo "run $file --vl $bits${args:+ -- $args}: exit $status after $steps steps"
     done
 }
 
 if [ "${1:-}" = expected ]; then
-    expected <../stdin >../stdout
+    expected
 fi
