@@ -3,7 +3,7 @@ use crate::watched::{Moved, Object, Tally, Watched};
 use commands::command;
 use emu_outcome::Ending;
 use io_gate::{MemImages, MemSink, MemSource, read_all};
-use std::alloc::{AllocError, Global};
+use std::alloc::Global;
 
 /// What a command had moved at each call of its objects.
 #[derive(Drop)]
@@ -30,29 +30,40 @@ impl Calls {
 #[derive(Drop)]
 pub struct Done {
     pub ending: Ending,
-    /// What it wrote to the output.
-    pub output: Vec<u8>,
-    /// What it wrote to the errors.
-    pub errors: Vec<u8>,
+    output: MemSink,
+    errors: MemSink,
     /// What it left of the input, where that can be read.
     pub left: Option<Vec<u8>>,
     pub calls: Calls,
 }
 
-/// Does a command line over these objects.
-pub fn done_over(
-    alloc: Global,
-    words: &[String],
-    files: MemImages,
-    input: MemSource,
-    output: MemSink,
-    errors: MemSink,
-) -> Result<Done, AllocError> {
+impl Done {
+    /// What the command wrote to the output.
+    pub fn output(&self) -> &[u8] {
+        self.output.kept()
+    }
+
+    /// What it wrote to the errors.
+    pub fn errors(&self) -> &[u8] {
+        self.errors.kept()
+    }
+}
+
+/// The streams of a command.
+#[derive(Drop)]
+pub struct Streams {
+    pub input: MemSource,
+    pub output: MemSink,
+    pub errors: MemSink,
+}
+
+/// Does a command line over these files and streams.
+pub fn done_over(alloc: Global, words: &[String], files: MemImages, streams: Streams) -> Done {
     let tally = Tally::new();
     let mut files = Watched::new(alloc, files, Object::Images, &tally);
-    let mut input = Watched::new(alloc, input, Object::Input, &tally);
-    let mut output = Watched::new(alloc, output, Object::Output, &tally);
-    let mut errors = Watched::new(alloc, errors, Object::Errors, &tally);
+    let mut input = Watched::new(alloc, streams.input, Object::Input, &tally);
+    let mut output = Watched::new(alloc, streams.output, Object::Output, &tally);
+    let mut errors = Watched::new(alloc, streams.errors, Object::Errors, &tally);
     let ending = command(
         alloc,
         words,
@@ -61,16 +72,20 @@ pub fn done_over(
         &mut output,
         &mut errors,
     );
-    Ok(Done {
+    let (_files, images_calls) = files.end();
+    let (mut rest, input_calls) = input.end();
+    let (output, output_calls) = output.end();
+    let (errors, errors_calls) = errors.end();
+    Done {
         ending,
-        output: Vec::from_slice(alloc, output.of().kept())?,
-        errors: Vec::from_slice(alloc, errors.of().kept())?,
-        left: read_all(alloc, input.of_mut(), usize::MAX).ok(),
+        output,
+        errors,
+        left: read_all(alloc, &mut rest, usize::MAX).ok(),
         calls: Calls {
-            images: Vec::from_slice(alloc, files.calls())?,
-            input: Vec::from_slice(alloc, input.calls())?,
-            output: Vec::from_slice(alloc, output.calls())?,
-            errors: Vec::from_slice(alloc, errors.calls())?,
+            images: images_calls,
+            input: input_calls,
+            output: output_calls,
+            errors: errors_calls,
         },
-    })
+    }
 }

@@ -46,8 +46,8 @@ fn is_rest(bytes: &[u8], count: usize, whole: &[u8]) -> bool {
 /// did when the whole had moved so much.
 fn stands(done: &Done, object: Object, moved: Moved, whole: &Done, given: &[u8]) -> bool {
     done.ending == ending_of(object)
-        && is_first(&done.output, moved.output, &whole.output)
-        && is_first(&done.errors, moved.errors, &whole.errors)
+        && is_first(done.output(), moved.output, whole.output())
+        && is_first(done.errors(), moved.errors, whole.errors())
         && match &done.left {
             Some(left) => is_rest(left, moved.input, given),
             None => false,
@@ -69,10 +69,78 @@ fn show_range(
 fn show_ranges(rt: HostRuntime, calls: &[Moved], whole: &Done, given: &[u8]) -> io::Result<()> {
     if let (Some(first), Some(last)) = (calls.first(), calls.last()) {
         show_range(rt, "input", first.input, last.input, given.len())?;
-        show_range(rt, "output", first.output, last.output, whole.output.len())?;
-        show_range(rt, "errors", first.errors, last.errors, whole.errors.len())?;
+        show_range(
+            rt,
+            "output",
+            first.output,
+            last.output,
+            whole.output().len(),
+        )?;
+        show_range(
+            rt,
+            "errors",
+            first.errors,
+            last.errors,
+            whole.errors().len(),
+        )?;
     }
     Ok(())
+}
+
+/// Does a command line again, with this call of the object failing, and writes how it ends where it isn't as it has to
+/// be; whether it is.
+fn try_call(
+    rt: HostRuntime,
+    scene: &Scene,
+    line: &str,
+    fault: Fault,
+    moved: Moved,
+    whole: &Done,
+) -> io::Result<bool> {
+    let done = scene.done(rt.alloc(), line, Some(fault))?;
+    if stands(&done, fault.object, moved, whole, scene.given()) {
+        return Ok(true);
+    }
+    println!(rt; "call {} of {moved:?}: {:?}", fault.call, done.ending)?;
+    Ok(false)
+}
+
+/// Does a command line again for each call that it made of the object, and answers how many end otherwise than they
+/// have to.
+fn try_calls(
+    rt: HostRuntime,
+    scene: &Scene,
+    line: &str,
+    object: Object,
+    whole: &Done,
+) -> io::Result<u64> {
+    let mut differ: u64 = 0;
+    for (number, moved) in whole.calls.of(object).iter().enumerate() {
+        let call = number as u64;
+        let is_well = try_call(rt, scene, line, Fault { object, call }, *moved, whole)?;
+        differ = differ.saturating_add(u64::from(!is_well));
+    }
+    Ok(differ)
+}
+
+/// Writes how a command ends by a fault of the object, how many calls there are, and of how many it ends otherwise.
+fn show_calls(rt: HostRuntime, object: Object, calls: usize, differ: u64) -> io::Result<()> {
+    let ending = ending_of(object);
+    println!(rt;
+        "{:?}, status {}: {calls} calls, {differ} differ",
+        ending,
+        ending.status()
+    )
+}
+
+/// Does a command line, and again for each call that it made of the object.
+fn do_calls(rt: HostRuntime, scene: &Scene, object: Object, line: &str) -> io::Result<()> {
+    let whole = scene.done(rt.alloc(), line, None)?;
+    println!(rt; "{:?}, status {}", whole.ending, whole.ending.status())?;
+    let differ = try_calls(rt, scene, line, object, &whole)?;
+    let calls = whole.calls.of(object);
+    show_calls(rt, object, calls.len(), differ)?;
+    show_ranges(rt, calls, &whole, scene.given())
 }
 
 /// Does a line `OBJECT WORD ..`: the command line as it is, and then again for each call that it made of the object,
@@ -80,27 +148,8 @@ fn show_ranges(rt: HostRuntime, calls: &[Moved], whole: &Done, given: &[u8]) -> 
 /// were.
 pub fn do_each(rt: HostRuntime, scene: &Scene, text: &str) -> io::Result<()> {
     let (name, line) = text.split_once(' ').unwrap_or((text, ""));
-    let Some(object) = object_of(name) else {
-        return println!(rt; "there is no such object");
-    };
-    let whole = scene.done(rt.alloc(), line, None)?;
-    println!(rt; "{:?}, status {}", whole.ending, whole.ending.status())?;
-    let calls = whole.calls.of(object);
-    let mut differ: u64 = 0;
-    for (number, moved) in calls.iter().enumerate() {
-        let call = number as u64;
-        let done = scene.done(rt.alloc(), line, Some(Fault { object, call }))?;
-        if !stands(&done, object, *moved, &whole, scene.given()) {
-            differ = differ.saturating_add(1);
-            println!(rt; "call {number} of {moved:?}: {:?}", done.ending)?;
-        }
+    match object_of(name) {
+        Some(object) => do_calls(rt, scene, object, line),
+        None => println!(rt; "there is no such object"),
     }
-    let ending = ending_of(object);
-    println!(rt;
-        "{:?}, status {}: {} calls, {differ} differ",
-        ending,
-        ending.status(),
-        calls.len()
-    )?;
-    show_ranges(rt, calls, &whole, scene.given())
 }

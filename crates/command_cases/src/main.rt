@@ -43,7 +43,7 @@ mod watched;
 
 use crate::each::do_each;
 use crate::scene::Scene;
-use crate::shown::{show, show_brief};
+use crate::shown::{show_brief, show_done};
 use io_gate::{FileImages, Images};
 use std::io;
 
@@ -67,13 +67,11 @@ fn play(rt: HostRuntime, scene: &mut Scene, line: &str) -> io::Result<()> {
     };
     let done = scene.done(rt.alloc(), line, None)?;
     scene.forget();
-    println!(rt; "{:?}, status {}", done.ending, done.ending.status())?;
-    show(rt, "output", &done.output)?;
-    show(rt, "errors", &done.errors)?;
-    if let Some(name) = kept {
-        scene.keep(rt.alloc(), name, &done.output)?;
+    show_done(rt, &done)?;
+    match kept {
+        Some(name) => Ok(scene.keep(rt.alloc(), name, done.output())?),
+        None => Ok(()),
     }
-    Ok(())
 }
 
 /// Does a command line, and writes a line of what came of it.

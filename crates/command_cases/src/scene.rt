@@ -2,7 +2,7 @@
 ghost use Rattle.std.specs.Prelude.{◌≤◌, IfOk};
 
 use crate::bytes::{bytes_of, filled, lines_of, put_all, words_of};
-use crate::done::{Done, done_over};
+use crate::done::{Done, Streams, done_over};
 use crate::watched::Object;
 use io_gate::{MemImages, MemSink, MemSource};
 use std::alloc::{AllocError, Global};
@@ -76,6 +76,14 @@ fn sink_of(alloc: Global, text: &str, more: Option<u64>) -> Result<MemSink, Allo
     Ok(MemSink::new(alloc, most, fails))
 }
 
+/// A file once more.
+fn copy_of(alloc: Global, name: &String, bytes: &[u8]) -> Result<(String, Vec<u8>), AllocError> {
+    Ok((
+        String::from_str(alloc, name.as_str())?,
+        Vec::from_slice(alloc, bytes)?,
+    ))
+}
+
 impl Scene {
     /// No files, and streams that don't fail.
     pub fn new(alloc: Global) -> Scene {
@@ -118,19 +126,19 @@ impl Scene {
         self.hold(alloc, name, Vec::from_slice(alloc, bytes)?)
     }
 
-    /// Keeps a copy of a file under another name; of one that isn't there, an empty file.
-    fn copy(&mut self, alloc: Global, name: &str, other: &str) -> Result<(), AllocError> {
-        let mut bytes = Vec::new(alloc);
+    /// The bytes of a file; none of one that isn't there.
+    fn copied(&self, alloc: Global, name: &str) -> Result<Vec<u8>, AllocError> {
         for file in &self.files {
-            if file.0.as_str() == other {
-                bytes.extend_from_slice(&file.1)?;
+            if file.0.as_str() == name {
+                return Vec::from_slice(alloc, &file.1);
             }
         }
-        self.hold(alloc, name, bytes)
+        Ok(Vec::new(alloc))
     }
 
-    /// Writes numbers to a file.
-    fn put(&mut self, name: &str, text: &str) {
+    /// Writes numbers to a file: `NAME OFFSET SIZE NUMBER ..`.
+    fn put(&mut self, text: &str) {
+        let (name, text) = text.split_once(' ').unwrap_or((text, ""));
         for file in self.files.iter_mut() {
             if file.0.as_str() == name {
                 put_all(&mut file.1, text);
@@ -138,29 +146,76 @@ impl Scene {
         }
     }
 
+    /// Makes the file of a line of its bytes; false where it is no such line.
+    fn make(
+        &mut self,
+        alloc: Global,
+        kind: &str,
+        name: &str,
+        text: &str,
+    ) -> Result<bool, AllocError> {
+        let bytes = match kind {
+            "bytes" => bytes_of(alloc, text),
+            "fill" => filled(alloc, text),
+            "lines" => lines_of(alloc, text),
+            "copy" => self.copied(alloc, text),
+            _ => return Ok(false),
+        };
+        self.hold(alloc, name, bytes?)?;
+        Ok(true)
+    }
+
+    /// The text that says how a stream or the files of the next command behave. None where it is none of theirs.
+    fn way_of(&mut self, name: &str) -> Option<&mut String> {
+        match name {
+            "images" => Some(&mut self.images),
+            "input" => Some(&mut self.input),
+            "output" => Some(&mut self.output),
+            "errors" => Some(&mut self.errors),
+            _ => None,
+        }
+    }
+
+    /// Takes a line of the files or the streams that isn't one of a file's bytes; false where it is none.
+    fn turn(&mut self, alloc: Global, first: &str, more: &str) -> Result<bool, AllocError> {
+        match first {
+            "file" => {
+                self.is_open = true;
+                self.hold(alloc, more, Vec::new(alloc))?;
+            }
+            "put" => self.put(more),
+            "given" => self.given.extend_from_slice(more.as_bytes())?,
+            "supply" => self.supply(alloc, more)?,
+            _ => return self.behave(first, more),
+        }
+        Ok(true)
+    }
+
+    /// Gives the next command so many bytes more to read.
+    fn supply(&mut self, alloc: Global, text: &str) -> Result<(), AllocError> {
+        let bytes = filled(alloc, text)?;
+        self.given.extend_from_slice(&bytes)
+    }
+
+    /// Says how a stream or the files of the next command behave; false where they are none.
+    fn behave(&mut self, name: &str, text: &str) -> Result<bool, AllocError> {
+        match self.way_of(name) {
+            Some(way) => {
+                way.push_str(text)?;
+                Ok(true)
+            }
+            None => Ok(false),
+        }
+    }
+
     /// Takes a line that makes a file or says how streams behave; false where it is none.
     pub fn set(&mut self, alloc: Global, line: &str) -> Result<bool, AllocError> {
         let (first, more) = line.split_once(' ').unwrap_or((line, ""));
         let (name, last) = more.split_once(' ').unwrap_or((more, ""));
-        match first {
-            "file" => {
-                self.hold(alloc, more, Vec::new(alloc))?;
-                self.is_open = true;
-            }
-            "bytes" => self.hold(alloc, name, bytes_of(alloc, last)?)?,
-            "fill" => self.hold(alloc, name, filled(alloc, last)?)?,
-            "lines" => self.hold(alloc, name, lines_of(alloc, last)?)?,
-            "copy" => self.copy(alloc, name, last)?,
-            "put" => self.put(name, last),
-            "given" => self.given.extend_from_slice(more.as_bytes())?,
-            "supply" => self.given.extend_from_slice(&filled(alloc, more)?)?,
-            "images" => self.images.push_str(more)?,
-            "input" => self.input.push_str(more)?,
-            "output" => self.output.push_str(more)?,
-            "errors" => self.errors.push_str(more)?,
-            _ => return Ok(false),
+        if self.make(alloc, first, name, last)? {
+            return Ok(true);
         }
-        Ok(true)
+        self.turn(alloc, first, more)
     }
 
     /// Copies of the files that a command line names.
@@ -168,10 +223,7 @@ impl Scene {
         let mut named = Vec::new(alloc);
         for (name, bytes) in &self.files {
             if line.split(' ').any(|word| word == name.as_str()) {
-                named.push((
-                    String::from_str(alloc, name.as_str())?,
-                    Vec::from_slice(alloc, bytes)?,
-                ))?;
+                named.push(copy_of(alloc, name, bytes)?)?;
             }
         }
         Ok(named)
@@ -202,6 +254,17 @@ impl Scene {
         Ok(MemSource::new(given, most, fails))
     }
 
+    /// The streams of a command.
+    fn streams(&self, alloc: Global, fault: Option<Fault>) -> Result<Streams, AllocError> {
+        let to_output = call_of(fault, Object::Output);
+        let to_errors = call_of(fault, Object::Errors);
+        Ok(Streams {
+            input: self.source(alloc, fault)?,
+            output: sink_of(alloc, self.output.as_str(), to_output)?,
+            errors: sink_of(alloc, self.errors.as_str(), to_errors)?,
+        })
+    }
+
     /// Does a command line, with one call more that fails.
     pub fn done(
         &self,
@@ -211,12 +274,8 @@ impl Scene {
     ) -> Result<Done, AllocError> {
         let words = words_of(alloc, line)?;
         let files = self.files_of(alloc, line, fault)?;
-        let input = self.source(alloc, fault)?;
-        let more = call_of(fault, Object::Output);
-        let output = sink_of(alloc, self.output.as_str(), more)?;
-        let more = call_of(fault, Object::Errors);
-        let errors = sink_of(alloc, self.errors.as_str(), more)?;
-        done_over(alloc, &words, files, input, output, errors)
+        let streams = self.streams(alloc, fault)?;
+        Ok(done_over(alloc, &words, files, streams))
     }
 
     /// From here on no stream fails.

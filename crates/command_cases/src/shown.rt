@@ -45,7 +45,7 @@ fn show_lines(rt: HostRuntime, text: &str) -> io::Result<()> {
 }
 
 /// Writes how many bytes there are, and which.
-pub fn show(rt: HostRuntime, name: &str, bytes: &[u8]) -> io::Result<()> {
+fn show(rt: HostRuntime, name: &str, bytes: &[u8]) -> io::Result<()> {
     println!(rt; "{name}: {} bytes", bytes.len())?;
     match str::from_utf8(bytes) {
         Ok(text) if bytes.iter().all(|byte| is_plain(*byte)) => show_lines(rt, text),
@@ -73,10 +73,17 @@ fn show_digest(rt: HostRuntime, name: &str, bytes: &[u8]) -> io::Result<()> {
     print!(rt; "; {name} {} {:016x}", bytes.len(), digest(bytes))
 }
 
+/// Writes how a command ended, and what it wrote.
+pub fn show_done(rt: HostRuntime, done: &Done) -> io::Result<()> {
+    println!(rt; "{:?}, status {}", done.ending, done.ending.status())?;
+    show(rt, "output", done.output())?;
+    show(rt, "errors", done.errors())
+}
+
 /// Writes a line of how a command ended.
 pub fn show_brief(rt: HostRuntime, done: &Done) -> io::Result<()> {
     print!(rt; "{:?}, status {}", done.ending, done.ending.status())?;
-    show_digest(rt, "output", &done.output)?;
-    show_digest(rt, "errors", &done.errors)?;
-    println!(rt; ": {}", first_line(&done.errors))
+    show_digest(rt, "output", done.output())?;
+    show_digest(rt, "errors", done.errors())?;
+    println!(rt; ": {}", first_line(done.errors()))
 }

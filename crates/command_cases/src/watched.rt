@@ -76,19 +76,9 @@ impl<'a, T> Watched<'a, T> {
         }
     }
 
-    /// The object.
-    pub fn of(&self) -> &T {
-        &self.of
-    }
-
-    /// The object, to be called without being watched.
-    pub fn of_mut(&mut self) -> &mut T {
-        &mut self.of
-    }
-
-    /// What its command had moved at each call.
-    pub fn calls(&self) -> &[Moved] {
-        &self.calls
+    /// The object, and what its command had moved at each call.
+    pub fn end(self) -> (T, Vec<Moved>) {
+        (self.of, self.calls)
     }
 }
 
