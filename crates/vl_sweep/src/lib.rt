@@ -5,7 +5,7 @@
 mod bound_sink;
 mod lengths;
 mod line;
-mod load_lines;
+mod load_line;
 mod load_runs;
 
 pub use bound_sink::BoundSink;

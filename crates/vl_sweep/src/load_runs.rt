@@ -8,7 +8,7 @@ ghost use Rattle.load_model.specs.Load.{line_at, load_args, load_text};
 ghost use Rattle.vl_sweep.specs.LoadRuns.{HasRun};
 
 use crate::lengths::length_behind;
-use crate::load_lines::push_run_line;
+use crate::load_line::push_run_line;
 use elf_image::Image;
 use emu_machine::{Machine, RunEnd};
 use emu_model::Length;

@@ -1,6 +1,6 @@
 use Rattle.std.proofs.Common.{sym, append-nil, arith}
 use Rattle.vl_sweep.proofs.LoadAppended.{digits_all, digits_more}
-use Rattle.vl_sweep.proofs.load_lines.push_digits.Goals as goal
+use Rattle.vl_sweep.proofs.load_line.push_digits.Goals as goal
 
 pub digits-init : goal.digits-init
 digits-init c = sym (append-nil c.args.lines.now.held)
