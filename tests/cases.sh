@@ -13,7 +13,8 @@ trap 'exit 1' HUP INT TERM
 mkdir "$scratch/files"
 
 # Makes a script of the cases: what `src/main.rt` of command_cases says of its lines. A stream that fails can't be had
-# here, and no word has a byte 0, so such lines are left out.
+# here, and no word has a byte 0, so such lines are left out. So are the many cases of contexts at the end, whose reports
+# tests/threads.py works out.
 awk -v quote="'" '
     function quoted(text) {
         gsub(quote, quote "\\" quote quote, text)
@@ -27,6 +28,7 @@ awk -v quote="'" '
         return substr(letters, 1, substr(word, 2) + 0)
     }
     open { if ($0 == ".") open = 0; print; next }
+    /^# ---- contexts/ { exit }
     $1 == "file" { print "file " quoted($2) " <<" quote "." quote; open = 1; next }
     /^(bytes|fill|lines|load|copy|put|given|supply) / { print $1 " " quoted(substr($0, length($1) + 2)); next }
     /^(images|input|output|errors) / { fails = 1; next }
