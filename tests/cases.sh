@@ -28,7 +28,7 @@ awk -v quote="'" '
         return substr(letters, 1, substr(word, 2) + 0)
     }
     open { if ($0 == ".") open = 0; print; next }
-    /^# ---- contexts/ { exit }
+    /^# ---- contexts, worked out/ { exit }
     $1 == "file" { print "file " quoted($2) " <<" quote "." quote; open = 1; next }
     /^(bytes|fill|lines|load|copy|put|given|supply) / { print $1 " " quoted(substr($0, length($1) + 2)); next }
     /^(images|input|output|errors) / { fails = 1; next }
