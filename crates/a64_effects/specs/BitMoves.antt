@@ -6,7 +6,7 @@ use Rattle.emu_bits.specs.Bitmask.{repeated}
 use Rattle.emu_bits.specs.Operations.{complement, number_of_bytes}
 use Rattle.emu_model.specs.Done.{Registers, leaves}
 use Rattle.emu_model.specs.State.{Core, Vectors, read_x, with_x}
-use Rattle.vec_model.specs.Lanes.{lane, read_z, with_low}
+use Rattle.emu_model.specs.Lanes.{lane, read_z, with_low}
 
 -- ---- fmov
 

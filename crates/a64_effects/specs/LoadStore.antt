@@ -8,7 +8,7 @@ use Rattle.emu_model.specs.declared.access.Kind.TheVariants.{Read as ReadKind, W
 use Rattle.emu_model.specs.declared.trap.TrapKind.TheVariants.{SpAlign, AccessAlign, Read, Write}
 use Rattle.emu_model.specs.declared.trap.Effect.TheVariants.{Next, Trap}
 use Rattle.emu_model.specs.Access.{Memory, address, value}
-use Rattle.vec_model.specs.Lanes.{lane, read_z, with_low}
+use Rattle.emu_model.specs.Lanes.{lane, read_z, with_low}
 use Rattle.emu_model.specs.State.{Core, Vectors, read_x, read_x_sp, with_x, with_x_sp}
 use Rattle.a64_effects.specs.declared.transfer.Transfer.{Transfer}
 use Rattle.a64_effects.specs.declared.transfer.Transfer.TheVariants.{Store, Load, LoadSigned, LoadSigned32, Prefetch, StoreVector, LoadVector}

@@ -9,8 +9,8 @@ use Rattle.emu_model.specs.Sound.{with_x_sound}
 use Rattle.emu_model.specs.SoundDone.{IsSoundRegisters}
 use Rattle.emu_model.specs.State.{Core, Vectors, read_x}
 use Rattle.emu_model.specs.SoundState.{IsSoundCore, IsSoundVectors}
-use Rattle.vec_model.specs.Lanes.{lane, read_z}
-use Rattle.vec_model.specs.SoundLanes.{sound_low}
+use Rattle.emu_model.specs.Lanes.{lane, read_z}
+use Rattle.emu_model.specs.SoundLanes.{sound_low}
 use Rattle.a64_effects.specs.BitMoves.{copied, moved}
 
 module _ (c : Core) (v : Vectors) (s : IsSoundCore c) (u : IsSoundVectors v) where

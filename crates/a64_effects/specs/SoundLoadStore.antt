@@ -9,8 +9,8 @@ use Rattle.emu_model.specs.Sound.{with_x_sound, with_x_sp_sound, monitor_sound}
 use Rattle.emu_model.specs.State.{Core, Vectors, with_x}
 use Rattle.emu_model.specs.SoundState.{IsWord, IsSoundCore, IsSoundVectors, IsSoundMemory}
 use Rattle.emu_model.specs.Done.{Done, Registers, traps}
-use Rattle.vec_model.specs.Lanes.{with_low}
-use Rattle.vec_model.specs.SoundLanes.{sound_low}
+use Rattle.emu_model.specs.Lanes.{with_low}
+use Rattle.emu_model.specs.SoundLanes.{sound_low}
 use Rattle.emu_model.specs.Elements.{Element, reach}
 use Rattle.emu_model.specs.SoundElements.{stop_is_word, with_stored_sound}
 use Rattle.a64_effects.specs.declared.transfer.Transfer.{Transfer}

@@ -2,8 +2,8 @@
 use Rattle.std.proofs.Common.{◌≡◌, ◌<◌, ◌≤◌, ◌+◌, ◌*◌, ◌/◌, ◌%◌, ◌^◌, ℕ, zero, suc, Bool, true, false, nat_eq, List, get_or, inl, inr, refl, sym, ap, ◌∙◌, arith}
 use Rattle.std.proofs.lemmas.Nat.{shr-shr}
 use Rattle.emu_model.specs.ListLaws.{get_or-each}
-use Rattle.vec_model.specs.Active.{active}
-use Rattle.vec_model.specs.LaneSizes.{IsLaneSize}
+use Rattle.emu_model.specs.Active.{active}
+use Rattle.emu_model.specs.LaneSizes.{IsLaneSize}
 use Rattle.vec_regs.specs.Words.{bit_of, bits_of}
 use Rattle.vec_regs.proofs.Parts.{same_part}
 use Rattle.active_lanes.specs.Kept.{keeps}

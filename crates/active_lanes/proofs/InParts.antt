@@ -10,7 +10,7 @@ use Rattle.emu_model.specs.SoundState.{IsVectorLength}
 use Rattle.emu_model.specs.Lists.{each}
 use Rattle.emu_model.specs.ListLaws.{length-each, get_or-each, each_same}
 use Rattle.emu_model.specs.State.{Vectors}
-use Rattle.vec_model.specs.Lanes.{read_z, with_z}
+use Rattle.emu_model.specs.Lanes.{read_z, with_z}
 use Rattle.vec_regs.specs.Words.{byte_of, bytes_of, byte_with_pair}
 use Rattle.element_words.proofs.Words.{byte_of_number}
 

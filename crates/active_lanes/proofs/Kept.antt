@@ -3,8 +3,8 @@ use Rattle.std.proofs.Common.{◌≡◌, ◌<◌, ◌≤◌, ◌+◌, ◌*◌, �
 use Rattle.std.proofs.lemmas.Bool.{cases_lt, lt-ltb, le-ltb, or_parts, or_right}
 use Rattle.emu_model.specs.SoundState.{IsVectorLength}
 use Rattle.emu_model.specs.State.{Vectors}
-use Rattle.vec_model.specs.Active.{active}
-use Rattle.vec_model.specs.LaneSizes.{IsLaneSize}
+use Rattle.emu_model.specs.Active.{active}
+use Rattle.emu_model.specs.LaneSizes.{IsLaneSize}
 use Rattle.sve_effects.specs.LaneLoop.{is_active}
 use Rattle.active_lanes.specs.Kept.{is_kept}
 use Rattle.active_lanes.proofs.FieldBits.{lane_again}

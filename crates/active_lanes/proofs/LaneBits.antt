@@ -7,8 +7,8 @@ use Rattle.std.proofs.Math.Nat.{zero-div}
 use Rattle.std.proofs.lemmas.Nat.{shr-shr, trailing_le}
 use Rattle.std.proofs.lemmas.Nat.Bits.{bit_at_and, bit_at_not, bit_at_or, bit_at-zero, bit_at_ones, bit_at-trailing_ones, bit_at-trailing_zeros}
 use Rattle.emu_model.specs.ListLaws.{get_or-each}
-use Rattle.vec_model.specs.Active.{active}
-use Rattle.vec_model.specs.LaneSizes.{IsLaneSize}
+use Rattle.emu_model.specs.Active.{active}
+use Rattle.emu_model.specs.LaneSizes.{IsLaneSize}
 use Rattle.vec_regs.specs.Words.{bit_of, bits_of}
 use Rattle.active_lanes.specs.Seen.{seen_end, unseen_bit}
 use Rattle.active_lanes.proofs.FieldBits.{eight, bit_within}

@@ -1,6 +1,6 @@
 //! The bits of a predicate that stand for a word of 64 bits.
 ghost use Rattle.std.specs.Prelude.{◌≡◌, ◌≤◌, ◌<◌, ◌+◌, ◌*◌, ◌/◌, ◌%◌, ◌^◌, ℕ, true, false};
-ghost use Rattle.vec_model.specs.LaneSizes.{IsLaneSize};
+ghost use Rattle.emu_model.specs.LaneSizes.{IsLaneSize};
 ghost use Rattle.sve_effects.specs.LaneLoop.{is_active};
 ghost use Rattle.active_lanes.specs.Kept.{keeps};
 ghost use Rattle.active_lanes.specs.Seen.{seen_end, unseen_bit};

@@ -1,6 +1,6 @@
 //! The words of a register that keeps its active lanes.
 ghost use Rattle.std.specs.Prelude.{◌≡◌, ◌≤◌, ◌<◌, ◌+◌, ◌*◌, ◌/◌, ◌%◌, ◌^◌, ℕ, length, get_or, if◌then◌else◌};
-ghost use Rattle.vec_model.specs.LaneSizes.{IsLaneSize};
+ghost use Rattle.emu_model.specs.LaneSizes.{IsLaneSize};
 ghost use Rattle.vec_regs.specs.Words.{byte_of};
 ghost use Rattle.active_lanes.specs.Kept.{is_kept, kept};
 

@@ -1,8 +1,8 @@
 //! Registers that are written 128 bits after 128 bits.
 ghost use Rattle.std.specs.Prelude.{◌≡◌, ◌≤◌, ◌<◌, ◌+◌, ◌*◌, ◌/◌, ◌%◌, ◌^◌, ℕ, length, get_or, if◌then◌else◌};
 ghost use Rattle.emu_model.specs.Lists.{each};
-ghost use Rattle.vec_model.specs.Lanes.{with_z};
-ghost use Rattle.vec_model.specs.LaneSizes.{IsLaneSize};
+ghost use Rattle.emu_model.specs.Lanes.{with_z};
+ghost use Rattle.emu_model.specs.LaneSizes.{IsLaneSize};
 ghost use Rattle.vec_regs.specs.Words.{bytes_of};
 ghost use Rattle.active_lanes.specs.Kept.{is_kept};
 

@@ -13,7 +13,7 @@ use Rattle.emu_model.specs.declared.access.Access.{Access}
 use Rattle.emu_model.specs.Access.{Memory}
 use Rattle.emu_model.specs.Pages.{peeked}
 use Rattle.emu_model.specs.State.{Vectors, Parts, State}
-use Rattle.vec_model.specs.Lanes.{lane, read_p, read_z}
+use Rattle.emu_model.specs.Lanes.{lane, read_p, read_z}
 use Rattle.emu_run.specs.Text.{hex, space, newline}
 use Rattle.emu_run.specs.Reports.{address_text}
 use Rattle.emu_run.specs.Registers.{bit_digits, byte_digits, lines_of, numbered, register_line, scalar_lines}

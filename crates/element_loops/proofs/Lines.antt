@@ -18,8 +18,8 @@ use Rattle.emu_model.specs.Pages.{bytes_at, with_bytes}
 use Rattle.emu_model.specs.State.{Vectors}
 use Rattle.emu_model.specs.WithinPage.{number_in}
 use Rattle.emu_model.specs.SoundState.{IsVectorLength}
-use Rattle.vec_model.specs.Lanes.{byte_in}
-use Rattle.vec_model.specs.LaneSizes.{IsLaneSize}
+use Rattle.emu_model.specs.Lanes.{byte_in}
+use Rattle.emu_model.specs.LaneSizes.{IsLaneSize}
 use Rattle.vec_regs.specs.Words.{byte_of, bytes_of}
 use Rattle.vec_regs.proofs.PackedLanes.{below_quotient}
 use Rattle.element_words.specs.Placed.{lane_at}

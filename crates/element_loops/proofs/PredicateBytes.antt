@@ -16,7 +16,7 @@ use Rattle.emu_model.specs.ListLaws.{each_same, get_or-each}
 use Rattle.emu_model.specs.Pages.{bytes_at}
 use Rattle.emu_model.specs.State.{Vectors}
 use Rattle.emu_model.specs.WithinPage.{number_in}
-use Rattle.vec_model.specs.Lanes.{read_p, with_p, byte_in}
+use Rattle.emu_model.specs.Lanes.{read_p, with_p, byte_in}
 use Rattle.vec_regs.specs.Words.{bit_of, bits_of, byte_of, AreClearFrom}
 use Rattle.sve_effects.specs.VectorElements.{elements_of}
 use Rattle.sve_effects.specs.VectorLoadStore.{with_loaded_bits}

@@ -10,8 +10,8 @@ use Rattle.emu_model.specs.ListLaws.{each_same}
 use Rattle.emu_model.specs.Pages.{bytes_at}
 use Rattle.emu_model.specs.State.{Vectors}
 use Rattle.emu_model.specs.WithinPage.{number_in}
-use Rattle.vec_model.specs.Lanes.{byte_in}
-use Rattle.vec_model.specs.LaneSizes.{IsLaneSize}
+use Rattle.emu_model.specs.Lanes.{byte_in}
+use Rattle.emu_model.specs.LaneSizes.{IsLaneSize}
 use Rattle.vec_regs.specs.Words.{byte_of, bytes_of}
 use Rattle.sve_effects.specs.Lane.{extended_by}
 use Rattle.sve_effects.specs.VectorElements.{Layout, elements_below, elements_of}

@@ -10,7 +10,7 @@ use Rattle.emu_model.specs.ListLaws.{each_same}
 use Rattle.emu_model.specs.Pages.{bytes_at}
 use Rattle.emu_model.specs.PageEquations.{bytes_at-suc}
 use Rattle.emu_model.specs.WithinPage.{number_in}
-use Rattle.vec_model.specs.LaneSizes.{IsLaneSize}
+use Rattle.emu_model.specs.LaneSizes.{IsLaneSize}
 use Rattle.sve_effects.specs.VectorElements.{Layout, elements_below, elements_of}
 use Rattle.element_access.specs.ReachLaws.{all_of, goes_on, reach_append}
 use Rattle.element_loops.specs.SoFar.{element_of_lane, elements_within}

@@ -18,8 +18,8 @@ use Rattle.emu_model.specs.ListLaws.{each_same, each-more}
 use Rattle.emu_model.specs.Pages.{with_bytes}
 use Rattle.emu_model.specs.State.{Vectors}
 use Rattle.guest_mem.proofs.Numbers.{stored_is}
-use Rattle.vec_model.specs.Lanes.{number, lane, read_z}
-use Rattle.vec_model.specs.LaneSizes.{IsLaneSize}
+use Rattle.emu_model.specs.Lanes.{number, lane, read_z}
+use Rattle.emu_model.specs.LaneSizes.{IsLaneSize}
 use Rattle.sve_effects.specs.VectorElements.{Layout, elements_below}
 use Rattle.sve_effects.specs.VectorLoadStore.{lane_stored}
 use Rattle.element_access.specs.ReachLaws.{AreStored, refused_with_stored}

@@ -1,7 +1,7 @@
 //! Loads of elements that are one behind the other: lanes as they are, extended ones, and those of structures.
 ghost use Rattle.std.specs.Prelude.{◌≡◌, ◌≤◌, ◌<◌, ◌+◌, ◌*◌, ◌/◌, ◌%◌, ℕ, [], true, false, length, if◌then◌else◌};
 ghost use Rattle.emu_model.specs.Elements.{accesses_of};
-ghost use Rattle.vec_model.specs.Lanes.{with_lanes};
+ghost use Rattle.emu_model.specs.Lanes.{with_lanes};
 ghost use Rattle.sve_effects.specs.VectorElements.{elements_of};
 ghost use Rattle.element_access.specs.ReachLaws.{AreLoaded};
 ghost use Rattle.element_words.specs.Placed.{lane_at};

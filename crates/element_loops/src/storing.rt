@@ -20,7 +20,7 @@ ghost use Rattle.arrayvec.specs.ArrayVec.{array_vec_len};
 ghost use Rattle.emu_bits.specs.Fields.{bit};
 ghost use Rattle.emu_bits.specs.Operations.{number_of_bits};
 ghost use Rattle.emu_model.specs.Access.{Memory};
-ghost use Rattle.vec_model.specs.Lanes.{read_p};
+ghost use Rattle.emu_model.specs.Lanes.{read_p};
 ghost use Rattle.sve_effects.specs.VectorElements.{elements_below, elements_of};
 ghost use Rattle.element_access.specs.ReachLaws.{AreStored, StopsStore};
 ghost use Rattle.element_loops.specs.Layouts.{IsPlan, layout_of};

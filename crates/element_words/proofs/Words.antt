@@ -9,8 +9,8 @@ use Rattle.emu_model.specs.Lists.{each}
 use Rattle.emu_model.specs.ListLaws.{length-each, get_or-each}
 use Rattle.emu_model.specs.WithinPage.{number_in}
 use Rattle.emu_model.proofs.LittleEndian.{number_of_part}
-use Rattle.vec_model.specs.Lanes.{byte_in}
-use Rattle.vec_model.specs.LaneSizes.{IsLaneSize}
+use Rattle.emu_model.specs.Lanes.{byte_in}
+use Rattle.emu_model.specs.LaneSizes.{IsLaneSize}
 use Rattle.vec_regs.specs.Packed.{packed}
 use Rattle.vec_regs.specs.Words.{byte_of}
 use Rattle.vec_regs.proofs.PackedLanes.{byte_in_packed, packed_back, grown, room}

@@ -6,8 +6,8 @@ mod lanes;
 mod whole;
 
 ghost use Rattle.std.specs.Prelude.{◌≡◌, ◌≤◌, ◌<◌, ◌+◌, ◌*◌, ◌/◌, ℕ, length, get_or};
-ghost use Rattle.vec_model.specs.Lanes.{byte_in};
-ghost use Rattle.vec_model.specs.LaneSizes.{IsLaneSize};
+ghost use Rattle.emu_model.specs.Lanes.{byte_in};
+ghost use Rattle.emu_model.specs.LaneSizes.{IsLaneSize};
 ghost use Rattle.vec_regs.specs.Words.{byte_of};
 ghost use Rattle.element_words.specs.Placed.{lane_at};
 

@@ -1,7 +1,7 @@
 //! Words of elements that are as large as their lanes.
 ghost use Rattle.std.specs.Prelude.{◌≡◌, ◌≤◌, ◌<◌, ◌+◌, ◌*◌, ◌/◌, ◌%◌, ◌^◌, ℕ, false, length, get_or};
-ghost use Rattle.vec_model.specs.Lanes.{byte_in};
-ghost use Rattle.vec_model.specs.LaneSizes.{IsLaneSize};
+ghost use Rattle.emu_model.specs.Lanes.{byte_in};
+ghost use Rattle.emu_model.specs.LaneSizes.{IsLaneSize};
 ghost use Rattle.vec_regs.specs.Words.{byte_of};
 ghost use Rattle.element_words.specs.Placed.{lane_at};
 

@@ -1,1 +1,5 @@
 pub mod LittleEndian
+pub mod Cleared
+pub mod FieldBits
+pub mod LaneBytes
+pub mod Written

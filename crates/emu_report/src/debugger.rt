@@ -4,7 +4,7 @@ ghost use Rattle.io_gate.specs.Streams.{HasCause};
 ghost use Rattle.io_gate.specs.Pieces.{PutsAll};
 ghost use Rattle.emu_bits.specs.Flags.{size_of};
 ghost use Rattle.emu_model.specs.Pages.{peeked};
-ghost use Rattle.vec_model.specs.Lanes.{read_z};
+ghost use Rattle.emu_model.specs.Lanes.{read_z};
 ghost use Rattle.emu_run.specs.Text.{hex, space};
 ghost use Rattle.emu_run.specs.Registers.{lines_of};
 ghost use Rattle.dbg_model.specs.Session.{

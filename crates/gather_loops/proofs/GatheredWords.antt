@@ -8,8 +8,8 @@ use Rattle.emu_model.specs.ListLaws.{length-each, get_or-each}
 use Rattle.emu_model.specs.Access.{Memory}
 use Rattle.emu_model.specs.SoundState.{IsVectorLength}
 use Rattle.emu_model.specs.State.{Vectors}
-use Rattle.vec_model.specs.Lanes.{with_z, with_lanes}
-use Rattle.vec_model.specs.LaneSizes.{IsLaneSize}
+use Rattle.emu_model.specs.Lanes.{with_z, with_lanes}
+use Rattle.emu_model.specs.LaneSizes.{IsLaneSize}
 use Rattle.vec_regs.specs.Words.{bytes_of}
 use Rattle.vec_regs.proofs.PackedLanes.{filled, still, with_packed, lanes_given, words_count}
 use Rattle.vec_regs.specs.Packed.{packed, word_of}

@@ -1,7 +1,7 @@
 -- Plans as the loops of gathers and scatters read them.
 use Rattle.std.proofs.Common.{◌≡◌, ◌<◌, ℕ, ◌/◌, sym, ap, subst, ◌∙◌, arith}
 use Rattle.emu_model.specs.State.{Vectors}
-use Rattle.vec_model.specs.LaneSizes.{IsLaneSize}
+use Rattle.emu_model.specs.LaneSizes.{IsLaneSize}
 use Rattle.sve_effects.specs.LaneLoop.{is_active}
 use Rattle.element_loops.specs.declared.plan.OnLanes.{OnLanes}
 use Rattle.element_loops.specs.declared.plan.Plan.{Plan}

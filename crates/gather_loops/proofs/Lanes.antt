@@ -7,7 +7,7 @@ use Rattle.emu_model.specs.declared.trap.TrapKind.TheVariants.{Read as ReadTrap,
 use Rattle.emu_model.specs.Access.{Memory, refused, stored}
 use Rattle.emu_model.specs.Elements.{Element}
 use Rattle.emu_model.specs.State.{Vectors}
-use Rattle.vec_model.specs.Lanes.{lane, read_z}
+use Rattle.emu_model.specs.Lanes.{lane, read_z}
 use Rattle.sve_effects.specs.VectorElements.{Layout, elements_below, elements_of}
 use Rattle.element_access.specs.ReachLaws.{AreLoaded, StopsLoad, AreStored, StopsStore, length_accesses}
 use Rattle.element_loops.specs.declared.plan.Plan.{Plan}

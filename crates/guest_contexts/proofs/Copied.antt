@@ -4,7 +4,7 @@ use Rattle.std.proofs.lemmas.List.{get_or-set_same, get_or-set_other, length-set
 use Rattle.emu_bits.specs.Fields.{field}
 use Rattle.std.proofs.lemmas.List.FromFn.{fill_by_all}
 use Rattle.emu_model.specs.State.{Vectors}
-use Rattle.vec_model.specs.Lanes.{read_z, with_z}
+use Rattle.emu_model.specs.Lanes.{read_z, with_z}
 use Rattle.thread_model.specs.ThreadCall.{started_vectors}
 
 -- as many elements, of which the first n are the same

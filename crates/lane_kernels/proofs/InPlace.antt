@@ -10,8 +10,8 @@ use Rattle.emu_model.specs.ListLaws.{length-each, get_or-each, each_same}
 use Rattle.emu_model.specs.State.{Vectors}
 use Rattle.lane_kernels.specs.Parts.{SamePart}
 use Rattle.lane_kernels.specs.Written.{written_byte, written}
-use Rattle.vec_model.specs.Lanes.{byte_in, read_z, with_z, with_lanes}
-use Rattle.vec_model.specs.LaneSizes.{IsLaneSize}
+use Rattle.emu_model.specs.Lanes.{byte_in, read_z, with_z, with_lanes}
+use Rattle.emu_model.specs.LaneSizes.{IsLaneSize}
 use Rattle.vec_regs.specs.Packed.{packed}
 use Rattle.vec_regs.specs.Words.{byte_of, bytes_of, byte_with_pair}
 use Rattle.vec_regs.proofs.PackedLanes.{byte_of_words, below_quotient}

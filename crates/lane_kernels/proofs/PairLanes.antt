@@ -11,10 +11,10 @@ use Rattle.std.specs.Simd.Lanes.{digits_l, number_l, zip2, Each1}
 use Rattle.emu_model.specs.SoundState.{IsVectorLength}
 use Rattle.emu_model.specs.Lists.{each}
 use Rattle.emu_model.specs.ListLaws.{get_or-each}
-use Rattle.vec_model.specs.Active.{active}
-use Rattle.vec_model.specs.Lanes.{lane}
-use Rattle.vec_model.specs.LaneSizes.{IsLaneSize}
-use Rattle.vec_model.proofs.LaneBytes.{within_bytes}
+use Rattle.emu_model.specs.Active.{active}
+use Rattle.emu_model.specs.Lanes.{lane}
+use Rattle.emu_model.specs.LaneSizes.{IsLaneSize}
+use Rattle.emu_model.proofs.LaneBytes.{within_bytes}
 use Rattle.vec_regs.specs.Packed.{packed}
 use Rattle.vec_regs.specs.Words.{bytes_of, bits_of, bit_of}
 use Rattle.vec_regs.proofs.Parts.{same_part}

@@ -15,8 +15,8 @@ use Rattle.emu_model.specs.SoundState.{IsVectorLength}
 use Rattle.emu_model.specs.Lists.{each}
 use Rattle.emu_model.specs.ListLaws.{get_or-each}
 use Rattle.lane_pack.specs.Bits.{is_set}
-use Rattle.vec_model.specs.Lanes.{field_bit}
-use Rattle.vec_model.specs.LaneSizes.{IsLaneSize}
+use Rattle.emu_model.specs.Lanes.{field_bit}
+use Rattle.emu_model.specs.LaneSizes.{IsLaneSize}
 use Rattle.vec_regs.specs.Packed.{packed}
 use Rattle.vec_regs.specs.Words.{bit_of}
 use Rattle.vec_regs.proofs.PackedLanes.{byte_in_packed, filled}

@@ -3,9 +3,9 @@ use Rattle.std.proofs.Common.{◌≡◌, ◌≤◌, ◌+◌, ◌-◌, ◌*◌, �
 use Rattle.std.proofs.lemmas.List.{take-take, drop-take, drop-drop}
 use Rattle.emu_model.specs.State.{Vectors}
 use Rattle.sve_effects.specs.LaneLoop.{lane_of, covering_lane, is_active}
-use Rattle.vec_model.specs.Active.{active}
-use Rattle.vec_model.specs.Lanes.{read_z, number}
-use Rattle.vec_model.specs.LaneSizes.{IsLaneSize}
+use Rattle.emu_model.specs.Active.{active}
+use Rattle.emu_model.specs.Lanes.{read_z, number}
+use Rattle.emu_model.specs.LaneSizes.{IsLaneSize}
 
 -- the predicates are the same, and part i of each Z register, its 128 bits from 128 * i on
 pub record SamePart (i : ℕ) (v w : Vectors) : Type 0 where

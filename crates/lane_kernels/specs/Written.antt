@@ -2,7 +2,7 @@
 use Rattle.std.specs.Prelude.{ℕ, ◌/◌, nat_lt, if◌then◌else◌, List, get_or}
 use Rattle.emu_model.specs.Lists.{each}
 use Rattle.emu_model.specs.State.{Vectors}
-use Rattle.vec_model.specs.Lanes.{byte_in, read_z, with_z}
+use Rattle.emu_model.specs.Lanes.{byte_in, read_z, with_z}
 
 -- byte j of a register of which the first i parts have the lanes that f gives
 abbrev pub written_byte : ℕ → (ℕ → ℕ) → ℕ → List ℕ → ℕ → ℕ

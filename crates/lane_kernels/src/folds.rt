@@ -1,7 +1,7 @@
 //! Reductions: folds over the active lanes of a register, 128 bits at a time.
 ghost use Rattle.std.specs.Prelude.{◌≡◌, ◌<◌, ◌+◌, ◌*◌, ◌/◌, ◌^◌, ℕ, map, get_or, length, true, false, if◌then◌else◌};
 ghost use Rattle.sve_effects.specs.LaneLoop.{folding, is_active, lane_of};
-ghost use Rattle.vec_model.specs.LaneSizes.{IsLaneSize};
+ghost use Rattle.emu_model.specs.LaneSizes.{IsLaneSize};
 
 use crate::kernels::FoldOp;
 use crate::lane_wise::LaneWiseFold;

@@ -8,8 +8,8 @@ ghost use Rattle.emu_model.specs.State.{Vectors};
 ghost use Rattle.lane_kernels.specs.Parts.{SamePart};
 ghost use Rattle.lane_kernels.specs.Written.{written};
 ghost use Rattle.sve_effects.specs.LaneLoop as model;
-ghost use Rattle.vec_model.specs.Lanes.{read_z};
-ghost use Rattle.vec_model.specs.LaneSizes.{IsLaneSize};
+ghost use Rattle.emu_model.specs.Lanes.{read_z};
+ghost use Rattle.emu_model.specs.LaneSizes.{IsLaneSize};
 ghost use Rattle.vec_regs.specs.Packed.{packed};
 ghost use Rattle.vec_regs.specs.Words.{AreZeroFrom, bytes_of};
 

@@ -7,7 +7,7 @@ ghost use Rattle.std.specs.Simd.Lanes.{digits_l, number_l};
 ghost use Rattle.lane_kernels.specs.Parts.{same_lane, same_active, same_choice};
 ghost use Rattle.lane_pack.specs.Bits.{is_set};
 ghost use Rattle.sve_effects.specs.LaneLoop.{is_active, lane_of};
-ghost use Rattle.vec_model.specs.LaneSizes.{IsLaneSize};
+ghost use Rattle.emu_model.specs.LaneSizes.{IsLaneSize};
 
 use crate::kernels::{Op1, Op2, Op3};
 use crate::lane_wise::{LaneWise1, LaneWise2, LaneWise3};

@@ -26,8 +26,8 @@ ghost use Rattle.emu_model.specs.State.{Vectors};
 ghost use Rattle.lane_pack.specs.Bits.{is_set};
 ghost use Rattle.sve_effects.specs.Lane.{extended_by};
 ghost use Rattle.sve_effects.specs.LaneLoop.{lane_of, covering_lane};
-ghost use Rattle.vec_model.specs.Lanes.{field_bit};
-ghost use Rattle.vec_model.specs.LaneSizes.{IsLaneSize};
+ghost use Rattle.emu_model.specs.Lanes.{field_bit};
+ghost use Rattle.emu_model.specs.LaneSizes.{IsLaneSize};
 ghost use Rattle.vec_regs.specs.Words.{bit_of};
 
 use crate::kernels::Test2;

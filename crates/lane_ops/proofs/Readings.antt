@@ -11,7 +11,7 @@ use Rattle.emu_bits.proofs.Signs.{double, sext_low, sext_high}
 use Rattle.emu_bits.specs.Numbers.{signed, unsigned_int}
 use Rattle.emu_bits.specs.Operations.{asr}
 use Rattle.sve_elements.proofs.FarShifts.{none_low}
-use Rattle.vec_model.specs.LaneSizes.{IsLaneSize}
+use Rattle.emu_model.specs.LaneSizes.{IsLaneSize}
 
 pub some_bits : (e : ℕ) → IsLaneSize e → 1 ≤ e
 some_bits e (inl s) = omega arith

@@ -3,7 +3,7 @@ ghost use Rattle.std.specs.Prelude.{◌≡◌, ◌<◌, ◌^◌};
 ghost use Rattle.emu_bits.specs.Operations.{lsl, lsr, asr};
 ghost use Rattle.sve_effects.specs.declared.lane_functions.LaneOp.{LaneOp};
 ghost use Rattle.sve_effects.specs.Lane.{lane_op};
-ghost use Rattle.vec_model.specs.LaneSizes.{IsLaneSize};
+ghost use Rattle.emu_model.specs.LaneSizes.{IsLaneSize};
 
 use lane_kernels::LaneWise2;
 use lane_pack::Lane;

@@ -10,7 +10,7 @@ use Rattle.std.proofs.lemmas.Int.{ints}
 use Rattle.std.proofs.lemmas.Nat.{pow_pos, and_mask}
 use Rattle.emu_bits.specs.Numbers.{signed, unsigned_int, sign_extended}
 use Rattle.emu_bits.proofs.Signs.{double, sext_low, sext_high}
-use Rattle.vec_model.specs.LaneSizes.{IsLaneSize}
+use Rattle.emu_model.specs.LaneSizes.{IsLaneSize}
 use Rattle.lane_ops.proofs.Greater.{max_else, signed_back}
 use Rattle.lane_ops.proofs.Readings.{some_bits, read_again}
 

@@ -4,8 +4,8 @@ use Rattle.emu_model.specs.declared.program_break.Break.{Break}
 use Rattle.emu_model.specs.Access.{Memory}
 use Rattle.emu_model.specs.State.{Core, Vectors, Parts}
 use Rattle.emu_model.specs.SoundState.{IsSoundBreak}
-use Rattle.vec_model.specs.AfterCall.{cleared}
-use Rattle.vec_model.specs.Writes.{after_call}
+use Rattle.emu_model.specs.AfterCall.{cleared}
+use Rattle.emu_model.specs.Writes.{after_call}
 use Rattle.emu_system.specs.declared.system_call.CallName.{CallName}
 use Rattle.emu_system.specs.declared.system_call.Errno.{Errno}
 use Rattle.emu_system.specs.declared.system_call.Range.{Range}

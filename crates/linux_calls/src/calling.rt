@@ -2,8 +2,8 @@
 ghost use Rattle.std.specs.Prelude.{◌≡◌, ◌≤◌, ◌/◌, ℕ, List, Some, IfSome, true, false};
 ghost use Rattle.io_gate.specs.Streams.{Causes};
 ghost use Rattle.emu_model.specs.SoundState.{IsSoundBreak};
-ghost use Rattle.vec_model.specs.AfterCall.{cleared};
-ghost use Rattle.vec_model.specs.Writes.{after_call};
+ghost use Rattle.emu_model.specs.AfterCall.{cleared};
+ghost use Rattle.emu_model.specs.Writes.{after_call};
 ghost use Rattle.emu_system.specs.declared.system_call.Errno.{Errno};
 ghost use Rattle.emu_system.specs.SystemCall as model;
 ghost use Rattle.linux_calls.specs.Done.{IsAccounted, IsDone};

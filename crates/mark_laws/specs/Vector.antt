@@ -11,7 +11,7 @@ use Rattle.emu_model.specs.Done.{Done, traps}
 use Rattle.emu_model.specs.Elements.{Element, Reach, accesses_of, reach}
 use Rattle.emu_model.specs.Lists.{each}
 use Rattle.emu_model.specs.State.{Core, Vectors}
-use Rattle.vec_model.specs.Lanes.{with_ffr, with_lanes, with_p}
+use Rattle.emu_model.specs.Lanes.{with_ffr, with_lanes, with_p}
 use Rattle.sve_effects.specs.Rows.{performed}
 use Rattle.sve_effects.specs.FirstFaultParts.{first_fault_lane, first_fault_loaded, with_first_fault}
 use Rattle.sve_effects.specs.Lane.{extended_by}

@@ -7,12 +7,12 @@ use Rattle.emu_bits.specs.declared.flags.Esize.{Esize}
 use Rattle.emu_bits.specs.declared.flags.Flags.{Flags}
 use Rattle.emu_model.specs.Lists.{each}
 use Rattle.emu_model.specs.ListLaws.{get_or-each}
-use Rattle.vec_model.specs.Active.{active}
+use Rattle.emu_model.specs.Active.{active}
 use Rattle.sve_effects.proofs.Found.{first_found, first_is, last_is, first_same, last_same, answer_same, last_within}
 use Rattle.sve_effects.specs.FirstLast.{first_where, last_where, answer_at}
 use Rattle.sve_effects.specs.Predicate.{lanes_of, first_set, test_flags, pred_test}
-use Rattle.vec_model.proofs.FieldBits.{at_start}
-use Rattle.vec_model.specs.Lanes.{field_bit}
+use Rattle.emu_model.proofs.FieldBits.{at_start}
+use Rattle.emu_model.specs.Lanes.{field_bit}
 use Rattle.pred_bits.proofs.Fields.{lane_within, some_bits}
 use Rattle.pred_bits.proofs.LaneWords.{first_within}
 

@@ -6,7 +6,7 @@ use Rattle.std.proofs.lemmas.List.{length-set, get_or-set_same, get_or-set_other
 use Rattle.std.proofs.lemmas.List.FromFn.{fill_by_all}
 use Rattle.emu_model.specs.Lists.{each}
 use Rattle.emu_model.specs.ListLaws.{get_or-each, each_same}
-use Rattle.vec_model.specs.Active.{active}
+use Rattle.emu_model.specs.Active.{active}
 use Rattle.sve_effects.specs.declared.predicates.LogicOp.TheVariants.{And, Sel}
 use Rattle.sve_effects.specs.FirstLast.{first_where}
 use Rattle.sve_effects.specs.Predicate.{is_set, lanes_of, is_at, is_upto, first_set, last_is_set, unbroken, logic, broken, broken_pair, broken_next, with_first}

@@ -5,9 +5,9 @@ use Rattle.std.proofs.lemmas.List.FromFn.{fill_by_all}
 use Rattle.emu_model.specs.Lists.{each}
 use Rattle.emu_model.specs.ListLaws.{each_same}
 use Rattle.sve_effects.proofs.Found.{first_same, last_same, answer_same, last_within}
-use Rattle.vec_model.specs.Active.{active}
+use Rattle.emu_model.specs.Active.{active}
 use Rattle.sve_effects.specs.FirstLast.{first_where, last_where, answer_at}
-use Rattle.vec_model.specs.Lanes.{field_bit}
+use Rattle.emu_model.specs.Lanes.{field_bit}
 use Rattle.sve_effects.specs.Predicate.{is_set, lanes_of, first_set, last_is_set}
 
 pub byte_lanes : (m : ℕ) → lanes_of 8 m ≡ m

@@ -7,8 +7,8 @@ use Rattle.std.proofs.lemmas.Bool.{lt-ltb, le-ltb}
 use Rattle.std.proofs.lemmas.Nat.{pow_pos, mod-pow-add, mod-mul-add, ones_cat, ones-le, le-div}
 use Rattle.std.proofs.lemmas.Nat.Bits.{bit_at-lt}
 use Rattle.emu_bits.specs.Fields.{bit}
-use Rattle.vec_model.proofs.FieldBits.{at_start, between}
-use Rattle.vec_model.specs.Lanes.{field_bit}
+use Rattle.emu_model.proofs.FieldBits.{at_start, between}
+use Rattle.emu_model.specs.Lanes.{field_bit}
 use Rattle.vec_regs.specs.Words.{bit_of}
 use Rattle.sve_effects.specs.FirstLast.{count_where}
 use Rattle.pred_bits.proofs.Made.{bit_in, bit_placed}

@@ -6,7 +6,7 @@ use Rattle.emu_bits.specs.declared.flags.Esize.{Esize}
 use Rattle.emu_bits.specs.declared.flags.Esize.TheVariants.{B, H, S, D}
 use Rattle.emu_model.specs.Lists.{each}
 use Rattle.emu_model.specs.ListLaws.{each_same}
-use Rattle.vec_model.specs.Lanes.{field_bit}
+use Rattle.emu_model.specs.Lanes.{field_bit}
 use Rattle.vec_regs.specs.Words.{bit_of, bits_of, AreClearFrom}
 use Rattle.sve_effects.specs.Predicate.{lanes_of, lanes_below}
 use Rattle.pred_bits.proofs.Made.{clear_from, bits_are}

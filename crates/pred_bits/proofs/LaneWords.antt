@@ -4,8 +4,8 @@ use Rattle.std.proofs.Math.Nat.{mul-le-mul_right, mul-mod_left, mod-lt}
 use Rattle.std.proofs.lemmas.Bool.{cases_lt, cases_eq, lt-ltb, le-ltb, and_parts, both_ways}
 use Rattle.std.proofs.lemmas.Bool.Decides.{nat_tests}
 use Rattle.std.proofs.lemmas.Nat.{div-add-mod', div-mul-add}
-use Rattle.vec_model.proofs.FieldBits.{at_start, between}
-use Rattle.vec_model.specs.Lanes.{field_bit}
+use Rattle.emu_model.proofs.FieldBits.{at_start, between}
+use Rattle.emu_model.specs.Lanes.{field_bit}
 use Rattle.vec_regs.specs.Words.{bit_of, AreClearFrom}
 use Rattle.emu_bits.specs.declared.flags.Flags.{Flags}
 use Rattle.sve_effects.proofs.Found.{first_found, first_is, first_same, last_found, last_is, last_same}

@@ -5,8 +5,8 @@ use Rattle.std.proofs.Math.Nat.{mul-le-mul_right}
 use Rattle.std.proofs.lemmas.Bool.{cases_lt, cases_eq, lt-ltb, le-ltb, and_parts}
 use Rattle.std.proofs.lemmas.List.{get_or-replicate}
 use Rattle.std.proofs.lemmas.Nat.{div-add-mod'}
-use Rattle.vec_model.proofs.FieldBits.{at_start, between}
-use Rattle.vec_model.specs.Lanes.{field_bit}
+use Rattle.emu_model.proofs.FieldBits.{at_start, between}
+use Rattle.emu_model.specs.Lanes.{field_bit}
 use Rattle.vec_regs.proofs.Views.{zero_bit}
 use Rattle.vec_regs.specs.Words.{bit_of}
 use Rattle.sve_effects.proofs.Found.{first_found, first_is, first_same, last_found}

@@ -12,7 +12,7 @@ mod whole;
 
 ghost use Rattle.std.specs.Prelude.{◌≡◌, ◌<◌, ◌≤◌, ◌*◌, ◌/◌, true, false, length, get_or, set, replicate};
 ghost use Rattle.emu_bits.specs.Flags.{size_of};
-ghost use Rattle.vec_model.specs.Active.{active};
+ghost use Rattle.emu_model.specs.Active.{active};
 ghost use Rattle.sve_effects.specs.Predicate.{lanes_of};
 ghost use Rattle.vec_regs.specs.Words.{bits_of, AreClearFrom};
 

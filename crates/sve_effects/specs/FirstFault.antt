@@ -8,8 +8,8 @@ use Rattle.emu_model.specs.Done.{Done, traps}
 use Rattle.emu_model.specs.Elements.{Element, accesses_of}
 use Rattle.emu_model.specs.Lists.{each}
 use Rattle.emu_model.specs.State.{Core, Vectors}
-use Rattle.vec_model.specs.Active.{active}
-use Rattle.vec_model.specs.Lanes.{with_ffr, with_lanes}
+use Rattle.emu_model.specs.Active.{active}
+use Rattle.emu_model.specs.Lanes.{with_ffr, with_lanes}
 use Rattle.sve_effects.specs.Lane.{extended_by}
 use Rattle.sve_effects.specs.FirstLast.{first_where}
 use Rattle.sve_effects.specs.Predicate.{is_upto}

@@ -5,7 +5,7 @@ use Rattle.emu_model.specs.Access.{Memory}
 use Rattle.emu_model.specs.Done.{Done}
 use Rattle.emu_model.specs.Elements.{Element, accesses_of}
 use Rattle.emu_model.specs.State.{Core, Vectors}
-use Rattle.vec_model.specs.Lanes.{with_ffr, with_lanes}
+use Rattle.emu_model.specs.Lanes.{with_ffr, with_lanes}
 use Rattle.sve_effects.specs.FirstFault.{cleared_from, element_at, first_cleared, first_suppressed, is_before, loaded_from, unsuppressed}
 
 -- lane k of the result, by the new FFR: 0 from the first lane on whose bit is 0

@@ -7,7 +7,7 @@ use Rattle.emu_bits.specs.Numbers.{sign_extended}
 use Rattle.emu_model.specs.State.{Vectors}
 use Rattle.sve_effects.specs.Lane.{lane_op}
 use Rattle.sve_effects.specs.LaneLoop.{folding}
-use Rattle.vec_model.specs.Lanes.{with_low}
+use Rattle.emu_model.specs.Lanes.{with_low}
 
 -- the next value, of the value so far and a lane of e bits; sums are of the signed or the unsigned lanes, modulo 2^64
 abbrev pub reduce_step : ReduceOp → ℕ → ℕ → ℕ → ℕ

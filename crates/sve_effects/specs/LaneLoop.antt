@@ -1,8 +1,8 @@
 -- The loops over lanes: lane k of what they write is given by k alone.
 use Rattle.std.specs.Prelude.{ℕ, zero, suc, ◌*◌, ◌/◌, ◌^◌, Bool, if◌then◌else◌}
 use Rattle.emu_model.specs.State.{Vectors}
-use Rattle.vec_model.specs.Active.{active}
-use Rattle.vec_model.specs.Lanes.{lane, read_z, read_p, with_lanes}
+use Rattle.emu_model.specs.Active.{active}
+use Rattle.emu_model.specs.Lanes.{lane, read_z, read_p, with_lanes}
 
 -- the bits of the lanes of a size: 0 b, 1 h, 2 s, 3 d
 abbrev pub lane_bits : ℕ → ℕ

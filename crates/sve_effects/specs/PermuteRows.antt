@@ -17,7 +17,7 @@ use Rattle.emu_model.specs.State.{Core, Vectors, read_x, read_x_sp, with_x}
 use Rattle.sve_effects.specs.Lane.{extended_by}
 use Rattle.sve_effects.specs.LaneLoop.{lane_bits, lane_of, is_active}
 use Rattle.sve_effects.specs.FirstLast.{first_where, last_where}
-use Rattle.vec_model.specs.Lanes.{read_p, with_lanes, with_low, with_fields}
+use Rattle.emu_model.specs.Lanes.{read_p, with_lanes, with_low, with_fields}
 use Rattle.sve_effects.specs.declared.places.Place.{Place}
 use Rattle.sve_effects.specs.Permute.{taken, half_place, last_lane}
 

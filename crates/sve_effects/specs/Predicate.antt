@@ -10,9 +10,9 @@ use Rattle.sve_effects.specs.declared.predicates.LogicOp.{LogicOp}
 use Rattle.sve_effects.specs.declared.predicates.LogicOp.TheVariants.{And, Bic, Eor, Orr, Orn, Nor, Nand, Sel}
 use Rattle.sve_effects.specs.declared.predicates.WhileTest.{WhileTest}
 use Rattle.sve_effects.specs.declared.predicates.WhileTest.TheVariants.{Lt, Le, Lo, Ls}
-use Rattle.vec_model.specs.Active.{active}
+use Rattle.emu_model.specs.Active.{active}
 use Rattle.sve_effects.specs.FirstLast.{first_where, last_where, all_below, count_where, answer_at}
-use Rattle.vec_model.specs.Lanes.{field_bit}
+use Rattle.emu_model.specs.Lanes.{field_bit}
 
 -- ---- bits and fields
 

@@ -40,7 +40,7 @@ use Rattle.sve_effects.specs.declared.predicates.LogicOp.TheVariants.{And, Bic, 
 use Rattle.sve_effects.specs.declared.predicates.WhileTest.{WhileTest}
 use Rattle.sve_effects.specs.declared.predicates.WhileTest.TheVariants as conditions
 use Rattle.sve_effects.specs.LaneLoop.{is_active}
-use Rattle.vec_model.specs.Lanes.{read_p, with_p}
+use Rattle.emu_model.specs.Lanes.{read_p, with_p}
 use Rattle.sve_effects.specs.Predicate.{is_set, fields, pred_test, while_lanes, count_lanes}
 
 -- ---- results

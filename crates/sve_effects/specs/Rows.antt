@@ -9,7 +9,7 @@ use Rattle.emu_bits.specs.Numbers.{width_of, sign_extended, unsigned_int}
 use Rattle.emu_model.specs.Done.{leaves, Done}
 use Rattle.emu_model.specs.State.{read_x, read_x_sp, with_x, with_x_sp, Core, Vectors}
 use Rattle.emu_model.specs.Access.{Memory}
-use Rattle.vec_model.specs.Lanes.{read_p, with_p, with_ffr, with_lanes}
+use Rattle.emu_model.specs.Lanes.{read_p, with_p, with_ffr, with_lanes}
 use Rattle.sve_effects.specs.declared.places.Place.TheVariants.{Scalar}
 use Rattle.sve_effects.specs.declared.predicates.LogicOp.TheVariants.{And, Sel}
 use Rattle.sve_effects.specs.Counts.{count_of, inc_lane_op, sat_lane_op, sat_counted, length_of, multiple}

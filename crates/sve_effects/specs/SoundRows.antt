@@ -32,8 +32,8 @@ use Rattle.sve_effects.specs.PredicateRows.{predicate_bits, after_test, put, cou
 use Rattle.sve_effects.specs.VectorData.{tsz_of, shift_bits, shifted_by, wide_unsigned, wide_signed, index_start, index_step, dot_indexed_bits, dot_indexed_zm_bits, indexed_lane, dot_indexed, copied}
 use Rattle.sve_effects.specs.declared.places.Place.{Place}
 use Rattle.sve_effects.specs.declared.places.Place.TheVariants.{Scalar}
-use Rattle.vec_model.specs.Lanes.{read_p, with_lanes, with_low}
-use Rattle.vec_model.specs.SoundLanes.{sound_lanes, sound_low, sound_fields, sound_p, sound_ffr_bits}
+use Rattle.emu_model.specs.Lanes.{read_p, with_lanes, with_low}
+use Rattle.emu_model.specs.SoundLanes.{sound_lanes, sound_low, sound_fields, sound_p, sound_ffr_bits}
 
 plain_sound : (e : ℕ) (f : ℕ → ℕ) (zd : ℕ) (v : Vectors) → IsSoundVectors v → IsSoundVectors (plain e f zd v)
 plain_sound e f zd v s = sound_lanes e f zd v s

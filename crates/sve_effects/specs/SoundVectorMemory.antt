@@ -13,8 +13,8 @@ use Rattle.emu_model.specs.SoundDone.{IsSoundDone, traps_sound}
 use Rattle.emu_model.specs.SoundElements.{stop_is_word, with_stored_sound}
 use Rattle.emu_model.specs.State.{Core, Vectors}
 use Rattle.emu_model.specs.SoundState.{IsWord, HasLength, IsSoundCore, IsSoundVectors, IsSoundMemory}
-use Rattle.vec_model.specs.SoundLanes.{sound_lanes, sound_p, sound_ffr_bits}
-use Rattle.vec_model.specs.Lanes.{with_lanes}
+use Rattle.emu_model.specs.SoundLanes.{sound_lanes, sound_p, sound_ffr_bits}
+use Rattle.emu_model.specs.Lanes.{with_lanes}
 use Rattle.sve_effects.specs.Lane.{extended_by}
 use Rattle.sve_effects.specs.FirstFault.{cleared_from, first_suppressed, never_traps, first_refused, loaded_unless, first_fault_row}
 use Rattle.sve_effects.specs.FirstFaultParts.{first_fault_lane, with_first_fault, first_fault_loaded}

@@ -10,7 +10,7 @@ use Rattle.emu_model.specs.Done.{Done, traps}
 use Rattle.emu_model.specs.Elements.{Element, Reach, reach, with_stored, accesses_of}
 use Rattle.emu_model.specs.Lists.{each}
 use Rattle.emu_model.specs.State.{Core, Vectors}
-use Rattle.vec_model.specs.Lanes.{lane, read_z, read_p, with_lanes, with_p}
+use Rattle.emu_model.specs.Lanes.{lane, read_z, read_p, with_lanes, with_p}
 use Rattle.sve_effects.specs.Lane.{extended_by}
 use Rattle.sve_effects.specs.LaneLoop.{is_active}
 use Rattle.sve_effects.specs.VectorElements.{MemoryRow, Transfer, each_active, repeated, replicated, whole_z, whole_p, Brackets, scalar, vector, Layout, register_at, elements_of, row_layout}

@@ -1,7 +1,7 @@
 //! The sizes of lanes.
 ghost use Rattle.std.specs.Prelude.{◌≡◌};
 ghost use Rattle.sve_effects.specs.LaneLoop as model;
-ghost use Rattle.vec_model.specs.LaneSizes.{IsLaneSize};
+ghost use Rattle.emu_model.specs.LaneSizes.{IsLaneSize};
 
 use emu_bits::U;
 

@@ -1,7 +1,7 @@
 //! Comparisons of two lanes.
 ghost use Rattle.std.specs.Prelude.{◌≡◌};
 ghost use Rattle.sve_effects.specs.Lane.{lane_test};
-ghost use Rattle.vec_model.specs.LaneSizes.{IsLaneSize};
+ghost use Rattle.emu_model.specs.LaneSizes.{IsLaneSize};
 
 use emu_bits::sext;
 use sve_effects::LaneTest;

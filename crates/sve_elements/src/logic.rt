@@ -2,7 +2,7 @@
 ghost use Rattle.std.specs.Prelude.{◌≡◌, ◌<◌, ◌^◌};
 ghost use Rattle.sve_effects.specs.declared.lane_functions.LaneOp.{LaneOp};
 ghost use Rattle.sve_effects.specs.Lane.{lane_op};
-ghost use Rattle.vec_model.specs.LaneSizes.{IsLaneSize};
+ghost use Rattle.emu_model.specs.LaneSizes.{IsLaneSize};
 
 use crate::numbers::complement;
 use emu_bits::low_bits;

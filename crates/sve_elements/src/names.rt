@@ -1,7 +1,7 @@
 //! Functions of two lanes, by name.
 ghost use Rattle.std.specs.Prelude.{◌≡◌, ◌<◌, ◌^◌};
 ghost use Rattle.sve_effects.specs.Lane.{lane_op};
-ghost use Rattle.vec_model.specs.LaneSizes.{IsLaneSize};
+ghost use Rattle.emu_model.specs.LaneSizes.{IsLaneSize};
 
 use crate::logic::{and, bic, eor, orr};
 use crate::products::{mul, sdiv, smulh, udiv, umulh};

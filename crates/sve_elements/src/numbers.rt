@@ -4,7 +4,7 @@ ghost use Rattle.std.specs.Int.{int_shr};
 ghost use Rattle.emu_bits.specs.Numbers.{signed, unsigned_int};
 ghost use Rattle.emu_bits.specs.Operations as bits;
 ghost use Rattle.sve_effects.specs.Lane as table;
-ghost use Rattle.vec_model.specs.LaneSizes.{IsLaneSize};
+ghost use Rattle.emu_model.specs.LaneSizes.{IsLaneSize};
 
 use emu_bits::numbers::power;
 use emu_bits::{low_bits, sext};

@@ -3,7 +3,7 @@ ghost use Rattle.std.specs.Prelude.{◌≡◌, ◌<◌, ◌≤◌, ◌^◌, unsi
 ghost use Rattle.sve_effects.specs.declared.lane_functions.LaneOp.{LaneOp};
 ghost use Rattle.sve_effects.specs.Lane as table;
 ghost use Rattle.sve_effects.specs.Lane.{lane_op};
-ghost use Rattle.vec_model.specs.LaneSizes.{IsLaneSize};
+ghost use Rattle.emu_model.specs.LaneSizes.{IsLaneSize};
 ghost use Rattle.emu_bits.specs.Numbers.{quotient};
 
 use crate::numbers::{difference, exact_product, exact_sum, low, scaled_down, unsigned, wrapped};

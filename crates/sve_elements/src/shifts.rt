@@ -4,7 +4,7 @@ ghost use Rattle.std.specs.Int.{int_shr};
 ghost use Rattle.emu_bits.specs.Numbers.{quotient};
 ghost use Rattle.sve_effects.specs.declared.lane_functions.LaneOp.{LaneOp};
 ghost use Rattle.sve_effects.specs.Lane.{lane_op};
-ghost use Rattle.vec_model.specs.LaneSizes.{IsLaneSize};
+ghost use Rattle.emu_model.specs.LaneSizes.{IsLaneSize};
 
 use crate::numbers::{low, narrowed, unsigned, wrapped};
 use emu_bits::{low_bits, sext};

@@ -2,7 +2,7 @@
 ghost use Rattle.std.specs.Prelude.{◌≡◌, ◌<◌, ◌≤◌, ◌^◌};
 ghost use Rattle.emu_bits.specs.Operations as bits;
 ghost use Rattle.sve_effects.specs.Lane as table;
-ghost use Rattle.vec_model.specs.LaneSizes.{IsLaneSize};
+ghost use Rattle.emu_model.specs.LaneSizes.{IsLaneSize};
 
 use crate::numbers::{complement, difference};
 use emu_bits::{low_bits, sext, sign_extended};

@@ -7,7 +7,7 @@ use Rattle.emu_model.specs.Access.{Memory, value}
 use Rattle.emu_model.specs.Elements.{Element}
 use Rattle.emu_model.specs.Lists.{each}
 use Rattle.emu_model.specs.ListLaws.{length-each, get_or-each}
-use Rattle.vec_model.specs.Active.{active}
+use Rattle.emu_model.specs.Active.{active}
 use Rattle.sve_effects.proofs.Found.{first_found}
 use Rattle.sve_effects.specs.Lane.{extended_by}
 use Rattle.sve_effects.specs.FirstFault.{element_at, first_suppressed, is_refused, cleared_from, first_cleared, is_before, loaded_from}

@@ -12,7 +12,7 @@ use Rattle.emu_model.specs.Done.{Done, traps}
 use Rattle.emu_model.specs.Elements.{Element, accesses_of}
 use Rattle.emu_model.specs.Lists.{each}
 use Rattle.emu_model.specs.State.{Core, Vectors}
-use Rattle.vec_model.specs.Lanes.{with_ffr, with_lanes}
+use Rattle.emu_model.specs.Lanes.{with_ffr, with_lanes}
 use Rattle.sve_effects.specs.FirstFault.{element_at, first_suppressed, unsuppressed, first_refused, cleared_from, first_cleared, is_before, loaded_from, loaded_unless}
 use Rattle.sve_effects.specs.FirstFaultParts.{with_first_fault, first_fault_loaded}
 use Rattle.sve_effects.specs.FirstLast.{or_else}

@@ -4,7 +4,7 @@ ghost use Rattle.arrayvec.specs.ArrayVec.{array_vec_len};
 ghost use Rattle.emu_model.specs.declared.trap.Effect.{Effect};
 ghost use Rattle.emu_model.specs.declared.trap.TrapKind.{TrapKind};
 ghost use Rattle.emu_model.specs.State.{Core as CoreState};
-ghost use Rattle.vec_model.specs.LaneSizes.{IsLaneSize};
+ghost use Rattle.emu_model.specs.LaneSizes.{IsLaneSize};
 ghost use Rattle.sve_effects.specs.FirstFault.{first_refused};
 ghost use Rattle.sve_effects.specs.FirstFaultParts.{first_fault_loaded};
 ghost use Rattle.sve_effects.specs.VectorLoadStore.{tests_sp};

@@ -1,6 +1,6 @@
 //! What a row says of its load.
 ghost use Rattle.std.specs.Prelude.{◌≡◌, ◌≤◌, ◌^◌, nat_eq, true, false};
-ghost use Rattle.vec_model.specs.LaneSizes.{IsLaneSize};
+ghost use Rattle.emu_model.specs.LaneSizes.{IsLaneSize};
 ghost use Rattle.sve_effects.specs.VectorElements as table;
 ghost use Rattle.sve_effects.specs.Effects.{is_first_fault};
 ghost use Rattle.sve_ffr.specs.Rows as rows;

@@ -1,7 +1,7 @@
 //! The loop over lanes that loads the elements of a list, but for those that are refused.
 ghost use Rattle.std.specs.Prelude.{◌≡◌, ◌≤◌, ◌<◌, ◌+◌, ℕ, [], Some, true};
 ghost use Rattle.arrayvec.specs.ArrayVec.{array_vec_len};
-ghost use Rattle.vec_model.specs.LaneSizes.{IsLaneSize};
+ghost use Rattle.emu_model.specs.LaneSizes.{IsLaneSize};
 ghost use Rattle.sve_effects.specs.FirstLast.{or_else};
 ghost use Rattle.element_loops.specs.Listed.{listed};
 ghost use Rattle.sve_ffr.specs.Taking.{AreFrom, AreTaken, lanes_of, rest_of, starts_at};

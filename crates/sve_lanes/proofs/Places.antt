@@ -1,7 +1,7 @@
 -- Places of lanes within 128 bits: their halves, the 64-bit lanes that cover them, and a lane by its index.
 use Rattle.std.proofs.Common.{◌≡◌, ◌<◌, ◌≤◌, ◌+◌, ◌-◌, ◌*◌, ◌/◌, ◌%◌, ℕ, zero, suc, true, false, inl, inr, refl, sym, ap, ◌∙◌, arith}
 use Rattle.lane_pack.specs.Bits.{is_set}
-use Rattle.vec_model.specs.LaneSizes.{IsLaneSize}
+use Rattle.emu_model.specs.LaneSizes.{IsLaneSize}
 
 -- ---- the lower half of 16 bits
 

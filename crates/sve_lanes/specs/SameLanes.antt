@@ -4,7 +4,7 @@ use Rattle.emu_model.specs.State.{Vectors}
 use Rattle.lane_kernels.specs.Parts.{SamePart, same_lane}
 use Rattle.sve_effects.specs.LaneLoop.{lane_of}
 use Rattle.sve_effects.specs.VectorData.{indexed_lane}
-use Rattle.vec_model.specs.LaneSizes.{IsLaneSize}
+use Rattle.emu_model.specs.LaneSizes.{IsLaneSize}
 
 same_place : (e i k n : ℕ) → IsLaneSize e → k * e / 128 ≡ i → indexed_lane e (n % (128 / e)) k * e / 128 ≡ i
 same_place e i k n (inl s) at = let p : k * 8 / 128 ≡ i = rw s at at in rw s (omega arith)

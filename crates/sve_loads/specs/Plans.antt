@@ -4,7 +4,7 @@ use Rattle.sve_insn.specs.declared.form.SveForm.{SveForm}
 use Rattle.sve_insn.specs.declared.form.SveForm.TheVariants.{LoadImm, LoadReg, LoadFf, LoadNf, LoadNtImm, LoadNtReg, LoadQuadImm, LoadQuadReg, LoadManyImm, LoadManyReg, LoadOne, LoadZ, LoadP, StoreImm, StoreReg, StoreNtImm, StoreNtReg, StoreManyImm, StoreManyReg, StoreZ, StoreP}
 use Rattle.emu_bits.specs.Numbers.{signed}
 use Rattle.emu_model.specs.State.{Core, Vectors}
-use Rattle.vec_model.specs.LaneSizes.{IsLaneSize}
+use Rattle.emu_model.specs.LaneSizes.{IsLaneSize}
 use Rattle.sve_effects.specs.LaneLoop.{lane_bits, is_active}
 use Rattle.sve_effects.specs.FirstLast.{first_where}
 use Rattle.sve_effects.specs.VectorElements.{dtype_bits, dtype_bytes, dtype_signed, load_registers, store_registers, base_and_count, base_and_register}

@@ -1,6 +1,6 @@
 //! Plans by how a row finds its elements.
 ghost use Rattle.std.specs.Prelude.{◌≡◌, ◌<◌, ◌/◌, None, false};
-ghost use Rattle.vec_model.specs.LaneSizes.{IsLaneSize};
+ghost use Rattle.emu_model.specs.LaneSizes.{IsLaneSize};
 ghost use Rattle.sve_effects.specs.LaneLoop.{is_active};
 ghost use Rattle.sve_effects.specs.FirstLast.{first_where};
 ghost use Rattle.element_loops.specs.Layouts.{IsPlan};

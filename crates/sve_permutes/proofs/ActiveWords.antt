@@ -6,8 +6,8 @@ use Rattle.std.proofs.lemmas.Nat.{shr-shr}
 use Rattle.emu_model.specs.SoundState.{IsVectorLength}
 use Rattle.emu_model.specs.ListLaws.{get_or-each}
 use Rattle.sve_effects.specs.FirstLastLaws.{IsFirst, IsLast, MeetsNowhere}
-use Rattle.vec_model.specs.Active.{active}
-use Rattle.vec_model.specs.LaneSizes.{IsLaneSize}
+use Rattle.emu_model.specs.Active.{active}
+use Rattle.emu_model.specs.LaneSizes.{IsLaneSize}
 use Rattle.vec_regs.specs.Words.{bits_of, bit_of}
 use Rattle.vec_regs.proofs.Parts.{same_part}
 

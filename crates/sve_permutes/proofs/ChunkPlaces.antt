@@ -7,7 +7,7 @@ use Rattle.emu_bits.specs.Fields.{bit}
 use Rattle.emu_model.specs.SoundState.{IsVectorLength}
 use Rattle.sve_effects.specs.declared.places.Place.TheVariants.{FirstLane, SecondLane, Scalar}
 use Rattle.sve_effects.specs.Permute.{taken, in_turn, joined, zip_place, uzp_place, trn_place, insr_place}
-use Rattle.vec_model.specs.LaneSizes.{IsLaneSize}
+use Rattle.emu_model.specs.LaneSizes.{IsLaneSize}
 
 pub bit_small : (b : Bool) → bit b ≤ 1
 bit_small true = omega arith

@@ -9,7 +9,7 @@ use Rattle.sve_effects.specs.Lane.{lane_op}
 use Rattle.sve_effects.specs.LaneLoop.{lane_of, is_active, merging, plain}
 use Rattle.sve_effects.specs.Permute.{taken, copy_place}
 use Rattle.sve_effects.specs.PermuteRows.{moved}
-use Rattle.vec_model.specs.Lanes.{with_z, with_lanes, byte_in}
+use Rattle.emu_model.specs.Lanes.{with_z, with_lanes, byte_in}
 
 pub same_lanes : (e : ℕ) (f h : ℕ → ℕ) (zd : ℕ) (v : Vectors) → ((k : ℕ) → f k ≡ h k) → with_lanes e f zd v ≡ with_lanes e h zd v
 same_lanes e f h zd v is = ap (with_z v zd) (each_same (v.bits / 8) (byte_in (e / 8) f) (byte_in (e / 8) h) 0 (λ j b. ap (λ x. x / 2 ^ (8 * (j % (e / 8))) % 256) (is (j / (e / 8)))))

@@ -16,9 +16,9 @@ use Rattle.sve_effects.specs.PermuteRows.{moved_fields, after_unpack_p, is_high_
 use Rattle.sve_effects.specs.PermuteRows as model
 use Rattle.sve_insn.specs.declared.ops.UnpackPOp.{UnpackPOp}
 use Rattle.sve_permutes.specs.Fields.{bit_of_field}
-use Rattle.vec_model.proofs.FieldBits.{at_start}
-use Rattle.vec_model.specs.Lanes.{read_p, with_p, field_bit}
-use Rattle.vec_model.specs.LaneSizes.{IsLaneSize}
+use Rattle.emu_model.proofs.FieldBits.{at_start}
+use Rattle.emu_model.specs.Lanes.{read_p, with_p, field_bit}
+use Rattle.emu_model.specs.LaneSizes.{IsLaneSize}
 use Rattle.vec_regs.proofs.Views.{zero_bit}
 use Rattle.vec_regs.specs.Words.{bit_of, bits_of, AreClearFrom}
 

@@ -22,11 +22,11 @@ use Rattle.sve_effects.specs.declared.places.Place.{Place}
 use Rattle.sve_effects.specs.declared.places.Place.TheVariants.{FirstLane, SecondLane, Scalar, Zero}
 use Rattle.sve_effects.specs.Lane.{extended_by}
 use Rattle.sve_effects.specs.Permute.{taken, indexed_place}
-use Rattle.vec_model.specs.Lanes.{number, lane}
-use Rattle.vec_model.specs.LaneSizes.{IsLaneSize}
-use Rattle.vec_model.proofs.LaneBytes.{within_bytes}
+use Rattle.emu_model.specs.Lanes.{number, lane}
+use Rattle.emu_model.specs.LaneSizes.{IsLaneSize}
+use Rattle.emu_model.proofs.LaneBytes.{within_bytes}
 use Rattle.vec_regs.specs.Packed.{packed}
-use Rattle.vec_model.specs.Active.{active}
+use Rattle.emu_model.specs.Active.{active}
 use Rattle.vec_regs.specs.Words.{bytes_of, byte_of, bits_of, bit_of, AreZeroFrom}
 use Rattle.vec_regs.proofs.WordLanes.{lane_of_words}
 

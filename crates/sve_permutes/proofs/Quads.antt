@@ -8,7 +8,7 @@ use Rattle.sve_effects.specs.declared.places.Place.TheVariants.{FirstLane, Zero}
 use Rattle.sve_effects.specs.LaneLoop.{lane_of}
 use Rattle.sve_effects.specs.Permute.{taken, indexed_place}
 use Rattle.sve_effects.specs.PermuteRows.{moved}
-use Rattle.vec_model.specs.Lanes.{number, lane, read_z, with_z, byte_in, with_lanes}
+use Rattle.emu_model.specs.Lanes.{number, lane, read_z, with_z, byte_in, with_lanes}
 use Rattle.emu_model.specs.ListLaws.{each_same}
 use Rattle.vec_regs.proofs.Low.{low_is}
 use Rattle.vec_regs.proofs.Parts.{same_part}

@@ -6,7 +6,7 @@ ghost use Rattle.sve_effects.specs.FirstLastLaws.{IsFirstWhere, IsLastWhere};
 ghost use Rattle.sve_effects.specs.Permute as place;
 ghost use Rattle.sve_effects.specs.Permute.{compact_place, splice_place, lane_by_last};
 ghost use Rattle.sve_effects.specs.PermuteRows as model;
-ghost use Rattle.vec_model.specs.LaneSizes.{IsLaneSize};
+ghost use Rattle.emu_model.specs.LaneSizes.{IsLaneSize};
 
 use crate::slices::{compacted_lanes, spliced_lanes};
 use emu_bits::{Pred, Reg};

@@ -6,7 +6,7 @@ ghost use Rattle.sve_effects.specs.Effects as effects;
 ghost use Rattle.sve_effects.specs.LaneLoop as loops;
 ghost use Rattle.sve_effects.specs.LaneLoop.{lane_of};
 ghost use Rattle.sve_permutes.specs.Groups.{is_count_of_lanes};
-ghost use Rattle.vec_model.specs.LaneSizes.{IsLaneSize};
+ghost use Rattle.emu_model.specs.LaneSizes.{IsLaneSize};
 
 use core_regs::Core;
 use emu_bits::{Reg, U, low_bits, sext, sign_extended};

@@ -5,8 +5,8 @@ ghost use Rattle.sve_effects.specs.LaneLoop.{lane_of};
 ghost use Rattle.sve_effects.specs.Permute.{taken, indexed_place};
 ghost use Rattle.sve_effects.specs.PermuteRows as table;
 ghost use Rattle.sve_effects.specs.Effects as effects;
-ghost use Rattle.vec_model.specs.Lanes.{with_lanes};
-ghost use Rattle.vec_model.specs.LaneSizes.{IsLaneSize};
+ghost use Rattle.emu_model.specs.Lanes.{with_lanes};
+ghost use Rattle.emu_model.specs.LaneSizes.{IsLaneSize};
 
 use crate::chunks::Turns;
 use crate::moves::{filled, indexed};

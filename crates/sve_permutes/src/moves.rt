@@ -4,8 +4,8 @@ ghost use Rattle.emu_bits.specs.Fields.{bit};
 ghost use Rattle.sve_effects.specs.LaneLoop.{lane_of, is_active};
 ghost use Rattle.sve_effects.specs.Permute.{taken, indexed_place, copy_place};
 ghost use Rattle.sve_effects.specs.PermuteRows as model;
-ghost use Rattle.vec_model.specs.Lanes.{with_lanes};
-ghost use Rattle.vec_model.specs.LaneSizes.{IsLaneSize};
+ghost use Rattle.emu_model.specs.Lanes.{with_lanes};
+ghost use Rattle.emu_model.specs.LaneSizes.{IsLaneSize};
 
 use emu_bits::{Pred, Reg};
 use lane_kernels::register_words::{merging, plain};

@@ -4,7 +4,7 @@ ghost use Rattle.field_words.specs.Places.{IsField};
 ghost use Rattle.sve_effects.specs.Permute.{taken, interleave_place, zip_place, uzp_place, trn_place, rev_place};
 ghost use Rattle.sve_effects.specs.PermuteRows as model;
 ghost use Rattle.sve_permutes.specs.Fields.{bit_of_field};
-ghost use Rattle.vec_model.specs.LaneSizes.{IsLaneSize};
+ghost use Rattle.emu_model.specs.LaneSizes.{IsLaneSize};
 ghost use Rattle.vec_regs.specs.Words.{bit_of, AreClearFrom};
 
 use crate::moves::begin;

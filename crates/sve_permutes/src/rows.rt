@@ -6,7 +6,7 @@ ghost use Rattle.sve_effects.specs.LaneLoop.{lane_of};
 ghost use Rattle.sve_effects.specs.Permute.{zip_place, uzp_place, trn_place};
 ghost use Rattle.sve_effects.specs.PermuteRows as model;
 ghost use Rattle.sve_effects.specs.Effects as effects;
-ghost use Rattle.vec_model.specs.LaneSizes.{IsLaneSize};
+ghost use Rattle.emu_model.specs.LaneSizes.{IsLaneSize};
 
 use crate::chunks::{Extracted, Inserted, Reversed, Transposed, Unzipped, Zipped};
 use crate::slices::widened_lanes;

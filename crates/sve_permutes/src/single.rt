@@ -5,8 +5,8 @@ ghost use Rattle.sve_effects.specs.LaneLoop.{lane_of};
 ghost use Rattle.sve_effects.specs.Permute as model;
 ghost use Rattle.sve_effects.specs.PermuteRows as table;
 ghost use Rattle.sve_effects.specs.Effects as effects;
-ghost use Rattle.vec_model.specs.Lanes.{with_low};
-ghost use Rattle.vec_model.specs.LaneSizes.{IsLaneSize};
+ghost use Rattle.emu_model.specs.Lanes.{with_low};
+ghost use Rattle.emu_model.specs.LaneSizes.{IsLaneSize};
 
 use crate::active::{lane_by_last, last_active};
 use crate::moves::filled;

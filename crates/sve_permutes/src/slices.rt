@@ -3,8 +3,8 @@ ghost use Rattle.std.specs.Prelude.{◌≡◌, ◌<◌, ◌≤◌, ◌+◌, ◌*
 ghost use Rattle.sve_effects.specs.LaneLoop.{lane_of, is_active};
 ghost use Rattle.sve_effects.specs.Permute.{spliced, compact_place};
 ghost use Rattle.sve_effects.specs.PermuteRows as model;
-ghost use Rattle.vec_model.specs.Lanes.{with_lanes};
-ghost use Rattle.vec_model.specs.LaneSizes.{IsLaneSize};
+ghost use Rattle.emu_model.specs.Lanes.{with_lanes};
+ghost use Rattle.emu_model.specs.LaneSizes.{IsLaneSize};
 
 use emu_bits::{Pred, Reg};
 use lane_pack::{Lane, pack, unpack};

@@ -5,7 +5,7 @@ ghost use Rattle.lane_permute.specs.Slices.{number_at};
 ghost use Rattle.sve_effects.specs.LaneLoop.{lane_of};
 ghost use Rattle.sve_effects.specs.Permute.{taken, indexed_place};
 ghost use Rattle.sve_effects.specs.PermuteRows as model;
-ghost use Rattle.vec_model.specs.LaneSizes.{IsLaneSize};
+ghost use Rattle.emu_model.specs.LaneSizes.{IsLaneSize};
 ghost use Rattle.vec_regs.specs.Packed.{packed};
 ghost use Rattle.vec_regs.specs.Words.{AreZeroFrom};
 

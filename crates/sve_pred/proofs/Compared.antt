@@ -6,9 +6,9 @@ use Rattle.std.proofs.lemmas.Nat.{div-add-mod'}
 use Rattle.emu_model.specs.Lists.{each}
 use Rattle.emu_model.specs.ListLaws.{get_or-each, each_same}
 use Rattle.emu_model.specs.State.{Core, Vectors}
-use Rattle.vec_model.proofs.FieldBits.{between}
-use Rattle.vec_model.specs.Active.{active}
-use Rattle.vec_model.specs.Lanes.{field_bit}
+use Rattle.emu_model.proofs.FieldBits.{between}
+use Rattle.emu_model.specs.Active.{active}
+use Rattle.emu_model.specs.Lanes.{field_bit}
 use Rattle.vec_regs.specs.Words.{bit_of, bits_of, AreClearFrom}
 use Rattle.sve_effects.specs.declared.lane_functions.LaneTest.{LaneTest}
 use Rattle.sve_effects.specs.declared.predicates.LogicOp.TheVariants.{And}

@@ -5,7 +5,7 @@ use Rattle.sve_effects.specs.declared.lane_functions.LaneTest.{LaneTest}
 use Rattle.sve_effects.specs.Lane.{lane_test, extended_by}
 use Rattle.sve_effects.specs.LaneLoop.{lane_of, covering_lane}
 use Rattle.sve_effects.specs.PredicateRows.{is_unsigned}
-use Rattle.vec_model.specs.Lanes.{field_bit}
+use Rattle.emu_model.specs.Lanes.{field_bit}
 use Rattle.vec_regs.specs.Words.{bit_of}
 use Rattle.sve_pred.specs.declared.compares.Operand.{Operand}
 use Rattle.sve_pred.specs.declared.compares.Operand.TheVariants.{Lane, Covering, Number}

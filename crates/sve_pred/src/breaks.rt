@@ -6,7 +6,7 @@ ghost use Rattle.sve_effects.specs.PredicateRows.{predicate_bits, logic_of, brea
 ghost use Rattle.sve_effects.specs.Effects.{predicate};
 ghost use Rattle.sve_insn.specs.declared.form.SveForm.TheVariants as form;
 ghost use Rattle.sve_pred.specs.Groups.{is_by_bits};
-ghost use Rattle.vec_model.specs.Lanes.{read_p, with_p};
+ghost use Rattle.emu_model.specs.Lanes.{read_p, with_p};
 
 use crate::registers::{put, read, test_all_bits, write};
 use core_regs::Core;

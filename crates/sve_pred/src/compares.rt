@@ -11,7 +11,7 @@ ghost use Rattle.sve_insn.specs.declared.form.SveForm.TheVariants as form;
 ghost use Rattle.sve_pred.specs.Compares as model;
 ghost use Rattle.sve_pred.specs.declared.compares.Operand.TheVariants as second;
 ghost use Rattle.sve_pred.specs.Groups.{is_compare};
-ghost use Rattle.vec_model.specs.LaneSizes.{IsLaneSize};
+ghost use Rattle.emu_model.specs.LaneSizes.{IsLaneSize};
 
 use crate::registers::{bits, esize, read, set_test_lanes, write};
 use core_regs::Core;

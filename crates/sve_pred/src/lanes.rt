@@ -21,8 +21,8 @@ ghost use Rattle.sve_effects.specs.Predicate.{only_next, lanes_below, pred_test}
 ghost use Rattle.sve_insn.specs.declared.form.SveForm.TheVariants as form;
 ghost use Rattle.sve_pred.specs.Groups.{is_by_lanes};
 ghost use Rattle.sve_pred.specs.Patterns as model;
-ghost use Rattle.vec_model.specs.Lanes.{read_p, with_p, with_lanes};
-ghost use Rattle.vec_model.specs.LaneSizes.{IsLaneSize};
+ghost use Rattle.emu_model.specs.Lanes.{read_p, with_p, with_lanes};
+ghost use Rattle.emu_model.specs.LaneSizes.{IsLaneSize};
 
 use crate::registers::{bits, esize, read, set_test_lanes, write};
 use core_regs::Core;

@@ -3,7 +3,7 @@ ghost use Rattle.std.specs.Prelude.{◌≡◌, ◌≤◌, true, length};
 ghost use Rattle.emu_bits.specs.Flags.{size_of};
 ghost use Rattle.sve_effects.specs.LaneLoop.{lane_bits};
 ghost use Rattle.sve_effects.specs.PredicateRows.{predicate_bits, after_test, put, ones};
-ghost use Rattle.vec_model.specs.Lanes.{read_p, with_p, with_ffr};
+ghost use Rattle.emu_model.specs.Lanes.{read_p, with_p, with_ffr};
 
 use core_regs::Core;
 use emu_bits::{Esize, Pred, U};

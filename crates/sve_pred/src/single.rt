@@ -6,7 +6,7 @@ ghost use Rattle.sve_effects.specs.PredicateRows.{predicate_bits, after_test, re
 ghost use Rattle.sve_effects.specs.Effects.{predicate};
 ghost use Rattle.sve_insn.specs.declared.form.SveForm.TheVariants as form;
 ghost use Rattle.sve_pred.specs.Groups.{is_single};
-ghost use Rattle.vec_model.specs.Lanes.{read_p, with_p, with_ffr};
+ghost use Rattle.emu_model.specs.Lanes.{read_p, with_p, with_ffr};
 
 use crate::registers::{bits, put, read, read_ffr, set_test, write, write_ffr};
 use core_regs::Core;

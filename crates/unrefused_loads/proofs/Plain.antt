@@ -9,8 +9,8 @@ use Rattle.emu_model.specs.Elements.{Element, accesses_of}
 use Rattle.emu_model.specs.SoundState.{IsVectorLength}
 use Rattle.emu_model.specs.ListLaws.{each_same}
 use Rattle.emu_model.specs.State.{Core, Vectors}
-use Rattle.vec_model.specs.Lanes.{byte_in, with_z, with_lanes}
-use Rattle.vec_model.specs.LaneSizes.{IsLaneSize}
+use Rattle.emu_model.specs.Lanes.{byte_in, with_z, with_lanes}
+use Rattle.emu_model.specs.LaneSizes.{IsLaneSize}
 use Rattle.vec_regs.proofs.PackedLanes.{below_quotient}
 use Rattle.sve_effects.specs.Lane.{extended_by}
 use Rattle.sve_effects.specs.FirstFaultParts.{first_fault_lane, with_first_fault, first_fault_loaded}

@@ -4,9 +4,9 @@ use Rattle.std.proofs.Math.Nat.{mul-le-mul_right}
 use Rattle.std.proofs.lemmas.Bool.{cases_eq, cases_lt}
 use Rattle.emu_model.specs.Lists.{each}
 use Rattle.emu_model.specs.ListLaws.{get_or-each, each_same}
-use Rattle.vec_model.proofs.FieldBits.{at_start, inside}
-use Rattle.vec_model.specs.Lanes.{field_bit}
-use Rattle.vec_model.specs.LaneSizes.{IsLaneSize}
+use Rattle.emu_model.proofs.FieldBits.{at_start, inside}
+use Rattle.emu_model.specs.Lanes.{field_bit}
+use Rattle.emu_model.specs.LaneSizes.{IsLaneSize}
 use Rattle.vec_regs.specs.Packed.{put}
 use Rattle.vec_regs.specs.Words.{bit_of, bits_of}
 use Rattle.emu_model.specs.SoundState.{IsVectorLength}

@@ -10,8 +10,8 @@ use Rattle.std.proofs.lemmas.Nat.{shr-shr}
 use Rattle.emu_model.specs.Lists.{each}
 use Rattle.emu_model.specs.ListLaws.{length-each, get_or-each, each_same}
 use Rattle.emu_model.specs.State.{Vectors}
-use Rattle.vec_model.specs.AfterCall.{low_bytes, cleared}
-use Rattle.vec_model.specs.Lanes.{lane, with_z, with_low}
+use Rattle.emu_model.specs.AfterCall.{low_bytes, cleared}
+use Rattle.emu_model.specs.Lanes.{lane, with_z, with_low}
 use Rattle.vec_regs.specs.Packed.{number_words, low_words}
 use Rattle.vec_regs.specs.Shown.{shown}
 use Rattle.vec_regs.specs.Words.{byte_of, bytes_of, bits_of, AreZeroFrom}

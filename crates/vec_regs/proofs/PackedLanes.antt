@@ -6,8 +6,8 @@ use Rattle.std.proofs.lemmas.List.{get_or-take, get_or-drop, get_or-set_same, ge
 use Rattle.std.proofs.lemmas.Nat.{pow_pos, pow-add, shr-shr, div-mul-add, mod-mul-add, mul-add-lt, div-add-mod'}
 use Rattle.emu_model.specs.Lists.{each}
 use Rattle.emu_model.specs.ListLaws.{get_or-each, each_same}
-use Rattle.vec_model.specs.Lanes.{byte_in, with_z, with_lanes}
-use Rattle.vec_model.specs.LaneSizes.{IsLaneSize}
+use Rattle.emu_model.specs.Lanes.{byte_in, with_z, with_lanes}
+use Rattle.emu_model.specs.LaneSizes.{IsLaneSize}
 use Rattle.vec_regs.specs.Packed.{packed, word_of}
 use Rattle.vec_regs.specs.Words.{byte_of, bytes_of}
 use Rattle.emu_model.specs.State.{Vectors}

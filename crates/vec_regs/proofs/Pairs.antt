@@ -6,7 +6,7 @@ use Rattle.std.proofs.lemmas.List.{get_or-set_same, get_or-set_other, length-set
 use Rattle.emu_model.specs.Lists.{each}
 use Rattle.emu_model.specs.ListLaws.{get_or-each, each_same}
 use Rattle.emu_model.specs.State.{Vectors}
-use Rattle.vec_model.specs.Lanes.{read_z, with_z}
+use Rattle.emu_model.specs.Lanes.{read_z, with_z}
 use Rattle.vec_regs.specs.Words.{byte_of, bytes_of, byte_with_pair}
 use Rattle.vec_regs.specs.Shown.{shown}
 use Rattle.vec_regs.specs.declared.VecRegs.TheInside.{Inside}

@@ -4,7 +4,7 @@ use Rattle.std.proofs.lemmas.List.Elements.{All-get_or}
 use Rattle.std.specs.List.{All}
 use mir.Val.{bool_byte}
 use Rattle.emu_model.specs.State.{Vectors}
-use Rattle.vec_model.specs.Lanes.{read_z, read_p, with_z, with_p, with_ffr}
+use Rattle.emu_model.specs.Lanes.{read_z, read_p, with_z, with_p, with_ffr}
 use Rattle.vec_regs.specs.Packed.{put}
 use Rattle.vec_regs.specs.Words.{bytes_of, bits_of, bit_of, AreClearFrom}
 use Rattle.vec_regs.specs.Shown.{shown}

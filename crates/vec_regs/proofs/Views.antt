@@ -4,7 +4,7 @@ use Rattle.std.proofs.lemmas.List.{map-set, get_or-map, length-replicate, get_or
 use Rattle.std.proofs.lemmas.List.FromFn.{fill_by_all}
 use Rattle.emu_model.specs.State.{Vectors, zero_vectors}
 use Rattle.emu_model.specs.ListLaws.{get_or-each}
-use Rattle.vec_model.specs.Lanes.{read_z, read_p, with_z, with_p, with_ffr}
+use Rattle.emu_model.specs.Lanes.{read_z, read_p, with_z, with_p, with_ffr}
 use Rattle.vec_regs.specs.Words.{bytes_of, bits_of, byte_of, bit_of}
 use Rattle.vec_regs.specs.Shown.{shown}
 use Rattle.vec_regs.specs.declared.VecRegs.TheInside.{Inside}

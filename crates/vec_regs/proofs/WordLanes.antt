@@ -1,9 +1,9 @@
 -- Lanes read from words.
 use Rattle.std.proofs.Common.{◌≡◌, ◌<◌, ◌≤◌, ℕ, List, [], length, get_or, ◌+◌, ◌*◌, ◌/◌, ◌%◌, ◌^◌, ap, ◌∙◌}
 use Rattle.emu_model.specs.State.{Vectors}
-use Rattle.vec_model.specs.Lanes.{lane, read_z}
-use Rattle.vec_model.specs.LaneSizes.{IsLaneSize}
-use Rattle.vec_model.proofs.LaneBytes.{field_is, in_word, whole_bytes, within_bytes}
+use Rattle.emu_model.specs.Lanes.{lane, read_z}
+use Rattle.emu_model.specs.LaneSizes.{IsLaneSize}
+use Rattle.emu_model.proofs.LaneBytes.{field_is, in_word, whole_bytes, within_bytes}
 use Rattle.vec_regs.specs.Shown.{shown}
 use Rattle.vec_regs.specs.Words.{bytes_of}
 use Rattle.vec_regs.specs.declared.VecRegs.TheInside.{Inside}

@@ -1,6 +1,6 @@
 -- Numbers packed into words of 64 bits.
 use Rattle.std.specs.Prelude.{◌≡◌, ◌⊎◌, ℕ, ◌+◌, ◌*◌, ◌/◌, ◌%◌, ◌^◌, List, [], ◌∷◌, get_or, take, drop, replicate}
-use Rattle.vec_model.specs.LaneSizes.{IsLaneSize}
+use Rattle.emu_model.specs.LaneSizes.{IsLaneSize}
 
 -- lanes of e bits packed into one number, the first the lowest
 abbrev pub packed : ℕ → List ℕ → ℕ

@@ -1,7 +1,7 @@
 -- The bytes and the bits of words of 64 bits.
 use Rattle.std.specs.Prelude.{◌≡◌, ◌≤◌, ℕ, ◌/◌, ◌%◌, ◌^◌, Bool, false, nat_eq, if◌then◌else◌, List, get_or}
 use Rattle.emu_model.specs.Lists.{each}
-use Rattle.vec_model.specs.Lanes.{byte_in}
+use Rattle.emu_model.specs.Lanes.{byte_in}
 
 -- byte j of numbers of w bytes
 abbrev pub byte_of : ℕ → List ℕ → ℕ → ℕ

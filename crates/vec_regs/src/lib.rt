@@ -15,13 +15,13 @@ ghost use Rattle.std.specs.Prelude.{◌≡◌, ℕ, Bool, ◌<◌, ◌≤◌, �
 ghost use Rattle.emu_model.specs.SoundState.{IsVectorLength};
 ghost use Rattle.emu_model.specs.Lists.{each};
 ghost use Rattle.emu_model.specs.State.{zero_vectors};
-ghost use Rattle.vec_model.specs.Active.{active};
-ghost use Rattle.vec_model.specs.Writes as model_call;
-ghost use Rattle.vec_model.specs.AfterCall.{cleared};
-ghost use Rattle.vec_model.specs.Lanes as model;
-ghost use Rattle.vec_model.specs.Lanes.{read_z, read_p, with_z, with_p, with_ffr, with_lanes, with_fields, with_low};
-ghost use Rattle.vec_model.specs.Writes.{with_ffr_fields};
-ghost use Rattle.vec_model.specs.LaneSizes.{IsLaneSize};
+ghost use Rattle.emu_model.specs.Active.{active};
+ghost use Rattle.emu_model.specs.Writes as model_call;
+ghost use Rattle.emu_model.specs.AfterCall.{cleared};
+ghost use Rattle.emu_model.specs.Lanes as model;
+ghost use Rattle.emu_model.specs.Lanes.{read_z, read_p, with_z, with_p, with_ffr, with_lanes, with_fields, with_low};
+ghost use Rattle.emu_model.specs.Writes.{with_ffr_fields};
+ghost use Rattle.emu_model.specs.LaneSizes.{IsLaneSize};
 ghost use Rattle.vec_regs.specs.Packed.{IsLowSize};
 ghost use Rattle.vec_regs.specs.Words.{byte_with_pair, bytes_of, bits_of, AreZeroFrom, AreClearFrom};
 

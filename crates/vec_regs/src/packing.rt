@@ -1,7 +1,7 @@
 //! Lanes packed into words.
 ghost use Rattle.std.specs.Prelude.{◌≡◌, ℕ, ◌<◌, ◌≤◌, ◌*◌, ◌/◌, length, get_or, false};
-ghost use Rattle.vec_model.specs.Lanes.{field_bit};
-ghost use Rattle.vec_model.specs.LaneSizes.{IsLaneSize};
+ghost use Rattle.emu_model.specs.Lanes.{field_bit};
+ghost use Rattle.emu_model.specs.LaneSizes.{IsLaneSize};
 ghost use Rattle.vec_regs.specs.Packed as model;
 ghost use Rattle.vec_regs.specs.Packed.{packed};
 ghost use Rattle.vec_regs.specs.Words.{bit_of, AreClearFrom, AreZeroFrom};

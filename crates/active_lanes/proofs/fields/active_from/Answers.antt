@@ -1,5 +1,5 @@
 use Rattle.std.proofs.Common.{◌≡◌, ◌<◌, ◌≤◌, ◌+◌, ◌-◌, ◌*◌, ◌/◌, ◌%◌, ◌^◌, ℕ, nat_eq, get_or, sym, ap, subst, ◌∙◌, arith}
-use Rattle.vec_model.specs.Lanes.{read_p}
+use Rattle.emu_model.specs.Lanes.{read_p}
 use Rattle.active_lanes.proofs.LaneBits.{among_bytes, behind_lanes, ends_before, ends_in, first_is_set, lane_place, lane_seen, neither_set, same_before_end, same_word, seen_from, seen_only}
 use Rattle.active_lanes.specs.Seen.{seen_end}
 use Rattle.active_lanes.proofs.fields.active_from.Goals as goal

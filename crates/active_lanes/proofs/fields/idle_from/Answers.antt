@@ -1,6 +1,6 @@
 use Rattle.std.proofs.Common.{◌≡◌, ◌<◌, ◌≤◌, ◌+◌, ◌-◌, ◌*◌, ◌/◌, ◌%◌, ◌^◌, ℕ, nat_eq, get_or, inl, inr, sym, ap, subst, ◌∙◌, arith, true}
 use Rattle.std.proofs.lemmas.Bool.{both_ways, cases_lt}
-use Rattle.vec_model.specs.Lanes.{read_p}
+use Rattle.emu_model.specs.Lanes.{read_p}
 use Rattle.sve_effects.specs.LaneLoop.{is_active}
 use Rattle.active_lanes.proofs.LaneBits.{among_bytes, begins_in, behind_lanes, ends_before, ends_in, first_is_clear, lane_place, lane_seen, same_before_end, same_word, seen_from, seen_only, set_alone}
 use Rattle.active_lanes.specs.Seen.{seen_end}

@@ -1,7 +1,7 @@
 use Rattle.std.proofs.Common.{◌≡◌, ◌≤◌, ◌+◌, ◌*◌, ◌/◌, ℕ, Bool, [], ◌∷◌, get_or, if◌then◌else◌, refl, ap, ◌∙◌, arith}
 use Rattle.emu_model.specs.Lists.{each}
 use Rattle.emu_model.specs.State.{Vectors}
-use Rattle.vec_model.specs.Lanes.{read_z, with_z}
+use Rattle.emu_model.specs.Lanes.{read_z, with_z}
 use Rattle.vec_regs.specs.Words.{byte_with_pair}
 use Rattle.active_lanes.specs.Kept.{is_kept}
 use Rattle.active_lanes.proofs.Kept.{same_kept}

@@ -1,7 +1,7 @@
 use Rattle.std.proofs.Common.{◌≤◌, ◌+◌, ◌*◌, ◌/◌, ℕ, List, [], ◌∷◌, get_or, refl, ap, ◌∙◌, arith}
 use Rattle.emu_model.specs.Lists.{each}
 use Rattle.emu_model.specs.State.{Vectors}
-use Rattle.vec_model.specs.Lanes.{read_z, with_z}
+use Rattle.emu_model.specs.Lanes.{read_z, with_z}
 use Rattle.vec_regs.specs.Words.{byte_of, byte_with_pair}
 use Rattle.active_lanes.proofs.InParts.{no_parts, one_part_more, all_parts, pair_bytes, word_bytes}
 use Rattle.active_lanes.proofs.parts.set_words.Goals as goal

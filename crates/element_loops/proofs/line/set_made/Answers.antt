@@ -1,5 +1,5 @@
 use Rattle.std.proofs.Common.{◌≡◌, ◌<◌, ◌*◌, ◌/◌, List, ℕ, ap, subst, ◌∙◌, arith}
-use Rattle.vec_model.specs.Lanes.{with_z}
+use Rattle.emu_model.specs.Lanes.{with_z}
 use Rattle.active_lanes.proofs.Kept.{all_words}
 use Rattle.element_loops.proofs.Lines.{lanes_written}
 use Rattle.element_loops.proofs.line.set_made.Goals as goal

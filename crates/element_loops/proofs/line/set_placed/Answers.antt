@@ -1,5 +1,5 @@
 use Rattle.std.proofs.Common.{◌≤◌, ◌+◌, ◌*◌, List, ℕ, length, ap, subst, ◌∙◌}
-use Rattle.vec_model.specs.Lanes.{with_z}
+use Rattle.emu_model.specs.Lanes.{with_z}
 use Rattle.element_loops.proofs.Lines.{copy_room, lanes_copied}
 use Rattle.element_loops.proofs.line.set_placed.Goals as goal
 

@@ -1,7 +1,7 @@
 use Rattle.std.proofs.Common.{◌≡◌, ◌<◌, ◌+◌, ◌*◌, refl, if◌then◌else◌, ap, sym, subst, ◌∙◌, arith}
 use Rattle.emu_model.specs.WithinPage.{number_in}
 use Rattle.sve_effects.specs.Lane.{extended_by}
-use Rattle.vec_model.specs.Lanes.{with_lanes}
+use Rattle.emu_model.specs.Lanes.{with_lanes}
 use Rattle.active_lanes.specs.Kept.{is_kept}
 use Rattle.element_loops.proofs.Lines.{element_fits, element_placed}
 use Rattle.element_loops.proofs.line.set_register.Goals as goal

@@ -1,6 +1,6 @@
 use Rattle.std.proofs.Common.{◌≡◌, ◌≤◌, ◌+◌, ◌*◌, ℕ, sym, ap, subst, ◌∙◌, arith}
 use Rattle.emu_model.specs.Elements.{Element}
-use Rattle.vec_model.specs.Lanes.{lane, read_z}
+use Rattle.emu_model.specs.Lanes.{lane, read_z}
 use Rattle.element_loops.specs.declared.plan.Target.{Target}
 use Rattle.element_loops.specs.Layouts.{layout_of}
 use Rattle.element_loops.specs.Planned.{stored_by}

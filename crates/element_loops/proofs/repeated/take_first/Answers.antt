@@ -3,7 +3,7 @@ use Rattle.emu_model.specs.declared.access.Kind.TheVariants.{Read}
 use Rattle.emu_model.specs.Access.{refused}
 use Rattle.emu_model.specs.Pages.{bytes_at}
 use Rattle.guest_mem.specs.Slices.{to_page_end}
-use Rattle.vec_model.specs.Lanes.{with_z}
+use Rattle.emu_model.specs.Lanes.{with_z}
 use Rattle.vec_regs.proofs.Views.{zero_word}
 use Rattle.sve_effects.specs.VectorLoadStore.{loaded_lane}
 use Rattle.element_words.specs.Placed.{lane_at}

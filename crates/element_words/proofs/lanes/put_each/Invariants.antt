@@ -1,5 +1,5 @@
 use Rattle.std.proofs.Common.{◌≡◌, ◌<◌, ◌≤◌, ◌*◌, ◌/◌, ℕ, get_or}
-use Rattle.vec_model.specs.Lanes.{byte_in}
+use Rattle.emu_model.specs.Lanes.{byte_in}
 use Rattle.vec_regs.specs.Words.{byte_of}
 use Rattle.element_words.specs.Placed.{lane_at}
 use Rattle.element_words.proofs.lanes.put_each.Given as goal

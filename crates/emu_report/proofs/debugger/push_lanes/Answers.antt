@@ -1,6 +1,6 @@
 use Rattle.std.proofs.Common.{◌≡◌, ◌≤◌, ◌<◌, ◌/◌, ℕ, ◌++◌, ap, subst, ◌∙◌, arith}
 use Rattle.emu_bits.specs.Flags.{size_of}
-use Rattle.vec_model.specs.Lanes.{lane, read_z}
+use Rattle.emu_model.specs.Lanes.{lane, read_z}
 use Rattle.emu_run.specs.Text.{hex, space}
 use Rattle.dbg_model.specs.Session.{lane_text}
 use Rattle.emu_report.proofs.Lanes.{lane_within, lanes_within, lane_short}

@@ -1,6 +1,6 @@
 use Rattle.std.proofs.Common.{◌≡◌, ◌≤◌, ◌+◌, ◌*◌, ◌++◌, length}
 use Rattle.emu_bits.specs.Flags.{size_of}
-use Rattle.vec_model.specs.Lanes.{read_z}
+use Rattle.emu_model.specs.Lanes.{read_z}
 use Rattle.emu_run.specs.Registers.{lines_of}
 use Rattle.dbg_model.specs.Session.{lane_text}
 use Rattle.emu_report.proofs.debugger.push_lanes.Given as goal

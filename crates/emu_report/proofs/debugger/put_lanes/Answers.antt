@@ -1,6 +1,6 @@
 use Rattle.std.proofs.Common.{ℕ, List, ◌++◌, ◌/◌, codes, ap, ◌∙◌}
 use Rattle.emu_bits.specs.Flags.{size_of}
-use Rattle.vec_model.specs.Lanes.{read_z}
+use Rattle.emu_model.specs.Lanes.{read_z}
 use Rattle.emu_run.specs.Text.{newline}
 use Rattle.emu_run.specs.Registers.{lines_of, numbered}
 use Rattle.dbg_model.specs.Session.{lane_text, size_letter}

@@ -2,7 +2,7 @@ use Rattle.std.proofs.Common.{◌≡◌, ◌+◌, ◌*◌, ◌++◌, ◌∷◌, 
 use Rattle.emu_model.specs.declared.access.Kind.TheVariants.{Write}
 use Rattle.emu_model.specs.Access.{refused, stored}
 use Rattle.emu_model.specs.Elements.{Element}
-use Rattle.vec_model.specs.Lanes.{lane, read_z}
+use Rattle.emu_model.specs.Lanes.{lane, read_z}
 use Rattle.sve_effects.specs.VectorElements.{Layout}
 use Rattle.element_loops.specs.Layouts.{layout_of}
 use Rattle.element_loops.specs.Planned.{stored_by}

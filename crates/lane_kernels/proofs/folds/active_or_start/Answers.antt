@@ -1,6 +1,6 @@
 use Rattle.std.proofs.Common.{◌∙◌, ◌<◌, ◌+◌, ◌*◌, ◌/◌, ◌%◌, ◌^◌, ap}
 use Rattle.std.proofs.Math.Nat.{mod-eq_of_lt}
-use Rattle.vec_model.specs.Lanes.{read_z}
+use Rattle.emu_model.specs.Lanes.{read_z}
 use Rattle.lane_kernels.proofs.PairLanes.{lane_read_small, inside_register}
 use Rattle.lane_kernels.proofs.Reductions.{picked_as}
 use Rattle.lane_kernels.proofs.folds.active_or_start.Goals as goal

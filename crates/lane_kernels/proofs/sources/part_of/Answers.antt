@@ -1,5 +1,5 @@
 use Rattle.std.proofs.Common.{◌∙◌, ◌+◌, ◌*◌, List, Bool, sym, ap}
-use Rattle.vec_model.specs.Active.{active}
+use Rattle.emu_model.specs.Active.{active}
 use Rattle.lane_kernels.proofs.PairLanes.{active_by_part}
 use Rattle.lane_kernels.proofs.sources.part_of.Goals as goal
 

@@ -1,6 +1,6 @@
 use Rattle.std.proofs.Common.{◌≡◌, ◌<◌, ◌≤◌, ◌+◌, ◌*◌, ◌/◌, ◌^◌, ℕ, length, get_or}
 use Rattle.lane_pack.specs.Bits.{is_set}
-use Rattle.vec_model.specs.Lanes.{field_bit}
+use Rattle.emu_model.specs.Lanes.{field_bit}
 use Rattle.lane_kernels.proofs.told.words_told.Given as goal
 
 abbrev pub invariant-loop-i : goal.invariant-loop-i

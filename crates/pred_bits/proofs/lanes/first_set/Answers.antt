@@ -1,6 +1,6 @@
 use Rattle.std.proofs.Common.{◌≤◌, ◌*◌, ◌/◌, ◌&&◌, ℕ, Bool, length, sym, subst, arith}
 use Rattle.emu_bits.specs.Flags.{size_of}
-use Rattle.vec_model.specs.Active.{active}
+use Rattle.emu_model.specs.Active.{active}
 use Rattle.vec_regs.specs.Words.{bit_of}
 use Rattle.sve_effects.proofs.Found.{first_found, first_is}
 use Rattle.sve_effects.specs.FirstLastLaws.{IsFirstWhere}

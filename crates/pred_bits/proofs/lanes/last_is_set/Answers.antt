@@ -1,6 +1,6 @@
 use Rattle.std.proofs.Common.{◌≤◌, ◌*◌, ◌/◌, length, ◌∙◌, arith}
 use Rattle.emu_bits.specs.Flags.{size_of}
-use Rattle.vec_model.specs.Active.{active}
+use Rattle.emu_model.specs.Active.{active}
 use Rattle.vec_regs.specs.Words.{bit_of}
 use Rattle.sve_effects.specs.Predicate.{lanes_of}
 use Rattle.pred_bits.proofs.Fields.{some_bits, lanes_room}

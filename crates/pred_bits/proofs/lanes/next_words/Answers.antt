@@ -2,8 +2,8 @@ use Rattle.std.proofs.Common.{◌≡◌, ◌≤◌, ◌*◌, ◌/◌, ◌&&◌, 
 use Rattle.std.proofs.lemmas.Nat.{div-add-mod'}
 use Rattle.emu_bits.specs.Flags.{size_of}
 use Rattle.emu_model.specs.ListLaws.{each_same}
-use Rattle.vec_model.specs.Active.{active}
-use Rattle.vec_model.specs.Lanes.{field_bit}
+use Rattle.emu_model.specs.Active.{active}
+use Rattle.emu_model.specs.Lanes.{field_bit}
 use Rattle.vec_regs.specs.Words.{bit_of, bits_of}
 use Rattle.sve_effects.specs.Predicate.{lanes_of, is_at, is_behind, next_lane, only_next}
 use Rattle.sve_effects.specs.FirstLast.{last_where}

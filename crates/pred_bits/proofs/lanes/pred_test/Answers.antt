@@ -1,7 +1,7 @@
 use Rattle.std.proofs.Common.{◌≡◌, ◌<◌, ◌≤◌, ◌*◌, ◌/◌, ◌%◌, ◌&&◌, ℕ, Bool, nat_eq, length, sym, ap, ◌∙◌, arith}
 use Rattle.emu_bits.specs.Flags.{size_of}
-use Rattle.vec_model.specs.Active.{active}
-use Rattle.vec_model.specs.Lanes.{field_bit}
+use Rattle.emu_model.specs.Active.{active}
+use Rattle.emu_model.specs.Lanes.{field_bit}
 use Rattle.vec_regs.specs.Words.{bit_of}
 use Rattle.sve_effects.specs.Predicate.{lanes_of}
 use Rattle.pred_bits.specs.LaneBits.{among}

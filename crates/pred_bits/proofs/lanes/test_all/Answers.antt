@@ -1,6 +1,6 @@
 use Rattle.std.proofs.Common.{◌-◌, not, is_none, Option, ℕ, length, ap, ◌∙◌}
 use Rattle.emu_bits.specs.Flags.{size_of}
-use Rattle.vec_model.specs.Active.{active}
+use Rattle.emu_model.specs.Active.{active}
 use Rattle.pred_bits.proofs.AllActive.{all_tested, none_is}
 use Rattle.pred_bits.proofs.lanes.test_all.Goals as goal
 

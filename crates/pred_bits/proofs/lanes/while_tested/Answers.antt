@@ -1,7 +1,7 @@
 use Rattle.std.proofs.Common.{◌<◌, ◌≤◌, ◌+◌, ◌/◌, suc, true, nat_lt, sym, ap, subst, ◌∙◌}
 use Rattle.emu_bits.specs.Flags.{size_of}
 use Rattle.emu_model.specs.Lists.{each}
-use Rattle.vec_model.specs.Active.{active}
+use Rattle.emu_model.specs.Active.{active}
 use Rattle.sve_effects.specs.FirstLast.{all_below}
 use Rattle.sve_effects.specs.Predicate.{lanes_of, test_flags, while_holds, while_lanes}
 use Rattle.pred_bits.proofs.AllActive.{flags_same, field_active, one_active}

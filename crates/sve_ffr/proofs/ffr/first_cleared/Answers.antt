@@ -1,5 +1,5 @@
 use Rattle.std.proofs.Common.{◌<◌, ◌/◌, Bool, not, sym, ap, subst, ◌∙◌}
-use Rattle.vec_model.specs.Active.{active}
+use Rattle.emu_model.specs.Active.{active}
 use Rattle.element_loops.proofs.Writes.{found_here}
 use Rattle.sve_ffr.proofs.ffr.first_cleared.Goals as goal
 

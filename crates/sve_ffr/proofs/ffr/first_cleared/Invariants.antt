@@ -1,5 +1,5 @@
 use Rattle.std.proofs.Common.{◌≡◌, None, not}
-use Rattle.vec_model.specs.Active.{active}
+use Rattle.emu_model.specs.Active.{active}
 use Rattle.sve_effects.specs.FirstLast.{first_where}
 use Rattle.sve_ffr.proofs.ffr.first_cleared.Given as goal
 

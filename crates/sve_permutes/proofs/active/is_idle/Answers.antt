@@ -1,6 +1,6 @@
 use Rattle.std.proofs.Common.{◌∙◌, ◌+◌, ◌*◌, ◌/◌, List, Bool, ap}
 use Rattle.std.proofs.lemmas.Bool.{eqb-true}
-use Rattle.vec_model.specs.Active.{active}
+use Rattle.emu_model.specs.Active.{active}
 use Rattle.sve_permutes.proofs.ActiveWords.{idle_word}
 use Rattle.sve_permutes.proofs.active.is_idle.Goals as goal
 

@@ -2,7 +2,7 @@ use Rattle.std.proofs.Common.{◌≡◌, ◌<◌, ◌≤◌, ◌/◌, ◌∙◌,
 use Rattle.std.proofs.lemmas.Bool.{cases_lt}
 use Rattle.std.proofs.lemmas.List.{length-replicate, length-set}
 use Rattle.sve_effects.specs.LaneLoop.{is_active}
-use Rattle.vec_model.specs.Lanes.{read_p}
+use Rattle.emu_model.specs.Lanes.{read_p}
 use Rattle.sve_permutes.proofs.LaneArrays.{active_behind, flag_set, flags_still, lanes_few, no_flags}
 use Rattle.sve_permutes.proofs.slices.flags_in.Goals as goal
 

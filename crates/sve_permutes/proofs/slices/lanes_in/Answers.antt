@@ -1,7 +1,7 @@
 use Rattle.std.proofs.Common.{◌<◌, ◌≤◌, ◌/◌, ◌%◌, ◌^◌, ◌∙◌, map, length, inl, inr, sym, ap, subst, arith}
 use Rattle.std.proofs.lemmas.Bool.{cases_lt}
 use Rattle.std.proofs.lemmas.List.{length-map, get_or_past}
-use Rattle.vec_model.specs.Lanes.{read_z}
+use Rattle.emu_model.specs.Lanes.{read_z}
 use Rattle.sve_permutes.proofs.LaneArrays.{lane_in_is, lane_behind, lane_small, lanes_few, none_mod}
 use Rattle.sve_permutes.proofs.slices.lanes_in.Goals as goal
 

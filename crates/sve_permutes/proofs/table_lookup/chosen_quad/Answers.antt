@@ -2,7 +2,7 @@ use Rattle.std.proofs.Common.{◌∙◌, ◌<◌, ◌+◌, ◌*◌, ℕ, length,
 use Rattle.lane_kernels.proofs.PairLanes.{lane_read_small, inside_register}
 use Rattle.lane_permute.specs.Slices.{number_at}
 use Rattle.sve_effects.specs.Permute.{taken, indexed_place}
-use Rattle.vec_model.specs.Lanes.{read_z}
+use Rattle.emu_model.specs.Lanes.{read_z}
 use Rattle.sve_permutes.proofs.table_lookup.chosen_quad.Goals as goal
 
 pub returns : goal.returns

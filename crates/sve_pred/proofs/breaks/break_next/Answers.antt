@@ -1,7 +1,7 @@
 use Rattle.std.proofs.Common.{◌≡◌, ◌∙◌, ℕ, Bool, List, length, ap, ap₂, sym, arith}
 use Rattle.sve_effects.specs.Predicate.{broken_next}
 use Rattle.sve_effects.specs.PredicateRows.{predicate_bits, ones, after_test}
-use Rattle.vec_model.specs.Lanes.{read_p, with_p}
+use Rattle.emu_model.specs.Lanes.{read_p, with_p}
 use Rattle.sve_pred.proofs.Lengths.{length_given, of_three}
 use Rattle.sve_pred.proofs.breaks.break_next.Goals as goal
 

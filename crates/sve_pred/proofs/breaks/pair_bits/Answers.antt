@@ -1,7 +1,7 @@
 use Rattle.std.proofs.Common.{◌∙◌, Bool, length, ap, sym}
 use Rattle.sve_effects.specs.Predicate.{broken_pair}
 use Rattle.sve_effects.specs.PredicateRows.{predicate_bits, pair_after}
-use Rattle.vec_model.specs.Lanes.{read_p}
+use Rattle.emu_model.specs.Lanes.{read_p}
 use Rattle.sve_pred.proofs.Lengths.{length_given, of_three}
 use Rattle.sve_pred.proofs.breaks.pair_bits.Goals as goal
 

@@ -1,6 +1,6 @@
 use Rattle.std.proofs.Common.{ℕ, Bool, List, not, refl, sym, ap, subst, ◌∙◌}
 use Rattle.emu_bits.specs.Flags.{size_of}
-use Rattle.vec_model.specs.Lanes.{read_p}
+use Rattle.emu_model.specs.Lanes.{read_p}
 use Rattle.vec_regs.specs.Words.{bit_of, bits_of, AreClearFrom}
 use Rattle.sve_effects.specs.declared.predicates.LogicOp.TheVariants.{And}
 use Rattle.sve_effects.specs.Lane.{lane_test}

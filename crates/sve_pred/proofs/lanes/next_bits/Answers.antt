@@ -3,7 +3,7 @@ use Rattle.emu_bits.specs.Flags.{size_of}
 use Rattle.sve_effects.specs.LaneLoop.{lane_bits}
 use Rattle.sve_effects.specs.Predicate.{only_next, pred_test}
 use Rattle.sve_effects.specs.PredicateRows.{predicate_bits}
-use Rattle.vec_model.specs.Lanes.{read_p}
+use Rattle.emu_model.specs.Lanes.{read_p}
 use Rattle.sve_pred.proofs.Lengths.{whole_fields}
 use Rattle.sve_pred.proofs.lanes.next_bits.Goals as goal
 

@@ -1,5 +1,5 @@
 use Rattle.std.proofs.Common.{◌∙◌, ap}
-use Rattle.vec_model.specs.Lanes.{with_ffr}
+use Rattle.emu_model.specs.Lanes.{with_ffr}
 use Rattle.vec_regs.proofs.Fields.{field_bits}
 use Rattle.vec_regs.proofs.VecRegs.set_ffr_fields.Goals as goal
 

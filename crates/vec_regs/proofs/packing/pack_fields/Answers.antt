@@ -1,6 +1,6 @@
 use Rattle.std.proofs.Common.{◌<◌, ◌*◌, ◌/◌, length, get_or, false, ◌∙◌, arith}
 use Rattle.std.proofs.lemmas.List.{length-set}
-use Rattle.vec_model.proofs.LaneBytes.{some_bytes}
+use Rattle.emu_model.proofs.LaneBytes.{some_bytes}
 use Rattle.vec_regs.proofs.SetParts.{flag_small, flag_is}
 use Rattle.vec_regs.proofs.Fields.{place_fits, fields_more, fields_still}
 use Rattle.vec_regs.proofs.packing.pack_fields.Goals as goal

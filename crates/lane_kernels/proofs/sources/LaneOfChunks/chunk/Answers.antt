@@ -1,6 +1,6 @@
 use Rattle.std.proofs.Common.{◌≡◌, ◌∙◌, ◌<◌, ◌+◌, ◌*◌, ◌%◌, ◌^◌, ℕ, List, [], ◌∷◌, length, get_or, sym, ap, ap₂, subst}
 use Rattle.std.specs.Simd.Lanes.{digits_l, number_l}
-use Rattle.vec_model.specs.Lanes.{lane}
+use Rattle.emu_model.specs.Lanes.{lane}
 use Rattle.lane_kernels.proofs.PairLanes.{lanes_of_pair}
 use Rattle.lane_kernels.proofs.sources.LaneOfChunks.chunk.Goals as goal
 

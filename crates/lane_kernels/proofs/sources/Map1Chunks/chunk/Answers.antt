@@ -1,5 +1,5 @@
 use Rattle.std.proofs.Common.{◌∙◌, ◌<◌, ◌+◌, ◌*◌, ◌/◌, ◌%◌, ◌^◌, ℕ, List, map, get_or, ap, arith}
-use Rattle.vec_model.specs.Lanes.{read_z}
+use Rattle.emu_model.specs.Lanes.{read_z}
 use Rattle.lane_kernels.proofs.PairLanes.{mapped, lane_read_small, inside_register}
 use Rattle.lane_kernels.proofs.sources.Map1Chunks.chunk.Goals as goal
 

@@ -1,5 +1,5 @@
 use Rattle.std.proofs.Common.{◌∙◌, ◌<◌, ◌+◌, ◌*◌, ◌/◌, ℕ, Bool, false, List, get_or, refl, ap, ap₂, arith}
-use Rattle.vec_model.specs.Lanes.{read_z}
+use Rattle.emu_model.specs.Lanes.{read_z}
 use Rattle.lane_kernels.proofs.PairLanes.{lane_read_small, inside_register}
 use Rattle.lane_kernels.proofs.ToldBits.{tested}
 use Rattle.lane_kernels.proofs.told.ComparedToldChunks.told.Goals as goal

@@ -1,6 +1,6 @@
 use Rattle.std.proofs.Common.{◌≡◌, ◌∙◌, ◌<◌, ◌+◌, ◌*◌, ◌/◌, ℕ, Bool, List, get_or, inr, refl, sym, ap, ap₂, arith}
 use Rattle.sve_effects.specs.Lane.{extended_by}
-use Rattle.vec_model.specs.Lanes.{lane, read_z}
+use Rattle.emu_model.specs.Lanes.{lane, read_z}
 use Rattle.lane_kernels.proofs.PairLanes.{lane_read_small, inside_register}
 use Rattle.lane_kernels.proofs.ToldBits.{plain_number, covering}
 use Rattle.lane_kernels.proofs.told.ComparedWideToldChunks.told.Goals as goal

@@ -1,6 +1,6 @@
 use Rattle.std.proofs.Common.{◌∙◌, ◌<◌, ◌+◌, ◌*◌, ◌/◌, ◌%◌, ◌^◌, ℕ, List, map, get_or, sym, ap, ap₂, arith}
 use Rattle.std.proofs.Math.Nat.{mod-eq_of_lt}
-use Rattle.vec_model.specs.Lanes.{lane, read_z}
+use Rattle.emu_model.specs.Lanes.{lane, read_z}
 use Rattle.lane_kernels.proofs.PairLanes.{zipped3, lane_read_small, inside_register}
 use Rattle.sve_lanes.proofs.Places.{indexed_is}
 use Rattle.sve_lanes.proofs.operations.IndexedChunks.chunk.Goals as goal

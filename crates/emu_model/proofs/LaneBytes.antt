@@ -3,8 +3,8 @@ use Rattle.std.proofs.Common.{◌≡◌, ◌<◌, ◌≤◌, ℕ, zero, suc, Lis
 use Rattle.std.proofs.lemmas.Nat.{mod-pow-add, shr-shr, div-mul-add, mod-mul-add, div-add-mod'}
 use Rattle.emu_model.specs.Lists.{each}
 use Rattle.emu_model.specs.ListLaws.{length-each, get_or-each}
-use Rattle.vec_model.specs.Lanes.{number, byte_in, lane}
-use Rattle.vec_model.specs.LaneSizes.{IsLaneSize}
+use Rattle.emu_model.specs.Lanes.{number, byte_in, lane}
+use Rattle.emu_model.specs.LaneSizes.{IsLaneSize}
 
 -- the low bytes of a number, one byte more
 one_more : (y w : ℕ) → y % 2 ^ (8 * suc w) ≡ y % 256 + 256 * (y / 2 ^ 8 % 2 ^ (8 * w))

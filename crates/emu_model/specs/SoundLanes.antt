@@ -9,9 +9,9 @@ use Rattle.emu_model.specs.Lists.{each}
 use Rattle.emu_model.specs.ListLaws.{length-each}
 use Rattle.emu_model.specs.SoundLists.{all_append, all_map, all_replicate, all_set, all_take}
 use Rattle.emu_model.specs.State.{Vectors}
-use Rattle.vec_model.specs.AfterCall.{low_bytes, cleared}
-use Rattle.vec_model.specs.Writes.{after_call, with_ffr_fields}
-use Rattle.vec_model.specs.Lanes.{byte_in, field_bit, with_z, with_p, with_ffr, with_lanes, with_low, with_fields}
+use Rattle.emu_model.specs.AfterCall.{low_bytes, cleared}
+use Rattle.emu_model.specs.Writes.{after_call, with_ffr_fields}
+use Rattle.emu_model.specs.Lanes.{byte_in, field_bit, with_z, with_p, with_ffr, with_lanes, with_low, with_fields}
 
 all_given : {X Y : Type 0} (P : Y → Type 0) (f : X → Y) → ((x : X) → P (f x)) → (xs : List X) → AllByRecursion P (map f xs)
 all_given P f h [] = tt

@@ -2,7 +2,7 @@
 use Rattle.std.proofs.Common.{◌≡◌, ◌<◌, ◌+◌, ◌-◌, ◌*◌, ◌/◌, ◌%◌, ℕ, Bool, false, nat_eq, if◌then◌else◌, ap, sym, ◌∙◌, arith}
 use Rattle.std.proofs.lemmas.Bool.Decides.{nat_tests}
 use Rattle.std.proofs.lemmas.Nat.{div-mul-add, mod-mul-add}
-use Rattle.vec_model.specs.Lanes.{field_bit}
+use Rattle.emu_model.specs.Lanes.{field_bit}
 
 pub at_start : (k w : ℕ) (f : ℕ → Bool) → 0 < w → field_bit w f (k * w) ≡ f k
 at_start k w f some =

@@ -8,12 +8,12 @@ use Rattle.emu_model.specs.Lists.{each}
 use Rattle.emu_model.specs.ListLaws.{length-each, get_or-each, each_same}
 use Rattle.emu_model.specs.State.{Vectors}
 use Rattle.emu_model.specs.SoundState.{IsSoundVectors}
-use Rattle.vec_model.specs.Active.{active}
-use Rattle.vec_model.specs.Lanes.{lane, number, read_z, read_p, byte_in, field_bit, with_z, with_p, with_lanes, with_low, with_fields}
-use Rattle.vec_model.specs.LaneSizes.{IsLaneSize}
-use Rattle.vec_model.specs.Writes.{with_ffr_fields}
-use Rattle.vec_model.proofs.FieldBits.{at_start, between}
-use Rattle.vec_model.proofs.LaneBytes.{field_is, lane_of_lanes, some_bytes, within_bytes}
+use Rattle.emu_model.specs.Active.{active}
+use Rattle.emu_model.specs.Lanes.{lane, number, read_z, read_p, byte_in, field_bit, with_z, with_p, with_lanes, with_low, with_fields}
+use Rattle.emu_model.specs.LaneSizes.{IsLaneSize}
+use Rattle.emu_model.specs.Writes.{with_ffr_fields}
+use Rattle.emu_model.proofs.FieldBits.{at_start, between}
+use Rattle.emu_model.proofs.LaneBytes.{field_is, lane_of_lanes, some_bytes, within_bytes}
 
 pub lanes_read : (e : ℕ) (f : ℕ → ℕ) (zd k : ℕ) (v : Vectors) → IsSoundVectors v → IsLaneSize e → zd < 32 → k < v.bits / e → lane e (read_z (with_lanes e f zd v) zd) k ≡ f k % 2 ^ e
 lanes_read e f zd k v h size r within =

@@ -1,5 +1,5 @@
-use Rattle.vec_model.proofs.Cleared.{z_cleared, p_cleared, ffr_cleared}
-use Rattle.vec_model.proofs.laws.calls_clear_vectors.Goals as goal
+use Rattle.emu_model.proofs.Cleared.{z_cleared, p_cleared, ffr_cleared}
+use Rattle.emu_model.proofs.vector_laws.calls_clear_vectors.Goals as goal
 
 pub returns-clause-z : goal.returns-clause-z
 returns-clause-z c = z_cleared

@@ -1,5 +1,5 @@
-use Rattle.vec_model.proofs.Written.{lanes_read, low_read, other_z, other_p, fields_read, fields_between, ffr_read, ffr_between}
-use Rattle.vec_model.proofs.laws.lanes_read_as_written.Goals as goal
+use Rattle.emu_model.proofs.Written.{lanes_read, low_read, other_z, other_p, fields_read, fields_between, ffr_read, ffr_between}
+use Rattle.emu_model.proofs.vector_laws.lanes_read_as_written.Goals as goal
 
 pub returns-clause-lanes : goal.returns-clause-lanes
 returns-clause-lanes c = lanes_read

@@ -4,8 +4,8 @@ use Rattle.std.proofs.lemmas.Bool.{cases_lt}
 use Rattle.std.proofs.lemmas.Bool.Decides.{nat_tests}
 use Rattle.std.proofs.lemmas.List.{get_or-take, get_or_past, get_or_append_left, get_or-append_right, length-take}
 use Rattle.emu_model.specs.State.{Vectors}
-use Rattle.vec_model.specs.AfterCall.{low_bytes, cleared}
-use Rattle.vec_model.specs.Lanes.{read_z, read_p}
+use Rattle.emu_model.specs.AfterCall.{low_bytes, cleared}
+use Rattle.emu_model.specs.Lanes.{read_z, read_p}
 
 same_read : {A : Type 0} (n j : ℕ) (a : A) → get_or (replicate n a) j a ≡ a
 same_read zero j a = refl

@@ -1,5 +1,5 @@
-use Rattle.vec_model.specs.SoundLanes.{sound_lanes, sound_fields, sound_ffr, sound_low, cleared_sound, after_call_sound}
-use Rattle.vec_model.proofs.laws.lanes_keep_vectors_sound.Goals as goal
+use Rattle.emu_model.specs.SoundLanes.{sound_lanes, sound_fields, sound_ffr, sound_low, cleared_sound, after_call_sound}
+use Rattle.emu_model.proofs.vector_laws.lanes_keep_vectors_sound.Goals as goal
 
 pub returns-clause-lanes : goal.returns-clause-lanes
 returns-clause-lanes c = sound_lanes

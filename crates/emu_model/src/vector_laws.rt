@@ -17,10 +17,10 @@ ghost use Rattle.std.specs.Prelude.{
 };
 ghost use Rattle.emu_model.specs.SoundState.{IsVectorLength, IsSoundVectors};
 ghost use Rattle.emu_model.specs.State.{Vectors};
-ghost use Rattle.vec_model.specs.Active.{active};
-ghost use Rattle.vec_model.specs.AfterCall.{cleared};
-ghost use Rattle.vec_model.specs.Writes.{after_call, with_ffr_fields};
-ghost use Rattle.vec_model.specs.Lanes.{
+ghost use Rattle.emu_model.specs.Active.{active};
+ghost use Rattle.emu_model.specs.AfterCall.{cleared};
+ghost use Rattle.emu_model.specs.Writes.{after_call, with_ffr_fields};
+ghost use Rattle.emu_model.specs.Lanes.{
   lane,
   number,
   read_z,
@@ -31,7 +31,7 @@ ghost use Rattle.vec_model.specs.Lanes.{
   with_fields,
   with_low,
 };
-ghost use Rattle.vec_model.specs.LaneSizes.{IsLaneSize};
+ghost use Rattle.emu_model.specs.LaneSizes.{IsLaneSize};
 
 /// Sound vectors are sound after a write, whatever is written: lanes or low bits of a Z register, fields of a predicate
 /// or of FFR; cleared in a vector length that is at most the starting one; and after a call that returns.

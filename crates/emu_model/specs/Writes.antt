@@ -2,8 +2,8 @@
 use Rattle.std.specs.Prelude.{ℕ, ◌/◌, Bool}
 use Rattle.emu_model.specs.Lists.{each}
 use Rattle.emu_model.specs.State.{Vectors}
-use Rattle.vec_model.specs.Lanes.{with_ffr, field_bit}
-use Rattle.vec_model.specs.AfterCall.{cleared}
+use Rattle.emu_model.specs.Lanes.{with_ffr, field_bit}
+use Rattle.emu_model.specs.AfterCall.{cleared}
 
 -- each field k of FFR has f k as its lowest bit, and zeros above
 abbrev pub with_ffr_fields : ℕ → (ℕ → Bool) → Vectors → Vectors

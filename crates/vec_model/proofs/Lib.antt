@@ -1,4 +1,0 @@
-pub mod Cleared
-pub mod FieldBits
-pub mod LaneBytes
-pub mod Written
