@@ -12,7 +12,7 @@ use Rattle.command_model.specs.declared.command_line.WordsFault.{WordsFault}
 use Rattle.emu_outcome.specs.Outcome.{Outcome, Files, outcome_of_line, outcome_of_load, result_of, refusal}
 use Rattle.insn_texts.specs.Statements.{statements}
 use Rattle.listing_model.specs.Image.{image_of}
-use Rattle.load_program.specs.Listing.{listing}
+use Rattle.sweep_model.specs.Listing.{listing}
 use Rattle.emu_outcome.specs.declared.ending.Ending.{Ending}
 use Rattle.emu_outcome.specs.declared.ending.Ending.TheVariants.{WordsRefused, FileFault, ReadFault, ErrorsFault}
 use Rattle.commands.specs.Endings.{ended_by}

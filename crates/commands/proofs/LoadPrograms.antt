@@ -8,7 +8,7 @@ use Rattle.emu_outcome.specs.Outcome.{outcome_of_load, outcome_of_loaded}
 use Rattle.emu_outcome.specs.declared.ending.Ending.{Ending}
 use Rattle.emu_outcome.specs.declared.ending.Ending.TheVariants.{ImageRefused, ListingRefused}
 use Rattle.listing_model.specs.declared.fault.ListingFault.{ListingFault}
-use Rattle.load_model.specs.Load.{load_pages, load_text}
+use Rattle.sweep_model.specs.Load.{load_pages, load_text}
 use Rattle.commands.specs.Endings.{done_by, ended_by}
 use Rattle.commands.specs.Meets.{now, Meets, Now}
 use Rattle.commands.proofs.Meetings.{line_meets, output_meets}

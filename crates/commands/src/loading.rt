@@ -5,8 +5,8 @@ ghost use Rattle.asm_layout.specs.Assembly.{IsMade};
 ghost use Rattle.emu_system.specs.Image.{elf};
 ghost use Rattle.insn_texts.specs.Statements.{statements};
 ghost use Rattle.listing_model.specs.Image.{image_of};
-ghost use Rattle.load_model.specs.Load.{load_pages};
-ghost use Rattle.load_program.specs.Listing.{listing};
+ghost use Rattle.sweep_model.specs.Load.{load_pages};
+ghost use Rattle.sweep_model.specs.Listing.{listing};
 ghost use Rattle.emu_outcome.specs.Outcome.{outcome_of_load, outcome_of_loaded};
 ghost use Rattle.commands.specs.Lines.{ends_load};
 ghost use Rattle.commands.specs.Promises.{is_silent};
@@ -18,9 +18,8 @@ use elf_image::read;
 use emu_outcome::Ending;
 use emu_report::{put_image_refusal, put_listing_refusal};
 use io_gate::{Sink, put_all};
-use load_model::LOAD_PAGES;
-use load_program::load_listing;
 use std::alloc::Global;
+use sweep_model::{LOAD_PAGES, load_listing};
 use vl_sweep::load_lines;
 
 /// The executable of the load program that a number makes. Err is the listing's first refusal, or want of memory.

@@ -30,8 +30,8 @@ use Rattle.insn_texts.specs.Disassembly.{dis_of}
 use Rattle.insn_texts.specs.Statements.{statements}
 use Rattle.listing_model.specs.declared.fault.ListingFault.{ListingFault}
 use Rattle.listing_model.specs.Image.{image_of, image_of_bytes}
-use Rattle.load_model.specs.Load.{load_pages, load_text}
-use Rattle.load_program.specs.Listing.{listing}
+use Rattle.sweep_model.specs.Load.{load_pages, load_text}
+use Rattle.sweep_model.specs.Listing.{listing}
 use Rattle.sweep_model.specs.Sweep.{Sweep, fits, stream_limit, sweep_text, text_before}
 use Rattle.thread_model.specs.declared.thread.WorldEnding.{WorldEnding}
 use Rattle.thread_model.specs.declared.thread.WorldEnding.TheVariants as worlds

@@ -1,7 +1,7 @@
 use Rattle.std.proofs.Common.{Some, sym, ap, ◌∙◌, ◌≡◌, true, refl, subst}
 use Rattle.elf_image.specs.Images.{seen, seen_image}
 use Rattle.emu_system.specs.Image.{elf}
-use Rattle.load_model.specs.Load.{load_pages}
+use Rattle.sweep_model.specs.Load.{load_pages}
 use Rattle.emu_outcome.specs.Outcome.{outcome_of_loaded}
 use Rattle.emu_outcome.specs.declared.ending.Ending.{Ending}
 use Rattle.emu_outcome.specs.declared.ending.Ending.TheVariants.{ImageRefused, OutOfMemory}

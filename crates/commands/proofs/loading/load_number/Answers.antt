@@ -1,7 +1,7 @@
 use Rattle.std.proofs.Common.{Some, ◌≡◌, true, refl, sym, subst}
 use Rattle.insn_texts.specs.Statements.{statements}
 use Rattle.listing_model.specs.Image.{image_of}
-use Rattle.load_program.specs.Listing.{listing}
+use Rattle.sweep_model.specs.Listing.{listing}
 use Rattle.emu_outcome.specs.Outcome.{outcome_of_load}
 use Rattle.emu_outcome.specs.declared.ending.Ending.{Ending}
 use Rattle.emu_outcome.specs.declared.ending.Ending.TheVariants.{ListingRefused, OutOfMemory}

@@ -1,8 +1,8 @@
 use Rattle.std.proofs.Common.{◌≡◌, ℕ, ◌++◌, flat_map, string_bytes, subst, ◌∙◌, arith}
 use Rattle.std.specs.List.{range_with_len}
-use Rattle.load_program.specs.Listing.{data_line, data_text, line_text, listing, program_text}
-use Rattle.load_program.proofs.Appended.{appended_more, appended_none}
-use Rattle.load_program.proofs.listing.load_listing.Goals as goal
+use Rattle.sweep_model.specs.Listing.{data_line, data_text, line_text, listing, program_text}
+use Rattle.sweep_model.proofs.Appended.{appended_more, appended_none}
+use Rattle.sweep_model.proofs.listing.load_listing.Goals as goal
 
 pub lines-init : goal.lines-init
 lines-init c = c.in_ok-text.ensures.ok ∙ c.program.ensures ∙ appended_none program_text

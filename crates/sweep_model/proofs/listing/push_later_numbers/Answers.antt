@@ -1,8 +1,8 @@
 use Rattle.std.proofs.Common.{◌≡◌, ◌+◌, ℕ, ◌++◌, flat_map, string_bytes, refl, subst, arith}
 use Rattle.std.specs.List.{range_with_len}
-use Rattle.load_program.specs.Listing.{later_number}
-use Rattle.load_program.proofs.Appended.{appended_more, appended_none}
-use Rattle.load_program.proofs.listing.push_later_numbers.Goals as goal
+use Rattle.sweep_model.specs.Listing.{later_number}
+use Rattle.sweep_model.proofs.Appended.{appended_more, appended_none}
+use Rattle.sweep_model.proofs.listing.push_later_numbers.Goals as goal
 
 pub numbers-init : goal.numbers-init
 numbers-init c = appended_none (string_bytes c.args.text.now)

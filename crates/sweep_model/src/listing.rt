@@ -1,8 +1,8 @@
-//! The listing, built as one text.
+//! The listing of a load program, built as one text.
 ghost use Rattle.std.specs.Prelude.{◌≡◌, ◌<◌, ◌≤◌, ◌+◌, ◌++◌, flat_map, string_bytes, IfOk, OnOk};
 ghost use Rattle.std.specs.Fmt.{decimal};
 ghost use Rattle.std.specs.List.{range_with_len};
-ghost use Rattle.load_program.specs.Listing.{data_line, later_number, line_text, listing, number_at, program_text};
+ghost use Rattle.sweep_model.specs.Listing.{data_line, later_number, line_text, listing, number_at, program_text};
 
 use std::alloc::{AllocError, Global};
 
