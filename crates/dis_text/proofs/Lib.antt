@@ -5,3 +5,5 @@ pub mod Again
 pub mod ReadBack
 pub mod Rows
 pub mod Said
+pub mod Starts
+pub mod Tested

@@ -34,8 +34,8 @@ use Rattle.sve_texts.specs.Law as vectors
 use Rattle.sve_texts.specs.Table.{sve_lines, sve_patterns}
 use Rattle.sve_texts.proofs.ReadBack as vector_back
 use Rattle.sve_texts.proofs.Checked as vector_checked
-use Rattle.text_apart.proofs.Starts.{none_by_both}
-use Rattle.text_apart.proofs.Tested.{apart}
+use Rattle.dis_text.proofs.Starts.{none_by_both}
+use Rattle.dis_text.proofs.Tested.{apart}
 use Rattle.asm_tokens.specs.declared.target.Target.TheVariants.{Address}
 use Rattle.emu_run.specs.declared.insn.Insn.{Insn}
 use Rattle.emu_run.specs.declared.insn.Insn.TheVariants.{A64, Sve}

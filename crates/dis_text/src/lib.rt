@@ -1,6 +1,8 @@
 //! Instructions of both tables as text, and that their texts are read back.
 #![tactic(auto)]
 
+mod apart;
+
 ghost use Rattle.std.specs.Prelude.{◌≡◌, ℕ, ◌^◌, ◌<◌, true};
 ghost use Rattle.emu_run.specs.declared.insn.Insn.{Insn};
 ghost use Rattle.insn_texts.specs.Texts.{text};
@@ -8,6 +10,7 @@ ghost use Rattle.insn_texts.specs.Canonical.{is_canonical};
 ghost use Rattle.dis_text.specs.ReadBack.{IsInstruction, IsReadBack};
 ghost use Rattle.dis_text.specs.Said.{IsSaid, IsShownAgain};
 
+pub use crate::apart::no_statement_is_of_both;
 use a64_rows::encode_a64;
 use arrayvec::ArrayString;
 use dis_a64::print_a64;

@@ -3,9 +3,9 @@ use Rattle.a64_texts.specs.Law as a64
 use Rattle.a64_texts.specs.Table.{a64_patterns}
 use Rattle.sve_texts.specs.Law as sve
 use Rattle.sve_texts.specs.Table.{sve_patterns}
-use Rattle.text_apart.proofs.Starts.{none_by_both}
-use Rattle.text_apart.proofs.Tested.{apart}
-use Rattle.text_apart.proofs.no_statement_is_of_both.Goals as goal
+use Rattle.dis_text.proofs.Starts.{none_by_both}
+use Rattle.dis_text.proofs.Tested.{apart}
+use Rattle.dis_text.proofs.apart.no_statement_is_of_both.Goals as goal
 
 pub returns : goal.returns
 returns c = λ name rest s t h k. none_by_both a64.in_table sve.in_table a64_patterns sve_patterns name (tokens rest) s t apart h k
