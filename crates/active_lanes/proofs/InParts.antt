@@ -12,7 +12,7 @@ use Rattle.emu_model.specs.ListLaws.{length-each, get_or-each, each_same}
 use Rattle.emu_model.specs.State.{Vectors}
 use Rattle.emu_model.specs.Lanes.{read_z, with_z}
 use Rattle.vec_regs.specs.Words.{byte_of, bytes_of, byte_with_pair}
-use Rattle.element_words.proofs.Words.{byte_of_number}
+use Rattle.active_lanes.proofs.Words.{byte_of_number}
 
 -- byte j of a register of which the first i parts have the bytes that g gives
 abbrev pub part_byte : (ℕ → ℕ) → ℕ → List ℕ → ℕ → ℕ

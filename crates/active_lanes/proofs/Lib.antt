@@ -3,3 +3,4 @@ pub mod LaneBits
 pub mod InParts
 pub mod Kept
 pub mod KeptWords
+pub mod Words

@@ -22,8 +22,8 @@ use Rattle.emu_model.specs.Lanes.{byte_in}
 use Rattle.emu_model.specs.LaneSizes.{IsLaneSize}
 use Rattle.vec_regs.specs.Words.{byte_of, bytes_of}
 use Rattle.vec_regs.proofs.PackedLanes.{below_quotient}
-use Rattle.element_words.specs.Placed.{lane_at}
-use Rattle.element_words.proofs.Words.{copied_lanes}
+use Rattle.active_lanes.specs.Placed.{lane_at}
+use Rattle.active_lanes.proofs.Words.{copied_lanes}
 use Rattle.sve_effects.specs.Lane.{extended_by}
 use Rattle.sve_effects.specs.VectorElements.{Layout, elements_below, elements_of}
 use Rattle.sve_effects.specs.VectorLoadStore.{loaded_lane, with_loaded}

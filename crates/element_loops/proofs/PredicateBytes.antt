@@ -20,7 +20,7 @@ use Rattle.emu_model.specs.Lanes.{read_p, with_p, byte_in}
 use Rattle.vec_regs.specs.Words.{bit_of, bits_of, byte_of, AreClearFrom}
 use Rattle.sve_effects.specs.VectorElements.{elements_of}
 use Rattle.sve_effects.specs.VectorLoadStore.{with_loaded_bits}
-use Rattle.element_words.specs.Placed.{lane_at}
+use Rattle.active_lanes.specs.Placed.{lane_at}
 use Rattle.element_loops.specs.declared.plan.Plan.{Plan}
 use Rattle.element_loops.specs.declared.plan.OnLanes.{OnLanes}
 use Rattle.element_loops.specs.declared.plan.Target.TheVariants.{Predicate}

@@ -16,7 +16,7 @@ use Rattle.vec_regs.specs.Words.{byte_of, bytes_of}
 use Rattle.sve_effects.specs.Lane.{extended_by}
 use Rattle.sve_effects.specs.VectorElements.{Layout, elements_below, elements_of}
 use Rattle.sve_effects.specs.VectorLoadStore.{loaded_lane}
-use Rattle.element_words.specs.Placed.{lane_at}
+use Rattle.active_lanes.specs.Placed.{lane_at}
 use Rattle.element_loops.specs.declared.plan.Plan.{Plan}
 use Rattle.element_loops.specs.Layouts.{layout_of}
 use Rattle.active_lanes.specs.Kept.{is_kept}

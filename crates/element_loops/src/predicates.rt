@@ -11,7 +11,7 @@ ghost use Rattle.element_loops.specs.declared.plan.Target.{Target};
 use crate::border::{joined, put_over};
 use crate::plan::Plan;
 use crate::run::{Run, base_of};
-use element_words::put_words;
+use active_lanes::put_words;
 use emu_bits::Pred;
 use guest_mem::{AccessLog, Mem};
 use vec_regs::VecRegs;

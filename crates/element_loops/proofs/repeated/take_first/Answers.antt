@@ -6,7 +6,7 @@ use Rattle.guest_mem.specs.Slices.{to_page_end}
 use Rattle.emu_model.specs.Lanes.{with_z}
 use Rattle.vec_regs.proofs.Views.{zero_word}
 use Rattle.sve_effects.specs.VectorLoadStore.{loaded_lane}
-use Rattle.element_words.specs.Placed.{lane_at}
+use Rattle.active_lanes.specs.Placed.{lane_at}
 use Rattle.element_loops.specs.declared.plan.Target.{Target}
 use Rattle.element_loops.specs.Layouts.{IsRepeated, IsTarget, layout_of}
 use Rattle.element_loops.specs.Planned.{loaded_by}

@@ -3,7 +3,7 @@ ghost use Rattle.std.specs.Prelude.{◌≡◌, ◌≤◌, ◌<◌, ◌+◌, ◌*
 ghost use Rattle.emu_model.specs.Lanes.{byte_in};
 ghost use Rattle.emu_model.specs.LaneSizes.{IsLaneSize};
 ghost use Rattle.vec_regs.specs.Words.{byte_of};
-ghost use Rattle.element_words.specs.Placed.{lane_at};
+ghost use Rattle.active_lanes.specs.Placed.{lane_at};
 
 use crate::lanes::put_each;
 use byteorder::{ByteOrder, LittleEndian};

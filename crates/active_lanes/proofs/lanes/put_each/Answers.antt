@@ -1,7 +1,7 @@
 use Rattle.std.proofs.Common.{◌<◌, ◌+◌, ◌*◌, ◌/◌, length, refl, arith}
-use Rattle.element_words.specs.Placed.{lane_at}
-use Rattle.element_words.proofs.Words.{lanes_few, lane_below, one_more_word, kept_above}
-use Rattle.element_words.proofs.lanes.put_each.Goals as goal
+use Rattle.active_lanes.specs.Placed.{lane_at}
+use Rattle.active_lanes.proofs.Words.{lanes_few, lane_below, one_more_word, kept_above}
+use Rattle.active_lanes.proofs.lanes.put_each.Goals as goal
 
 pub loop-i-init : goal.loop-i-init
 loop-i-init c = record { done = λ j h. absurd (omega arith); above = λ k h. refl }

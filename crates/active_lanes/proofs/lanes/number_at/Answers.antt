@@ -1,7 +1,7 @@
 use Rattle.std.proofs.Common.{◌≡◌, ◌+◌, ◌-◌, take, drop, ap, ◌∙◌, arith}
 use Rattle.byteorder.specs.Endian.{little_number}
 use Rattle.emu_model.proofs.LittleEndian.{number_of_part}
-use Rattle.element_words.proofs.lanes.number_at.Goals as goal
+use Rattle.active_lanes.proofs.lanes.number_at.Goals as goal
 
 pub returns-in_default : goal.returns-in_default
 returns-in_default c =

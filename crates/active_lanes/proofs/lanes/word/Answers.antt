@@ -1,8 +1,8 @@
 use Rattle.std.proofs.Common.{◌+◌, ◌-◌, arith}
 use Rattle.std.proofs.lemmas.Nat.{pow_pos}
-use Rattle.element_words.specs.Placed.{lane_at}
-use Rattle.element_words.proofs.Words.{word_bytes, word_starts, word_more, word_small, word_fits}
-use Rattle.element_words.proofs.lanes.word.Goals as goal
+use Rattle.active_lanes.specs.Placed.{lane_at}
+use Rattle.active_lanes.proofs.Words.{word_bytes, word_starts, word_more, word_small, word_fits}
+use Rattle.active_lanes.proofs.lanes.word.Goals as goal
 
 pub loop-q-init : goal.loop-q-init
 loop-q-init c = record {

@@ -4,7 +4,7 @@ ghost use Rattle.emu_model.specs.WithinPage.{number_in};
 ghost use Rattle.emu_model.specs.Lanes.{byte_in};
 ghost use Rattle.emu_model.specs.LaneSizes.{IsLaneSize};
 ghost use Rattle.vec_regs.specs.Words.{byte_of};
-ghost use Rattle.element_words.specs.Placed.{lane_at};
+ghost use Rattle.active_lanes.specs.Placed.{lane_at};
 
 use byteorder::{ByteOrder, LittleEndian};
 use vec_regs::extended;

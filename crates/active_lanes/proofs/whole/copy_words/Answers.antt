@@ -1,6 +1,6 @@
 use Rattle.std.proofs.Common.{◌<◌, ◌∙◌, length, refl, arith}
-use Rattle.element_words.proofs.Words.{copied_lanes, kept_above, one_more_copied}
-use Rattle.element_words.proofs.whole.copy_words.Goals as goal
+use Rattle.active_lanes.proofs.Words.{copied_lanes, kept_above, one_more_copied}
+use Rattle.active_lanes.proofs.whole.copy_words.Goals as goal
 
 pub loop-i-init : goal.loop-i-init
 loop-i-init c = record { done = λ j h. absurd (omega arith); above = λ k h. refl }

@@ -1,8 +1,8 @@
 use Rattle.std.proofs.Common.{◌≡◌, ◌<◌, ◌≤◌, ◌*◌, ◌/◌, ℕ, get_or}
 use Rattle.emu_model.specs.Lanes.{byte_in}
 use Rattle.vec_regs.specs.Words.{byte_of}
-use Rattle.element_words.specs.Placed.{lane_at}
-use Rattle.element_words.proofs.lanes.put_each.Given as goal
+use Rattle.active_lanes.specs.Placed.{lane_at}
+use Rattle.active_lanes.proofs.lanes.put_each.Given as goal
 
 abbrev pub invariant-loop-i : goal.invariant-loop-i
 invariant-loop-i l = record {

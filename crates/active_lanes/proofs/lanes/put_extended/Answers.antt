@@ -1,5 +1,5 @@
-use Rattle.element_words.proofs.Words.{same_lanes}
-use Rattle.element_words.proofs.lanes.put_extended.Goals as goal
+use Rattle.active_lanes.proofs.Words.{same_lanes}
+use Rattle.active_lanes.proofs.lanes.put_extended.Goals as goal
 
 pub returns-then-n-eq4-clause-bytes : goal.returns-then-n-eq4-clause-bytes
 returns-then-n-eq4-clause-bytes c =

@@ -1,8 +1,8 @@
 use Rattle.std.proofs.Common.{◌≡◌, ◌<◌, ◌^◌, ◌+◌, ◌-◌, ◌*◌, ◌/◌, drop}
 use Rattle.emu_model.specs.Lists.{each}
 use Rattle.vec_regs.specs.Packed.{packed}
-use Rattle.element_words.specs.Placed.{lane_at}
-use Rattle.element_words.proofs.lanes.word.Given as goal
+use Rattle.active_lanes.specs.Placed.{lane_at}
+use Rattle.active_lanes.proofs.lanes.word.Given as goal
 
 abbrev pub invariant-loop-q : goal.invariant-loop-q
 invariant-loop-q l = record {

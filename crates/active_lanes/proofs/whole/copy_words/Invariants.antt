@@ -1,6 +1,6 @@
 use Rattle.std.proofs.Common.{◌≡◌, ◌<◌, ◌≤◌, ◌+◌, ◌*◌, ℕ, get_or}
 use Rattle.vec_regs.specs.Words.{byte_of}
-use Rattle.element_words.proofs.whole.copy_words.Given as goal
+use Rattle.active_lanes.proofs.whole.copy_words.Given as goal
 
 abbrev pub invariant-loop-i : goal.invariant-loop-i
 invariant-loop-i l = record {

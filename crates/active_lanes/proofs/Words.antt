@@ -14,7 +14,7 @@ use Rattle.emu_model.specs.LaneSizes.{IsLaneSize}
 use Rattle.vec_regs.specs.Packed.{packed}
 use Rattle.vec_regs.specs.Words.{byte_of}
 use Rattle.vec_regs.proofs.PackedLanes.{byte_in_packed, packed_back, grown, room}
-use Rattle.element_words.specs.Placed.{lane_at}
+use Rattle.active_lanes.specs.Placed.{lane_at}
 
 -- ---- sizes
 

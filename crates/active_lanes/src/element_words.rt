@@ -1,15 +1,10 @@
 //! The words of registers that elements in memory make: lanes whose elements stand at equal distances among bytes, one
 //! behind the other, every second, every third or every fourth.
-#![tactic(auto)]
-
-mod lanes;
-mod whole;
-
 ghost use Rattle.std.specs.Prelude.{◌≡◌, ◌≤◌, ◌<◌, ◌+◌, ◌*◌, ◌/◌, ℕ, length, get_or};
 ghost use Rattle.emu_model.specs.Lanes.{byte_in};
 ghost use Rattle.emu_model.specs.LaneSizes.{IsLaneSize};
 ghost use Rattle.vec_regs.specs.Words.{byte_of};
-ghost use Rattle.element_words.specs.Placed.{lane_at};
+ghost use Rattle.active_lanes.specs.Placed.{lane_at};
 
 use crate::lanes::put_extended;
 use crate::whole::{copy_words, put_apart};
