@@ -85,5 +85,5 @@ pub fn load_unrefused(
     ensures memory { mem.new ≡ mem.old }
 {
     let plan = plans::plan(core, vec, i);
-    unrefused_loads::load_gather(&plan, core, vec, mem, log)
+    gather_loops::unrefused::load_gather(&plan, core, vec, mem, log)
 }

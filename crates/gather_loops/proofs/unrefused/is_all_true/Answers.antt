@@ -1,6 +1,6 @@
 use Rattle.std.proofs.Common.{◌≡◌, ◌≤◌, ◌<◌, ◌*◌, ◌/◌, ◌∙◌, arith}
-use Rattle.unrefused_loads.proofs.Ffr.{one_word, one_byte, all_bits}
-use Rattle.unrefused_loads.proofs.is_all_true.Goals as goal
+use Rattle.gather_loops.proofs.Ffr.{one_word, one_byte, all_bits}
+use Rattle.gather_loops.proofs.unrefused.is_all_true.Goals as goal
 
 pub loop-w-init : goal.loop-w-init
 loop-w-init c = λ i h. absurd (omega arith)

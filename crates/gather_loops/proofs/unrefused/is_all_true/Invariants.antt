@@ -1,6 +1,6 @@
 use Rattle.std.proofs.Common.{◌*◌}
-use Rattle.unrefused_loads.proofs.Ffr.{AreFull}
-use Rattle.unrefused_loads.proofs.is_all_true.Given as goal
+use Rattle.gather_loops.proofs.Ffr.{AreFull}
+use Rattle.gather_loops.proofs.unrefused.is_all_true.Given as goal
 
 abbrev pub invariant-loop-w : goal.invariant-loop-w
 invariant-loop-w l = AreFull l.words (8 * l.w)

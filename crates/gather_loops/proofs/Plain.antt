@@ -24,9 +24,9 @@ use Rattle.element_loops.specs.declared.plan.Target.TheVariants.{Registers}
 use Rattle.element_loops.specs.Layouts.{layout_of}
 use Rattle.element_loops.specs.Planned.{loaded_by}
 use Rattle.element_loops.proofs.Turns.{none_taken, taken_more, taken_is_loaded}
-use Rattle.unrefused_loads.specs.FirstFaultPlan.{first_fault_by}
-use Rattle.unrefused_loads.proofs.Elements.{AreAllowed, all_allowed, lane_element, element_below}
-use Rattle.unrefused_loads.proofs.Ffr.{none_cleared}
+use Rattle.gather_loops.specs.FirstFaultPlan.{first_fault_by}
+use Rattle.gather_loops.proofs.Elements.{AreAllowed, all_allowed, lane_element, element_below}
+use Rattle.gather_loops.proofs.Ffr.{none_cleared}
 
 -- ---- lanes
 

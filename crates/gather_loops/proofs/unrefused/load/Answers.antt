@@ -1,8 +1,8 @@
 use Rattle.std.proofs.Common.{◌<◌, ◌/◌, ◌≡◌, subst}
 use Rattle.element_loops.specs.declared.plan.Target.{Target}
 use Rattle.element_loops.specs.Layouts.{IsTarget}
-use Rattle.unrefused_loads.proofs.Plain.{plain_is}
-use Rattle.unrefused_loads.proofs.load.Goals as goal
+use Rattle.gather_loops.proofs.Plain.{plain_is}
+use Rattle.gather_loops.proofs.unrefused.load.Goals as goal
 
 pub returns-clause-loaded : goal.returns-clause-loaded
 returns-clause-loaded c = λ is.

@@ -1,13 +1,12 @@
 //! First-faulting and non-faulting loads of which no element is refused, by a plan: then each is the plain load.
-#![tactic(auto)]
-
 ghost use Rattle.std.specs.Prelude.{◌≡◌, ◌<◌, ◌/◌, ◌%◌, ◌&&◌, ℕ, Bool, [], true, false, get_or, nat_eq, not};
 ghost use Rattle.emu_model.specs.declared.trap.Effect.{Effect};
 ghost use Rattle.element_loops.specs.declared.plan.Target.{Target};
 ghost use Rattle.element_loops.specs.Layouts.{IsPlan};
 ghost use Rattle.gather_loops.specs.Gathers.{IsGather};
-ghost use Rattle.unrefused_loads.specs.FirstFaultPlan.{first_fault_by};
+ghost use Rattle.gather_loops.specs.FirstFaultPlan.{first_fault_by};
 
+use crate::gather::load_unrefused;
 use core_regs::Core;
 use element_access::test_sp;
 use element_loops::{Plan, load_run};
@@ -103,5 +102,5 @@ pub fn load_gather(
     if !is_plain(plan, core, vec) {
         return false;
     }
-    gather_loops::load_unrefused(plan, vec, mem, log)
+    load_unrefused(plan, vec, mem, log)
 }

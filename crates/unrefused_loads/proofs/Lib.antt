@@ -1,3 +1,0 @@
-pub mod Ffr
-pub mod Elements
-pub mod Plain
