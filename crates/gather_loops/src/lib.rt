@@ -8,5 +8,5 @@ mod indexed;
 mod scatter;
 pub mod unrefused;
 
-pub use gather::{load, load_unrefused};
+pub use gather::load;
 pub use scatter::store;
