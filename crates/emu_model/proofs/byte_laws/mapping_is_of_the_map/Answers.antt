@@ -1,5 +1,5 @@
-use Rattle.byte_laws.proofs.Mapping.{unmapped_map, mapped_map, protected_map}
-use Rattle.byte_laws.proofs.mapping_is_of_the_map.Goals as goal
+use Rattle.emu_model.proofs.Mapping.{unmapped_map, mapped_map, protected_map}
+use Rattle.emu_model.proofs.byte_laws.mapping_is_of_the_map.Goals as goal
 
 pub returns-clause-unmapped : goal.returns-clause-unmapped
 returns-clause-unmapped c m bytes first count is = unmapped_map m bytes first count is

@@ -1,5 +1,5 @@
-use Rattle.byte_laws.proofs.Rows.{reads, writes}
-use Rattle.byte_laws.proofs.ranges_are_of_the_map.Goals as goal
+use Rattle.emu_model.proofs.Rows.{reads, writes}
+use Rattle.emu_model.proofs.byte_laws.ranges_are_of_the_map.Goals as goal
 
 pub returns-clause-reads : goal.returns-clause-reads
 returns-clause-reads c m bytes a n is = reads n m bytes a is

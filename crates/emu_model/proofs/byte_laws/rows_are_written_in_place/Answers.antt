@@ -1,5 +1,5 @@
-use Rattle.byte_laws.proofs.Rows.{there, elsewhere, has_same}
-use Rattle.byte_laws.proofs.rows_are_written_in_place.Goals as goal
+use Rattle.emu_model.proofs.Rows.{there, elsewhere, has_same}
+use Rattle.emu_model.proofs.byte_laws.rows_are_written_in_place.Goals as goal
 
 pub returns-clause-there : goal.returns-clause-there
 returns-clause-there c bytes a k xs few lt has = there xs bytes a k few lt has

@@ -12,8 +12,8 @@ use Rattle.emu_model.specs.ByteMap.{IsByteMap}
 use Rattle.emu_model.specs.PageLaws.{among, none_among, get_mapped, get_unmapped, get_protected, with_rights}
 use Rattle.emu_model.specs.Pages.{is_among, mapped, unmapped, protected, page_peek, peeked, zeroed_page, zeros}
 use Rattle.emu_model.specs.PageEquations.{zeros_is}
-use Rattle.byte_laws.specs.Ranges.{IsSetInPages}
-use Rattle.byte_laws.proofs.Keys.{tied, untied}
+use Rattle.emu_model.specs.Ranges.{IsSetInPages}
+use Rattle.emu_model.proofs.Keys.{tied, untied}
 
 -- a memory whose bytes are another's but for those of some pages has such a map
 set_map : (m n : Memory) (bytes new : FinMap nat_cmp ℕ) (first count : ℕ) (what : Option ℕ) → IsByteMap m bytes → IsSetInPages first count what bytes new

@@ -12,8 +12,8 @@ use Rattle.emu_model.specs.ByteMap.{IsByteMap, put}
 use Rattle.emu_model.specs.Pages.{bytes_at, page_peek, peeked, with_bytes}
 use Rattle.emu_model.specs.PageEquations.{bytes_at-zero, bytes_at-suc}
 use Rattle.emu_model.specs.SoundState.{IsSoundMemory}
-use Rattle.byte_laws.specs.Ranges.{row, written_row}
-use Rattle.byte_laws.proofs.Keys.{tied, same, apart}
+use Rattle.emu_model.specs.Ranges.{row, written_row}
+use Rattle.emu_model.proofs.Keys.{tied, same, apart}
 
 -- ---- reading
 

@@ -1,7 +1,5 @@
 //! Laws of memory as one finite map from address to byte: what stands in bytes that are read and written in a row, and
 //! in pages that are mapped, taken away and protected. Each is the contract of a function that does nothing.
-#![tactic(auto)]
-
 ghost use Rattle.std.specs.Prelude.{◌≡◌, ◌≢◌, ◌<◌, ◌≤◌, ◌+◌, ◌^◌, ℕ, true, List, length, get_or, Some, None};
 ghost use Rattle.std.specs.FinMap.{FinMap, get, contains_key};
 ghost use Rattle.std.specs.Ordering.{nat_cmp};
@@ -10,7 +8,7 @@ ghost use Rattle.emu_model.specs.ByteMap.{IsByteMap};
 ghost use Rattle.emu_model.specs.Pages.{bytes_at, with_bytes, mapped, protected, unmapped};
 ghost use Rattle.emu_model.specs.SoundState.{IsSoundMemory};
 ghost use Rattle.emu_model.specs.declared.access.Rights.{Rights};
-ghost use Rattle.byte_laws.specs.Ranges.{IsSetInPages, row, written_row};
+ghost use Rattle.emu_model.specs.Ranges.{IsSetInPages, row, written_row};
 
 /// A memory has no other map of its bytes.
 pub fn memory_has_one_map()
