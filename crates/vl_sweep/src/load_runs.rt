@@ -13,8 +13,8 @@ use elf_image::Image;
 use emu_machine::{Machine, RunEnd};
 use emu_model::Length;
 use io_gate::{MemSink, SliceSource};
-use sweep_model::{LOAD_BUDGET, LOAD_PAGES};
 use std::alloc::{AllocError, Global};
+use sweep_model::{LOAD_BUDGET, LOAD_PAGES};
 
 /// Want of memory.
 pub type OutOfMemory = AllocError;
