@@ -1,4 +1,5 @@
 //! Executables, field by field.
+use case_streams::put_number;
 use std::alloc::{AllocError, Global};
 
 /// The fields of the first file: an offset, a size in bytes, a value.
@@ -29,24 +30,14 @@ const FIELDS: [(usize, usize, u64); 20] = [
 pub fn first(alloc: Global) -> Result<Vec<u8>, AllocError> {
     let mut file = vec![in alloc; 0u8; 4108]?;
     for (offset, size, value) in FIELDS {
-        put(&mut file, offset, size, value);
+        put_number(&mut file, offset, size, value);
     }
     Ok(file)
 }
 
-/// Writes the low `size` bytes of a number at an offset, lowest first; what is behind the file is left out.
-fn put(file: &mut [u8], offset: usize, size: usize, value: u64) {
-    for (k, byte) in value.to_le_bytes().iter().take(size).enumerate() {
-        let at = offset.saturating_add(k);
-        if at < file.len() {
-            file[at] = *byte;
-        }
-    }
-}
-
 /// Writes a field: its offset, its size and its value.
 pub fn put_field(file: &mut [u8], numbers: [u64; 7]) {
-    put(file, numbers[0] as usize, numbers[1] as usize, numbers[2]);
+    put_number(file, numbers[0] as usize, numbers[1] as usize, numbers[2]);
 }
 
 /// Writes a program header: its number, and its fields but p_paddr and p_align.
@@ -60,6 +51,6 @@ pub fn put_header(file: &mut [u8], numbers: [u64; 7]) {
         (32, 8, numbers[5]),
         (40, 8, numbers[6]),
     ] {
-        put(file, at.saturating_add(offset), size, value);
+        put_number(file, at.saturating_add(offset), size, value);
     }
 }

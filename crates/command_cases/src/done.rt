@@ -1,30 +1,9 @@
 //! What a command line comes to over files and streams in memory.
-use crate::watched::{Moved, Object, Tally, Watched};
+use case_streams::{Calls, Fault, Object, Scene, Streams, Tally, Watched, words_of};
 use commands::command;
 use emu_outcome::Ending;
-use io_gate::{MemImages, MemSink, MemSource, read_all};
-use std::alloc::Global;
-
-/// What a command had moved at each call of its objects.
-#[derive(Drop)]
-pub struct Calls {
-    images: Vec<Moved>,
-    input: Vec<Moved>,
-    output: Vec<Moved>,
-    errors: Vec<Moved>,
-}
-
-impl Calls {
-    /// The calls of an object, in their order.
-    pub fn of(&self, object: Object) -> &[Moved] {
-        match object {
-            Object::Images => &self.images,
-            Object::Input => &self.input,
-            Object::Output => &self.output,
-            Object::Errors => &self.errors,
-        }
-    }
-}
+use io_gate::{MemImages, MemSink, read_all};
+use std::alloc::{AllocError, Global};
 
 /// How a command ended, and what it left.
 #[derive(Drop)]
@@ -49,16 +28,8 @@ impl Done {
     }
 }
 
-/// The streams of a command.
-#[derive(Drop)]
-pub struct Streams {
-    pub input: MemSource,
-    pub output: MemSink,
-    pub errors: MemSink,
-}
-
 /// Does a command line over these files and streams.
-pub fn done_over(alloc: Global, words: &[String], files: MemImages, streams: Streams) -> Done {
+fn done_over(alloc: Global, words: &[String], files: MemImages, streams: Streams) -> Done {
     let tally = Tally::new();
     let mut files = Watched::new(alloc, files, Object::Images, &tally);
     let mut input = Watched::new(alloc, streams.input, Object::Input, &tally);
@@ -88,4 +59,17 @@ pub fn done_over(alloc: Global, words: &[String], files: MemImages, streams: Str
             errors: errors_calls,
         },
     }
+}
+
+/// Does a command line over the files and the streams of a scene, with one call more that fails.
+pub fn done(
+    alloc: Global,
+    scene: &Scene,
+    line: &str,
+    fault: Option<Fault>,
+) -> Result<Done, AllocError> {
+    let words = words_of(alloc, line)?;
+    let files = scene.files_of(alloc, line, fault)?;
+    let streams = scene.streams(alloc, fault)?;
+    Ok(done_over(alloc, &words, files, streams))
 }

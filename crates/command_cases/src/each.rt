@@ -1,20 +1,8 @@
 //! A command line that is done once for each call of an object, with this call failing.
-use crate::done::Done;
-use crate::scene::{Fault, Scene};
-use crate::watched::{Moved, Object};
+use crate::done::{Done, done};
+use case_streams::{Fault, Moved, Object, Scene, is_first, is_rest, object_of, show_range};
 use emu_outcome::Ending;
 use std::io;
-
-/// The object of a name.
-fn object_of(name: &str) -> Option<Object> {
-    match name {
-        "images" => Some(Object::Images),
-        "input" => Some(Object::Input),
-        "output" => Some(Object::Output),
-        "errors" => Some(Object::Errors),
-        _ => None,
-    }
-}
 
 /// How a command ends where a call of the object failed.
 fn ending_of(object: Object) -> Ending {
@@ -23,22 +11,6 @@ fn ending_of(object: Object) -> Ending {
         Object::Input => Ending::ReadFault,
         Object::Output => Ending::WriteFault,
         Object::Errors => Ending::ErrorsFault,
-    }
-}
-
-/// Whether these are just so many of the first bytes of the whole.
-fn is_first(bytes: &[u8], count: usize, whole: &[u8]) -> bool {
-    match whole.get(..count) {
-        Some(first) => first == bytes,
-        None => false,
-    }
-}
-
-/// Whether these are just the bytes of the whole behind so many.
-fn is_rest(bytes: &[u8], count: usize, whole: &[u8]) -> bool {
-    match whole.get(count..) {
-        Some(rest) => rest == bytes,
-        None => false,
     }
 }
 
@@ -52,17 +24,6 @@ fn stands(done: &Done, object: Object, moved: Moved, whole: &Done, given: &[u8])
             Some(left) => is_rest(left, moved.input, given),
             None => false,
         }
-}
-
-/// Writes how many bytes of a stream were moved at the first and at the last of the calls, and how many in all.
-fn show_range(
-    rt: HostRuntime,
-    name: &str,
-    first: usize,
-    last: usize,
-    all: usize,
-) -> io::Result<()> {
-    println!(rt; "  {name}: {first} to {last} of {all} bytes")
 }
 
 /// Writes what the streams had moved at the first and at the last of the calls.
@@ -97,11 +58,11 @@ fn try_call(
     moved: Moved,
     whole: &Done,
 ) -> io::Result<bool> {
-    let done = scene.done(rt.alloc(), line, Some(fault))?;
-    if stands(&done, fault.object, moved, whole, scene.given()) {
+    let again = done(rt.alloc(), scene, line, Some(fault))?;
+    if stands(&again, fault.object, moved, whole, scene.given()) {
         return Ok(true);
     }
-    println!(rt; "call {} of {moved:?}: {:?}", fault.call, done.ending)?;
+    println!(rt; "call {} of {moved:?}: {:?}", fault.call, again.ending)?;
     Ok(false)
 }
 
@@ -135,7 +96,7 @@ fn show_calls(rt: HostRuntime, object: Object, calls: usize, differ: u64) -> io:
 
 /// Does a command line, and again for each call that it made of the object.
 fn do_calls(rt: HostRuntime, scene: &Scene, object: Object, line: &str) -> io::Result<()> {
-    let whole = scene.done(rt.alloc(), line, None)?;
+    let whole = done(rt.alloc(), scene, line, None)?;
     println!(rt; "{:?}, status {}", whole.ending, whole.ending.status())?;
     let differ = try_calls(rt, scene, line, object, &whole)?;
     let calls = whole.calls.of(object);

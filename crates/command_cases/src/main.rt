@@ -34,16 +34,14 @@
 //! at the last, and how many there are.
 #![tactic(auto)]
 
-mod bytes;
 mod done;
 mod each;
-mod scene;
 mod shown;
-mod watched;
 
+use crate::done::done;
 use crate::each::do_each;
-use crate::scene::Scene;
 use crate::shown::{show_brief, show_done};
+use case_streams::Scene;
 use io_gate::{FileImages, Images};
 use std::io;
 
@@ -65,20 +63,20 @@ fn play(rt: HostRuntime, scene: &mut Scene, line: &str) -> io::Result<()> {
         Some((line, name)) => (line, Some(name)),
         None => (line, None),
     };
-    let done = scene.done(rt.alloc(), line, None)?;
+    let whole = done(rt.alloc(), scene, line, None)?;
     scene.forget();
-    show_done(rt, &done)?;
+    show_done(rt, &whole)?;
     match kept {
-        Some(name) => Ok(scene.keep(rt.alloc(), name, done.output())?),
+        Some(name) => Ok(scene.keep(rt.alloc(), name, whole.output())?),
         None => Ok(()),
     }
 }
 
 /// Does a command line, and writes a line of what came of it.
 fn play_brief(rt: HostRuntime, scene: &mut Scene, line: &str) -> io::Result<()> {
-    let done = scene.done(rt.alloc(), line, None)?;
+    let whole = done(rt.alloc(), scene, line, None)?;
     scene.forget();
-    show_brief(rt, &done)
+    show_brief(rt, &whole)
 }
 
 /// Obeys a line that isn't one of an open file's.

@@ -1,8 +1,7 @@
 //! The files and the streams that commands are done over.
 ghost use Rattle.std.specs.Prelude.{◌≤◌, IfOk};
 
-use crate::bytes::{bytes_of, filled, lines_of, put_all, words_of};
-use crate::done::{Done, Streams, done_over};
+use crate::bytes::{bytes_of, filled, lines_of, put_numbers};
 use crate::watched::Object;
 use io_gate::{MemImages, MemSink, MemSource};
 use std::alloc::{AllocError, Global};
@@ -28,6 +27,14 @@ pub struct Scene {
 pub struct Fault {
     pub object: Object,
     pub call: u64,
+}
+
+/// The streams of a command.
+#[derive(Drop)]
+pub struct Streams {
+    pub input: MemSource,
+    pub output: MemSink,
+    pub errors: MemSink,
 }
 
 /// The numbers among the words of a text.
@@ -141,7 +148,7 @@ impl Scene {
         let (name, text) = text.split_once(' ').unwrap_or((text, ""));
         for file in self.files.iter_mut() {
             if file.0.as_str() == name {
-                put_all(&mut file.1, text);
+                put_numbers(&mut file.1, text);
             }
         }
     }
@@ -234,8 +241,8 @@ impl Scene {
         &self.given
     }
 
-    /// The files that a command line names.
-    fn files_of(
+    /// The files that a command line names, with one call more that fails.
+    pub fn files_of(
         &self,
         alloc: Global,
         line: &str,
@@ -254,8 +261,8 @@ impl Scene {
         Ok(MemSource::new(given, most, fails))
     }
 
-    /// The streams of a command.
-    fn streams(&self, alloc: Global, fault: Option<Fault>) -> Result<Streams, AllocError> {
+    /// The streams of a command, with one call more that fails.
+    pub fn streams(&self, alloc: Global, fault: Option<Fault>) -> Result<Streams, AllocError> {
         let to_output = call_of(fault, Object::Output);
         let to_errors = call_of(fault, Object::Errors);
         Ok(Streams {
@@ -263,19 +270,6 @@ impl Scene {
             output: sink_of(alloc, self.output.as_str(), to_output)?,
             errors: sink_of(alloc, self.errors.as_str(), to_errors)?,
         })
-    }
-
-    /// Does a command line, with one call more that fails.
-    pub fn done(
-        &self,
-        alloc: Global,
-        line: &str,
-        fault: Option<Fault>,
-    ) -> Result<Done, AllocError> {
-        let words = words_of(alloc, line)?;
-        let files = self.files_of(alloc, line, fault)?;
-        let streams = self.streams(alloc, fault)?;
-        Ok(done_over(alloc, &words, files, streams))
     }
 
     /// From here on no stream fails.

@@ -16,6 +16,17 @@ pub enum Object {
     Errors,
 }
 
+/// The object of a name.
+pub fn object_of(name: &str) -> Option<Object> {
+    match name {
+        "images" => Some(Object::Images),
+        "input" => Some(Object::Input),
+        "output" => Some(Object::Output),
+        "errors" => Some(Object::Errors),
+        _ => None,
+    }
+}
+
 /// How many bytes were taken from the input, and put on the output and on the errors.
 #[derive(Clone, Copy, Debug, PartialEq, Eq)]
 pub struct Moved {
@@ -79,6 +90,27 @@ impl<'a, T> Watched<'a, T> {
     /// The object, and what its command had moved at each call.
     pub fn end(self) -> (T, Vec<Moved>) {
         (self.of, self.calls)
+    }
+}
+
+/// What a command had moved at each call of its objects.
+#[derive(Drop)]
+pub struct Calls {
+    pub images: Vec<Moved>,
+    pub input: Vec<Moved>,
+    pub output: Vec<Moved>,
+    pub errors: Vec<Moved>,
+}
+
+impl Calls {
+    /// The calls of an object, in their order.
+    pub fn of(&self, object: Object) -> &[Moved] {
+        match object {
+            Object::Images => &self.images,
+            Object::Input => &self.input,
+            Object::Output => &self.output,
+            Object::Errors => &self.errors,
+        }
     }
 }
 

@@ -31,7 +31,7 @@ pub fn lines_of(alloc: Global, text: &str) -> Result<Vec<u8>, AllocError> {
 }
 
 /// Writes the low `size` bytes of a number at an offset, lowest first; what is behind the end is left out.
-fn put(bytes: &mut [u8], offset: usize, size: usize, number: u64) {
+pub fn put_number(bytes: &mut [u8], offset: usize, size: usize, number: u64) {
     for (k, byte) in number.to_le_bytes().iter().take(size).enumerate() {
         let at = offset.saturating_add(k);
         if at < bytes.len() {
@@ -41,13 +41,13 @@ fn put(bytes: &mut [u8], offset: usize, size: usize, number: u64) {
 }
 
 /// Writes numbers one behind the other: `OFFSET SIZE NUMBER ..`.
-pub fn put_all(bytes: &mut [u8], text: &str) {
+pub fn put_numbers(bytes: &mut [u8], text: &str) {
     let (offset, more) = text.split_once(' ').unwrap_or((text, ""));
     let (size, numbers) = more.split_once(' ').unwrap_or((more, ""));
     let size = size.parse::<usize>().unwrap_or(0);
     let mut at = offset.parse::<usize>().unwrap_or(0);
     for number in numbers.split(' ') {
-        put(
+        put_number(
             bytes,
             at,
             size,
@@ -82,4 +82,20 @@ pub fn words_of(alloc: Global, text: &str) -> Result<Vec<String>, AllocError> {
         words.push(word_of(alloc, word)?)?;
     }
     Ok(words)
+}
+
+/// Whether these are just so many of the first bytes of the whole.
+pub fn is_first(bytes: &[u8], count: usize, whole: &[u8]) -> bool {
+    match whole.get(..count) {
+        Some(first) => first == bytes,
+        None => false,
+    }
+}
+
+/// Whether these are just the bytes of the whole behind so many.
+pub fn is_rest(bytes: &[u8], count: usize, whole: &[u8]) -> bool {
+    match whole.get(count..) {
+        Some(rest) => rest == bytes,
+        None => false,
+    }
 }
