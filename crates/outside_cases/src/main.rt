@@ -31,7 +31,6 @@ mod names;
 mod pages;
 mod programs;
 mod state;
-mod sve_names;
 
 use crate::cases::agrees;
 use crate::named_words::line_agrees;

@@ -1,82 +1,170 @@
 //! The names of forms, as the lines of words have them.
-use crate::sve_names::sve_name;
-use a64_insn::A64Form;
 use insn_decode::Insn;
+
+/// The names of the forms of general instructions (A64), in the table's order.
+const A64_NAMES: [&str; 43] = [
+    "Adr",
+    "AddImm",
+    "LogicImm",
+    "MoveWide",
+    "Bitfield",
+    "Extract",
+    "LogicReg",
+    "AddReg",
+    "AddExt",
+    "AddCarry",
+    "CondReg",
+    "CondImm",
+    "Select",
+    "MulAdd",
+    "MulLong",
+    "MulHigh",
+    "TwoSource",
+    "OneSource",
+    "Rev",
+    "Branch",
+    "BranchCond",
+    "Compare",
+    "Test",
+    "BranchReg",
+    "Except",
+    "Hint",
+    "Barrier",
+    "ReadSys",
+    "WriteSys",
+    "LsUnsigned",
+    "LsUnscaled",
+    "LsPost",
+    "LsPre",
+    "LsReg",
+    "LsLiteral",
+    "Pair",
+    "StoreEx",
+    "LoadEx",
+    "Ordered",
+    "Atomic",
+    "CompareSwap",
+    "FMove",
+    "MoveImm",
+];
+
+/// The names of the forms of vector instructions (SVE), in the table's order.
+const SVE_NAMES: [&str; 104] = [
+    "LoadZ",
+    "LoadP",
+    "StoreZ",
+    "GatherSx",
+    "GatherSxScaled",
+    "StoreReg",
+    "LoadImm",
+    "LoadReg",
+    "LoadFf",
+    "LoadNf",
+    "LoadNtImm",
+    "LoadNtReg",
+    "LoadQuadImm",
+    "LoadQuadReg",
+    "LoadManyImm",
+    "LoadManyReg",
+    "LoadOne",
+    "StoreImm",
+    "StoreNtImm",
+    "StoreNtReg",
+    "StoreManyImm",
+    "StoreManyReg",
+    "StoreP",
+    "GatherDx",
+    "GatherDxScaled",
+    "GatherD",
+    "GatherDScaled",
+    "GatherSv",
+    "GatherDv",
+    "ScatterSx",
+    "ScatterSxScaled",
+    "ScatterDx",
+    "ScatterDxScaled",
+    "ScatterD",
+    "ScatterDScaled",
+    "ScatterSv",
+    "ScatterDv",
+    "Binary",
+    "BinaryWide",
+    "ShiftImm",
+    "Unary",
+    "MulAddZ",
+    "MulAddD",
+    "Plain",
+    "LogicZ",
+    "PlainWide",
+    "PlainShift",
+    "Index",
+    "PrefixP",
+    "Prefix",
+    "Dot",
+    "DotIndexed",
+    "Reduce",
+    "Count",
+    "IncX",
+    "IncZ",
+    "SatX",
+    "SatZ",
+    "AddLength",
+    "ReadLength",
+    "BitmaskZ",
+    "CopyImm",
+    "SelectZ",
+    "DupReg",
+    "DupLane",
+    "Insert",
+    "RevZ",
+    "Unpack",
+    "Table",
+    "Interleave",
+    "InterleaveP",
+    "UnpackP",
+    "RevP",
+    "Compact",
+    "Splice",
+    "Ext",
+    "CopyReg",
+    "Last",
+    "CondLast",
+    "CmpVec",
+    "CmpWide",
+    "CmpUImm",
+    "CmpSImm",
+    "LogicP",
+    "SelectP",
+    "Break",
+    "BreakPair",
+    "BreakNext",
+    "Ptest",
+    "First",
+    "Next",
+    "Ptrue",
+    "Pfalse",
+    "ReadFfr",
+    "ReadFfrAll",
+    "WriteFfr",
+    "CountP",
+    "IncP",
+    "IncPZ",
+    "While",
+    "Cterm",
+    "WideImm",
+    "MinMaxImm",
+    "DupImm",
+];
+
+/// The name at a number.
+fn name_at(names: &[&'static str], number: u8) -> &'static str {
+    names.get(usize::from(number)).copied().unwrap_or("")
+}
 
 /// The name of an instruction's form.
 pub fn form_name(insn: &Insn) -> &'static str {
-    let name = match insn {
-        Insn::A64(insn) => a64_name(insn.form()),
-        Insn::Sve(insn) => sve_name(insn.form()),
-    };
-    name.unwrap_or("")
-}
-
-/// The name of an A64 form.
-fn a64_name(form: &A64Form) -> Option<&'static str> {
-    data_name(*form).or(flow_name(*form)).or(memory_name(*form))
-}
-
-/// The name of a form of data processing.
-fn data_name(form: A64Form) -> Option<&'static str> {
-    Some(match form {
-        A64Form::Adr { .. } => "Adr",
-        A64Form::AddImm { .. } => "AddImm",
-        A64Form::LogicImm { .. } => "LogicImm",
-        A64Form::MoveWide { .. } => "MoveWide",
-        A64Form::Bitfield { .. } => "Bitfield",
-        A64Form::Extract { .. } => "Extract",
-        A64Form::LogicReg { .. } => "LogicReg",
-        A64Form::AddReg { .. } => "AddReg",
-        A64Form::AddExt { .. } => "AddExt",
-        A64Form::AddCarry { .. } => "AddCarry",
-        A64Form::CondReg { .. } => "CondReg",
-        A64Form::CondImm { .. } => "CondImm",
-        A64Form::Select { .. } => "Select",
-        A64Form::MulAdd { .. } => "MulAdd",
-        A64Form::MulLong { .. } => "MulLong",
-        A64Form::MulHigh { .. } => "MulHigh",
-        A64Form::TwoSource { .. } => "TwoSource",
-        A64Form::OneSource { .. } => "OneSource",
-        A64Form::Rev { .. } => "Rev",
-        _ => return None,
-    })
-}
-
-/// The name of a form of branches, exceptions and system.
-fn flow_name(form: A64Form) -> Option<&'static str> {
-    Some(match form {
-        A64Form::Branch { .. } => "Branch",
-        A64Form::BranchCond { .. } => "BranchCond",
-        A64Form::Compare { .. } => "Compare",
-        A64Form::Test { .. } => "Test",
-        A64Form::BranchReg { .. } => "BranchReg",
-        A64Form::Except { .. } => "Except",
-        A64Form::Hint { .. } => "Hint",
-        A64Form::Barrier { .. } => "Barrier",
-        A64Form::ReadSys { .. } => "ReadSys",
-        A64Form::WriteSys { .. } => "WriteSys",
-        _ => return None,
-    })
-}
-
-/// The name of a form of loads, stores and bit moves.
-fn memory_name(form: A64Form) -> Option<&'static str> {
-    Some(match form {
-        A64Form::LsUnsigned { .. } => "LsUnsigned",
-        A64Form::LsUnscaled { .. } => "LsUnscaled",
-        A64Form::LsPost { .. } => "LsPost",
-        A64Form::LsPre { .. } => "LsPre",
-        A64Form::LsReg { .. } => "LsReg",
-        A64Form::LsLiteral { .. } => "LsLiteral",
-        A64Form::Pair { .. } => "Pair",
-        A64Form::StoreEx { .. } => "StoreEx",
-        A64Form::LoadEx { .. } => "LoadEx",
-        A64Form::Ordered { .. } => "Ordered",
-        A64Form::Atomic { .. } => "Atomic",
-        A64Form::CompareSwap { .. } => "CompareSwap",
-        A64Form::FMove { .. } => "FMove",
-        A64Form::MoveImm { .. } => "MoveImm",
-        _ => return None,
-    })
+    match insn {
+        Insn::A64(insn) => name_at(&A64_NAMES, a64_insn::line_number(insn.form())),
+        Insn::Sve(insn) => name_at(&SVE_NAMES, sve_insn::lines::line_number(insn.form())),
+    }
 }
