@@ -1,7 +1,8 @@
-//! Sources, sinks and files: each object once, through its trait, and what no clause says of the adapters.
+//! Sources, sinks and files that no line of a case reaches: the objects without faults, and what no clause says of the
+//! adapters.
 use io_gate::{
-    Failed, FileImages, Images, ImagesError, MemImages, MemSink, MemSource, NoFaultImages,
-    NoFaultSource, Sink, Source, StdSink, StdSource, put_all,
+    Failed, FileImages, Images, ImagesError, NoFaultImages, NoFaultSource, Sink, Source, StdSink,
+    StdSource, put_all,
 };
 use std::alloc::{AllocError, Global};
 use std::fs;
@@ -89,77 +90,35 @@ impl Write for Stalled {
     }
 }
 
-/// The number of a call that fails.
-fn one(alloc: Global, call: u64) -> Result<Vec<u64>, AllocError> {
-    let mut fails = Vec::new(alloc);
-    fails.push(call)?;
-    Ok(fails)
-}
-
-/// A source of five bytes, two a call, whose second call fails.
-fn failing_source(alloc: Global) -> Result<MemSource, AllocError> {
-    let fails = one(alloc, 1)?;
-    Ok(MemSource::new(FIVE.to_vec(alloc)?, 2, fails))
-}
-
 /// A source of five bytes, nine a call, of which none fails.
 fn whole_source(alloc: Global) -> Result<NoFaultSource, AllocError> {
     Ok(NoFaultSource::new(FIVE.to_vec(alloc)?, 9))
 }
 
-#[test]
-fn sources_in_memory_give_all(rt: HostRuntime) -> Result<(), Fail> {
-    let mut failing = failing_source(rt.alloc())?;
-    let mut whole = whole_source(rt.alloc())?;
-    gives(&rt, rt.alloc(), &mut failing, 5, (FIVE, 1))?;
-    gives(&rt, rt.alloc(), &mut whole, 3, (FIVE, 0))?;
-    Ok(())
-}
-
-#[test]
-fn a_put_that_fails_leaves_a_prefix(rt: HostRuntime) -> Result<(), Fail> {
-    let mut fails = Vec::new(rt.alloc());
-    fails.push(1)?;
-    let mut sink = MemSink::new(rt.alloc(), 4, fails);
-    let failed = put_all(&mut sink, b"123456");
-    let is_prefix = sink.kept() == b"1234".as_slice();
-    let more = put_all(&mut sink, b"789ab");
-    let none = put_all(&mut sink, b"");
-    assert_eq!(rt; [failed, more, none], [Err(Failed), Ok(()), Ok(())]);
-    assert!(rt; is_prefix);
-    assert_eq!(rt; (sink.kept(), sink.wanting()), (b"1234789ab".as_slice(), 0));
-    Ok(())
-}
-
-/// The first of two files of the name "a".
+/// The bytes of a file.
 const FILE: &[u8] = b"abc";
 
-/// Two files of the name "a".
-fn two_files(alloc: Global) -> Result<Vec<(String, Vec<u8>)>, AllocError> {
+/// A file of the name "a".
+fn one_file(alloc: Global) -> Result<Vec<(String, Vec<u8>)>, AllocError> {
     let mut files = Vec::new(alloc);
-    for bytes in [FILE, b"d"] {
-        files.push((String::from_str(alloc, "a")?, bytes.to_vec(alloc)?))?;
-    }
+    let name = String::from_str(alloc, "a")?;
+    files.push((name, FILE.to_vec(alloc)?))?;
     Ok(files)
 }
 
 #[test]
-fn files_in_memory_are_read_whole(rt: HostRuntime) -> Result<(), Fail> {
-    let mut files = MemImages::new(two_files(rt.alloc())?, one(rt.alloc(), 3)?);
+fn objects_in_memory_without_faults(rt: HostRuntime) -> Result<(), Fail> {
+    let mut source = whole_source(rt.alloc())?;
+    gives(&rt, rt.alloc(), &mut source, 3, (FIVE, 0))?;
+    let mut files = NoFaultImages::new(one_file(rt.alloc())?);
     let table = [
         ("a", 3, Ok(FILE)),
         ("a", 2, Err(ImagesError::TooLong)),
         ("b", 3, Err(ImagesError::Missing)),
-        ("a", 3, Err(ImagesError::Failed)),
-        ("a", 3, Ok(FILE)),
     ];
     for (name, limit, want) in table {
         answers(&rt, rt.alloc(), &mut files, name, limit, want);
     }
-    let mut files = NoFaultImages::new(two_files(rt.alloc())?);
-    let missing = Err(ImagesError::Missing);
-    answers(&rt, rt.alloc(), &mut files, "a", 3, Ok(FILE));
-    answers(&rt, rt.alloc(), &mut files, "b", 3, missing);
     Ok(())
 }
 
