@@ -133,9 +133,9 @@ fn add_imm(core: &mut Core, op: AddOp, sf: bool, sh: bool, imm12: U<12>, rn: Reg
 {
     // the width is a constant in each of the two
     if sf {
-        add_imm_at(core, op, true, sh, imm12, rn, rd, 64);
+        add_imm_at(core, op, sf, sh, imm12, rn, rd, 64);
     } else {
-        add_imm_at(core, op, false, sh, imm12, rn, rd, 32);
+        add_imm_at(core, op, sf, sh, imm12, rn, rd, 32);
     }
 }
 
@@ -172,9 +172,9 @@ fn add_reg(
 {
     // the width is a constant in each of the two
     if sf {
-        add_reg_at(core, op, true, shift, rm, amount, rn, rd, 64);
+        add_reg_at(core, op, sf, shift, rm, amount, rn, rd, 64);
     } else {
-        add_reg_at(core, op, false, shift, rm, amount, rn, rd, 32);
+        add_reg_at(core, op, sf, shift, rm, amount, rn, rd, 32);
     }
 }
 

@@ -132,9 +132,9 @@ fn bitfield(core: &mut Core, op: BitfieldOp, sf: bool, n: bool, r: U<6>, s: U<6>
 {
     // the width is a constant in each of the two
     if sf {
-        bitfield_at(core, op, true, n, r, s, rn, rd, 64);
+        bitfield_at(core, op, sf, n, r, s, rn, rd, 64);
     } else {
-        bitfield_at(core, op, false, n, r, s, rn, rd, 32);
+        bitfield_at(core, op, sf, n, r, s, rn, rd, 32);
     }
 }
 

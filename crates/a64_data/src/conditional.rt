@@ -110,9 +110,9 @@ fn select(core: &mut Core, op: SelectOp, sf: bool, rm: Reg, cond: U<4>, rn: Reg,
 {
     // the width is a constant in each of the two
     if sf {
-        select_at(core, op, true, rm, cond, rn, rd, 64);
+        select_at(core, op, sf, rm, cond, rn, rd, 64);
     } else {
-        select_at(core, op, false, rm, cond, rn, rd, 32);
+        select_at(core, op, sf, rm, cond, rn, rd, 32);
     }
 }
 

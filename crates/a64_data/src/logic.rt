@@ -101,9 +101,9 @@ fn logic_reg(
 {
     // the width is a constant in each of the two
     if sf {
-        logic_reg_at(core, op, true, shift, rm, amount, rn, rd, 64);
+        logic_reg_at(core, op, sf, shift, rm, amount, rn, rd, 64);
     } else {
-        logic_reg_at(core, op, false, shift, rm, amount, rn, rd, 32);
+        logic_reg_at(core, op, sf, shift, rm, amount, rn, rd, 32);
     }
 }
 
@@ -141,9 +141,9 @@ fn logic_imm(
     ensures { core.new ≡ scalar (A64Form.LogicImm op sf n immr imms rn rd) core.old }
 {
     if sf {
-        logic_imm_at(core, op, true, n, immr, imms, rn, rd, 64);
+        logic_imm_at(core, op, sf, n, immr, imms, rn, rd, 64);
     } else {
-        logic_imm_at(core, op, false, n, immr, imms, rn, rd, 32);
+        logic_imm_at(core, op, sf, n, immr, imms, rn, rd, 32);
     }
 }
 

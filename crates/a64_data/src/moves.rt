@@ -53,9 +53,9 @@ fn move_wide(core: &mut Core, op: MoveWideOp, sf: bool, hw: U<2>, imm16: U<16>, 
 {
     // the width is a constant in each of the two
     if sf {
-        move_wide_at(core, op, true, hw, imm16, rd, 64);
+        move_wide_at(core, op, sf, hw, imm16, rd, 64);
     } else {
-        move_wide_at(core, op, false, hw, imm16, rd, 32);
+        move_wide_at(core, op, sf, hw, imm16, rd, 32);
     }
 }
 

@@ -40,9 +40,9 @@ fn mul_add(core: &mut Core, op: MulAddOp, sf: bool, rm: Reg, ra: Reg, rn: Reg, r
 {
     // the width is a constant in each of the two
     if sf {
-        mul_add_at(core, op, true, rm, ra, rn, rd, 64);
+        mul_add_at(core, op, sf, rm, ra, rn, rd, 64);
     } else {
-        mul_add_at(core, op, false, rm, ra, rn, rd, 32);
+        mul_add_at(core, op, sf, rm, ra, rn, rd, 32);
     }
 }
 
