@@ -1,4 +1,4 @@
-"""Works out the table of lying executables in the section `= images` of crates/call_cases/stdin, by the rules of
+"""Works out the table of lying executables in the section `= images` of crates/command_cases/stdin, by the rules of
 docs/MANUAL.md ("Images") alone: it shares nothing with the program. Two files are cut after each of their bytes;
 each field of their headers is set to 0, to one and to a page more and less than it says, to half of its greatest
 value and to that value, an address also to the page of another segment, a size also to the most that the pages allow
@@ -10,8 +10,9 @@ import struct
 import sys
 
 TOP = os.path.dirname(os.path.dirname(os.path.abspath(__file__)))
-STDIN = os.path.join(TOP, "crates", "call_cases", "stdin")
+STDIN = os.path.join(TOP, "crates", "command_cases", "stdin")
 MARK = "# ---- worked out by tests/images.py"
+BEHIND = "\n= words\n"
 
 # A field: its offset and its size in bytes.
 FILE_FIELDS = [(k, 1) for k in range(16)] + [
@@ -240,11 +241,12 @@ def main(words):
         return 0
     with open(STDIN, encoding="utf-8") as file:
         before, mark, behind = file.read().partition(MARK)
+    behind = behind.partition(BEHIND)[0] + "\n"
     if "\n= images\n" in before and mark + behind == made:
         cases = [line for line in made.splitlines() if line.startswith(("cuts=", "put="))]
         print(f"{len(cases)} cases are as they were worked out")
         return 0
-    print("the section of images in crates/call_cases/stdin doesn't end in what tests/images.py works out")
+    print("the section of images in crates/command_cases/stdin doesn't end in what tests/images.py works out")
     return 1
 
 

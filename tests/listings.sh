@@ -66,7 +66,8 @@ gnu_texts() {
         skip "texts through GNU's assembler" "aarch64-linux-gnu-as isn't on this machine"
         return
     fi
-    awk -F '\t' 'NF == 3 && $2 != "-" { print ".word 0x" $1 }' crates/outside_cases/stdin >"$scratch/words.s"
+    awk -F '\t' '/^= / { is_on = $0 == "= words" } is_on && NF == 3 && $2 != "-" { print ".word 0x" $1 }' \
+        crates/command_cases/stdin >"$scratch/words.s"
     "$SVEMU" asm "$scratch/words.s" >"$scratch/words.elf"
     # A target is the last token, with no `#` before it.
     "$SVEMU" dis "$scratch/words.elf" | cut -d ' ' -f 3- | awk '$NF !~ /^0x/ || /#0x[0-9a-f]*$/' >"$scratch/texts.s"

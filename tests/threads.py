@@ -1,8 +1,8 @@
 #!/usr/bin/env python3
 """Programs of several contexts, and what they come to under schedules, by an interpreter of its own.
 
-usage: threads.py --write FOLDER    writes the last part of FOLDER/stdin and of FOLDER/stdout, from the line on that
-                                    says it is worked out here
+usage: threads.py --write FOLDER    writes the last part of the command lines of FOLDER/stdin and of FOLDER/stdout, from
+                                    the line on that says it is worked out here
        threads.py --check FOLDER    compares these with what it would write
        threads.py --show NAME       prints the words of a program
 
@@ -820,13 +820,14 @@ def main(words):
         file, made = f"{words[1]}/{name}", ("\n".join(text) + "\n").encode()
         with open(file, "rb") as stands:
             before, section, found = stands.read().partition(SECTION)
+        found, mark, behind = found.partition(BEHIND)
         if not section:
             print(f"{file} has no line {SECTION.decode().strip()!r}")
             return 1
         if words[0] == "--write":
             with open(file, "wb") as stands:
-                stands.write(before + section + made)
-        elif found != made:
+                stands.write(before + section + made[:-1] + mark + behind)
+        elif found != made[:-1]:
             print(f"{file} isn't what tests/threads.py works out")
             return 1
     print(f"{count} cases, {len(REFUSED)} schedules refused")
@@ -834,6 +835,7 @@ def main(words):
 
 
 SECTION = b"\n# ---- contexts, worked out by tests/threads.py\n"
+BEHIND = b"\n= calls\n"
 
 if __name__ == "__main__":
     sys.exit(main(sys.argv[1:]))

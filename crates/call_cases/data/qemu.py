@@ -1,5 +1,5 @@
 #!/usr/bin/env python3
-"""Makes the calls of the cases of ../stdin under qemu-aarch64, and writes each answer that isn't the case's, but for those of KNOWN.
+"""Makes the calls of the cases of crates/command_cases/stdin under qemu-aarch64, and writes each answer that isn't the case's, but for those of KNOWN.
 
 Cases with items that QEMU has nothing like (`pages`, `portion`, `fail`) are left out, and so are what is asked between
 the calls and the lines with ` = `, which make no call of the system.
@@ -123,7 +123,7 @@ def differences(items, folder):
 
 def main():
     cases, differ, known = 0, 0, collections.Counter()
-    with open(os.path.join(HERE, "..", "stdin")) as file, tempfile.TemporaryDirectory() as folder:
+    with open(os.path.join(HERE, "..", "..", "command_cases", "stdin")) as file, tempfile.TemporaryDirectory() as folder:
         for line in file.read().partition("= calls\n")[2].partition("\n= ")[0].splitlines():
             line = line.strip()
             if not line or line.startswith("#") or " = " in line:

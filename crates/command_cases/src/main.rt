@@ -1,6 +1,9 @@
-//! Does the command lines of its input over files and streams in memory, and writes how each ends and what it writes.
+//! The cases: does the command lines of its input over files and streams in memory, and writes how each ends and what it
+//! writes; and compares what its other lines say of calls, words and pages.
 //!
-//! A line of standard input is one of these; an empty one and one that begins with `#` are copied:
+//! A line `= SECTION` of standard input says what the lines behind it are, up to the next such line: those of `calls`,
+//! `schedules` and `images` are told in `call_cases`, those of `words` and `pages` in `outside_cases`. Before the first
+//! such line, each is one of these; an empty one and one that begins with `#` are copied:
 //!
 //! - `file NAME`: the lines behind it, up to one that is `.`, are the file's, each with its newline.
 //! - `bytes NAME BYTE ..`: a file of these bytes, in hexadecimal.
@@ -41,8 +44,10 @@ mod shown;
 use crate::done::done;
 use crate::each::do_each;
 use crate::shown::{show_brief, show_done};
+use call_cases::Reader;
 use case_streams::Scene;
 use io_gate::{FileImages, Images};
+use outside_cases::{Both, Words};
 use std::io;
 
 /// Files are read up to so many bytes.
@@ -99,16 +104,82 @@ fn obey(rt: HostRuntime, scene: &mut Scene, text: &str) -> io::Result<()> {
     }
 }
 
-fn main(rt: HostRuntime) -> io::Result<()> {
-    let mut scene = Scene::new(rt.alloc());
-    for line in rt.lines(rt.alloc()) {
-        let line = line?;
-        let text = line.as_str();
-        if scene.is_open() {
-            scene.write_line(text)?;
-            continue;
+/// Whose lines the lines of input are.
+#[derive(Clone, Copy)]
+enum Section {
+    Commands,
+    Calls,
+    Words,
+    Pages,
+}
+
+/// The section that the lines are of, and what each section has come to.
+#[derive(Drop)]
+struct Cases {
+    section: Section,
+    scene: Scene,
+    calls: Reader,
+    words: Words,
+    pages: Both,
+}
+
+impl Cases {
+    /// Begins a section.
+    fn begin(&mut self, rt: HostRuntime, name: &str) -> io::Result<()> {
+        println!(rt; "= {name}")?;
+        self.section = match name {
+            "words" => Section::Words,
+            "pages" => Section::Pages,
+            _ => Section::Calls,
+        };
+        if matches!(self.section, Section::Calls) && !self.calls.begin(name) {
+            println!(rt; "this is no section")?;
         }
-        obey(rt, &mut scene, text)?;
+        Ok(())
     }
-    Ok(())
+
+    /// Takes a line of input.
+    fn play(&mut self, rt: HostRuntime, line: &str) -> io::Result<()> {
+        if self.scene.is_open() {
+            return Ok(self.scene.write_line(line)?);
+        }
+        if let Some(name) = line.strip_prefix("= ") {
+            return self.begin(rt, name);
+        }
+        match self.section {
+            Section::Commands => obey(rt, &mut self.scene, line),
+            Section::Calls => self.calls.play(rt, line),
+            Section::Words => self.words.play(rt, line),
+            Section::Pages => self.pages.play(rt, line),
+        }
+    }
+
+    /// Takes all lines of input.
+    fn play_all(&mut self, rt: HostRuntime) -> io::Result<()> {
+        for line in rt.lines(rt.alloc()) {
+            let line = line?;
+            self.play(rt, line.as_str())?;
+        }
+        Ok(())
+    }
+
+    /// Writes how many cases of each section but the first there were, those of pages first, and how many differ.
+    fn count(&self, rt: HostRuntime) -> io::Result<()> {
+        self.pages.count(rt)?;
+        self.calls.count(rt)?;
+        self.words.count(rt)
+    }
+}
+
+fn main(rt: HostRuntime) -> io::Result<()> {
+    let pages = Both::first(rt.alloc())?;
+    let mut cases = Cases {
+        section: Section::Commands,
+        scene: Scene::new(rt.alloc()),
+        calls: Reader::new(rt.alloc()),
+        words: Words::new(),
+        pages,
+    };
+    cases.play_all(rt)?;
+    cases.count(rt)
 }

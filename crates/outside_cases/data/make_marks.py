@@ -1,6 +1,6 @@
 #!/usr/bin/env python3
-"""Makes commands over pages about marks and what they answer, and puts them in the place of those at the end of ../stdin and
-../stdout, beside this folder, from the line `mark 0` on.
+"""Makes commands over pages about marks and what they answer, and puts them in the place of those at the end of stdin and stdout of
+`command_cases`, from the line `mark 0` on.
 
 A page is an entry of a dictionary, a mark another dictionary, and a block is a list that both may hold: it is copied
 where it is written while more than one holds it.
@@ -206,7 +206,7 @@ def some_commands(source):
 
 def kept(name):
     """The lines of the section of pages of a file before those that this script makes."""
-    _, lines = parts(name)
+    _, lines, _ = parts(name)
     first = BY_HAND.split("\n")[0]
     ours = [place for place, line in enumerate(lines) if line.startswith(first)]
     return lines[: ours[0]] if ours else lines

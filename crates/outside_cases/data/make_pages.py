@@ -1,6 +1,6 @@
 #!/usr/bin/env python3
-"""Makes the commands over pages and what they answer: the last sections of ../stdin and ../stdout, beside this folder, behind
-the line `= pages`.
+"""Makes the commands over pages and what they answer: the last sections of stdin and stdout of `command_cases`, behind the line
+`= pages`.
 
 It shares nothing with the two programs of pages: a page is an entry of a dictionary, by its number.
 """
@@ -10,7 +10,7 @@ import random
 
 LIMIT = 40
 END = 2**35
-FOLDER = os.path.join(os.path.dirname(os.path.abspath(__file__)), "..")
+FOLDER = os.path.join(os.path.dirname(os.path.abspath(__file__)), "..", "..", "command_cases")
 SECTION = "\n= pages\n"
 
 BY_HAND = """mapped
@@ -156,17 +156,20 @@ def some_commands(source):
 
 
 def parts(name):
-    """What stands before the section of pages in a file, and the lines of that section."""
+    """What stands before the section of pages in a file, the lines of that section, and those behind it."""
     with open(os.path.join(FOLDER, name), encoding="utf-8") as file:
         before, _, section = file.read().partition(SECTION)
-    return before, section.split("\n")[:-1]
+    lines = section.split("\n")[:-1]
+    ends = [place + 1 for place, line in enumerate(lines) if line.endswith(" commands, 0 differ")]
+    end = ends[0] if ends else len(lines)
+    return before, lines[:end], lines[end:]
 
 
 def put(name, lines):
     """Puts lines in the place of those of the section of pages."""
-    before, _ = parts(name)
+    before, _, behind = parts(name)
     with open(os.path.join(FOLDER, name), "w", encoding="utf-8") as file:
-        file.write(before + SECTION + "\n".join(lines) + "\n")
+        file.write(before + SECTION + "\n".join(lines + behind) + "\n")
 
 
 def main():

@@ -1,7 +1,8 @@
-//! Compares single words and pages with what other programs say of them, and writes the lines that differ.
+//! Compares single words and pages with what other programs say of them, and writes the lines that differ. It is proved
+//! for safety alone, as the program that reads the lines is.
 //!
-//! Behind the line `= pages` each line is a command over mapped pages (`pages.rt`), and what it answers is written.
-//! Before it a line is of a word.
+//! In the section `pages` each line is a command over mapped pages (`pages.rt`), and what it answers is written. In the
+//! section `words` a line is of a word.
 //!
 //! A line of four columns, with a tab between them, is a case: one step as another emulator answered it, or as it was
 //! worked by hand. Its columns are the word, a vector length, the state before the step and what differs after it, as
@@ -34,7 +35,7 @@ mod state;
 
 use crate::cases::agrees;
 use crate::named_words::line_agrees;
-use crate::pages::Both;
+pub use crate::pages::Both;
 use std::io;
 
 /// How many lines there are of a kind, and how many of them differ.
@@ -60,16 +61,24 @@ impl Count {
     }
 }
 
-/// How many lines there are of both kinds of words.
+/// How many lines of words there were so far, of both kinds, and how many of them differ.
 #[derive(Clone, Copy)]
-struct Counts {
+pub struct Words {
     cases: Count,
     words: Count,
 }
 
-impl Counts {
+impl Words {
+    /// No lines.
+    pub fn new() -> Words {
+        Words {
+            cases: Count::new(),
+            words: Count::new(),
+        }
+    }
+
     /// Compares the line of a word.
-    fn play(&mut self, rt: HostRuntime, line: &str) -> io::Result<()> {
+    pub fn play(&mut self, rt: HostRuntime, line: &str) -> io::Result<()> {
         let differs = if line.split('\t').count() == 4 {
             let differs = !agrees(rt.alloc(), line);
             self.cases.add(differs);
@@ -85,49 +94,9 @@ impl Counts {
         Ok(())
     }
 
-    /// Writes how many there are, and how many differ.
-    fn write(&self, rt: HostRuntime) -> io::Result<()> {
+    /// Writes how many lines there were, and how many differ.
+    pub fn count(&self, rt: HostRuntime) -> io::Result<()> {
         println!(rt; "{} cases, {} differ", self.cases.lines, self.cases.differ)?;
         println!(rt; "{} words, {} differ", self.words.lines, self.words.differ)
     }
-}
-
-/// What the lines so far came to, of words and of pages.
-#[derive(Drop)]
-struct Played {
-    counts: Counts,
-    pages: Both,
-    /// Whether the lines of pages have begun.
-    are_pages: bool,
-}
-
-impl Played {
-    /// Plays a line.
-    fn play(&mut self, rt: HostRuntime, line: &str) -> io::Result<()> {
-        if line == "= pages" {
-            self.are_pages = true;
-            self.counts.write(rt)?;
-            return println!(rt; "{line}");
-        }
-        if self.are_pages {
-            return self.pages.play(rt, line);
-        }
-        self.counts.play(rt, line)
-    }
-}
-
-fn main(rt: HostRuntime) -> io::Result<()> {
-    let mut played = Played {
-        counts: Counts {
-            cases: Count::new(),
-            words: Count::new(),
-        },
-        pages: Both::first(rt.alloc())?,
-        are_pages: false,
-    };
-    for line in rt.lines(rt.alloc()) {
-        let line = line?;
-        played.play(rt, line.as_str())?;
-    }
-    played.pages.count(rt)
 }

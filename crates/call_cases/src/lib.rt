@@ -1,8 +1,7 @@
 //! Makes calls of the system and of functions of numbers, reads executables and schedules, and writes the lines of
-//! cases that differ.
+//! cases that differ. It is proved for safety alone, as the program that reads the lines is.
 //!
-//! A line `= KIND` of standard input says what the lines behind it are, up to the next such line. Each is a case, but
-//! an empty one, and one that begins with `#`:
+//! The lines of a section are each a case, but an empty one, and one that begins with `#`. The sections are:
 //!
 //! - `calls`: with ` = ` in it, what a function makes of numbers (`numbers.rt`); without, calls of one program after
 //!   the other, and what they answer;
@@ -48,7 +47,7 @@ mod schedules;
 use std::alloc::Global;
 use std::io;
 
-/// What a line of standard input is.
+/// What the lines of a section are.
 #[derive(Clone, Copy)]
 enum Kind {
     Call,
@@ -57,7 +56,7 @@ enum Kind {
     Unknown,
 }
 
-/// The kind of a name.
+/// The kind of a section's name.
 fn kind_of(name: &str) -> Kind {
     match name {
         "calls" => Kind::Call,
@@ -70,7 +69,7 @@ fn kind_of(name: &str) -> Kind {
 /// What the lines are, the items that each case of images begins with, and how many cases there were, and of how many
 /// an item differs.
 #[derive(Drop)]
-struct Reader {
+pub struct Reader {
     alloc: Global,
     kind: Kind,
     start: String,
@@ -88,8 +87,8 @@ fn call_difference(alloc: Global, line: &str) -> Option<&str> {
 }
 
 impl Reader {
-    /// No kind yet.
-    fn new(alloc: Global) -> Reader {
+    /// No section yet.
+    pub fn new(alloc: Global) -> Reader {
         Reader {
             alloc,
             kind: Kind::Unknown,
@@ -120,11 +119,15 @@ impl Reader {
         }
     }
 
-    /// Obeys a line.
-    fn obey(&mut self, rt: HostRuntime, line: &str) -> io::Result<()> {
-        if let Some(name) = line.strip_prefix("= ") {
-            self.kind = kind_of(name);
-        } else if let Some(items) = line.strip_prefix("from") {
+    /// Begins the section of a name; false where there is none of this name.
+    pub fn begin(&mut self, name: &str) -> bool {
+        self.kind = kind_of(name);
+        !matches!(self.kind, Kind::Unknown)
+    }
+
+    /// Takes a line of the section.
+    pub fn play(&mut self, rt: HostRuntime, line: &str) -> io::Result<()> {
+        if let Some(items) = line.strip_prefix("from") {
             self.start.clear();
             self.start.push_str(items)?;
         } else if !line.is_empty() && !line.starts_with('#') {
@@ -134,13 +137,9 @@ impl Reader {
         }
         Ok(())
     }
-}
 
-fn main(rt: HostRuntime) -> io::Result<()> {
-    let mut reader = Reader::new(rt.alloc());
-    for line in rt.lines(rt.alloc()) {
-        let line = line?;
-        reader.obey(rt, line.as_str())?;
+    /// Writes how many cases there were, and how many differ.
+    pub fn count(&self, rt: HostRuntime) -> io::Result<()> {
+        println!(rt; "{} cases of calls, {} differ", self.cases, self.differ)
     }
-    println!(rt; "{} cases, {} differ", reader.cases, reader.differ)
 }
