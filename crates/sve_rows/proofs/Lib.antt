@@ -2,3 +2,4 @@ pub mod Narrowed
 pub mod Listed
 pub mod Alone
 pub mod Laws
+pub mod NarrowedMoves

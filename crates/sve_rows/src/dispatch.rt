@@ -7,11 +7,11 @@ ghost use Rattle.sve_insn.specs.Lanes.{unary};
 ghost use Rattle.sve_insn.specs.Seen.{seen};
 ghost use Rattle.sve_rows.specs.Left.{register_lines};
 
+use crate::moves::find_moves;
 use emu_bits::bits;
 use sve_insn::Sve;
 use sve_rows_data::{find_data, unary};
 use sve_rows_memory::find_memory;
-use sve_rows_moves::find_moves;
 use sve_rows_predicates::find_predicates;
 
 /// The instruction of a word, found by bit 31.

@@ -1,7 +1,12 @@
-//! SVE words to instructions and back, as the instruction table has them.
+//! SVE words to instructions and back, as the instruction table has them; those of immediates, permutes and selections
+//! of lanes stand here, the others in crates of their own.
 #![tactic(auto)]
 
 mod dispatch;
+mod immediates;
+mod move_words;
+mod moves;
+mod permutes;
 mod sve_words;
 
 ghost use Rattle.std.specs.Prelude.{◌≡◌, Some, IfSome};

@@ -4,10 +4,10 @@ ghost use Rattle.emu_bits.specs.Rows.{encode};
 ghost use Rattle.emu_bits.specs.RowLaws.{IsShape};
 ghost use Rattle.sve_insn.specs.Rows.{row_of, meets_form};
 
+use crate::move_words::move_word;
 use sve_insn::Sve;
 use sve_rows_data::data_word;
 use sve_rows_memory::memory_word;
-use sve_rows_moves::move_word;
 use sve_rows_predicates::predicate_word;
 
 /// The word of each form.

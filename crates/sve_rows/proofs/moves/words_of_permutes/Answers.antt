@@ -1,7 +1,7 @@
 -- Each arm has the lines that its bits leave.
 use Rattle.std.proofs.Common.{◌∙◌, sym, arith}
-use Rattle.sve_rows_moves.proofs.Narrowed.{words_of_permutes_at_0, words_of_permutes_at_1, words_of_permutes_at_2, words_of_permutes_at_others}
-use Rattle.sve_rows_moves.proofs.dispatch.words_of_permutes.Goals as goal
+use Rattle.sve_rows.proofs.NarrowedMoves.{words_of_permutes_at_0, words_of_permutes_at_1, words_of_permutes_at_2, words_of_permutes_at_others}
+use Rattle.sve_rows.proofs.moves.words_of_permutes.Goals as goal
 
 pub returns-in-0 : goal.returns-in-0
 returns-in-0 c = c.words_of_lane_moves.ensures ∙ sym (words_of_permutes_at_0 c.args.w (sym c.bits.ensures ∙ c.in-0.is))

@@ -1,4 +1,4 @@
-//! The instruction of a word: a line is chosen by bits that are outside of the fields of all lines left, and the lines
+//! The move that a word is: a line is chosen by bits that are outside of the fields of all lines left, and the lines
 //! that these bits leave are tried in turn.
 ghost use Rattle.std.specs.Prelude.{◌≡◌, [], ◌∷◌};
 ghost use Rattle.emu_bits.specs.Rows.{decode};
@@ -21,7 +21,7 @@ ghost use Rattle.sve_insn.specs.Folds.{
   last_active,
   cond_last,
 };
-ghost use Rattle.sve_rows_moves.specs.Left.{permutes_and_selections, lane_moves};
+ghost use Rattle.sve_rows.specs.MovesLeft.{permutes_and_selections, lane_moves};
 ghost use Rattle.sve_insn.specs.Seen.{seen};
 
 use crate::immediates::{bitmask_z, copy_imm};

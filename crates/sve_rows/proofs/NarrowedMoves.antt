@@ -7,7 +7,7 @@ use Rattle.emu_bits.proofs.Computed.{IsNoneOf}
 use Rattle.emu_bits.proofs.Encoding.{narrow_field, narrow_others, or_none}
 use Rattle.sve_insn.specs.Lanes.{bitmask_z, copy_imm, select_z}
 use Rattle.sve_insn.specs.Folds.{dup_reg, dup_lane, insert_scalar, rev_z, unpack, table_lookup, interleave, interleave_p, unpack_p, rev_p, compact, splice, ext, copy_reg, last_active, cond_last}
-use Rattle.sve_rows_moves.specs.Left.{permutes_and_selections, lane_moves}
+use Rattle.sve_rows.specs.MovesLeft.{permutes_and_selections, lane_moves}
 
 pub find_moves_at_0 : (w : ℕ) → field w 21 1 ≡ 0 → decode move_lines w ≡ decode (bitmask_z ∷ copy_imm ∷ []) w
 unfolding lines_open

@@ -1,4 +1,4 @@
-//! The word of each form, by groups of the table's lines.
+//! The word of each form of a move, by groups of the table's lines.
 ghost use Rattle.std.specs.Prelude.{MatchOption};
 ghost use Rattle.sve_insn.specs.declared.lines.TheConstants.{
   BITMASK_Z,

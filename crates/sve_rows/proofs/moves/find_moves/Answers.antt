@@ -1,7 +1,7 @@
 -- Each arm has the lines that its bits leave.
 use Rattle.std.proofs.Common.{◌∙◌, sym, arith}
-use Rattle.sve_rows_moves.proofs.Narrowed.{find_moves_at_0, find_moves_at_others}
-use Rattle.sve_rows_moves.proofs.dispatch.find_moves.Goals as goal
+use Rattle.sve_rows.proofs.NarrowedMoves.{find_moves_at_0, find_moves_at_others}
+use Rattle.sve_rows.proofs.moves.find_moves.Goals as goal
 
 pub returns-in-0 : goal.returns-in-0
 returns-in-0 c = c.words_of_immediates.ensures ∙ sym (find_moves_at_0 c.args.w (sym c.bits.ensures ∙ c.in-0.is))
