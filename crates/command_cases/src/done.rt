@@ -62,7 +62,7 @@ fn done_over(alloc: Global, words: &[String], files: MemImages, streams: Streams
 }
 
 /// Does a command line over the files and the streams of a scene, with one call more that fails.
-pub fn done(
+pub fn do_line(
     alloc: Global,
     scene: &Scene,
     line: &str,

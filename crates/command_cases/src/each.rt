@@ -1,5 +1,5 @@
 //! A command line that is done once for each call of an object, with this call failing.
-use crate::done::{Done, done};
+use crate::done::{Done, do_line};
 use case_streams::{Fault, Moved, Object, Scene, is_first, is_rest, object_of, show_range};
 use emu_outcome::Ending;
 use std::io;
@@ -58,7 +58,7 @@ fn try_call(
     moved: Moved,
     whole: &Done,
 ) -> io::Result<bool> {
-    let again = done(rt.alloc(), scene, line, Some(fault))?;
+    let again = do_line(rt.alloc(), scene, line, Some(fault))?;
     if stands(&again, fault.object, moved, whole, scene.given()) {
         return Ok(true);
     }
@@ -96,7 +96,7 @@ fn show_calls(rt: HostRuntime, object: Object, calls: usize, differ: u64) -> io:
 
 /// Does a command line, and again for each call that it made of the object.
 fn do_calls(rt: HostRuntime, scene: &Scene, object: Object, line: &str) -> io::Result<()> {
-    let whole = done(rt.alloc(), scene, line, None)?;
+    let whole = do_line(rt.alloc(), scene, line, None)?;
     println!(rt; "{:?}, status {}", whole.ending, whole.ending.status())?;
     let differ = try_calls(rt, scene, line, object, &whole)?;
     let calls = whole.calls.of(object);

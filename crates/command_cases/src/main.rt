@@ -41,7 +41,7 @@ mod done;
 mod each;
 mod shown;
 
-use crate::done::done;
+use crate::done::do_line;
 use crate::each::do_each;
 use crate::shown::{show_brief, show_done};
 use call_cases::Reader;
@@ -68,7 +68,7 @@ fn play(rt: HostRuntime, scene: &mut Scene, line: &str) -> io::Result<()> {
         Some((line, name)) => (line, Some(name)),
         None => (line, None),
     };
-    let whole = done(rt.alloc(), scene, line, None)?;
+    let whole = do_line(rt.alloc(), scene, line, None)?;
     scene.forget();
     show_done(rt, &whole)?;
     match kept {
@@ -79,7 +79,7 @@ fn play(rt: HostRuntime, scene: &mut Scene, line: &str) -> io::Result<()> {
 
 /// Does a command line, and writes a line of what came of it.
 fn play_brief(rt: HostRuntime, scene: &mut Scene, line: &str) -> io::Result<()> {
-    let whole = done(rt.alloc(), scene, line, None)?;
+    let whole = do_line(rt.alloc(), scene, line, None)?;
     scene.forget();
     show_brief(rt, &whole)
 }
