@@ -1,5 +1,6 @@
 #!/usr/bin/env python3
-"""Makes the calls of the cases of crates/command_cases/stdin under qemu-aarch64, and writes each answer that isn't the case's, but for those of KNOWN.
+"""Makes the calls of the cases of crates/command_cases/stdin under qemu-aarch64, and writes each answer that isn't the
+case's, but for those of KNOWN.
 
 Cases with items that QEMU has nothing like (`pages`, `portion`, `fail`) are left out, and so are what is asked between
 the calls and the lines with ` = `, which make no call of the system.

@@ -7,4 +7,8 @@
 #[cfg(test)]
 mod counted;
 #[cfg(test)]
+mod frames;
+#[cfg(test)]
+mod lane_slices;
+#[cfg(test)]
 mod streams;

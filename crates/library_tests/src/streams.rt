@@ -1,8 +1,8 @@
-//! Sources, sinks and files that no line of a case reaches: the objects without faults, and what no clause says of the
-//! adapters.
+//! Sources, sinks and files, by what no line of a case reaches: calls that nothing else makes, the objects without
+//! faults, and what no clause says of the adapters.
 use io_gate::{
-    Failed, FileImages, Images, ImagesError, NoFaultImages, NoFaultSource, Sink, Source, StdSink,
-    StdSource, put_all,
+    Failed, FileImages, Images, ImagesError, MemSink, NoFaultImages, NoFaultSource, Sink, Source,
+    StdSink, StdSource, put_all,
 };
 use std::alloc::{AllocError, Global};
 use std::fs;
@@ -93,6 +93,21 @@ impl Write for Stalled {
 /// A source of five bytes, nine a call, of which none fails.
 fn whole_source(alloc: Global) -> Result<NoFaultSource, AllocError> {
     Ok(NoFaultSource::new(FIVE.to_vec(alloc)?, 9))
+}
+
+#[test]
+fn a_put_that_fails_leaves_a_prefix(rt: HostRuntime) -> Result<(), Fail> {
+    let mut fails = Vec::new(rt.alloc());
+    fails.push(1)?;
+    let mut sink = MemSink::new(rt.alloc(), 4, fails);
+    let failed = put_all(&mut sink, b"123456");
+    let is_prefix = sink.kept() == b"1234".as_slice();
+    let more = put_all(&mut sink, b"789ab");
+    let none = put_all(&mut sink, b"");
+    assert_eq!(rt; [failed, more, none], [Err(Failed), Ok(()), Ok(())]);
+    assert!(rt; is_prefix);
+    assert_eq!(rt; (sink.kept(), sink.wanting()), (b"1234789ab".as_slice(), 0));
+    Ok(())
 }
 
 /// The bytes of a file.

@@ -1,6 +1,6 @@
 #!/usr/bin/env python3
-"""Makes commands over pages about marks and what they answer, and puts them in the place of those at the end of stdin and stdout of
-`command_cases`, from the line `mark 0` on.
+"""Makes commands over pages about marks and what they answer, and puts them in the place of those at the end of stdin
+and stdout of `command_cases`, from the line `mark 0` on.
 
 A page is an entry of a dictionary, a mark another dictionary, and a block is a list that both may hold: it is copied
 where it is written while more than one holds it.

@@ -1,6 +1,6 @@
 #!/usr/bin/env python3
-"""Makes the commands over pages and what they answer: the last sections of stdin and stdout of `command_cases`, behind the line
-`= pages`.
+"""Makes the commands over pages and what they answer: the last sections of stdin and stdout of `command_cases`, behind
+the line `= pages`.
 
 It shares nothing with the two programs of pages: a page is an entry of a dictionary, by its number.
 """
