@@ -42,7 +42,7 @@ documents() {
 # Where a form of the tables stands, for whoever adds one.
 places_of_forms() {
     holds "a form stands in its table" sh -c '"$1/tools/row" Adr | grep -q "^crates/a64_insn/specs/Table.antt:"' sh "$top"
-    holds "a form stands in its code" sh -c '"$1/tools/row" Binary | grep -q "^crates/sve_lanes/src/"' sh "$top"
+    holds "a form stands in its code" sh -c '"$1/tools/row" Binary | grep -q "^crates/sve_data/src/"' sh "$top"
     holds "no table has the form" sh -c '! "$1/tools/row" Nothing 2>/dev/null' sh "$top"
     holds "both tables are counted" sh -c '[ "$("$1/tools/row" --all | grep -c " forms, each in ")" -eq 2 ]' sh "$top"
 }

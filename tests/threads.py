@@ -7,7 +7,7 @@ usage: threads.py --write FOLDER    writes the last part of the command lines of
        threads.py --show NAME       prints the words of a program
 
 It shares nothing with svemu: words are made and read here by the Arm manual, and contexts, calls and schedules are as
-crates/thread_model/specs defines them. FOLDER is crates/command_cases, whose main.rt says what the lines are. A file
+crates/emu_run/specs defines them. FOLDER is crates/command_cases, whose main.rt says what the lines are. A file
 `w.elf` has the words of a program at 0x400000, a page at 0x402000 that may be read and written, and a page at 0x403000
 that may be read. Behind it stand its schedules, each with a line of what the program comes to under it: the ending and
 the status, that nothing is written to the output, and the length and the FNV-1a digest of all that is written to the

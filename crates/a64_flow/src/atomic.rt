@@ -16,8 +16,8 @@ use crate::alignment::test_multiple;
 use crate::numbers::bytes_of;
 use a64_insn::{A64, A64Form, AtomicOp};
 use core_regs::{Core, Trap, TrapKind};
-use element_access::{store, test_sp};
 use emu_bits::{Reg, U, low_bits, sext};
+use guest_mem::element_access::{store, test_sp};
 use guest_mem::{Access, AccessLog, Kind, Mem};
 
 /// Loads the bytes at an address to a register, and stores what the row makes of them there.

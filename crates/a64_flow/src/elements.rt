@@ -10,8 +10,8 @@ ghost use Rattle.vec_regs.specs.Packed.{IsLowSize};
 use crate::fields::is_vector;
 use a64_effects::Transfer;
 use core_regs::{Core, Trap};
-use element_access::{load_here, store_here};
 use emu_bits::{Reg, sign_extended};
+use guest_mem::element_access::{load_here, store_here};
 use guest_mem::{AccessLog, Mem};
 use vec_regs::VecRegs;
 

@@ -15,8 +15,8 @@ use crate::numbers::bytes_of;
 use a64_effects::Transfer;
 use a64_insn::{A64, A64Form, OrderedOp};
 use core_regs::{Core, Trap};
-use element_access::test_sp;
 use emu_bits::{Reg, U};
+use guest_mem::element_access::test_sp;
 use guest_mem::{AccessLog, Mem};
 use vec_regs::VecRegs;
 

@@ -15,8 +15,8 @@ use crate::fields::{access_bytes, has_sp, literal_bytes, literal_transfer, trans
 use crate::numbers::{indexed, near};
 use crate::singles::Single;
 use core_regs::{Core, Trap};
-use element_access::test_sp;
 use emu_bits::{Reg, U};
+use guest_mem::element_access::test_sp;
 use guest_mem::{AccessLog, Mem};
 use vec_regs::VecRegs;
 

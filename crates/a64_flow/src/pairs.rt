@@ -8,8 +8,8 @@ use crate::elements::couple;
 use crate::fields::{pair_bytes, pair_transfer, writes_back};
 use crate::numbers::pair_near;
 use core_regs::{Core, Trap};
-use element_access::test_sp;
 use emu_bits::{Reg, U};
+use guest_mem::element_access::test_sp;
 use guest_mem::{AccessLog, Mem};
 use vec_regs::VecRegs;
 

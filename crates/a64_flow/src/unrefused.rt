@@ -16,8 +16,8 @@ use crate::general;
 use crate::singles::Single;
 use a64_effects::Transfer;
 use core_regs::Core;
-use element_access::{load_here, store_here};
 use emu_bits::Reg;
+use guest_mem::element_access::{load_here, store_here};
 use guest_mem::{AccessLog, Mem};
 use vec_regs::VecRegs;
 

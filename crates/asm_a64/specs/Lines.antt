@@ -3,16 +3,16 @@ use Rattle.std.specs.Prelude.{◌≡◌, ℕ, Option, Some, None, Result, Ok, Er
 use Rattle.emu_bits.specs.Rows.{instruction}
 use Rattle.a64_insn.specs.declared.form.A64Form.{A64Form}
 use Rattle.a64_insn.specs.Table.{a64_table}
-use Rattle.text_tokens.specs.Tokens.{tokens}
+use Rattle.asm_tokens.specs.Tokens.{tokens}
 use Rattle.text_model.specs.declared.slots.Refusal.{Refusal}
 use Rattle.text_model.specs.Statement.{Destination, to_label, to_address, Statement, reads_tokens}
 use Rattle.asm_tokens.specs.declared.target.Target.{Target}
 use Rattle.asm_tokens.specs.declared.target.Target.TheVariants.{Label, Address}
 use Rattle.asm_tokens.specs.declared.fault.AsmFault.{AsmFault}
 use Rattle.text_code.specs.Faults.{fault_of}
-use Rattle.a64_texts.specs.Law.{in_table}
-use Rattle.a64_texts.specs.Table.{a64_patterns}
-use Rattle.asm_a64.specs.declared.A64Line.{A64Line}
+use Rattle.asm_a64.specs.Law.{in_table}
+use Rattle.asm_a64.specs.Table.{a64_patterns}
+use Rattle.asm_a64.specs.declared.statements.A64Line.{A64Line}
 
 -- what the A64 patterns make of a name and the text behind it
 abbrev pub a64_reads : List ℕ → List ℕ → Result Statement Refusal

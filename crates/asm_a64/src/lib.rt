@@ -1,73 +1,162 @@
-//! Statements read as A64 instructions.
+//! The texts of A64 instructions: patterns by the lines of the instruction table, and behind them those of other names;
+//! and statements read as A64 instructions.
 #![tactic(auto)]
 
-ghost use Rattle.std.specs.Prelude.{◌≡◌, ◌⊎◌, true, Some, Err, IfOk, IfErr};
-ghost use Rattle.emu_bits.specs.Rows.{instruction};
-ghost use Rattle.a64_insn.specs.Table.{a64_table};
-ghost use Rattle.a64_texts.specs.Law.{in_table};
-ghost use Rattle.asm_tokens.specs.declared.fault.AsmFault.TheVariants.{OutOfMemory};
-ghost use Rattle.text_code.specs.Reads.{aim_of, IsCut};
-ghost use Rattle.asm_a64.specs.Lines.{destination_of, EndsInLabel, GoesToLabel, IsLabel, IsRead, IsRefused};
+mod aliases;
+mod atomics;
+mod bit_moves;
+mod data;
+mod flow;
+pub mod lines;
+mod memory;
+mod names;
+mod statements;
 
-use a64_insn::A64;
+ghost use Rattle.std.specs.Prelude.{◌≡◌, ℕ, ◌^◌, ◌<◌, true, [], Some, get_or};
+ghost use Rattle.emu_bits.specs.RowLaws.{IsRow};
+ghost use Rattle.a64_insn.specs.declared.form.A64Form.{A64Form};
+ghost use Rattle.a64_insn.specs.Rows.{row_of};
+ghost use Rattle.text_code.specs.Tables.{lines_of, patterns_of};
+ghost use Rattle.text_model.specs.Aim.{aimed};
+ghost use Rattle.asm_a64.specs.Law.{in_table, is_canonical_form, reach, unaimed_word, IsReadBack, TextsOfLines};
+ghost use Rattle.asm_a64.specs.BitMoves.{last_lines};
+ghost use Rattle.asm_a64.specs.Data.{data_lines};
+ghost use Rattle.asm_a64.specs.Flow.{flow_lines};
+ghost use Rattle.asm_a64.specs.Memory.{memory_lines};
+ghost use Rattle.asm_a64.specs.Table.{a64_lines};
+
 use a64_rows::decode_a64;
-use a64_texts::A64Texts;
-use asm_tokens::{AsmFault, Name, Target};
-use std::alloc::Global;
-use text_code::{Aim, Found, fault, read};
+use text_code::{Pattern, Spot, Table, line_of};
 
-/// An instruction of a statement, its target's bits 0, and the target.
-#[derive(Drop)]
-pub struct A64Line {
-    pub insn: A64,
-    pub target: Option<Target>,
+/// The patterns of the lines of data processing.
+fn data_lines() -> [&'static [Pattern]; 19]
+    ensures { lines_of result ≡ data_lines }
+{
+    [
+        &data::ADR,
+        &data::ADD_IMM,
+        &data::LOGIC_IMM,
+        &data::MOVE_WIDE,
+        &data::BITFIELD,
+        &data::EXTRACT,
+        &data::LOGIC_REG,
+        &data::ADD_REG,
+        &data::ADD_EXT,
+        &data::ADD_CARRY,
+        &data::COND_REG,
+        &data::COND_IMM,
+        &data::SELECT,
+        &data::MUL_ADD,
+        &data::MUL_LONG,
+        &data::MUL_HIGH,
+        &data::TWO_SOURCE,
+        &data::ONE_SOURCE,
+        &data::REV,
+    ]
 }
 
-/// The target of a statement, where a label stands in this text.
-fn target_of(alloc: Global, rest: &str, aim: Option<Aim>) -> Result<Option<Target>, AsmFault>
-    requires { IsCut rest.now aim }
-    ensures target { IfOk result (λ t. destination_of t ≡ aim_of rest.now aim) }
-    ensures memory { IfErr result (λ e. e ≡ OutOfMemory) }
-    ensures wanting { result ≡ Err OutOfMemory → IsLabel (aim_of rest.now aim) }
+/// The patterns of the lines of branches and of system instructions.
+fn flow_lines() -> [&'static [Pattern]; 10]
+    ensures { lines_of result ≡ flow_lines }
 {
-    match aim {
-        None => Ok(None),
-        Some(Aim::Address(address)) => Ok(Some(Target::Address(address))),
-        Some(Aim::Label(token)) => {
-            let name = Name::of(alloc, &rest[token.from..token.to])?;
-            Ok(Some(Target::Label(name)))
-        }
+    [
+        &flow::BRANCH,
+        &flow::BRANCH_COND,
+        &flow::COMPARE,
+        &flow::TEST,
+        &flow::BRANCH_REG,
+        &flow::EXCEPT,
+        &flow::HINT,
+        &flow::BARRIER,
+        &flow::READ_SYS,
+        &flow::WRITE_SYS,
+    ]
+}
+
+/// The patterns of the lines of loads and stores; those of offsets in registers stand in six parts.
+fn memory_lines() -> [&'static [Pattern]; 17]
+    ensures { lines_of result ≡ memory_lines }
+{
+    [
+        &memory::LS_UNSIGNED,
+        &memory::LS_UNSCALED,
+        &memory::LS_POST,
+        &memory::LS_PRE,
+        &memory::LS_REG_WORD,
+        &memory::LS_REG_WORD_SCALED,
+        &memory::LS_REG_SHIFT,
+        &memory::LS_REG_SHIFT_SCALED,
+        &memory::LS_REG_SIGNED,
+        &memory::LS_REG_SIGNED_SCALED,
+        &memory::LS_LITERAL,
+        &memory::PAIR,
+        &memory::STORE_EX,
+        &memory::LOAD_EX,
+        &memory::ORDERED,
+        &atomics::ATOMIC,
+        &atomics::COMPARE_SWAP,
+    ]
+}
+
+/// The patterns of the moves of bits, and behind them those of other names.
+fn last_lines() -> [&'static [Pattern]; 3]
+    ensures { lines_of result ≡ last_lines }
+{
+    [&bit_moves::F_MOVE, &bit_moves::MOVE_IMM, &aliases::ALIASES]
+}
+
+/// The patterns of the line of this number, by the parts of the table; none behind the last.
+fn line_numbered(number: u8) -> &'static [Pattern]
+    ensures { patterns_of result.now ≡ get_or a64_lines number [] }
+{
+    if number < lines::BRANCH {
+        line_of(&data_lines(), number)
+    } else if number < lines::LS_UNSIGNED {
+        line_of(&flow_lines(), number - lines::BRANCH)
+    } else if number < lines::F_MOVE {
+        line_of(&memory_lines(), number - lines::LS_UNSIGNED)
+    } else {
+        line_of(&last_lines(), number - lines::F_MOVE)
     }
 }
 
-/// The line of what was found in a text.
-fn line_of(alloc: Global, rest: &str, found: Found) -> Result<A64Line, AsmFault>
-    requires held { in_table found.word ≡ true }
-    requires cut { IsCut rest.now found.target }
-    ensures insn { IfOk result (λ l. instruction a64_table found.word ≡ Some l.insn) }
-    ensures target { IfOk result (λ l. destination_of l.target ≡ aim_of rest.now found.target) }
-    ensures memory { IfErr result (λ e. e ≡ OutOfMemory) }
-    ensures wanting { result ≡ Err OutOfMemory → GoesToLabel found.word (aim_of rest.now found.target) }
-{
-    let Some(insn) = decode_a64(found.word) else {
-        return Err(AsmFault::OutOfRange);
-    };
-    match target_of(alloc, rest, found.target) {
-        Ok(target) => Ok(A64Line { insn, target }),
-        Err(fault) => Err(fault),
+/// The texts of A64 instructions.
+#[derive(Clone, Copy)]
+pub struct A64Texts;
+
+impl Table for A64Texts {
+    ghost lines = { λ t. a64_lines };
+
+    ghost in_table = { λ t. in_table };
+
+    fn line(&self, number: u8) -> &'static [Pattern] {
+        line_numbered(number)
+    }
+
+    fn spots(&self, name: &str) -> &'static [Spot] {
+        names::spots(name)
+    }
+
+    fn holds(&self, word: u32) -> bool {
+        decode_a64(word).is_some()
     }
 }
 
-/// The instruction of a statement, by its name and what stands behind it. Its refusals are those of the patterns of the
-/// A64 lines, or that memory was wanting for a label; so that comes only of a statement that is read as an instruction
-/// which goes to a label.
-pub fn read_a64(alloc: Global, name: &str, rest: &str) -> Result<A64Line, AsmFault>
-    ensures read { IfOk result (λ l. IsRead name.now rest.now l) }
-    ensures refused { IfErr result (λ e. e ≡ OutOfMemory ⊎ IsRefused name.now rest.now e) }
-    ensures wanting { result ≡ Err OutOfMemory → EndsInLabel name.now rest.now }
-{
-    match read(&A64Texts, name, rest) {
-        Ok(found) => line_of(alloc, rest, found),
-        Err(refusal) => Err(fault(refusal)),
-    }
-}
+/// A word's form has the patterns of the line that holds the word.
+pub fn texts_of_lines()
+    ensures { TextsOfLines }
+{}
+
+/// The text of each instruction, but for a bitmask whose rotation isn't the least, is read as the instruction: at any
+/// address that it stands at.
+pub fn printed_text_is_read()
+    ensures { (f : A64Form) (pc : ℕ) → IsRow (row_of f) → is_canonical_form f ≡ true → pc < 2 ^ 64 → IsReadBack f pc }
+{}
+
+/// A word whose target's bits are 0, aimed at a target that its field can reach, is a word of the table.
+pub fn aimed_words_are_rows()
+    ensures { (f : A64Form) (pc t w : ℕ) → IsRow (row_of f) → aimed (reach f) (unaimed_word f) pc t ≡ Some w
+        → in_table w ≡ true }
+{}
+
+pub use statements::{A64Line, read_a64};

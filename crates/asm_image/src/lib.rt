@@ -2,7 +2,7 @@
 #![tactic(auto)]
 
 ghost use Rattle.asm_layout.specs.Assembly.{IsMade};
-ghost use Rattle.insn_texts.specs.Statements.{statements};
+ghost use Rattle.asm_text.specs.Statements.{statements};
 ghost use Rattle.listing_model.specs.Image.{image_of};
 
 pub use asm_layout::AsmError;

@@ -38,8 +38,8 @@ use Rattle.listing_model.specs.Layout.{Piece, bytes, aimed, address, mention, Pl
 use Rattle.listing_model.specs.LineOf.{named as statement_named, line_of, line_of_tokens, body_of, instruction, instruction_body, directive_body, with_label, colon}
 use Rattle.listing_model.specs.Lines.{lines_of}
 use Rattle.listing_model.specs.Statements.{Statements}
-use Rattle.text_tokens.specs.Layout.{is_sign}
-use Rattle.text_tokens.specs.Tokens.{tokens}
+use Rattle.asm_tokens.specs.Layout.{is_sign}
+use Rattle.asm_tokens.specs.Tokens.{tokens}
 
 -- ---- numbers of a line have at most 8 bytes
 

@@ -6,3 +6,10 @@ pub mod Placed
 pub mod Assembled
 pub mod Pieces
 pub mod Appended
+pub mod Wholes
+pub mod Parts
+pub mod Commas
+pub mod Reading
+pub mod Single
+pub mod Widths
+pub mod Statements

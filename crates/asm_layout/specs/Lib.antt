@@ -3,3 +3,9 @@ pub mod Draft
 pub mod Filling
 pub mod TextLines
 pub mod Assembly
+pub mod Plain
+pub mod Leading
+pub mod Stored
+pub mod Aimable
+pub mod Colons
+pub mod Wanting

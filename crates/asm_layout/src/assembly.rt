@@ -16,7 +16,7 @@ use crate::labels::Labels;
 use crate::placing::place_line;
 use crate::putting::new_draft;
 use crate::text_lines::{count_lines, line_end, next_start};
-use asm_lines::{Instructions, read_line};
+use crate::{Instructions, read_line};
 use asm_tokens::{AsmFault, Name};
 use listing_model::{ListingFault, ListingWhy};
 use std::alloc::Global;

@@ -19,9 +19,9 @@ ghost use Rattle.listing_model.specs.File.{rounded};
 ghost use Rattle.listing_model.specs.Image.{address_of, base, contents_of, filled};
 ghost use Rattle.listing_model.specs.Layout.{Placed};
 
+use crate::Instructions;
 use crate::draft::{Gap, Hole};
 use crate::labels::{Labels, Place};
-use asm_lines::Instructions;
 use asm_tokens::Target;
 use emu_model::PAGE_SIZE;
 use listing_model::{ListingFault, ListingWhy, Section};

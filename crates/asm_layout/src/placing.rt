@@ -14,15 +14,15 @@ ghost use Rattle.asm_layout.specs.Draft.{
   with_body,
   with_pieces,
 };
-ghost use Rattle.asm_lines.specs.Aimable.{IsAimable};
+ghost use Rattle.asm_layout.specs.Aimable.{IsAimable};
 ghost use Rattle.listing_model.specs.declared.directive.Directive.TheVariants as Directive;
 ghost use Rattle.listing_model.specs.declared.line.Body.TheVariants as Body;
 ghost use Rattle.listing_model.specs.Layout.{Layout, entry_of, filling, is_instruction, number_piece, placed_line};
 
+use crate::Instructions;
 use crate::draft::{Draft, Gap, MOST_BSS, Stop};
 use crate::labels::Place;
 use crate::putting::{here, put, put_hole, put_zeros};
-use asm_lines::Instructions;
 use asm_tokens::{Name, Target};
 use listing_model::{Body, Directive, Line, ListingWhy, Section};
 use std::alloc::Global;

@@ -3,7 +3,7 @@ use Rattle.std.proofs.Common.{◌≡◌, ℕ, Option, Some, Ok, Err, List, sym, 
 use Rattle.emu_bits.specs.Rows.{instruction}
 use Rattle.sve_insn.specs.declared.form.SveForm.{SveForm}
 use Rattle.sve_insn.specs.Table.{sve_table}
-use Rattle.text_tokens.specs.Tokens.{tokens}
+use Rattle.asm_tokens.specs.Tokens.{tokens}
 use Rattle.text_model.specs.declared.slots.Refusal.{Refusal}
 use Rattle.text_model.specs.Statement.{Destination, reads_tokens}
 use Rattle.text_model.specs.Writing.{flat}
@@ -11,9 +11,9 @@ use Rattle.text_code.specs.declared.reading.Found.{Found}
 use Rattle.asm_tokens.specs.declared.fault.AsmFault.{AsmFault}
 use Rattle.text_code.specs.Faults.{fault_of}
 use Rattle.text_code.specs.Reads.{statement_of}
-use Rattle.sve_texts.specs.Law.{in_table}
-use Rattle.sve_texts.specs.Table.{sve_lines, sve_patterns}
-use Rattle.sve_texts.proofs.Untargeted.{sve_target}
+use Rattle.asm_sve.specs.Law.{in_table}
+use Rattle.asm_sve.specs.Table.{sve_lines, sve_patterns}
+use Rattle.asm_sve.proofs.Untargeted.{sve_target}
 use Rattle.asm_sve.specs.Lines.{IsRead, IsRefused}
 
 pub found_read : (name rest : List ℕ) (f : Found) (i : SveForm) → reads_tokens in_table (flat sve_lines) name (tokens rest) ≡ Ok (statement_of rest f)

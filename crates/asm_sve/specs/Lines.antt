@@ -3,13 +3,13 @@ use Rattle.std.specs.Prelude.{◌≡◌, ℕ, Some, None, Result, Ok, Err, List}
 use Rattle.emu_bits.specs.Rows.{instruction}
 use Rattle.sve_insn.specs.declared.form.SveForm.{SveForm}
 use Rattle.sve_insn.specs.Table.{sve_table}
-use Rattle.text_tokens.specs.Tokens.{tokens}
+use Rattle.asm_tokens.specs.Tokens.{tokens}
 use Rattle.text_model.specs.declared.slots.Refusal.{Refusal}
 use Rattle.text_model.specs.Statement.{Statement, reads_tokens}
 use Rattle.asm_tokens.specs.declared.fault.AsmFault.{AsmFault}
 use Rattle.text_code.specs.Faults.{fault_of}
-use Rattle.sve_texts.specs.Law.{in_table}
-use Rattle.sve_texts.specs.Table.{sve_patterns}
+use Rattle.asm_sve.specs.Law.{in_table}
+use Rattle.asm_sve.specs.Table.{sve_patterns}
 
 -- what the SVE patterns make of a name and the text behind it
 abbrev pub sve_reads : List ℕ → List ℕ → Result Statement Refusal

@@ -17,10 +17,10 @@ use Rattle.a64_insn.specs.declared.form.A64Form.TheVariants.{Adr, Branch, Branch
 use Rattle.a64_insn.specs.Table.{a64_table}
 use Rattle.a64_insn.specs.Rows.{line_number}
 use Rattle.a64_insn.specs.declared.lines.TheConstants as line
-use Rattle.a64_texts.specs.Law.{word_of, texts_of, reach_by, reach, unaimed_word, is_canonical_form}
-use Rattle.a64_texts.specs.Table.{line_texts}
-use Rattle.a64_texts.specs.Opened.{texts_open}
-use Rattle.insn_texts.specs.Targets.{may_have_target}
+use Rattle.asm_a64.specs.Law.{word_of, texts_of, reach_by, reach, unaimed_word, is_canonical_form}
+use Rattle.asm_a64.specs.Table.{line_texts}
+use Rattle.asm_a64.specs.Opened.{texts_open}
+use Rattle.asm_text.specs.Targets.{may_have_target}
 use Rattle.asm_text.proofs.Kept.{are_clear, parts_keep}
 use Rattle.asm_text.proofs.ReadBy.{every}
 use Rattle.asm_text.proofs.Found.{found, number_found}

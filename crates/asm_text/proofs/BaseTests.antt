@@ -2,16 +2,16 @@
 use Rattle.std.proofs.Common.{◌≡◌, ℕ, ◌&&◌, ◌||◌, Bool, true, not, [], ◌∷◌, refl}
 use Rattle.emu_bits.specs.Rows.{Place, ◌to◌, is_among}
 use Rattle.a64_insn.specs.Data.{logic_imm}
-use Rattle.a64_texts.specs.Data.{data_lines}
-use Rattle.a64_texts.specs.Flow.{flow_lines}
-use Rattle.a64_texts.specs.Memory.{memory_lines}
-use Rattle.a64_texts.specs.BitMoves.{last_lines}
-use Rattle.a64_texts.specs.Aliases.{aliases}
+use Rattle.asm_a64.specs.Data.{data_lines}
+use Rattle.asm_a64.specs.Flow.{flow_lines}
+use Rattle.asm_a64.specs.Memory.{memory_lines}
+use Rattle.asm_a64.specs.BitMoves.{last_lines}
+use Rattle.asm_a64.specs.Aliases.{aliases}
 use Rattle.a64_insn.specs.Table.{a64_table, lines_open}
 use Rattle.a64_insn.specs.Rows.{line_number}
 use Rattle.a64_insn.specs.declared.lines.TheConstants as line
-use Rattle.a64_texts.specs.Table.{line_texts, a64_lines, a64_patterns}
-use Rattle.a64_texts.specs.Opened.{texts_open}
+use Rattle.asm_a64.specs.Table.{line_texts, a64_lines, a64_patterns}
+use Rattle.asm_a64.specs.Opened.{texts_open}
 use Rattle.text_model.specs.Reading.{Pattern, has_target}
 use Rattle.text_model.proofs.Tests.{all_places}
 use Rattle.asm_text.proofs.Kept.{are_clear}

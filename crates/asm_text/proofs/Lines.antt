@@ -1,14 +1,14 @@
 -- The patterns of lines with targets, as the program finds them.
 use Rattle.std.proofs.Common.{◌≡◌, ℕ, zero, suc, true, List, [], ◌∷◌, get_or, refl, ap, ◌∙◌}
 use Rattle.std.proofs.lemmas.Bool.{and_parts}
-use Rattle.a64_texts.specs.Data.{data_lines}
-use Rattle.a64_texts.specs.Flow.{flow_lines}
-use Rattle.a64_texts.specs.Memory.{memory_lines, ls_reg_lines}
-use Rattle.a64_texts.specs.BitMoves.{last_lines}
+use Rattle.asm_a64.specs.Data.{data_lines}
+use Rattle.asm_a64.specs.Flow.{flow_lines}
+use Rattle.asm_a64.specs.Memory.{memory_lines, ls_reg_lines}
+use Rattle.asm_a64.specs.BitMoves.{last_lines}
 use Rattle.a64_insn.specs.declared.lines.TheConstants as line
-use Rattle.a64_texts.specs.declared.lines.TheConstants as text_line
-use Rattle.a64_texts.specs.Table.{line_texts, a64_lines}
-use Rattle.a64_texts.proofs.Legible.{lines_sound}
+use Rattle.asm_a64.specs.declared.lines.TheConstants as text_line
+use Rattle.asm_a64.specs.Table.{line_texts, a64_lines}
+use Rattle.asm_a64.proofs.Legible.{lines_sound}
 use Rattle.text_model.specs.Reading.{Pattern}
 use Rattle.text_code.specs.Reads.{all_sound, all_lines_sound}
 

@@ -4,18 +4,18 @@ use Rattle.std.specs.Prelude.{IsSome, option_map, IfOk}
 use Rattle.emu_bits.specs.Rows.{instruction}
 use Rattle.a64_insn.specs.declared.form.A64Form.{A64Form}
 use Rattle.a64_insn.specs.Table.{a64_table}
-use Rattle.a64_texts.specs.Law as base
-use Rattle.a64_texts.specs.Table.{a64_patterns}
-use Rattle.asm_a64.specs.declared.A64Line.{A64Line}
+use Rattle.asm_a64.specs.Law as base
+use Rattle.asm_a64.specs.Table.{a64_patterns}
+use Rattle.asm_a64.specs.declared.statements.A64Line.{A64Line}
 use Rattle.asm_a64.specs.Lines as base_lines
 use Rattle.asm_tokens.specs.declared.fault.AsmFault.{AsmFault}
 use Rattle.asm_tokens.specs.declared.target.Target.{Target}
 use Rattle.asm_tokens.specs.declared.target.Target.TheVariants.{Label, Address}
 use Rattle.emu_run.specs.declared.insn.Insn.{Insn}
 use Rattle.emu_run.specs.declared.insn.Insn.TheVariants.{A64, Sve}
-use Rattle.insn_texts.specs.Statements.{with_target, either, reads, statements}
-use Rattle.insn_texts.specs.Targets.{HasTarget}
-use Rattle.insn_texts.specs.Canonical.{is_canonical}
+use Rattle.asm_text.specs.Statements.{with_target, either, reads, statements}
+use Rattle.asm_text.specs.Targets.{HasTarget}
+use Rattle.asm_text.specs.Canonical.{is_canonical}
 use Rattle.listing_model.specs.declared.directive.Directive.{Directive}
 use Rattle.listing_model.specs.declared.directive.DirectiveName.{DirectiveName}
 use Rattle.listing_model.specs.declared.fault.ListingWhy.{ListingWhy}
@@ -28,13 +28,13 @@ use Rattle.listing_model.specs.Faults.{Answers}
 use Rattle.listing_model.specs.LineOf.{colon, instruction_body, directive_body, named, body_of, with_label, line_of_tokens, line_of}
 use Rattle.sve_insn.specs.declared.form.SveForm.{SveForm}
 use Rattle.sve_insn.specs.Table.{sve_table}
-use Rattle.sve_texts.specs.Law as vectors
-use Rattle.sve_texts.specs.Table.{sve_patterns}
+use Rattle.asm_sve.specs.Law as vectors
+use Rattle.asm_sve.specs.Table.{sve_patterns}
 use Rattle.text_model.specs.declared.slots.Refusal.{Refusal}
 use Rattle.text_model.specs.Statement.{Destination, to_label, Statement, reads_tokens}
-use Rattle.text_tokens.specs.Layout.{is_sign}
-use Rattle.text_tokens.specs.Tokens.{tokens}
-use Rattle.asm_lines.specs.Wanting.{SaysLabel}
+use Rattle.asm_tokens.specs.Layout.{is_sign}
+use Rattle.asm_tokens.specs.Tokens.{tokens}
+use Rattle.asm_layout.specs.Wanting.{SaysLabel}
 use Rattle.asm_text.specs.Canonical.{HasCanonical}
 use Rattle.asm_text.proofs.Base.{canonical_read as base_canonical, line_read}
 use Rattle.asm_text.proofs.Targeted.{targeted}

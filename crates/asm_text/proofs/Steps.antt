@@ -5,12 +5,12 @@ use Rattle.std.proofs.lemmas.Bool.{and_parts, false≢true}
 use Rattle.emu_bits.specs.Rows.{instruction}
 use Rattle.a64_insn.specs.declared.form.A64Form.{A64Form}
 use Rattle.a64_insn.specs.Table.{a64_table}
-use Rattle.a64_texts.specs.Law.{word_of, reach_by, reach, unaimed_word}
+use Rattle.asm_a64.specs.Law.{word_of, reach_by, reach, unaimed_word}
 use Rattle.emu_run.specs.declared.insn.Insn.{Insn}
 use Rattle.emu_run.specs.declared.insn.Insn.TheVariants.{A64, Sve}
-use Rattle.insn_texts.specs.Statements.{aimed_at}
-use Rattle.insn_texts.specs.Targets.{may_have_target, HasTarget}
-use Rattle.insn_texts.specs.Canonical.{is_canonical}
+use Rattle.asm_text.specs.Statements.{aimed_at}
+use Rattle.asm_text.specs.Targets.{may_have_target, HasTarget}
+use Rattle.asm_text.specs.Canonical.{is_canonical}
 use Rattle.text_code.specs.Reads.{all_sound}
 use Rattle.text_code.specs.Sound.{are_sound, are_few}
 use Rattle.text_model.specs.Reading.{Pattern}

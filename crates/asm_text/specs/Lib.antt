@@ -1,1 +1,5 @@
 pub mod Canonical
+pub mod Disassembly
+pub mod Statements
+pub mod Targets
+pub mod Texts

@@ -1,14 +1,14 @@
 //! Instructions aimed at addresses.
 ghost use Rattle.std.specs.Prelude.{◌≡◌, true, IfSome};
-ghost use Rattle.insn_texts.specs.Statements.{aimed_at};
-ghost use Rattle.insn_texts.specs.Targets.{HasTarget, may_have_target};
-ghost use Rattle.insn_texts.specs.Canonical.{is_canonical};
+ghost use Rattle.asm_text.specs.Statements.{aimed_at};
+ghost use Rattle.asm_text.specs.Targets.{HasTarget, may_have_target};
+ghost use Rattle.asm_text.specs.Canonical.{is_canonical};
 ghost use Rattle.text_code.specs.Reads.{all_sound};
 ghost use Rattle.text_code.specs.Tables.{patterns_of};
 
 use a64_insn::A64Form;
 use a64_rows::{decode_a64, encode_a64};
-use a64_texts::{A64Texts, lines};
+use asm_a64::{A64Texts, lines};
 use insn_decode::Insn;
 use text_code::{Pattern, Table, aimed, chosen, reach_of, unaimed};
 

@@ -1,13 +1,13 @@
 //! Both tables as one reader of instructions.
 ghost use Rattle.std.specs.Prelude.{◌≡◌, ◌≢◌};
-ghost use Rattle.insn_texts.specs.Statements.{later, statements};
-ghost use Rattle.insn_texts.specs.Targets.{HasTarget};
+ghost use Rattle.asm_text.specs.Statements.{later, statements};
+ghost use Rattle.asm_text.specs.Targets.{HasTarget};
 ghost use Rattle.text_code.specs.Faults.{fault_of};
 ghost use Rattle.text_model.specs.declared.slots.Refusal.{Refusal};
 
 use crate::aiming::aim;
 use asm_a64::read_a64;
-use asm_lines::Instructions;
+use asm_layout::Instructions;
 use asm_sve::read_sve;
 use asm_tokens::{AsmFault, Target};
 use insn_decode::{Insn, encode};

@@ -1,3 +1,4 @@
+//! What the statements of both tables say, the texts of their instructions, and what a disassembly is: definitions.
 //! Lines of listings over both tables of instructions, and instructions aimed at addresses.
 #![tactic(auto)]
 
@@ -5,19 +6,19 @@ mod aiming;
 mod both_tables;
 
 ghost use Rattle.std.specs.Prelude.{◌≡◌, Err, IfOk, IfSome, List, true, ℕ};
-ghost use Rattle.asm_lines.specs.Aimable.{IsAimable};
-ghost use Rattle.asm_lines.specs.Wanting.{IsLineCopied};
+ghost use Rattle.asm_layout.specs.Aimable.{IsAimable};
+ghost use Rattle.asm_layout.specs.Wanting.{IsLineCopied};
 ghost use Rattle.asm_text.specs.Canonical.{HasCanonical};
 ghost use Rattle.emu_run.specs.declared.insn.Insn.{Insn};
-ghost use Rattle.insn_texts.specs.Statements.{aimed_at, reads, statements};
-ghost use Rattle.insn_texts.specs.Targets.{HasTarget};
-ghost use Rattle.insn_texts.specs.Canonical.{is_canonical};
+ghost use Rattle.asm_text.specs.Statements.{aimed_at, reads, statements};
+ghost use Rattle.asm_text.specs.Targets.{HasTarget};
+ghost use Rattle.asm_text.specs.Canonical.{is_canonical};
 ghost use Rattle.listing_model.specs.Faults.{Answers};
 ghost use Rattle.listing_model.specs.LineOf.{line_of};
-ghost use Rattle.text_tokens.specs.Tokens.{tokens};
+ghost use Rattle.asm_tokens.specs.Tokens.{tokens};
 
 pub use aiming::aim;
-use asm_lines::read_line;
+use asm_layout::read_line;
 use asm_tokens::AsmFault;
 pub use both_tables::Tables;
 use insn_decode::Insn;

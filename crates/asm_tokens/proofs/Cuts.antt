@@ -7,7 +7,7 @@ use Rattle.std.proofs.lemmas.List.Sums.{prefix_len-le-length, prefix_len_passes,
 use Rattle.std.proofs.lemmas.Str.{IsCharBoundary-after_ascii, IsCharBoundary-end}
 use Rattle.std.specs.List.{prefix_len}
 use Rattle.std.specs.Str.{IsCharBoundary, IsUtf8}
-use Rattle.text_tokens.specs.Tokens.{is_word_byte, is_blank, is_continuation, piece_length, string_length, quote, backslash}
+use Rattle.asm_tokens.specs.Tokens.{is_word_byte, is_blank, is_continuation, piece_length, string_length, quote, backslash}
 
 -- a text may be cut behind bytes below 128
 run_cut : (p : ℕ → Bool) → ((c : ℕ) → p c ≡ true → c < 128) → (xs : List ℕ) (i : ℕ) → IsUtf8 xs → IsCharBoundary xs i

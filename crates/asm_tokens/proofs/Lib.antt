@@ -3,3 +3,4 @@ pub mod Pieces
 pub mod Cuts
 pub mod Digits
 pub mod Signs
+pub mod Split

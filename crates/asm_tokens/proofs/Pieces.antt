@@ -5,9 +5,9 @@ use Rattle.std.proofs.lemmas.Bool.Decides.{nat_tests}
 use Rattle.std.proofs.lemmas.List.{drop-drop, get_or-drop}
 use Rattle.std.proofs.lemmas.List.Sums.{prefix_len_stops}
 use Rattle.std.specs.List.{list_all, prefix_len}
-use Rattle.text_tokens.specs.Tokens.{is_word_byte, is_blank, begins_comment, begins_with, piece_length, tokens, quote, slash}
-use Rattle.text_tokens.specs.Places.{IsToken}
-use Rattle.text_tokens.proofs.Split.{head_token}
+use Rattle.asm_tokens.specs.Tokens.{is_word_byte, is_blank, begins_comment, begins_with, piece_length, tokens, quote, slash}
+use Rattle.asm_tokens.specs.Places.{IsToken}
+use Rattle.asm_tokens.proofs.Split.{head_token}
 
 at_byte : (xs : List ℕ) (i : ℕ) → i < length xs → drop i xs ≡ get_or xs i 0 ∷ drop (i + 1) xs
 at_byte xs i h = rw (add-one, drop-cons xs i 0)

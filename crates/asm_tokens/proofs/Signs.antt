@@ -2,10 +2,10 @@
 use Rattle.std.proofs.Common.{◌≡◌, ℕ, ℤ, suc, ◌+◌, ◌-◌, ◌^◌, ◌∙◌, true, false, List, [], ◌∷◌, Option, Some, None, drop, min, slice_range, refl, sym, ap, subst, arith}
 use Rattle.std.specs.Prelude.{option_map, pos, neg_ℤ, MatchOption}
 use Rattle.std.proofs.lemmas.Bool.{cond-true, cond-false}
-use Rattle.text_tokens.specs.Layout.{is_sign, hash}
-use Rattle.text_tokens.specs.Numbers.{Number, numeral, minus, plain_number, behind_minus, behind_hash, unsigned_number, signed_number, number_of, value}
-use Rattle.text_tokens.specs.Places.{IsToken, AreTokens, IsNumber}
-use Rattle.text_tokens.specs.Tokens.{tokens}
+use Rattle.asm_tokens.specs.Layout.{is_sign, hash}
+use Rattle.asm_tokens.specs.Numbers.{Number, numeral, minus, plain_number, behind_minus, behind_hash, unsigned_number, signed_number, number_of, value}
+use Rattle.asm_tokens.specs.Places.{IsToken, AreTokens, IsNumber}
+use Rattle.asm_tokens.specs.Tokens.{tokens}
 
 pub plain_is : (text : List ℕ) (start first past v : ℕ) (x : ℤ) → IsToken text start first past → x ≡ pos v
     → option_map (λ n. min n (2 ^ 127 - 1)) (numeral (slice_range text first past)) ≡ Some v

@@ -1,7 +1,7 @@
 -- Strings byte by byte.
 use Rattle.std.proofs.Common.{◌≡◌, ◌≢◌, ℕ, ◌+◌, ◌<◌, ◌∙◌, eqb, Bool, true, false, List, ◌∷◌, drop, drop-cons, get_or, length, ap, add-one}
 use Rattle.std.proofs.lemmas.Bool.{cond-true, cond-false, eq-eqb, ne_eqb}
-use Rattle.text_tokens.specs.Tokens.{string_length, quote, backslash}
+use Rattle.asm_tokens.specs.Tokens.{string_length, quote, backslash}
 
 at_byte : (xs : List ℕ) (i : ℕ) → i < length xs → (e : Bool) → string_length e (drop i xs) ≡ string_length e (get_or xs i 0 ∷ drop (i + 1) xs)
 at_byte xs i h e = let at : drop i xs ≡ get_or xs i 0 ∷ drop (i + 1) xs = rw (add-one, drop-cons xs i 0) in ap (string_length e) at

@@ -2,7 +2,7 @@
 use Rattle.std.specs.Prelude.{ℕ, Bool}
 use Rattle.asm_tokens.specs.declared.scan.Kind.{Kind}
 use Rattle.asm_tokens.specs.declared.scan.Kind.TheVariants.{Word, Blank, Continuation}
-use Rattle.text_tokens.specs.Tokens.{is_word_byte, is_blank, is_continuation}
+use Rattle.asm_tokens.specs.Tokens.{is_word_byte, is_blank, is_continuation}
 
 abbrev pub is_of : Kind → ℕ → Bool
 is_of Word c = is_word_byte c

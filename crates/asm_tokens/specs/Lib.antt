@@ -1,1 +1,6 @@
 pub mod Kinds
+pub mod Tokens
+pub mod Layout
+pub mod AreTokens
+pub mod Numbers
+pub mod Places

@@ -17,10 +17,10 @@ ghost use Rattle.std.specs.Prelude.{
   MatchOption,
 };
 ghost use Rattle.std.specs.Str.{IsCharBoundary};
-ghost use Rattle.text_tokens.specs.Layout.{is_sign};
-ghost use Rattle.text_tokens.specs.Numbers.{digits_in, number_of, numeral, signed_number, unsigned_number};
-ghost use Rattle.text_tokens.specs.Places.{IsNumber};
-ghost use Rattle.text_tokens.specs.Tokens.{tokens};
+ghost use Rattle.asm_tokens.specs.Layout.{is_sign};
+ghost use Rattle.asm_tokens.specs.Numbers.{digits_in, number_of, numeral, signed_number, unsigned_number};
+ghost use Rattle.asm_tokens.specs.Places.{IsNumber};
+ghost use Rattle.asm_tokens.specs.Tokens.{tokens};
 
 use crate::token::next_token;
 

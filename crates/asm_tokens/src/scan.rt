@@ -2,7 +2,7 @@
 ghost use Rattle.std.specs.Prelude.{◌≡◌, ◌+◌, ◌<◌, ◌≤◌, false, drop, length};
 ghost use Rattle.std.specs.List.{prefix_len};
 ghost use Rattle.asm_tokens.specs.Kinds.{is_of};
-ghost use Rattle.text_tokens.specs.Tokens.{begins_comment, piece_length, string_length};
+ghost use Rattle.asm_tokens.specs.Tokens.{begins_comment, piece_length, string_length};
 
 /// A kind of bytes.
 #[derive(Clone, Copy)]

@@ -1,8 +1,8 @@
 //! Tokens of a text.
 ghost use Rattle.std.specs.Prelude.{◌≡◌, [], drop, MatchOption, IfSome};
 ghost use Rattle.std.specs.Str.{IsCharBoundary};
-ghost use Rattle.text_tokens.specs.Places.{IsToken};
-ghost use Rattle.text_tokens.specs.Tokens.{tokens};
+ghost use Rattle.asm_tokens.specs.Places.{IsToken};
+ghost use Rattle.asm_tokens.specs.Tokens.{tokens};
 
 use crate::scan::{Kind, is_comment, piece_end, run_end};
 

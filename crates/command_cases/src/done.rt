@@ -1,7 +1,7 @@
 //! What a command line comes to over files and streams in memory.
 use case_streams::{Calls, Fault, Object, Scene, Streams, Tally, Watched, words_of};
+use command_lines::Ending;
 use commands::command;
-use emu_outcome::Ending;
 use io_gate::{MemImages, MemSink, read_all};
 use std::alloc::{AllocError, Global};
 

@@ -1,7 +1,7 @@
 //! A command line that is done once for each call of an object, with this call failing.
 use crate::done::{Done, do_line};
 use case_streams::{Fault, Moved, Object, Scene, is_first, is_rest, object_of, show_range};
-use emu_outcome::Ending;
+use command_lines::Ending;
 use std::io;
 
 /// How a command ends where a call of the object failed.

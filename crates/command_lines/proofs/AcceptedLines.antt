@@ -23,7 +23,7 @@ use Rattle.command_model.specs.declared.command_line.WordsWhy.{WordsWhy}
 use Rattle.command_model.specs.declared.command_line.WordsWhy.TheVariants.{Repeated, MissingValue, BadNumber, BadLength, OutOfRange, ExtraWord, MissingWord}
 use Rattle.line_words.specs.Refusals.{and_then}
 use Rattle.command_model.specs.CommandLine.{Seen, args_of, command_of, end_of, given, is_option, line_of, line_of_command, line_of_words, nothing_seen, number_of_word, option_of, plain_words_of, read_further, read_item, read_number, read_option, read_plain, read_value, read_word, read_words, refused, pages_of, takes_arguments, takes_number, value_of, value_of_word, with_budget, with_machine, with_plain, with_value, with_word}
-use Rattle.emu_outcome.specs.Outcome.{program_arguments}
+use Rattle.command_lines.specs.Outcome.{program_arguments}
 use Rattle.command_lines.specs.LineLimits.{HasArguments, HasLimit, HasPlaces}
 
 -- ---- answers

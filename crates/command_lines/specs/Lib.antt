@@ -1,3 +1,5 @@
 pub mod Places
 pub mod LineLimits
 pub mod Scan
+pub mod Outcome
+pub mod Statuses

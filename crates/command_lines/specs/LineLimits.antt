@@ -3,7 +3,7 @@ use Rattle.std.specs.Prelude.{◌<◌, ◌≤◌, ℕ, List}
 use Rattle.emu_model.specs.Access.{most_mapped_pages}
 use Rattle.command_model.specs.declared.command_line.Line.{Line}
 use Rattle.command_model.specs.declared.command_line.Line.TheVariants.{Run, Asm, Dis, Dbg, Load, Sweep, Threads}
-use Rattle.emu_outcome.specs.Outcome.{program_arguments}
+use Rattle.command_lines.specs.Outcome.{program_arguments}
 use Rattle.emu_system.specs.ArgumentLimits.{AreArguments}
 
 -- the places are those of so many words, the files before the first argument, whose place may be behind them all

@@ -1,3 +1,9 @@
 pub mod CommandLine
 pub mod Refusals
 pub mod WorldReports
+pub mod PartingLaws
+pub mod Partings
+pub mod Sweep
+pub mod SweepLaws
+pub mod Load
+pub mod Listing

@@ -5,10 +5,10 @@ use Rattle.emu_model.specs.State.{Core, Vectors}
 use Rattle.emu_run.specs.Registers.{lines_of, scalar_lines, vector_lines}
 use Rattle.emu_run.specs.Reports.{after_steps, exit_line, spent_line, trap_line}
 use Rattle.emu_run.specs.Text.{newline}
-use Rattle.thread_model.specs.declared.thread.WorldEnding.{WorldEnding}
-use Rattle.thread_model.specs.declared.thread.WorldEnding.TheVariants.{Exit, Trap, Spent, Stuck}
-use Rattle.thread_model.specs.Threads.{ending}
-use Rattle.thread_model.specs.Worlds.{World, context}
+use Rattle.emu_run.specs.declared.thread.WorldEnding.{WorldEnding}
+use Rattle.emu_run.specs.declared.thread.WorldEnding.TheVariants.{Exit, Trap, Spent, Stuck}
+use Rattle.emu_run.specs.Threads.{ending}
+use Rattle.emu_run.specs.Worlds.{World, context}
 
 abbrev pub stuck_line : ℕ → List ℕ
 stuck_line steps = codes "stuck" ++ after_steps steps

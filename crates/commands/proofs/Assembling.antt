@@ -8,13 +8,13 @@ use Rattle.asm_layout.specs.declared.assembly.AsmError.TheVariants.{Refused}
 use Rattle.io_gate.specs.Pieces.{PutsAll}
 use Rattle.command_model.specs.Refusals.{listing_line}
 use Rattle.line_words.specs.Lines.{is_newline}
-use Rattle.insn_texts.specs.Statements.{statements}
+use Rattle.asm_text.specs.Statements.{statements}
 use Rattle.listing_model.specs.Image.{image_of, image_of_bytes}
 use Rattle.listing_model.specs.declared.fault.ListingFault.{ListingFault}
 use Rattle.listing_model.specs.declared.fault.ListingWhy.TheVariants.{NotUtf8}
-use Rattle.emu_outcome.specs.Outcome.{outcome_of_listing}
-use Rattle.emu_outcome.specs.declared.ending.Ending.{Ending}
-use Rattle.emu_outcome.specs.declared.ending.Ending.TheVariants.{ListingRefused}
+use Rattle.command_lines.specs.Outcome.{outcome_of_listing}
+use Rattle.command_lines.specs.declared.ending.Ending.{Ending}
+use Rattle.command_lines.specs.declared.ending.Ending.TheVariants.{ListingRefused}
 use Rattle.commands.specs.Endings.{done_by, ended_by}
 use Rattle.commands.specs.Meets.{now, Meets}
 use Rattle.commands.proofs.Meetings.{line_meets, output_meets}

@@ -1,9 +1,9 @@
 -- The causes of endings: which fault of a stream an ending has behind it, and which endings it can't be.
 use Rattle.std.proofs.Common.{◌≡◌, ℕ, List, Option, true, false, Result, Ok, Err, refl, sym, ap, subst, ◌∙◌, arith}
 use Rattle.io_gate.specs.Streams.{HasCause, Causes}
-use Rattle.emu_outcome.specs.Outcome.{Files}
-use Rattle.emu_outcome.specs.declared.ending.Ending.{Ending}
-use Rattle.emu_outcome.specs.declared.ending.Ending.TheVariants.{Done, FileFault, ReadFault, WriteFault, ErrorsFault, OutOfMemory}
+use Rattle.command_lines.specs.Outcome.{Files}
+use Rattle.command_lines.specs.declared.ending.Ending.{Ending}
+use Rattle.command_lines.specs.declared.ending.Ending.TheVariants.{Done, FileFault, ReadFault, WriteFault, ErrorsFault, OutOfMemory}
 use Rattle.emu_machine.specs.declared.ends.RunEnd.{RunEnd}
 use Rattle.emu_machine.specs.declared.ends.RunEnd.TheVariants as runs
 use Rattle.commands.specs.Endings.{done_by, ended_by, ending_by}

@@ -4,10 +4,10 @@ use Rattle.io_gate.specs.Pieces.{PutsAll}
 use Rattle.command_model.specs.Refusals.{image_line}
 use Rattle.emu_system.specs.Image.{Image}
 use Rattle.emu_system.specs.declared.image.ElfFault.{ElfFault}
-use Rattle.insn_texts.specs.Disassembly.{dis_of}
-use Rattle.emu_outcome.specs.Outcome.{outcome_of_words}
-use Rattle.emu_outcome.specs.declared.ending.Ending.{Ending}
-use Rattle.emu_outcome.specs.declared.ending.Ending.TheVariants.{ImageRefused}
+use Rattle.asm_text.specs.Disassembly.{dis_of}
+use Rattle.command_lines.specs.Outcome.{outcome_of_words}
+use Rattle.command_lines.specs.declared.ending.Ending.{Ending}
+use Rattle.command_lines.specs.declared.ending.Ending.TheVariants.{ImageRefused}
 use Rattle.commands.specs.Endings.{done_by, ended_by}
 use Rattle.commands.specs.Meets.{now, Meets}
 use Rattle.commands.proofs.Meetings.{line_meets, output_meets}

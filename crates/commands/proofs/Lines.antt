@@ -9,12 +9,12 @@ use Rattle.command_model.specs.Refusals.{words_line}
 use Rattle.command_model.specs.declared.command_line.Line.{Line}
 use Rattle.command_model.specs.declared.command_line.Line.TheVariants.{Run, Asm, Dis, Dbg, Load, Sweep, Threads}
 use Rattle.command_model.specs.declared.command_line.WordsFault.{WordsFault}
-use Rattle.emu_outcome.specs.Outcome.{Outcome, Files, outcome_of_line, outcome_of_load, result_of, refusal}
-use Rattle.insn_texts.specs.Statements.{statements}
+use Rattle.command_lines.specs.Outcome.{Outcome, Files, outcome_of_line, outcome_of_load, result_of, refusal}
+use Rattle.asm_text.specs.Statements.{statements}
 use Rattle.listing_model.specs.Image.{image_of}
-use Rattle.sweep_model.specs.Listing.{listing}
-use Rattle.emu_outcome.specs.declared.ending.Ending.{Ending}
-use Rattle.emu_outcome.specs.declared.ending.Ending.TheVariants.{WordsRefused, FileFault, ReadFault, ErrorsFault}
+use Rattle.command_model.specs.Listing.{listing}
+use Rattle.command_lines.specs.declared.ending.Ending.{Ending}
+use Rattle.command_lines.specs.declared.ending.Ending.TheVariants.{WordsRefused, FileFault, ReadFault, ErrorsFault}
 use Rattle.commands.specs.Endings.{ended_by}
 use Rattle.commands.specs.Programs.{outcome_over}
 use Rattle.emu_system.specs.Gained.{Gains}

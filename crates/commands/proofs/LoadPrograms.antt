@@ -4,11 +4,11 @@ use Rattle.io_gate.specs.Pieces.{PutsAll}
 use Rattle.command_model.specs.Refusals.{image_line, listing_line}
 use Rattle.emu_system.specs.Image.{Image, elf}
 use Rattle.emu_system.specs.declared.image.ElfFault.{ElfFault}
-use Rattle.emu_outcome.specs.Outcome.{outcome_of_load, outcome_of_loaded}
-use Rattle.emu_outcome.specs.declared.ending.Ending.{Ending}
-use Rattle.emu_outcome.specs.declared.ending.Ending.TheVariants.{ImageRefused, ListingRefused}
+use Rattle.command_lines.specs.Outcome.{outcome_of_load, outcome_of_loaded}
+use Rattle.command_lines.specs.declared.ending.Ending.{Ending}
+use Rattle.command_lines.specs.declared.ending.Ending.TheVariants.{ImageRefused, ListingRefused}
 use Rattle.listing_model.specs.declared.fault.ListingFault.{ListingFault}
-use Rattle.sweep_model.specs.Load.{load_pages, load_text}
+use Rattle.command_model.specs.Load.{load_pages, load_text}
 use Rattle.commands.specs.Endings.{done_by, ended_by}
 use Rattle.commands.specs.Meets.{now, Meets, Now}
 use Rattle.commands.proofs.Meetings.{line_meets, output_meets}

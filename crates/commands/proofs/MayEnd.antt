@@ -1,18 +1,18 @@
 -- How lines may end, by how their parts end.
 use Rattle.std.proofs.Common.{◌≡◌, ◌∙◌, ℕ, Bool, true, false, ◌||◌, nat_eq, Result, Ok, Err, ap, refl, subst}
-use Rattle.sweep_model.specs.Sweep.{stream_limit}
+use Rattle.command_model.specs.Sweep.{stream_limit}
 use Rattle.commands.specs.Sweeping.{ends_swept}
-use Rattle.emu_outcome.specs.declared.ending.Ending.{Ending}
-use Rattle.emu_outcome.specs.declared.ending.Ending.TheVariants.{Exit, Trap, Spent, Stuck, Done, ImageRefused, ListingRefused, ScriptRefused, ScheduleRefused, TooLong, ReadFault, WriteFault, ErrorsFault, OutOfMemory}
+use Rattle.command_lines.specs.declared.ending.Ending.{Ending}
+use Rattle.command_lines.specs.declared.ending.Ending.TheVariants.{Exit, Trap, Spent, Stuck, Done, ImageRefused, ListingRefused, ScriptRefused, ScheduleRefused, TooLong, ReadFault, WriteFault, ErrorsFault, OutOfMemory}
 use Rattle.emu_machine.specs.declared.ends.RunEnd.{RunEnd}
 use Rattle.emu_machine.specs.declared.ends.RunEnd.TheVariants as runs
 use Rattle.dbg_core.specs.declared.ends.SessionEnd.{SessionEnd}
 use Rattle.dbg_core.specs.declared.ends.SessionEnd.TheVariants as sessions
 use Rattle.guest_threads.specs.declared.ends.WorldEnd.{WorldEnd}
 use Rattle.guest_threads.specs.declared.ends.WorldEnd.TheVariants as worlds
-use Rattle.thread_model.specs.declared.thread.WorldEnding.{WorldEnding}
-use Rattle.thread_model.specs.declared.thread.WorldEnding.TheVariants as stops
-use Rattle.emu_outcome.specs.Outcome.{ending_of_world}
+use Rattle.emu_run.specs.declared.thread.WorldEnding.{WorldEnding}
+use Rattle.emu_run.specs.declared.thread.WorldEnding.TheVariants as stops
+use Rattle.command_lines.specs.Outcome.{ending_of_world}
 use Rattle.commands.specs.Endings.{done_by, ended_by, ending_by, ending_of_session, stop_by}
 use Rattle.commands.specs.Lines.{stops_any, ends_run, ends_asm, ends_dis, ends_dbg, ends_sweep, ends_threads}
 use Rattle.commands.specs.SecondFiles.{ends_by}

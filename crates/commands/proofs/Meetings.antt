@@ -6,7 +6,7 @@ use Rattle.emu_model.specs.State.{Parts, State}
 use Rattle.emu_model.specs.declared.trap.Ended.{Ended}
 use Rattle.emu_model.specs.declared.trap.Ended.TheVariants.{Exit as Exited, Trap as Trapped}
 use Rattle.emu_system.specs.Start.{with_input}
-use Rattle.emu_outcome.specs.Outcome.{Outcome, refusal, written, outcome_of_run, outcome_of_session, ending_of}
+use Rattle.command_lines.specs.Outcome.{Outcome, refusal, written, outcome_of_run, outcome_of_session, ending_of}
 use Rattle.emu_run.specs.Reports.{report}
 use Rattle.dbg_core.specs.Ends.{is_fault}
 use Rattle.dbg_core.specs.declared.ends.SessionEnd.{SessionEnd}
@@ -15,8 +15,8 @@ use Rattle.dbg_model.specs.declared.script.Command.{Command}
 use Rattle.dbg_model.specs.Session.{session}
 use Rattle.emu_run.specs.Run.{run}
 use Rattle.emu_run.specs.RunLaws.{IsRest, until_end_moves, prefix_refl, prefix_trans}
-use Rattle.emu_outcome.specs.declared.ending.Ending.{Ending}
-use Rattle.emu_outcome.specs.declared.ending.Ending.TheVariants.{WriteFault, ErrorsFault}
+use Rattle.command_lines.specs.declared.ending.Ending.{Ending}
+use Rattle.command_lines.specs.declared.ending.Ending.TheVariants.{WriteFault, ErrorsFault}
 use Rattle.emu_machine.specs.Ends.{Becomes, TakesWithin, LeftOf, Puts, run_end, is_broken_off}
 use Rattle.emu_machine.specs.declared.ends.RunEnd.{RunEnd}
 use Rattle.commands.specs.Endings.{done_by, ended_by, ending_by, ending_of_session}

@@ -9,9 +9,9 @@ use Rattle.io_gate.specs.Pieces.{PutsAll}
 use Rattle.io_gate.specs.declared.images.ImagesError.{ImagesError}
 use Rattle.io_gate.specs.declared.images.ImagesError.TheVariants as images
 use Rattle.command_model.specs.Refusals.{too_long_line}
-use Rattle.emu_outcome.specs.Outcome.{Outcome, Files, file_at, file_limit, refusal, with_file}
-use Rattle.emu_outcome.specs.declared.ending.Ending.{Ending}
-use Rattle.emu_outcome.specs.declared.ending.Ending.TheVariants.{TooLong, FileFault, ErrorsFault, OutOfMemory}
+use Rattle.command_lines.specs.Outcome.{Outcome, Files, file_at, file_limit, refusal, with_file}
+use Rattle.command_lines.specs.declared.ending.Ending.{Ending}
+use Rattle.command_lines.specs.declared.ending.Ending.TheVariants.{TooLong, FileFault, ErrorsFault, OutOfMemory}
 use Rattle.commands.specs.Endings.{ended_by}
 use Rattle.emu_system.specs.Gained.{Gains}
 use Rattle.commands.specs.Promises.{is_failure, output_of, errors_of, taken_of, CountsFor, EndsAs, Loses, NamesNoFile, Settles}

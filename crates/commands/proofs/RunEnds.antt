@@ -6,7 +6,7 @@ use Rattle.dbg_model.specs.Session.{session}
 use Rattle.emu_model.specs.State.{Parts, State}
 use Rattle.emu_model.specs.declared.trap.Ended.{Ended}
 use Rattle.emu_model.specs.declared.trap.Ended.TheVariants.{Exit as Exited, Trap as Trapped}
-use Rattle.emu_outcome.specs.Outcome.{ending_of}
+use Rattle.command_lines.specs.Outcome.{ending_of}
 use Rattle.emu_run.specs.RunLaws.{IsRest, until_end_moves}
 use Rattle.emu_machine.specs.declared.ends.RunEnd.{RunEnd}
 use Rattle.emu_machine.specs.declared.ends.RunEnd.TheVariants as runs

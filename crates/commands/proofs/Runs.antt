@@ -8,9 +8,9 @@ use Rattle.emu_system.specs.declared.image.ElfFault.{ElfFault}
 use Rattle.emu_run.specs.Run.{run}
 use Rattle.emu_run.specs.Registers.{scalar_lines, vector_lines, register_lines}
 use Rattle.command_model.specs.Refusals.{image_line}
-use Rattle.emu_outcome.specs.Outcome.{Outcome, outcome_of_run, outcome_of_image}
-use Rattle.emu_outcome.specs.declared.ending.Ending.{Ending}
-use Rattle.emu_outcome.specs.declared.ending.Ending.TheVariants.{ImageRefused}
+use Rattle.command_lines.specs.Outcome.{Outcome, outcome_of_run, outcome_of_image}
+use Rattle.command_lines.specs.declared.ending.Ending.{Ending}
+use Rattle.command_lines.specs.declared.ending.Ending.TheVariants.{ImageRefused}
 use Rattle.commands.specs.Endings.{ended_by}
 use Rattle.commands.specs.Meets.{Now, now, Meets}
 use Rattle.commands.proofs.Meetings.{line_meets}

@@ -1,6 +1,6 @@
 -- What the parts of a debugger session promise, put together: its script and its machine.
 use Rattle.std.proofs.Common.{◌≡◌, ℕ, Bool, true, false, List, length, Option, Some, None, Result, Ok, Err, IfSome, refl, sym, ap, subst, ◌∙◌, cond}
-use Rattle.back_model.specs.SessionBack.{session_back}
+use Rattle.dbg_model.specs.SessionBack.{session_back}
 use Rattle.command_model.specs.Refusals.{script_line}
 use Rattle.dbg_back.specs.Ends.{is_fault}
 use Rattle.dbg_back.specs.declared.ends.BackEnd.{BackEnd}
@@ -9,19 +9,19 @@ use Rattle.dbg_model.specs.Commands.{has_back}
 use Rattle.dbg_model.specs.Session.{session}
 use Rattle.dbg_model.specs.declared.script.Command.{Command}
 use Rattle.dbg_model.specs.declared.script.ScriptFault.{ScriptFault}
-use Rattle.dbg_scripts.specs.Reading.{IsErrorOf}
-use Rattle.dbg_scripts.specs.declared.reader.ScriptError.{ScriptError}
-use Rattle.dbg_scripts.specs.declared.reader.ScriptError.TheVariants.{Refused}
+use Rattle.dbg_core.specs.ScriptReading.{IsErrorOf}
+use Rattle.dbg_core.specs.declared.script_reader.ScriptError.{ScriptError}
+use Rattle.dbg_core.specs.declared.script_reader.ScriptError.TheVariants.{Refused}
 use Rattle.emu_model.specs.Access.{Marks, no_marks}
 use Rattle.emu_model.specs.Marks.{fresh_marks}
 use Rattle.emu_model.specs.State.{Parts}
-use Rattle.emu_outcome.specs.Outcome.{Outcome, outcome_of_commands, outcome_of_script, outcome_of_session, outcome_of_session_back, over_whole}
-use Rattle.emu_outcome.specs.declared.ending.Ending.{Ending}
-use Rattle.emu_outcome.specs.declared.ending.Ending.TheVariants.{Done, ScriptRefused, WriteFault, ErrorsFault}
+use Rattle.command_lines.specs.Outcome.{Outcome, outcome_of_commands, outcome_of_script, outcome_of_session, outcome_of_session_back, over_whole}
+use Rattle.command_lines.specs.declared.ending.Ending.{Ending}
+use Rattle.command_lines.specs.declared.ending.Ending.TheVariants.{Done, ScriptRefused, WriteFault, ErrorsFault}
 use Rattle.emu_system.specs.Gained.{Gains}
 use Rattle.emu_system.specs.Start.{with_input}
 use Rattle.io_gate.specs.Pieces.{PutsAll}
-use Rattle.mark_laws.specs.Marked.{parts_with}
+use Rattle.emu_run.specs.Marked.{parts_with}
 use Rattle.commands.specs.Endings.{ended_by, ending_of_back}
 use Rattle.commands.specs.Lines.{script_goes_back}
 use Rattle.commands.specs.Promises.{is_refusal, settled_sweep, settles_by}

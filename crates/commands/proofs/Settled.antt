@@ -2,10 +2,10 @@
 use Rattle.std.proofs.Common.{◌≡◌, ℕ, Bool, true, false, List, Option, Some, None, IfSome, cond, nat_eq, arith, refl, sym, ap, subst, ◌∙◌}
 use Rattle.std.proofs.lemmas.Option.{IfSome_then}
 use Rattle.std.proofs.lemmas.Bool.Decides.{nat_tests}
-use Rattle.sweep_model.specs.Sweep.{stream_limit}
-use Rattle.emu_outcome.specs.Outcome.{Outcome, Files, file_limit}
-use Rattle.emu_outcome.specs.declared.ending.Ending.{Ending}
-use Rattle.emu_outcome.specs.declared.ending.Ending.TheVariants.{Exit, Trap, Spent, Stuck, Done, WordsRefused, ImageRefused, ListingRefused, ScriptRefused, ScheduleRefused, TooLong}
+use Rattle.command_model.specs.Sweep.{stream_limit}
+use Rattle.command_lines.specs.Outcome.{Outcome, Files, file_limit}
+use Rattle.command_lines.specs.declared.ending.Ending.{Ending}
+use Rattle.command_lines.specs.declared.ending.Ending.TheVariants.{Exit, Trap, Spent, Stuck, Done, WordsRefused, ImageRefused, ListingRefused, ScriptRefused, ScheduleRefused, TooLong}
 use Rattle.commands.specs.Lines.{stops_any}
 use Rattle.commands.specs.Promises.{is_failure, is_refusal, rests_on_none, settled_ending, settled_sweep, settles_by, EndsAs, Settles, SettlesSweep}
 use Rattle.commands.specs.Meets.{Meets, MeetsBy, Now}

@@ -7,10 +7,10 @@ use Rattle.emu_system.specs.GainedLaws.{put_first}
 use Rattle.emu_system.specs.Image.{Image}
 use Rattle.emu_system.specs.declared.image.ElfFault.{ElfFault}
 use Rattle.command_model.specs.Refusals.{image_line, too_long_line}
-use Rattle.sweep_model.specs.Sweep.{Sweep, fits, stream_limit, sweep_text, text_before}
-use Rattle.emu_outcome.specs.Outcome.{Outcome, outcome_of_lengths, outcome_of_sweep, outcome_of_swept, too_long_stream}
-use Rattle.emu_outcome.specs.declared.ending.Ending.{Ending}
-use Rattle.emu_outcome.specs.declared.ending.Ending.TheVariants.{Done, ImageRefused, TooLong, ErrorsFault}
+use Rattle.command_model.specs.Sweep.{Sweep, fits, stream_limit, sweep_text, text_before}
+use Rattle.command_lines.specs.Outcome.{Outcome, outcome_of_lengths, outcome_of_sweep, outcome_of_swept, too_long_stream}
+use Rattle.command_lines.specs.declared.ending.Ending.{Ending}
+use Rattle.command_lines.specs.declared.ending.Ending.TheVariants.{Done, ImageRefused, TooLong, ErrorsFault}
 use Rattle.commands.specs.Endings.{ended_by}
 use Rattle.commands.specs.Promises.{is_failure, is_refusal, settled_sweep}
 use Rattle.commands.specs.Meets.{now, MeetsSweep, Now}

@@ -5,9 +5,9 @@ use Rattle.io_gate.specs.Images.{whole_file}
 use Rattle.io_gate.specs.Pieces.{PutsAll}
 use Rattle.io_gate.specs.declared.images.ImagesError.TheVariants as images
 use Rattle.command_model.specs.Refusals.{image_line}
-use Rattle.emu_outcome.specs.Outcome.{Outcome, Files, file_at, file_limit, refusal}
-use Rattle.emu_outcome.specs.declared.ending.Ending.{Ending}
-use Rattle.emu_outcome.specs.declared.ending.Ending.TheVariants.{ImageRefused}
+use Rattle.command_lines.specs.Outcome.{Outcome, Files, file_at, file_limit, refusal}
+use Rattle.command_lines.specs.declared.ending.Ending.{Ending}
+use Rattle.command_lines.specs.declared.ending.Ending.TheVariants.{ImageRefused}
 use Rattle.emu_system.specs.Image.{Image}
 use Rattle.emu_system.specs.Start.{opening}
 use Rattle.emu_system.specs.declared.image.ElfFault.{ElfFault}

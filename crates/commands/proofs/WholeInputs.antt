@@ -12,10 +12,10 @@ use Rattle.std.specs.Global.{Vec}
 use Rattle.command_model.specs.Refusals.{too_long_line}
 use Rattle.emu_system.specs.Gained.{Gains}
 use Rattle.emu_system.specs.GainedLaws.{put_first}
-use Rattle.sweep_model.specs.Sweep.{stream_limit}
-use Rattle.emu_outcome.specs.Outcome.{Outcome, over_whole, too_long_stream}
-use Rattle.emu_outcome.specs.declared.ending.Ending.{Ending}
-use Rattle.emu_outcome.specs.declared.ending.Ending.TheVariants.{Done, TooLong, ErrorsFault}
+use Rattle.command_model.specs.Sweep.{stream_limit}
+use Rattle.command_lines.specs.Outcome.{Outcome, over_whole, too_long_stream}
+use Rattle.command_lines.specs.declared.ending.Ending.{Ending}
+use Rattle.command_lines.specs.declared.ending.Ending.TheVariants.{Done, TooLong, ErrorsFault}
 use Rattle.commands.specs.Endings.{ended_by}
 use Rattle.commands.specs.Promises.{is_failure, is_refusal, settled_sweep, CountsFor, Loses}
 use Rattle.commands.specs.Meets.{now, MeetsSweep}

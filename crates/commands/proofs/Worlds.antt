@@ -5,23 +5,23 @@ use Rattle.io_gate.specs.Streams.{Causes, HasCause, Rose}
 use Rattle.io_gate.specs.Pieces.{PutsAll}
 use Rattle.command_model.specs.Refusals.{schedule_line}
 use Rattle.command_model.specs.WorldReports.{contexts_lines, stop_line, world_report}
-use Rattle.emu_outcome.specs.Outcome.{Outcome, ending_of_world, outcome_of_schedule, outcome_of_world}
-use Rattle.emu_outcome.specs.declared.ending.Ending.{Ending}
-use Rattle.emu_outcome.specs.declared.ending.Ending.TheVariants.{ScheduleRefused, ReadFault, WriteFault, ErrorsFault}
+use Rattle.command_lines.specs.Outcome.{Outcome, ending_of_world, outcome_of_schedule, outcome_of_world}
+use Rattle.command_lines.specs.declared.ending.Ending.{Ending}
+use Rattle.command_lines.specs.declared.ending.Ending.TheVariants.{ScheduleRefused, ReadFault, WriteFault, ErrorsFault}
 use Rattle.emu_run.specs.RunLaws.{IsRest}
-use Rattle.guest_schedule.specs.Reading.{IsErrorOf}
-use Rattle.guest_schedule.specs.declared.reader.ScheduleError.{ScheduleError}
-use Rattle.guest_schedule.specs.declared.reader.ScheduleError.TheVariants.{Refused}
-use Rattle.guest_schedule.specs.declared.schedule.ScheduleFault.{ScheduleFault}
+use Rattle.line_words.specs.Reading.{IsErrorOf}
+use Rattle.line_words.specs.declared.reader.ScheduleError.{ScheduleError}
+use Rattle.line_words.specs.declared.reader.ScheduleError.TheVariants.{Refused}
+use Rattle.line_words.specs.declared.schedule.ScheduleFault.{ScheduleFault}
 use Rattle.guest_threads.specs.Ends.{Becomes, Puts, TakesWithin, end_of_world, is_broken_off, world_end}
 use Rattle.guest_threads.specs.declared.ends.WorldEnd.{WorldEnd}
 use Rattle.guest_threads.specs.declared.ends.WorldEnd.TheVariants as worlds
-use Rattle.thread_model.specs.declared.thread.WorldEnding.{WorldEnding}
-use Rattle.thread_model.specs.declared.thread.WorldEnding.TheVariants as stops
-use Rattle.thread_model.specs.ThreadLaws.{from_moves}
-use Rattle.thread_model.specs.Threads.{with_input}
-use Rattle.thread_model.specs.Threads.{WorldState, ending, first_place, threads}
-use Rattle.thread_model.specs.Worlds.{World}
+use Rattle.emu_run.specs.declared.thread.WorldEnding.{WorldEnding}
+use Rattle.emu_run.specs.declared.thread.WorldEnding.TheVariants as stops
+use Rattle.emu_run.specs.ThreadLaws.{from_moves}
+use Rattle.emu_run.specs.Threads.{with_input}
+use Rattle.emu_run.specs.Threads.{WorldState, ending, first_place, threads}
+use Rattle.emu_run.specs.Worlds.{World}
 use Rattle.commands.specs.Endings.{ended_by, stop_by}
 use Rattle.commands.specs.Promises.{is_failure}
 use Rattle.commands.specs.Meets.{Now, now, Meets}

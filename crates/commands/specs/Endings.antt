@@ -8,10 +8,10 @@ use Rattle.emu_machine.specs.declared.ends.RunEnd.{RunEnd}
 use Rattle.emu_machine.specs.declared.ends.RunEnd.TheVariants as runs
 use Rattle.guest_threads.specs.declared.ends.WorldEnd.{WorldEnd}
 use Rattle.guest_threads.specs.declared.ends.WorldEnd.TheVariants as worlds
-use Rattle.thread_model.specs.declared.thread.WorldEnding.{WorldEnding}
-use Rattle.thread_model.specs.declared.thread.WorldEnding.TheVariants as stops
-use Rattle.emu_outcome.specs.declared.ending.Ending.{Ending}
-use Rattle.emu_outcome.specs.declared.ending.Ending.TheVariants.{Exit, Trap, Spent, Done, ReadFault, WriteFault, ErrorsFault}
+use Rattle.emu_run.specs.declared.thread.WorldEnding.{WorldEnding}
+use Rattle.emu_run.specs.declared.thread.WorldEnding.TheVariants as stops
+use Rattle.command_lines.specs.declared.ending.Ending.{Ending}
+use Rattle.command_lines.specs.declared.ending.Ending.TheVariants.{Exit, Trap, Spent, Done, ReadFault, WriteFault, ErrorsFault}
 
 -- a line that isn't put whole turns the ending into a fault of the errors
 abbrev pub ended_by : {T E : Type 0} → Result T E → Ending → Ending

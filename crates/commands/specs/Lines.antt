@@ -11,10 +11,10 @@ use Rattle.dbg_model.specs.Commands.{has_back}
 use Rattle.dbg_model.specs.Script.{script_of_file}
 use Rattle.dbg_model.specs.declared.script.Command.{Command}
 use Rattle.dbg_model.specs.declared.script.ScriptFault.{ScriptFault}
-use Rattle.sweep_model.specs.Sweep.{stream_limit}
-use Rattle.emu_outcome.specs.Outcome.{Outcome, Files, file_at, file_limit}
-use Rattle.emu_outcome.specs.declared.ending.Ending.{Ending}
-use Rattle.emu_outcome.specs.declared.ending.Ending.TheVariants.{Exit, Trap, Spent, Stuck, Done, WordsRefused, ImageRefused, ListingRefused, ScriptRefused, ScheduleRefused, TooLong, FileFault, WriteFault, ErrorsFault, OutOfMemory}
+use Rattle.command_model.specs.Sweep.{stream_limit}
+use Rattle.command_lines.specs.Outcome.{Outcome, Files, file_at, file_limit}
+use Rattle.command_lines.specs.declared.ending.Ending.{Ending}
+use Rattle.command_lines.specs.declared.ending.Ending.TheVariants.{Exit, Trap, Spent, Stuck, Done, WordsRefused, ImageRefused, ListingRefused, ScriptRefused, ScheduleRefused, TooLong, FileFault, WriteFault, ErrorsFault, OutOfMemory}
 use Rattle.commands.specs.Promises.{is_failure, settles_by, CountsFor}
 
 -- the line runs a machine over the input

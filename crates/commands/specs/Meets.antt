@@ -1,8 +1,8 @@
 -- All that a command promises of an outcome, in one record, with what its streams tell before and after.
 use Rattle.std.specs.Prelude.{◌≡◌, ℕ, false, List, Option, IfSome, Result}
 use Rattle.emu_system.specs.Gained.{Gains}
-use Rattle.emu_outcome.specs.Outcome.{Outcome, Files}
-use Rattle.emu_outcome.specs.declared.ending.Ending.{Ending}
+use Rattle.command_lines.specs.Outcome.{Outcome, Files}
+use Rattle.command_lines.specs.declared.ending.Ending.{Ending}
 use Rattle.commands.specs.Promises.{is_failure, EndsAs, Settles, SettlesSweep, output_of, errors_of, taken_of, Loses, CountsFor}
 use Rattle.commands.specs.Lines.{SettlesLine}
 use Rattle.command_model.specs.declared.command_line.Line.{Line}

@@ -3,7 +3,7 @@ use Rattle.std.specs.Prelude.{ℕ, List, Option, Ok}
 use Rattle.command_model.specs.declared.command_line.Line.{Line}
 use Rattle.command_model.specs.declared.command_line.Line.TheVariants.{Run, Dbg, Sweep, Threads}
 use Rattle.emu_model.specs.State.{Parts}
-use Rattle.emu_outcome.specs.Outcome.{Outcome, Files, outcome_of_line, program_arguments}
+use Rattle.command_lines.specs.Outcome.{Outcome, Files, outcome_of_line, program_arguments}
 use Rattle.emu_system.specs.Image.{Image}
 use Rattle.emu_system.specs.Start.{opening}
 use Rattle.commands.specs.declared.program.Program.{Program}

@@ -1,10 +1,10 @@
 -- What a command promises: its result by the definitions, or, where something failed, nothing beyond it. Each fact rests on what the files told, and on
 -- the input and the sinks that it names, where these tell their bytes.
 use Rattle.std.specs.Prelude.{◌≡◌, ◌≤◌, ℕ, Bool, true, false, nat_eq, List, [], drop, Option, Some, None, MatchBool, if◌then◌else◌}
-use Rattle.sweep_model.specs.Sweep.{stream_limit}
-use Rattle.emu_outcome.specs.Outcome.{Outcome, Files, file_limit}
-use Rattle.emu_outcome.specs.declared.ending.Ending.{Ending}
-use Rattle.emu_outcome.specs.declared.ending.Ending.TheVariants.{Exit, Trap, Spent, Stuck, Done, WordsRefused, ImageRefused, ListingRefused, ScriptRefused, ScheduleRefused, TooLong, FileFault, ReadFault, WriteFault, ErrorsFault, OutOfMemory}
+use Rattle.command_model.specs.Sweep.{stream_limit}
+use Rattle.command_lines.specs.Outcome.{Outcome, Files, file_limit}
+use Rattle.command_lines.specs.declared.ending.Ending.{Ending}
+use Rattle.command_lines.specs.declared.ending.Ending.TheVariants.{Exit, Trap, Spent, Stuck, Done, WordsRefused, ImageRefused, ListingRefused, ScriptRefused, ScheduleRefused, TooLong, FileFault, ReadFault, WriteFault, ErrorsFault, OutOfMemory}
 
 -- a file or a stream failed, or memory was wanting
 abbrev pub is_failure : Ending → Bool

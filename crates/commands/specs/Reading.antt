@@ -4,9 +4,9 @@ use Rattle.std.specs.FinMap.{get}
 use Rattle.std.specs.Global.{Vec}
 use Rattle.io_gate.specs.Images.{whole_file}
 use Rattle.io_gate.specs.declared.images.ImagesError.TheVariants as images
-use Rattle.emu_outcome.specs.Outcome.{Outcome, Files, file_limit, with_file}
-use Rattle.emu_outcome.specs.declared.ending.Ending.{Ending}
-use Rattle.emu_outcome.specs.declared.ending.Ending.TheVariants.{TooLong, FileFault, ErrorsFault, OutOfMemory}
+use Rattle.command_lines.specs.Outcome.{Outcome, Files, file_limit, with_file}
+use Rattle.command_lines.specs.declared.ending.Ending.{Ending}
+use Rattle.command_lines.specs.declared.ending.Ending.TheVariants.{TooLong, FileFault, ErrorsFault, OutOfMemory}
 use Rattle.commands.specs.Meets.{now, Meets}
 
 -- the file's bytes; or how the command ends without them, whatever it does with them

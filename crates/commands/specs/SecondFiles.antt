@@ -2,12 +2,12 @@
 use Rattle.std.specs.Prelude.{ℕ, Bool, false, List, Option, Some, Result}
 use Rattle.dbg_model.specs.Script.{script_of_file}
 use Rattle.emu_model.specs.State.{Parts}
-use Rattle.emu_outcome.specs.Outcome.{Outcome, Files, file_at, outcome_of_debug, outcome_of_schedule, outcome_of_script, outcome_of_threads, with_file}
-use Rattle.emu_outcome.specs.declared.ending.Ending.{Ending}
+use Rattle.command_lines.specs.Outcome.{Outcome, Files, file_at, outcome_of_debug, outcome_of_schedule, outcome_of_script, outcome_of_threads, with_file}
+use Rattle.command_lines.specs.declared.ending.Ending.{Ending}
 use Rattle.emu_system.specs.Image.{Image, elf}
 use Rattle.emu_system.specs.declared.image.ElfFault.{ElfFault}
-use Rattle.guest_schedule.specs.Schedule.{schedule_of_file}
-use Rattle.thread_model.specs.Worlds.{opened}
+use Rattle.line_words.specs.Schedule.{schedule_of_file}
+use Rattle.emu_run.specs.Worlds.{opened}
 use Rattle.commands.specs.declared.program.Program.{Program}
 use Rattle.commands.specs.declared.two_files.SecondFile.{SecondFile}
 use Rattle.commands.specs.declared.two_files.SecondFile.TheVariants.{Script, Schedule}

@@ -1,10 +1,10 @@
 -- What a sweep of an image with its input promises, and how it ends.
 use Rattle.std.specs.Prelude.{◌≡◌, ℕ, Bool, true, false, nat_eq, List, Option, IfSome}
-use Rattle.emu_outcome.specs.Outcome.{Outcome}
-use Rattle.emu_outcome.specs.declared.ending.Ending.{Ending}
-use Rattle.emu_outcome.specs.declared.ending.Ending.TheVariants.{Done, TooLong, WriteFault, ErrorsFault, OutOfMemory}
+use Rattle.command_lines.specs.Outcome.{Outcome}
+use Rattle.command_lines.specs.declared.ending.Ending.{Ending}
+use Rattle.command_lines.specs.declared.ending.Ending.TheVariants.{Done, TooLong, WriteFault, ErrorsFault, OutOfMemory}
 use Rattle.emu_system.specs.Gained.{Gains}
-use Rattle.sweep_model.specs.Sweep.{stream_limit}
+use Rattle.command_model.specs.Sweep.{stream_limit}
 use Rattle.vl_sweep.specs.declared.lengths.SweepEnd.TheVariants as sweeps
 use Rattle.commands.specs.Promises.{is_failure}
 

@@ -1,6 +1,6 @@
 //! The arguments of a program, as the words of a line give them.
 ghost use Rattle.std.specs.Prelude.{◌≡◌, ◌<◌, ◌≤◌, [], ◌∷◌, ◌++◌, map, length, string_bytes, IfOk, OnOk};
-ghost use Rattle.emu_outcome.specs.Outcome.{program_arguments};
+ghost use Rattle.command_lines.specs.Outcome.{program_arguments};
 
 use command_lines::word;
 use std::alloc::{AllocError, Global};

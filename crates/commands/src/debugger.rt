@@ -9,8 +9,8 @@ ghost use Rattle.emu_system.specs.Start.{with_input};
 ghost use Rattle.dbg_model.specs.Commands.{has_back};
 ghost use Rattle.dbg_model.specs.Script.{script_of_file};
 ghost use Rattle.dbg_model.specs.Session as model;
-ghost use Rattle.dbg_scripts.specs.Reading.{IsErrorOf};
-ghost use Rattle.emu_outcome.specs.Outcome.{
+ghost use Rattle.dbg_core.specs.ScriptReading.{IsErrorOf};
+ghost use Rattle.command_lines.specs.Outcome.{
   file_limit,
   outcome_of_commands,
   outcome_of_script,
@@ -28,16 +28,16 @@ ghost use Rattle.commands.specs.Sweeping.{ends_swept, Writes};
 use crate::files::ending_after_line;
 use crate::program::{Program, open_machine, open_marked};
 use crate::texts::line_of_place;
+use command_lines::Ending;
+use command_model::STREAM_LIMIT;
 use dbg_back::{BackEnd, session_back};
 use dbg_core::{Script, ScriptError, ScriptFault, ScriptWhy, SessionEnd, read_script, session};
 use elf_image::Image;
 use emu_machine::Machine;
-use emu_outcome::Ending;
 use emu_report::{put_script_refusal, put_too_long};
 use io_gate::{ReadEnd, Sink, Source, read_all};
 use std::alloc::Global;
 use std::str;
-use sweep_model::STREAM_LIMIT;
 
 /// The script of a file's bytes. Err is its first refusal, or want of memory.
 fn script_of(alloc: Global, bytes: &[u8]) -> Result<Script, ScriptError>

@@ -21,18 +21,17 @@ ghost use Rattle.std.specs.Prelude.{
 ghost use Rattle.io_gate.specs.Images.{MissesNamed};
 ghost use Rattle.io_gate.specs.Streams.{Rose, Causes};
 ghost use Rattle.emu_system.specs.Image.{elf};
-ghost use Rattle.emu_outcome.specs.Outcome.{most_pages, outcome_of_words};
+ghost use Rattle.command_lines.specs.Outcome.{most_pages, outcome_of_words};
 ghost use Rattle.commands.specs.Lines.{ends_dis};
 ghost use Rattle.commands.specs.Programs.{outcome_over};
 ghost use Rattle.commands.specs.Promises.{is_silent};
 ghost use Rattle.commands.specs.Meets.{now, Meets};
 
 use crate::files::{ending_after_line, ending_after_output, file_bytes};
-use command_lines::word;
+use command_lines::{Ending, word};
 use command_model::Line;
-use dis_image::put_dis;
+use dis_text::put_dis;
 use elf_image::read;
-use emu_outcome::Ending;
 use emu_report::put_image_refusal;
 use io_gate::{Images, Sink};
 use std::alloc::Global;

@@ -3,12 +3,12 @@ ghost use Rattle.std.specs.Prelude.{◌≡◌, ◌≢◌, ◌≤◌, ◌⊎◌, 
 ghost use Rattle.std.specs.FinMap.{get};
 ghost use Rattle.io_gate.specs.Images.{MissesNamed};
 ghost use Rattle.io_gate.specs.Streams.{Rose, Causes};
-ghost use Rattle.emu_outcome.specs.Outcome.{file_limit};
+ghost use Rattle.command_lines.specs.Outcome.{file_limit};
 ghost use Rattle.commands.specs.Endings.{done_by, ended_by};
 ghost use Rattle.commands.specs.Lines.{stops_any};
 ghost use Rattle.commands.specs.Reading.{EndsUnread, GivesFile};
 
-use emu_outcome::Ending;
+use command_lines::Ending;
 use emu_report::put_too_long;
 use io_gate::{Failed, Images, ImagesError, Sink};
 use std::alloc::Global;

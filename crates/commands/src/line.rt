@@ -20,7 +20,7 @@ ghost use Rattle.std.specs.Prelude.{
 ghost use Rattle.io_gate.specs.Streams.{Rose, Causes};
 ghost use Rattle.command_model.specs.CommandLine.{line};
 ghost use Rattle.command_model.specs.Refusals.{words_line};
-ghost use Rattle.emu_outcome.specs.Outcome.{result_of};
+ghost use Rattle.command_lines.specs.Outcome.{result_of};
 ghost use Rattle.command_lines.specs.LineLimits.{HasArguments, HasLimit, HasPlaces};
 ghost use Rattle.commands.specs.Lines.{
   takes_input,
@@ -45,8 +45,7 @@ use crate::program::Program;
 use crate::run::run_file;
 use crate::sweeping::{Swept, sweep_file};
 use crate::two_files::{SecondFile, obey_files};
-use command_lines::{Line, line_of_words};
-use emu_outcome::Ending;
+use command_lines::{Ending, Line, line_of_words};
 use emu_report::put_words_refusal;
 use io_gate::{Images, Sink, Source};
 use std::alloc::Global;

@@ -3,23 +3,23 @@ ghost use Rattle.std.specs.Prelude.{◌≡◌, ◌≢◌, ℕ, List, Option, Som
 ghost use Rattle.io_gate.specs.Streams.{Causes};
 ghost use Rattle.asm_layout.specs.Assembly.{IsMade};
 ghost use Rattle.emu_system.specs.Image.{elf};
-ghost use Rattle.insn_texts.specs.Statements.{statements};
+ghost use Rattle.asm_text.specs.Statements.{statements};
 ghost use Rattle.listing_model.specs.Image.{image_of};
-ghost use Rattle.sweep_model.specs.Load.{load_pages};
-ghost use Rattle.sweep_model.specs.Listing.{listing};
-ghost use Rattle.emu_outcome.specs.Outcome.{outcome_of_load, outcome_of_loaded};
+ghost use Rattle.command_model.specs.Load.{load_pages};
+ghost use Rattle.command_model.specs.Listing.{listing};
+ghost use Rattle.command_lines.specs.Outcome.{outcome_of_load, outcome_of_loaded};
 ghost use Rattle.commands.specs.Lines.{ends_load};
 ghost use Rattle.commands.specs.Promises.{is_silent};
 ghost use Rattle.commands.specs.Meets.{now, Meets};
 
 use crate::files::{ending_after_line, ending_after_output};
 use asm_image::{AsmError, assemble};
+use command_lines::Ending;
+use command_model::{LOAD_PAGES, load_listing};
 use elf_image::read;
-use emu_outcome::Ending;
 use emu_report::{put_image_refusal, put_listing_refusal};
 use io_gate::{Sink, put_all};
 use std::alloc::Global;
-use sweep_model::{LOAD_PAGES, load_listing};
 use vl_sweep::load_lines;
 
 /// The executable of the load program that a number makes. Err is the listing's first refusal, or want of memory.

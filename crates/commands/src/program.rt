@@ -2,7 +2,7 @@
 ghost use Rattle.std.specs.Prelude.{◌≡◌, ◌<◌, ◌≤◌, [], map, length, string_bytes, IfOk, false};
 ghost use Rattle.emu_model.specs.Access.{most_mapped_pages};
 ghost use Rattle.emu_model.specs.Marks.{fresh_marks};
-ghost use Rattle.mark_laws.specs.Marked.{parts_with};
+ghost use Rattle.emu_run.specs.Marked.{parts_with};
 ghost use Rattle.elf_image.specs.Images.{seen_image};
 ghost use Rattle.elf_image.specs.Loadable.{IsLoadable};
 ghost use Rattle.emu_system.specs.ArgumentLimits.{AreArguments};

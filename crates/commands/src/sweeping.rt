@@ -21,7 +21,7 @@ ghost use Rattle.elf_image.specs.Images.{seen_image};
 ghost use Rattle.elf_image.specs.Loadable.{IsLoadable};
 ghost use Rattle.emu_system.specs.ArgumentLimits.{AreArguments};
 ghost use Rattle.emu_system.specs.Image.{elf};
-ghost use Rattle.emu_outcome.specs.Outcome.{outcome_of_lengths, outcome_of_sweep, outcome_of_swept};
+ghost use Rattle.command_lines.specs.Outcome.{outcome_of_lengths, outcome_of_sweep, outcome_of_swept};
 ghost use Rattle.vl_sweep.specs.Sweeps.{sweep_of};
 ghost use Rattle.commands.specs.Lines.{ends_sweep};
 ghost use Rattle.commands.specs.Programs.{outcome_over, swept_arguments, sweep_line_of};
@@ -30,13 +30,12 @@ ghost use Rattle.commands.specs.Sweeping.{ends_swept, Writes};
 
 use crate::arguments::arguments;
 use crate::files::{ending_after_line, file_bytes};
-use command_lines::word;
+use command_lines::{Ending, word};
+use command_model::STREAM_LIMIT;
 use elf_image::{Image, read};
-use emu_outcome::Ending;
 use emu_report::{put_image_refusal, put_too_long};
 use io_gate::{Images, ReadEnd, Sink, Source, read_all};
 use std::alloc::Global;
-use sweep_model::STREAM_LIMIT;
 use vl_sweep::{SweepEnd, sweep};
 
 /// What a line says of the program that it sweeps.

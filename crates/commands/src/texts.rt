@@ -1,7 +1,7 @@
 //! Files that have to be texts.
 ghost use Rattle.std.specs.Prelude.{◌≡◌, ◌≤◌, ◌+◌, count_by, length, take};
 ghost use Rattle.line_words.specs.Lines.{is_newline};
-ghost use Rattle.emu_outcome.specs.Outcome.{file_limit};
+ghost use Rattle.command_lines.specs.Outcome.{file_limit};
 
 /// The line of a place among the bytes of a file, counted from 1.
 pub fn line_of_place(bytes: &[u8], place: usize) -> u32

@@ -10,9 +10,9 @@ use Rattle.dbg_model.specs.declared.script.Command.{Command}
 use Rattle.dbg_model.specs.declared.script.Command.TheVariants.{Step, Go, Break, Watch, Regs, Vl, Zreg, Preg, Ffr, Lanes, Mem, Back}
 use Rattle.dbg_model.specs.declared.script.Stop.{Stop}
 use Rattle.dbg_model.specs.Session.{Marks, no_marks, is_touched, mark_met, marked, shown, stepped_text, stop_line, watch_met}
-use Rattle.back_model.specs.CourseLaws.{moved_added, moved_one, moved_over, step_most, stepped_parts, turn_counts}
-use Rattle.back_model.specs.SessionBack.{Course, back_text, ending_text, go, moved, moved_to, obeyed, obeyed_all, put, stepped, stopped_or}
-use Rattle.back_model.specs.SessionBackEquations.{go-suc, go-zero, moved-zero}
+use Rattle.dbg_model.specs.CourseLaws.{moved_added, moved_one, moved_over, step_most, stepped_parts, turn_counts}
+use Rattle.dbg_model.specs.SessionBack.{Course, back_text, ending_text, go, moved, moved_to, obeyed, obeyed_all, put, stepped, stopped_or}
+use Rattle.dbg_model.specs.SessionBackEquations.{go-suc, go-zero, moved-zero}
 
 -- ---- what was put stays in front
 

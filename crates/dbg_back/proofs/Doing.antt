@@ -6,8 +6,8 @@ use Rattle.emu_model.specs.Access.{Marks}
 use Rattle.emu_model.specs.State.{Parts, State}
 use Rattle.emu_machine.specs.Machines.{MachineState}
 use Rattle.emu_report.proofs.Puts.{puts_equal}
-use Rattle.mark_laws.specs.Marked.{parts_with}
-use Rattle.back_model.specs.SessionBack.{Course, put}
+use Rattle.emu_run.specs.Marked.{parts_with}
+use Rattle.dbg_model.specs.SessionBack.{Course, put}
 use Rattle.dbg_back.specs.declared.trail.Trail.{Trail}
 use Rattle.dbg_back.specs.Ends.{end_of_put, is_fault}
 use Rattle.dbg_back.specs.Walks.{CanWalk, Does, Gained, IsIn, IsWalk}

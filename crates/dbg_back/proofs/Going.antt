@@ -9,16 +9,16 @@ use Rattle.emu_run.specs.Reports.{ending_line}
 use Rattle.emu_run.specs.Run.{goes_on}
 use Rattle.emu_run.specs.Step.{accesses}
 use Rattle.emu_machine.specs.Machines.{MachineState}
-use Rattle.mark_laws.specs.Steps.{accesses_with}
+use Rattle.emu_run.specs.Steps.{accesses_with}
 use Rattle.dbg_model.specs.declared.script.Stop.{Stop as Met}
 use Rattle.dbg_model.specs.declared.script.Stop.TheVariants.{AtWatch, AtBreak}
 use Rattle.dbg_model.specs.Session.{Marks, mark_met, is_touched, stop_line, watch_met}
 use Rattle.dbg_core.specs.declared.points.Stop.{Stop}
 use Rattle.dbg_core.specs.declared.points.Stop.TheVariants.{Ended, Watch, Break, Spent}
 use Rattle.dbg_core.specs.Stops.{HasEnded, first_met, line_of_stop, met_or, spent_met}
-use Rattle.back_model.specs.CourseLaws.{moved_one}
-use Rattle.back_model.specs.SessionBack.{Course, ending_text, go, moved, put, stepped, stopped_or}
-use Rattle.back_model.specs.SessionBackEquations.{go-zero, moved-zero}
+use Rattle.dbg_model.specs.CourseLaws.{moved_one}
+use Rattle.dbg_model.specs.SessionBack.{Course, ending_text, go, moved, put, stepped, stopped_or}
+use Rattle.dbg_model.specs.SessionBackEquations.{go-zero, moved-zero}
 use Rattle.dbg_back.specs.Walks.{IsIn, advanced, part_end}
 use Rattle.dbg_back.proofs.Courses.{Appends, appends_go, appends_put, go_one, go_over, stepped_counts}
 use Rattle.dbg_back.proofs.Running.{part_below}

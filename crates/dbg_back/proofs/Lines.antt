@@ -7,7 +7,7 @@ use Rattle.dbg_model.specs.Session.{Marks, stepped_text}
 use Rattle.dbg_core.specs.declared.points.Stop.{Stop}
 use Rattle.dbg_core.specs.declared.points.Stop.TheVariants.{Ended, Watch as AtWatch, Break as AtBreak, Spent}
 use Rattle.dbg_core.specs.Stops.{line_of_stop, shown_behind}
-use Rattle.back_model.specs.SessionBack.{Course, back_text, ending_text, obeyed, put}
+use Rattle.dbg_model.specs.SessionBack.{Course, back_text, ending_text, obeyed, put}
 use Rattle.dbg_back.proofs.Doing.{IsPlain}
 
 pub ending_plain : IsPlain ending_text

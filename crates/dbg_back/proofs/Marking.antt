@@ -12,11 +12,11 @@ use Rattle.emu_run.specs.Run.{goes_on, until_end}
 use Rattle.emu_run.specs.RunLaws.{until_end_none}
 use Rattle.emu_system.specs.Start.{with_input}
 use Rattle.emu_machine.specs.Machines.{MachineState, Saved, has_ended, mark_at, parts_saved, saved_of}
-use Rattle.mark_laws.specs.Marked.{parts_with}
+use Rattle.emu_run.specs.Marked.{parts_with}
 use Rattle.dbg_model.specs.Reached.{until_end_added, until_end_counts}
-use Rattle.back_model.specs.CourseLaws.{IsOn, moved_below, moved_same, on_start, until_input, until_parts}
-use Rattle.back_model.specs.Limits.{until_end_limit}
-use Rattle.back_model.specs.SessionBack.{Course, back_to, begun, moved, moved_to}
+use Rattle.dbg_model.specs.CourseLaws.{IsOn, moved_below, moved_same, on_start, until_input, until_parts}
+use Rattle.dbg_model.specs.Limits.{until_end_limit}
+use Rattle.dbg_model.specs.SessionBack.{Course, back_to, begun, moved, moved_to}
 use Rattle.dbg_back.specs.declared.trail.Trail.{Trail}
 use Rattle.dbg_back.specs.Walks.{AreMarks, IsIn, IsMark, IsTurned, IsWalk}
 use Rattle.dbg_back.proofs.Counts.{all_none}

@@ -18,10 +18,10 @@ use Rattle.emu_machine.specs.declared.ends.RunEnd.{RunEnd}
 use Rattle.emu_machine.specs.declared.ends.RunEnd.TheVariants as runs
 use Rattle.emu_machine.proofs.Composed.{from_nothing}
 use Rattle.emu_machine.proofs.Logs.{last_none, log_one}
-use Rattle.mark_laws.specs.Marked.{parts_with, state_with}
-use Rattle.mark_laws.specs.Steps.{until_end_with}
-use Rattle.back_model.specs.CourseLaws.{moved_below, moved_beyond, on_same, on_until}
-use Rattle.back_model.specs.SessionBack.{Course, moved, moved_to}
+use Rattle.emu_run.specs.Marked.{parts_with, state_with}
+use Rattle.emu_run.specs.Steps.{until_end_with}
+use Rattle.dbg_model.specs.CourseLaws.{moved_below, moved_beyond, on_same, on_until}
+use Rattle.dbg_model.specs.SessionBack.{Course, moved, moved_to}
 use Rattle.dbg_back.specs.declared.trail.Trail.{Trail}
 use Rattle.dbg_back.specs.Walks.{AreMarks, CanWalk, Does, Gained, IsIn, IsWalk, Runs, Stopped, advanced, part_end}
 use Rattle.dbg_back.proofs.Courses.{until_most}

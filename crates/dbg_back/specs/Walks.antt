@@ -7,9 +7,9 @@ use Rattle.emu_model.specs.State.{Parts, State}
 use Rattle.emu_run.specs.Run.{goes_on, run, until_end}
 use Rattle.emu_system.specs.Gained.{Gains}
 use Rattle.emu_machine.specs.Machines.{MachineState, Saved, saved_of}
-use Rattle.mark_laws.specs.Marked.{parts_with}
-use Rattle.back_model.specs.CourseLaws.{IsOn}
-use Rattle.back_model.specs.SessionBack.{Course, moved, moved_to}
+use Rattle.emu_run.specs.Marked.{parts_with}
+use Rattle.dbg_model.specs.CourseLaws.{IsOn}
+use Rattle.dbg_model.specs.SessionBack.{Course, moved, moved_to}
 use Rattle.dbg_back.specs.declared.trail.Trail.{Trail}
 
 -- ---- marks

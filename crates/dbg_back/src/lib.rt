@@ -1,7 +1,7 @@
 //! A debugger session that may go back.
 //!
 //! It goes back by marks of its machine, which keep the machine of the start and of each 4,096 steps while there is
-//! room for them. Contracts cite the definitions of `back_model`. No call takes memory.
+//! room for them. Contracts cite the definitions of `dbg_model`. No call takes memory.
 #![tactic(auto)]
 
 mod back;

@@ -3,7 +3,7 @@ ghost use Rattle.std.specs.Prelude.{◌≡◌, ◌≢◌, ◌≤◌, ◌<◌, �
 ghost use Rattle.std.specs.Prelude.{length as len, get_or, is_some, true, false, None, IfSome};
 ghost use Rattle.std.specs.Bool.{OnTrue};
 ghost use Rattle.std.specs.FinMap as finmap;
-ghost use Rattle.mark_laws.specs.Marked.{parts_with};
+ghost use Rattle.emu_run.specs.Marked.{parts_with};
 
 use crate::trail::Trail;
 use emu_machine::Machine;

@@ -3,7 +3,7 @@ ghost use Rattle.std.specs.Prelude.{◌≡◌, ◌≤◌, ◌<◌, ◌⊎◌, �
 ghost use Rattle.io_gate.specs.Streams.{Causes};
 ghost use Rattle.emu_run.specs.Step.{accesses};
 ghost use Rattle.emu_machine.specs.Machines.{has_ended};
-ghost use Rattle.back_model.specs.SessionBack as model;
+ghost use Rattle.dbg_model.specs.SessionBack as model;
 ghost use Rattle.dbg_back.specs.Ends.{is_fault};
 ghost use Rattle.dbg_back.specs.Walks.{CanWalk, Does, Runs, Stopped, advanced};
 

@@ -6,10 +6,10 @@ ghost use Rattle.emu_model.specs.Access.{Marks};
 ghost use Rattle.emu_system.specs.Gained.{Gains};
 ghost use Rattle.emu_system.specs.Start.{with_input};
 ghost use Rattle.emu_machine.specs.Machines.{has_ended};
-ghost use Rattle.mark_laws.specs.Marked.{parts_with};
+ghost use Rattle.emu_run.specs.Marked.{parts_with};
 ghost use Rattle.emu_model.specs.State.{State};
 ghost use Rattle.dbg_model.specs.ScriptLimits.{is_within};
-ghost use Rattle.back_model.specs.SessionBack as model;
+ghost use Rattle.dbg_model.specs.SessionBack as model;
 ghost use Rattle.dbg_back.specs.Ends.{is_fault};
 ghost use Rattle.dbg_back.specs.Walks.{CanWalk, Does};
 

@@ -5,8 +5,8 @@ ghost use Rattle.emu_model.specs.Access.{Marks};
 ghost use Rattle.emu_model.specs.State.{State};
 ghost use Rattle.emu_system.specs.Start.{with_input};
 ghost use Rattle.emu_machine.specs.Machines.{has_ended};
-ghost use Rattle.mark_laws.specs.Marked.{parts_with};
-ghost use Rattle.back_model.specs.SessionBack.{Course, begun};
+ghost use Rattle.emu_run.specs.Marked.{parts_with};
+ghost use Rattle.dbg_model.specs.SessionBack.{Course, begun};
 ghost use Rattle.dbg_back.specs.Walks.{IsWalk};
 
 use crate::marks::free_mark;

@@ -4,3 +4,5 @@ pub mod Scripts
 pub mod Sessions
 pub mod Standing
 pub mod Obeying
+pub mod ScriptLines
+pub mod Within

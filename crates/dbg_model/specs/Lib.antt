@@ -4,3 +4,7 @@ pub mod Reached
 pub mod Script
 pub mod Session
 pub mod SessionEquations
+pub mod CourseLaws
+pub mod Limits
+pub mod SessionBack
+pub mod SessionBackEquations

@@ -1,7 +1,8 @@
 //! The definitions of a debugger: what a script's text says, and what its commands make of a machine and print; and the
-//! plain types that they match on.
+//! plain types that they match on. And the definition of a session that may go back, with its laws.
 #![tactic(auto)]
 
+pub mod back_laws;
 pub mod laws;
 pub mod script;
 

@@ -3,13 +3,13 @@ use Rattle.std.proofs.Common.{◌≡◌, true, refl, ap, ◌∙◌}
 use Rattle.std.proofs.lemmas.List.{append-nil}
 use Rattle.a64_insn.specs.declared.form.A64Form.{A64Form}
 use Rattle.a64_insn.specs.declared.form.A64Form.TheVariants.{LsReg}
-use Rattle.a64_texts.specs.Data.{data_lines}
-use Rattle.a64_texts.specs.Flow.{flow_lines}
-use Rattle.a64_texts.specs.Memory.{memory_lines, ls_reg_texts, ls_reg_lines}
-use Rattle.a64_texts.specs.BitMoves.{last_lines}
-use Rattle.a64_texts.specs.Table.{line_texts, a64_lines}
-use Rattle.a64_texts.specs.Opened.{texts_open}
-use Rattle.a64_texts.specs.Law.{texts_of}
+use Rattle.asm_a64.specs.Data.{data_lines}
+use Rattle.asm_a64.specs.Flow.{flow_lines}
+use Rattle.asm_a64.specs.Memory.{memory_lines, ls_reg_texts, ls_reg_lines}
+use Rattle.asm_a64.specs.BitMoves.{last_lines}
+use Rattle.asm_a64.specs.Table.{line_texts, a64_lines}
+use Rattle.asm_a64.specs.Opened.{texts_open}
+use Rattle.asm_a64.specs.Law.{texts_of}
 use Rattle.a64_insn.specs.Rows.{line_number}
 use Rattle.text_model.specs.Words.{dictionary}
 use Rattle.text_print.specs.Lines.{some_lines}

@@ -3,14 +3,14 @@
 
 ghost use Rattle.std.specs.Prelude.{◌≡◌, ◌<◌, ◌≤◌};
 ghost use Rattle.a64_insn.specs.declared.lines.TheConstants as line;
-ghost use Rattle.a64_texts.specs.Law.{text_of_form};
-ghost use Rattle.a64_texts.specs.declared.lines.TheConstants as text_line;
+ghost use Rattle.asm_a64.specs.Law.{text_of_form};
+ghost use Rattle.asm_a64.specs.declared.lines.TheConstants as text_line;
 ghost use Rattle.dis_a64.specs.Lines.{first_line, line_count};
 
 use a64_insn::{A64, line_number, lines};
 use a64_rows::encode_a64;
-use a64_texts::A64Texts;
 use arrayvec::ArrayString;
+use asm_a64::A64Texts;
 use text_print::print_word;
 
 /// The first of the lines of patterns that a line of the table has.

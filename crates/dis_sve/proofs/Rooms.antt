@@ -1,6 +1,6 @@
 -- The text of each line's patterns has 96 bytes at most.
-use Rattle.sve_texts.specs.Table.{sve_lines}
-use Rattle.sve_texts.specs.Opened.{texts_open}
+use Rattle.asm_sve.specs.Table.{sve_lines}
+use Rattle.asm_sve.specs.Opened.{texts_open}
 use Rattle.std.proofs.Common.{◌≡◌, ℕ, [], true, get_or, refl, ap, ◌∙◌}
 use Rattle.std.proofs.lemmas.List.{append-nil}
 use Rattle.text_model.specs.Words.{dictionary}

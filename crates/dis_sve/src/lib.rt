@@ -2,13 +2,13 @@
 #![tactic(auto)]
 
 ghost use Rattle.std.specs.Prelude.{◌≡◌};
-ghost use Rattle.sve_texts.specs.Law.{text_of_form};
+ghost use Rattle.asm_sve.specs.Law.{text_of_form};
 
 use arrayvec::ArrayString;
+use asm_sve::SveTexts;
 use sve_insn::Sve;
 use sve_insn::lines::line_number;
 use sve_rows::encode_sve;
-use sve_texts::SveTexts;
 use text_print::print_word;
 
 /// Puts the text of an instruction in place of `out`. None shows an address, so it is the same wherever the instruction

@@ -22,12 +22,12 @@ use Rattle.a64_insn.specs.Memory.{ls_literal}
 use Rattle.a64_insn.specs.Memory.{ls_literal_holds_for}
 use Rattle.a64_insn.specs.declared.lines.TheConstants as line
 use Rattle.a64_rows.proofs.Laws.{one_row, form_back, word_again}
-use Rattle.a64_texts.specs.Table.{line_texts}
-use Rattle.a64_texts.specs.Opened.{texts_open}
-use Rattle.a64_texts.specs.Law.{word_of, texts_of, reach_by, reach, unaimed_word, target_at}
-use Rattle.a64_texts.proofs.Totals.{listed, in_row, held}
+use Rattle.asm_a64.specs.Table.{line_texts}
+use Rattle.asm_a64.specs.Opened.{texts_open}
+use Rattle.asm_a64.specs.Law.{word_of, texts_of, reach_by, reach, unaimed_word, target_at}
+use Rattle.asm_a64.proofs.Totals.{listed, in_row, held}
 use Rattle.emu_run.specs.declared.insn.Insn.TheVariants.{A64}
-use Rattle.insn_texts.specs.Statements.{aimed_at}
+use Rattle.asm_text.specs.Statements.{aimed_at}
 use Rattle.text_print.proofs.Chosen.{all_pass, chosen_passes}
 use Rattle.dis_text.proofs.Unaimed.{all_kept, same_chosen}
 

@@ -7,3 +7,4 @@ pub mod Rows
 pub mod Said
 pub mod Starts
 pub mod Tested
+pub mod Batches

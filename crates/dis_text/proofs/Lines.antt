@@ -1,7 +1,7 @@
 -- The line of a text that begins with a name and no label.
 use Rattle.std.proofs.Common.{◌≡◌, ℕ, ◌≤◌, if◌then◌else◌, Bool, false, Option, Some, None, Result, Ok, Err, List, [], ◌∷◌, length, nat_lt, ap, ◌∙◌, arith}
 use Rattle.std.proofs.lemmas.Bool.{le-ltb}
-use Rattle.text_tokens.specs.Tokens.{tokens}
+use Rattle.asm_tokens.specs.Tokens.{tokens}
 use Rattle.asm_tokens.specs.declared.target.Target.{Target}
 use Rattle.listing_model.specs.declared.directive.DirectiveName.{DirectiveName}
 use Rattle.listing_model.specs.declared.fault.ListingWhy.{ListingWhy}

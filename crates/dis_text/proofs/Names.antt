@@ -1,9 +1,9 @@
 -- Names of instructions are no directives', and no text has a colon behind its name: computed over both tables.
-use Rattle.sve_texts.specs.Table.{sve_lines}
-use Rattle.sve_texts.specs.Opened.{texts_open}
+use Rattle.asm_sve.specs.Table.{sve_lines}
+use Rattle.asm_sve.specs.Opened.{texts_open}
 use Rattle.std.proofs.Common.{◌≡◌, ℕ, ◌&&◌, Bool, true, false, not, Option, Some, None, refl}
 use Rattle.std.proofs.lemmas.Bool.{and_parts, not-true, false≢true}
-use Rattle.text_tokens.specs.AreTokens.{is_token}
+use Rattle.asm_tokens.specs.AreTokens.{is_token}
 use Rattle.listing_model.specs.declared.directive.DirectiveName.{DirectiveName}
 use Rattle.listing_model.specs.Directives.{directive_named}
 use Rattle.text_model.specs.Reading.{Pattern}
@@ -13,12 +13,12 @@ use Rattle.text_print.proofs.Chosen.{all_lines_pass, chosen_passes, line_passes}
 use Rattle.text_print.proofs.Tokens.{starts_bare}
 use Rattle.a64_insn.specs.declared.form.A64Form.{A64Form}
 use Rattle.a64_insn.specs.Rows as base
-use Rattle.a64_texts.specs.Law as base_law
-use Rattle.a64_texts.specs.Table.{line_texts}
-use Rattle.a64_texts.specs.Opened.{texts_open as a64_texts_open}
+use Rattle.asm_a64.specs.Law as base_law
+use Rattle.asm_a64.specs.Table.{line_texts}
+use Rattle.asm_a64.specs.Opened.{texts_open as a64_texts_open}
 use Rattle.sve_insn.specs.declared.form.SveForm.{SveForm}
 use Rattle.sve_insn.specs.Rows as vectors
-use Rattle.sve_texts.specs.Law as vectors_law
+use Rattle.asm_sve.specs.Law as vectors_law
 
 abbrev is_none : Option DirectiveName → Bool
 is_none None = true

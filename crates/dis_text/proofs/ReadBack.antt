@@ -4,7 +4,7 @@ use Rattle.std.proofs.lemmas.Bool.{and_parts}
 use Rattle.std.specs.Prelude.{option_map}
 use Rattle.emu_bits.specs.Rows.{instruction}
 use Rattle.emu_bits.specs.RowLaws.{IsRow}
-use Rattle.text_tokens.specs.Tokens.{tokens}
+use Rattle.asm_tokens.specs.Tokens.{tokens}
 use Rattle.text_model.specs.declared.slots.Refusal.{Refusal}
 use Rattle.text_model.specs.Slots.{all_fit}
 use Rattle.text_model.specs.Reading.{Pattern}
@@ -19,10 +19,10 @@ use Rattle.text_print.proofs.Tokens.{tokens_are, slots_no_colon, text_length}
 use Rattle.a64_insn.specs.declared.form.A64Form.{A64Form}
 use Rattle.a64_insn.specs.Table as base_table
 use Rattle.a64_insn.specs.Rows as base_rows
-use Rattle.a64_texts.specs.Law as base
-use Rattle.a64_texts.specs.Table.{a64_lines, a64_patterns}
-use Rattle.a64_texts.proofs.Legible as base_checked
-use Rattle.a64_texts.proofs.ReadBack as base_back
+use Rattle.asm_a64.specs.Law as base
+use Rattle.asm_a64.specs.Table.{a64_lines, a64_patterns}
+use Rattle.asm_a64.proofs.Legible as base_checked
+use Rattle.asm_a64.proofs.ReadBack as base_back
 use Rattle.sve_insn.specs.declared.form.SveForm.{SveForm}
 use Rattle.sve_insn.specs.Table as vector_table
 use Rattle.sve_insn.specs.Rows as vector_rows
@@ -30,10 +30,10 @@ use Rattle.sve_rows.proofs.Laws as vector_laws
 use Rattle.sve_rows.proofs.Listed as vector_listed
 use Rattle.sve_rows.proofs.Alone as vector_alone
 use Rattle.emu_bits.proofs.Encoding.{decode_encoded}
-use Rattle.sve_texts.specs.Law as vectors
-use Rattle.sve_texts.specs.Table.{sve_lines, sve_patterns}
-use Rattle.sve_texts.proofs.ReadBack as vector_back
-use Rattle.sve_texts.proofs.Checked as vector_checked
+use Rattle.asm_sve.specs.Law as vectors
+use Rattle.asm_sve.specs.Table.{sve_lines, sve_patterns}
+use Rattle.asm_sve.proofs.ReadBack as vector_back
+use Rattle.asm_sve.proofs.Checked as vector_checked
 use Rattle.dis_text.proofs.Starts.{none_by_both}
 use Rattle.dis_text.proofs.Tested.{apart}
 use Rattle.asm_tokens.specs.declared.target.Target.TheVariants.{Address}
@@ -42,8 +42,8 @@ use Rattle.emu_run.specs.declared.insn.Insn.TheVariants.{A64, Sve}
 use Rattle.listing_model.specs.LineOf.{line_of}
 use Rattle.listing_model.specs.LineOf.{instruction as instruction_of}
 use Rattle.listing_model.specs.declared.line.Body.TheVariants.{Plain, Aimed}
-use Rattle.insn_texts.specs.Statements.{with_target, target_of, made, either, reads, statements}
-use Rattle.insn_texts.specs.Canonical.{is_canonical}
+use Rattle.asm_text.specs.Statements.{with_target, target_of, made, either, reads, statements}
+use Rattle.asm_text.specs.Canonical.{is_canonical}
 use Rattle.dis_text.specs.ReadBack.{IsInstruction, IsReadBack}
 use Rattle.a64_insn.specs.Rows.{line_number}
 use Rattle.dis_a64.specs.Lines.{first_line, line_count}

@@ -7,8 +7,8 @@ use Rattle.asm_text.specs.Canonical.{HasCanonical}
 use Rattle.emu_run.specs.declared.insn.Insn.{Insn}
 use Rattle.emu_run.specs.Step.{decode}
 use Rattle.insn_decode.specs.Words.{word_of}
-use Rattle.insn_texts.specs.Disassembly.{word_text}
-use Rattle.insn_texts.specs.Canonical.{is_canonical}
+use Rattle.asm_text.specs.Disassembly.{word_text}
+use Rattle.asm_text.specs.Canonical.{is_canonical}
 use Rattle.listing_model.specs.declared.line.Body.{Body}
 use Rattle.listing_model.specs.declared.line.Body.TheVariants.{Nothing, Plain, Aimed, Directive}
 use Rattle.dis_text.specs.ReadBack.{IsInstruction}

@@ -1,11 +1,11 @@
 -- A statement that the patterns of a table read.
 use Rattle.std.specs.Prelude.{◌≡◌, ℕ, Ok, List}
-use Rattle.text_tokens.specs.Tokens.{tokens}
+use Rattle.asm_tokens.specs.Tokens.{tokens}
 use Rattle.text_model.specs.Statement.{Statement, reads_tokens}
-use Rattle.a64_texts.specs.Law as a64
-use Rattle.a64_texts.specs.Table.{a64_patterns}
-use Rattle.sve_texts.specs.Law as sve
-use Rattle.sve_texts.specs.Table.{sve_patterns}
+use Rattle.asm_a64.specs.Law as a64
+use Rattle.asm_a64.specs.Table.{a64_patterns}
+use Rattle.asm_sve.specs.Law as sve
+use Rattle.asm_sve.specs.Table.{sve_patterns}
 
 -- The A64 patterns read a name and the text behind it as this.
 abbrev pub IsA64 : List ℕ → List ℕ → Statement → Type 0

@@ -1,3 +1,4 @@
 pub mod ReadBack
 pub mod Said
 pub mod Both
+pub mod Segments

@@ -10,8 +10,8 @@ use Rattle.emu_run.specs.declared.insn.Insn.TheVariants.{A64, Sve}
 use Rattle.listing_model.specs.declared.line.Body.{Body}
 use Rattle.listing_model.specs.declared.line.Body.TheVariants.{Plain, Aimed}
 use Rattle.listing_model.specs.LineOf.{line_of}
-use Rattle.insn_texts.specs.Statements.{aimed_at, statements}
-use Rattle.insn_texts.specs.Texts.{text}
+use Rattle.asm_text.specs.Statements.{aimed_at, statements}
+use Rattle.asm_text.specs.Texts.{text}
 
 -- an instruction of a table: its fields fit their places, and its line's condition holds
 abbrev pub IsInstruction : Insn → Type 0

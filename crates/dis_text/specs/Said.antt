@@ -3,9 +3,9 @@ use Rattle.std.specs.Prelude.{◌≡◌, ℕ, Some, Ok, List}
 use Rattle.emu_run.specs.declared.insn.Insn.{Insn}
 use Rattle.emu_run.specs.Step.{decode}
 use Rattle.insn_decode.specs.Words.{word_of}
-use Rattle.insn_texts.specs.Disassembly.{word_text}
-use Rattle.insn_texts.specs.Statements.{aimed_at, statements}
-use Rattle.insn_texts.specs.Texts.{text}
+use Rattle.asm_text.specs.Disassembly.{word_text}
+use Rattle.asm_text.specs.Statements.{aimed_at, statements}
+use Rattle.asm_text.specs.Texts.{text}
 use Rattle.listing_model.specs.declared.line.Body.{Body}
 use Rattle.listing_model.specs.declared.line.Body.TheVariants.{Plain, Aimed}
 use Rattle.listing_model.specs.declared.line.Line.{Line}

@@ -1,12 +1,13 @@
-//! Instructions of both tables as text, and that their texts are read back.
+//! Instructions of both tables as text, and that their texts are read back; and the words of a program as text.
 #![tactic(auto)]
 
 mod apart;
+mod segments;
 
 ghost use Rattle.std.specs.Prelude.{◌≡◌, ℕ, ◌^◌, ◌<◌, true};
 ghost use Rattle.emu_run.specs.declared.insn.Insn.{Insn};
-ghost use Rattle.insn_texts.specs.Texts.{text};
-ghost use Rattle.insn_texts.specs.Canonical.{is_canonical};
+ghost use Rattle.asm_text.specs.Texts.{text};
+ghost use Rattle.asm_text.specs.Canonical.{is_canonical};
 ghost use Rattle.dis_text.specs.ReadBack.{IsInstruction, IsReadBack};
 ghost use Rattle.dis_text.specs.Said.{IsSaid, IsShownAgain};
 
@@ -16,6 +17,7 @@ use arrayvec::ArrayString;
 use dis_a64::print_a64;
 use dis_sve::print_sve;
 use insn_decode::{Insn, encode};
+pub use segments::put_dis;
 use sve_rows::encode_sve;
 
 /// Puts the text of an instruction that stands at pc in place of `out`.

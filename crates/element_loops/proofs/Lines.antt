@@ -27,7 +27,7 @@ use Rattle.active_lanes.proofs.Words.{copied_lanes}
 use Rattle.sve_effects.specs.Lane.{extended_by}
 use Rattle.sve_effects.specs.VectorElements.{Layout, elements_below, elements_of}
 use Rattle.sve_effects.specs.VectorLoadStore.{loaded_lane, with_loaded}
-use Rattle.element_access.specs.ReachLaws.{AreStored, all_of, refused_with_stored}
+use Rattle.guest_mem.specs.ReachLaws.{AreStored, all_of, refused_with_stored}
 use Rattle.element_loops.specs.declared.plan.Plan.{Plan}
 use Rattle.element_loops.specs.Layouts.{layout_of}
 use Rattle.active_lanes.specs.Kept.{is_kept}

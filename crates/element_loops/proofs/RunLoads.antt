@@ -12,7 +12,7 @@ use Rattle.emu_model.specs.PageEquations.{bytes_at-suc}
 use Rattle.emu_model.specs.WithinPage.{number_in}
 use Rattle.emu_model.specs.LaneSizes.{IsLaneSize}
 use Rattle.sve_effects.specs.VectorElements.{Layout, elements_below, elements_of}
-use Rattle.element_access.specs.ReachLaws.{all_of, goes_on, reach_append}
+use Rattle.guest_mem.specs.ReachLaws.{all_of, goes_on, reach_append}
 use Rattle.element_loops.specs.SoFar.{element_of_lane, elements_within}
 use Rattle.element_loops.proofs.Turns.{below_none, within_none, within_more, within_all, skipped, given_by_itself}
 

@@ -9,7 +9,7 @@ use Rattle.emu_model.specs.Lists.{each}
 use Rattle.emu_model.specs.ListLaws.{each-more, each_same}
 use Rattle.emu_model.specs.State.{Vectors}
 use Rattle.sve_effects.specs.VectorElements.{Layout, elements_below}
-use Rattle.element_access.specs.ReachLaws.{accesses_append}
+use Rattle.guest_mem.specs.ReachLaws.{accesses_append}
 use Rattle.element_loops.specs.declared.plan.Plan.{Plan}
 use Rattle.element_loops.specs.declared.plan.Places.{Places}
 use Rattle.element_loops.specs.Layouts.{layout_of, address_of}

@@ -22,7 +22,7 @@ use Rattle.emu_model.specs.Lanes.{number, lane, read_z}
 use Rattle.emu_model.specs.LaneSizes.{IsLaneSize}
 use Rattle.sve_effects.specs.VectorElements.{Layout, elements_below}
 use Rattle.sve_effects.specs.VectorLoadStore.{lane_stored}
-use Rattle.element_access.specs.ReachLaws.{AreStored, refused_with_stored}
+use Rattle.guest_mem.specs.ReachLaws.{AreStored, refused_with_stored}
 use Rattle.element_loops.specs.declared.plan.Plan.{Plan}
 use Rattle.element_loops.specs.Layouts.{layout_of}
 use Rattle.element_loops.specs.Runs.{IsRun}

@@ -16,7 +16,7 @@ use crate::run::load_run;
 use crate::storing::{store_lanes, store_values};
 use crate::values::write;
 use core_regs::{Core, Effect};
-use element_access::test_sp;
+use guest_mem::element_access::test_sp;
 use guest_mem::{AccessLog, Mem};
 use vec_regs::VecRegs;
 

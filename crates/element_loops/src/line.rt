@@ -3,7 +3,7 @@ ghost use Rattle.std.specs.Prelude.{◌≡◌, ◌≤◌, ◌<◌, ◌+◌, ◌*
 ghost use Rattle.emu_model.specs.Elements.{accesses_of};
 ghost use Rattle.emu_model.specs.Lanes.{with_lanes};
 ghost use Rattle.sve_effects.specs.VectorElements.{elements_of};
-ghost use Rattle.element_access.specs.ReachLaws.{AreLoaded};
+ghost use Rattle.guest_mem.specs.ReachLaws.{AreLoaded};
 ghost use Rattle.active_lanes.specs.Placed.{lane_at};
 ghost use Rattle.element_loops.specs.Layouts.{IsPlan, layout_of};
 ghost use Rattle.element_loops.specs.Planned.{loaded_by};

@@ -3,7 +3,7 @@
 ghost use Rattle.std.specs.Prelude.{◌≡◌, ◌≤◌, ◌<◌, ◌+◌, ◌*◌, ℕ, [], true, false, take, get_or, length};
 ghost use Rattle.std.specs.Int.{bytes_low_first};
 ghost use Rattle.sve_effects.specs.VectorElements.{elements_of};
-ghost use Rattle.element_access.specs.ReachLaws.{AreStored};
+ghost use Rattle.guest_mem.specs.ReachLaws.{AreStored};
 ghost use Rattle.element_loops.specs.Layouts.{IsPlan, layout_of};
 ghost use Rattle.element_loops.specs.Planned.{stored_by};
 ghost use Rattle.element_loops.specs.Runs.{AreFilled, IsLine, stored_in_turn};

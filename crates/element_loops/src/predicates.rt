@@ -2,7 +2,7 @@
 ghost use Rattle.std.specs.Prelude.{◌≡◌, ◌≤◌, ◌<◌, ◌*◌, ◌/◌, ◌%◌, ◌^◌, ℕ, [], IfSome, true, false, get_or, nat_eq};
 ghost use Rattle.vec_regs.specs.Words.{bit_of, byte_of};
 ghost use Rattle.sve_effects.specs.VectorElements.{elements_of};
-ghost use Rattle.element_access.specs.ReachLaws.{AreLoaded, AreStored};
+ghost use Rattle.guest_mem.specs.ReachLaws.{AreLoaded, AreStored};
 ghost use Rattle.element_loops.specs.Layouts.{IsPlan, layout_of};
 ghost use Rattle.element_loops.specs.Planned.{loaded_by, stored_by};
 ghost use Rattle.element_loops.specs.Runs.{IsLine};

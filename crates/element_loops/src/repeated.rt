@@ -2,7 +2,7 @@
 ghost use Rattle.std.specs.Prelude.{◌≡◌, ◌≤◌, ◌<◌, ◌*◌, ◌/◌, ◌%◌, ℕ, [], Some, IfSome, true, false, length, get_or};
 ghost use Rattle.vec_regs.specs.Words.{byte_of};
 ghost use Rattle.sve_effects.specs.VectorElements.{elements_of};
-ghost use Rattle.element_access.specs.ReachLaws.{AreLoaded};
+ghost use Rattle.guest_mem.specs.ReachLaws.{AreLoaded};
 ghost use Rattle.element_loops.specs.Layouts.{IsPlan, IsReplicated, layout_of};
 ghost use Rattle.element_loops.specs.Planned.{loaded_by};
 ghost use Rattle.element_loops.specs.Runs.{IsFront, IsLine};

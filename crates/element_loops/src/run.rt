@@ -1,7 +1,7 @@
 //! Elements that are one behind the other, by a plan.
 ghost use Rattle.std.specs.Prelude.{◌≡◌, ◌≤◌, ◌<◌, ◌+◌, ◌/◌, ℕ, [], IfSome, true, false};
 ghost use Rattle.sve_effects.specs.VectorElements.{elements_of};
-ghost use Rattle.element_access.specs.ReachLaws.{AreLoaded};
+ghost use Rattle.guest_mem.specs.ReachLaws.{AreLoaded};
 ghost use Rattle.element_loops.specs.Layouts.{IsPlan, layout_of};
 ghost use Rattle.element_loops.specs.Planned.{loaded_by};
 ghost use Rattle.element_loops.specs.Runs.{ArePlaced, IsFront, IsLine, IsRun};

@@ -4,7 +4,7 @@ ghost use Rattle.arrayvec.specs.ArrayVec.{array_vec_len};
 ghost use Rattle.emu_model.specs.Access.{Memory, address, page_size};
 ghost use Rattle.emu_model.specs.Lanes.{read_z};
 ghost use Rattle.sve_effects.specs.VectorElements.{elements_below, elements_of};
-ghost use Rattle.element_access.specs.ReachLaws.{AreStored, StopsStore};
+ghost use Rattle.guest_mem.specs.ReachLaws.{AreStored, StopsStore};
 ghost use Rattle.element_loops.specs.Layouts.{IsPlan, layout_of};
 ghost use Rattle.element_loops.specs.Planned.{stored_by};
 ghost use Rattle.element_loops.specs.Runs.{IsFront, IsRun};

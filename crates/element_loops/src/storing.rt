@@ -22,7 +22,7 @@ ghost use Rattle.emu_bits.specs.Operations.{number_of_bits};
 ghost use Rattle.emu_model.specs.Access.{Memory};
 ghost use Rattle.emu_model.specs.Lanes.{read_p};
 ghost use Rattle.sve_effects.specs.VectorElements.{elements_below, elements_of};
-ghost use Rattle.element_access.specs.ReachLaws.{AreStored, StopsStore};
+ghost use Rattle.guest_mem.specs.ReachLaws.{AreStored, StopsStore};
 ghost use Rattle.element_loops.specs.Layouts.{IsPlan, layout_of};
 ghost use Rattle.element_loops.specs.Planned.{stored_by};
 ghost use Rattle.element_loops.specs.SoFar.{element_of_lane};
@@ -33,8 +33,8 @@ use crate::plan::{Plan, Target};
 use crate::run::run_of;
 use crate::run_store::store_run;
 use core_regs::Trap;
-use element_access::store;
 use emu_bits::Pred;
+use guest_mem::element_access::store;
 use guest_mem::{AccessLog, Mem};
 use vec_regs::VecRegs;
 

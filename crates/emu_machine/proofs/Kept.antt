@@ -4,7 +4,7 @@ use Rattle.emu_model.specs.declared.access.Access.{Access}
 use Rattle.emu_model.specs.State.{Parts}
 use Rattle.emu_system.specs.SystemCall.{Turn, quiet}
 use Rattle.emu_run.specs.Step.{turn}
-use Rattle.mark_laws.specs.Steps.{turn_of}
+use Rattle.emu_run.specs.Steps.{turn_of}
 use Rattle.linux_calls.specs.declared.end.CallEnd.{CallEnd}
 use Rattle.linux_calls.specs.declared.end.CallEnd.TheVariants.{Returned, Exit, ReadFault, WriteFault, ErrorsFault}
 use Rattle.emu_machine.specs.Advances.{AreAlone, IsAhead}

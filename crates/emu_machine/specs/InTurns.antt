@@ -2,7 +2,7 @@
 use Rattle.std.specs.Prelude.{◌≡◌, ℕ, zero, suc, List}
 use Rattle.guest_contexts.specs.declared.begin.Turn.{Turn}
 use Rattle.guest_contexts.specs.Begins.{Begins, TurnAt}
-use Rattle.thread_model.specs.Worlds.{Context}
+use Rattle.emu_run.specs.Worlds.{Context}
 use Rattle.emu_machine.specs.Advances.{Advances, IsSpent}
 use Rattle.emu_machine.specs.declared.ends.Progress.{Progress}
 use Rattle.emu_machine.specs.Machines.{MachineState}

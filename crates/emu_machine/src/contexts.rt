@@ -6,7 +6,7 @@ ghost use Rattle.emu_model.specs.LoadsAndStores.{after_store, done_unless, loade
 ghost use Rattle.emu_system.specs.SystemCall.{returned};
 ghost use Rattle.emu_machine.specs.Contexts.{counted_to, without_monitor};
 ghost use Rattle.guest_contexts.specs.Laid.{with_machine};
-ghost use Rattle.thread_model.specs.Worlds as worlds;
+ghost use Rattle.emu_run.specs.Worlds as worlds;
 
 use crate::machine::Machine;
 use core_regs::Core;

@@ -51,7 +51,7 @@ use crate::registers::Registers;
 use crate::saved::Saved;
 use a64_insn::A64;
 use core_regs::{Core, Effect};
-use decoded_words::DecodedWords;
+use insn_decode::DecodedWords;
 use emu_model::{Break, Ended, Kind, Trap, TrapKind};
 use guest_contexts::{Context, Turn, begin_next};
 use guest_mem::{Access, AccessLog, Mem};

@@ -25,7 +25,7 @@ ghost use Rattle.emu_system.specs.ArgumentLimits.{AreArguments};
 ghost use Rattle.emu_system.specs.Start.{opening};
 ghost use Rattle.elf_image.specs.Images.{seen_image};
 ghost use Rattle.elf_image.specs.Loadable.{IsLoadable};
-ghost use Rattle.mark_laws.specs.Marked.{parts_with};
+ghost use Rattle.emu_run.specs.Marked.{parts_with};
 ghost use Rattle.emu_machine.specs.Machines.{has_ended, mark_at, saved_of};
 
 use crate::machine::Machine;

@@ -6,7 +6,7 @@ ghost use Rattle.emu_system.specs.Start.{opening};
 ghost use Rattle.elf_image.specs.Images.{seen_image};
 ghost use Rattle.elf_image.specs.Loadable.{IsLoadable};
 ghost use Rattle.emu_system.specs.ArgumentLimits.{AreArguments};
-ghost use Rattle.mark_laws.specs.Marked.{parts_with};
+ghost use Rattle.emu_run.specs.Marked.{parts_with};
 
 use crate::load::highest_page;
 use crate::machine::Machine;

@@ -20,7 +20,7 @@ use crate::text::Text;
 use command_model::WordsFault;
 use dbg_model::ScriptFault;
 use emu_system::ElfFault;
-use guest_schedule::ScheduleFault;
+use line_words::ScheduleFault;
 use io_gate::{Failed, Sink};
 use listing_model::ListingFault;
 

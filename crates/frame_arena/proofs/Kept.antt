@@ -3,8 +3,8 @@ use Rattle.std.proofs.Common.{◌≡◌, ℕ, ◌+◌, ◌*◌, ◌<◌, List, l
 use Rattle.std.proofs.lemmas.List.{get_or_read}
 use denote.RawPtr.{Ptr, block_ptr, block_of, count_of}
 use Rattle.emu_model.specs.Access.{page_size}
-use Rattle.frame_links.specs.declared.memory.Memory.{Memory}
-use Rattle.frame_links.specs.declared.page.Page.{Page}
+use Rattle.frame_arena.specs.declared.memory.Memory.{Memory}
+use Rattle.frame_arena.specs.declared.page.Page.{Page}
 use Rattle.frame_arena.specs.Lending.{with_slot}
 use Rattle.frame_arena.specs.declared.slot.Slot.{Slot}
 use Rattle.frame_arena.specs.declared.slot.Slot.TheVariants.{Spare, Used}

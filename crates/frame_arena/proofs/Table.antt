@@ -7,7 +7,7 @@ use Rattle.std.proofs.lemmas.Bool.{eqb-true, eqb-false, ne_eqb, eq-eqb, false≢
 use Rattle.std.proofs.lemmas.List.{get_or-set_same, get_or-set_other, get_or_read, get_or_push, get_or_past, length_push}
 use Rattle.frame_arena.proofs.Callers.{by_bool}
 use Rattle.frame_arena.specs.Frames.{Block, Frames, Live, IsLive, IsSole, Takes, bytes_in, bytes_of, count_in, count_of, freed, with_bytes, with_count}
-use Rattle.frame_links.specs.Links.{Place}
+use Rattle.frame_arena.specs.Links.{Place}
 use Rattle.frame_arena.specs.Lending.{with_slot}
 use Rattle.frame_arena.specs.declared.slot.Slot.{Slot}
 use Rattle.frame_arena.specs.declared.slot.Slot.TheVariants.{Spare, Used}

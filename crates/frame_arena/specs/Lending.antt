@@ -1,8 +1,8 @@
 -- What becomes of a slot that lends its bytes.
 use Rattle.std.specs.Prelude.{ℕ, List, [], unwrap_or}
 use Rattle.std.specs.Borrow.{Lends, MutBor, Fml, Array, u8}
-use Rattle.frame_links.specs.Links.{Frame}
-use Rattle.frame_links.specs.Lending.{with_bytes, with_part}
+use Rattle.frame_arena.specs.Links.{Frame}
+use Rattle.frame_arena.specs.LendingPages.{with_bytes, with_part}
 use Rattle.frame_arena.specs.declared.slot.Slot.{Slot}
 use Rattle.frame_arena.specs.declared.slot.Slot.TheVariants.{Spare, Used}
 use Rattle.frame_arena.specs.Slots.{slot_bytes}

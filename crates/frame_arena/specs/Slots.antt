@@ -3,11 +3,11 @@ use Rattle.std.specs.Prelude.{◌≡◌, ℕ, ◌+◌, ◌-◌, ◌*◌, ◌<◌
 use Rattle.std.specs.FinMap.{from_entries, len}
 use Rattle.emu_model.specs.Access.{page_size}
 use Rattle.frame_arena.specs.Frames.{Block, Frames, Live}
-use Rattle.frame_links.specs.Links.{Place}
+use Rattle.frame_arena.specs.Links.{Place}
 use Rattle.std.specs.Vec.{vec_capacity}
 use denote.RawPtr.{Ptr, block_ptr, block_of, count_of}
-use Rattle.frame_links.specs.declared.memory.Memory.{Memory}
-use Rattle.frame_links.specs.declared.page.Page.{Page}
+use Rattle.frame_arena.specs.declared.memory.Memory.{Memory}
+use Rattle.frame_arena.specs.declared.page.Page.{Page}
 use Rattle.frame_arena.specs.declared.slot.Slot.{Slot}
 use Rattle.frame_arena.specs.declared.slot.Slot.TheVariants.{Spare, Used}
 use Rattle.frame_arena.specs.declared.arena.FrameArena.TheInside.{Inside}

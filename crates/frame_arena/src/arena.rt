@@ -4,9 +4,10 @@ ghost use Rattle.std.specs.FinMap as map;
 ghost use Rattle.emu_model.specs.Access.{page_size};
 
 use crate::OutOfMemory;
+use crate::list::FreeList;
+use crate::memory::{Lease, Memory};
 use crate::slot::{Slot, zeroed_page};
 use emu_model::PAGE_BYTES;
-use frame_links::{FreeList, Lease, Memory};
 use std::alloc::{AllocError, Global};
 use std::marker::Model;
 use std::mem;

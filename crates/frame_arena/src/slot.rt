@@ -22,8 +22,9 @@ ghost use Rattle.frame_arena.specs.Frames.{zeroed};
 ghost use Rattle.frame_arena.specs.Slots.{others_in, page_in, slot_bytes, with_others};
 ghost use Rattle.frame_arena.specs.Lending.{LendsSlot, LendsSlotPart};
 
+use crate::list::Spare;
+use crate::page::Page;
 use emu_model::PAGE_BYTES;
-use frame_links::{Page, Spare};
 
 #[derive(Drop)]
 pub(crate) enum Slot {

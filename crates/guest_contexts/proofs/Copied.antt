@@ -5,7 +5,7 @@ use Rattle.emu_bits.specs.Fields.{field}
 use Rattle.std.proofs.lemmas.List.FromFn.{fill_by_all}
 use Rattle.emu_model.specs.State.{Vectors}
 use Rattle.emu_model.specs.Lanes.{read_z, with_z}
-use Rattle.thread_model.specs.ThreadCall.{started_vectors}
+use Rattle.emu_run.specs.ThreadCall.{started_vectors}
 
 -- as many elements, of which the first n are the same
 pub record AreCopied {X : Type 0} (n : ℕ) (xs ys : List X) (d : X) : Type 0 where

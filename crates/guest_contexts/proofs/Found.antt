@@ -8,7 +8,7 @@ use Rattle.std.proofs.lemmas.List.Folds.{list_any_more}
 use Rattle.std.proofs.lemmas.List.Elements.{All-push}
 use Rattle.guest_contexts.specs.Standings.{IsReadyIn}
 use Rattle.std.proofs.lemmas.List.FromFn.{filter_of_map_range_with_len_more}
-use Rattle.thread_model.specs.Worlds.{Context, is_ready, no_context}
+use Rattle.emu_run.specs.Worlds.{Context, is_ready, no_context}
 
 -- those below n
 abbrev pub ready_below : List Context → ℕ → List ℕ

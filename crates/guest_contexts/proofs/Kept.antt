@@ -5,7 +5,7 @@ use Rattle.std.specs.List.{list_any, range_with_len}
 use Rattle.std.proofs.lemmas.Bool.{or_parts}
 use Rattle.std.proofs.lemmas.List.{length-map, length-set}
 use Rattle.emu_model.specs.State.{Parts}
-use Rattle.thread_model.specs.Worlds.{Context, is_ready, no_context}
+use Rattle.emu_run.specs.Worlds.{Context, is_ready, no_context}
 use Rattle.guest_contexts.specs.Laid.{laid, with_machine}
 use Rattle.guest_contexts.specs.Standings.{AreReady, has_monitor, ready_among}
 use Rattle.guest_contexts.proofs.Laid.{filter_of}

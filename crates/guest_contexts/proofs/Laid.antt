@@ -7,10 +7,10 @@ use Rattle.std.specs.List.{list_any, list_all, range_with_len}
 use Rattle.emu_model.specs.declared.access.Access.{Access}
 use Rattle.emu_model.specs.State.{Parts}
 use Rattle.emu_system.specs.SystemCall.{returned}
-use Rattle.thread_model.specs.declared.thread.Standing.{Standing}
-use Rattle.thread_model.specs.declared.thread.Standing.TheVariants.{Ready}
-use Rattle.thread_model.specs.ThreadCall.{answered, with_started}
-use Rattle.thread_model.specs.Worlds.{Context, context, no_context, is_ready, is_gone, waits_at, ready, joined, apart, with_context, taken_by_context, woken, woken_context, with_woken, wake_count, with_monitor, monitor_behind, behind_accesses, others_behind, without_monitors}
+use Rattle.emu_run.specs.declared.thread.Standing.{Standing}
+use Rattle.emu_run.specs.declared.thread.Standing.TheVariants.{Ready}
+use Rattle.emu_run.specs.ThreadCall.{answered, with_started}
+use Rattle.emu_run.specs.Worlds.{Context, context, no_context, is_ready, is_gone, waits_at, ready, joined, apart, with_context, taken_by_context, woken, woken_context, with_woken, wake_count, with_monitor, monitor_behind, behind_accesses, others_behind, without_monitors}
 use Rattle.guest_contexts.specs.Laid.{with_machine, laid, world_of}
 use Rattle.guest_contexts.specs.Standings.{has_monitor, ready_among}
 use Rattle.guest_contexts.proofs.Lists.{count_same, same_at, same_any, same_all, filter_same, set_pushed, get_pushed}

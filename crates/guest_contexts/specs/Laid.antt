@@ -1,7 +1,7 @@
 -- The contexts of a world whose machine has the registers of one of them.
 use Rattle.std.specs.Prelude.{ℕ, List, get_or, set}
 use Rattle.emu_model.specs.State.{Parts}
-use Rattle.thread_model.specs.Worlds.{World, Context, no_context}
+use Rattle.emu_run.specs.Worlds.{World, Context, no_context}
 
 -- a context with the registers of a machine
 abbrev pub with_machine : Context → Parts → Context

@@ -1,7 +1,7 @@
 -- The numbers of contexts by how they stand, and whether they have a monitor.
 use Rattle.std.specs.Prelude.{◌≡◌, ◌<◌, ◌↔◌, ℕ, Bool, true, is_some, List, length, get_or, filter}
 use Rattle.std.specs.List.{All, list_any, range_with_len}
-use Rattle.thread_model.specs.Worlds.{Context, is_ready, no_context}
+use Rattle.emu_run.specs.Worlds.{Context, is_ready, no_context}
 
 -- those that are ready, in order
 abbrev pub ready_among : List Context → List ℕ

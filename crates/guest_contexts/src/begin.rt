@@ -1,8 +1,8 @@
 //! The turn of a schedule that begins behind one that is used up, and the exchange of registers that it asks for.
 ghost use Rattle.std.specs.Prelude.{◌≡◌, ◌<◌, ◌≤◌, ◌+◌, MatchBool, MatchOption, get_or, length, set};
 ghost use Rattle.guest_contexts.specs.Begins.{Begins, IsTurn, begins_next};
-ghost use Rattle.thread_model.specs.Threads as model;
-ghost use Rattle.thread_model.specs.Worlds as worlds;
+ghost use Rattle.emu_run.specs.Threads as model;
+ghost use Rattle.emu_run.specs.Worlds as worlds;
 
 use crate::context::Context;
 use crate::turns::place_among;

@@ -1,10 +1,10 @@
 //! A context: its registers, the address that is cleared when it leaves, and how it stands.
 ghost use Rattle.std.specs.Prelude.{◌≡◌};
-ghost use Rattle.thread_model.specs.Worlds as worlds;
+ghost use Rattle.emu_run.specs.Worlds as worlds;
 
 use core_regs::Core;
 use std::marker::Model;
-use thread_model::Standing;
+use emu_run::Standing;
 use vec_regs::VecRegs;
 
 /// A context of a world, whose registers are in boxes, so that they can be exchanged as they are. Contracts see it as a
@@ -22,8 +22,8 @@ pub struct Context {
 }
 
 impl Model for Context {
-    ghost use Rattle.thread_model.specs.Codes.{coded_context};
-    ghost use Rattle.thread_model.specs.Worlds.{Context as ContextState};
+    ghost use Rattle.emu_run.specs.Codes.{coded_context};
+    ghost use Rattle.emu_run.specs.Worlds.{Context as ContextState};
 
     ghost Value = { ContextState };
 
@@ -44,9 +44,9 @@ pub struct Started {
 }
 
 impl Model for Started {
-    ghost use Rattle.thread_model.specs.Codes.{coded_context};
-    ghost use Rattle.thread_model.specs.Worlds.{Context as ContextState};
-    ghost use Rattle.thread_model.specs.declared.thread.Standing.TheVariants.{Ready};
+    ghost use Rattle.emu_run.specs.Codes.{coded_context};
+    ghost use Rattle.emu_run.specs.Worlds.{Context as ContextState};
+    ghost use Rattle.emu_run.specs.declared.thread.Standing.TheVariants.{Ready};
 
     ghost Value = { ContextState };
 

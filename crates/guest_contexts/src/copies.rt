@@ -1,6 +1,6 @@
 //! Copies of registers, with which a context starts.
 ghost use Rattle.std.specs.Prelude.{◌≡◌};
-ghost use Rattle.thread_model.specs.ThreadCall.{started_vectors};
+ghost use Rattle.emu_run.specs.ThreadCall.{started_vectors};
 
 use core_regs::Core;
 use emu_bits::Reg;

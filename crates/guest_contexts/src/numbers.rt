@@ -1,10 +1,10 @@
 //! The calls that speak of contexts, by their numbers.
 ghost use Rattle.std.specs.Prelude.{◌≡◌};
-ghost use Rattle.thread_model.specs.ThreadCall as model;
+ghost use Rattle.emu_run.specs.ThreadCall as model;
 
 use core_regs::Core;
 use emu_bits::Reg;
-use thread_model::{ThreadCall, ThreadErrno};
+use emu_run::{ThreadCall, ThreadErrno};
 
 /// The call whose number is in x8.
 pub fn thread_call(core: &Core) -> ThreadCall

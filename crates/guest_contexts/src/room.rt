@@ -5,7 +5,7 @@ use crate::context::{Context, Started};
 use core_regs::Core;
 use emu_model::Length;
 use std::alloc::{AllocError, Global};
-use thread_model::Standing;
+use emu_run::Standing;
 use vec_regs::VecRegs;
 
 /// Boxes for the registers of a context.

@@ -2,11 +2,11 @@
 ghost use Rattle.std.specs.Prelude.{◌≡◌, ◌<◌, ◌≤◌, ◌↔◌, true, length, get_or, set};
 ghost use Rattle.std.specs.List.{All, list_all, list_any};
 ghost use Rattle.guest_contexts.specs.Standings.{ready_among, IsReadyIn};
-ghost use Rattle.thread_model.specs.Worlds as worlds;
+ghost use Rattle.emu_run.specs.Worlds as worlds;
 
 use crate::context::Context;
 use arrayvec::ArrayVec;
-use thread_model::Standing;
+use emu_run::Standing;
 
 /// The numbers of the contexts that are ready, in order.
 pub fn ready(contexts: &[Context]) -> ArrayVec<usize, 64>

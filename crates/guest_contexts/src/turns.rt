@@ -1,7 +1,7 @@
 //! The place of a turn's context, and how a run stands that takes no further step.
 ghost use Rattle.std.specs.Prelude.{◌≡◌, ◌<◌, ◌%◌, MatchOption, true, false};
 ghost use Rattle.std.specs.List.{list_any};
-ghost use Rattle.thread_model.specs.Worlds as worlds;
+ghost use Rattle.emu_run.specs.Worlds as worlds;
 
 use crate::context::Context;
 use crate::standings::is_some_ready;

@@ -1,11 +1,11 @@
 -- Quiet steps of a schedule, one after the other, in a run of a world.
 use Rattle.std.proofs.Common.{◌≡◌, ◌<◌, ◌≤◌, ℕ, zero, suc, ◌+◌, ◌-◌, Bool, true, false, ◌&&◌, List, Option, is_none, is_some, Some, None, refl, sym, ap, subst, ◌∙◌, arith, ◌||◌}
 use Rattle.emu_model.specs.declared.trap.Ended.{Ended}
-use Rattle.thread_model.specs.declared.thread.Place.{Place}
-use Rattle.thread_model.specs.Living.{IsLiving, stays_living}
+use Rattle.emu_run.specs.declared.thread.Place.{Place}
+use Rattle.emu_run.specs.Living.{IsLiving, stays_living}
 use Rattle.emu_machine.specs.declared.ends.StepEnd.TheVariants.{Going}
-use Rattle.thread_model.specs.Threads.{goes_on, next_place, stepped, threads, turn_at}
-use Rattle.thread_model.specs.Worlds.{World, is_standing_gone, some_ready}
+use Rattle.emu_run.specs.Threads.{goes_on, next_place, stepped, threads, turn_at}
+use Rattle.emu_run.specs.Worlds.{World, is_standing_gone, some_ready}
 use Rattle.guest_threads.specs.Ends.{WorldHeld, has_ended, IsPicked, IsReadyAt}
 use Rattle.guest_threads.specs.Quiet.{AreFollowed, AreQuiet, FollowsToEnd, TakesSteps}
 use Rattle.guest_threads.proofs.Picked.{place_at, some_by}

@@ -12,13 +12,13 @@ use Rattle.guest_contexts.specs.declared.begin.Turn.{Turn}
 use Rattle.guest_contexts.specs.Begins.{IsTurn}
 use Rattle.guest_contexts.specs.Laid.{laid, world_of}
 use Rattle.guest_contexts.specs.Standings.{AreReady, has_monitor}
-use Rattle.guest_schedule.specs.Turns.{IsSchedule}
+use Rattle.line_words.specs.Turns.{IsSchedule}
 use Rattle.guest_contexts.proofs.Begins.{has_one, turn_is}
 use Rattle.guest_contexts.proofs.Laid.{laid_length, standing_is}
-use Rattle.thread_model.specs.declared.thread.Place.{Place}
-use Rattle.thread_model.specs.declared.thread.Standing.TheVariants.{Ready}
-use Rattle.thread_model.specs.Threads.{next_turn, turn_at}
-use Rattle.thread_model.specs.Worlds.{World, Context, context, no_context, taken_by_context}
+use Rattle.emu_run.specs.declared.thread.Place.{Place}
+use Rattle.emu_run.specs.declared.thread.Standing.TheVariants.{Ready}
+use Rattle.emu_run.specs.Threads.{next_turn, turn_at}
+use Rattle.emu_run.specs.Worlds.{World, Context, context, no_context, taken_by_context}
 use Rattle.guest_threads.specs.Ends.{IsPicked, WorldHeld, has_ended}
 use Rattle.guest_threads.specs.Quiet.{AdvancesToEnd, AreFollowed, AreQuiet, FollowsOn, FollowsToEnd, StopsWithin}
 use Rattle.guest_threads.proofs.Followed.{followed_then}

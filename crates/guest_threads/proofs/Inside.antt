@@ -2,7 +2,7 @@
 use Rattle.std.proofs.Common.{◌≡◌, ◌<◌, ◌≤◌, ℕ, ◌+◌, Bool, true, false, is_some, List, length, get_or, map, sym, ap, subst, ◌∙◌}
 use Rattle.std.proofs.lemmas.List.{length-map}
 use Rattle.emu_model.specs.State.{Parts}
-use Rattle.thread_model.specs.Worlds.{Context, is_ready, no_context}
+use Rattle.emu_run.specs.Worlds.{Context, is_ready, no_context}
 use Rattle.guest_contexts.specs.Laid.{laid}
 use Rattle.guest_contexts.proofs.Kept.{ready_laid, ready_mapped, unwatched_at, unwatched_laid}
 use Rattle.guest_contexts.proofs.Laid.{laid_length, loaded}

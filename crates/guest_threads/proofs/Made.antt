@@ -11,15 +11,15 @@ use Rattle.emu_system.specs.SystemCall.{argument, returned}
 use Rattle.emu_machine.specs.declared.ends.StepEnd.{StepEnd}
 use Rattle.emu_machine.specs.declared.ends.StepEnd.TheVariants.{Going}
 use Rattle.emu_machine.specs.Ends.{step_end}
-use Rattle.thread_model.specs.declared.thread.Standing.TheVariants.{Ready, Waiting, Gone}
-use Rattle.thread_model.specs.declared.thread.ThreadErrno.{ThreadErrno}
-use Rattle.thread_model.specs.declared.thread.ThreadErrno.TheVariants.{EAGAIN, EFAULT, EINVAL, ENOSYS}
-use Rattle.thread_model.specs.declared.thread.ThreadCall.{ThreadCall}
-use Rattle.thread_model.specs.ThreadCall.{action, action_of, thread_call, started, started_core, started_vectors, clears_child, parent_told, with_started, starting, futex, waiting, operation, ThreadAction, fails, answers, starts, waits, wakes, clears, leaves, thread_id, answered, error_answer, wait_made, wake_made, clear_made, leave_made, start_made, cleared, with_gone, all_gone, ended_by}
-use Rattle.thread_model.specs.Threads.{done_by, quietly}
-use Rattle.thread_model.specs.Worlds.{World, Context, context, no_context, joined, with_context, with_woken, wake_count}
+use Rattle.emu_run.specs.declared.thread.Standing.TheVariants.{Ready, Waiting, Gone}
+use Rattle.emu_run.specs.declared.thread.ThreadErrno.{ThreadErrno}
+use Rattle.emu_run.specs.declared.thread.ThreadErrno.TheVariants.{EAGAIN, EFAULT, EINVAL, ENOSYS}
+use Rattle.emu_run.specs.declared.thread.ThreadCall.{ThreadCall}
+use Rattle.emu_run.specs.ThreadCall.{action, action_of, thread_call, started, started_core, started_vectors, clears_child, parent_told, with_started, starting, futex, waiting, operation, ThreadAction, fails, answers, starts, waits, wakes, clears, leaves, thread_id, answered, error_answer, wait_made, wake_made, clear_made, leave_made, start_made, cleared, with_gone, all_gone, ended_by}
+use Rattle.emu_run.specs.Threads.{done_by, quietly}
+use Rattle.emu_run.specs.Worlds.{World, Context, context, no_context, joined, with_context, with_woken, wake_count}
 use Rattle.guest_contexts.proofs.Laid.{woken_ready}
-use Rattle.thread_model.specs.Living.{woken_length}
+use Rattle.emu_run.specs.Living.{woken_length}
 use Rattle.emu_machine.specs.Contexts.{ended_with}
 use Rattle.guest_threads.specs.Calls.{IsCalling, IsMade, are_unknown, is_parent_refused}
 use Rattle.guest_threads.specs.Started.{started_context}

@@ -4,15 +4,15 @@ use Rattle.std.specs.List.{All, list_all, list_any}
 use Rattle.std.proofs.lemmas.Bool.{eq-eqb, false_from_ne_true, ne_eqb, or_right}
 use Rattle.std.proofs.lemmas.List.Folds.{list_any_at}
 use Rattle.emu_model.specs.State.{Parts}
-use Rattle.thread_model.specs.declared.thread.Place.{Place}
-use Rattle.thread_model.specs.declared.thread.Standing.{Standing}
-use Rattle.thread_model.specs.declared.thread.Standing.TheVariants.{Ready, Waiting, Gone}
+use Rattle.emu_run.specs.declared.thread.Place.{Place}
+use Rattle.emu_run.specs.declared.thread.Standing.{Standing}
+use Rattle.emu_run.specs.declared.thread.Standing.TheVariants.{Ready, Waiting, Gone}
 use Rattle.emu_model.specs.declared.trap.Ended.{Ended}
-use Rattle.thread_model.specs.declared.thread.WorldEnding.TheVariants.{Spent as IsSpent, Stuck as IsStuck}
-use Rattle.guest_schedule.specs.Turns.{has_steps}
+use Rattle.emu_run.specs.declared.thread.WorldEnding.TheVariants.{Spent as IsSpent, Stuck as IsStuck}
+use Rattle.line_words.specs.Turns.{has_steps}
 use Rattle.guest_threads.specs.declared.ends.WorldEnd.TheVariants.{Spent, Stuck}
-use Rattle.thread_model.specs.Threads.{ending, is_over, next_place, next_turn, turn_at, ready_at}
-use Rattle.thread_model.specs.Worlds.{World, Context, context, no_context, is_ready, is_standing_ready, ready, some_ready}
+use Rattle.emu_run.specs.Threads.{ending, is_over, next_place, next_turn, turn_at, ready_at}
+use Rattle.emu_run.specs.Worlds.{World, Context, context, no_context, is_ready, is_standing_ready, ready, some_ready}
 use Rattle.guest_contexts.specs.Laid.{laid, world_of}
 use Rattle.guest_contexts.proofs.Begins.{has_one, turn_is}
 use Rattle.guest_contexts.specs.Standings.{ready_among, IsReadyIn}

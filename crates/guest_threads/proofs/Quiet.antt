@@ -25,11 +25,11 @@ use Rattle.emu_machine.proofs.Advanced.{not_both}
 use Rattle.guest_contexts.specs.Laid.{world_of}
 use Rattle.guest_contexts.specs.Standings.{has_monitor}
 use Rattle.guest_contexts.proofs.Laid.{joined_is, laid_length, noted_is, standing_is, stepped_is, unwatched}
-use Rattle.thread_model.specs.declared.thread.Standing.TheVariants.{Ready}
-use Rattle.thread_model.specs.Living.{IsLiving, stays_living}
-use Rattle.thread_model.specs.ThreadCall.{action}
-use Rattle.thread_model.specs.Threads.{WorldTurn, done_by, is_svc, makes_call, one, quietly, stepped, stepped_alone, taken_apart, taken_by, with_world, with_input}
-use Rattle.thread_model.specs.Worlds.{World, Context, context, is_standing_gone, joined, no_context, others_behind, taken_by_context, without_monitors}
+use Rattle.emu_run.specs.declared.thread.Standing.TheVariants.{Ready}
+use Rattle.emu_run.specs.Living.{IsLiving, stays_living}
+use Rattle.emu_run.specs.ThreadCall.{action}
+use Rattle.emu_run.specs.Threads.{WorldTurn, done_by, is_svc, makes_call, one, quietly, stepped, stepped_alone, taken_apart, taken_by, with_world, with_input}
+use Rattle.emu_run.specs.Worlds.{World, Context, context, is_standing_gone, joined, no_context, others_behind, taken_by_context, without_monitors}
 use Rattle.guest_threads.specs.Ends.{WorldHeld, has_ended, Becomes, IsKept, PutsAlways, TakesWithin}
 use Rattle.guest_threads.specs.Quiet.{AdvancesOn, AdvancesToEnd, AreQuiet, IsQuiet, TakesSteps, has_trapped}
 use Rattle.guest_threads.specs.Steps.{noted}

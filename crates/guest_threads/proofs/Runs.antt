@@ -6,12 +6,12 @@ use Rattle.emu_machine.specs.declared.ends.StepEnd.{StepEnd}
 use Rattle.emu_machine.specs.declared.ends.StepEnd.TheVariants.{Going, Exit as StepExit, Trap as StepTrap, ReadFault, WriteFault, ErrorsFault}
 use Rattle.emu_machine.specs.Ends.{step_end, is_undone}
 use Rattle.io_gate.specs.Streams.{Causes, Rose}
-use Rattle.thread_model.specs.declared.thread.Place.{Place}
-use Rattle.thread_model.specs.declared.thread.WorldEnding.TheVariants.{Spent as IsSpent, Stuck as IsStuck}
-use Rattle.thread_model.specs.Living.{IsLiving, some_waits}
-use Rattle.thread_model.specs.Worlds.{World, some_ready}
-use Rattle.thread_model.specs.Threads.{WorldState, stepped, pick, next_place, goes_on, threads, ending, with_input}
-use Rattle.thread_model.specs.ThreadLaws.{Moves, moves_not, stepped_moves, from_over, from_moves, rest_of, rest_on, rest_ended, rest_spent, rest_moves, rest_behind}
+use Rattle.emu_run.specs.declared.thread.Place.{Place}
+use Rattle.emu_run.specs.declared.thread.WorldEnding.TheVariants.{Spent as IsSpent, Stuck as IsStuck}
+use Rattle.emu_run.specs.Living.{IsLiving, some_waits}
+use Rattle.emu_run.specs.Worlds.{World, some_ready}
+use Rattle.emu_run.specs.Threads.{WorldState, stepped, pick, next_place, goes_on, threads, ending, with_input}
+use Rattle.emu_run.specs.ThreadLaws.{Moves, moves_not, stepped_moves, from_over, from_moves, rest_of, rest_on, rest_ended, rest_spent, rest_moves, rest_behind}
 use Rattle.guest_threads.specs.declared.ends.WorldEnd.{WorldEnd}
 use Rattle.guest_threads.specs.declared.ends.WorldEnd.TheVariants.{Spent, Stuck, ReadFault as WorldReadFault, WriteFault as WorldWriteFault, ErrorsFault as WorldErrorsFault}
 use Rattle.guest_threads.specs.Ends.{WorldHeld, has_ended, AllWait, Becomes, IsKept, TakesWithin, Puts, PutsAlways, world_end, end_of_world, world_end_of, is_broken_off}

@@ -1,10 +1,10 @@
 -- A run of a world, step after step: with any budget that isn't counted yet, what remains leaves the world and the input that the
 -- whole leaves.
 use Rattle.std.proofs.Common.{◌≡◌, ◌≤◌, ℕ, ◌+◌, Bool, true, false, List, Option, Some, None, IfSome, refl, sym, ap, subst, ◌∙◌, arith}
-use Rattle.thread_model.specs.declared.thread.Place.{Place}
-use Rattle.thread_model.specs.Worlds.{World}
-use Rattle.thread_model.specs.Threads.{WorldState, first_place, goes_on, next_place, pick, stepped, threads, with_input}
-use Rattle.thread_model.specs.ThreadLaws.{rest_behind, rest_of, rest_spent}
+use Rattle.emu_run.specs.declared.thread.Place.{Place}
+use Rattle.emu_run.specs.Worlds.{World}
+use Rattle.emu_run.specs.Threads.{WorldState, first_place, goes_on, next_place, pick, stepped, threads, with_input}
+use Rattle.emu_run.specs.ThreadLaws.{rest_behind, rest_of, rest_spent}
 use Rattle.guest_threads.specs.Ends.{IsKept, IsKeptAt}
 use Rattle.guest_threads.proofs.Composed.{Led, from_nothing}
 use Rattle.guest_threads.proofs.Runs.{LeadsRun, Ran, one_on, ran_at}

@@ -8,14 +8,14 @@ use Rattle.emu_system.specs.Gained.{Gains}
 use Rattle.emu_run.specs.Step.{accesses, step, turn}
 use Rattle.emu_machine.specs.Ends as machine
 use Rattle.emu_machine.specs.Ends.{LeftOf}
-use Rattle.thread_model.specs.declared.thread.Standing.TheVariants.{Ready}
-use Rattle.thread_model.specs.ThreadCall.{ThreadAction, fails, answers, starts, waits, wakes, clears, leaves, alone, action, action_of, all_gone, thread_call, with_gone, ended_by}
+use Rattle.emu_run.specs.declared.thread.Standing.TheVariants.{Ready}
+use Rattle.emu_run.specs.ThreadCall.{ThreadAction, fails, answers, starts, waits, wakes, clears, leaves, alone, action, action_of, all_gone, thread_call, with_gone, ended_by}
 use Rattle.emu_system.specs.SystemCall.{Turn, argument}
-use Rattle.thread_model.specs.declared.thread.ThreadCall.{ThreadCall}
-use Rattle.thread_model.specs.declared.thread.ThreadCall.TheVariants.{Clone, Futex, Exit as ExitCall, SetTidAddress, Gettid, Alone}
-use Rattle.thread_model.specs.Living.{IsLiving, emptied_gone, noted_living, stays_living}
-use Rattle.thread_model.specs.Threads.{WorldTurn, WorldState, done_by, makes_call, one, quietly, stepped, stepped_alone, taken_by, with_world, with_input}
-use Rattle.thread_model.specs.Worlds.{World, Context, context, is_gone, is_standing_gone, joined, apart, with_woken, others_behind, taken_by_context, without_monitors}
+use Rattle.emu_run.specs.declared.thread.ThreadCall.{ThreadCall}
+use Rattle.emu_run.specs.declared.thread.ThreadCall.TheVariants.{Clone, Futex, Exit as ExitCall, SetTidAddress, Gettid, Alone}
+use Rattle.emu_run.specs.Living.{IsLiving, emptied_gone, noted_living, stays_living}
+use Rattle.emu_run.specs.Threads.{WorldTurn, WorldState, done_by, makes_call, one, quietly, stepped, stepped_alone, taken_by, with_world, with_input}
+use Rattle.emu_run.specs.Worlds.{World, Context, context, is_gone, is_standing_gone, joined, apart, with_woken, others_behind, taken_by_context, without_monitors}
 use Rattle.guest_contexts.specs.Laid.{world_of}
 use Rattle.guest_contexts.proofs.Laid.{joined_is, laid_length, standing_is, stepped_is}
 use Rattle.emu_model.specs.declared.trap.Ended.{Ended}
@@ -26,7 +26,7 @@ use Rattle.emu_machine.specs.declared.ends.StepEnd.TheVariants.{Going}
 use Rattle.emu_machine.specs.Ends.{is_undone, step_end}
 use Rattle.emu_machine.specs.Machines.{MachineState}
 use Rattle.linux_calls.specs.Ends.{Stores}
-use Rattle.thread_model.specs.ThreadLaws.{CountsOrEnds, one_turns}
+use Rattle.emu_run.specs.ThreadLaws.{CountsOrEnds, one_turns}
 use Rattle.guest_threads.specs.Calls.{IsMade}
 use Rattle.guest_threads.specs.Ends.{WorldHeld, IsKept, Becomes, TakesWithin, PutsAlways}
 use Rattle.guest_threads.proofs.Composed.{gains_none}

@@ -1,9 +1,9 @@
 -- Steps of a context that move no byte of a stream, within a turn: how what holds before them is brought on, and where they lead.
 use Rattle.std.proofs.Common.{◌≡◌, ◌<◌, ℕ, zero, suc, ◌+◌, Bool, true, List, is_none, if◌then◌else◌, refl, sym, ap, subst, ◌∙◌, arith}
 use Rattle.std.proofs.lemmas.Bool.{ne_eqb}
-use Rattle.thread_model.specs.declared.thread.Place.{Place}
-use Rattle.thread_model.specs.Threads.{next_place, pick, ready_at, turn_at}
-use Rattle.thread_model.specs.Worlds.{World, is_standing_ready}
+use Rattle.emu_run.specs.declared.thread.Place.{Place}
+use Rattle.emu_run.specs.Threads.{next_place, pick, ready_at, turn_at}
+use Rattle.emu_run.specs.Worlds.{World, is_standing_ready}
 use Rattle.guest_threads.specs.Ends.{IsReadyAt}
 use Rattle.guest_threads.specs.Quiet.{AreQuiet, IsFollowed, IsQuiet}
 use Rattle.guest_threads.proofs.Picked.{place_at, stays_on}

@@ -1,8 +1,8 @@
 -- A world that is held, as it is seen: changes of its machine and of its contexts.
 use Rattle.std.proofs.Common.{◌≡◌, ◌<◌, ℕ, Bool, List, length, get_or, sym, ap, subst, ◌∙◌}
 use Rattle.emu_machine.specs.Machines.{MachineState}
-use Rattle.thread_model.specs.declared.thread.Standing.TheVariants.{Ready}
-use Rattle.thread_model.specs.Worlds.{World, Context, context, no_context}
+use Rattle.emu_run.specs.declared.thread.Standing.TheVariants.{Ready}
+use Rattle.emu_run.specs.Worlds.{World, Context, context, no_context}
 use Rattle.guest_contexts.specs.Laid.{with_machine, world_of}
 use Rattle.guest_contexts.proofs.Laid.{own_is, laid_length}
 use Rattle.guest_threads.specs.Ends.{WorldHeld}

@@ -6,10 +6,10 @@ use Rattle.emu_model.specs.State.{Core}
 use Rattle.emu_system.specs.SystemCall.{argument}
 use Rattle.emu_machine.specs.declared.ends.StepEnd.{StepEnd}
 use Rattle.emu_machine.specs.Ends.{step_end}
-use Rattle.thread_model.specs.declared.thread.Standing.TheVariants.{Ready}
-use Rattle.thread_model.specs.ThreadCall.{ThreadAction, has_flag, known_flags, needed_flags, sets_parent}
-use Rattle.thread_model.specs.Threads.{done_by, quietly}
-use Rattle.thread_model.specs.Worlds.{World, context}
+use Rattle.emu_run.specs.declared.thread.Standing.TheVariants.{Ready}
+use Rattle.emu_run.specs.ThreadCall.{ThreadAction, has_flag, known_flags, needed_flags, sets_parent}
+use Rattle.emu_run.specs.Threads.{done_by, quietly}
+use Rattle.emu_run.specs.Worlds.{World, context}
 use Rattle.guest_threads.specs.Ends.{WorldHeld, has_ended}
 
 -- the context whose registers the machine has is one of the world's and ready, and the world hasn't ended

@@ -5,20 +5,20 @@ use Rattle.guest_contexts.specs.Standings.{AreReady, has_monitor}
 use Rattle.std.specs.Coded.{Coded, code_by, coded×, coded_bool}
 use Rattle.std.proofs.Common.{refl}
 use Rattle.emu_model.specs.State.{Parts}
-use Rattle.thread_model.specs.Codes.{coded_world}
+use Rattle.emu_run.specs.Codes.{coded_world}
 use Rattle.emu_system.specs.Gained.{Gains}
 use Rattle.emu_system.specs.SystemCall.{action}
 use Rattle.emu_machine.specs.declared.ends.StepEnd.{StepEnd}
 use Rattle.emu_machine.specs.declared.ends.StepEnd.TheVariants.{Going, Exit as StepExit, Trap as StepTrap, ReadFault as StepReadFault, WriteFault as StepWriteFault, ErrorsFault as StepErrorsFault}
 use Rattle.emu_machine.specs.Ends.{LeftOf}
 use Rattle.linux_calls.specs.Ends.{Stores}
-use Rattle.thread_model.specs.declared.thread.WorldEnding.{WorldEnding}
-use Rattle.thread_model.specs.declared.thread.WorldEnding.TheVariants.{Exit as Exited, Trap as Trapped, Spent as IsSpent, Stuck as IsStuck}
-use Rattle.thread_model.specs.declared.thread.Place.{Place}
-use Rattle.thread_model.specs.declared.thread.Standing.TheVariants.{Ready}
-use Rattle.thread_model.specs.Worlds.{World, Context, context, joined, some_ready}
-use Rattle.thread_model.specs.Living.{some_waiting}
-use Rattle.thread_model.specs.Threads.{WorldState, ending, pick, turn_at, with_input}
+use Rattle.emu_run.specs.declared.thread.WorldEnding.{WorldEnding}
+use Rattle.emu_run.specs.declared.thread.WorldEnding.TheVariants.{Exit as Exited, Trap as Trapped, Spent as IsSpent, Stuck as IsStuck}
+use Rattle.emu_run.specs.declared.thread.Place.{Place}
+use Rattle.emu_run.specs.declared.thread.Standing.TheVariants.{Ready}
+use Rattle.emu_run.specs.Worlds.{World, Context, context, joined, some_ready}
+use Rattle.emu_run.specs.Living.{some_waiting}
+use Rattle.emu_run.specs.Threads.{WorldState, ending, pick, turn_at, with_input}
 use Rattle.guest_threads.specs.declared.ends.WorldEnd.{WorldEnd}
 use Rattle.guest_threads.specs.declared.ends.WorldEnd.TheVariants.{Exit, Trap, Spent, Stuck, ReadFault, WriteFault, ErrorsFault}
 

@@ -5,10 +5,10 @@ use Rattle.emu_machine.specs.declared.ends.Progress.TheVariants.{GoesOn, Trapped
 use Rattle.emu_machine.specs.declared.ends.StepEnd.{StepEnd}
 use Rattle.emu_machine.specs.declared.ends.StepEnd.TheVariants.{Going}
 use Rattle.emu_machine.specs.Ends.{is_undone, step_end}
-use Rattle.thread_model.specs.declared.thread.Place.{Place}
+use Rattle.emu_run.specs.declared.thread.Place.{Place}
 use Rattle.guest_contexts.specs.declared.begin.Turn.{Turn}
-use Rattle.thread_model.specs.Threads.{next_place, one, pick, quietly, stepped, turn_at}
-use Rattle.thread_model.specs.Worlds.{World}
+use Rattle.emu_run.specs.Threads.{next_place, one, pick, quietly, stepped, turn_at}
+use Rattle.emu_run.specs.Worlds.{World}
 use Rattle.guest_threads.specs.Ends.{Becomes, IsKept, IsPlace, IsReadyAt, PutsAlways, TakesWithin}
 
 -- a step of context k makes `v` of `w`, and both go on

@@ -1,8 +1,8 @@
 -- A context that is started by another one, which has returned from its call.
 use Rattle.std.specs.Prelude.{ℕ, set, if◌then◌else◌}
-use Rattle.thread_model.specs.declared.thread.Standing.TheVariants.{Ready}
-use Rattle.thread_model.specs.ThreadCall.{clears_child, started_core, started_vectors}
-use Rattle.thread_model.specs.Worlds.{Context}
+use Rattle.emu_run.specs.declared.thread.Standing.TheVariants.{Ready}
+use Rattle.emu_run.specs.ThreadCall.{clears_child, started_core, started_vectors}
+use Rattle.emu_run.specs.Worlds.{Context}
 
 -- (flags, stack, tls, clear); its x0 is 0
 abbrev pub started_context : Context → ℕ → ℕ → ℕ → ℕ → Context

@@ -1,8 +1,8 @@
 -- The step of a machine alone, as that of the context whose registers the machine has.
 use Rattle.std.specs.Prelude.{ℕ, Bool, if◌then◌else◌}
 use Rattle.emu_run.specs.Step.{accesses}
-use Rattle.thread_model.specs.Threads.{WorldState, stepped_alone, taken_by, with_world}
-use Rattle.thread_model.specs.Worlds.{World, context, joined, others_behind, taken_by_context, without_monitors}
+use Rattle.emu_run.specs.Threads.{WorldState, stepped_alone, taken_by, with_world}
+use Rattle.emu_run.specs.Worlds.{World, context, joined, others_behind, taken_by_context, without_monitors}
 
 -- a call empties all monitors, and any other step those of the other contexts that it writes to
 abbrev pub noted : Bool → World → ℕ → World → World

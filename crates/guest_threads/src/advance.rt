@@ -8,9 +8,9 @@ ghost use Rattle.guest_threads.specs.Quiet.{AdvancesOn, AdvancesToEnd, TakesStep
 ghost use Rattle.guest_threads.specs.Named.{last_end};
 ghost use Rattle.io_gate.specs.Streams.{Causes};
 ghost use Rattle.linux_calls.specs.Names.{NamesRead};
-ghost use Rattle.thread_model.specs.declared.thread.Standing.TheVariants as standing;
-ghost use Rattle.thread_model.specs.Living.{IsLiving};
-ghost use Rattle.thread_model.specs.Worlds as worlds;
+ghost use Rattle.emu_run.specs.declared.thread.Standing.TheVariants as standing;
+ghost use Rattle.emu_run.specs.Living.{IsLiving};
+ghost use Rattle.emu_run.specs.Worlds as worlds;
 
 use crate::held::Held;
 use crate::went::Went;

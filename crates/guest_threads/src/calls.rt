@@ -1,13 +1,13 @@
 //! The calls that speak of contexts, each made by the context whose registers the machine has.
 ghost use Rattle.std.specs.Prelude.{◌≡◌, MatchOption, None, true};
 ghost use Rattle.guest_threads.specs.Calls.{IsCalling, IsMade};
-ghost use Rattle.thread_model.specs.ThreadCall as model;
-ghost use Rattle.thread_model.specs.Worlds as worlds;
+ghost use Rattle.emu_run.specs.ThreadCall as model;
+ghost use Rattle.emu_run.specs.Worlds as worlds;
 
 use crate::held::Held;
 use emu_machine::StepEnd;
 use guest_contexts::error_answer;
-use thread_model::{Standing, ThreadCall, ThreadErrno};
+use emu_run::{Standing, ThreadCall, ThreadErrno};
 
 impl Held {
     /// Makes the call of the context whose registers the machine has, where it makes one and that speaks of contexts.

@@ -1,13 +1,13 @@
 //! The call that starts a context.
 ghost use Rattle.std.specs.Prelude.{◌≡◌, ◌<◌, length, false};
 ghost use Rattle.guest_threads.specs.Calls.{IsCalling, IsMade, are_unknown, is_parent_refused};
-ghost use Rattle.thread_model.specs.ThreadCall as model;
-ghost use Rattle.thread_model.specs.Worlds as worlds;
+ghost use Rattle.emu_run.specs.ThreadCall as model;
+ghost use Rattle.emu_run.specs.Worlds as worlds;
 
 use crate::held::Held;
 use crate::parts::has_flag;
 use emu_machine::StepEnd;
-use thread_model::ThreadErrno;
+use emu_run::ThreadErrno;
 
 /// CLONE_VM, FS, FILES, SIGHAND and THREAD, which are asked for.
 const NEEDED: u64 = 0x1_0F00;

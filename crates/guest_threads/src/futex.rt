@@ -1,12 +1,12 @@
 //! The call by which contexts wait for a word to be changed, and wake each other.
 ghost use Rattle.std.specs.Prelude.{◌≡◌};
 ghost use Rattle.guest_threads.specs.Calls.{IsCalling, IsMade};
-ghost use Rattle.thread_model.specs.ThreadCall as model;
-ghost use Rattle.thread_model.specs.Worlds as worlds;
+ghost use Rattle.emu_run.specs.ThreadCall as model;
+ghost use Rattle.emu_run.specs.Worlds as worlds;
 
 use crate::held::Held;
 use emu_machine::StepEnd;
-use thread_model::{Standing, ThreadErrno};
+use emu_run::{Standing, ThreadErrno};
 
 /// The operation that a number tells, with FUTEX_PRIVATE_FLAG or without.
 fn operation(op: u64) -> u64

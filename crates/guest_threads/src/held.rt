@@ -1,7 +1,7 @@
 //! A machine with the contexts whose registers it doesn't have, and the exchange of their registers with the machine's.
 ghost use Rattle.std.specs.Prelude.{◌≡◌, ◌<◌, ◌≤◌, IfOk, is_some, length, true, false};
 ghost use Rattle.emu_machine.specs.Machines.{has_ended as machine_has_ended};
-ghost use Rattle.thread_model.specs.Worlds as worlds;
+ghost use Rattle.emu_run.specs.Worlds as worlds;
 
 use arrayvec::ArrayVec;
 use core_regs::Core;
@@ -10,7 +10,7 @@ use guest_contexts::{Context, Spare, ready, spares};
 use guest_pages::OutOfMemory;
 use std::alloc::{AllocError, Global};
 use std::marker::Model;
-use thread_model::Standing;
+use emu_run::Standing;
 use vec_regs::VecRegs;
 
 /// The most contexts of a world, those that have left included.

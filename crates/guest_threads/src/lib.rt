@@ -1,6 +1,6 @@
 //! Guest threads: a world of contexts that share a machine's memory, and its run under a schedule.
 //!
-//! Contracts see a world as its definition in `thread_model`, and whether a stream has failed. A machine has the
+//! Contracts see a world as its definition in `emu_run`, and whether a stream has failed. A machine has the
 //! registers of the context that took the last step, and those of the others are kept beside it.
 #![tactic(auto)]
 

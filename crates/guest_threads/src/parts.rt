@@ -7,8 +7,8 @@ ghost use Rattle.emu_model.specs.LoadsAndStores.{after_store};
 ghost use Rattle.emu_system.specs.SystemCall.{argument as argument_of};
 ghost use Rattle.guest_threads.specs.Calls.{IsCalling};
 ghost use Rattle.guest_threads.specs.Started.{started_context};
-ghost use Rattle.thread_model.specs.ThreadCall as model;
-ghost use Rattle.thread_model.specs.Worlds as worlds;
+ghost use Rattle.emu_run.specs.ThreadCall as model;
+ghost use Rattle.emu_run.specs.Worlds as worlds;
 
 use crate::held::{Held, MOST_CONTEXTS};
 use core_regs::Core;
@@ -18,7 +18,7 @@ use guest_contexts::{
     Started, are_all_gone, copy_core, copy_vectors, empty_monitors, ready, set_clear, stand,
     thread_call, wake,
 };
-use thread_model::{Standing, ThreadCall};
+use emu_run::{Standing, ThreadCall};
 
 impl Held {
     /// The call whose number is in x8.

@@ -1,13 +1,13 @@
 //! Where a run is in its schedule.
 ghost use Rattle.std.specs.Prelude.{◌≡◌, ◌<◌, ◌≤◌, ◌+◌, ◌-◌, ◌^◌, ◌⊎◌, MatchOption, length, true, false};
-ghost use Rattle.guest_schedule.specs.Turns.{IsSchedule};
+ghost use Rattle.line_words.specs.Turns.{IsSchedule};
 ghost use Rattle.guest_threads.specs.Ends.{IsPlace, IsPicked, IsReadyAt};
-ghost use Rattle.thread_model.specs.Threads as model;
-ghost use Rattle.thread_model.specs.Worlds as worlds;
+ghost use Rattle.emu_run.specs.Threads as model;
+ghost use Rattle.emu_run.specs.Worlds as worlds;
 
 use crate::held::Held;
 use guest_contexts::{next_turn, place_among};
-use thread_model::Place;
+use emu_run::Place;
 
 /// The number of steps that are counted in all when the turn of a place, or the budget, is used up.
 #[inline(always)]

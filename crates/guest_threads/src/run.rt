@@ -1,7 +1,7 @@
 //! The run of a world under a schedule.
 ghost use Rattle.std.specs.Prelude.{◌≡◌, ◌<◌, ◌≤◌, IfSome, is_none, true, false};
 ghost use Rattle.emu_machine.specs.Machines.{MakesWrite};
-ghost use Rattle.guest_schedule.specs.Turns.{IsSchedule};
+ghost use Rattle.line_words.specs.Turns.{IsSchedule};
 ghost use Rattle.guest_threads.specs.Ends.{
   has_ended,
   end_of_world,
@@ -15,9 +15,9 @@ ghost use Rattle.guest_threads.specs.Ends.{
 };
 ghost use Rattle.io_gate.specs.Streams.{Causes};
 ghost use Rattle.linux_calls.specs.Names.{NamesRead};
-ghost use Rattle.thread_model.specs.Living.{IsLiving};
-ghost use Rattle.thread_model.specs.Threads as model;
-ghost use Rattle.thread_model.specs.Threads.{with_input};
+ghost use Rattle.emu_run.specs.Living.{IsLiving};
+ghost use Rattle.emu_run.specs.Threads as model;
+ghost use Rattle.emu_run.specs.Threads.{with_input};
 
 use crate::ends::WorldEnd;
 use crate::held::Held;
@@ -26,7 +26,7 @@ use crate::went::Went;
 use emu_machine::{Ended, StepEnd};
 use guest_contexts::{Rest, rest_of};
 use io_gate::{Sink, Source};
-use thread_model::Place;
+use emu_run::Place;
 
 impl Held {
     /// Takes the steps that the turns of a schedule name, until the world has ended, no context is ready, or `budget`

@@ -2,7 +2,7 @@
 ghost use Rattle.std.specs.Prelude.{◌≡◌, Some};
 ghost use Rattle.emu_run.specs.declared.insn.Insn.TheVariants as model_insn;
 ghost use Rattle.emu_run.specs.Step as model;
-ghost use Rattle.thread_model.specs.Threads as threads;
+ghost use Rattle.emu_run.specs.Threads as threads;
 
 use crate::held::Held;
 use a64_insn::{A64Form, ExceptOp};

@@ -1,15 +1,15 @@
 //! Whole turns of a schedule, one after the other, by the loop of the machine.
 ghost use Rattle.std.specs.Prelude.{◌≡◌, ◌≤◌, ◌-◌, MatchOption, if◌then◌else◌, nat_eq, false};
-ghost use Rattle.guest_schedule.specs.Turns.{IsSchedule};
+ghost use Rattle.line_words.specs.Turns.{IsSchedule};
 ghost use Rattle.guest_threads.specs.Ends.{has_ended, IsPlace};
 ghost use Rattle.guest_threads.specs.Quiet.{FollowsOn, FollowsToEnd, StopsWithin};
-ghost use Rattle.thread_model.specs.Threads as model;
-ghost use Rattle.thread_model.specs.Worlds as worlds;
+ghost use Rattle.emu_run.specs.Threads as model;
+ghost use Rattle.emu_run.specs.Worlds as worlds;
 
 use crate::held::Held;
 use emu_machine::Progress;
 use guest_contexts::{Turn, next_turn, turn_end};
-use thread_model::Place;
+use emu_run::Place;
 
 impl Held {
     /// Takes the steps of whole turns from the beginning of a turn on, and answers the place of the next step: while

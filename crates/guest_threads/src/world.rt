@@ -14,16 +14,16 @@ ghost use Rattle.guest_threads.specs.Ends.{
 };
 ghost use Rattle.io_gate.specs.Streams.{Causes};
 ghost use Rattle.linux_calls.specs.Names.{NamesRead};
-ghost use Rattle.thread_model.specs.Threads as model;
-ghost use Rattle.thread_model.specs.Threads.{with_input};
-ghost use Rattle.thread_model.specs.Worlds as worlds;
+ghost use Rattle.emu_run.specs.Threads as model;
+ghost use Rattle.emu_run.specs.Threads.{with_input};
+ghost use Rattle.emu_run.specs.Worlds as worlds;
 
 use crate::ends::WorldEnd;
 use crate::held::Held;
 use core_regs::Core;
 use emu_machine::Machine;
 use guest_pages::OutOfMemory;
-use guest_schedule::Schedule;
+use line_words::Schedule;
 use io_gate::{Sink, Source};
 use std::alloc::Global;
 use std::marker::Model;
@@ -38,7 +38,7 @@ pub struct World {
 
 impl Model for World {
     ghost use Rattle.guest_threads.specs.Ends.{WorldHeld, coded_held};
-    ghost use Rattle.thread_model.specs.Living.{IsLiving};
+    ghost use Rattle.emu_run.specs.Living.{IsLiving};
 
     ghost Value = { WorldHeld };
 

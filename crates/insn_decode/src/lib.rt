@@ -1,5 +1,12 @@
-//! The instruction that a word is, and the word of an instruction, over all tables of instructions.
+//! The instruction that a word is, and the word of an instruction, over all tables of instructions; and words of SVE
+//! with their instructions, so that a word which was decoded needn't be decoded again.
+//!
+//! What a word decodes to rests on the word alone. So it is remembered by the word and not by its address, and code
+//! that is written needs no notice.
 #![tactic(auto)]
+
+mod known;
+mod remembered_words;
 
 ghost use Rattle.std.specs.Prelude.{◌≡◌, ◌↔◌, IfSome, IsTrue, Some};
 ghost use Rattle.emu_bits.specs.Fields.{field};
@@ -11,6 +18,7 @@ use a64_insn::A64;
 use a64_rows::{decode_a64_at, encode_a64};
 use emu_bits::bits;
 pub use emu_run::Insn;
+pub use remembered_words::DecodedWords;
 use sve_insn::Sve;
 use sve_rows::{decode_sve_here, encode_sve};
 

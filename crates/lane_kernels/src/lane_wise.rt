@@ -32,7 +32,7 @@ pub trait LaneWise2 {
 }
 
 /// An operation of a lane and one number for all lanes.
-#[derive(Clone, Copy)]
+#[derive(Drop)]
 pub struct WithNumber<F> {
     pub op: F,
     pub n: u64,
@@ -58,7 +58,7 @@ pub trait LaneWise3 {
 }
 
 /// An operation on three lanes of which the last is its first.
-#[derive(Clone, Copy)]
+#[derive(Drop)]
 pub struct LastFirst<F> {
     pub op: F,
 }

@@ -5,12 +5,10 @@
 //! time, and no rest is left.
 #![tactic(auto)]
 
-pub mod folds;
 pub mod kernels;
 mod lane_wise;
 pub mod register_words;
 pub mod sources;
-pub mod told;
 
 pub use lane_wise::{
     LaneWise1, LaneWise2, LaneWise3, LaneWiseFold, LaneWiseTest2, LastFirst, WithNumber,

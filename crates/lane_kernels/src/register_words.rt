@@ -193,7 +193,7 @@ pub fn permuted<L: Chunks<u8, 16> + Chunks<u16, 8> + Chunks<u32, 4> + Chunks<u64
 
 /// Writes the active lanes of e bits, and the others keep their value.
 #[inline(always)]
-pub fn merging<L: Local + Chunks<u8, 16> + Chunks<u16, 8> + Chunks<u32, 4> + Chunks<u64, 2> + Copy>(
+pub fn merging<L: Local + Chunks<u8, 16> + Chunks<u16, 8> + Chunks<u32, 4> + Chunks<u64, 2> + Drop>(
     vec: &mut VecRegs,
     e: u32,
     pg: Pred,
@@ -208,7 +208,7 @@ pub fn merging<L: Local + Chunks<u8, 16> + Chunks<u16, 8> + Chunks<u32, 4> + Chu
 
 /// Writes the active lanes of e bits, and the others are 0.
 #[inline(always)]
-pub fn zeroing<L: Local + Chunks<u8, 16> + Chunks<u16, 8> + Chunks<u32, 4> + Chunks<u64, 2> + Copy>(
+pub fn zeroing<L: Local + Chunks<u8, 16> + Chunks<u16, 8> + Chunks<u32, 4> + Chunks<u64, 2> + Drop>(
     vec: &mut VecRegs,
     e: u32,
     pg: Pred,

@@ -84,7 +84,7 @@ impl<T: Quad<W>, const W: usize> Chunks<T, W> for Number {
 }
 
 /// An operation of the lanes of a register.
-#[derive(Clone, Copy)]
+#[derive(Drop)]
 pub struct Map1<F> {
     pub op: F,
     pub zn: Reg,
@@ -110,7 +110,7 @@ impl<T: Quad<W>, F: LaneWise1, const W: usize> Chunks<T, W> for Map1<F> {
 }
 
 /// An operation of the lanes of two registers.
-#[derive(Clone, Copy)]
+#[derive(Drop)]
 pub struct Map2<F> {
     pub op: F,
     pub zn: Reg,
@@ -140,7 +140,7 @@ impl<T: Quad<W>, F: LaneWise2, const W: usize> Chunks<T, W> for Map2<F> {
 }
 
 /// An operation of the lanes of three registers.
-#[derive(Clone, Copy)]
+#[derive(Drop)]
 pub struct Map3<F> {
     pub op: F,
     pub za: Reg,
@@ -207,7 +207,7 @@ impl<T: Quad<W>, const W: usize> Chunks<T, W> for Select {
 }
 
 /// The active lanes of others; an inactive lane is that of zd.
-#[derive(Clone, Copy)]
+#[derive(Drop)]
 pub struct Merged<L> {
     pub pg: Pred,
     pub zd: Reg,
@@ -235,7 +235,7 @@ impl<T: Quad<W>, L: Chunks<T, W>, const W: usize> Chunks<T, W> for Merged<L> {
 }
 
 /// An operation of the lanes of three registers, the first the destination, in its active lanes; the others are kept.
-#[derive(Clone, Copy)]
+#[derive(Drop)]
 pub struct Updated<F> {
     pub op: F,
     pub pg: Pred,
@@ -281,7 +281,7 @@ impl<T: Quad<W>, F: LaneWise3, const W: usize> Chunks<T, W> for Updated<F> {
 }
 
 /// The active lanes of others; an inactive lane is 0.
-#[derive(Clone, Copy)]
+#[derive(Drop)]
 pub struct Zeroed<L> {
     pub pg: Pred,
     pub lanes: L,
@@ -308,7 +308,7 @@ impl<T: Quad<W>, L: Chunks<T, W>, const W: usize> Chunks<T, W> for Zeroed<L> {
 
 /// The bits of a predicate for 128 bits of a register.
 #[inline(always)]
-pub(crate) fn part_of(vec: &VecRegs, pg: Pred, i: u32) -> u16
+pub fn part_of(vec: &VecRegs, pg: Pred, i: u32) -> u16
     requires { i < vec.now.bits / 128 }
     // whatever the lanes of 128 bits
     ensures { (e w j : ℕ) → IsLaneSize e → w * e ≡ 128 → j < w

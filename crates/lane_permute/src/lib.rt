@@ -3,10 +3,17 @@
 //! Lanes stand in the order of their places, the lowest first; contracts speak of their numbers. A permute that keeps
 //! runs of lanes together copies them as slices; the others go pair by pair or lane by lane, and over slices of a
 //! length that is known when they are compiled, as the lanes of 128 bits, they become shuffles.
+//!
+//! Fields of 1, 2, 4 or 8 bits among the 256 bits of four words, in other places: in turn, every second, in reverse
+//! order (`four_words`). Such are the fields of predicates: a lane of e bits has a field of e / 8 bits. A field moves as
+//! a whole. In a word the bits move by exchanges of runs of them, each of which is two shifts and three masks. No call
+//! allocates.
 #![tactic(auto)]
 
 mod by_active;
 mod by_number;
+mod exchanges;
+pub mod four_words;
 mod pairs;
 mod runs;
 

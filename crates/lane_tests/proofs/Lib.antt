@@ -1,1 +1,3 @@
 pub mod Orders
+mod Reductions
+mod ToldBits

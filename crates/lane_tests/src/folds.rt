@@ -29,8 +29,8 @@ ghost use Rattle.sve_effects.specs.Lane.{lane_op};
 ghost use Rattle.sve_effects.specs.Fold.{reduce_step, reduce_start};
 ghost use Rattle.sve_insn.specs.declared.ops.ReduceOp.{ReduceOp};
 
+use crate::active_folds::Reduction;
 use emu_bits::sign_extended;
-use lane_kernels::folds::Reduction;
 use lane_kernels::{LaneWise2, LaneWiseFold};
 use lane_ops::{Smax, Smin};
 use lane_pack::Lane;

@@ -1,2 +1,5 @@
 pub mod Lines
 pub mod Refusals
+pub mod Reading
+pub mod Schedule
+pub mod Turns

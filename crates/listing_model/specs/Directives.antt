@@ -11,9 +11,9 @@ use Rattle.listing_model.specs.declared.directive.DirectiveName.{DirectiveName}
 use Rattle.listing_model.specs.declared.directive.DirectiveName.TheVariants.{Code, Data, Byte, Half, Word, Quad, Ascii, Zero, Align, Bss, Entry}
 use Rattle.listing_model.specs.declared.fault.ListingWhy.{ListingWhy}
 use Rattle.listing_model.specs.declared.fault.ListingWhy.TheVariants.{BadOperands, OutOfRange}
-use Rattle.text_tokens.specs.Layout.{is_sign, comma}
-use Rattle.text_tokens.specs.Numbers.{Number, number_of, value}
-use Rattle.text_tokens.specs.Tokens.{quote, backslash, underscore}
+use Rattle.asm_tokens.specs.Layout.{is_sign, comma}
+use Rattle.asm_tokens.specs.Numbers.{Number, number_of, value}
+use Rattle.asm_tokens.specs.Tokens.{quote, backslash, underscore}
 
 -- ---- names
 

@@ -10,8 +10,8 @@ use Rattle.listing_model.specs.declared.line.Body.TheVariants as body
 use Rattle.listing_model.specs.declared.line.Line.{Line}
 use Rattle.listing_model.specs.Directives.{directive_named, directive_of, is_label}
 use Rattle.listing_model.specs.Statements.{Statements}
-use Rattle.text_tokens.specs.Layout.{is_sign}
-use Rattle.text_tokens.specs.Tokens.{tokens}
+use Rattle.asm_tokens.specs.Layout.{is_sign}
+use Rattle.asm_tokens.specs.Tokens.{tokens}
 
 abbrev pub colon : ℕ
 colon = 58

@@ -1,6 +1,18 @@
 //! What the SVE data rows do: those that work lane by lane, and folds, counts and permutes.
 #![tactic(auto)]
 
+mod by_lane;
+mod copies;
+mod fields;
+mod immediates;
+mod index;
+mod lanes;
+mod merging;
+mod names;
+mod operations;
+mod products;
+mod unpredicated;
+
 ghost use Rattle.std.specs.Prelude.{◌≡◌, true};
 ghost use Rattle.emu_model.specs.declared.trap.Effect.{Effect};
 ghost use Rattle.sve_effects.specs.Effects.{is_data, after_data};
@@ -20,7 +32,7 @@ pub fn exec(core: &mut Core, vec: &mut VecRegs, i: &Sve) -> Effect
     ensures effect { result ≡ Effect.Next }
 {
     match group_of(i.form()) {
-        Group::Lanes => sve_lanes::exec(core, vec, i),
+        Group::Lanes => by_lane::exec(core, vec, i),
         Group::Permutes | Group::Counts | Group::Folds => sve_permutes::exec(core, vec, i),
         Group::Predicates
         | Group::Loads

@@ -16,7 +16,7 @@ use crate::ffr::{clear, first_cleared, write};
 use crate::row::Row;
 use crate::taking::take;
 use core_regs::{Core, Effect, Trap, TrapKind};
-use element_access::test_sp;
+use guest_mem::element_access::test_sp;
 use guest_mem::{AccessLog, ElementList, Kind, Mem};
 use vec_regs::VecRegs;
 

@@ -7,7 +7,7 @@ ghost use Rattle.element_loops.specs.Listed.{listed};
 ghost use Rattle.sve_ffr.specs.Taking.{AreFrom, AreTaken, lanes_of, rest_of, starts_at};
 
 use arrayvec::ArrayVec;
-use element_access::load_u64;
+use guest_mem::element_access::load_u64;
 use guest_mem::{AccessLog, ElementList, Mem};
 use vec_regs::extended;
 

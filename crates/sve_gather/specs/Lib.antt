@@ -1,2 +1,5 @@
 pub mod Plans
 pub mod PlanLaws
+pub mod Indexing
+pub mod Gathers
+pub mod FirstFaultPlan

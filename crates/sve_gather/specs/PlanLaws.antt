@@ -11,7 +11,7 @@ use Rattle.sve_effects.specs.Effects.{by_fault, same_group}
 use Rattle.sve_effects.specs.Effects.{layout, vector_load, vector_store, is_gather, is_scatter, loads_signed, first_fault, is_non_fault}
 use Rattle.element_loops.specs.Layouts.{layout_of}
 use Rattle.element_loops.specs.Planned.{load_by, store_by}
-use Rattle.gather_loops.specs.FirstFaultPlan.{first_fault_by}
+use Rattle.sve_gather.specs.FirstFaultPlan.{first_fault_by}
 use Rattle.sve_gather.specs.Plans.{plan_of, is_first_gather, has_gather_plan}
 
 pub gather_planned : (form : SveForm) (c : Core) (v : Vectors) (m : Memory) → is_gather form ≡ true → load_by (plan_of form c v) c v m ≡ vector_load form c v m

@@ -1,7 +1,15 @@
 //! SVE gathers and scatters; and first-faulting gathers: their elements, and the load where no element is refused.
+//!
+//! A gather or a scatter goes over its lanes in one pass: the words of a register are made as the elements come. Loads
+//! of which no element is refused, first-faulting and non-faulting ones, are done so too (`unrefused`).
 #![tactic(auto)]
 
+mod base;
+mod gather;
+mod indexed;
 mod plans;
+mod scatter;
+pub mod unrefused;
 
 ghost use Rattle.std.specs.Prelude.{◌≡◌, [], true, false};
 ghost use Rattle.emu_model.specs.declared.trap.Effect.{Effect};
@@ -33,7 +41,7 @@ pub fn load(core: &Core, vec: &mut VecRegs, mem: &mut Mem, log: &mut AccessLog, 
         ≡ record { core = core.now; vectors = vec.new; memory = mem.new; accesses = log.new.items; effect = result } }
 {
     let plan = plans::plan(core, vec, i);
-    gather_loops::load(&plan, core, vec, mem, log)
+    gather::load(&plan, core, vec, mem, log)
 }
 
 /// Does a scatter, and says how the step goes on. The elements that were stored are logged in order; one that traps has
@@ -46,7 +54,7 @@ pub fn store(core: &Core, vec: &VecRegs, mem: &mut Mem, log: &mut AccessLog, i: 
         ≡ record { core = core.now; vectors = vec.now; memory = mem.new; accesses = log.new.items; effect = result } }
 {
     let plan = plans::plan(core, vec, i);
-    gather_loops::store(&plan, core, vec, mem, log)
+    scatter::store(&plan, core, vec, mem, log)
 }
 
 /// The elements of a first-faulting gather: the lanes and addresses of its active lanes, in order.
@@ -85,5 +93,5 @@ pub fn load_unrefused(
     ensures memory { mem.new ≡ mem.old }
 {
     let plan = plans::plan(core, vec, i);
-    gather_loops::unrefused::load_gather(&plan, core, vec, mem, log)
+    crate::unrefused::load_gather(&plan, core, vec, mem, log)
 }

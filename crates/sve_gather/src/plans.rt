@@ -1,7 +1,7 @@
 //! The plans of gathers and scatters.
 ghost use Rattle.std.specs.Prelude.{◌≡◌, ◌⊎◌, ◌*◌, ◌^◌, true};
 ghost use Rattle.emu_model.specs.State.{read_x_sp};
-ghost use Rattle.gather_loops.specs.Gathers.{IsGather};
+ghost use Rattle.sve_gather.specs.Gathers.{IsGather};
 ghost use Rattle.element_loops.specs.declared.plan.Places.{Places};
 ghost use Rattle.element_loops.specs.Layouts.{IsPlan};
 ghost use Rattle.sve_gather.specs.Plans as table;

@@ -11,7 +11,7 @@ use Rattle.sve_effects.specs.Effects.{by_fault, same_group}
 use Rattle.sve_effects.specs.Effects.{layout, vector_load, vector_store, loads_signed, is_contiguous_load, is_contiguous_store, first_fault, is_non_fault}
 use Rattle.element_loops.specs.Layouts.{layout_of}
 use Rattle.element_loops.specs.Planned.{load_by, store_by}
-use Rattle.gather_loops.specs.FirstFaultPlan.{first_fault_by}
+use Rattle.sve_gather.specs.FirstFaultPlan.{first_fault_by}
 use Rattle.sve_loads.specs.Plans.{load_plan, store_plan, first_plan, is_first_contiguous}
 
 -- gathers aren't contiguous loads

@@ -90,5 +90,5 @@ pub fn load_unrefused(
     ensures memory { mem.new ≡ mem.old }
 {
     let plan = rows::first_plan(core, vec, i);
-    gather_loops::unrefused::load(&plan, core, vec, mem, log)
+    sve_gather::unrefused::load(&plan, core, vec, mem, log)
 }

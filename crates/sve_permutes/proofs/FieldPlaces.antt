@@ -6,8 +6,8 @@ use Rattle.emu_bits.specs.Fields.{bit}
 use Rattle.emu_model.specs.SoundState.{IsVectorLength}
 use Rattle.emu_model.specs.ListLaws.{length-each, get_or-each, each_same}
 use Rattle.emu_model.specs.State.{Vectors}
-use Rattle.field_words.specs.Places.{IsField, zipped, every_second, joined, transposed}
-use Rattle.field_words.proofs.FourWords.{trn_end}
+use Rattle.lane_permute.specs.Places.{IsField, zipped, every_second, joined, transposed}
+use Rattle.lane_permute.proofs.FourWords.{trn_end}
 use Rattle.sve_effects.specs.declared.places.Place.{Place}
 use Rattle.sve_effects.specs.declared.places.Place.TheVariants.{FirstLane, SecondLane, Scalar, Zero}
 use Rattle.sve_effects.specs.LaneLoop.{is_active}

@@ -164,7 +164,7 @@ fn count_of(vec: &VecRegs, size: U<2>, imm4: U<4>, pattern: U<5>) -> u64
 
 /// Writes what an operation makes of each lane of zdn and a count to it.
 #[inline(always)]
-fn counted_lanes<F: LaneWise2 + Copy>(vec: &mut VecRegs, e: u32, zdn: Reg, count: u64, op: F)
+fn counted_lanes<F: LaneWise2 + Drop>(vec: &mut VecRegs, e: u32, zdn: Reg, count: u64, op: F)
     requires { IsLaneSize e }
     ensures { vec.new ≡ loops.plain e (λ k. F.entry op e (lane_of e vec.old zdn k) count) zdn vec.old }
 {

@@ -9,7 +9,7 @@ ghost use Rattle.emu_model.specs.LaneSizes.{IsLaneSize};
 use crate::single::set_low_lane;
 use core_regs::Core;
 use emu_bits::{Pred, PredLow, Reg, U};
-use lane_kernels::folds::fold_active;
+use lane_tests::fold_active;
 use lane_tests::{Andv, Eorv, Orv, Saddv, Smaxv, Sminv, Uaddv, Umaxv, Uminv};
 use sve_effects::lane_bits;
 use sve_insn::ReduceOp;

@@ -1,6 +1,6 @@
 //! Fields of predicates in other places, by the words of the predicates.
 ghost use Rattle.std.specs.Prelude.{◌≡◌, ◌<◌, ◌≤◌, ◌+◌, ◌*◌, ◌/◌, ◌%◌, ℕ, false};
-ghost use Rattle.field_words.specs.Places.{IsField};
+ghost use Rattle.lane_permute.specs.Places.{IsField};
 ghost use Rattle.sve_effects.specs.Permute.{taken, interleave_place, zip_place, uzp_place, trn_place, rev_place};
 ghost use Rattle.sve_effects.specs.PermuteRows as model;
 ghost use Rattle.sve_permutes.specs.Fields.{bit_of_field};
@@ -9,7 +9,7 @@ ghost use Rattle.vec_regs.specs.Words.{bit_of, AreClearFrom};
 
 use crate::moves::begin;
 use emu_bits::Pred;
-use field_words::{rev, trn, uzp, zip};
+use lane_permute::four_words::{rev, trn, uzp, zip};
 use sve_insn::{InterleaveOp, UnpackPOp};
 use vec_regs::VecRegs;
 

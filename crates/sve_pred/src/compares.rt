@@ -17,7 +17,7 @@ use crate::registers::{bits, esize, read, set_test_lanes, write};
 use core_regs::Core;
 use emu_bits::{Esize, Pred, PredLow, Reg, U, sign_extended};
 use lane_kernels::LaneWiseTest2;
-use lane_kernels::told::{Compared, ComparedNumber, ComparedWide, told};
+use lane_tests::told::{Compared, ComparedNumber, ComparedWide, told};
 use pred_bits::{LogicOp, PredBits};
 use sve_effects::lane_bits;
 use sve_elements::LaneTest;
@@ -99,7 +99,7 @@ enum Operand {
 
 /// The words of a predicate that has the lanes of which a test of two registers' lanes tells.
 #[inline(always)]
-fn lanes_told<F: LaneWiseTest2 + Copy>(vec: &VecRegs, e: u32, op: F, zn: Reg, zm: Reg) -> [u64; 4]
+fn lanes_told<F: LaneWiseTest2 + Drop>(vec: &VecRegs, e: u32, op: F, zn: Reg, zm: Reg) -> [u64; 4]
     requires { IsLaneSize e }
     ensures { model.IsToldBy (F.entry op) true e vec.now zn (second.Lane zm) result }
 {
@@ -108,7 +108,7 @@ fn lanes_told<F: LaneWiseTest2 + Copy>(vec: &VecRegs, e: u32, op: F, zn: Reg, zm
 
 /// The same of a test with 64-bit lanes, where lanes are extended by their sign or by zeros.
 #[inline(always)]
-fn covering_told<F: LaneWiseTest2 + Copy>(
+fn covering_told<F: LaneWiseTest2 + Drop>(
     vec: &VecRegs,
     e: u32,
     op: F,
@@ -125,7 +125,7 @@ fn covering_told<F: LaneWiseTest2 + Copy>(
 
 /// The same of a test with a number.
 #[inline(always)]
-fn number_told<F: LaneWiseTest2 + Copy>(vec: &VecRegs, e: u32, op: F, zn: Reg, n: u64) -> [u64; 4]
+fn number_told<F: LaneWiseTest2 + Drop>(vec: &VecRegs, e: u32, op: F, zn: Reg, n: u64) -> [u64; 4]
     requires { IsLaneSize e }
     ensures { model.IsToldBy (F.entry op) true e vec.now zn (second.Number n) result }
 {

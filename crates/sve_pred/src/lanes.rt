@@ -185,7 +185,7 @@ pub fn inc_p(core: &mut Core, vec: &VecRegs, op: IncPOp, size: U<2>, pm: Pred, r
 
 /// Writes what an operation makes of each lane of a Z register and a number to it.
 #[inline(always)]
-fn counted_lanes<F: LaneWise2 + Copy>(vec: &mut VecRegs, op: F, e: u32, n: u64, zdn: Reg)
+fn counted_lanes<F: LaneWise2 + Drop>(vec: &mut VecRegs, op: F, e: u32, n: u64, zdn: Reg)
     requires { IsLaneSize e }
     ensures { vec.new ≡ with_lanes e (λ k. F.entry op e (lane_of e vec.old zdn k) n) zdn vec.old }
 {

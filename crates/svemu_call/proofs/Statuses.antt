@@ -1,9 +1,9 @@
 -- The status of the process by the ending that it has.
 use Rattle.std.proofs.Common.{◌≡◌, ◌<◌, ◌⊎◌, inl, inr, ℕ, true, Option, Some, None, Result, Ok, Err, IfErr, IfOk, ap, ◌∙◌, arith}
-use Rattle.emu_outcome.specs.Outcome.{Outcome}
-use Rattle.emu_outcome.specs.Statuses.{status_of}
-use Rattle.emu_outcome.specs.declared.ending.Ending.{Ending}
-use Rattle.emu_outcome.specs.declared.ending.Ending.TheVariants.{FileFault, ReadFault, WriteFault, ErrorsFault}
+use Rattle.command_lines.specs.Outcome.{Outcome}
+use Rattle.command_lines.specs.Statuses.{status_of}
+use Rattle.command_lines.specs.declared.ending.Ending.{Ending}
+use Rattle.command_lines.specs.declared.ending.Ending.TheVariants.{FileFault, ReadFault, WriteFault, ErrorsFault}
 use Rattle.command_model.specs.declared.command_line.Line.{Line}
 use Rattle.command_model.specs.declared.command_line.WordsFault.{WordsFault}
 use Rattle.commands.specs.Lines.{may_end, RefusesLine}

@@ -3,10 +3,10 @@ use Rattle.std.specs.Prelude.{◌≡◌, ◌⊎◌, ℕ, true, Option, Some, Non
 use Rattle.io_gate.specs.Streams.{Rose}
 use Rattle.command_model.specs.declared.command_line.Line.{Line}
 use Rattle.commands.specs.Lines.{may_end}
-use Rattle.emu_outcome.specs.Outcome.{Outcome}
-use Rattle.emu_outcome.specs.Statuses.{status_of}
-use Rattle.emu_outcome.specs.declared.ending.Ending.{Ending}
-use Rattle.emu_outcome.specs.declared.ending.Ending.TheVariants.{FileFault, OutOfMemory}
+use Rattle.command_lines.specs.Outcome.{Outcome}
+use Rattle.command_lines.specs.Statuses.{status_of}
+use Rattle.command_lines.specs.declared.ending.Ending.{Ending}
+use Rattle.command_lines.specs.declared.ending.Ending.TheVariants.{FileFault, OutOfMemory}
 
 -- a count of faults didn't rise
 abbrev pub IsQuiet : ℕ → ℕ → Type 0

@@ -1,7 +1,7 @@
 //! The status of the process.
 ghost use Rattle.std.specs.Prelude.{◌≡◌, ◌<◌, ◌⊎◌, ℕ, List, map, string_bytes, IfErr, IfOk, IfSome};
 ghost use Rattle.command_model.specs.CommandLine.{line};
-ghost use Rattle.emu_outcome.specs.Outcome.{result_of};
+ghost use Rattle.command_lines.specs.Outcome.{result_of};
 ghost use Rattle.commands.specs.Lines.{IsOutcome};
 ghost use Rattle.svemu_call.specs.Headline.{IsQuiet, CompletesWith, MayEndWith};
 

@@ -3,7 +3,7 @@ ghost use Rattle.std.specs.Prelude.{◌≡◌, ◌≢◌, ◌≤◌, ◌⊎◌, 
 ghost use Rattle.io_gate.specs.Streams.{Rose, Causes};
 ghost use Rattle.command_model.specs.CommandLine.{line};
 ghost use Rattle.command_model.specs.Refusals.{words_line};
-ghost use Rattle.emu_outcome.specs.Outcome.{result_of};
+ghost use Rattle.command_lines.specs.Outcome.{result_of};
 ghost use Rattle.commands.specs.Lines.{
   takes_input,
   names_file,
@@ -30,7 +30,7 @@ ghost use Rattle.commands.specs.Promises.{
 ghost use Rattle.svemu_call.specs.Headline.{IsQuiet, Completes};
 
 use commands::command;
-use emu_outcome::Ending;
+use command_lines::Ending;
 use io_gate::{Images, Sink, Source};
 use std::alloc::Global;
 

@@ -2,10 +2,10 @@
 use Rattle.std.proofs.Common.{◌≡◌, ℕ, zero, suc, ◌+◌, ◌-◌, ◌*◌, ◌^◌, ◌<◌, ◌≤◌, ◌==◌, ◌&&◌, if◌then◌else◌, Bool, true, false, not, Option, Some, None, List, [], ◌∷◌, drop, slice_range, min, refl, sym, ap, ap₂, ◌∙◌, arith, inl, inr, ℤ, pos}
 use Rattle.std.proofs.lemmas.Bool.{cases_Bool, ne_eqb}
 use Rattle.std.specs.Prelude.{option_map, neg_ℤ}
-use Rattle.text_tokens.specs.Layout.{is_sign, hash}
-use Rattle.text_tokens.specs.Numbers as numbers
-use Rattle.text_tokens.specs.Places.{IsToken, AreTokens, IsNumber}
-use Rattle.text_tokens.specs.Tokens.{tokens}
+use Rattle.asm_tokens.specs.Layout.{is_sign, hash}
+use Rattle.asm_tokens.specs.Numbers as numbers
+use Rattle.asm_tokens.specs.Places.{IsToken, AreTokens, IsNumber}
+use Rattle.asm_tokens.specs.Tokens.{tokens}
 use Rattle.text_model.specs.declared.classes.Class.TheVariants.{Number}
 use Rattle.text_model.specs.declared.slots.Item.{Item}
 use Rattle.text_model.specs.Words.{item, classed}

@@ -6,7 +6,7 @@ use Rattle.text_model.specs.declared.classes.Group.{Group}
 use Rattle.text_model.specs.declared.slots.Shape.TheVariants.{Told}
 use Rattle.text_model.specs.declared.slots.Slot.{Slot}
 use Rattle.text_model.specs.Slots.{places, bits_in}
-use Rattle.text_lists.specs.Lists.{slot_at, slots_of}
+use Rattle.text_model.specs.Lists.{slot_at, slots_of}
 use Rattle.text_code.specs.Sound.{are_in_word, are_parts, is_sound_shape, is_sound_kind, is_sound_codec, is_sound_style, is_sound}
 
 pub codec_sound : (s : Slot) → is_sound s ≡ true → is_sound_codec s.codec ≡ true

@@ -1,7 +1,7 @@
 -- Where the last token of a statement stands, and a number as an item's value.
 use Rattle.std.specs.Prelude.{◌≡◌, ℕ, ◌+◌, ◌*◌, ◌≤◌, ◌&&◌, ◌||◌, if◌then◌else◌, Bool, true, Some, List, slice_range, ℤ, pos, negsuc}
 use Rattle.std.specs.Str.{IsCharBoundary}
-use Rattle.text_tokens.specs.Tokens.{tokens}
+use Rattle.asm_tokens.specs.Tokens.{tokens}
 use Rattle.text_model.specs.Statement.{last_of, ends_in_label, is_address}
 use Rattle.text_model.specs.declared.classes.Class.TheVariants.{Number}
 use Rattle.text_model.specs.declared.slots.Item.{Item}

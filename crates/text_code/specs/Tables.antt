@@ -5,7 +5,7 @@ use Rattle.text_code.specs.declared.dictionary.Family.{Family}
 use Rattle.text_code.specs.declared.dictionary.Word.{Word}
 use Rattle.text_code.specs.declared.bits.Built.{Built}
 use Rattle.text_code.specs.declared.patterns.Pattern.{Pattern}
-use Rattle.text_lists.specs.Lists.{name_at, slots_of}
+use Rattle.text_model.specs.Lists.{name_at, slots_of}
 use Rattle.text_model.specs.Reading as reading
 use Rattle.text_model.specs.Told as told
 use Rattle.text_model.specs.Words as words

@@ -1,7 +1,7 @@
 //! The pattern that shows a word.
 ghost use Rattle.std.specs.Prelude.{◌≡◌, ◌<◌, ◌^◌, Option, true, option_map, bit_or};
 ghost use Rattle.emu_bits.specs.Rows.{ones_at};
-ghost use Rattle.text_lists.specs.Lists.{slots_of};
+ghost use Rattle.text_model.specs.Lists.{slots_of};
 ghost use Rattle.text_model.specs.Slots.{place_of, places, all_fit, fits};
 ghost use Rattle.text_model.specs.Text.{ones_of, slot_places, told_bits, shows, chosen};
 ghost use Rattle.text_code.specs.Sound.{are_in_word, are_parts, is_sound, are_sound};
@@ -12,8 +12,8 @@ use crate::bits::{number_of, ones};
 use crate::groups::has_class;
 use crate::kinds::can_show;
 use crate::patterns::Pattern;
-use text_lists::slot;
-use text_lists::slots::END;
+use text_model::slot;
+use text_model::slot_numbers::END;
 use text_model::{Bits, Parts, Shape, Slot};
 
 /// Some ones, and ones at these bits.

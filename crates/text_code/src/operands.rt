@@ -1,7 +1,7 @@
 //! The items of a statement.
 ghost use Rattle.std.specs.Prelude.{◌≡◌, ◌<◌, ◌^◌, ◌==◌, ◌&&◌, not, ◌∷◌, [], false, drop, length, IfSome, MatchOption};
 ghost use Rattle.std.specs.Str.{IsCharBoundary};
-ghost use Rattle.text_tokens.specs.Tokens.{tokens, is_word_byte, dot};
+ghost use Rattle.asm_tokens.specs.Tokens.{tokens, is_word_byte, dot};
 ghost use Rattle.text_model.specs.Statement.{items_behind, items_of, is_label, ends_in_label};
 ghost use Rattle.text_model.specs.declared.classes.Class.TheVariants.{Number};
 ghost use Rattle.text_model.specs.Words.{item};

@@ -4,8 +4,8 @@ ghost use Rattle.text_code.specs.Tables.{pattern_of};
 
 use crate::filling::MOST;
 use arrayvec::ArrayVec;
-use text_lists::slot;
-use text_lists::slots::END;
+use text_model::slot;
+use text_model::slot_numbers::END;
 use text_model::Slot;
 
 /// A pattern: the number of its name, the word whose bits the name settles, and the numbers of the slots that show the
@@ -22,7 +22,7 @@ impl Pattern {
     pub fn name(&self) -> &'static str
         ensures { result.now ≡ (pattern_of self.now).name }
     {
-        text_lists::name(self.name)
+        text_model::name(self.name)
     }
 
     /// The slots.

@@ -17,7 +17,7 @@ ghost use Rattle.std.specs.Prelude.{
   MatchResult,
   length,
 };
-ghost use Rattle.text_tokens.specs.Tokens.{tokens};
+ghost use Rattle.asm_tokens.specs.Tokens.{tokens};
 ghost use Rattle.text_model.specs.Reading.{Pattern as TablePattern, later};
 ghost use Rattle.text_model.specs.Statement.{is_address, untargeted, lowered, reads_tokens};
 ghost use Rattle.text_model.specs.Writing.{flat};

@@ -7,10 +7,10 @@ use Rattle.std.specs.Fmt.{digits}
 use Rattle.std.specs.Char.{digit_value, is_digit, to_ascii_lowercase}
 use Rattle.std.specs.List.{list_all}
 use Rattle.std.specs.Str.Parse.{digits_value, IsNumeral, AllDigits}
-use Rattle.text_tokens.specs.Tokens.{is_word_byte}
-use Rattle.text_tokens.specs.Layout.{is_sign, is_empty, hash}
-use Rattle.text_tokens.specs.AreTokens.{is_token, is_mark}
-use Rattle.text_tokens.specs.Numbers as numbers
+use Rattle.asm_tokens.specs.Tokens.{is_word_byte}
+use Rattle.asm_tokens.specs.Layout.{is_sign, is_empty, hash}
+use Rattle.asm_tokens.specs.AreTokens.{is_token, is_mark}
+use Rattle.asm_tokens.specs.Numbers as numbers
 use Rattle.text_model.specs.declared.classes.Class.TheVariants.{Number}
 use Rattle.text_model.specs.Words.{item}
 use Rattle.text_model.specs.Statement.{number_value, item_by, more_tokens, items_behind}

@@ -3,10 +3,10 @@ use Rattle.std.proofs.Common.{◌≡◌, ℕ, ◌<◌, ◌==◌, ◌&&◌, ◌||
 use Rattle.std.proofs.lemmas.Bool.{and_parts, or_cases, not-true, eqb-true, false≢true}
 use Rattle.std.specs.Prelude.{option_map}
 use Rattle.emu_bits.proofs.AllBelow.{all_below, each_below}
-use Rattle.text_tokens.specs.Layout.{is_sign, hash}
-use Rattle.text_tokens.specs.AreTokens.{is_token}
-use Rattle.text_tokens.specs.Numbers as numbers
-use Rattle.text_tokens.specs.Numbers.{minus, numeral}
+use Rattle.asm_tokens.specs.Layout.{is_sign, hash}
+use Rattle.asm_tokens.specs.AreTokens.{is_token}
+use Rattle.asm_tokens.specs.Numbers as numbers
+use Rattle.asm_tokens.specs.Numbers.{minus, numeral}
 use Rattle.text_model.specs.declared.classes.Class.{Class}
 use Rattle.text_model.specs.declared.classes.Class.TheVariants.{Unknown, Number, Comma, Slash, OpenBracket, CloseBracket, OpenBrace, CloseBrace, Exclamation, W, X, B, H, S, D, Q, V8b, V16b, V4h, V8h, V2s, V4s, V2d, Z, Zb, Zh, Zs, Zd, Zq, P, Pb, Ph, Ps, Pd, Shift, ShiftOnes, ExtendByte, ExtendHalfword, ExtendWord, ExtendDoubleword, Condition, Count, Times, VectorLength, Merging, Zeroing, TpidrEl0, Nzcv, DczidEl0}
 use Rattle.text_model.specs.Classes.{class_number}

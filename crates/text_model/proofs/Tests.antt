@@ -23,7 +23,7 @@ use Rattle.text_model.specs.Text.{ones_of, slot_places, told_bits, chosen}
 use Rattle.text_model.specs.Classes.{class_number, same_class}
 use Rattle.text_model.specs.Statement.{lowered}
 use Rattle.text_model.specs.Aim.{Reach, reach_of, reach_bits}
-use Rattle.text_tokens.specs.AreTokens.{is_token}
+use Rattle.asm_tokens.specs.AreTokens.{is_token}
 use Rattle.text_model.proofs.Building.{are_places, masked}
 use Rattle.text_model.proofs.Spelling.{size_of}
 

@@ -3,8 +3,8 @@ use Rattle.std.proofs.Common.{◌≡◌, ℕ, zero, suc, ◌-◌, ◌*◌, ◌/�
 use Rattle.std.proofs.lemmas.Bool.{cases_Bool, and_parts, or_parts, and_from, not-true, eqb-true, false≢true, true≢false}
 use Rattle.std.proofs.lemmas.Slice.Eq.{bytes_eq-Decides}
 use Rattle.std.proofs.lemmas.List.Folds.{list_all-append}
-use Rattle.text_tokens.specs.AreTokens.{is_token, are_tokens}
-use Rattle.text_tokens.proofs.Split.{split_again}
+use Rattle.asm_tokens.specs.AreTokens.{is_token, are_tokens}
+use Rattle.asm_tokens.proofs.Split.{split_again}
 use Rattle.emu_bits.specs.Rows.{Place}
 use Rattle.text_model.specs.declared.classes.Class.{Class}
 use Rattle.text_model.specs.declared.classes.Class.TheVariants.{Number}

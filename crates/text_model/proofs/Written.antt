@@ -3,9 +3,9 @@ use Rattle.std.proofs.Common.{◌≡◌, ℕ, zero, suc, ◌+◌, ◌-◌, ◌*�
 use Rattle.std.proofs.lemmas.Bool.{cases_Bool, and_parts, and_from, not-true, eqb-true, ne_eqb, false≢true, true≢false, ltb-true, leb-true}
 use Rattle.std.proofs.Math.Nat.{mul-lt-mul_of_pos_right}
 use Rattle.std.specs.Prelude.{unwrap_or}
-use Rattle.text_tokens.specs.Layout.{hash}
-use Rattle.text_tokens.specs.AreTokens.{are_tokens}
-use Rattle.text_tokens.specs.Numbers.{minus}
+use Rattle.asm_tokens.specs.Layout.{hash}
+use Rattle.asm_tokens.specs.AreTokens.{are_tokens}
+use Rattle.asm_tokens.specs.Numbers.{minus}
 use Rattle.text_model.specs.declared.classes.Class.{Class}
 use Rattle.text_model.specs.declared.classes.Class.TheVariants.{Unknown, Number, Count}
 use Rattle.text_model.specs.declared.classes.Group.{Group}

@@ -9,3 +9,4 @@ pub mod Text
 pub mod Statement
 pub mod Aim
 pub mod ReadBack
+pub mod Lists

@@ -7,7 +7,7 @@ use Rattle.text_model.specs.declared.slots.Refusal.{Refusal}
 use Rattle.text_model.specs.declared.slots.Refusal.TheVariants.{UnknownName}
 use Rattle.text_model.specs.Reading.{Pattern}
 use Rattle.text_model.specs.Statement.{Destination, to_address, Statement, reads_tokens}
-use Rattle.text_tokens.specs.Tokens.{tokens}
+use Rattle.asm_tokens.specs.Tokens.{tokens}
 
 -- a word with the bits of its target 0
 abbrev pub unaimed : List Slot → ℕ → ℕ

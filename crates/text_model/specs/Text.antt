@@ -2,8 +2,8 @@
 use Rattle.std.specs.Prelude.{ℕ, ◌-◌, ◌/◌, ◌%◌, ◌^◌, ◌==◌, ◌&&◌, Bool, false, if◌then◌else◌, Option, Some, None, List, [], ◌∷◌, ◌++◌, bit_and, bit_or}
 use Rattle.std.specs.Fmt.{digits}
 use Rattle.emu_bits.specs.Rows.{Place, ones_at}
-use Rattle.text_tokens.specs.Layout.{laid, hash}
-use Rattle.text_tokens.specs.Numbers.{minus}
+use Rattle.asm_tokens.specs.Layout.{laid, hash}
+use Rattle.asm_tokens.specs.Numbers.{minus}
 use Rattle.text_model.specs.declared.slots.Shape.{Shape}
 use Rattle.text_model.specs.declared.slots.Shape.TheVariants.{Only, Told, Shown}
 use Rattle.text_model.specs.declared.slots.Kind.{Kind}

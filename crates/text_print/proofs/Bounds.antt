@@ -4,8 +4,8 @@ use Rattle.std.proofs.lemmas.Bool.{cases_Bool, and_parts, or_cases, or_right, or
 use Rattle.std.proofs.Math.Nat.{pow-suc}
 use Rattle.std.specs.Prelude.{unwrap_or}
 use Rattle.std.specs.Fmt.{digits}
-use Rattle.text_tokens.specs.Layout.{hash}
-use Rattle.text_tokens.specs.Numbers.{minus}
+use Rattle.asm_tokens.specs.Layout.{hash}
+use Rattle.asm_tokens.specs.Numbers.{minus}
 use Rattle.text_model.specs.declared.classes.Class.{Class}
 use Rattle.text_model.specs.declared.classes.Class.TheVariants.{Unknown}
 use Rattle.text_model.specs.declared.classes.Group.{Group}

@@ -1,8 +1,8 @@
 -- Texts to which tokens are appended.
 use Rattle.std.proofs.Common.{◌≡◌, ℕ, Bool, true, false, List, [], ◌∷◌, ◌++◌, refl, sym, ap, ap₂, ◌∙◌, append_assoc}
 use Rattle.std.proofs.lemmas.List.{append-nil}
-use Rattle.text_tokens.specs.Layout as layout
-use Rattle.text_tokens.specs.Layout.{put, laid}
+use Rattle.asm_tokens.specs.Layout as layout
+use Rattle.asm_tokens.specs.Layout.{put, laid}
 use Rattle.text_print.specs.declared.edges.Edge.{Edge}
 use Rattle.text_print.specs.Edges.{edge_of, has_gap, laid_behind, last_edge}
 

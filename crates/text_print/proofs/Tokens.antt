@@ -2,10 +2,10 @@
 use Rattle.std.proofs.Common.{◌≡◌, ℕ, ◌+◌, ◌≤◌, ◌==◌, ◌&&◌, if◌then◌else◌, Bool, true, false, not, List, [], ◌∷◌, ◌++◌, length, nat_lt, nat_le, refl, sym, ap, ◌∙◌, arith, length-append, inl, inr}
 use Rattle.std.proofs.lemmas.Bool.{cases_Bool, and_parts, and_from, and_left, not-true, leb-true, false≢true}
 use Rattle.std.proofs.lemmas.List.Folds.{list_all-append}
-use Rattle.text_tokens.specs.Layout.{is_sign, is_empty, put, laid}
-use Rattle.text_tokens.specs.AreTokens.{is_token, are_tokens}
-use Rattle.text_tokens.specs.Tokens.{tokens}
-use Rattle.text_tokens.proofs.Split.{split_again}
+use Rattle.asm_tokens.specs.Layout.{is_sign, is_empty, put, laid}
+use Rattle.asm_tokens.specs.AreTokens.{is_token, are_tokens}
+use Rattle.asm_tokens.specs.Tokens.{tokens}
+use Rattle.asm_tokens.proofs.Split.{split_again}
 use Rattle.text_model.specs.declared.classes.Class.{Class}
 use Rattle.text_model.specs.declared.slots.Style.{Style}
 use Rattle.text_model.specs.declared.slots.Style.TheVariants.{Word, Counted, Bare, Hexadecimal, Address}

@@ -1,7 +1,7 @@
 -- Tokens laid out one after the other, by what stands between each and the next.
 use Rattle.std.specs.Prelude.{◌&&◌, ◌||◌, Bool, ℕ, List, [], ◌∷◌, ◌++◌}
-use Rattle.text_tokens.specs.Layout.{comma, hash, open_brace, is_sign, begins_word, put}
-use Rattle.text_tokens.specs.Tokens.{slash}
+use Rattle.asm_tokens.specs.Layout.{comma, hash, open_brace, is_sign, begins_word, put}
+use Rattle.asm_tokens.specs.Tokens.{slash}
 use Rattle.text_print.specs.declared.edges.Edge.{Edge}
 
 -- what a token is, as far as the spaces beside it go

@@ -1,6 +1,6 @@
 //! Where spaces stand between tokens.
 ghost use Rattle.std.specs.Prelude.{◌≡◌};
-ghost use Rattle.text_tokens.specs.Tokens.{is_word_byte};
+ghost use Rattle.asm_tokens.specs.Tokens.{is_word_byte};
 ghost use Rattle.text_print.specs.Edges.{edge_of, has_gap};
 
 /// What a token is, as far as the spaces beside it go.

@@ -1,7 +1,7 @@
 //! Instructions printed.
 ghost use Rattle.std.specs.Prelude.{◌≡◌, ◌+◌, ◌/◌, ◌<◌, ◌≤◌, ◌^◌, true, false, [], ◌∷◌, ◌++◌, length};
-ghost use Rattle.text_tokens.specs.Layout.{put};
-ghost use Rattle.text_tokens.specs.Numbers.{minus};
+ghost use Rattle.asm_tokens.specs.Layout.{put};
+ghost use Rattle.asm_tokens.specs.Numbers.{minus};
 ghost use Rattle.text_model.specs.Text.{decimal, item_tokens, slot_tokens, text, chosen, text_of};
 ghost use Rattle.text_code.specs.Reads.{all_lines_sound};
 ghost use Rattle.text_code.specs.Sound.{are_sound};

@@ -3,7 +3,7 @@ use Rattle.std.proofs.Common.{◌≡◌, ℕ, Bool, true, List, ◌++◌, length
 use Rattle.std.proofs.lemmas.Option.{IfSome_then}
 use Rattle.emu_model.specs.State.{Parts}
 use Rattle.emu_system.specs.GainedLaws.{put_first}
-use Rattle.sweep_model.specs.Sweep.{Sweep, line_at, run_at, run_line}
+use Rattle.command_model.specs.Sweep.{Sweep, line_at, run_at, run_line}
 use Rattle.vl_sweep.specs.Sweeps.{PutsLine}
 use Rattle.vl_sweep.specs.declared.lengths.SweepEnd.TheVariants.{Done, WriteFault}
 

@@ -4,8 +4,8 @@ use Rattle.std.proofs.lemmas.Option.{IfSome_then}
 use Rattle.emu_model.specs.State.{IsPrefix}
 use Rattle.emu_run.specs.RunLaws.{prefix_trans}
 use Rattle.emu_system.specs.Gained.{Gains, GainedFirst}
-use Rattle.sweep_model.specs.Sweep.{Sweep, fits, fits_at, line_at, sweep_text, text_before}
-use Rattle.sweep_model.specs.SweepLaws.{first_fit, first_lines, fit_more, lines_first, lines_more, lines_until, lines_whole, unfit_at}
+use Rattle.command_model.specs.Sweep.{Sweep, fits, fits_at, line_at, sweep_text, text_before}
+use Rattle.command_model.specs.SweepLaws.{first_fit, first_lines, fit_more, lines_first, lines_more, lines_until, lines_whole, unfit_at}
 use Rattle.vl_sweep.specs.Sweeps.{PutsLine, is_broken_off, is_stopped}
 use Rattle.vl_sweep.specs.declared.lengths.SweepEnd.{SweepEnd}
 use Rattle.vl_sweep.specs.declared.lengths.SweepEnd.TheVariants.{Done, TooLong, WriteFault, OutOfMemory}

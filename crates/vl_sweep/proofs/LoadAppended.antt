@@ -5,10 +5,10 @@ use Rattle.std.proofs.lemmas.List.{take_more, take_all}
 use Rattle.emu_model.specs.State.{Parts}
 use Rattle.emu_run.specs.Text.{hex}
 use Rattle.emu_system.specs.Image.{Image}
-use Rattle.sweep_model.specs.Load.{bytes_text, line_at, load_text, run_at, run_line}
+use Rattle.command_model.specs.Load.{bytes_text, line_at, load_text, run_at, run_line}
 use Rattle.io_gate.specs.Pieces.{PutsAll}
-use Rattle.sweep_model.specs.Sweep.{first_lengths}
-use Rattle.sweep_model.specs.SweepLaws.{lengths_more}
+use Rattle.command_model.specs.Sweep.{first_lengths}
+use Rattle.command_model.specs.SweepLaws.{lengths_more}
 
 -- a text that was put whole
 pub put_so : {T E : Type 0} (old new text : List ℕ) (put : Result T E) → PutsAll (Some old) (Some new) text put → OnOk put (new ≡ old ++ text)

@@ -8,7 +8,7 @@ use Rattle.emu_system.specs.ArgumentLimits.{AreArguments}
 use Rattle.emu_system.specs.Gained.{Gains}
 use Rattle.emu_system.specs.Start.{with_input}
 use Rattle.io_gate.specs.Memory.{Drain}
-use Rattle.sweep_model.specs.Load.{load_args}
+use Rattle.command_model.specs.Load.{load_args}
 use Rattle.vl_sweep.specs.LoadRuns.{HasRun}
 
 module _ (m : Parts) (budget : ℕ) (input held : List ℕ) (broken : Bool) (told old : Option (List ℕ)) (whole : broken ≡ false) (is_told : told ≡ Some input) (nothing : old ≡ Some []) where

@@ -9,7 +9,7 @@ use Rattle.emu_run.specs.Run.{run}
 use Rattle.emu_machine.specs.Ends.{Becomes, Puts, is_broken_off}
 use Rattle.emu_machine.specs.declared.ends.RunEnd.{RunEnd}
 use Rattle.emu_machine.specs.declared.ends.RunEnd.TheVariants.{Exit, Trap, Spent, ReadFault, WriteFault, ErrorsFault}
-use Rattle.sweep_model.specs.Sweep.{fits_run, stream_limit}
+use Rattle.command_model.specs.Sweep.{fits_run, stream_limit}
 use Rattle.vl_sweep.specs.Bounded.{Bounded}
 use Rattle.vl_sweep.specs.Sweeps.{HasRun}
 use Rattle.emu_machine.specs.declared.machine.Machine.{Machine}

@@ -4,7 +4,7 @@ use Rattle.emu_model.specs.State.{State}
 use Rattle.emu_machine.specs.declared.machine.Machine.{Machine}
 use Rattle.emu_system.specs.Gained.{GainedFirst}
 use Rattle.emu_system.specs.Image.{Image}
-use Rattle.sweep_model.specs.Sweep.{Sweep, fits_run}
+use Rattle.command_model.specs.Sweep.{Sweep, fits_run}
 use Rattle.vl_sweep.specs.Bounded.{Bounded}
 use Rattle.vl_sweep.specs.declared.lengths.SweepEnd.{SweepEnd}
 use Rattle.vl_sweep.specs.declared.lengths.SweepEnd.TheVariants.{Done, TooLong, WriteFault, OutOfMemory}

@@ -19,8 +19,8 @@ ghost use Rattle.elf_image.specs.Images.{seen_image};
 ghost use Rattle.elf_image.specs.Loadable.{IsLoadable};
 ghost use Rattle.emu_system.specs.ArgumentLimits.{AreArguments};
 ghost use Rattle.emu_system.specs.Gained.{Gains};
-ghost use Rattle.sweep_model.specs.Sweep as model;
-ghost use Rattle.sweep_model.specs.Sweep.{fits, fits_at, line_at, sweep_text, text_before};
+ghost use Rattle.command_model.specs.Sweep as model;
+ghost use Rattle.command_model.specs.Sweep.{fits, fits_at, line_at, sweep_text, text_before};
 ghost use Rattle.vl_sweep.specs.Sweeps.{is_broken_off, is_stopped, sweep_of, IsRunAt, PutsLine};
 
 use crate::bound_sink::BoundSink;

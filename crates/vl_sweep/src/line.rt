@@ -4,7 +4,7 @@ ghost use Rattle.std.specs.List.{common_prefix_len};
 ghost use Rattle.io_gate.specs.Streams.{HasCause};
 ghost use Rattle.io_gate.specs.Pieces.{PutsAll};
 ghost use Rattle.emu_run.specs.Reports.{ending_text};
-ghost use Rattle.sweep_model.specs.Sweep.{part_text, run_head, run_line};
+ghost use Rattle.command_model.specs.Sweep.{part_text, run_head, run_line};
 
 use emu_machine::{Ended, Machine};
 use emu_report::{Text, push_exit, push_spent, push_trap};

@@ -1,7 +1,7 @@
 //! The line of a run of a load program.
 ghost use Rattle.std.specs.Prelude.{◌≡◌, ◌++◌, OnOk};
 ghost use Rattle.emu_run.specs.Text.{hex};
-ghost use Rattle.sweep_model.specs.Load.{bytes_text, run_line};
+ghost use Rattle.command_model.specs.Load.{bytes_text, run_line};
 
 use crate::line::push_head;
 use emu_machine::Machine;

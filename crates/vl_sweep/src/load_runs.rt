@@ -3,8 +3,8 @@ ghost use Rattle.std.specs.Prelude.{◌≡◌, ◌++◌, [], map, string_bytes, 
 ghost use Rattle.elf_image.specs.Images.{seen_image};
 ghost use Rattle.elf_image.specs.Loadable.{IsLoadable};
 ghost use Rattle.emu_machine.specs.Ends.{is_broken_off};
-ghost use Rattle.sweep_model.specs.Load as model;
-ghost use Rattle.sweep_model.specs.Load.{line_at, load_args, load_text};
+ghost use Rattle.command_model.specs.Load as model;
+ghost use Rattle.command_model.specs.Load.{line_at, load_args, load_text};
 ghost use Rattle.vl_sweep.specs.LoadRuns.{HasRun};
 
 use crate::lengths::length_behind;
@@ -14,7 +14,7 @@ use emu_machine::{Machine, RunEnd};
 use emu_model::Length;
 use io_gate::{MemSink, SliceSource};
 use std::alloc::{AllocError, Global};
-use sweep_model::{LOAD_BUDGET, LOAD_PAGES};
+use command_model::{LOAD_BUDGET, LOAD_PAGES};
 
 /// Want of memory.
 pub type OutOfMemory = AllocError;

@@ -1,8 +1,8 @@
 use Rattle.std.proofs.Common.{◌≡◌, ℕ, List, ap, ap₂, ◌∙◌}
 use Rattle.a64_insn.specs.declared.form.A64Form.{A64Form}
 use Rattle.a64_insn.specs.Rows.{line_number}
-use Rattle.a64_texts.specs.Table.{a64_lines}
-use Rattle.a64_texts.proofs.Legible.{lines_sound}
+use Rattle.asm_a64.specs.Table.{a64_lines}
+use Rattle.asm_a64.proofs.Legible.{lines_sound}
 use Rattle.text_model.specs.Reading.{Pattern}
 use Rattle.text_model.specs.Text.{text_of}
 use Rattle.text_print.specs.Lines.{some_lines}

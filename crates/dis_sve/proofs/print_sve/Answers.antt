@@ -1,7 +1,7 @@
 use Rattle.std.proofs.Common.{◌≡◌, ℕ, List, [], get_or, ap, ap₂, ◌∙◌}
 use Rattle.sve_insn.specs.Rows.{line_number}
-use Rattle.sve_texts.specs.Table.{sve_lines}
-use Rattle.sve_texts.proofs.Checked.{lines_sound}
+use Rattle.asm_sve.specs.Table.{sve_lines}
+use Rattle.asm_sve.proofs.Checked.{lines_sound}
 use Rattle.text_model.specs.Reading.{Pattern}
 use Rattle.text_model.specs.Text.{text_of}
 use Rattle.dis_sve.proofs.Rooms.{one_line, room}

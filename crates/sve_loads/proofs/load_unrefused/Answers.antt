@@ -1,7 +1,7 @@
 use Rattle.std.proofs.Common.{sym, ap, ◌∙◌}
 use Rattle.sve_effects.specs.Effects.{is_non_fault}
 use Rattle.element_loops.specs.declared.plan.Plan.{Plan}
-use Rattle.gather_loops.specs.FirstFaultPlan.{first_fault_by}
+use Rattle.sve_gather.specs.FirstFaultPlan.{first_fault_by}
 use Rattle.sve_loads.specs.PlanLaws.{first_loaded}
 use Rattle.sve_loads.proofs.load_unrefused.Goals as goal
 

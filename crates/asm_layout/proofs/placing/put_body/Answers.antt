@@ -2,7 +2,7 @@ use Rattle.std.proofs.Common.{◌≡◌, ◌∙◌, length, refl, sym, ap, subst
 use Rattle.std.specs.Int.{bytes_low_first}
 use Rattle.asm_layout.specs.Draft.{IsPut, with_body}
 use Rattle.asm_layout.proofs.Pieces.{aimed_put, bytes_body}
-use Rattle.asm_lines.specs.Aimable.{IsAimable}
+use Rattle.asm_layout.specs.Aimable.{IsAimable}
 use Rattle.listing_model.specs.declared.line.Body.{Body}
 use Rattle.listing_model.specs.declared.line.Body.TheVariants as body
 use Rattle.asm_layout.proofs.placing.put_body.Goals as goal

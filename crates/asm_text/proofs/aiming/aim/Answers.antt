@@ -2,8 +2,8 @@ use Rattle.std.proofs.Common.{◌≡◌, Option, Some, None, true, sym, ap, subs
 use Rattle.std.specs.Prelude.{IfSome, option_map}
 use Rattle.emu_run.specs.declared.insn.Insn.{Insn}
 use Rattle.emu_run.specs.declared.insn.Insn.TheVariants.{A64}
-use Rattle.insn_texts.specs.Targets.{may_have_target}
-use Rattle.insn_texts.specs.Canonical.{is_canonical}
+use Rattle.asm_text.specs.Targets.{may_have_target}
+use Rattle.asm_text.specs.Canonical.{is_canonical}
 use Rattle.text_model.specs.Aim.{reach_of}
 use Rattle.text_code.specs.Aims.{reach_told}
 use Rattle.text_code.specs.Sound.{are_sound}

@@ -1,6 +1,6 @@
 use Rattle.std.proofs.Common.{sym, ap, ◌∙◌}
-use Rattle.a64_texts.specs.declared.lines.TheConstants as text_line
-use Rattle.insn_texts.specs.Targets.{may_have_target}
+use Rattle.asm_a64.specs.declared.lines.TheConstants as text_line
+use Rattle.asm_text.specs.Targets.{may_have_target}
 use Rattle.asm_text.proofs.Lines.{sound_line, adr_line, branch_line, branch_cond_line, compare_line, test_line, ls_literal_line}
 use Rattle.asm_text.proofs.aiming.patterns.Goals as goal
 

@@ -1,5 +1,5 @@
 use Rattle.std.proofs.Common.{◌≡◌, ◌∙◌, ℕ, List, true, slice_range, sym, ap}
-use Rattle.text_tokens.specs.Layout.{is_sign, hash}
+use Rattle.asm_tokens.specs.Layout.{is_sign, hash}
 use Rattle.asm_tokens.proofs.Signs.{hash_found}
 use Rattle.asm_tokens.proofs.numbers.number.Goals as goal
 

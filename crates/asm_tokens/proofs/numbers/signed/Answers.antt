@@ -1,8 +1,8 @@
 use Rattle.std.proofs.Common.{◌≡◌, ◌∙◌, ◌<◌, ◌^◌, ℕ, List, true, slice_range, arith, sym, ap}
 use Rattle.std.proofs.lemmas.Int.{ints}
 use Rattle.std.specs.Prelude.{pos}
-use Rattle.text_tokens.specs.Layout.{is_sign}
-use Rattle.text_tokens.specs.Numbers.{minus}
+use Rattle.asm_tokens.specs.Layout.{is_sign}
+use Rattle.asm_tokens.specs.Numbers.{minus}
 use Rattle.asm_tokens.proofs.Signs.{minus_is}
 use Rattle.asm_tokens.proofs.numbers.signed.Goals as goal
 

@@ -1,6 +1,6 @@
 use Rattle.std.proofs.Common.{◌≡◌, ◌∙◌, ℕ, ◌-◌, ◌^◌, List, Some, slice_range, sym, ap, min, refl}
 use Rattle.std.specs.Prelude.{option_map}
-use Rattle.text_tokens.specs.Numbers.{numeral}
+use Rattle.asm_tokens.specs.Numbers.{numeral}
 use Rattle.asm_tokens.proofs.Signs.{plain_is}
 use Rattle.asm_tokens.proofs.numbers.unsigned.Goals as goal
 

@@ -1,5 +1,5 @@
 use Rattle.std.proofs.Common.{◌≡◌, ◌+◌, ◌-◌, ◌≤◌, false, drop, length}
-use Rattle.text_tokens.specs.Tokens.{string_length}
+use Rattle.asm_tokens.specs.Tokens.{string_length}
 use Rattle.asm_tokens.proofs.scan.string_end.Given as goal
 
 abbrev pub invariant-loop-to : goal.invariant-loop-to

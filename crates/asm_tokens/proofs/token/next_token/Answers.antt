@@ -1,7 +1,7 @@
 use Rattle.std.proofs.Common.{ℕ, List, drop, length, sym, ap, ◌∙◌, subst, arith, ◌<◌}
 use Rattle.std.specs.Str.{IsCharBoundary}
-use Rattle.text_tokens.specs.Tokens.{tokens}
-use Rattle.text_tokens.specs.Places.{IsToken}
+use Rattle.asm_tokens.specs.Tokens.{tokens}
+use Rattle.asm_tokens.specs.Places.{IsToken}
 use Rattle.asm_tokens.proofs.Pieces.{none_left, comment_left, token_at}
 use Rattle.asm_tokens.proofs.Cuts.{first_cut, last_cut}
 use Rattle.asm_tokens.proofs.token.next_token.Goals as goal

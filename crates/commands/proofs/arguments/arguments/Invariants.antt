@@ -1,5 +1,5 @@
 use Rattle.std.proofs.Common.{◌≡◌, ◌++◌, drop, map, string_bytes}
-use Rattle.emu_outcome.specs.Outcome.{program_arguments}
+use Rattle.command_lines.specs.Outcome.{program_arguments}
 use Rattle.commands.proofs.arguments.arguments.Given as goal
 
 -- the words that are left are the other arguments

@@ -2,16 +2,16 @@ use Rattle.std.proofs.Common.{◌≡◌, ℕ, List, [], Some, IfSome, map, strin
 use Rattle.std.proofs.lemmas.Grind.{common_steps}
 use Rattle.elf_image.specs.Images.{seen_image}
 use Rattle.io_gate.specs.declared.whole_source.ReadEnd.TheVariants as reads
-use Rattle.emu_outcome.specs.Outcome.{outcome_of_session_back}
-use Rattle.emu_outcome.specs.declared.ending.Ending.{Ending}
-use Rattle.emu_outcome.specs.declared.ending.Ending.TheVariants.{TooLong, ReadFault, OutOfMemory}
-use Rattle.sweep_model.specs.Sweep.{stream_limit}
+use Rattle.command_lines.specs.Outcome.{outcome_of_session_back}
+use Rattle.command_lines.specs.declared.ending.Ending.{Ending}
+use Rattle.command_lines.specs.declared.ending.Ending.TheVariants.{TooLong, ReadFault, OutOfMemory}
+use Rattle.command_model.specs.Sweep.{stream_limit}
 use Rattle.commands.specs.Lines.{ends_dbg}
 use Rattle.commands.specs.Programs.{opening_of}
 use Rattle.commands.proofs.MayEnd.{kind_put, swept_dbg}
 use Rattle.commands.proofs.Sessions.{back_accepts, back_settles, back_takes}
 use Rattle.commands.proofs.WholeInputs.{long_meets, read_meets, stops_as, unread_meets}
-use Rattle.emu_outcome.specs.declared.ending.Ending.TheVariants as ends
+use Rattle.command_lines.specs.declared.ending.Ending.TheVariants as ends
 use Rattle.commands.proofs.Causing.{ended_cause, ended_other, no_cause}
 use Rattle.commands.proofs.debugger.debug_back.Goals as goal
 

@@ -2,8 +2,8 @@ use Rattle.std.proofs.Common.{Some, map, string_bytes, ap, refl}
 use Rattle.dbg_model.specs.Session.{session}
 use Rattle.elf_image.specs.Images.{seen_image}
 use Rattle.emu_machine.specs.declared.machine.Machine.{Machine}
-use Rattle.emu_outcome.specs.Outcome.{outcome_of_session}
-use Rattle.emu_outcome.specs.declared.ending.Ending.TheVariants.{OutOfMemory}
+use Rattle.command_lines.specs.Outcome.{outcome_of_session}
+use Rattle.command_lines.specs.declared.ending.Ending.TheVariants.{OutOfMemory}
 use Rattle.emu_system.specs.Start.{with_input}
 use Rattle.commands.specs.Programs.{opening_of}
 use Rattle.commands.specs.Meets.{now}

@@ -2,15 +2,15 @@ use Rattle.std.proofs.Common.{◌≡◌, Err, map, string_bytes, ap, refl, sym, 
 use Rattle.dbg_model.specs.declared.script.ScriptFault.{ScriptFault}
 use Rattle.dbg_model.specs.Script.{script_of_file}
 use Rattle.elf_image.specs.Images.{seen_image}
-use Rattle.emu_outcome.specs.declared.ending.Ending.{Ending}
-use Rattle.emu_outcome.specs.declared.ending.Ending.TheVariants.{OutOfMemory}
+use Rattle.command_lines.specs.declared.ending.Ending.{Ending}
+use Rattle.command_lines.specs.declared.ending.Ending.TheVariants.{OutOfMemory}
 use Rattle.commands.specs.Lines.{ends_dbg, text_goes_back}
 use Rattle.commands.specs.Programs.{opening_of}
 use Rattle.commands.specs.Meets.{now}
 use Rattle.commands.proofs.MayEnd.{kind_put}
 use Rattle.commands.proofs.Sessions.{forward_script, is_refused, obeyed_script, of_script, refused_script}
 use Rattle.commands.proofs.Settled.{failed_either}
-use Rattle.emu_outcome.specs.declared.ending.Ending.TheVariants as ends
+use Rattle.command_lines.specs.declared.ending.Ending.TheVariants as ends
 use Rattle.commands.proofs.Causing.{ended_cause, ended_other, no_cause}
 use Rattle.commands.proofs.debugger.debug_image.Goals as goal
 

@@ -1,9 +1,9 @@
 use Rattle.std.proofs.Common.{◌≡◌, map, string_bytes, refl, sym, ap, subst, length, true, Bool, ◌||◌, ap₂, count_by, is_some}
 use Rattle.elf_image.specs.Images.{seen_image}
 use Rattle.emu_model.specs.State.{Parts}
-use Rattle.emu_outcome.specs.Outcome.{outcome_of_session_back}
-use Rattle.emu_outcome.specs.declared.ending.Ending.{Ending}
-use Rattle.emu_outcome.specs.declared.ending.Ending.TheVariants.{OutOfMemory}
+use Rattle.command_lines.specs.Outcome.{outcome_of_session_back}
+use Rattle.command_lines.specs.declared.ending.Ending.{Ending}
+use Rattle.command_lines.specs.declared.ending.Ending.TheVariants.{OutOfMemory}
 use Rattle.commands.specs.Programs.{opening_of}
 use Rattle.commands.specs.Sweeping.{ends_swept}
 use Rattle.commands.proofs.Sessions.{back_wrote, kind_back}

@@ -1,8 +1,8 @@
 use Rattle.std.proofs.Common.{Some, sym, subst, ◌≡◌, true}
 use Rattle.dbg_model.specs.Session.{session}
 use Rattle.emu_system.specs.Start.{with_input}
-use Rattle.emu_outcome.specs.Outcome.{outcome_of_session}
-use Rattle.emu_outcome.specs.declared.ending.Ending.{Ending}
+use Rattle.command_lines.specs.Outcome.{outcome_of_session}
+use Rattle.command_lines.specs.declared.ending.Ending.{Ending}
 use Rattle.commands.specs.Meets.{now, Meets}
 use Rattle.commands.proofs.Meetings.{session_meets}
 use Rattle.commands.proofs.MayEnd.{kind_session}

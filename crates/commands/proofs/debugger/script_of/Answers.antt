@@ -2,7 +2,7 @@ use Rattle.std.proofs.Common.{◌≡◌, List, Result, Ok, MatchResult, sym, ap,
 use Rattle.std.proofs.lemmas.Str.{utf8_valid_len_le}
 use Rattle.dbg_model.specs.declared.script.Command.{Command}
 use Rattle.dbg_model.specs.declared.script.ScriptFault.{ScriptFault}
-use Rattle.dbg_scripts.specs.Reading.{IsErrorOf}
+use Rattle.dbg_core.specs.ScriptReading.{IsErrorOf}
 use Rattle.commands.proofs.TextFiles.{bad_script, no_script, text_script}
 use Rattle.commands.proofs.debugger.script_of.Goals as goal
 

@@ -1,13 +1,13 @@
 use Rattle.std.proofs.Common.{sym, ap, ◌∙◌, ◌≡◌, true, refl, subst}
 use Rattle.elf_image.specs.Images.{seen, seen_image}
 use Rattle.emu_system.specs.Image.{elf}
-use Rattle.emu_outcome.specs.Outcome.{most_pages}
+use Rattle.command_lines.specs.Outcome.{most_pages}
 use Rattle.commands.proofs.Disassembling.{words_put, words_refused}
 use Rattle.commands.proofs.MayEnd.{kind_done, kind_put}
 use Rattle.commands.specs.Lines.{ends_dis}
-use Rattle.emu_outcome.specs.declared.ending.Ending.TheVariants.{ImageRefused}
-use Rattle.emu_outcome.specs.declared.ending.Ending.{Ending}
-use Rattle.emu_outcome.specs.declared.ending.Ending.TheVariants as ends
+use Rattle.command_lines.specs.declared.ending.Ending.TheVariants.{ImageRefused}
+use Rattle.command_lines.specs.declared.ending.Ending.{Ending}
+use Rattle.command_lines.specs.declared.ending.Ending.TheVariants as ends
 use Rattle.commands.proofs.Causing.{done_cause, done_other, ended_cause, ended_loud, ended_other, no_cause}
 use Rattle.commands.proofs.disassembly.disassemble_bytes.Goals as goal
 

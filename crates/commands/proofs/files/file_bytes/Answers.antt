@@ -1,12 +1,12 @@
 use Rattle.std.proofs.Common.{◌≡◌, Ok, Err, refl, true, sym, subst}
 use Rattle.io_gate.specs.declared.images.ImagesError.TheVariants as images
-use Rattle.emu_outcome.specs.declared.ending.Ending.TheVariants.{TooLong, FileFault, OutOfMemory}
+use Rattle.command_lines.specs.declared.ending.Ending.TheVariants.{TooLong, FileFault, OutOfMemory}
 use Rattle.commands.proofs.NamedFiles.{ends_long, found_is_there, gives_line, gives_nothing, is_there, told_too_long, told_wanting}
 use Rattle.commands.proofs.MayEnd.{kind_put}
-use Rattle.emu_outcome.specs.Outcome.{file_limit}
+use Rattle.command_lines.specs.Outcome.{file_limit}
 use Rattle.commands.specs.Lines.{stops_any}
-use Rattle.emu_outcome.specs.declared.ending.Ending.{Ending}
-use Rattle.emu_outcome.specs.declared.ending.Ending.TheVariants as ends
+use Rattle.command_lines.specs.declared.ending.Ending.{Ending}
+use Rattle.command_lines.specs.declared.ending.Ending.TheVariants as ends
 use Rattle.commands.proofs.Causing.{ended_cause, ended_other, err_cause, no_cause}
 use Rattle.commands.proofs.files.file_bytes.Goals as goal
 

@@ -3,8 +3,8 @@ use Rattle.io_gate.specs.Streams.{Rose}
 use Rattle.command_model.specs.Refusals.{words_line}
 use Rattle.command_model.specs.declared.command_line.Line.{Line}
 use Rattle.command_model.specs.declared.command_line.WordsFault.{WordsFault}
-use Rattle.emu_outcome.specs.Outcome.{outcome_of_line}
-use Rattle.emu_outcome.specs.declared.ending.Ending.TheVariants.{FileFault, ReadFault, OutOfMemory}
+use Rattle.command_lines.specs.Outcome.{outcome_of_line}
+use Rattle.command_lines.specs.declared.ending.Ending.TheVariants.{FileFault, ReadFault, OutOfMemory}
 use Rattle.emu_system.specs.Gained.{Gains}
 use Rattle.commands.specs.Promises.{NamesNoFile, is_failure, is_silent}
 use Rattle.commands.specs.Meets.{now, MeetsLine}

@@ -2,10 +2,10 @@ use Rattle.std.proofs.Common.{◌≡◌, ◌⊎◌, IfSome, Ok, map, string_byte
 use Rattle.io_gate.specs.Streams.{Rose}
 use Rattle.command_model.specs.declared.command_line.Line.{Line}
 use Rattle.command_model.specs.declared.command_line.Line.TheVariants.{Asm, Dis}
-use Rattle.emu_outcome.specs.Outcome.{most_pages, outcome_of_image, outcome_of_listing, outcome_of_swept, outcome_of_words, program_arguments}
-use Rattle.emu_outcome.specs.declared.ending.Ending.TheVariants.{FileFault}
+use Rattle.command_lines.specs.Outcome.{most_pages, outcome_of_image, outcome_of_listing, outcome_of_swept, outcome_of_words, program_arguments}
+use Rattle.command_lines.specs.declared.ending.Ending.TheVariants.{FileFault}
 use Rattle.emu_system.specs.Image.{elf}
-use Rattle.insn_texts.specs.Statements.{statements}
+use Rattle.asm_text.specs.Statements.{statements}
 use Rattle.listing_model.specs.Image.{image_of_bytes}
 use Rattle.commands.specs.Promises.{NamesNoFile}
 use Rattle.commands.specs.Meets.{now, MeetsLine}

@@ -1,14 +1,14 @@
 use Rattle.std.proofs.Common.{Some, refl, ◌≡◌, true, sym, subst}
-use Rattle.insn_texts.specs.Statements.{statements}
+use Rattle.asm_text.specs.Statements.{statements}
 use Rattle.listing_model.specs.Image.{image_of_bytes}
-use Rattle.emu_outcome.specs.Outcome.{outcome_of_listing}
-use Rattle.emu_outcome.specs.declared.ending.Ending.TheVariants.{ListingRefused, OutOfMemory}
+use Rattle.command_lines.specs.Outcome.{outcome_of_listing}
+use Rattle.command_lines.specs.declared.ending.Ending.TheVariants.{ListingRefused, OutOfMemory}
 use Rattle.commands.proofs.Assembling.{is_refused, made_listing, refused_listing}
 use Rattle.commands.proofs.Meetings.{nothing_meets}
 use Rattle.commands.proofs.MayEnd.{kind_done, kind_put}
 use Rattle.commands.specs.Lines.{ends_asm}
-use Rattle.emu_outcome.specs.declared.ending.Ending.{Ending}
-use Rattle.emu_outcome.specs.declared.ending.Ending.TheVariants as ends
+use Rattle.command_lines.specs.declared.ending.Ending.{Ending}
+use Rattle.command_lines.specs.declared.ending.Ending.TheVariants as ends
 use Rattle.commands.proofs.Causing.{done_cause, done_other, ended_cause, ended_loud, ended_other, no_cause}
 use Rattle.commands.proofs.listings.assemble_bytes.Goals as goal
 

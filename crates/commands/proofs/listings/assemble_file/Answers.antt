@@ -1,13 +1,13 @@
 use Rattle.std.proofs.Common.{ℕ, List, Option, Some, map, string_bytes, ap, ◌≡◌, refl, subst, ◌⊎◌, Err}
-use Rattle.emu_outcome.specs.declared.ending.Ending.{Ending}
+use Rattle.command_lines.specs.declared.ending.Ending.{Ending}
 use Rattle.io_gate.specs.Images.{MissesNamed}
 use Rattle.io_gate.specs.Streams.{Causes, Rose}
-use Rattle.insn_texts.specs.Statements.{statements}
+use Rattle.asm_text.specs.Statements.{statements}
 use Rattle.listing_model.specs.Image.{image_of_bytes}
-use Rattle.emu_outcome.specs.Outcome.{Outcome, Files, outcome_of_listing}
+use Rattle.command_lines.specs.Outcome.{Outcome, Files, outcome_of_listing}
 use Rattle.commands.proofs.NamedFiles.{found_file, told_so, unread_file}
 use Rattle.commands.proofs.MayEnd.{stops_asm}
-use Rattle.emu_outcome.specs.declared.ending.Ending.TheVariants as ends
+use Rattle.command_lines.specs.declared.ending.Ending.TheVariants as ends
 use Rattle.commands.proofs.Causing.{no_cause, unread_cause, unread_no_read, unread_no_write}
 use Rattle.commands.proofs.listings.assemble_file.Goals as goal
 

@@ -1,15 +1,15 @@
 use Rattle.std.proofs.Common.{Some, sym, ap, ◌∙◌, ◌≡◌, true, refl, subst}
 use Rattle.elf_image.specs.Images.{seen, seen_image}
 use Rattle.emu_system.specs.Image.{elf}
-use Rattle.sweep_model.specs.Load.{load_pages}
-use Rattle.emu_outcome.specs.Outcome.{outcome_of_loaded}
-use Rattle.emu_outcome.specs.declared.ending.Ending.{Ending}
-use Rattle.emu_outcome.specs.declared.ending.Ending.TheVariants.{ImageRefused, OutOfMemory}
+use Rattle.command_model.specs.Load.{load_pages}
+use Rattle.command_lines.specs.Outcome.{outcome_of_loaded}
+use Rattle.command_lines.specs.declared.ending.Ending.{Ending}
+use Rattle.command_lines.specs.declared.ending.Ending.TheVariants.{ImageRefused, OutOfMemory}
 use Rattle.commands.specs.Lines.{ends_load}
 use Rattle.commands.proofs.LoadPrograms.{lines_put, program_refused}
 use Rattle.commands.proofs.MayEnd.{kind_done, kind_put}
 use Rattle.commands.proofs.Meetings.{nothing_meets}
-use Rattle.emu_outcome.specs.declared.ending.Ending.TheVariants as ends
+use Rattle.command_lines.specs.declared.ending.Ending.TheVariants as ends
 use Rattle.commands.proofs.Causing.{done_cause, done_other, ended_cause, ended_loud, ended_other, no_cause}
 use Rattle.commands.proofs.loading.load_bytes.Goals as goal
 

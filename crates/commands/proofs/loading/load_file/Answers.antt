@@ -1,6 +1,6 @@
 use Rattle.std.proofs.Common.{ℕ, List, subst, ◌∙◌}
 use Rattle.asm_layout.specs.Assembly.{IsMade}
-use Rattle.insn_texts.specs.Statements.{statements}
+use Rattle.asm_text.specs.Statements.{statements}
 use Rattle.listing_model.specs.Image.{image_of}
 use Rattle.commands.proofs.loading.load_file.Goals as goal
 

@@ -1,17 +1,17 @@
 use Rattle.std.proofs.Common.{Some, ◌≡◌, true, refl, sym, subst}
-use Rattle.insn_texts.specs.Statements.{statements}
+use Rattle.asm_text.specs.Statements.{statements}
 use Rattle.listing_model.specs.Image.{image_of}
-use Rattle.sweep_model.specs.Listing.{listing}
-use Rattle.emu_outcome.specs.Outcome.{outcome_of_load}
-use Rattle.emu_outcome.specs.declared.ending.Ending.{Ending}
-use Rattle.emu_outcome.specs.declared.ending.Ending.TheVariants.{ListingRefused, OutOfMemory}
+use Rattle.command_model.specs.Listing.{listing}
+use Rattle.command_lines.specs.Outcome.{outcome_of_load}
+use Rattle.command_lines.specs.declared.ending.Ending.{Ending}
+use Rattle.command_lines.specs.declared.ending.Ending.TheVariants.{ListingRefused, OutOfMemory}
 use Rattle.commands.specs.Endings.{ended_by}
 use Rattle.commands.specs.Lines.{ends_load}
 use Rattle.commands.proofs.Assembling.{is_refused}
 use Rattle.commands.proofs.LoadPrograms.{file_loaded, load_refused, puts_line}
 use Rattle.commands.proofs.MayEnd.{kind_put}
 use Rattle.commands.proofs.Meetings.{nothing_meets}
-use Rattle.emu_outcome.specs.declared.ending.Ending.TheVariants as ends
+use Rattle.command_lines.specs.declared.ending.Ending.TheVariants as ends
 use Rattle.commands.proofs.Causing.{ended_cause, ended_loud, ended_other, no_cause}
 use Rattle.commands.proofs.loading.load_number.Goals as goal
 

@@ -1,14 +1,14 @@
 use Rattle.std.proofs.Common.{ℕ, List, Option, Some, map, string_bytes, ap, ◌≡◌, refl, subst, ◌⊎◌, Err}
-use Rattle.emu_outcome.specs.declared.ending.Ending.{Ending}
+use Rattle.command_lines.specs.declared.ending.Ending.{Ending}
 use Rattle.io_gate.specs.Images.{MissesNamed}
 use Rattle.io_gate.specs.Streams.{Causes, Rose}
-use Rattle.emu_outcome.specs.Outcome.{Outcome, Files, outcome_of_image}
+use Rattle.command_lines.specs.Outcome.{Outcome, Files, outcome_of_image}
 use Rattle.emu_system.specs.Image.{elf}
 use Rattle.commands.specs.Programs.{arguments_of}
 use Rattle.commands.specs.declared.program.Program.{Program}
 use Rattle.commands.proofs.NamedFiles.{found_file, told_so, unread_file}
 use Rattle.commands.proofs.MayEnd.{stops_run}
-use Rattle.emu_outcome.specs.declared.ending.Ending.TheVariants as ends
+use Rattle.command_lines.specs.declared.ending.Ending.TheVariants as ends
 use Rattle.commands.proofs.Causing.{no_cause, unread_cause, unread_no_read, unread_no_write}
 use Rattle.commands.proofs.run.run_file.Goals as goal
 

@@ -2,15 +2,15 @@ use Rattle.std.proofs.Common.{map, string_bytes, sym, ap, ◌∙◌, refl, ◌�
 use Rattle.elf_image.specs.Images.{seen, seen_image}
 use Rattle.emu_system.specs.Image.{elf}
 use Rattle.emu_machine.specs.declared.machine.Machine.{Machine}
-use Rattle.emu_outcome.specs.Outcome.{program_arguments}
-use Rattle.emu_outcome.specs.declared.ending.Ending.TheVariants.{ImageRefused, OutOfMemory}
+use Rattle.command_lines.specs.Outcome.{program_arguments}
+use Rattle.command_lines.specs.declared.ending.Ending.TheVariants.{ImageRefused, OutOfMemory}
 use Rattle.commands.specs.Meets.{now}
 use Rattle.commands.proofs.Meetings.{nothing_meets}
 use Rattle.commands.proofs.Runs.{of_image, refused_image, opened_image}
 use Rattle.commands.proofs.MayEnd.{kind_put}
 use Rattle.commands.specs.Lines.{ends_run}
-use Rattle.emu_outcome.specs.declared.ending.Ending.{Ending}
-use Rattle.emu_outcome.specs.declared.ending.Ending.TheVariants as ends
+use Rattle.command_lines.specs.declared.ending.Ending.{Ending}
+use Rattle.command_lines.specs.declared.ending.Ending.TheVariants as ends
 use Rattle.commands.proofs.Causing.{ended_cause, ended_other, no_cause}
 use Rattle.commands.proofs.run.run_image.Goals as goal
 

@@ -3,9 +3,9 @@ use Rattle.emu_model.specs.State.{Core}
 use Rattle.commands.proofs.Meetings.{broken_run, reported_run}
 use Rattle.commands.proofs.MayEnd.{kind_put, kind_run}
 use Rattle.commands.specs.Lines.{ends_run}
-use Rattle.emu_outcome.specs.declared.ending.Ending.{Ending}
+use Rattle.command_lines.specs.declared.ending.Ending.{Ending}
 use Rattle.emu_machine.specs.declared.ends.RunEnd.{RunEnd}
-use Rattle.emu_outcome.specs.declared.ending.Ending.TheVariants.{FileFault, ReadFault, WriteFault, ErrorsFault, OutOfMemory}
+use Rattle.command_lines.specs.declared.ending.Ending.TheVariants.{FileFault, ReadFault, WriteFault, ErrorsFault, OutOfMemory}
 use Rattle.commands.specs.Endings.{ending_by}
 use Rattle.commands.proofs.Causing.{cause_as, cause_behind, cause_of_none, ended_cause, ended_other, not_failed, run_fails, run_no_file, run_no_memory, run_reads, run_writes}
 use Rattle.commands.proofs.run.run_machine.Goals as goal

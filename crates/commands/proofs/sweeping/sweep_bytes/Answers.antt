@@ -1,14 +1,14 @@
 use Rattle.std.proofs.Common.{map, string_bytes, sym, ap, ◌∙◌, refl, ◌≡◌, true, subst}
 use Rattle.elf_image.specs.Images.{seen, seen_image}
 use Rattle.emu_system.specs.Image.{elf}
-use Rattle.emu_outcome.specs.Outcome.{program_arguments}
-use Rattle.emu_outcome.specs.declared.ending.Ending.{Ending}
-use Rattle.emu_outcome.specs.declared.ending.Ending.TheVariants.{ImageRefused}
+use Rattle.command_lines.specs.Outcome.{program_arguments}
+use Rattle.command_lines.specs.declared.ending.Ending.{Ending}
+use Rattle.command_lines.specs.declared.ending.Ending.TheVariants.{ImageRefused}
 use Rattle.commands.specs.Lines.{ends_sweep}
 use Rattle.commands.specs.Meets.{now}
 use Rattle.commands.proofs.MayEnd.{kind_put}
 use Rattle.commands.proofs.Sweeps.{opened_swept, refused_swept}
-use Rattle.emu_outcome.specs.declared.ending.Ending.TheVariants as ends
+use Rattle.command_lines.specs.declared.ending.Ending.TheVariants as ends
 use Rattle.commands.proofs.Causing.{ended_cause, ended_other, no_cause}
 use Rattle.commands.proofs.sweeping.sweep_bytes.Goals as goal
 

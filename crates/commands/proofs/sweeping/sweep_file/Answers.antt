@@ -1,8 +1,8 @@
 use Rattle.std.proofs.Common.{ℕ, List, Option, Some, map, string_bytes, ap, true, ◌≡◌, refl, subst, ◌⊎◌, Err}
-use Rattle.emu_outcome.specs.declared.ending.Ending.{Ending}
+use Rattle.command_lines.specs.declared.ending.Ending.{Ending}
 use Rattle.io_gate.specs.Images.{MissesNamed}
 use Rattle.io_gate.specs.Streams.{Causes, Rose}
-use Rattle.emu_outcome.specs.Outcome.{Outcome, Files, outcome_of_swept}
+use Rattle.command_lines.specs.Outcome.{Outcome, Files, outcome_of_swept}
 use Rattle.emu_system.specs.Image.{elf}
 use Rattle.commands.specs.Programs.{swept_arguments}
 use Rattle.commands.specs.Promises.{SettlesSweep}
@@ -11,7 +11,7 @@ use Rattle.commands.specs.declared.sweeping.Swept.{Swept}
 use Rattle.commands.proofs.MayEnd.{stops_sweep}
 use Rattle.commands.proofs.NamedFiles.{found_file_by, over, told_so, unread_file}
 use Rattle.commands.proofs.Settled.{unread_either}
-use Rattle.emu_outcome.specs.declared.ending.Ending.TheVariants as ends
+use Rattle.command_lines.specs.declared.ending.Ending.TheVariants as ends
 use Rattle.commands.proofs.Causing.{no_cause, unread_cause, unread_no_read, unread_no_write}
 use Rattle.commands.proofs.sweeping.sweep_file.Goals as goal
 

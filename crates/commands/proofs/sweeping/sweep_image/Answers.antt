@@ -2,15 +2,15 @@ use Rattle.std.proofs.Common.{◌≡◌, ℕ, List, [], Some, IfSome, map, strin
 use Rattle.std.proofs.lemmas.Grind.{common_steps}
 use Rattle.elf_image.specs.Images.{seen_image}
 use Rattle.io_gate.specs.declared.whole_source.ReadEnd.TheVariants as reads
-use Rattle.emu_outcome.specs.Outcome.{program_arguments}
-use Rattle.emu_outcome.specs.declared.ending.Ending.{Ending}
-use Rattle.emu_outcome.specs.declared.ending.Ending.TheVariants.{TooLong, ReadFault, OutOfMemory}
-use Rattle.sweep_model.specs.Sweep.{stream_limit}
+use Rattle.command_lines.specs.Outcome.{program_arguments}
+use Rattle.command_lines.specs.declared.ending.Ending.{Ending}
+use Rattle.command_lines.specs.declared.ending.Ending.TheVariants.{TooLong, ReadFault, OutOfMemory}
+use Rattle.command_model.specs.Sweep.{stream_limit}
 use Rattle.commands.specs.Lines.{ends_sweep}
 use Rattle.commands.proofs.MayEnd.{kind_put, swept_sweep}
 use Rattle.commands.proofs.Sweeps.{accepts_it, lines_over, settles_as, takes_all}
 use Rattle.commands.proofs.WholeInputs.{long_meets, read_meets, stops_as, unread_meets}
-use Rattle.emu_outcome.specs.declared.ending.Ending.TheVariants as ends
+use Rattle.command_lines.specs.declared.ending.Ending.TheVariants as ends
 use Rattle.commands.proofs.Causing.{ended_cause, ended_other, no_cause}
 use Rattle.commands.proofs.sweeping.sweep_image.Goals as goal
 

@@ -1,13 +1,13 @@
 use Rattle.std.proofs.Common.{◌≡◌, ℕ, List, IfSome, map, string_bytes, refl, sym, ap, subst, ◌∙◌, true}
 use Rattle.elf_image.specs.Images.{seen_image}
 use Rattle.emu_system.specs.Gained.{Gains}
-use Rattle.sweep_model.specs.Sweep.{stream_limit, text_before}
-use Rattle.sweep_model.specs.SweepLaws.{lines_whole}
+use Rattle.command_model.specs.Sweep.{stream_limit, text_before}
+use Rattle.command_model.specs.SweepLaws.{lines_whole}
 use Rattle.vl_sweep.specs.Sweeps.{is_broken_off, sweep_of}
 use Rattle.vl_sweep.specs.declared.lengths.SweepEnd.{SweepEnd}
-use Rattle.emu_outcome.specs.Outcome.{outcome_of_sweep, program_arguments}
-use Rattle.emu_outcome.specs.declared.ending.Ending.{Ending}
-use Rattle.emu_outcome.specs.declared.ending.Ending.TheVariants.{Done, OutOfMemory, TooLong, WriteFault}
+use Rattle.command_lines.specs.Outcome.{outcome_of_sweep, program_arguments}
+use Rattle.command_lines.specs.declared.ending.Ending.{Ending}
+use Rattle.command_lines.specs.declared.ending.Ending.TheVariants.{Done, OutOfMemory, TooLong, WriteFault}
 use Rattle.commands.specs.Sweeping.{ends_swept, Writes}
 use Rattle.commands.proofs.MayEnd.{kind_put}
 use Rattle.commands.proofs.Sweeps.{broken_writes, too_long_writes, whole_writes}

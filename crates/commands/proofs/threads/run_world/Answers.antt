@@ -1,6 +1,6 @@
 use Rattle.std.proofs.Common.{◌≡◌, sym, ◌∙◌, refl, true, subst}
-use Rattle.emu_outcome.specs.Outcome.{ending_of_world}
-use Rattle.emu_outcome.specs.declared.ending.Ending.{Ending}
+use Rattle.command_lines.specs.Outcome.{ending_of_world}
+use Rattle.command_lines.specs.declared.ending.Ending.{Ending}
 use Rattle.commands.specs.Lines.{ends_threads}
 use Rattle.commands.proofs.MayEnd.{kind_broken, kind_put, kind_stop}
 use Rattle.commands.proofs.Worlds.{broken_world, ended_stop, reported_world, stopped_errors, stopped_reads, stopped_writes}

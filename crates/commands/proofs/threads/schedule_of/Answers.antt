@@ -1,7 +1,7 @@
 use Rattle.std.proofs.Common.{◌≡◌, ℕ, List, Result, Ok, MatchResult, sym, ap, subst, ◌∙◌, arith}
 use Rattle.std.proofs.lemmas.Str.{utf8_valid_len_le}
-use Rattle.guest_schedule.specs.Reading.{IsErrorOf}
-use Rattle.guest_schedule.specs.declared.schedule.ScheduleFault.{ScheduleFault}
+use Rattle.line_words.specs.Reading.{IsErrorOf}
+use Rattle.line_words.specs.declared.schedule.ScheduleFault.{ScheduleFault}
 use Rattle.commands.proofs.TextFiles.{bad_schedule, no_schedule, text_schedule}
 use Rattle.commands.proofs.threads.schedule_of.Goals as goal
 

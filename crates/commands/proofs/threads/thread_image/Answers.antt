@@ -1,18 +1,18 @@
 use Rattle.std.proofs.Common.{◌≡◌, Err, map, string_bytes, ap, refl, sym, ◌∙◌, true, subst}
 use Rattle.elf_image.specs.Images.{seen_image}
-use Rattle.emu_outcome.specs.declared.ending.Ending.{Ending}
-use Rattle.emu_outcome.specs.declared.ending.Ending.TheVariants.{OutOfMemory}
-use Rattle.guest_schedule.specs.Schedule.{schedule_of_file}
-use Rattle.guest_schedule.specs.declared.schedule.ScheduleFault.{ScheduleFault}
+use Rattle.command_lines.specs.declared.ending.Ending.{Ending}
+use Rattle.command_lines.specs.declared.ending.Ending.TheVariants.{OutOfMemory}
+use Rattle.line_words.specs.Schedule.{schedule_of_file}
+use Rattle.line_words.specs.declared.schedule.ScheduleFault.{ScheduleFault}
 use Rattle.guest_threads.specs.Ends.{WorldHeld}
-use Rattle.thread_model.specs.Worlds.{opened}
+use Rattle.emu_run.specs.Worlds.{opened}
 use Rattle.commands.specs.Lines.{ends_threads}
 use Rattle.commands.specs.Programs.{opening_of}
 use Rattle.commands.specs.Meets.{now}
 use Rattle.commands.proofs.MayEnd.{kind_put}
 use Rattle.commands.proofs.Meetings.{nothing_meets}
 use Rattle.commands.proofs.Worlds.{followed_schedule, is_refused, of_schedule, refused_schedule}
-use Rattle.emu_outcome.specs.declared.ending.Ending.TheVariants as ends
+use Rattle.command_lines.specs.declared.ending.Ending.TheVariants as ends
 use Rattle.commands.proofs.Causing.{ended_cause, ended_other, no_cause}
 use Rattle.commands.proofs.threads.thread_image.Goals as goal
 

@@ -1,12 +1,12 @@
 use Rattle.std.proofs.Common.{◌≡◌, map, string_bytes, sym, ap, subst, ◌∙◌, true}
 use Rattle.elf_image.specs.Images.{seen, seen_image}
-use Rattle.emu_outcome.specs.declared.ending.Ending.{Ending}
+use Rattle.command_lines.specs.declared.ending.Ending.{Ending}
 use Rattle.emu_system.specs.Image.{elf}
 use Rattle.commands.specs.Programs.{arguments_of}
 use Rattle.commands.specs.Meets.{now}
 use Rattle.commands.specs.SecondFiles.{ends_by, text_reads_first}
 use Rattle.commands.proofs.TwoFiles.{accepted_by, refused_by, refuses_kind}
-use Rattle.emu_outcome.specs.declared.ending.Ending.TheVariants as ends
+use Rattle.command_lines.specs.declared.ending.Ending.TheVariants as ends
 use Rattle.commands.proofs.Causing.{ended_cause, ended_other, no_cause}
 use Rattle.commands.proofs.two_files.obey_bytes.Goals as goal
 

@@ -1,8 +1,8 @@
 use Rattle.std.proofs.Common.{inl, inr, ℕ, List, [], get_or, Option, Err, IfSome, map, string_bytes, sym, ap, subst, ◌≡◌, refl}
 use Rattle.io_gate.specs.Images.{MissesNamed}
 use Rattle.io_gate.specs.Streams.{Rose, Causes}
-use Rattle.emu_outcome.specs.Outcome.{Outcome, Files, file_at}
-use Rattle.emu_outcome.specs.declared.ending.Ending.{Ending}
+use Rattle.command_lines.specs.Outcome.{Outcome, Files, file_at}
+use Rattle.command_lines.specs.declared.ending.Ending.{Ending}
 use Rattle.emu_system.specs.Image.{elf}
 use Rattle.commands.specs.Promises.{settles_by}
 use Rattle.commands.specs.Meets.{now, MeetsBy}
@@ -13,7 +13,7 @@ use Rattle.commands.specs.declared.two_files.SecondFile.{SecondFile}
 use Rattle.commands.proofs.NamedFiles.{found_file_by, names_missing, over, over_two, second_misses, second_missing, unread_file, unread_missing}
 use Rattle.commands.proofs.Settled.{unread_either}
 use Rattle.commands.proofs.MayEnd.{stops_by}
-use Rattle.emu_outcome.specs.declared.ending.Ending.TheVariants as ends
+use Rattle.command_lines.specs.declared.ending.Ending.TheVariants as ends
 use Rattle.commands.proofs.Causing.{no_cause, unread_cause, unread_no_read, unread_no_write}
 use Rattle.commands.proofs.two_files.obey_files.Goals as goal
 

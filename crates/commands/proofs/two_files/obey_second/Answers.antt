@@ -1,8 +1,8 @@
 use Rattle.std.proofs.Common.{ℕ, List, Option, Some, map, string_bytes, ap, ◌≡◌, refl, subst, ◌⊎◌, Err}
-use Rattle.emu_outcome.specs.declared.ending.Ending.{Ending}
+use Rattle.command_lines.specs.declared.ending.Ending.{Ending}
 use Rattle.io_gate.specs.Images.{MissesNamed}
 use Rattle.io_gate.specs.Streams.{Causes, Rose}
-use Rattle.emu_outcome.specs.Outcome.{Outcome, Files, file_at}
+use Rattle.command_lines.specs.Outcome.{Outcome, Files, file_at}
 use Rattle.emu_system.specs.Image.{elf}
 use Rattle.commands.specs.Programs.{arguments_of}
 use Rattle.commands.specs.Meets.{now}
@@ -13,7 +13,7 @@ use Rattle.commands.proofs.NamedFiles.{over, told_so, unread_file}
 use Rattle.commands.proofs.Settled.{unread_either}
 use Rattle.commands.proofs.TwoFiles.{found_second, read_later}
 use Rattle.commands.proofs.MayEnd.{stops_by}
-use Rattle.emu_outcome.specs.declared.ending.Ending.TheVariants as ends
+use Rattle.command_lines.specs.declared.ending.Ending.TheVariants as ends
 use Rattle.commands.proofs.Causing.{no_cause, unread_cause, unread_no_read, unread_no_write}
 use Rattle.commands.proofs.two_files.obey_second.Goals as goal
 

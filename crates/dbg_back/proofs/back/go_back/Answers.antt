@@ -1,5 +1,5 @@
 use Rattle.std.proofs.Common.{refl, sym, ap}
-use Rattle.back_model.specs.SessionBack.{back_text, back_to, put, went_back}
+use Rattle.dbg_model.specs.SessionBack.{back_text, back_to, put, went_back}
 use Rattle.dbg_back.specs.Ends.{end_of_put, is_fault}
 use Rattle.dbg_back.proofs.Doing.{does_put, does_then, does_when}
 use Rattle.dbg_back.proofs.Lines.{back_plain}

@@ -1,5 +1,5 @@
 use Rattle.std.proofs.Common.{◌≡◌, ◌≤◌, ◌<◌, ◌⊎◌, ℕ, length, max, get_or, None}
-use Rattle.mark_laws.specs.Marked.{parts_with}
+use Rattle.emu_run.specs.Marked.{parts_with}
 use Rattle.dbg_back.proofs.marks.drop_between.Given as goal
 
 abbrev pub invariant-marks : goal.invariant-marks

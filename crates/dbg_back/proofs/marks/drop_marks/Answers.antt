@@ -1,7 +1,7 @@
 use Rattle.std.proofs.Common.{◌≡◌, ◌≤◌, ℕ, ◌+◌, get_or, None, inl, inr, ap, ◌∙◌, arith}
 use Rattle.std.proofs.lemmas.Bool.{cases_lt}
 use Rattle.emu_model.specs.State.{Parts}
-use Rattle.mark_laws.specs.Marked.{parts_with}
+use Rattle.emu_run.specs.Marked.{parts_with}
 use Rattle.dbg_back.proofs.Counts.{kept_by, none_behind}
 use Rattle.dbg_back.proofs.marks.drop_marks.Goals as goal
 

@@ -1,7 +1,7 @@
 use Rattle.std.proofs.Common.{◌≡◌, Bool, ◌-◌, sym, ap, subst, ◌∙◌}
 use Rattle.std.specs.Bool.{OnTrue}
 use Rattle.dbg_model.specs.Session.{Marks, no_marks}
-use Rattle.back_model.specs.SessionBack.{ending_text, go, moved, put}
+use Rattle.dbg_model.specs.SessionBack.{ending_text, go, moved, put}
 use Rattle.dbg_back.specs.Ends.{is_fault}
 use Rattle.dbg_back.proofs.Courses.{go_unmarked}
 use Rattle.dbg_back.proofs.Doing.{does_as}

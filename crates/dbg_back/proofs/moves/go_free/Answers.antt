@@ -1,6 +1,6 @@
 use Rattle.std.proofs.Common.{◌≡◌, true, sym, ap, ◌-◌}
 use Rattle.emu_model.specs.State.{State}
-use Rattle.back_model.specs.SessionBack.{Course, ending_text, moved, put}
+use Rattle.dbg_model.specs.SessionBack.{Course, ending_text, moved, put}
 use Rattle.dbg_back.specs.Ends.{end_of_put, is_fault}
 use Rattle.dbg_back.proofs.Courses.{appends_put}
 use Rattle.dbg_back.proofs.Doing.{does_cut, does_put, does_then, does_when}

@@ -8,7 +8,7 @@ use Rattle.dbg_model.specs.Session.{Marks}
 use Rattle.dbg_core.specs.declared.points.Stop.{Stop}
 use Rattle.dbg_core.specs.Stops.{first_met, line_of_stop}
 use Rattle.dbg_core.proofs.Obeying.{causes_later, going_by, not_ended, over_by}
-use Rattle.back_model.specs.SessionBack.{Course, ending_text, put, stepped}
+use Rattle.dbg_model.specs.SessionBack.{Course, ending_text, put, stepped}
 use Rattle.dbg_back.specs.declared.ends.BackEnd.TheVariants.{Done, WriteFault, ErrorsFault}
 use Rattle.dbg_back.specs.declared.trail.Trail.{Trail}
 use Rattle.dbg_back.specs.Ends.{end_of_put, is_fault}

@@ -2,8 +2,8 @@ use Rattle.std.proofs.Common.{◌≡◌, ◌<◌, ◌≤◌, ◌⊎◌, ℕ, ◌
 use Rattle.emu_model.specs.State.{Parts, State}
 use Rattle.emu_machine.specs.Machines.{MachineState, has_ended}
 use Rattle.dbg_core.proofs.Obeying.{causes_later, causes_none, over_by}
-use Rattle.back_model.specs.CourseLaws.{moved_over}
-use Rattle.back_model.specs.SessionBack.{Course, moved}
+use Rattle.dbg_model.specs.CourseLaws.{moved_over}
+use Rattle.dbg_model.specs.SessionBack.{Course, moved}
 use Rattle.dbg_back.specs.declared.ends.BackEnd.TheVariants.{Done, WriteFault, ErrorsFault}
 use Rattle.dbg_back.specs.declared.trail.Trail.{Trail}
 use Rattle.dbg_back.specs.Ends.{is_fault}

@@ -1,6 +1,6 @@
 use Rattle.std.proofs.Common.{◌≡◌, ◌+◌, ◌-◌, cond}
 use Rattle.emu_machine.specs.Machines.{has_ended}
-use Rattle.back_model.specs.SessionBack.{moved}
+use Rattle.dbg_model.specs.SessionBack.{moved}
 use Rattle.dbg_back.proofs.Doing.{Leads}
 use Rattle.dbg_back.proofs.moves.move_to.Given as goal
 

@@ -1,7 +1,7 @@
 use Rattle.std.proofs.Common.{◌≡◌, ℕ, ◌+◌, ◌-◌, min, true, sym, ap, ◌∙◌, arith}
 use Rattle.emu_model.specs.State.{Parts, State}
 use Rattle.dbg_model.specs.Session.{stepped_text}
-use Rattle.back_model.specs.SessionBack.{Course, moved, put, steps_taken}
+use Rattle.dbg_model.specs.SessionBack.{Course, moved, put, steps_taken}
 use Rattle.dbg_back.specs.declared.ends.BackEnd.TheVariants.{Done, WriteFault, ErrorsFault}
 use Rattle.dbg_back.specs.Ends.{end_of_put, is_fault}
 use Rattle.dbg_back.proofs.Courses.{appends_put}

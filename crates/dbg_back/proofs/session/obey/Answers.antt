@@ -1,6 +1,6 @@
 use Rattle.std.proofs.Common.{refl, sym, ap}
 use Rattle.dbg_model.specs.declared.script.Command.{Command}
-use Rattle.back_model.specs.SessionBack.{obeyed, put}
+use Rattle.dbg_model.specs.SessionBack.{obeyed, put}
 use Rattle.dbg_core.specs.Stops.{shown_behind}
 use Rattle.dbg_back.specs.Ends.{end_of_put, is_fault}
 use Rattle.dbg_back.proofs.Doing.{does_as, does_put, does_when}

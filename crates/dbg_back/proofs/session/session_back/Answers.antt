@@ -3,13 +3,13 @@ use Rattle.std.specs.Prelude.{slice_get}
 use Rattle.std.proofs.lemmas.List.{drop_all}
 use Rattle.emu_model.specs.State.{State}
 use Rattle.emu_system.specs.Start.{with_input}
-use Rattle.mark_laws.specs.Marked.{parts_with}
+use Rattle.emu_run.specs.Marked.{parts_with}
 use Rattle.dbg_model.specs.declared.script.Command.{Command}
 use Rattle.dbg_model.specs.Commands.{is_break, is_watch}
 use Rattle.dbg_model.specs.Session.{Marks, marked, no_marks}
 use Rattle.dbg_core.proofs.Obeying.{causes_later, causes_none}
 use Rattle.dbg_core.proofs.Scripts.{breaks_at, command_in, next_command, room_at, watches_at}
-use Rattle.back_model.specs.SessionBack.{Course, begun, obeyed, obeyed_all}
+use Rattle.dbg_model.specs.SessionBack.{Course, begun, obeyed, obeyed_all}
 use Rattle.dbg_back.specs.declared.ends.BackEnd.TheVariants.{Done, WriteFault, ErrorsFault}
 use Rattle.dbg_back.specs.Ends.{is_fault}
 use Rattle.dbg_back.specs.Walks.{Does}

@@ -7,7 +7,7 @@ use Rattle.emu_model.specs.Pages.{bytes_at}
 use Rattle.guest_mem.specs.Slices.{to_page_end}
 use Rattle.sve_effects.specs.Lane.{extended_by}
 use Rattle.sve_effects.specs.LaneLoop.{is_active}
-use Rattle.element_access.specs.ReachLaws.{all_of}
+use Rattle.guest_mem.specs.ReachLaws.{all_of}
 use Rattle.element_loops.specs.declared.plan.OnLanes.{OnLanes}
 use Rattle.element_loops.specs.declared.plan.Target.{Target}
 use Rattle.element_loops.specs.Layouts.{is_on_of, layout_of}

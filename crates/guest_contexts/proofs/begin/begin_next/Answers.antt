@@ -1,7 +1,7 @@
 use Rattle.std.proofs.Common.{◌≡◌, ◌<◌, ◌%◌, inl, inr, ℕ, List, length, get_or, refl, sym, ap, subst, ◌∙◌, arith, Box, Global, Option, is_some}
 use Rattle.std.proofs.lemmas.Bool.{eqb-false}
 use Rattle.emu_model.specs.State.{Core, Vectors}
-use Rattle.thread_model.specs.Threads.{next_turn, turn_at}
+use Rattle.emu_run.specs.Threads.{next_turn, turn_at}
 use Rattle.guest_contexts.specs.Begins.{IsTurn, TurnAt, context_of}
 use Rattle.guest_contexts.proofs.Begins.{IsChanged, exchanged, has_one, one_begins, stayed, turn_is}
 use Rattle.guest_contexts.proofs.begin.begin_next.Goals.{Joined-k-last, then-k-last+else-is_some, else-k-last}

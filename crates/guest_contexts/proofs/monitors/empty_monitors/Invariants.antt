@@ -1,5 +1,5 @@
 use Rattle.std.proofs.Common.{◌≡◌, ◌++◌, None, take, drop, map}
-use Rattle.thread_model.specs.Worlds.{with_monitor}
+use Rattle.emu_run.specs.Worlds.{with_monitor}
 use Rattle.guest_contexts.proofs.monitors.empty_monitors.Given as goal
 
 abbrev pub invariant-loop-context : goal.invariant-loop-context

@@ -1,5 +1,5 @@
 use Rattle.std.proofs.Common.{◌≡◌, ◌++◌, take, drop, map}
-use Rattle.thread_model.specs.Worlds.{behind_accesses}
+use Rattle.emu_run.specs.Worlds.{behind_accesses}
 use Rattle.guest_contexts.proofs.monitors.note_accesses.Given as goal
 
 abbrev pub invariant-loop-context : goal.invariant-loop-context

@@ -1,5 +1,5 @@
 use Rattle.std.proofs.Common.{◌≡◌, ◌≤◌, ◌+◌, ◌-◌, ◌++◌, take, drop}
-use Rattle.thread_model.specs.Worlds.{woken, wake_count}
+use Rattle.emu_run.specs.Worlds.{woken, wake_count}
 use Rattle.guest_contexts.proofs.standings.wake.Given as goal
 
 abbrev pub invariant-loop-context : goal.invariant-loop-context

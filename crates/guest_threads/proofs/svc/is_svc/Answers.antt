@@ -8,7 +8,7 @@ use Rattle.emu_run.specs.declared.insn.Insn.{Insn}
 use Rattle.emu_run.specs.Step.{a64, sve, first_of, decode}
 use Rattle.sve_insn.specs.declared.form.SveForm.{SveForm}
 use Rattle.sve_insn.specs.Table.{sve_table}
-use Rattle.thread_model.specs.Threads.{is_svc}
+use Rattle.emu_run.specs.Threads.{is_svc}
 use Rattle.guest_threads.proofs.svc.is_svc.Goals as goal
 
 no_a64 : (w : ℕ) → field w 27 2 ≡ 0 → decode_in a64_table w ≡ None

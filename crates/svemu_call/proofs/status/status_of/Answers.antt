@@ -1,7 +1,7 @@
 use Rattle.std.proofs.Common.{map, string_bytes}
 use Rattle.std.proofs.lemmas.Option.{IfSome_then}
 use Rattle.command_model.specs.CommandLine.{line}
-use Rattle.emu_outcome.specs.Outcome.{result_of}
+use Rattle.command_lines.specs.Outcome.{result_of}
 use Rattle.svemu_call.proofs.Statuses.{completes_with, status_of_file, status_of_read, status_of_write, status_of_errors, status_of_refused, status_of_line}
 use Rattle.svemu_call.proofs.status.status_of.Goals as goal
 

@@ -1,6 +1,6 @@
 use Rattle.std.proofs.Common.{map, string_bytes}
 use Rattle.command_model.specs.CommandLine.{line}
-use Rattle.emu_outcome.specs.Outcome.{result_of}
+use Rattle.command_lines.specs.Outcome.{result_of}
 use Rattle.commands.specs.Lines.{IsOutcome}
 use Rattle.svemu_call.proofs.Complete.{ends_for, settled_of, output_for, errors_for, input_of, complete_command}
 use Rattle.svemu_call.proofs.top.svemu.Goals as goal

@@ -1,7 +1,7 @@
 use Rattle.std.proofs.Common.{◌≡◌, ◌∷◌, List, true, length, sym, ap, ◌∙◌, subst, arith, ◌&&◌, Bool, false}
 use Rattle.text_model.specs.declared.slots.Slot.{Slot}
 use Rattle.text_model.specs.Slots.{fits, all_fit}
-use Rattle.text_lists.specs.Lists.{slot_at, slots_of}
+use Rattle.text_model.specs.Lists.{slot_at, slots_of}
 use Rattle.text_code.specs.Sound.{is_sound}
 use Rattle.text_code.proofs.Slots.{slots_there, slots_ended}
 use Rattle.text_code.proofs.Steps.{first_sound, rest_sound}

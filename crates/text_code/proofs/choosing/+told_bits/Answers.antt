@@ -1,7 +1,7 @@
 use Rattle.std.proofs.Common.{◌≡◌, ◌∷◌, true, length, sym, ap, ap₂, ◌∙◌, subst, arith, bit_or}
 use Rattle.text_model.specs.declared.slots.Slot.{Slot}
 use Rattle.text_model.specs.Text.{ones_of, slot_places, told_bits}
-use Rattle.text_lists.specs.Lists.{slot_at, slots_of}
+use Rattle.text_model.specs.Lists.{slot_at, slots_of}
 use Rattle.text_code.specs.Sound.{is_sound}
 use Rattle.text_code.proofs.Slots.{slots_there, slots_ended}
 use Rattle.text_code.proofs.Steps.{first_sound, rest_sound}

@@ -3,7 +3,7 @@ use Rattle.std.proofs.lemmas.Iterator.{YieldsList-from_slice}
 use Rattle.std.proofs.lemmas.Iterator.Search.{all_from_yields_List}
 use Rattle.std.specs.Char.{is_ascii_digit}
 use Rattle.std.specs.List.{list_all}
-use Rattle.text_tokens.specs.Tokens.{is_word_byte, dot}
+use Rattle.asm_tokens.specs.Tokens.{is_word_byte, dot}
 use Rattle.text_model.specs.Statement.{is_label}
 use Rattle.text_code.proofs.operands.is_label.Goals as goal
 

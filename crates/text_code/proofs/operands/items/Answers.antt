@@ -1,6 +1,6 @@
 use Rattle.std.proofs.Common.{sym, ap, ◌++◌, List}
 use Rattle.std.proofs.lemmas.Str.{IsCharBoundary-start}
-use Rattle.text_tokens.specs.Tokens.{tokens}
+use Rattle.asm_tokens.specs.Tokens.{tokens}
 use Rattle.text_model.specs.declared.slots.Item.{Item}
 use Rattle.text_model.specs.Statement.{items_behind}
 use Rattle.text_code.proofs.operands.items.Goals as goal

@@ -1,6 +1,6 @@
 use Rattle.std.proofs.Common.{◌≡◌, ◌-◌, ◌++◌, drop, length}
 use Rattle.std.specs.Str.{IsCharBoundary}
-use Rattle.text_tokens.specs.Tokens.{tokens}
+use Rattle.asm_tokens.specs.Tokens.{tokens}
 use Rattle.text_model.specs.Statement.{items_of, items_behind}
 use Rattle.text_code.proofs.operands.items.Given as goal
 

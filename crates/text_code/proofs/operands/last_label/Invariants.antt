@@ -1,6 +1,6 @@
 use Rattle.std.proofs.Common.{◌≡◌, ◌-◌, ◌∷◌, ◌<◌, drop, length, slice_range}
 use Rattle.std.specs.Str.{IsCharBoundary}
-use Rattle.text_tokens.specs.Tokens.{tokens}
+use Rattle.asm_tokens.specs.Tokens.{tokens}
 use Rattle.text_model.specs.Statement.{last_of}
 use Rattle.text_code.proofs.operands.last_label.Given as goal
 

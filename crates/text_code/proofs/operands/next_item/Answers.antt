@@ -2,7 +2,7 @@ use Rattle.std.proofs.Common.{◌≡◌, ◌<◌, ◌∷◌, ◌^◌, ℤ, drop,
 use Rattle.std.proofs.lemmas.Int.{to_z-of_z}
 use Rattle.std.specs.Int.{w128}
 use Rattle.std.specs.Prelude.{FitsSigned}
-use Rattle.text_tokens.specs.Tokens.{tokens}
+use Rattle.asm_tokens.specs.Tokens.{tokens}
 use Rattle.text_model.specs.declared.classes.Class.TheVariants.{Number}
 use Rattle.text_model.specs.declared.slots.Item.{Item}
 use Rattle.text_model.specs.Statement.{items_behind}

@@ -1,5 +1,5 @@
 use Rattle.std.proofs.Common.{ℕ, List, ◌++◌, ap₂, ◌∙◌}
-use Rattle.text_tokens.specs.Layout.{laid}
+use Rattle.asm_tokens.specs.Layout.{laid}
 use Rattle.text_model.specs.declared.slots.Slot.{Slot}
 use Rattle.text_model.specs.Text.{slot_tokens}
 use Rattle.text_print.proofs.Laid.{name_and_tokens}

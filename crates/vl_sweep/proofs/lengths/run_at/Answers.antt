@@ -5,7 +5,7 @@ use Rattle.emu_model.specs.State.{Parts}
 use Rattle.emu_run.specs.Run.{run}
 use Rattle.emu_system.specs.Start.{with_input}
 use Rattle.io_gate.specs.Lent.{Lent}
-use Rattle.sweep_model.specs.Sweep.{fits_run}
+use Rattle.command_model.specs.Sweep.{fits_run}
 use Rattle.vl_sweep.specs.Bounded.{Bounded}
 use Rattle.vl_sweep.specs.Sweeps.{HasRun}
 use Rattle.vl_sweep.proofs.Running.{full_errors, full_output, has_run, is_whole}

@@ -1,6 +1,6 @@
 use Rattle.std.proofs.Common.{map, string_bytes}
 use Rattle.elf_image.specs.Images.{seen_image}
-use Rattle.sweep_model.specs.Sweep.{text_before}
+use Rattle.command_model.specs.Sweep.{text_before}
 use Rattle.vl_sweep.specs.Sweeps.{sweep_of}
 use Rattle.vl_sweep.proofs.LinesSoFar.{none_put, whole_text}
 use Rattle.vl_sweep.proofs.lengths.sweep.Goals as goal

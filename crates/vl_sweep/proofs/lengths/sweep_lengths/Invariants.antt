@@ -1,6 +1,6 @@
 use Rattle.std.proofs.Common.{◌≡◌, map, string_bytes, true}
 use Rattle.elf_image.specs.Images.{seen_image}
-use Rattle.sweep_model.specs.SweepLaws.{first_fit}
+use Rattle.command_model.specs.SweepLaws.{first_fit}
 use Rattle.vl_sweep.specs.Sweeps.{sweep_of}
 use Rattle.vl_sweep.proofs.LinesSoFar.{HasLines}
 use Rattle.vl_sweep.proofs.lengths.sweep_lengths.Given as goal

@@ -1,5 +1,5 @@
 use Rattle.std.proofs.Common.{◌≡◌, ◌++◌, take}
-use Rattle.sweep_model.specs.Load.{bytes_text}
+use Rattle.command_model.specs.Load.{bytes_text}
 use Rattle.vl_sweep.proofs.load_line.push_digits.Given as goal
 
 abbrev pub invariant-digits : goal.invariant-digits

@@ -6,7 +6,7 @@ use Rattle.emu_model.specs.State.{Parts}
 use Rattle.emu_run.specs.Run.{run}
 use Rattle.emu_system.specs.Start.{opening, with_input}
 use Rattle.io_gate.specs.Lent.{Lent}
-use Rattle.sweep_model.specs.Load.{load_budget, load_pages}
+use Rattle.command_model.specs.Load.{load_budget, load_pages}
 use Rattle.vl_sweep.specs.LoadRuns.{HasRun}
 use Rattle.vl_sweep.proofs.LoadRunning.{are_arguments, has_run}
 use Rattle.vl_sweep.proofs.load_runs.run_at.Goals as goal

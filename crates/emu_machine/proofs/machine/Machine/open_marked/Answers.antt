@@ -4,7 +4,7 @@ use Rattle.emu_model.specs.State.{Vectors, zero_vectors}
 use Rattle.emu_system.specs.Start.{opening}
 use Rattle.elf_image.specs.Images.{seen_image}
 use Rattle.elf_image.specs.Loadable.{IsLoadable}
-use Rattle.mark_laws.specs.Marked.{parts_with}
+use Rattle.emu_run.specs.Marked.{parts_with}
 use Rattle.emu_machine.specs.Machines.{MachineState}
 use Rattle.emu_machine.proofs.machine.Machine.open_marked.Goals as goal
 

@@ -2,7 +2,7 @@ use Rattle.std.proofs.Common.{◌≡◌, List, [], ◌∷◌, ◌++◌, length, 
 use Rattle.std.proofs.lemmas.Bool.{false≢true}
 use Rattle.std.proofs.lemmas.List.{length_push}
 use denote.RawPtr.{block_ptr}
-use Rattle.frame_links.specs.Links.{Place}
+use Rattle.frame_arena.specs.Links.{Place}
 use Rattle.frame_arena.specs.declared.slot.Slot.{Slot}
 use Rattle.frame_arena.specs.declared.slot.Slot.TheVariants.{Used}
 use Rattle.frame_arena.specs.Slots.{page_in, slot_block, AreVacant, IsWhole, IsSeated, AreSeated, AreSpareSeated}

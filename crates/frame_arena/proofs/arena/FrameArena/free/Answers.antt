@@ -1,7 +1,7 @@
 use Rattle.std.proofs.Common.{◌≡◌, ◌+◌, ◌-◌, List, ◌∷◌, length, arith, sym, ap, ◌∙◌, subst, length-set, set, is_some, None}
 use Rattle.std.proofs.lemmas.Bool.{false≢true}
 use Rattle.frame_arena.specs.Frames.{IsLive, freed}
-use Rattle.frame_links.specs.Links.{Place}
+use Rattle.frame_arena.specs.Links.{Place}
 use Rattle.frame_arena.specs.declared.slot.Slot.{Slot}
 use Rattle.frame_arena.specs.Slots.{page_in, slot_block, AreVacant, IsWhole, IsSeated, AreSpareSeated, seen}
 use Rattle.frame_arena.proofs.Kept.{seat_of, seat_as, rest_at}

@@ -1,6 +1,6 @@
 use Rattle.std.proofs.Common.{◌≡◌, ℕ, ◌-◌, List, [], length, set, take, drop, Option, Some, None, true, is_some, unwrap_or, arith, refl, sym, ap, ◌∙◌, subst, length-set}
 use Rattle.std.proofs.lemmas.Bool.{false≢true}
-use Rattle.frame_links.specs.Lending.{with_part}
+use Rattle.frame_arena.specs.LendingPages.{with_part}
 use Rattle.frame_arena.specs.Frames.{IsLive, IsSole, bytes_of, with_bytes}
 use Rattle.frame_arena.specs.Lending.{with_slot}
 use Rattle.frame_arena.proofs.Callers.{sole_live}

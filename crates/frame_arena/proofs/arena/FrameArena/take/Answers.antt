@@ -1,6 +1,6 @@
 use Rattle.std.proofs.Common.{◌≡◌, ℕ, ◌+◌, ◌-◌, ◌<◌, List, [], ◌∷◌, ◌++◌, length, set, arith, refl, sym, ap, ◌∙◌, subst, length-set, Some}
 use Rattle.std.proofs.lemmas.List.{length_push}
-use Rattle.frame_links.specs.Links.{Place}
+use Rattle.frame_arena.specs.Links.{Place}
 use Rattle.frame_arena.specs.Frames.{Takes, zeroed}
 use Rattle.frame_arena.specs.declared.slot.Slot.{Slot}
 use Rattle.frame_arena.specs.declared.slot.Slot.TheVariants.{Used}

@@ -1,7 +1,7 @@
 use Rattle.std.proofs.Common.{List, [], ◌∷◌, ◌++◌, ap, refl, ◌∙◌}
-use Rattle.thread_model.specs.Worlds.{World, Context}
+use Rattle.emu_run.specs.Worlds.{World, Context}
 use Rattle.guest_contexts.specs.Laid.{world_of}
-use Rattle.thread_model.specs.ThreadCall.{with_started}
+use Rattle.emu_run.specs.ThreadCall.{with_started}
 use Rattle.guest_contexts.proofs.Laid.{pushed_is}
 use Rattle.guest_threads.proofs.Views.{held_as}
 use Rattle.guest_threads.proofs.held.Held.add.Goals as goal

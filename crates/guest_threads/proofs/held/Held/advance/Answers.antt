@@ -1,7 +1,7 @@
 use Rattle.std.proofs.Common.{List, ap, sym, ◌∙◌}
 use Rattle.std.specs.List.{list_any}
 use Rattle.guest_contexts.specs.Standings.{has_monitor}
-use Rattle.thread_model.specs.Worlds.{Context}
+use Rattle.emu_run.specs.Worlds.{Context}
 use Rattle.guest_threads.proofs.Quiet.{advances, none_on}
 use Rattle.guest_threads.proofs.held.Held.advance.Goals as goal
 

@@ -1,7 +1,7 @@
 use Rattle.std.proofs.Common.{ap, ◌∙◌}
 use Rattle.emu_machine.specs.Machines.{MachineState}
-use Rattle.thread_model.specs.ThreadCall.{answered}
-use Rattle.thread_model.specs.Worlds.{World}
+use Rattle.emu_run.specs.ThreadCall.{answered}
+use Rattle.emu_run.specs.Worlds.{World}
 use Rattle.guest_contexts.specs.Laid.{world_of}
 use Rattle.guest_contexts.proofs.Laid.{answered_is}
 use Rattle.guest_threads.proofs.Views.{held_as, laid_ready}

@@ -2,7 +2,7 @@ use Rattle.std.proofs.Common.{◌≡◌, ◌<◌, ℕ, Bool, List, get_or, is_so
 use Rattle.std.proofs.lemmas.List.{with_items_is}
 use Rattle.emu_model.specs.State.{Core, Parts}
 use Rattle.emu_machine.specs.Machines.{MachineState}
-use Rattle.thread_model.specs.Worlds.{World, Context, no_context, taken_by_context}
+use Rattle.emu_run.specs.Worlds.{World, Context, no_context, taken_by_context}
 use Rattle.guest_contexts.specs.Laid.{laid, world_of}
 use Rattle.guest_contexts.proofs.Laid.{brought, laid_length, loaded, within_list}
 use Rattle.guest_threads.specs.Ends.{IsInside, WorldHeld}

@@ -1,6 +1,6 @@
 use Rattle.std.proofs.Common.{ap}
 use Rattle.emu_machine.specs.Machines.{MachineState}
-use Rattle.thread_model.specs.Worlds.{World}
+use Rattle.emu_run.specs.Worlds.{World}
 use Rattle.guest_contexts.specs.Laid.{world_of}
 use Rattle.emu_machine.specs.Contexts.{ended_with}
 use Rattle.std.specs.Prelude.{◌+◌}

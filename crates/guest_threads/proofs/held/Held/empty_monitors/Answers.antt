@@ -2,7 +2,7 @@ use Rattle.std.proofs.Common.{◌≡◌, List, None, map, length, ap, refl, subs
 use Rattle.std.specs.Vec.{with_items}
 use Rattle.std.proofs.lemmas.List.{length-map, with_items_is}
 use Rattle.emu_machine.specs.Machines.{MachineState}
-use Rattle.thread_model.specs.Worlds.{World, Context, with_monitor, without_monitors}
+use Rattle.emu_run.specs.Worlds.{World, Context, with_monitor, without_monitors}
 use Rattle.guest_contexts.specs.Laid.{world_of}
 use Rattle.guest_contexts.proofs.Laid.{emptied_is}
 use Rattle.guest_threads.specs.Ends.{IsInside}

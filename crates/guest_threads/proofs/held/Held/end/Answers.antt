@@ -1,6 +1,6 @@
 use Rattle.std.proofs.Common.{List, ap, sym, ◌∙◌}
 use Rattle.std.specs.List.{list_any}
-use Rattle.thread_model.specs.Worlds.{World, Context, is_ready, some_ready}
+use Rattle.emu_run.specs.Worlds.{World, Context, is_ready, some_ready}
 use Rattle.guest_contexts.proofs.Laid.{some_ready_same}
 use Rattle.guest_threads.proofs.Picked.{spent_of, stuck_of}
 use Rattle.guest_threads.proofs.Views.{world_is}

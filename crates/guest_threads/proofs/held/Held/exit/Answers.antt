@@ -1,6 +1,6 @@
 use Rattle.std.proofs.Common.{Some, None, refl, sym, ap, ◌∙◌, ◌%◌, ℕ}
 use Rattle.guest_threads.specs.Ends.{WorldHeld}
-use Rattle.thread_model.specs.ThreadCall.{all_gone, with_gone}
+use Rattle.emu_run.specs.ThreadCall.{all_gone, with_gone}
 use Rattle.guest_threads.proofs.Made.{made_leave, ended_all, ended_some, gone_room}
 use Rattle.guest_threads.proofs.held.Held.exit.Goals as goal
 

@@ -3,8 +3,8 @@ use Rattle.emu_machine.specs.Ends.{is_undone}
 use Rattle.emu_machine.proofs.Advanced.{causes_not, none_broken, not_both}
 use Rattle.emu_machine.specs.declared.ends.StepEnd.{StepEnd}
 use Rattle.emu_machine.specs.declared.ends.StepEnd.TheVariants.{Going, ReadFault, WriteFault, ErrorsFault}
-use Rattle.thread_model.specs.Worlds.{World}
-use Rattle.thread_model.specs.declared.thread.Place.{Place}
+use Rattle.emu_run.specs.Worlds.{World}
+use Rattle.emu_run.specs.declared.thread.Place.{Place}
 use Rattle.guest_threads.specs.declared.went.Went.{Went}
 use Rattle.guest_threads.specs.Ends.{world_end_of, is_broken_off}
 use Rattle.guest_threads.specs.Named.{last_end}

@@ -1,6 +1,6 @@
 use Rattle.std.proofs.Common.{◌≡◌, ◌≤◌, ◌-◌, false}
 use Rattle.guest_threads.specs.Ends.{has_ended, IsPlace}
-use Rattle.thread_model.specs.Living.{IsLiving}
+use Rattle.emu_run.specs.Living.{IsLiving}
 use Rattle.guest_threads.proofs.Runs.{LeadsRun}
 use Rattle.guest_threads.proofs.Stands.{Stands}
 use Rattle.guest_threads.proofs.held.Held.follow.Given as goal

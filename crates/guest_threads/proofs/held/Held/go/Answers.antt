@@ -2,7 +2,7 @@ use Rattle.std.proofs.Common.{◌≡◌, ◌<◌, length, false, refl, sym, ap, 
 use Rattle.emu_machine.specs.declared.ends.StepEnd.TheVariants.{Going, ReadFault, WriteFault, ErrorsFault}
 use Rattle.emu_machine.specs.Ends.{is_undone, step_end}
 use Rattle.emu_machine.proofs.Advanced.{causes_not, not_both}
-use Rattle.thread_model.specs.Worlds.{World, context, taken_by_context}
+use Rattle.emu_run.specs.Worlds.{World, context, taken_by_context}
 use Rattle.guest_threads.specs.declared.went.Went.TheVariants.{On, Over}
 use Rattle.guest_threads.specs.Calls.{IsCalling}
 use Rattle.guest_threads.specs.Ends.{WorldHeld}

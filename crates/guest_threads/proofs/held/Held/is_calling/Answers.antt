@@ -1,8 +1,8 @@
 use Rattle.std.proofs.Common.{ap, sym, ◌∙◌}
 use Rattle.emu_machine.specs.Machines.{MachineState}
 use Rattle.emu_model.specs.State.{Parts}
-use Rattle.thread_model.specs.Threads.{makes_call}
-use Rattle.thread_model.specs.Worlds.{context, joined}
+use Rattle.emu_run.specs.Threads.{makes_call}
+use Rattle.emu_run.specs.Worlds.{context, joined}
 use Rattle.guest_threads.specs.Ends.{WorldHeld}
 use Rattle.guest_contexts.proofs.Laid.{joined_is}
 use Rattle.guest_threads.proofs.Views.{held}

@@ -1,7 +1,7 @@
 use Rattle.std.specs.List.{list_all}
 use Rattle.std.proofs.Common.{List, ap, sym, ◌∙◌}
-use Rattle.thread_model.specs.Worlds.{is_gone, World, Context}
-use Rattle.thread_model.specs.ThreadCall.{all_gone}
+use Rattle.emu_run.specs.Worlds.{is_gone, World, Context}
+use Rattle.emu_run.specs.ThreadCall.{all_gone}
 use Rattle.guest_contexts.proofs.Laid.{all_gone_same}
 use Rattle.guest_threads.proofs.Views.{world_is}
 use Rattle.guest_threads.proofs.held.Held.is_left.Goals as goal

@@ -1,5 +1,5 @@
 use Rattle.std.proofs.Common.{ap, sym, ◌∙◌}
-use Rattle.thread_model.specs.ThreadCall.{thread_call}
+use Rattle.emu_run.specs.ThreadCall.{thread_call}
 use Rattle.guest_threads.proofs.Views.{core_seen}
 use Rattle.guest_threads.proofs.held.Held.name.Goals as goal
 

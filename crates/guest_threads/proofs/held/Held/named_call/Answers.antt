@@ -1,4 +1,4 @@
-use Rattle.thread_model.specs.declared.thread.ThreadCall.TheVariants.{Clone, Futex, Exit, SetTidAddress, Gettid, Alone}
+use Rattle.emu_run.specs.declared.thread.ThreadCall.TheVariants.{Clone, Futex, Exit, SetTidAddress, Gettid, Alone}
 use Rattle.guest_threads.proofs.Made.{made_as, named}
 use Rattle.guest_threads.proofs.held.Held.named_call.Goals as goal
 

@@ -1,6 +1,6 @@
 use Rattle.std.proofs.Common.{◌≡◌, ◌+◌, ◌-◌, ℕ, ap, sym, ◌∙◌, arith}
 use Rattle.guest_threads.proofs.Picked.{goes_over, over_behind, place_at, stays_on, placed_at}
-use Rattle.thread_model.specs.Worlds.{is_standing_ready}
+use Rattle.emu_run.specs.Worlds.{is_standing_ready}
 use Rattle.guest_threads.proofs.held.Held.next_place.Goals as goal
 
 pub returns-then-is_over : goal.returns-then-is_over

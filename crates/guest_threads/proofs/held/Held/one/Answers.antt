@@ -1,9 +1,9 @@
 use Rattle.std.proofs.Common.{◌≡◌, ◌+◌, ℕ, List, [], false, refl, sym, ap, subst, ◌∙◌}
 use Rattle.emu_machine.specs.Ends.{is_undone, step_end}
 use Rattle.emu_machine.proofs.Advanced.{causes_not, not_both}
-use Rattle.thread_model.specs.Living.{IsLiving, one_living}
-use Rattle.thread_model.specs.Threads.{WorldState, WorldTurn, makes_call, stepped, one, quietly, with_input}
-use Rattle.thread_model.specs.Worlds.{World, context, joined, taken_by_context}
+use Rattle.emu_run.specs.Living.{IsLiving, one_living}
+use Rattle.emu_run.specs.Threads.{WorldState, WorldTurn, makes_call, stepped, one, quietly, with_input}
+use Rattle.emu_run.specs.Worlds.{World, context, joined, taken_by_context}
 use Rattle.guest_threads.specs.Calls.{IsCalling}
 use Rattle.guest_threads.specs.Ends.{WorldHeld, IsKept}
 use Rattle.guest_threads.specs.Steps.{stepped_as}

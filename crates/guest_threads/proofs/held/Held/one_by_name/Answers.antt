@@ -3,8 +3,8 @@ use Rattle.emu_machine.specs.declared.ends.StepEnd.{StepEnd}
 use Rattle.emu_machine.specs.declared.ends.StepEnd.TheVariants.{ReadFault, WriteFault, ErrorsFault}
 use Rattle.emu_machine.specs.Ends.{is_undone}
 use Rattle.io_gate.specs.Streams.{Causes}
-use Rattle.thread_model.specs.Threads.{stepped}
-use Rattle.thread_model.specs.Worlds.{World}
+use Rattle.emu_run.specs.Threads.{stepped}
+use Rattle.emu_run.specs.Worlds.{World}
 use Rattle.guest_threads.specs.declared.went.Went.{Went}
 use Rattle.guest_threads.specs.Ends.{Becomes, PutsAlways, TakesWithin}
 use Rattle.guest_threads.specs.Named.{last_end}

@@ -1,5 +1,5 @@
 use Rattle.std.proofs.Common.{◌≡◌, ◌<◌, ◌%◌, ℕ, List, length, get_or, ap, sym, subst, ◌∙◌}
-use Rattle.thread_model.specs.Worlds.{World, some_ready}
+use Rattle.emu_run.specs.Worlds.{World, some_ready}
 use Rattle.guest_threads.specs.Ends.{IsPicked}
 use Rattle.guest_threads.proofs.Picked.{picked_none, picked_at}
 use Rattle.guest_threads.proofs.Views.{world_is}

@@ -1,6 +1,6 @@
 use Rattle.std.proofs.Common.{ap, sym}
 use Rattle.guest_threads.proofs.Made.{cleared_calling, made_clear, made_as}
-use Rattle.thread_model.specs.ThreadCall.{clears}
+use Rattle.emu_run.specs.ThreadCall.{clears}
 use Rattle.guest_threads.proofs.held.Held.set_tid_address.Goals as goal
 
 pub answer-requires : goal.answer-requires

@@ -1,7 +1,7 @@
 use Rattle.std.proofs.Common.{◌≡◌, List, get_or, set, length, ap, refl, sym, ◌∙◌}
 use Rattle.std.specs.Vec.{with_items}
 use Rattle.std.proofs.lemmas.List.{length-set, with_items_is}
-use Rattle.thread_model.specs.Worlds.{World, Context, context, no_context, with_context}
+use Rattle.emu_run.specs.Worlds.{World, Context, context, no_context, with_context}
 use Rattle.guest_contexts.specs.Laid.{world_of}
 use Rattle.guest_contexts.proofs.Laid.{stands_is}
 use Rattle.guest_threads.proofs.Views.{held_as}

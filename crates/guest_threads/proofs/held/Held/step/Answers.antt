@@ -8,7 +8,7 @@ use Rattle.emu_machine.specs.Ends.{is_undone, is_unput, step_end}
 use Rattle.emu_machine.specs.Machines.{MakesWrite}
 use Rattle.emu_machine.proofs.Advanced.{not_both}
 use Rattle.linux_calls.specs.Names.{NamesRead}
-use Rattle.thread_model.specs.Worlds.{World, Context, behind_accesses, context, joined, others_behind}
+use Rattle.emu_run.specs.Worlds.{World, Context, behind_accesses, context, joined, others_behind}
 use Rattle.guest_contexts.specs.Laid.{world_of}
 use Rattle.guest_contexts.proofs.Laid.{joined_is, noted_is}
 use Rattle.guest_threads.specs.Ends.{IsInside, WorldHeld, last_machine}

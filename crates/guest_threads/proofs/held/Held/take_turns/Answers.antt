@@ -3,7 +3,7 @@ use Rattle.std.specs.Vec.{with_items}
 use Rattle.std.proofs.lemmas.List.{with_items_is}
 use Rattle.emu_machine.specs.InTurns.{InTurn}
 use Rattle.guest_contexts.specs.Laid.{world_of}
-use Rattle.thread_model.specs.Worlds.{Context}
+use Rattle.emu_run.specs.Worlds.{Context}
 use Rattle.guest_threads.specs.Ends.{WorldHeld}
 use Rattle.guest_threads.specs.Quiet.{FollowsOn, FollowsToEnd, StopsWithin}
 use Rattle.guest_threads.proofs.InTurns.{begun_here, stops_at, stops_within, turns_end, turns_over, turns_stop}

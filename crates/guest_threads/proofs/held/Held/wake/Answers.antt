@@ -1,10 +1,10 @@
 use Rattle.std.proofs.Common.{◌≡◌, List, length, ap, refl, sym, ◌∙◌}
 use Rattle.std.specs.Vec.{with_items}
 use Rattle.std.proofs.lemmas.List.{with_items_is}
-use Rattle.thread_model.specs.Worlds.{World, Context, with_woken, woken, wake_count}
+use Rattle.emu_run.specs.Worlds.{World, Context, with_woken, woken, wake_count}
 use Rattle.guest_contexts.specs.Laid.{world_of}
 use Rattle.guest_contexts.proofs.Laid.{woken_is, wake_count_same}
-use Rattle.thread_model.specs.Living.{woken_length}
+use Rattle.emu_run.specs.Living.{woken_length}
 use Rattle.guest_threads.proofs.Views.{held_as, world_is}
 use Rattle.guest_threads.proofs.held.Held.wake.Goals as goal
 

@@ -1,6 +1,6 @@
 use Rattle.std.proofs.Common.{◌≡◌, ℕ, IfSome, List, true, ap, sym, subst, ◌∙◌}
 use Rattle.guest_threads.specs.Ends.{WorldHeld, is_broken_off, Becomes, IsKeptAt, TakesWithin, Puts}
-use Rattle.thread_model.specs.Threads.{threads, with_input}
+use Rattle.emu_run.specs.Threads.{threads, with_input}
 use Rattle.guest_threads.proofs.Runs.{all_wait}
 use Rattle.guest_threads.proofs.world.World.run.Goals as goal
 

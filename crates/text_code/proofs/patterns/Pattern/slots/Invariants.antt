@@ -1,5 +1,5 @@
 use Rattle.std.proofs.Common.{◌≡◌, ◌++◌, drop, length}
-use Rattle.text_lists.specs.Lists.{slots_of}
+use Rattle.text_model.specs.Lists.{slots_of}
 use Rattle.text_code.proofs.patterns.Pattern.slots.Given as goal
 
 -- those so far and those of the numbers that are left are all

@@ -1,9 +1,0 @@
--- The program's patterns are the table's, computed.
-use Rattle.std.proofs.Common.{refl}
-use Rattle.a64_texts.specs.Data.{data_lines}
-use Rattle.a64_texts.specs.Opened.{texts_open}
-use Rattle.a64_texts.proofs.data_lines.Goals as goal
-
-pub returns : goal.returns
-unfolding texts_open data_lines
-returns c = refl

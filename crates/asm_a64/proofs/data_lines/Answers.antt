@@ -1,0 +1,9 @@
+-- The program's patterns are the table's, computed.
+use Rattle.std.proofs.Common.{refl}
+use Rattle.asm_a64.specs.Data.{data_lines}
+use Rattle.asm_a64.specs.Opened.{texts_open}
+use Rattle.asm_a64.proofs.data_lines.Goals as goal
+
+pub returns : goal.returns
+unfolding texts_open data_lines
+returns c = refl

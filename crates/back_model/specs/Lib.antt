@@ -1,4 +1,0 @@
-pub mod CourseLaws
-pub mod Limits
-pub mod SessionBack
-pub mod SessionBackEquations

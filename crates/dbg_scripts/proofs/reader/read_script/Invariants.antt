@@ -1,8 +1,0 @@
-use Rattle.std.proofs.Common.{◌≡◌, ◌+◌, [], drop, map}
-use Rattle.dbg_model.specs.Script.{read_lines}
-use Rattle.dbg_scripts.proofs.reader.read_script.Given as goal
-
--- what the lines that are left say behind those before is what they all say
-abbrev pub invariant-loop-place : goal.invariant-loop-place
-invariant-loop-place l =
-    read_lines l.script (l.place + 1) (drop l.place (map (λ line. line.now) l.lines.items)) ≡ read_lines [] 1 (map (λ line. line.now) l.lines.items)

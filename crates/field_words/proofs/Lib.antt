@@ -1,2 +1,0 @@
-pub mod FourWords
-pub mod WordPlaces

@@ -1,7 +1,0 @@
-use Rattle.std.proofs.Common.{refl}
-use Rattle.field_words.specs.Places as places
-use Rattle.field_words.proofs.WordPlaces.{moved_twice}
-use Rattle.field_words.proofs.exchanges.apart1.Goals as goal
-
-pub returns : goal.returns
-returns c = moved_twice c.args.x c.quarters-near.result c.apart2.result (places.by_quarters 1) (places.apart 2) (places.apart 1) c.quarters-near.ensures c.apart2.ensures refl refl

@@ -1,7 +1,0 @@
-use Rattle.std.proofs.Common.{refl}
-use Rattle.field_words.specs.Places as places
-use Rattle.field_words.proofs.WordPlaces.{moved_twice}
-use Rattle.field_words.proofs.exchanges.apart8.Goals as goal
-
-pub returns : goal.returns
-returns c = moved_twice c.args.x c.quarters-near.result c.quarters.result (places.by_quarters 8) (places.by_quarters 16) (places.apart 8) c.quarters-near.ensures c.quarters.ensures refl refl

@@ -1,7 +1,0 @@
-use Rattle.std.proofs.Common.{refl}
-use Rattle.field_words.specs.Places as places
-use Rattle.field_words.proofs.WordPlaces.{moved_twice}
-use Rattle.field_words.proofs.exchanges.backwards2.Goals as goal
-
-pub returns : goal.returns
-returns c = moved_twice c.args.x c.backwards4-wide.result c.halves.result (places.backwards 4) (places.by_halves 2) (places.backwards 2) c.backwards4-wide.ensures c.halves.ensures refl refl

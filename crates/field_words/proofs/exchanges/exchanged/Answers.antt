@@ -1,5 +1,0 @@
-use Rattle.field_words.proofs.WordPlaces.{exchange_bit}
-use Rattle.field_words.proofs.exchanges.exchanged.Goals as goal
-
-pub returns : goal.returns
-returns c s h = exchange_bit c.args.x c.args.stay c.args.low c.args.by s h

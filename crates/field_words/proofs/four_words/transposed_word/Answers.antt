@@ -1,5 +1,0 @@
-use Rattle.field_words.proofs.FourWords.{trn_bit}
-use Rattle.field_words.proofs.four_words.transposed_word.Goals as goal
-
-pub returns : goal.returns
-returns c s h = trn_bit c.args.w c.args.skip s c.even_fields-even.result c.args.a c.args.b c.requires.field h c.even_fields-even.ensures

@@ -1,5 +1,0 @@
-use Rattle.gather_loops.proofs.GatheredWords.{no_words}
-use Rattle.gather_loops.proofs.gather.load_register.Goals as goal
-
-pub load_words-requires-clause-zero : goal.load_words-requires-clause-zero
-load_words-requires-clause-zero g c = no_words c.args.plan.now c.args.vec.now c.args.mem.now

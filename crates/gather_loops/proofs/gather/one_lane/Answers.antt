@@ -1,5 +1,0 @@
-use Rattle.gather_loops.proofs.GatheredWords.{one_lane}
-use Rattle.gather_loops.proofs.gather.one_lane.Goals as goal
-
-pub returns : goal.returns
-returns c = λ f i is. one_lane f i c.args.lane c.ranges.lane.fits is

@@ -1,5 +1,0 @@
-use Rattle.gather_loops.proofs.GatheredWords.{two_lanes}
-use Rattle.gather_loops.proofs.gather.two_lanes.Goals as goal
-
-pub returns : goal.returns
-returns c = λ f i first second. two_lanes f i c.args.low c.args.high first second

@@ -1,9 +1,0 @@
-use Rattle.std.proofs.Common.{◌*◌}
-use Rattle.gather_loops.proofs.Ffr.{AreFull}
-use Rattle.gather_loops.proofs.unrefused.is_all_true.Given as goal
-
-abbrev pub invariant-loop-w : goal.invariant-loop-w
-invariant-loop-w l = AreFull l.words (8 * l.w)
-
-abbrev pub invariant-loop-i : goal.invariant-loop-i
-invariant-loop-i l = AreFull l.words l.i

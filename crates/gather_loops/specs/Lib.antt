@@ -1,3 +1,0 @@
-pub mod Indexing
-pub mod Gathers
-pub mod FirstFaultPlan

@@ -1,5 +1,0 @@
-pub mod Disassembly
-pub mod Statements
-pub mod Targets
-pub mod Texts
-pub mod Canonical

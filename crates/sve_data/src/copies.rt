@@ -1,0 +1,115 @@
+//! Copies of lanes and of immediates.
+ghost use Rattle.std.specs.Prelude.{◌≡◌, true};
+ghost use Rattle.sve_insn.specs.declared.form.SveForm.{SveForm};
+ghost use Rattle.sve_effects.specs.VectorData as table;
+ghost use Rattle.sve_effects.specs.Effects as effects;
+ghost use Rattle.sve_data.specs.Groups.{is_copy};
+ghost use Rattle.emu_model.specs.LaneSizes.{IsLaneSize};
+
+use crate::fields::wide_signed;
+use core_regs::Core;
+use emu_bits::{Pred, PredLow, Reg, U};
+use lane_kernels::register_words::{Chunks, Local, merging, plain, zeroing};
+use lane_kernels::sources::{LaneOf, Number, Select};
+use sve_effects::lane_bits;
+use sve_insn::{Sve, SveForm};
+use vec_regs::VecRegs;
+
+/// Does a copy.
+#[inline(always)]
+pub(crate) fn exec(core: &Core, vec: &mut VecRegs, i: &Sve)
+    requires { is_copy i.now ≡ true }
+    ensures { vec.new ≡ effects.vector_data i.now core.now vec.old }
+{
+    match *i.form() {
+        SveForm::DupImm { size, sh, imm8, zd } => dup_imm(core, vec, size, sh, imm8, zd),
+        SveForm::CopyImm {
+            size,
+            pg,
+            m,
+            sh,
+            imm8,
+            zd,
+        } => copy_imm(core, vec, size, pg, m, sh, imm8, zd),
+        SveForm::PrefixP {
+            size,
+            m,
+            pg,
+            zn,
+            zd,
+        } => prefix_p(core, vec, size, m, pg, zn, zd),
+        SveForm::Prefix { zn, zd } => prefix(core, vec, zn, zd),
+        SveForm::SelectZ {
+            size,
+            zm,
+            pg,
+            zn,
+            zd,
+        } => select(core, vec, size, zm, pg, zn, zd),
+        _ => {}
+    }
+}
+
+/// Writes the active lanes; the others keep their value where `merges` is set (/m), else they are 0 (/z).
+fn copied<L: Local + Chunks<u8, 16> + Chunks<u16, 8> + Chunks<u32, 4> + Chunks<u64, 2> + Drop>(
+    vec: &mut VecRegs,
+    merges: bool,
+    e: u32,
+    pg: Pred,
+    zd: Reg,
+    lanes: L,
+)
+    requires { IsLaneSize e }
+    ensures { vec.new ≡ table.copied merges e pg (L.Gives.value lanes e vec.old) zd vec.old }
+{
+    if merges {
+        merging(vec, e, pg, zd, lanes);
+    } else {
+        zeroing(vec, e, pg, zd, lanes);
+    }
+}
+
+fn dup_imm(core: &Core, vec: &mut VecRegs, size: U<2>, sh: bool, imm8: U<8>, zd: Reg)
+    ensures { vec.new ≡ effects.vector_data (SveForm.DupImm size sh imm8 zd) core.now vec.old }
+{
+    let e = lane_bits(size);
+    let n = wide_signed(e, sh, imm8);
+    plain(vec, e, zd, &Number { n });
+}
+
+fn copy_imm(
+    core: &Core,
+    vec: &mut VecRegs,
+    size: U<2>,
+    pg: Pred,
+    m: bool,
+    sh: bool,
+    imm8: U<8>,
+    zd: Reg,
+)
+    ensures { vec.new ≡ effects.vector_data (SveForm.CopyImm size pg m sh imm8 zd) core.now vec.old }
+{
+    let e = lane_bits(size);
+    let n = wide_signed(e, sh, imm8);
+    copied(vec, m, e, pg, zd, Number { n });
+}
+
+fn prefix_p(core: &Core, vec: &mut VecRegs, size: U<2>, m: bool, pg: PredLow, zn: Reg, zd: Reg)
+    ensures { vec.new ≡ effects.vector_data (SveForm.PrefixP size m pg zn zd) core.now vec.old }
+{
+    let lanes = LaneOf { r: zn };
+    copied(vec, m, lane_bits(size), pg.register(), zd, lanes);
+}
+
+fn prefix(core: &Core, vec: &mut VecRegs, zn: Reg, zd: Reg)
+    ensures { vec.new ≡ effects.vector_data (SveForm.Prefix zn zd) core.now vec.old }
+{
+    plain(vec, 64, zd, &LaneOf { r: zn });
+}
+
+fn select(core: &Core, vec: &mut VecRegs, size: U<2>, zm: Reg, pg: Pred, zn: Reg, zd: Reg)
+    ensures { vec.new ≡ effects.vector_data (SveForm.SelectZ size zm pg zn zd) core.now vec.old }
+{
+    let lanes = Select { pg, zn, zm };
+    plain(vec, lane_bits(size), zd, &lanes);
+}

@@ -1,0 +1,6 @@
+pub mod Indexes
+pub mod Lanes
+pub mod GatheredWords
+pub mod Ffr
+pub mod GatheredElements
+pub mod Plain

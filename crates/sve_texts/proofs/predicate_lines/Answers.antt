@@ -1,8 +1,0 @@
--- The program's patterns are the table's, computed.
-use Rattle.sve_texts.specs.Opened.{texts_open}
-use Rattle.std.proofs.Common.{refl}
-use Rattle.sve_texts.proofs.predicate_lines.Goals as goal
-
-pub returns : goal.returns
-unfolding texts_open
-returns c = refl

@@ -1,6 +1,0 @@
-pub mod PartingLaws
-pub mod Partings
-pub mod Sweep
-pub mod SweepLaws
-pub mod Load
-pub mod Listing

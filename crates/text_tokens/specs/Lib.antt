@@ -1,5 +1,0 @@
-pub mod Tokens
-pub mod Layout
-pub mod AreTokens
-pub mod Numbers
-pub mod Places
