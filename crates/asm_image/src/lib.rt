@@ -1,13 +1,22 @@
-//! Listings made into executables, over both tables of instructions.
+//! Listings made into executables: labels by their hash, the bytes of sections as they come, and holes that are filled
+//! once all labels are known; over any reader of instructions (`assemble_with`), and over that of both tables.
 #![tactic(auto)]
 
-ghost use Rattle.asm_layout.specs.Assembly.{IsMade};
+mod assembly;
+mod draft;
+mod elf_file;
+mod filling;
+mod labels;
+mod placing;
+mod putting;
+mod text_lines;
+
+ghost use Rattle.asm_image.specs.Assembly.{IsMade};
 ghost use Rattle.asm_text.specs.Statements.{statements};
 ghost use Rattle.listing_model.specs.Image.{image_of};
 
-pub use asm_layout::AsmError;
-use asm_layout::assemble_with;
 use asm_text::Tables;
+pub use assembly::{AsmError, assemble_with};
 pub use listing_model::{ListingFault, ListingWhy};
 use std::alloc::Global;
 

@@ -9,5 +9,12 @@ pub mod Vectors
 pub mod Aimed
 pub mod Targeted
 pub mod Statements
-pub mod Lines
 pub mod Steps
+pub mod TargetLines
+pub mod LineParts
+pub mod Commas
+pub mod Wholes
+pub mod Parts
+pub mod Reading
+pub mod Widths
+pub mod Single

@@ -34,7 +34,7 @@ use Rattle.text_model.specs.declared.slots.Refusal.{Refusal}
 use Rattle.text_model.specs.Statement.{Destination, to_label, Statement, reads_tokens}
 use Rattle.asm_tokens.specs.Layout.{is_sign}
 use Rattle.asm_tokens.specs.Tokens.{tokens}
-use Rattle.asm_layout.specs.Wanting.{SaysLabel}
+use Rattle.asm_text.specs.Wanting.{SaysLabel}
 use Rattle.asm_text.specs.Canonical.{HasCanonical}
 use Rattle.asm_text.proofs.Base.{canonical_read as base_canonical, line_read}
 use Rattle.asm_text.proofs.Targeted.{targeted}

@@ -3,3 +3,9 @@ pub mod Disassembly
 pub mod Statements
 pub mod Targets
 pub mod Texts
+pub mod Wanting
+pub mod Stored
+pub mod Colons
+pub mod Aimable
+pub mod Plain
+pub mod Leading

@@ -5,9 +5,9 @@ ghost use Rattle.asm_text.specs.Targets.{HasTarget};
 ghost use Rattle.text_code.specs.Faults.{fault_of};
 ghost use Rattle.text_model.specs.declared.slots.Refusal.{Refusal};
 
+use crate::Instructions;
 use crate::aiming::aim;
 use asm_a64::read_a64;
-use asm_layout::Instructions;
 use asm_sve::read_sve;
 use asm_tokens::{AsmFault, Target};
 use insn_decode::{Insn, encode};

@@ -1,13 +1,23 @@
 //! What the statements of both tables say, the texts of their instructions, and what a disassembly is: definitions.
-//! Lines of listings over both tables of instructions, and instructions aimed at addresses.
+//!
+//! The lines of a listing, read from their text: labels and directives, and the statements of instructions by any
+//! reader of them (`read_line`), or by that of both tables; and instructions aimed at addresses.
 #![tactic(auto)]
 
 mod aiming;
+mod arguments;
 mod both_tables;
+mod directives;
+mod instructions;
+mod lines;
+mod lists;
+mod names;
+mod numbers;
+mod strings;
 
 ghost use Rattle.std.specs.Prelude.{◌≡◌, Err, IfOk, IfSome, List, true, ℕ};
-ghost use Rattle.asm_layout.specs.Aimable.{IsAimable};
-ghost use Rattle.asm_layout.specs.Wanting.{IsLineCopied};
+ghost use Rattle.asm_text.specs.Aimable.{IsAimable};
+ghost use Rattle.asm_text.specs.Wanting.{IsLineCopied};
 ghost use Rattle.asm_text.specs.Canonical.{HasCanonical};
 ghost use Rattle.emu_run.specs.declared.insn.Insn.{Insn};
 ghost use Rattle.asm_text.specs.Statements.{aimed_at, reads, statements};
@@ -18,10 +28,11 @@ ghost use Rattle.listing_model.specs.LineOf.{line_of};
 ghost use Rattle.asm_tokens.specs.Tokens.{tokens};
 
 pub use aiming::aim;
-use asm_layout::read_line;
 use asm_tokens::AsmFault;
 pub use both_tables::Tables;
 use insn_decode::Insn;
+pub use instructions::Instructions;
+pub use lines::read_line;
 pub use listing_model::Directive;
 use std::alloc::Global;
 

@@ -2,9 +2,9 @@
 use Rattle.std.proofs.Common.{◌≡◌, ℕ, ◌+◌, List, take, count_by, Option, Some, Result, Ok, Err, refl, sym, ap, subst, ◌∙◌}
 use Rattle.std.specs.Str.{IsUtf8}
 use Rattle.std.specs.Str.Lossy.{utf8_valid_len}
-use Rattle.asm_layout.specs.Assembly.{IsMade}
-use Rattle.asm_layout.specs.declared.assembly.AsmError.{AsmError}
-use Rattle.asm_layout.specs.declared.assembly.AsmError.TheVariants.{Refused}
+use Rattle.asm_image.specs.Assembly.{IsMade}
+use Rattle.asm_image.specs.declared.assembly.AsmError.{AsmError}
+use Rattle.asm_image.specs.declared.assembly.AsmError.TheVariants.{Refused}
 use Rattle.io_gate.specs.Pieces.{PutsAll}
 use Rattle.command_model.specs.Refusals.{listing_line}
 use Rattle.line_words.specs.Lines.{is_newline}

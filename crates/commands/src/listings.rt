@@ -20,7 +20,7 @@ ghost use Rattle.std.specs.Prelude.{
 };
 ghost use Rattle.io_gate.specs.Images.{MissesNamed};
 ghost use Rattle.io_gate.specs.Streams.{Rose, Causes};
-ghost use Rattle.asm_layout.specs.Assembly.{IsMade};
+ghost use Rattle.asm_image.specs.Assembly.{IsMade};
 ghost use Rattle.asm_text.specs.Statements.{statements};
 ghost use Rattle.listing_model.specs.Image.{image_of_bytes};
 ghost use Rattle.command_lines.specs.Outcome.{file_limit, outcome_of_listing};

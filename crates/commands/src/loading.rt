@@ -1,7 +1,7 @@
 //! The command `load`: from a number to a line on the run of its load program at each vector length.
 ghost use Rattle.std.specs.Prelude.{◌≡◌, ◌≢◌, ℕ, List, Option, Some, true};
 ghost use Rattle.io_gate.specs.Streams.{Causes};
-ghost use Rattle.asm_layout.specs.Assembly.{IsMade};
+ghost use Rattle.asm_image.specs.Assembly.{IsMade};
 ghost use Rattle.emu_system.specs.Image.{elf};
 ghost use Rattle.asm_text.specs.Statements.{statements};
 ghost use Rattle.listing_model.specs.Image.{image_of};

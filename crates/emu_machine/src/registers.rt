@@ -3,8 +3,8 @@ ghost use Rattle.std.specs.Prelude.{◌≡◌, IfOk};
 ghost use Rattle.emu_model.specs.State.{zero_core, zero_vectors};
 
 use core_regs::Core;
-use insn_decode::DecodedWords;
 use emu_model::Length;
+use insn_decode::DecodedWords;
 use std::alloc::{AllocError, Global};
 use vec_regs::VecRegs;
 

@@ -3,8 +3,8 @@ ghost use Rattle.std.specs.Prelude.{◌≡◌};
 ghost use Rattle.emu_run.specs.Worlds as worlds;
 
 use core_regs::Core;
-use std::marker::Model;
 use emu_run::Standing;
+use std::marker::Model;
 use vec_regs::VecRegs;
 
 /// A context of a world, whose registers are in boxes, so that they can be exchanged as they are. Contracts see it as a

@@ -4,8 +4,8 @@ ghost use Rattle.std.specs.Prelude.{◌≡◌, IfOk, length as len};
 use crate::context::{Context, Started};
 use core_regs::Core;
 use emu_model::Length;
-use std::alloc::{AllocError, Global};
 use emu_run::Standing;
+use std::alloc::{AllocError, Global};
 use vec_regs::VecRegs;
 
 /// Boxes for the registers of a context.

@@ -6,8 +6,8 @@ ghost use Rattle.emu_run.specs.Worlds as worlds;
 
 use crate::held::Held;
 use emu_machine::StepEnd;
-use guest_contexts::error_answer;
 use emu_run::{Standing, ThreadCall, ThreadErrno};
+use guest_contexts::error_answer;
 
 impl Held {
     /// Makes the call of the context whose registers the machine has, where it makes one and that speaks of contexts.

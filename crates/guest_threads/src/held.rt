@@ -6,11 +6,11 @@ ghost use Rattle.emu_run.specs.Worlds as worlds;
 use arrayvec::ArrayVec;
 use core_regs::Core;
 use emu_machine::Machine;
+use emu_run::Standing;
 use guest_contexts::{Context, Spare, ready, spares};
 use guest_pages::OutOfMemory;
 use std::alloc::{AllocError, Global};
 use std::marker::Model;
-use emu_run::Standing;
 use vec_regs::VecRegs;
 
 /// The most contexts of a world, those that have left included.

@@ -14,11 +14,11 @@ use crate::held::{Held, MOST_CONTEXTS};
 use core_regs::Core;
 use emu_bits::Reg;
 use emu_model::Kind;
+use emu_run::{Standing, ThreadCall};
 use guest_contexts::{
     Started, are_all_gone, copy_core, copy_vectors, empty_monitors, ready, set_clear, stand,
     thread_call, wake,
 };
-use emu_run::{Standing, ThreadCall};
 
 impl Held {
     /// The call whose number is in x8.

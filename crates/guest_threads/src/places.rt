@@ -6,8 +6,8 @@ ghost use Rattle.emu_run.specs.Threads as model;
 ghost use Rattle.emu_run.specs.Worlds as worlds;
 
 use crate::held::Held;
-use guest_contexts::{next_turn, place_among};
 use emu_run::Place;
+use guest_contexts::{next_turn, place_among};
 
 /// The number of steps that are counted in all when the turn of a place, or the budget, is used up.
 #[inline(always)]

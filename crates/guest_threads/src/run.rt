@@ -24,9 +24,9 @@ use crate::held::Held;
 use crate::places::{turn_until, used_behind};
 use crate::went::Went;
 use emu_machine::{Ended, StepEnd};
+use emu_run::Place;
 use guest_contexts::{Rest, rest_of};
 use io_gate::{Sink, Source};
-use emu_run::Place;
 
 impl Held {
     /// Takes the steps that the turns of a schedule name, until the world has ended, no context is ready, or `budget`

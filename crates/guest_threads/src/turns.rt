@@ -8,8 +8,8 @@ ghost use Rattle.emu_run.specs.Worlds as worlds;
 
 use crate::held::Held;
 use emu_machine::Progress;
-use guest_contexts::{Turn, next_turn, turn_end};
 use emu_run::Place;
+use guest_contexts::{Turn, next_turn, turn_end};
 
 impl Held {
     /// Takes the steps of whole turns from the beginning of a turn on, and answers the place of the next step: while

@@ -4,8 +4,8 @@ ghost use Rattle.emu_bits.specs.Fields.{field};
 ghost use Rattle.emu_run.specs.Step.{decode};
 ghost use Rattle.insn_decode.specs.Known.{IsOfWord};
 
-use emu_bits::Pred;
 use crate::{Insn, decode_sve_word, encode};
+use emu_bits::Pred;
 use std::marker::Model;
 use sve_insn::{Sve, SveForm};
 

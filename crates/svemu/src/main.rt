@@ -5,15 +5,14 @@
 
 ghost use Rattle.std.specs.Prelude.{◌≡◌, ◌≢◌};
 
-pub use command_lines::{Line, WordsFault, WordsWhy, line_of_words};
-pub use command_lines::Ending;
+pub use command_lines::{Ending, Line, WordsFault, WordsWhy, line_of_words};
+pub use command_model::{OutOfMemory, load_listing};
 use io_gate::{FileImages, StdSink, StdSource};
 use std::alloc::{AllocError, Global};
 use std::env;
 use std::io::ErrorKind;
 use std::process::ExitCode;
 pub use svemu_call::{status_of, svemu};
-pub use command_model::{OutOfMemory, load_listing};
 
 /// The status where a word of the command line isn't text, or where the words can't be had.
 const WORDS_UNREADABLE: u8 = 118;

@@ -29,8 +29,8 @@ ghost use Rattle.commands.specs.Promises.{
 };
 ghost use Rattle.svemu_call.specs.Headline.{IsQuiet, Completes};
 
-use commands::command;
 use command_lines::Ending;
+use commands::command;
 use io_gate::{Images, Sink, Source};
 use std::alloc::Global;
 

@@ -12,9 +12,8 @@ use crate::bits::{number_of, ones};
 use crate::groups::has_class;
 use crate::kinds::can_show;
 use crate::patterns::Pattern;
-use text_model::slot;
 use text_model::slot_numbers::END;
-use text_model::{Bits, Parts, Shape, Slot};
+use text_model::{Bits, Parts, Shape, Slot, slot};
 
 /// Some ones, and ones at these bits.
 fn with_ones(b: Bits, more: u32) -> u32

@@ -4,9 +4,8 @@ ghost use Rattle.text_code.specs.Tables.{pattern_of};
 
 use crate::filling::MOST;
 use arrayvec::ArrayVec;
-use text_model::slot;
 use text_model::slot_numbers::END;
-use text_model::Slot;
+use text_model::{Slot, slot};
 
 /// A pattern: the number of its name, the word whose bits the name settles, and the numbers of the slots that show the
 /// others, up to [`END`].

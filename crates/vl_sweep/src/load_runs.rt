@@ -9,12 +9,12 @@ ghost use Rattle.vl_sweep.specs.LoadRuns.{HasRun};
 
 use crate::lengths::length_behind;
 use crate::load_line::push_run_line;
+use command_model::{LOAD_BUDGET, LOAD_PAGES};
 use elf_image::Image;
 use emu_machine::{Machine, RunEnd};
 use emu_model::Length;
 use io_gate::{MemSink, SliceSource};
 use std::alloc::{AllocError, Global};
-use command_model::{LOAD_BUDGET, LOAD_PAGES};
 
 /// Want of memory.
 pub type OutOfMemory = AllocError;

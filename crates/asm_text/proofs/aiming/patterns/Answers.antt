@@ -1,7 +1,7 @@
 use Rattle.std.proofs.Common.{sym, ap, ◌∙◌}
 use Rattle.asm_a64.specs.declared.lines.TheConstants as text_line
 use Rattle.asm_text.specs.Targets.{may_have_target}
-use Rattle.asm_text.proofs.Lines.{sound_line, adr_line, branch_line, branch_cond_line, compare_line, test_line, ls_literal_line}
+use Rattle.asm_text.proofs.TargetLines.{sound_line, adr_line, branch_line, branch_cond_line, compare_line, test_line, ls_literal_line}
 use Rattle.asm_text.proofs.aiming.patterns.Goals as goal
 
 pub returns-in-Adr-clause-patterns : goal.returns-in-Adr-clause-patterns

@@ -1,6 +1,6 @@
 use Rattle.std.proofs.Common.{ℕ, List, Result, sym, ap, subst, ◌∙◌, arith}
 use Rattle.std.proofs.lemmas.Str.{utf8_valid_len_le}
-use Rattle.asm_layout.specs.Assembly.{IsMade}
+use Rattle.asm_image.specs.Assembly.{IsMade}
 use Rattle.listing_model.specs.declared.fault.ListingFault.{ListingFault}
 use Rattle.commands.proofs.Assembling.{bad_listing, no_listing, text_listing}
 use Rattle.commands.proofs.listings.made.Goals as goal

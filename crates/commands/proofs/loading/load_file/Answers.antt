@@ -1,5 +1,5 @@
 use Rattle.std.proofs.Common.{ℕ, List, subst, ◌∙◌}
-use Rattle.asm_layout.specs.Assembly.{IsMade}
+use Rattle.asm_image.specs.Assembly.{IsMade}
 use Rattle.asm_text.specs.Statements.{statements}
 use Rattle.listing_model.specs.Image.{image_of}
 use Rattle.commands.proofs.loading.load_file.Goals as goal
