@@ -2,7 +2,7 @@
 use Rattle.std.proofs.Common.{◌≡◌, ℕ, ◌+◌, ◌*◌, ◌<◌, List, length, get_or, sym, ap, subst, ◌∙◌, arith, Some, Option}
 use Rattle.std.proofs.lemmas.List.{get_or_read}
 use denote.RawPtr.{Ptr, block_ptr, block_of, count_of}
-use Rattle.emu_model.specs.Access.{page_size}
+use Rattle.frame_arena.specs.Size.{frame_size}
 use Rattle.frame_arena.specs.declared.memory.Memory.{Memory}
 use Rattle.frame_arena.specs.declared.page.Page.{Page}
 use Rattle.frame_arena.specs.Lending.{with_slot}
@@ -39,9 +39,9 @@ module _ (p : Ptr) (ss : List Slot) (n : ℕ) (x : Slot) (l : n < length ss) (at
   seat_counted k = other_count p n x k here
 
 -- the frame at block_ptr b o is cut off the rest, which is the memory r
-module _ (p : Ptr) (n b o : ℕ) (r : Ptr) (at : r ≡ block_ptr (block_of p) (count_of p + n * page_size)) (cut : r ≡ block_ptr b o) where
+module _ (p : Ptr) (n b o : ℕ) (r : Ptr) (at : r ≡ block_ptr (block_of p) (count_of p + n * frame_size)) (cut : r ≡ block_ptr b o) where
   pub cut_seat : IsSeat p n b o
   cut_seat = (ap block_of (sym cut ∙ at), ap count_of (sym cut ∙ at))
 
-  pub cut_rest : (q : Ptr) → q ≡ block_ptr b (o + page_size) → q ≡ block_ptr (block_of p) (count_of p + (n + 1) * page_size)
-  cut_rest q e = e ∙ ap (λ (x : ℕ). block_ptr x (o + page_size)) cut_seat.0 ∙ ap (λ (x : ℕ). block_ptr (block_of p) x) (let s = cut_seat.1 in omega (arith, s))
+  pub cut_rest : (q : Ptr) → q ≡ block_ptr b (o + frame_size) → q ≡ block_ptr (block_of p) (count_of p + (n + 1) * frame_size)
+  cut_rest q e = e ∙ ap (λ (x : ℕ). block_ptr x (o + frame_size)) cut_seat.0 ∙ ap (λ (x : ℕ). block_ptr (block_of p) x) (let s = cut_seat.1 in omega (arith, s))

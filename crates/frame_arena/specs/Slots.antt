@@ -1,7 +1,7 @@
 -- What the table of frames has, and what it is beside the list of the spare ones.
 use Rattle.std.specs.Prelude.{◌≡◌, ℕ, ◌+◌, ◌-◌, ◌*◌, ◌<◌, ◌≤◌, ◌^◌, ◌==◌, Bool, false, ◌||◌, List, [], ◌∷◌, length, slice_index_or, Option, Some, None}
 use Rattle.std.specs.FinMap.{from_entries, len}
-use Rattle.emu_model.specs.Access.{page_size}
+use Rattle.frame_arena.specs.Size.{frame_size}
 use Rattle.frame_arena.specs.Frames.{Block, Frames, Live}
 use Rattle.frame_arena.specs.Links.{Place}
 use Rattle.std.specs.Vec.{vec_capacity}
@@ -76,7 +76,7 @@ IsWhole ss fs = len (live_slots ss) + length fs ≡ length ss
 
 -- the object and the place in it of the frame n of the region at p
 abbrev pub IsSeat : Ptr → ℕ → ℕ → ℕ → Type 0
-IsSeat p n block place = (block ≡ block_of p) × (place ≡ count_of p + n * page_size)
+IsSeat p n block place = (block ≡ block_of p) × (place ≡ count_of p + n * frame_size)
 
 abbrev pub IsSeated : Ptr → ℕ → Option Page → Type 0
 IsSeated p n None = Unit {0}
@@ -93,7 +93,7 @@ AreSpareSeated p (f ∷ fs) = IsSeat p f.2 f.0 f.1 × AreSpareSeated p fs
 -- m frames that lie from the frame n on
 abbrev pub IsRest : Ptr → ℕ → ℕ → Option Memory → Type 0
 IsRest p n m None = ⊥
-IsRest p n m (Some rest) = (rest.ptr ≡ block_ptr (block_of p) (count_of p + n * page_size)) × (rest.size ≡ m * page_size)
+IsRest p n m (Some rest) = (rest.ptr ≡ block_ptr (block_of p) (count_of p + n * frame_size)) × (rest.size ≡ m * frame_size)
 
 pub record IsKept (a : Inside) : Type 0 where
   pub given : a.given ≡ length a.free.frames
@@ -106,4 +106,4 @@ pub record IsKept (a : Inside) : Type 0 where
   pub spare_seated : AreSpareSeated a.lease.ptr a.free.frames
   pub rest : IsRest a.lease.ptr (length a.slots.items) (a.total - length a.slots.items) a.rest
   pub start : a.lease.ptr ≡ block_ptr (block_of a.lease.ptr) (count_of a.lease.ptr)
-  pub leased : (a.lease.alloc ≡ a.alloc) × (a.lease.size ≡ a.total * page_size)
+  pub leased : (a.lease.alloc ≡ a.alloc) × (a.lease.size ≡ a.total * frame_size)

@@ -1,13 +1,12 @@
 //! Frames that are taken and given back.
 ghost use Rattle.std.specs.Prelude.{◌≡◌, ℕ, ◌≤◌, ◌<◌, ◌+◌, ◌^◌, ◌==◌, take, drop, IfOk, MatchOption, Some, length};
 ghost use Rattle.std.specs.FinMap as map;
-ghost use Rattle.emu_model.specs.Access.{page_size};
+ghost use Rattle.frame_arena.specs.Size.{frame_size};
 
-use crate::OutOfMemory;
 use crate::list::FreeList;
 use crate::memory::{Lease, Memory};
 use crate::slot::{Slot, zeroed_page};
-use emu_model::PAGE_BYTES;
+use crate::{FRAME_BYTES, OutOfMemory};
 use std::alloc::{AllocError, Global};
 use std::marker::Model;
 use std::mem;
@@ -91,7 +90,7 @@ impl FrameArena {
     {
         let count = frames as usize;
         let slots = Vec::with_capacity(alloc, count)?;
-        let Some((region, lease)) = Memory::new(&alloc, count * PAGE_BYTES) else {
+        let Some((region, lease)) = Memory::new(&alloc, count * FRAME_BYTES) else {
             return Err(AllocError);
         };
         Ok(FrameArena {
@@ -214,7 +213,7 @@ impl FrameArena {
         ensures { MatchOption result ((self.old.spare ≡ 0) × (self.new ≡ self.old))
             (λ c. Takes self.old c (bytes_of self.old.live f.now) self.new) }
     {
-        let mut bytes = [0; PAGE_BYTES];
+        let mut bytes = [0; FRAME_BYTES];
         bytes.copy_from_slice(self.bytes(f));
         let copy = self.take()?;
         self.bytes_mut(&copy).copy_from_slice(&bytes);
@@ -226,7 +225,7 @@ impl FrameArena {
     pub fn bytes(&self, f: &Frame) -> &[u8]
         requires { IsLive self.now f.now }
         ensures bytes { result.now ≡ bytes_of self.now.live f.now }
-        ensures length { length result.now ≡ page_size }
+        ensures length { length result.now ≡ frame_size }
     {
         self.bytes_at(f.number())
     }
@@ -236,7 +235,7 @@ impl FrameArena {
     pub fn bytes_at(&self, number: u32) -> &[u8]
         requires { IsLive self.now number }
         ensures bytes { result.now ≡ bytes_of self.now.live number }
-        ensures length { length result.now ≡ page_size }
+        ensures length { length result.now ≡ frame_size }
     {
         self.slots[number as usize].bytes()
     }
@@ -247,7 +246,7 @@ impl FrameArena {
         requires { IsSole self.old f.now }
         ensures* writes_back { sem 𝓛 (LendsFrame self.entry f.now result) }
         ensures bytes { result.now ≡ bytes_of self.old.live f.now }
-        ensures length { length result.now ≡ page_size }
+        ensures length { length result.now ≡ frame_size }
     {
         // for its length
         let _bytes = self.bytes(f);
@@ -259,7 +258,7 @@ impl FrameArena {
     #[inline(always)]
     pub fn part_mut(&mut self, f: &Frame, at: usize, count: usize) -> &mut [u8]
         requires sole { IsSole self.old f.now }
-        requires within { at + count ≤ page_size }
+        requires within { at + count ≤ frame_size }
         ensures* writes_back { sem 𝓛 (LendsPart self.entry f.now at result) }
         ensures bytes { result.now ≡ take count (drop at (bytes_of self.old.live f.now)) }
         ensures length { length result.now ≡ count }

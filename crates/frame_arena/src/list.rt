@@ -2,7 +2,7 @@
 ghost use Rattle.std.specs.Prelude.{◌≡◌, ℕ, ◌<◌, List, [], ◌∷◌, length};
 ghost use denote.RawPtr.{block_ptr};
 ghost use Rattle.linked_list_allocator.specs.Ownership.{bytes_at};
-ghost use Rattle.emu_model.specs.Access.{page_size};
+ghost use Rattle.frame_arena.specs.Size.{frame_size};
 ghost use Rattle.frame_arena.specs.Links.{Place, links, first_of};
 
 use std::marker::Model;
@@ -25,7 +25,7 @@ pub struct Spare {
 }
 
 impl Model for Spare {
-    ghost also_owns = { λ s. bytes_at s.at page_size };
+    ghost also_owns = { λ s. bytes_at s.at frame_size };
 }
 
 /// Spare frames with their numbers. Each begins with its number and a pointer to the next.

@@ -2,11 +2,11 @@
 ghost use Rattle.std.specs.Prelude.{◌≡◌, ℕ, ◌+◌, ◌≤◌, ◌<◌, ◌^◌, IfSome};
 ghost use denote.RawPtr.{Ptr, block_ptr, block_of, count_of};
 ghost use Rattle.linked_list_allocator.specs.Ownership.{bytes_at, units_of};
-ghost use Rattle.emu_model.specs.Access.{page_size};
+ghost use Rattle.frame_arena.specs.Size.{frame_size};
 ghost use Rattle.frame_arena.specs.Links.{IsRegionSize};
 
+use crate::FRAME_BYTES;
 use crate::list::Spare;
-use emu_model::PAGE_BYTES;
 use std::alloc::Allocator;
 use std::marker::{Model, PhantomData};
 
@@ -53,25 +53,25 @@ impl Memory {
 
     /// The first frame, and the rest.
     pub fn cut(self) -> (Spare, Memory)
-        requires { page_size ≤ self.size }
-        ensures size { result.1.size + page_size ≡ self.size }
+        requires { frame_size ≤ self.size }
+        ensures size { result.1.size + frame_size ≡ self.size }
         ensures first { self.ptr ≡ block_ptr result.0.block result.0.place }
-        ensures rest { result.1.ptr ≡ block_ptr result.0.block (result.0.place + page_size) }
+        ensures rest { result.1.ptr ≡ block_ptr result.0.block (result.0.place + frame_size) }
     {
         let Memory { ptr, size } = self;
-        let rest = unsafe { ptr.add(PAGE_BYTES) };
-        let size = size - PAGE_BYTES;
+        let rest = unsafe { ptr.add(FRAME_BYTES) };
+        let size = size - FRAME_BYTES;
         (Spare { at: ptr }, Memory { ptr: rest, size })
     }
 
     /// The frame that lies just before these bytes joins them.
     pub fn glue(self, frame: Spare) -> Memory
-        requires { (self.ptr ≡ block_ptr frame.block (frame.place + page_size)) × (self.size + page_size < 2 ^ 63) }
-        ensures { (result.ptr ≡ block_ptr frame.block frame.place) × (result.size ≡ self.size + page_size) }
+        requires { (self.ptr ≡ block_ptr frame.block (frame.place + frame_size)) × (self.size + frame_size < 2 ^ 63) }
+        ensures { (result.ptr ≡ block_ptr frame.block frame.place) × (result.size ≡ self.size + frame_size) }
     {
         let Memory { ptr: _, size } = self;
         let Spare { at } = frame;
-        let size = size + PAGE_BYTES;
+        let size = size + FRAME_BYTES;
         Memory { ptr: at, size }
     }
 

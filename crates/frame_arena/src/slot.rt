@@ -17,14 +17,14 @@ ghost use Rattle.std.specs.Prelude.{
   unwrap_or,
 };
 ghost use Rattle.std.specs.Borrow.{sem};
-ghost use Rattle.emu_model.specs.Access.{page_size};
+ghost use Rattle.frame_arena.specs.Size.{frame_size};
 ghost use Rattle.frame_arena.specs.Frames.{zeroed};
 ghost use Rattle.frame_arena.specs.Slots.{others_in, page_in, slot_bytes, with_others};
 ghost use Rattle.frame_arena.specs.Lending.{LendsSlot, LendsSlotPart};
 
+use crate::FRAME_BYTES;
 use crate::list::Spare;
 use crate::page::Page;
-use emu_model::PAGE_BYTES;
 
 #[derive(Drop)]
 pub(crate) enum Slot {
@@ -38,12 +38,12 @@ pub(crate) enum Slot {
 pub(crate) fn zeroed_page(frame: Spare) -> Page
     ensures { (result.block ≡ frame.block) × (result.place ≡ frame.place) × (result.bytes ≡ zeroed) }
 {
-    Page::new(frame, [0; PAGE_BYTES])
+    Page::new(frame, [0; FRAME_BYTES])
 }
 
 impl Slot {
     #[inline(always)]
-    pub(crate) fn bytes(&self) -> &[u8; PAGE_BYTES]
+    pub(crate) fn bytes(&self) -> &[u8; FRAME_BYTES]
         requires { IsSome (page_in self.now) }
         ensures { slot_bytes self.now ≡ Some result.now }
     {
@@ -54,7 +54,7 @@ impl Slot {
     }
 
     #[inline(always)]
-    pub(crate) fn bytes_mut(&mut self) -> &mut [u8; PAGE_BYTES]
+    pub(crate) fn bytes_mut(&mut self) -> &mut [u8; FRAME_BYTES]
         requires { IsSome (page_in self.old) }
         ensures* writes_back { sem 𝓛 (LendsSlot self.entry result) }
         ensures bytes { slot_bytes self.old ≡ Some result.now }
@@ -68,7 +68,7 @@ impl Slot {
     #[inline(always)]
     pub(crate) fn part_mut(&mut self, at: usize, count: usize) -> &mut [u8]
         requires live { IsSome (page_in self.old) }
-        requires within { at + count ≤ page_size }
+        requires within { at + count ≤ frame_size }
         ensures* writes_back { sem 𝓛 (LendsSlotPart self.entry at result) }
         ensures bytes { result.now ≡ take count (drop at (unwrap_or (slot_bytes self.old) [])) }
         ensures length { length result.now ≡ count }

@@ -1,4 +1,1 @@
-mod InPlace
-pub mod PairLanes
-pub mod RegisterWords
 mod Zips

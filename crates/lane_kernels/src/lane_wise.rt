@@ -31,22 +31,6 @@ pub trait LaneWise2 {
         ensures { T.number result ≡ entry self.now T.BITS (T.number a) n % 2 ^ T.BITS };
 }
 
-/// An operation of a lane and one number for all lanes.
-#[derive(Drop)]
-pub struct WithNumber<F> {
-    pub op: F,
-    pub n: u64,
-}
-
-impl<F: LaneWise2> LaneWise1 for WithNumber<F> {
-    ghost entry = { λ s e a. F.entry s.op e a s.n };
-
-    #[inline(always)]
-    fn one<T: Lane>(&self, a: T) -> T {
-        self.op.with_number(a, self.n)
-    }
-}
-
 /// An operation on three lanes of any width.
 pub trait LaneWise3 {
     /// The number that it makes, of the bits of a lane and three numbers.
@@ -55,21 +39,6 @@ pub trait LaneWise3 {
     /// The lane of that number, modulo 2^BITS.
     fn one<T: Lane>(&self, a: T, b: T, c: T) -> T
         ensures { T.number result ≡ entry self.now T.BITS (T.number a) (T.number b) (T.number c) % 2 ^ T.BITS };
-}
-
-/// An operation on three lanes of which the last is its first.
-#[derive(Drop)]
-pub struct LastFirst<F> {
-    pub op: F,
-}
-
-impl<F: LaneWise3> LaneWise3 for LastFirst<F> {
-    ghost entry = { λ s e a b c. F.entry s.op e c a b };
-
-    #[inline(always)]
-    fn one<T: Lane>(&self, a: T, b: T, c: T) -> T {
-        self.op.one(c, a, b)
-    }
 }
 
 /// A step of a fold over lanes of any width.

@@ -60,7 +60,7 @@ impl LaneWise2 for Umulh {
     }
 }
 
-/// The signed quotient, towards zero, and 0 where the second is 0.
+/// The signed quotient of the first by the second, towards zero, and 0 where the second is 0.
 #[derive(Clone, Copy)]
 pub struct Sdiv;
 
@@ -78,7 +78,7 @@ impl LaneWise2 for Sdiv {
     }
 }
 
-/// The unsigned quotient, and 0 where the second is 0.
+/// The unsigned quotient of the first by the second, and 0 where the second is 0.
 #[derive(Clone, Copy)]
 pub struct Udiv;
 
@@ -93,5 +93,41 @@ impl LaneWise2 for Udiv {
     #[inline(always)]
     fn with_number<T: Lane>(&self, a: T, n: u64) -> T {
         T::from_u64(apply(LaneOp::Udiv, T::BITS, a.to_u64(), n))
+    }
+}
+
+/// The signed quotient of the second by the first, towards zero, and 0 where the first is 0.
+#[derive(Clone, Copy)]
+pub struct Sdivr;
+
+impl LaneWise2 for Sdivr {
+    ghost entry = { λ _ e a b. lane_op LaneOp.Sdiv e b a };
+
+    #[inline(always)]
+    fn one<T: Lane>(&self, a: T, b: T) -> T {
+        Sdiv.one(b, a)
+    }
+
+    #[inline(always)]
+    fn with_number<T: Lane>(&self, a: T, n: u64) -> T {
+        T::from_u64(apply(LaneOp::Sdiv, T::BITS, n, a.to_u64()))
+    }
+}
+
+/// The unsigned quotient of the second by the first, and 0 where the first is 0.
+#[derive(Clone, Copy)]
+pub struct Udivr;
+
+impl LaneWise2 for Udivr {
+    ghost entry = { λ _ e a b. lane_op LaneOp.Udiv e b a };
+
+    #[inline(always)]
+    fn one<T: Lane>(&self, a: T, b: T) -> T {
+        Udiv.one(b, a)
+    }
+
+    #[inline(always)]
+    fn with_number<T: Lane>(&self, a: T, n: u64) -> T {
+        T::from_u64(apply(LaneOp::Udiv, T::BITS, n, a.to_u64()))
     }
 }

@@ -1,5 +1,5 @@
 //! Shifts of lanes by any unsigned amount.
-ghost use Rattle.std.specs.Prelude.{◌≡◌, ◌<◌, ◌^◌};
+ghost use Rattle.std.specs.Prelude.{◌≡◌, ◌<◌, ◌%◌, ◌^◌};
 ghost use Rattle.emu_bits.specs.Operations.{lsl, lsr, asr};
 ghost use Rattle.sve_effects.specs.declared.lane_functions.LaneOp.{LaneOp};
 ghost use Rattle.sve_effects.specs.Lane.{lane_op};
@@ -57,7 +57,42 @@ fn shifted_signed(e: u32, a: u64, n: u64) -> u64
     }
 }
 
-/// A shift to the right, with copies of the top bit above.
+/// A lane shifted to the right by any amount, with copies of the top bit above.
+#[inline(always)]
+fn right_signed<T: Lane>(a: T, n: u64) -> T
+    ensures { T.number result ≡ lane_op LaneOp.Asr T.BITS (T.number a) n % 2 ^ T.BITS }
+{
+    let most = u64::from(T::BITS - 1);
+    T::from_u64(shifted_signed(T::BITS, a.to_u64(), n.min(most)))
+}
+
+/// A lane shifted to the right by any amount, with zeros above.
+#[inline(always)]
+fn right<T: Lane>(a: T, n: u64) -> T
+    ensures { T.number result ≡ lane_op LaneOp.Lsr T.BITS (T.number a) n % 2 ^ T.BITS }
+{
+    let lane = a.to_u64();
+    if n < u64::from(T::BITS) {
+        T::from_u64(shifted_right(T::BITS, lane, n))
+    } else {
+        T::from_u64(0)
+    }
+}
+
+/// A lane shifted to the left by any amount.
+#[inline(always)]
+fn left<T: Lane>(a: T, n: u64) -> T
+    ensures { T.number result ≡ lane_op LaneOp.Lsl T.BITS (T.number a) n % 2 ^ T.BITS }
+{
+    let lane = a.to_u64();
+    if n < u64::from(T::BITS) {
+        T::from_u64(shifted_left(T::BITS, lane, n))
+    } else {
+        T::from_u64(0)
+    }
+}
+
+/// The first shifted to the right, with copies of the top bit above, by the second.
 #[derive(Clone, Copy)]
 pub struct Asr;
 
@@ -66,17 +101,16 @@ impl LaneWise2 for Asr {
 
     #[inline(always)]
     fn one<T: Lane>(&self, a: T, b: T) -> T {
-        self.with_number(a, b.to_u64())
+        right_signed(a, b.to_u64())
     }
 
     #[inline(always)]
     fn with_number<T: Lane>(&self, a: T, n: u64) -> T {
-        let most = u64::from(T::BITS - 1);
-        T::from_u64(shifted_signed(T::BITS, a.to_u64(), n.min(most)))
+        right_signed(a, n)
     }
 }
 
-/// A shift to the right, with zeros above.
+/// The first shifted to the right, with zeros above, by the second.
 #[derive(Clone, Copy)]
 pub struct Lsr;
 
@@ -85,21 +119,16 @@ impl LaneWise2 for Lsr {
 
     #[inline(always)]
     fn one<T: Lane>(&self, a: T, b: T) -> T {
-        self.with_number(a, b.to_u64())
+        right(a, b.to_u64())
     }
 
     #[inline(always)]
     fn with_number<T: Lane>(&self, a: T, n: u64) -> T {
-        let lane = a.to_u64();
-        if n < u64::from(T::BITS) {
-            T::from_u64(shifted_right(T::BITS, lane, n))
-        } else {
-            T::from_u64(0)
-        }
+        right(a, n)
     }
 }
 
-/// A shift to the left.
+/// The first shifted to the left, by the second.
 #[derive(Clone, Copy)]
 pub struct Lsl;
 
@@ -108,17 +137,66 @@ impl LaneWise2 for Lsl {
 
     #[inline(always)]
     fn one<T: Lane>(&self, a: T, b: T) -> T {
-        self.with_number(a, b.to_u64())
+        left(a, b.to_u64())
     }
 
     #[inline(always)]
     fn with_number<T: Lane>(&self, a: T, n: u64) -> T {
-        let lane = a.to_u64();
-        if n < u64::from(T::BITS) {
-            T::from_u64(shifted_left(T::BITS, lane, n))
-        } else {
-            T::from_u64(0)
-        }
+        left(a, n)
+    }
+}
+
+/// The second shifted to the right, with copies of the top bit above, by the first.
+#[derive(Clone, Copy)]
+pub struct Asrr;
+
+impl LaneWise2 for Asrr {
+    ghost entry = { λ _ e a b. lane_op LaneOp.Asr e b a };
+
+    #[inline(always)]
+    fn one<T: Lane>(&self, a: T, b: T) -> T {
+        Asr.one(b, a)
+    }
+
+    #[inline(always)]
+    fn with_number<T: Lane>(&self, a: T, n: u64) -> T {
+        T::from_u64(apply(LaneOp::Asr, T::BITS, n, a.to_u64()))
+    }
+}
+
+/// The second shifted to the right, with zeros above, by the first.
+#[derive(Clone, Copy)]
+pub struct Lsrr;
+
+impl LaneWise2 for Lsrr {
+    ghost entry = { λ _ e a b. lane_op LaneOp.Lsr e b a };
+
+    #[inline(always)]
+    fn one<T: Lane>(&self, a: T, b: T) -> T {
+        Lsr.one(b, a)
+    }
+
+    #[inline(always)]
+    fn with_number<T: Lane>(&self, a: T, n: u64) -> T {
+        T::from_u64(apply(LaneOp::Lsr, T::BITS, n, a.to_u64()))
+    }
+}
+
+/// The second shifted to the left, by the first.
+#[derive(Clone, Copy)]
+pub struct Lslr;
+
+impl LaneWise2 for Lslr {
+    ghost entry = { λ _ e a b. lane_op LaneOp.Lsl e b a };
+
+    #[inline(always)]
+    fn one<T: Lane>(&self, a: T, b: T) -> T {
+        Lsl.one(b, a)
+    }
+
+    #[inline(always)]
+    fn with_number<T: Lane>(&self, a: T, n: u64) -> T {
+        T::from_u64(apply(LaneOp::Lsl, T::BITS, n, a.to_u64()))
     }
 }
 

@@ -2,7 +2,8 @@
 ghost use Rattle.sve_effects.specs.declared.lane_functions.LaneOp.{LaneOp};
 ghost use Rattle.sve_effects.specs.Lane.{lane_op};
 
-use lane_kernels::{LaneWise1, LaneWise2};
+use crate::order::signed_less;
+use lane_kernels::LaneWise2;
 use lane_pack::Lane;
 use sve_elements::{LaneOp, apply};
 
@@ -42,6 +43,24 @@ impl LaneWise2 for Sub {
     }
 }
 
+/// The second less the first.
+#[derive(Clone, Copy)]
+pub struct Subr;
+
+impl LaneWise2 for Subr {
+    ghost entry = { λ _ e a b. lane_op LaneOp.Sub e b a };
+
+    #[inline(always)]
+    fn one<T: Lane>(&self, a: T, b: T) -> T {
+        Sub.one(b, a)
+    }
+
+    #[inline(always)]
+    fn with_number<T: Lane>(&self, a: T, n: u64) -> T {
+        T::from_u64(apply(LaneOp::Sub, T::BITS, n, a.to_u64()))
+    }
+}
+
 /// The greater signed number.
 #[derive(Clone, Copy)]
 pub struct Smax;
@@ -53,7 +72,7 @@ impl LaneWise2 for Smax {
     fn one<T: Lane>(&self, a: T, b: T) -> T {
         let _first = a.to_u64();
         let _second = b.to_u64();
-        if a.signed_less(b) { b } else { a }
+        if signed_less(a, b) { b } else { a }
     }
 
     #[inline(always)]
@@ -93,7 +112,7 @@ impl LaneWise2 for Smin {
     fn one<T: Lane>(&self, a: T, b: T) -> T {
         let _first = a.to_u64();
         let _second = b.to_u64();
-        if a.signed_less(b) { a } else { b }
+        if signed_less(a, b) { a } else { b }
     }
 
     #[inline(always)]
@@ -133,7 +152,7 @@ impl LaneWise2 for Sabd {
     fn one<T: Lane>(&self, a: T, b: T) -> T {
         let _first = a.to_u64();
         let _second = b.to_u64();
-        if a.signed_less(b) {
+        if signed_less(a, b) {
             b.sub_mod(a)
         } else {
             a.sub_mod(b)
@@ -161,20 +180,5 @@ impl LaneWise2 for Uabd {
     #[inline(always)]
     fn with_number<T: Lane>(&self, a: T, n: u64) -> T {
         T::from_u64(apply(LaneOp::Uabd, T::BITS, a.to_u64(), n))
-    }
-}
-
-/// A number less a lane.
-#[derive(Clone, Copy)]
-pub struct SubtractFrom {
-    pub n: u64,
-}
-
-impl LaneWise1 for SubtractFrom {
-    ghost entry = { λ s e a. lane_op LaneOp.Sub e s.n a };
-
-    #[inline(always)]
-    fn one<T: Lane>(&self, a: T) -> T {
-        T::from_u64(apply(LaneOp::Sub, T::BITS, self.n, a.to_u64()))
     }
 }

@@ -6,11 +6,11 @@ use lane_kernels::LaneWise3;
 use lane_pack::Lane;
 use sve_elements::{dot_product, multiply_subtract};
 
-/// The first plus the product of the others.
+/// The first plus the product of the second and the third.
 #[derive(Clone, Copy)]
-pub struct MultiplyAdd;
+pub struct Mla;
 
-impl LaneWise3 for MultiplyAdd {
+impl LaneWise3 for Mla {
     ghost entry = { λ _ e c a b. table.multiply_add e c a b };
 
     #[inline(always)]
@@ -19,16 +19,42 @@ impl LaneWise3 for MultiplyAdd {
     }
 }
 
-/// The first less the product of the others.
+/// The first less the product of the second and the third.
 #[derive(Clone, Copy)]
-pub struct MultiplySubtract;
+pub struct Mls;
 
-impl LaneWise3 for MultiplySubtract {
+impl LaneWise3 for Mls {
     ghost entry = { λ _ e c a b. table.multiply_subtract e c a b };
 
     #[inline(always)]
     fn one<T: Lane>(&self, c: T, a: T, b: T) -> T {
         T::from_u64(multiply_subtract(T::BITS, c.to_u64(), a.to_u64(), b.to_u64()))
+    }
+}
+
+/// The third plus the product of the first and the second.
+#[derive(Clone, Copy)]
+pub struct Mad;
+
+impl LaneWise3 for Mad {
+    ghost entry = { λ _ e a b c. table.multiply_add e c a b };
+
+    #[inline(always)]
+    fn one<T: Lane>(&self, a: T, b: T, c: T) -> T {
+        Mla.one(c, a, b)
+    }
+}
+
+/// The third less the product of the first and the second.
+#[derive(Clone, Copy)]
+pub struct Msb;
+
+impl LaneWise3 for Msb {
+    ghost entry = { λ _ e a b c. table.multiply_subtract e c a b };
+
+    #[inline(always)]
+    fn one<T: Lane>(&self, a: T, b: T, c: T) -> T {
+        Mls.one(c, a, b)
     }
 }
 

@@ -3,8 +3,8 @@ use Rattle.std.proofs.Common.{◌≡◌, ◌<◌, ◌≤◌, ◌+◌, ◌-◌, �
 use Rattle.std.proofs.lemmas.Bool.Decides.{nat_tests}
 use Rattle.std.proofs.lemmas.List.{take-map, drop-map, map-append, length-map, length-take, length-drop, get_or-take, get_or-drop, get_or-append_right}
 use Rattle.std.proofs.Math.ListN.{get_or-append}
-use Rattle.sve_effects.specs.declared.places.Place.TheVariants.{FirstLane, SecondLane, Scalar}
-use Rattle.sve_effects.specs.Permute.{taken, joined, spliced, insr_place}
+use Rattle.lane_model.specs.declared.places.Place.TheVariants.{FirstLane, SecondLane, Scalar}
+use Rattle.lane_model.specs.Permute.{taken, joined, spliced, insr_place}
 use Rattle.lane_permute.specs.Slices.{number_at}
 
 -- ---- numbers

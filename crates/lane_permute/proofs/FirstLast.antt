@@ -1,8 +1,8 @@
 -- The first and the last active lane that were found.
 use Rattle.std.proofs.Common.{◌≡◌, ℕ, Bool, Option, sym, subst}
-use Rattle.sve_effects.specs.FirstLast.{first_where, last_where}
-use Rattle.sve_effects.specs.FirstLastLaws.{IsFirstWhere, IsLastWhere}
-use Rattle.sve_effects.proofs.Found.{first_found, last_found}
+use Rattle.lane_model.specs.FirstLast.{first_where, last_where}
+use Rattle.lane_model.specs.FirstLastLaws.{IsFirstWhere, IsLastWhere}
+use Rattle.lane_model.proofs.Found.{first_found, last_found}
 
 pub found_first : (n k : ℕ) (active : ℕ → Bool) (o : Option ℕ) → o ≡ first_where k active → k ≡ n → IsFirstWhere n active o
 found_first n k active o e d =

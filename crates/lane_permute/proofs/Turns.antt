@@ -1,8 +1,8 @@
 -- What the places of permutes of two sources name.
 use Rattle.std.proofs.Common.{◌≡◌, ◌<◌, ◌≤◌, ◌+◌, ◌-◌, ◌*◌, ◌%◌, ℕ, true, false, nat_eq, nat_lt, if◌then◌else◌, ap, ◌∙◌, arith}
 use Rattle.std.proofs.lemmas.Bool.Decides.{nat_tests}
-use Rattle.sve_effects.specs.declared.places.Place.TheVariants.{FirstLane, SecondLane}
-use Rattle.sve_effects.specs.Permute.{taken, in_turn, joined}
+use Rattle.lane_model.specs.declared.places.Place.TheVariants.{FirstLane, SecondLane}
+use Rattle.lane_model.specs.Permute.{taken, in_turn, joined}
 
 module _ (a b : ℕ → ℕ) (scalar : ℕ) where
   pub turn_even : (k m : ℕ) → k % 2 ≡ 0 → taken a b scalar 0 (in_turn k m) ≡ a m

@@ -1,5 +1,5 @@
 -- The bits of a word and of words, and where fields of w bits come from.
-use Rattle.std.specs.Prelude.{◌≡◌, ◌<◌, ◌⊎◌, ℕ, ◌+◌, ◌-◌, ◌*◌, ◌/◌, ◌%◌, Bool, nat_eq, nat_lt, if◌then◌else◌, List, get_or}
+use Rattle.std.specs.Prelude.{◌≡◌, ◌<◌, ◌⊎◌, ℕ, ◌+◌, ◌-◌, ◌*◌, ◌/◌, ◌%◌, Bool, nat_eq, nat_lt, if◌then◌else◌}
 use Rattle.std.specs.Int.{bit_at}
 
 -- the bits of a field, for a lane of 8, 16, 32 or 64 bits
@@ -37,10 +37,6 @@ abbrev pub backwards : ℕ → ℕ → ℕ
 backwards w s = (64 / w - 1 - s / w) * w + s % w
 
 -- ---- in words: bit j of fields of w bits of two predicates, which are given bit by bit
-
--- bit j of words
-abbrev pub bit_of : List ℕ → ℕ → Bool
-bit_of words j = is_one (get_or words (j / 64) 0) (j % 64)
 
 -- the fields of both in turn, from bit `from` of each on
 abbrev pub zipped : ℕ → ℕ → (ℕ → Bool) → (ℕ → Bool) → ℕ → Bool

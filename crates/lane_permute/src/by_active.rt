@@ -12,11 +12,12 @@ ghost use Rattle.std.specs.Prelude.{
   MatchOption,
   is_some,
 };
-ghost use Rattle.sve_effects.specs.FirstLast.{first_where, last_where};
-ghost use Rattle.sve_effects.specs.FirstLastLaws.{IsFirstWhere, IsLastWhere};
-ghost use Rattle.sve_effects.specs.Permute as model;
-ghost use Rattle.sve_effects.specs.Permute.{active_lanes, compact_place, splice_place, last_lane};
-ghost use Rattle.lane_permute.specs.Slices.{HasLanes, IsPermuted, number_at, active_by};
+ghost use Rattle.lane_model.specs.FirstLast.{first_where, last_where};
+ghost use Rattle.lane_model.specs.FirstLastLaws.{IsFirstWhere, IsLastWhere};
+ghost use Rattle.lane_model.specs.Permute as model;
+ghost use Rattle.lane_model.specs.Permute.{active_lanes, compact_place, splice_place, last_lane};
+ghost use Rattle.lane_model.specs.Bits.{is_set};
+ghost use Rattle.lane_permute.specs.Slices.{HasLanes, IsPermuted, number_at};
 
 use crate::by_number::zero;
 use crate::runs::spliced;
@@ -26,7 +27,7 @@ use lane_pack::Lane;
 pub fn compact<T: Lane>(mask: &[bool], a: &[T], out: &mut [T])
     requires mask { length mask.now ≡ length out.old }
     requires first { length a.now ≡ length out.old }
-    ensures { IsPermuted T.number a.now a.now 0 (compact_place (active_by mask.now) (length out.old)) out.new }
+    ensures { IsPermuted T.number a.now a.now 0 (compact_place (is_set mask.now) (length out.old)) out.new }
 {
     let count = gather(mask, a, out);
     clear_from(count, out);
@@ -38,7 +39,7 @@ pub fn splice<T: Lane>(mask: &[bool], a: &[T], b: &[T], out: &mut [T])
     requires mask { length mask.now ≡ length out.old }
     requires first { length a.now ≡ length out.old }
     requires second { length b.now ≡ length out.old }
-    ensures { IsPermuted T.number a.now b.now 0 (splice_place (active_by mask.now) (length out.old)) out.new }
+    ensures { IsPermuted T.number a.now b.now 0 (splice_place (is_set mask.now) (length out.old)) out.new }
 {
     let (from, count) = run_of(mask);
     spliced(a, b, from, count, out);
@@ -48,9 +49,9 @@ pub fn splice<T: Lane>(mask: &[bool], a: &[T], b: &[T], out: &mut [T])
 /// (lastb, lasta). None exactly where no lane is active. `mask` tells which lanes are active.
 pub fn last<T: Lane>(mask: &[bool], a: &[T], after: bool) -> Option<T>
     requires { length mask.now ≡ length a.now }
-    ensures none { is_some result ≡ is_some (last_where (length a.now) (active_by mask.now)) }
+    ensures none { is_some result ≡ is_some (last_where (length a.now) (is_set mask.now)) }
     ensures lane { MatchOption result (Unit {0})
-        (λ x. T.number x ≡ number_at T.number a.now (last_lane after (active_by mask.now) (length a.now))) }
+        (λ x. T.number x ≡ number_at T.number a.now (last_lane after (is_set mask.now) (length a.now))) }
 {
     let k = last_active(mask)?;
     Some(a[if after { lane_after(k, a.len()) } else { k }])
@@ -69,8 +70,8 @@ fn lane_after(k: usize, n: usize) -> usize
 fn gather<T: Lane>(mask: &[bool], a: &[T], out: &mut [T]) -> usize
     requires mask { length mask.now ≡ length out.old }
     requires first { length a.now ≡ length out.old }
-    ensures count { result ≡ length (active_lanes (active_by mask.now) (length out.old)) }
-    ensures lanes { HasLanes T.number a.now (active_lanes (active_by mask.now) (length out.old)) out.new }
+    ensures count { result ≡ length (active_lanes (is_set mask.now) (length out.old)) }
+    ensures lanes { HasLanes T.number a.now (active_lanes (is_set mask.now) (length out.old)) out.new }
 {
     let mut count = 0;
     for k in 0..mask.len() {
@@ -109,7 +110,7 @@ fn clear_from<T: Lane>(from: usize, out: &mut [T])
 fn run_of(mask: &[bool]) -> (usize, usize)
     ensures within { result.0 + result.1 ≤ length mask.now }
     ensures places { (k : ℕ)
-        → model.spliced result.0 result.1 k ≡ splice_place (active_by mask.now) (length mask.now) k }
+        → model.spliced result.0 result.1 k ≡ splice_place (is_set mask.now) (length mask.now) k }
 {
     match first_active(mask) {
         Some(from) => match last_active(mask) {
@@ -121,10 +122,10 @@ fn run_of(mask: &[bool]) -> (usize, usize)
 }
 
 /// The first active lane.
-#[tactic(auto, using(sve_effects::proofs::ActiveLanes::active_rules))]
+#[tactic(auto, using(lane_model::proofs::ActiveLanes::active_rules))]
 fn first_active(mask: &[bool]) -> Option<usize>
-    ensures value { result ≡ first_where (length mask.now) (active_by mask.now) }
-    ensures found { IsFirstWhere (length mask.now) (active_by mask.now) result }
+    ensures value { result ≡ first_where (length mask.now) (is_set mask.now) }
+    ensures found { IsFirstWhere (length mask.now) (is_set mask.now) result }
 {
     let mut found = None;
     for k in 0..mask.len() {
@@ -136,10 +137,10 @@ fn first_active(mask: &[bool]) -> Option<usize>
 }
 
 /// The last active lane.
-#[tactic(auto, using(sve_effects::proofs::ActiveLanes::active_rules))]
+#[tactic(auto, using(lane_model::proofs::ActiveLanes::active_rules))]
 fn last_active(mask: &[bool]) -> Option<usize>
-    ensures value { result ≡ last_where (length mask.now) (active_by mask.now) }
-    ensures found { IsLastWhere (length mask.now) (active_by mask.now) result }
+    ensures value { result ≡ last_where (length mask.now) (is_set mask.now) }
+    ensures found { IsLastWhere (length mask.now) (is_set mask.now) result }
 {
     let mut found = None;
     for k in 0..mask.len() {

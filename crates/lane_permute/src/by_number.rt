@@ -1,11 +1,11 @@
 //! Lanes that another lane's number names, and lanes of half the size.
-ghost use Rattle.std.specs.Prelude.{◌≡◌, ◌<◌, ◌*◌, ◌^◌, ℕ, length};
-ghost use Rattle.emu_bits.specs.Fields.{bit};
-ghost use Rattle.sve_effects.specs.Lane.{extended_by};
-ghost use Rattle.sve_effects.specs.Permute.{taken, indexed_place, half_place};
+ghost use Rattle.std.specs.Prelude.{◌≡◌, ◌⊎◌, ◌<◌, ◌*◌, ◌%◌, ◌^◌, ℕ, length};
+ghost use Rattle.lane_model.specs.Fields.{bit};
+ghost use Rattle.lane_model.specs.Extended.{extended_by};
+ghost use Rattle.lane_model.specs.Numbers.{sign_extended};
+ghost use Rattle.lane_model.specs.Permute.{taken, indexed_place, half_place};
 ghost use Rattle.lane_permute.specs.Slices.{IsPermuted, number_at};
 
-use emu_bits::sign_extended;
 use lane_pack::Lane;
 
 /// The lanes of `a` that the lanes of `at` number, and 0 where there is none (tbl).
@@ -93,9 +93,19 @@ fn wide<T: Lane, H: Lane>(x: u64, signed: bool) -> T
     requires bits { T.BITS ≡ 2 * H.BITS }
     ensures { T.number result ≡ extended_by signed T.BITS H.BITS x }
 {
-    T::from_u64(if signed {
-        sign_extended(x, H::BITS, T::BITS)
-    } else {
+    T::from_u64(if signed { with_sign(x, H::BITS) } else { x })
+}
+
+/// A number of 8, 16 or 32 bits, with copies of its top bit above: at least as many of them as it has bits.
+#[inline(always)]
+fn with_sign(x: u64, bits: u32) -> u64
+    requires size { (bits ≡ 8) ⊎ (bits ≡ 16) ⊎ (bits ≡ 32) }
+    requires small { x < 2 ^ bits }
+    ensures { result % 2 ^ (2 * bits) ≡ sign_extended (2 * bits) bits x }
+{
+    if x < 1 << (bits - 1) {
         x
-    })
+    } else {
+        x.wrapping_sub(1 << bits)
+    }
 }

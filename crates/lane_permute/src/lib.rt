@@ -18,7 +18,7 @@ mod pairs;
 mod runs;
 
 ghost use Rattle.std.specs.Prelude.{◌≡◌, length};
-ghost use Rattle.sve_effects.specs.Permute.{rev_place};
+ghost use Rattle.lane_model.specs.Permute.{rev_place};
 ghost use Rattle.lane_permute.specs.Slices.{IsPermuted, number_at};
 
 pub use by_active::{compact, last, splice};

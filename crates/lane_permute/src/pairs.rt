@@ -1,7 +1,7 @@
 //! Permutes that take lanes of two sources in turn, and those that take every other lane of both.
 ghost use Rattle.std.specs.Prelude.{◌≡◌, ◌≤◌, ◌%◌, ◌/◌, ◌+◌, ◌*◌, length};
-ghost use Rattle.emu_bits.specs.Fields.{bit};
-ghost use Rattle.sve_effects.specs.Permute.{in_turn, joined, zip_place, uzp_place, trn_place};
+ghost use Rattle.lane_model.specs.Fields.{bit};
+ghost use Rattle.lane_model.specs.Permute.{in_turn, joined, zip_place, uzp_place, trn_place};
 ghost use Rattle.lane_permute.specs.Slices.{IsPermuted, number_at};
 
 use lane_pack::Lane;

@@ -1,7 +1,7 @@
 //! Permutes that keep runs of lanes together.
 ghost use Rattle.std.specs.Prelude.{◌≡◌, ◌<◌, ◌≤◌, ◌+◌, ℕ, length};
-ghost use Rattle.sve_effects.specs.Permute.{taken, joined, ext_place, insr_place};
-ghost use Rattle.sve_effects.specs.Permute as model;
+ghost use Rattle.lane_model.specs.Permute.{taken, joined, ext_place, insr_place};
+ghost use Rattle.lane_model.specs.Permute as model;
 ghost use Rattle.lane_permute.specs.Slices.{IsPermuted, number_at};
 
 use lane_pack::Lane;

@@ -21,7 +21,7 @@ use Rattle.vec_regs.specs.Packed.{packed}
 use Rattle.vec_regs.specs.Words.{bit_of}
 use Rattle.vec_regs.proofs.PackedLanes.{byte_in_packed, filled}
 use Rattle.vec_regs.proofs.Parts.{same_part}
-use Rattle.lane_kernels.proofs.PairLanes.{powers, pair_of_lanes}
+use Rattle.register_lanes.proofs.PairLanes.{powers, pair_of_lanes}
 
 -- ---- a test of two lanes
 

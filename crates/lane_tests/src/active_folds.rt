@@ -4,11 +4,9 @@ ghost use Rattle.sve_effects.specs.LaneLoop.{folding, is_active, lane_of};
 ghost use Rattle.emu_model.specs.LaneSizes.{IsLaneSize};
 
 use emu_bits::{Pred, Reg};
-use lane_kernels::LaneWiseFold;
-use lane_kernels::kernels::FoldOp;
-use lane_kernels::register_words::Chunks;
-use lane_kernels::sources::{LaneOf, Number, part_of};
+use lane_kernels::{FoldOp, LaneWiseFold};
 use lane_pack::Quad;
+use register_lanes::{Chunks, LaneOf, Number, part_of};
 use std::simd::Simd;
 use vec_regs::VecRegs;
 

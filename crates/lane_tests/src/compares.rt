@@ -3,6 +3,7 @@ ghost use Rattle.sve_effects.specs.declared.lane_functions.LaneTest.{LaneTest};
 ghost use Rattle.sve_effects.specs.Lane.{lane_test};
 
 use lane_kernels::LaneWiseTest2;
+use lane_ops::signed_less;
 use lane_pack::Lane;
 
 /// Equal.
@@ -40,7 +41,7 @@ impl LaneWiseTest2 for Ge {
 
     #[inline(always)]
     fn one<T: Lane>(&self, a: T, b: T) -> bool {
-        !a.signed_less(b)
+        !signed_less(a, b)
     }
 }
 
@@ -53,7 +54,7 @@ impl LaneWiseTest2 for Gt {
 
     #[inline(always)]
     fn one<T: Lane>(&self, a: T, b: T) -> bool {
-        b.signed_less(a)
+        signed_less(b, a)
     }
 }
 
@@ -66,7 +67,7 @@ impl LaneWiseTest2 for Lt {
 
     #[inline(always)]
     fn one<T: Lane>(&self, a: T, b: T) -> bool {
-        a.signed_less(b)
+        signed_less(a, b)
     }
 }
 
@@ -79,7 +80,7 @@ impl LaneWiseTest2 for Le {
 
     #[inline(always)]
     fn one<T: Lane>(&self, a: T, b: T) -> bool {
-        !b.signed_less(a)
+        !signed_less(b, a)
     }
 }
 

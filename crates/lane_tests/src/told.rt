@@ -31,11 +31,9 @@ ghost use Rattle.emu_model.specs.LaneSizes.{IsLaneSize};
 ghost use Rattle.vec_regs.specs.Words.{bit_of};
 
 use emu_bits::{Reg, sign_extended};
-use lane_kernels::LaneWiseTest2;
-use lane_kernels::kernels::Test2;
-use lane_kernels::register_words::Chunks;
-use lane_kernels::sources::{LaneOf, Number};
+use lane_kernels::{LaneWiseTest2, Test2};
 use lane_pack::{Lane, Quad};
+use register_lanes::{Chunks, LaneOf, Number};
 use std::simd::Simd;
 use std::simd::prelude::*;
 use vec_regs::VecRegs;

@@ -7,10 +7,9 @@ use Rattle.std.proofs.lemmas.Bool.{lt-ltb, le-ltb}
 use Rattle.std.proofs.lemmas.Nat.{pow_pos, mod-pow-add, mod-mul-add, ones_cat, ones-le, le-div}
 use Rattle.std.proofs.lemmas.Nat.Bits.{bit_at-lt}
 use Rattle.emu_bits.specs.Fields.{bit}
-use Rattle.emu_model.proofs.FieldBits.{at_start, between}
-use Rattle.emu_model.specs.Lanes.{field_bit}
-use Rattle.vec_regs.specs.Words.{bit_of}
-use Rattle.sve_effects.specs.FirstLast.{count_where}
+use Rattle.lane_model.specs.Bits.{bit_of, field_bit}
+use Rattle.lane_model.proofs.Bits.{at_start, between}
+use Rattle.lane_model.specs.FirstLast.{count_where}
 use Rattle.pred_bits.proofs.Made.{bit_in, bit_placed}
 use Rattle.pred_bits.specs.LaneBits.{among}
 

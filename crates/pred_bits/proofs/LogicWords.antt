@@ -1,12 +1,11 @@
 -- Logical operations on the words of predicates.
 use Rattle.std.proofs.Common.{◌≡◌, ◌<◌, ◌≤◌, ◌/◌, ◌%◌, ℕ, Bool, false, List, length, inl, inr, refl, sym, ap, ◌∙◌, arith}
 use Rattle.std.proofs.lemmas.Bool.{cases_lt}
-use Rattle.emu_model.specs.Lists.{each}
-use Rattle.emu_model.specs.ListLaws.{each_same}
-use Rattle.sve_effects.specs.declared.predicates.LogicOp.{LogicOp}
-use Rattle.sve_effects.specs.declared.predicates.LogicOp.TheVariants.{And, Bic, Eor, Orr, Orn, Nor, Nand, Sel}
-use Rattle.sve_effects.specs.Predicate.{is_set, logic_bit, logic}
-use Rattle.vec_regs.specs.Words.{bit_of, bits_of, AreClearFrom}
+use Rattle.lane_model.specs.Bits.{AreClearFrom, bit_of, bits_of, each_bit, is_set}
+use Rattle.lane_model.proofs.Bits.{each_bit_same}
+use Rattle.lane_model.specs.declared.predicates.LogicOp.{LogicOp}
+use Rattle.lane_model.specs.declared.predicates.LogicOp.TheVariants.{And, Bic, Eor, Orr, Orn, Nor, Nand, Sel}
+use Rattle.lane_model.specs.Predicate.{logic_bit, logic}
 use Rattle.pred_bits.proofs.Made.{bit_in, bit_past}
 use Rattle.pred_bits.proofs.Views.{length_shown, get_shown}
 
@@ -38,10 +37,10 @@ module _ (op : LogicOp) (words gs os bs : List ℕ) (count : length words ≡ 4)
       → bits_of n words ≡ logic op (length g) g a b
   logic_shown n na nb g a b few eg ea eb la lb =
       let lg : length g ≡ n = length_shown n gs g eg in
-      each_same n (bit_of words) (λ k. logic_bit op (is_set g k) (is_set a k) (is_set b k)) false (λ k h.
+      each_bit_same n (bit_of words) (λ k. logic_bit op (is_set g k) (is_set a k) (is_set b k)) (λ k h.
       let kg : k < length g = omega arith in
       let ka : k < length a = omega arith in
       let kb : k < length b = omega arith in
       bit_is k (omega arith)
       ∙ three (bit_of gs k) (bit_of os k) (bit_of bs k) (is_set g k) (is_set a k) (is_set b k) (sym (get_shown n gs g k eg kg)) (sym (get_shown na os a k ea ka)) (sym (get_shown nb bs b k eb kb)))
-      ∙ ap (λ m. each m (λ k. logic_bit op (is_set g k) (is_set a k) (is_set b k))) (sym lg)
+      ∙ ap (λ m. each_bit m (λ k. logic_bit op (is_set g k) (is_set a k) (is_set b k))) (sym lg)

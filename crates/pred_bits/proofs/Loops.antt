@@ -6,11 +6,11 @@ use Rattle.std.proofs.lemmas.Bool.Decides.{nat_tests}
 use Rattle.std.proofs.lemmas.Int.{ints}
 use Rattle.std.proofs.lemmas.Nat.{pow_pos}
 use Rattle.emu_bits.specs.Numbers.{unsigned, signed}
-use Rattle.sve_effects.proofs.Found.{all_true, all_tells}
-use Rattle.sve_effects.specs.declared.predicates.WhileTest.{WhileTest}
-use Rattle.sve_effects.specs.declared.predicates.WhileTest.TheVariants.{Lt, Le, Lo, Ls}
-use Rattle.sve_effects.specs.FirstLast.{all_below}
-use Rattle.sve_effects.specs.Predicate.{while_holds}
+use Rattle.lane_model.proofs.Found.{all_true, all_tells}
+use Rattle.lane_model.specs.declared.predicates.WhileTest.{WhileTest}
+use Rattle.lane_model.specs.declared.predicates.WhileTest.TheVariants.{Lt, Le, Lo, Ls}
+use Rattle.lane_model.specs.FirstLast.{all_below}
+use Rattle.lane_model.specs.Predicate.{while_holds}
 use Rattle.pred_bits.specs.LaneBits.{is_inclusive, offset, rank}
 
 -- ---- the order of signed numbers is that of unsigned ones, half of all further on

@@ -3,9 +3,8 @@ use Rattle.std.proofs.Common.{◌≡◌, ◌≢◌, ◌<◌, ◌≤◌, ◌+◌,
 use Rattle.std.specs.Int.{bit_at}
 use Rattle.std.proofs.lemmas.Bool.{cases_lt}
 use Rattle.std.proofs.lemmas.List.{get_or_past, get_or-set_same, get_or-set_other}
-use Rattle.emu_model.specs.Lists.{each}
-use Rattle.emu_model.specs.ListLaws.{each_same}
-use Rattle.vec_regs.specs.Words.{bit_of, bits_of, AreClearFrom}
+use Rattle.lane_model.specs.Bits.{AreClearFrom, bit_of, bits_of, each_bit}
+use Rattle.lane_model.proofs.Bits.{each_bit_same}
 
 -- bit i of word j
 abbrev pub bit_in : List ℕ → ℕ → ℕ → Bool
@@ -50,5 +49,5 @@ module _ (words : List ℕ) (f : ℕ → Bool) (count : length words ≡ 4) (don
 pub clear_from : (words : List ℕ) (n : ℕ) (f : ℕ → Bool) → ((b : ℕ) → bit_of words b ≡ f b) → ((b : ℕ) → n ≤ b → f b ≡ false) → AreClearFrom n words
 clear_from words n f is past b le = is b ∙ past b le
 
-pub bits_are : (words : List ℕ) (n : ℕ) (f g : ℕ → Bool) → ((b : ℕ) → bit_of words b ≡ f b) → ((b : ℕ) → b < n → f b ≡ g b) → bits_of n words ≡ each n g
-bits_are words n f g is same = each_same n (bit_of words) g false (λ b h. is b ∙ same b h)
+pub bits_are : (words : List ℕ) (n : ℕ) (f g : ℕ → Bool) → ((b : ℕ) → bit_of words b ≡ f b) → ((b : ℕ) → b < n → f b ≡ g b) → bits_of n words ≡ each_bit n g
+bits_are words n f g is same = each_bit_same n (bit_of words) g (λ b h. is b ∙ same b h)

@@ -5,14 +5,12 @@ use Rattle.std.proofs.Math.Nat.{mul-le-mul_right}
 use Rattle.std.proofs.lemmas.Bool.{cases_lt, cases_eq, lt-ltb, le-ltb, and_parts}
 use Rattle.std.proofs.lemmas.List.{get_or-replicate}
 use Rattle.std.proofs.lemmas.Nat.{div-add-mod'}
-use Rattle.emu_model.proofs.FieldBits.{at_start, between}
-use Rattle.emu_model.specs.Lanes.{field_bit}
-use Rattle.vec_regs.proofs.Views.{zero_bit}
-use Rattle.vec_regs.specs.Words.{bit_of}
-use Rattle.sve_effects.proofs.Found.{first_found, first_is, first_same, last_found}
-use Rattle.sve_effects.specs.FirstLast.{first_where, last_where}
-use Rattle.sve_effects.specs.FirstLastLaws.{IsFirstWhere, IsLastWhere}
-use Rattle.sve_effects.specs.Predicate.{is_at, is_behind}
+use Rattle.lane_model.specs.Bits.{bit_of, field_bit}
+use Rattle.lane_model.proofs.Bits.{at_start, between, zero_bit}
+use Rattle.lane_model.proofs.Found.{first_found, first_is, first_same, last_found}
+use Rattle.lane_model.specs.FirstLast.{first_where, last_where}
+use Rattle.lane_model.specs.FirstLastLaws.{IsFirstWhere, IsLastWhere}
+use Rattle.lane_model.specs.Predicate.{is_at, is_behind}
 use Rattle.pred_bits.specs.LaneBits.{among, lane_at}
 use Rattle.pred_bits.proofs.LaneWords.{not_start, twice, and_false, lanes_shown, first_of_words, starts_lane, is_lane, last_lane_is}
 use Rattle.pred_bits.proofs.Views.{bit_written, bit_kept}

@@ -4,8 +4,8 @@ use Rattle.std.specs.Int.{leading_zeros}
 use Rattle.std.proofs.Math.Pow.{pow-lt, pow_mono}
 use Rattle.std.proofs.lemmas.Bool.{le-leb, lt-leb}
 use Rattle.std.proofs.lemmas.Nat.{leading_top}
-use Rattle.sve_effects.proofs.Found.{last_is}
-use Rattle.sve_effects.specs.Pattern.{power_of, greatest_power}
+use Rattle.lane_model.proofs.Found.{last_is}
+use Rattle.lane_model.specs.Pattern.{power_of, greatest_power}
 
 below_power : (k : ℕ) → k < 2 ^ k
 below_power zero = omega arith

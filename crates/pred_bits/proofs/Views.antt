@@ -5,19 +5,18 @@ use Rattle.std.proofs.lemmas.Bool.{cases_eq}
 use Rattle.std.proofs.lemmas.List.{length-set, length-replicate, get_or-replicate, get_or-set_same, get_or-set_other}
 use Rattle.std.proofs.lemmas.List.FromFn.{fill_by_all}
 use Rattle.std.proofs.lemmas.Nat.{div-add-mod'}
-use Rattle.emu_model.specs.ListLaws.{length-each, get_or-each}
-use Rattle.vec_regs.specs.Words.{bit_of, bits_of, AreClearFrom}
-use Rattle.vec_regs.proofs.Views.{zero_bit}
+use Rattle.lane_model.specs.Bits.{AreClearFrom, bit_of, bits_of}
+use Rattle.lane_model.proofs.Bits.{get_or-each_bit, length-each_bit, zero_bit}
 
 -- ---- reads
 
 pub length_shown : (n : ℕ) (words : List ℕ) (p : List Bool) → bits_of n words ≡ p → length p ≡ n
-length_shown n words p e = subst (λ (p : List Bool). length p ≡ n) e (length-each n (bit_of words))
+length_shown n words p e = subst (λ (p : List Bool). length p ≡ n) e (length-each_bit n (bit_of words))
 
 pub get_shown : (n : ℕ) (words : List ℕ) (p : List Bool) (k : ℕ) → bits_of n words ≡ p → k < length p → get_or p k false ≡ bit_of words k
 get_shown n words p k e h =
     let within : k < n = omega (arith, length_shown n words p e) in
-    subst (λ (p : List Bool). get_or p k false ≡ bit_of words k) e (get_or-each n (bit_of words) k false within)
+    subst (λ (p : List Bool). get_or p k false ≡ bit_of words k) e (get_or-each_bit n (bit_of words) k false within)
 
 pub zeros_shown : (n m : ℕ) → bits_of n (replicate m 0) ≡ replicate n false
 zeros_shown n m = sym (fill_by_all (bit_of (replicate m 0)) (replicate n false) n false (length-replicate n false) (λ k h. get_or-replicate n k false false h ∙ sym (zero_bit m k)))
@@ -59,11 +58,11 @@ module _ (words : List ℕ) (k w : ℕ) (v : Bool) (place : k / 64 < length word
 
   pub set_shown : (n : ℕ) (p : List Bool) → bits_of n words ≡ p → k < length p → bits_of n (set words (k / 64) w) ≡ set p k v
   set_shown n p e h = subst (λ (p : List Bool). bits_of n (set words (k / 64) w) ≡ set p k v) e (sym (fill_by_all (bit_of (set words (k / 64) w)) (set (bits_of n words) k v) n false
-      (length-set (bits_of n words) k v ∙ length-each n (bit_of words)) at)) where
+      (length-set (bits_of n words) k v ∙ length-each_bit n (bit_of words)) at)) where
         at : (j : ℕ) → j < n → get_or (set (bits_of n words) k v) j false ≡ bit_of (set words (k / 64) w) j
         at j within = elim (cases_eq j k) [
           | inl same ↦
-              let there : k < length (bits_of n words) = omega (arith, length-each n (bit_of words)) in
+              let there : k < length (bits_of n words) = omega (arith, length-each_bit n (bit_of words)) in
               ap (λ i. get_or (set (bits_of n words) k v) i false) same ∙ get_or-set_same (bits_of n words) k v false there ∙ sym bit_written ∙ ap (bit_of (set words (k / 64) w)) (sym same)
-          | inr other ↦ get_or-set_other (bits_of n words) k j v false other ∙ get_or-each n (bit_of words) j false within ∙ sym (bit_kept j other)
+          | inr other ↦ get_or-set_other (bits_of n words) k j v false other ∙ get_or-each_bit n (bit_of words) j false within ∙ sym (bit_kept j other)
         ]

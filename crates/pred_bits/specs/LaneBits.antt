@@ -2,9 +2,9 @@
 use Rattle.std.specs.Prelude.{ℕ, ◌+◌, ◌-◌, ◌/◌, ◌^◌, Bool, true, false, not, ◌&&◌, nat_lt, Option, Some, None, is_none}
 use Rattle.emu_bits.specs.Numbers.{unsigned}
 use Rattle.emu_bits.specs.declared.flags.Flags.{Flags}
-use Rattle.sve_effects.specs.FirstLast.{first_where, last_where, answer_at}
-use Rattle.sve_effects.specs.declared.predicates.WhileTest.{WhileTest}
-use Rattle.sve_effects.specs.declared.predicates.WhileTest.TheVariants.{Lt, Le, Lo, Ls}
+use Rattle.lane_model.specs.FirstLast.{first_where, last_where, answer_at}
+use Rattle.lane_model.specs.declared.predicates.WhileTest.{WhileTest}
+use Rattle.lane_model.specs.declared.predicates.WhileTest.TheVariants.{Lt, Le, Lo, Ls}
 
 -- a lane is one of n, and meets the test
 abbrev pub among : ℕ → (ℕ → Bool) → ℕ → Bool

@@ -1,7 +1,7 @@
 -- What the words of a predicate show.
 use Rattle.std.specs.Prelude.{◌≡◌, ◌≤◌, Bool, List, length}
+use Rattle.lane_model.specs.Bits.{AreClearFrom, bits_of}
 use Rattle.pred_bits.specs.declared.PredBits.TheInside.{Inside}
-use Rattle.vec_regs.specs.Words.{bits_of, AreClearFrom}
 
 abbrev pub shown : Inside → List Bool
 shown a = bits_of a.bits a.words

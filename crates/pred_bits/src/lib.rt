@@ -12,18 +12,16 @@ mod whole;
 
 ghost use Rattle.std.specs.Prelude.{◌≡◌, ◌<◌, ◌≤◌, ◌*◌, ◌/◌, true, false, length, get_or, set, replicate};
 ghost use Rattle.emu_bits.specs.Flags.{size_of};
-ghost use Rattle.emu_model.specs.Active.{active};
-ghost use Rattle.sve_effects.specs.Predicate.{lanes_of};
-ghost use Rattle.vec_regs.specs.Words.{bits_of, AreClearFrom};
+ghost use Rattle.lane_model.specs.Bits.{AreClearFrom, bits_of, lane_is_set, lanes_of};
 
 use emu_bits::Esize;
+pub use lane_model::predicates::{LogicOp, WhileTest};
 pub use lanes::{
     all_lanes, count, first_lanes, lanes_below, next, next_tested, pred_test, test_all, while_bits,
     while_tested,
 };
 pub use patterns::pattern_count;
 use std::marker::Model;
-pub use sve_effects::predicates::{LogicOp, WhileTest};
 pub use whole::{brk, brkn, brkp, first, logic, ones};
 
 /// A predicate: up to 256 bits. Contracts see the list of its bits.
@@ -118,7 +116,7 @@ impl PredBits {
     /// Whether lane k is active, or set.
     pub fn lane(&self, e: Esize, k: u32) -> bool
         requires { k < lanes_of (size_of e) (length self.now) }
-        ensures { result ≡ active (size_of e) self.now k }
+        ensures { result ≡ lane_is_set (size_of e) self.now k }
     {
         let _bits = self.bits();
         self.get(k * (e.bits() / 8))

@@ -1,6 +1,6 @@
 //! How many lanes a pattern names.
 ghost use Rattle.std.specs.Prelude.{◌≡◌, ◌≤◌};
-ghost use Rattle.sve_effects.specs.Pattern as model;
+ghost use Rattle.lane_model.specs.Pattern as model;
 
 use emu_bits::U;
 

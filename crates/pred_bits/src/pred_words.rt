@@ -23,14 +23,14 @@ ghost use Rattle.std.specs.Prelude.{
 };
 ghost use Rattle.std.specs.Int.{bit_at};
 ghost use Rattle.emu_bits.specs.Flags.{size_of};
-ghost use Rattle.sve_effects.specs.FirstLast.{first_where, last_where, count_where, answer_at};
-ghost use Rattle.sve_effects.specs.Predicate.{logic_bit, is_at, is_behind};
-ghost use Rattle.vec_regs.specs.Words.{bit_of};
+ghost use Rattle.lane_model.specs.Bits.{bit_of};
+ghost use Rattle.lane_model.specs.FirstLast.{first_where, last_where, count_where, answer_at};
+ghost use Rattle.lane_model.specs.Predicate.{logic_bit, is_at, is_behind};
 ghost use Rattle.pred_bits.specs.LaneBits.{places_tested};
 
 use emu_bits::numbers::power;
 use emu_bits::{Esize, Flags};
-use sve_effects::predicates::LogicOp;
+use lane_model::predicates::LogicOp;
 
 /// A word with bit `at` written.
 pub fn with_bit(word: u64, at: u32, v: bool) -> u64

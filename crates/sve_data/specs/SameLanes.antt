@@ -1,7 +1,7 @@
 -- Lane i of each 128 bits is the same where those bits are.
 use Rattle.std.proofs.Common.{◌≡◌, ◌*◌, ◌/◌, ◌%◌, ℕ, inl, inr, arith}
 use Rattle.emu_model.specs.State.{Vectors}
-use Rattle.lane_kernels.specs.Parts.{SamePart, same_lane}
+use Rattle.register_lanes.specs.Parts.{SamePart, same_lane}
 use Rattle.sve_effects.specs.LaneLoop.{lane_of}
 use Rattle.sve_effects.specs.VectorData.{indexed_lane}
 use Rattle.emu_model.specs.LaneSizes.{IsLaneSize}

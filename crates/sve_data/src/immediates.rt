@@ -9,12 +9,11 @@ use crate::names::min_max_signed;
 use crate::operations::plain_number;
 use core_regs::Core;
 use emu_bits::{Reg, U};
-use lane_kernels::register_words::plain;
-use lane_kernels::sources::{Map1, Number};
 use lane_ops::{
-    Add, And, Eor, Mul, Orr, Smax, Smin, SqaddAmount, SqsubAmount, Sub, SubtractFrom, Umax, Umin,
-    Uqadd, Uqsub,
+    Add, And, Eor, Mul, Orr, Smax, Smin, SqaddAmount, SqsubAmount, Sub, Subr, Umax, Umin, Uqadd,
+    Uqsub,
 };
+use register_lanes::{Number, plain};
 use sve_effects::lane_bits;
 use sve_insn::{BitmaskZOp, MinMaxImmOp, Sve, SveForm, WideImmOp};
 use vec_regs::VecRegs;
@@ -66,10 +65,7 @@ fn wide_imm(
     match op {
         WideImmOp::Add => plain_number(vec, e, zdn, zdn, n, Add),
         WideImmOp::Sub => plain_number(vec, e, zdn, zdn, n, Sub),
-        WideImmOp::Subr => {
-            let op = SubtractFrom { n };
-            plain(vec, e, zdn, &Map1 { op, zn: zdn });
-        }
+        WideImmOp::Subr => plain_number(vec, e, zdn, zdn, n, Subr),
         WideImmOp::Sqadd => plain_number(vec, e, zdn, zdn, n, SqaddAmount),
         WideImmOp::Uqadd => plain_number(vec, e, zdn, zdn, n, Uqadd),
         WideImmOp::Sqsub => plain_number(vec, e, zdn, zdn, n, SqsubAmount),

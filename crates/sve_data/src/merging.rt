@@ -6,15 +6,13 @@ ghost use Rattle.sve_data.specs.Groups.{is_merging};
 
 use crate::fields::{shift_amount, shift_bits, tsz_of};
 use crate::names::shift_imm_lane_op;
-use crate::operations::{
-    merging_covered, merging_exchanged, merging_number, merging_one, merging_two,
-};
+use crate::operations::{merging_covered, merging_number, merging_one, merging_two};
 use core_regs::Core;
 use emu_bits::{PredLow, Reg, U};
 use lane_ops::{
-    Abs, Add, And, Asr, Asrd, Bic, Cls, Clz, Cnot, Cnt, Eor, Lsl, Lsr, Mul, Neg, Not, Orr, Rbit,
-    Revb, Revh, Revw, Sabd, Sdiv, Smax, Smin, Smulh, Sub, Sxtb, Sxth, Sxtw, Uabd, Udiv, Umax, Umin,
-    Umulh, Uxtb, Uxth, Uxtw,
+    Abs, Add, And, Asr, Asrd, Asrr, Bic, Cls, Clz, Cnot, Cnt, Eor, Lsl, Lslr, Lsr, Lsrr, Mul, Neg,
+    Not, Orr, Rbit, Revb, Revh, Revw, Sabd, Sdiv, Sdivr, Smax, Smin, Smulh, Sub, Subr, Sxtb, Sxth,
+    Sxtw, Uabd, Udiv, Udivr, Umax, Umin, Umulh, Uxtb, Uxth, Uxtw,
 };
 use sve_effects::lane_bits;
 use sve_insn::{BinaryOp, ShiftImmOp, ShiftOp, Sve, SveForm, UnaryOp};
@@ -86,12 +84,12 @@ fn binary(core: &Core, vec: &mut VecRegs, op: BinaryOp, size: U<2>, pg: PredLow,
         BinaryOp::Asr => merging_two(vec, e, pg, zdn, zm, Asr),
         BinaryOp::Lsr => merging_two(vec, e, pg, zdn, zm, Lsr),
         BinaryOp::Lsl => merging_two(vec, e, pg, zdn, zm, Lsl),
-        BinaryOp::Subr => merging_exchanged(vec, e, pg, zdn, zm, Sub),
-        BinaryOp::Sdivr => merging_exchanged(vec, e, pg, zdn, zm, Sdiv),
-        BinaryOp::Udivr => merging_exchanged(vec, e, pg, zdn, zm, Udiv),
-        BinaryOp::Asrr => merging_exchanged(vec, e, pg, zdn, zm, Asr),
-        BinaryOp::Lsrr => merging_exchanged(vec, e, pg, zdn, zm, Lsr),
-        BinaryOp::Lslr => merging_exchanged(vec, e, pg, zdn, zm, Lsl),
+        BinaryOp::Subr => merging_two(vec, e, pg, zdn, zm, Subr),
+        BinaryOp::Sdivr => merging_two(vec, e, pg, zdn, zm, Sdivr),
+        BinaryOp::Udivr => merging_two(vec, e, pg, zdn, zm, Udivr),
+        BinaryOp::Asrr => merging_two(vec, e, pg, zdn, zm, Asrr),
+        BinaryOp::Lsrr => merging_two(vec, e, pg, zdn, zm, Lsrr),
+        BinaryOp::Lslr => merging_two(vec, e, pg, zdn, zm, Lslr),
     }
 }
 

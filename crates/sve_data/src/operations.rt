@@ -4,7 +4,7 @@
 //! them from the others, and most take so few that none is saved.
 ghost use Rattle.std.specs.Prelude.{◌≡◌, ◌<◌, ◌/◌, ◌%◌, ℕ};
 ghost use Rattle.std.proofs.Common.{ap₂};
-ghost use Rattle.lane_kernels.specs.Parts.{same_lane, same_covering};
+ghost use Rattle.register_lanes.specs.Parts.{same_lane, same_covering};
 ghost use Rattle.sve_effects.specs.LaneLoop as model;
 ghost use Rattle.sve_effects.specs.LaneLoop.{covering_lane, lane_of};
 ghost use Rattle.sve_effects.specs.VectorData.{indexed_lane};
@@ -12,11 +12,10 @@ ghost use Rattle.sve_data.specs.SameLanes.{same_indexed};
 ghost use Rattle.emu_model.specs.LaneSizes.{IsLaneSize};
 
 use emu_bits::{Pred, Reg};
-use lane_kernels::kernels::Op3;
-use lane_kernels::register_words::{Chunks, Gives, Local, merging, plain};
-use lane_kernels::sources::{LaneOf, Map1, Map2, Number, Updated};
-use lane_kernels::{LaneWise1, LaneWise2, LaneWise3, WithNumber};
+use lane_kernels::{LaneWise1, LaneWise2, LaneWise3, Op3};
+use lane_ops::WithNumber;
 use lane_pack::Quad;
+use register_lanes::{Chunks, Gives, LaneOf, Local, Map1, Map2, Number, Updated, merging, plain};
 use std::simd::Simd;
 use vec_regs::VecRegs;
 
@@ -61,24 +60,6 @@ pub fn merging_two<F: LaneWise2 + Drop>(
 {
     let zn = zdn;
     merging(vec, e, pg, zdn, Map2 { op, zn, zm });
-}
-
-/// The same with the operands exchanged.
-#[inline(never)]
-pub fn merging_exchanged<F: LaneWise2 + Copy>(
-    vec: &mut VecRegs,
-    e: u32,
-    pg: Pred,
-    zdn: Reg,
-    zm: Reg,
-    op: F,
-)
-    requires { IsLaneSize e }
-    ensures { vec.new ≡ model.merging e pg
-        (λ k. F.entry op e (lane_of e vec.old zm k) (lane_of e vec.old zdn k)) zdn vec.old }
-{
-    let zn = zdn;
-    merging(vec, e, pg, zdn, Exchanged { op, zn, zm });
 }
 
 /// What an operation makes of the lanes of zd, zn and zm, in the active lanes of zd; the others keep their value.
@@ -196,34 +177,6 @@ pub fn merging_one<F: LaneWise1 + Drop>(
     ensures { vec.new ≡ model.merging e pg (λ k. F.entry op e (lane_of e vec.old zn k)) zd vec.old }
 {
     merging(vec, e, pg, zd, Map1 { op, zn });
-}
-
-/// An operation of the lanes of two registers, those of zm first. It is a type of its own, so that the loop over them
-/// is compiled where it is called, as that of the operands in order is.
-#[derive(Drop)]
-pub struct Exchanged<F> {
-    pub op: F,
-    pub zn: Reg,
-    pub zm: Reg,
-}
-
-impl<F: LaneWise2> Gives for Exchanged<F> {
-    ghost value = { λ s e v k. F.entry s.op e (lane_of e v s.zm k) (lane_of e v s.zn k) };
-}
-
-impl<F: LaneWise2> Local for Exchanged<F> {
-    ghost local = { λ s e i k v w size at same. ap₂ (F.entry s.op e) (same_lane e i k s.zm v w size at same)
-        (same_lane e i k s.zn v w size at same) };
-}
-
-impl<T: Quad<W>, F: LaneWise2 + Copy, const W: usize> Chunks<T, W> for Exchanged<F> {
-    #[inline(always)]
-    fn chunk(&self, vec: &VecRegs, i: u32) -> [T; W] {
-        let op = self.op;
-        let zn = self.zm;
-        let zm = self.zn;
-        Map2 { op, zn, zm }.chunk(vec, i)
-    }
 }
 
 /// An operation of a lane of zn and the 64-bit lane of zm that covers it, as a shift by wider lanes is.

@@ -10,10 +10,8 @@ use crate::names::dot_indexed_signed;
 use crate::operations::{merging_three, plain_indexed};
 use core_regs::Core;
 use emu_bits::{PredLow, Reg, U};
-use lane_kernels::LastFirst;
-use lane_kernels::register_words::plain;
-use lane_kernels::sources::Map3;
-use lane_ops::{MultiplyAdd, MultiplySubtract, Sdot, Udot};
+use lane_ops::{Mad, Mla, Mls, Msb, Sdot, Udot};
+use register_lanes::{Map3, plain};
 use sve_effects::lane_bits;
 use sve_insn::{DotIndexedOp, DotOp, MulAddDOp, MulAddZOp, Sve, SveForm};
 use vec_regs::VecRegs;
@@ -69,8 +67,8 @@ fn mul_add_z(
     let e = lane_bits(size);
     let pg = pg.register();
     match op {
-        MulAddZOp::Mla => merging_three(vec, e, pg, zda, zn, zm, MultiplyAdd),
-        MulAddZOp::Mls => merging_three(vec, e, pg, zda, zn, zm, MultiplySubtract),
+        MulAddZOp::Mla => merging_three(vec, e, pg, zda, zn, zm, Mla),
+        MulAddZOp::Mls => merging_three(vec, e, pg, zda, zn, zm, Mls),
     }
 }
 
@@ -89,16 +87,8 @@ fn mul_add_d(
     let e = lane_bits(size);
     let pg = pg.register();
     match op {
-        MulAddDOp::Mad => {
-            let op = LastFirst { op: MultiplyAdd };
-            merging_three(vec, e, pg, zdn, zm, za, op);
-        }
-        MulAddDOp::Msb => {
-            let op = LastFirst {
-                op: MultiplySubtract,
-            };
-            merging_three(vec, e, pg, zdn, zm, za, op);
-        }
+        MulAddDOp::Mad => merging_three(vec, e, pg, zdn, zm, za, Mad),
+        MulAddDOp::Msb => merging_three(vec, e, pg, zdn, zm, za, Msb),
     }
 }
 

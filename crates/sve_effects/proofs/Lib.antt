@@ -1,2 +1,1 @@
-pub mod ActiveLanes
-pub mod Found
+pub use Rattle.lane_model.proofs.Found

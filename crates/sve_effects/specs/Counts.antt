@@ -12,7 +12,7 @@ use Rattle.emu_bits.specs.Numbers.{signed}
 use Rattle.emu_model.specs.State.{Vectors}
 use Rattle.sve_effects.specs.Lane.{lane_op, extended_by}
 use Rattle.sve_effects.specs.LaneLoop.{lane_bits}
-use Rattle.sve_effects.specs.Pattern.{pattern_count}
+use Rattle.lane_model.specs.Pattern.{pattern_count}
 use Rattle.sve_effects.specs.PermuteRows.{lanes}
 
 -- ---- counts

@@ -11,8 +11,8 @@ use Rattle.emu_model.specs.State.{Core, Vectors}
 use Rattle.emu_model.specs.Active.{active}
 use Rattle.emu_model.specs.Lanes.{with_ffr, with_lanes}
 use Rattle.sve_effects.specs.Lane.{extended_by}
-use Rattle.sve_effects.specs.FirstLast.{first_where}
-use Rattle.sve_effects.specs.Predicate.{is_upto}
+use Rattle.lane_model.specs.FirstLast.{first_where}
+use Rattle.lane_model.specs.Predicate.{is_upto}
 use Rattle.sve_effects.specs.VectorElements.{MemoryRow, Way, loads, stores, gathers, scatters, first_faults, non_faults}
 use Rattle.sve_effects.specs.VectorLoadStore.{has_sp_base, unless_misaligned}
 

@@ -30,6 +30,7 @@ use Rattle.sve_insn.specs.declared.ops.MinMaxImmOp.{MinMaxImmOp}
 use Rattle.sve_insn.specs.declared.ops.MinMaxImmOp.TheVariants as min_max_names
 use Rattle.sve_insn.specs.declared.ops.BitmaskZOp.{BitmaskZOp}
 use Rattle.sve_insn.specs.declared.ops.BitmaskZOp.TheVariants as bitmask_names
+pub use Rattle.lane_model.specs.Extended.{extended_by}
 use Rattle.sve_effects.specs.declared.lane_functions.LaneOp.{LaneOp}
 use Rattle.sve_effects.specs.declared.lane_functions.LaneOp.TheVariants.{Add, Sub, Smax, Umax, Smin, Umin, Sabd, Uabd, Mul, Smulh, Umulh, Sdiv, Udiv, Orr, Eor, And, Bic, Asr, Lsr, Lsl, Asrd, Sqadd, Uqadd, Sqsub, Uqsub, SqaddAmount, SqsubAmount}
 use Rattle.sve_effects.specs.declared.lane_functions.LaneTest.{LaneTest}
@@ -100,10 +101,6 @@ lane_test Lo e a b = nat_lt a b
 lane_test Ls e a b = nat_le a b
 
 -- ---- functions of one operand
-
--- a number of n bits, extended to e bits by its sign or by zeros
-abbrev pub extended_by : Bool → ℕ → ℕ → ℕ → ℕ
-extended_by is_signed e n a = if is_signed then sign_extended e n a else a
 
 -- the low n bits, with zeros above
 abbrev pub zero_extended : ℕ → ℕ → ℕ → ℕ

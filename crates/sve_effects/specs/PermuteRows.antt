@@ -1,5 +1,7 @@
 -- What the permutes of lanes and of predicate fields do, and copies of scalars to lanes and of lanes to scalars.
 use Rattle.std.specs.Prelude.{ℕ, ◌+◌, ◌*◌, ◌/◌, ◌%◌, ◌^◌, Bool, true, false, nat_eq, if◌then◌else◌, List, get_or, is_some, unwrap_or}
+use Rattle.sve_insn.specs.declared.ops.InterleaveOp.{InterleaveOp}
+use Rattle.sve_insn.specs.declared.ops.InterleaveOp.TheVariants.{Zip1, Zip2, Uzp1, Uzp2, Trn1, Trn2}
 use Rattle.sve_insn.specs.declared.ops.InsertOp.{InsertOp}
 use Rattle.sve_insn.specs.declared.ops.InsertOp.TheVariants.{InsrR, InsrV}
 use Rattle.sve_insn.specs.declared.ops.UnpackOp.{UnpackOp}
@@ -16,10 +18,10 @@ use Rattle.emu_model.specs.Done.{Registers, leaves}
 use Rattle.emu_model.specs.State.{Core, Vectors, read_x, read_x_sp, with_x}
 use Rattle.sve_effects.specs.Lane.{extended_by}
 use Rattle.sve_effects.specs.LaneLoop.{lane_bits, lane_of, is_active}
-use Rattle.sve_effects.specs.FirstLast.{first_where, last_where}
+use Rattle.lane_model.specs.FirstLast.{first_where, last_where}
 use Rattle.emu_model.specs.Lanes.{read_p, with_lanes, with_low, with_fields}
-use Rattle.sve_effects.specs.declared.places.Place.{Place}
-use Rattle.sve_effects.specs.Permute.{taken, half_place, last_lane}
+use Rattle.lane_model.specs.declared.places.Place.{Place}
+use Rattle.lane_model.specs.Permute.{taken, zip_place, uzp_place, trn_place, half_place, last_lane}
 
 -- ---- lanes and fields by places
 
@@ -66,6 +68,15 @@ is_signed Sunpklo = true
 is_signed Sunpkhi = true
 is_signed Uunpklo = false
 is_signed Uunpkhi = false
+
+-- the names with 1 are of the first halves, or of the even lanes; those with 2 of the others
+abbrev pub interleave_place : InterleaveOp → ℕ → ℕ → Place
+interleave_place Zip1 n k = zip_place false n k
+interleave_place Zip2 n k = zip_place true n k
+interleave_place Uzp1 n k = uzp_place false n k
+interleave_place Uzp2 n k = uzp_place true n k
+interleave_place Trn1 n k = trn_place false k
+interleave_place Trn2 n k = trn_place true k
 
 abbrev pub is_high_p : UnpackPOp → Bool
 is_high_p Punpklo = false

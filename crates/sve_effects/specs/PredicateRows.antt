@@ -35,13 +35,14 @@ use Rattle.sve_effects.specs.declared.lane_functions.LaneOp.{LaneOp}
 use Rattle.sve_effects.specs.declared.lane_functions.LaneOp.TheVariants.{Add, Sub}
 use Rattle.sve_effects.specs.declared.lane_functions.LaneTest.{LaneTest}
 use Rattle.sve_effects.specs.declared.lane_functions.LaneTest.TheVariants.{Eq, Ne, Ge, Gt, Lt, Le, Hs, Hi, Lo, Ls}
-use Rattle.sve_effects.specs.declared.predicates.LogicOp.{LogicOp}
-use Rattle.sve_effects.specs.declared.predicates.LogicOp.TheVariants.{And, Bic, Eor, Orr, Orn, Nor, Nand}
-use Rattle.sve_effects.specs.declared.predicates.WhileTest.{WhileTest}
-use Rattle.sve_effects.specs.declared.predicates.WhileTest.TheVariants as conditions
+use Rattle.lane_model.specs.declared.predicates.LogicOp.{LogicOp}
+use Rattle.lane_model.specs.declared.predicates.LogicOp.TheVariants.{And, Bic, Eor, Orr, Orn, Nor, Nand}
+use Rattle.lane_model.specs.declared.predicates.WhileTest.{WhileTest}
+use Rattle.lane_model.specs.declared.predicates.WhileTest.TheVariants as conditions
 use Rattle.sve_effects.specs.LaneLoop.{is_active}
 use Rattle.emu_model.specs.Lanes.{read_p, with_p}
-use Rattle.sve_effects.specs.Predicate.{is_set, fields, pred_test, while_lanes, count_lanes}
+use Rattle.lane_model.specs.Bits.{is_set, fields}
+use Rattle.lane_model.specs.Predicate.{pred_test, while_lanes, count_lanes}
 
 -- ---- results
 

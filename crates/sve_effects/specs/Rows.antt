@@ -10,16 +10,16 @@ use Rattle.emu_model.specs.Done.{leaves, Done}
 use Rattle.emu_model.specs.State.{read_x, read_x_sp, with_x, with_x_sp, Core, Vectors}
 use Rattle.emu_model.specs.Access.{Memory}
 use Rattle.emu_model.specs.Lanes.{read_p, with_p, with_ffr, with_lanes}
-use Rattle.sve_effects.specs.declared.places.Place.TheVariants.{Scalar}
-use Rattle.sve_effects.specs.declared.predicates.LogicOp.TheVariants.{And, Sel}
+use Rattle.lane_model.specs.declared.places.Place.TheVariants.{Scalar}
+use Rattle.lane_model.specs.declared.predicates.LogicOp.TheVariants.{And, Sel}
 use Rattle.sve_effects.specs.Counts.{count_of, inc_lane_op, sat_lane_op, sat_counted, length_of, multiple}
 use Rattle.sve_effects.specs.Lane.{lane_op, lane_op_by, lane_test, unary, multiply_by, subtracts_z, subtracts_d, dot_product, dot_signed, dot_indexed_signed, binary_lane_op, binary_exchanged, shift_lane_op, shift_imm_lane_op, plain_lane_op, logic_lane_op, wide_imm_lane_op, wide_imm_exchanged, min_max_lane_op, min_max_signed, bitmask_lane_op, extended_by}
 use Rattle.sve_effects.specs.LaneLoop.{lane_bits, lane_of, covering_lane, is_active, plain, merging}
 use Rattle.sve_effects.specs.Fold.{reduced}
-use Rattle.sve_effects.specs.Pattern.{pattern_count}
-use Rattle.sve_effects.specs.Permute.{interleave_place, ext_place, rev_place, insr_place, indexed_place, copy_place, compact_place, splice_place}
-use Rattle.sve_effects.specs.PermuteRows.{lanes, moved, moved_fields, insert_scalar, copy_scalar, dup_bits, dup_index, is_after, last_value, after_last, after_cond_last, after_unpack, after_unpack_p}
-use Rattle.sve_effects.specs.Predicate.{logic, broken, broken_pair, broken_next, with_first, only_next, lanes_below, count_lanes}
+use Rattle.lane_model.specs.Pattern.{pattern_count}
+use Rattle.lane_model.specs.Permute.{ext_place, rev_place, insr_place, indexed_place, copy_place, compact_place, splice_place}
+use Rattle.sve_effects.specs.PermuteRows.{interleave_place, lanes, moved, moved_fields, insert_scalar, copy_scalar, dup_bits, dup_index, is_after, last_value, after_last, after_cond_last, after_unpack, after_unpack_p}
+use Rattle.lane_model.specs.Predicate.{logic, broken, broken_pair, broken_next, with_first, only_next, lanes_below, count_lanes}
 use Rattle.sve_effects.specs.PredicateRows.{predicate_bits, ones, after_test, put, put_compared, vector_test, wide_test, unsigned_test, signed_test, is_unsigned, logic_of, break_after, pair_after, ptrue_flags, read_ffr_flags, written_ffr, counted_by, set_lanes_of, while_result, terminates, termination_flags}
 use Rattle.sve_effects.specs.Row.{Row, by_lanes, permutes, counts, folds, predicates, memory, done_by}
 use Rattle.sve_effects.specs.VectorData.{tsz_of, shift_bits, shifted_by, wide_unsigned, wide_signed, index_start, index_step, dot_indexed_bits, dot_indexed_zm_bits, dot_indexed, copied}

@@ -25,13 +25,13 @@ use Rattle.sve_effects.specs.Effects.{after_data}
 use Rattle.sve_effects.specs.Lane.{unary, multiply_by, subtracts_z, subtracts_d, dot_product, dot_signed, dot_indexed_signed, binary_lane_op, binary_exchanged, shift_lane_op, shift_imm_lane_op, plain_lane_op, logic_lane_op, wide_imm_lane_op, wide_imm_exchanged, min_max_lane_op, min_max_signed, bitmask_lane_op, extended_by, lane_op, lane_op_by}
 use Rattle.sve_effects.specs.LaneLoop.{lane_bits, lane_of, covering_lane, is_active, plain, merging, zeroing, folding}
 use Rattle.sve_effects.specs.Fold.{reduce_step, reduce_start, reduce_bits}
-use Rattle.sve_effects.specs.Permute.{taken, interleave_place, ext_place, rev_place, insr_place, indexed_place, half_place, copy_place, compact_place, splice_place}
-use Rattle.sve_effects.specs.PermuteRows.{lanes, moved, bit_of_field, moved_fields, insert_scalar, copy_scalar, is_high, is_signed, is_high_p, dup_bits, dup_index, is_after, any_active, last_value, last_value_or, after_last, after_cond_last}
-use Rattle.sve_effects.specs.Predicate.{pred_test, count_lanes}
+use Rattle.lane_model.specs.Permute.{taken, ext_place, rev_place, insr_place, indexed_place, half_place, copy_place, compact_place, splice_place}
+use Rattle.sve_effects.specs.PermuteRows.{interleave_place, lanes, moved, bit_of_field, moved_fields, insert_scalar, copy_scalar, is_high, is_signed, is_high_p, dup_bits, dup_index, is_after, any_active, last_value, last_value_or, after_last, after_cond_last}
+use Rattle.lane_model.specs.Predicate.{pred_test, count_lanes}
 use Rattle.sve_effects.specs.PredicateRows.{predicate_bits, after_test, put, counted_by, set_lanes_of, terminates, termination_flags, written_ffr}
 use Rattle.sve_effects.specs.VectorData.{tsz_of, shift_bits, shifted_by, wide_unsigned, wide_signed, index_start, index_step, dot_indexed_bits, dot_indexed_zm_bits, indexed_lane, dot_indexed, copied}
-use Rattle.sve_effects.specs.declared.places.Place.{Place}
-use Rattle.sve_effects.specs.declared.places.Place.TheVariants.{Scalar}
+use Rattle.lane_model.specs.declared.places.Place.{Place}
+use Rattle.lane_model.specs.declared.places.Place.TheVariants.{Scalar}
 use Rattle.emu_model.specs.Lanes.{read_p, with_lanes, with_low}
 use Rattle.emu_model.specs.SoundLanes.{sound_lanes, sound_low, sound_fields, sound_p, sound_ffr_bits}
 

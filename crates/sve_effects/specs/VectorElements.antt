@@ -10,8 +10,8 @@ use Rattle.emu_model.specs.Elements.{Element}
 use Rattle.emu_model.specs.Lists.{each}
 use Rattle.emu_model.specs.State.{Core, Vectors, read_x, read_x_sp}
 use Rattle.sve_effects.specs.LaneLoop.{lane_bits, lane_of, is_active}
-use Rattle.sve_effects.specs.FirstLast.{first_where}
-use Rattle.sve_effects.specs.Predicate.{is_at}
+use Rattle.lane_model.specs.FirstLast.{first_where}
+use Rattle.lane_model.specs.Predicate.{is_at}
 
 -- ---- what a row says of its elements
 

@@ -5,12 +5,8 @@
 pub mod groups;
 pub mod lane_functions;
 pub mod laws;
-pub mod places;
-pub mod predicates;
 pub mod sizes;
 
 pub use groups::{Group, group_of};
 pub use lane_functions::{LaneOp, LaneTest};
-pub use places::Place;
-pub use predicates::{LogicOp, WhileTest};
 pub use sizes::lane_bits;

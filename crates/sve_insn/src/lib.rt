@@ -8,7 +8,6 @@ pub mod lane_words;
 pub mod lines;
 pub mod memory_words;
 pub mod ops;
-pub mod predicate_words;
 
 pub use form::{Sve, SveForm};
 pub use ops::{

@@ -5,7 +5,7 @@ use Rattle.std.proofs.lemmas.Bool.Decides.{nat_tests}
 use Rattle.std.proofs.lemmas.Nat.{div-add-mod', div_below}
 use Rattle.emu_bits.specs.Fields.{bit}
 use Rattle.emu_model.specs.SoundState.{IsVectorLength}
-use Rattle.sve_effects.specs.declared.places.Place.TheVariants.{FirstLane, SecondLane, Scalar}
+use Rattle.lane_model.specs.declared.places.Place.TheVariants.{FirstLane, SecondLane, Scalar}
 use Rattle.sve_effects.specs.Permute.{taken, in_turn, joined, zip_place, uzp_place, trn_place, insr_place}
 use Rattle.emu_model.specs.LaneSizes.{IsLaneSize}
 

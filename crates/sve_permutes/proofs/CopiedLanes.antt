@@ -2,8 +2,8 @@
 use Rattle.std.proofs.Common.{◌≡◌, ◌/◌, ◌%◌, ◌*◌, ◌^◌, ◌∙◌, ℕ, Bool, true, false, if◌then◌else◌, refl, ap, ap₂}
 use Rattle.emu_model.specs.ListLaws.{each_same}
 use Rattle.emu_model.specs.State.{Vectors}
-use Rattle.sve_effects.specs.declared.places.Place.{Place}
-use Rattle.sve_effects.specs.declared.places.Place.TheVariants.{FirstLane, Scalar}
+use Rattle.lane_model.specs.declared.places.Place.{Place}
+use Rattle.lane_model.specs.declared.places.Place.TheVariants.{FirstLane, Scalar}
 use Rattle.sve_effects.specs.declared.lane_functions.LaneOp.{LaneOp}
 use Rattle.sve_effects.specs.Lane.{lane_op}
 use Rattle.sve_effects.specs.LaneLoop.{lane_of, is_active, merging, plain}

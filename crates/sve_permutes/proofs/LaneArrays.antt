@@ -15,11 +15,12 @@ use Rattle.emu_bits.specs.Numbers.{signed, unsigned_int}
 use Rattle.emu_model.specs.SoundState.{IsVectorLength}
 use Rattle.emu_model.specs.Lists.{each}
 use Rattle.emu_model.specs.ListLaws.{length-each}
-use Rattle.lane_kernels.proofs.PairLanes.{lane_read_small}
+use Rattle.register_lanes.proofs.PairLanes.{lane_read_small}
 use Rattle.lane_pack.specs.Bits.{lane_in}
-use Rattle.lane_permute.specs.Slices.{number_at, active_by}
-use Rattle.sve_effects.specs.declared.places.Place.{Place}
-use Rattle.sve_effects.specs.declared.places.Place.TheVariants.{FirstLane, SecondLane, Scalar, Zero}
+use Rattle.lane_model.specs.Bits.{is_set}
+use Rattle.lane_permute.specs.Slices.{number_at}
+use Rattle.lane_model.specs.declared.places.Place.{Place}
+use Rattle.lane_model.specs.declared.places.Place.TheVariants.{FirstLane, SecondLane, Scalar, Zero}
 use Rattle.sve_effects.specs.Lane.{extended_by}
 use Rattle.sve_effects.specs.Permute.{taken, indexed_place}
 use Rattle.emu_model.specs.Lanes.{number, lane}
@@ -223,7 +224,7 @@ active_behind e bits k flags words size l is h =
     let past : length flags ≤ k * (e / 8) = omega (arith, behind_bytes e bits k size l h) in
     get_or_past flags (k * (e / 8)) false past
 
-pub cut_flags : (n m : ℕ) (flags : List Bool) (on : ℕ → Bool) → m ≡ n → ((k : ℕ) → get_or flags k false ≡ on k) → ((k : ℕ) → n ≤ k → on k ≡ false) → (k : ℕ) → active_by (take m flags) k ≡ on k
+pub cut_flags : (n m : ℕ) (flags : List Bool) (on : ℕ → Bool) → m ≡ n → ((k : ℕ) → get_or flags k false ≡ on k) → ((k : ℕ) → n ≤ k → on k ≡ false) → (k : ℕ) → is_set (take m flags) k ≡ on k
 cut_flags n m flags on same is none k = elim (cases_lt k m) [
   | inl h ↦ get_or-take m flags k false h ∙ is k
   | inr h ↦
@@ -232,7 +233,7 @@ cut_flags n m flags on same is none k = elim (cases_lt k m) [
       get_or_past (take m flags) k false past ∙ sym (none k behind))
 ]
 
-pub same_active : (n m : ℕ) (flags : List Bool) (on : ℕ → Bool) → m ≡ n → ((k : ℕ) → get_or flags k false ≡ on k) → ((k : ℕ) → n ≤ k → on k ≡ false) → active_by (take m flags) ≡ on
+pub same_active : (n m : ℕ) (flags : List Bool) (on : ℕ → Bool) → m ≡ n → ((k : ℕ) → get_or flags k false ≡ on k) → ((k : ℕ) → n ≤ k → on k ≡ false) → is_set (take m flags) ≡ on
 same_active n m flags on same is none = fun_ext (cut_flags n m flags on same is none)
 
 -- ---- lanes of half the size

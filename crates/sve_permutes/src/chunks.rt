@@ -29,10 +29,9 @@ ghost use Rattle.sve_effects.specs.Permute.{
 };
 
 use emu_bits::Reg;
-use lane_kernels::register_words::{Chunks, Gives};
-use lane_kernels::sources::{LaneOf, Number};
 use lane_pack::{Lane, Quad};
 use lane_permute::{insr, rev, trn, uzp, window, zip};
+use register_lanes::{Chunks, Gives, LaneOf, Number};
 use vec_regs::VecRegs;
 
 /// The lanes of two registers in turn: of their low halves, or of their high halves where `second` is true.

@@ -10,11 +10,10 @@ ghost use Rattle.emu_model.specs.LaneSizes.{IsLaneSize};
 
 use core_regs::Core;
 use emu_bits::{Reg, U, low_bits, sext, sign_extended};
-use lane_kernels::register_words::plain;
-use lane_kernels::sources::Map1;
-use lane_kernels::{LaneWise2, WithNumber};
-use lane_ops::{Add, SqaddAmount, SqsubAmount, Sub, Uqadd, Uqsub};
+use lane_kernels::LaneWise2;
+use lane_ops::{Add, SqaddAmount, SqsubAmount, Sub, Uqadd, Uqsub, WithNumber};
 use pred_bits::pattern_count;
+use register_lanes::{Map1, plain};
 use sve_effects::{LaneOp, lane_bits};
 use sve_elements::apply;
 use sve_insn::{AddLengthOp, IncOp, SatOp, Sve, SveForm};
@@ -154,7 +153,7 @@ fn read_length(core: &mut Core, vec: &VecRegs, imm6: U<6>, rd: Reg)
 }
 
 /// The lanes that a pattern names, imm4 + 1 times.
-#[tactic(auto, using(crate::proofs::FieldPlaces::some_lanes))]
+#[tactic(auto, using(crate::proofs::SomeLanes::some_lanes))]
 fn count_of(vec: &VecRegs, size: U<2>, imm4: U<4>, pattern: U<5>) -> u64
     ensures { result ≡ table.count_of size imm4 pattern vec.now }
 {

@@ -12,7 +12,7 @@ use crate::chunks::Turns;
 use crate::moves::{filled, indexed};
 use core_regs::Core;
 use emu_bits::{Reg, U};
-use lane_kernels::register_words::permuted;
+use register_lanes::permuted;
 use vec_regs::VecRegs;
 
 /// Does a dup of a lane of 8 to 128 bits.

@@ -11,7 +11,6 @@ mod dup;
 mod folds;
 mod moves;
 mod permutes;
-mod predicates;
 mod rows;
 mod single;
 mod slices;

@@ -1,6 +1,5 @@
 //! A number in the lanes of a register, in all of them or in the active ones.
-ghost use Rattle.std.specs.Prelude.{◌≡◌, ◌≤◌, ◌*◌, ◌/◌};
-ghost use Rattle.emu_bits.specs.Fields.{bit};
+ghost use Rattle.std.specs.Prelude.{◌≡◌, ◌/◌};
 ghost use Rattle.sve_effects.specs.LaneLoop.{lane_of, is_active};
 ghost use Rattle.sve_effects.specs.Permute.{taken, indexed_place, copy_place};
 ghost use Rattle.sve_effects.specs.PermuteRows as model;
@@ -8,8 +7,7 @@ ghost use Rattle.emu_model.specs.Lanes.{with_lanes};
 ghost use Rattle.emu_model.specs.LaneSizes.{IsLaneSize};
 
 use emu_bits::{Pred, Reg};
-use lane_kernels::register_words::{merging, plain};
-use lane_kernels::sources::Number;
+use register_lanes::{Number, merging, plain};
 use vec_regs::VecRegs;
 
 /// Writes a number to each lane of e bits of zd.
@@ -39,12 +37,4 @@ pub(crate) fn copied(vec: &mut VecRegs, e: u32, pg: Pred, scalar: u64, zd: Reg)
     ensures { vec.new ≡ model.moved e (copy_place (is_active e vec.old pg)) zd zd scalar zd vec.old }
 {
     merging(vec, e, pg, zd, Number { n: scalar });
-}
-
-/// Where the first or the second of two parts of n begins.
-pub(crate) fn begin(second: bool, n: u32) -> u32
-    ensures value { result ≡ bit second * n }
-    ensures within { result ≤ n }
-{
-    if second { n } else { 0 }
 }

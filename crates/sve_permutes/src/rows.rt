@@ -11,10 +11,10 @@ ghost use Rattle.emu_model.specs.LaneSizes.{IsLaneSize};
 use crate::chunks::{Extracted, Inserted, Reversed, Transposed, Unzipped, Zipped};
 use crate::slices::widened_lanes;
 use crate::table_lookup::table;
-use crate::{active, moves, predicates};
+use crate::{active, moves};
 use core_regs::Core;
 use emu_bits::{Pred, PredLow, Reg, U};
-use lane_kernels::register_words::permuted;
+use register_lanes::permuted;
 use sve_effects::lane_bits;
 use sve_insn::{CopyRegOp, InsertOp, InterleaveOp, UnpackOp, UnpackPOp};
 use vec_regs::VecRegs;
@@ -118,19 +118,19 @@ pub(crate) fn interleave_p(
 )
     ensures { vec.new ≡ (effects.across (SveForm.InterleaveP op size pm pn pd) core.now vec.old).vectors }
 {
-    predicates::interleaved(vec, op, lane_bits(size), pn, pm, pd);
+    pred_permutes::interleaved(vec, op, lane_bits(size), pn, pm, pd);
 }
 
 pub(crate) fn unpack_p(core: &Core, vec: &mut VecRegs, op: UnpackPOp, pn: Pred, pd: Pred)
     ensures { vec.new ≡ (effects.across (SveForm.UnpackP op pn pd) core.now vec.old).vectors }
 {
-    predicates::unpacked(vec, op, pn, pd);
+    pred_permutes::unpacked(vec, op, pn, pd);
 }
 
 pub(crate) fn rev_p(core: &Core, vec: &mut VecRegs, size: U<2>, pn: Pred, pd: Pred)
     ensures { vec.new ≡ (effects.across (SveForm.RevP size pn pd) core.now vec.old).vectors }
 {
-    predicates::reversed(vec, lane_bits(size), pn, pd);
+    pred_permutes::reversed(vec, lane_bits(size), pn, pd);
 }
 
 pub(crate) fn compact(core: &Core, vec: &mut VecRegs, size: U<2>, pg: PredLow, zn: Reg, zd: Reg)

@@ -11,10 +11,9 @@ ghost use Rattle.vec_regs.specs.Words.{AreZeroFrom};
 
 use crate::slices::lanes_in;
 use emu_bits::Reg;
-use lane_kernels::register_words::Chunks;
-use lane_kernels::sources::LaneOf;
 use lane_pack::Quad;
 use lane_permute::chosen;
+use register_lanes::{Chunks, LaneOf};
 use vec_regs::VecRegs;
 
 /// Writes the lanes of zn that the lanes of zm number to zd, and 0 where there is none.

@@ -11,7 +11,7 @@ use Rattle.emu_model.specs.Active.{active}
 use Rattle.emu_model.specs.Lanes.{field_bit}
 use Rattle.vec_regs.specs.Words.{bit_of, bits_of, AreClearFrom}
 use Rattle.sve_effects.specs.declared.lane_functions.LaneTest.{LaneTest}
-use Rattle.sve_effects.specs.declared.predicates.LogicOp.TheVariants.{And}
+use Rattle.lane_model.specs.declared.predicates.LogicOp.TheVariants.{And}
 use Rattle.sve_effects.specs.Lane.{lane_test}
 use Rattle.sve_effects.specs.Predicate.{logic}
 use Rattle.sve_effects.specs.PredicateRows.{put_compared, is_unsigned}

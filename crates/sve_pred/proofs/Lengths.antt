@@ -9,7 +9,7 @@ use Rattle.emu_model.specs.SoundState.{IsVectorLength}
 use Rattle.emu_model.specs.Lists.{each}
 use Rattle.emu_model.specs.ListLaws.{length-each}
 use Rattle.sve_effects.specs.LaneLoop.{lane_bits}
-use Rattle.sve_effects.specs.Predicate.{lanes_of}
+use Rattle.sve_effects.specs.Bits.{lanes_of}
 
 pub length_given : (p : List Bool) (m n : ℕ) (f : ℕ → Bool) → p ≡ each m f → m ≡ n → length p ≡ n
 length_given p m n f e s = ap length e ∙ length-each m f ∙ s

@@ -1,6 +1,6 @@
 //! Logical operations and breaks of predicates.
 ghost use Rattle.std.specs.Prelude.{◌≡◌, true, length};
-ghost use Rattle.sve_effects.specs.declared.predicates.LogicOp.{LogicOp};
+ghost use Rattle.lane_model.specs.declared.predicates.LogicOp.{LogicOp};
 ghost use Rattle.sve_effects.specs.Predicate as model;
 ghost use Rattle.sve_effects.specs.PredicateRows.{predicate_bits, logic_of, break_after, pair_after};
 ghost use Rattle.sve_effects.specs.Effects.{predicate};

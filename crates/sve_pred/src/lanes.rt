@@ -27,13 +27,12 @@ ghost use Rattle.emu_model.specs.LaneSizes.{IsLaneSize};
 use crate::registers::{bits, esize, read, set_test_lanes, write};
 use core_regs::Core;
 use emu_bits::{Flags, Pred, Reg, U, low_bits};
-use lane_kernels::register_words::plain;
-use lane_kernels::sources::Map1;
-use lane_kernels::{LaneWise2, WithNumber};
-use lane_ops::{Add, Sub};
+use lane_kernels::LaneWise2;
+use lane_ops::{Add, Sub, WithNumber};
 use pred_bits::{
     PredBits, WhileTest, all_lanes, first_lanes, next_tested, pattern_count, while_tested,
 };
+use register_lanes::{Map1, plain};
 use sve_elements::{LaneOp, apply};
 use sve_insn::{CtermOp, IncPOp, PtrueOp, Sve, SveForm, WhileOp};
 use vec_regs::VecRegs;

@@ -1,6 +1,6 @@
 //! Single predicates: tests, the first active bit, no bit, and FFR.
 ghost use Rattle.std.specs.Prelude.{◌≡◌, replicate, true, false, length};
-ghost use Rattle.sve_effects.specs.declared.predicates.LogicOp.{LogicOp};
+ghost use Rattle.lane_model.specs.declared.predicates.LogicOp.{LogicOp};
 ghost use Rattle.sve_effects.specs.Predicate as model;
 ghost use Rattle.sve_effects.specs.PredicateRows.{predicate_bits, after_test, read_ffr_flags, written_ffr};
 ghost use Rattle.sve_effects.specs.Effects.{predicate};

@@ -7,11 +7,11 @@ ghost use Rattle.sve_insn.specs.Predicates.{cmp_vec, cmp_wide, cmp_u_imm, cmp_s_
 ghost use Rattle.sve_insn.specs.Rows.{row_of};
 ghost use Rattle.sve_insn.specs.Seen.{seen};
 
-use emu_bits::{Pred, PredLow, Reg, U, flag};
-use sve_insn::predicate_words::{
+use crate::base_words::{
     cmp_s_imm_op, cmp_s_imm_word, cmp_u_imm_op, cmp_u_imm_word, cmp_vec_op, cmp_vec_word,
     cmp_wide_op, cmp_wide_word, cterm_op, cterm_word, while_compare_op, while_compare_word,
 };
+use emu_bits::{Pred, PredLow, Reg, U, flag};
 use sve_insn::{CmpSImmOp, CmpUImmOp, CmpVecOp, CmpWideOp, CtermOp, Sve, SveForm, WhileOp};
 
 /// The instruction of `CmpVec` that a word is.

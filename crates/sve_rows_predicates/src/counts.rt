@@ -7,8 +7,8 @@ ghost use Rattle.sve_insn.specs.Predicates.{count_p, inc_p, inc_p_z};
 ghost use Rattle.sve_insn.specs.Rows.{row_of};
 ghost use Rattle.sve_insn.specs.Seen.{seen};
 
+use crate::base_words::{inc_p_op, inc_p_word, inc_p_z_op, inc_p_z_word};
 use emu_bits::{Pred, Reg, U, Word};
-use sve_insn::predicate_words::{inc_p_op, inc_p_word, inc_p_z_op, inc_p_z_word};
 use sve_insn::{IncPOp, Sve, SveForm};
 
 /// The instruction of `CountP` that a word is.

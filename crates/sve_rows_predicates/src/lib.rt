@@ -1,6 +1,7 @@
 //! Words of SVE compares, operations on predicates and operations with an immediate to instructions and back.
 #![tactic(auto)]
 
+mod base_words;
 mod compares;
 mod counts;
 mod dispatch;

@@ -35,11 +35,11 @@ ghost use Rattle.sve_insn.specs.Predicates.{
 ghost use Rattle.sve_insn.specs.Rows.{row_of};
 ghost use Rattle.sve_insn.specs.Seen.{seen};
 
-use emu_bits::{Pred, U, Word, flag};
-use sve_insn::predicate_words::{
+use crate::base_words::{
     break_first_op, break_first_word, break_pair_op, break_pair_word, logic_p_op, logic_p_word,
     ptrue_op, ptrue_word, read_ffr_op, read_ffr_word, write_ffr_op, write_ffr_word,
 };
+use emu_bits::{Pred, U, Word, flag};
 use sve_insn::{BreakOp, BreakPairOp, LogicPOp, PtrueOp, ReadFfrOp, Sve, SveForm, WriteFfrOp};
 
 /// The instruction of `LogicP` that a word is.

@@ -1,17 +1,18 @@
 use Rattle.std.proofs.Common.{◌≡◌, ◌<◌, ◌+◌, length, ℕ, Bool, sym, subst, ap, ◌∙◌, arith}
-use Rattle.sve_effects.specs.Permute.{active_lanes}
-use Rattle.sve_effects.proofs.ActiveLanes.{active_count}
-use Rattle.lane_permute.specs.Slices.{active_by, HasLanes}
+use Rattle.lane_model.specs.Permute.{active_lanes}
+use Rattle.lane_model.proofs.ActiveLanes.{active_count}
+use Rattle.lane_model.specs.Bits.{is_set}
+use Rattle.lane_permute.specs.Slices.{HasLanes}
 use Rattle.lane_permute.proofs.Gathered.{gathered_count, gathered_more}
 use Rattle.lane_permute.proofs.Written.{number_read}
 use Rattle.lane_permute.proofs.by_active.gather.Goals as goal
 
 pub put_active-count-requires : goal.put_active-count-requires
-put_active-count-requires g c = let e : c.loop-k.count ≡ length (active_lanes (active_by c.args.mask.now) c.loop-k.k) = c.loop-k.invariant.count in omega (arith, active_count (active_by c.args.mask.now) c.loop-k.k)
+put_active-count-requires g c = let e : c.loop-k.count ≡ length (active_lanes (is_set c.args.mask.now) c.loop-k.k) = c.loop-k.invariant.count in omega (arith, active_count (is_set c.args.mask.now) c.loop-k.k)
 
 pub loop-k-preserved : goal.loop-k-preserved
 loop-k-preserved g c =
-    let active : ℕ → Bool = active_by c.args.mask.now in
+    let active : ℕ → Bool = is_set c.args.mask.now in
     let k : ℕ = c.loop-k.k in
     let e : c.loop-k.count ≡ length (active_lanes active k) = c.loop-k.invariant.count in
     let within : c.loop-k.count < length c.loop-k.out = omega (arith, active_count active k) in

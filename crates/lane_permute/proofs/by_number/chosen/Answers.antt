@@ -1,5 +1,5 @@
 use Rattle.std.proofs.Common.{◌<◌, ℕ, length, ap, ◌∙◌, arith}
-use Rattle.sve_effects.specs.Permute.{taken, indexed_place}
+use Rattle.lane_model.specs.Permute.{taken, indexed_place}
 use Rattle.lane_permute.specs.Slices.{number_at}
 use Rattle.lane_permute.proofs.Written.{written_more}
 use Rattle.lane_permute.proofs.by_number.chosen.Goals as goal

@@ -1,5 +1,5 @@
 use Rattle.std.proofs.Common.{ℕ, ap, ◌∙◌}
-use Rattle.sve_effects.specs.Permute.{taken, indexed_place}
+use Rattle.lane_model.specs.Permute.{taken, indexed_place}
 use Rattle.lane_permute.specs.Slices.{number_at}
 use Rattle.lane_permute.proofs.by_number.tbl.Goals as goal
 

@@ -2,7 +2,7 @@ use Rattle.std.proofs.Common.{◌<◌, ◌+◌, length, ap, ◌∙◌, arith}
 use Rattle.lane_permute.specs.Slices.{number_at}
 use Rattle.lane_permute.proofs.Written.{written_more}
 use Rattle.lane_permute.proofs.by_number.widen.Goals as goal
-use Rattle.sve_effects.specs.Lane.{extended_by}
+use Rattle.lane_model.specs.Extended.{extended_by}
 
 pub loop-k-preserved : goal.loop-k-preserved
 loop-k-preserved g c =

@@ -1,5 +1,5 @@
 use Rattle.std.proofs.Common.{◌<◌, ◌≤◌, ◌+◌, ◌-◌, ◌*◌, ◌∙◌, ℕ, length, sym, arith}
-use Rattle.sve_effects.specs.Permute.{taken, joined}
+use Rattle.lane_model.specs.Permute.{taken, joined}
 use Rattle.lane_permute.specs.Slices.{number_at}
 use Rattle.lane_permute.proofs.Turns.{joined_first, joined_second}
 use Rattle.lane_permute.proofs.Written.{written_more, read_at}

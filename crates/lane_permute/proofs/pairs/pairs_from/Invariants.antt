@@ -1,5 +1,5 @@
 use Rattle.std.proofs.Common.{◌≡◌, ◌<◌, ◌+◌, ◌*◌, ◌/◌, ℕ}
-use Rattle.sve_effects.specs.Permute.{taken, in_turn}
+use Rattle.lane_model.specs.Permute.{taken, in_turn}
 use Rattle.lane_permute.specs.Slices.{number_at}
 use Rattle.lane_permute.proofs.pairs.pairs_from.Given as goal
 

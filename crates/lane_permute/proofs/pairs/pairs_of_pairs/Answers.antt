@@ -1,5 +1,5 @@
 use Rattle.std.proofs.Common.{◌<◌, ◌+◌, ◌*◌, ◌/◌, ◌∙◌, ℕ, length, sym, arith}
-use Rattle.sve_effects.specs.Permute.{taken, in_turn}
+use Rattle.lane_model.specs.Permute.{taken, in_turn}
 use Rattle.lane_permute.specs.Slices.{number_at}
 use Rattle.lane_permute.proofs.Turns.{turn_first, turn_second}
 use Rattle.lane_permute.proofs.Written.{pair_more, read_at}

@@ -1,7 +1,7 @@
 use Rattle.std.proofs.Common.{◌∙◌, ◌<◌, ◌+◌, ◌*◌, ◌/◌, ◌%◌, ◌^◌, ap}
 use Rattle.std.proofs.Math.Nat.{mod-eq_of_lt}
 use Rattle.emu_model.specs.Lanes.{read_z}
-use Rattle.lane_kernels.proofs.PairLanes.{lane_read_small, inside_register}
+use Rattle.register_lanes.proofs.PairLanes.{lane_read_small, inside_register}
 use Rattle.lane_tests.proofs.Reductions.{picked_as}
 use Rattle.lane_tests.proofs.active_folds.active_or_start.Goals as goal
 

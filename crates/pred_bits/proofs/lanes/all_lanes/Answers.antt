@@ -1,6 +1,6 @@
 use Rattle.std.proofs.Common.{◌∙◌, arith}
 use Rattle.emu_bits.specs.Flags.{size_of}
-use Rattle.sve_effects.specs.Predicate.{lanes_of}
+use Rattle.lane_model.specs.Bits.{lanes_of}
 use Rattle.pred_bits.proofs.Fields.{below_clear, below_fields, all_end}
 use Rattle.pred_bits.proofs.lanes.all_lanes.Goals as goal
 

@@ -1,6 +1,6 @@
 use Rattle.std.proofs.Common.{◌≡◌, ◌<◌, ◌-◌, ◌*◌, ◌/◌, ◌%◌, ◌&&◌, false, length, get_or, sym, ap, ◌∙◌, arith}
 use Rattle.emu_bits.specs.Flags.{size_of}
-use Rattle.emu_model.specs.Lanes.{field_bit}
+use Rattle.lane_model.specs.Bits.{field_bit}
 use Rattle.pred_bits.specs.LaneBits.{among}
 use Rattle.pred_bits.proofs.Fields.{some_bits}
 use Rattle.pred_bits.proofs.LaneWords.{whole_lanes, cut_lanes}

@@ -1,7 +1,7 @@
 use Rattle.std.proofs.Common.{◌≡◌, ◌≤◌, ◌/◌, min, nat_lt, ap, subst, ◌∙◌, arith}
 use Rattle.emu_bits.specs.Flags.{size_of}
-use Rattle.sve_effects.specs.Predicate.{lanes_of}
-use Rattle.sve_effects.specs.Predicate as model
+use Rattle.lane_model.specs.Bits.{lanes_of}
+use Rattle.lane_model.specs.Predicate as model
 use Rattle.pred_bits.proofs.Fields.{fields_same, cut_count}
 use Rattle.pred_bits.proofs.lanes.lanes_below.Goals as goal
 

@@ -1,6 +1,6 @@
 use Rattle.std.proofs.Common.{◌<◌, ◌≤◌, ◌+◌, ◌/◌, suc, nat_lt, sym, subst, ◌∙◌}
-use Rattle.sve_effects.specs.FirstLast.{all_below}
-use Rattle.sve_effects.specs.Predicate.{while_holds}
+use Rattle.lane_model.specs.FirstLast.{all_below}
+use Rattle.lane_model.specs.Predicate.{while_holds}
 use Rattle.pred_bits.proofs.Fields.{fields_same}
 use Rattle.pred_bits.proofs.lanes.while_bits.Goals as goal
 

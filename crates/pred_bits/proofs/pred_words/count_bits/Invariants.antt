@@ -1,6 +1,6 @@
 use Rattle.std.proofs.Common.{◌≡◌, ◌≤◌, ◌*◌}
-use Rattle.vec_regs.specs.Words.{bit_of}
-use Rattle.sve_effects.specs.FirstLast.{count_where}
+use Rattle.lane_model.specs.Bits.{bit_of}
+use Rattle.lane_model.specs.FirstLast.{count_where}
 use Rattle.pred_bits.proofs.pred_words.count_bits.Given as goal
 
 abbrev pub invariant-loop-i : goal.invariant-loop-i

@@ -2,10 +2,10 @@ use Rattle.std.proofs.Common.{◌+◌, ◌*◌, ℕ, List, Option, Some, None, w
 use Rattle.std.specs.Int.{trailing_zeros}
 use Rattle.std.proofs.lemmas.Bool.{cases_lt}
 use Rattle.std.proofs.lemmas.Nat.Bits.{bit_at-trailing_zeros}
-use Rattle.vec_regs.specs.Words.{bit_of}
-use Rattle.vec_regs.proofs.Views.{zero_bit}
-use Rattle.sve_effects.proofs.Found.{first_is}
-use Rattle.sve_effects.specs.Predicate.{is_at}
+use Rattle.lane_model.specs.Bits.{bit_of}
+use Rattle.lane_model.proofs.Bits.{zero_bit}
+use Rattle.lane_model.proofs.Found.{first_is}
+use Rattle.lane_model.specs.Predicate.{is_at}
 use Rattle.pred_bits.proofs.NextLane.{one_bit}
 use Rattle.pred_bits.proofs.Places.{zero_word, first_found}
 use Rattle.pred_bits.proofs.pred_words.first_alone.Goals as goal

@@ -1,7 +1,7 @@
 use Rattle.std.proofs.Common.{ℕ, Bool, false, not, Option, is_none, ap, ◌∙◌}
 use Rattle.emu_bits.specs.declared.flags.Flags.{Flags}
-use Rattle.sve_effects.specs.FirstLast.{first_where, answer_at}
-use Rattle.vec_regs.specs.Words.{bit_of}
+use Rattle.lane_model.specs.Bits.{bit_of}
+use Rattle.lane_model.specs.FirstLast.{first_where, answer_at}
 use Rattle.pred_bits.proofs.AllActive.{none_is}
 use Rattle.pred_bits.proofs.pred_words.test_words.Goals as goal
 

@@ -1,5 +1,5 @@
 use Rattle.std.proofs.Common.{◌≡◌, ◌<◌, ℕ, length}
-use Rattle.sve_effects.specs.Predicate.{logic_bit}
+use Rattle.lane_model.specs.Predicate.{logic_bit}
 use Rattle.pred_bits.proofs.Made.{bit_in}
 use Rattle.pred_bits.proofs.whole.logic.Given as goal
 

@@ -1,5 +1,5 @@
 use Rattle.std.proofs.Common.{arith}
-use Rattle.lane_kernels.proofs.PairLanes.{register_room}
+use Rattle.register_lanes.proofs.PairLanes.{register_room}
 use Rattle.sve_data.proofs.lanes.one_by_one.Goals as goal
 
 pub each_lane-requires : goal.each_lane-requires

@@ -1,5 +1,5 @@
 use Rattle.std.proofs.Common.{◌≤◌, ◌+◌, ◌/◌, ◌∙◌, ℕ, ap, sym, subst}
-use Rattle.sve_effects.specs.declared.places.Place.{Place}
+use Rattle.lane_model.specs.declared.places.Place.{Place}
 use Rattle.sve_effects.specs.LaneLoop.{is_active}
 use Rattle.sve_effects.specs.Permute.{spliced, splice_place}
 use Rattle.sve_effects.specs.PermuteRows.{moved}

@@ -1,5 +1,5 @@
 use Rattle.std.proofs.Common.{◌≤◌, ◌*◌, ◌/◌, ◌^◌, ◌∙◌, length, sym, subst}
-use Rattle.lane_kernels.proofs.RegisterWords.{register_is}
+use Rattle.register_lanes.proofs.RegisterWords.{register_is}
 use Rattle.sve_permutes.proofs.LaneArrays.{lanes_fit, word_room, word_past, word_is, word_behind}
 use Rattle.sve_permutes.proofs.slices.set_lanes.Goals as goal
 

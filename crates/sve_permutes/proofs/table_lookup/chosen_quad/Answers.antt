@@ -1,5 +1,5 @@
 use Rattle.std.proofs.Common.{◌∙◌, ◌<◌, ◌+◌, ◌*◌, ℕ, length, ap, arith}
-use Rattle.lane_kernels.proofs.PairLanes.{lane_read_small, inside_register}
+use Rattle.register_lanes.proofs.PairLanes.{lane_read_small, inside_register}
 use Rattle.lane_permute.specs.Slices.{number_at}
 use Rattle.sve_effects.specs.Permute.{taken, indexed_place}
 use Rattle.emu_model.specs.Lanes.{read_z}

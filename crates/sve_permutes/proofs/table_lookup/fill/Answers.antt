@@ -1,7 +1,7 @@
 use Rattle.std.proofs.Common.{◌≡◌, ◌∙◌, ◌<◌, ◌≤◌, ◌+◌, ◌*◌, ◌/◌, ◌%◌, ◌^◌, ℕ, List, length, map, get_or, set, ap, arith}
 use Rattle.std.proofs.lemmas.List.{length-map, length-set}
 use Rattle.emu_model.specs.Lists.{each}
-use Rattle.lane_kernels.proofs.PairLanes.{pair_of_lanes}
+use Rattle.register_lanes.proofs.PairLanes.{pair_of_lanes}
 use Rattle.lane_permute.specs.Slices.{number_at}
 use Rattle.sve_effects.specs.LaneLoop.{lane_of}
 use Rattle.sve_effects.specs.Permute.{taken, indexed_place}

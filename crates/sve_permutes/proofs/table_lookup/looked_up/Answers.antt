@@ -1,6 +1,6 @@
 use Rattle.std.proofs.Common.{◌∙◌, ◌/◌}
 use Rattle.vec_regs.proofs.Views.{zero_word}
-use Rattle.lane_kernels.proofs.RegisterWords.{register_is}
+use Rattle.register_lanes.proofs.RegisterWords.{register_is}
 use Rattle.sve_effects.specs.LaneLoop.{lane_of}
 use Rattle.sve_effects.specs.Permute.{taken, indexed_place}
 use Rattle.sve_permutes.proofs.table_lookup.looked_up.Goals as goal

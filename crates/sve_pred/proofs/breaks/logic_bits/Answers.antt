@@ -1,5 +1,5 @@
 use Rattle.std.proofs.Common.{◌∙◌, length, ap, sym}
-use Rattle.sve_effects.specs.declared.predicates.LogicOp.{LogicOp}
+use Rattle.lane_model.specs.declared.predicates.LogicOp.{LogicOp}
 use Rattle.sve_effects.specs.Predicate.{logic}
 use Rattle.sve_effects.specs.PredicateRows.{predicate_bits, logic_of}
 use Rattle.emu_model.specs.Lanes.{read_p}

@@ -2,7 +2,7 @@ use Rattle.std.proofs.Common.{ℕ, Bool, List, not, refl, sym, ap, subst, ◌∙
 use Rattle.emu_bits.specs.Flags.{size_of}
 use Rattle.emu_model.specs.Lanes.{read_p}
 use Rattle.vec_regs.specs.Words.{bit_of, bits_of, AreClearFrom}
-use Rattle.sve_effects.specs.declared.predicates.LogicOp.TheVariants.{And}
+use Rattle.lane_model.specs.declared.predicates.LogicOp.TheVariants.{And}
 use Rattle.sve_effects.specs.Lane.{lane_test}
 use Rattle.sve_effects.specs.Predicate.{logic}
 use Rattle.sve_effects.specs.PredicateRows.{predicate_bits, is_unsigned}

@@ -2,7 +2,7 @@ use Rattle.std.proofs.Common.{ℕ, ap, ◌∙◌, arith}
 use Rattle.emu_bits.specs.Flags.{size_of}
 use Rattle.emu_bits.specs.Numbers.{width_of}
 use Rattle.emu_model.specs.State.{read_x}
-use Rattle.sve_effects.specs.declared.predicates.WhileTest.{WhileTest}
+use Rattle.lane_model.specs.declared.predicates.WhileTest.{WhileTest}
 use Rattle.sve_effects.specs.LaneLoop.{lane_bits}
 use Rattle.sve_effects.specs.Predicate.{pred_test, while_lanes}
 use Rattle.sve_effects.specs.PredicateRows.{predicate_bits, ones, while_of}

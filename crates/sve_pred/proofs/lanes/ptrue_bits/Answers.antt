@@ -2,7 +2,8 @@ use Rattle.std.proofs.Common.{◌≡◌, ◌≤◌, ◌/◌, ap, ◌∙◌, arit
 use Rattle.emu_bits.specs.Flags.{size_of}
 use Rattle.sve_effects.specs.LaneLoop.{lane_bits}
 use Rattle.sve_effects.specs.Pattern.{pattern_count}
-use Rattle.sve_effects.specs.Predicate.{lanes_of, lanes_below}
+use Rattle.sve_effects.specs.Bits.{lanes_of}
+use Rattle.sve_effects.specs.Predicate.{lanes_below}
 use Rattle.sve_effects.specs.PredicateRows.{predicate_bits}
 use Rattle.sve_pred.proofs.Lengths.{lanes_fit}
 use Rattle.sve_pred.proofs.lanes.ptrue_bits.Goals as goal

@@ -21,7 +21,7 @@ use denote.Triple.Walked.{Stays, stay_dropped, walk_of}
 use Rattle.std.proofs.alloc.Calls.{Goes-blank}
 use Rattle.std.proofs.VecSteps.Shapes.{after}
 use Rattle.std.proofs.ResultValues.{and_tt}
-use Rattle.emu_model.specs.Access.{page_size}
+use Rattle.frame_arena.specs.Size.{frame_size}
 use Rattle.frame_arena.proofs.Pairs.{pair_of, pair_val}
 use Rattle.std.proofs.raw_atomic.Walks.{proved_at, leaves}
 use Rattle.linked_list_allocator.proofs.Values.{ptr_typed, list_val, list_own, list_told, list_made, list_typed}
@@ -74,7 +74,7 @@ pop_spec 𝓤 𝓛 𝓜 𝓡 wired =
     exec ! C Λ En (after 2 fn.body) (at_ret En Post) $
     sets ! (of_opd ! (get ! refl)) refl (and_tt _ (and_tt _ (and_tt _ p.0)), (record { fits = fits }, (((tt, tt), ((p.1, tt), tt)), tt))) $
     returns ! (look_at ! 0 refl) $ free_all ! refl $
-    fjoin ! $ use1 𝓛 (‵ (bytes_at here page_size)) (dissolves 𝓛 f next) $
+    fjoin ! $ use1 𝓛 (‵ (bytes_at here frame_size)) (dissolves 𝓛 f next) $
     let s : (spare.the_row).Denot = record { at = here; block = f.0; place = f.1; placed = refl } in
     let y : (list.the_row).Denot = record { head = next; frames = fs; placed = refl } in
     let Two : RattleType = Tuple (spare.the_row ∷ list.the_row ∷ []) in

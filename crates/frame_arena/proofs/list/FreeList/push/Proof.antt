@@ -27,7 +27,7 @@ use Rattle.linked_list_allocator.proofs.Values.{ptr_typed, list_val, list_own, l
 use Rattle.linked_list_allocator.proofs.Nodes.{forms}
 use Rattle.linked_list_allocator.proofs.Walks.{slot_at}
 use Rattle.linked_list_allocator.specs.Ownership.{bytes_at, hole_type, hole_val, behind}
-use Rattle.emu_model.specs.Access.{page_size}
+use Rattle.frame_arena.specs.Size.{frame_size}
 use Rattle.frame_arena.specs.Links.{Place, node}
 use Rattle.frame_arena.specs.contracts.list.FreeList as list
 use Rattle.frame_arena.specs.contracts.list.Node as header
@@ -64,9 +64,9 @@ push_spec 𝓤 𝓛 𝓜 𝓡 wired =
     let from : Ptr = block_ptr b o in
     let p = ptr_typed x.head in
     qed 𝓛 ((raw (alive 𝓛 En₀.signature z.0.0 z.0.1) ⊛ ‵ (owns (types_at En₀.signature.params z.0.0) a vss)) ∷ ‵ ftrue ∷ []) ∵ move ! (1 ∷ []) $ drop ! $ split ! $ move ! (1 ∷ []) $
-    fsplit3 ! $ fsplit ! $ drop ! $ move ! (2 ∷ []) $ drop ! $ move ! (1 ∷ []) $ fsplit ! $ drop ! $ rewrite ! 0 (λ (p : Ptr). ‵ (bytes_at p page_size)) w.placed refl $
+    fsplit3 ! $ fsplit ! $ drop ! $ move ! (2 ∷ []) $ drop ! $ move ! (1 ∷ []) $ fsplit ! $ drop ! $ rewrite ! 0 (λ (p : Ptr). ‵ (bytes_at p frame_size)) w.placed refl $
     -- [the frame; the list; ..]
-    use1 𝓛 (‵ (froom hole_type b o) ⊛ ‵ (behind b (o, page_size))) (forms 𝓛 b (o, page_size)) $ split ! $ use1 𝓛 (‵ (froom named_hole b o)) (𝓛.laws.raw-room named_hole b o) $
+    use1 𝓛 (‵ (froom hole_type b o) ⊛ ‵ (behind b (o, frame_size))) (forms 𝓛 b (o, frame_size)) $ split ! $ use1 𝓛 (‵ (froom named_hole b o)) (𝓛.laws.raw-room named_hole b o) $
     regoal ! (λ (us : List Val). prop (WpFn 𝓤 H C Λ fn us Post)) (λ i. told i ++ ((taken ∙ ap (λ (p : Ptr). list_val p ∷ []) w.placed) i ++ (are.1.1.0.0 i ++ []))) refl $
     enter ! C Λ fn (list_val x.head ∷ list_val from ∷ vint w64 n ∷ []) Post $
     alloc_all ! (λ l. pass_all ! refl (list_typed x.head tt, ((tt, (tt, tt)), ((tt, record { fits = fits }), tt))) $ let En : Env 𝓤 𝓛.H = env fn.locals l in

@@ -24,7 +24,7 @@ use Rattle.linked_list_allocator.proofs.Nodes.{cuts, resized}
 use Rattle.linked_list_allocator.proofs.Values.{list_val, list_own, list_made, sized_val, sized_own, sized_told, sized_made}
 use Rattle.linked_list_allocator.proofs.Walks.{slot_at}
 use Rattle.linked_list_allocator.specs.Ownership.{bytes_at}
-use Rattle.emu_model.specs.Access.{page_size}
+use Rattle.frame_arena.specs.Size.{frame_size}
 use Rattle.frame_arena.proofs.Big.{big_lit}
 use Rattle.frame_arena.proofs.Pairs.{pair_of, pair_val}
 use Rattle.frame_arena.specs.contracts.list.Spare as spare
@@ -49,16 +49,16 @@ cut_spec 𝓤 𝓛 𝓜 𝓡 wired =
     let vss = z.0.4 in
     let x = a.0 in
     let n = x.size in
-    let m = n - page_size in
+    let m = n - frame_size in
     let told = sized_told x.ptr n vss.0 are.0.0 in
     let fits = told.1 in
     let even = x.fits.0 in
     let small = x.fits.1 in
-    let Asked : Type 0 = page_size ≤ n in
+    let Asked : Type 0 = frame_size ≤ n in
     qed 𝓛 ((raw (alive 𝓛 En₀.signature z.0.0 z.0.1) ⊛ ‵ (owns (types_at En₀.signature.params z.0.0) a vss)) ∷ raw (fact 𝓤 Asked) ∷ []) ∵ move ! (1 ∷ []) $ heard ! Asked (λ asked. split ! $ move ! (1 ∷ []) $
     fsplit ! $ fsplit ! $ drop ! $ move ! (1 ∷ []) $ drop ! $ in_a_block ! x.ptr (λ p. bytes_at p n) (id⊢ 𝓤 (never 𝓤)) (λ b o at.
-    let start : Ptr = block_ptr b o in let next : Ptr = block_ptr b (o + page_size) in let left : m < 2 ^ 64 = omega arith in
-    use1 𝓛 (‵ (bytes_at start (page_size + m))) (resized 𝓛 b o n (page_size + m) (omega arith)) $ use1 𝓛 (‵ (bytes_at start page_size) ⊛ ‵ (bytes_at next m)) (cuts 𝓛 b o page_size m refl) $ split ! $
+    let start : Ptr = block_ptr b o in let next : Ptr = block_ptr b (o + frame_size) in let left : m < 2 ^ 64 = omega arith in
+    use1 𝓛 (‵ (bytes_at start (frame_size + m))) (resized 𝓛 b o n (frame_size + m) (omega arith)) $ use1 𝓛 (‵ (bytes_at start frame_size) ⊛ ‵ (bytes_at next m)) (cuts 𝓛 b o frame_size m refl) $ split ! $
     regoal ! (λ (us : List Val). prop (WpFn 𝓤 H C Λ fn us Post)) (λ i. (told.0 ∙ ap (λ (p : Ptr). sized_val p n ∷ []) at) i ++ []) refl $
     enter ! C Λ fn (sized_val start n ∷ []) Post $
     alloc_all ! (λ l. pass_all ! refl ((tt, (tt, (record { fits = fits }, tt))), tt) $ let En : Env 𝓤 𝓛.H = env fn.locals l in
@@ -78,8 +78,8 @@ cut_spec 𝓤 𝓛 𝓜 𝓡 wired =
     use0 𝓛 (‵ (list_own start (list_val start ∷ []))) (list_made 𝓛 start tt) $ fjoin ! $ move ! (1 ∷ []) $
     use0 𝓛 (‵ (sized_own next m (sized_val next m ∷ []))) (sized_made 𝓛 next m left) $ fjoin ! $ move ! (1 ∷ 0 ∷ []) $
     use2 𝓛 (‵ ((Tuple (spare.the_row ∷ memory.the_row ∷ [])).own_val (s, y) (pair_val (list_val start) (sized_val next m) ∷ []))) (pair_of 𝓛 spare.the_row memory.the_row s y (list_val start) (sized_val next m)) $
-    use0 𝓛 (raw (fact 𝓤 (next ≡ block_ptr b (o + page_size)))) (fact_i 𝓤 (next ≡ block_ptr b (o + page_size)) (emp 𝓤) refl) $
+    use0 𝓛 (raw (fact 𝓤 (next ≡ block_ptr b (o + frame_size)))) (fact_i 𝓤 (next ≡ block_ptr b (o + frame_size)) (emp 𝓤) refl) $
     use0 𝓛 (raw (fact 𝓤 (x.ptr ≡ block_ptr b o))) (fact_i 𝓤 (x.ptr ≡ block_ptr b o) (emp 𝓤) at) $ join ! $
-    use0 𝓛 (raw (fact 𝓤 (m + page_size ≡ n))) (fact_i 𝓤 (m + page_size ≡ n) (emp 𝓤) (omega arith)) $ join ! $
+    use0 𝓛 (raw (fact 𝓤 (m + frame_size ≡ n))) (fact_i 𝓤 (m + frame_size ≡ n) (emp 𝓤) (omega arith)) $ join ! $
     nothing ! $ nothing ! $ fjoin ! $ move ! (3 ∷ 0 ∷ 2 ∷ 1 ∷ []) $
     by ! (leaves 𝓛 En₀ stays c z (pair_val (list_val start) (sized_val next m)) (s, y) (tt, tt) (tt, tt))))))

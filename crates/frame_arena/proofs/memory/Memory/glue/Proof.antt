@@ -22,7 +22,7 @@ use Rattle.linked_list_allocator.proofs.Nodes.{glues, resized}
 use Rattle.linked_list_allocator.proofs.Values.{list_val, list_told, sized_val, sized_own, sized_told, sized_made}
 use Rattle.linked_list_allocator.proofs.Walks.{slot_at}
 use Rattle.linked_list_allocator.specs.Ownership.{bytes_at}
-use Rattle.emu_model.specs.Access.{page_size}
+use Rattle.frame_arena.specs.Size.{frame_size}
 use Rattle.frame_arena.proofs.Big.{big_lit}
 use Rattle.frame_arena.specs.contracts.memory.Memory as memory
 use Rattle.frame_arena.specs.contracts.memory.Memory.glue.{ended, clauses}
@@ -49,16 +49,16 @@ glue_spec 𝓤 𝓛 𝓜 𝓡 wired =
     let b = w.block in
     let o = w.place in
     let start : Ptr = block_ptr b o in
-    let next : Ptr = block_ptr b (o + page_size) in
+    let next : Ptr = block_ptr b (o + frame_size) in
     let told = sized_told x.ptr n vss.0 are.0.0 in
     let taken = (list_told w.at vss.1.0 are.1.0.0).0 in
     let fits = told.1 in
     let even = x.fits.0 in
-    let Asked : Type 0 = (x.ptr ≡ next) × (n + page_size < 2 ^ 63) in
+    let Asked : Type 0 = (x.ptr ≡ next) × (n + frame_size < 2 ^ 63) in
     qed 𝓛 ((raw (alive 𝓛 En₀.signature z.0.0 z.0.1) ⊛ ‵ (owns (types_at En₀.signature.params z.0.0) a vss)) ∷ raw (fact 𝓤 Asked) ∷ []) ∵ move ! (1 ∷ []) $ heard ! Asked (λ asked. split ! $ move ! (1 ∷ []) $
-    let left : n + page_size < 2 ^ 64 = omega (arith, asked.1) in
-    fsplit ! $ fsplit ! $ drop ! $ rewrite ! 0 (λ (p : Ptr). ‵ (bytes_at p n)) asked.0 refl $ move ! (1 ∷ []) $ fsplit ! $ fsplit ! $ drop ! $ rewrite ! 0 (λ (p : Ptr). ‵ (bytes_at p page_size)) w.placed refl $ move ! (0 ∷ 2 ∷ []) $
-    use2 𝓛 (‵ (bytes_at start (page_size + n))) (glues 𝓛 b o page_size n refl) $ use1 𝓛 (‵ (bytes_at start (n + page_size))) (resized 𝓛 b o (page_size + n) (n + page_size) (omega arith)) $ move ! (1 ∷ []) $ drop ! $
+    let left : n + frame_size < 2 ^ 64 = omega (arith, asked.1) in
+    fsplit ! $ fsplit ! $ drop ! $ rewrite ! 0 (λ (p : Ptr). ‵ (bytes_at p n)) asked.0 refl $ move ! (1 ∷ []) $ fsplit ! $ fsplit ! $ drop ! $ rewrite ! 0 (λ (p : Ptr). ‵ (bytes_at p frame_size)) w.placed refl $ move ! (0 ∷ 2 ∷ []) $
+    use2 𝓛 (‵ (bytes_at start (frame_size + n))) (glues 𝓛 b o frame_size n refl) $ use1 𝓛 (‵ (bytes_at start (n + frame_size))) (resized 𝓛 b o (frame_size + n) (n + frame_size) (omega arith)) $ move ! (1 ∷ []) $ drop ! $
     regoal ! (λ (us : List Val). prop (WpFn 𝓤 H C Λ fn us Post)) (λ i. (told.0 ∙ ap (λ (p : Ptr). sized_val p n ∷ []) asked.0) i ++ ((taken ∙ ap (λ (p : Ptr). list_val p ∷ []) w.placed) i ++ [])) refl $
     enter ! C Λ fn (sized_val next n ∷ list_val start ∷ []) Post $
     alloc_all ! (λ l. pass_all ! refl ((tt, (tt, (record { fits = fits }, tt))), ((tt, (tt, tt)), tt)) $ let En : Env 𝓤 𝓛.H = env fn.locals l in
@@ -67,8 +67,8 @@ glue_spec 𝓤 𝓛 𝓜 𝓡 wired =
     sets ! (bin ! (get ! refl) (big_lit ! (record { fits = lit< tt })) (omega (arith, left))) refl (tt, record { fits = left }) $
     sets ! (agg ! (and_then ! (get ! refl) (and_then ! (get ! refl) (no_more !)))) refl (tt, (tt, (record { fits = left }, tt))) $
     returns ! (look_at ! 0 refl) $ free_all ! refl $
-    let y : (memory.the_row).Denot = record { ptr = start; size = n + page_size; fits = (omega (arith, even), asked.1) } in
-    use0 𝓛 (‵ (sized_own start (n + page_size) (sized_val start (n + page_size) ∷ []))) (sized_made 𝓛 start (n + page_size) left) $ fjoin ! $
-    use0 𝓛 (raw (fact 𝓤 ((start ≡ start) × (n + page_size ≡ n + page_size)))) (fact_i 𝓤 ((start ≡ start) × (n + page_size ≡ n + page_size)) (emp 𝓤) (refl, refl)) $
+    let y : (memory.the_row).Denot = record { ptr = start; size = n + frame_size; fits = (omega (arith, even), asked.1) } in
+    use0 𝓛 (‵ (sized_own start (n + frame_size) (sized_val start (n + frame_size) ∷ []))) (sized_made 𝓛 start (n + frame_size) left) $ fjoin ! $
+    use0 𝓛 (raw (fact 𝓤 ((start ≡ start) × (n + frame_size ≡ n + frame_size)))) (fact_i 𝓤 ((start ≡ start) × (n + frame_size ≡ n + frame_size)) (emp 𝓤) (refl, refl)) $
     nothing ! $ nothing ! $ fjoin ! $ nothing ! $ fjoin ! $ move ! (3 ∷ 0 ∷ 2 ∷ 1 ∷ []) $
-    by ! (leaves 𝓛 En₀ stays c z (sized_val start (n + page_size)) y (tt, (tt, tt)) (tt, (tt, tt))))))
+    by ! (leaves 𝓛 En₀ stays c z (sized_val start (n + frame_size)) y (tt, (tt, tt)) (tt, (tt, tt))))))

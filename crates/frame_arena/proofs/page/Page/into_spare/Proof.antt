@@ -23,7 +23,7 @@ use Rattle.std.proofs.raw_atomic.Walks.{proved_at, leaves}
 use Rattle.linked_list_allocator.proofs.Values.{list_val, list_told, list_own, list_made}
 use Rattle.linked_list_allocator.proofs.Walks.{slot_at}
 use Rattle.linked_list_allocator.specs.Ownership.{bytes_at, units_of}
-use Rattle.emu_model.specs.Access.{page_size}
+use Rattle.frame_arena.specs.Size.{frame_size}
 use Rattle.frame_arena.specs.Links.{frame_type, page_at}
 use Rattle.frame_arena.proofs.Words.{page_room}
 use Rattle.frame_arena.specs.contracts.list.Spare as spare
@@ -52,7 +52,7 @@ into_spare_spec 𝓤 𝓛 𝓜 𝓡 wired =
     let told : vss.0 ≡ list_val from ∷ [] = (list_told x.at vss.0 are.0.0).0 ∙ ap (λ (p : Ptr). list_val p ∷ []) x.placed in
     qed 𝓛 ((raw (alive 𝓛 En₀.signature z.0.0 z.0.1) ⊛ ‵ (owns (types_at En₀.signature.params z.0.0) a vss)) ∷ ‵ ftrue ∷ []) ∵ move ! (1 ∷ []) $ drop ! $ split ! $ move ! (1 ∷ []) $
     fsplit ! $ fsplit ! $ drop ! $ move ! (1 ∷ []) $ drop ! $ rewrite ! 0 (λ (p : Ptr). ‵ (page_at p x.bytes)) x.placed refl $
-    fsplit ! $ use1 𝓛 (‵ (froom frame_type b o)) (page_room 𝓛 x.bytes b o) $ use2 𝓛 (‵ (bytes_at from page_size)) (apply∗ 𝓤 (sem 𝓛 (froom frame_type b o)) (sem 𝓛 (froom (units_of page_size) b o))) $
+    fsplit ! $ use1 𝓛 (‵ (froom frame_type b o)) (page_room 𝓛 x.bytes b o) $ use2 𝓛 (‵ (bytes_at from frame_size)) (apply∗ 𝓤 (sem 𝓛 (froom frame_type b o)) (sem 𝓛 (froom (units_of frame_size) b o))) $
     regoal ! (λ (us : List Val). prop (WpFn 𝓤 H C Λ fn us Post)) (λ i. told i ++ []) refl $
     enter ! C Λ fn (list_val from ∷ []) Post $
     alloc_all ! (λ l. pass_all ! refl ((tt, (tt, tt)), tt) $ let En : Env 𝓤 𝓛.H = env fn.locals l in

@@ -27,7 +27,7 @@ use Rattle.std.proofs.raw_atomic.Walks.{proved_at, leaves}
 use Rattle.linked_list_allocator.proofs.Values.{list_val, list_own, list_told, list_made}
 use Rattle.linked_list_allocator.proofs.Walks.{slot_at}
 use Rattle.linked_list_allocator.specs.Ownership.{bytes_at, units_of}
-use Rattle.emu_model.specs.Access.{page_size}
+use Rattle.frame_arena.specs.Size.{frame_size}
 use Rattle.frame_arena.specs.Links.{Frame, frame_type, around}
 use Rattle.frame_arena.proofs.Frames.{frame_Lawful}
 use Rattle.frame_arena.specs.contracts.page.Page as page
@@ -59,8 +59,8 @@ new_spec 𝓤 𝓛 𝓜 𝓡 wired =
     let v : Val = got.0 in
     let typed = got.2 in
     qed 𝓛 ((raw (alive 𝓛 En₀.signature z.0.0 z.0.1) ⊛ ‵ (owns (types_at En₀.signature.params z.0.0) a vss)) ∷ ‵ ftrue ∷ []) ∵ move ! (1 ∷ []) $ drop ! $ split ! $ move ! (1 ∷ []) $
-    fsplit3 ! $ fsplit ! $ drop ! $ move ! (2 ∷ []) $ drop ! $ rewrite ! 0 (λ (p : Ptr). ‵ (bytes_at p page_size)) w.placed refl $ rewrite ! 1 (λ (us : List Val). ‵ (Frame.own_val xs us)) got.1 refl $
-    use1 𝓛 (‵ (froom frame_type b o) ⊛ ‵ (around from)) (𝓛.laws.room_as (units_of page_size) frame_type b o refl tt) $ split ! $
+    fsplit3 ! $ fsplit ! $ drop ! $ move ! (2 ∷ []) $ drop ! $ rewrite ! 0 (λ (p : Ptr). ‵ (bytes_at p frame_size)) w.placed refl $ rewrite ! 1 (λ (us : List Val). ‵ (Frame.own_val xs us)) got.1 refl $
+    use1 𝓛 (‵ (froom frame_type b o) ⊛ ‵ (around from)) (𝓛.laws.room_as (units_of frame_size) frame_type b o refl tt) $ split ! $
     -- [the room; the way back; the bytes' own; ..]
     regoal ! (λ (us : List Val). prop (WpFn 𝓤 H C Λ fn us Post)) (λ i. (told ∙ ap (λ (p : Ptr). list_val p ∷ []) w.placed) i ++ (got.1 i ++ [])) refl $
     enter ! C Λ fn (list_val from ∷ v ∷ []) Post $

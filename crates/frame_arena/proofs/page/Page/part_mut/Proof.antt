@@ -34,7 +34,7 @@ use borrow.Table.Elements.{at as place_at, at_mul, length-take-le, cut_app, join
 use Rattle.std.proofs.VecSteps.Shapes.{after}
 use Rattle.std.proofs.raw_atomic.Walks.{proved}
 use Rattle.linked_list_allocator.proofs.Values.{list_val, list_own, list_told}
-use Rattle.emu_model.specs.Access.{page_size}
+use Rattle.frame_arena.specs.Size.{frame_size}
 use Rattle.frame_arena.specs.Links.{Frame, around, page_at}
 use Rattle.frame_arena.specs.LendingPages.{with_bytes, with_part}
 use Rattle.frame_arena.specs.contracts.page.Page.{the_row as R}
@@ -43,9 +43,9 @@ use Rattle.frame_arena.proofs.page.Page.part_mut.Statement.{statement}
 use Rattle.frame_arena.proofs.page.Page.part_mut.Code as code
 
 -- what is written is all of the part
-replaced : (xs : List ℕ) (m : ℕ) (w : List ℕ) (n : ℕ) → m + length w ≤ page_size → length w ≡ n → take m xs ++ (w ++ drop_list n (drop_list m xs)) ≡ with_part xs m w
+replaced : (xs : List ℕ) (m : ℕ) (w : List ℕ) (n : ℕ) → m + length w ≤ frame_size → length w ≡ n → take m xs ++ (w ++ drop_list n (drop_list m xs)) ≡ with_part xs m w
 replaced xs m w n fits e =
-    let whole : w ≡ take (page_size - m) w = sym (take_all (page_size - m) w (omega (arith, fits))) in
+    let whole : w ≡ take (frame_size - m) w = sym (take_all (frame_size - m) w (omega (arith, fits))) in
     ap (λ (k : ℕ). take m xs ++ (w ++ drop_list k (drop_list m xs))) (sym e) ∙ ap (λ (z : List ℕ). take m xs ++ (z ++ drop_list (length z) (drop_list m xs))) whole
 
 abbrev stayed : Stays f.ended.signature.params f.ended.kept
@@ -62,7 +62,7 @@ part_mut_spec 𝓤 𝓛 𝓜 𝓡 wired =
     let b = h.block in let o = h.place in let xs : List ℕ = h.bytes in
     let m = a.1.0 in let n = a.1.1.0 in let fm = are.1.0.1 in let fn = are.1.1.0.1 in
     let y : W.Ghost = ((κs, qs, bounds, a, (mut_vals a.0, (vint w64 m ∷ [], (vint w64 n ∷ [], tt)))), tt) in
-    let Asked : Type 0 = m + n ≤ page_size in
+    let Asked : Type 0 = m + n ≤ frame_size in
     qed 𝓛 (((‵ (flft κ q) ⊛ ‵ ftrue) ⊛ ‵ (owns (MutRef (named 0) κ R ∷ usize ∷ usize ∷ []) a (mut_vals a.0, (vint w64 m ∷ [], (vint w64 n ∷ [], tt))))) ∷ raw (fact 𝓤 Asked) ∷ []) ∵
     move ! (1 ∷ []) $ heard ! Asked (λ le. split ! $ split ! $ move ! (2 ∷ []) $ fsplit ! $ keep ! (0 ∷ 2 ∷ []) $
     enter ! _ _ _ _ _ $ alloc_all ! (λ l. pass_all ! refl ((tt, tt), ((tt, record { fits = fm }), ((tt, record { fits = fn }), tt))) $
@@ -81,7 +81,7 @@ part_mut_spec 𝓤 𝓛 𝓜 𝓡 wired =
     exec ! 𝓣.C 𝓣.Λ (env code.Mir.locals l) (after 3 (code.function).body) (at_ret _ (W.post y)) $
     sets ! (of_opd ! (get ! refl)) refl (tt, (tt, (record { fits = fn }, tt))) $
     rewrite ! 3 Cell (sym word) refl $
-    use1 𝓛 (‵ (fsep (feq ℕ (length xs) page_size) (row u8 full_share xs b o))) (Array-apart 𝓛 u8 full_share tt page_size xs b o) $ fsplit ! $ feq_l ! (λ all.
+    use1 𝓛 (‵ (fsep (feq ℕ (length xs) frame_size) (row u8 full_share xs b o))) (Array-apart 𝓛 u8 full_share tt frame_size xs b o) $ fsplit ! $ feq_l ! (λ all.
     use1 𝓛 (‵ (cells (mem u8) xs b o)) (whole_in 𝓛 u8 xs b o) $
     let front : List ℕ = take m xs in let mid : List ℕ = take n (drop_list m xs) in let back : List ℕ = drop_list n (drop_list m xs) in
     let lf : length front ≡ m = length-take-le m xs (omega (arith, le, all)) in
@@ -107,8 +107,8 @@ part_mut_spec 𝓤 𝓛 𝓜 𝓡 wired =
     use2 𝓛 (‵ (cells (mem u8) (w ++ back) b p)) (join_app 𝓛 (mem u8) w back b p) $
     rewrite ! 0 (λ (k : ℕ). ‵ (cells (mem u8) (w ++ back) b k)) (sym on) refl $ move ! (2 ∷ 0 ∷ []) $
     use2 𝓛 (‵ (cells (mem u8) now b o)) (join_app 𝓛 (mem u8) front (w ++ back) b o) $
-    use1 𝓛 (‵ (row u8 full_share now b o)) (whole_out 𝓛 u8 now b o) $ feq_i ! ℕ (length now) page_size (omega (arith, e, sum, inner, now_sum, now_inner, all)) $ fjoin ! $
-    use1 𝓛 (‵ (part_at Frame full_share now b o)) (Array-whole 𝓛 u8 full_share page_size now b o) $ move ! (1 ∷ []) $ fsplit ! $ move ! (1 ∷ []) $ fsplit ! $ move ! (3 ∷ 2 ∷ []) $ fjoin ! $
+    use1 𝓛 (‵ (row u8 full_share now b o)) (whole_out 𝓛 u8 now b o) $ feq_i ! ℕ (length now) frame_size (omega (arith, e, sum, inner, now_sum, now_inner, all)) $ fjoin ! $
+    use1 𝓛 (‵ (part_at Frame full_share now b o)) (Array-whole 𝓛 u8 full_share frame_size now b o) $ move ! (1 ∷ []) $ fsplit ! $ move ! (1 ∷ []) $ fsplit ! $ move ! (3 ∷ 2 ∷ []) $ fjoin ! $
     rewrite ! 0 (λ (p : Ptr). ‵ (page_at p now)) (sym h.placed) refl $ move ! (1 ∷ 0 ∷ []) $ fjoin ! $ move ! (1 ∷ 0 ∷ []) $ fjoin ! $
     fpack ! (List Val) (λ ws. fsep (cell_at full_share R.mir ws rb ro) (R.own_val (with_bytes h now) ws)) us $
     rewrite ! 0 (λ (z : List ℕ). ‵ ((mem R).own_at (with_bytes h z) rb ro)) is_part refl $ done !) in

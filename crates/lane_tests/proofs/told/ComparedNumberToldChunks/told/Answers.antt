@@ -1,6 +1,6 @@
 use Rattle.std.proofs.Common.{◌∙◌, ◌<◌, ◌+◌, ◌*◌, ◌/◌, ℕ, Bool, false, List, get_or, refl, ap, ap₂, arith}
 use Rattle.emu_model.specs.Lanes.{read_z}
-use Rattle.lane_kernels.proofs.PairLanes.{lane_read_small, inside_register}
+use Rattle.register_lanes.proofs.PairLanes.{lane_read_small, inside_register}
 use Rattle.lane_tests.proofs.ToldBits.{tested}
 use Rattle.lane_tests.proofs.told.ComparedNumberToldChunks.told.Goals as goal
 

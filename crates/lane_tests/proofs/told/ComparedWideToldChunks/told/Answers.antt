@@ -1,7 +1,7 @@
 use Rattle.std.proofs.Common.{◌≡◌, ◌∙◌, ◌<◌, ◌+◌, ◌*◌, ◌/◌, ℕ, Bool, List, get_or, inr, refl, sym, ap, ap₂, arith}
 use Rattle.sve_effects.specs.Lane.{extended_by}
 use Rattle.emu_model.specs.Lanes.{lane, read_z}
-use Rattle.lane_kernels.proofs.PairLanes.{lane_read_small, inside_register}
+use Rattle.register_lanes.proofs.PairLanes.{lane_read_small, inside_register}
 use Rattle.lane_tests.proofs.ToldBits.{plain_number, covering}
 use Rattle.lane_tests.proofs.told.ComparedWideToldChunks.told.Goals as goal
 

@@ -1,7 +1,7 @@
 use Rattle.std.proofs.Common.{◌∙◌, ◌<◌, ◌+◌, ◌*◌, ◌/◌, ◌%◌, ◌^◌, ℕ, List, map, get_or, sym, ap, ap₂, arith}
 use Rattle.std.proofs.Math.Nat.{mod-eq_of_lt}
 use Rattle.emu_model.specs.Lanes.{lane, read_z}
-use Rattle.lane_kernels.proofs.PairLanes.{zipped3, lane_read_small, inside_register}
+use Rattle.register_lanes.proofs.PairLanes.{zipped3, lane_read_small, inside_register}
 use Rattle.sve_data.proofs.Places.{indexed_is}
 use Rattle.sve_data.proofs.operations.IndexedChunks.chunk.Goals as goal
 

@@ -1,0 +1,3 @@
+pub mod ActiveLanes
+pub mod Bits
+pub mod Found

@@ -1,0 +1,47 @@
+-- Lists of bits: bits one by one, fields of them for lanes, and the bits of words.
+--
+-- A lane of e bits has the field of e / 8 bits from bit k * e / 8 on, and is set, or active, where the lowest of them is 1; the
+-- others are never looked at.
+use Rattle.std.specs.Prelude.{◌≡◌, ◌≤◌, ℕ, ◌*◌, ◌/◌, ◌%◌, Bool, false, nat_eq, if◌then◌else◌, List, map, get_or}
+use Rattle.std.specs.Int.{bit_at}
+use Rattle.std.specs.List.{range_with_len}
+
+-- bit k
+abbrev pub is_set : List Bool → ℕ → Bool
+is_set p k = get_or p k false
+
+-- m bits: f 0, f 1, ..
+abbrev pub each_bit : ℕ → (ℕ → Bool) → List Bool
+each_bit m f = map f (range_with_len 0 m)
+
+-- ---- lanes
+
+-- the lanes of e bits that m bits have
+abbrev pub lanes_of : ℕ → ℕ → ℕ
+lanes_of e m = m / (e / 8)
+
+-- lane k of e bits: ActivePredicateElement(p, k, e)
+abbrev pub lane_is_set : ℕ → List Bool → ℕ → Bool
+lane_is_set e p k = is_set p (k * (e / 8))
+
+-- bit j of fields of w bits: field k has f k as its lowest bit, and zeros above
+abbrev pub field_bit : ℕ → (ℕ → Bool) → ℕ → Bool
+field_bit w f j = if nat_eq (j % w) 0 then f (j / w) else false
+
+-- m bits in fields for lanes of e bits
+abbrev pub fields : ℕ → ℕ → (ℕ → Bool) → List Bool
+fields e m f = each_bit m (field_bit (e / 8) f)
+
+-- ---- words of 64 bits
+
+-- bit j of words
+abbrev pub bit_of : List ℕ → ℕ → Bool
+bit_of words j = nat_eq (bit_at (get_or words (j / 64) 0) (j % 64)) 1
+
+-- their first n bits
+abbrev pub bits_of : ℕ → List ℕ → List Bool
+bits_of n words = each_bit n (bit_of words)
+
+-- 0 from bit n on
+abbrev pub AreClearFrom : ℕ → List ℕ → Type 0
+AreClearFrom n words = (j : ℕ) → n ≤ j → bit_of words j ≡ false

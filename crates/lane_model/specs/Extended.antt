@@ -1,0 +1,7 @@
+-- Numbers of lanes, extended.
+use Rattle.std.specs.Prelude.{ℕ, Bool, if◌then◌else◌}
+use Rattle.emu_bits.specs.Numbers.{sign_extended}
+
+-- a number of n bits, extended to e bits by its sign or by zeros
+abbrev pub extended_by : Bool → ℕ → ℕ → ℕ → ℕ
+extended_by is_signed e n a = if is_signed then sign_extended e n a else a

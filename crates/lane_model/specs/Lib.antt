@@ -1,0 +1,10 @@
+pub use Rattle.emu_bits.specs.Fields
+pub use Rattle.emu_bits.specs.Flags
+pub use Rattle.emu_bits.specs.Numbers
+pub mod Bits
+pub mod Extended
+pub mod FirstLast
+pub mod FirstLastLaws
+pub mod Pattern
+pub mod Permute
+pub mod Predicate
