@@ -2,7 +2,7 @@
 //!
 //! A line is `ANSWER:SCHEDULE`. The answer is the list of the turns, or the refusal, ` at ` and its line. The schedule
 //! has `|` for each newline in it; `@COUNT` at its front stands for so many empty lines.
-use line_words::{ScheduleError, read_schedule};
+use guest_schedule::{ScheduleError, read_schedule};
 use std::alloc::{AllocError, Global};
 
 /// Appends the empty lines that a count names.

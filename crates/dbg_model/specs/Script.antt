@@ -1,12 +1,12 @@
 -- What the text of a debugger script says: its commands, or its first refusal. `script`, at the end, is the whole of it.
 --
--- Each line that isn't skipped is a command.
-use Rattle.std.specs.Prelude.{ℕ, ◌+◌, ◌-◌, ◌^◌, Bool, false, ◌&&◌, List, [], ◌∷◌, ◌++◌, length, get_or, count_by, codes, Result, Ok, Err, nat_lt, nat_le, if◌then◌else◌, slice_get}
+-- A line without a word and a comment are skipped. Each other line is a command.
+use Rattle.std.specs.Prelude.{ℕ, ◌+◌, ◌-◌, ◌^◌, Bool, false, ◌&&◌, ◌||◌, List, [], ◌∷◌, ◌++◌, length, get_or, count_by, codes, Result, Ok, Err, nat_eq, nat_lt, nat_le, if◌then◌else◌, slice_get}
 use Rattle.std.specs.Option.{option_map_or}
 use Rattle.std.specs.Str.{bytes_eq, is_utf8}
 use Rattle.emu_bits.specs.declared.flags.Esize.{Esize}
 use Rattle.emu_bits.specs.declared.flags.Esize.TheVariants.{B, H, S, D}
-use Rattle.line_words.specs.Lines.{lines, words, is_skipped, number_of_word, line_of_bad_byte}
+use Rattle.line_words.specs.Lines.{lines, words, is_comment, number_of_word, line_of_bad_byte}
 use Rattle.line_words.specs.Refusals.{and_then}
 use Rattle.dbg_model.specs.declared.script.Command.{Command}
 use Rattle.dbg_model.specs.declared.script.Command.TheVariants.{Step, Go, Break, Watch, Regs, Vl, Zreg, Preg, Ffr, Lanes, Mem, Back}
@@ -71,6 +71,16 @@ mem_of words = and_then (argument words 1 0 (2 ^ 47 - 1)) (λ address. and_then 
 abbrev pub back_of : List (List ℕ) → Result Command ScriptWhy
 back_of words = and_then (argument words 1 1 most_number) (λ steps. whole words 2 (Back steps))
 
+-- a command that prints vector registers, predicates or memory, or that goes back
+abbrev pub later_command_named : List ℕ → List (List ℕ) → Result Command ScriptWhy
+later_command_named name words =
+    if bytes_eq name (codes "zreg") then zreg_of words
+    else (if bytes_eq name (codes "preg") then preg_of words
+    else (if bytes_eq name (codes "ffr") then whole words 1 Ffr
+    else (if bytes_eq name (codes "lanes") then lanes_of words
+    else (if bytes_eq name (codes "mem") then mem_of words
+    else (if bytes_eq name (codes "back") then back_of words else Err UnknownCommand)))))
+
 abbrev pub command_named : List ℕ → List (List ℕ) → Result Command ScriptWhy
 command_named name words =
     if bytes_eq name (codes "step") then step_of words
@@ -78,13 +88,7 @@ command_named name words =
     else (if bytes_eq name (codes "break") then break_of words
     else (if bytes_eq name (codes "watch") then watch_of words
     else (if bytes_eq name (codes "regs") then whole words 1 Regs
-    else (if bytes_eq name (codes "vl") then whole words 1 Vl
-    else (if bytes_eq name (codes "zreg") then zreg_of words
-    else (if bytes_eq name (codes "preg") then preg_of words
-    else (if bytes_eq name (codes "ffr") then whole words 1 Ffr
-    else (if bytes_eq name (codes "lanes") then lanes_of words
-    else (if bytes_eq name (codes "mem") then mem_of words
-    else (if bytes_eq name (codes "back") then back_of words else Err UnknownCommand)))))))))))
+    else (if bytes_eq name (codes "vl") then whole words 1 Vl else later_command_named name words)))))
 
 abbrev pub command_of : List (List ℕ) → Result Command ScriptWhy
 command_of words = command_named (get_or words 0 []) words
@@ -99,6 +103,9 @@ is_full commands command = false
 
 abbrev pub followed : List Command → Command → Result (List Command) ScriptWhy
 followed commands command = if is_full commands command then Err TooMany else Ok (commands ++ command ∷ [])
+
+abbrev pub is_skipped : List ℕ → Bool
+is_skipped line = is_comment line || nat_eq (length (words line)) 0
 
 -- a line behind the commands of those before it
 abbrev pub read_line : List Command → List ℕ → Result (List Command) ScriptWhy

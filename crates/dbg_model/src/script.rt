@@ -48,7 +48,7 @@ pub struct Watch {
 #[derive(Clone, Copy, Debug, PartialEq, Eq)]
 pub enum Stop {
     /// The last step touched the watch of this number, counted from 0.
-    AtWatch(u64),
+    AtWatch(u32),
     /// The program counter stands on a break.
     AtBreak,
 }

@@ -1,5 +1,3 @@
 pub mod Lines
 pub mod Refusals
 pub mod Reading
-pub mod Schedule
-pub mod Turns

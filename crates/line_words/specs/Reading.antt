@@ -1,15 +1,14 @@
--- What is left behind a call that reads a part of a schedule.
-use Rattle.std.specs.Prelude.{◌≡◌, Result, Ok, Err}
-use Rattle.line_words.specs.declared.schedule.ScheduleFault.{ScheduleFault}
-use Rattle.line_words.specs.declared.reader.ScheduleError.{ScheduleError}
-use Rattle.line_words.specs.declared.reader.ScheduleError.TheVariants.{Refused, OutOfMemory}
+-- What is left behind a call that reads a part of a text: of a schedule or of a script.
+--
+-- The call's error holds a fault where the text is refused, and none where memory was wanting.
+use Rattle.std.specs.Prelude.{◌≡◌, Option, Some, None, Result, Ok, Err}
 
--- the error is that of the definition, or want of memory
-abbrev pub IsErrorOf : {T : Type 0} → Result T ScheduleFault → ScheduleError → Type 0
-IsErrorOf expected (Refused fault) = expected ≡ Err fault
-IsErrorOf expected OutOfMemory = Unit {0}
+-- an error that holds this fault is that of the definition, or want of memory
+abbrev pub IsErrorOf : {T F : Type 0} → Result T F → Option F → Type 0
+IsErrorOf expected (Some fault) = expected ≡ Err fault
+IsErrorOf expected None = Unit {0}
 
 -- where the answer is Ok, `left` is what was to come of it, and else the refusal is
-abbrev pub Leaves : {T U : Type 0} → Result T ScheduleFault → T → Result U ScheduleError → Type 0
-Leaves expected left (Ok done) = expected ≡ Ok left
-Leaves expected left (Err error) = IsErrorOf expected error
+abbrev pub Leaves : {T U F E : Type 0} → (E → Option F) → Result T F → T → Result U E → Type 0
+Leaves fault_in expected left (Ok done) = expected ≡ Ok left
+Leaves fault_in expected left (Err error) = IsErrorOf expected (fault_in error)

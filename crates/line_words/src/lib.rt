@@ -1,14 +1,8 @@
-//! The lines of a text, the words of a line and the numbers that words write; and the reader of schedules:
-//! a text to its turns, or to its first refusal.
+//! What scripts and schedules share: the lines of a text, the words of a line and the numbers that words write.
 #![tactic(auto)]
 
-mod arguments;
 mod numbers;
-mod reader;
-mod schedule;
 mod texts;
 
 pub use numbers::number_of_word;
-pub use reader::{ScheduleError, read_schedule};
-pub use schedule::{Schedule, ScheduleFault, ScheduleWhy};
-pub use texts::{is_skipped, lines, text_at, words};
+pub use texts::{is_comment, lines, text_at, words};

@@ -1,7 +1,7 @@
 //! The lines of a text and the words of a line.
 ghost use Rattle.std.specs.Prelude.{◌≡◌, ◌<◌, [], get_or, length, map, IfOk};
 ghost use Rattle.std.specs.List.{slice_split};
-ghost use Rattle.line_words.specs.Lines.{is_newline, is_skipped, is_space, lines, words};
+ghost use Rattle.line_words.specs.Lines.{is_comment, is_newline, is_space, lines, words};
 
 use std::alloc::{AllocError, Global};
 
@@ -53,10 +53,9 @@ pub fn text_at<'a>(texts: &[&'a str], place: usize) -> &'a str
     texts[place]
 }
 
-/// Whether a line, which has these words, is skipped: it has none, or its first byte is `#`.
-pub fn is_skipped(line: &str, found: &[&str]) -> bool
-    requires { map (λ word. word.now) found.now ≡ words line.now }
-    ensures { result ≡ is_skipped line.now }
+/// Whether a line is a comment: its first byte is `#`.
+pub fn is_comment(line: &str) -> bool
+    ensures { result ≡ is_comment line.now }
 {
-    line.as_bytes().first() == Some(&b'#') || found.is_empty()
+    line.as_bytes().first() == Some(&b'#')
 }

@@ -1,9 +1,9 @@
 //! The words of a line as a turn.
 ghost use Rattle.std.specs.Prelude.{◌≡◌, ◌≤◌, map, IfOk};
-ghost use Rattle.line_words.specs.Schedule.{number, turn, turn_of};
+ghost use Rattle.guest_schedule.specs.Schedule.{number, turn, turn_of};
 
 use crate::schedule::ScheduleWhy;
-use crate::{number_of_word, text_at};
+use line_words::{number_of_word, text_at};
 
 /// The number that a word writes, or BadNumber.
 fn number(word: &str) -> Result<u64, ScheduleWhy>

@@ -1,9 +1,9 @@
 use Rattle.std.proofs.Common.{◌≡◌, ◌+◌, drop, map}
 use Rattle.std.specs.Prelude.{IsTrue}
 use Rattle.std.specs.List.{list_all}
-use Rattle.line_words.specs.Schedule.{read_lines}
-use Rattle.line_words.specs.Turns.{has_steps}
-use Rattle.line_words.proofs.reader.read_lines.Given as goal
+use Rattle.guest_schedule.specs.Schedule.{read_lines}
+use Rattle.guest_schedule.specs.Turns.{has_steps}
+use Rattle.guest_schedule.proofs.reader.read_lines.Given as goal
 
 -- what the lines that are left say behind those before is what they all say
 abbrev pub invariant-loop-place : goal.invariant-loop-place

@@ -1,13 +1,14 @@
 //! A schedule line by line.
-ghost use Rattle.std.specs.Prelude.{◌≡◌, ◌≤◌, [], ◌∷◌, ◌++◌, OnErr, OnOk, MatchResult, IsTrue, Ok, length, map};
+ghost use Rattle.std.specs.Prelude.{◌≡◌, ◌≤◌, [], ◌∷◌, ◌++◌, ◌≢◌, OnErr, OnOk, MatchResult, IsTrue, Ok, Err, length, map, true};
 ghost use Rattle.std.specs.List.{list_all};
 ghost use Rattle.line_words.specs.Reading.{IsErrorOf, Leaves};
-ghost use Rattle.line_words.specs.Schedule.{at_line, read_line, read_lines, schedule, some_turns};
-ghost use Rattle.line_words.specs.Turns.{has_steps};
+ghost use Rattle.guest_schedule.specs.Errors.{fault_in};
+ghost use Rattle.guest_schedule.specs.Schedule.{at_line, is_skipped, read_line, read_lines, schedule, some_turns};
+ghost use Rattle.guest_schedule.specs.Turns.{has_steps};
 
 use crate::arguments::turn_of;
 use crate::schedule::{Schedule, ScheduleFault, ScheduleWhy};
-use crate::{is_skipped, lines, text_at, words};
+use line_words::{is_comment, lines, text_at, words};
 use std::alloc::{AllocError, Global};
 use thiserror::Error;
 
@@ -24,7 +25,7 @@ pub enum ScheduleError {
 }
 
 impl From<AllocError> for ScheduleError {
-    ghost use Rattle.line_words.specs.declared.reader.ScheduleError.TheVariants.{OutOfMemory};
+    ghost use Rattle.guest_schedule.specs.declared.reader.ScheduleError.TheVariants.{OutOfMemory};
 
     ghost from_gives = { λ _ e. e ≡ OutOfMemory };
 
@@ -53,7 +54,14 @@ fn push(turns: &mut Vec<(u64, u64)>, turn: (u64, u64)) -> Result<(), AllocError>
     Ok(())
 }
 
-/// Reads a line behind those before it.
+/// Whether a line is skipped: it is empty, or a comment.
+fn is_skipped(line: &str) -> bool
+    ensures { result ≡ is_skipped line.now }
+{
+    line.is_empty() || is_comment(line)
+}
+
+/// Reads a line behind those before it. A line that is skipped wants no memory.
 fn read_line(
     alloc: Global,
     turns: &mut Vec<(u64, u64)>,
@@ -62,13 +70,14 @@ fn read_line(
 ) -> Result<(), ScheduleError>
     requires number { number ≤ 100001 }
     requires steps { IsTrue (list_all has_steps turns.old.items) }
-    ensures read { Leaves (at_line number (read_line turns.old.items line.now)) turns.new.items result }
+    ensures read { Leaves fault_in (at_line number (read_line turns.old.items line.now)) turns.new.items result }
     ensures steps { IsTrue (list_all has_steps turns.new.items) }
+    ensures skipped { is_skipped line.now ≡ true → result ≡ Ok tt }
 {
-    let found = words(alloc, line)?;
-    if is_skipped(line, &found) {
+    if is_skipped(line) {
         return Ok(());
     }
+    let found = words(alloc, line)?;
     let turn = match turn_of(&found) {
         Ok(turn) => turn,
         Err(why) => return Err(refused(why, number)),
@@ -85,7 +94,7 @@ fn read_lines(
 ) -> Result<(), ScheduleError>
     requires count { length lines.now ≤ 100000 }
     requires steps { IsTrue (list_all has_steps turns.old.items) }
-    ensures read { Leaves (read_lines turns.old.items 1 (map (λ line. line.now) lines.now)) turns.new.items result }
+    ensures read { Leaves fault_in (read_lines turns.old.items 1 (map (λ line. line.now) lines.now)) turns.new.items result }
     ensures steps { IsTrue (list_all has_steps turns.new.items) }
 {
     for place in 0..lines.len() {
@@ -97,7 +106,9 @@ fn read_lines(
 /// The schedule of the turns of all lines; there is at least one.
 fn some_turns(turns: Vec<(u64, u64)>) -> Result<Schedule, ScheduleError>
     requires { IsTrue (list_all has_steps turns.items) }
-    ensures { MatchResult result (λ read. some_turns turns.items ≡ Ok read) (IsErrorOf (some_turns turns.items)) }
+    ensures turns { MatchResult result (λ read. some_turns turns.items ≡ Ok read)
+        (λ error. IsErrorOf (some_turns turns.items) (fault_in error)) }
+    ensures memory { result ≢ Err ScheduleError.OutOfMemory }
 {
     if turns.is_empty() {
         return Err(refused(ScheduleWhy::NoTurn, 0));
@@ -105,13 +116,15 @@ fn some_turns(turns: Vec<(u64, u64)>) -> Result<Schedule, ScheduleError>
     Ok(Schedule::of(turns))
 }
 
-/// Reads a schedule: one turn in each line, but for lines without a word and lines that begin with `#`.
+/// Reads a schedule: one turn in each line, but for empty lines and lines that begin with `#`. A line of spaces isn't
+/// empty: its words are missing.
 ///
 /// The refusal is the first: TooManyLines, with line 100,001, where there are more than 100,000 lines; then line by
 /// line MissingWord, BadNumber, OutOfRange and ExtraWord; last NoTurn, with line 0, where there is no turn. OutOfMemory
 /// is want of memory. NotUtf8 isn't answered, since a text is UTF-8.
 pub fn read_schedule(alloc: Global, text: &str) -> Result<Schedule, ScheduleError>
-    ensures { MatchResult result (λ read. schedule text.now ≡ Ok read) (IsErrorOf (schedule text.now)) }
+    ensures { MatchResult result (λ read. schedule text.now ≡ Ok read)
+        (λ error. IsErrorOf (schedule text.now) (fault_in error)) }
 {
     let found = lines(alloc, text)?;
     if found.len() > MOST_LINES {

@@ -1,14 +1,15 @@
 -- What the text of a schedule says: its turns, or its first refusal. `schedule`, at the end, is the whole of it.
 --
--- Each line that isn't skipped is a turn, `T N`: the place of a context among those that are ready, and a number of steps, at least 1.
-use Rattle.std.specs.Prelude.{ℕ, ◌+◌, List, [], ◌∷◌, ◌++◌, length, get_or, nat_eq, nat_lt, Result, Ok, Err, if◌then◌else◌}
+-- A line without a byte and a comment are skipped. Each other line is a turn, `T N`: the place of a context among those that are ready,
+-- and a number of steps, at least 1.
+use Rattle.std.specs.Prelude.{ℕ, ◌+◌, Bool, ◌||◌, List, [], ◌∷◌, ◌++◌, length, get_or, nat_eq, nat_lt, Result, Ok, Err, if◌then◌else◌}
 use Rattle.std.specs.Option.{option_map_or}
 use Rattle.std.specs.Str.{is_utf8}
-use Rattle.line_words.specs.Lines.{lines, words, is_skipped, number_of_word, line_of_bad_byte}
+use Rattle.line_words.specs.Lines.{lines, words, is_empty, is_comment, number_of_word, line_of_bad_byte}
 use Rattle.line_words.specs.Refusals.{and_then}
-use Rattle.line_words.specs.declared.schedule.ScheduleFault.{ScheduleFault}
-use Rattle.line_words.specs.declared.schedule.ScheduleWhy.{ScheduleWhy}
-use Rattle.line_words.specs.declared.schedule.ScheduleWhy.TheVariants.{NotUtf8, TooManyLines, MissingWord, BadNumber, OutOfRange, ExtraWord, NoTurn}
+use Rattle.guest_schedule.specs.declared.schedule.ScheduleFault.{ScheduleFault}
+use Rattle.guest_schedule.specs.declared.schedule.ScheduleWhy.{ScheduleWhy}
+use Rattle.guest_schedule.specs.declared.schedule.ScheduleWhy.TheVariants.{NotUtf8, TooManyLines, MissingWord, BadNumber, OutOfRange, ExtraWord, NoTurn}
 
 -- ---- a turn
 
@@ -25,6 +26,9 @@ turn_of words =
     else and_then (number (get_or words 0 [])) (λ place. and_then (number (get_or words 1 [])) (λ steps. turn (length words) place steps))
 
 -- ---- the lines one after the other
+
+abbrev pub is_skipped : List ℕ → Bool
+is_skipped line = is_empty line || is_comment line
 
 -- a line behind the turns of those before it
 abbrev pub followed : List (ℕ × ℕ) → ℕ × ℕ → Result (List (ℕ × ℕ)) ScheduleWhy
