@@ -10,7 +10,7 @@ use Rattle.a64_insn.specs.Table.{a64_table, lines_open}
 use Rattle.a64_insn.specs.Rows.{row_of, meets_form, line_number}
 use Rattle.a64_insn.proofs.Forms.{form_again}
 use Rattle.a64_insn.specs.declared.lines.TheConstants as line
-use Rattle.a64_rows.specs.Seen.{seen}
+use Rattle.a64_rows_memory.specs.Seen.{seen}
 
 pub sound : are_sound a64_table ≡ true
 unfolding lines_open a64_table

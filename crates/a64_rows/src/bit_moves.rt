@@ -5,7 +5,7 @@ ghost use Rattle.emu_bits.specs.RowLaws.{IsShape};
 ghost use Rattle.a64_insn.specs.declared.form.A64Form.TheVariants.{FMove, MoveImm};
 ghost use Rattle.a64_insn.specs.BitMoves.{f_move, move_imm};
 ghost use Rattle.a64_insn.specs.Rows.{row_of};
-ghost use Rattle.a64_rows.specs.Seen.{seen};
+ghost use Rattle.a64_rows_memory.specs.Seen.{seen};
 
 use a64_insn::bit_move_words::{f_move_op, f_move_word};
 use a64_insn::{A64, A64Form, FMoveOp};

@@ -45,7 +45,7 @@ ghost use Rattle.a64_insn.specs.Data.{
   rev,
 };
 ghost use Rattle.a64_insn.specs.Rows.{row_of};
-ghost use Rattle.a64_rows.specs.Seen.{seen};
+ghost use Rattle.a64_rows_memory.specs.Seen.{seen};
 
 use a64_insn::data_words::{
     add_carry_op, add_carry_word, add_ext_op, add_ext_word, add_imm_op, add_imm_word, add_reg_op,

@@ -48,7 +48,7 @@ ghost use Rattle.a64_insn.specs.Memory.{
   compare_swap,
 };
 ghost use Rattle.a64_rows.specs.Left.{lines_11_10};
-ghost use Rattle.a64_rows.specs.Seen.{seen};
+ghost use Rattle.a64_rows_memory.specs.Seen.{seen};
 
 use crate::bit_moves::{f_move, move_imm};
 use crate::data::{
@@ -59,11 +59,11 @@ use crate::flow::{
     barrier, branch, branch_cond, branch_reg, compare, except, hint, read_sys, test_branch,
     write_sys,
 };
-use crate::memory::{
+use a64_insn::A64;
+use a64_rows_memory::loads_and_stores::{
     atomic, compare_swap, load_ex, ls_literal, ls_post, ls_pre, ls_reg, ls_unscaled, ls_unsigned,
     ordered, pair, store_ex,
 };
-use a64_insn::A64;
 use emu_bits::bits;
 
 /// The instruction of a word, found by bits 28 to 24.

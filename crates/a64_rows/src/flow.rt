@@ -27,7 +27,7 @@ ghost use Rattle.a64_insn.specs.Flow.{
   write_sys,
 };
 ghost use Rattle.a64_insn.specs.Rows.{row_of};
-ghost use Rattle.a64_rows.specs.Seen.{seen};
+ghost use Rattle.a64_rows_memory.specs.Seen.{seen};
 
 use a64_insn::flow_words::{
     barrier_op, barrier_word, branch_op, branch_reg_op, branch_reg_word, branch_word, compare_op,

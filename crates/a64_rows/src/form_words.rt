@@ -14,11 +14,11 @@ use crate::flow::{
     barrier_bits, branch_bits, branch_cond_bits, branch_reg_bits, compare_bits, except_bits,
     hint_bits, read_sys_bits, test_bits, write_sys_bits,
 };
-use crate::memory::{
+use a64_insn::A64Form;
+use a64_rows_memory::loads_and_stores::{
     atomic_bits, compare_swap_bits, load_ex_bits, ls_literal_bits, ls_post_bits, ls_pre_bits,
     ls_reg_bits, ls_unscaled_bits, ls_unsigned_bits, ordered_bits, pair_bits, store_ex_bits,
 };
-use a64_insn::A64Form;
 
 /// The word of a form.
 #[tactic(auto, using(crate::proofs::Laws::is_listed))]

@@ -6,14 +6,13 @@ mod data;
 mod dispatch;
 mod flow;
 mod form_words;
-mod memory;
 
 ghost use Rattle.std.specs.Prelude.{◌≡◌, Some, IfSome};
 ghost use Rattle.emu_bits.specs.Rows.{decode, encode, instruction};
 ghost use Rattle.emu_bits.specs.RowLaws.{OneRow};
 ghost use Rattle.a64_insn.specs.Table.{a64_table};
 ghost use Rattle.a64_insn.specs.Rows.{row_of};
-ghost use Rattle.a64_rows.specs.Seen.{seen};
+ghost use Rattle.a64_rows_memory.specs.Seen.{seen};
 
 use a64_insn::A64;
 use dispatch::find;

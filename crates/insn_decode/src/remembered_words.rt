@@ -8,7 +8,7 @@ use std::alloc::{AllocError, Global};
 use sve_insn::Sve;
 
 /// The number of places.
-const PLACES: usize = 128;
+const PLACES: usize = 256;
 
 /// Words of SVE with their instructions, one at each place. Of the words that have a place in common, the one that was
 /// asked for last is there. Each place has a word from the start on, so that no place has to be asked whether it has
@@ -50,7 +50,7 @@ impl DecodedWords {
 /// their registers alone mostly have places of their own.
 #[inline(always)]
 fn place_of(word: u32) -> usize
-    ensures { result < 128 }
+    ensures { result < 256 }
 {
-    (word.wrapping_mul(0x9E37_79B1) / 0x200_0000) as usize
+    (word.wrapping_mul(0x9E37_79B1) / 0x100_0000) as usize
 }

@@ -83,7 +83,7 @@ pub fn perform_a64(
 
 /// The same of an SVE instruction.
 #[inline(always)]
-#[tactic(auto, using(crate::proofs::InGroup::lanes_own, crate::proofs::InGroup::across_own, crate::proofs::InGroup::data_done, crate::proofs::InGroup::predicate_own, crate::proofs::InGroup::predicate_done, crate::proofs::InGroup::first_fault_own, crate::proofs::InGroup::first_fault_done))]
+#[tactic(auto, using(crate::proofs::InGroup::lanes_own, crate::proofs::InGroup::across_own, crate::proofs::InGroup::data_done, crate::proofs::InGroup::predicate_own, crate::proofs::InGroup::predicate_done, crate::proofs::InGroup::load_own, crate::proofs::InGroup::store_own, crate::proofs::InGroup::gather_own, crate::proofs::InGroup::scatter_own, crate::proofs::InGroup::first_fault_own, crate::proofs::InGroup::first_fault_done))]
 pub fn perform_sve(
     core: &mut Core,
     vec: &mut VecRegs,
@@ -101,7 +101,7 @@ pub fn perform_sve(
     } }
 {
     match sve_effects::group_of(insn.form()) {
-        // apart, so that each chooses its crate by the group that is known here
+        // apart, so that each crate goes by the group that is known here
         Group::Lanes => sve_data::exec(core, vec, insn),
         Group::Permutes | Group::Counts | Group::Folds => sve_data::exec(core, vec, insn),
         Group::Predicates => {
@@ -109,104 +109,10 @@ pub fn perform_sve(
             sve_pred::exec(core, vec, insn);
             Effect::Next
         }
-        Group::Loads => load(core, vec, memory, log, insn),
-        Group::Stores => store(core, vec, memory, log, insn),
-        Group::Gathers => gather(core, vec, memory, log, insn),
-        Group::Scatters => scatter(core, vec, memory, log, insn),
+        Group::Loads | Group::Stores => sve_loads::exec(core, vec, memory, log, insn),
+        Group::Gathers | Group::Scatters => sve_gather::exec(core, vec, memory, log, insn),
         Group::FirstFaults => load_first_fault(core, vec, memory, log, insn),
     }
-}
-
-/// Does a load of consecutive elements.
-#[inline(always)]
-#[tactic(auto, using(crate::proofs::InGroup::load_done, crate::proofs::InGroup::load_own))]
-fn load(
-    core: &mut Core,
-    vec: &mut VecRegs,
-    memory: &mut Mem,
-    log: &mut AccessLog,
-    insn: &Sve,
-) -> Effect
-    requires group { group_of insn.now ≡ Group.Loads }
-    requires empty { log.old.items ≡ [] }
-    ensures { sve.performed insn.now core.old vec.old memory.old ≡ record {
-      core = core.new;
-      vectors = vec.new;
-      memory = memory.new;
-      accesses = log.new.items;
-      effect = result;
-    } }
-{
-    sve_loads::load(core, vec, memory, log, insn)
-}
-
-/// Does a store of consecutive elements.
-#[inline(always)]
-#[tactic(auto, using(crate::proofs::InGroup::store_done, crate::proofs::InGroup::store_own))]
-fn store(
-    core: &mut Core,
-    vec: &mut VecRegs,
-    memory: &mut Mem,
-    log: &mut AccessLog,
-    insn: &Sve,
-) -> Effect
-    requires group { group_of insn.now ≡ Group.Stores }
-    requires empty { log.old.items ≡ [] }
-    ensures { sve.performed insn.now core.old vec.old memory.old ≡ record {
-      core = core.new;
-      vectors = vec.new;
-      memory = memory.new;
-      accesses = log.new.items;
-      effect = result;
-    } }
-{
-    sve_loads::store(core, vec, memory, log, insn)
-}
-
-/// Does a gather.
-#[inline(always)]
-#[tactic(auto, using(crate::proofs::InGroup::gather_done, crate::proofs::InGroup::gather_own))]
-fn gather(
-    core: &mut Core,
-    vec: &mut VecRegs,
-    memory: &mut Mem,
-    log: &mut AccessLog,
-    insn: &Sve,
-) -> Effect
-    requires group { group_of insn.now ≡ Group.Gathers }
-    requires empty { log.old.items ≡ [] }
-    ensures { sve.performed insn.now core.old vec.old memory.old ≡ record {
-      core = core.new;
-      vectors = vec.new;
-      memory = memory.new;
-      accesses = log.new.items;
-      effect = result;
-    } }
-{
-    sve_gather::load(core, vec, memory, log, insn)
-}
-
-/// Does a scatter.
-#[inline(always)]
-#[tactic(auto, using(crate::proofs::InGroup::scatter_done, crate::proofs::InGroup::scatter_own))]
-fn scatter(
-    core: &mut Core,
-    vec: &mut VecRegs,
-    memory: &mut Mem,
-    log: &mut AccessLog,
-    insn: &Sve,
-) -> Effect
-    requires group { group_of insn.now ≡ Group.Scatters }
-    requires empty { log.old.items ≡ [] }
-    ensures { sve.performed insn.now core.old vec.old memory.old ≡ record {
-      core = core.new;
-      vectors = vec.new;
-      memory = memory.new;
-      accesses = log.new.items;
-      effect = result;
-    } }
-{
-    sve_gather::store(core, vec, memory, log, insn)
 }
 
 /// Does a first-faulting or non-faulting load.

@@ -4,3 +4,4 @@ pub mod GatheredWords
 pub mod Ffr
 pub mod GatheredElements
 pub mod Plain
+pub mod InGroup

@@ -11,7 +11,7 @@ mod plans;
 mod scatter;
 pub mod unrefused;
 
-ghost use Rattle.std.specs.Prelude.{◌≡◌, [], true, false};
+ghost use Rattle.std.specs.Prelude.{◌≡◌, ◌||◌, [], true, false};
 ghost use Rattle.emu_model.specs.declared.trap.Effect.{Effect};
 ghost use Rattle.sve_effects.specs.Effects.{
   first_fault,
@@ -23,18 +23,51 @@ ghost use Rattle.sve_effects.specs.Effects.{
   is_scatter,
   loads_signed,
 };
+ghost use Rattle.sve_effects.specs.Rows.{performed};
 ghost use Rattle.element_loops.specs.Listed.{listed};
 ghost use Rattle.sve_gather.specs.Plans.{is_first_gather};
 
 use core_regs::{Core, Effect};
 use guest_mem::{AccessLog, ElementList, Mem};
+use sve_effects::{Group, group_of};
 use sve_insn::Sve;
 use vec_regs::VecRegs;
+
+/// Does a gather or a scatter, and says how the step goes on. The elements that were loaded or stored are logged in
+/// order. A gather that traps has changed no register; a scatter that traps has stored and logged the elements before
+/// the one that was refused.
+#[inline(always)]
+#[tactic(auto, using(crate::proofs::InGroup::gather_done, crate::proofs::InGroup::gather_own, crate::proofs::InGroup::scatter_done, crate::proofs::InGroup::scatter_own))]
+pub fn exec(
+    core: &mut Core,
+    vec: &mut VecRegs,
+    mem: &mut Mem,
+    log: &mut AccessLog,
+    i: &Sve,
+) -> Effect
+    requires own { (is_gather i.now || is_scatter i.now) ≡ true }
+    requires empty { log.old.items ≡ [] }
+    ensures { performed i.now core.old vec.old mem.old
+        ≡ record { core = core.new; vectors = vec.new; memory = mem.new; accesses = log.new.items; effect = result } }
+{
+    match group_of(i.form()) {
+        Group::Gathers => load(core, vec, mem, log, i),
+        Group::Scatters => store(core, vec, mem, log, i),
+        Group::Lanes
+        | Group::Permutes
+        | Group::Counts
+        | Group::Folds
+        | Group::Predicates
+        | Group::Loads
+        | Group::Stores
+        | Group::FirstFaults => unreachable!(),
+    }
+}
 
 /// Does a gather, and says how the step goes on. The elements that were loaded are logged in order. A trap changes no
 /// register.
 #[tactic(auto, using(crate::specs::PlanLaws::gather_planned, crate::specs::PlanLaws::gathers))]
-pub fn load(core: &Core, vec: &mut VecRegs, mem: &mut Mem, log: &mut AccessLog, i: &Sve) -> Effect
+fn load(core: &Core, vec: &mut VecRegs, mem: &mut Mem, log: &mut AccessLog, i: &Sve) -> Effect
     requires own { is_gather i.now ≡ true }
     requires empty { log.old.items ≡ [] }
     ensures { vector_load i.now core.now vec.old mem.old
@@ -47,7 +80,7 @@ pub fn load(core: &Core, vec: &mut VecRegs, mem: &mut Mem, log: &mut AccessLog, 
 /// Does a scatter, and says how the step goes on. The elements that were stored are logged in order; one that traps has
 /// stored and logged the elements before the one that was refused.
 #[tactic(auto, using(crate::specs::PlanLaws::scatter_planned, crate::specs::PlanLaws::scatters))]
-pub fn store(core: &Core, vec: &VecRegs, mem: &mut Mem, log: &mut AccessLog, i: &Sve) -> Effect
+fn store(core: &Core, vec: &VecRegs, mem: &mut Mem, log: &mut AccessLog, i: &Sve) -> Effect
     requires own { is_scatter i.now ≡ true }
     requires empty { log.old.items ≡ [] }
     ensures { vector_store i.now core.now vec.now mem.old

@@ -8,7 +8,7 @@ mod plans;
 mod rows;
 mod shape;
 
-ghost use Rattle.std.specs.Prelude.{◌≡◌, [], true, false};
+ghost use Rattle.std.specs.Prelude.{◌≡◌, ◌||◌, [], true, false};
 ghost use Rattle.emu_model.specs.declared.trap.Effect.{Effect};
 ghost use Rattle.sve_effects.specs.Effects.{
   first_fault,
@@ -20,18 +20,51 @@ ghost use Rattle.sve_effects.specs.Effects.{
   is_contiguous_store,
   loads_signed,
 };
+ghost use Rattle.sve_effects.specs.Rows.{performed};
 ghost use Rattle.element_loops.specs.Listed.{listed};
 ghost use Rattle.sve_loads.specs.Plans.{is_first_contiguous};
 
 use core_regs::{Core, Effect};
 use guest_mem::{AccessLog, ElementList, Mem};
+use sve_effects::{Group, group_of};
 use sve_insn::Sve;
 use vec_regs::VecRegs;
+
+/// Does a load or a store, and says how the step goes on. The elements that were loaded or stored are logged in order.
+/// A load that traps has changed no register; a store that traps has stored and logged the elements before the one that
+/// was refused.
+#[inline(always)]
+#[tactic(auto, using(crate::proofs::InGroup::load_done, crate::proofs::InGroup::load_own, crate::proofs::InGroup::store_done, crate::proofs::InGroup::store_own))]
+pub fn exec(
+    core: &mut Core,
+    vec: &mut VecRegs,
+    mem: &mut Mem,
+    log: &mut AccessLog,
+    i: &Sve,
+) -> Effect
+    requires own { (is_contiguous_load i.now || is_contiguous_store i.now) ≡ true }
+    requires empty { log.old.items ≡ [] }
+    ensures { performed i.now core.old vec.old mem.old
+        ≡ record { core = core.new; vectors = vec.new; memory = mem.new; accesses = log.new.items; effect = result } }
+{
+    match group_of(i.form()) {
+        Group::Loads => load(core, vec, mem, log, i),
+        Group::Stores => store(core, vec, mem, log, i),
+        Group::Lanes
+        | Group::Permutes
+        | Group::Counts
+        | Group::Folds
+        | Group::Predicates
+        | Group::Gathers
+        | Group::Scatters
+        | Group::FirstFaults => unreachable!(),
+    }
+}
 
 /// Does a load, and says how the step goes on. The elements that were loaded are logged in order. A trap changes no
 /// register.
 #[tactic(auto, using(crate::specs::PlanLaws::load_planned))]
-pub fn load(core: &Core, vec: &mut VecRegs, mem: &mut Mem, log: &mut AccessLog, i: &Sve) -> Effect
+fn load(core: &Core, vec: &mut VecRegs, mem: &mut Mem, log: &mut AccessLog, i: &Sve) -> Effect
     requires own { is_contiguous_load i.now ≡ true }
     requires empty { log.old.items ≡ [] }
     ensures { vector_load i.now core.now vec.old mem.old
@@ -44,7 +77,7 @@ pub fn load(core: &Core, vec: &mut VecRegs, mem: &mut Mem, log: &mut AccessLog, 
 /// Does a store, and says how the step goes on. The elements that were stored are logged in order; a store that traps
 /// has stored and logged the elements before the one that was refused.
 #[tactic(auto, using(crate::specs::PlanLaws::store_planned))]
-pub fn store(core: &Core, vec: &VecRegs, mem: &mut Mem, log: &mut AccessLog, i: &Sve) -> Effect
+fn store(core: &Core, vec: &VecRegs, mem: &mut Mem, log: &mut AccessLog, i: &Sve) -> Effect
     requires own { is_contiguous_store i.now ≡ true }
     requires empty { log.old.items ≡ [] }
     ensures { vector_store i.now core.now vec.now mem.old

@@ -31,7 +31,7 @@ ghost use Rattle.a64_insn.specs.Memory.{
   compare_swap,
 };
 ghost use Rattle.a64_insn.specs.Rows.{row_of};
-ghost use Rattle.a64_rows.specs.Seen.{seen};
+ghost use Rattle.a64_rows_memory.specs.Seen.{seen};
 
 use a64_insn::memory_words::{
     atomic_op, atomic_word, load_ex_op, load_ex_word, ordered_op, ordered_word, store_ex_op,
