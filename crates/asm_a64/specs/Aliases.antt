@@ -43,11 +43,12 @@ abbrev shifts : ℕ → ℕ → Shape → List Pattern
 shifts settled n k =
     let r = 21 to 16 in let right = of k rd ∷ then ∷ of k rn ∷ then ∷ counted (times 1 (At r)) ∷ [] in
     let last = put_at 10 (n - 1) in
-    row bitfield 2 settled (codes "lsl") (of k rd ∷ then ∷ of k rn ∷ then ∷ counted (coded (LeftShift n) (At (21 to 10))) ∷ [])
+    row bitfield 2 settled (codes "lsl")
+    (of k rd ∷ then ∷ of k rn ∷ then ∷ counted (coded (LeftShift n) (At (21 to 10))) ∷ [])
     ∷ row bitfield 2 (settled + last) (codes "lsr") right ∷ row bitfield 0 (settled + last) (codes "asr") right ∷ []
 
--- `mul Rd, Rn, Rm` is `madd Rd, Rn, Rm, zr`; `cset Rd, cond` is `csinc Rd, zr, zr` with the condition that holds where it doesn't;
--- `ret` is `ret x30`, `nop` is `hint #0`
+-- `mul Rd, Rn, Rm` is `madd Rd, Rn, Rm, zr`; `cset Rd, cond` is `csinc Rd, zr, zr` with the condition that holds where
+-- it doesn't; `ret` is `ret x30`, `nop` is `hint #0`
 abbrev others : List Pattern
 others =
     row mul_add 0 no_ra (codes "mul") (r rd ∷ then ∷ r rn ∷ then ∷ r rm ∷ [])

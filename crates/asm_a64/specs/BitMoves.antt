@@ -32,11 +32,14 @@ vector g = of (Told (30 to 30) g) rd
 
 -- `Vd.T, #i{, lsl #0}`, the amount 8 times some bits of cmode
 abbrev shifted : Group → Bits → List Slot
-shifted g b = vector g ∷ then ∷ counted (times 1 byte) ∷ perhaps ∷ inside 0 (one Shift) ∷ inside 0 (counted (times 8 (At b))) ∷ []
+shifted g b =
+    vector g ∷ then ∷ counted (times 1 byte) ∷ perhaps ∷ inside 0 (one Shift) ∷ inside 0 (counted (times 8 (At b))) ∷ []
 
 -- `Vd.T, #i, msl #8` or `#16`
 abbrev with_ones : List Slot
-with_ones = vector WordVector ∷ then ∷ counted (times 1 byte) ∷ then ∷ one ShiftOnes ∷ counted (coded (Scaled 8 1) (At (12 to 12))) ∷ []
+with_ones =
+    vector WordVector ∷ then ∷ counted (times 1 byte) ∷ then ∷ one ShiftOnes
+    ∷ counted (coded (Scaled 8 1) (At (12 to 12))) ∷ []
 
 -- movi, or mvni where op is 1: cmode 0 to 6 in words, 8 and 10 in halfwords, 12 and 13 with ones
 abbrev in_lanes : ℕ → List ℕ → List Pattern
@@ -54,7 +57,8 @@ move_imm_texts =
     in_lanes 0 (codes "movi") ++ (in_lanes 1 (codes "mvni")
     ++ (row move_imm 0 (put_at 12 14) (codes "movi") (vector ByteVector ∷ then ∷ counted (times 1 byte) ∷ [])
     ∷ row move_imm 0 (put_at 29 1 + put_at 12 14) (codes "movi") (of (Only D) rd ∷ then ∷ spread_byte ∷ [])
-    ∷ row move_imm 0 (put_at 30 1 + (put_at 29 1 + put_at 12 14)) (codes "movi") (of (Only V2d) rd ∷ then ∷ spread_byte ∷ []) ∷ []))
+    ∷ row move_imm 0 (put_at 30 1 + (put_at 29 1 + put_at 12 14)) (codes "movi")
+    (of (Only V2d) rd ∷ then ∷ spread_byte ∷ []) ∷ []))
 
 -- the patterns of these lines, and behind them those of other names
 unfoldable pub last_lines : List (List Pattern)

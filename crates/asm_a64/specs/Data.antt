@@ -78,7 +78,8 @@ shifted_by v c = perhaps ∷ inside v (one Shift) ∷ inside 0 (counted c) ∷ [
 
 -- `Rd|SP, Rn|SP, #i{, lsl #0}`; Rd 31 is zero in the forms that set flags
 abbrev add_imm_slots : Codec → List Slot
-add_imm_slots d = let sh = 22 to 22 in r d ∷ then ∷ r rn_sp ∷ then ∷ counted (times 1 (At imm12)) ∷ shifted_by 0 (times 12 (At sh))
+add_imm_slots d =
+    let sh = 22 to 22 in r d ∷ then ∷ r rn_sp ∷ then ∷ counted (times 1 (At imm12)) ∷ shifted_by 0 (times 12 (At sh))
 
 unfoldable pub add_imm_texts : List Pattern
 add_imm_texts =
@@ -91,14 +92,18 @@ logic_imm_slots n k d = of k d ∷ then ∷ of k rn ∷ then ∷ hexadecimal n (
 
 abbrev logic_imm_at : ℕ → ℕ → Shape → List Pattern
 logic_imm_at settled n k =
-    rows logic_imm 0 settled (codes "and" ∷ codes "orr" ∷ codes "eor" ∷ []) (logic_imm_slots n k rd_sp) ++ rows logic_imm 3 settled (codes "ands" ∷ []) (logic_imm_slots n k rd)
+    rows logic_imm 0 settled (codes "and" ∷ codes "orr" ∷ codes "eor" ∷ []) (logic_imm_slots n k rd_sp)
+    ++ rows logic_imm 3 settled (codes "ands" ∷ []) (logic_imm_slots n k rd)
 
 unfoldable pub logic_imm_texts : List Pattern
 logic_imm_texts = logic_imm_at 0 32 (Only W) ++ logic_imm_at sf 64 (Only X)
 
 -- `movn`, `movz`, `movk Rd, #i{, lsl #0}`
 unfoldable pub move_wide_texts : List Pattern
-move_wide_texts = let hw = 22 to 21 in rows move_wide 0 0 (codes "movn" ∷ codes "movz" ∷ codes "movk" ∷ []) (r rd ∷ then ∷ counted (times 1 (At imm16)) ∷ shifted_by 0 (times 16 (At hw)))
+move_wide_texts =
+    let hw = 22 to 21 in
+    rows move_wide 0 0 (codes "movn" ∷ codes "movz" ∷ codes "movk" ∷ [])
+    (r rd ∷ then ∷ counted (times 1 (At imm16)) ∷ shifted_by 0 (times 16 (At hw)))
 
 -- N is 1 with sf
 abbrev pub sf_and_n : ℕ
@@ -107,14 +112,18 @@ sf_and_n = sf + put_at 22 1
 -- `sbfm`, `bfm`, `ubfm Rd, Rn, #r, #s`
 abbrev bitfield_at : ℕ → Shape → List Pattern
 bitfield_at settled k = let r = 21 to 16 in let s = 15 to 10 in
-    rows bitfield 0 settled (codes "sbfm" ∷ codes "bfm" ∷ codes "ubfm" ∷ []) (of k rd ∷ then ∷ of k rn ∷ then ∷ counted (times 1 (At r)) ∷ then ∷ counted (times 1 (At s)) ∷ [])
+    rows bitfield 0 settled (codes "sbfm" ∷ codes "bfm" ∷ codes "ubfm" ∷ [])
+    (of k rd ∷ then ∷ of k rn ∷ then ∷ counted (times 1 (At r)) ∷ then ∷ counted (times 1 (At s)) ∷ [])
 
 unfoldable pub bitfield_texts : List Pattern
 bitfield_texts = bitfield_at 0 (Only W) ++ bitfield_at sf_and_n (Only X)
 
 -- `extr Rd, Rn, Rm, #s`
 abbrev extract_at : ℕ → Shape → Pattern
-extract_at settled k = let s = 15 to 10 in row extract 0 settled (codes "extr") (of k rd ∷ then ∷ of k rn ∷ then ∷ of k rm ∷ then ∷ counted (times 1 (At s)) ∷ [])
+extract_at settled k =
+    let s = 15 to 10 in
+    row extract 0 settled (codes "extr")
+    (of k rd ∷ then ∷ of k rn ∷ then ∷ of k rm ∷ then ∷ counted (times 1 (At s)) ∷ [])
 
 unfoldable pub extract_texts : List Pattern
 extract_texts = extract_at 0 (Only W) ∷ extract_at sf_and_n (Only X) ∷ []
@@ -125,10 +134,13 @@ extract_texts = extract_at 0 (Only W) ∷ extract_at sf_and_n (Only X) ∷ []
 abbrev shifted_slots : List Slot
 shifted_slots =
     let shift = 23 to 22 in let amount = 15 to 10 in
-    r rd ∷ then ∷ r rn ∷ then ∷ r rm ∷ perhaps ∷ inside 0 (of (Only Shift) (plain shift)) ∷ inside 0 (counted (times 1 (At amount))) ∷ []
+    r rd ∷ then ∷ r rn ∷ then ∷ r rm ∷ perhaps ∷ inside 0 (of (Only Shift) (plain shift))
+    ∷ inside 0 (counted (times 1 (At amount))) ∷ []
 
 unfoldable pub logic_reg_texts : List Pattern
-logic_reg_texts = rows logic_reg 0 0 (codes "and" ∷ codes "bic" ∷ codes "orr" ∷ codes "orn" ∷ codes "eor" ∷ codes "eon" ∷ codes "ands" ∷ codes "bics" ∷ []) shifted_slots
+logic_reg_texts =
+    rows logic_reg 0 0 (codes "and" ∷ codes "bic" ∷ codes "orr" ∷ codes "orn" ∷ codes "eor" ∷ codes "eon" ∷ codes "ands"
+    ∷ codes "bics" ∷ []) shifted_slots
 
 unfoldable pub add_reg_texts : List Pattern
 add_reg_texts = rows add_reg 0 0 (codes "add" ∷ codes "adds" ∷ codes "sub" ∷ codes "subs" ∷ []) shifted_slots
@@ -140,12 +152,17 @@ extended m e = let a = 12 to 10 in m ∷ then ∷ e ∷ counted (times 1 (At a))
 -- `Rd|SP, Rn|SP, Rm, ext #a`; Rm is 64 bits wide with sf where the extension is uxtx or sxtx
 abbrev add_ext_as : ℕ → List ℕ → Codec → List Pattern
 add_ext_as k name d =
-    row add_ext k 0 name (w d ∷ then ∷ w rn_sp ∷ then ∷ extended (w rm) (of (Told (14 to 13) Extend) (plain (15 to 15))))
-    ∷ row add_ext k sf name (x d ∷ then ∷ x rn_sp ∷ then ∷ extended (w rm) (of (Told (14 to 13) NarrowExtend) (plain (15 to 15))))
-    ∷ row add_ext k (sf + put_at 13 3) name (x d ∷ then ∷ x rn_sp ∷ then ∷ extended (x rm) (of (Only ExtendDoubleword) (plain (15 to 15)))) ∷ []
+    row add_ext k 0 name (w d ∷ then ∷ w rn_sp ∷ then
+    ∷ extended (w rm) (of (Told (14 to 13) Extend) (plain (15 to 15))))
+    ∷ row add_ext k sf name (x d ∷ then ∷ x rn_sp ∷ then
+    ∷ extended (w rm) (of (Told (14 to 13) NarrowExtend) (plain (15 to 15))))
+    ∷ row add_ext k (sf + put_at 13 3) name
+    (x d ∷ then ∷ x rn_sp ∷ then ∷ extended (x rm) (of (Only ExtendDoubleword) (plain (15 to 15)))) ∷ []
 
 unfoldable pub add_ext_texts : List Pattern
-add_ext_texts = add_ext_as 0 (codes "add") rd_sp ++ (add_ext_as 1 (codes "adds") rd ++ (add_ext_as 2 (codes "sub") rd_sp ++ add_ext_as 3 (codes "subs") rd))
+add_ext_texts =
+    add_ext_as 0 (codes "add") rd_sp
+    ++ (add_ext_as 1 (codes "adds") rd ++ (add_ext_as 2 (codes "sub") rd_sp ++ add_ext_as 3 (codes "subs") rd))
 
 -- `Rd, Rn, Rm`
 abbrev three : List Slot
@@ -156,31 +173,40 @@ add_carry_texts = rows add_carry 0 0 (codes "adc" ∷ codes "adcs" ∷ codes "sb
 
 -- `ccmn`, `ccmp Rn, y, #f, cond`
 abbrev cond_slots : Slot → List Slot
-cond_slots y = let f = 3 to 0 in r rn ∷ then ∷ y ∷ then ∷ counted (times 1 (At f)) ∷ then ∷ of (Only Condition) (plain cond) ∷ []
+cond_slots y =
+    let f = 3 to 0 in r rn ∷ then ∷ y ∷ then ∷ counted (times 1 (At f)) ∷ then ∷ of (Only Condition) (plain cond) ∷ []
 
 unfoldable pub cond_reg_texts : List Pattern
 cond_reg_texts = rows cond_reg 0 0 (codes "ccmn" ∷ codes "ccmp" ∷ []) (cond_slots (r rm))
 
 unfoldable pub cond_imm_texts : List Pattern
-cond_imm_texts = rows cond_imm 0 0 (codes "ccmn" ∷ codes "ccmp" ∷ []) (let i = 20 to 16 in cond_slots (counted (times 1 (At i))))
+cond_imm_texts =
+    rows cond_imm 0 0 (codes "ccmn" ∷ codes "ccmp" ∷ []) (let i = 20 to 16 in cond_slots (counted (times 1 (At i))))
 
 unfoldable pub select_texts : List Pattern
-select_texts = rows select 0 0 (codes "csel" ∷ codes "csinc" ∷ codes "csinv" ∷ codes "csneg" ∷ []) (three ++ (then ∷ of (Only Condition) (plain cond) ∷ []))
+select_texts =
+    rows select 0 0 (codes "csel" ∷ codes "csinc" ∷ codes "csinv" ∷ codes "csneg" ∷ [])
+    (three ++ (then ∷ of (Only Condition) (plain cond) ∷ []))
 
 unfoldable pub mul_add_texts : List Pattern
 mul_add_texts = rows mul_add 0 0 (codes "madd" ∷ codes "msub" ∷ []) (three ++ (then ∷ r ra ∷ []))
 
 unfoldable pub mul_long_texts : List Pattern
-mul_long_texts = rows mul_long 0 0 (codes "smaddl" ∷ codes "smsubl" ∷ codes "umaddl" ∷ codes "umsubl" ∷ []) (x rd ∷ then ∷ w rn ∷ then ∷ w rm ∷ then ∷ x ra ∷ [])
+mul_long_texts =
+    rows mul_long 0 0 (codes "smaddl" ∷ codes "smsubl" ∷ codes "umaddl" ∷ codes "umsubl" ∷ [])
+    (x rd ∷ then ∷ w rn ∷ then ∷ w rm ∷ then ∷ x ra ∷ [])
 
 unfoldable pub mul_high_texts : List Pattern
 mul_high_texts = rows mul_high 0 0 (codes "smulh" ∷ codes "umulh" ∷ []) (x rd ∷ then ∷ x rn ∷ then ∷ x rm ∷ [])
 
 unfoldable pub two_source_texts : List Pattern
-two_source_texts = rows two_source 0 0 (codes "udiv" ∷ codes "sdiv" ∷ codes "lslv" ∷ codes "lsrv" ∷ codes "asrv" ∷ codes "rorv" ∷ []) three
+two_source_texts =
+    rows two_source 0 0 (codes "udiv" ∷ codes "sdiv" ∷ codes "lslv" ∷ codes "lsrv" ∷ codes "asrv" ∷ codes "rorv"
+    ∷ []) three
 
 unfoldable pub one_source_texts : List Pattern
-one_source_texts = rows one_source 0 0 (codes "rbit" ∷ codes "rev16" ∷ codes "clz" ∷ codes "cls" ∷ []) (r rd ∷ then ∷ r rn ∷ [])
+one_source_texts =
+    rows one_source 0 0 (codes "rbit" ∷ codes "rev16" ∷ codes "clz" ∷ codes "cls" ∷ []) (r rd ∷ then ∷ r rn ∷ [])
 
 unfoldable pub rev_texts : List Pattern
 rev_texts =
@@ -190,5 +216,7 @@ rev_texts =
 -- the patterns of these lines, in the order of the table's
 unfoldable pub data_lines : List (List Pattern)
 data_lines =
-    adr_texts ∷ add_imm_texts ∷ logic_imm_texts ∷ move_wide_texts ∷ bitfield_texts ∷ extract_texts ∷ logic_reg_texts ∷ add_reg_texts ∷ add_ext_texts ∷ add_carry_texts
-    ∷ cond_reg_texts ∷ cond_imm_texts ∷ select_texts ∷ mul_add_texts ∷ mul_long_texts ∷ mul_high_texts ∷ two_source_texts ∷ one_source_texts ∷ rev_texts ∷ []
+    adr_texts ∷ add_imm_texts ∷ logic_imm_texts ∷ move_wide_texts ∷ bitfield_texts ∷ extract_texts ∷ logic_reg_texts
+    ∷ add_reg_texts ∷ add_ext_texts ∷ add_carry_texts
+    ∷ cond_reg_texts ∷ cond_imm_texts ∷ select_texts ∷ mul_add_texts ∷ mul_long_texts ∷ mul_high_texts
+    ∷ two_source_texts ∷ one_source_texts ∷ rev_texts ∷ []

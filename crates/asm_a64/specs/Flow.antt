@@ -26,7 +26,10 @@ conditions c [] = []
 conditions c (n ∷ ns) = row branch_cond 0 c n (jump imm19 ∷ []) ∷ conditions (c + 1) ns
 
 unfoldable pub branch_cond_texts : List Pattern
-branch_cond_texts = conditions 0 (codes "b.eq" ∷ codes "b.ne" ∷ codes "b.cs" ∷ codes "b.cc" ∷ codes "b.mi" ∷ codes "b.pl" ∷ codes "b.vs" ∷ codes "b.vc" ∷ codes "b.hi" ∷ codes "b.ls" ∷ codes "b.ge" ∷ codes "b.lt" ∷ codes "b.gt" ∷ codes "b.le" ∷ codes "b.al" ∷ codes "b.nv" ∷ [])
+branch_cond_texts =
+    conditions 0 (codes "b.eq" ∷ codes "b.ne" ∷ codes "b.cs" ∷ codes "b.cc" ∷ codes "b.mi" ∷ codes "b.pl" ∷ codes "b.vs"
+    ∷ codes "b.vc" ∷ codes "b.hi" ∷ codes "b.ls" ∷ codes "b.ge" ∷ codes "b.lt" ∷ codes "b.gt" ∷ codes "b.le"
+    ∷ codes "b.al" ∷ codes "b.nv" ∷ [])
 
 -- `cbz`, `cbnz Rt, target`
 unfoldable pub compare_texts : List Pattern
@@ -34,7 +37,10 @@ compare_texts = rows compare 0 0 (codes "cbz" ∷ codes "cbnz" ∷ []) (r rt ∷
 
 -- `tbz`, `tbnz Rt, #b, target`: b is b5 and b40, and b5 the register's width
 unfoldable pub test_texts : List Pattern
-test_texts = let imm14 = 18 to 5 in rows test_branch 0 0 (codes "tbz" ∷ codes "tbnz" ∷ []) (r rt ∷ then ∷ counted (times 1 (Two (31 to 31) (23 to 19))) ∷ then ∷ jump imm14 ∷ [])
+test_texts =
+    let imm14 = 18 to 5 in
+    rows test_branch 0 0 (codes "tbz" ∷ codes "tbnz" ∷ [])
+    (r rt ∷ then ∷ counted (times 1 (Two (31 to 31) (23 to 19))) ∷ then ∷ jump imm14 ∷ [])
 
 -- `br`, `blr`, `ret Xn`
 unfoldable pub branch_reg_texts : List Pattern
@@ -47,18 +53,25 @@ unfoldable pub hint_texts : List Pattern
 hint_texts = let n = 11 to 5 in row hint 0 0 (codes "hint") (counted (times 1 (At n)) ∷ []) ∷ []
 
 unfoldable pub barrier_texts : List Pattern
-barrier_texts = let n = 11 to 8 in rows barrier 0 0 (codes "clrex" ∷ codes "dsb" ∷ codes "dmb" ∷ codes "isb" ∷ []) (counted (times 1 (At n)) ∷ [])
+barrier_texts =
+    let n = 11 to 8 in
+    rows barrier 0 0 (codes "clrex" ∷ codes "dsb" ∷ codes "dmb" ∷ codes "isb" ∷ []) (counted (times 1 (At n)) ∷ [])
 
 -- `mrs Xt, tpidr_el0` and so on
 unfoldable pub read_sys_texts : List Pattern
 read_sys_texts =
     row read_sys 0 0 (codes "mrs") (x rt ∷ then ∷ one TpidrEl0 ∷ [])
-    ∷ row read_sys 1 0 (codes "mrs") (x rt ∷ then ∷ one Nzcv ∷ []) ∷ row read_sys 2 0 (codes "mrs") (x rt ∷ then ∷ one DczidEl0 ∷ []) ∷ []
+    ∷ row read_sys 1 0 (codes "mrs") (x rt ∷ then ∷ one Nzcv ∷ [])
+    ∷ row read_sys 2 0 (codes "mrs") (x rt ∷ then ∷ one DczidEl0 ∷ []) ∷ []
 
 -- `msr tpidr_el0, Xt` and `msr nzcv, Xt`
 unfoldable pub write_sys_texts : List Pattern
-write_sys_texts = row write_sys 0 0 (codes "msr") (one TpidrEl0 ∷ then ∷ x rt ∷ []) ∷ row write_sys 1 0 (codes "msr") (one Nzcv ∷ then ∷ x rt ∷ []) ∷ []
+write_sys_texts =
+    row write_sys 0 0 (codes "msr") (one TpidrEl0 ∷ then ∷ x rt ∷ [])
+    ∷ row write_sys 1 0 (codes "msr") (one Nzcv ∷ then ∷ x rt ∷ []) ∷ []
 
 -- the patterns of these lines, in the order of the table's
 unfoldable pub flow_lines : List (List Pattern)
-flow_lines = branch_texts ∷ branch_cond_texts ∷ compare_texts ∷ test_texts ∷ branch_reg_texts ∷ except_texts ∷ hint_texts ∷ barrier_texts ∷ read_sys_texts ∷ write_sys_texts ∷ []
+flow_lines =
+    branch_texts ∷ branch_cond_texts ∷ compare_texts ∷ test_texts ∷ branch_reg_texts ∷ except_texts ∷ hint_texts
+    ∷ barrier_texts ∷ read_sys_texts ∷ write_sys_texts ∷ []

@@ -59,9 +59,10 @@ abbrev pub is_canonical_form : A64Form → Bool
 is_canonical_form (LogicImm op sf n immr imms rn rd) = nat_lt immr (2 ^ unwrap_or (element_log (bit n) imms) 0)
 is_canonical_form f = true
 
--- The text is read as the word with the bits of its target 0, and the target; and that word, aimed at the target, is the
--- instruction's.
+-- The text is read as the word with the bits of its target 0, and the target; and that word, aimed at the target, is
+-- the instruction's.
 pub record IsReadBack (f : A64Form) (pc : ℕ) : Type 0 where
-  pub read : reads_text in_table a64_patterns (text_of_form f pc) ≡ Ok (record { word = unaimed_word f; target = destination_of (target_at f pc) })
+  pub read : reads_text in_table a64_patterns (text_of_form f pc)
+      ≡ Ok (record { word = unaimed_word f; target = destination_of (target_at f pc) })
   pub aimed : (a : ℕ) → target_at f pc ≡ Some a → aimed (reach f) (unaimed_word f) pc a ≡ Some (word_of f)
   pub plain : target_at f pc ≡ None → unaimed_word f ≡ word_of f

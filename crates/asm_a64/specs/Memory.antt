@@ -1,5 +1,7 @@
--- The texts of the table's lines of loads and stores.
-use Rattle.std.specs.Prelude.{ℕ, ◌+◌, List, [], ◌∷◌, ◌++◌, codes}
+-- The texts of the table's lines of loads and stores: the assembler syntax of their entries in the Arm Architecture
+-- Reference Manual for A-profile (DDI 0487), C6.2 'Alphabetical list of A64 base instructions', and of vector registers
+-- in C7.2.
+use Rattle.std.specs.Prelude.{ℕ, ◌+◌, ◌^◌, List, [], ◌∷◌, ◌++◌, codes}
 use Rattle.emu_bits.specs.Rows.{Line}
 use Rattle.text_model.specs.declared.classes.Class.{Class}
 use Rattle.text_model.specs.declared.classes.Class.TheVariants.{W, X, B, H, S, D, Q, Shift, ExtendWord, ExtendDoubleword, Exclamation}
@@ -15,45 +17,67 @@ use Rattle.asm_a64.specs.Flow.{jump, imm19}
 
 -- ---- the kinds of loads and stores
 
--- An access: the two parts of its name, between which `u` stands in the unscaled forms; the bits size, V and opc; its register; the
--- bytes, and the power of two that they are.
+-- An access: the two parts of its name, between which `u` stands in the unscaled forms; the fields size, V (1 for a
+-- vector register) and opc; the register that it moves; and the power of two that its bytes are.
 pub record Access : Type 0 where
   pub first : List ℕ
   pub rest : List ℕ
-  pub settled : ℕ
+  pub size : ℕ
+  pub vector : ℕ
+  pub opc : ℕ
   pub register : Slot
-  pub bytes : ℕ
   pub log : ℕ
 
-abbrev access : List ℕ → List ℕ → ℕ → ℕ → ℕ → Slot → ℕ → ℕ → Access
-access a b size v opc s n l = record { first = a; rest = b; settled = put_at 30 size + (put_at 26 v + put_at 22 opc); register = s; bytes = n; log = l }
+-- the store `str` of a general register of so many bytes
+abbrev store : Slot → ℕ → Access
+store s log =
+    record { first = codes "st"; rest = codes "r"; size = log; vector = 0; opc = 0; register = s; log = log }
 
-abbrev scalar : Class → Slot
-scalar c = of (Only c) rt
+-- a store, and the load of the same, whose opc is the next
+abbrev with_load : Access → List Access
+with_load a = a ∷ record a { first = codes "ld"; opc = a.opc + 1 } ∷ []
+
+-- a load from this size of element, with this name behind `ld` and this opc
+abbrev load_of : Slot → ℕ → List ℕ → ℕ → Access
+load_of s log rest opc = let a = store s log in record a { first = codes "ld"; rest = rest; opc = opc }
 
 -- 64 bits where opc is 2, 32 where it is 3
 abbrev extended_register : Slot
 extended_register = of (Told (22 to 22) GeneralReversed) rt
 
--- Rt as the number of a prefetch
-abbrev rt_number : Slot
-rt_number = counted (times 1 (At (4 to 0)))
+-- bytes or halfwords, by the letter behind the names: the store, the load that extends with zeros, and the one with the
+-- sign
+abbrev narrow : ℕ → List ℕ → List Access
+narrow log letter =
+    let a = store (w rt) log in
+    with_load (record a { rest = codes "r" ++ letter }) ++ (load_of extended_register log (codes "rs" ++ letter) 2 ∷ [])
 
-abbrev store_and_load : ℕ → ℕ → ℕ → Class → ℕ → ℕ → List Access
-store_and_load size v opc c n l = access (codes "st") (codes "r") size v opc (scalar c) n l ∷ access (codes "ld") (codes "r") size v (opc + 1) (scalar c) n l ∷ []
+-- Rt as a scalar of a vector register
+abbrev scalar : Class → ℕ → Access
+scalar c log = let a = store (of (Only c) rt) log in record a { vector = 1 }
 
-abbrev narrow : ℕ → List ℕ → List ℕ → ℕ → ℕ → List Access
-narrow size b s n l = access (codes "st") b size 0 0 (w rt) n l ∷ access (codes "ld") b size 0 1 (w rt) n l ∷ access (codes "ld") s size 0 2 extended_register n l ∷ []
+-- 16 bytes have size 0, and opc 2 for the store
+abbrev quadword : Access
+quadword = let a = scalar Q 4 in record a { size = 0; opc = 2 }
 
 -- all but `prfm`, which has no forms that write their base back
 abbrev pub accesses : List Access
 accesses =
-    narrow 0 (codes "rb") (codes "rsb") 1 0 ++ (narrow 1 (codes "rh") (codes "rsh") 2 1
-    ++ (store_and_load 2 0 0 W 4 2 ++ (access (codes "ld") (codes "rsw") 2 0 2 (x rt) 4 2 ∷ store_and_load 3 0 0 X 8 3
-    ++ (store_and_load 0 1 0 B 1 0 ++ (store_and_load 1 1 0 H 2 1 ++ (store_and_load 2 1 0 S 4 2 ++ (store_and_load 3 1 0 D 8 3 ++ store_and_load 0 1 2 Q 16 4)))))))
+    narrow 0 (codes "b") ++ (narrow 1 (codes "h")
+    ++ (with_load (store (w rt) 2) ++ (load_of (x rt) 2 (codes "rsw") 2 ∷ with_load (store (x rt) 3)
+    ++ (with_load (scalar B 0) ++ (with_load (scalar H 1) ++ (with_load (scalar S 2) ++ (with_load (scalar D 3)
+    ++ with_load quadword)))))))
+
+-- Rt as the number of a prefetch
+abbrev rt_number : Slot
+rt_number = counted (times 1 (At (4 to 0)))
 
 abbrev pub prefetch : Access
-prefetch = access (codes "prf") (codes "m") 3 0 2 rt_number 8 3
+prefetch = let a = load_of rt_number 3 (codes "m") 2 in record a { first = codes "prf" }
+
+-- the bits of an access
+abbrev bits_of : Access → ℕ
+bits_of a = put_at 30 a.size + (put_at 26 a.vector + put_at 22 a.opc)
 
 -- ---- places
 
@@ -75,7 +99,8 @@ imm9 = counted (signed_times 1 (At (20 to 12)))
 -- a pattern for each access
 abbrev each : {F : Type 0} → Line F → ℕ → (Access → List ℕ) → (Access → List Slot) → List Access → List Pattern
 each l settled name place [] = []
-each l settled name place (a ∷ more) = row l 0 (a.settled + settled) (name a) (a.register ∷ then ∷ place a) ∷ each l settled name place more
+each l settled name place (a ∷ more) =
+    row l 0 (bits_of a + settled) (name a) (a.register ∷ then ∷ place a) ∷ each l settled name place more
 
 abbrev plain_name : Access → List ℕ
 plain_name a = a.first ++ a.rest
@@ -84,7 +109,8 @@ abbrev unscaled_name : Access → List ℕ
 unscaled_name a = a.first ++ (codes "u" ++ a.rest)
 
 unfoldable pub ls_unsigned_texts : List Pattern
-ls_unsigned_texts = each ls_unsigned 0 plain_name (λ a. offset_place (counted (times a.bytes (At imm12)))) (prefetch ∷ accesses)
+ls_unsigned_texts =
+    each ls_unsigned 0 plain_name (λ a. offset_place (counted (times (2 ^ a.log) (At imm12)))) (prefetch ∷ accesses)
 
 unfoldable pub ls_unscaled_texts : List Pattern
 ls_unscaled_texts = each ls_unscaled 0 unscaled_name (λ a. offset_place imm9) (prefetch ∷ accesses)
@@ -97,18 +123,22 @@ ls_pre_texts = each ls_pre 0 plain_name (λ a. pre_place imm9) accesses
 
 -- ---- offsets in registers
 
--- `[Xn|SP, Rm, ext]` and `[Xn|SP, Rm, ext #a]`: the bits 15 to 13 that the extension settles, its slots, and what follows
+-- `[Xn|SP, Rm, ext]` and `[Xn|SP, Rm, ext #a]`: the bits 15 to 13 that the extension settles, its slots, and what
+-- follows
 abbrev offsets : ℕ → Slot → List Slot → List Slot → List (List Pattern)
 offsets settled m bare scaled =
     each ls_reg (put_at 13 settled) plain_name (λ a. bracketed (x rn_sp ∷ then ∷ m ∷ bare)) (prefetch ∷ accesses)
-    ∷ each ls_reg (put_at 13 settled + put_at 12 1) plain_name (λ a. bracketed (x rn_sp ∷ then ∷ m ∷ (scaled ++ (amount a.log ∷ [])))) (prefetch ∷ accesses) ∷ []
+    ∷ each ls_reg (put_at 13 settled + put_at 12 1) plain_name
+    (λ a. bracketed (x rn_sp ∷ then ∷ m ∷ (scaled ++ (amount a.log ∷ [])))) (prefetch ∷ accesses) ∷ []
 
 -- uxtw and sxtw, told apart by bit 15; lsl, which isn't written without its amount; sxtx
 unfoldable pub ls_reg_lines : List (List Pattern)
 ls_reg_lines =
-    offsets 2 (w rm) (then ∷ of (Only ExtendWord) (plain (15 to 15)) ∷ []) (then ∷ of (Only ExtendWord) (plain (15 to 15)) ∷ [])
+    offsets 2 (w rm) (then ∷ of (Only ExtendWord) (plain (15 to 15)) ∷ [])
+    (then ∷ of (Only ExtendWord) (plain (15 to 15)) ∷ [])
     ++ (offsets 3 (x rm) [] (then ∷ one Shift ∷ [])
-    ++ offsets 7 (x rm) (then ∷ of (Only ExtendDoubleword) (always 1) ∷ []) (then ∷ of (Only ExtendDoubleword) (always 1) ∷ []))
+    ++ offsets 7 (x rm) (then ∷ of (Only ExtendDoubleword) (always 1) ∷ [])
+    (then ∷ of (Only ExtendDoubleword) (always 1) ∷ []))
 
 unfoldable pub ls_reg_texts : List Pattern
 ls_reg_texts = flat ls_reg_lines
@@ -120,7 +150,8 @@ literal settled name s = row ls_literal 0 settled name (s ∷ then ∷ jump imm1
 
 unfoldable pub ls_literal_texts : List Pattern
 ls_literal_texts =
-    literal 0 (codes "ldr") (of (Told (30 to 30) General) rt) ∷ literal (put_at 30 2) (codes "ldrsw") (x rt) ∷ literal (put_at 30 3) (codes "prfm") rt_number
+    literal 0 (codes "ldr") (of (Told (30 to 30) General) rt) ∷ literal (put_at 30 2) (codes "ldrsw") (x rt)
+    ∷ literal (put_at 30 3) (codes "prfm") rt_number
     ∷ literal (put_at 26 1) (codes "ldr") (of (Told (31 to 30) WideScalar) rt) ∷ []
 
 -- ---- pairs
@@ -138,7 +169,8 @@ pair_row settled mode name ss = row pair 0 (settled + put_at 23 mode) name ss
 -- the three modes that `stp` and `ldp` have, and that of `stnp` and `ldnp`
 abbrev pair_modes : ℕ → List ℕ → Class → ℕ → List Pattern
 pair_modes settled name c n =
-    pair_row settled 1 name (pair_slots c (post_place (imm7 n))) ∷ pair_row settled 2 name (pair_slots c (offset_place (imm7 n)))
+    pair_row settled 1 name (pair_slots c (post_place (imm7 n)))
+    ∷ pair_row settled 2 name (pair_slots c (offset_place (imm7 n)))
     ∷ pair_row settled 3 name (pair_slots c (pre_place (imm7 n))) ∷ []
 
 abbrev pairs : ℕ → ℕ → Class → ℕ → List Pattern
@@ -146,10 +178,14 @@ pairs opc v c n =
     let bits = put_at 30 opc + put_at 26 v in
     let load = put_at 22 1 in
     pair_modes bits (codes "stp") c n ++ (pair_modes (bits + load) (codes "ldp") c n
-    ++ (pair_row bits 0 (codes "stnp") (pair_slots c (offset_place (imm7 n))) ∷ pair_row (bits + load) 0 (codes "ldnp") (pair_slots c (offset_place (imm7 n))) ∷ []))
+    ++ (pair_row bits 0 (codes "stnp") (pair_slots c (offset_place (imm7 n)))
+    ∷ pair_row (bits + load) 0 (codes "ldnp") (pair_slots c (offset_place (imm7 n))) ∷ []))
 
 unfoldable pub pair_texts : List Pattern
-pair_texts = pairs 0 0 W 4 ++ (pairs 2 0 X 8 ++ (pair_modes (put_at 30 1 + put_at 22 1) (codes "ldpsw") X 4 ++ (pairs 0 1 S 4 ++ (pairs 1 1 D 8 ++ pairs 2 1 Q 16))))
+pair_texts =
+    pairs 0 0 W 4 ++ (pairs 2 0 X 8
+    ++ (pair_modes (put_at 30 1 + put_at 22 1) (codes "ldpsw") X 4
+    ++ (pairs 0 1 S 4 ++ (pairs 1 1 D 8 ++ pairs 2 1 Q 16))))
 
 -- ---- exclusive and ordered accesses
 
@@ -159,11 +195,14 @@ place = bracketed (x rn_sp ∷ [])
 -- a row at its sizes: bytes and halfwords by the name, words and doublewords by the register
 abbrev sized : {F : Type 0} → Line F → ℕ → List ℕ → List Slot → List Pattern
 sized l k name first =
-    row l k 0 (name ++ codes "b") (first ++ (w rt ∷ then ∷ place)) ∷ row l k (put_at 30 1) (name ++ codes "h") (first ++ (w rt ∷ then ∷ place))
+    row l k 0 (name ++ codes "b") (first ++ (w rt ∷ then ∷ place))
+    ∷ row l k (put_at 30 1) (name ++ codes "h") (first ++ (w rt ∷ then ∷ place))
     ∷ row l k (put_at 31 1) name (first ++ (of (Told (30 to 30) General) rt ∷ then ∷ place)) ∷ []
 
 unfoldable pub store_ex_texts : List Pattern
-store_ex_texts = let rs = plain (20 to 16) in sized store_ex 0 (codes "stxr") (w rs ∷ then ∷ []) ++ sized store_ex 1 (codes "stlxr") (w rs ∷ then ∷ [])
+store_ex_texts =
+    let rs = plain (20 to 16) in
+    sized store_ex 0 (codes "stxr") (w rs ∷ then ∷ []) ++ sized store_ex 1 (codes "stlxr") (w rs ∷ then ∷ [])
 
 unfoldable pub load_ex_texts : List Pattern
 load_ex_texts = sized load_ex 0 (codes "ldxr") [] ++ sized load_ex 1 (codes "ldaxr") []
@@ -176,14 +215,17 @@ ordered_texts = sized ordered 0 (codes "stlr") [] ++ sized ordered 1 (codes "lda
 -- a row with some bits settled at its sizes: bytes and halfwords by the name, words and doublewords by both registers
 abbrev two_sized : {F : Type 0} → Line F → ℕ → ℕ → List ℕ → List Pattern
 two_sized l k settled name = let rs = plain (20 to 16) in
-    row l k settled (name ++ codes "b") (w rs ∷ then ∷ w rt ∷ then ∷ place) ∷ row l k (put_at 30 1 + settled) (name ++ codes "h") (w rs ∷ then ∷ w rt ∷ then ∷ place)
-    ∷ row l k (put_at 31 1 + settled) name (of (Told (30 to 30) General) rs ∷ then ∷ of (Told (30 to 30) General) rt ∷ then ∷ place) ∷ []
+    row l k settled (name ++ codes "b") (w rs ∷ then ∷ w rt ∷ then ∷ place)
+    ∷ row l k (put_at 30 1 + settled) (name ++ codes "h") (w rs ∷ then ∷ w rt ∷ then ∷ place)
+    ∷ row l k (put_at 31 1 + settled) name
+    (of (Told (30 to 30) General) rs ∷ then ∷ of (Told (30 to 30) General) rt ∷ then ∷ place) ∷ []
 
 -- a row by the bits that acquire and release: the name alone, with `a`, with `l` and with `al`
 abbrev orders : {F : Type 0} → Line F → ℕ → ℕ → ℕ → List ℕ → List Pattern
 orders l k acquires releases name =
     two_sized l k 0 name ++ (two_sized l k (put_at acquires 1) (name ++ codes "a")
-    ++ (two_sized l k (put_at releases 1) (name ++ codes "l") ++ two_sized l k (put_at acquires 1 + put_at releases 1) (name ++ codes "al")))
+    ++ (two_sized l k (put_at releases 1) (name ++ codes "l")
+    ++ two_sized l k (put_at acquires 1 + put_at releases 1) (name ++ codes "al")))
 
 -- the rows of `Atomic` from a number on
 abbrev atomic_rows : ℕ → List (List ℕ) → List Pattern
@@ -192,11 +234,15 @@ atomic_rows k (name ∷ names) = orders atomic k 23 22 name ++ atomic_rows (k + 
 
 unfoldable pub atomic_texts : List Pattern
 atomic_texts =
-    atomic_rows 0 (codes "ldadd" ∷ codes "ldclr" ∷ codes "ldeor" ∷ codes "ldset" ∷ codes "ldsmax" ∷ codes "ldsmin" ∷ codes "ldumax" ∷ codes "ldumin" ∷ codes "swp" ∷ [])
+    atomic_rows 0 (codes "ldadd" ∷ codes "ldclr" ∷ codes "ldeor" ∷ codes "ldset" ∷ codes "ldsmax" ∷ codes "ldsmin"
+    ∷ codes "ldumax" ∷ codes "ldumin" ∷ codes "swp" ∷ [])
 
 unfoldable pub compare_swap_texts : List Pattern
 compare_swap_texts = orders compare_swap 0 22 15 (codes "cas")
 
 -- the patterns of these lines, in the order of the table's, those of offsets in registers in six parts
 unfoldable pub memory_lines : List (List Pattern)
-memory_lines = ls_unsigned_texts ∷ ls_unscaled_texts ∷ ls_post_texts ∷ ls_pre_texts ∷ (ls_reg_lines ++ (ls_literal_texts ∷ pair_texts ∷ store_ex_texts ∷ load_ex_texts ∷ ordered_texts ∷ atomic_texts ∷ compare_swap_texts ∷ []))
+memory_lines =
+    ls_unsigned_texts ∷ ls_unscaled_texts ∷ ls_post_texts ∷ ls_pre_texts
+    ∷ (ls_reg_lines ++ (ls_literal_texts ∷ pair_texts ∷ store_ex_texts ∷ load_ex_texts ∷ ordered_texts ∷ atomic_texts
+    ∷ compare_swap_texts ∷ []))

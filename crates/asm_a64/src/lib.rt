@@ -18,12 +18,14 @@ ghost use Rattle.a64_insn.specs.declared.form.A64Form.{A64Form};
 ghost use Rattle.a64_insn.specs.Rows.{row_of};
 ghost use Rattle.text_code.specs.Tables.{lines_of, patterns_of};
 ghost use Rattle.text_model.specs.Aim.{aimed};
+ghost use Rattle.text_model.specs.Inverse.{AllTell};
+ghost use Rattle.text_model.specs.Writing.{flat};
 ghost use Rattle.asm_a64.specs.Law.{in_table, is_canonical_form, reach, unaimed_word, IsReadBack, TextsOfLines};
 ghost use Rattle.asm_a64.specs.BitMoves.{last_lines};
 ghost use Rattle.asm_a64.specs.Data.{data_lines};
 ghost use Rattle.asm_a64.specs.Flow.{flow_lines};
 ghost use Rattle.asm_a64.specs.Memory.{memory_lines};
-ghost use Rattle.asm_a64.specs.Table.{a64_lines};
+ghost use Rattle.asm_a64.specs.Table.{line_texts, a64_lines};
 
 use a64_rows::decode_a64;
 use text_code::{Pattern, Spot, Table, line_of};
@@ -145,6 +147,12 @@ impl Table for A64Texts {
 /// A word's form has the patterns of the line that holds the word.
 pub fn texts_of_lines()
     ensures { TextsOfLines }
+{}
+
+/// Reading is the inverse of showing: the items that a pattern of the table shows of a word tell the word, the bits of
+/// its target 0.
+pub fn items_tell_their_words()
+    ensures { AllTell (flat line_texts) }
 {}
 
 /// The text of each instruction, but for a bitmask whose rotation isn't the least, is read as the instruction: at any

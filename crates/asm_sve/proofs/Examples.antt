@@ -3,6 +3,7 @@ use Rattle.asm_sve.specs.Table.{sve_patterns}
 use Rattle.asm_sve.specs.Opened.{texts_open}
 use Rattle.std.proofs.Common.{◌≡◌, ℕ, Result, Ok, Err, None, List, [], ◌∷◌, map, codes, is_some, refl}
 use Rattle.emu_bits.specs.Bitmask.{bitmask_of}
+use Rattle.text_model.specs.Masks.{bitmask_fields}
 use Rattle.emu_bits.specs.Rows.{decode}
 use Rattle.text_model.specs.declared.slots.Refusal.{Refusal}
 use Rattle.text_model.specs.declared.slots.Refusal.TheVariants.{UnknownName, BadOperands, OutOfRange}
@@ -37,7 +38,7 @@ read_are : map read (
     ∷ codes "ld1rqw {z16.s}, p0/z, [x12, #-64]"
     ∷ codes "brkas p0.b, p14/z, p12.b"
     ∷ codes "whilelt p15.b, wzr, wzr" ∷ []) ≡ word 0x0480004F ∷ word 0x04C09F1F ∷ word 0x055633E8 ∷ word 0x2520C37F ∷ word 0x05000178 ∷ word 0x44A4003E ∷ word 0x053F239F ∷ word 0x04A5F080 ∷ word 0x046AF33F ∷ word 0x0420E3E0 ∷ word 0x25D8E34F ∷ word 0xA522FFFF ∷ word 0xA5A0E2C0 ∷ word 0x84A87F9A ∷ word 0xE45BB210 ∷ word 0xA50C2190 ∷ word 0x25507980 ∷ word 0x253F07EF ∷ []
-unfolding texts_open dictionary bitmask_of is_no_byte is_no_doubleword is_word_or_doubleword is_halfword_or_word binary_holds_for has_tsz unary_least_size unary_holds_for shifts_no_byte has_bitmask reduce_holds_for has_lane_size break_first_holds_for write_ffr_holds_for is_register fits_lane store_reg_holds_for extends_to_word extends_to_doubleword gather_word_holds_for gather_scaled_word_holds_for gather_scaled_doubleword_holds_for
+unfolding texts_open dictionary bitmask_of bitmask_fields is_no_byte is_no_doubleword is_word_or_doubleword is_halfword_or_word binary_holds_for has_tsz unary_least_size unary_holds_for shifts_no_byte has_bitmask reduce_holds_for has_lane_size break_first_holds_for write_ffr_holds_for is_register fits_lane store_reg_holds_for extends_to_word extends_to_doubleword gather_word_holds_for gather_scaled_word_holds_for gather_scaled_doubleword_holds_for
 read_are = refl
 
 refused_are : map read (
@@ -57,5 +58,5 @@ refused_are : map read (
     ∷ codes "lsl z0.b, z1.b, #8"
     ∷ codes "ptrue p0.b, #31"
     ∷ codes "add z0.b, z0.b, #1, lsl #8" ∷ []) ≡ Err UnknownName ∷ Err BadOperands ∷ Err BadOperands ∷ Err BadOperands ∷ Err BadOperands ∷ Err BadOperands ∷ Err BadOperands ∷ Err OutOfRange ∷ Err OutOfRange ∷ Err OutOfRange ∷ Err OutOfRange ∷ Err OutOfRange ∷ Err OutOfRange ∷ Err OutOfRange ∷ Err OutOfRange ∷ Err OutOfRange ∷ []
-unfolding texts_open dictionary bitmask_of is_no_byte is_no_doubleword is_word_or_doubleword is_halfword_or_word binary_holds_for has_tsz unary_least_size unary_holds_for shifts_no_byte has_bitmask reduce_holds_for has_lane_size break_first_holds_for write_ffr_holds_for is_register fits_lane store_reg_holds_for extends_to_word extends_to_doubleword gather_word_holds_for gather_scaled_word_holds_for gather_scaled_doubleword_holds_for
+unfolding texts_open dictionary bitmask_of bitmask_fields is_no_byte is_no_doubleword is_word_or_doubleword is_halfword_or_word binary_holds_for has_tsz unary_least_size unary_holds_for shifts_no_byte has_bitmask reduce_holds_for has_lane_size break_first_holds_for write_ffr_holds_for is_register fits_lane store_reg_holds_for extends_to_word extends_to_doubleword gather_word_holds_for gather_scaled_word_holds_for gather_scaled_doubleword_holds_for
 refused_are = refl

@@ -1,4 +1,5 @@
 pub mod Checked
+pub mod Entries
 pub mod Shown
 pub mod Total
 pub mod Untargeted

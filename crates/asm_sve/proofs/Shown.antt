@@ -3,7 +3,7 @@ use Rattle.std.proofs.Common.{◌≡◌, ℕ, Bool, true, Some, List, [], ◌∷
 use Rattle.std.proofs.lemmas.Bool.{and_parts}
 use Rattle.emu_bits.specs.Rows.{Line, Row, row_in}
 use Rattle.emu_bits.proofs.Encoding.{answer_of}
-use Rattle.asm_sve.specs.Entry.{Entry, texts_in}
+use Rattle.asm_sve.proofs.Entries.{Entry, texts_in}
 use Rattle.sve_insn.specs.declared.form.SveForm.{SveForm}
 use Rattle.text_model.specs.Reading.{Pattern}
 use Rattle.text_model.specs.Text.{chosen}

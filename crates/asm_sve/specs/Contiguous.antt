@@ -34,7 +34,9 @@ by_dtype =
 -- a pattern for each of some, where the bits of a dtype and the place are given, dtype counted from k on
 abbrev pub loads : {F : Type 0} → Line F → List ℕ → (ℕ → ℕ) → (ℕ → List Slot) → ℕ → List Loaded → List Pattern
 loads l name bits place k [] = []
-loads l name bits place k (d ∷ ds) = row l 0 (bits k) (name ++ d.letters) (loaded (z_class d.lane) (place d.element)) ∷ loads l name bits place (k + 1) ds
+loads l name bits place k (d ∷ ds) =
+    row l 0 (bits k) (name ++ d.letters) (loaded (z_class d.lane) (place d.element))
+    ∷ loads l name bits place (k + 1) ds
 
 unfoldable pub load_imm_texts : List Pattern
 load_imm_texts = loads load_imm (codes "ld1") (put_at 21) (λ e. imm_place 1) 0 by_dtype
@@ -50,7 +52,8 @@ load_nf_texts = loads load_nf (codes "ldnf1") (put_at 21) (λ e. imm_place 1) 0 
 
 -- [Xn|SP{, #0}], times the bytes of an element
 abbrev pub element_place : ℕ → List Slot
-element_place e = let imm6_21_16 = 21 to 16 in bracketed (base ∷ perhaps ∷ inside 0 (counted (times (2 ^ e) (At imm6_21_16))) ∷ [])
+element_place e =
+    let imm6_21_16 = 21 to 16 in bracketed (base ∷ perhaps ∷ inside 0 (counted (times (2 ^ e) (At imm6_21_16))) ∷ [])
 
 -- dtype stands at bits 24 to 23 and 14 to 13
 unfoldable pub load_one_texts : List Pattern
@@ -59,10 +62,12 @@ load_one_texts = loads load_one (codes "ld1r") (λ k. put_at 23 (k / 4) + put_at
 -- ---- elements as long as lanes: msz, bits 24 to 23, tells both
 
 abbrev pub load_same : {F : Type 0} → Line F → List ℕ → (ℕ → List Slot) → List Pattern
-load_same l name place = sized all_sizes (λ s. row l 0 (put_at 23 s) (name ++ letter s) (loaded (z_class s) (place s)) ∷ [])
+load_same l name place =
+    sized all_sizes (λ s. row l 0 (put_at 23 s) (name ++ letter s) (loaded (z_class s) (place s)) ∷ [])
 
 abbrev pub store_same : {F : Type 0} → Line F → List ℕ → (ℕ → List Slot) → List Pattern
-store_same l name place = sized all_sizes (λ s. row l 0 (put_at 23 s) (name ++ letter s) (stored (z_class s) (place s)) ∷ [])
+store_same l name place =
+    sized all_sizes (λ s. row l 0 (put_at 23 s) (name ++ letter s) (stored (z_class s) (place s)) ∷ [])
 
 unfoldable pub load_nt_imm_texts : List Pattern
 load_nt_imm_texts = load_same load_nt_imm (codes "ldnt1") (λ s. imm_place 1)
@@ -90,15 +95,20 @@ load_quad_reg_texts = load_same load_quad_reg (codes "ld1rq") reg_place
 
 -- {Zt.T, Zu.T ..}, Pg/z, place
 abbrev pub load_several : {F : Type 0} → Line F → ℕ → List ℕ → (ℕ → List Slot) → List Pattern
-load_several l k name place = sized all_sizes (λ s. row l k (put_at 23 s) (name ++ letter s) (separated (many (k + 2) (z_class s) ∷ p_zeroing pg ∷ place s ∷ [])) ∷ [])
+load_several l k name place =
+    sized all_sizes (λ s. row l k (put_at 23 s) (name ++ letter s)
+    (separated (many (k + 2) (z_class s) ∷ p_zeroing pg ∷ place s ∷ [])) ∷ [])
 
 abbrev pub store_several : {F : Type 0} → Line F → ℕ → List ℕ → (ℕ → List Slot) → List Pattern
-store_several l k name place = sized all_sizes (λ s. row l k (put_at 23 s) (name ++ letter s) (separated (many (k + 2) (z_class s) ∷ register P pg ∷ place s ∷ [])) ∷ [])
+store_several l k name place =
+    sized all_sizes (λ s. row l k (put_at 23 s) (name ++ letter s)
+    (separated (many (k + 2) (z_class s) ∷ register P pg ∷ place s ∷ [])) ∷ [])
 
 unfoldable pub load_many_imm_texts : List Pattern
 load_many_imm_texts =
     load_several load_many_imm 0 (codes "ld2") (λ s. imm_place 2)
-    ++ (load_several load_many_imm 1 (codes "ld3") (λ s. imm_place 3) ++ load_several load_many_imm 2 (codes "ld4") (λ s. imm_place 4))
+    ++ (load_several load_many_imm 1 (codes "ld3") (λ s. imm_place 3)
+    ++ load_several load_many_imm 2 (codes "ld4") (λ s. imm_place 4))
 
 unfoldable pub load_many_reg_texts : List Pattern
 load_many_reg_texts =
@@ -108,18 +118,21 @@ load_many_reg_texts =
 unfoldable pub store_many_imm_texts : List Pattern
 store_many_imm_texts =
     store_several store_many_imm 0 (codes "st2") (λ s. imm_place 2)
-    ++ (store_several store_many_imm 1 (codes "st3") (λ s. imm_place 3) ++ store_several store_many_imm 2 (codes "st4") (λ s. imm_place 4))
+    ++ (store_several store_many_imm 1 (codes "st3") (λ s. imm_place 3)
+    ++ store_several store_many_imm 2 (codes "st4") (λ s. imm_place 4))
 
 unfoldable pub store_many_reg_texts : List Pattern
 store_many_reg_texts =
     store_several store_many_reg 0 (codes "st2") reg_place
-    ++ (store_several store_many_reg 1 (codes "st3") reg_place ++ store_several store_many_reg 2 (codes "st4") reg_place)
+    ++ (store_several store_many_reg 1 (codes "st3") reg_place
+    ++ store_several store_many_reg 2 (codes "st4") reg_place)
 
 -- ---- stores from lanes of any size, bits 22 to 21, which aren't shorter than the element
 
 abbrev pub store_lanes : {F : Type 0} → Line F → (ℕ → List Slot) → List Pattern
 store_lanes l place = sized all_sizes (λ m.
-    row l 0 (put_at 23 m) (codes "st1" ++ letter m) (separated (braced (of (Told (22 to 21) Lanes) (plain zt) ∷ []) ∷ register P pg ∷ place m ∷ [])) ∷ [])
+    row l 0 (put_at 23 m) (codes "st1" ++ letter m)
+    (separated (braced (of (Told (22 to 21) Lanes) (plain zt) ∷ []) ∷ register P pg ∷ place m ∷ [])) ∷ [])
 
 unfoldable pub store_imm_texts : List Pattern
 store_imm_texts = store_lanes store_imm (λ m. imm_place 1)

@@ -13,15 +13,18 @@ unfoldable pub reduce_texts : List Pattern
 reduce_texts =
     let vd = 4 to 0 in
     rows reduce 0 0 (codes "saddv" ∷ codes "uaddv" ∷ []) (separated (register D vd ∷ register P pg ∷ z_at zn ∷ []))
-    ++ rows reduce 2 0 (codes "smaxv" ∷ codes "umaxv" ∷ codes "sminv" ∷ codes "uminv" ∷ codes "orv" ∷ codes "eorv" ∷ codes "andv" ∷ [])
+    ++ rows reduce 2 0 (codes "smaxv" ∷ codes "umaxv" ∷ codes "sminv" ∷ codes "uminv" ∷ codes "orv" ∷ codes "eorv"
+    ∷ codes "andv" ∷ [])
     (separated (v_at vd ∷ register P pg ∷ z_at zn ∷ []))
 
 -- Rows whose operands end with a count: the two ways to write it.
 abbrev pub counting : {F : Type 0} → Line F → ℕ → ℕ → List (List ℕ) → List Slot → List Pattern
-counting l k settled names operands = rows l k settled names (operands ++ by_named_pattern) ++ rows l k settled names (operands ++ by_pattern_number)
+counting l k settled names operands =
+    rows l k settled names (operands ++ by_named_pattern) ++ rows l k settled names (operands ++ by_pattern_number)
 
 unfoldable pub count_texts : List Pattern
-count_texts = sized all_sizes (λ s. counting count_elements 0 (put_at 22 s) (ended (letter s) (codes "cnt" ∷ [])) (register X rd))
+count_texts =
+    sized all_sizes (λ s. counting count_elements 0 (put_at 22 s) (ended (letter s) (codes "cnt" ∷ [])) (register X rd))
 
 abbrev pub steps : List (List ℕ)
 steps = codes "inc" ∷ codes "dec" ∷ []
@@ -30,7 +33,8 @@ unfoldable pub inc_x_texts : List Pattern
 inc_x_texts = sized all_sizes (λ s. counting inc_x 0 (put_at 22 s) (ended (letter s) steps) (register X rdn))
 
 unfoldable pub inc_z_texts : List Pattern
-inc_z_texts = sized (1 ∷ 2 ∷ 3 ∷ []) (λ s. counting inc_z 0 (put_at 22 s) (ended (letter s) steps) (register (z_class s) zdn))
+inc_z_texts =
+    sized (1 ∷ 2 ∷ 3 ∷ []) (λ s. counting inc_z 0 (put_at 22 s) (ended (letter s) steps) (register (z_class s) zdn))
 
 abbrev pub saturating_steps : List (List ℕ)
 saturating_steps = codes "sqinc" ∷ codes "uqinc" ∷ codes "sqdec" ∷ codes "uqdec" ∷ []
@@ -39,18 +43,25 @@ saturating_steps = codes "sqinc" ∷ codes "uqinc" ∷ codes "sqdec" ∷ codes "
 unfoldable pub sat_x_texts : List Pattern
 sat_x_texts = sized all_sizes (λ s.
     counting sat_x 0 (put_at 22 s + put_at 20 1) (ended (letter s) saturating_steps) (register X rdn)
-    ++ (counting sat_x 0 (put_at 22 s) (ended (letter s) (codes "sqinc" ∷ [])) (separated (register X rdn ∷ register W rdn ∷ []))
+    ++ (counting sat_x 0 (put_at 22 s) (ended (letter s) (codes "sqinc" ∷ []))
+    (separated (register X rdn ∷ register W rdn ∷ []))
     ++ (counting sat_x 1 (put_at 22 s) (ended (letter s) (codes "uqinc" ∷ [])) (register W rdn)
-    ++ (counting sat_x 2 (put_at 22 s) (ended (letter s) (codes "sqdec" ∷ [])) (separated (register X rdn ∷ register W rdn ∷ []))
+    ++ (counting sat_x 2 (put_at 22 s) (ended (letter s) (codes "sqdec" ∷ []))
+    (separated (register X rdn ∷ register W rdn ∷ []))
     ++ counting sat_x 3 (put_at 22 s) (ended (letter s) (codes "uqdec" ∷ [])) (register W rdn)))))
 
 unfoldable pub sat_z_texts : List Pattern
-sat_z_texts = sized (1 ∷ 2 ∷ 3 ∷ []) (λ s. counting sat_z 0 (put_at 22 s) (ended (letter s) saturating_steps) (register (z_class s) zdn))
+sat_z_texts =
+    sized (1 ∷ 2 ∷ 3 ∷ []) (λ s. counting sat_z 0 (put_at 22 s) (ended (letter s) saturating_steps)
+    (register (z_class s) zdn))
 
 unfoldable pub add_length_texts : List Pattern
 add_length_texts =
     let rn_20_16 = 20 to 16 in let imm6_10_5 = 10 to 5 in
-    rows add_length 0 0 (codes "addvl" ∷ codes "addpl" ∷ []) (separated ((of (Only X) (stack rd) ∷ []) ∷ (of (Only X) (stack rn_20_16) ∷ []) ∷ signed_at imm6_10_5 ∷ []))
+    rows add_length 0 0 (codes "addvl" ∷ codes "addpl" ∷ [])
+    (separated ((of (Only X) (stack rd) ∷ []) ∷ (of (Only X) (stack rn_20_16) ∷ []) ∷ signed_at imm6_10_5 ∷ []))
 
 unfoldable pub read_length_texts : List Pattern
-read_length_texts = let imm6_10_5 = 10 to 5 in row read_length 0 0 (codes "rdvl") (separated (register X rd ∷ signed_at imm6_10_5 ∷ [])) ∷ []
+read_length_texts =
+    let imm6_10_5 = 10 to 5 in
+    row read_length 0 0 (codes "rdvl") (separated (register X rd ∷ signed_at imm6_10_5 ∷ [])) ∷ []

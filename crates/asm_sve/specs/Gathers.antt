@@ -17,7 +17,8 @@ use Rattle.asm_sve.specs.Places.{loaded, stored, base, scaled}
 
 -- [Xn|SP, Zm.T, uxtw], the extension by the field xs
 abbrev pub extended_place : Class → Bits → List Slot → List Slot
-extended_place lanes xs behind = bracketed (base ∷ then ∷ of (Only lanes) (plain zm) ∷ then ∷ of (Only ExtendWord) (plain xs) ∷ behind)
+extended_place lanes xs behind =
+    bracketed (base ∷ then ∷ of (Only lanes) (plain zm) ∷ then ∷ of (Only ExtendWord) (plain xs) ∷ behind)
 
 -- [Xn|SP, Zm.d, lsl #s]
 abbrev pub doubleword_place : ℕ → List Slot
@@ -25,7 +26,9 @@ doubleword_place s = bracketed (base ∷ then ∷ of (Only Zd) (plain zm) ∷ sc
 
 -- [Zn.T{, #0}], imm5 times the bytes of an element
 abbrev pub vector_place : Class → ℕ → List Slot
-vector_place lanes s = let imm5 = 20 to 16 in bracketed (of (Only lanes) (plain zn) ∷ perhaps ∷ inside 0 (counted (times (2 ^ s) (At imm5))) ∷ [])
+vector_place lanes s =
+    let imm5 = 20 to 16 in
+    bracketed (of (Only lanes) (plain zn) ∷ perhaps ∷ inside 0 (counted (times (2 ^ s) (At imm5))) ∷ [])
 
 -- ---- gathers
 
@@ -51,10 +54,12 @@ scaled_doublewords = scaled_words ++ (gathered (codes "d") 3 1 ∷ gathered (cod
 abbrev pub gathers_named : {F : Type 0} → Line F → List ℕ → ℕ → Class → (ℕ → List Slot) → List Gathered → List Pattern
 gathers_named l name ff lanes place [] = []
 gathers_named l name ff lanes place (g ∷ gs) =
-    row l 0 (put_at 23 g.element + (put_at 14 g.unsigned + put_at 13 ff)) (name ++ g.letters) (loaded lanes (place g.element)) ∷ gathers_named l name ff lanes place gs
+    row l 0 (put_at 23 g.element + (put_at 14 g.unsigned + put_at 13 ff)) (name ++ g.letters)
+    (loaded lanes (place g.element)) ∷ gathers_named l name ff lanes place gs
 
 abbrev pub gathers : {F : Type 0} → Line F → Class → (ℕ → List Slot) → List Gathered → List Pattern
-gathers l lanes place gs = gathers_named l (codes "ld1") 0 lanes place gs ++ gathers_named l (codes "ldff1") 1 lanes place gs
+gathers l lanes place gs =
+    gathers_named l (codes "ld1") 0 lanes place gs ++ gathers_named l (codes "ldff1") 1 lanes place gs
 
 unfoldable pub gather_sx_texts : List Pattern
 gather_sx_texts = gathers gather_sx Zs (λ s. extended_place Zs (22 to 22) []) (of_bytes ++ scaled_words)
@@ -66,7 +71,8 @@ unfoldable pub gather_dx_texts : List Pattern
 gather_dx_texts = gathers gather_dx Zd (λ s. extended_place Zd (22 to 22) []) (of_bytes ++ scaled_doublewords)
 
 unfoldable pub gather_dx_scaled_texts : List Pattern
-gather_dx_scaled_texts = gathers gather_dx_scaled Zd (λ s. extended_place Zd (22 to 22) (amount s ∷ [])) scaled_doublewords
+gather_dx_scaled_texts =
+    gathers gather_dx_scaled Zd (λ s. extended_place Zd (22 to 22) (amount s ∷ [])) scaled_doublewords
 
 unfoldable pub gather_d_texts : List Pattern
 gather_d_texts = gathers gather_d Zd (λ s. doubleword_place 0) (of_bytes ++ scaled_doublewords)
@@ -83,7 +89,8 @@ gather_dv_texts = gathers gather_dv Zd (vector_place Zd) (of_bytes ++ scaled_dou
 -- ---- scatters
 
 abbrev pub scatters : {F : Type 0} → Line F → Class → List ℕ → (ℕ → List Slot) → List Pattern
-scatters l lanes sizes place = sized sizes (λ s. row l 0 (put_at 23 s) (codes "st1" ++ letter s) (stored lanes (place s)) ∷ [])
+scatters l lanes sizes place =
+    sized sizes (λ s. row l 0 (put_at 23 s) (codes "st1" ++ letter s) (stored lanes (place s)) ∷ [])
 
 unfoldable pub scatter_sx_texts : List Pattern
 scatter_sx_texts = scatters scatter_sx Zs (0 ∷ 1 ∷ 2 ∷ []) (λ s. extended_place Zs (14 to 14) [])
@@ -95,7 +102,8 @@ unfoldable pub scatter_dx_texts : List Pattern
 scatter_dx_texts = scatters scatter_dx Zd (0 ∷ 1 ∷ 2 ∷ 3 ∷ []) (λ s. extended_place Zd (14 to 14) [])
 
 unfoldable pub scatter_dx_scaled_texts : List Pattern
-scatter_dx_scaled_texts = scatters scatter_dx_scaled Zd (1 ∷ 2 ∷ 3 ∷ []) (λ s. extended_place Zd (14 to 14) (amount s ∷ []))
+scatter_dx_scaled_texts =
+    scatters scatter_dx_scaled Zd (1 ∷ 2 ∷ 3 ∷ []) (λ s. extended_place Zd (14 to 14) (amount s ∷ []))
 
 unfoldable pub scatter_d_texts : List Pattern
 scatter_d_texts = scatters scatter_d Zd (0 ∷ 1 ∷ 2 ∷ 3 ∷ []) (λ s. doubleword_place 0)

@@ -47,7 +47,7 @@ abbrev pub sized : List ℕ → (ℕ → List Pattern) → List Pattern
 sized [] patterns = []
 sized (s ∷ ss) patterns = patterns s ++ sized ss patterns
 
--- ---- fields, by their names in the forms; where those of a name stand at several places, all but one have their bits behind it
+-- ---- fields, by their names in the forms; of those at several places all but one have their bits behind the name
 
 abbrev pub zd : Bits
 zd = 4 to 0
@@ -154,7 +154,9 @@ signed_at b = number_of (signed_times 1 (At b))
 
 -- #i{, lsl #0}, where sh is lsl #8
 abbrev pub shifted : Codec → List Slot
-shifted c = let sh = 13 to 13 in counted c ∷ perhaps ∷ inside 0 (of (Only Shift) (always 0)) ∷ inside 0 (counted (times 8 (At sh))) ∷ []
+shifted c =
+    let sh = 13 to 13 in
+    counted c ∷ perhaps ∷ inside 0 (of (Only Shift) (always 0)) ∷ inside 0 (counted (times 8 (At sh))) ∷ []
 
 -- [i]
 abbrev pub index : Codec → List Slot

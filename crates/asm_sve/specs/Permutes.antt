@@ -12,13 +12,17 @@ use Rattle.asm_sve.specs.Operands.{separated, z_class, sized, zd, zdn, zn, zm, z
 unfoldable pub dup_reg_texts : List Pattern
 dup_reg_texts = row dup_reg 0 0 (codes "dup") (separated (z_at zd ∷ r_sp_at rn ∷ [])) ∷ []
 
--- The lowest set bit of tsz, bits 20 to 16, tells the size, 4 being q; those above it, with imm2, bits 23 to 22, above them, the lane.
+-- The lowest set bit of tsz, bits 20 to 16, tells the size, 4 being q; those above it, with imm2, bits 23 to 22, above
+-- them, the lane.
 abbrev pub lane_bits : ℕ → Parts
-lane_bits s = get_or (Two (23 to 22) (20 to 17) ∷ Two (23 to 22) (20 to 18) ∷ Two (23 to 22) (20 to 19) ∷ Two (23 to 22) (20 to 20) ∷ At (23 to 22) ∷ []) s Nowhere
+lane_bits s =
+    get_or (Two (23 to 22) (20 to 17) ∷ Two (23 to 22) (20 to 18) ∷ Two (23 to 22) (20 to 19)
+    ∷ Two (23 to 22) (20 to 20) ∷ At (23 to 22) ∷ []) s Nowhere
 
 unfoldable pub dup_lane_texts : List Pattern
 dup_lane_texts = sized (0 ∷ 1 ∷ 2 ∷ 3 ∷ 4 ∷ []) (λ s.
-    row dup_lane 0 (2 ^ (16 + s)) (codes "dup") (separated (register (z_class s) zd ∷ (register (z_class s) zn ++ index (times 1 (lane_bits s))) ∷ [])) ∷ [])
+    row dup_lane 0 (2 ^ (16 + s)) (codes "dup")
+    (separated (register (z_class s) zd ∷ (register (z_class s) zn ++ index (times 1 (lane_bits s))) ∷ [])) ∷ [])
 
 unfoldable pub insert_texts : List Pattern
 insert_texts =
@@ -30,7 +34,9 @@ unfoldable pub rev_z_texts : List Pattern
 rev_z_texts = row rev_z 0 0 (codes "rev") (separated (z_at zd ∷ z_at zn ∷ [])) ∷ []
 
 unfoldable pub unpack_texts : List Pattern
-unpack_texts = rows unpack 0 0 (codes "sunpklo" ∷ codes "sunpkhi" ∷ codes "uunpklo" ∷ codes "uunpkhi" ∷ []) (separated (z_at zd ∷ z_by HalfLanes zn ∷ []))
+unpack_texts =
+    rows unpack 0 0 (codes "sunpklo" ∷ codes "sunpkhi" ∷ codes "uunpklo" ∷ codes "uunpkhi" ∷ [])
+    (separated (z_at zd ∷ z_by HalfLanes zn ∷ []))
 
 unfoldable pub table_texts : List Pattern
 table_texts = row table_lookup 0 0 (codes "tbl") (separated (z_at zd ∷ braced (z_at zn) ∷ z_at zm ∷ [])) ∷ []
@@ -45,7 +51,8 @@ unfoldable pub interleave_p_texts : List Pattern
 interleave_p_texts = rows interleave_p 0 0 interleavings (separated (p_at pd ∷ p_at pn ∷ p_at pm ∷ []))
 
 unfoldable pub unpack_p_texts : List Pattern
-unpack_p_texts = rows unpack_p 0 0 (codes "punpklo" ∷ codes "punpkhi" ∷ []) (separated (register Ph pd ∷ register Pb pn ∷ []))
+unpack_p_texts =
+    rows unpack_p 0 0 (codes "punpklo" ∷ codes "punpkhi" ∷ []) (separated (register Ph pd ∷ register Pb pn ∷ []))
 
 unfoldable pub rev_p_texts : List Pattern
 rev_p_texts = row rev_p 0 0 (codes "rev") (separated (p_at pd ∷ p_at pn ∷ [])) ∷ []
@@ -58,7 +65,8 @@ splice_texts = row splice 0 0 (codes "splice") (separated (z_at zdn ∷ register
 
 unfoldable pub ext_texts : List Pattern
 ext_texts = row ext 0 0 (codes "ext")
-    (separated (register Zb zdn ∷ register Zb zdn ∷ register Zb zm_9_5 ∷ number_of (times 1 (Two (20 to 16) (12 to 10))) ∷ [])) ∷ []
+    (separated (register Zb zdn ∷ register Zb zdn ∷ register Zb zm_9_5 ∷ number_of (times 1 (Two (20 to 16) (12 to 10)))
+    ∷ [])) ∷ []
 
 unfoldable pub copy_reg_texts : List Pattern
 copy_reg_texts =
@@ -72,6 +80,9 @@ last_texts =
 
 unfoldable pub cond_last_texts : List Pattern
 cond_last_texts =
-    rows cond_last 0 0 (codes "clasta" ∷ codes "clastb" ∷ []) (separated (r_at zdn ∷ register P pg ∷ r_at zdn ∷ z_at zm_9_5 ∷ []))
-    ++ (rows cond_last 2 0 (codes "clasta" ∷ codes "clastb" ∷ []) (separated (v_at zdn ∷ register P pg ∷ v_at zdn ∷ z_at zm_9_5 ∷ []))
-    ++ rows cond_last 4 0 (codes "clasta" ∷ codes "clastb" ∷ []) (separated (z_at zdn ∷ register P pg ∷ z_at zdn ∷ z_at zm_9_5 ∷ [])))
+    rows cond_last 0 0 (codes "clasta" ∷ codes "clastb" ∷ [])
+    (separated (r_at zdn ∷ register P pg ∷ r_at zdn ∷ z_at zm_9_5 ∷ []))
+    ++ (rows cond_last 2 0 (codes "clasta" ∷ codes "clastb" ∷ [])
+    (separated (v_at zdn ∷ register P pg ∷ v_at zdn ∷ z_at zm_9_5 ∷ []))
+    ++ rows cond_last 4 0 (codes "clasta" ∷ codes "clastb" ∷ [])
+    (separated (z_at zdn ∷ register P pg ∷ z_at zdn ∷ z_at zm_9_5 ∷ [])))

@@ -16,24 +16,32 @@ compared s y = separated (register (p_class s) pd ∷ p_zeroing pg ∷ register 
 
 unfoldable pub cmp_vec_texts : List Pattern
 cmp_vec_texts = sized all_sizes (λ s. rows cmp_vec 0 (put_at 22 s)
-    (codes "cmphs" ∷ codes "cmphi" ∷ codes "cmpge" ∷ codes "cmpgt" ∷ codes "cmpeq" ∷ codes "cmpne" ∷ []) (compared s (register (z_class s) zm)))
+    (codes "cmphs" ∷ codes "cmphi" ∷ codes "cmpge" ∷ codes "cmpgt" ∷ codes "cmpeq" ∷ codes "cmpne" ∷ [])
+    (compared s (register (z_class s) zm)))
 
 -- those that compare with wide lanes alone have no other operands
 unfoldable pub cmp_wide_texts : List Pattern
 cmp_wide_texts =
     sized (0 ∷ 1 ∷ 2 ∷ []) (λ s.
-    rows cmp_wide 0 (put_at 22 s) (codes "cmpeq" ∷ codes "cmpne" ∷ codes "cmpge" ∷ codes "cmpgt" ∷ []) (compared s (register Zd zm))
+    rows cmp_wide 0 (put_at 22 s) (codes "cmpeq" ∷ codes "cmpne" ∷ codes "cmpge" ∷ codes "cmpgt" ∷ [])
+    (compared s (register Zd zm))
     ++ rows cmp_wide 6 (put_at 22 s) (codes "cmphs" ∷ codes "cmphi" ∷ []) (compared s (register Zd zm)))
-    ++ (rows cmp_wide 4 0 (codes "cmplt" ∷ codes "cmple" ∷ []) (separated (p_at pd ∷ p_zeroing pg ∷ z_at zn ∷ register Zd zm ∷ []))
-    ++ rows cmp_wide 8 0 (codes "cmplo" ∷ codes "cmpls" ∷ []) (separated (p_at pd ∷ p_zeroing pg ∷ z_at zn ∷ register Zd zm ∷ [])))
+    ++ (rows cmp_wide 4 0 (codes "cmplt" ∷ codes "cmple" ∷ [])
+    (separated (p_at pd ∷ p_zeroing pg ∷ z_at zn ∷ register Zd zm ∷ []))
+    ++ rows cmp_wide 8 0 (codes "cmplo" ∷ codes "cmpls" ∷ [])
+    (separated (p_at pd ∷ p_zeroing pg ∷ z_at zn ∷ register Zd zm ∷ [])))
 
 unfoldable pub cmp_u_imm_texts : List Pattern
 cmp_u_imm_texts =
     let imm7 = 20 to 14 in
-    rows cmp_u_imm 0 0 (codes "cmphs" ∷ codes "cmphi" ∷ codes "cmplo" ∷ codes "cmpls" ∷ []) (separated (p_at pd ∷ p_zeroing pg ∷ z_at zn ∷ unsigned_at imm7 ∷ []))
+    rows cmp_u_imm 0 0 (codes "cmphs" ∷ codes "cmphi" ∷ codes "cmplo" ∷ codes "cmpls" ∷ [])
+    (separated (p_at pd ∷ p_zeroing pg ∷ z_at zn ∷ unsigned_at imm7 ∷ []))
 
 unfoldable pub cmp_s_imm_texts : List Pattern
-cmp_s_imm_texts = let imm5 = 20 to 16 in rows cmp_s_imm 0 0 (codes "cmpge" ∷ codes "cmpgt" ∷ codes "cmplt" ∷ codes "cmple" ∷ codes "cmpeq" ∷ codes "cmpne" ∷ [])
+cmp_s_imm_texts =
+    let imm5 = 20 to 16 in
+    rows cmp_s_imm 0 0 (codes "cmpge" ∷ codes "cmpgt" ∷ codes "cmplt" ∷ codes "cmple" ∷ codes "cmpeq" ∷ codes "cmpne"
+    ∷ [])
     (separated (p_at pd ∷ p_zeroing pg ∷ z_at zn ∷ signed_at imm5 ∷ []))
 
 -- rows whose name has an s behind it where S, bit 22, is 1
@@ -45,11 +53,15 @@ sets_flags names = ended (codes "s") names
 
 unfoldable pub logic_p_texts : List Pattern
 logic_p_texts =
-    rows logic_p 0 0 logic_names (separated (register Pb pd ∷ p_zeroing pg_13_10 ∷ register Pb pn ∷ register Pb pm ∷ []))
-    ++ rows logic_p 0 (put_at 22 1) (sets_flags logic_names) (separated (register Pb pd ∷ p_zeroing pg_13_10 ∷ register Pb pn ∷ register Pb pm ∷ []))
+    rows logic_p 0 0 logic_names
+    (separated (register Pb pd ∷ p_zeroing pg_13_10 ∷ register Pb pn ∷ register Pb pm ∷ []))
+    ++ rows logic_p 0 (put_at 22 1) (sets_flags logic_names)
+    (separated (register Pb pd ∷ p_zeroing pg_13_10 ∷ register Pb pn ∷ register Pb pm ∷ []))
 
 unfoldable pub select_p_texts : List Pattern
-select_p_texts = row select_p 0 0 (codes "sel") (separated (register Pb pd ∷ register P pg_13_10 ∷ register Pb pn ∷ register Pb pm ∷ [])) ∷ []
+select_p_texts =
+    row select_p 0 0 (codes "sel")
+    (separated (register Pb pd ∷ register P pg_13_10 ∷ register Pb pn ∷ register Pb pm ∷ [])) ∷ []
 
 abbrev pub break_names : List (List ℕ)
 break_names = codes "brka" ∷ codes "brkb" ∷ []
@@ -65,8 +77,10 @@ break_pair_names = codes "brkpa" ∷ codes "brkpb" ∷ []
 
 unfoldable pub break_pair_texts : List Pattern
 break_pair_texts =
-    rows break_pair 0 0 break_pair_names (separated (register Pb pd ∷ p_zeroing pg_13_10 ∷ register Pb pn ∷ register Pb pm ∷ []))
-    ++ rows break_pair 0 (put_at 22 1) (sets_flags break_pair_names) (separated (register Pb pd ∷ p_zeroing pg_13_10 ∷ register Pb pn ∷ register Pb pm ∷ []))
+    rows break_pair 0 0 break_pair_names
+    (separated (register Pb pd ∷ p_zeroing pg_13_10 ∷ register Pb pn ∷ register Pb pm ∷ []))
+    ++ rows break_pair 0 (put_at 22 1) (sets_flags break_pair_names)
+    (separated (register Pb pd ∷ p_zeroing pg_13_10 ∷ register Pb pn ∷ register Pb pm ∷ []))
 
 unfoldable pub break_next_texts : List Pattern
 break_next_texts =
@@ -78,10 +92,14 @@ unfoldable pub ptest_texts : List Pattern
 ptest_texts = row ptest 0 0 (codes "ptest") (separated (register P pg_13_10 ∷ register Pb pn ∷ [])) ∷ []
 
 unfoldable pub first_texts : List Pattern
-first_texts = let pg_8_5 = 8 to 5 in let pdn = 3 to 0 in row first_active 0 0 (codes "pfirst") (separated (register Pb pdn ∷ register P pg_8_5 ∷ register Pb pdn ∷ [])) ∷ []
+first_texts =
+    let pg_8_5 = 8 to 5 in let pdn = 3 to 0 in
+    row first_active 0 0 (codes "pfirst") (separated (register Pb pdn ∷ register P pg_8_5 ∷ register Pb pdn ∷ [])) ∷ []
 
 unfoldable pub next_texts : List Pattern
-next_texts = let pg_8_5 = 8 to 5 in let pdn = 3 to 0 in row next_active 0 0 (codes "pnext") (separated (p_at pdn ∷ register P pg_8_5 ∷ p_at pdn ∷ [])) ∷ []
+next_texts =
+    let pg_8_5 = 8 to 5 in let pdn = 3 to 0 in
+    row next_active 0 0 (codes "pnext") (separated (p_at pdn ∷ register P pg_8_5 ∷ p_at pdn ∷ [])) ∷ []
 
 abbrev pub ptrue_names : List (List ℕ)
 ptrue_names = codes "ptrue" ∷ codes "ptrues" ∷ []
@@ -95,7 +113,9 @@ unfoldable pub pfalse_texts : List Pattern
 pfalse_texts = row pfalse 0 0 (codes "pfalse") (register Pb pd) ∷ []
 
 unfoldable pub read_ffr_texts : List Pattern
-read_ffr_texts = let pg_8_5 = 8 to 5 in rows read_ffr 0 0 (codes "rdffr" ∷ codes "rdffrs" ∷ []) (separated (register Pb pd ∷ p_zeroing pg_8_5 ∷ []))
+read_ffr_texts =
+    let pg_8_5 = 8 to 5 in
+    rows read_ffr 0 0 (codes "rdffr" ∷ codes "rdffrs" ∷ []) (separated (register Pb pd ∷ p_zeroing pg_8_5 ∷ []))
 
 unfoldable pub read_ffr_all_texts : List Pattern
 read_ffr_all_texts = row read_ffr_all 0 0 (codes "rdffr") (register Pb pd) ∷ []
@@ -124,4 +144,6 @@ while_texts = rows while_compare 0 0 (codes "whilelt" ∷ codes "whilele" ∷ co
     (let sf = 12 to 12 in separated (p_at pd ∷ r_by sf rn ∷ r_by sf rm ∷ []))
 
 unfoldable pub cterm_texts : List Pattern
-cterm_texts = rows cterm 0 0 (codes "ctermeq" ∷ codes "ctermne" ∷ []) (let sf = 22 to 22 in separated (r_by sf rn ∷ r_by sf rm ∷ []))
+cterm_texts =
+    rows cterm 0 0 (codes "ctermeq" ∷ codes "ctermne" ∷ [])
+    (let sf = 22 to 22 in separated (r_by sf rn ∷ r_by sf rm ∷ []))

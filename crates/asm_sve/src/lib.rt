@@ -48,8 +48,9 @@ ghost use Rattle.emu_bits.specs.RowLaws.{IsRow};
 ghost use Rattle.sve_insn.specs.declared.form.SveForm.{SveForm};
 ghost use Rattle.sve_insn.specs.Rows.{row_of};
 ghost use Rattle.text_code.specs.Tables.{lines_of, patterns_of};
+ghost use Rattle.text_model.specs.Inverse.{AllTell};
 ghost use Rattle.asm_sve.specs.Law.{in_table, is_canonical_form, IsReadBack, TextsOfLines};
-ghost use Rattle.asm_sve.specs.Table.{data_texts, memory_texts, move_texts, predicate_texts, sve_lines};
+ghost use Rattle.asm_sve.specs.Table.{data_texts, memory_texts, move_texts, predicate_texts, sve_lines, sve_patterns};
 
 use sve_insn::lines;
 use sve_rows::decode_sve;
@@ -231,6 +232,11 @@ impl Table for SveTexts {
 /// A word's form has the patterns of the line that holds the word.
 pub fn texts_of_lines()
     ensures { TextsOfLines }
+{}
+
+/// Reading is the inverse of showing: the items that a pattern shows of a word tell the word.
+pub fn items_tell_their_words()
+    ensures { AllTell sve_patterns }
 {}
 
 /// The text of each instruction, but for a bitmask whose rotation isn't the least, is read as the instruction.

@@ -14,7 +14,9 @@ reach_told (Some r) = Some (reach_as r)
 
 -- the code can compute with it
 abbrev pub is_sound_reach : Reach → Bool
-is_sound_reach r = are_parts r.parts && (nat_le (bits_in (places r.parts)) 32 && ((nat_lt 0 r.by && nat_lt 0 r.page) && nat_lt 0 (bits_in (places r.parts))))
+is_sound_reach r =
+    are_parts r.parts && (nat_le (bits_in (places r.parts)) 32
+    && ((nat_lt 0 r.by && nat_lt 0 r.page) && nat_lt 0 (bits_in (places r.parts))))
 
 abbrev pub are_sound_reaches : Option Reach → Bool
 are_sound_reaches None = true

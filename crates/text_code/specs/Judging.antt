@@ -1,4 +1,4 @@
--- What a pattern makes of items before the table is asked of the word.
+-- What a pattern makes of items before the table is asked of the word. This is this project's own.
 use Rattle.std.specs.Prelude.{ℕ, ◌==◌, ◌&&◌, Bool, true, false, if◌then◌else◌, Result, Ok, Err, List, [], ◌∷◌}
 use Rattle.text_model.specs.declared.slots.Slot.{Slot}
 use Rattle.text_model.specs.declared.slots.Item.{Item}

@@ -1,4 +1,4 @@
--- Where the last token of a statement stands, and a number as an item's value.
+-- Where the last token of a statement stands, and a number as an item's value. This is this project's own.
 use Rattle.std.specs.Prelude.{◌≡◌, ℕ, ◌+◌, ◌*◌, ◌≤◌, ◌&&◌, ◌||◌, if◌then◌else◌, Bool, true, Some, List, slice_range, ℤ, pos, negsuc}
 use Rattle.std.specs.Str.{IsCharBoundary}
 use Rattle.asm_tokens.specs.Tokens.{tokens}

@@ -1,4 +1,5 @@
--- A table of patterns as the code reads by it: those of a name, and what they make of a statement.
+-- A table of patterns as the code reads by it: those of a name, and what they make of a statement. This is this
+-- project's own.
 use Rattle.std.specs.Prelude.{ℕ, ◌/◌, ◌%◌, ◌^◌, ◌≤◌, ◌&&◌, Bool, true, if◌then◌else◌, Option, Some, None, Result, Ok, Err, List, [], ◌∷◌, get_or, length, nat_lt, slice_range}
 use Rattle.std.specs.Str.{IsCharBoundary}
 use Rattle.text_model.specs.declared.slots.Item.{Item}
@@ -32,7 +33,8 @@ at_spots pss (s ∷ ss) = at_spot pss s ∷ at_spots pss ss
 -- spots that there are
 abbrev pub are_spots : List (List Pattern) → List Spot → Bool
 are_spots pss [] = true
-are_spots pss (s ∷ ss) = (nat_lt s.line (length pss) && nat_lt s.place (length (get_or pss s.line []))) && are_spots pss ss
+are_spots pss (s ∷ ss) =
+    (nat_lt s.line (length pss) && nat_lt s.place (length (get_or pss s.line []))) && are_spots pss ss
 
 -- patterns with which the code can compute
 abbrev pub all_sound : List Pattern → Bool

@@ -38,7 +38,8 @@ is_sound_kind (LeftShift w) n = w == 32 || w == 64
 is_sound_kind k n = true
 
 abbrev pub is_sound_codec : Codec → Bool
-is_sound_codec c = are_parts c.parts && (nat_le (bits_in (places c.parts)) 32 && is_sound_kind c.kind (bits_in (places c.parts)))
+is_sound_codec c =
+    are_parts c.parts && (nat_le (bits_in (places c.parts)) 32 && is_sound_kind c.kind (bits_in (places c.parts)))
 
 -- a negative number read in hexadecimal is raised by a power of two of this many bits
 abbrev pub is_sound_style : Style → Bool

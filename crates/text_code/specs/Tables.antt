@@ -12,7 +12,8 @@ use Rattle.text_model.specs.Words as words
 
 abbrev pub families_of : List Family → List words.Family
 families_of [] = []
-families_of (f ∷ fs) = record { letter = f.letter; suffix = f.suffix.now; class = f.class; count = f.count } ∷ families_of fs
+families_of (f ∷ fs) =
+    record { letter = f.letter; suffix = f.suffix.now; class = f.class; count = f.count } ∷ families_of fs
 
 abbrev pub words_of : List Word → List words.Word
 words_of [] = []

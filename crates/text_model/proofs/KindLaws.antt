@@ -1,16 +1,17 @@
 -- What a slot shows of a number tells the number, one equation a kind.
-use Rattle.std.proofs.Common.{◌≡◌, ℕ, ◌+◌, ◌-◌, ◌*◌, ◌/◌, ◌%◌, ◌^◌, ◌<◌, ◌==◌, ◌||◌, if◌then◌else◌, Bool, true, not, nat_lt, refl, sym, ap, ◌∙◌, subst, arith, inl, inr}
+use Rattle.std.proofs.Common.{◌≡◌, ℕ, ◌+◌, ◌-◌, ◌*◌, ◌/◌, ◌%◌, ◌^◌, ◌<◌, ◌==◌, ◌||◌, if◌then◌else◌, Bool, true, nat_lt, refl, sym, ap, ◌∙◌, subst, arith, inl, inr}
 use Rattle.std.proofs.lemmas.Bool.{cases_Bool, and_parts, or_cases, eqb-true, false≢true, ltb-true}
 use Rattle.std.proofs.Math.Nat.{mul-div_cancel}
-use Rattle.std.specs.Prelude.{unwrap_or}
+use Rattle.std.specs.Prelude.{false, Option, Some, None, is_some, unwrap_or}
 use Rattle.emu_bits.specs.Bitmask.{bitmask_of}
 use Rattle.emu_bits.proofs.AllBelow.{all_below, each_below}
 use Rattle.text_model.specs.declared.slots.Kind.{Kind}
 use Rattle.text_model.specs.declared.slots.Kind.TheVariants.{Fixed, Plain, Stack, After, NamedCount, UnnamedCount, Scaled, Falling, Signed, Target, Bitmask, Spread, LeftShift, Inverted}
-use Rattle.text_model.specs.Masks.{bitmask_at}
+use Rattle.text_model.specs.Masks.{bitmask_at, bitmask_fields}
 use Rattle.text_model.specs.Slots.{shown, is_low, inverse, spread}
 use Rattle.text_model.specs.Told.{told, gathered}
-use Rattle.text_model.specs.Reading.{is_canonical}
+use Rattle.text_model.specs.Reading.{element_size, is_canonical}
+use Rattle.text_model.proofs.MaskLaws.{mask_told}
 use Rattle.text_model.proofs.Tests.{is_good_kind}
 
 -- The bits of a target are 0.
@@ -57,31 +58,20 @@ inverse_told v h = eqb-true _ _ (each_below 16 (λ x. inverse (inverse x) == x) 
 spread_told : (v : ℕ) → v < 256 → gathered 8 (2 * spread 8 v / 2) ≡ v
 spread_told v h = eqb-true _ _ (each_below 256 (λ x. gathered 8 (2 * spread 8 x / 2) == x) v refl h)
 
--- ---- bitmasks, tried one by one
+-- ---- bitmasks
 
-is_told_again : ℕ → ℕ → Bool
-is_told_again w v = not (is_canonical (Bitmask w) v) || told (Bitmask w) 13 (shown (Bitmask w) 13 v) == v
+given : (o : Option ℕ) → is_some o ≡ true → o ≡ Some (unwrap_or o 0)
+given None h = absurd (false≢true h)
+given (Some x) h = refl
 
-short_masks : all_below 8192 (is_told_again 32) ≡ true
-unfolding bitmask_of is_told_again
-short_masks = refl
-
-long_masks : all_below 8192 (is_told_again 64) ≡ true
-unfolding bitmask_of is_told_again
-long_masks = refl
-
-mask_told : (w v : ℕ) → all_below 8192 (is_told_again w) ≡ true → v < 8192 → is_canonical (Bitmask w) v ≡ true → told (Bitmask w) 13 (shown (Bitmask w) 13 v) ≡ v
-unfolding is_told_again
-mask_told w v a h c = elim (or_cases (not (is_canonical (Bitmask w) v)) (told (Bitmask w) 13 (shown (Bitmask w) 13 v) == v) (each_below 8192 (is_told_again w) v a h)) [
-  | inl e ↦ absurd (false≢true (sym (ap not c) ∙ e))
-  | inr e ↦ eqb-true _ _ e
-]
+half_of : (m : ℕ) → 2 * m / 2 ≡ m
+half_of m = omega arith
 
 masks_told : (w v : ℕ) → (w == 64 || w == 32) ≡ true → v < 8192 → is_canonical (Bitmask w) v ≡ true → told (Bitmask w) 13 (shown (Bitmask w) 13 v) ≡ v
-masks_told w v g h c = elim (or_cases (w == 64) (w == 32) g) [
-  | inl e ↦ mask_told w v (ap (λ (x : ℕ). all_below 8192 (is_told_again x)) (eqb-true w 64 e) ∙ long_masks) h c
-  | inr e ↦ mask_told w v (ap (λ (x : ℕ). all_below 8192 (is_told_again x)) (eqb-true w 32 e) ∙ short_masks) h c
-]
+masks_told w v g h c =
+    let m : ℕ = unwrap_or (bitmask_at w v) 0 in
+    ap (bitmask_fields w) (half_of m)
+    ∙ mask_told w v m g h (given (bitmask_at w v) (and_parts (is_some (bitmask_at w v)) (nat_lt (v / 64 % 64) (element_size v)) c).0) c
 
 -- ---- all kinds
 

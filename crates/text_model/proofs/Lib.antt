@@ -2,12 +2,14 @@ pub mod Building
 pub mod Numerals
 pub mod Spelling
 pub mod Tests
+pub mod MaskLaws
 pub mod KindLaws
 pub mod Own
 pub mod Unlike
 pub mod Again
 pub mod Written
 pub mod Printed
+pub mod Inverse
 pub mod Texts
 pub mod Aiming
 pub mod Totals

@@ -172,7 +172,7 @@ pub record IsShown (in_table : ℕ → Bool) (p : Pattern) (w : ℕ) : Type 0 wh
   pub unaimed : all_unaimed p.slots w ≡ true
   pub held : in_table w ≡ true
 
-told_again : (p : Pattern) (w : ℕ) (in_table : ℕ → Bool) → is_readable p ≡ true → IsShown in_table p w → word_told p (items_in p.slots w) ≡ w
+pub told_again : (p : Pattern) (w : ℕ) (in_table : ℕ → Bool) → is_readable p ≡ true → IsShown in_table p w → word_told p (items_in p.slots w) ≡ w
 told_again p w in_table r h =
     let m : ℕ = told_bits p.slots in
     let r1 = and_parts (are_good p.slots) _ r in

@@ -1,4 +1,6 @@
--- Targets: the address that a word's text shows, and a word whose text shows an address.
+-- Targets: the address that a word's text shows, and a word whose text shows an address. The address is that of the
+-- entries of the Arm Architecture Reference Manual for A-profile (DDI 0487), C6, with a label: `PC + offset`, and for
+-- ADRP the same of 4 KiB pages.
 use Rattle.std.specs.Prelude.{ℕ, ◌+◌, ◌-◌, ◌/◌, ◌%◌, ◌^◌, ◌==◌, if◌then◌else◌, Option, Some, None, List, [], ◌∷◌}
 use Rattle.emu_bits.specs.Rows.{Place}
 use Rattle.text_model.specs.declared.slots.Kind.{Kind}
@@ -8,8 +10,8 @@ use Rattle.text_model.specs.Slots.{places, bits_in, address}
 use Rattle.text_model.specs.Told.{parted, put_all}
 use Rattle.text_model.specs.Text.{ones_of}
 
--- how a target is shown: the address `by` times the signed number at places, behind the instruction's address, which is rounded
--- down to a multiple of `page`
+-- how a target is shown: the address `by` times the signed number at places, behind the instruction's address, which is
+-- rounded down to a multiple of `page`
 pub record Reach : Type 0 where
   pub by : ℕ
   pub page : ℕ
@@ -35,7 +37,8 @@ number_to r pc t = (t + (2 ^ 64 - (pc - pc % r.page))) % 2 ^ 64 / r.by % 2 ^ bit
 abbrev pub aimed_by : Reach → ℕ → ℕ → ℕ → Option ℕ
 aimed_by r w pc t =
     let v = number_to r pc t in
-    if address r.by r.page (bits_in r.parts) v pc == t then Some (put_all (record { mask = 0; word = w }) (parted r.parts v)).word else None
+    if address r.by r.page (bits_in r.parts) v pc == t
+    then Some (put_all (record { mask = 0; word = w }) (parted r.parts v)).word else None
 
 -- A word of which the bits of its target are 0, aimed at an address; none where its field can't reach it.
 abbrev pub aimed : Option Reach → ℕ → ℕ → ℕ → Option ℕ

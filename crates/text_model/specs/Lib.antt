@@ -9,4 +9,5 @@ pub mod Text
 pub mod Statement
 pub mod Aim
 pub mod ReadBack
+pub mod Inverse
 pub mod Lists

@@ -1,4 +1,11 @@
--- What the patterns of a table make of a statement's items: a word, or why there is none.
+-- What a statement is read as. Reading is the inverse of showing: a statement is read as a word whose text by a pattern
+-- of its name is the statement, where parts that may be left out may be. The word is found by the bits that each item
+-- tells (Told.antt), and tested by showing it again; no word is missed so, since the items that a pattern shows of a
+-- word tell it (Inverse.antt). It is refused as an unknown name where no pattern has the name; as bad operands where
+-- the word's items are of other classes; and as out of range where they have other values, a bitmask or a condition
+-- isn't written so, or the word isn't in the table. That instructions are texts of slots is this project's own; the
+-- texts are the assembler syntax of the entries of the Arm Architecture Reference Manual for A-profile (DDI 0487), C6
+-- to C8.
 use Rattle.std.specs.Prelude.{ℕ, ◌-◌, ◌*◌, ◌/◌, ◌%◌, ◌^◌, ◌==◌, ◌&&◌, ◌||◌, Bool, true, false, not, if◌then◌else◌, Result, Ok, Err, List, [], ◌∷◌, ◌++◌, nat_lt, nat_le, unwrap_or, is_some}
 use Rattle.std.specs.Str.{bytes_eq}
 use Rattle.emu_bits.specs.Bitmask.{element_log}
@@ -43,7 +50,8 @@ value_left_out (Inside v) = v
 
 -- A negative hexadecimal stands for itself plus 2^w, where it isn't below -2^(w-1).
 abbrev pub raised : Style → Item → Item
-raised (Hexadecimal w) i = if i.value % 2 == 1 && nat_le (i.value / 2) (2 ^ (w - 1)) then record i { value = 2 * (2 ^ w - i.value / 2) } else i
+raised (Hexadecimal w) i =
+    if i.value % 2 == 1 && nat_le (i.value / 2) (2 ^ (w - 1)) then record i { value = 2 * (2 ^ w - i.value / 2) } else i
 raised s i = i
 
 -- the item of a slot, if there is one
@@ -83,8 +91,8 @@ same_name s t = bytes_eq s t
 abbrev pub element_size : ℕ → ℕ
 element_size v = 2 ^ unwrap_or (element_log (v / 4096) (v % 64)) 0
 
--- The fields of a bitmask give one, and their rotation is below the element's size; and a condition that is inverted isn't one that always
--- holds.
+-- The fields of a bitmask give one, and their rotation is below the element's size; and a condition that is inverted
+-- isn't one that always holds.
 abbrev pub is_canonical : Kind → ℕ → Bool
 is_canonical (Bitmask w) v = is_some (bitmask_at w v) && nat_lt (v / 64 % 64) (element_size v)
 is_canonical Inverted v = nat_lt v 14
@@ -115,10 +123,12 @@ has_target (s ∷ ss) = is_target s.codec.kind || has_target ss
 abbrev pub judged : (ℕ → Bool) → Pattern → List Item → ℕ → Result Read Refusal
 judged in_table p is w =
     if same_classes (items_in p.slots w) is
-    then (if same_values (items_in p.slots w) is && (all_fit p.slots w && (all_canonical p.slots w && in_table w)) then Ok (record { word = w; aimed = has_target p.slots }) else Err OutOfRange)
+    then (if same_values (items_in p.slots w) is && (all_fit p.slots w && (all_canonical p.slots w && in_table w))
+    then Ok (record { word = w; aimed = has_target p.slots }) else Err OutOfRange)
     else Err BadOperands
 
--- The items of a statement; and the same with 0 in place of the last one where it may be a target, an address or a label.
+-- The items of a statement; and the same with 0 in place of the last one where it may be a target, an address or a
+-- label.
 pub record Operands : Type 0 where
   pub items : List Item
   pub untargeted : List Item
@@ -129,7 +139,8 @@ items_to_read p o = filled false p.slots (if has_target p.slots then o.untargete
 -- what a pattern makes of a statement
 abbrev pub answer : (ℕ → Bool) → Pattern → List ℕ → Operands → Result Read Refusal
 answer in_table p name o =
-    if same_name name p.name then (let is = items_to_read p o in judged in_table p is (word_told p is)) else Err UnknownName
+    if same_name name p.name then (let is = items_to_read p o in judged in_table p is (word_told p is))
+    else Err UnknownName
 
 -- ---- all patterns
 

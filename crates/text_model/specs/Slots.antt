@@ -1,4 +1,6 @@
--- What a slot shows of a word: an item, which is a class and a value.
+-- What a slot shows of a word: an item, which is a class and a value. The kinds are those of the tables 'Assembler
+-- Symbols' of the entries of the Arm Architecture Reference Manual for A-profile (DDI 0487), C6 to C8, each said by the
+-- bits of its fields; that a text is a row of slots is this project's own.
 use Rattle.std.specs.Prelude.{ℕ, zero, suc, ◌+◌, ◌-◌, ◌*◌, ◌/◌, ◌%◌, ◌^◌, ◌==◌, ◌&&◌, ◌||◌, Bool, true, if◌then◌else◌, List, [], ◌∷◌, length, get_or, nat_lt, nat_le, unwrap_or}
 use Rattle.emu_bits.specs.Fields.{field}
 use Rattle.emu_bits.specs.Rows.{Place, ◌to◌, width}

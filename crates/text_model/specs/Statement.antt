@@ -1,4 +1,5 @@
--- A statement's tokens as items, and what a table's patterns make of them.
+-- A statement's tokens as items, and what a table's patterns make of them. What a label is, and that a target is the
+-- last item, is this project's own.
 use Rattle.std.specs.Prelude.{ℕ, zero, suc, ◌+◌, ◌-◌, ◌*◌, ◌/◌, ◌%◌, ◌^◌, ◌==◌, ◌&&◌, ◌||◌, Bool, false, not, if◌then◌else◌, Option, Some, None, Result, Ok, Err, List, [], ◌∷◌, nat_lt, min, map}
 use Rattle.std.specs.Char.{is_ascii_digit, to_ascii_lowercase}
 use Rattle.std.specs.List.{list_all}

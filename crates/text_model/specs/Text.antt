@@ -1,4 +1,5 @@
--- The text of an instruction: its pattern's name and the tokens of its slots, laid out.
+-- The text of an instruction: its pattern's name and the tokens of its slots, laid out. Which of the ways of writing
+-- that the Arm manual allows is printed is this project's own.
 use Rattle.std.specs.Prelude.{ℕ, ◌-◌, ◌/◌, ◌%◌, ◌^◌, ◌==◌, ◌&&◌, Bool, false, if◌then◌else◌, Option, Some, None, List, [], ◌∷◌, ◌++◌, bit_and, bit_or}
 use Rattle.std.specs.Fmt.{digits}
 use Rattle.emu_bits.specs.Rows.{Place, ones_at}
@@ -28,7 +29,8 @@ hexadecimal n = 48 ∷ 120 ∷ digits 16 false n
 -- the tokens of an item: of a number its digits, with the signs that its style gives it
 abbrev pub item_tokens : Style → Item → List (List ℕ)
 item_tokens style.Word i = spelled i.class i.value ∷ []
-item_tokens style.Counted i = (hash ∷ []) ∷ (if i.value % 2 == 0 then decimal (i.value / 2) ∷ [] else (minus ∷ []) ∷ decimal (i.value / 2) ∷ [])
+item_tokens style.Counted i =
+    (hash ∷ []) ∷ (if i.value % 2 == 0 then decimal (i.value / 2) ∷ [] else (minus ∷ []) ∷ decimal (i.value / 2) ∷ [])
 item_tokens style.Bare i = decimal (i.value / 2) ∷ []
 item_tokens (style.Hexadecimal w) i = (hash ∷ []) ∷ hexadecimal (i.value / 2) ∷ []
 item_tokens style.Address i = hexadecimal (i.value / 2) ∷ []
@@ -39,7 +41,9 @@ printed (Target n g) b v pc = number (address n g b v pc)
 printed k b v pc = shown k b v
 
 abbrev pub printed_item : Slot → ℕ → ℕ → Item
-printed_item s w pc = record { class = class_in s.shape w; value = printed s.codec.kind (bits_in (places s.codec.parts)) (joined (places s.codec.parts) w) pc }
+printed_item s w pc =
+    let ps = places s.codec.parts in
+    record { class = class_in s.shape w; value = printed s.codec.kind (bits_in ps) (joined ps w) pc }
 
 abbrev pub slot_tokens : List Slot → ℕ → ℕ → List (List ℕ)
 slot_tokens [] w pc = []

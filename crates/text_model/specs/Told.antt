@@ -1,5 +1,5 @@
--- What an item tells of the bits of a word: those that a slot shows as this item, where there are such. That they are so is tested by
--- showing them again.
+-- What an item tells of the bits of a word: those that a slot shows as this item, where there are such. That they are
+-- so is tested by showing them again (Reading.antt). This is this project's own.
 use Rattle.std.specs.Prelude.{ℕ, zero, suc, ◌+◌, ◌-◌, ◌*◌, ◌/◌, ◌%◌, ◌^◌, ◌==◌, if◌then◌else◌, List, [], ◌∷◌, ◌++◌, bit_and, bit_or}
 use Rattle.emu_bits.specs.Rows.{Place, width, ones_at}
 use Rattle.text_model.specs.declared.classes.Class.{Class}
@@ -72,7 +72,10 @@ pub record Built : Type 0 where
 -- What a place has is put in, unless it has been told before.
 abbrev pub put : Built → Binding → Built
 put a b = if bit_and a.mask (ones_at b.place) == 0
-    then record { mask = bit_or a.mask (ones_at b.place); word = bit_or a.word (b.value % 2 ^ width b.place * 2 ^ b.place.low) }
+    then record {
+      mask = bit_or a.mask (ones_at b.place);
+      word = bit_or a.word (b.value % 2 ^ width b.place * 2 ^ b.place.low);
+    }
     else a
 
 abbrev pub put_all : Built → List Binding → Built

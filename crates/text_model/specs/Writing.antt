@@ -1,4 +1,4 @@
--- Words for writing the patterns of a table.
+-- Words for writing the patterns of a table. They are this project's own.
 use Rattle.std.specs.Prelude.{ℕ, ◌+◌, ◌*◌, ◌^◌, List, [], ◌∷◌, ◌++◌, get_or, bit_or}
 use Rattle.emu_bits.specs.Rows.{Line}
 use Rattle.text_model.specs.declared.classes.Class.{Class}

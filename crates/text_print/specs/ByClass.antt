@@ -29,7 +29,8 @@ family_at r = option_map as_family (option_map (λ f. f.now) r)
 -- the word of a class and a value, where the class has the registers of this family
 abbrev pub spelled_by : Option Family → Class → ℕ → List ℕ
 spelled_by None c v = spelled_word dictionary c v
-spelled_by (Some f) c v = if nat_lt v f.count then f.letter ∷ (two_digits v ++ f.suffix) else spelled_word dictionary c v
+spelled_by (Some f) c v =
+    if nat_lt v f.count then f.letter ∷ (two_digits v ++ f.suffix) else spelled_word dictionary c v
 
 abbrev pub is_short_register : Option Family → Bool
 is_short_register None = true

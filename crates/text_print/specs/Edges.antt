@@ -6,7 +6,13 @@ use Rattle.text_print.specs.declared.edges.Edge.{Edge}
 
 -- what a token is, as far as the spaces beside it go
 abbrev pub edge_of : List ℕ → Edge
-edge_of t = record { comma = is_sign comma t; slash = is_sign slash t; word = begins_word t; opens = is_sign hash t || is_sign open_brace t }
+edge_of t =
+    record {
+      comma = is_sign comma t;
+      slash = is_sign slash t;
+      word = begins_word t;
+      opens = is_sign hash t || is_sign open_brace t;
+    }
 
 -- a space stands between two tokens
 abbrev pub has_gap : Edge → Edge → Bool

@@ -1,4 +1,4 @@
--- The most bytes that a pattern's text takes.
+-- The most bytes that a pattern's text takes. This is this project's own.
 use Rattle.std.specs.Prelude.{ℕ, ◌+◌, ◌-◌, ◌*◌, ◌/◌, ◌^◌, ◌&&◌, ◌||◌, Bool, true, false, if◌then◌else◌, List, [], ◌∷◌, length, max, nat_lt, nat_le}
 use Rattle.text_model.specs.declared.classes.Class.{Class}
 use Rattle.text_model.specs.declared.slots.Shape.{Shape}
@@ -66,8 +66,8 @@ abbrev pub room_of : List (List ℕ) → ℕ
 room_of [] = 0
 room_of (t ∷ ts) = 1 + length t + room_of ts
 
--- The most that those of a slot take: a number has up to 20 digits in decimal, up to 16 in hexadecimal behind `0x`; `#` and `-` have one
--- character each.
+-- The most that those of a slot take: a number has up to 20 digits in decimal, up to 16 in hexadecimal behind `0x`; `#`
+-- and `-` have one character each.
 abbrev pub styled_room : Style → Shape → ℕ
 styled_room style.Word k = 1 + longest_shown k
 styled_room style.Counted k = 2 + 2 + 21
