@@ -9,7 +9,7 @@ use Rattle.emu_system.specs.Start.{with_input}
 use Rattle.emu_run.specs.Step.{accesses, step}
 use Rattle.emu_run.specs.Run.{goes_on, run}
 use Rattle.emu_run.specs.RunLaws.{Moves, moves_not}
-use Rattle.emu_machine.specs.Ends.{Becomes}
+use Rattle.emu_machine.specs.Ends.{Becomes, Puts}
 use Rattle.dbg_model.specs.declared.script.Stop.{Stop}
 use Rattle.dbg_model.specs.Session.{Marks, no_marks, is_touched, mark_met, watch_met, stop_line, stopped_or, go}
 use Rattle.dbg_model.specs.SessionEquations.{go-zero}
@@ -86,6 +86,9 @@ module _ (marks : Marks) (budget : ℕ) (old p q : Parts) (told left_p left_q ho
   pub whole_spent : budget ≤ p.steps → Becomes (go_at marks budget) old p told left_p false
   whole_spent spent = (go_spent (with_all (ending_text p) hp) (Ok tt) spent (all_put (ending_text p) hp)).state
 
+  pub spent_errors : budget ≤ p.steps → Puts (λ st. (go_at marks budget st).errors) old told eo ep false
+  spent_errors spent = (go_spent (with_all (ending_text p) hp) (Ok tt) spent (all_put (ending_text p) hp)).errors
+
   module _ (going : is_none p.ended ≡ true) (below : p.steps < budget) where
     -- the step counted, and no mark is met
     pub go_goes : q.steps ≡ p.steps + 1 → mark_met marks (accesses p) q ≡ None → Comes step p q left_p left_q hp hq ep eq false
@@ -121,6 +124,13 @@ module _ (marks : Marks) (budget : ℕ) (old p q : Parts) (told left_p left_q ho
 
     pub whole_ends : is_none q.ended ≡ false → Comes step p q left_p left_q hp hq ep eq false → Becomes (go_at marks budget) old q told left_q false
     whole_ends over c = (go_ends (with_all (ending_text q) hq) (Ok tt) over c (all_put (ending_text q) hq)).state
+
+    -- and the errors have what `go` puts there
+    pub stops_errors : (stop : Stop) → mark_met marks (accesses p) q ≡ Some stop → Comes step p q left_p left_q hp hq ep eq false → Puts (λ st. (go_at marks budget st).errors) old told eo eq false
+    stops_errors stop met c = (go_stops stop (with_all (stop_line stop q) hq) (Ok tt) met c (all_put (stop_line stop q) hq)).errors
+
+    pub ends_errors : is_none q.ended ≡ false → Comes step p q left_p left_q hp hq ep eq false → Puts (λ st. (go_at marks budget st).errors) old told eo eq false
+    ends_errors over c = (go_ends (with_all (ending_text q) hq) (Ok tt) over c (all_put (ending_text q) hq)).errors
 
     -- the step wasn't done
     pub go_breaks : (end : SessionEnd) → (end ≡ Done → ⊥) → Comes step p q left_p left_q hp hq ep eq true → Obeys (go_at marks budget) old q told left_q ho hq eo eq end

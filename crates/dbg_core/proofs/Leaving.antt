@@ -26,7 +26,7 @@ never X b fine broken = let e : true ≡ false = sym broken ∙ fine in cc
 -- ---- steps up to the end
 
 -- one step more, of a machine that goes on
-one_more : (st : State) (k : ℕ) → goes_on (until_end st k) ≡ true → until_end st (suc k) ≡ step (until_end st k)
+pub one_more : (st : State) (k : ℕ) → goes_on (until_end st k) ≡ true → until_end st (suc k) ≡ step (until_end st k)
 one_more st zero going =
     until_end_one st 0 (ap goes_on (sym (until_end_none st)) ∙ going) ∙ until_end_none (step st) ∙ ap step (sym (until_end_none st))
 one_more st (suc k) going =

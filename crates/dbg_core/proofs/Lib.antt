@@ -4,5 +4,6 @@ pub mod Scripts
 pub mod Sessions
 pub mod Standing
 pub mod Obeying
+pub mod Putting
 pub mod ScriptLines
 pub mod Within

@@ -5,12 +5,11 @@ use Rattle.dbg_model.specs.declared.script.Command.{Command}
 use Rattle.dbg_model.specs.declared.script.ScriptFault.{ScriptFault}
 use Rattle.dbg_model.specs.declared.script.ScriptWhy.{ScriptWhy}
 use Rattle.dbg_model.specs.declared.script.ScriptWhy.TheVariants.{TooMany, TooManyLines}
-use Rattle.line_words.specs.Lines.{lines, words, is_skipped}
+use Rattle.line_words.specs.Lines.{lines, words}
 use Rattle.line_words.specs.Refusals.{and_then}
-use Rattle.dbg_model.specs.Script.{at_line, command_of, followed, is_full, read_line, read_lines, refused, script}
+use Rattle.dbg_model.specs.Script.{at_line, command_of, followed, is_full, is_skipped, read_line, read_lines, refused, script}
 use Rattle.dbg_core.specs.declared.script_reader.ScriptError.{ScriptError}
 use Rattle.dbg_core.specs.declared.script_reader.ScriptError.TheVariants.{Refused, OutOfMemory}
-use Rattle.dbg_core.specs.ScriptReading.{IsErrorOf}
 
 -- a line that is a command
 pub line_reads : (commands : List Command) (line : List ℕ) (found : List (List ℕ)) (command : Command) (b : Bool) → found ≡ words line → is_skipped line ≡ false → command_of found ≡ Ok command → is_full commands command ≡ b

@@ -51,7 +51,7 @@ ends_behind o e st k =
     let same : (st.parts.steps + k) - st.parts.steps ≡ k = omega arith in
     subst (λ (n : ℕ). until_end (behind o e st) n ≡ behind o e (until_end st n)) same (run_behind o e st (st.parts.steps + k))
 
-seen_ends : (s : State) (k : ℕ) → until_end s k ≡ behind s.output s.errors (until_end (with_input s.parts s.input) k)
+pub seen_ends : (s : State) (k : ℕ) → until_end s k ≡ behind s.output s.errors (until_end (with_input s.parts s.input) k)
 seen_ends s k = ap (λ (t : State). until_end t k) (from_nothing s) ∙ ends_behind s.output s.errors (with_input s.parts s.input) k
 
 -- broken off behind it
@@ -95,7 +95,7 @@ module _ (script : List Command) (k : ℕ) (command : Command) (is : slice_get s
       added ∙ ap (λ (m : Marks). marked command m) so_far ∙ sym (ap (λ (cs : List Command). marked_all cs no_marks) one_taken ∙ marked_more (take k script) command no_marks)
 
   module _ (marks : Marks) (so_far : marks ≡ marked_all (take k script) no_marks) (budget : ℕ) (old p : Parts) (told left_p : Option (List ℕ)) (stood : Becomes (session (take k script) budget) old p told left_p false) where
-    next_of : (st : State) → obeyed command marks budget (session (take k script) budget st) ≡ session (take (k + 1) script) budget st
+    pub next_of : (st : State) → obeyed command marks budget (session (take k script) budget st) ≡ session (take (k + 1) script) budget st
     next_of st =
         ap (λ (m : Marks). obeyed command m budget (session (take k script) budget st)) so_far
         ∙ sym (ap (λ (cs : List Command). session cs budget st) one_taken ∙ obeyed_more (take k script) command no_marks budget st)

@@ -1,5 +1,5 @@
 -- How a session ends, and what a part of it makes of a machine and of its streams.
-use Rattle.std.specs.Prelude.{◌≡◌, ◌<◌, ℕ, Bool, true, false, List, length, take, is_none, Option, Some, IfSome, Result, Ok, Err}
+use Rattle.std.specs.Prelude.{◌≡◌, ◌<◌, ◌⊎◌, ℕ, Bool, true, false, List, ◌++◌, length, take, is_none, Option, Some, IfSome, Result, Ok, Err}
 use Rattle.emu_model.specs.State.{Parts, State}
 use Rattle.io_gate.specs.declared.streams.Failed.{Failed}
 use Rattle.emu_system.specs.Start.{with_input}
@@ -76,6 +76,30 @@ pub record StandsIn (commands : List Command) (budget : ℕ) (start : State) (no
   pub first : ℕ
   pub whole : now.failed ≡ false → (now.parts ≡ (session (take first commands) budget start).parts) × (left ≡ Some (session (take first commands) budget start).input)
   pub halted : now.failed ≡ true → Halts (session (take first commands) budget start) now.parts left
+
+-- ---- what a sink that didn't fail has gained then
+
+-- Some steps lead to where one was broken off, and a sink has gained just the bytes of what leads there.
+pub record HaltsWith (put : State → List ℕ) (start : State) (now : Parts) (left held_old held_new : Option (List ℕ)) : Type 0 where
+  pub steps : ℕ
+  pub kept : IsKept (until_end start steps).parts now (Some (until_end start steps).input) left
+  pub gained : IfSome held_old (λ had. held_new ≡ Some (had ++ put (until_end start steps)))
+
+-- A part of a session loses no byte of a sink that didn't fail: where a step was broken off, the sink has all that the steps before it put; where a line
+-- of the part couldn't be put, the errors have all that f puts.
+pub record Spares (f : State → State) (old : Parts) (new : MachineState) (told left ho hn eo en : Option (List ℕ)) (end : SessionEnd) : Type 0 where
+  pub output : (end ≡ ReadFault) ⊎ (end ≡ ErrorsFault) → IfSome told (λ bytes. HaltsWith (λ st. st.output) (with_input old bytes) new.parts left ho hn)
+  pub errors : new.failed ≡ true → (end ≡ ReadFault) ⊎ (end ≡ WriteFault) → IfSome told (λ bytes. HaltsWith (λ st. st.errors) (with_input old bytes) new.parts left eo en)
+  pub line : new.failed ≡ false → Puts (λ st. (f st).errors) old told eo en false
+
+-- Where a session was broken off, a sink has gained just the bytes that its first commands put, and, where it was in a step, those of the steps behind them:
+-- the machine stands where these lead.
+pub record StandsWith (put : State → List ℕ) (commands : List Command) (budget : ℕ) (start : State) (now : MachineState) (left held_old held_new : Option (List ℕ)) : Type 0 where
+  pub first : ℕ
+  pub steps : ℕ
+  pub whole : now.failed ≡ false → (steps ≡ 0) × (now.parts ≡ (session (take first commands) budget start).parts)
+  pub kept : now.failed ≡ true → IsKept (until_end (session (take first commands) budget start) steps).parts now.parts (Some (until_end (session (take first commands) budget start) steps).input) left
+  pub gained : IfSome held_old (λ had. held_new ≡ Some (had ++ put (until_end (session (take first commands) budget start) steps)))
 
 -- one more mark may be added by a command
 abbrev pub TakesMark : Marks → Command → Type 0

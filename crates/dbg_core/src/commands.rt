@@ -1,5 +1,5 @@
 //! The commands of a script, one after the other.
-ghost use Rattle.std.specs.Prelude.{◌≡◌, ◌<◌, true, false, is_none, length, slice_get, IfSome, IsTrue, Some};
+ghost use Rattle.std.specs.Prelude.{◌≡◌, ◌<◌, ◌⊎◌, true, false, is_none, length, slice_get, IfSome, IsTrue, Some};
 ghost use Rattle.io_gate.specs.Streams.{Causes};
 ghost use Rattle.emu_system.specs.Start.{with_input};
 ghost use Rattle.linux_calls.specs.Names.{NamesRead};
@@ -8,7 +8,7 @@ ghost use Rattle.emu_machine.specs.Ends.{Becomes, TakesWithin, Puts};
 ghost use Rattle.dbg_model.specs.Commands.{has_back};
 ghost use Rattle.dbg_model.specs.ScriptLimits.{is_within};
 ghost use Rattle.dbg_model.specs.Session as model;
-ghost use Rattle.dbg_core.specs.Ends.{Leaves, Obeys, StandsIn, is_fault};
+ghost use Rattle.dbg_core.specs.Ends.{Leaves, Obeys, Spares, StandsIn, StandsWith, is_fault};
 
 use crate::ends::{SessionEnd, end_of_put};
 use crate::lines::put_shown;
@@ -43,6 +43,9 @@ fn obey<I: Source, O: Sink, E: Sink>(
         (E.held errors.new) result }
     ensures leaves { Leaves (model.obeyed command.now marks.now budget) budget machine.old.parts machine.new
         (I.left input.old) (I.left input.new) result }
+    ensures spares { Spares (model.obeyed command.now marks.now budget) machine.old.parts machine.new
+        (I.left input.old) (I.left input.new) (O.held output.old) (O.held output.new) (E.held errors.old)
+        (E.held errors.new) result }
     ensures done { result ≡ SessionEnd.Done → machine.new.failed ≡ false }
     ensures read_cause { Causes (result ≡ SessionEnd.ReadFault) (I.faults input.old) (I.faults input.new) }
     ensures write_cause { Causes (result ≡ SessionEnd.WriteFault) (O.faults output.old) (O.faults output.new) }
@@ -63,7 +66,8 @@ fn obey<I: Source, O: Sink, E: Sink>(
 /// A fault is answered only where that stream failed, and then the session is broken off: what was put are first bytes
 /// of what the whole session puts, and no more was taken. `WriteFault` also stands for the session's own lines: the
 /// machine is then as the commands leave it, up to the one whose line wasn't put. After a fault in a step the machine
-/// has ended, before that step, except that bytes which its call took are stored. It takes no memory.
+/// has ended, before that step, except that bytes which its call took are stored. A sink that didn't fail has all that
+/// was put up to there. It takes no memory.
 pub fn session<I: Source, O: Sink, E: Sink>(
     machine: &mut Machine,
     script: &Script,
@@ -94,6 +98,12 @@ pub fn session<I: Source, O: Sink, E: Sink>(
     ensures read_named { result ≡ SessionEnd.ReadFault → NamesRead machine.new.parts.core }
     ensures write_named { machine.new.failed ≡ true → result ≡ SessionEnd.WriteFault → MakesWrite machine.new.parts 1 }
     ensures errors_named { result ≡ SessionEnd.ErrorsFault → MakesWrite machine.new.parts 2 }
+    ensures whole_output { (result ≡ SessionEnd.ReadFault) ⊎ (result ≡ SessionEnd.ErrorsFault)
+        → IfSome (I.left input.old) (λ bytes. StandsWith (λ st. st.output) script.now budget
+        (with_input machine.old.parts bytes) machine.new (I.left input.new) (O.held output.old) (O.held output.new)) }
+    ensures whole_errors { (result ≡ SessionEnd.ReadFault) ⊎ (result ≡ SessionEnd.WriteFault)
+        → IfSome (I.left input.old) (λ bytes. StandsWith (λ st. st.errors) script.now budget
+        (with_input machine.old.parts bytes) machine.new (I.left input.new) (E.held errors.old) (E.held errors.new)) }
 {
     let commands = script.commands();
     let mut marks = Points::new();

@@ -57,7 +57,12 @@ pub fn put_met<S: Sink>(stop: Met, machine: &Machine, sink: &mut S) -> Result<()
     ensures cause { HasCause (S.faults sink.old) (S.faults sink.new) result }
 {
     match stop {
-        Met::AtWatch(number) => put_watch(number, machine.steps(), machine.core().pc(), sink),
+        Met::AtWatch(number) => put_watch(
+            u64::from(number),
+            machine.steps(),
+            machine.core().pc(),
+            sink,
+        ),
         Met::AtBreak => put_break(machine.steps(), machine.core().pc(), sink),
     }
 }

@@ -5,7 +5,7 @@ ghost use Rattle.linux_calls.specs.Names.{NamesRead};
 ghost use Rattle.emu_machine.specs.Machines.{MakesWrite};
 ghost use Rattle.emu_run.specs.Run.{run};
 ghost use Rattle.dbg_model.specs.Session.{go, no_marks, stepped};
-ghost use Rattle.dbg_core.specs.Ends.{Leaves, Obeys, is_fault};
+ghost use Rattle.dbg_core.specs.Ends.{Leaves, Obeys, Spares, is_fault};
 
 use crate::ends::{SessionEnd, end_of_put, end_of_run, end_of_step};
 use crate::lines::{put_ending, put_met, put_stepped};
@@ -26,6 +26,9 @@ fn run_to<I: Source, O: Sink, E: Sink>(
         (I.left input.new) (O.held output.old) (O.held output.new) (E.held errors.old) (E.held errors.new) result }
     ensures leaves { Leaves (λ st. run st target) target machine.old.parts machine.new (I.left input.old)
         (I.left input.new) result }
+    ensures spares { Spares (λ st. run st target) machine.old.parts machine.new
+        (I.left input.old) (I.left input.new) (O.held output.old) (O.held output.new) (E.held errors.old)
+        (E.held errors.new) result }
     ensures failed { machine.new.failed ≡ is_fault result }
     ensures read_cause { Causes (result ≡ SessionEnd.ReadFault) (I.faults input.old) (I.faults input.new) }
     ensures write_cause { Causes (result ≡ SessionEnd.WriteFault) (O.faults output.old) (O.faults output.new) }
@@ -57,6 +60,9 @@ pub fn step<I: Source, O: Sink, E: Sink>(
         (E.held errors.new) result }
     ensures leaves { Leaves (stepped (machine.old.parts.steps + n) budget) budget machine.old.parts machine.new
         (I.left input.old) (I.left input.new) result }
+    ensures spares { Spares (stepped (machine.old.parts.steps + n) budget) machine.old.parts machine.new
+        (I.left input.old) (I.left input.new) (O.held output.old) (O.held output.new) (E.held errors.old)
+        (E.held errors.new) result }
     ensures done { result ≡ SessionEnd.Done → machine.new.failed ≡ false }
     ensures read_cause { Causes (result ≡ SessionEnd.ReadFault) (I.faults input.old) (I.faults input.new) }
     ensures write_cause { Causes (result ≡ SessionEnd.WriteFault) (O.faults output.old) (O.faults output.new) }
@@ -88,6 +94,9 @@ pub fn go<I: Source, O: Sink, E: Sink>(
         (E.held errors.new) result }
     ensures leaves { Leaves (λ st. go marks.now st (budget - st.parts.steps)) budget machine.old.parts machine.new
         (I.left input.old) (I.left input.new) result }
+    ensures spares { Spares (λ st. go marks.now st (budget - st.parts.steps)) machine.old.parts machine.new
+        (I.left input.old) (I.left input.new) (O.held output.old) (O.held output.new) (E.held errors.old)
+        (E.held errors.new) result }
     ensures done { result ≡ SessionEnd.Done → machine.new.failed ≡ false }
     ensures read_cause { Causes (result ≡ SessionEnd.ReadFault) (I.faults input.old) (I.faults input.new) }
     ensures write_cause { Causes (result ≡ SessionEnd.WriteFault) (O.faults output.old) (O.faults output.new) }
@@ -116,6 +125,9 @@ fn go_free<I: Source, O: Sink, E: Sink>(
         (E.held errors.new) result }
     ensures leaves { Leaves (λ st. go no_marks st (budget - st.parts.steps)) budget machine.old.parts machine.new
         (I.left input.old) (I.left input.new) result }
+    ensures spares { Spares (λ st. go no_marks st (budget - st.parts.steps)) machine.old.parts machine.new
+        (I.left input.old) (I.left input.new) (O.held output.old) (O.held output.new) (E.held errors.old)
+        (E.held errors.new) result }
     ensures done { result ≡ SessionEnd.Done → machine.new.failed ≡ false }
     ensures read_cause { Causes (result ≡ SessionEnd.ReadFault) (I.faults input.old) (I.faults input.new) }
     ensures write_cause { Causes (result ≡ SessionEnd.WriteFault) (O.faults output.old) (O.faults output.new) }
@@ -144,6 +156,9 @@ fn go_marked<I: Source, O: Sink, E: Sink>(
         (E.held errors.new) result }
     ensures leaves { Leaves (λ st. go marks.now st (budget - st.parts.steps)) budget machine.old.parts machine.new
         (I.left input.old) (I.left input.new) result }
+    ensures spares { Spares (λ st. go marks.now st (budget - st.parts.steps)) machine.old.parts machine.new
+        (I.left input.old) (I.left input.new) (O.held output.old) (O.held output.new) (E.held errors.old)
+        (E.held errors.new) result }
     ensures done { result ≡ SessionEnd.Done → machine.new.failed ≡ false }
     ensures read_cause { Causes (result ≡ SessionEnd.ReadFault) (I.faults input.old) (I.faults input.new) }
     ensures write_cause { Causes (result ≡ SessionEnd.WriteFault) (O.faults output.old) (O.faults output.new) }

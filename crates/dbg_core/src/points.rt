@@ -1,5 +1,5 @@
 //! The breaks and the watches of a session.
-ghost use Rattle.std.specs.Prelude.{◌≡◌, ◌||◌, true, nat_eq, position};
+ghost use Rattle.std.specs.Prelude.{◌≡◌, ◌<◌, ◌||◌, true, nat_eq, position, IfSome};
 ghost use Rattle.std.specs.List.{list_any};
 ghost use Rattle.std.specs.Bool.{OnTrue};
 ghost use Rattle.dbg_model.specs.Session.{Marks, break_met, is_touched, mark_met, marked, no_marks, shares};
@@ -22,7 +22,7 @@ pub enum Stop {
     /// The machine has ended.
     Ended,
     /// The last step touched the watch of this number, counted from 0.
-    Watch(u64),
+    Watch(u32),
     /// The program counter stands on a break.
     Break,
     /// The budget of steps is spent.
@@ -105,7 +105,8 @@ impl Points {
 
     /// The least of the watches that these accesses touch.
     fn touched(&self, accesses: &[Access]) -> Option<usize>
-        ensures { result ≡ position (is_touched accesses.now) self.now.watches }
+        ensures first { result ≡ position (is_touched accesses.now) self.now.watches }
+        ensures within { IfSome result (λ k. k < 64) }
     {
         self.watches
             .iter()
@@ -139,7 +140,7 @@ impl Points {
             return None;
         }
         match self.touched(machine.accesses()) {
-            Some(number) => Some(Met::AtWatch(number as u64)),
+            Some(number) => Some(Met::AtWatch(number as u32)),
             None => self.break_met(machine.core().pc()),
         }
     }

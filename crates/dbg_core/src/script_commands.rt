@@ -1,11 +1,11 @@
 //! The command that the words of a line are.
 ghost use Rattle.std.specs.Prelude.{◌≡◌, ◌<◌, map, length, IfOk};
-ghost use Rattle.dbg_core.specs.ScriptReading.{later_command_named};
 ghost use Rattle.dbg_model.specs.Script.{
   back_of,
   break_of,
   command_of,
   lanes_of,
+  later_command_named,
   mem_of,
   preg_of,
   step_of,

@@ -1,8 +1,10 @@
 //! A script line by line.
 ghost use Rattle.std.specs.Prelude.{◌≡◌, ◌≤◌, MatchResult, length, map};
 ghost use Rattle.dbg_model.specs.Commands.{is_break, is_watch};
-ghost use Rattle.dbg_model.specs.Script.{at_line, is_full, read_line, read_lines, script};
-ghost use Rattle.dbg_core.specs.ScriptReading.{IsErrorOf, Leaves};
+ghost use Rattle.dbg_model.specs.Script.{at_line, is_full, is_skipped, read_line, read_lines, script};
+ghost use Rattle.dbg_core.specs.Errors.{fault_in};
+ghost use Rattle.line_words.specs.Lines.{words};
+ghost use Rattle.line_words.specs.Reading.{IsErrorOf, Leaves};
 
 use crate::script_commands::command_of;
 use dbg_model::{Command, Script, ScriptFault, ScriptWhy};
@@ -71,6 +73,14 @@ fn is_watch(command: &Command) -> bool
     matches!(command, Command::Watch(_, _))
 }
 
+/// Whether a line, which has these words, is skipped: it is a comment, or has no word.
+fn is_skipped(line: &str, found: &[&str]) -> bool
+    requires { map (λ word. word.now) found.now ≡ words line.now }
+    ensures { result ≡ is_skipped line.now }
+{
+    line_words::is_comment(line) || found.is_empty()
+}
+
 /// Reads a line behind those before it.
 fn read_line(
     alloc: Global,
@@ -79,10 +89,10 @@ fn read_line(
     number: usize,
 ) -> Result<(), ScriptError>
     requires { number ≤ 10001 }
-    ensures { Leaves (at_line number (read_line script.old line.now)) script.new result }
+    ensures { Leaves fault_in (at_line number (read_line script.old line.now)) script.new result }
 {
     let words = line_words::words(alloc, line)?;
-    if line_words::is_skipped(line, &words) {
+    if is_skipped(line, &words) {
         return Ok(());
     }
     let command = match command_of(&words) {
@@ -99,7 +109,7 @@ fn read_line(
 /// Reads the lines one after the other behind the commands before them.
 fn read_lines(alloc: Global, lines: &[&str], script: &mut Script) -> Result<(), ScriptError>
     requires { length lines.now ≤ 10000 }
-    ensures { Leaves (read_lines script.old 1 (map (λ line. line.now) lines.now)) script.new result }
+    ensures { Leaves fault_in (read_lines script.old 1 (map (λ line. line.now) lines.now)) script.new result }
 {
     for place in 0..lines.len() {
         read_line(alloc, script, line_words::text_at(lines, place), place + 1)?;
@@ -113,7 +123,8 @@ fn read_lines(alloc: Global, lines: &[&str], script: &mut Script) -> Result<(), 
 /// UnknownCommand, for each argument MissingWord, BadNumber and OutOfRange, then ExtraWord and TooMany. OutOfMemory is
 /// want of memory. NotUtf8 isn't answered, since a text is UTF-8.
 pub fn read_script(alloc: Global, text: &str) -> Result<Script, ScriptError>
-    ensures { MatchResult result (λ read. script text.now ≡ Ok read) (IsErrorOf (script text.now)) }
+    ensures { MatchResult result (λ read. script text.now ≡ Ok read)
+        (λ error. IsErrorOf (script text.now) (fault_in error)) }
 {
     let lines = line_words::lines(alloc, text)?;
     if lines.len() > MOST_LINES {

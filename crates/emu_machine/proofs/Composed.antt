@@ -49,7 +49,7 @@ all_gained true held had so_far more whole is g = record {
   first = (g.first.0, is ∙ ap (λ (l : List ℕ). so_far ++ l) g.first.1 ∙ sym (append_assoc so_far g.gained g.first.0));
 }
 
-gains_more : (b : Bool) (ho hp hq : Option (List ℕ)) (so_far more whole : List ℕ) → whole ≡ so_far ++ more → IfSome ho (λ had. hp ≡ Some (had ++ so_far)) → IfSome hp (λ had. Gains b hq had more) → IfSome ho (λ had. Gains b hq had whole)
+pub gains_more : (b : Bool) (ho hp hq : Option (List ℕ)) (so_far more whole : List ℕ) → whole ≡ so_far ++ more → IfSome ho (λ had. hp ≡ Some (had ++ so_far)) → IfSome hp (λ had. Gains b hq had more) → IfSome ho (λ had. Gains b hq had whole)
 gains_more b None hp hq so_far more whole is before g = tt
 gains_more b (Some had) hp hq so_far more whole is before g =
     all_gained b hq had so_far more whole is (subst (λ (h : Option (List ℕ)). IfSome h (λ had. Gains b hq had more)) before g)

@@ -11,6 +11,7 @@ pub mod Logs
 pub mod Performed
 pub mod Room
 pub mod Runs
+pub mod Spared
 pub mod Stands
 pub mod Turns
 pub mod Written

@@ -1,5 +1,5 @@
 //! The step of a call.
-ghost use Rattle.std.specs.Prelude.{◌≡◌, ◌<◌, ◌+◌, ◌-◌, ◌^◌, List, ℕ, true, false};
+ghost use Rattle.std.specs.Prelude.{◌≡◌, ◌<◌, ◌⊎◌, ◌+◌, ◌-◌, ◌^◌, List, ℕ, true, false};
 ghost use Rattle.io_gate.specs.Streams.{Causes};
 ghost use Rattle.emu_system.specs.Start.{with_input};
 ghost use Rattle.emu_system.specs.SystemCall.{action};
@@ -60,6 +60,8 @@ impl Machine {
         ensures read_named { result ≡ StepEnd.ReadFault → NamesRead self.old.parts.core }
         ensures write_named { result ≡ StepEnd.WriteFault → NamesWrite self.old.parts.core 1 }
         ensures errors_named { result ≡ StepEnd.ErrorsFault → NamesWrite self.old.parts.core 2 }
+        ensures output_kept { (result ≡ StepEnd.ReadFault) ⊎ (result ≡ StepEnd.ErrorsFault) → output.new ≡ output.old }
+        ensures errors_kept { (result ≡ StepEnd.ReadFault) ⊎ (result ≡ StepEnd.WriteFault) → errors.new ≡ errors.old }
     {
         let end = call(
             &mut *self.core,

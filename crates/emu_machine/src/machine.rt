@@ -3,6 +3,7 @@ ghost use Rattle.std.specs.Prelude.{
   ◌≡◌,
   ◌<◌,
   ◌≤◌,
+  ◌⊎◌,
   ◌+◌,
   ◌-◌,
   ◌^◌,
@@ -350,8 +351,9 @@ impl Machine {
     /// What a step that is done makes of the machine rests on the input only at a call that takes bytes of it, and how
     /// it ends never does. `Going` and `Exit` count the step, and `Trap` doesn't. A fault of a stream is answered
     /// exactly where that stream failed, and the machine has then ended with the step not done: it is as before, but
-    /// that bytes which the call took are stored. No step wants memory. The accesses are those of this step whatever it
-    /// answers: a trap leaves those of the elements before the one that was refused, and a call leaves none.
+    /// that bytes which the call took are stored, and a sink that didn't fail has what it had. No step wants memory.
+    /// The accesses are those of this step whatever it answers: a trap leaves those of the elements before the one that
+    /// was refused, and a call leaves none.
     pub fn step<I: Source, O: Sink, E: Sink>(
         &mut self,
         input: &mut I,
@@ -387,6 +389,8 @@ impl Machine {
         ensures read_named { result ≡ StepEnd.ReadFault → MakesRead self.old.parts }
         ensures write_named { result ≡ StepEnd.WriteFault → MakesWrite self.old.parts 1 }
         ensures errors_named { result ≡ StepEnd.ErrorsFault → MakesWrite self.old.parts 2 }
+        ensures output_kept { (result ≡ StepEnd.ReadFault) ⊎ (result ≡ StepEnd.ErrorsFault) → output.new ≡ output.old }
+        ensures errors_kept { (result ≡ StepEnd.ReadFault) ⊎ (result ≡ StepEnd.WriteFault) → errors.new ≡ errors.old }
     {
         match self.once() {
             Progress::AtCall => self.call(input, output, errors),
@@ -502,8 +506,9 @@ impl Machine {
     ///
     /// After a fault of a stream, which is answered exactly where that stream failed, the machine has ended. It then
     /// stands before the step that wasn't done: it is what a run with a budget of the steps counted so far leaves, but
-    /// that bytes which the call took are stored. No run wants memory, and each leaves the marks. The accesses are
-    /// those of the last step that was taken, done or not, and as before where none was.
+    /// that bytes which the call took are stored. A sink that didn't fail has then all that these steps put. No run
+    /// wants memory, and each leaves the marks. The accesses are those of the last step that was taken, done or not,
+    /// and as before where none was.
     pub fn run<I: Source, O: Sink, E: Sink>(
         &mut self,
         budget: u64,
@@ -540,6 +545,12 @@ impl Machine {
         ensures read_named { result ≡ RunEnd.ReadFault → NamesRead self.new.parts.core }
         ensures write_named { result ≡ RunEnd.WriteFault → MakesWrite self.new.parts 1 }
         ensures errors_named { result ≡ RunEnd.ErrorsFault → MakesWrite self.new.parts 2 }
+        ensures whole_output { (result ≡ RunEnd.ReadFault) ⊎ (result ≡ RunEnd.ErrorsFault)
+            → Puts (λ st. (runs.run st self.new.parts.steps).output) self.old.parts (I.left input.old)
+            (O.held output.old) (O.held output.new) false }
+        ensures whole_errors { (result ≡ RunEnd.ReadFault) ⊎ (result ≡ RunEnd.WriteFault)
+            → Puts (λ st. (runs.run st self.new.parts.steps).errors) self.old.parts (I.left input.old)
+            (E.held errors.old) (E.held errors.new) false }
     {
         while self.steps < budget {
             match self.advance(budget) {

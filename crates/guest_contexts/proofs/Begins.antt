@@ -4,7 +4,7 @@ use Rattle.std.proofs.lemmas.Bool.{and_from, and_parts, eq-eqb, le-leb, leb-true
 use Rattle.std.proofs.lemmas.List.{length-set}
 use Rattle.std.specs.List.{list_all, list_any}
 use Rattle.emu_model.specs.State.{Core, Parts, Vectors}
-use Rattle.line_words.specs.Turns.{has_steps}
+use Rattle.guest_schedule.specs.Turns.{has_steps}
 use Rattle.emu_run.specs.Threads.{next_turn, turn_at}
 use Rattle.emu_run.specs.Worlds.{Context, no_context, taken_by_context}
 use Rattle.guest_contexts.specs.Begins.{TurnAt, begins_next, context_of}

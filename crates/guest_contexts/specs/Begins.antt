@@ -2,7 +2,7 @@
 use Rattle.std.specs.Prelude.{◌≡◌, ◌<◌, ◌≤◌, ◌+◌, ◌%◌, ◌^◌, ℕ, Bool, false, not, ◌&&◌, ◌||◌, is_some, nat_eq, nat_le, nat_lt, List, length, get_or}
 use Rattle.std.specs.List.{list_any}
 use Rattle.emu_model.specs.State.{Core, Parts, Vectors}
-use Rattle.line_words.specs.Turns.{IsSchedule}
+use Rattle.guest_schedule.specs.Turns.{IsSchedule}
 use Rattle.emu_run.specs.Threads.{next_turn, turn_at}
 use Rattle.emu_run.specs.Worlds.{World, Context, taken_by_context}
 use Rattle.guest_contexts.specs.declared.begin.Turn.{Turn}

@@ -13,6 +13,7 @@ use Rattle.guest_threads.proofs.Quiet.{quiet_steps}
 use Rattle.guest_threads.proofs.Runs.{LeadsRun, Ran, ran_step, run_counts, run_stops, stops}
 use Rattle.guest_threads.proofs.Stands.{Stands, stands_on}
 use Rattle.guest_threads.proofs.Steps.{quiet_becomes, quiet_errors, quiet_output, quiet_takes}
+use Rattle.guest_threads.proofs.Whole.{LeadsAny}
 use Rattle.guest_threads.proofs.Stood.{BringsOn, Stood, moved, next_moved, stood_on}
 
 pub goes_ready : (w : World) (k : ℕ) → is_none w.ended ≡ true → IsReadyAt w k → goes_on w ≡ true
@@ -59,6 +60,7 @@ module _ (schedule : List (ℕ × ℕ)) (budget : ℕ) (old : World) (told left 
   pub record Reached (place : Place) (now : World) : Type 0 where
     pub leads : LeadsRun schedule budget place old now told left ho hp eo ep
     pub stands : Stands schedule old told place now left
+    pub any : LeadsAny schedule place old now told left ho hp eo ep
 
   pub reached_on : BringsOn schedule budget Reached
   reached_on p q w v r f goes below =
@@ -72,6 +74,11 @@ module _ (schedule : List (ℕ × ℕ)) (budget : ℕ) (old : World) (told left 
             (run_counts schedule budget p old w v told left left ho hp hp eo ep ep r.leads on below k f.picked f.quiet.counted ran);
         stands = subst (λ (x : Place). Stands schedule old told x v left) next
             (stands_on schedule budget p old w left ho hp eo ep v k left hp ep told r.leads ran on f.picked f.quiet.counted r.stands);
+        any = λ b h.
+            let counted = f.quiet.counted in
+            let before : w.steps < b = omega (arith, counted, h) in
+            subst (λ (x : Place). LeadsRun schedule b x old v told left ho hp eo ep) next
+            (run_counts schedule b p old w v told left left ho hp hp eo ep ep (r.any b (omega (arith, before))) on before k f.picked f.quiet.counted ran);
       }
 
   -- the step behind quiet ones ended the world
@@ -115,4 +122,8 @@ module _ (schedule : List (ℕ × ℕ)) (budget : ℕ) (old : World) (told left 
             (run_counts schedule budget here old at q told left left_q ho hp hq eo ep eq stood.holds.leads on below k stood.picked counted ran);
         stands = subst (λ (x : Place). Stands schedule old told x q left_q) to
             (stands_on schedule budget here old at left ho hp eo ep q k left_q hq eq told stood.holds.leads ran on stood.picked counted stood.holds.stands);
+        any = λ b h.
+            let before : at.steps < b = omega (arith, counted, h) in
+            subst (λ (x : Place). LeadsRun schedule b x old q told left_q ho hq eo eq) to
+            (run_counts schedule b here old at q told left left_q ho hp hq eo ep eq (stood.holds.any b (omega (arith, before))) on before k stood.picked counted ran);
       }

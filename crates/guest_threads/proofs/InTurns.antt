@@ -12,7 +12,7 @@ use Rattle.guest_contexts.specs.declared.begin.Turn.{Turn}
 use Rattle.guest_contexts.specs.Begins.{IsTurn}
 use Rattle.guest_contexts.specs.Laid.{laid, world_of}
 use Rattle.guest_contexts.specs.Standings.{AreReady, has_monitor}
-use Rattle.line_words.specs.Turns.{IsSchedule}
+use Rattle.guest_schedule.specs.Turns.{IsSchedule}
 use Rattle.guest_contexts.proofs.Begins.{has_one, turn_is}
 use Rattle.guest_contexts.proofs.Laid.{laid_length, standing_is}
 use Rattle.emu_run.specs.declared.thread.Place.{Place}

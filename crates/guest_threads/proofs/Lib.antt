@@ -11,4 +11,5 @@ pub mod Stood
 pub mod Views
 pub mod Named
 pub mod Followed
+pub mod Whole
 pub mod WholeTurns

@@ -9,7 +9,7 @@ use Rattle.emu_run.specs.declared.thread.Standing.{Standing}
 use Rattle.emu_run.specs.declared.thread.Standing.TheVariants.{Ready, Waiting, Gone}
 use Rattle.emu_model.specs.declared.trap.Ended.{Ended}
 use Rattle.emu_run.specs.declared.thread.WorldEnding.TheVariants.{Spent as IsSpent, Stuck as IsStuck}
-use Rattle.line_words.specs.Turns.{has_steps}
+use Rattle.guest_schedule.specs.Turns.{has_steps}
 use Rattle.guest_threads.specs.declared.ends.WorldEnd.TheVariants.{Spent, Stuck}
 use Rattle.emu_run.specs.Threads.{ending, is_over, next_place, next_turn, turn_at, ready_at}
 use Rattle.emu_run.specs.Worlds.{World, Context, context, no_context, is_ready, is_standing_ready, ready, some_ready}

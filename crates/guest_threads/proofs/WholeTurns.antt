@@ -2,7 +2,7 @@
 use Rattle.std.proofs.Common.{◌≡◌, ◌<◌, ◌≤◌, inl, ℕ, zero, suc, ◌+◌, ◌-◌, Bool, true, false, List, length, is_none, nat_eq, if◌then◌else◌, refl, sym, ap, subst, ◌∙◌, arith}
 use Rattle.std.proofs.lemmas.Bool.{eqb-false}
 use Rattle.std.specs.List.{list_all}
-use Rattle.line_words.specs.Turns.{has_steps}
+use Rattle.guest_schedule.specs.Turns.{has_steps}
 use Rattle.emu_run.specs.declared.thread.Place.{Place}
 use Rattle.emu_run.specs.Threads.{next_place, next_turn, turn_at}
 use Rattle.emu_run.specs.Worlds.{World, taken_by_context}

@@ -1,5 +1,5 @@
 //! Steps of one context, one after the other.
-ghost use Rattle.std.specs.Prelude.{◌≡◌, ◌<◌, ◌≤◌, ◌+◌, ◌-◌, ◌^◌, MatchBool, is_none, length, true, false};
+ghost use Rattle.std.specs.Prelude.{◌≡◌, ◌<◌, ◌≤◌, ◌⊎◌, ◌+◌, ◌-◌, ◌^◌, MatchBool, is_none, length, true, false};
 ghost use Rattle.emu_machine.specs.Ends.{is_undone};
 ghost use Rattle.emu_machine.specs.Machines.{MakesWrite};
 ghost use Rattle.guest_threads.specs.Calls.{IsCalling};
@@ -54,6 +54,10 @@ impl Held {
             → MakesWrite (last_machine self.new.world) 1 }
         ensures errors_named { last_end result self.new.world.ended ≡ StepEnd.ErrorsFault
             → MakesWrite (last_machine self.new.world) 2 }
+        ensures output_kept { (last_end result self.new.world.ended ≡ StepEnd.ReadFault)
+            ⊎ (last_end result self.new.world.ended ≡ StepEnd.ErrorsFault) → output.new ≡ output.old }
+        ensures errors_kept { (last_end result self.new.world.ended ≡ StepEnd.ReadFault)
+            ⊎ (last_end result self.new.world.ended ≡ StepEnd.WriteFault) → errors.new ≡ errors.old }
     {
         self.bring(k);
         let before = self.steps();

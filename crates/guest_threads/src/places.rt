@@ -1,6 +1,6 @@
 //! Where a run is in its schedule.
 ghost use Rattle.std.specs.Prelude.{◌≡◌, ◌<◌, ◌≤◌, ◌+◌, ◌-◌, ◌^◌, ◌⊎◌, MatchOption, length, true, false};
-ghost use Rattle.line_words.specs.Turns.{IsSchedule};
+ghost use Rattle.guest_schedule.specs.Turns.{IsSchedule};
 ghost use Rattle.guest_threads.specs.Ends.{IsPlace, IsPicked, IsReadyAt};
 ghost use Rattle.emu_run.specs.Threads as model;
 ghost use Rattle.emu_run.specs.Worlds as worlds;

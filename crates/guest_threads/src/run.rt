@@ -1,7 +1,7 @@
 //! The run of a world under a schedule.
-ghost use Rattle.std.specs.Prelude.{◌≡◌, ◌<◌, ◌≤◌, IfSome, is_none, true, false};
+ghost use Rattle.std.specs.Prelude.{◌≡◌, ◌<◌, ◌≤◌, ◌⊎◌, IfSome, is_none, true, false};
 ghost use Rattle.emu_machine.specs.Machines.{MakesWrite};
-ghost use Rattle.line_words.specs.Turns.{IsSchedule};
+ghost use Rattle.guest_schedule.specs.Turns.{IsSchedule};
 ghost use Rattle.guest_threads.specs.Ends.{
   has_ended,
   end_of_world,
@@ -66,6 +66,12 @@ impl Held {
         ensures read_named { result ≡ WorldEnd.ReadFault → NamesRead (last_machine self.new.world).core }
         ensures write_named { result ≡ WorldEnd.WriteFault → MakesWrite (last_machine self.new.world) 1 }
         ensures errors_named { result ≡ WorldEnd.ErrorsFault → MakesWrite (last_machine self.new.world) 2 }
+        ensures whole_output { (result ≡ WorldEnd.ReadFault) ⊎ (result ≡ WorldEnd.ErrorsFault)
+            → Puts (λ st. (model.threads schedule.now self.new.world.steps st).output) self.old.world
+            (I.left input.old) (O.held output.old) (O.held output.new) false }
+        ensures whole_errors { (result ≡ WorldEnd.ReadFault) ⊎ (result ≡ WorldEnd.WriteFault)
+            → Puts (λ st. (model.threads schedule.now self.new.world.steps st).errors) self.old.world
+            (I.left input.old) (E.held errors.old) (E.held errors.new) false }
     {
         let mut place = Place {
             turn: 0,

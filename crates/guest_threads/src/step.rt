@@ -1,5 +1,5 @@
 //! One step of a context.
-ghost use Rattle.std.specs.Prelude.{◌≡◌, ◌<◌, ◌+◌, ◌-◌, ◌^◌, is_none, length, true, false};
+ghost use Rattle.std.specs.Prelude.{◌≡◌, ◌<◌, ◌⊎◌, ◌+◌, ◌-◌, ◌^◌, is_none, length, true, false};
 ghost use Rattle.emu_machine.specs.Ends.{step_end, is_undone};
 ghost use Rattle.emu_machine.specs.Machines.{MakesWrite};
 ghost use Rattle.guest_threads.specs.Calls.{IsCalling};
@@ -66,6 +66,10 @@ impl Held {
             → MakesWrite (last_machine self.new.world) 1 }
         ensures errors_named { last_end result self.new.world.ended ≡ StepEnd.ErrorsFault
             → MakesWrite (last_machine self.new.world) 2 }
+        ensures output_kept { (last_end result self.new.world.ended ≡ StepEnd.ReadFault)
+            ⊎ (last_end result self.new.world.ended ≡ StepEnd.ErrorsFault) → output.new ≡ output.old }
+        ensures errors_kept { (last_end result self.new.world.ended ≡ StepEnd.ReadFault)
+            ⊎ (last_end result self.new.world.ended ≡ StepEnd.WriteFault) → errors.new ≡ errors.old }
     {
         let end = self.one(k, input, output, errors);
         went_by(end)
@@ -108,6 +112,8 @@ impl Held {
         ensures read_named { result ≡ StepEnd.ReadFault → NamesRead (last_machine self.new.world).core }
         ensures write_named { result ≡ StepEnd.WriteFault → MakesWrite (last_machine self.new.world) 1 }
         ensures errors_named { result ≡ StepEnd.ErrorsFault → MakesWrite (last_machine self.new.world) 2 }
+        ensures output_kept { (result ≡ StepEnd.ReadFault) ⊎ (result ≡ StepEnd.ErrorsFault) → output.new ≡ output.old }
+        ensures errors_kept { (result ≡ StepEnd.ReadFault) ⊎ (result ≡ StepEnd.WriteFault) → errors.new ≡ errors.old }
     {
         self.bring(k);
         let calls = self.is_calling();
@@ -160,6 +166,8 @@ impl Held {
         ensures read_named { result ≡ StepEnd.ReadFault → NamesRead (last_machine self.new.world).core }
         ensures write_named { result ≡ StepEnd.WriteFault → MakesWrite (last_machine self.new.world) 1 }
         ensures errors_named { result ≡ StepEnd.ErrorsFault → MakesWrite (last_machine self.new.world) 2 }
+        ensures output_kept { (result ≡ StepEnd.ReadFault) ⊎ (result ≡ StepEnd.ErrorsFault) → output.new ≡ output.old }
+        ensures errors_kept { (result ≡ StepEnd.ReadFault) ⊎ (result ≡ StepEnd.WriteFault) → errors.new ≡ errors.old }
     {
         let end = self.machine.step(input, output, errors);
         if is_fault(end) {

@@ -1,6 +1,6 @@
 //! Whole turns of a schedule, one after the other, by the loop of the machine.
 ghost use Rattle.std.specs.Prelude.{◌≡◌, ◌≤◌, ◌-◌, MatchOption, if◌then◌else◌, nat_eq, false};
-ghost use Rattle.line_words.specs.Turns.{IsSchedule};
+ghost use Rattle.guest_schedule.specs.Turns.{IsSchedule};
 ghost use Rattle.guest_threads.specs.Ends.{has_ended, IsPlace};
 ghost use Rattle.guest_threads.specs.Quiet.{FollowsOn, FollowsToEnd, StopsWithin};
 ghost use Rattle.emu_run.specs.Threads as model;

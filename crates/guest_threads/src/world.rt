@@ -1,5 +1,5 @@
 //! A world of guest threads: it is opened from a machine, runs under a schedule, and shows its contexts.
-ghost use Rattle.std.specs.Prelude.{◌≡◌, ◌<◌, ◌≤◌, IfOk, IfSome, is_none, length, true, false};
+ghost use Rattle.std.specs.Prelude.{◌≡◌, ◌<◌, ◌≤◌, ◌⊎◌, IfOk, IfSome, is_none, length, true, false};
 ghost use Rattle.emu_machine.specs.Machines.{has_ended as machine_has_ended, MakesWrite};
 ghost use Rattle.guest_threads.specs.Ends.{
   has_ended,
@@ -23,8 +23,8 @@ use crate::held::Held;
 use core_regs::Core;
 use emu_machine::Machine;
 use guest_pages::OutOfMemory;
+use guest_schedule::Schedule;
 use io_gate::{Sink, Source};
-use line_words::Schedule;
 use std::alloc::Global;
 use std::marker::Model;
 use vec_regs::VecRegs;
@@ -90,7 +90,8 @@ impl World {
     ///
     /// After a fault of a stream, which is answered exactly where that stream failed, the world has ended. It then
     /// stands before the step that wasn't done: it is what a run with a budget of the steps counted so far leaves, but
-    /// that bytes which the call took are stored, and that the context of that step is the last. No run wants memory.
+    /// that bytes which the call took are stored, and that the context of that step is the last. A sink that didn't
+    /// fail has then all that these steps put. No run wants memory.
     pub fn run<I: Source, O: Sink, E: Sink>(
         &mut self,
         schedule: &Schedule,
@@ -124,6 +125,12 @@ impl World {
         ensures read_named { result ≡ WorldEnd.ReadFault → NamesRead (last_machine self.new.world).core }
         ensures write_named { result ≡ WorldEnd.WriteFault → MakesWrite (last_machine self.new.world) 1 }
         ensures errors_named { result ≡ WorldEnd.ErrorsFault → MakesWrite (last_machine self.new.world) 2 }
+        ensures whole_output { (result ≡ WorldEnd.ReadFault) ⊎ (result ≡ WorldEnd.ErrorsFault)
+            → Puts (λ st. (model.threads schedule.now self.new.world.steps st).output) self.old.world
+            (I.left input.old) (O.held output.old) (O.held output.new) false }
+        ensures whole_errors { (result ≡ WorldEnd.ReadFault) ⊎ (result ≡ WorldEnd.WriteFault)
+            → Puts (λ st. (model.threads schedule.now self.new.world.steps st).errors) self.old.world
+            (I.left input.old) (E.held errors.old) (E.held errors.new) false }
     {
         self.held
             .follow(schedule.turns(), budget, input, output, errors)

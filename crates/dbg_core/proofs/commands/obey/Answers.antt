@@ -1,4 +1,5 @@
-use Rattle.std.proofs.Common.{false, refl}
+use Rattle.std.proofs.Common.{false, refl, ap}
+use Rattle.emu_model.specs.State.{State}
 use Rattle.emu_system.specs.Start.{with_input}
 use Rattle.dbg_model.specs.Session.{obeyed, shown}
 use Rattle.dbg_core.specs.Ends.{end_of_put}
@@ -6,6 +7,7 @@ use Rattle.dbg_core.proofs.Sessions.{prints}
 use Rattle.dbg_core.proofs.Obeying.{obeys_as, obeys_same, obeys_put, put_read, put_write, put_errs, no_read, no_errs}
 use Rattle.dbg_core.proofs.Scripts.{shows}
 use Rattle.dbg_core.proofs.Leaving.{becomes_same, becomes_printed, leaves_line}
+use Rattle.dbg_core.proofs.Putting.{errors_still, puts_same, spares_line}
 use Rattle.dbg_core.proofs.commands.obey.Goals as goal
 
 pub returns-in_default : goal.returns-in_default
@@ -23,6 +25,10 @@ returns-in_default g c =
           (becomes_same (prints (shown command)) (obeyed command c.args.marks.now c.args.budget) p p (g.I.Source.left c.args.input.now) (g.I.Source.left c.args.input.now) false
           (λ input. shows command c.args.marks.now c.args.budget c.in_default.not-Step c.in_default.not-Go (with_input p input))
           (becomes_printed (shown command) p (g.I.Source.left c.args.input.now)));
+      spares = spares_line (obeyed command c.args.marks.now c.args.budget) p c.args.machine.now (g.I.Source.left c.args.input.now) (g.I.Source.left c.args.input.now) (g.O.Sink.held c.args.output.now) (g.O.Sink.held c.put_shown.new.sink) (g.E.Sink.held c.args.errors.now) (g.E.Sink.held c.args.errors.now) put c.end_of_put.result is c.requires.failed
+          (puts_same (λ st. st.errors) (λ st. (obeyed command c.args.marks.now c.args.budget st).errors) p (g.I.Source.left c.args.input.now) (g.E.Sink.held c.args.errors.now) (g.E.Sink.held c.args.errors.now)
+          (λ input. ap (λ (s : State). s.errors) (shows command c.args.marks.now c.args.budget c.in_default.not-Step c.in_default.not-Go (with_input p input)))
+          (errors_still p (g.I.Source.left c.args.input.now) (g.E.Sink.held c.args.errors.now)));
       done = λ _. c.requires.failed;
       read_cause = put_read put c.end_of_put.result is _ _ refl;
       write_cause = put_write put c.end_of_put.result is _ _ _ refl c.put_shown.ensures.cause;

@@ -2,14 +2,16 @@ use Rattle.std.proofs.Common.{◌≡◌, ◌<◌, ◌≤◌, ◌+◌, true, List
 use Rattle.std.specs.Prelude.{slice_get}
 use Rattle.dbg_model.specs.declared.script.Command.{Command}
 use Rattle.dbg_model.specs.Commands.{is_break, is_watch}
-use Rattle.dbg_model.specs.Session.{Marks, obeyed_all, session}
+use Rattle.dbg_model.specs.Session.{Marks, obeyed, obeyed_all, session}
 use Rattle.dbg_core.specs.declared.ends.SessionEnd.TheVariants.{Done, ReadFault, WriteFault, ErrorsFault}
 use Rattle.dbg_core.specs.Ends.{is_fault}
-use Rattle.emu_machine.proofs.Composed.{Leads, leads_start}
-use Rattle.dbg_core.proofs.Obeying.{causes_later, causes_none}
+use Rattle.emu_machine.proofs.Composed.{Leads, comes_still, leads_start}
+use Rattle.emu_machine.proofs.Spared.{either}
+use Rattle.dbg_core.proofs.Obeying.{causes_later, causes_none, comes_of}
 use Rattle.dbg_core.proofs.Scripts.{command_in, room_at, breaks_at, watches_at, done_at, broken_at, all_done}
 use Rattle.dbg_core.proofs.Leaving.{never}
 use Rattle.dbg_core.proofs.Standing.{marks_next, stands_start, stands_whole, stands_next, stands_broken}
+use Rattle.dbg_core.proofs.Putting.{comes_next, errors_broken, failed_by, output_broken}
 use Rattle.dbg_core.proofs.commands.session.Goals as goal
 
 pub walk-init : goal.walk-init
@@ -25,6 +27,7 @@ walk-init g c =
           (leads_start (session script c.args.budget) c.args.machine.now.parts (g.I.Source.left c.args.input.now) (g.O.Sink.held c.args.output.now) (g.E.Sink.held c.args.errors.now));
       so_far = c.new-marks.ensures;
       stood = stands_start c.args.machine.now.parts (g.I.Source.left c.args.input.now);
+      whole = comes_still c.args.machine.now.parts (g.I.Source.left c.args.input.now) (g.O.Sink.held c.args.output.now) (g.E.Sink.held c.args.errors.now);
       breaks = subst (λ (m : Marks). length m.breaks + count_by is_break (drop 0 script) ≤ 64) none (omega (arith, b));
       watches = subst (λ (m : Marks). length m.watches + count_by is_watch (drop 0 script) ≤ 64) none (omega (arith, w));
       read = refl;
@@ -67,6 +70,9 @@ walk-preserved g c =
       so_far = marks_next script k command here within c.walk.marks c.add_if.new.self c.add_if.ensures c.walk.invariant.so_far;
       stood = stands_next script k command here within c.walk.marks c.walk.invariant.so_far c.args.budget c.args.machine.now.parts p (g.I.Source.left c.args.input.now) (g.I.Source.left c.walk.input) c.walk.invariant.stood
           q (g.I.Source.left c.obey.new.input) c.in-Done.ensures.obeys.state;
+      whole = comes_next script k command here within c.walk.marks c.walk.invariant.so_far c.args.budget c.args.machine.now.parts p (g.I.Source.left c.args.input.now) (g.I.Source.left c.walk.input) c.walk.invariant.stood
+          q (g.I.Source.left c.obey.new.input) (g.O.Sink.held c.args.output.now) (g.O.Sink.held c.walk.output) (g.O.Sink.held c.obey.new.output) (g.E.Sink.held c.args.errors.now) (g.E.Sink.held c.walk.errors) (g.E.Sink.held c.obey.new.errors) c.walk.invariant.whole
+          (comes_of (obeyed command c.walk.marks c.args.budget) p q (g.I.Source.left c.walk.input) (g.I.Source.left c.obey.new.input) (g.O.Sink.held c.walk.output) (g.O.Sink.held c.obey.new.output) (g.E.Sink.held c.walk.errors) (g.E.Sink.held c.obey.new.errors) Done c.in-Done.ensures.obeys);
       breaks = breaks_at script k command here within c.walk.marks c.add_if.new.self c.add_if.ensures c.walk.invariant.breaks;
       watches = watches_at script k command here within c.walk.marks c.add_if.new.self c.add_if.ensures c.walk.invariant.watches;
       read = c.in-Done.ensures.read_cause.kept (λ (h : Done ≡ ReadFault). cc) ∙ c.walk.invariant.read;
@@ -104,6 +110,11 @@ returns-in_default g c =
       read_named = c.obey.ensures.read_named;
       write_named = c.obey.ensures.leaves.write_named;
       errors_named = c.obey.ensures.errors_named;
+      whole_output = λ h. output_broken script k command here within c.walk.marks c.walk.invariant.so_far c.args.budget c.args.machine.now.parts p (g.I.Source.left c.args.input.now) (g.I.Source.left c.walk.input) c.walk.invariant.stood
+          c.obey.new.machine (g.I.Source.left c.obey.new.input) (g.O.Sink.held c.args.output.now) (g.O.Sink.held c.walk.output) (g.O.Sink.held c.obey.new.output) (g.E.Sink.held c.args.errors.now) (g.E.Sink.held c.walk.errors) (g.E.Sink.held c.obey.new.errors) c.obey.result c.walk.invariant.whole c.obey.ensures.leaves.whole c.obey.ensures.spares
+          (failed_by c.obey.new.machine.failed c.obey.result c.obey.ensures.leaves.line h) h;
+      whole_errors = errors_broken script k command here within c.walk.marks c.walk.invariant.so_far c.args.budget c.args.machine.now.parts p (g.I.Source.left c.args.input.now) (g.I.Source.left c.walk.input) c.walk.invariant.stood
+          c.obey.new.machine (g.I.Source.left c.obey.new.input) (g.O.Sink.held c.args.output.now) (g.O.Sink.held c.walk.output) (g.O.Sink.held c.obey.new.output) (g.E.Sink.held c.args.errors.now) (g.E.Sink.held c.walk.errors) (g.E.Sink.held c.obey.new.errors) c.obey.result c.walk.invariant.whole c.obey.ensures.leaves.whole c.obey.ensures.spares;
     }
 
 pub returns : goal.returns
@@ -129,4 +140,6 @@ returns g c =
       read_named = λ (h : Done ≡ ReadFault). cc;
       write_named = λ _. λ (h : Done ≡ WriteFault). cc;
       errors_named = λ (h : Done ≡ ErrorsFault). cc;
+      whole_output = either (Done ≡ ReadFault) (Done ≡ ErrorsFault) _ (λ (h : Done ≡ ReadFault). cc) (λ (h : Done ≡ ErrorsFault). cc);
+      whole_errors = either (Done ≡ ReadFault) (Done ≡ WriteFault) _ (λ (h : Done ≡ ReadFault). cc) (λ (h : Done ≡ WriteFault). cc);
     }

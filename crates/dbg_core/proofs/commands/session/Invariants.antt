@@ -2,7 +2,7 @@ use Rattle.std.proofs.Common.{◌≡◌, ◌≤◌, ◌+◌, false, drop, take, 
 use Rattle.emu_machine.specs.Ends.{Becomes}
 use Rattle.dbg_model.specs.Commands.{is_break, is_watch}
 use Rattle.dbg_model.specs.Session.{no_marks, obeyed_all, session}
-use Rattle.emu_machine.proofs.Composed.{Leads}
+use Rattle.emu_machine.proofs.Composed.{Comes, Leads}
 use Rattle.dbg_core.proofs.Standing.{marked_all}
 use Rattle.dbg_core.proofs.commands.session.Given as goal
 
@@ -13,6 +13,8 @@ invariant-walk g l = record {
       (g.O.Sink.held l.fn.output) (g.O.Sink.held l.output) (g.E.Sink.held l.fn.errors) (g.E.Sink.held l.errors);
   so_far : l.marks ≡ marked_all (take l.k l.script) no_marks;
   stood : Becomes (session (take l.k l.script) l.budget) l.fn.machine.parts l.machine.parts (g.I.Source.left l.fn.input) (g.I.Source.left l.input) false;
+  whole : Comes (session (take l.k l.script) l.budget) l.fn.machine.parts l.machine.parts (g.I.Source.left l.fn.input) (g.I.Source.left l.input)
+      (g.O.Sink.held l.fn.output) (g.O.Sink.held l.output) (g.E.Sink.held l.fn.errors) (g.E.Sink.held l.errors) false;
   breaks : length l.marks.breaks + count_by is_break (drop l.k l.script) ≤ 64;
   watches : length l.marks.watches + count_by is_watch (drop l.k l.script) ≤ 64;
   read : g.I.Source.faults l.input ≡ g.I.Source.faults l.fn.input;

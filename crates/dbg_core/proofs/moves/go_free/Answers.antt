@@ -1,4 +1,5 @@
-use Rattle.std.proofs.Common.{◌≡◌, false, sym, refl, arith}
+use Rattle.std.proofs.Common.{◌≡◌, false, sym, ap, refl, arith}
+use Rattle.emu_model.specs.State.{State}
 use Rattle.emu_system.specs.Start.{with_input}
 use Rattle.emu_run.specs.Run.{run}
 use Rattle.dbg_model.specs.Session.{no_marks}
@@ -9,6 +10,7 @@ use Rattle.dbg_core.proofs.Sessions.{prints, prints_moving, ending_text}
 use Rattle.dbg_core.proofs.Going.{go_at, at_free}
 use Rattle.dbg_core.proofs.Obeying.{obeys_as, obeys_same, obeys_cut, obeys_line, put_read, put_write, put_errs, no_read, no_errs}
 use Rattle.dbg_core.proofs.Leaving.{becomes_same, leaves_line, leaves_prints, leaves_same}
+use Rattle.dbg_core.proofs.Putting.{puts_same, spares_line, spares_same}
 use Rattle.dbg_core.proofs.moves.go_free.Goals as goal
 
 pub returns-in-Done : goal.returns-in-Done
@@ -27,6 +29,9 @@ returns-in-Done g c =
       leaves = leaves_line (go_at no_marks budget) budget p c.run_to.new.machine (g.I.Source.left c.args.input.now) (g.I.Source.left c.run_to.new.input) put c.end_of_put.result is c.in-Done.ensures.failed
           (becomes_same (λ st. prints ending_text (run st budget)) (go_at no_marks budget) p q (g.I.Source.left c.args.input.now) (g.I.Source.left c.run_to.new.input) false
           (λ input. sym (at_free budget (with_input p input))) c.in-Done.ensures.obeys.state);
+      spares = spares_line (go_at no_marks budget) p c.run_to.new.machine (g.I.Source.left c.args.input.now) (g.I.Source.left c.run_to.new.input) (g.O.Sink.held c.args.output.now) (g.O.Sink.held c.put_ending.new.sink) (g.E.Sink.held c.args.errors.now) (g.E.Sink.held c.run_to.new.errors) put c.end_of_put.result is c.in-Done.ensures.failed
+          (puts_same (λ st. (run st budget).errors) (λ st. (go_at no_marks budget st).errors) p (g.I.Source.left c.args.input.now) (g.E.Sink.held c.args.errors.now) (g.E.Sink.held c.run_to.new.errors)
+          (λ input. ap (λ (s : State). s.errors) (sym (at_free budget (with_input p input)))) c.in-Done.ensures.obeys.errors);
       done = λ _. c.in-Done.ensures.failed;
       read_cause = put_read put c.end_of_put.result is _ _ (c.in-Done.ensures.read_cause.kept (λ (h : Done ≡ ReadFault). cc));
       write_cause = put_write put c.end_of_put.result is _ _ _ (c.in-Done.ensures.write_cause.kept (λ (h : Done ≡ WriteFault). cc)) c.put_ending.ensures.cause;
@@ -52,3 +57,10 @@ returns-in_default-clause-leaves g c =
     leaves_same (λ st. prints ending_text (run st budget)) p m (g.I.Source.left c.args.input.now) (g.I.Source.left c.run_to.new.input) c.run_to.result (go_at no_marks budget) budget budget (omega arith)
     (λ input. sym (at_free budget (with_input p input)))
     (leaves_prints (λ st. run st budget) p m (g.I.Source.left c.args.input.now) (g.I.Source.left c.run_to.new.input) c.run_to.result ending_text budget c.run_to.ensures.leaves)
+
+pub returns-in_default-clause-spares : goal.returns-in_default-clause-spares
+returns-in_default-clause-spares g c =
+    let p = c.args.machine.now.parts in
+    let budget = c.args.budget in
+    spares_same (λ st. run st budget) (go_at no_marks budget) p c.run_to.new.machine (g.I.Source.left c.args.input.now) (g.I.Source.left c.run_to.new.input) (g.O.Sink.held c.args.output.now) (g.O.Sink.held c.run_to.new.output) (g.E.Sink.held c.args.errors.now) (g.E.Sink.held c.run_to.new.errors) c.run_to.result
+    (λ input. ap (λ (s : State). s.errors) (sym (at_free budget (with_input p input)))) c.run_to.ensures.spares

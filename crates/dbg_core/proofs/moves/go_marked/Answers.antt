@@ -1,5 +1,6 @@
 use Rattle.std.proofs.Common.{◌≡◌, ◌<◌, ◌≤◌, List, Bool, true, false, sym, ap, subst, ◌∙◌, refl, arith}
 use Rattle.emu_model.specs.declared.access.Access.{Access}
+use Rattle.emu_model.specs.State.{State}
 use Rattle.emu_system.specs.Start.{with_input}
 use Rattle.emu_run.specs.Step.{step}
 use Rattle.emu_machine.specs.Ends.{Becomes, is_undone}
@@ -10,9 +11,10 @@ use Rattle.dbg_core.specs.Ends.{is_fault, end_of_put, end_of_step}
 use Rattle.emu_machine.proofs.Composed.{leads_start}
 use Rattle.emu_machine.proofs.Runs.{comes_step, going_is_no, not_going}
 use Rattle.dbg_core.proofs.Sessions.{prints, ending_text}
-use Rattle.dbg_core.proofs.Going.{go_at, at_over, go_spent, go_goes, go_stops, go_ends, go_breaks, whole_spent, whole_stops, whole_ends}
+use Rattle.dbg_core.proofs.Going.{go_at, at_over, go_spent, go_goes, go_stops, go_ends, go_breaks, whole_spent, whole_stops, whole_ends, spent_errors, stops_errors, ends_errors}
 use Rattle.dbg_core.proofs.Leaving.{at_start, at_next, becomes_same, becomes_printed, leaves_line, leaves_step}
 use Rattle.dbg_core.proofs.Obeying.{obeys_as, obeys_same, obeys_put, over_by, going_by, not_ended, still_going, fault_of_step, not_done, causes_as, causes_later, last_step, put_read, put_write, put_errs, no_read, no_errs, read_named, errors_named}
+use Rattle.dbg_core.proofs.Putting.{errors_still, puts_same, spares_line, spares_step, with_next, with_start}
 use Rattle.dbg_core.proofs.moves.go_marked.Goals as goal
 
 pub returns-then-ended : goal.returns-then-ended
@@ -29,6 +31,10 @@ returns-then-ended g c =
           (becomes_same (prints ending_text) (go_at c.args.marks.now c.args.budget) p p (g.I.Source.left c.args.input.now) (g.I.Source.left c.args.input.now) false
           (λ input. sym (at_over c.args.marks.now c.args.budget (with_input p input) (over_by c.args.machine.now c.requires (sym c.ended.ensures ∙ c.if-ended.true))))
           (becomes_printed ending_text p (g.I.Source.left c.args.input.now)));
+      spares = spares_line (go_at c.args.marks.now c.args.budget) p c.args.machine.now (g.I.Source.left c.args.input.now) (g.I.Source.left c.args.input.now) (g.O.Sink.held c.args.output.now) (g.O.Sink.held c.put_ending.new.sink) (g.E.Sink.held c.args.errors.now) (g.E.Sink.held c.args.errors.now) put c.end_of_put.result is c.requires
+          (puts_same (λ st. st.errors) (λ st. (go_at c.args.marks.now c.args.budget st).errors) p (g.I.Source.left c.args.input.now) (g.E.Sink.held c.args.errors.now) (g.E.Sink.held c.args.errors.now)
+          (λ input. ap (λ (s : State). s.errors) (sym (at_over c.args.marks.now c.args.budget (with_input p input) (over_by c.args.machine.now c.requires (sym c.ended.ensures ∙ c.if-ended.true)))))
+          (errors_still p (g.I.Source.left c.args.input.now) (g.E.Sink.held c.args.errors.now)));
       done = λ _. c.requires;
       read_cause = put_read put c.end_of_put.result is _ _ refl;
       write_cause = put_write put c.end_of_put.result is _ _ _ refl c.put_ending.ensures.cause;
@@ -43,6 +49,7 @@ walk-init g c = record {
   going = going_by c.args.machine.now (sym c.ended.ensures ∙ c.if-ended.false);
   leads = leads_start (go_at c.args.marks.now c.args.budget) c.args.machine.now.parts (g.I.Source.left c.args.input.now) (g.O.Sink.held c.args.output.now) (g.E.Sink.held c.args.errors.now);
   came = at_start c.args.machine.now.parts (g.I.Source.left c.args.input.now);
+  put = with_start c.args.machine.now.parts (g.I.Source.left c.args.input.now) (g.O.Sink.held c.args.output.now) (g.E.Sink.held c.args.errors.now);
   read = refl;
   write = refl;
   errors = refl;
@@ -72,6 +79,11 @@ walk-preserved g c =
           (is_undone r) false fine c.step.ensures.state c.step.ensures.input c.step.ensures.output c.step.ensures.errors);
       came = at_next c.args.machine.now.parts p q (g.I.Source.left c.args.input.now) (g.I.Source.left c.walk.input) (g.I.Source.left c.step.new.input) c.walk.invariant.going
           (subst (λ (b : Bool). Becomes step p q (g.I.Source.left c.walk.input) (g.I.Source.left c.step.new.input) b) fine c.step.ensures.state) c.walk.invariant.came;
+      put = with_next c.args.machine.now.parts p q (g.I.Source.left c.walk.input) (g.I.Source.left c.step.new.input) (g.O.Sink.held c.args.output.now) (g.O.Sink.held c.walk.output) (g.O.Sink.held c.step.new.output) (g.E.Sink.held c.args.errors.now) (g.E.Sink.held c.walk.errors) (g.E.Sink.held c.step.new.errors)
+          (g.I.Source.left c.args.input.now) c.walk.invariant.going
+          (comes_step p q (g.I.Source.left c.walk.input) (g.I.Source.left c.step.new.input) (g.O.Sink.held c.walk.output) (g.O.Sink.held c.step.new.output) (g.E.Sink.held c.walk.errors) (g.E.Sink.held c.step.new.errors)
+          (is_undone r) false fine c.step.ensures.state c.step.ensures.input c.step.ensures.output c.step.ensures.errors)
+          c.walk.invariant.put;
       read = c.step.ensures.read_cause.kept (going_is_no r steps.ReadFault (λ (h : steps.Going ≡ steps.ReadFault). cc) c.in-Going.is) ∙ c.walk.invariant.read;
       write = c.step.ensures.write_cause.kept (going_is_no r steps.WriteFault (λ (h : steps.Going ≡ steps.WriteFault). cc) c.in-Going.is) ∙ c.walk.invariant.write;
       errors = c.step.ensures.errors_cause.kept (going_is_no r steps.ErrorsFault (λ (h : steps.Going ≡ steps.ErrorsFault). cc) c.in-Going.is) ∙ c.walk.invariant.errors;
@@ -100,6 +112,14 @@ returns-in-Some g c =
       leaves = leaves_line (go_at c.args.marks.now c.args.budget) c.args.budget c.args.machine.now.parts c.step.new.self (g.I.Source.left c.args.input.now) (g.I.Source.left c.step.new.input) put c.end_of_put-in-Some.result is
           (c.step.ensures.failed ∙ fine)
           (whole_stops c.args.marks.now c.args.budget c.args.machine.now.parts p q (g.I.Source.left c.args.input.now) (g.I.Source.left c.walk.input) (g.I.Source.left c.step.new.input)
+          (g.O.Sink.held c.args.output.now) (g.O.Sink.held c.walk.output) (g.O.Sink.held c.step.new.output) (g.E.Sink.held c.args.errors.now) (g.E.Sink.held c.walk.errors) (g.E.Sink.held c.step.new.errors)
+          c.walk.invariant.leads c.walk.invariant.going below c.in-Some.stop
+          (ap (λ (made : List Access). mark_met c.args.marks.now made q) (sym c.step.ensures.accesses) ∙ sym c.point_met.ensures ∙ c.in-Some.is)
+          (comes_step p q (g.I.Source.left c.walk.input) (g.I.Source.left c.step.new.input) (g.O.Sink.held c.walk.output) (g.O.Sink.held c.step.new.output) (g.E.Sink.held c.walk.errors) (g.E.Sink.held c.step.new.errors)
+          (is_undone r) false fine c.step.ensures.state c.step.ensures.input c.step.ensures.output c.step.ensures.errors));
+      spares = spares_line (go_at c.args.marks.now c.args.budget) c.args.machine.now.parts c.step.new.self (g.I.Source.left c.args.input.now) (g.I.Source.left c.step.new.input) (g.O.Sink.held c.args.output.now) (g.O.Sink.held c.put_met.new.sink) (g.E.Sink.held c.args.errors.now) (g.E.Sink.held c.step.new.errors) put c.end_of_put-in-Some.result is
+          (c.step.ensures.failed ∙ fine)
+          (stops_errors c.args.marks.now c.args.budget c.args.machine.now.parts p q (g.I.Source.left c.args.input.now) (g.I.Source.left c.walk.input) (g.I.Source.left c.step.new.input)
           (g.O.Sink.held c.args.output.now) (g.O.Sink.held c.walk.output) (g.O.Sink.held c.step.new.output) (g.E.Sink.held c.args.errors.now) (g.E.Sink.held c.walk.errors) (g.E.Sink.held c.step.new.errors)
           c.walk.invariant.leads c.walk.invariant.going below c.in-Some.stop
           (ap (λ (made : List Access). mark_met c.args.marks.now made q) (sym c.step.ensures.accesses) ∙ sym c.point_met.ensures ∙ c.in-Some.is)
@@ -142,6 +162,14 @@ returns-in-Done g c =
           (not_going q.ended r (c.step.ensures.end fine) c.in_default.not-Going)
           (comes_step p q (g.I.Source.left c.walk.input) (g.I.Source.left c.step.new.input) (g.O.Sink.held c.walk.output) (g.O.Sink.held c.step.new.output) (g.E.Sink.held c.walk.errors) (g.E.Sink.held c.step.new.errors)
           (is_undone r) false fine c.step.ensures.state c.step.ensures.input c.step.ensures.output c.step.ensures.errors));
+      spares = spares_line (go_at c.args.marks.now c.args.budget) c.args.machine.now.parts c.step.new.self (g.I.Source.left c.args.input.now) (g.I.Source.left c.step.new.input) (g.O.Sink.held c.args.output.now) (g.O.Sink.held c.put_ending-in-Done.new.sink) (g.E.Sink.held c.args.errors.now) (g.E.Sink.held c.step.new.errors) put c.end_of_put-in-Done.result is
+          (c.step.ensures.failed ∙ fine)
+          (ends_errors c.args.marks.now c.args.budget c.args.machine.now.parts p q (g.I.Source.left c.args.input.now) (g.I.Source.left c.walk.input) (g.I.Source.left c.step.new.input)
+          (g.O.Sink.held c.args.output.now) (g.O.Sink.held c.walk.output) (g.O.Sink.held c.step.new.output) (g.E.Sink.held c.args.errors.now) (g.E.Sink.held c.walk.errors) (g.E.Sink.held c.step.new.errors)
+          c.walk.invariant.leads c.walk.invariant.going below
+          (not_going q.ended r (c.step.ensures.end fine) c.in_default.not-Going)
+          (comes_step p q (g.I.Source.left c.walk.input) (g.I.Source.left c.step.new.input) (g.O.Sink.held c.walk.output) (g.O.Sink.held c.step.new.output) (g.E.Sink.held c.walk.errors) (g.E.Sink.held c.step.new.errors)
+          (is_undone r) false fine c.step.ensures.state c.step.ensures.input c.step.ensures.output c.step.ensures.errors));
       done = λ _. c.step.ensures.failed ∙ fine;
       read_cause = put_read put c.end_of_put-in-Done.result is _ _ (c.step.ensures.read_cause.kept (λ h. let e : Done ≡ ReadFault = sym over ∙ ap end_of_step h in cc) ∙ c.walk.invariant.read);
       write_cause = put_write put c.end_of_put-in-Done.result is _ _ _ (c.step.ensures.write_cause.kept (λ h. let e : Done ≡ WriteFault = sym over ∙ ap end_of_step h in cc) ∙ c.walk.invariant.write) c.put_ending-in-Done.ensures.cause;
@@ -170,6 +198,8 @@ returns-in_default-end_of_step g c =
           (is_undone r) true broken c.step.ensures.state c.step.ensures.input c.step.ensures.output c.step.ensures.errors);
       leaves = leaves_step (go_at c.args.marks.now c.args.budget) c.args.budget c.args.machine.now.parts p c.step.new.self (g.I.Source.left c.args.input.now) (g.I.Source.left c.walk.input) (g.I.Source.left c.step.new.input)
           r end is broken c.step.ensures.failed c.walk.invariant.came c.step.ensures.kept c.step.ensures.unstored c.step.ensures.write_named below c.walk.invariant.going;
+      spares = spares_step (go_at c.args.marks.now c.args.budget) c.args.machine.now.parts p c.step.new.self (g.I.Source.left c.args.input.now) (g.I.Source.left c.walk.input) (g.I.Source.left c.step.new.input) (g.O.Sink.held c.args.output.now) (g.O.Sink.held c.walk.output) (g.O.Sink.held c.step.new.output) (g.E.Sink.held c.args.errors.now) (g.E.Sink.held c.walk.errors) (g.E.Sink.held c.step.new.errors)
+          r end is broken c.step.ensures.failed c.walk.invariant.put c.step.ensures.kept (λ h. ap g.O.Sink.held (c.step.ensures.output_kept h)) (λ h. ap g.E.Sink.held (c.step.ensures.errors_kept h));
       done = λ h. absurd (other h);
       read_cause = causes_later _ _ _ _ c.walk.invariant.read (causes_as _ _ _ _ (λ h. is ∙ ap end_of_step h) (λ h. last_step r ReadFault (sym is ∙ h)) c.step.ensures.read_cause);
       write_cause = causes_later _ _ _ _ c.walk.invariant.write (causes_as _ _ _ _ (λ h. is ∙ ap end_of_step h) (λ h. last_step r WriteFault (sym is ∙ h)) c.step.ensures.write_cause);
@@ -193,6 +223,10 @@ returns g c =
           c.walk.invariant.leads (g.O.Sink.held c.put_ending-2.new.sink) put spent c.put_ending-2.ensures.bytes);
       leaves = leaves_line (go_at c.args.marks.now c.args.budget) c.args.budget c.args.machine.now.parts c.walk.machine (g.I.Source.left c.args.input.now) (g.I.Source.left c.walk.input) put c.end_of_put-2.result is c.walk.invariant.failed
           (whole_spent c.args.marks.now c.args.budget c.args.machine.now.parts p p (g.I.Source.left c.args.input.now) (g.I.Source.left c.walk.input) (g.I.Source.left c.walk.input)
+          (g.O.Sink.held c.args.output.now) (g.O.Sink.held c.walk.output) (g.O.Sink.held c.walk.output) (g.E.Sink.held c.args.errors.now) (g.E.Sink.held c.walk.errors) (g.E.Sink.held c.walk.errors)
+          c.walk.invariant.leads spent);
+      spares = spares_line (go_at c.args.marks.now c.args.budget) c.args.machine.now.parts c.walk.machine (g.I.Source.left c.args.input.now) (g.I.Source.left c.walk.input) (g.O.Sink.held c.args.output.now) (g.O.Sink.held c.put_ending-2.new.sink) (g.E.Sink.held c.args.errors.now) (g.E.Sink.held c.walk.errors) put c.end_of_put-2.result is c.walk.invariant.failed
+          (spent_errors c.args.marks.now c.args.budget c.args.machine.now.parts p p (g.I.Source.left c.args.input.now) (g.I.Source.left c.walk.input) (g.I.Source.left c.walk.input)
           (g.O.Sink.held c.args.output.now) (g.O.Sink.held c.walk.output) (g.O.Sink.held c.walk.output) (g.E.Sink.held c.args.errors.now) (g.E.Sink.held c.walk.errors) (g.E.Sink.held c.walk.errors)
           c.walk.invariant.leads spent);
       done = λ _. c.walk.invariant.failed;

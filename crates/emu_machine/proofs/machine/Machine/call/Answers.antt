@@ -1,6 +1,8 @@
-use Rattle.std.proofs.Common.{◌≡◌, Some, None, refl, ap, subst, ◌∙◌}
+use Rattle.std.proofs.Common.{◌≡◌, false, Some, None, refl, ap, subst, ◌∙◌}
 use Rattle.emu_model.specs.State.{Core, Parts, Vectors}
 use Rattle.linux_calls.specs.declared.end.CallEnd.TheVariants.{ReadFault as CallReadFault, WriteFault as CallWriteFault, ErrorsFault as CallErrorsFault}
+use Rattle.emu_system.specs.SystemCall.{action}
+use Rattle.linux_calls.specs.Ends.{caller, does_put}
 use Rattle.linux_calls.specs.Names.{NamesRead, NamesWrite}
 use Rattle.emu_machine.specs.declared.ends.StepEnd.TheVariants.{ReadFault, WriteFault, ErrorsFault}
 use Rattle.emu_machine.specs.Ends.{step_by}
@@ -8,6 +10,7 @@ use Rattle.emu_machine.specs.Machines.{MachineState, has_ended}
 use Rattle.emu_machine.proofs.CallLaws.{count_left, end_left, end_made, ended_as, errors_made, kept_left, not_ended, output_made, parts_made, state_made, taken_within, undone, unstored_left}
 use Rattle.emu_machine.proofs.Kept.{left_keeps}
 use Rattle.emu_machine.proofs.Runs.{causes_from}
+use Rattle.emu_machine.proofs.Spared.{either, read_puts_none, write_puts_none}
 use Rattle.emu_machine.proofs.machine.Machine.call.Goals as goal
 
 abbrev before : (g : _) → goal.After-leave g → Parts
@@ -67,4 +70,10 @@ returns g c =
       read_named = λ h. subst (λ (x : Parts). NamesRead x.core) same (e.read_named (ended_as end r p q is same ReadFault h));
       write_named = λ h. subst (λ (x : Parts). NamesWrite x.core 1) same (e.write_named (ended_as end r p q is same WriteFault h));
       errors_named = λ h. subst (λ (x : Parts). NamesWrite x.core 2) same (e.errors_named (ended_as end r p q is same ErrorsFault h));
+      output_kept = λ h. e.output_kept (either (r ≡ ReadFault) (r ≡ ErrorsFault) (does_put 1 (action (caller p.core p.vectors p.memory p.brk)) ≡ false)
+          (λ so. read_puts_none 1 (caller p.core p.vectors p.memory p.brk) (e.read_named (ended_as end r p q is same ReadFault so)))
+          (λ so. write_puts_none 1 (caller p.core p.vectors p.memory p.brk) 2 refl (e.errors_named (ended_as end r p q is same ErrorsFault so))) h);
+      errors_kept = λ h. e.errors_kept (either (r ≡ ReadFault) (r ≡ WriteFault) (does_put 2 (action (caller p.core p.vectors p.memory p.brk)) ≡ false)
+          (λ so. read_puts_none 2 (caller p.core p.vectors p.memory p.brk) (e.read_named (ended_as end r p q is same ReadFault so)))
+          (λ so. write_puts_none 2 (caller p.core p.vectors p.memory p.brk) 1 refl (e.write_named (ended_as end r p q is same WriteFault so))) h);
     }

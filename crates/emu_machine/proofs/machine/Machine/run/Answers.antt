@@ -11,6 +11,7 @@ use Rattle.emu_machine.proofs.Logs.{Logs, logs_start, logs_on, logs_end, logs_as
 use Rattle.emu_machine.proofs.Stands.{stands_start, stands_on, stands_there, kept_there}
 use Rattle.emu_machine.proofs.Composed.{leads_start}
 use Rattle.emu_machine.proofs.Runs.{Ran, broken_as, done_by_end, going_by, not_ended, run_counts, run_stops, run_spends, not_going, goes_on_after, ran_as, ran_when, end_as, failed_as, last_step, going_is_no, causes_from, ran_step, still_reads}
+use Rattle.emu_machine.proofs.Spared.{any_counts, any_start, errors_fault, errors_undone, errors_whole, no_errors_fault, no_output_fault, output_fault, output_undone, output_whole}
 use Rattle.emu_machine.proofs.Advanced.{causes_not, last_logs, last_ran, leads_ahead, logs_ahead, none_broken, not_both, spent_logs, spent_ran, stands_ahead}
 use Rattle.emu_machine.proofs.machine.Machine.run.Goals as goal
 
@@ -21,6 +22,7 @@ loop-self-init g c = record {
   leads = leads_start _ _ _ _ _;
   logs = logs_start _ _ _ _;
   stands = stands_start _ _;
+  any = any_start _ _ _ _;
   marks = refl;
   saved = refl;
   read = refl;
@@ -51,6 +53,7 @@ loop-self-preserved g c =
           (ran_when _ _ _ _ _ _ _ _ _ _ _ (ap is_undone c.in-Going.is) stepped) logs counted);
       stands = stands_on c.args.budget _ p _ _ _ _ _ q _ _ _ _ leads
           (ran_when _ _ _ _ _ _ _ _ _ _ _ (ap is_undone c.in-Going.is) stepped) ahead.goes counted stands;
+      any = any_counts _ _ p _ _ ahead _ _ _ _ _ _ c.loop-self.invariant.any q _ _ _ counted (ran_when _ _ _ _ _ _ _ _ _ _ _ (ap is_undone c.in-Going.is) stepped);
       marks = c.step.ensures.marks ∙ ahead_keeps _ _ _ _ ahead ∙ c.loop-self.invariant.marks;
       saved = c.step.ensures.saved ∙ c.advance.ensures.saved ∙ c.loop-self.invariant.saved;
       read = c.step.ensures.read_cause.kept (going_is_no c.step.result ReadFault (λ (e : Going ≡ ReadFault). cc) c.in-Going.is) ∙ c.loop-self.invariant.read;
@@ -85,6 +88,8 @@ returns-in-GoesOn g c =
       read_named = λ h. not_both _ _ refl (ap is_broken_off h);
       write_named = λ h. not_both _ _ refl (ap is_broken_off h);
       errors_named = λ h. not_both _ _ refl (ap is_broken_off h);
+      whole_output = no_output_fault _ _ refl;
+      whole_errors = no_errors_fault _ _ refl;
     }
 
 pub returns-in-Trapped : goal.returns-in-Trapped
@@ -118,6 +123,8 @@ returns-in-Trapped g c =
       read_named = λ h. not_both _ _ whole (ap is_broken_off h);
       write_named = λ h. not_both _ _ whole (ap is_broken_off h);
       errors_named = λ h. not_both _ _ whole (ap is_broken_off h);
+      whole_output = no_output_fault _ _ whole;
+      whole_errors = no_errors_fault _ _ whole;
     }
 
 pub returns-in_default : goal.returns-in_default
@@ -165,6 +172,14 @@ returns-in_default g c =
           subst (λ (m : Parts). MakesWrite m 1) {x = c.advance.new.self.parts} (sym (c.step.ensures.unstored (ap is_unput r))) (c.step.ensures.write_named r);
       errors_named = λ h. let r = last_step c.step.result c.run_end_of-in_default.result _ c.run_end_of-in_default.ensures h in
           subst (λ (m : Parts). MakesWrite m 2) {x = c.advance.new.self.parts} (sym (c.step.ensures.unstored (ap is_unput r))) (c.step.ensures.errors_named r);
+      whole_output = λ h.
+          let fault = output_fault c.step.result c.run_end_of-in_default.result c.run_end_of-in_default.ensures h in
+          let same : q.steps ≡ p.steps = ap (λ (m : Parts). m.steps) (c.step.ensures.kept (output_undone c.step.result fault)).is in
+          output_whole _ _ p _ _ ahead _ _ _ _ _ _ c.loop-self.invariant.any q same _ (ap g.O.Sink.held (c.step.ensures.output_kept fault));
+      whole_errors = λ h.
+          let fault = errors_fault c.step.result c.run_end_of-in_default.result c.run_end_of-in_default.ensures h in
+          let same : q.steps ≡ p.steps = ap (λ (m : Parts). m.steps) (c.step.ensures.kept (errors_undone c.step.result fault)).is in
+          errors_whole _ _ p _ _ ahead _ _ _ _ _ _ c.loop-self.invariant.any q same _ (ap g.E.Sink.held (c.step.ensures.errors_kept fault));
     }
 
 pub returns-clause-state : goal.returns-clause-state

@@ -50,6 +50,8 @@ returns-in_default g c =
       read_named = λ e. not_both _ _ (done g c) (ap is_undone e);
       write_named = λ e. not_both _ _ (done g c) (ap is_undone e);
       errors_named = λ e. not_both _ _ (done g c) (ap is_undone e);
+      output_kept = λ _. refl;
+      errors_kept = λ _. refl;
     }
 
 -- the machine that makes the call is the one that asked for it
@@ -94,4 +96,6 @@ returns-in-AtCall g c =
       read_named = λ h. record { svc = at; names = subst (λ (x : Parts). NamesRead x.core) is (c.call.ensures.read_named h) };
       write_named = λ h. record { svc = at; names = subst (λ (x : Parts). NamesWrite x.core 1) is (c.call.ensures.write_named h) };
       errors_named = λ h. record { svc = at; names = subst (λ (x : Parts). NamesWrite x.core 2) is (c.call.ensures.errors_named h) };
+      output_kept = c.call.ensures.output_kept;
+      errors_kept = c.call.ensures.errors_kept;
     }

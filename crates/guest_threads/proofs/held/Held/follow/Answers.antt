@@ -1,6 +1,7 @@
 use Rattle.std.proofs.Common.{◌≡◌, ◌<◌, ◌+◌, ◌-◌, is_none, true, false, ap, sym, refl, subst, ◌∙◌, arith}
 use Rattle.emu_machine.specs.Ends.{is_undone}
 use Rattle.emu_machine.proofs.Advanced.{causes_not, none_broken, not_both}
+use Rattle.emu_machine.proofs.Spared.{errors_undone, output_undone}
 use Rattle.emu_machine.specs.declared.ends.StepEnd.{StepEnd}
 use Rattle.emu_machine.specs.declared.ends.StepEnd.TheVariants.{Going, ReadFault, WriteFault, ErrorsFault}
 use Rattle.emu_run.specs.Worlds.{World}
@@ -15,6 +16,7 @@ use Rattle.guest_threads.proofs.Picked.{place_at}
 use Rattle.guest_threads.proofs.Quiet.{ends_lives, quiet_lives, quiet_steps}
 use Rattle.guest_threads.proofs.Followed.{Reached, before_end, followed_after, followed_by, followed_lives, goes_ready, going_by, ran_over, reached_behind, reached_on}
 use Rattle.guest_threads.proofs.Stood.{moved}
+use Rattle.guest_threads.proofs.Whole.{any_start, errors_fault, errors_whole, no_errors_fault, no_output_fault, output_fault, output_whole}
 use Rattle.guest_threads.proofs.WholeTurns.{begins_behind}
 use Rattle.guest_threads.proofs.Runs.{ended_unspent, ran_step, ran_when, run_stops, run_spends, run_sticks, broken_as, unbroken, not_going, end_as, goes_on_after, unended, stops, sticks, read_of, write_of, errors_of, never_spent, going_is_no, causes_from, lives_on}
 use Rattle.guest_threads.proofs.Named.{not_on}
@@ -28,6 +30,7 @@ loop-place-init g c = record {
   placed = record { turn = c.requires.schedule.some; used = has_one c.args.schedule.now 0 c.requires.schedule.steps c.requires.schedule.some; held = λ (h : true ≡ false). cc };
   leads = leads_start _ _ _ _ _;
   stands = stands_start c.args.schedule.now c.args.self.now.world (g.I.Source.left c.args.input.now);
+  any = any_start c.args.schedule.now c.args.self.now.world _ _ _;
   living = λ h. h;
   read = refl;
   write = refl;
@@ -132,7 +135,7 @@ loop-place-preserved g c =
     let next : Place = c.next_place-next.result in
     let behind : Reached c.args.schedule.now c.args.budget c.args.self.now.world (g.I.Source.left c.args.input.now) (g.I.Source.left c.go.new.input) (g.O.Sink.held c.args.output.now) (g.O.Sink.held c.go.new.output) (g.E.Sink.held c.args.errors.now) (g.E.Sink.held c.go.new.errors) next q =
     reached_behind c.args.schedule.now c.args.budget c.args.self.now.world (g.I.Source.left c.args.input.now) (g.I.Source.left c.loop-place.input) (g.O.Sink.held c.args.output.now) (g.O.Sink.held c.loop-place.output) (g.E.Sink.held c.args.errors.now) (g.E.Sink.held c.loop-place.errors)
-    c.loop-place.place k c.turn_until-until.result p (record { leads = c.loop-place.invariant.leads; stands = c.loop-place.invariant.stands }) (unended p.ended c.loop-place.self.failed c.loop-place.invariant.going) c.in-Some.ensures until.within (omega (arith, turn, steps))
+    c.loop-place.place k c.turn_until-until.result p (record { leads = c.loop-place.invariant.leads; stands = c.loop-place.invariant.stands; any = c.loop-place.invariant.any }) (unended p.ended c.loop-place.self.failed c.loop-place.invariant.going) c.in-Some.ensures until.within (omega (arith, turn, steps))
     (g.I.Source.left c.go.new.input) (g.O.Sink.held c.go.new.output) (g.E.Sink.held c.go.new.errors) q c.used_behind-used.result next
     (subst (λ (e : StepEnd). TakesSteps k c.turn_until-until.result p q e (g.I.Source.left c.loop-place.input) (g.I.Source.left c.go.new.input) (g.O.Sink.held c.loop-place.output) (g.O.Sink.held c.go.new.output) (g.E.Sink.held c.loop-place.errors) (g.E.Sink.held c.go.new.errors)) on t)
     (omega (arith, is, steps, after, counted, taken)) c.next_place-next.ensures.place in
@@ -151,6 +154,7 @@ loop-place-preserved g c =
       placed = d.placed;
       leads = there.0.leads;
       stands = there.0.stands;
+      any = there.0.any;
       living = λ _. followed_lives c.args.schedule.now d.count next c.in-Some-take_turns.there q v d.followed (c.go.ensures.living (ap is_undone on));
       read = read;
       write = write;
@@ -176,7 +180,7 @@ returns-in_default-take_turns g c =
     let next : Place = c.next_place-next.result in
     let behind : Reached c.args.schedule.now c.args.budget c.args.self.now.world (g.I.Source.left c.args.input.now) (g.I.Source.left c.go.new.input) (g.O.Sink.held c.args.output.now) (g.O.Sink.held c.go.new.output) (g.E.Sink.held c.args.errors.now) (g.E.Sink.held c.go.new.errors) next q =
     reached_behind c.args.schedule.now c.args.budget c.args.self.now.world (g.I.Source.left c.args.input.now) (g.I.Source.left c.loop-place.input) (g.O.Sink.held c.args.output.now) (g.O.Sink.held c.loop-place.output) (g.E.Sink.held c.args.errors.now) (g.E.Sink.held c.loop-place.errors)
-    c.loop-place.place k c.turn_until-until.result p (record { leads = c.loop-place.invariant.leads; stands = c.loop-place.invariant.stands }) (unended p.ended c.loop-place.self.failed c.loop-place.invariant.going) c.in-Some.ensures until.within (omega (arith, turn, steps))
+    c.loop-place.place k c.turn_until-until.result p (record { leads = c.loop-place.invariant.leads; stands = c.loop-place.invariant.stands; any = c.loop-place.invariant.any }) (unended p.ended c.loop-place.self.failed c.loop-place.invariant.going) c.in-Some.ensures until.within (omega (arith, turn, steps))
     (g.I.Source.left c.go.new.input) (g.O.Sink.held c.go.new.output) (g.E.Sink.held c.go.new.errors) q c.used_behind-used.result next
     (subst (λ (e : StepEnd). TakesSteps k c.turn_until-until.result p q e (g.I.Source.left c.loop-place.input) (g.I.Source.left c.go.new.input) (g.O.Sink.held c.loop-place.output) (g.O.Sink.held c.go.new.output) (g.E.Sink.held c.loop-place.errors) (g.E.Sink.held c.go.new.errors)) on t)
     (omega (arith, is, steps, after, counted, taken)) c.next_place-next.ensures.place in
@@ -207,6 +211,8 @@ returns-in_default-take_turns g c =
       read_named = λ h. not_both _ _ fine (ap is_broken_off h);
       write_named = λ h. not_both _ _ fine (ap is_broken_off h);
       errors_named = λ h. not_both _ _ fine (ap is_broken_off h);
+      whole_output = no_output_fault _ _ fine;
+      whole_errors = no_errors_fault _ _ fine;
     }
 
 pub returns-in_default-go : goal.returns-in_default-go
@@ -226,7 +232,7 @@ returns-in_default-go g c =
     let picked = c.in-Some.ensures in
     let place = moved c.loop-place.place k t.count in
     let stood = before_end c.args.schedule.now c.args.budget c.args.self.now.world (g.I.Source.left c.args.input.now) (g.I.Source.left c.loop-place.input) (g.O.Sink.held c.args.output.now) (g.O.Sink.held c.loop-place.output) (g.E.Sink.held c.args.errors.now) (g.E.Sink.held c.loop-place.errors)
-    c.loop-place.place k c.turn_until-until.result p (record { leads = c.loop-place.invariant.leads; stands = c.loop-place.invariant.stands }) (unended p.ended c.loop-place.self.failed c.loop-place.invariant.going) picked within (omega (arith, turn, steps))
+    c.loop-place.place k c.turn_until-until.result p (record { leads = c.loop-place.invariant.leads; stands = c.loop-place.invariant.stands; any = c.loop-place.invariant.any }) (unended p.ended c.loop-place.self.failed c.loop-place.invariant.going) picked within (omega (arith, turn, steps))
     t.count at t.quiet near in
     let goes_so = goes_ready at k stood.goes stood.at in
     let stepped_so = ran_step k at q (g.I.Source.left c.loop-place.input) (g.I.Source.left c.go.new.input) (g.O.Sink.held c.loop-place.output) (g.O.Sink.held c.go.new.output) (g.E.Sink.held c.loop-place.errors) (g.E.Sink.held c.go.new.errors) (is_undone end) t.state t.input t.output t.errors in
@@ -256,6 +262,14 @@ returns-in_default-go g c =
       read_named = λ h. c.go.ensures.read_named (read_of q end other (sym is ∙ h));
       write_named = λ h. c.go.ensures.write_named (write_of q end other (sym is ∙ h));
       errors_named = λ h. c.go.ensures.errors_named (errors_of q end other (sym is ∙ h));
+      whole_output = λ h.
+          let fault = output_fault q end other c.end_of.result is h in
+          let same : q.steps ≡ at.steps = ap (λ (w : World). w.steps) (t.kept (output_undone end fault)).is in
+          output_whole c.args.schedule.now _ place at q _ _ _ _ _ _ stood.holds.any same _ (ap g.O.Sink.held (c.go.ensures.output_kept fault));
+      whole_errors = λ h.
+          let fault = errors_fault q end other c.end_of.result is h in
+          let same : q.steps ≡ at.steps = ap (λ (w : World). w.steps) (t.kept (errors_undone end fault)).is in
+          errors_whole c.args.schedule.now _ place at q _ _ _ _ _ _ stood.holds.any same _ (ap g.E.Sink.held (c.go.ensures.errors_kept fault));
     }
 
 pub returns-in_default-clause-state : goal.returns-in_default-clause-state
@@ -323,3 +337,15 @@ returns-clause-write_named g c = λ h. not_both _ _ (ap is_broken_off c.end-2.en
 
 pub returns-clause-errors_named : goal.returns-clause-errors_named
 returns-clause-errors_named g c = λ h. not_both _ _ (ap is_broken_off c.end-2.ensures ∙ unbroken c.loop-place.self.world) (ap is_broken_off h)
+
+pub returns-in_default-clause-whole_output : goal.returns-in_default-clause-whole_output
+returns-in_default-clause-whole_output g c = no_output_fault _ _ (ap is_broken_off c.end.ensures ∙ unbroken c.loop-place.self.world)
+
+pub returns-in_default-clause-whole_errors : goal.returns-in_default-clause-whole_errors
+returns-in_default-clause-whole_errors g c = no_errors_fault _ _ (ap is_broken_off c.end.ensures ∙ unbroken c.loop-place.self.world)
+
+pub returns-clause-whole_output : goal.returns-clause-whole_output
+returns-clause-whole_output g c = no_output_fault _ _ (ap is_broken_off c.end-2.ensures ∙ unbroken c.loop-place.self.world)
+
+pub returns-clause-whole_errors : goal.returns-clause-whole_errors
+returns-clause-whole_errors g c = no_errors_fault _ _ (ap is_broken_off c.end-2.ensures ∙ unbroken c.loop-place.self.world)

@@ -37,6 +37,8 @@ returns-then-advance g c =
       read_named = λ e. not_both _ _ fine (ap is_undone e);
       write_named = λ e. not_both _ _ fine (ap is_undone e);
       errors_named = λ e. not_both _ _ fine (ap is_undone e);
+      output_kept = λ _. refl;
+      errors_kept = λ _. refl;
     }
 
 -- steps were taken, and the world goes on
@@ -58,6 +60,8 @@ returns-then-after-before g c =
       read_named = λ e. cc;
       write_named = λ e. cc;
       errors_named = λ e. cc;
+      output_kept = λ _. refl;
+      errors_kept = λ _. refl;
     }
 
 -- the first one is any step
@@ -91,4 +95,6 @@ returns g c =
       read_named = o.read_named;
       write_named = o.write_named;
       errors_named = o.errors_named;
+      output_kept = o.output_kept;
+      errors_kept = o.errors_kept;
     }

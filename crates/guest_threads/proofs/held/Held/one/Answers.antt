@@ -53,6 +53,8 @@ returns-in-Some g c =
       read_named = λ e. not_both _ _ fine (ap is_undone e);
       write_named = λ e. not_both _ _ fine (ap is_undone e);
       errors_named = λ e. not_both _ _ fine (ap is_undone e);
+      output_kept = λ _. refl;
+      errors_kept = λ _. refl;
     }
 
 -- the step of a machine alone
@@ -92,4 +94,6 @@ returns-in-None g c =
       read_named = m.read_named;
       write_named = m.write_named;
       errors_named = m.errors_named;
+      output_kept = m.output_kept;
+      errors_kept = m.errors_kept;
     }

@@ -2,6 +2,7 @@ use Rattle.std.proofs.Common.{◌≡◌, ℕ, Bool, sym, ap, subst, ◌∙◌}
 use Rattle.emu_machine.specs.declared.ends.StepEnd.{StepEnd}
 use Rattle.emu_machine.specs.declared.ends.StepEnd.TheVariants.{ReadFault, WriteFault, ErrorsFault}
 use Rattle.emu_machine.specs.Ends.{is_undone}
+use Rattle.emu_machine.proofs.Spared.{each_way}
 use Rattle.io_gate.specs.Streams.{Causes}
 use Rattle.emu_run.specs.Threads.{stepped}
 use Rattle.emu_run.specs.Worlds.{World}
@@ -37,4 +38,6 @@ returns g c =
       read_named = λ e. o.read_named (is ∙ e);
       write_named = λ e. o.write_named (is ∙ e);
       errors_named = λ e. o.errors_named (is ∙ e);
+      output_kept = λ h. o.output_kept (each_way _ _ _ _ (λ (e : last_end c.went_by.result q.ended ≡ ReadFault). is ∙ e) (λ (e : last_end c.went_by.result q.ended ≡ ErrorsFault). is ∙ e) h);
+      errors_kept = λ h. o.errors_kept (each_way _ _ _ _ (λ (e : last_end c.went_by.result q.ended ≡ ReadFault). is ∙ e) (λ (e : last_end c.went_by.result q.ended ≡ WriteFault). is ∙ e) h);
     }

@@ -43,6 +43,8 @@ returns-then-is_fault g c =
       read_named = λ e. subst (λ (x : Parts). NamesRead x.core) (sym here) (subst (λ (x : Parts). NamesRead x.core) (sym (m.kept b).is) (m.read_named e).names);
       write_named = λ e. subst (λ (x : Parts). MakesWrite x 1) (sym (here ∙ m.unstored (ap is_unput e))) (m.write_named e);
       errors_named = λ e. subst (λ (x : Parts). MakesWrite x 2) (sym (here ∙ m.unstored (ap is_unput e))) (m.errors_named e);
+      output_kept = m.output_kept;
+      errors_kept = m.errors_kept;
     }
 
 pub returns-then-calls : goal.returns-then-calls
@@ -73,6 +75,8 @@ returns-then-calls g c =
       read_named = λ e. not_both _ _ b (ap is_undone e);
       write_named = λ e. not_both _ _ b (ap is_undone e);
       errors_named = λ e. not_both _ _ b (ap is_undone e);
+      output_kept = m.output_kept;
+      errors_kept = m.errors_kept;
     }
 
 pub returns : goal.returns
@@ -111,6 +115,8 @@ returns g c =
       read_named = λ e. not_both _ _ b (ap is_undone e);
       write_named = λ e. not_both _ _ b (ap is_undone e);
       errors_named = λ e. not_both _ _ b (ap is_undone e);
+      output_kept = m.output_kept;
+      errors_kept = m.errors_kept;
     }
 
 pub invariant_of-self-2 : goal.invariant_of-self-2
