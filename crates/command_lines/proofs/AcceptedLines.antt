@@ -1,5 +1,5 @@
 -- An accepted line: the places that it names are those of its words, and the arguments are such as a program may be given.
-use Rattle.std.proofs.Common.{◌≡◌, ◌<◌, ◌≤◌, ℕ, zero, suc, ◌+◌, ◌-◌, Bool, true, false, ◌&&◌, cond, List, [], ◌∷◌, ◌++◌, codes, length, get_or, take, drop, Option, Some, None, is_some, unwrap_or, Result, Ok, Err, IfOk, IfSome, refl, sym, ap, subst, arith, nat_le, nat_lt}
+use Rattle.std.proofs.Common.{◌≡◌, ◌<◌, ◌≤◌, ℕ, zero, suc, ◌+◌, ◌-◌, Bool, true, false, ◌&&◌, cond, List, [], ◌∷◌, ◌++◌, codes, length, get_or, take, drop, Option, Some, None, is_some, unwrap_or, Result, Ok, Err, IfOk, IfSome, refl, ap, subst, arith, nat_le, nat_lt}
 use Rattle.std.specs.List.{All, slice_get}
 use Rattle.std.specs.Option.{option_map_or}
 use Rattle.std.specs.Str.{bytes_eq}
@@ -22,7 +22,8 @@ use Rattle.command_model.specs.declared.command_line.WordsFault.{WordsFault}
 use Rattle.command_model.specs.declared.command_line.WordsWhy.{WordsWhy}
 use Rattle.command_model.specs.declared.command_line.WordsWhy.TheVariants.{Repeated, MissingValue, BadNumber, BadLength, OutOfRange, ExtraWord, MissingWord}
 use Rattle.line_words.specs.Refusals.{and_then}
-use Rattle.command_model.specs.CommandLine.{Seen, args_of, command_of, end_of, given, is_option, line_of, line_of_command, line_of_words, nothing_seen, number_of_word, option_of, plain_words_of, read_further, read_item, read_number, read_option, read_plain, read_value, read_word, read_words, refused, pages_of, takes_arguments, takes_number, value_of, value_of_word, with_budget, with_machine, with_plain, with_value, with_word}
+use Rattle.command_model.specs.CommandLine.{decimal_of_word, named_command, option_of, usage_of}
+use Rattle.command_lines.specs.Scan.{Seen, args_said, checked_value, checked_word, end_of, given, is_option, line_said, nothing_seen, pages_said, read_further, read_item, read_number, read_option, read_plain, read_value, read_word, read_words, refused, scanned_command, scanned_line, with_budget, with_machine, with_plain, with_value, with_word}
 use Rattle.command_lines.specs.Outcome.{program_arguments}
 use Rattle.command_lines.specs.LineLimits.{HasArguments, HasLimit, HasPlaces}
 
@@ -53,16 +54,16 @@ AreBehind None places place = AllBelow place places
 AreBehind (Some args) places place = AllBelow args places × (args ≤ place)
 
 abbrev IsWithin : ℕ → Seen → Type 0
-IsWithin place seen = AreBehind seen.args seen.plain place
+IsWithin place seen = AreBehind seen.args seen.plain_places place
 
 later : (args : Option ℕ) (places : List ℕ) (place : ℕ) → AreBehind args places place → AreBehind args places (place + 1)
 later None places place all = below_more place (place + 1) places (omega arith) all
 later (Some args) places place (all, le) = (all, omega arith)
 
 value_kept : (option : OptionName) (value place : ℕ) (seen : Seen) → IsWithin place seen → IsWithin (place + 1) (with_value option value seen)
-value_kept Vl value place seen within = later seen.args seen.plain place within
-value_kept Budget value place seen within = later seen.args seen.plain place within
-value_kept Pages value place seen within = later seen.args seen.plain place within
+value_kept Vl value place seen within = later seen.args seen.plain_places place within
+value_kept Budget value place seen within = later seen.args seen.plain_places place within
+value_kept Pages value place seen within = later seen.args seen.plain_places place within
 
 within_value : (seen : Seen) (place : ℕ) (option : OptionName) (value : Result ℕ WordsWhy) → IsWithin place seen → IfOk (read_value seen place option value) (IsWithin (place + 1))
 within_value seen place option (Ok value) within = value_kept option value place seen within
@@ -71,7 +72,7 @@ within_value seen place option (Err why) within = tt
 within_option : (seen : Seen) (place : ℕ) (option : Option OptionName) → IsWithin place seen → IfOk (read_option seen place option) (IsWithin (place + 1))
 within_option seen place None within = tt
 within_option seen place (Some option) within =
-    if_either (IsWithin (place + 1)) (is_some (given option seen)) (refused Repeated place) (Ok (record seen { awaited = Some option })) (λ _. tt) (λ _. later seen.args seen.plain place within)
+    if_either (IsWithin (place + 1)) (is_some (given option seen)) (refused Repeated place) (Ok (record seen { awaited = Some option })) (λ _. tt) (λ _. later seen.args seen.plain_places place within)
 
 plain_more : (args : Option ℕ) (places : List ℕ) (place : ℕ) → None ≡ args → AreBehind args places place → AreBehind args (places ++ place ∷ []) (place + 1)
 plain_more None places place none all = All-append (λ p. p < place + 1) places (place ∷ []) (below_more place (place + 1) places (omega arith) all) (below_one (place + 1) place (omega arith))
@@ -83,32 +84,32 @@ arguments_begin (Some args) places place none all = absurd (cc)
 
 within_number : (seen : Seen) (place : ℕ) (number : Option ℕ) → None ≡ seen.args → IsWithin place seen → IfOk (read_number seen place number) (IsWithin (place + 1))
 within_number seen place None none within = tt
-within_number seen place (Some number) none within = plain_more seen.args seen.plain place none within
+within_number seen place (Some number) none within = plain_more seen.args seen.plain_places place none within
 
 within_further : (command : Command) (seen : Seen) (place : ℕ) (word : List ℕ) → None ≡ seen.args → IsWithin place seen → IfOk (read_further command seen place word) (IsWithin (place + 1))
 within_further command seen place word none within =
-    if_either (IsWithin (place + 1)) (takes_number command) (read_number seen place (number_of_word word)) (Ok (with_word seen place))
-    (λ _. within_number seen place (number_of_word word) none within) (λ _. plain_more seen.args seen.plain place none within)
+    if_either (IsWithin (place + 1)) ((usage_of command).number) (read_number seen place (decimal_of_word word)) (Ok (with_word seen place))
+    (λ _. within_number seen place (decimal_of_word word) none within) (λ _. plain_more seen.args seen.plain_places place none within)
 
 within_plain : (command : Command) (seen : Seen) (place : ℕ) (word : List ℕ) → None ≡ seen.args → IsWithin place seen → IfOk (read_plain command seen place word) (IsWithin (place + 1))
 within_plain command seen place word none within =
-    if_either (IsWithin (place + 1)) (nat_lt (length seen.plain) (plain_words_of command)) (read_further command seen place word) (refused ExtraWord place)
+    if_either (IsWithin (place + 1)) (nat_lt (length seen.plain_places) (usage_of command).words) (read_further command seen place word) (refused ExtraWord place)
     (λ _. within_further command seen place word none within) (λ _. tt)
 
 within_item : (command : Command) (seen : Seen) (place : ℕ) (word : List ℕ) → None ≡ seen.args → IsWithin place seen → IfOk (read_item command seen place word) (IsWithin (place + 1))
 within_item command seen place word none within =
     let option : Result Seen WordsFault = read_option seen place (option_of command word) in
     let plain : Result Seen WordsFault = read_plain command seen place word in
-    if_either (IsWithin (place + 1)) (takes_arguments command && bytes_eq word (codes "--")) (Ok (record seen { args = Some (place + 1) })) (cond (is_option word) option plain)
-    (λ _. arguments_begin seen.args seen.plain place none within)
+    if_either (IsWithin (place + 1)) ((usage_of command).arguments && bytes_eq word (codes "--")) (Ok (record seen { args = Some (place + 1) })) (cond (is_option word) option plain)
+    (λ _. arguments_begin seen.args seen.plain_places place none within)
     (λ _. if_either (IsWithin (place + 1)) (is_option word) option plain
     (λ _. within_option seen place (option_of command word) within)
     (λ _. within_plain command seen place word none within))
 
 within_any : (command : Command) (seen : Seen) (place : ℕ) (word : List ℕ) (awaited : Option OptionName) → None ≡ seen.args → IsWithin place seen
-    → IfOk (option_map_or (λ option. read_value seen place option (value_of_word option word)) awaited (read_item command seen place word)) (IsWithin (place + 1))
+    → IfOk (option_map_or (λ option. read_value seen place option (checked_word option word)) awaited (read_item command seen place word)) (IsWithin (place + 1))
 within_any command seen place word None none within = within_item command seen place word none within
-within_any command seen place word (Some option) none within = within_value seen place option (value_of_word option word) within
+within_any command seen place word (Some option) none within = within_value seen place option (checked_word option word) within
 
 none_of : (args : Option ℕ) → is_some args ≡ false → None ≡ args
 none_of None e = refl
@@ -117,8 +118,8 @@ none_of (Some args) e = absurd (cc)
 within_word : (command : Command) (seen : Seen) (place : ℕ) (word : List ℕ) → IsWithin place seen → IfOk (read_word command seen place word) (IsWithin (place + 1))
 within_word command seen place word within =
     if_either (IsWithin (place + 1)) (is_some seen.args) (Ok seen)
-    (option_map_or (λ option. read_value seen place option (value_of_word option word)) seen.awaited (read_item command seen place word))
-    (λ _. later seen.args seen.plain place within) (λ e. within_any command seen place word seen.awaited (none_of seen.args e) within)
+    (option_map_or (λ option. read_value seen place option (checked_word option word)) seen.awaited (read_item command seen place word))
+    (λ _. later seen.args seen.plain_places place within) (λ e. within_any command seen place word seen.awaited (none_of seen.args e) within)
 
 within_words : (command : Command) (seen : Seen) (place count : ℕ) (words : List (List ℕ)) → place + length words ≡ count → IsWithin place seen → IfOk (read_words command seen place words) (IsWithin count)
 within_words command seen place count [] e within = subst (λ (n : ℕ). IsWithin n seen) (omega arith) within
@@ -164,51 +165,51 @@ with_steps P count None said holds = tt
 with_steps P count (Some steps) said holds = holds steps
 
 -- a line of two files
-two_files : (P : Line → Type 0) (count : ℕ) (seen : Seen) (said : ℕ → ℕ → ℕ → ℕ → Line) → ((file other bits budget : ℕ) → slice_get seen.plain 0 ≡ Some file → slice_get seen.plain 1 ≡ Some other → P (said file other bits budget))
+two_files : (P : Line → Type 0) (count : ℕ) (seen : Seen) (said : ℕ → ℕ → ℕ → ℕ → Line) → ((file other bits budget : ℕ) → slice_get seen.plain_places 0 ≡ Some file → slice_get seen.plain_places 1 ≡ Some other → P (said file other bits budget))
     → IfOk (with_plain count seen 0 (λ file. with_plain count seen 1 (λ other. with_machine count seen.vl seen.budget (said file other)))) P
 two_files P count seen said holds =
-    with_place P count (slice_get seen.plain 0) (λ file. with_plain count seen 1 (λ other. with_machine count seen.vl seen.budget (said file other))) (λ file got.
-    with_place P count (slice_get seen.plain 1) (λ other. with_machine count seen.vl seen.budget (said file other)) (λ other also.
+    with_place P count (slice_get seen.plain_places 0) (λ file. with_plain count seen 1 (λ other. with_machine count seen.vl seen.budget (said file other))) (λ file got.
+    with_place P count (slice_get seen.plain_places 1) (λ other. with_machine count seen.vl seen.budget (said file other)) (λ other also.
     with_both P count seen.vl seen.budget (said file other) (λ bits budget. holds file other bits budget got also)))
 
 module _ (count : ℕ) (seen : Seen) (within : IsWithin count seen) where
-  front : (k place : ℕ) → slice_get seen.plain k ≡ Some place → place < args_of count seen
-  front k place got = got_below (args_of count seen) seen.plain k place (all_in_front seen.args seen.plain count within) got
+  front : (k place : ℕ) → slice_get seen.plain_places k ≡ Some place → place < args_said count seen
+  front k place got = got_below (args_said count seen) seen.plain_places k place (all_in_front seen.args seen.plain_places count within) got
 
-  behind : args_of count seen ≤ count
-  behind = args_within seen.args seen.plain count within
+  behind : args_said count seen ≤ count
+  behind = args_within seen.args seen.plain_places count within
 
-  two_places : (said : ℕ → ℕ → ℕ → ℕ → Line) → ((file other bits budget : ℕ) → file < args_of count seen → other < args_of count seen → HasPlaces (said file other bits budget) count)
+  two_places : (said : ℕ → ℕ → ℕ → ℕ → Line) → ((file other bits budget : ℕ) → file < args_said count seen → other < args_said count seen → HasPlaces (said file other bits budget) count)
       → IfOk (with_plain count seen 0 (λ file. with_plain count seen 1 (λ other. with_machine count seen.vl seen.budget (said file other)))) (λ l. HasPlaces l count)
   two_places said holds = two_files (λ l. HasPlaces l count) count seen said (λ file other bits budget got also. holds file other bits budget (front 0 file got) (front 1 other also))
 
-  line_places : (command : Command) → IfOk (line_of command count seen) (λ l. HasPlaces l count)
+  line_places : (command : Command) → IfOk (line_said command count seen) (λ l. HasPlaces l count)
   line_places Run =
-      with_place (λ l. HasPlaces l count) count (slice_get seen.plain 0) (λ file. with_machine count seen.vl seen.budget (λ bits budget. RunLine file (args_of count seen) bits budget (pages_of seen))) (λ file got.
-      with_both (λ l. HasPlaces l count) count seen.vl seen.budget (λ bits budget. RunLine file (args_of count seen) bits budget (pages_of seen)) (λ bits budget. (front 0 file got, behind)))
-  line_places Asm = with_place (λ l. HasPlaces l count) count (slice_get seen.plain 0) (λ listing. Ok (AsmLine listing)) (λ listing got. let lt = front 0 listing got in let le = behind in omega arith)
-  line_places Dis = with_place (λ l. HasPlaces l count) count (slice_get seen.plain 0) (λ file. Ok (DisLine file)) (λ file got. let lt = front 0 file got in let le = behind in omega arith)
-  line_places Dbg = two_places (λ file script bits budget. DbgLine file script (args_of count seen) bits budget (pages_of seen)) (λ file script bits budget lt also. (lt, also, behind))
+      with_place (λ l. HasPlaces l count) count (slice_get seen.plain_places 0) (λ file. with_machine count seen.vl seen.budget (λ bits budget. RunLine file (args_said count seen) bits budget (pages_said seen))) (λ file got.
+      with_both (λ l. HasPlaces l count) count seen.vl seen.budget (λ bits budget. RunLine file (args_said count seen) bits budget (pages_said seen)) (λ bits budget. (front 0 file got, behind)))
+  line_places Asm = with_place (λ l. HasPlaces l count) count (slice_get seen.plain_places 0) (λ listing. Ok (AsmLine listing)) (λ listing got. let lt = front 0 listing got in let le = behind in omega arith)
+  line_places Dis = with_place (λ l. HasPlaces l count) count (slice_get seen.plain_places 0) (λ file. Ok (DisLine file)) (λ file got. let lt = front 0 file got in let le = behind in omega arith)
+  line_places Dbg = two_places (λ file script bits budget. DbgLine file script (args_said count seen) bits budget (pages_said seen)) (λ file script bits budget lt also. (lt, also, behind))
   line_places Load = with_number (λ l. HasPlaces l count) count seen.number (λ number. LoadLine number) (λ number. tt)
   line_places Sweep =
-      with_place (λ l. HasPlaces l count) count (slice_get seen.plain 0) (λ file. with_budget count seen.budget (λ budget. SweepLine file (args_of count seen) budget (pages_of seen))) (λ file got.
-      with_steps (λ l. HasPlaces l count) count seen.budget (λ budget. SweepLine file (args_of count seen) budget (pages_of seen)) (λ budget. (front 0 file got, behind)))
-  line_places Threads = two_places (λ file schedule bits budget. ThreadsLine file schedule (args_of count seen) bits budget (pages_of seen)) (λ file schedule bits budget lt also. (lt, also, behind))
+      with_place (λ l. HasPlaces l count) count (slice_get seen.plain_places 0) (λ file. with_budget count seen.budget (λ budget. SweepLine file (args_said count seen) budget (pages_said seen))) (λ file got.
+      with_steps (λ l. HasPlaces l count) count seen.budget (λ budget. SweepLine file (args_said count seen) budget (pages_said seen)) (λ budget. (front 0 file got, behind)))
+  line_places Threads = two_places (λ file schedule bits budget. ThreadsLine file schedule (args_said count seen) bits budget (pages_said seen)) (λ file schedule bits budget lt also. (lt, also, behind))
 
 places_of : (command : Command) (count : ℕ) (seen : Seen) → IsWithin count seen → IfOk (end_of command count seen) (λ l. HasPlaces l count)
 places_of command count seen within =
-    if_either (λ l. HasPlaces l count) (is_some seen.awaited) (refused MissingValue (count - 1)) (line_of command count seen) (λ _. tt) (λ _. line_places count seen within command)
+    if_either (λ l. HasPlaces l count) (is_some seen.awaited) (refused MissingValue (count - 1)) (line_said command count seen) (λ _. tt) (λ _. line_places count seen within command)
 
-command_places : (words : List (List ℕ)) (command : Option Command) → 0 < length words → IfOk (line_of_command words command) (λ l. HasPlaces l (length words))
+command_places : (words : List (List ℕ)) (command : Option Command) → 0 < length words → IfOk (scanned_command words command) (λ l. HasPlaces l (length words))
 command_places words None some = tt
 command_places words (Some command) some =
     then_so (IsWithin (length words)) (λ l. HasPlaces l (length words)) (read_words command nothing_seen 1 (drop 1 words)) (end_of command (length words))
     (within_words command nothing_seen 1 (length words) (drop 1 words) (let e = length-drop 1 words in omega arith) (λ k d h. absurd (omega arith)))
     (λ seen within. places_of command (length words) seen within)
 
-pub words_places : (words : List (List ℕ)) → IfOk (line_of_words words) (λ l. HasPlaces l (length words))
+pub words_places : (words : List (List ℕ)) → IfOk (scanned_line words) (λ l. HasPlaces l (length words))
 words_places [] = tt
-words_places (name ∷ words) = command_places (name ∷ words) (command_of name) (omega arith)
+words_places (name ∷ words) = command_places (name ∷ words) (named_command name) (omega arith)
 
 -- ---- the pages of a line
 
@@ -221,12 +222,12 @@ IsValue Pages value = value ≤ most_mapped_pages
 few_pages : (n : ℕ) → (nat_le 1 n && nat_le n most_mapped_pages) ≡ true → n ≤ most_mapped_pages
 few_pages n h = grind (arith, nat_tests)
 
-value_fits : (option : OptionName) (n : ℕ) → IfOk (value_of option n) (IsValue option)
+value_fits : (option : OptionName) (n : ℕ) → IfOk (checked_value option n) (IsValue option)
 value_fits Vl n = if_either (IsValue Vl) (is_vector_length n) (Ok n) (Err BadLength) (λ _. tt) (λ _. tt)
 value_fits Budget n = tt
 value_fits Pages n = if_either (IsValue Pages) (nat_le 1 n && nat_le n most_mapped_pages) (Ok n) (Err OutOfRange) (few_pages n) (λ _. tt)
 
-number_fits : (option : OptionName) (number : Option ℕ) → IfOk (option_map_or (value_of option) number (Err BadNumber)) (IsValue option)
+number_fits : (option : OptionName) (number : Option ℕ) → IfOk (option_map_or (checked_value option) number (Err BadNumber)) (IsValue option)
 number_fits option None = tt
 number_fits option (Some n) = value_fits option n
 
@@ -252,25 +253,25 @@ number_read_fits seen place (Some number) fits = fits
 
 plain_fits : (command : Command) (seen : Seen) (place : ℕ) (word : List ℕ) → Fits seen → IfOk (read_plain command seen place word) Fits
 plain_fits command seen place word fits =
-    if_either Fits (nat_lt (length seen.plain) (plain_words_of command)) (read_further command seen place word) (refused ExtraWord place)
-    (λ _. if_either Fits (takes_number command) (read_number seen place (number_of_word word)) (Ok (with_word seen place)) (λ _. number_read_fits seen place (number_of_word word) fits) (λ _. fits))
+    if_either Fits (nat_lt (length seen.plain_places) (usage_of command).words) (read_further command seen place word) (refused ExtraWord place)
+    (λ _. if_either Fits ((usage_of command).number) (read_number seen place (decimal_of_word word)) (Ok (with_word seen place)) (λ _. number_read_fits seen place (decimal_of_word word) fits) (λ _. fits))
     (λ _. tt)
 
 item_fits : (command : Command) (seen : Seen) (place : ℕ) (word : List ℕ) → Fits seen → IfOk (read_item command seen place word) Fits
 item_fits command seen place word fits =
     let option : Result Seen WordsFault = read_option seen place (option_of command word) in
     let plain : Result Seen WordsFault = read_plain command seen place word in
-    if_either Fits (takes_arguments command && bytes_eq word (codes "--")) (Ok (record seen { args = Some (place + 1) })) (cond (is_option word) option plain) (λ _. fits)
+    if_either Fits ((usage_of command).arguments && bytes_eq word (codes "--")) (Ok (record seen { args = Some (place + 1) })) (cond (is_option word) option plain) (λ _. fits)
     (λ _. if_either Fits (is_option word) option plain (λ _. option_fits seen place (option_of command word) fits) (λ _. plain_fits command seen place word fits))
 
 any_fits : (command : Command) (seen : Seen) (place : ℕ) (word : List ℕ) (awaited : Option OptionName) → Fits seen
-    → IfOk (option_map_or (λ option. read_value seen place option (value_of_word option word)) awaited (read_item command seen place word)) Fits
+    → IfOk (option_map_or (λ option. read_value seen place option (checked_word option word)) awaited (read_item command seen place word)) Fits
 any_fits command seen place word None fits = item_fits command seen place word fits
-any_fits command seen place word (Some option) fits = value_read_fits seen place option (value_of_word option word) (number_fits option (number_of_word word)) fits
+any_fits command seen place word (Some option) fits = value_read_fits seen place option (checked_word option word) (number_fits option (decimal_of_word word)) fits
 
 word_fits : (command : Command) (seen : Seen) (place : ℕ) (word : List ℕ) → Fits seen → IfOk (read_word command seen place word) Fits
 word_fits command seen place word fits =
-    if_either Fits (is_some seen.args) (Ok seen) (option_map_or (λ option. read_value seen place option (value_of_word option word)) seen.awaited (read_item command seen place word))
+    if_either Fits (is_some seen.args) (Ok seen) (option_map_or (λ option. read_value seen place option (checked_word option word)) seen.awaited (read_item command seen place word))
     (λ _. fits) (λ _. any_fits command seen place word seen.awaited fits)
 
 words_fit : (command : Command) (seen : Seen) (place : ℕ) (words : List (List ℕ)) → Fits seen → IfOk (read_words command seen place words) Fits
@@ -283,33 +284,33 @@ pages_fit None fits = omega arith
 pages_fit (Some pages) fits = fits
 
 module _ (count : ℕ) (seen : Seen) (fits : Fits seen) where
-  few : pages_of seen ≤ most_mapped_pages
+  few : pages_said seen ≤ most_mapped_pages
   few = pages_fit seen.pages fits
 
-  line_limit : (command : Command) → IfOk (line_of command count seen) HasLimit
+  line_limit : (command : Command) → IfOk (line_said command count seen) HasLimit
   line_limit Run =
-      with_place HasLimit count (slice_get seen.plain 0) (λ file. with_machine count seen.vl seen.budget (λ bits budget. RunLine file (args_of count seen) bits budget (pages_of seen))) (λ file _.
-      with_both HasLimit count seen.vl seen.budget (λ bits budget. RunLine file (args_of count seen) bits budget (pages_of seen)) (λ bits budget. few))
-  line_limit Asm = with_place HasLimit count (slice_get seen.plain 0) (λ listing. Ok (AsmLine listing)) (λ listing _. tt)
-  line_limit Dis = with_place HasLimit count (slice_get seen.plain 0) (λ file. Ok (DisLine file)) (λ file _. tt)
-  line_limit Dbg = two_files HasLimit count seen (λ file script bits budget. DbgLine file script (args_of count seen) bits budget (pages_of seen)) (λ file script bits budget _ _. few)
+      with_place HasLimit count (slice_get seen.plain_places 0) (λ file. with_machine count seen.vl seen.budget (λ bits budget. RunLine file (args_said count seen) bits budget (pages_said seen))) (λ file _.
+      with_both HasLimit count seen.vl seen.budget (λ bits budget. RunLine file (args_said count seen) bits budget (pages_said seen)) (λ bits budget. few))
+  line_limit Asm = with_place HasLimit count (slice_get seen.plain_places 0) (λ listing. Ok (AsmLine listing)) (λ listing _. tt)
+  line_limit Dis = with_place HasLimit count (slice_get seen.plain_places 0) (λ file. Ok (DisLine file)) (λ file _. tt)
+  line_limit Dbg = two_files HasLimit count seen (λ file script bits budget. DbgLine file script (args_said count seen) bits budget (pages_said seen)) (λ file script bits budget _ _. few)
   line_limit Load = with_number HasLimit count seen.number (λ number. LoadLine number) (λ number. tt)
   line_limit Sweep =
-      with_place HasLimit count (slice_get seen.plain 0) (λ file. with_budget count seen.budget (λ budget. SweepLine file (args_of count seen) budget (pages_of seen))) (λ file _.
-      with_steps HasLimit count seen.budget (λ budget. SweepLine file (args_of count seen) budget (pages_of seen)) (λ budget. few))
-  line_limit Threads = two_files HasLimit count seen (λ file schedule bits budget. ThreadsLine file schedule (args_of count seen) bits budget (pages_of seen)) (λ file schedule bits budget _ _. few)
+      with_place HasLimit count (slice_get seen.plain_places 0) (λ file. with_budget count seen.budget (λ budget. SweepLine file (args_said count seen) budget (pages_said seen))) (λ file _.
+      with_steps HasLimit count seen.budget (λ budget. SweepLine file (args_said count seen) budget (pages_said seen)) (λ budget. few))
+  line_limit Threads = two_files HasLimit count seen (λ file schedule bits budget. ThreadsLine file schedule (args_said count seen) bits budget (pages_said seen)) (λ file schedule bits budget _ _. few)
 
 limit_of : (command : Command) (count : ℕ) (seen : Seen) → Fits seen → IfOk (end_of command count seen) HasLimit
-limit_of command count seen fits = if_either HasLimit (is_some seen.awaited) (refused MissingValue (count - 1)) (line_of command count seen) (λ _. tt) (λ _. line_limit count seen fits command)
+limit_of command count seen fits = if_either HasLimit (is_some seen.awaited) (refused MissingValue (count - 1)) (line_said command count seen) (λ _. tt) (λ _. line_limit count seen fits command)
 
-command_limit : (words : List (List ℕ)) (command : Option Command) → IfOk (line_of_command words command) HasLimit
+command_limit : (words : List (List ℕ)) (command : Option Command) → IfOk (scanned_command words command) HasLimit
 command_limit words None = tt
 command_limit words (Some command) =
     then_so Fits HasLimit (read_words command nothing_seen 1 (drop 1 words)) (end_of command (length words)) (words_fit command nothing_seen 1 (drop 1 words) tt) (λ seen fits. limit_of command (length words) seen fits)
 
-pub words_limit : (words : List (List ℕ)) → IfOk (line_of_words words) HasLimit
+pub words_limit : (words : List (List ℕ)) → IfOk (scanned_line words) HasLimit
 words_limit [] = tt
-words_limit (name ∷ words) = command_limit (name ∷ words) (command_of name)
+words_limit (name ∷ words) = command_limit (name ∷ words) (named_command name)
 
 -- ---- the arguments of a line
 

@@ -1,3 +1,4 @@
 pub mod AcceptedLines
 pub mod Items
 pub mod Numerals
+pub mod SameLines

@@ -1,4 +1,5 @@
--- What an accepted line is held to: places among the words, a program's arguments, and the limit of pages.
+-- What an accepted line is held to: places among the words, a program's arguments, and the limit of pages. It follows
+-- from the line's definition; the contract says it for callers.
 use Rattle.std.specs.Prelude.{◌<◌, ◌≤◌, ℕ, List}
 use Rattle.emu_model.specs.Access.{most_mapped_pages}
 use Rattle.command_model.specs.declared.command_line.Line.{Line}

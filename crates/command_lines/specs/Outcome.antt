@@ -1,5 +1,6 @@
--- The result of a command line: its ending, the bytes that it writes to the output and to the errors, and how much input it takes.
--- `result_of`, at the end, is the whole of it.
+-- The result of a command line: its ending, the bytes that it writes to the output and to the errors, and how much
+-- input it takes. `result_of`, at the end, is the whole of it. From docs/MANUAL.md, "Commands" and "What is written,
+-- and the status"; what a command does with its files is this project's own choice.
 use Rattle.std.specs.Prelude.{ℕ, ◌+◌, ◌-◌, List, [], ◌∷◌, ◌++◌, drop, length, get_or, Option, Some, None, Result, Ok, Err, nat_lt, if◌then◌else◌}
 use Rattle.std.specs.Ordering.{nat_cmp}
 use Rattle.std.specs.Cmp.Lexicographic.{slice_cmp}
@@ -24,8 +25,8 @@ use Rattle.emu_run.specs.Run.{run}
 use Rattle.emu_system.specs.declared.image.ElfFault.{ElfFault}
 use Rattle.emu_system.specs.Image.{Image, elf}
 use Rattle.emu_system.specs.Start.{opening, with_input}
-use Rattle.line_words.specs.declared.schedule.ScheduleFault.{ScheduleFault}
-use Rattle.line_words.specs.Schedule.{schedule_of_file}
+use Rattle.guest_schedule.specs.declared.schedule.ScheduleFault.{ScheduleFault}
+use Rattle.guest_schedule.specs.Schedule.{schedule_of_file}
 use Rattle.asm_text.specs.Disassembly.{dis_of}
 use Rattle.asm_text.specs.Statements.{statements}
 use Rattle.listing_model.specs.declared.fault.ListingFault.{ListingFault}
@@ -67,7 +68,9 @@ written output = record { ending = Done; output = output; errors = []; taken = 0
 
 -- with the bytes of a file, where it isn't too long
 abbrev pub with_bytes : List ℕ → (List ℕ → Option Outcome) → Option Outcome
-with_bytes file next = if nat_lt file_limit (length file) then Some (refusal (TooLong file_limit) (too_long_line file_limit)) else next file
+with_bytes file next =
+    if nat_lt file_limit (length file) then Some (refusal (TooLong file_limit) (too_long_line file_limit))
+    else next file
 
 -- with the bytes of a file; none where there is no file of that name
 abbrev pub with_file : Option (List ℕ) → (List ℕ → Option Outcome) → Option Outcome
@@ -97,7 +100,8 @@ outcome_of_run input st = record {
 
 -- the run of an image with these arguments, or its refusal
 abbrev pub outcome_of_image : List ℕ → List (List ℕ) → List ℕ → ℕ → ℕ → ℕ → Result Image ElfFault → Outcome
-outcome_of_image file args input bits budget pages (Ok image) = outcome_of_run input (run (with_input (opening file image args bits pages) input) budget)
+outcome_of_image file args input bits budget pages (Ok image) =
+    outcome_of_run input (run (with_input (opening file image args bits pages) input) budget)
 outcome_of_image file args input bits budget pages (Err fault) = refusal (ImageRefused fault) (image_line fault)
 
 -- the arguments of a program: the word that names its file, and the words from a place on
@@ -126,7 +130,8 @@ outcome_of_words file (Err fault) = refusal (ImageRefused fault) (image_line fau
 
 -- the input is too long, or the output or the errors of a run of a sweep: the lines that stand before
 abbrev pub too_long_stream : List ℕ → ℕ → Outcome
-too_long_stream lines taken = record { ending = TooLong stream_limit; output = lines; errors = too_long_line stream_limit; taken = taken }
+too_long_stream lines taken =
+    record { ending = TooLong stream_limit; output = lines; errors = too_long_line stream_limit; taken = taken }
 
 -- the input is read up to one byte more than the limit
 abbrev pub over_whole : (List ℕ → Outcome) → List ℕ → Outcome
@@ -136,7 +141,8 @@ over_whole next input = if nat_lt stream_limit (length input) then too_long_stre
 
 -- what the program and the session wrote, and what the program took
 abbrev pub outcome_of_session : List ℕ → State → Outcome
-outcome_of_session input st = record { ending = Done; output = st.output; errors = st.errors; taken = length input - length st.input }
+outcome_of_session input st =
+    record { ending = Done; output = st.output; errors = st.errors; taken = length input - length st.input }
 
 -- the same of a session that goes back, which has read the whole input
 abbrev pub outcome_of_session_back : List Command → ℕ → Parts → List ℕ → Outcome
@@ -187,7 +193,8 @@ outcome_of_sweep s =
 -- the input is read before the first run
 abbrev pub outcome_of_lengths : List ℕ → List (List ℕ) → List ℕ → ℕ → ℕ → Image → Outcome
 outcome_of_lengths file args input budget pages image =
-    over_whole (λ i. outcome_of_sweep (record { file = file; image = image; args = args; pages = pages; budget = budget; input = i })) input
+    over_whole (λ i. outcome_of_sweep
+    (record { file = file; image = image; args = args; pages = pages; budget = budget; input = i })) input
 
 -- an image's refusal comes before the input is read
 abbrev pub outcome_of_swept : List ℕ → List (List ℕ) → List ℕ → ℕ → ℕ → Result Image ElfFault → Outcome
@@ -221,14 +228,16 @@ outcome_of_schedule input budget w (Err fault) = refusal (ScheduleRefused fault)
 abbrev pub outcome_of_threads : List ℕ → List ℕ → List (List ℕ) → List ℕ → ℕ → ℕ → ℕ → Result Image ElfFault → Outcome
 outcome_of_threads file schedule args input bits budget pages (Ok image) =
     outcome_of_schedule input budget (opened (opening file image args bits pages)) (schedule_of_file schedule)
-outcome_of_threads file schedule args input bits budget pages (Err fault) = refusal (ImageRefused fault) (image_line fault)
+outcome_of_threads file schedule args input bits budget pages (Err fault) =
+    refusal (ImageRefused fault) (image_line fault)
 
 -- ---- all commands
 
 abbrev pub outcome_of_line : List (List ℕ) → Files → List ℕ → Result Line WordsFault → Option Outcome
 outcome_of_line words files input (Err fault) = Some (refusal (WordsRefused fault) (words_line fault))
 outcome_of_line words files input (Ok (Run file args bits budget pages)) =
-    with_file (file_at words files file) (λ bytes. Some (outcome_of_image bytes (program_arguments words file args) input bits budget pages (elf bytes pages)))
+    with_file (file_at words files file) (λ bytes.
+    Some (outcome_of_image bytes (program_arguments words file args) input bits budget pages (elf bytes pages)))
 outcome_of_line words files input (Ok (Asm listing)) =
     with_file (file_at words files listing) (λ bytes. Some (outcome_of_listing (image_of_bytes statements bytes)))
 outcome_of_line words files input (Ok (Dis file)) =
@@ -238,7 +247,8 @@ outcome_of_line words files input (Ok (Dbg file script args bits budget pages)) 
     Some (outcome_of_debug bytes text (program_arguments words file args) input bits budget pages (elf bytes pages))))
 outcome_of_line words files input (Ok (Load number)) = Some (outcome_of_load (image_of statements (listing number)))
 outcome_of_line words files input (Ok (SweepLine file args budget pages)) =
-    with_file (file_at words files file) (λ bytes. Some (outcome_of_swept bytes (program_arguments words file args) input budget pages (elf bytes pages)))
+    with_file (file_at words files file) (λ bytes.
+    Some (outcome_of_swept bytes (program_arguments words file args) input budget pages (elf bytes pages)))
 outcome_of_line words files input (Ok (ThreadsLine file schedule args bits budget pages)) =
     with_file (file_at words files file) (λ bytes. with_file (file_at words files schedule) (λ text.
     Some (outcome_of_threads bytes text (program_arguments words file args) input bits budget pages (elf bytes pages))))

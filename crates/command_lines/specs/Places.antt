@@ -1,4 +1,4 @@
--- The words that a line names by their places.
+-- The words that a line names by their places, as docs/MANUAL.md has them under "Commands".
 use Rattle.std.specs.Prelude.{ℕ, List, [], get_or, Option, Some, None}
 use Rattle.command_model.specs.declared.command_line.Line.{Line}
 use Rattle.command_model.specs.declared.command_line.Line.TheVariants.{Run, Asm, Dis, Dbg, Load, Sweep, Threads}

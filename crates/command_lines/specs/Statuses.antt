@@ -1,4 +1,5 @@
--- The status of a process by how its command ended.
+-- The status of a process by how its command ended: this project's own choice, as docs/MANUAL.md has it under "What is
+-- written, and the status"; that a signal is told by 128 and its number is the shells' way.
 use Rattle.std.specs.Prelude.{ℕ, ◌+◌}
 use Rattle.emu_model.specs.Traps.{signal_of}
 use Rattle.command_lines.specs.declared.ending.Ending.{Ending}

@@ -1,7 +1,8 @@
 //! The command line: its words, or why they are refused.
 ghost use Rattle.std.specs.Prelude.{◌≡◌, ◌≤◌, map, length, string_bytes, IfOk};
 ghost use Rattle.emu_system.specs.Arguments.{most_arguments};
-ghost use Rattle.command_model.specs.CommandLine.{line, line_of_words};
+ghost use Rattle.command_model.specs.CommandLine.{line};
+ghost use Rattle.command_lines.specs.Scan.{scanned_line};
 ghost use Rattle.command_lines.specs.LineLimits.{HasArguments, HasLimit, HasPlaces};
 
 use crate::command_words::word;
@@ -31,7 +32,7 @@ pub fn line_of_words(words: &[String]) -> Result<Line, WordsFault>
 /// The command that words say of which none is refused by itself.
 fn command_of_words(words: &[String]) -> Result<Line, WordsFault>
     requires { length words.now ≤ most_arguments }
-    ensures { result ≡ line_of_words (map string_bytes words.now) }
+    ensures { result ≡ scanned_line (map string_bytes words.now) }
 {
     if words.is_empty() {
         return Err(fault(WordsWhy::NoCommand, 0));

@@ -6,7 +6,7 @@ use command_model::WordsFault;
 use dbg_model::ScriptFault;
 use emu_model::Trap;
 use emu_system::ElfFault;
-use line_words::ScheduleFault;
+use guest_schedule::ScheduleFault;
 use listing_model::ListingFault;
 
 /// How a command ended.

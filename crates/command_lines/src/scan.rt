@@ -18,13 +18,15 @@ ghost use Rattle.std.specs.Prelude.{
 };
 ghost use Rattle.std.specs.Str.{bytes_eq};
 ghost use Rattle.emu_system.specs.Arguments.{most_arguments};
-ghost use Rattle.command_model.specs.CommandLine.{
+ghost use Rattle.command_model.specs.CommandLine.{option_of, usage_of};
+ghost use Rattle.command_lines.specs.Scan.{
+  Leaves,
+  checked_word,
+  end_of,
   given,
   is_option,
-  line_of,
-  end_of,
+  line_said,
   nothing_seen,
-  option_of,
   read_item,
   read_option,
   read_plain,
@@ -32,14 +34,11 @@ ghost use Rattle.command_model.specs.CommandLine.{
   read_word,
   read_words,
   refused,
-  takes_arguments,
-  value_of_word,
   with_machine,
 };
-ghost use Rattle.command_lines.specs.Scan.{Leaves};
 
 use crate::command_words::word;
-use crate::values::{budget_of_word, length_of_word, number_of_word, pages_of_word};
+use crate::values::{budget_of_word, decimal_of_word, length_of_word, pages_of_word};
 use arrayvec::ArrayVec;
 use command_model::{Command, Line, OptionName, WordsFault, WordsWhy};
 use emu_model::Length;
@@ -68,12 +67,12 @@ pub struct Seen {
 }
 
 impl Model for Seen {
-    ghost use Rattle.command_model.specs.CommandLine.{Seen};
+    ghost use Rattle.command_lines.specs.Scan.{Seen};
 
     ghost Value = { Seen };
 
     ghost view = { λ s. record {
-      plain = s.plain.items;
+      plain_places = s.plain.items;
       number = s.number;
       vl = s.length;
       budget = s.budget;
@@ -104,7 +103,7 @@ fn placed<T>(value: Result<T, WordsWhy>, place: usize) -> Result<T, WordsFault>
 
 /// Whether a word is `--`, and the command knows it.
 fn begins_arguments(command: Command, word: &str) -> bool
-    ensures { result ≡ (takes_arguments command && bytes_eq word.now (codes "--")) }
+    ensures { result ≡ ((usage_of command).arguments && bytes_eq word.now (codes "--")) }
 {
     command.takes_arguments() && word == "--"
 }
@@ -157,7 +156,7 @@ impl Seen {
     /// Reads a word as the value of an option.
     fn read_value(&mut self, place: usize, option: OptionName, word: &str) -> Result<(), WordsFault>
         requires { place ≤ most_arguments }
-        ensures { Leaves (read_value self.old place option (value_of_word option word.now)) self.new result }
+        ensures { Leaves (read_value self.old place option (checked_word option word.now)) self.new result }
     {
         match option {
             OptionName::Vl => self.length = Some(placed(length_of_word(word), place)?),
@@ -192,7 +191,7 @@ impl Seen {
             return Err(fault(WordsWhy::ExtraWord, place));
         }
         if command.takes_number() {
-            let Some(number) = number_of_word(word) else {
+            let Some(number) = decimal_of_word(word) else {
                 return Err(fault(WordsWhy::BadNumber, place));
             };
             self.number = Some(number);
@@ -247,8 +246,8 @@ pub fn read_words(command: Command, words: &[String]) -> Result<Seen, WordsFault
 /// The place of a plain word, which is counted from 0. Err is that it is missing.
 fn plain_word(seen: &Seen, k: usize, count: usize) -> Result<usize, WordsFault>
     requires { count ≤ most_arguments }
-    ensures { MatchResult result (λ place. slice_get seen.now.plain k ≡ Some place)
-        (λ fault. (slice_get seen.now.plain k ≡ None)
+    ensures { MatchResult result (λ place. slice_get seen.now.plain_places k ≡ Some place)
+        (λ fault. (slice_get seen.now.plain_places k ≡ None)
         × (fault ≡ record { why = WordsWhy.MissingWord; place = count })) }
 {
     match seen.plain.get(k) {
@@ -275,7 +274,7 @@ fn length_and_budget(seen: &Seen, count: usize) -> Result<(Length, u64), WordsFa
 /// The run that so many words say.
 fn run_of(count: usize, seen: &Seen) -> Result<Line, WordsFault>
     requires { count ≤ most_arguments }
-    ensures { result ≡ line_of Command.Run count seen.now }
+    ensures { result ≡ line_said Command.Run count seen.now }
 {
     let file = plain_word(seen, 0, count)?;
     let (length, budget) = length_and_budget(seen, count)?;
@@ -291,7 +290,7 @@ fn run_of(count: usize, seen: &Seen) -> Result<Line, WordsFault>
 /// The session that so many words say.
 fn session_of(count: usize, seen: &Seen) -> Result<Line, WordsFault>
     requires { count ≤ most_arguments }
-    ensures { result ≡ line_of Command.Dbg count seen.now }
+    ensures { result ≡ line_said Command.Dbg count seen.now }
 {
     let file = plain_word(seen, 0, count)?;
     let script = plain_word(seen, 1, count)?;
@@ -309,7 +308,7 @@ fn session_of(count: usize, seen: &Seen) -> Result<Line, WordsFault>
 /// The run of contexts under a schedule that so many words say.
 fn threads_of(count: usize, seen: &Seen) -> Result<Line, WordsFault>
     requires { count ≤ most_arguments }
-    ensures { result ≡ line_of Command.Threads count seen.now }
+    ensures { result ≡ line_said Command.Threads count seen.now }
 {
     let file = plain_word(seen, 0, count)?;
     let schedule = plain_word(seen, 1, count)?;
@@ -327,7 +326,7 @@ fn threads_of(count: usize, seen: &Seen) -> Result<Line, WordsFault>
 /// The sweep that so many words say.
 fn sweep_of(count: usize, seen: &Seen) -> Result<Line, WordsFault>
     requires { count ≤ most_arguments }
-    ensures { result ≡ line_of Command.Sweep count seen.now }
+    ensures { result ≡ line_said Command.Sweep count seen.now }
 {
     let file = plain_word(seen, 0, count)?;
     let Some(budget) = seen.budget else {

@@ -2,21 +2,22 @@
 ghost use Rattle.std.specs.Prelude.{◌≡◌};
 ghost use Rattle.std.specs.List.{list_all};
 ghost use Rattle.command_model.specs.declared.command_line.OptionName.TheVariants.{Vl, Budget, Pages};
-ghost use Rattle.command_model.specs.CommandLine.{is_digit, is_numeral, number_of_word, value_of_word};
+ghost use Rattle.command_model.specs.CommandLine.{decimal_of_word, is_decimal, is_decimal_digit};
+ghost use Rattle.command_lines.specs.Scan.{checked_word};
 
 use command_model::WordsWhy;
 use emu_model::{Length, MOST_MAPPED_PAGES};
 
 /// Whether each byte is a decimal digit.
 fn are_digits(bytes: &[u8]) -> bool
-    ensures { result ≡ list_all is_digit bytes.now }
+    ensures { result ≡ list_all is_decimal_digit bytes.now }
 {
     bytes.iter().all(|c| 48 <= *c && *c <= 57)
 }
 
 /// Whether the bytes are decimal digits without a leading zero, or `0`.
-fn is_numeral(bytes: &[u8]) -> bool
-    ensures { result ≡ is_numeral bytes.now }
+fn is_decimal(bytes: &[u8]) -> bool
+    ensures { result ≡ is_decimal bytes.now }
 {
     if bytes.is_empty() || !are_digits(bytes) {
         return false;
@@ -28,10 +29,10 @@ fn is_numeral(bytes: &[u8]) -> bool
 }
 
 /// The number that a word writes. None exactly where it isn't a number of at most 2^64 - 1.
-pub fn number_of_word(word: &str) -> Option<u64>
-    ensures { result ≡ number_of_word word.now }
+pub fn decimal_of_word(word: &str) -> Option<u64>
+    ensures { result ≡ decimal_of_word word.now }
 {
-    if !is_numeral(word.as_bytes()) {
+    if !is_decimal(word.as_bytes()) {
         return None;
     }
     match word.parse::<u64>() {
@@ -42,9 +43,9 @@ pub fn number_of_word(word: &str) -> Option<u64>
 
 /// The value of `--vl`, in bits: BadNumber where the word isn't a number, BadLength where it isn't a vector length.
 pub fn length_of_word(word: &str) -> Result<Length, WordsWhy>
-    ensures { result ≡ value_of_word Vl word.now }
+    ensures { result ≡ checked_word Vl word.now }
 {
-    let Some(bits) = number_of_word(word) else {
+    let Some(bits) = decimal_of_word(word) else {
         return Err(WordsWhy::BadNumber);
     };
     let Ok(bits) = u32::try_from(bits) else {
@@ -58,16 +59,16 @@ pub fn length_of_word(word: &str) -> Result<Length, WordsWhy>
 
 /// The value of `--budget`, in steps: BadNumber where the word isn't a number.
 pub fn budget_of_word(word: &str) -> Result<u64, WordsWhy>
-    ensures { result ≡ value_of_word Budget word.now }
+    ensures { result ≡ checked_word Budget word.now }
 {
-    number_of_word(word).ok_or(WordsWhy::BadNumber)
+    decimal_of_word(word).ok_or(WordsWhy::BadNumber)
 }
 
 /// The value of `--pages`: BadNumber where the word isn't a number, OutOfRange where it isn't from 1 to 1,048,576.
 pub fn pages_of_word(word: &str) -> Result<u32, WordsWhy>
-    ensures { result ≡ value_of_word Pages word.now }
+    ensures { result ≡ checked_word Pages word.now }
 {
-    let Some(pages) = number_of_word(word) else {
+    let Some(pages) = decimal_of_word(word) else {
         return Err(WordsWhy::BadNumber);
     };
     if pages < 1 || MOST_MAPPED_PAGES < pages {

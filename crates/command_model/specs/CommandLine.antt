@@ -1,13 +1,13 @@
--- The command line: a command with its values, or its first refusal. `line`, at the end, is the whole of it.
+-- The command line: a command with its values, or its first refusal. `line`, at the end, is the whole of it. It is what
+-- docs/MANUAL.md says under "Commands" and "Refused lines"; the grammar is this project's own choice.
 --
--- A line is the name of a command and the words behind it: options, each with the next word as its value, plain words, and behind
--- the word `--` the arguments of a program. Places of words are counted from 0.
-use Rattle.std.specs.Prelude.{ℕ, ◌+◌, ◌-◌, ◌^◌, Bool, true, false, ◌&&◌, ◌||◌, not, List, [], ◌∷◌, ◌++◌, length, drop, codes, Option, Some, None, is_some, unwrap_or, Result, Ok, Err, nat_eq, nat_lt, nat_le, if◌then◌else◌, slice_get, slice_index}
-use Rattle.std.specs.List.{find, list_all, starts_with}
-use Rattle.std.specs.Option.{option_map_or}
+-- A line is the name of a command and the words behind it: options, each with the next word as its value, plain words,
+-- and behind the word `--` the arguments of a program. Places of words are counted from 0.
+use Rattle.std.specs.Prelude.{ℕ, ◌+◌, ◌^◌, Bool, true, false, ◌&&◌, ◌||◌, not, List, [], ◌∷◌, ◌++◌, length, codes, Option, Some, None, is_some, unwrap_or, Result, Ok, Err, nat_eq, nat_lt, nat_le, if◌then◌else◌, slice_get, slice_index}
+use Rattle.std.specs.List.{filter, find, list_all, starts_with}
+use Rattle.std.specs.Option.{is_none, option_and_then, option_map, option_map_or, option_or}
 use Rattle.std.specs.Str.{bytes_eq}
 use Rattle.std.specs.Str.Parse.{digits_value}
-use Rattle.line_words.specs.Refusals.{and_then}
 use Rattle.emu_model.specs.Access.{most_mapped_pages}
 use Rattle.emu_model.specs.Lengths.{is_vector_length}
 use Rattle.emu_system.specs.Arguments.{first_too_long, first_with_zero, most_arguments}
@@ -21,233 +21,229 @@ use Rattle.command_model.specs.declared.command_line.WordsFault.{WordsFault}
 use Rattle.command_model.specs.declared.command_line.WordsWhy.{WordsWhy}
 use Rattle.command_model.specs.declared.command_line.WordsWhy.TheVariants.{TooManyWords, WordsTooLong, ZeroByte, NoCommand, UnknownCommand, UnknownOption, Repeated, MissingValue, BadNumber, BadLength, OutOfRange, ExtraWord, MissingWord, MissingLength, MissingBudget}
 
-abbrev pub refused : {T : Type 0} → WordsWhy → ℕ → Result T WordsFault
-refused why place = Err (record { why = why; place = place })
+-- ---- what a command is
 
--- ---- commands and options
+-- its name, its options, how many plain words it has, whether its plain word is a number and not the name of a file,
+-- and whether it takes the arguments of a program, behind `--`
+pub record CommandUsage : Type 0 where
+  pub name : List ℕ
+  pub options : List OptionName
+  pub words : ℕ
+  pub number : Bool
+  pub arguments : Bool
 
-abbrev pub command_of : List ℕ → Option Command
-command_of word =
-    if bytes_eq word (codes "run") then Some Run
-    else (if bytes_eq word (codes "asm") then Some Asm
-    else (if bytes_eq word (codes "dis") then Some Dis
-    else (if bytes_eq word (codes "dbg") then Some Dbg
-    else (if bytes_eq word (codes "load") then Some Load
-    else (if bytes_eq word (codes "sweep") then Some Sweep
-    else (if bytes_eq word (codes "threads") then Some Threads else None))))))
+-- the vector length of a machine, its steps and its pages
+abbrev pub all_options : List OptionName
+all_options = Vl ∷ Budget ∷ Pages ∷ []
 
--- a command that runs a machine says how long its vectors are, how many steps it may take and how many pages it may have
-abbrev pub machine_options : List OptionName
-machine_options = Vl ∷ Budget ∷ Pages ∷ []
+abbrev pub usage_of : Command → CommandUsage
+usage_of Run = record { name = codes "run"; options = all_options; words = 1; number = false; arguments = true }
+usage_of Asm = record { name = codes "asm"; options = []; words = 1; number = false; arguments = false }
+usage_of Dis = record { name = codes "dis"; options = []; words = 1; number = false; arguments = false }
+usage_of Dbg = record { name = codes "dbg"; options = all_options; words = 2; number = false; arguments = true }
+usage_of Load = record { name = codes "load"; options = []; words = 1; number = true; arguments = false }
+usage_of Sweep =
+    record { name = codes "sweep"; options = Budget ∷ Pages ∷ []; words = 1; number = false; arguments = true }
+usage_of Threads = record { name = codes "threads"; options = all_options; words = 2; number = false; arguments = true }
 
--- one that runs a machine at each length says the other two
-abbrev pub sweep_options : List OptionName
-sweep_options = Budget ∷ Pages ∷ []
+abbrev pub all_commands : List Command
+all_commands = Run ∷ Asm ∷ Dis ∷ Dbg ∷ Load ∷ Sweep ∷ Threads ∷ []
 
-abbrev pub options_of : Command → List OptionName
-options_of Run = machine_options
-options_of Asm = []
-options_of Dis = []
-options_of Dbg = machine_options
-options_of Load = []
-options_of Sweep = sweep_options
-options_of Threads = machine_options
-
--- how many plain words a command has
-abbrev pub plain_words_of : Command → ℕ
-plain_words_of Run = 1
-plain_words_of Asm = 1
-plain_words_of Dis = 1
-plain_words_of Dbg = 2
-plain_words_of Load = 1
-plain_words_of Sweep = 1
-plain_words_of Threads = 2
-
--- whether a command knows the word `--`
-abbrev pub takes_arguments : Command → Bool
-takes_arguments Run = true
-takes_arguments Asm = false
-takes_arguments Dis = false
-takes_arguments Dbg = true
-takes_arguments Load = false
-takes_arguments Sweep = true
-takes_arguments Threads = true
-
--- whether a plain word of a command is a number, and not the name of a file
-abbrev pub takes_number : Command → Bool
-takes_number Run = false
-takes_number Asm = false
-takes_number Dis = false
-takes_number Dbg = false
-takes_number Load = true
-takes_number Sweep = false
-takes_number Threads = false
+abbrev pub named_command : List ℕ → Option Command
+named_command word = find (λ command. bytes_eq word (usage_of command).name) all_commands
 
 abbrev pub option_text : OptionName → List ℕ
 option_text Vl = codes "--vl"
 option_text Budget = codes "--budget"
 option_text Pages = codes "--pages"
 
--- a word in the form of an option
-abbrev pub is_option : List ℕ → Bool
-is_option word = starts_with nat_eq word (codes "--")
-
--- the option of a command that a word gives
+-- the option of a command that a word writes
 abbrev pub option_of : Command → List ℕ → Option OptionName
-option_of command word = find (λ option. bytes_eq (option_text option) word) (options_of command)
+option_of command word = find (λ option. bytes_eq (option_text option) word) (usage_of command).options
 
--- ---- values
+-- ---- numbers
 
-abbrev pub is_digit : ℕ → Bool
-is_digit c = nat_le 48 c && nat_le c 57
+abbrev pub is_decimal_digit : ℕ → Bool
+is_decimal_digit c = nat_le 48 c && nat_le c 57
 
 -- decimal digits without a leading zero, or `0`
-abbrev pub is_numeral : List ℕ → Bool
-is_numeral word = nat_lt 0 (length word) && (list_all is_digit word && (nat_eq (length word) 1 || not (nat_eq (slice_index word 0) 48)))
+abbrev pub is_decimal : List ℕ → Bool
+is_decimal word =
+    nat_lt 0 (length word) && (list_all is_decimal_digit word
+    && (nat_eq (length word) 1 || not (nat_eq (slice_index word 0) 48)))
 
--- the number that a word writes, at most 2^64 - 1
-abbrev pub number_of_word : List ℕ → Option ℕ
-number_of_word word = if is_numeral word && nat_lt (digits_value 10 word) (2 ^ 64) then Some (digits_value 10 word) else None
+-- the number that a word writes in decimal, at most 2^64 - 1
+abbrev pub decimal_of_word : List ℕ → Option ℕ
+decimal_of_word word =
+    if is_decimal word && nat_lt (digits_value 10 word) (2 ^ 64) then Some (digits_value 10 word) else None
 
--- a number as the value of an option
-abbrev pub value_of : OptionName → ℕ → Result ℕ WordsWhy
-value_of Vl bits = if is_vector_length bits then Ok bits else Err BadLength
-value_of Budget steps = Ok steps
-value_of Pages pages = if nat_le 1 pages && nat_le pages most_mapped_pages then Ok pages else Err OutOfRange
+-- ---- what stands at each place behind the command's name
 
--- a word as the value of an option
-abbrev pub value_of_word : OptionName → List ℕ → Result ℕ WordsWhy
-value_of_word option word = option_map_or (value_of option) (number_of_word word) (Err BadNumber)
+-- a word begins with `--`, and is an option of the command or none of its options; it is the value of the option before
+-- it; it is a plain word; or it is `--` or one of the arguments behind that
+pub data Role : Type 0 where
+  OptionWord : Option OptionName → Role
+  ValueWord : Option OptionName → Role
+  PlainWord : Role
+  ArgumentWord : Role
 
--- ---- the words behind the command's name, one after the other
+-- what a word is that is no value and no argument: a command that takes no arguments doesn't know `--`
+abbrev pub role_of : Command → List ℕ → Role
+role_of command word =
+    if (usage_of command).arguments && bytes_eq word (codes "--") then ArgumentWord
+    else (if starts_with nat_eq word (codes "--") then OptionWord (option_of command word) else PlainWord)
 
--- what they said so far: the places of the plain words, the number of one that is a number, the values of options, an option whose
--- value is the next word, and the place behind `--`
-pub record Seen : Type 0 where
-  pub plain : List ℕ
-  pub number : Option ℕ
-  pub vl : Option ℕ
-  pub budget : Option ℕ
-  pub pages : Option ℕ
-  pub awaited : Option OptionName
-  pub args : Option ℕ
+-- what a word is by what stands before it: behind an option it is the value, whatever it begins with
+abbrev pub role_behind : Role → Command → List ℕ → Role
+role_behind (OptionWord option) command word = ValueWord option
+role_behind (ValueWord option) command word = role_of command word
+role_behind PlainWord command word = role_of command word
+role_behind ArgumentWord command word = ArgumentWord
 
-abbrev pub nothing_seen : Seen
-nothing_seen = record { plain = []; number = None; vl = None; budget = None; pages = None; awaited = None; args = None }
+pub record WordAt : Type 0 where
+  pub place : ℕ
+  pub role : Role
+  pub word : List ℕ
 
-abbrev pub given : OptionName → Seen → Option ℕ
-given Vl seen = seen.vl
-given Budget seen = seen.budget
-given Pages seen = seen.pages
+-- the words from a place on, behind a word of this role
+abbrev pub words_from : Command → Role → ℕ → List (List ℕ) → List WordAt
+words_from command before place [] = []
+words_from command before place (word ∷ words) =
+    let role = role_behind before command word in
+    record { place = place; role = role; word = word } ∷ words_from command role (place + 1) words
 
-abbrev pub with_value : OptionName → ℕ → Seen → Seen
-with_value Vl bits seen = record seen { vl = Some bits; awaited = None }
-with_value Budget steps seen = record seen { budget = Some steps; awaited = None }
-with_value Pages pages seen = record seen { pages = Some pages; awaited = None }
+-- ---- what the words say
 
--- the value of an option
-abbrev pub read_value : Seen → ℕ → OptionName → Result ℕ WordsWhy → Result Seen WordsFault
-read_value seen place option (Ok value) = Ok (with_value option value seen)
-read_value seen place option (Err why) = refused why place
+abbrev pub is_plain_word : Role → Bool
+is_plain_word (OptionWord option) = false
+is_plain_word (ValueWord option) = false
+is_plain_word PlainWord = true
+is_plain_word ArgumentWord = false
 
--- an option
-abbrev pub read_option : Seen → ℕ → Option OptionName → Result Seen WordsFault
-read_option seen place None = refused UnknownOption place
-read_option seen place (Some option) = if is_some (given option seen) then refused Repeated place else Ok (record seen { awaited = Some option })
+abbrev pub is_argument : Role → Bool
+is_argument (OptionWord option) = false
+is_argument (ValueWord option) = false
+is_argument PlainWord = false
+is_argument ArgumentWord = true
 
--- one plain word more
-abbrev pub with_word : Seen → ℕ → Seen
-with_word seen place = record seen { plain = seen.plain ++ place ∷ [] }
+abbrev pub is_value_of : OptionName → Role → Bool
+is_value_of option (OptionWord other) = false
+is_value_of option (ValueWord other) = option_map_or (λ o. bytes_eq (option_text o) (option_text option)) other false
+is_value_of option PlainWord = false
+is_value_of option ArgumentWord = false
 
--- a plain word that has to be a number
-abbrev pub read_number : Seen → ℕ → Option ℕ → Result Seen WordsFault
-read_number seen place None = refused BadNumber place
-read_number seen place (Some number) = Ok (record (with_word seen place) { number = Some number })
+abbrev pub plain_words : List WordAt → List WordAt
+plain_words words = filter (λ w. is_plain_word w.role) words
 
--- a plain word that isn't too many
-abbrev pub read_further : Command → Seen → ℕ → List ℕ → Result Seen WordsFault
-read_further command seen place word = if takes_number command then read_number seen place (number_of_word word) else Ok (with_word seen place)
+-- the number that is given as the value of an option
+abbrev pub option_value : OptionName → List WordAt → Option ℕ
+option_value option words = option_and_then (λ w. decimal_of_word w.word) (find (λ w. is_value_of option w.role) words)
 
--- a plain word
-abbrev pub read_plain : Command → Seen → ℕ → List ℕ → Result Seen WordsFault
-read_plain command seen place word =
-    if nat_lt (length seen.plain) (plain_words_of command) then read_further command seen place word else refused ExtraWord place
+-- the place behind `--`, where the arguments begin, or the number of words of the line
+abbrev pub args_of : ℕ → List WordAt → ℕ
+args_of count words = unwrap_or (option_map (λ w. w.place + 1) (find (λ w. is_argument w.role) words)) count
 
--- `--`, an option or a plain word
-abbrev pub read_item : Command → Seen → ℕ → List ℕ → Result Seen WordsFault
-read_item command seen place word =
-    if takes_arguments command && bytes_eq word (codes "--") then Ok (record seen { args = Some (place + 1) })
-    else (if is_option word then read_option seen place (option_of command word) else read_plain command seen place word)
+-- ---- the first refusal, from left to right
 
--- any word: behind `--` an argument, behind an option its value
-abbrev pub read_word : Command → Seen → ℕ → List ℕ → Result Seen WordsFault
-read_word command seen place word =
-    if is_some seen.args then Ok seen
-    else option_map_or (λ option. read_value seen place option (value_of_word option word)) seen.awaited (read_item command seen place word)
+abbrev pub fault_at : ℕ → WordsWhy → WordsFault
+fault_at place why = record { why = why; place = place }
 
--- the words from a place on
-abbrev pub read_words : Command → Seen → ℕ → List (List ℕ) → Result Seen WordsFault
-read_words command seen place [] = Ok seen
-read_words command seen place (word ∷ words) = and_then (read_word command seen place word) (λ more. read_words command more (place + 1) words)
+-- why a number isn't a value of an option
+abbrev pub value_refusal : OptionName → ℕ → Option WordsWhy
+value_refusal Vl bits = if is_vector_length bits then None else Some BadLength
+value_refusal Budget steps = None
+value_refusal Pages pages = if nat_le 1 pages && nat_le pages most_mapped_pages then None else Some OutOfRange
+
+-- why a word is refused, by what it is and by the words before it and behind it: an option that has a value before is
+-- repeated, and one that is the last word has none; of an option that the command hasn't the value isn't asked for
+abbrev pub why_refused : Command → List WordAt → List WordAt → Role → List ℕ → Option WordsWhy
+why_refused command before behind (OptionWord None) word = Some UnknownOption
+why_refused command before behind (OptionWord (Some option)) word =
+    if is_some (option_value option before) then Some Repeated
+    else (if nat_eq (length behind) 0 then Some MissingValue else None)
+why_refused command before behind (ValueWord None) word = None
+why_refused command before behind (ValueWord (Some option)) word =
+    option_map_or (value_refusal option) (decimal_of_word word) (Some BadNumber)
+why_refused command before behind PlainWord word =
+    if nat_lt (length (plain_words before)) (usage_of command).words
+    then (if (usage_of command).number && is_none (decimal_of_word word) then Some BadNumber else None)
+    else Some ExtraWord
+why_refused command before behind ArgumentWord word = None
+
+-- the refusal of the first word that is refused, of those behind others
+abbrev pub first_refusal : Command → List WordAt → List WordAt → Option WordsFault
+first_refusal command before [] = None
+first_refusal command before (w ∷ behind) =
+    option_or (option_map (fault_at w.place) (why_refused command before behind w.role w.word))
+    (first_refusal command (before ++ w ∷ []) behind)
 
 -- ---- what is missing behind them all
 
--- the greatest number of pages where no option says it
-abbrev pub default_pages : ℕ
-default_pages = 16384
+abbrev pub is_wanting : OptionName → Command → List WordAt → Bool
+is_wanting option command words =
+    is_some (option_of command (option_text option)) && is_none (option_value option words)
 
--- the plain word of a number, or its want in so many words
-abbrev pub with_plain : ℕ → Seen → ℕ → (ℕ → Result Line WordsFault) → Result Line WordsFault
-with_plain count seen k next = option_map_or next (slice_get seen.plain k) (refused MissingWord count)
+-- a file's name or a number, the vector length, and the number of steps, in this order
+abbrev pub first_missing : Command → List WordAt → Option WordsWhy
+first_missing command words =
+    if nat_lt (length (plain_words words)) (usage_of command).words then Some MissingWord
+    else (if is_wanting Vl command words then Some MissingLength
+    else (if is_wanting Budget command words then Some MissingBudget else None))
 
-abbrev pub with_budget : ℕ → Option ℕ → (ℕ → Line) → Result Line WordsFault
-with_budget count None line = refused MissingBudget count
-with_budget count (Some budget) line = Ok (line budget)
+-- ---- the line, where nothing is refused or missing
 
--- the length and the budget of a machine have to be there
-abbrev pub with_machine : ℕ → Option ℕ → Option ℕ → (ℕ → ℕ → Line) → Result Line WordsFault
-with_machine count None budget line = refused MissingLength count
-with_machine count (Some bits) budget line = with_budget count budget (line bits)
+-- the place of a plain word, counted from 0
+abbrev pub plain_place : ℕ → List WordAt → ℕ
+plain_place k words = option_map_or (λ w. w.place) (slice_get (plain_words words) k) 0
 
--- the place of the first argument, or the number of words
-abbrev pub args_of : ℕ → Seen → ℕ
-args_of count seen = unwrap_or seen.args count
+abbrev pub plain_number : List WordAt → ℕ
+plain_number words = unwrap_or (option_and_then (λ w. decimal_of_word w.word) (slice_get (plain_words words) 0)) 0
 
-abbrev pub pages_of : Seen → ℕ
-pages_of seen = unwrap_or seen.pages default_pages
+abbrev pub chosen : OptionName → List WordAt → ℕ
+chosen option words = unwrap_or (option_value option words) 0
 
-abbrev pub line_of : Command → ℕ → Seen → Result Line WordsFault
-line_of Run count seen =
-    with_plain count seen 0 (λ file. with_machine count seen.vl seen.budget (λ bits budget. RunLine file (args_of count seen) bits budget (pages_of seen)))
-line_of Asm count seen = with_plain count seen 0 (λ listing. Ok (AsmLine listing))
-line_of Dis count seen = with_plain count seen 0 (λ file. Ok (DisLine file))
-line_of Dbg count seen =
-    with_plain count seen 0 (λ file. with_plain count seen 1 (λ script. with_machine count seen.vl seen.budget (λ bits budget. DbgLine file script (args_of count seen) bits budget (pages_of seen))))
-line_of Load count seen = option_map_or (λ number. Ok (LoadLine number)) seen.number (refused MissingWord count)
-line_of Sweep count seen = with_plain count seen 0 (λ file. with_budget count seen.budget (λ budget. SweepLine file (args_of count seen) budget (pages_of seen)))
-line_of Threads count seen =
-    with_plain count seen 0 (λ file. with_plain count seen 1 (λ schedule. with_machine count seen.vl seen.budget (λ bits budget. ThreadsLine file schedule (args_of count seen) bits budget (pages_of seen))))
+-- the greatest number of pages, which is 16,384 where no option says it
+abbrev pub chosen_pages : List WordAt → ℕ
+chosen_pages words = unwrap_or (option_value Pages words) 16384
 
--- an option that is the last word has no value
-abbrev pub end_of : Command → ℕ → Seen → Result Line WordsFault
-end_of command count seen = if is_some seen.awaited then refused MissingValue (count - 1) else line_of command count seen
+-- the line of a command, of so many words
+abbrev pub accepted_line : Command → ℕ → List WordAt → Line
+accepted_line Run count ws =
+    RunLine (plain_place 0 ws) (args_of count ws) (chosen Vl ws) (chosen Budget ws) (chosen_pages ws)
+accepted_line Asm count ws = AsmLine (plain_place 0 ws)
+accepted_line Dis count ws = DisLine (plain_place 0 ws)
+accepted_line Dbg count ws =
+    DbgLine (plain_place 0 ws) (plain_place 1 ws) (args_of count ws)
+    (chosen Vl ws) (chosen Budget ws) (chosen_pages ws)
+accepted_line Load count ws = LoadLine (plain_number ws)
+accepted_line Sweep count ws = SweepLine (plain_place 0 ws) (args_of count ws) (chosen Budget ws) (chosen_pages ws)
+accepted_line Threads count ws =
+    ThreadsLine (plain_place 0 ws) (plain_place 1 ws) (args_of count ws)
+    (chosen Vl ws) (chosen Budget ws) (chosen_pages ws)
 
--- ---- the whole line
+-- ---- the whole line, or the first refusal
 
--- a refusal where there is such a word
-abbrev pub refused_at : Option ℕ → WordsWhy → Result Line WordsFault → Result Line WordsFault
-refused_at None why next = next
-refused_at (Some place) why next = refused why place
+-- a refusal, or what comes where there is none
+abbrev pub refused_or : Option WordsFault → Result Line WordsFault → Result Line WordsFault
+refused_or None next = next
+refused_or (Some fault) next = Err fault
 
-abbrev pub line_of_command : List (List ℕ) → Option Command → Result Line WordsFault
-line_of_command words None = refused UnknownCommand 0
-line_of_command words (Some command) = and_then (read_words command nothing_seen 1 (drop 1 words)) (end_of command (length words))
+-- the words behind a command's name, in a line of so many words: refused from left to right, then what is missing
+abbrev pub line_of_command : Command → ℕ → List WordAt → Result Line WordsFault
+line_of_command command count words =
+    refused_or (first_refusal command [] words)
+    (refused_or (option_map (fault_at count) (first_missing command words)) (Ok (accepted_line command count words)))
 
+-- the name of a command, which is no option itself, and the words behind it
 abbrev pub line_of_words : List (List ℕ) → Result Line WordsFault
-line_of_words [] = refused NoCommand 0
-line_of_words (name ∷ words) = line_of_command (name ∷ words) (command_of name)
+line_of_words [] = Err (fault_at 0 NoCommand)
+line_of_words (name ∷ words) =
+    option_map_or (λ command. line_of_command command (length (name ∷ words)) (words_from command PlainWord 1 words))
+    (named_command name) (Err (fault_at 0 UnknownCommand))
 
+-- too many words, too many bytes and a byte 0 come before all other refusals
 abbrev pub line : List (List ℕ) → Result Line WordsFault
 line words =
-    if nat_lt most_arguments (length words) then refused TooManyWords most_arguments
-    else refused_at (first_too_long words) WordsTooLong (refused_at (first_with_zero words) ZeroByte (line_of_words words))
+    refused_or (if nat_lt most_arguments (length words) then Some (fault_at most_arguments TooManyWords) else None)
+    (refused_or (option_map (λ place. fault_at place WordsTooLong) (first_too_long words))
+    (refused_or (option_map (λ place. fault_at place ZeroByte) (first_with_zero words)) (line_of_words words)))

@@ -1,9 +1,11 @@
--- The listing of a load program: its instructions, and 20,000 numbers that are made from one.
+-- The listing of a load program: its instructions, and 20,000 numbers that are made from one. The program is this
+-- project's own choice; docs/MANUAL.md says under `svemu load` what it does.
 use Rattle.std.specs.Prelude.{ℕ, ◌+◌, ◌*◌, ◌%◌, ◌^◌, List, [], ◌∷◌, ◌++◌, codes, flat_map}
 use Rattle.std.specs.Fmt.{decimal}
 use Rattle.std.specs.List.{range_with_len}
 
--- it sums up the numbers and finds the greatest of them, as many lanes of 64 bits at a time as there are, writes both to file 1 and ends
+-- it sums up the numbers and finds the greatest of them, as many lanes of 64 bits at a time as there are, writes both
+-- to file 1 and ends
 unfoldable pub program_lines : List (List ℕ)
 program_lines =
     codes "  adr x1, nums"
@@ -49,7 +51,8 @@ abbrev pub later_number : ℕ → ℕ → List ℕ
 later_number n j = codes ", " ++ decimal (number_at n j)
 
 unfoldable pub data_line : ℕ → ℕ → List ℕ
-data_line n k = codes ".word " ++ decimal (number_at n (8 * k)) ++ flat_map (later_number n) (range_with_len (8 * k + 1) 7)
+data_line n k =
+    codes ".word " ++ decimal (number_at n (8 * k)) ++ flat_map (later_number n) (range_with_len (8 * k + 1) 7)
 
 -- a line and its end
 abbrev pub line_text : List ℕ → List ℕ

@@ -1,4 +1,5 @@
--- What `load N` writes: the run of its program at each vector length, and a line on each. `load_text` is the whole of it.
+-- What `load N` writes: the run of its program at each vector length, and a line on each. `load_text` is the whole of
+-- it. From docs/MANUAL.md, `svemu load`; the limits and the form of the lines are this project's own choice.
 use Rattle.std.specs.Prelude.{ℕ, List, [], ◌∷◌, ◌++◌, codes, flat_map}
 use Rattle.emu_model.specs.State.{Parts, State}
 use Rattle.emu_run.specs.Run.{run}

@@ -1,4 +1,4 @@
--- Where two outputs part, by their bytes.
+-- Where two outputs part, by their bytes, as docs/MANUAL.md has it under `svemu sweep`.
 use Rattle.std.specs.Prelude.{◌≡◌, ◌≢◌, ◌≤◌, ◌⊎◌, ℕ, List, length, take, get_or}
 
 -- the two are the same before the place, and differ at it, or one of them has ended

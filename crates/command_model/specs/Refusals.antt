@@ -1,13 +1,14 @@
--- The line of a refusal: what is refused, the name of the cause, and the place.
+-- The line of a refusal: what is refused, the name of the cause, and the place. From docs/MANUAL.md, "What you see";
+-- the names and the form of the lines are this project's own choice.
 use Rattle.std.specs.Prelude.{ℕ, List, [], ◌++◌, codes, Option, Some, None}
 use Rattle.std.specs.Fmt.{decimal}
 use Rattle.dbg_model.specs.declared.script.ScriptFault.{ScriptFault}
 use Rattle.dbg_model.specs.declared.script.ScriptWhy.{ScriptWhy}
 use Rattle.dbg_model.specs.declared.script.ScriptWhy.TheVariants as script
 use Rattle.emu_run.specs.Text.{newline}
-use Rattle.line_words.specs.declared.schedule.ScheduleFault.{ScheduleFault}
-use Rattle.line_words.specs.declared.schedule.ScheduleWhy.{ScheduleWhy}
-use Rattle.line_words.specs.declared.schedule.ScheduleWhy.TheVariants as schedule
+use Rattle.guest_schedule.specs.declared.schedule.ScheduleFault.{ScheduleFault}
+use Rattle.guest_schedule.specs.declared.schedule.ScheduleWhy.{ScheduleWhy}
+use Rattle.guest_schedule.specs.declared.schedule.ScheduleWhy.TheVariants as schedule
 use Rattle.emu_system.specs.declared.image.ElfFault.{ElfFault}
 use Rattle.emu_system.specs.declared.image.ElfFault.TheVariants.{TooShort, BadMagic, BadClass, BadData, BadVersion, BadType, BadMachine, BadHeaderSize, TooManySegments, HeadersOutside, Interpreter, SegmentOutside, FileOverMemory, AddressOutside, NotCongruent, Overlap, NoSegments, TooManyPages}
 use Rattle.listing_model.specs.declared.fault.ListingFault.{ListingFault}

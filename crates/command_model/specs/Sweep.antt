@@ -1,4 +1,5 @@
--- A sweep: one program at each vector length, and a line on each. `sweep_text` is the whole of it.
+-- A sweep: one program at each vector length, and a line on each. `sweep_text` is the whole of it. From docs/MANUAL.md,
+-- `svemu sweep`; the limits and the form of the lines are this project's own choice.
 use Rattle.std.specs.Prelude.{ℕ, ◌*◌, Bool, ◌&&◌, List, ◌++◌, length, map, flat_map, codes, nat_eq, nat_le, if◌then◌else◌}
 use Rattle.std.specs.Fmt.{decimal}
 use Rattle.std.specs.List.{common_prefix_len, list_all, range_with_len, take_while}
@@ -10,8 +11,8 @@ use Rattle.emu_run.specs.Text.{newline}
 use Rattle.emu_system.specs.Image.{Image}
 use Rattle.emu_system.specs.Start.{opening, with_input}
 
--- what is run at each length: the image of a file's bytes, with these arguments, at most so many pages and so many steps, and the
--- whole of this input
+-- what is run at each length: the image of a file's bytes, with these arguments, at most so many pages and so many
+-- steps, and the whole of this input
 pub record Sweep : Type 0 where
   pub file : List ℕ
   pub image : Image
@@ -41,16 +42,21 @@ part_text first output =
 
 -- how a machine that has stopped ended, at a length, and its steps
 abbrev pub run_head : ℕ → Parts → List ℕ
-run_head bits m = codes "vl " ++ decimal bits ++ codes " " ++ ending_text m m.ended ++ codes " after " ++ decimal m.steps ++ codes " steps "
+run_head bits m =
+    codes "vl " ++ decimal bits ++ codes " " ++ ending_text m m.ended ++ codes " after " ++ decimal m.steps
+    ++ codes " steps "
 
--- the line of a machine that has stopped, which wrote this output and so many bytes of errors, beside the output at 128 bits
+-- the line of a machine that has stopped, which wrote this output and so many bytes of errors, beside the output at 128
+-- bits
 abbrev pub run_line : ℕ → List ℕ → Parts → List ℕ → ℕ → List ℕ
 run_line bits first m output errors =
-    run_head bits m ++ codes "out " ++ decimal (length output) ++ codes " err " ++ decimal errors ++ codes " " ++ part_text first output ++ newline
+    run_head bits m ++ codes "out " ++ decimal (length output) ++ codes " err " ++ decimal errors ++ codes " "
+    ++ part_text first output ++ newline
 
 -- the line of the run at a length
 abbrev pub line_at : Sweep → ℕ → List ℕ
-line_at s bits = run_line bits (run_at s 128).output (run_at s bits).parts (run_at s bits).output (length (run_at s bits).errors)
+line_at s bits =
+    run_line bits (run_at s 128).output (run_at s bits).parts (run_at s bits).output (length (run_at s bits).errors)
 
 -- the sixteen lines in order
 abbrev pub sweep_text : Sweep → List ℕ

@@ -1,4 +1,5 @@
--- What stands at the end of a run of contexts: one line on how their world stopped, and the registers of each.
+-- What stands at the end of a run of contexts: one line on how their world stopped, and the registers of each. From
+-- docs/MANUAL.md, "Threads"; the form of the lines is this project's own choice.
 use Rattle.std.specs.Prelude.{ℕ, List, ◌++◌, length, codes}
 use Rattle.std.specs.Fmt.{decimal}
 use Rattle.emu_model.specs.State.{Core, Vectors}

@@ -1,13 +1,6 @@
 //! The command line as a command with its values.
 ghost use Rattle.std.specs.Prelude.{◌≡◌, ◌≤◌, length};
-ghost use Rattle.command_model.specs.CommandLine.{
-  command_of,
-  option_text,
-  options_of,
-  plain_words_of,
-  takes_arguments,
-  takes_number,
-};
+ghost use Rattle.command_model.specs.CommandLine.{named_command, option_text, usage_of};
 
 use emu_model::Length;
 use thiserror::Error;
@@ -159,7 +152,7 @@ const SWEEP_OPTIONS: [OptionName; 2] = [OptionName::Budget, OptionName::Pages];
 impl Command {
     /// The command of a name. None exactly where there is none.
     pub fn of(word: &str) -> Option<Command>
-        ensures { result ≡ command_of word.now }
+        ensures { result ≡ named_command word.now }
     {
         match word {
             "run" => Some(Command::Run),
@@ -175,7 +168,7 @@ impl Command {
 
     /// The options that the command has.
     pub fn options(self) -> &'static [OptionName]
-        ensures { result.now ≡ options_of self }
+        ensures { result.now ≡ (usage_of self).options }
     {
         match self {
             Command::Run | Command::Dbg | Command::Threads => &MACHINE_OPTIONS,
@@ -186,7 +179,7 @@ impl Command {
 
     /// How many plain words the command has: those that are no option, no option's value and no argument.
     pub fn plain_words(self) -> usize
-        ensures count { result ≡ plain_words_of self }
+        ensures count { result ≡ (usage_of self).words }
         ensures few { result ≤ 2 }
     {
         match self {
@@ -197,7 +190,7 @@ impl Command {
 
     /// Whether the words behind `--` are the arguments of a program.
     pub fn takes_arguments(self) -> bool
-        ensures { result ≡ takes_arguments self }
+        ensures { result ≡ (usage_of self).arguments }
     {
         match self {
             Command::Run | Command::Dbg | Command::Sweep | Command::Threads => true,
@@ -207,7 +200,7 @@ impl Command {
 
     /// Whether a plain word of the command is a number, and not the name of a file.
     pub fn takes_number(self) -> bool
-        ensures { result ≡ takes_number self }
+        ensures { result ≡ (usage_of self).number }
     {
         match self {
             Command::Load => true,

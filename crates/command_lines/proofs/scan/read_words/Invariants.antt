@@ -1,5 +1,5 @@
 use Rattle.std.proofs.Common.{◌≡◌, drop, map, string_bytes}
-use Rattle.command_model.specs.CommandLine.{nothing_seen, read_words}
+use Rattle.command_lines.specs.Scan.{nothing_seen, read_words}
 use Rattle.command_lines.proofs.scan.read_words.Given as goal
 
 -- what the words that are left say is what they all say

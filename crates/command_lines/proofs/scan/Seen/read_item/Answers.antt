@@ -1,7 +1,6 @@
 use Rattle.std.proofs.Common.{Result, subst, sym, ◌∙◌}
 use Rattle.command_model.specs.declared.command_line.WordsFault.{WordsFault}
-use Rattle.command_model.specs.CommandLine.{Seen}
-use Rattle.command_lines.specs.Scan.{Leaves}
+use Rattle.command_lines.specs.Scan.{Leaves, Seen}
 use Rattle.command_lines.proofs.Items.{plain_item}
 use Rattle.command_lines.proofs.scan.Seen.read_item.Goals as goal
 
