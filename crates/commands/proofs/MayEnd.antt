@@ -1,5 +1,5 @@
 -- How lines may end, by how their parts end.
-use Rattle.std.proofs.Common.{◌≡◌, ◌∙◌, ℕ, Bool, true, false, ◌||◌, nat_eq, Result, Ok, Err, ap, refl, subst}
+use Rattle.std.proofs.Common.{◌≡◌, ◌∙◌, ℕ, Bool, true, false, ◌||◌, nat_eq, Result, Ok, Err, ap, refl, subst, sym}
 use Rattle.command_model.specs.Sweep.{stream_limit}
 use Rattle.commands.specs.Sweeping.{ends_swept}
 use Rattle.command_lines.specs.declared.ending.Ending.{Ending}
@@ -126,3 +126,7 @@ swept_sweep WriteFault is = refl
 swept_sweep ErrorsFault is = refl
 swept_sweep OutOfMemory is = refl
 swept_sweep ending is = cc
+
+-- their input was read without a fault
+pub swept_no_read : (ending : Ending) → ends_swept ending ≡ true → ending ≡ ReadFault → ⊥
+swept_no_read ending is e = let t : false ≡ true = sym (ap ends_swept e) ∙ is in cc

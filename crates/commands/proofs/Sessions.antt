@@ -9,7 +9,8 @@ use Rattle.dbg_model.specs.Commands.{has_back}
 use Rattle.dbg_model.specs.Session.{session}
 use Rattle.dbg_model.specs.declared.script.Command.{Command}
 use Rattle.dbg_model.specs.declared.script.ScriptFault.{ScriptFault}
-use Rattle.dbg_core.specs.ScriptReading.{IsErrorOf}
+use Rattle.dbg_core.specs.Errors.{fault_in}
+use Rattle.line_words.specs.Reading.{IsErrorOf}
 use Rattle.dbg_core.specs.declared.script_reader.ScriptError.{ScriptError}
 use Rattle.dbg_core.specs.declared.script_reader.ScriptError.TheVariants.{Refused}
 use Rattle.emu_model.specs.Access.{Marks, no_marks}
@@ -31,8 +32,8 @@ use Rattle.commands.proofs.Meetings.{line_meets, never}
 
 -- ---- the script
 
-pub is_refused : (r : Result (List Command) ScriptFault) (error : ScriptError) (fault : ScriptFault) → error ≡ Refused fault → IsErrorOf r error → r ≡ Err fault
-is_refused r error fault is told = subst (λ (e : ScriptError). IsErrorOf r e) is told
+pub is_refused : (r : Result (List Command) ScriptFault) (error : ScriptError) (fault : ScriptFault) → error ≡ Refused fault → IsErrorOf r (fault_in error) → r ≡ Err fault
+is_refused r error fault is told = subst (λ (e : ScriptError). IsErrorOf r (fault_in e)) is told
 
 module _ (budget : ℕ) (m : Parts) (r : Result (List Command) ScriptFault) (old : Now) where
   abbrev pub of_script : List ℕ → Option Outcome
@@ -52,6 +53,9 @@ module _ (budget : ℕ) (m : Parts) (r : Result (List Command) ScriptFault) (old
 
 pub forward_script : (r : Result (List Command) ScriptFault) (commands : List Command) → r ≡ Ok commands → script_goes_back r ≡ false → has_back commands ≡ false
 forward_script r commands is forward = sym (ap script_goes_back is) ∙ forward
+
+pub backward_script : (r : Result (List Command) ScriptFault) (commands : List Command) → r ≡ Ok commands → script_goes_back r ≡ true → has_back commands ≡ true
+backward_script r commands is back = sym (ap script_goes_back is) ∙ back
 
 -- ---- forward and back
 

@@ -6,9 +6,9 @@ use Rattle.std.proofs.lemmas.Str.{IsUtf8-from_is_utf8, is_utf8-from_IsUtf8}
 use Rattle.dbg_model.specs.declared.script.Command.{Command}
 use Rattle.dbg_model.specs.declared.script.ScriptFault.{ScriptFault}
 use Rattle.dbg_model.specs.declared.script.ScriptWhy.TheVariants.{NotUtf8}
-use Rattle.line_words.specs.declared.schedule.ScheduleFault.{ScheduleFault}
-use Rattle.line_words.specs.declared.schedule.ScheduleWhy.TheVariants as schedules
-use Rattle.line_words.specs.Schedule.{schedule, schedule_of_file}
+use Rattle.guest_schedule.specs.declared.schedule.ScheduleFault.{ScheduleFault}
+use Rattle.guest_schedule.specs.declared.schedule.ScheduleWhy.TheVariants as schedules
+use Rattle.guest_schedule.specs.Schedule.{schedule, schedule_of_file}
 use Rattle.line_words.specs.Lines.{is_newline}
 use Rattle.dbg_model.specs.Script.{script, script_of_file}
 

@@ -17,8 +17,8 @@ use Rattle.commands.specs.declared.two_files.SecondFile.TheVariants.{Script, Sch
 use Rattle.commands.specs.Endings.{ended_by}
 use Rattle.commands.specs.Promises.{settles_by}
 use Rattle.commands.specs.Meets.{Now, now, MeetsBy}
-use Rattle.commands.specs.Lines.{file_goes_back, text_goes_back, IsForward}
-use Rattle.commands.specs.SecondFiles.{ends_by, file_reads_first, outcome_by, outcome_from, text_reads_first, TakesLater}
+use Rattle.commands.specs.Lines.{file_goes_back, text_goes_back, IsBackward, IsForward}
+use Rattle.commands.specs.SecondFiles.{ends_by, file_reads_first, outcome_by, outcome_from, text_reads_first, TakesBefore, TakesLater}
 use Rattle.commands.proofs.MayEnd.{kind_put}
 use Rattle.commands.proofs.Meetings.{line_meets}
 use Rattle.commands.proofs.NamedFiles.{found_file_by, over, same_outcome}
@@ -46,6 +46,14 @@ forward_text : (told : Option Files) (name text : List ℕ) → IfSome told (λ 
 forward_text None name text whole forward = absurd forward
 forward_text (Some files) name text whole forward = found_goes_back (get files name) text whole ∙ forward
 
+backward_text : (told : Option Files) (name text : List ℕ) → IfSome told (λ files. whole_file (get files name) file_limit ≡ Ok text) → IsBackward told name → text_goes_back text ≡ true
+backward_text None name text whole back = absurd back
+backward_text (Some files) name text whole back = found_goes_back (get files name) text whole ∙ back
+
+pub before_text : (second : SecondFile) (told : Option Files) (name text : List ℕ) → IfSome told (λ files. whole_file (get files name) file_limit ≡ Ok text) → TakesBefore second told name → text_reads_first second text ≡ true
+before_text Script told name text whole before = backward_text told name text whole before
+before_text Schedule told name text whole before = absurd before
+
 pub later_text : (second : SecondFile) (told : Option Files) (name text : List ℕ) → IfSome told (λ files. whole_file (get files name) file_limit ≡ Ok text) → TakesLater second told name → text_reads_first second text ≡ false
 later_text Script told name text whole later = forward_text told name text whole later
 later_text Schedule told name text whole later = refl
@@ -68,6 +76,14 @@ read_later second told words place name bytes items named are found later =
     later_text second told name bytes
     (subst (λ (xs : List ℕ). IfSome told (λ files. whole_file (get files name) file_limit ≡ Ok xs)) (sym are) found)
     (subst (λ (n : List ℕ). TakesLater second told n) (sym named) later)
+
+-- and its input is read first
+pub read_before : (second : SecondFile) (told : Option Files) (words : List (List ℕ)) (place : ℕ) (name bytes items : List ℕ) → name ≡ get_or words place [] → bytes ≡ items
+    → IfSome told (λ files. whole_file (get files name) file_limit ≡ Ok items) → TakesBefore second told (get_or words place []) → text_reads_first second bytes ≡ true
+read_before second told words place name bytes items named are found before =
+    before_text second told name bytes
+    (subst (λ (xs : List ℕ). IfSome told (λ files. whole_file (get files name) file_limit ≡ Ok xs)) (sym are) found)
+    (subst (λ (n : List ℕ). TakesBefore second told n) (sym named) before)
 
 module _ (bytes text : List ℕ) (args : List (List ℕ)) (p : Program) where
   refused_is : (second : SecondFile) (fault : ElfFault) (i : List ℕ) → refusal (ImageRefused fault) (image_line fault) ≡ outcome_by second bytes text args i p (Err fault)

@@ -10,9 +10,10 @@ use Rattle.command_lines.specs.declared.ending.Ending.{Ending}
 use Rattle.command_lines.specs.declared.ending.Ending.TheVariants.{ScheduleRefused, ReadFault, WriteFault, ErrorsFault}
 use Rattle.emu_run.specs.RunLaws.{IsRest}
 use Rattle.line_words.specs.Reading.{IsErrorOf}
-use Rattle.line_words.specs.declared.reader.ScheduleError.{ScheduleError}
-use Rattle.line_words.specs.declared.reader.ScheduleError.TheVariants.{Refused}
-use Rattle.line_words.specs.declared.schedule.ScheduleFault.{ScheduleFault}
+use Rattle.guest_schedule.specs.Errors.{fault_in}
+use Rattle.guest_schedule.specs.declared.reader.ScheduleError.{ScheduleError}
+use Rattle.guest_schedule.specs.declared.reader.ScheduleError.TheVariants.{Refused}
+use Rattle.guest_schedule.specs.declared.schedule.ScheduleFault.{ScheduleFault}
 use Rattle.guest_threads.specs.Ends.{Becomes, Puts, TakesWithin, end_of_world, is_broken_off, world_end}
 use Rattle.guest_threads.specs.declared.ends.WorldEnd.{WorldEnd}
 use Rattle.guest_threads.specs.declared.ends.WorldEnd.TheVariants as worlds
@@ -164,8 +165,8 @@ module _ (turns : List (ℕ × ℕ)) (budget : ℕ) (m n : World) (end : WorldEn
 
 -- ---- the schedule
 
-pub is_refused : (r : Result (List (ℕ × ℕ)) ScheduleFault) (error : ScheduleError) (fault : ScheduleFault) → error ≡ Refused fault → IsErrorOf r error → r ≡ Err fault
-is_refused r error fault is told = subst (λ (e : ScheduleError). IsErrorOf r e) is told
+pub is_refused : (r : Result (List (ℕ × ℕ)) ScheduleFault) (error : ScheduleError) (fault : ScheduleFault) → error ≡ Refused fault → IsErrorOf r (fault_in error) → r ≡ Err fault
+is_refused r error fault is told = subst (λ (e : ScheduleError). IsErrorOf r (fault_in e)) is told
 
 module _ (budget : ℕ) (opened : World) (r : Result (List (ℕ × ℕ)) ScheduleFault) (old : Now) where
   abbrev pub of_schedule : List ℕ → Option Outcome

@@ -92,6 +92,21 @@ TakesLast words (Ok (Sweep file args budget pages)) told = ⊥
 TakesLast words (Ok (Threads file schedule args bits budget pages)) told = Unit {0}
 TakesLast words (Err fault) told = Unit {0}
 
+-- the input is read to its end before anything is written: by a sweep, and by a session where the files are told and its script goes back
+abbrev pub IsBackward : Option Files → List ℕ → Type 0
+IsBackward None name = ⊥
+IsBackward (Some files) name = file_goes_back (get files name) ≡ true
+
+abbrev pub TakesFirst : List (List ℕ) → Result Line WordsFault → Option Files → Type 0
+TakesFirst words (Ok (Run file args bits budget pages)) told = ⊥
+TakesFirst words (Ok (Asm listing)) told = ⊥
+TakesFirst words (Ok (Dis file)) told = ⊥
+TakesFirst words (Ok (Dbg file script args bits budget pages)) told = IsBackward told (get_or words script [])
+TakesFirst words (Ok (Load number)) told = ⊥
+TakesFirst words (Ok (Sweep file args budget pages)) told = Unit {0}
+TakesFirst words (Ok (Threads file schedule args bits budget pages)) told = ⊥
+TakesFirst words (Err fault) told = ⊥
+
 -- the outcome of a line for these bytes counts: the line takes no input, or the input told them, or the outcome rests on none
 abbrev pub IsOutcome : Result Line WordsFault → Option (List ℕ) → Option Outcome → List ℕ → Type 0
 IsOutcome line told outcome bytes = MatchBool (takes_input line) (CountsFor told outcome bytes) (Unit {0})

@@ -6,12 +6,12 @@ use Rattle.command_lines.specs.Outcome.{Outcome, Files, file_at, outcome_of_debu
 use Rattle.command_lines.specs.declared.ending.Ending.{Ending}
 use Rattle.emu_system.specs.Image.{Image, elf}
 use Rattle.emu_system.specs.declared.image.ElfFault.{ElfFault}
-use Rattle.line_words.specs.Schedule.{schedule_of_file}
+use Rattle.guest_schedule.specs.Schedule.{schedule_of_file}
 use Rattle.emu_run.specs.Worlds.{opened}
 use Rattle.commands.specs.declared.program.Program.{Program}
 use Rattle.commands.specs.declared.two_files.SecondFile.{SecondFile}
 use Rattle.commands.specs.declared.two_files.SecondFile.TheVariants.{Script, Schedule}
-use Rattle.commands.specs.Lines.{ends_dbg, ends_threads, file_goes_back, text_goes_back, IsForward}
+use Rattle.commands.specs.Lines.{ends_dbg, ends_threads, file_goes_back, text_goes_back, IsBackward, IsForward}
 use Rattle.commands.specs.Programs.{arguments_of}
 
 -- over the opening state of the program
@@ -46,6 +46,11 @@ file_reads_first Schedule text = false
 abbrev pub TakesLater : SecondFile → Option Files → List ℕ → Type 0
 TakesLater Script told name = IsForward told name
 TakesLater Schedule told name = Unit {0}
+
+-- the files are told, and the input is read so
+abbrev pub TakesBefore : SecondFile → Option Files → List ℕ → Type 0
+TakesBefore Script told name = IsBackward told name
+TakesBefore Schedule told name = ⊥
 
 -- how such a line may end
 abbrev pub ends_by : SecondFile → Ending → Bool

@@ -9,7 +9,8 @@ ghost use Rattle.emu_system.specs.Start.{with_input};
 ghost use Rattle.dbg_model.specs.Commands.{has_back};
 ghost use Rattle.dbg_model.specs.Script.{script_of_file};
 ghost use Rattle.dbg_model.specs.Session as model;
-ghost use Rattle.dbg_core.specs.ScriptReading.{IsErrorOf};
+ghost use Rattle.dbg_core.specs.Errors.{fault_in};
+ghost use Rattle.line_words.specs.Reading.{IsErrorOf};
 ghost use Rattle.command_lines.specs.Outcome.{
   file_limit,
   outcome_of_commands,
@@ -42,7 +43,8 @@ use std::str;
 /// The script of a file's bytes. Err is its first refusal, or want of memory.
 fn script_of(alloc: Global, bytes: &[u8]) -> Result<Script, ScriptError>
     requires { length bytes.now ≤ file_limit }
-    ensures { MatchResult result (λ read. script_of_file bytes.now ≡ Ok read) (IsErrorOf (script_of_file bytes.now)) }
+    ensures { MatchResult result (λ read. script_of_file bytes.now ≡ Ok read)
+        (λ error. IsErrorOf (script_of_file bytes.now) (fault_in error)) }
 {
     match str::from_utf8(bytes) {
         Ok(text) => read_script(alloc, text),
@@ -207,6 +209,7 @@ fn debug_back<I: Source, O: Sink, E: Sink>(
     ensures errors_cause { Causes (result ≡ Ending.ErrorsFault) (E.faults errors.old) (E.faults errors.new) }
     ensures no_file { result ≢ Ending.FileFault }
     ensures memory_first { result ≡ Ending.OutOfMemory → (output.new ≡ output.old) × (errors.new ≡ errors.old) }
+    ensures read_unwritten { result ≡ Ending.ReadFault → (output.new ≡ output.old) × (errors.new ≡ errors.old) }
     ensures kind { ends_dbg result ≡ true }
 {
     match read_all(alloc, input, STREAM_LIMIT as usize) {
@@ -250,6 +253,8 @@ fn debug_script<I: Source, O: Sink, E: Sink>(
     ensures no_file { result ≢ Ending.FileFault }
     ensures memory_first { has_back script.now ≡ false → result ≡ Ending.OutOfMemory → input.new ≡ input.old }
     ensures memory_unwritten { result ≡ Ending.OutOfMemory → (output.new ≡ output.old) × (errors.new ≡ errors.old) }
+    ensures read_unwritten { has_back script.now ≡ true → result ≡ Ending.ReadFault
+        → (output.new ≡ output.old) × (errors.new ≡ errors.old) }
     ensures kind { ends_dbg result ≡ true }
 {
     if script.has_back() {
@@ -295,6 +300,8 @@ pub fn debug_image<I: Source, O: Sink, E: Sink>(
     ensures no_file { result ≢ Ending.FileFault }
     ensures memory_first { text_goes_back text.now ≡ false → result ≡ Ending.OutOfMemory → input.new ≡ input.old }
     ensures memory_unwritten { result ≡ Ending.OutOfMemory → (output.new ≡ output.old) × (errors.new ≡ errors.old) }
+    ensures read_unwritten { text_goes_back text.now ≡ true → result ≡ Ending.ReadFault
+        → (output.new ≡ output.old) × (errors.new ≡ errors.old) }
     ensures kind { ends_dbg result ≡ true }
 {
     match script_of(alloc, text) {

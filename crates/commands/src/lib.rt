@@ -15,4 +15,7 @@ mod texts;
 mod threads;
 mod two_files;
 
+pub use files::file_bytes;
 pub use line::command;
+pub use program::{Program, open_machine};
+pub use run::{ending_of_run, is_failure};

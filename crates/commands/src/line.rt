@@ -30,6 +30,7 @@ ghost use Rattle.commands.specs.Lines.{
   RefusesLine,
   MissesFirst,
   EndsMissing,
+  TakesFirst,
   TakesLast,
 };
 ghost use Rattle.commands.specs.Meets.{MeetsLine, now};
@@ -88,6 +89,8 @@ fn run_line<F: Images, I: Source, O: Sink, E: Sink>(
     ensures read_cause { Causes (result ≡ Ending.ReadFault) (I.faults input.old) (I.faults input.new) }
     ensures write_cause { Causes (result ≡ Ending.WriteFault) (O.faults output.old) (O.faults output.new) }
     ensures errors_cause { Causes (result ≡ Ending.ErrorsFault) (E.faults errors.old) (E.faults errors.new) }
+    ensures read_unwritten { TakesFirst (map string_bytes words.now) (Ok line.now) (F.named files.old)
+        → result ≡ Ending.ReadFault → (output.new ≡ output.old) × (errors.new ≡ errors.old) }
     ensures kind { may_end line.now result ≡ true }
     ensures no_input { takes_input (Ok line.now) ≡ false → (input.new ≡ input.old) × (result ≢ Ending.ReadFault) }
     ensures no_file { names_file (Ok line.now) ≡ false → (files.new ≡ files.old) × (result ≢ Ending.FileFault) }
@@ -190,6 +193,9 @@ pub fn command<F: Images, I: Source, O: Sink, E: Sink>(
         → (files.new ≡ files.old) × (result ≢ Ending.FileFault) }
     ensures no_errors { takes_input (line (map string_bytes words.now)) ≡ false → is_silent result ≡ true
         → errors.new ≡ errors.old }
+    ensures read_unwritten { TakesFirst (map string_bytes words.now)
+        (line (map string_bytes words.now)) (F.named files.old)
+        → result ≡ Ending.ReadFault → (output.new ≡ output.old) × (errors.new ≡ errors.old) }
     ensures kind { IfOk (line (map string_bytes words.now)) (λ l. may_end l result ≡ true) }
     ensures refused { RefusesLine (line (map string_bytes words.now)) result }
     ensures refused_output { IfErr (line (map string_bytes words.now)) (λ _. output.new ≡ output.old) }

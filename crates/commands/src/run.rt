@@ -60,7 +60,7 @@ fn put_report<E: Sink>(machine: &Machine, errors: &mut E) -> Result<(), Failed>
 }
 
 /// The ending of a run that left the program counter at an address.
-fn ending_of_run(end: RunEnd, pc: u64) -> Ending
+pub fn ending_of_run(end: RunEnd, pc: u64) -> Ending
     ensures { result ≡ ending_by end pc }
 {
     match end {
@@ -74,7 +74,7 @@ fn ending_of_run(end: RunEnd, pc: u64) -> Ending
 }
 
 /// Whether a file or a stream failed, or memory was wanting.
-fn is_failure(ending: &Ending) -> bool
+pub fn is_failure(ending: &Ending) -> bool
     ensures { result ≡ is_failure ending.now }
 {
     match ending {

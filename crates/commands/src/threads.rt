@@ -21,7 +21,8 @@ ghost use Rattle.elf_image.specs.Images.{seen_image};
 ghost use Rattle.elf_image.specs.Loadable.{IsLoadable};
 ghost use Rattle.emu_system.specs.ArgumentLimits.{AreArguments};
 ghost use Rattle.line_words.specs.Reading.{IsErrorOf};
-ghost use Rattle.line_words.specs.Schedule.{schedule_of_file};
+ghost use Rattle.guest_schedule.specs.Errors.{fault_in};
+ghost use Rattle.guest_schedule.specs.Schedule.{schedule_of_file};
 ghost use Rattle.guest_threads.specs.Ends.{has_ended};
 ghost use Rattle.emu_run.specs.Threads.{with_input};
 ghost use Rattle.emu_run.specs.Threads as model;
@@ -40,9 +41,9 @@ use command_lines::Ending;
 use elf_image::Image;
 use emu_report::{put_context, put_exit, put_schedule_refusal, put_spent, put_stuck, put_trap};
 use emu_run::WorldEnding;
+use guest_schedule::{Schedule, ScheduleError, ScheduleFault, ScheduleWhy, read_schedule};
 use guest_threads::{World, WorldEnd};
 use io_gate::{Failed, Sink, Source};
-use line_words::{Schedule, ScheduleError, ScheduleFault, ScheduleWhy, read_schedule};
 use std::alloc::{AllocError, Global};
 use std::str;
 
@@ -50,7 +51,8 @@ use std::str;
 fn schedule_of(alloc: Global, bytes: &[u8]) -> Result<Schedule, ScheduleError>
     requires { length bytes.now ≤ file_limit }
     ensures { MatchResult result
-        (λ read. schedule_of_file bytes.now ≡ Ok read) (IsErrorOf (schedule_of_file bytes.now)) }
+        (λ read. schedule_of_file bytes.now ≡ Ok read)
+        (λ error. IsErrorOf (schedule_of_file bytes.now) (fault_in error)) }
 {
     match str::from_utf8(bytes) {
         Ok(text) => read_schedule(alloc, text),

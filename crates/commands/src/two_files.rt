@@ -34,6 +34,7 @@ ghost use Rattle.commands.specs.SecondFiles.{
   outcome_of_both,
   outcome_with,
   text_reads_first,
+  TakesBefore,
   TakesLater,
 };
 
@@ -86,6 +87,8 @@ fn obey_text<I: Source, O: Sink, E: Sink>(
     ensures memory_first { text_reads_first second text.now ≡ false → result ≡ Ending.OutOfMemory
         → input.new ≡ input.old }
     ensures memory_unwritten { result ≡ Ending.OutOfMemory → (output.new ≡ output.old) × (errors.new ≡ errors.old) }
+    ensures read_unwritten { text_reads_first second text.now ≡ true → result ≡ Ending.ReadFault
+        → (output.new ≡ output.old) × (errors.new ≡ errors.old) }
     ensures kind { ends_by second result ≡ true }
 {
     match second {
@@ -127,6 +130,8 @@ fn obey_bytes<I: Source, O: Sink, E: Sink>(
     ensures memory_first { text_reads_first second text.now ≡ false → result ≡ Ending.OutOfMemory
         → input.new ≡ input.old }
     ensures memory_unwritten { result ≡ Ending.OutOfMemory → (output.new ≡ output.old) × (errors.new ≡ errors.old) }
+    ensures read_unwritten { text_reads_first second text.now ≡ true → result ≡ Ending.ReadFault
+        → (output.new ≡ output.old) × (errors.new ≡ errors.old) }
     ensures kind { ends_by second result ≡ true }
 {
     match read(bytes, program.pages) {
@@ -177,6 +182,8 @@ fn obey_second<F: Images, I: Source, O: Sink, E: Sink>(
     ensures read_cause { Causes (result ≡ Ending.ReadFault) (I.faults input.old) (I.faults input.new) }
     ensures write_cause { Causes (result ≡ Ending.WriteFault) (O.faults output.old) (O.faults output.new) }
     ensures errors_cause { Causes (result ≡ Ending.ErrorsFault) (E.faults errors.old) (E.faults errors.new) }
+    ensures read_unwritten { TakesBefore second (F.named files.old) (get_or (map string_bytes words.now) place [])
+        → result ≡ Ending.ReadFault → (output.new ≡ output.old) × (errors.new ≡ errors.old) }
     ensures kind { ends_by second result ≡ true }
 {
     match file_bytes(alloc, word(words, place), files, errors) {
@@ -231,6 +238,8 @@ pub fn obey_files<F: Images, I: Source, O: Sink, E: Sink>(
     ensures read_cause { Causes (result ≡ Ending.ReadFault) (I.faults input.old) (I.faults input.new) }
     ensures write_cause { Causes (result ≡ Ending.WriteFault) (O.faults output.old) (O.faults output.new) }
     ensures errors_cause { Causes (result ≡ Ending.ErrorsFault) (E.faults errors.old) (E.faults errors.new) }
+    ensures read_unwritten { TakesBefore second (F.named files.old) (get_or (map string_bytes words.now) place [])
+        → result ≡ Ending.ReadFault → (output.new ≡ output.old) × (errors.new ≡ errors.old) }
     ensures kind { ends_by second result ≡ true }
 {
     match file_bytes(alloc, word(words, program.file), files, errors) {

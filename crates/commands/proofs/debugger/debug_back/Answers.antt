@@ -8,7 +8,7 @@ use Rattle.command_lines.specs.declared.ending.Ending.TheVariants.{TooLong, Read
 use Rattle.command_model.specs.Sweep.{stream_limit}
 use Rattle.commands.specs.Lines.{ends_dbg}
 use Rattle.commands.specs.Programs.{opening_of}
-use Rattle.commands.proofs.MayEnd.{kind_put, swept_dbg}
+use Rattle.commands.proofs.MayEnd.{kind_put, swept_dbg, swept_no_read}
 use Rattle.commands.proofs.Sessions.{back_accepts, back_settles, back_takes}
 use Rattle.commands.proofs.WholeInputs.{long_meets, read_meets, stops_as, unread_meets}
 use Rattle.command_lines.specs.declared.ending.Ending.TheVariants as ends
@@ -72,3 +72,9 @@ returns-in-Err-TooLong-clause-no_file g c = ended_other c.put_too_long.result (e
 
 pub returns-in-Err-TooLong-clause-memory_first : goal.returns-in-Err-TooLong-clause-memory_first
 returns-in-Err-TooLong-clause-memory_first g c = λ e. absurd (ended_other c.put_too_long.result (ends.TooLong stream_limit) c.ending_after_line.result ends.OutOfMemory c.ending_after_line.ensures (λ e. cc) (λ e. cc) e)
+
+pub returns-in-Ok-clause-read_unwritten : goal.returns-in-Ok-clause-read_unwritten
+returns-in-Ok-clause-read_unwritten g c = λ e. absurd (swept_no_read c.debug_input.result c.debug_input.ensures.kind e)
+
+pub returns-in-Err-TooLong-clause-read_unwritten : goal.returns-in-Err-TooLong-clause-read_unwritten
+returns-in-Err-TooLong-clause-read_unwritten g c = λ e. absurd (ended_other c.put_too_long.result (ends.TooLong stream_limit) c.ending_after_line.result ends.ReadFault c.ending_after_line.ensures (λ e. cc) (λ e. cc) e)

@@ -8,7 +8,7 @@ use Rattle.commands.specs.Lines.{ends_dbg, text_goes_back}
 use Rattle.commands.specs.Programs.{opening_of}
 use Rattle.commands.specs.Meets.{now}
 use Rattle.commands.proofs.MayEnd.{kind_put}
-use Rattle.commands.proofs.Sessions.{forward_script, is_refused, obeyed_script, of_script, refused_script}
+use Rattle.commands.proofs.Sessions.{backward_script, forward_script, is_refused, obeyed_script, of_script, refused_script}
 use Rattle.commands.proofs.Settled.{failed_either}
 use Rattle.command_lines.specs.declared.ending.Ending.TheVariants as ends
 use Rattle.commands.proofs.Causing.{ended_cause, ended_other, no_cause}
@@ -53,3 +53,9 @@ returns-in-Err-Refused-clause-memory_first g c = λ _ e. absurd (ended_other c.p
 
 pub returns-in-Err-Refused-clause-memory_unwritten : goal.returns-in-Err-Refused-clause-memory_unwritten
 returns-in-Err-Refused-clause-memory_unwritten g c = λ e. absurd (ended_other c.put_script_refusal.result (ends.ScriptRefused _) c.ending_after_line.result ends.OutOfMemory c.ending_after_line.ensures (λ e. cc) (λ e. cc) e)
+
+pub returns-in-Ok-clause-read_unwritten : goal.returns-in-Ok-clause-read_unwritten
+returns-in-Ok-clause-read_unwritten g c = λ back. c.debug_script.ensures.read_unwritten (backward_script (script_of_file c.args.text.now) c.in-Ok.script c.in-Ok.ensures back)
+
+pub returns-in-Err-Refused-clause-read_unwritten : goal.returns-in-Err-Refused-clause-read_unwritten
+returns-in-Err-Refused-clause-read_unwritten g c = λ _ e. absurd (ended_other c.put_script_refusal.result (ends.ScriptRefused _) c.ending_after_line.result ends.ReadFault c.ending_after_line.ensures (λ e. cc) (λ e. cc) e)

@@ -17,3 +17,6 @@ returns-else-has_back-clause-outcome g c =
 
 pub returns-then-has_back-clause-memory_first : goal.returns-then-has_back-clause-memory_first
 returns-then-has_back-clause-memory_first g c = λ forward. absurd (let t : true ≡ false = sym c.if-has_back.true ∙ c.has_back.ensures ∙ forward in cc)
+
+pub returns-else-has_back-clause-read_unwritten : goal.returns-else-has_back-clause-read_unwritten
+returns-else-has_back-clause-read_unwritten g c = λ back. absurd (let t : false ≡ true = sym c.if-has_back.false ∙ c.has_back.ensures ∙ back in cc)

@@ -2,13 +2,14 @@ use Rattle.std.proofs.Common.{◌≡◌, List, Result, Ok, MatchResult, sym, ap,
 use Rattle.std.proofs.lemmas.Str.{utf8_valid_len_le}
 use Rattle.dbg_model.specs.declared.script.Command.{Command}
 use Rattle.dbg_model.specs.declared.script.ScriptFault.{ScriptFault}
-use Rattle.dbg_core.specs.ScriptReading.{IsErrorOf}
+use Rattle.dbg_core.specs.Errors.{fault_in}
+use Rattle.line_words.specs.Reading.{IsErrorOf}
 use Rattle.commands.proofs.TextFiles.{bad_script, no_script, text_script}
 use Rattle.commands.proofs.debugger.script_of.Goals as goal
 
 pub returns-in-Ok : goal.returns-in-Ok
 returns-in-Ok c =
-    subst (λ (s : Result (List Command) ScriptFault). MatchResult c.read_script.result (λ read. s ≡ Ok read) (IsErrorOf s)) (text_script c.args.bytes.now c.in-Ok.text.now c.in-Ok.ensures.cases.0 c.in-Ok.ensures.cases.1) c.read_script.ensures
+    subst (λ (s : Result (List Command) ScriptFault). MatchResult c.read_script.result (λ read. s ≡ Ok read) (λ error. IsErrorOf s (fault_in error))) (text_script c.args.bytes.now c.in-Ok.text.now c.in-Ok.ensures.cases.0 c.in-Ok.ensures.cases.1) c.read_script.ensures
 
 pub line_of_place-requires-clause-within : goal.line_of_place-requires-clause-within
 line_of_place-requires-clause-within c = omega (arith, c.valid_up_to.ensures ∙ c.in-Err.ensures.valid_len, utf8_valid_len_le c.args.bytes.now)

@@ -8,7 +8,7 @@ use Rattle.command_lines.specs.declared.ending.Ending.TheVariants.{FileFault, Re
 use Rattle.emu_system.specs.Gained.{Gains}
 use Rattle.commands.specs.Promises.{NamesNoFile, is_failure, is_silent}
 use Rattle.commands.specs.Meets.{now, MeetsLine}
-use Rattle.commands.specs.Lines.{EndsMissing, MissesFirst, TakesLast, may_end, names_file, takes_input, sweeps}
+use Rattle.commands.specs.Lines.{EndsMissing, MissesFirst, TakesFirst, TakesLast, may_end, names_file, takes_input, sweeps}
 use Rattle.commands.proofs.Lines.{refused_gains, refused_line, refused_names_none, refused_puts, done_refuses, line_refuses}
 use Rattle.commands.proofs.line.command.Goals as goal
 
@@ -113,3 +113,12 @@ pub returns-in-Ok-clause-memory_unwritten : goal.returns-in-Ok-clause-memory_unw
 returns-in-Ok-clause-memory_unwritten g c =
     subst (λ (r : Result Line WordsFault). sweeps r ≡ false → c.run_line.result ≡ OutOfMemory → (c.run_line.new.output ≡ c.args.output.now) × (c.run_line.new.errors ≡ c.args.errors.now))
     (sym c.in-Ok.is ∙ c.line_of_words-line.ensures.line) c.run_line.ensures.memory_unwritten
+
+pub returns-in-Ok-clause-read_unwritten : goal.returns-in-Ok-clause-read_unwritten
+returns-in-Ok-clause-read_unwritten g c =
+    subst (λ (r : Result Line WordsFault). TakesFirst (map string_bytes c.args.words.now) r (g.F.Images.named c.args.files.now) → c.run_line.result ≡ ReadFault → (c.run_line.new.output ≡ c.args.output.now) × (c.run_line.new.errors ≡ c.args.errors.now))
+    (sym c.in-Ok.is ∙ c.line_of_words-line.ensures.line) c.run_line.ensures.read_unwritten
+
+pub returns-in-Err-clause-read_unwritten : goal.returns-in-Err-clause-read_unwritten
+returns-in-Err-clause-read_unwritten g c = λ first.
+    absurd (subst (λ (r : Result Line WordsFault). TakesFirst (map string_bytes c.args.words.now) r (g.F.Images.named c.args.files.now)) (sym (sym c.in-Err.is ∙ c.line_of_words-line.ensures.line)) first)

@@ -12,7 +12,7 @@ use Rattle.commands.specs.Meets.{now, MeetsLine}
 use Rattle.commands.specs.declared.program.Program.{Program}
 use Rattle.commands.specs.Programs.{outcome_over, debug_line_of, run_line_of, sweep_line_of, threads_line_of}
 use Rattle.commands.proofs.Lines.{cause_of_line, missing_of_line, names_none}
-use Rattle.commands.specs.Lines.{may_end, names_file, sweeps, takes_input, EndsMissing, MissesFirst, TakesLast}
+use Rattle.commands.specs.Lines.{may_end, names_file, sweeps, takes_input, EndsMissing, MissesFirst, TakesFirst, TakesLast}
 use Rattle.commands.proofs.NamedFiles.{told_so}
 use Rattle.commands.proofs.line.run_line.Goals as goal
 
@@ -263,3 +263,25 @@ returns-in-Asm-clause-no_file g c = λ other. absurd (let t : true ≡ false = s
 
 pub returns-in-Dis-clause-no_file : goal.returns-in-Dis-clause-no_file
 returns-in-Dis-clause-no_file g c = λ other. absurd (let t : true ≡ false = sym (ap (λ (l : Line). names_file (Ok l)) c.in-Dis.is) ∙ other in cc)
+
+pub returns-in-Run-clause-read_unwritten : goal.returns-in-Run-clause-read_unwritten
+returns-in-Run-clause-read_unwritten g c = λ first. absurd (subst (λ (l : Line). TakesFirst (map string_bytes c.args.words.now) (Ok l) (g.F.Images.named c.args.files.now)) c.in-Run.is first)
+
+pub returns-in-Asm-clause-read_unwritten : goal.returns-in-Asm-clause-read_unwritten
+returns-in-Asm-clause-read_unwritten g c = λ first. absurd (subst (λ (l : Line). TakesFirst (map string_bytes c.args.words.now) (Ok l) (g.F.Images.named c.args.files.now)) c.in-Asm.is first)
+
+pub returns-in-Dis-clause-read_unwritten : goal.returns-in-Dis-clause-read_unwritten
+returns-in-Dis-clause-read_unwritten g c = λ first. absurd (subst (λ (l : Line). TakesFirst (map string_bytes c.args.words.now) (Ok l) (g.F.Images.named c.args.files.now)) c.in-Dis.is first)
+
+pub returns-in-Load-clause-read_unwritten : goal.returns-in-Load-clause-read_unwritten
+returns-in-Load-clause-read_unwritten g c = λ first. absurd (subst (λ (l : Line). TakesFirst (map string_bytes c.args.words.now) (Ok l) (g.F.Images.named c.args.files.now)) c.in-Load.is first)
+
+pub returns-in-Threads-clause-read_unwritten : goal.returns-in-Threads-clause-read_unwritten
+returns-in-Threads-clause-read_unwritten g c = λ first. absurd (subst (λ (l : Line). TakesFirst (map string_bytes c.args.words.now) (Ok l) (g.F.Images.named c.args.files.now)) c.in-Threads.is first)
+
+pub returns-in-Dbg-clause-read_unwritten : goal.returns-in-Dbg-clause-read_unwritten
+returns-in-Dbg-clause-read_unwritten g c = λ first.
+    c.obey_files.ensures.read_unwritten (subst (λ (l : Line). TakesFirst (map string_bytes c.args.words.now) (Ok l) (g.F.Images.named c.args.files.now)) c.in-Dbg.is first)
+
+pub returns-in-Sweep-clause-read_unwritten : goal.returns-in-Sweep-clause-read_unwritten
+returns-in-Sweep-clause-read_unwritten g c = λ _. c.sweep_file.ensures.read_unwritten

@@ -38,3 +38,6 @@ returns-in-Err-clause-errors_cause g c = ended_cause _ _ c.put_image_refusal.res
 
 pub returns-in-Err-clause-no_file : goal.returns-in-Err-clause-no_file
 returns-in-Err-clause-no_file g c = ended_other c.put_image_refusal.result (ends.ImageRefused c.in-Err.fault) c.ending_after_line.result ends.FileFault c.ending_after_line.ensures (λ e. cc) (λ e. cc)
+
+pub returns-in-Err-clause-read_unwritten : goal.returns-in-Err-clause-read_unwritten
+returns-in-Err-clause-read_unwritten g c = λ e. absurd (ended_other c.put_image_refusal.result (ends.ImageRefused c.in-Err.fault) c.ending_after_line.result ends.ReadFault c.ending_after_line.ensures (λ e. cc) (λ e. cc) e)

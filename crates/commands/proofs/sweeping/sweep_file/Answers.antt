@@ -1,4 +1,4 @@
-use Rattle.std.proofs.Common.{ℕ, List, Option, Some, map, string_bytes, ap, true, ◌≡◌, refl, subst, ◌⊎◌, Err}
+use Rattle.std.proofs.Common.{ℕ, List, Option, Some, map, string_bytes, ap, true, ◌≡◌, refl, subst, ◌⊎◌, Err, ◌∙◌}
 use Rattle.command_lines.specs.declared.ending.Ending.{Ending}
 use Rattle.io_gate.specs.Images.{MissesNamed}
 use Rattle.io_gate.specs.Streams.{Causes, Rose}
@@ -56,3 +56,9 @@ returns-in-Ok-clause-file_first g c = λ fault. absurd (c.sweep_bytes.ensures.no
 pub returns-in-Err-clause-file_cause : goal.returns-in-Err-clause-file_cause
 returns-in-Err-clause-file_cause g c = λ fault.
     subst (λ (name : List ℕ). Rose (g.F.Images.faults c.args.files.now) (g.F.Images.faults c.file_bytes.new.files) ⊎ MissesNamed (g.F.Images.named c.args.files.now) name) c.word.ensures (c.in-Err.ensures.file_cause (ap (λ (x : Ending). Err x) fault))
+
+pub returns-in-Err-clause-read_unwritten : goal.returns-in-Err-clause-read_unwritten
+returns-in-Err-clause-read_unwritten g c = λ e. absurd (unread_no_read (g.F.Images.named c.args.files.now) c.word.result.now c.in-Err.ending c.in-Err.ensures.unread e)
+
+pub returns-in-Ok-clause-read_unwritten : goal.returns-in-Ok-clause-read_unwritten
+returns-in-Ok-clause-read_unwritten g c = λ e. let kept = c.sweep_bytes.ensures.read_unwritten e in (kept.0, kept.1 ∙ c.in-Ok.ensures.read_still)

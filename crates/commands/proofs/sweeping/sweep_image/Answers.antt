@@ -7,7 +7,7 @@ use Rattle.command_lines.specs.declared.ending.Ending.{Ending}
 use Rattle.command_lines.specs.declared.ending.Ending.TheVariants.{TooLong, ReadFault, OutOfMemory}
 use Rattle.command_model.specs.Sweep.{stream_limit}
 use Rattle.commands.specs.Lines.{ends_sweep}
-use Rattle.commands.proofs.MayEnd.{kind_put, swept_sweep}
+use Rattle.commands.proofs.MayEnd.{kind_put, swept_no_read, swept_sweep}
 use Rattle.commands.proofs.Sweeps.{accepts_it, lines_over, settles_as, takes_all}
 use Rattle.commands.proofs.WholeInputs.{long_meets, read_meets, stops_as, unread_meets}
 use Rattle.command_lines.specs.declared.ending.Ending.TheVariants as ends
@@ -68,3 +68,9 @@ returns-in-Err-TooLong-clause-errors_cause g c = ended_cause _ _ c.put_too_long.
 
 pub returns-in-Err-TooLong-clause-no_file : goal.returns-in-Err-TooLong-clause-no_file
 returns-in-Err-TooLong-clause-no_file g c = ended_other c.put_too_long.result (ends.TooLong stream_limit) c.ending_after_line.result ends.FileFault c.ending_after_line.ensures (λ e. cc) (λ e. cc)
+
+pub returns-in-Ok-clause-read_unwritten : goal.returns-in-Ok-clause-read_unwritten
+returns-in-Ok-clause-read_unwritten g c = λ e. absurd (swept_no_read c.sweep_input.result c.sweep_input.ensures.kind e)
+
+pub returns-in-Err-TooLong-clause-read_unwritten : goal.returns-in-Err-TooLong-clause-read_unwritten
+returns-in-Err-TooLong-clause-read_unwritten g c = λ e. absurd (ended_other c.put_too_long.result (ends.TooLong stream_limit) c.ending_after_line.result ends.ReadFault c.ending_after_line.ensures (λ e. cc) (λ e. cc) e)

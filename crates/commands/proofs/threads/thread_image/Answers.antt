@@ -2,8 +2,8 @@ use Rattle.std.proofs.Common.{◌≡◌, Err, map, string_bytes, ap, refl, sym, 
 use Rattle.elf_image.specs.Images.{seen_image}
 use Rattle.command_lines.specs.declared.ending.Ending.{Ending}
 use Rattle.command_lines.specs.declared.ending.Ending.TheVariants.{OutOfMemory}
-use Rattle.line_words.specs.Schedule.{schedule_of_file}
-use Rattle.line_words.specs.declared.schedule.ScheduleFault.{ScheduleFault}
+use Rattle.guest_schedule.specs.Schedule.{schedule_of_file}
+use Rattle.guest_schedule.specs.declared.schedule.ScheduleFault.{ScheduleFault}
 use Rattle.guest_threads.specs.Ends.{WorldHeld}
 use Rattle.emu_run.specs.Worlds.{opened}
 use Rattle.commands.specs.Lines.{ends_threads}

@@ -42,3 +42,6 @@ returns-in-Err-clause-memory_first g c = λ _ e. absurd (ended_other c.put_image
 
 pub returns-in-Err-clause-memory_unwritten : goal.returns-in-Err-clause-memory_unwritten
 returns-in-Err-clause-memory_unwritten g c = λ e. absurd (ended_other c.put_image_refusal.result (ends.ImageRefused c.in-Err.fault) c.ending_after_line.result ends.OutOfMemory c.ending_after_line.ensures (λ e. cc) (λ e. cc) e)
+
+pub returns-in-Err-clause-read_unwritten : goal.returns-in-Err-clause-read_unwritten
+returns-in-Err-clause-read_unwritten g c = λ _ e. absurd (ended_other c.put_image_refusal.result (ends.ImageRefused c.in-Err.fault) c.ending_after_line.result ends.ReadFault c.ending_after_line.ensures (λ e. cc) (λ e. cc) e)

@@ -1,4 +1,4 @@
-use Rattle.std.proofs.Common.{inl, inr, ℕ, List, [], get_or, Option, Err, IfSome, map, string_bytes, sym, ap, subst, ◌≡◌, refl}
+use Rattle.std.proofs.Common.{inl, inr, ℕ, List, [], get_or, Option, Err, IfSome, map, string_bytes, sym, ap, subst, ◌≡◌, refl, ◌∙◌}
 use Rattle.io_gate.specs.Images.{MissesNamed}
 use Rattle.io_gate.specs.Streams.{Rose, Causes}
 use Rattle.command_lines.specs.Outcome.{Outcome, Files, file_at}
@@ -7,7 +7,7 @@ use Rattle.emu_system.specs.Image.{elf}
 use Rattle.commands.specs.Promises.{settles_by}
 use Rattle.commands.specs.Meets.{now, MeetsBy}
 use Rattle.commands.specs.Programs.{arguments_of}
-use Rattle.commands.specs.SecondFiles.{file_reads_first, outcome_by, TakesLater}
+use Rattle.commands.specs.SecondFiles.{file_reads_first, outcome_by, TakesBefore, TakesLater}
 use Rattle.commands.specs.declared.program.Program.{Program}
 use Rattle.commands.specs.declared.two_files.SecondFile.{SecondFile}
 use Rattle.commands.proofs.NamedFiles.{found_file_by, names_missing, over, over_two, second_misses, second_missing, unread_file, unread_missing}
@@ -87,3 +87,11 @@ returns-in-Err-clause-errors_cause g c = unread_cause _ _ _ _ _ refl c.in-Err.en
 
 pub returns-in-Ok-clause-errors_cause : goal.returns-in-Ok-clause-errors_cause
 returns-in-Ok-clause-errors_cause g c = subst (λ (n : ℕ). Causes (c.obey_second.result ≡ ends.ErrorsFault) n (g.E.Sink.faults c.obey_second.new.errors)) (ap g.E.Sink.faults c.in-Ok.ensures.read_still) c.obey_second.ensures.errors_cause
+
+pub returns-in-Ok-clause-read_unwritten : goal.returns-in-Ok-clause-read_unwritten
+returns-in-Ok-clause-read_unwritten g c = λ before e.
+    let kept = c.obey_second.ensures.read_unwritten (subst (λ (told : Option Files). TakesBefore c.args.second told (get_or (map string_bytes c.args.words.now) c.args.place [])) (sym c.in-Ok.ensures.told) before) e in
+    (kept.0, kept.1 ∙ c.in-Ok.ensures.read_still)
+
+pub returns-in-Err-clause-read_unwritten : goal.returns-in-Err-clause-read_unwritten
+returns-in-Err-clause-read_unwritten g c = λ _ e. absurd (unread_no_read (g.F.Images.named c.args.files.now) c.word.result.now c.in-Err.ending c.in-Err.ensures.unread e)

@@ -1,4 +1,4 @@
-use Rattle.std.proofs.Common.{ℕ, List, Option, Some, map, string_bytes, ap, ◌≡◌, refl, subst, ◌⊎◌, Err}
+use Rattle.std.proofs.Common.{ℕ, List, Option, Some, map, string_bytes, ap, ◌≡◌, refl, subst, ◌⊎◌, Err, ◌∙◌}
 use Rattle.command_lines.specs.declared.ending.Ending.{Ending}
 use Rattle.io_gate.specs.Images.{MissesNamed}
 use Rattle.io_gate.specs.Streams.{Causes, Rose}
@@ -11,7 +11,7 @@ use Rattle.commands.specs.declared.program.Program.{Program}
 use Rattle.commands.specs.declared.two_files.SecondFile.{SecondFile}
 use Rattle.commands.proofs.NamedFiles.{over, told_so, unread_file}
 use Rattle.commands.proofs.Settled.{unread_either}
-use Rattle.commands.proofs.TwoFiles.{found_second, read_later}
+use Rattle.commands.proofs.TwoFiles.{found_second, read_before, read_later}
 use Rattle.commands.proofs.MayEnd.{stops_by}
 use Rattle.command_lines.specs.declared.ending.Ending.TheVariants as ends
 use Rattle.commands.proofs.Causing.{no_cause, unread_cause, unread_no_read, unread_no_write}
@@ -64,3 +64,12 @@ returns-in-Ok-clause-file_first g c = λ fault. absurd (c.obey_bytes.ensures.no_
 pub returns-in-Err-clause-file_cause : goal.returns-in-Err-clause-file_cause
 returns-in-Err-clause-file_cause g c = λ fault.
     subst (λ (name : List ℕ). Rose (g.F.Images.faults c.args.files.now) (g.F.Images.faults c.file_bytes.new.files) ⊎ MissesNamed (g.F.Images.named c.args.files.now) name) c.word.ensures (c.in-Err.ensures.file_cause (ap (λ (x : Ending). Err x) fault))
+
+pub returns-in-Ok-clause-read_unwritten : goal.returns-in-Ok-clause-read_unwritten
+returns-in-Ok-clause-read_unwritten g c = λ before e.
+    let kept = c.obey_bytes.ensures.read_unwritten
+    (read_before c.args.second (g.F.Images.named c.args.files.now) (map string_bytes c.args.words.now) c.args.place c.word.result.now c.deref.result.now c.in-Ok.text.items c.word.ensures c.deref.ensures.value c.in-Ok.ensures.content before) e in
+    (kept.0, kept.1 ∙ c.in-Ok.ensures.read_still)
+
+pub returns-in-Err-clause-read_unwritten : goal.returns-in-Err-clause-read_unwritten
+returns-in-Err-clause-read_unwritten g c = λ _ e. absurd (unread_no_read (g.F.Images.named c.args.files.now) c.word.result.now c.in-Err.ending c.in-Err.ensures.unread e)

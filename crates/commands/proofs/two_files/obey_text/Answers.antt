@@ -1,4 +1,4 @@
-use Rattle.std.proofs.Common.{◌≡◌, Some, map, string_bytes, sym, subst, true, ap, ◌∙◌}
+use Rattle.std.proofs.Common.{◌≡◌, Some, map, string_bytes, sym, subst, true, false, ap, ◌∙◌}
 use Rattle.elf_image.specs.Images.{seen_image}
 use Rattle.commands.specs.declared.two_files.SecondFile.{SecondFile}
 use Rattle.commands.specs.Programs.{opening_of}
@@ -27,3 +27,9 @@ returns-in-Schedule-clause-kind g c = subst (λ (s : SecondFile). ends_by s c.th
 
 pub returns-in-Script-clause-memory_first : goal.returns-in-Script-clause-memory_first
 returns-in-Script-clause-memory_first g c = λ later. c.debug_image.ensures.memory_first (sym (ap (λ (s : SecondFile). text_reads_first s c.args.text.now) c.in-Script.is) ∙ later)
+
+pub returns-in-Script-clause-read_unwritten : goal.returns-in-Script-clause-read_unwritten
+returns-in-Script-clause-read_unwritten g c = λ first. c.debug_image.ensures.read_unwritten (sym (ap (λ (s : SecondFile). text_reads_first s c.args.text.now) c.in-Script.is) ∙ first)
+
+pub returns-in-Schedule-clause-read_unwritten : goal.returns-in-Schedule-clause-read_unwritten
+returns-in-Schedule-clause-read_unwritten g c = λ first. absurd (let t : false ≡ true = sym (ap (λ (s : SecondFile). text_reads_first s c.args.text.now) c.in-Schedule.is) ∙ first in cc)

@@ -1,0 +1,3 @@
+pub mod Lookups
+pub mod Stable
+pub mod Steps

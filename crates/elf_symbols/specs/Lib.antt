@@ -1,0 +1,4 @@
+pub mod Lookup
+pub mod Order
+pub mod Read
+pub mod Symbols

@@ -1,0 +1,26 @@
+//! How the program is used, and which version it is.
+
+/// How the program is used.
+pub const USAGE: &str = "\
+usage: svemu-tool run [OPTION ..] PROGRAM [ARG ..]
+       svemu-tool family [WORD ..]
+       svemu-tool --help | --version
+
+run runs a static AArch64 program with SVE: its input, output, errors and status are its own. Where it doesn't come to
+its exit, a line behind its errors says why and where.
+
+  --vl N             the vector length in bits, a multiple of 128 from 128 to 2048 (SVEMU_VL, else 512)
+  --budget B         the greatest number of steps (SVEMU_BUDGET, else 10000000000)
+  --pages P          the greatest number of mapped pages of 4 KiB (SVEMU_PAGES, else 16384)
+  --                 no option stands behind it
+
+family says the family of each word, as 0x1e222820, that is no instruction of the table; without words those of the
+lines of its input.
+
+status: the program's own; 128 and the number of the signal of a trap; 120 without memory; 121 a refused line; 122 a
+refused program; 123 the steps are spent; 124 or 125 the input or an output failed; 126 a file that can't be read; 127
+one that is too long.
+";
+
+/// Which version the program is.
+pub const VERSION: &str = "svemu-tool 0.1.0\n";

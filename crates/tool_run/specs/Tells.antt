@@ -1,0 +1,59 @@
+-- What a run of `svemu-tool` promises.
+use Rattle.std.specs.Prelude.{◌≡◌, ℕ, Bool, true, false, List, [], ◌++◌, filter, map, Option, Some, IfSome}
+use Rattle.std.specs.List.Sorted.{IsPermutation}
+use Rattle.elf_symbols.specs.declared.Symbol.{Symbol}
+use Rattle.elf_symbols.specs.Order.{AreInOrder, stands_with}
+use Rattle.elf_symbols.specs.Symbols.{symbols, seen}
+use Rattle.emu_system.specs.declared.image.Segment.{Segment}
+use Rattle.tool_sites.specs.Explanation.{explanation}
+use Rattle.command_lines.specs.Outcome.{Outcome}
+use Rattle.command_lines.specs.declared.ending.Ending.{Ending}
+use Rattle.command_lines.specs.declared.ending.Ending.TheVariants.{Exit}
+use Rattle.commands.specs.Meets.{Now}
+use Rattle.commands.specs.Promises.{is_failure, output_of, errors_of, taken_of, CountsFor, EndsAs, Loses, Settles}
+use Rattle.emu_model.specs.State.{IsPrefix, Parts}
+use Rattle.emu_system.specs.Gained.{Gains}
+
+-- first bytes of the program's own came behind those that a sink held, and then first bytes of what is said
+pub record GainedBoth (held : Option (List ℕ)) (had own said : List ℕ) : Type 0 where
+  pub gained : List ℕ
+  pub told : List ℕ
+  pub is : held ≡ Some (had ++ (gained ++ told))
+  pub first : IsPrefix gained own
+  pub begun : IsPrefix told said
+
+-- the program's own bytes came behind those that a sink held, and then what is said; where something failed, first
+-- bytes of each
+abbrev pub GainsBoth : Bool → Option (List ℕ) → List ℕ → List ℕ → List ℕ → Type 0
+GainsBoth false held had own said = held ≡ Some (had ++ (own ++ said))
+GainsBoth true held had own said = GainedBoth held had own said
+
+-- Where nothing failed, the ending, the output and what is taken of the input are those of `svemu`'s result; the errors
+-- gain the
+-- bytes that the program itself writes there, and what is said behind them. After a failure the streams gain first
+-- bytes of these,
+-- and lose no more.
+pub record Tells (result own : List ℕ → Option Outcome) (said : List ℕ) (ending : Ending) (old new : Now) : Type 0 where
+  pub ends : IfSome old.input (λ bytes. is_failure ending ≡ false → EndsAs (result bytes) ending)
+  pub settled : is_failure ending ≡ false → (bytes : List ℕ) → Settles (result bytes) ending
+  pub output : (bytes : List ℕ) → CountsFor old.input (result bytes) bytes
+      → IfSome old.output (λ had. Gains (is_failure ending) new.output had (output_of (result bytes)))
+  pub errors : (bytes : List ℕ) → CountsFor old.input (result bytes) bytes
+      → IfSome old.errors (λ had. GainsBoth (is_failure ending) new.errors had (errors_of (own bytes)) said)
+  pub input : IfSome old.input (λ bytes. Loses (is_failure ending) new.input bytes (taken_of (result bytes)))
+
+-- the symbols of a file, in order
+pub record AreSymbolsOf (file : List ℕ) (found : List Symbol) : Type 0 where
+  pub same : IsPermutation (symbols file) (map seen found)
+  pub sorted : AreInOrder found
+  pub stable : (x : Symbol) → filter (stands_with x) (map seen found) ≡ filter (stands_with x) (symbols file)
+
+-- what is said of a machine that stopped, by the symbols of its file and the segments of its image
+pub record IsExplained (file : List ℕ) (segments : List Segment) (m : Parts) (said : List ℕ) : Type 0 where
+  pub found : List Symbol
+  pub theirs : AreSymbolsOf file found
+  pub is : said ≡ explanation found segments m
+
+-- nothing is said of an exit
+abbrev pub IsSilentExit : Ending → List ℕ → Type 0
+IsSilentExit ending said = (code : ℕ) → ending ≡ Exit code → said ≡ []
