@@ -14,7 +14,7 @@ use command_model::WordsWhy;
 use dbg_model::ScriptWhy;
 use emu_model::TrapKind;
 use emu_system::ElfFault;
-use line_words::ScheduleWhy;
+use guest_schedule::ScheduleWhy;
 use listing_model::ListingWhy;
 
 /// A trap's kind.

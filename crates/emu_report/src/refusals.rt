@@ -20,8 +20,8 @@ use crate::text::Text;
 use command_model::WordsFault;
 use dbg_model::ScriptFault;
 use emu_system::ElfFault;
+use guest_schedule::ScheduleFault;
 use io_gate::{Failed, Sink};
-use line_words::ScheduleFault;
 use listing_model::ListingFault;
 
 /// Puts the line of a refused command line, as `refused words BadLength at 3`.

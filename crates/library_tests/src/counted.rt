@@ -1,9 +1,10 @@
 //! Kernels over slices of lanes, with lawful operations that count their calls.
-ghost use Rattle.std.specs.Prelude.{◌≡◌, ◌<◌, ◌≤◌, ◌+◌, ◌++◌, ◌%◌, ◌^◌, map, nat_eq, take, drop, length};
+ghost use Rattle.std.specs.Prelude.{◌≡◌, ◌<◌, ◌≤◌, ◌+◌, ◌*◌, ◌++◌, ◌%◌, ◌^◌, map, nat_eq, take, drop, length};
 ghost use Rattle.std.specs.Simd.Lanes.{zip2};
 ghost use Rattle.lane_kernels.specs.Chunks.{zip3};
 
-use lane_kernels::kernels::{Op1, Op2, Op3, Test2, compare, map1, map2, map3};
+use lane_kernels::{LaneWiseFold, Op1, Op2, Op3, Test2, compare, fold, map1, map2, map3, select};
+use lane_pack::Lane;
 use std::cell::Cell;
 use std::simd::Simd;
 
@@ -117,11 +118,23 @@ impl<const W: usize> Test2<u8, W> for Counted {
     }
 }
 
+/// Twice what it had and a lane, so that the order of lanes shows.
+#[derive(Drop)]
+struct Doubled;
+
+impl LaneWiseFold for Doubled {
+    ghost step = { λ _ e n a. (n * 2 % 2 ^ 64 + a) % 2 ^ 64 };
+
+    fn one<T: Lane>(&self, so_far: u64, a: T) -> u64 {
+        so_far.wrapping_mul(2).wrapping_add(a.to_u64())
+    }
+}
+
 /// Two chunks and a lane of the first operand.
-const A: [u8; 65] = [200; 65];
+const A: [u8; 65] = [255; 65];
 
 /// Two chunks and a lane of the other operands.
-const B: [u8; 65] = [100; 65];
+const B: [u8; 65] = [2; 65];
 
 /// What an operation on one operand makes, and its calls.
 fn mapped_one() -> ([u8; 65], (u32, u32)) {
@@ -155,12 +168,45 @@ fn compared() -> ([bool; 65], (u32, u32)) {
     (told, counted.calls())
 }
 
+/// A mask of one lane of each chunk and of the lane behind them.
+fn one_of_each() -> [bool; 65] {
+    let mut mask = [false; 65];
+    mask[0] = true;
+    mask[33] = true;
+    mask[64] = true;
+    mask
+}
+
+/// Lanes of which the first is another than the rest.
+fn folded_lanes() -> [u8; 65] {
+    let mut lanes = B;
+    lanes[0] = 255;
+    lanes
+}
+
+/// The first operand where the mask is true, else the second.
+fn selected() -> [u8; 65] {
+    let mut out = [0; 65];
+    select::<u8, 32>(&one_of_each(), &A, &B, &mut out);
+    out
+}
+
 #[test]
 fn two_chunks_and_a_lane(rt: HostRuntime) {
-    assert_eq!(rt; mapped_one(), ([201; 65], (2, 1)));
-    assert_eq!(rt; mapped_two(), ([44; 65], (2, 1)));
-    assert_eq!(rt; mapped_three(), ([144; 65], (2, 1)));
+    assert_eq!(rt; mapped_one(), ([0; 65], (2, 1)));
+    assert_eq!(rt; mapped_two(), ([1; 65], (2, 1)));
+    assert_eq!(rt; mapped_three(), ([3; 65], (2, 1)));
     assert_eq!(rt; compared(), ([true; 65], (2, 1)));
+    let mut picked = B;
+    picked[0] = 255;
+    picked[33] = 255;
+    picked[64] = 255;
+    assert_eq!(rt; selected(), picked);
+    // ((1 * 2 + 255) * 2 + 2) * 2 + 2
+    assert_eq!(rt;
+        fold::<u8, Doubled, 32>(&Doubled, &one_of_each(), &folded_lanes(), 1),
+        1034
+    );
 }
 
 #[test]
@@ -172,5 +218,7 @@ fn no_lanes_no_calls(rt: HostRuntime) {
     map2::<u8, Counted, 32>(&none, &[], &[], &mut out);
     map3::<u8, Counted, 32>(&none, &[], &[], &[], &mut out);
     compare::<u8, Counted, 32>(&none, &[], &[], &mut told);
+    select::<u8, 32>(&[], &[], &[], &mut out);
     assert_eq!(rt; none.calls(), (0, 0));
+    assert_eq!(rt; fold::<u8, Doubled, 32>(&Doubled, &[], &[], 7), 7);
 }

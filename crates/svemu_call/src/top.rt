@@ -14,6 +14,7 @@ ghost use Rattle.commands.specs.Lines.{
   SettlesLine,
   MissesFirst,
   EndsMissing,
+  TakesFirst,
   TakesLast,
 };
 ghost use Rattle.emu_system.specs.Gained.{Gains};
@@ -115,6 +116,11 @@ pub fn svemu<F: Images, I: Source, O: Sink, E: Sink>(
         → result ≡ Ending.OutOfMemory → input.new ≡ input.old }
     ensures memory_unwritten { sweeps (line (map string_bytes words.now)) ≡ false → result ≡ Ending.OutOfMemory
         → (output.new ≡ output.old) × (errors.new ≡ errors.old) }
+
+    // What reads its input first ends with a fault of the input only while it is read: then nothing was written.
+    ensures read_unwritten { TakesFirst (map string_bytes words.now)
+        (line (map string_bytes words.now)) (F.named files.old)
+        → result ≡ Ending.ReadFault → (output.new ≡ output.old) × (errors.new ≡ errors.old) }
 
     // A line that runs no machine over the input takes none, and puts nothing on the errors but the line of a refusal.
     ensures no_input { takes_input (line (map string_bytes words.now)) ≡ false

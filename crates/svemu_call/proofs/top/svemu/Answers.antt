@@ -46,6 +46,9 @@ returns-clause-memory_first g c = c.command.ensures.memory_first
 pub returns-clause-memory_unwritten : goal.returns-clause-memory_unwritten
 returns-clause-memory_unwritten g c = c.command.ensures.memory_unwritten
 
+pub returns-clause-read_unwritten : goal.returns-clause-read_unwritten
+returns-clause-read_unwritten g c = c.command.ensures.read_unwritten
+
 pub returns-clause-no_input : goal.returns-clause-no_input
 returns-clause-no_input g c = c.command.ensures.no_input
 
