@@ -40,7 +40,10 @@ int main(int count, char **words)
     void (*add)(void *) = count > 1 ? at_once : plainly;
 
     (void)words;
-    start_thread(&other, add, 0);
+    if (start_thread(&other, add, 0) < 0) {
+        put_text("no second thread: a schedule starts it\n");
+        return 1;
+    }
     add(0);
     join_thread(&other);
     put_line("number", number);

@@ -31,7 +31,8 @@ static size_t positives(const int *from, size_t count, int *to)
     return size;
 }
 
-int main()
+// Clang gives the names of C++ to a `main` that has no library behind it.
+extern "C" int main()
 {
     unsigned seed = 1;
     unsigned check = 0;

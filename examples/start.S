@@ -2,6 +2,8 @@
 // it. The four functions below it are those that compilers call without being asked; the linker drops the ones that
 // nobody calls, and a program may define its own.
 
+        .arch armv8-a+sve               // also where the compiler isn't told of SVE
+
         .section .text._start, "ax"
         .global _start
 _start: ldr x0, [sp]                    // the stack begins with the number of arguments

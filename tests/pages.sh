@@ -10,11 +10,7 @@ opens() {
     name=$1
     script=$2
     shift 2
-    if command -v chromium >/dev/null; then
-        holds "$name" timeout 120 python3 "tests/$script" "$scratch/page.html" "$@"
-    else
-        skip "$name" "chromium isn't on this machine"
-    fi
+    lacks "$name" chromium || holds "$name" timeout 120 python3 "tests/$script" "$scratch/page.html" "$@"
 }
 
 drawn_pages() {
@@ -104,6 +100,38 @@ TEXT
         sh "$status" "$scratch/output"
 }
 
+# `--open` with a stand-in for xdg-open, with one that fails, and with none.
+opened_pages() {
+    mkdir "$scratch/opening" "$scratch/alone"
+    printf '#!/bin/sh\nprintf "%%s\\n" "$@" >"$OPENED"\nexit "$ENDS"\n' >"$scratch/opening/xdg-open"
+    chmod +x "$scratch/opening/xdg-open"
+    python=$(python3 -c 'import sys; print(sys.executable)')
+    cache="$scratch/it's a cache"
+    for drawer in "$lanes" "$curve"; do
+        page="a page of ${drawer##*/}"
+        "$drawer" examples/strlen.elf <"$input" >"$scratch/page.html"
+        rm -f "$scratch/opened"
+        run env PATH="$scratch/opening:$PATH" XDG_CACHE_HOME="$cache" OPENED="$scratch/opened" ENDS=0 "$drawer" --open examples/strlen.elf
+        ended "$page is opened" 0 '' ''
+        holds "$page: one file is opened" [ "$(wc -l <"$scratch/opened")" -eq 1 ]
+        file=$(cat "$scratch/opened")
+        holds "$page: it is the one" cmp "$scratch/page.html" "$file"
+        holds "$page stands in the cache" sh -c 'case $1 in "$2"/svemu/pages/strlen.elf-*.html) ;; *) false ;; esac' sh "$file" "$cache"
+        run env PATH="$scratch/opening:$PATH" XDG_CACHE_HOME="$cache" OPENED="$scratch/opened" ENDS=3 "$drawer" --budget 1000 --open examples/strlen.elf
+        holds "$page is told where it can't be opened" sh -c '[ "$1" -eq 0 ] && [ "$(cat "$2")" = "$3" ]' sh "$status" "$scratch/output" "$file"
+        run env PATH="$scratch/alone" SVEMU="$built" XDG_CACHE_HOME="$cache" "$python" "$drawer" --open examples/strlen.elf
+        holds "$page is told where there is no xdg-open" sh -c '[ "$1" -eq 0 ] && [ "$(cat "$2")" = "$3" ]' sh "$status" "$scratch/output" "$file"
+        holds "$page: nothing else is left" [ "$(find "$cache/svemu/pages" -name "${file##*/}*" | wc -l)" -eq 1 ]
+        run env SVEMU="$built" XDG_CACHE_HOME="$scratch/empty" "$drawer" --open examples/strlen.elf
+        ended_like "$page without a cache" 2 "${drawer##*/}: the page couldn't be written: .*"
+        run "$drawer" --budget 1000 examples/strlen.elf --open
+        holds "$page: behind the program it is an argument" grep -q '^<!DOCTYPE html>' "$scratch/output"
+        run "$drawer" --help
+        holds "$page: help" grep -q '^With --open ' "$scratch/output"
+    done
+    holds "no other tool has --open" sh -c '! tools/svemu-schedules --help | grep -e --open'
+}
+
 # Whether the page is refused in one line, with status 2 and nothing written, by the tool that `drawer` names.
 refused() {
     name=$1
@@ -154,12 +182,12 @@ page_refusals() {
     refused "an unknown option" "there is no option --wide \(--help lists them\)" --wide 3 "$probe"
     refused "an option without a value" "--vl wants a value" --vl
     refused "a bad length" "--vl wants a multiple of 128 from 128 to 2048, not 192" --vl 192 "$probe"
-    refused "a bad number" "--steps wants a number from 1 to 10000, not 0" --steps 0 "$probe"
+    refused "a bad number" "--steps wants a number from 1 to 5000, not 0" --steps 0 "$probe"
     refused "a bad register" "--show has no register z32 \(as z0.s, p0, ffr, x3\)" --show z0.s,z32 "$probe"
-    refused "a label without symbols" "main is no number, and --symbols names no file" --from main "$probe"
+    refused "a label without symbols" "main is no number, the file has no symbols, and --symbols names no output of nm" --from main "$probe"
     refused "an unknown label" "no symbol is named nosuch" --symbols examples/strlen.symbols --from nosuch examples/strlen.elf
     refused "no symbols" ".*/empty has no line of nm that names code" --symbols "$scratch/empty" "$probe"
-    refused "too many steps" "that makes a script of 10302 lines, and 10000 are the most: .*" --steps 201 "$probe"
+    refused "too many steps" "--steps wants a number from 1 to 5000, not 5001" --steps 5001 "$probe"
     refused "a place that isn't reached" "the program ends before: exit 0 after 97 steps" --vl 128 --from 0x400000 examples/strlen.elf
     refused "a bad watch" "--watch wants a place and a number of bytes with a comma between, not 4" --watch 4 "$probe"
     refused "no such file" ".*/nosuch couldn't be read" "$scratch/nosuch"
@@ -172,7 +200,7 @@ page_refusals() {
     holds "help" sh -c '[ "$1" -eq 0 ] && grep -q "^usage: svemu-lanes " "$2"' sh "$status" "$scratch/output"
 }
 
-if command -v python3 >/dev/null; then
+if ! lacks pages python3; then
     drawn_pages
     page_notes
     page_refusals
@@ -181,9 +209,8 @@ if command -v python3 >/dev/null; then
     if "$SVEMU" sweep "$probe" --budget 10 <"$scratch/empty" >/dev/null 2>&1; then
         drawn_curves
         curve_refusals
+        opened_pages
     else
         skip "pages over the lengths" "this svemu has no sweep"
     fi
-else
-    skip pages "python3 isn't on this machine"
 fi

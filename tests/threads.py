@@ -730,7 +730,8 @@ def schedules(rng, count):
 # Schedules that are refused, with the first line that is at fault.
 REFUSED = [
     ("", "NoTurn", 0),
-    ("# nothing; ;", "NoTurn", 0),
+    ("# nothing;;", "NoTurn", 0),
+    ("# nothing; ;", "MissingWord", 2),
     ("0 1;1", "MissingWord", 2),
     ("x", "MissingWord", 1),
     ("0 x", "BadNumber", 1),

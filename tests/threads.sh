@@ -40,14 +40,22 @@ tried_schedules() {
     holds "their lines" awk '
         NR == 1 { bad = !/^schedule 1 exit 0 after [0-9]+ steps out 9 same$/; next }
         /^40 schedules, [0-9]+ part$/ { last = NR; part = $3; next }
+        last && NR == last + 1 {
+            bad = bad || !/^shortest [0-9]+ turns exit 0 after [0-9]+ steps out 9 parts at 7$/
+            turns = $2
+            next
+        }
+        last { bad = bad || !/^[0-9]+ [1-9][0-9]*$/; next }
         !/^schedule [0-9]+ exit 0 after [0-9]+ steps out 9 parts at 7$/ || $2 < 2 || $2 > 40 { bad = 1 }
-        END { exit bad || last != NR || part == 0 || part != NR - 2 }' "$scratch/tried"
+        END { exit bad || part == 0 || part != last - 2 || turns < 2 || NR != last + 1 + turns }' "$scratch/tried"
     first=$(sed -n '2s/^schedule \([0-9]*\) .*/\1/p' "$scratch/tried")
-    holds "two schedules are kept" [ "$(cd "$scratch/kept" && echo *)" = "1.schedule $first.schedule" ]
+    holds "three schedules are kept" \
+        [ "$(cd "$scratch/kept" && echo *)" = "1.schedule $first.schedule shortest.schedule" ]
     run "$SVEMU" threads examples/lost_update.elf "$scratch/kept/1.schedule" --vl 512 --budget 9999
     counted "the first schedule that was kept" -eq
     run "$SVEMU" threads examples/lost_update.elf "$scratch/kept/$first.schedule" --vl 512 --budget 9999
     counted "the schedule that was kept since it parts" -lt
+    shortest_is_short
     run "$schedules" 40 examples/lost_update.elf
     holds "the same schedules for the same seed" cmp "$scratch/output" "$scratch/tried"
     run "$schedules" --seed 2 40 examples/lost_update.elf
@@ -60,6 +68,157 @@ tried_schedules() {
         END { exit bad || NR != 2 }' "$scratch/output"
 }
 
+# The schedule that was kept as the shortest parts, and it does no more without one of its turns.
+shortest_is_short() {
+    run "$SVEMU" threads examples/lost_update.elf "$scratch/kept/shortest.schedule" --vl 512 --budget 9999
+    counted "the shortest schedule" -lt
+    grep -v '^#' "$scratch/kept/shortest.schedule" >"$scratch/turns"
+    holds "the shortest is shown" sh -c 'sed "1,/^shortest/d" "$1" | cmp - "$2"' sh "$scratch/tried" "$scratch/turns"
+    turn=$(wc -l <"$scratch/turns")
+    while [ "$turn" -gt 0 ]; do
+        sed "${turn}d" "$scratch/turns" >"$scratch/fewer"
+        run "$SVEMU" threads examples/lost_update.elf "$scratch/fewer" --vl 512 --budget 9999
+        counted "the shortest schedule without turn $turn" -eq
+        turn=$((turn - 1))
+    done
+}
+
+# Each structure without a lock, in its right form and in its broken one, of the images of a folder.
+structures() {
+    while IFS='|' read -r structure broken wanted; do
+        for form in '' "$broken"; do
+            # shellcheck disable=SC2086 # no word or one
+            run "$SVEMU" threads "$1/$structure.elf" examples/whole_turns.schedule --vl 128 --budget 9999 -- $form
+            holds "$2 $structure $form under whole turns" sh -c '[ "$1" -eq 0 ] && [ "$(cat "$2")" = "$3" ]' sh \
+                "$status" "$scratch/output" "$wanted"
+        done
+    done <<'END'
+treiber_stack|uncounted|items that aren't in one place 0
+ticket_lock|torn|number 2
+seqlock|once|the reader's numbers are the same
+END
+}
+
+# All schedules with at most two switches: the broken forms are found, by a schedule with as few as it takes; the right
+# ones agree. Of lost_update the number is known: thread 0 may be left before each of its 4 additions, the load of the
+# word of thread 1 and its call that waits, and thread 1 before each of its 4 additions and its call that leaves; so 6
+# schedules have one switch, and 6 times 5 have two.
+bounded_schedules() {
+    while read -r structure broken switches ending; do
+        rm -rf "$scratch/kept"
+        # shellcheck disable=SC2046 # no word or one
+        run "$schedules" --vl 128 --keep "$scratch/kept" --bound 2 "examples/$structure.elf" \
+            $([ "$broken" = - ] || echo "$broken")
+        holds "$structure $broken is found" awk -v ending="$ending" -v switches="$switches" '
+            NR == 1 { bad = !/^0 switches: 1 schedule, exit 0 after [0-9]+ steps out [0-9]+$/; next }
+            /^[12] switch(es)?: [0-9]+ schedules$/ { levels++; next }
+            /^switch after [0-9]+ steps: thread [01] at 0x[0-9a-f]+ .*, thread [01] goes on$/ { lines++; next }
+            /^shortest / { turns = $2; bad = bad || index($0, ending) == 0; next }
+            turns && /^[0-9]+ [0-9]+$/ { given++; next }
+            { bad = 1 }
+            END { exit bad || levels != switches || lines != switches || turns < 2 || given != turns
+            }' "$scratch/output"
+        holds "$structure $broken: the status" [ "$status" -eq 1 ]
+        cp "$scratch/output" "$scratch/tried"
+        # shellcheck disable=SC2046 # no word or one
+        run "$SVEMU" threads "examples/$structure.elf" "$scratch/kept/shortest.schedule" --vl 128 --budget 20000 \
+            $([ "$broken" = - ] || echo "-- $broken")
+        holds "$structure $broken: the schedule that was kept" sh -c 'grep -qx "$(sed -n \
+            "s/^shortest [0-9]* turns \(.* steps\) out .*/\1/p" "$1")" "$2"' sh "$scratch/tried" "$scratch/errors"
+    done <<'END'
+lost_update - 1 parts at 7
+treiber_stack uncounted 1 parts at 31
+ticket_lock torn 1 stuck after
+seqlock once 2 parts at 21
+END
+    run "$schedules" --vl 128 --bound 2 examples/lost_update.elf once
+    ended "all schedules of what is added at once" 0 "0 switches: 1 schedule, exit 0 after 205 steps out 9
+1 switch: 6 schedules
+2 switches: 30 schedules
+all 37 schedules with at most 2 switches agree
+" ''
+    for structure in treiber_stack ticket_lock seqlock; do
+        run "$schedules" --vl 128 --bound 2 "examples/$structure.elf"
+        holds "$structure agrees" sh -c '[ "$1" -eq 0 ] && tail -n 1 "$2" |
+            grep -qx "all [0-9]* schedules with at most 2 switches agree"' sh "$status" "$scratch/output"
+    done
+    run "$schedules" --bound 2 examples/strlen.elf
+    holds "a program of one thread has one schedule" sh -c '[ "$1" -eq 0 ] && tail -n 1 "$2" |
+        grep -qx "the one schedule with at most 2 switches agrees"' sh "$status" "$scratch/output"
+}
+
+# Where a thread waits or leaves and more than one could go on, each is tried: main waits for the first of two others,
+# and either of these may be the first to leave its number; where the first one has, main or the second goes on.
+bounded_choices() {
+    ! lacks "schedules of three threads" aarch64-linux-gnu-gcc || return 0
+    mkdir -p "$scratch/three"
+    cat >"$scratch/three/three.c" <<'TEXT'
+#include "threads.h"
+static int order[2], at;
+static void note(void *with) { order[__atomic_fetch_add(&at, 1, __ATOMIC_RELAXED)] = (int)(long)with; }
+int main(int count, char **words)
+{
+    static struct thread a, b;
+    (void)words;
+    if (start_thread(&a, note, (void *)1) < 0 || start_thread(&b, note, (void *)2) < 0)
+        return 1;
+    join_thread(&a);
+    join_thread(&b);
+    put_line("order", count > 1 ? order[0] * 10 + order[1] : order[0] + order[1]);
+    return 0;
+}
+TEXT
+    holds "a program of three threads is built" make -f "$top/examples/Makefile" "$scratch/three/three.elf" \
+        INSIDE='-march=armv8.1-a+sve'
+    run "$schedules" --vl 128 --bound 0 "$scratch/three/three.elf"
+    holds "each choice agrees" sh -c '[ "$1" -eq 0 ] && tail -n 1 "$2" |
+        grep -qx "all 3 schedules with at most 0 switches agree"' sh "$status" "$scratch/output"
+    run "$schedules" --vl 128 --bound 0 "$scratch/three/three.elf" ordered
+    holds "a choice parts" sh -c '[ "$1" -eq 1 ] && grep -q "^shortest [0-9]* turns exit 0 .* parts at 6$" "$2" &&
+        ! grep -q "^switch after" "$2"' sh "$status" "$scratch/output"
+}
+
+# A progress line on a terminal, and the end by Ctrl-C.
+schedules_on_a_terminal() {
+    cat >"$scratch/slow" <<'TEXT'
+#!/bin/sh
+sleep 0.3
+printf 'exit 0 after 1 steps\nthread 0\nx0 0000000000000000\n' >&2
+TEXT
+    chmod +x "$scratch/slow"
+    cat >"$scratch/terminal.py" <<'TEXT'
+import os, pty, subprocess, sys
+mine, theirs = pty.openpty()
+done = subprocess.run(sys.argv[1:], stdin=subprocess.DEVNULL, stdout=subprocess.PIPE, stderr=theirs)
+os.close(theirs)
+shown = b""
+try:
+    while more := os.read(mine, 4096):
+        shown += more
+except OSError:
+    pass
+told = b"\r\x1b[K5 of 7 schedules" in shown and shown.endswith(b"\r\x1b[K")
+sys.exit(0 if told and done.stdout.endswith(b"7 schedules, 0 part\n") else f"{done.stdout} {shown}")
+TEXT
+    holds "a line says how far it is" env SVEMU="$scratch/slow" python3 "$scratch/terminal.py" "$schedules" 7 p
+    run env SVEMU="$scratch/slow" "$schedules" 7 p
+    ended "no such line without a terminal" 0 'schedule 1 exit 0 after 1 steps out 0 same\n7 schedules, 0 part\n' ''
+    # Ctrl-C is the signal INT, which may be ignored where these tests are started from. It comes in the second run.
+    cat >"$scratch/until_ctrl_c" <<'TEXT'
+#!/bin/sh
+[ ! -e "$ONCE" ] || { kill -INT $PPID; sleep 1; }
+: >"$ONCE"
+printf 'exit 0 after 1 steps\nthread 0\nx0 0000000000000000\n' >&2
+TEXT
+    chmod +x "$scratch/until_ctrl_c"
+    run env SVEMU="$scratch/until_ctrl_c" ONCE="$scratch/once" python3 -c '
+import os, signal, sys
+signal.signal(signal.SIGINT, signal.SIG_DFL)
+os.execv(sys.argv[1], sys.argv[1:])' "$schedules" --keep "$scratch/until" 1000 p
+    ended "ended by Ctrl-C" 130 'schedule 1 exit 0 after 1 steps out 0 same\n' \
+        "svemu-schedules: ended by Ctrl-C; $scratch/until/1.schedule is kept\n"
+}
+
 # What a stand-in for svemu says: the endings that a run may have, behind bytes that look like them.
 schedules_and_stand_ins() {
     cat >"$scratch/by_schedule" <<'TEXT'
@@ -67,8 +226,11 @@ schedules_and_stand_ins() {
 # number of the call
 n=$(($(cat "$COUNT") + 1))
 echo $n >"$COUNT"
+turns=$(wc -l <"$3")
 [ "$1 $2" = "threads p" ] && shift 3 && [ "$*" = "--budget 7 --pages 300 --vl 256 -- --x " ] || exit 9
 registers='thread 0\nx0 0000000000000000\n'
+# Behind the seven schedules, what has three turns or more parts.
+[ $n -lt 8 ] || { [ "$turns" -lt 3 ] || n=2; }
 case $n in
     2) printf 'abd'; printf "stuck after 3 steps\n${registers}own exit 1 after 5 steps\n$registers" >&2 ;;
     3) printf 'abc'; printf "stuck after 9 steps\n$registers" >&2 ;;
@@ -82,6 +244,9 @@ TEXT
     chmod +x "$scratch/by_schedule"
     echo 0 >"$scratch/count"
     run env COUNT="$scratch/count" SVEMU="$scratch/by_schedule" "$schedules" --budget 7 --pages 300 --vl 256 7 p --x ''
+    sed '1,/^shortest 3 turns exit 1 after 5 steps out 3 parts at 2$/d' "$scratch/output" >"$scratch/turns"
+    holds "turns that aren't needed are left out" [ "$(grep -c '^[0-9][0-9]* [0-9][0-9]*$' "$scratch/turns")" -eq 3 ]
+    sed '/^shortest/,$d' "$scratch/output" >"$scratch/before" && cp "$scratch/before" "$scratch/output"
     ended "endings and outputs that part" 1 "schedule 1 exit 1 after 4 steps out 3 same
 schedule 2 exit 1 after 5 steps out 3 parts at 2
 schedule 3 stuck after 9 steps out 3 same
@@ -127,17 +292,31 @@ schedules_refused() {
     run sh -c '"$1" 5 "$2" >/dev/full' sh "$schedules" examples/lost_update.elf
     ended "lines that can't be written" 2 '' \
         "svemu-schedules: the lines couldn't be written: No space left on device\n"
+    run "$schedules" --bound 17 "$probe"
+    ended "too many switches" 2 '' 'svemu-schedules: --bound wants a number from 0 to 16, not 17\n'
+    run "$schedules" --bound 2
+    ended "all schedules of no program" 2 '' 'svemu-schedules: no program is named (--help shows how)\n'
+    run "$schedules" --bound 2 --seed 3 "$probe"
+    ended "a seed for all schedules" 2 '' 'svemu-schedules: --seed is for schedules by chance, and --bound tries all\n'
+    run "$schedules" --bound 2 --budget 65537 "$probe"
+    ended "too many steps to follow" 2 '' 'svemu-schedules: --bound wants a budget of at most 65536 steps, not 65537\n'
+    run "$schedules" --bound 2 --budget 100 examples/lost_update.elf
+    ended "a program that doesn't end" 2 '' \
+        "svemu-schedules: without a switch the program doesn't end within 100 steps (--budget takes more)\n"
+    run "$schedules" --bound 2 "$scratch/nosuch"
+    ended "all schedules of a missing program" 2 '' "svemu-schedules: $scratch/nosuch couldn't be read\n"
     run "$schedules" --help
     holds "the help of schedules" grep -q '^usage: svemu-schedules' "$scratch/output"
 }
 
 threads() {
     threaded examples "checked in:"
-    if ! command -v python3 >/dev/null; then
-        skip "schedules and the cases of contexts" "there is no python3"
-        return
-    fi
+    structures examples "checked in:"
+    ! lacks "schedules and the cases of contexts" python3 || return 0
     tried_schedules
+    bounded_schedules
+    bounded_choices
+    schedules_on_a_terminal
     schedules_and_stand_ins
     schedules_refused
     holds "the cases of contexts" python3 tests/threads.py --check crates/command_cases

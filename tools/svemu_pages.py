@@ -1,5 +1,6 @@
 """What the tools in Python share: words of a command line, svemu and its sessions, and the frame of a page."""
 
+import bisect
 import json
 import os
 import re
@@ -29,11 +30,22 @@ class Failure(Exception):
     """Why a tool has no answer, in one line."""
 
 
+# What --help says of `--open`, behind what a tool says of itself.
+OPEN = """
+With --open in front of the program the page goes to a file of the cache folder, svemu/pages, and xdg-open opens it;
+where there is none, or it can't, standard output has the file's name.
+"""
+
+
 def run(tool, main):
-    """Calls main with the words of the command line, and writes the page that it gives. On a failure nothing is written."""
+    """Calls main with the words of the command line, and writes the page that it gives, or opens it. On a failure nothing
+    is written."""
     try:
-        page = main(sys.argv[1:])
-        sys.stdout.buffer.write(page.encode())
+        words, shows = without_open(sys.argv[1:])
+        page = main(words).encode()
+        if shows and opened(file := kept(page)):
+            return
+        sys.stdout.buffer.write(os.fsencode(file) + b"\n" if shows else page)
         sys.stdout.buffer.flush()
     except Failure as failure:
         sys.exit(fail(tool, str(failure)))
@@ -49,6 +61,41 @@ def fail(tool, why):
     return 2
 
 
+def without_open(words):
+    """The words without an option `--open`, and whether there was one. All other options of the tools have a value."""
+    rest, shows = list(words), False
+    place = 0
+    while place < len(rest) and rest[place].startswith("--") and rest[place] not in ("--", "--help"):
+        if rest[place] == "--open":
+            shows = True
+            del rest[place]
+        else:
+            place += 2
+    return rest, shows
+
+
+def kept(page):
+    """The file in the cache folder that has the page, by the name of its title."""
+    folder = os.path.join(os.environ.get("XDG_CACHE_HOME") or os.path.expanduser("~/.cache"), "svemu", "pages")
+    os.makedirs(folder, exist_ok=True)
+    title = re.search(r"<title>(.*?)</title>", page.decode())[1]
+    file = os.path.join(folder, (re.sub(r"[^A-Za-z0-9._-]+", "-", title).lstrip(".-")[:200] or "page") + ".html")
+    with tempfile.NamedTemporaryFile(dir=folder, delete=False) as new:
+        new.write(page)
+    os.replace(new.name, file)
+    return file
+
+
+def opened(file):
+    """Whether xdg-open is there and has opened a file."""
+    found = shutil.which("xdg-open")
+    quiet = {"stdin": subprocess.DEVNULL, "stdout": subprocess.DEVNULL, "stderr": subprocess.DEVNULL}
+    try:
+        return found is not None and subprocess.run([found, file], check=False, **quiet).returncode == 0
+    except OSError:
+        return False
+
+
 def options(words, known, usage):
     """The options in front of the program, the program and its arguments. An option's value is added to its list."""
     given = {name: [] for name in known}
@@ -57,7 +104,7 @@ def options(words, known, usage):
         if name == "--":
             break
         if name == "--help":
-            sys.stdout.write(usage)
+            sys.stdout.write(usage + OPEN * (">page.html" in usage))
             sys.exit(0)
         if name not in known:
             raise Failure(f"there is no option {name} (--help lists them)")
@@ -69,11 +116,23 @@ def options(words, known, usage):
     return given, words[0], words[1:]
 
 
+# The most steps of a call that is drawn beside another.
+CALL_STEPS = 20000
+
+
 def number(name, text, least, most):
     """The number that a text is, in decimal or behind 0x."""
     if not re.fullmatch(r"[0-9]+|0[xX][0-9a-fA-F]+", text) or not least <= int(text, 16 if "x" in text.lower() else 10) <= most:
         raise Failure(f"{name} wants a number from {least} to {most}, not {text}")
     return int(text, 16 if "x" in text.lower() else 10)
+
+
+def length(name, text):
+    """The vector length in bits that a text is."""
+    bits = number(name, text, 128, 2048)
+    if bits % 128 != 0:
+        raise Failure(f"{name} wants a multiple of 128 from 128 to 2048, not {bits}")
+    return bits
 
 
 class Run:
@@ -152,16 +211,31 @@ def find_svemu():
         found = next((file for file in beside if os.path.isfile(file) and os.access(file, os.X_OK)), shutil.which("svemu"))
     if found is None:
         raise Failure(f"there is no program {os.environ.get('SVEMU') or 'svemu'} (--help says where it is looked for)")
-    return found
+    return program_of(found)
+
+
+def program_of(found):
+    """The program that the script svemu of a checkout runs, so that many runs look once whether a source was touched; else
+    the file itself, and the script where there is no program yet."""
+    if not os.path.isfile(os.path.join(os.path.dirname(found), "crates.txt")):
+        return found
+    try:
+        named = subprocess.run([found, "--program"], stdin=subprocess.DEVNULL, capture_output=True, check=False)
+    except OSError:
+        return found
+    program = named.stdout.decode(errors="surrogateescape").rstrip("\n")
+    return program if named.returncode == 0 and os.access(program, os.X_OK) else found
 
 
 class Symbols:
-    """The names of code in the output of nm."""
+    """The names of code in the output of nm; where no file of it is named, the labels that the program's own file has, by
+    address, and its objects."""
 
-    def __init__(self, name):
-        self.places = []
+    def __init__(self, name, labels, objects):
+        self.places, self.objects = sorted((address, known[0]) for address, known in labels.items()), objects
         if name is None:
             return
+        self.places, self.objects = [], {}
         try:
             with open(name, encoding="utf-8", errors="replace") as file:
                 lines = file.read().splitlines()
@@ -176,17 +250,18 @@ class Symbols:
         self.places.sort(key=lambda place: place[0])
 
     def address(self, name):
-        for address, other in self.places:
+        for address, other in (*self.places, *((address, known[0]) for address, known in self.objects.items())):
             if other == name:
                 return address
-        raise Failure(f"no symbol is named {name}" if self.places else f"{name} is no number, and --symbols names no file")
+        raise Failure(f"no symbol is named {name}" if self.places else
+                      f"{name} is no number, the file has no symbols, and --symbols names no output of nm")
 
     def label(self, address):
         """The nearest name at or below an address, with what lies between; or nothing."""
-        below = [place for place in self.places if place[0] <= address]
-        if not below:
+        found = bisect.bisect_right(self.places, (address, "\U0010ffff"))
+        if not found:
             return ""
-        at, name = below[-1]
+        at, name = self.places[found - 1]
         return name if at == address else f"{name}+{address - at:#x}"
 
 

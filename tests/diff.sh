@@ -1,0 +1,166 @@
+# shellcheck shell=sh
+# shellcheck disable=SC2016,SC2154 # shells that are called expand them; tools.sh sets the others
+# Tests of tools/svemu-diff, over the planted bugs of tests/planted with counts of elements that don't go by the length
+# (tests/fixed), and over programs whose calls, output or ending alone part; tools.sh reads it.
+
+diff_tool=$top/tools/svemu-diff
+
+# Runs its words with an interrupt that ends them, also where a shell in the background ignores it.
+interruptible='import os, signal, sys
+signal.signal(signal.SIGINT, signal.SIG_DFL)
+os.execvp(sys.argv[1], sys.argv[1:])'
+
+# Builds the C programs of a folder with their symbols, their lines and all their calls.
+with_symbols() {
+    # shellcheck disable=SC2046 # words
+    make -s -C "$1" CFLAGS="-O2 -g -fno-inline -fno-ipa-cp -Wno-address" \
+        SMALL="-ffunction-sections -Wl,--gc-sections -Wl,--build-id=none -Wl,-z,max-page-size=4096" \
+        $(cd "$1" && for source in *.c; do echo "${source%.c}.elf"; done)
+}
+
+where_lengths_part() {
+    ! lacks "where two lengths part" python3 || return 0
+    diff_refusals
+    ! lacks "where two lengths part" aarch64-linux-gnu-gcc || return 0
+    if ! "$SVEMU" sweep "$probe" --budget 10 <"$input" >/dev/null 2>&1; then
+        skip "where two lengths part" "this svemu has no sweep"
+        return
+    fi
+    rm -rf "$scratch/parting"
+    mkdir "$scratch/parting"
+    cp examples/Makefile examples/start.S examples/guest.h examples/lost_sums.c tests/fixed/kernel_test.h tests/fixed/*.c \
+        tests/planted/*.c "$scratch/parting"
+    holds "programs with symbols" with_symbols "$scratch/parting"
+    grep -v '^#' tests/fixed/parts.txt >"$scratch/parts"
+    holds "each planted bug has its line of svemu-diff" sh -c \
+        '[ "$(ls tests/planted/*.c | wc -l)" -eq "$(wc -l <"$1")" ]' sh "$scratch/parts"
+    while read -r kernel length call instruction; do
+        parts_in "$kernel" "$length" "$call" "$instruction"
+    done <"$scratch/parts"
+    drawn_call
+    sum_that_parts
+    calls_that_part
+    diff_of_a_stripped_program
+}
+
+# Whether the kernel's own call is told, and an instruction of it with its line; or that nothing parts, where the length
+# is a dash.
+parts_in() {
+    run "$diff_tool" "$scratch/parting/$1.elf"
+    if [ "$2" = - ]; then
+        ended "$1 doesn't part" 0 'the output and the ending are the same at all sixteen lengths\n' ''
+        return
+    fi
+    holds "$1: the lengths and the call" sh -c '[ "$1" -eq 1 ] && [ ! -s "$2" ] && head -n 1 "$3" | grep -Eqx "$4"' sh \
+        "$status" "$scratch/errors" "$scratch/output" "128 and $2 bits part in call $3 of $1 \(of main\+0x[0-9a-f]+\)"
+    holds "$1: the instruction" grep -Eqx \
+        "at ($2|128) bits it was written in step [0-9]+, $4 .* at $1\+0x[0-9a-f]+( \($1\.c:[0-9]+\))?(, lane [0-9]+ of its [0-9]+)?" \
+        "$scratch/output"
+}
+
+# The call that svemu-diff names in its last line, drawn as that line says; a call that there isn't, and a function.
+drawn_call() {
+    run "$diff_tool" "$scratch/parting/last_step.elf"
+    named=$(tail -n 1 "$scratch/output")
+    holds "the call is named for svemu-lanes" sh -c 'printf "%s\n" "$1" | grep -Eqx "$2"' sh "$named" \
+        'svemu-lanes --in last_step --call [0-9]+ --vl 128 --beside [0-9]+ draws it'
+    # shellcheck disable=SC2046,SC2086 # words
+    set -- $named
+    run "$top/tools/svemu-lanes" "$2" "$3" "$4" "$5" "$6" "$7" "$8" "$9" "$scratch/parting/last_step.elf"
+    holds "it is drawn" sh -c '[ "$1" -eq 0 ] && grep -q "<title>last_step.elf at $2 and $3 bits, call $4 of last_step" "$5"' sh \
+        "$status" "$7" "$9" "$5" "$scratch/output"
+    holds "by both lengths" sh -c 'grep -q "st1w {z0.s}" "$1" && [ "$(wc -c <"$1")" -lt 3000000 ]' sh "$scratch/output"
+    run "$top/tools/svemu-lanes" --in last_step --call 99 --vl 128 "$scratch/parting/last_step.elf"
+    ended_like "a call that there isn't" 2 'svemu-lanes: .*last_step.*'
+    run "$top/tools/svemu-lanes" --in nosuch "$scratch/parting/last_step.elf"
+    ended_like "a function that there isn't" 2 'svemu-lanes: .*nosuch.*'
+    run "$top/tools/svemu-lanes" --in last_step --beside 192 "$scratch/parting/last_step.elf"
+    ended "no length beside" 2 '' 'svemu-lanes: --beside wants a multiple of 128 from 128 to 2048, not 192\n'
+}
+
+# The lost sums: what is told of x0; lengths that are given; a function that is chosen; lengths that don't part.
+sum_that_parts() {
+    run "$diff_tool" --vl 256 --beside 512 "$scratch/parting/lost_sums.elf"
+    holds "lost sums: the call" grep -Eqx '256 and 512 bits part in call 1 of sum \(of main\+0x[0-9a-f]+\)' "$scratch/output"
+    holds "lost sums: the answers" grep -qx 'it answers 000000000007a314 in x0 at 256, 000000000003d95c at 512 bits' "$scratch/output"
+    holds "lost sums: its step" grep -Eqx 'at 512 bits it was written in step [0-9]+, .* at sum\+0x[0-9a-f]+ \(lost_sums.c:[0-9]+\)' "$scratch/output"
+    run "$diff_tool" --vl 256 --beside 512 --in put_number "$scratch/parting/lost_sums.elf"
+    holds "lost sums without the sum's call" [ "$status" -eq 1 ]
+    holds "lost sums by the output" grep -qx '256 and 512 bits part at byte 4 of what they write, and in nothing else that is compared' "$scratch/output"
+    run "$diff_tool" --vl 128 --beside 256 "$scratch/parting/lost_sums.elf"
+    ended "lengths that don't part" 0 "128 and 256 bits don't part\n" ''
+    run "$diff_tool" --in nosuch "$scratch/parting/lost_sums.elf"
+    ended "no such function" 2 '' 'svemu-diff: no function is named nosuch\n'
+}
+
+# What each of the functions of tests/fixed/parting.c does, by the argument.
+calls_that_part() {
+    parting=$scratch/parting/parting.elf
+    run "$diff_tool" --vl 128 --beside 256 "$parting" calls
+    holds "other calls" sh -c '[ "$1" -eq 1 ] && head -n 1 "$2" | grep -Eqx "$3"' sh "$status" "$scratch/output" \
+        '128 and 256 bits part in what they call after the return of call 1 of once \(of main\+0x[0-9a-f]+\); memory is the same there'
+    holds "the call of one" grep -Eqx 'at 128 bits main\+0x[0-9a-f]+ \(parting.c:[0-9]+\) calls once in step [0-9]+' "$scratch/output"
+    holds "the call of the other" grep -Eqx 'at 256 bits main\+0x[0-9a-f]+ \(parting.c:[0-9]+\) calls twice in step [0-9]+' "$scratch/output"
+    run "$diff_tool" --vl 128 --beside 256 "$parting" output
+    holds "the output alone" sh -c '[ "$1" -eq 1 ] && head -n 1 "$2" | grep -qx "$3"' sh "$status" "$scratch/output" \
+        '128 and 256 bits part at byte 6 of what they write, and in nothing else that is compared'
+    holds "what one writes" grep -Eqx "at 256 bits step [0-9]+ writes '32' at .*, in call [0-9]+ of .*" "$scratch/output"
+    run "$diff_tool" "$parting" trap
+    holds "a trap" grep -Eqx 'at 384 bits it ends by trap break 0x[0-9a-f]+ at broken\+0x[0-9a-f]+ \(parting.c:[0-9]+\) after [0-9]+ steps in call 1 of broken \(of main\+0x[0-9a-f]+\)' "$scratch/output"
+    holds "its status" [ "$status" -eq 1 ]
+    run "$diff_tool" --vl 128 --beside 256 "$parting" mapping
+    holds "a mapping" grep -qx 'after it 1 byte differs, the first in mapping 2+0x3: 10 at 128, 20 at 256 bits' "$scratch/output"
+    holds "the store to it" grep -Eqx 'at 256 bits it was written in step [0-9]+, strb .* at mapped \(parting.c:[0-9]+\)' "$scratch/output"
+    run "$diff_tool" --vl 128 --beside 256 "$parting" before
+    holds "before a call" grep -Eqx '128 and 256 bits part in call 1 of main \(of _start\+0x8\), before call 2 of once \(of main\+0x[0-9a-f]+\)' "$scratch/output"
+    run "$diff_tool" --vl 128 --beside 256 "$parting" unread
+    ended "an x0 that nobody reads, and addresses of the stack" 0 "128 and 256 bits don't part\n" ''
+    run "$diff_tool" --vl 128 --beside 256 --budget 1000 "$parting" endless
+    ended "no end" 2 '' "svemu-diff: at 128 bits the program doesn't end within 1000 steps\n"
+    run "$diff_tool" --budget 1000 "$parting" endless
+    ended "no end under a sweep" 2 '' "svemu-diff: at 128 bits the program doesn't end within 1000 steps\n"
+    run "$diff_tool" --vl 128 --beside 256 "$parting" threads
+    ended "threads" 2 '' 'svemu-diff: the program starts threads, and a session of the debugger has one\n'
+    run python3 -c "$interruptible" timeout --preserve-status -s INT 6 "$diff_tool" --vl 128 --beside 256 --budget 1000000000000 "$parting" endless
+    ended "Ctrl-C" 130 '' ''
+    run python3 -c 'import os, pty, signal, sys
+signal.signal(signal.SIGINT, signal.SIG_DFL)
+sys.exit(os.waitstatus_to_exitcode(pty.spawn(sys.argv[1:])))' \
+        timeout --preserve-status -s INT 6 "$diff_tool" --vl 128 --beside 256 --budget 1000000000000 "$parting" endless
+    holds "progress on a terminal" grep -Eq 'svemu-diff: the calls at 128 bits: 0 stops, [0-9]+ seconds' "$scratch/output"
+}
+
+diff_of_a_stripped_program() {
+    run "$diff_tool" examples/lost_sums.elf
+    ended "no symbols" 2 '' 'svemu-diff: examples/lost_sums.elf has no symbols of functions: build it without -s, and don'"'"'t strip it\n'
+}
+
+diff_refusals() {
+    run "$diff_tool"
+    ended "two lengths of nothing" 2 '' 'svemu-diff: no program is named (--help shows how)\n'
+    run "$diff_tool" --length 5 "$probe"
+    ended "an unknown option" 2 '' 'svemu-diff: there is no option --length (--help lists them)\n'
+    run "$diff_tool" --vl
+    ended "no value" 2 '' 'svemu-diff: --vl wants a value\n'
+    run "$diff_tool" "$scratch/nosuch"
+    ended "a missing program" 2 '' "svemu-diff: $scratch/nosuch couldn't be read: No such file or directory\n"
+    run "$diff_tool" tests/tools.sh
+    ended "no ELF file" 2 '' "svemu-diff: tests/tools.sh isn't an ELF file of 64 bits whose tables are whole\n"
+    for two in "--vl 256" "--beside 256"; do
+        # shellcheck disable=SC2086 # words
+        run "$diff_tool" $two "$probe"
+        ended "$two alone" 2 '' 'svemu-diff: --vl and --beside are given together, or neither is\n'
+    done
+    run "$diff_tool" --vl 256 --beside 256 "$probe"
+    ended "a length beside itself" 2 '' 'svemu-diff: --vl and --beside are both 256\n'
+    run "$diff_tool" --vl 256 --beside 200 "$probe"
+    ended "no length" 2 '' 'svemu-diff: --beside wants a multiple of 128 from 128 to 2048, not 200\n'
+    run "$diff_tool" --vl 256 --beside much "$probe"
+    ended "no number" 2 '' 'svemu-diff: --beside wants a number from 128 to 2048, not much\n'
+    run "$diff_tool" --budget much "$probe"
+    ended "no budget" 2 '' 'svemu-diff: --budget wants a number from 0 to 18446744073709551615, not much\n'
+    run env SVEMU="$scratch/nosuch" "$diff_tool" "$probe"
+    ended "two lengths without svemu" 2 '' "svemu-diff: there is no program $scratch/nosuch (--help says where it is looked for)\n"
+    run "$diff_tool" --help
+    holds "the help of svemu-diff" grep -q '^usage: svemu-diff ' "$scratch/output"
+}
