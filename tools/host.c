@@ -1,8 +1,10 @@
-/* What a program of the Rattle kit asks of C beside the C library: its arguments, errno and the heap. The kit has it as
+/* What a program of the Rattle kit asks of C beside the C library: its arguments and variables, errno and the heap. The kit has it as
    machine code for x86-64; this is the same for another host, where tools/release links it. */
 #include <errno.h>
 #include <stdint.h>
 #include <stdlib.h>
+
+extern char **environ;
 
 static int count;
 static char **words;
@@ -13,20 +15,42 @@ __attribute__((constructor)) static void keep(int argc, char **argv)
     words = argv;
 }
 
-/* Copies an argument without its byte 0: its length, -2 where there is no room for it, -1 where there is no such
-   argument. */
-intptr_t rattle_arg(uintptr_t number, char *into, uintptr_t room)
+/* Copies a text without its byte 0: its length, -2 where there is no room for it, -1 where there is no text. */
+static intptr_t copy(const char *text, char *into, uintptr_t room)
 {
     uintptr_t length;
 
-    if (number >= (uintptr_t)count || !words[number])
+    if (!text)
         return -1;
-    for (length = 0; words[number][length]; length++) {
+    for (length = 0; text[length]; length++) {
         if (length == room)
             return -2;
-        into[length] = words[number][length];
+        into[length] = text[length];
     }
     return (intptr_t)length;
+}
+
+/* Copies an argument. */
+intptr_t rattle_arg(uintptr_t number, char *into, uintptr_t room)
+{
+    return copy(number < (uintptr_t)count ? words[number] : 0, into, room);
+}
+
+/* Copies the value of a variable. */
+intptr_t rattle_env(const char *name, char *into, uintptr_t room)
+{
+    return copy(getenv(name), into, room);
+}
+
+/* Copies a variable with its name, by its place. */
+intptr_t rattle_env_at(uintptr_t number, char *into, uintptr_t room)
+{
+    uintptr_t k;
+
+    for (k = 0; environ && environ[k]; k++)
+        if (k == number)
+            return copy(environ[k], into, room);
+    return -1;
 }
 
 int rattle_errno(void)
