@@ -62,10 +62,7 @@ listing_refusals() {
 # The texts of words of every line of both tables, but for those with a target, through GNU's assembler: to the words
 # that `asm` makes.
 gnu_texts() {
-    if ! are_there aarch64-linux-gnu-as aarch64-linux-gnu-objcopy; then
-        skip "texts through GNU's assembler" "aarch64-linux-gnu-as isn't on this machine"
-        return
-    fi
+    ! lacks "texts through GNU's assembler" aarch64-linux-gnu-as aarch64-linux-gnu-objcopy || return 0
     awk -F '\t' '/^= / { is_on = $0 == "= words" } is_on && NF == 3 && $2 != "-" { print ".word 0x" $1 }' \
         crates/command_cases/stdin >"$scratch/words.s"
     "$SVEMU" asm "$scratch/words.s" >"$scratch/words.elf"

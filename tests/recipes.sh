@@ -25,36 +25,53 @@ recipe() {
     block "$commands" >"$scratch/commands"
     [ -s "$scratch/commands" ] || fail "$name" "the page has no commands"
     cd "$scratch/recipe" || exit 1
-    run env SVEMU_TOP="$top" sh -eux "$scratch/commands"
+    run env SVEMU_TOP="$checkout" sh -eux "$scratch/commands"
     cd "$top" || exit 1
 }
 
+# Makes a checkout of links, whose ./svemu is the one that is tested.
+checkout_of_links() {
+    checkout=$scratch/checkout
+    mkdir "$checkout"
+    ln -s "$top"/* "$checkout"
+    rm "$checkout/svemu"
+    printf '#!/bin/sh\nexec "$SVEMU" "$@"\n' >"$checkout/svemu"
+    chmod +x "$checkout/svemu"
+}
+
 recipes() {
+    checkout_of_links
     gcc=$(command -v aarch64-linux-gnu-gcc)
     if [ -z "$gcc" ]; then
-        for name in "a first program by gcc" "reading a trap" "trying schedules" make CMake lit; do
-            skip "$name" "aarch64-linux-gnu-gcc isn't on this machine"
+        for name in "a first program by gcc" "reading a trap" over-reads "a kernel's test" "trying schedules" make CMake lit; do
+            lacks "$name" aarch64-linux-gnu-gcc
         done
     else
+        five_minutes gcc "how a program is built, with gcc:"
         first_program gcc
+        before_a_run
         seeing_the_lengths
         seeing_the_lanes
         reading_a_trap
+        reading_behind_the_end
+        testing_a_kernel
         trying_schedules
         recipe make "Run with make:" Makefile sum.c
         holds "make" sh -c "[ $status -eq 0 ] && [ \"\$(grep -cx 'sum 500500' '$scratch/output')\" -eq 3 ] && [ \"\$(grep -c '^vl .* out 11 err 0 same$' '$scratch/output')\" -eq 16 ]"
         cmake_recipe
         lit_recipe
     fi
-    if command -v aarch64-linux-gnu-g++ >/dev/null && [ -f /usr/include/hwy/highway.h ]; then
-        highway
-    else
-        skip Highway "aarch64-linux-gnu-g++ and libhwy-dev aren't on this machine"
+    if ! lacks Highway aarch64-linux-gnu-g++; then
+        if [ -f /usr/include/hwy/highway.h ]; then
+            highway
+        else
+            to_install="${to_install:-} libhwy-dev"
+            skip Highway "without its headers, which Debian has in libhwy-dev"
+        fi
     fi
-    if command -v clang >/dev/null && command -v ld.lld >/dev/null; then
+    if ! lacks "a first program by clang" clang ld.lld; then
+        five_minutes clang "or with clang:"
         first_program clang
-    else
-        skip "a first program by clang" "clang and lld aren't on this machine"
     fi
 }
 
@@ -63,67 +80,144 @@ first_program() {
     holds "a first program by $1 is built" [ "$status" -eq 0 ]
     block "Run it at a length, and at all of them:" >"$scratch/commands"
     cd "$scratch/recipe" || exit 1
-    run env SVEMU_TOP="$top" sh -eu "$scratch/commands"
+    run env SVEMU_TOP="$checkout" sh -eu "$scratch/commands"
     cd "$top" || exit 1
     holds "a first program by $1 runs" awk 'NR == 1 ? $0 != "sum 500500" : !/^vl [0-9]+ exit 0 after [0-9]+ steps out 11 err 0 same$/ { bad = 1 } END { exit bad || NR != 17 }' "$scratch/output"
 }
 
+# An over-read, which nothing shows but a guarded buffer.
+reading_behind_the_end() {
+    recipe over-reads "Read behind the end, and behind a guarded end:" over.c
+    holds "an over-read passes, and traps where the buffer is guarded" awk '
+        NR <= 16 && / exit 0 after .* same$/ { passed++ }
+        NR > 16 && / trap read 0x[0-9a-f]*000 at / { trapped++ }
+        END { exit NR != 32 || passed != 16 || trapped != 16 }' "$scratch/output"
+}
+
+testing_a_kernel() {
+    recipe "a kernel's test" "Test the kernel at all lengths, right and with a bug:" negate.c
+    block_behind "The right one writes" >"$scratch/wanted"
+    holds "a kernel's test at all lengths" sh -c '[ "$(head -n 16 "$1" | grep -c " exit 0 after .* same$")" -eq 16 ]' sh "$scratch/output"
+    holds "a kernel's bug is told" sh -c 'tail -n +17 "$1" | cmp -s - "$2"' sh "$scratch/output" "$scratch/wanted"
+}
+
+# Prints the lines that are set in behind the line that begins so.
+block_behind() {
+    awk -v line="$1" '
+        index($0, line) == 1 { near = 1 }
+        near && /^    / { within = 1; print substr($0, 5); next }
+        within { exit }' docs/TESTING_YOUR_CODE.md
+}
+
 # A stack without a lock, which some schedules break, and one that none does.
 trying_schedules() {
-    if ! command -v python3 >/dev/null; then
-        skip "trying schedules" "python3 isn't on this machine"
-        return
-    fi
+    ! lacks "trying schedules" python3 || return 0
     recipe "trying schedules" "Try schedules of the stack:" stack.c
     holds "some schedules of the stack part" sh -c '[ "$1" -eq 1 ] && [ "$(wc -l <"$2")" -gt 2 ]' sh "$status" "$scratch/output"
-    holds "schedules of the stack are kept" sh -c 'ls "$1"/schedules/*.schedule | wc -l | grep -qx 2' sh "$scratch/recipe"
+    holds "schedules of the stack are kept" sh -c 'ls "$1"/schedules/*.schedule | wc -l | grep -qx 3' sh "$scratch/recipe"
+    run "$SVEMU" threads "$scratch/recipe/stack.elf" "$scratch/recipe/schedules/shortest.schedule" --vl 512 --budget 100
+    holds "all threads of the shortest, with a lower budget" sh -c '[ "$1" -eq 123 ] && grep -qx "thread 1" "$2"' sh "$status" "$scratch/errors"
     recipe "trying schedules" "Try schedules of the stack that counts changes:" stack.c
     holds "no schedule of the counted stack parts" [ "$status" -eq 0 ]
     holds "its lines" sh -c '[ "$(tail -n 1 "$1")" = "300 schedules, 0 part" ]' sh "$scratch/output"
+    recipe "trying schedules" "Try all schedules with few switches:"
+    holds "a schedule with one switch parts" [ "$status" -eq 1 ]
+    holds "all with one agree, and one parts" sh -c 'grep -qx "all [0-9]* schedules with at most 1 switch agree" "$1" &&
+        grep -q "^shortest 3 turns stuck after " "$1" && [ -s "$2/schedules/shortest.schedule" ]' sh \
+        "$scratch/output" "$scratch/recipe"
+}
+
+# The first section: a kernel in C, and a planted bug that is found.
+five_minutes() {
+    rm -rf "$scratch/recipe"
+    mkdir "$scratch/recipe"
+    block 'The kernel, `kernel.c`:' >"$scratch/recipe/kernel.c"
+    block 'Its test calls it and says how many numbers are wrong, `test.c`:' >"$scratch/recipe/test.c"
+    block "$2" >"$scratch/build"
+    block "Build it and run it, at 384 bits and at all sixteen lengths:" | cat "$scratch/build" - >"$scratch/commands"
+    block "and look for it:" | cat "$scratch/build" - >"$scratch/planting"
+    cd "$scratch/recipe" || exit 1
+    run env SVEMU_TOP="$checkout" sh -eu "$scratch/commands"
+    holds "five minutes by $1" sh -c '[ "$1" -eq 0 ] && [ "$(head -n 1 "$2")" = "wrong 0" ] &&
+        [ "$(grep -cE "^vl [0-9]+ exit 0 after [0-9]+ steps out 8 err 0 same$" "$2")" -eq 16 ]' sh "$status" "$scratch/output"
+    run env SVEMU_TOP="$checkout" sh -eu "$scratch/planting"
+    holds "the planted bug by $1" sh -c '[ "$1" -eq 1 ] && [ "$(grep -c "same$" "$2")" -eq 1 ] &&
+        [ "$(grep -cE "^vl [0-9]+ exit 1 after [0-9]+ steps out 9 err 0 parts at 6$" "$2")" -eq 15 ]' sh "$status" "$scratch/output"
+    cd "$top" || exit 1
+}
+
+# Of the program that was built last: which svemu it is that runs it, and that it has no instruction on V registers.
+before_a_run() {
+    block "nothing of the checkout:" >"$scratch/commands"
+    echo '[ -x "$SVEMU" ] && "$SVEMU" run sum.elf --vl 128 --budget 1000000' >>"$scratch/commands"
+    block "Before a run, this shows the instructions on V registers of a program; all but \`movi\` and \`mvni\` are outside:" \
+        >"$scratch/shows"
+    cd "$scratch/recipe" || exit 1
+    # The checkout's own svemu, unless another one is tested and it would have to build.
+    if env -u SVEMU "$top/svemu" --program >/dev/null 2>&1; then
+        run env -u SVEMU SVEMU_TOP="$top" sh -eu "$scratch/commands"
+        holds "the program that svemu is" sh -c "[ $status -eq 0 ] && [ \"\$(cat '$scratch/output')\" = 'sum 500500' ]"
+    else
+        skip "the program that svemu is" "this checkout has none that is built; ./svemu --build builds it"
+    fi
+    run sh -u "$scratch/shows"
+    holds "no instruction on V registers" sh -c "[ $status -eq 1 ] && [ ! -s '$scratch/output' ] && [ ! -s '$scratch/errors' ]"
+    cd "$top" || exit 1
 }
 
 # Of the program that was built last.
 seeing_the_lengths() {
-    if ! command -v python3 >/dev/null; then
-        skip "seeing the lengths" "python3 isn't on this machine"
-        return
-    fi
+    ! lacks "seeing the lengths" python3 || return 0
     if ! "$SVEMU" sweep "$probe" --budget 10 <"$input" >/dev/null 2>&1; then
         skip "seeing the lengths" "this svemu has no sweep"
         return
     fi
     block "Draw a program over the lengths:" >"$scratch/commands"
     cd "$scratch/recipe" || exit 1
-    run env SVEMU_TOP="$top" sh -eu "$scratch/commands"
+    run env SVEMU_TOP="$checkout" sh -eu "$scratch/commands"
     cd "$top" || exit 1
     holds "seeing the lengths" sh -c "[ $status -eq 0 ] && grep -q '<title>sum.elf from 128 to 2048 bits<' '$scratch/recipe/lengths.html' && grep -q 'same at all sixteen lengths' '$scratch/recipe/lengths.html'"
+    block "Tell where two lengths part:" >"$scratch/commands"
+    cd "$scratch/recipe" || exit 1
+    run env SVEMU_TOP="$checkout" sh -eu "$scratch/commands"
+    cd "$top" || exit 1
+    ended "where two lengths part" 0 'the output and the ending are the same at all sixteen lengths\n' ''
 }
 
 # Of the program that was built last.
 seeing_the_lanes() {
-    if ! command -v python3 >/dev/null; then
-        skip "seeing the lanes" "python3 isn't on this machine"
-        return
-    fi
+    ! lacks "seeing the lanes" python3 || return 0
     block "Draw a part of a run:" >"$scratch/commands"
     cd "$scratch/recipe" || exit 1
-    run env SVEMU_TOP="$top" sh -eu "$scratch/commands"
+    run env SVEMU_TOP="$checkout" sh -eu "$scratch/commands"
     cd "$top" || exit 1
     holds "seeing the lanes" sh -c "[ $status -eq 0 ] && grep -q '<title>sum.elf at 384 bits, step ' '$scratch/recipe/sum.html' && grep -q '\"at\":\"main\"' '$scratch/recipe/sum.html'"
 }
 
 highway() {
-    recipe Highway "Build with g++ and run it:" sum.cc
-    holds "Highway's sum is built and runs at all lengths" sh -c "[ $status -eq 0 ] && [ \"\$(grep -cE '^vl [0-9]+ exit 0 after [0-9]+ steps out 11 err 0 same\$' '$scratch/output')\" -eq 16 ]"
-    rm -rf "$scratch/examples"
-    cp -R examples "$scratch/examples"
-    rm "$scratch/examples/positives.elf"
-    holds "the example of Highway is built" make -C "$scratch/examples" highway
-    for folder in "$top/examples" "$scratch/examples"; do
-        for vl in 128 384 2048; do
-            run "$runner" --vl "$vl" "$folder/positives.elf"
-            holds "positives at $vl" sh -c "[ $status -eq 0 ] && cmp '$scratch/output' examples/positives.out && [ ! -s '$scratch/errors' ]"
-        done
+    for compiler in g++ clang++; do
+        [ "$compiler" = g++ ] || ! lacks "Highway by clang++" clang++ ld.lld || continue
+        recipe Highway "Build with $compiler and run it:" sum.cc
+        holds "Highway's sum is built by $compiler and runs at all lengths" sh -c "[ $status -eq 0 ] && [ \"\$(grep -cE '^vl [0-9]+ exit 0 after [0-9]+ steps out 11 err 0 same\$' '$scratch/output')\" -eq 16 ]"
+    done
+    positives "checked in:" "$top/examples"
+    for compiler in g++ clang++; do
+        [ "$compiler" = g++ ] || ! lacks "the example of Highway by clang++" clang++ ld.lld || continue
+        rm -rf "$scratch/examples"
+        cp -R examples "$scratch/examples"
+        rm "$scratch/examples/positives.elf"
+        case $compiler in
+            g++) holds "the example of Highway is built" make -C "$scratch/examples" highway ;;
+            *) holds "the example of Highway is built by clang++" make -C "$scratch/examples" CC=clang CXX=clang++ highway ;;
+        esac
+        positives "built by $compiler:" "$scratch/examples"
+    done
+}
+
+positives() {
+    for vl in 128 384 2048; do
+        run "$runner" --vl "$vl" "$2/positives.elf"
+        holds "$1 positives at $vl" sh -c "[ $status -eq 0 ] && cmp '$scratch/output' examples/positives.out && [ ! -s '$scratch/errors' ]"
     done
 }
 
@@ -131,25 +225,33 @@ reading_a_trap() {
     block "Build with gcc:" | sed 's/sum/popcount/g' >"$scratch/build"
     recipe "reading a trap" "Build with gcc:" popcount.c sum.c
     cd "$scratch/recipe" || exit 1
-    run env SVEMU_TOP="$top" sh -eu "$scratch/build"
+    run env SVEMU_TOP="$checkout" sh -eu "$scratch/build"
     run "$runner" popcount.elf
-    address=$(sed -n 's/^trap undefined 0x[0-9a-f]* at 0x0*\([0-9a-f]*\) after [0-9]* steps$/\1/p' "$scratch/errors")
+    address=$(sed -n 's/^svemu: undefined word 0x[0-9a-f]* (.*) at 0x\([0-9a-f]*\), .*, after [0-9]* steps$/\1/p' "$scratch/errors")
     cd "$top" || exit 1
     holds "a popcount is undefined" [ "$status" -eq 132 ]
+    # The page has the address of one compiler.
+    if [ "$(aarch64-linux-gnu-gcc -dumpfullversion)" = 12.2.0 ]; then
+        holds "the trap in the page" grep -Fqx "    $(cat "$scratch/errors")" docs/TESTING_YOUR_CODE.md
+        block "it. Show the instruction at an address:" >"$scratch/commands"
+        (cd "$scratch/recipe" && sh -eu "$scratch/commands") >"$scratch/output" 2>&1
+        holds "the address in the page" grep -q 'cnt[[:space:]]*v0.8b' "$scratch/output"
+    fi
+    sed 's/ -O2 / -g&/' "$scratch/build" >"$scratch/commands"
+    (cd "$scratch/recipe" && SVEMU_TOP="$checkout" sh -eu "$scratch/commands" && aarch64-linux-gnu-addr2line -f -e popcount.elf "0x$address") \
+        >"$scratch/output" 2>&1
+    holds "addr2line names the function and the line" sh -c 'grep -qx main "$1" && grep -q "popcount.c:6" "$1"' sh "$scratch/output"
     holds "objdump names it" sh -c "aarch64-linux-gnu-objdump -d --start-address=0x$address --stop-address=\$((0x$address + 4)) '$scratch/recipe/popcount.elf' | grep -q 'cnt[[:space:]]*v0.8b'"
 }
 
 cmake_recipe() {
-    if ! command -v cmake >/dev/null || ! command -v ctest >/dev/null; then
-        skip CMake "it isn't on this machine"
-        return
-    fi
+    ! lacks CMake cmake ctest || return 0
     recipe CMake "Run with CMake:" toolchain.cmake CMakeLists.txt sum.c
     holds "CMake" sh -c "[ $status -eq 0 ] && grep -q '100% tests passed, 0 tests failed out of 4' '$scratch/output'"
     # A test that fails is seen.
     sed 's/sum == 500500/sum != 500500/' "$scratch/recipe/sum.c" >"$scratch/wrong.c"
     cp "$scratch/wrong.c" "$scratch/recipe/sum.c"
-    run env SVEMU_TOP="$top" sh -c 'cmake --build "$1" && cd "$1" && ctest' sh "$scratch/recipe/build"
+    run env SVEMU_TOP="$checkout" sh -c 'cmake --build "$1" && cd "$1" && ctest' sh "$scratch/recipe/build"
     holds "CMake with a wrong program" sh -c "[ $status -ne 0 ] && grep -q '0% tests passed, 4 tests failed out of 4' '$scratch/output'"
 }
 
@@ -160,8 +262,10 @@ lit_recipe() {
     for check in "$(command -v FileCheck)" /usr/lib/llvm-*/bin/FileCheck; do
         [ ! -x "$check" ] || break
     done
-    if [ ! -f "$lit" ] || [ ! -x "$check" ] || ! command -v python3 >/dev/null; then
-        skip lit "it or FileCheck isn't on this machine"
+    ! lacks lit python3 || return 0
+    if [ ! -f "$lit" ] || [ ! -x "$check" ]; then
+        to_install="${to_install:-} llvm-14-tools"
+        skip lit "without lit or FileCheck, which Debian has in llvm-14-tools"
         return
     fi
     mkdir -p "$scratch/bin"
@@ -173,7 +277,7 @@ lit_recipe() {
     holds lit sh -c "[ $status -eq 0 ] && grep -Eq 'Passed *: *1|Expected Passes *: *1' '$scratch/output'"
     sed 's/svcntd()) /svcntw()) /; s/== svcntd()/== svcntw()/' "$scratch/recipe/kernel.c" >"$scratch/wrong.c"
     cp "$scratch/wrong.c" "$scratch/recipe/kernel.c"
-    run env SVEMU_TOP="$top" lit "$scratch/recipe"
+    run env SVEMU_TOP="$checkout" lit "$scratch/recipe"
     holds "lit with a wrong program" sh -c "[ $status -ne 0 ] && grep -Eq 'Failed *: *1|Unexpected Failures *: *1' '$scratch/output'"
     PATH=$before
 }

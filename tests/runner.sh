@@ -39,9 +39,16 @@ runner_passes_on() {
     run "$runner" --vl 256 "$probe" report
     ended "errors that look like a report" 0 '' "$(report 'exit 0 after 1 steps' 256)\n"
     run "$runner" "$probe" trap
-    ended_like "a trap" 132 'beforetrap undefined (0x[0-9a-f]{16}) at \1 after [0-9]+ steps'
+    ended_like "a trap" 132 'beforesvemu: undefined word 0x[0-9a-f]+ \(.*\) at 0x[0-9a-f]+.*, after [0-9]+ steps'
     run "$runner" --budget 5000 "$probe" spin
-    ended "a spent budget" 123 '' 'beforespent after 5000 steps\n'
+    ended_like "a spent budget" 123 'beforesvemu: 5000 steps are spent in 0x[0-9a-f]+.* \(SVEMU_BUDGET gives more\)'
+    run "$runner" --quiet --budget 5000 "$probe" spin
+    ended "a spent budget that nobody is told of" 123 '' before
+    run "$runner" --registers "$scratch/registers" --budget 5000 "$probe" spin
+    ended "a spent budget where registers are kept" 123 '' 'beforespent after 5000 steps\n'
+    run "$runner" --registers "$scratch/registers" --quiet --budget 5000 "$probe" spin
+    ended "where nobody is told" 123 '' before
+    holds "its registers are kept" grep -qx 'spent after 5000 steps' "$scratch/registers"
     run "$runner" --registers "$scratch/registers" --vl 384 "$probe"
     ended "registers kept" 3 'to the output\n' 'to the errors\n'
     holds "the registers' file has the report" awk 'NR == 1 && /^exit 3 after [0-9]+ steps$/ || NR == 37 && $0 == "vl 384" { n++ } END { exit !(n == 2 && NR == 86) }' "$scratch/registers"
@@ -52,11 +59,11 @@ runner_passes_on() {
     run "$runner" --registers "$scratch/registers" "$probe"
     holds "512 bits where nothing is said" grep -qx 'vl 512' "$scratch/registers"
     run env SVEMU_BUDGET=7 "$runner" "$probe" spin
-    ended "the budget of SVEMU_BUDGET" 123 '' 'spent after 7 steps\n'
+    ended_like "the budget of SVEMU_BUDGET" 123 'svemu: 7 steps are spent in .*'
     run env SVEMU_VL=640 SVEMU_BUDGET=7 "$runner" --vl 128 --budget 9 "$probe" spin
-    ended "options before variables" 123 '' 'spent after 9 steps\n'
+    ended_like "options before variables" 123 'svemu: 9 steps are spent in .*'
     run env SVEMU_PAGES=10 "$runner" "$probe"
-    ended "the pages of SVEMU_PAGES" 122 '' 'refused image TooManyPages\n'
+    ended "the pages of SVEMU_PAGES" 122 '' "svemu: $probe needs more pages than it may have (SVEMU_PAGES gives more)\n"
     run "$runner" --pages 10000 "$probe"
     ended "pages that suffice" 3 'to the output\n' 'to the errors\n'
 }
@@ -129,7 +136,8 @@ runner_in_time() {
     printf 'echo "$$" >"%s"; printf begin >&2; exec sleep 100' "$scratch/id" | stand_in
     for case in "TERM 143" "HUP 129"; do
         signal=${case% *}
-        if [ "$(sh -c "kill -s $signal \$\$; echo ignored" 2>/dev/null)" = ignored ]; then
+        # The shell that sees it end would say so, too.
+        if [ "$({ sh -c "kill -s $signal \$\$; echo ignored"; } 2>/dev/null)" = ignored ]; then
             skip "ended by SIG$signal" "it is ignored here, as under nohup"
             continue
         fi
@@ -154,41 +162,49 @@ runner_in_time() {
 
 runner_refusals() {
     run "$runner" "$scratch/nosuch.elf"
-    ended "a missing program" 126 '' "svemu-runner: $scratch/nosuch.elf couldn't be read\n"
+    ended "a missing program" 126 '' "svemu: $scratch/nosuch.elf isn't there, or can't be read\n"
     for vl in 192 0 2176; do
         run "$runner" --vl "$vl" "$probe"
-        ended "the length $vl" 121 '' 'refused words BadLength at 3\n'
+        ended "the length $vl" 121 '' "svemu: --vl is '$vl': it may be a multiple of 128 from 128 to 2048\n"
     done
     run "$runner" --vl wide "$probe"
-    ended "a length that is no number" 121 '' 'refused words BadNumber at 3\n'
+    ended "a length that is no number" 121 '' "svemu: --vl is 'wide': it may be a multiple of 128 from 128 to 2048\n"
     run "$runner" --vl '' "$probe"
-    ended "an empty length" 121 '' 'refused words BadNumber at 3\n'
+    ended "an empty length" 121 '' "svemu: --vl is '': it may be a multiple of 128 from 128 to 2048\n"
     run "$runner" --budget -1 "$probe"
-    ended "a negative budget" 121 '' 'refused words BadNumber at 5\n'
+    ended "a negative budget" 121 '' "svemu: --budget is '-1': it may be a number from 0 to 18446744073709551615\n"
     run "$runner" --pages 0 "$probe"
-    ended "no pages" 121 '' 'refused words OutOfRange at 7\n'
+    ended "no pages" 121 '' "svemu: --pages is '0': it may be a number from 1 to 1048576\n"
     run "$runner" README.md
-    ended "a file that is no image" 122 '' 'refused image BadMagic\n'
+    ended "a file that is no image" 122 '' 'svemu: README.md is no ELF file\n'
     run "$runner"
-    ended "no program" 121 '' 'svemu-runner: no program is named (--help shows how)\n'
+    ended "no program" 121 '' 'svemu: the command line names no program\n'
     run "$runner" --vl
-    ended "an option without its value" 121 '' 'svemu-runner: --vl wants a value\n'
+    ended "an option without its value" 121 '' 'svemu: --vl is an option without a value\n'
     run "$runner" --length 128 "$probe"
-    ended "an unknown option" 121 '' 'svemu-runner: there is no option --length (--help lists them)\n'
+    ended "an unknown option" 121 '' 'svemu: --length is no option of run: see svemu-tool --help\n'
+    run "$runner" --registers "$scratch/registers" --length 128 "$probe"
+    ended "an unknown option beside registers" 121 '' 'svemu-runner: there is no option --length (--help lists them)\n'
+    run env SVEMU_TOOL="$scratch/nosuch" "$runner" "$probe"
+    ended "no svemu-tool" 126 '' "svemu-runner: there is no program $scratch/nosuch (--help says where it is looked for)\n"
     run "$runner" --registers "$scratch/no/such" "$probe"
     ended "registers that can't be written" 125 '' "svemu-runner: $scratch/no/such couldn't be written\n"
     run env SVEMU="$scratch/nosuch" "$runner" "$probe"
     ended "no svemu" 126 '' "svemu-runner: there is no program $scratch/nosuch (--help says where it is looked for)\n"
-    run env TMPDIR="$scratch/nosuch" "$runner" "$probe"
+    run env TMPDIR="$scratch/nosuch" "$runner" --registers "$scratch/registers" "$probe"
     ended "no folder for the runner's files" 125 '' "svemu-runner: no folder could be made in $scratch/nosuch\n"
     run sh -c '"$1" "$2" >/dev/full' sh "$runner" "$probe"
-    ended "an output that can't be written" 125 '' "svemu-runner: the output or the errors couldn't be written\n"
+    holds "an output that can't be written" [ "$status" -eq 125 ]
+    run sh -c '"$1" --registers "$3" "$2" >/dev/full' sh "$runner" "$probe" "$scratch/registers"
+    ended "an output that can't be written, where registers are kept" 125 '' "svemu-runner: the output or the errors couldn't be written\n"
     run sh -c '"$1" "$2" 2>/dev/full' sh "$runner" "$probe"
     ended "errors that can't be passed on" 125 'to the output\n' ''
     input=$scratch
     run "$runner" "$probe" cat
+    holds "an input that can't be read" [ "$status" -eq 124 ]
+    run "$runner" --registers "$scratch/registers" "$probe" cat
     input=$scratch/empty
-    ended "an input that can't be read" 124 '' "svemu-runner: the input couldn't be read\n"
+    ended "an input that can't be read, where registers are kept" 124 '' "svemu-runner: the input couldn't be read\n"
     run "$runner" --help
     holds "help" grep -q '^usage: svemu-runner' "$scratch/output"
 }
@@ -201,18 +217,20 @@ runner_from_elsewhere() {
     ln -s "first link" "$odd/bin/second link"
     cp "$runner" "$odd/bin/copy"
     # The script's own folder is looked through only where SVEMU isn't set.
-    printf '#!/bin/sh\nexec "%s" "$@"\n' "$SVEMU" >"$odd/svemu"
-    chmod +x "$odd/svemu"
+    printf '#!/bin/sh\nexec "%s" "$@"\n' "$top/svemu-tool" >"$odd/svemu-tool"
+    chmod +x "$odd/svemu-tool"
     cd "$odd" || exit 1
     run "./bin/second link" "a program's \"image\"" args x
     ended "by links, and from a folder with blanks and quotes" 0 'args\nx\n' ''
     run env -u SVEMU bin/copy "$odd/a program's \"image\"" args y
-    ended "svemu in the folder above" 0 'args\ny\n' ''
-    run env -u SVEMU PATH="$odd/bin:$PATH" sh -c 'mv svemu bin/svemu && copy "$1" args z' sh "a program's \"image\""
-    ended "svemu beside the script, by PATH" 0 'args\nz\n' ''
+    ended "svemu-tool in the folder above" 0 'args\ny\n' ''
+    run env -u SVEMU PATH="$odd/bin:$PATH" sh -c 'mv svemu-tool bin/svemu-tool && copy "$1" args z' sh "a program's \"image\""
+    ended "svemu-tool beside the script, by PATH" 0 'args\nz\n' ''
     run env -u SVEMU PATH="$odd/bin:$PATH" sh -c 'mv bin/copy . && ./copy "$1" args z' sh "a program's \"image\""
-    ended "svemu in PATH" 0 'args\nz\n' ''
-    run env TMPDIR="$odd" "$runner" "a program's \"image\""
+    ended "svemu-tool in PATH" 0 'args\nz\n' ''
+    run env -u SVEMU PATH="/usr/bin:/bin" ./copy "a program's \"image\""
+    ended_like "no svemu-tool anywhere" 126 'svemu-runner: there is no svemu-tool, and no svemu-filter beside this script .*'
+    run env TMPDIR="$odd" "$runner" --registers "$odd/registers" "a program's \"image\""
     ended "a TMPDIR with blanks and quotes" 3 'to the output\n' 'to the errors\n'
     cd "$top" || exit 1
 }
@@ -226,6 +244,7 @@ over_lengths() {
     sed -E 's/^vl ([0-9]+) exit 0 after [0-9]+ steps out 11 err 0 /\1 /' "$scratch/output" >"$scratch/got"
     holds "a bug at some lengths" cmp "$scratch/got" "$scratch/wanted"
     holds "its status is 1" [ "$status" -eq 1 ]
+    holds "the first length that fails" grep -qx 'svemu-lengths: at 384 bits its output parts from that at 128 bits at byte 4' "$scratch/errors"
     printf 12345 >"$scratch/input"
     input=$scratch/input
     run "$lengths" "$probe" cat
@@ -234,6 +253,17 @@ over_lengths() {
     holds "its status is 0" [ "$status" -eq 0 ]
     run "$lengths" "$probe" trap
     holds "traps, and bytes on standard error" awk '!/^vl [0-9]+ trap undefined 0x[0-9a-f]+ at 0x[0-9a-f]+ after [0-9]+ steps out 0 err 6 same$/ { bad = 1 } END { exit bad || NR != 16 }' "$scratch/output"
+    holds "their status is 1" [ "$status" -eq 1 ]
+    holds "the length of the first trap" grep -qE '^svemu-lengths: at 128 bits it ends by trap undefined 0x[0-9a-f]+ at 0x[0-9a-f]+, and not by exit 0$' "$scratch/errors"
+    run "$lengths" --budget 5000 "$probe" spin
+    holds "a spent budget at each length" [ "$status" -eq 1 ]
+    holds "its line" grep -qx 'svemu-lengths: at 128 bits it ends by spent, and not by exit 0' "$scratch/errors"
+    run "$lengths" "$probe"
+    holds "a status that isn't wanted" [ "$status" -eq 1 ]
+    holds "the line of that" grep -qx 'svemu-lengths: at 128 bits it ends by exit 3, and not by exit 0' "$scratch/errors"
+    run "$lengths" --status 3 "$probe"
+    holds "a status that is wanted" [ "$status" -eq 0 ]
+    holds "no line of that" [ ! -s "$scratch/errors" ]
     printf 'rdvl x0, #1\nmov x8, #93\nsvc #0\n' >"$scratch/vector_length.s"
     "$built" asm "$scratch/vector_length.s" >"$scratch/vector_length.elf"
     run "$lengths" "$scratch/vector_length.elf"
@@ -250,6 +280,16 @@ over_lengths() {
     ended "a missing program at all lengths" 126 '' "svemu-lengths: $scratch/nosuch couldn't be read\n"
     run env SVEMU_BUDGET=x "$lengths" "$probe"
     ended "a budget that is no number" 121 '' 'refused words BadNumber at 3\n'
+    run "$lengths" --budget x "$probe"
+    ended "another that is none" 121 '' 'refused words BadNumber at 3\n'
+    run "$lengths" --status 256 "$probe"
+    ended "a status past 255" 121 '' "svemu-lengths: --status is '256': it may be 0 to 255\n"
+    run "$lengths" --length 128 "$probe"
+    ended "an unknown option of the lengths" 121 '' 'svemu-lengths: there is no option --length (--help lists them)\n'
+    run "$lengths" --status
+    ended "an option of the lengths without its value" 121 '' 'svemu-lengths: --status wants a value\n'
+    run "$lengths" --help
+    holds "help of the lengths" grep -q '^usage: svemu-lengths' "$scratch/output"
     run "$lengths"
     ended "lengths of no program" 121 '' 'svemu-lengths: no program is named (--help shows how)\n'
 }

@@ -1,24 +1,30 @@
 # shellcheck shell=sh
 # shellcheck disable=SC2016,SC2154 # shells that are called expand them; tools.sh sets the others
-# Tests of ./svemu, make install, tools/release and .ci/run, in a checkout of two crates with a program and a kit that
-# are stand-ins; tools.sh reads it.
+# Tests of ./svemu, ./svemu-tool, make install, tools/release and .ci/run, in a checkout of few crates with programs and a
+# kit that are stand-ins; tools.sh reads it.
 
 # Makes the checkout, and a kit whose `rt` builds a program that says the last line of its source.
 make_checkout() {
     checkout=$scratch/"a checkout"
     rm -rf "$checkout" "$scratch/cache"
-    mkdir -p "$checkout/crates/low/src" "$checkout/crates/apart/src" "$checkout/crates/svemu/src" "$checkout/tests" "$scratch/kit/bin" "$scratch/kit/toolchain/bin"
-    cp -R svemu Makefile .ci tools docs "$checkout"
+    mkdir -p "$checkout/crates/low/src" "$checkout/crates/apart/src" "$checkout/crates/svemu/src" "$checkout/crates/svemu_tool/src" "$checkout/crates/svemu_tool/data" "$checkout/tests" "$checkout/examples" "$scratch/kit/bin" "$scratch/kit/toolchain/bin"
+    cp -R svemu svemu-tool Makefile .ci tools docs "$checkout"
+    cp examples/start.S examples/*.h "$checkout/examples"
     rm -rf "$checkout/docs/measured"
-    printf 'low:\nsvemu: low\napart: low\n' >"$checkout/crates.txt"
+    printf 'low:\nsvemu: low\napart: low\nsvemu_tool: low\n' >"$checkout/crates.txt"
     echo low >"$checkout/crates/low/src/lib.rt"
     echo apart >"$checkout/crates/apart/src/lib.rt"
     echo first >"$checkout/crates/svemu/src/main.rt"
+    echo tool >"$checkout/crates/svemu_tool/src/main.rt"
+    printf 'run\nexit7.elf\n' >"$checkout/crates/svemu_tool/args"
+    echo 5 >"$checkout/crates/svemu_tool/status"
+    echo 'tool: run exit7.elf' >"$checkout/crates/svemu_tool/stdout"
     printf '#!/bin/sh\necho "tools pass"\n' >"$checkout/tests/tools.sh"
     printf '#!/bin/sh\ncat "$1" >cases-of; exit "$(cat cases-end)"\n' >"$checkout/tests/cases.sh"
     cat >"$scratch/kit/bin/rt" <<'KIT'
 #!/bin/sh
 kit=$(dirname "$0")/..
+here=$PWD
 case "$*" in
     version) cat "$kit/version" ;;
     doc) echo "$kit/START-HERE.md" ;;
@@ -27,11 +33,14 @@ case "$*" in
         echo "== low"
         ;;
     run | ci)
-        [ "$1" = run ] || cd crates/svemu
-        mkdir -p out
-        { echo '#!/bin/sh' && echo "[ \"\$#\" -gt 0 ] || exit $(cat "$kit/refusal")" && echo "echo \"$(tail -n 1 src/main.rt): \$*\"" && echo 'exit 5'; } >out/svemu
-        chmod +x out/svemu
-        [ "$1" = ci ] || { out/svemu && exit; exit; }
+        for crate in svemu_tool svemu; do
+            [ "$1" = run ] && [ "${PWD##*/}" != "$crate" ] && continue
+            [ "$1" = run ] || cd "$here/crates/$crate" || exit
+            mkdir -p out
+            { echo '#!/bin/sh' && echo "[ \"\$#\" -gt 0 ] || exit $(cat "$kit/refusal")" && echo "echo \"$(tail -n 1 src/main.rt): \$*\"" && echo 'exit 5'; } >"out/$crate"
+            chmod +x "out/$crate"
+            [ "$1" = ci ] || { "out/$crate" && exit; exit; }
+        done
         printf 'rt: low is kept: an earlier run\nrt: svemu proved\nrt: svemu: its tests proved\n2 passed, 0 failed\n'
         exit "$(cat "$kit/ends")"
         ;;
@@ -59,8 +68,15 @@ with_kit() {
 }
 
 asks='svemu: the sources have changed since dist/ was made; a build needs the Rattle kit, whose command rt isn'"'"'t in the PATH (README says what it is)\n'
-released='svemu: runs the program of dist/, proved with stand-in-kit 1\n'
-built_here='svemu: runs the program that was built here\n'
+
+# Whether what a start says on a terminal is this line, which it doesn't say elsewhere.
+says_on_terminal() {
+    ! lacks "$1" python3 || return 0
+    wanted=$2
+    shift 2
+    bare python3 "$top/tests/terminal.py" ./svemu "$@"
+    holds "on a terminal: $wanted" grep -Fqx "$wanted" "$scratch/output"
+}
 
 # The PATH without a kit: each folder of it that has no rt, and where rt stands beside others, those by links.
 without_kit() {
@@ -83,11 +99,15 @@ without_kit() {
 start() {
     without_kit
     make_checkout
-    with_kit sh -c 'mkdir dist && cp crates.txt dist && rt ci >ci && tools/release --x86-64-only && rm -r crates/svemu/out'
-    holds "tools/release makes dist/" sh -c "[ $status -eq 0 ] && cd '$checkout/dist' && [ \"\$(ls)\" = 'svemu-x86_64.gz
+    with_kit sh -c 'mkdir dist && cp crates.txt dist && rt ci >ci && tools/release --x86-64-only && rm -r crates/svemu/out crates/svemu_tool/out'
+    holds "tools/release makes dist/" sh -c "[ $status -eq 0 ] && cd '$checkout/dist' && [ \"\$(LC_ALL=C ls)\" = 'svemu-tool-x86_64.gz
+svemu-tool.txt
+svemu-x86_64.gz
 svemu.txt' ]"
     start_without_kit
+    start_of_the_tool
     start_looks_again
+    start_by_other_ways
     start_builds
     start_refusals
     release_checks
@@ -96,8 +116,10 @@ svemu.txt' ]"
 }
 
 start_without_kit() {
+    says_on_terminal "a first start" 'svemu: runs the program of dist/, proved with stand-in-kit 1' a
+    bare ./svemu --clean
     bare ./svemu a 'b c'
-    ended "a first start" 5 'first: a b c\n' "$released"
+    ended "a first start" 5 'first: a b c\n' ''
     bare ./svemu a
     ended "a second start" 5 'first: a\n' ''
     bare sh -c 'cd crates && ../svemu b'
@@ -116,6 +138,32 @@ start_without_kit() {
     ended "the version" 0 "svemu 0.1.0, sources $(printf %.12s "$sum"), proved with stand-in-kit 1\n" ''
     bare ./svemu --help
     holds "help" grep -qx '       ./svemu --build .*' "$scratch/output"
+}
+
+# The second program is chosen as the first, and by itself.
+start_of_the_tool() {
+    bare ./svemu-tool a 'b c'
+    ended "a first start of svemu-tool" 5 'tool: a b c\n' ''
+    bare sh -c 'PATH=$PWD:$PATH ./svemu-tool d; ended=$?; rm sha256sum; exit "$ended"'
+    ended "its second takes no checksum" 5 'tool: d\n' ''
+    bare ./svemu a
+    ended "and svemu is svemu" 5 'first: a\n' ''
+    bare ./svemu-tool --program
+    holds "svemu-tool is named" sh -c "[ $status -eq 0 ] && '$(cat "$scratch/output")' e | grep -qx 'tool: e'"
+    bare ./svemu-tool --version
+    ended "svemu-tool has its version itself" 5 'tool: --version\n' ''
+    echo other >"$checkout/crates/svemu_tool/src/main.rt"
+    bare ./svemu-tool a
+    ended "other sources of svemu-tool" 1 '' "svemu-tool: ${asks#svemu: }"
+    bare ./svemu a
+    ended "which svemu doesn't stand on" 5 'first: a\n' ''
+    with_kit ./svemu-tool a
+    ended "svemu-tool is built" 5 'other: a\n' \
+        "svemu-tool: the sources have changed since dist/ was made: building the proved program, which takes a while (crates as they are proved:)\n== low\n"
+    echo tool >"$checkout/crates/svemu_tool/src/main.rt"
+    rm -r "$checkout/crates/svemu_tool/out"
+    bare ./svemu-tool a
+    ended "and that of dist/ again" 5 'tool: a\n' ''
 }
 
 # Each change of a source is seen, whatever its time.
@@ -161,16 +209,43 @@ start_looks_again() {
     cp "$scratch/list" "$checkout/crates.txt"
     bare ./svemu a
     ended "another line of crates.txt" 1 '' "$asks"
-    printf 'low:\nsvemu: low\n' >"$checkout/crates.txt"
+    printf 'low:\nsvemu: low\nsvemu_tool: low\n' >"$checkout/crates.txt"
     bare ./svemu a
     ended "a line of another crate" 5 'first: a\n' ''
+}
+
+# A `find` that can't be given a list of names finds them itself; and a checkout whose name is long has a number.
+start_by_other_ways() {
+    mkdir -p "$scratch/older"
+    printf '#!/bin/sh\n[ "$1" != -files0-from ] || exit 1\nexec "%s" "$@"\n' "$(command -v find)" >"$scratch/older/find"
+    printf '#!/bin/sh\nexit 1\n' >"$scratch/older/sha256sum"
+    chmod +x "$scratch/older/find" "$scratch/older/sha256sum"
+    touch "$checkout/crates.txt"
+    bare sh -c 'mkdir only && cp "$1/older/find" only && PATH=$PWD/only:$PATH ./svemu a' sh "$scratch"
+    ended "an older find" 5 'first: a\n' ''
+    bare sh -c 'PATH=$1/older:$PATH ./svemu a' sh "$scratch"
+    ended "an older find, where nothing was touched" 5 'first: a\n' ''
+    echo new >"$checkout/crates/low/src/new.rt"
+    bare sh -c 'PATH=$PWD/only:$PATH ./svemu a'
+    ended "an older find, and one source more" 1 '' "$asks"
+    rm -r "$checkout/crates/low/src/new.rt" "$checkout/only"
+    for name in long_%70d of%%s%d; do
+        # shellcheck disable=SC2059 # the format is the name
+        other=$scratch/$(printf "$name" 1)
+        cp -Rp "$checkout" "$other"
+        for words in "a" "b c"; do
+            run env -u SVEMU PATH="$no_kit" XDG_CACHE_HOME="$scratch/others cache" "$other/svemu" "$words"
+            holds "a checkout in ${other##*/}" grep -qx "first: $words" "$scratch/output"
+        done
+        holds "its place is a number" sh -c 'ls "$1/svemu" | grep -qx "[0-9]*" && rm -r "$1"' sh "$scratch/others cache"
+    done
 }
 
 start_builds() {
     echo second >"$checkout/crates/svemu/src/main.rt"
     with_kit ./svemu a
     ended "changed sources are built" 5 'second: a\n' \
-        "svemu: the sources have changed since dist/ was made: building the proved program, which takes a while (crates as they are proved:)\n== low\n$built_here"
+        "svemu: the sources have changed since dist/ was made: building the proved program, which takes a while (crates as they are proved:)\n== low\n"
     bare ./svemu a
     ended "what was built is run, with no kit" 5 'second: a\n' ''
     holds "the libraries stay, and no work beside them" sh -c "cd '$scratch'/cache/svemu/*/crates/low/out && [ \"\$(ls)\" = rlib ]"
@@ -178,19 +253,21 @@ start_builds() {
     holds "the version of what was built" grep -qx 'svemu 0.1.0, sources [0-9a-f]\{12\}, proved with stand-in-kit 1' "$scratch/output"
     echo first >"$checkout/crates/svemu/src/main.rt"
     with_kit ./svemu a
-    ended "sources of dist/ again, newer than what was built" 5 'first: a\n' "$released"
+    ended "sources of dist/ again, newer than what was built" 5 'first: a\n' ''
     with_kit ./svemu --build
     ended "a build that is asked for" 0 '' \
-        "svemu: building the proved program, which takes a while (crates as they are proved:)\n== low\n$built_here"
+        "svemu: building the proved program, which takes a while (crates as they are proved:)\n== low\n"
     bare ./svemu a
     ended "what was built is run before dist/" 5 'first: a\n' ''
+    rm "$scratch"/cache/svemu/*/svemu.chosen
+    says_on_terminal "the program that was built" 'svemu: runs the program that was built here' a
     rm -r "$checkout/crates/svemu/out"
     bare ./svemu a
-    ended "and dist/ where it is gone" 5 'first: a\n' "$released"
+    ended "and dist/ where it is gone" 5 'first: a\n' ''
     bare ./svemu --clean
     holds "the cache folder is emptied" sh -c "[ $status -eq 0 ] && [ -z \"\$(ls '$scratch/cache/svemu')\" ]"
     bare ./svemu a
-    ended "and dist/ unpacked again" 5 'first: a\n' "$released"
+    ended "and dist/ unpacked again" 5 'first: a\n' ''
     echo 9 >"$scratch/kit/refusal"
     echo second >"$checkout/crates/svemu/src/main.rt"
     with_kit ./svemu a
@@ -223,14 +300,14 @@ start_refusals() {
     cd "$checkout" || exit 1
     run env -u SVEMU PATH="$no_kit" XDG_CACHE_HOME=/dev/null ./svemu a
     cd "$top" || exit 1
-    ended_like "no cache folder" 1 'svemu: nothing can be kept in /dev/null/svemu/[0-9]+ \(XDG_CACHE_HOME names another folder\)'
+    ended_like "no cache folder" 1 'svemu: nothing can be kept in /dev/null/svemu/[^/]+ \(XDG_CACHE_HOME names another folder\)'
 }
 
 release_checks() {
     with_kit tools/release --check
     ended "dist/ of these sources" 0 'dist/ is of these sources\n' ''
     with_kit sh -c 'rt ci >ci; tools/release --compare'
-    ended "dist/ is what was built" 0 'dist/ has the program that was built, byte for byte\n' ''
+    ended "dist/ is what was built" 0 'dist/ has the programs that were built, byte for byte\n' ''
     echo "stand-in-kit 2" >"$scratch/kit/version"
     echo 0 >"$checkout/cases-end"
     with_kit tools/release --compare
@@ -257,10 +334,7 @@ release_checks() {
 }
 
 gate_ends() {
-    if ! command -v bash >/dev/null; then
-        skip "the gate's script" "bash isn't on this machine"
-        return
-    fi
+    ! lacks "the gate's script" bash || return 0
     took='rt ci took [0-9.]* minutes of the clock and [0-9.]* minutes of the processors'
     with_kit make -s check
     sed "s/^$took\$/took/" "$scratch/output" >"$scratch/gate"
@@ -272,7 +346,7 @@ rt: svemu: its tests proved
 2 passed, 0 failed
 took
 crates proved anew: 1; kept from earlier runs: 1
-dist/ has the program that was built, byte for byte
+dist/ has the programs that were built, byte for byte
 tools pass
 END
     holds "the gate, by make check" sh -c "[ $status -eq 0 ] && diff '$scratch/gate' '$scratch/wanted'"
@@ -310,5 +384,6 @@ install_without_kit() {
     run "$scratch/stage/opt/it/bin/svemu" --help
     holds "help, without the checkout's words" sh -c "grep -q '^usage: svemu run' '$scratch/output' && ! grep -q checkout '$scratch/output'"
     bare make -s uninstall DESTDIR="$scratch/stage" PREFIX=/opt/it
-    holds "make uninstall leaves nothing" sh -c "[ $status -eq 0 ] && [ -z \"\$(find '$scratch/stage' ! -type d)\" ] && [ ! -d '$scratch/stage/opt/it/lib/svemu' ]"
+    holds "make uninstall leaves nothing" sh -c "[ $status -eq 0 ] && [ -z \"\$(find '$scratch/stage' ! -type d)\" ] && [ ! -d '$scratch/stage/opt/it/lib/svemu' ] &&
+        [ ! -d '$scratch/stage/opt/it/share/svemu' ]"
 }
