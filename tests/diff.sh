@@ -72,6 +72,10 @@ drawn_call() {
     holds "by both lengths" sh -c 'grep -q "st1w {z0.s}" "$1" && [ "$(wc -c <"$1")" -lt 3000000 ]' sh "$scratch/output"
     run "$top/tools/svemu-lanes" --in last_step --call 99 --vl 128 "$scratch/parting/last_step.elf"
     ended_like "a call that there isn't" 2 'svemu-lanes: .*last_step.*'
+    run "$top/tools/svemu-lanes" --from last_step+0x4 --steps 3 "$scratch/parting/last_step.elf"
+    holds "a place behind a label" sh -c '[ "$1" -eq 0 ] && grep -q "last_step+0x4" "$2"' sh "$status" "$scratch/output"
+    run "$top/tools/svemu-lanes" --from nosuch+0x4 "$scratch/parting/last_step.elf"
+    ended "no such label behind it" 2 '' 'svemu-lanes: no symbol is named nosuch\n'
     run "$top/tools/svemu-lanes" --in nosuch "$scratch/parting/last_step.elf"
     ended_like "a function that there isn't" 2 'svemu-lanes: .*nosuch.*'
     run "$top/tools/svemu-lanes" --in last_step --beside 192 "$scratch/parting/last_step.elf"

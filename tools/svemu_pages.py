@@ -253,6 +253,9 @@ class Symbols:
         for address, other in (*self.places, *((address, known[0]) for address, known in self.objects.items())):
             if other == name:
                 return address
+        base, _, offset = name.rpartition("+")
+        if base and re.fullmatch("0x[0-9a-f]+|[0-9]+", offset):
+            return self.address(base) + int(offset, 16 if "x" in offset else 10)
         raise Failure(f"no symbol is named {name}" if self.places else
                       f"{name} is no number, the file has no symbols, and --symbols names no output of nm")
 
