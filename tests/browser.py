@@ -11,7 +11,7 @@ import subprocess
 import sys
 import tempfile
 
-KEYS = {"ArrowRight": 39, "ArrowLeft": 37, "ArrowDown": 40, "ArrowUp": 38, "Home": 36, "End": 35, "PageDown": 34, "l": 76}
+KEYS = {"ArrowRight": 39, "ArrowLeft": 37, "ArrowDown": 40, "ArrowUp": 38, "Home": 36, "End": 35, "PageDown": 34, "PageUp": 33, "l": 76}
 
 
 def find_chromium():
@@ -82,6 +82,22 @@ class Browser:
     def press(self, key):
         for kind in ("rawKeyDown", "keyUp"):
             self.call("Input.dispatchKeyEvent", type=kind, key=key, code=key, windowsVirtualKeyCode=KEYS[key])
+
+    def settle(self):
+        """Waits until what comes near the window is drawn."""
+        self.call("Runtime.evaluate", expression="new Promise(done => requestAnimationFrame(() => setTimeout(done, 200)))", awaitPromise=True)
+
+    def hidden(self, selector, bar):
+        """What of an element isn't in the window below a bar at its top: nothing, or where it stands. An element that the window is too
+        low for begins below the bar."""
+        self.settle()
+        top, bottom, bar, room = self.value(f"""(() => {{
+          const box = document.querySelector({json.dumps(selector)}).getBoundingClientRect();
+          const bar = document.querySelector({json.dumps(bar)}).getBoundingClientRect();
+          return [box.top, box.bottom, bar.bottom, innerHeight];
+        }})()""")
+        seen = top >= bar - 1 and (bottom <= room + 1 or bottom - top > room - bar - 16 and top <= bar + 16)
+        return "" if seen else f"{selector} stands from {top:.0f} to {bottom:.0f} in a window from {bar:.0f} to {room}"
 
     def value(self, expression):
         return self.call("Runtime.evaluate", expression=expression, returnByValue=True)["result"].get("value")

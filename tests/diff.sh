@@ -4,16 +4,19 @@
 # (tests/fixed), and over programs whose calls, output or ending alone part; tools.sh reads it.
 
 diff_tool=$top/tools/svemu-diff
+lanes=$top/tools/svemu-lanes
 
 # Runs its words with an interrupt that ends them, also where a shell in the background ignores it.
 interruptible='import os, signal, sys
 signal.signal(signal.SIGINT, signal.SIG_DFL)
 os.execvp(sys.argv[1], sys.argv[1:])'
 
-# Builds the C programs of a folder with their symbols, their lines and all their calls.
+# Builds the C programs of a folder by a compiler, with their symbols, their lines and all their calls.
 with_symbols() {
+    apart=-fno-inline
+    [ "$2" = clang ] || apart="-fno-inline -fno-ipa-cp"
     # shellcheck disable=SC2046 # words
-    make -s -C "$1" CFLAGS="-O2 -g -fno-inline -fno-ipa-cp -Wno-address" \
+    make -s -C "$1" CC="$2" CFLAGS="-O2 -g $apart -Wno-address" \
         SMALL="-ffunction-sections -Wl,--gc-sections -Wl,--build-id=none -Wl,-z,max-page-size=4096" \
         $(cd "$1" && for source in *.c; do echo "${source%.c}.elf"; done)
 }
@@ -21,7 +24,12 @@ with_symbols() {
 where_lengths_part() {
     ! lacks "where two lengths part" python3 || return 0
     diff_refusals
-    ! lacks "where two lengths part" aarch64-linux-gnu-gcc || return 0
+    # By gcc, or where it isn't there by clang.
+    compiler=aarch64-linux-gnu-gcc
+    if ! command -v "$compiler" >/dev/null && command -v clang >/dev/null && command -v ld.lld >/dev/null; then
+        compiler=clang
+    fi
+    [ "$compiler" = clang ] || ! lacks "where two lengths part" "$compiler" || return 0
     if ! "$SVEMU" sweep "$probe" --budget 10 <"$input" >/dev/null 2>&1; then
         skip "where two lengths part" "this svemu has no sweep"
         return
@@ -30,7 +38,7 @@ where_lengths_part() {
     mkdir "$scratch/parting"
     cp examples/Makefile examples/start.S examples/guest.h examples/lost_sums.c tests/fixed/kernel_test.h tests/fixed/*.c \
         tests/planted/*.c "$scratch/parting"
-    holds "programs with symbols" with_symbols "$scratch/parting"
+    holds "programs with symbols by $compiler" with_symbols "$scratch/parting" "$compiler"
     grep -v '^#' tests/fixed/parts.txt >"$scratch/parts"
     holds "each planted bug has its line of svemu-diff" sh -c \
         '[ "$(ls tests/planted/*.c | wc -l)" -eq "$(wc -l <"$1")" ]' sh "$scratch/parts"
@@ -88,6 +96,8 @@ sum_that_parts() {
     holds "lost sums: the call" grep -Eqx '256 and 512 bits part in call 1 of sum \(of main\+0x[0-9a-f]+\)' "$scratch/output"
     holds "lost sums: the answers" grep -qx 'it answers 000000000007a314 in x0 at 256, 000000000003d95c at 512 bits' "$scratch/output"
     holds "lost sums: its step" grep -Eqx 'at 512 bits it was written in step [0-9]+, .* at sum\+0x[0-9a-f]+ \(lost_sums.c:[0-9]+\)' "$scratch/output"
+    holds "lost sums: the page" grep -qx 'svemu-lanes --in sum --call 1 --vl 256 --beside 512 draws it' "$scratch/output"
+    call_beside_another
     run "$diff_tool" --vl 256 --beside 512 --in put_number "$scratch/parting/lost_sums.elf"
     holds "lost sums without the sum's call" [ "$status" -eq 1 ]
     holds "lost sums by the output" grep -qx '256 and 512 bits part at byte 4 of what they write, and in nothing else that is compared' "$scratch/output"
@@ -97,13 +107,43 @@ sum_that_parts() {
     ended "no such function" 2 '' 'svemu-diff: no function is named nosuch\n'
 }
 
+# The page that svemu-diff names: its rows are the steps of the call at either length, and steps in one row stand at one
+# address.
+call_beside_another() {
+    run "$lanes" --in sum --call 1 --vl 256 --beside 512 "$scratch/parting/lost_sums.elf"
+    holds "the page of a call at two lengths" [ "$status" -eq 0 ]
+    cp "$scratch/output" "$scratch/page.html"
+    holds "its rows" python3 -c 'import json, re, sys
+data = json.loads(re.search("id=\"data\">(.*)</script>", open(sys.argv[1]).read())[1])
+left, right = (side["rows"] for side in data["sides"])
+assert [side["vl"] for side in data["sides"]] == [256, 512]
+for k, rows in enumerate((left, right)):
+    assert [pair[k] for pair in data["pairs"] if pair[k] is not None] == list(range(len(rows)))
+    assert [row["n"] for row in rows] == list(range(rows[0]["n"], rows[0]["n"] + len(rows)))
+    assert rows[0]["at"] == "sum" and rows[-1]["text"].startswith("ret")
+both = [(left[i], right[j]) for i, j in data["pairs"] if i is not None and j is not None]
+assert all(one["pc"] == other["pc"] for one, other in both)
+# Of 125 turns and of 63 all but those that the longer vector has no need of stand side by side.
+assert len(both) == len(right) < len(left), (len(both), len(left), len(right))' "$scratch/page.html"
+    lacks "the page of a call in Chromium" chromium ||
+        holds "the page of a call in Chromium" timeout 120 python3 tests/pages.py --rows "$scratch/page.html"
+    run "$lanes" --in sum --call 1 --vl 512 "$scratch/parting/lost_sums.elf"
+    holds "the page of a call" sh -c '[ "$1" -eq 0 ] && grep -q "call 1 of sum, step" "$2"' sh "$status" "$scratch/output"
+    run "$lanes" --in sum --call 2 "$scratch/parting/lost_sums.elf"
+    ended "no such call" 2 '' 'svemu-lanes: at 512 bits sum is called 1 time, so there is no call 2\n'
+    run "$lanes" --in sum --after 100000 "$scratch/parting/lost_sums.elf"
+    holds "a call that ends before" sh -c '[ "$1" -eq 2 ] && grep -Eqx "svemu-lanes: the call has [0-9]+ steps, and --after leaves none of them" "$2"' \
+        sh "$status" "$scratch/errors"
+}
+
 # What each of the functions of tests/fixed/parting.c does, by the argument.
 calls_that_part() {
     parting=$scratch/parting/parting.elf
     run "$diff_tool" --vl 128 --beside 256 "$parting" calls
     holds "other calls" sh -c '[ "$1" -eq 1 ] && head -n 1 "$2" | grep -Eqx "$3"' sh "$status" "$scratch/output" \
         '128 and 256 bits part in what they call after the return of call 1 of once \(of main\+0x[0-9a-f]+\); memory is the same there'
-    holds "the call of one" grep -Eqx 'at 128 bits main\+0x[0-9a-f]+ \(parting.c:[0-9]+\) calls once in step [0-9]+' "$scratch/output"
+    # clang says no line of a call that two branches share.
+    holds "the call of one" grep -Eqx 'at 128 bits main\+0x[0-9a-f]+( \(parting.c:[0-9]+\))? calls once in step [0-9]+' "$scratch/output"
     holds "the call of the other" grep -Eqx 'at 256 bits main\+0x[0-9a-f]+ \(parting.c:[0-9]+\) calls twice in step [0-9]+' "$scratch/output"
     run "$diff_tool" --vl 128 --beside 256 "$parting" output
     holds "the output alone" sh -c '[ "$1" -eq 1 ] && head -n 1 "$2" | grep -qx "$3"' sh "$status" "$scratch/output" \

@@ -1,6 +1,7 @@
 """Opens a page of svemu-lanes in a browser, presses the right arrow three times, and compares each time what the page then holds of the step with what
 `svemu dbg` and `svemu dis` show.
 
+python3 pages.py --rows PAGE looks at a page of two lengths.
 python3 pages.py PAGE PROGRAM LENGTH TEXT TEXT TEXT: the texts are those of the three steps. The program is that which SVEMU names.
 """
 
@@ -63,6 +64,25 @@ def check(held, program, vl, text):
     assert held["title"] == f"{base} at {vl} bits, step {held['step']}: {text}", f"the title is {held['title']}"
 
 
+def stays_in_view(browser, keys):
+    """Whether the current row is seen behind each key, and wherever the slider is put."""
+    for key in keys:
+        browser.press(key)
+        hidden = browser.hidden("[aria-current=step]", "header")
+        assert not hidden, f"behind {key} {hidden}"
+    for part in (0.5, 1, 0.25, 0):
+        browser.value(f"""(() => {{
+          const slider = document.querySelector("input[type=range]");
+          slider.value = Math.round(slider.max * {part});
+          slider.dispatchEvent(new Event("input"));
+        }})()""")
+        hidden = browser.hidden("[aria-current=step]", "header")
+        assert not hidden, f"with the slider at {part} {hidden}"
+
+
+WALK = ("PageDown", "PageDown", "ArrowDown", "ArrowDown", "PageUp", "ArrowUp", "End", "ArrowUp", "PageUp", "Home", "End", "Home")
+
+
 def main(page, program, vl, *texts):
     browser = Browser()
     try:
@@ -85,13 +105,33 @@ def main(page, program, vl, *texts):
         assert browser.value(HELD)["step"] == first, "the keys don't lead back"
         browser.press("End")
         assert browser.value("document.querySelector('main').lastElementChild.matches('[aria-current]')"), "End doesn't lead to the last step"
+        browser.press("Home")
+        stays_in_view(browser, WALK)
         assert not browser.errors, browser.errors
     finally:
         browser.close()
 
 
+def rows(page):
+    """A page of two lengths: its current row is seen behind each key, and nothing is wider than the window."""
+    for width, dark in ((1280, False), (800, True)):
+        browser = Browser(width, 900, dark)
+        try:
+            browser.open(page)
+            stays_in_view(browser, WALK)
+            assert browser.value("document.querySelectorAll('.row:first-child .side').length") == 2, "a row has no two sides"
+            wide = browser.value("document.documentElement.scrollWidth - innerWidth")
+            assert wide <= 0, f"the page is {wide} too wide for {width}"
+            assert not browser.errors, browser.errors
+        finally:
+            browser.close()
+
+
 if __name__ == "__main__":
     try:
-        main(*sys.argv[1:])
+        if sys.argv[1] == "--rows":
+            rows(sys.argv[2])
+        else:
+            main(*sys.argv[1:])
     except (AssertionError, OSError) as error:
         sys.exit(str(error))

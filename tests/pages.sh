@@ -188,6 +188,12 @@ page_refusals() {
     refused "an unknown label" "no symbol is named nosuch" --symbols examples/strlen.symbols --from nosuch examples/strlen.elf
     refused "no symbols" ".*/empty has no line of nm that names code" --symbols "$scratch/empty" "$probe"
     refused "too many steps" "--steps wants a number from 1 to 5000, not 5001" --steps 5001 "$probe"
+    refused "a call of nothing" "--call wants --in SYMBOL beside it" --call 2 "$probe"
+    refused "a length beside nothing" "--beside wants --in SYMBOL beside it" --beside 256 "$probe"
+    refused "a call from a place" "--in and --from aren't given together" --in main --from 0x400000 "$probe"
+    refused "no length beside" "--beside wants a multiple of 128 from 128 to 2048, not 200" --in main --beside 200 "$probe"
+    refused "a length beside itself" "--vl and --beside are both 256" --in main --vl 256 --beside 256 "$probe"
+    refused "a call of a stripped program" ".* has no symbols of functions: build it without -s, and don't strip it" --in main examples/lost_sums.elf
     refused "a place that isn't reached" "the program ends before: exit 0 after 97 steps" --vl 128 --from 0x400000 examples/strlen.elf
     refused "a bad watch" "--watch wants a place and a number of bytes with a comma between, not 4" --watch 4 "$probe"
     refused "no such file" ".*/nosuch couldn't be read" "$scratch/nosuch"

@@ -116,10 +116,6 @@ def options(words, known, usage):
     return given, words[0], words[1:]
 
 
-# The most steps of a call that is drawn beside another.
-CALL_STEPS = 20000
-
-
 def number(name, text, least, most):
     """The number that a text is, in decimal or behind 0x."""
     if not re.fullmatch(r"[0-9]+|0[xX][0-9a-fA-F]+", text) or not least <= int(text, 16 if "x" in text.lower() else 10) <= most:
