@@ -42,7 +42,7 @@ macro_rules! indexed {
     };
 }
 
-/// `[Xn|SP, Rm, ext #a]`, where the amount is always the same; it is given twice.
+/// `[Xn|SP, Rm, ext #a]`, where the amount is always the same.
 macro_rules! scaled {
     ($name:ident, $base:literal, $t:ident, $m:ident, $extend:ident, $amount:ident) => {
         pattern!($name, $base, [$t, COMMA, OPEN, XN_SP, COMMA, $m, COMMA, $extend, $amount, CLOSE])

@@ -177,7 +177,7 @@ imm4_plus_1 = counted (coded (Scaled 1 1) (At (19 to 16)))
 
 -- {, all, mul #1}
 abbrev pub by_named_pattern : List Slot
-by_named_pattern = perhaps ∷ inside 31 named_pattern ∷ inside 0 then ∷ inside 0 (one Times) ∷ inside 2 imm4_plus_1 ∷ []
+by_named_pattern = perhaps ∷ inside 31 named_pattern ∷ inside 0 then ∷ inside 0 (one Times) ∷ inside 1 imm4_plus_1 ∷ []
 
 -- the same of a pattern that has no name
 abbrev pub by_pattern_number : List Slot

@@ -1,5 +1,5 @@
 -- Two tables whose patterns of one name begin with operands of different classes read no statement both.
-use Rattle.std.proofs.Common.{◌≡◌, ℕ, ◌+◌, ◌≤◌, ◌&&◌, ◌||◌, if◌then◌else◌, Bool, true, false, not, Result, Ok, Err, List, [], ◌∷◌, ◌++◌, length, refl, sym, ap, ◌∙◌, arith, inl, inr}
+use Rattle.std.proofs.Common.{◌≡◌, ℕ, ◌+◌, ◌≤◌, ◌&&◌, ◌||◌, if◌then◌else◌, Bool, true, false, not, Result, Ok, Err, List, [], ◌∷◌, ◌++◌, length, refl, sym, ap, ◌∙◌, arith, inl, inr, pos}
 use Rattle.std.proofs.lemmas.Bool.{cases_Bool, and_parts, or_cases, not-true, eqb-true, false≢true, true≢false}
 use Rattle.text_model.specs.declared.classes.Class.TheVariants.{Number}
 use Rattle.text_model.specs.declared.slots.Need.{Need}
@@ -87,7 +87,7 @@ first_read in_table p s ss is w r e m h =
 first_untargeted : (label : Bool) (is : List Item) (cs : List ℕ) → is_in (class_number Number) cs ≡ false → first_is_in (untargeted label is) cs ≡ true → first_is_in is cs ≡ true
 first_untargeted label [] cs n h = h
 first_untargeted label (i ∷ []) cs n h =
-    let f = λ (b : Bool). first_is_in ((if b then item Number 0 else i) ∷ []) cs in
+    let f = λ (b : Bool). first_is_in ((if b then item Number (pos 0) else i) ∷ []) cs in
     elim (cases_Bool (label || is_address i)) [
       | inl e ↦ absurd (false≢true (sym n ∙ (sym (ap f e) ∙ h)))
       | inr e ↦ sym (ap f e) ∙ h

@@ -11,7 +11,7 @@ use Rattle.std.specs.Char.{is_ascii_digit, digit_value, to_ascii_lowercase}
 use Rattle.text_model.specs.declared.classes.Class.TheVariants.{Unknown}
 use Rattle.text_model.specs.declared.slots.Item.{Item}
 use Rattle.text_model.specs.Words as words
-use Rattle.text_model.specs.Words.{item, families, dictionary, Numbered, two_or_one, numbered, register_in, register_by, register, word_in, register_or_word, classed}
+use Rattle.text_model.specs.Words.{word_item, families, dictionary, Numbered, two_or_one, numbered, register_in, register_by, register, word_in, register_or_word, classed}
 use Rattle.text_model.specs.Statement.{lowered}
 use Rattle.text_code.specs.declared.dictionary.Word.{Word}
 use Rattle.text_code.specs.Tables.{words_of}
@@ -19,19 +19,19 @@ use Rattle.text_code.proofs.Search.{find_by, order, are_ascending, searched}
 
 -- ---- words
 
-abbrev pub word_item : Option Word → Item
-word_item None = item Unknown 0
-word_item (Some w) = item w.class w.value
+abbrev pub found_item : Option Word → Item
+found_item None = word_item Unknown 0
+found_item (Some w) = word_item w.class w.value
 
 abbrev text : Word → List ℕ
 text w = w.text.now
 
-same_word : (ws : List Word) (t : List ℕ) → word_in (words_of ws) t ≡ word_item (find_by text ws t)
+same_word : (ws : List Word) (t : List ℕ) → word_in (words_of ws) t ≡ found_item (find_by text ws t)
 same_word [] t = refl
 same_word (w ∷ ws) t = elim (cases_Bool (bytes_eq t (text w))) [
-  | inl e ↦ ap (λ (b : Bool). if b then item w.class w.value else word_in (words_of ws) t) e ∙ ap (λ (b : Bool). word_item (if b then Some w else find_by text ws t)) (sym e)
-  | inr e ↦ ap (λ (b : Bool). if b then item w.class w.value else word_in (words_of ws) t) e ∙ same_word ws t
-      ∙ ap (λ (b : Bool). word_item (if b then Some w else find_by text ws t)) (sym e)
+  | inl e ↦ ap (λ (b : Bool). if b then word_item w.class w.value else word_in (words_of ws) t) e ∙ ap (λ (b : Bool). found_item (if b then Some w else find_by text ws t)) (sym e)
+  | inr e ↦ ap (λ (b : Bool). if b then word_item w.class w.value else word_in (words_of ws) t) e ∙ same_word ws t
+      ∙ ap (λ (b : Bool). found_item (if b then Some w else find_by text ws t)) (sym e)
 ]
 
 ascending : are_ascending (λ (w : words.Word). w.text) dictionary ≡ true
@@ -46,13 +46,13 @@ same_ascending (w ∷ v ∷ vs) = ap (λ (b : Bool). is_lt (order (text w) (text
 -- What a binary search among the dictionary's words answers.
 pub looked_up : (ws : List Word) (t : List ℕ) (r : Result ℕ ℕ) → words_of ws ≡ dictionary → IsSearchInRange r (length ws)
     → IsBinarySearchResult (λ (w : Word). slice_cmp nat_cmp w.text.now t) ws r
-    → MatchResult r (λ i. (d : Word) → word_in dictionary t ≡ item (get_or ws i d).class (get_or ws i d).value) (λ i. word_in dictionary t ≡ item Unknown 0)
+    → MatchResult r (λ i. (d : Word) → word_in dictionary t ≡ word_item (get_or ws i d).class (get_or ws i d).value) (λ i. word_in dictionary t ≡ word_item Unknown 0)
 looked_up ws t (Ok i) e l s =
     let f = searched text ws t (Ok i) (same_ascending ws ∙ ap (are_ascending (λ (w : words.Word). w.text)) e ∙ ascending) l s in
-    λ (d : Word). ap (λ (v : List words.Word). word_in v t) (sym e) ∙ same_word ws t ∙ ap word_item (f d)
+    λ (d : Word). ap (λ (v : List words.Word). word_in v t) (sym e) ∙ same_word ws t ∙ ap found_item (f d)
 looked_up ws t (Err i) e l s =
     let f = searched text ws t (Err i) (same_ascending ws ∙ ap (are_ascending (λ (w : words.Word). w.text)) e ∙ ascending) l s in
-    ap (λ (v : List words.Word). word_in v t) (sym e) ∙ same_word ws t ∙ ap word_item f
+    ap (λ (v : List words.Word). word_in v t) (sym e) ∙ same_word ws t ∙ ap found_item f
 
 -- ---- long tokens
 
@@ -73,13 +73,13 @@ short_words : are_short dictionary ≡ true
 unfolding dictionary are_short
 short_words = refl
 
-no_word : (ws : List words.Word) (t : List ℕ) → are_short ws ≡ true → 12 < length t → word_in ws t ≡ item Unknown 0
+no_word : (ws : List words.Word) (t : List ℕ) → are_short ws ≡ true → 12 < length t → word_in ws t ≡ word_item Unknown 0
 unfolding are_short
 no_word [] t h l = refl
 no_word (w ∷ ws) t h l =
     let h2 = and_parts (nat_le (length w.text) 12) (are_short ws) h in
     let k : length w.text ≤ 12 = leb-true _ _ h2.0 in
-    ap (λ (b : Bool). if b then item w.class w.value else word_in ws t) (too_long t w.text (omega arith)) ∙ no_word ws t h2.1 l
+    ap (λ (b : Bool). if b then word_item w.class w.value else word_in ws t) (too_long t w.text (omega arith)) ∙ no_word ws t h2.1 l
 
 short_suffixes : List words.Family → Bool
 short_suffixes [] = true
@@ -95,7 +95,7 @@ no_register [] l n h k = refl
 no_register (f ∷ fs) l n h k =
     let h2 = and_parts (nat_le (length f.suffix) 4) (short_suffixes fs) h in
     let m : length f.suffix ≤ 4 = leb-true _ _ h2.0 in
-    ap (λ (b : Bool). if b then Some (item f.class n.value) else register_in fs l n)
+    ap (λ (b : Bool). if b then Some (word_item f.class n.value) else register_in fs l n)
     (and_right (l == f.letter) _ (and_left _ (nat_lt n.value f.count) (too_long n.rest f.suffix (omega arith))))
     ∙ no_register fs l n h2.1 k
 
@@ -121,7 +121,7 @@ no_register_token (l ∷ c ∷ []) h = absurd (omega arith)
 no_register_token (l ∷ c ∷ d ∷ cs) h = no_numbered l c d cs (omega arith)
 
 -- A token of more than 12 bytes is no word.
-pub long_token : (t : List ℕ) → 12 < length t → classed (lowered t) ≡ item Unknown 0
+pub long_token : (t : List ℕ) → 12 < length t → classed (lowered t) ≡ word_item Unknown 0
 long_token t h =
     let e : length (lowered t) ≡ length t = length-map t to_ascii_lowercase in
     let l : 12 < length (lowered t) = omega (arith, e, h) in

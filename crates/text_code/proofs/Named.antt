@@ -1,5 +1,5 @@
 -- Reading by all patterns of a table is reading by those of the name.
-use Rattle.std.proofs.Common.{◌≡◌, ℕ, ◌+◌, ◌<◌, ◌≤◌, ◌==◌, ◌&&◌, if◌then◌else◌, Bool, true, false, Result, Ok, Err, List, [], ◌∷◌, length, refl, sym, ap, ap₂, ◌∙◌, arith, inl, inr, length-append}
+use Rattle.std.proofs.Common.{◌≡◌, ℕ, ◌+◌, ◌<◌, ◌≤◌, int_eq, ◌&&◌, if◌then◌else◌, Bool, true, false, Result, Ok, Err, List, [], ◌∷◌, length, refl, sym, ap, ap₂, ◌∙◌, arith, inl, inr, length-append}
 use Rattle.std.proofs.lemmas.Bool.{cases_Bool, and_parts, and_right, false≢true, leb-true}
 use Rattle.text_model.specs.declared.slots.Slot.{Slot}
 use Rattle.text_model.specs.declared.slots.Item.{Item}
@@ -112,7 +112,7 @@ same_shown [] (i ∷ is) w h = absurd (false≢true h)
 same_shown (s ∷ ss) [] w h = absurd (false≢true h)
 same_shown (s ∷ ss) (i ∷ is) w h =
     let h2 = and_parts _ (same_classes (items_in ss w) is) h in
-    let a : Bool = value_in s.codec w == i.value in
+    let a : Bool = int_eq (value_in s.codec w) i.value in
     let b : Bool = fits s w in
     let c : Bool = is_canonical s.codec.kind (joined (places s.codec.parts) w) in
     let x : Bool = same_values (items_in ss w) is in

@@ -1,7 +1,7 @@
 -- The item that a statement goes on with, and what is left behind it.
-use Rattle.std.proofs.Common.{◌≡◌, ℕ, zero, suc, ◌+◌, ◌-◌, ◌*◌, ◌^◌, ◌<◌, ◌≤◌, ◌==◌, ◌&&◌, if◌then◌else◌, Bool, true, false, not, Option, Some, None, List, [], ◌∷◌, drop, slice_range, min, refl, sym, ap, ap₂, ◌∙◌, arith, inl, inr, ℤ, pos}
-use Rattle.std.proofs.lemmas.Bool.{cases_Bool, ne_eqb}
-use Rattle.std.specs.Prelude.{option_map, neg_ℤ}
+use Rattle.std.proofs.Common.{◌≡◌, ℕ, zero, suc, ◌+◌, ◌-◌, ◌<◌, ◌≤◌, if◌then◌else◌, Bool, Option, Some, None, List, [], ◌∷◌, drop, slice_range, refl, sym, ap, ap₂, ◌∙◌, arith, inl, inr, ℤ}
+use Rattle.std.proofs.lemmas.Bool.{cases_Bool}
+use Rattle.std.specs.Prelude.{option_map}
 use Rattle.asm_tokens.specs.Layout.{is_sign, hash}
 use Rattle.asm_tokens.specs.Numbers as numbers
 use Rattle.asm_tokens.specs.Places.{IsToken, AreTokens, IsNumber}
@@ -9,30 +9,7 @@ use Rattle.asm_tokens.specs.Tokens.{tokens}
 use Rattle.text_model.specs.declared.classes.Class.TheVariants.{Number}
 use Rattle.text_model.specs.declared.slots.Item.{Item}
 use Rattle.text_model.specs.Words.{item, classed}
-use Rattle.text_model.specs.Statement.{lowered, number_value, item_by, more_tokens, items_behind}
-use Rattle.text_code.specs.Places.{signed_value}
-
--- ---- values
-
-negated : (m : ℕ) → signed_value (neg_ℤ (pos m)) ≡ (if not (m == 0) then 2 * m + 1 else 2 * m)
-negated zero = refl
-negated (suc m) = let e : (suc m == 0) ≡ false = ne_eqb (suc m) 0 (λ k. omega arith) in omega arith ∙ ap (λ (b : Bool). if not b then 2 * suc m + 1 else 2 * suc m) (sym e)
-
-value_by : (b : Bool) (m : ℕ) → signed_value (if b then neg_ℤ (pos m) else pos m) ≡ (if b && not (m == 0) then 2 * m + 1 else 2 * m)
-value_by true m = negated m
-value_by false m = refl
-
-pub same_value : (n : numbers.Number) → signed_value (numbers.value n) ≡ number_value n
-same_value n = value_by n.is_negative (min n.magnitude (2 ^ 127 - 1))
-
-small_by : (b : Bool) (m : ℕ) → m < 2 ^ 127 → signed_value (if b then neg_ℤ (pos m) else pos m) < 2 ^ 128
-small_by true zero h = omega arith
-small_by true (suc m) h = omega arith
-small_by false m h = omega arith
-
--- an item's value fits 128 bits
-pub small_value : (n : numbers.Number) → signed_value (numbers.value n) < 2 ^ 128
-small_value n = small_by n.is_negative (min n.magnitude (2 ^ 127 - 1)) (omega arith)
+use Rattle.text_model.specs.Statement.{lowered, item_by, more_tokens, items_behind}
 
 -- ---- how many tokens write a number
 
@@ -94,16 +71,15 @@ behind_number text at first past to (suc k) l t n =
 
 -- a number is next
 pub number_next : (text : List ℕ) (at first past : ℕ) (x : ℤ) (to : ℕ) → IsToken text at first past → IsNumber (numbers.number_of (tokens (drop at text))) text at x to
-    → items_behind 0 (tokens (drop at text)) ≡ item Number (signed_value x) ∷ items_behind 0 (tokens (drop to text))
+    → items_behind 0 (tokens (drop at text)) ≡ item Number x ∷ items_behind 0 (tokens (drop to text))
 number_next text at first past x to t n =
     let ts : List (List ℕ) = tokens (drop past text) in
     let s : List ℕ = slice_range text first past in
     let o : numbers.number_of (s ∷ ts) ≡ Some n.number = ap numbers.number_of (sym t.is) ∙ n.is in
     let c : 0 < n.number.count = some_tokens (tokens (drop at text)) n.number n.is in
-    let v : signed_value x ≡ number_value n.number = ap signed_value n.value_is ∙ same_value n.number in
     ap (items_behind 0) t.is
     ∙ ap (λ (q : Option numbers.Number). item_by q s ∷ items_behind (more_tokens q) ts) o
-    ∙ ap₂ (λ (a : Item) (is : List Item). a ∷ is) (ap (λ (y : ℕ). item Number y) (sym v)) (behind_number text at first past to n.number.count c t n.behind)
+    ∙ ap₂ (λ (a : Item) (is : List Item). a ∷ is) (ap (λ (y : ℤ). item Number y) (sym n.value_is)) (behind_number text at first past to n.number.count c t n.behind)
 
 pub number_behind : (text : List ℕ) (at to count : ℕ) → 0 < count → AreTokens count text at to → at < to
 number_behind text at to zero l n = absurd (omega arith)

@@ -1,5 +1,5 @@
 -- What the code reads at the spots of a name is what all patterns of a table read.
-use Rattle.std.proofs.Common.{◌≡◌, ℕ, zero, suc, ◌-◌, ◌/◌, ◌%◌, ◌^◌, ◌<◌, ◌&&◌, if◌then◌else◌, Bool, true, false, Option, Some, None, MatchOption, Result, Ok, Err, List, [], ◌∷◌, length, get_or, nat_lt, refl, sym, ap, ap₂, ◌∙◌, subst, arith}
+use Rattle.std.proofs.Common.{◌≡◌, ℕ, zero, suc, ◌-◌, ◌%◌, ◌^◌, ◌<◌, unsigned_abs, ◌&&◌, if◌then◌else◌, Bool, true, false, Option, Some, None, MatchOption, Result, Ok, Err, List, [], ◌∷◌, length, get_or, nat_lt, refl, sym, ap, ap₂, ◌∙◌, subst, arith}
 use Rattle.std.proofs.lemmas.Bool.{and_parts, and_from, ltb-true}
 use Rattle.std.specs.List.{slice_get}
 use Rattle.std.specs.Prelude.{slice_range, is_some}
@@ -137,12 +137,12 @@ to_last_label text t None l = ap (λ (q : Option (List ℕ)). destination q None
 to_last_label text t (Some i) l =
     let s : List ℕ = slice_range text t.from t.to in
     let b : is_label s ≡ true = sym (ap is_label_at l.is) ∙ l.ends in
-    ap (λ (q : Option (List ℕ)). destination q (Some i)) l.is ∙ ap (λ (c : Bool). Some (if c then to_label s else to_address (i.value / 2 % 2 ^ 64))) b
+    ap (λ (q : Option (List ℕ)). destination q (Some i)) l.is ∙ ap (λ (c : Bool). Some (if c then to_label s else to_address (unsigned_abs i.value % 2 ^ 64))) b
 
 to_last_item : (text : List ℕ) (x : Option (List ℕ)) (o : Option Item) → is_label_at x ≡ false → (x ≡ None → o ≡ None) → destination x o ≡ aim_of text (aim_at None o)
 to_last_item text None o h k = ap (λ (q : Option Item). aim_of text (aim_at None q)) (sym (k refl))
 to_last_item text (Some s) None h k = refl
-to_last_item text (Some s) (Some i) h k = ap (λ (c : Bool). Some (if c then to_label s else to_address (i.value / 2 % 2 ^ 64))) h
+to_last_item text (Some s) (Some i) h k = ap (λ (c : Bool). Some (if c then to_label s else to_address (unsigned_abs i.value % 2 ^ 64))) h
 
 goes : (text : List ℕ) (label : Option Token) → MatchOption label (ends_in_label (tokens text) ≡ false) (λ t. IsLastLabel text t.from t.to)
     → last_target (tokens text) (items_of (tokens text)) ≡ aim_of text (aim_at label (last_of (items_of (tokens text))))

@@ -1,5 +1,6 @@
 -- What a pattern makes of items before the table is asked of the word. This is this project's own.
-use Rattle.std.specs.Prelude.{ℕ, ◌==◌, ◌&&◌, Bool, true, false, if◌then◌else◌, Result, Ok, Err, List, [], ◌∷◌}
+use Rattle.std.specs.Prelude.{ℕ, ℤ, ◌&&◌, Bool, true, false, if◌then◌else◌, Result, Ok, Err, List, [], ◌∷◌}
+use Rattle.std.specs.Ordering.{int_eq}
 use Rattle.text_model.specs.declared.slots.Slot.{Slot}
 use Rattle.text_model.specs.declared.slots.Item.{Item}
 use Rattle.text_model.specs.declared.slots.Refusal.{Refusal}
@@ -12,8 +13,9 @@ abbrev pub verdict : {A : Type 0} → Bool → Bool → A → Result A Refusal
 verdict shaped fine x = if shaped then (if fine then Ok x else Err OutOfRange) else Err BadOperands
 
 -- a value is what a slot shows of a word, as it may be shown
-abbrev pub is_shown : Slot → ℕ → ℕ → Bool
-is_shown s w x = value_in s.codec w == x && (fits s w && is_canonical s.codec.kind (joined (places s.codec.parts) w))
+abbrev pub is_shown : Slot → ℕ → ℤ → Bool
+is_shown s w x =
+    int_eq (value_in s.codec w) x && (fits s w && is_canonical s.codec.kind (joined (places s.codec.parts) w))
 
 abbrev pub are_shown : List Slot → List Item → ℕ → Bool
 are_shown [] is w = true

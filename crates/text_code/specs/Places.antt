@@ -1,5 +1,5 @@
--- Where the last token of a statement stands, and a number as an item's value. This is this project's own.
-use Rattle.std.specs.Prelude.{◌≡◌, ℕ, ◌+◌, ◌*◌, ◌≤◌, ◌&&◌, ◌||◌, if◌then◌else◌, Bool, true, Some, List, slice_range, ℤ, pos, negsuc}
+-- Where the last token of a statement stands. This is this project's own.
+use Rattle.std.specs.Prelude.{◌≡◌, ℕ, ◌≤◌, ◌&&◌, ◌||◌, if◌then◌else◌, Bool, true, Some, List, slice_range, pos}
 use Rattle.std.specs.Str.{IsCharBoundary}
 use Rattle.asm_tokens.specs.Tokens.{tokens}
 use Rattle.text_model.specs.Statement.{last_of, ends_in_label, is_address}
@@ -15,11 +15,6 @@ pub record IsLastLabel (text : List ℕ) (first past : ℕ) : Type 0 where
   pub to_cut : IsCharBoundary text past
   pub order : first ≤ past
 
--- a number's value: twice its size, and one more where it is negative
-abbrev pub signed_value : ℤ → ℕ
-signed_value (pos n) = 2 * n
-signed_value (negsuc n) = 2 * (n + 1) + 1
-
 -- an item, or 0 in its place where it is the last one and a label or an address
 abbrev pub kept_or_zero : Bool → Bool → Item → Item
-kept_or_zero label is_last i = if is_last && (label || is_address i) then item Number 0 else i
+kept_or_zero label is_last i = if is_last && (label || is_address i) then item Number (pos 0) else i

@@ -1,6 +1,6 @@
 -- A table of patterns as the code reads by it: those of a name, and what they make of a statement. This is this
 -- project's own.
-use Rattle.std.specs.Prelude.{ℕ, ◌/◌, ◌%◌, ◌^◌, ◌≤◌, ◌&&◌, Bool, true, if◌then◌else◌, Option, Some, None, Result, Ok, Err, List, [], ◌∷◌, get_or, length, nat_lt, slice_range}
+use Rattle.std.specs.Prelude.{ℕ, ◌%◌, ◌^◌, unsigned_abs, ◌≤◌, ◌&&◌, Bool, true, if◌then◌else◌, Option, Some, None, Result, Ok, Err, List, [], ◌∷◌, get_or, length, nat_lt, slice_range}
 use Rattle.std.specs.Str.{IsCharBoundary}
 use Rattle.text_model.specs.declared.slots.Item.{Item}
 use Rattle.text_model.specs.declared.slots.Refusal.{Refusal}
@@ -69,7 +69,7 @@ aim_of text (Some (Address a)) = Some (to_address a)
 -- what a statement goes to, by the label that ends it, if one does, and its last item
 abbrev pub aim_at : Option Token → Option Item → Option Aim
 aim_at label None = None
-aim_at None (Some i) = Some (Address (i.value / 2 % 2 ^ 64))
+aim_at None (Some i) = Some (Address (unsigned_abs i.value % 2 ^ 64))
 aim_at (Some t) (Some i) = Some (Label t)
 
 -- what was found in a text, as the definitions say it

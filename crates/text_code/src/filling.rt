@@ -6,6 +6,7 @@ ghost use Rattle.text_code.specs.Sound.{is_sound_style, is_sound, are_sound};
 ghost use Rattle.text_code.specs.Filling.{first_of};
 
 use crate::groups::{class_in, same_class};
+use crate::kinds::natural;
 use arrayvec::ArrayVec;
 use text_model::{Class, Item, Need, Slot, Style};
 
@@ -32,7 +33,7 @@ fn left_out(slot: Slot) -> Item
     ensures { result ∷ [] ≡ item_for true slot [] }
 {
     let value = match slot.need {
-        Need::Inside(value) => u128::from(value),
+        Need::Inside(value) => i128::from(value),
         _ => 0,
     };
     Item {
@@ -48,9 +49,10 @@ fn raised(style: Style, item: Item) -> Item
 {
     match style {
         Style::Hexadecimal(width) => {
-            if item.value % 2 == 1 && item.value / 2 <= 1 << (width - 1) {
+            let size = item.value.unsigned_abs();
+            if item.value < 0 && size <= 1 << (width - 1) {
                 Item {
-                    value: 2 * ((1 << width) - item.value / 2),
+                    value: natural((1 << width) - size),
                     ..item
                 }
             } else {

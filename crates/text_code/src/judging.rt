@@ -48,7 +48,7 @@ fn word_told(base: u32, slots: &[Slot], items: &[Item]) -> u32
 }
 
 /// Whether an item's value is what a slot shows of a word, as it may be shown.
-fn is_shown(slot: Slot, word: u32, value: u128) -> bool
+fn is_shown(slot: Slot, word: u32, value: i128) -> bool
     requires { is_sound slot ≡ true }
     ensures { result ≡ is_shown slot word value }
 {
@@ -62,7 +62,7 @@ fn is_shown(slot: Slot, word: u32, value: u128) -> bool
 }
 
 /// Whether all is fine, and this value too is what a slot shows of a word.
-fn still_fine(fine: bool, slot: Slot, word: u32, value: u128) -> bool
+fn still_fine(fine: bool, slot: Slot, word: u32, value: i128) -> bool
     requires { is_sound slot ≡ true }
     ensures { result ≡ (fine && is_shown slot word value) }
 {

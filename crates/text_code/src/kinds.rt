@@ -1,9 +1,9 @@
 //! What slots show of a number, and the number that an item tells.
-ghost use Rattle.std.specs.Prelude.{◌≡◌, ◌+◌, ◌*◌, ◌/◌, ◌%◌, ◌<◌, ◌≤◌, ◌^◌, ◌||◌, ◌==◌, true, unwrap_or};
+ghost use Rattle.std.specs.Prelude.{◌≡◌, ◌<◌, ◌≤◌, ◌^◌, ◌||◌, ◌==◌, true, false, pos, neg_ℤ};
 ghost use Rattle.text_model.specs.declared.slots.Kind.TheVariants.{Signed, LeftShift, Bitmask};
 ghost use Rattle.text_model.specs.Masks.{bitmask_at, bitmask_fields as fields_of_bitmask};
 ghost use Rattle.text_model.specs.Slots.{shown, spread, inverse, can_show, is_named};
-ghost use Rattle.text_model.specs.Told.{told, gathered};
+ghost use Rattle.text_model.specs.Told.{told_of, told, gathered};
 ghost use Rattle.text_model.specs.Reading.{is_canonical};
 ghost use Rattle.text_code.specs.Sound.{is_sound_kind};
 
@@ -71,8 +71,24 @@ fn fields_at(width: u8, m: u128) -> u128
     }
 }
 
+/// A number that isn't negative.
+pub fn natural(n: u128) -> i128
+    requires { n < 2 ^ 127 }
+    ensures { result ≡ pos n }
+{
+    n as i128
+}
+
+/// The number of this size that isn't positive.
+fn minus(n: u128) -> i128
+    requires { n < 2 ^ 127 }
+    ensures { result ≡ neg_ℤ (pos n) }
+{
+    -(n as i128)
+}
+
 /// A signed number of some bits, times another.
-fn signed(bits: u32, v: u64, by: u16) -> u128
+fn signed(bits: u32, v: u64, by: u16) -> i128
     requires some { 0 < bits }
     requires narrow { bits ≤ 32 }
     requires small { v < 2 ^ bits }
@@ -80,15 +96,15 @@ fn signed(bits: u32, v: u64, by: u16) -> u128
 {
     let by = u128::from(by);
     if v < 1 << (bits - 1) {
-        2 * (by * u128::from(v))
+        natural(by * u128::from(v))
     } else {
-        2 * (by * u128::from((1 << bits) - v)) + 1
+        minus(by * u128::from((1 << bits) - v))
     }
 }
 
-/// What a slot shows of the number v, which has some bits: a word's value, or twice a number, and one more where it is
-/// negative.
-pub fn shown(kind: Kind, bits: u32, v: u64) -> u128
+/// What a slot shows of the number v, which has some bits: a number, or which one of its class a register or another
+/// word is.
+pub fn shown(kind: Kind, bits: u32, v: u64) -> i128
     requires sound { is_sound_kind kind bits ≡ true }
     requires narrow { bits ≤ 32 }
     requires small { v < 2 ^ bits }
@@ -96,65 +112,72 @@ pub fn shown(kind: Kind, bits: u32, v: u64) -> u128
 {
     let wide = u128::from(v);
     match kind {
-        Kind::Fixed(x) => u128::from(x),
-        Kind::Plain | Kind::NamedCount => wide,
-        Kind::Stack => if v == 31 { 32 } else { wide },
-        Kind::After(k) => (wide + u128::from(k)) % 32,
-        Kind::UnnamedCount => 2 * wide,
-        Kind::Scaled { by, from } => 2 * (u128::from(by) * (wide + u128::from(from))),
-        Kind::Falling => 2 * ((1 << bits) - wide),
+        Kind::Fixed(x) => natural(u128::from(x)),
+        Kind::Plain | Kind::NamedCount | Kind::UnnamedCount => natural(wide),
+        Kind::Stack => natural(if v == 31 { 32 } else { wide }),
+        Kind::After(k) => natural((wide + u128::from(k)) % 32),
+        Kind::Scaled { by, from } => natural(u128::from(by) * (wide + u128::from(from))),
+        Kind::Falling => natural((1 << bits) - wide),
         Kind::Signed(by) => signed(bits, v, by),
         Kind::Target { .. } => 0,
-        Kind::Bitmask(width) => 2 * u128::from(bitmask_at(width, v).unwrap_or(0)),
-        Kind::Spread => 2 * u128::from(spread(8, v)),
-        Kind::LeftShift(width) => 2 * (u128::from(width) - 1).saturating_sub(wide % 64),
-        Kind::Inverted => inverse(wide),
+        Kind::Bitmask(width) => natural(u128::from(bitmask_at(width, v).unwrap_or(0))),
+        Kind::Spread => natural(u128::from(spread(8, v))),
+        Kind::LeftShift(width) => natural((u128::from(width) - 1).saturating_sub(wide % 64)),
+        Kind::Inverted => natural(inverse(wide)),
     }
 }
 
 /// The number, of some bits, that is shown as a signed number times another.
-fn signed_told(bits: u32, by: u16, y: u128) -> u128
+fn signed_told(bits: u32, by: u16, negative: bool, size: u128) -> u128
     requires some { 0 < by }
     requires narrow { bits ≤ 32 }
-    ensures { result ≡ told (Signed by) bits y }
+    ensures { result ≡ told_of (Signed by) bits negative size }
 {
-    let size = y / 2 / u128::from(by);
-    if y % 2 == 0 {
-        size
+    let quotient = size / u128::from(by);
+    if negative {
+        (1u128 << bits).saturating_sub(quotient)
     } else {
-        (1u128 << bits).saturating_sub(size)
+        quotient
     }
 }
 
 /// The fields immr and imms of a left shift by an amount.
 fn left_shift_told(width: u8, amount: u128) -> u128
     requires { (width == 32 || width == 64) ≡ true }
-    ensures { result ≡ told (LeftShift width) 12 (2 * amount) }
+    ensures { result ≡ told_of (LeftShift width) 12 false amount }
 {
     let width = u128::from(width);
     width.saturating_sub(amount) % width * 64 + (width - 1).saturating_sub(amount)
 }
 
-/// The number, of some bits, that a slot shows as this value, if there is one.
-pub fn told(kind: Kind, bits: u32, y: u128) -> u128
+/// The number, of some bits, that a slot shows as an integer of this size, if there is one.
+fn told_of(kind: Kind, bits: u32, negative: bool, size: u128) -> u128
     requires sound { is_sound_kind kind bits ≡ true }
     requires narrow { bits ≤ 32 }
-    ensures { result ≡ told kind bits y }
+    ensures { result ≡ told_of kind bits negative size }
 {
     match kind {
         Kind::Fixed(_) | Kind::Target { .. } => 0,
-        Kind::Plain | Kind::NamedCount => y,
-        Kind::Stack => if y == 32 { 31 } else { y },
-        Kind::After(k) => (y % 32 + (32 - u128::from(k))) % 32,
-        Kind::UnnamedCount => y / 2,
-        Kind::Scaled { by, from } => (y / 2 / u128::from(by)).saturating_sub(u128::from(from)),
-        Kind::Falling => (1u128 << bits).saturating_sub(y / 2),
-        Kind::Signed(by) => signed_told(bits, by, y),
-        Kind::Bitmask(width) => fields_at(width, y / 2),
-        Kind::Spread => gathered(8, y / 2),
-        Kind::LeftShift(width) => left_shift_told(width, y / 2),
-        Kind::Inverted => inverse(y),
+        Kind::Plain | Kind::NamedCount | Kind::UnnamedCount => size,
+        Kind::Stack => if size == 32 { 31 } else { size },
+        Kind::After(k) => (size % 32 + (32 - u128::from(k))) % 32,
+        Kind::Scaled { by, from } => (size / u128::from(by)).saturating_sub(u128::from(from)),
+        Kind::Falling => (1u128 << bits).saturating_sub(size),
+        Kind::Signed(by) => signed_told(bits, by, negative, size),
+        Kind::Bitmask(width) => fields_at(width, size),
+        Kind::Spread => gathered(8, size),
+        Kind::LeftShift(width) => left_shift_told(width, size),
+        Kind::Inverted => inverse(size),
     }
+}
+
+/// The number, of some bits, that a slot shows as this integer, if there is one.
+pub fn told(kind: Kind, bits: u32, value: i128) -> u128
+    requires sound { is_sound_kind kind bits ≡ true }
+    requires narrow { bits ≤ 32 }
+    ensures { result ≡ told kind bits value }
+{
+    told_of(kind, bits, value < 0, value.unsigned_abs())
 }
 
 /// Whether a count has a name.

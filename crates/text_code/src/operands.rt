@@ -1,11 +1,11 @@
 //! The items of a statement.
-ghost use Rattle.std.specs.Prelude.{◌≡◌, ◌<◌, ◌^◌, ◌==◌, ◌&&◌, not, ◌∷◌, [], false, drop, length, IfSome, MatchOption};
+ghost use Rattle.std.specs.Prelude.{◌≡◌, ◌<◌, ◌==◌, ◌&&◌, not, ◌∷◌, [], false, drop, length, IfSome, MatchOption};
 ghost use Rattle.std.specs.Str.{IsCharBoundary};
 ghost use Rattle.asm_tokens.specs.Tokens.{tokens, is_word_byte, dot};
 ghost use Rattle.text_model.specs.Statement.{items_behind, items_of, is_label, ends_in_label};
 ghost use Rattle.text_model.specs.declared.classes.Class.TheVariants.{Number};
 ghost use Rattle.text_model.specs.Words.{item};
-ghost use Rattle.text_code.specs.Places.{IsLastLabel, signed_value};
+ghost use Rattle.text_code.specs.Places.{IsLastLabel};
 
 use crate::filling::MOST;
 use crate::token_words::item_of_word;
@@ -16,15 +16,13 @@ use text_model::{Class, Item};
 /// Where a token stands.
 pub use asm_tokens::Token;
 
-/// A number as an item: twice its size, and one more where it is negative.
+/// A number as an item.
 fn item_of_number(value: i128) -> Item
-    requires { signed_value value < 2 ^ 128 }
-    ensures { result ≡ item Number (signed_value value) }
+    ensures { result ≡ item Number value }
 {
-    let size = value.unsigned_abs();
     Item {
         class: Class::Number,
-        value: if value < 0 { 2 * size + 1 } else { 2 * size },
+        value,
     }
 }
 

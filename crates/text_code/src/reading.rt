@@ -88,7 +88,9 @@ pub trait Table {
 fn is_address(item: Item) -> bool
     ensures { result ≡ is_address item }
 {
-    same_class(item.class, Class::Number) && item.value % 2 == 0 && item.value / 2 < 1 << 64
+    same_class(item.class, Class::Number)
+        && !item.value.is_negative()
+        && item.value.unsigned_abs() < 1 << 64
 }
 
 /// An item, or 0 in its place where it is the last one and a label or an address.
@@ -217,7 +219,7 @@ fn target_at(label: Option<Token>, last: Option<Item>) -> Option<Aim>
     let item = last?;
     match label {
         Some(token) => Some(Aim::Label(token)),
-        None => Some(Aim::Address((item.value / 2 % (1 << 64)) as u64)),
+        None => Some(Aim::Address((item.value.unsigned_abs() % (1 << 64)) as u64)),
     }
 }
 

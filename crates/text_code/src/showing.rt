@@ -11,7 +11,7 @@ use crate::kinds::shown;
 use text_model::{Item, Kind, Slot};
 
 /// The value that a slot prints of a word that stands at pc: of a target its address.
-fn printed(slot: Slot, word: u32, pc: u64) -> u128
+fn printed(slot: Slot, word: u32, pc: u64) -> i128
     requires { is_sound slot ≡ true }
     ensures { result
         ≡ printed slot.codec.kind (bits_in (places slot.codec.parts)) (joined (places slot.codec.parts) word) pc }
@@ -19,7 +19,7 @@ fn printed(slot: Slot, word: u32, pc: u64) -> u128
     let parts = slot.codec.parts;
     let number = number_of(parts, word);
     match slot.codec.kind {
-        Kind::Target { by, page } => 2 * u128::from(address(Reach { by, page, parts }, number, pc)),
+        Kind::Target { by, page } => i128::from(address(Reach { by, page, parts }, number, pc)),
         kind => shown(kind, width_of(parts), number),
     }
 }

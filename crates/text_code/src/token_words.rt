@@ -59,7 +59,7 @@ fn register_among(families: &[Family], letter: u8, number: u8, suffix: &[u8]) ->
         if is_of(family, letter, number, suffix) {
             return Some(Item {
                 class: family.class,
-                value: u128::from(number),
+                value: i128::from(number),
             });
         }
     }
@@ -90,7 +90,7 @@ fn word(token: &[u8]) -> Item
     match words.binary_search_by(|w| order(w.text, token)) {
         Ok(at) => Item {
             class: words[at].class,
-            value: u128::from(words[at].value),
+            value: i128::from(words[at].value),
         },
         Err(_) => Item {
             class: Class::Unknown,

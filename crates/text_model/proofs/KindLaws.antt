@@ -1,15 +1,17 @@
 -- What a slot shows of a number tells the number, one equation a kind.
-use Rattle.std.proofs.Common.{◌≡◌, ℕ, ◌+◌, ◌-◌, ◌*◌, ◌/◌, ◌%◌, ◌^◌, ◌<◌, ◌==◌, ◌||◌, if◌then◌else◌, Bool, true, nat_lt, refl, sym, ap, ◌∙◌, subst, arith, inl, inr}
+use Rattle.std.proofs.Common.{◌≡◌, ℕ, zero, suc, ◌+◌, ◌-◌, ◌*◌, ◌/◌, ◌%◌, ◌^◌, ◌<◌, ℤ, pos, neg_ℤ, unsigned_abs, ◌==◌, ◌||◌, if◌then◌else◌, Bool, true, nat_lt, refl, sym, ap, ◌∙◌, subst, arith, inl, inr}
 use Rattle.std.proofs.lemmas.Bool.{cases_Bool, and_parts, or_cases, eqb-true, false≢true, ltb-true}
-use Rattle.std.proofs.Math.Nat.{mul-div_cancel}
+use Rattle.std.proofs.Math.Nat.{mul-div_cancel, mul-lt-mul_of_pos_right}
+use Rattle.std.proofs.lemmas.Int.{ints}
+use Rattle.std.specs.Int.{is_negative}
 use Rattle.std.specs.Prelude.{false, Option, Some, None, is_some, unwrap_or}
 use Rattle.emu_bits.specs.Bitmask.{bitmask_of}
 use Rattle.emu_bits.proofs.AllBelow.{all_below, each_below}
 use Rattle.text_model.specs.declared.slots.Kind.{Kind}
 use Rattle.text_model.specs.declared.slots.Kind.TheVariants.{Fixed, Plain, Stack, After, NamedCount, UnnamedCount, Scaled, Falling, Signed, Target, Bitmask, Spread, LeftShift, Inverted}
-use Rattle.text_model.specs.Masks.{bitmask_at, bitmask_fields}
+use Rattle.text_model.specs.Masks.{bitmask_at}
 use Rattle.text_model.specs.Slots.{shown, is_low, inverse, spread}
-use Rattle.text_model.specs.Told.{told, gathered}
+use Rattle.text_model.specs.Told.{told_of, told, gathered}
 use Rattle.text_model.specs.Reading.{element_size, is_canonical}
 use Rattle.text_model.proofs.MaskLaws.{mask_told}
 use Rattle.text_model.proofs.Tests.{is_good_kind}
@@ -25,38 +27,50 @@ stack_told v h = grind arith
 after_told : (v k : ℕ) → v < 32 → k < 32 → ((v + k) % 32 + (32 - k)) % 32 ≡ v
 after_told v k h l = omega arith
 
-scaled_told : (v n k : ℕ) → 0 < n → 2 * (n * (v + k)) / 2 / n - k ≡ v
+scaled_told : (v n k : ℕ) → 0 < n → n * (v + k) / n - k ≡ v
 scaled_told v n k h =
-    let e : 2 * (n * (v + k)) / 2 ≡ (v + k) * n = grind arith in
+    let e : n * (v + k) ≡ (v + k) * n = grind arith in
     ap (λ (x : ℕ). x / n - k) e ∙ ap (λ (x : ℕ). x - k) (mul-div_cancel (v + k) h) ∙ omega arith
 
-falling_told : (v m : ℕ) → v < m → m - 2 * (m - v) / 2 ≡ v
+falling_told : (v m : ℕ) → v < m → m - (m - v) ≡ v
 falling_told v m h = omega arith
 
-signed_told : (v n b : ℕ) → 0 < n → v < 2 ^ b →
-    (let y : ℕ = if is_low b v then 2 * (n * v) else 2 * (n * (2 ^ b - v)) + 1 in
-    if y % 2 == 0 then y / 2 / n else 2 ^ b - y / 2 / n) ≡ v
+-- ---- signs
+
+pub not_negative : (m : ℕ) → is_negative (pos m) ≡ false
+not_negative m = grind (arith, ints)
+
+pub minus_negative : (m : ℕ) → 0 < m → is_negative (neg_ℤ (pos m)) ≡ true
+minus_negative zero h = absurd (omega (arith, h))
+minus_negative (suc m) h = refl
+
+pub minus_size : (m : ℕ) → unsigned_abs (neg_ℤ (pos m)) ≡ m
+minus_size zero = refl
+minus_size (suc m) = refl
+
+product_some : (m n : ℕ) → 0 < n → 0 < m → 0 < n * m
+product_some m n h k = let p : 0 * m < n * m = mul-lt-mul_of_pos_right h k in omega (arith, p)
+
+signed_told : (v n b : ℕ) → 0 < n → v < 2 ^ b → told (Signed n) b (shown (Signed n) b v) ≡ v
 signed_told v n b h l =
-    let f = λ (y : ℕ). if y % 2 == 0 then y / 2 / n else 2 ^ b - y / 2 / n in
+    let f = λ (z : ℤ). told (Signed n) b z in
+    let g = λ (t : Bool). f (if t then pos (n * v) else neg_ℤ (pos (n * (2 ^ b - v)))) in
     elim (cases_Bool (is_low b v)) [
-      | inl e ↦ (let z : 2 * (n * v) % 2 ≡ 0 = omega arith in
-          let q : 2 * (n * v) / 2 ≡ v * n = grind arith in
-          ap (λ (t : Bool). f (if t then 2 * (n * v) else 2 * (n * (2 ^ b - v)) + 1)) e
-          ∙ ap (λ (t : ℕ). if t == 0 then 2 * (n * v) / 2 / n else 2 ^ b - 2 * (n * v) / 2 / n) z
-          ∙ ap (λ (t : ℕ). t / n) q ∙ mul-div_cancel v h)
+      | inl e ↦ (let q : n * v ≡ v * n = grind arith in
+          ap g e ∙ ap (λ (t : Bool). told_of (Signed n) b t (n * v)) (not_negative (n * v)) ∙ ap (λ (t : ℕ). t / n) q ∙ mul-div_cancel v h)
       | inr e ↦ (let d : ℕ = 2 ^ b - v in
-          let z : (2 * (n * d) + 1) % 2 ≡ 1 = omega arith in
-          let q : (2 * (n * d) + 1) / 2 ≡ d * n = grind arith in
-          ap (λ (t : Bool). f (if t then 2 * (n * v) else 2 * (n * d) + 1)) e
-          ∙ ap (λ (t : ℕ). if t == 0 then (2 * (n * d) + 1) / 2 / n else 2 ^ b - (2 * (n * d) + 1) / 2 / n) z
+          let q : n * d ≡ d * n = grind arith in
+          let s : 0 < n * d = product_some d n h (omega (arith, l)) in
+          ap g e ∙ ap (λ (t : Bool). told_of (Signed n) b t (unsigned_abs (neg_ℤ (pos (n * d))))) (minus_negative (n * d) s)
+          ∙ ap (λ (t : ℕ). 2 ^ b - t / n) (minus_size (n * d))
           ∙ ap (λ (t : ℕ). 2 ^ b - t / n) q ∙ ap (λ (t : ℕ). 2 ^ b - t) (mul-div_cancel d h) ∙ omega (arith, l))
     ]
 
 inverse_told : (v : ℕ) → v < 16 → inverse (inverse v) ≡ v
 inverse_told v h = eqb-true _ _ (each_below 16 (λ x. inverse (inverse x) == x) v refl h)
 
-spread_told : (v : ℕ) → v < 256 → gathered 8 (2 * spread 8 v / 2) ≡ v
-spread_told v h = eqb-true _ _ (each_below 256 (λ x. gathered 8 (2 * spread 8 x / 2) == x) v refl h)
+spread_told : (v : ℕ) → v < 256 → gathered 8 (spread 8 v) ≡ v
+spread_told v h = eqb-true _ _ (each_below 256 (λ x. gathered 8 (spread 8 x) == x) v refl h)
 
 -- ---- bitmasks
 
@@ -64,14 +78,10 @@ given : (o : Option ℕ) → is_some o ≡ true → o ≡ Some (unwrap_or o 0)
 given None h = absurd (false≢true h)
 given (Some x) h = refl
 
-half_of : (m : ℕ) → 2 * m / 2 ≡ m
-half_of m = omega arith
-
 masks_told : (w v : ℕ) → (w == 64 || w == 32) ≡ true → v < 8192 → is_canonical (Bitmask w) v ≡ true → told (Bitmask w) 13 (shown (Bitmask w) 13 v) ≡ v
 masks_told w v g h c =
     let m : ℕ = unwrap_or (bitmask_at w v) 0 in
-    ap (bitmask_fields w) (half_of m)
-    ∙ mask_told w v m g h (given (bitmask_at w v) (and_parts (is_some (bitmask_at w v)) (nat_lt (v / 64 % 64) (element_size v)) c).0) c
+    mask_told w v m g h (given (bitmask_at w v) (and_parts (is_some (bitmask_at w v)) (nat_lt (v / 64 % 64) (element_size v)) c).0) c
 
 -- ---- all kinds
 
@@ -87,7 +97,7 @@ kind_law (After k) b v h g c u =
     let g2 = and_parts (b == 5) (nat_lt k 32) g in
     after_told v k (of_bits v b 5 h g2.0) (ltb-true k 32 g2.1)
 kind_law NamedCount b v h g c u = refl
-kind_law UnnamedCount b v h g c u = omega arith
+kind_law UnnamedCount b v h g c u = refl
 kind_law (Scaled n k) b v h g c u = scaled_told v n k (ltb-true 0 n g)
 kind_law Falling b v h g c u = falling_told v (2 ^ b) h
 kind_law (Signed n) b v h g c u =

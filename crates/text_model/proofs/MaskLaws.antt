@@ -4,11 +4,12 @@ use Rattle.std.proofs.Common.{◌≡◌, ℕ, zero, suc, ◌+◌, ◌-◌, ◌*�
 use Rattle.std.proofs.lemmas.Bool.{cases_Bool, cases_lt, and_from, or_cases, eqb-true, eq-eqb, false≢true, lt-ltb}
 use Rattle.std.proofs.lemmas.Nat.{pow_pos}
 use Rattle.std.proofs.Math.Nat.{mod-eq_of_lt}
-use Rattle.std.specs.Prelude.{is_some, unwrap_or}
+use Rattle.std.specs.Prelude.{is_some, unwrap_or, find}
+use Rattle.std.specs.List.{range_with_len}
 use Rattle.emu_bits.specs.Bitmask.{bitmask_of, with_elements, element_log, is_refused, rotated, repeated}
 use Rattle.emu_bits.proofs.AllBelow.{all_below, each_below}
 use Rattle.text_model.specs.declared.slots.Kind.TheVariants.{Bitmask}
-use Rattle.text_model.specs.Masks.{bitmask_at, is_some_of, first_from, bitmask_fields}
+use Rattle.text_model.specs.Masks.{bitmask_at, is_some_of, bitmask_fields}
 use Rattle.text_model.specs.Reading.{is_canonical}
 
 -- ---- the fields of a number
@@ -176,23 +177,25 @@ one_canonical w u v m g h k d e b c = sym (found_again w u m g h d b) ∙ found_
 
 -- ---- the first number
 
-first_is : (p : ℕ → Bool) (v k u : ℕ) → v ≤ u → u < v + k → p u ≡ true → ((x : ℕ) → x < u → p x ≡ false) → first_from p v k ≡ u
+first_is : (p : ℕ → Bool) (v k u : ℕ) → v ≤ u → u < v + k → p u ≡ true → ((x : ℕ) → x < u → p x ≡ false) → find p (range_with_len v k) ≡ Some u
 first_is p v zero u l h t f = absurd (omega (arith, l, h))
-first_is p v (suc k) u l h t f = elim (cases_Bool (p v)) [
-  | inl e ↦ elim (cases_lt v u) [
-    | inl s ↦ absurd (false≢true (sym (f v s) ∙ e))
-    | inr s ↦ (let q : v ≡ u = omega (arith, l, s) in ap (λ (b : Bool). if b then v else first_from p (v + 1) k) e ∙ q)
-  ]
-  | inr e ↦ elim (cases_lt v u) [
-    | inl s ↦ ap (λ (b : Bool). if b then v else first_from p (v + 1) k) e ∙ first_is p (v + 1) k u (omega (arith, s)) (omega (arith, h)) t f
-    | inr s ↦ (let q : u ≡ v = omega (arith, l, s) in absurd (false≢true (sym e ∙ ap p (sym q) ∙ t)))
-  ]
-]
+first_is p v (suc k) u l h t f =
+    let g = λ (b : Bool). cond b (Some v) (find p (range_with_len (v + 1) k)) in
+    elim (cases_Bool (p v)) [
+      | inl e ↦ elim (cases_lt v u) [
+        | inl s ↦ absurd (false≢true (sym (f v s) ∙ e))
+        | inr s ↦ (let q : v ≡ u = omega (arith, l, s) in ap g e ∙ ap (λ (x : ℕ). Some x) q)
+      ]
+      | inr e ↦ elim (cases_lt v u) [
+        | inl s ↦ ap g e ∙ first_is p (v + 1) k u (omega (arith, s)) (omega (arith, h)) t f
+        | inr s ↦ (let q : u ≡ v = omega (arith, l, s) in absurd (false≢true (sym e ∙ ap p (sym q) ∙ t)))
+      ]
+    ]
 
-none_first : (p : ℕ → Bool) (v k : ℕ) → ((x : ℕ) → x < v + k → p x ≡ false) → first_from p v k ≡ 0
+none_first : (p : ℕ → Bool) (v k : ℕ) → ((x : ℕ) → x < v + k → p x ≡ false) → find p (range_with_len v k) ≡ None
 none_first p v zero f = refl
 none_first p v (suc k) f =
-    ap (λ (b : Bool). if b then v else first_from p (v + 1) k) (f v (omega arith)) ∙ none_first p (v + 1) k (λ x h. f x (omega (arith, h)))
+    ap (λ (b : Bool). cond b (Some v) (find p (range_with_len (v + 1) k))) (f v (omega arith)) ∙ none_first p (v + 1) k (λ x h. f x (omega (arith, h)))
 
 other_mask : (o : Option ℕ) (m : ℕ) → (o ≡ Some m → ⊥) → is_some_of o m ≡ false
 other_mask o m h = elim (cases_Bool (is_some_of o m)) [
@@ -206,14 +209,14 @@ has_mask o m e = ap (λ (x : Option ℕ). is_some_of x m) e ∙ eq-eqb m m refl
 -- canonical fields that give a bitmask are those that it tells
 pub mask_told : (w v m : ℕ) → (w == 64 || w == 32) ≡ true → v < 8192 → bitmask_at w v ≡ Some m → is_canonical (Bitmask w) v ≡ true → bitmask_fields w m ≡ v
 unfolding bitmask_fields
-mask_told w v m g h e c = first_is (λ x. is_some_of (bitmask_at w x) m) 0 8192 v (omega arith) h (has_mask (bitmask_at w v) m e)
+mask_told w v m g h e c = ap (λ (o : Option ℕ). unwrap_or o 0) (first_is (λ x. is_some_of (bitmask_at w x) m) 0 8192 v (omega arith) h (has_mask (bitmask_at w v) m e)
     (λ x l. other_mask (bitmask_at w x) m (λ d.
     let k : x < 8192 = omega (arith, l, h) in
     let q : reduced x ≡ v = one_canonical w (reduced x) v m g (reduced_below x k) h (reduced_mask x w m d) e (reduced_canonical x w m d) c in
     let r : reduced x ≤ x = reduced_least x in
-    omega (arith, q, r, l)))
+    omega (arith, q, r, l))))
 
 -- and where no fields give it, it tells 0
 pub none_told : (w m : ℕ) → ((v : ℕ) → v < 8192 → bitmask_at w v ≡ Some m → ⊥) → bitmask_fields w m ≡ 0
 unfolding bitmask_fields
-none_told w m h = none_first (λ x. is_some_of (bitmask_at w x) m) 0 8192 (λ x l. other_mask (bitmask_at w x) m (h x l))
+none_told w m h = ap (λ (o : Option ℕ). unwrap_or o 0) (none_first (λ x. is_some_of (bitmask_at w x) m) 0 8192 (λ x l. other_mask (bitmask_at w x) m (h x l)))

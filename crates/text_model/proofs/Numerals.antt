@@ -1,5 +1,5 @@
 -- Numbers as tokens, and the items that they are read as.
-use Rattle.std.proofs.Common.{◌≡◌, ℕ, ◌+◌, ◌-◌, ◌*◌, ◌^◌, ◌<◌, ◌≤◌, ◌==◌, ◌&&◌, if◌then◌else◌, Bool, true, false, not, Option, Some, None, List, [], ◌∷◌, length, drop, min, refl, ap, ◌∙◌, arith}
+use Rattle.std.proofs.Common.{◌≡◌, ℕ, ◌-◌, ◌^◌, ◌<◌, ◌≤◌, pos, neg_ℤ, ◌==◌, ◌&&◌, if◌then◌else◌, Bool, true, false, Option, Some, None, List, [], ◌∷◌, length, drop, min, refl, ap, ◌∙◌, arith}
 use Rattle.std.proofs.lemmas.Bool.{and_parts, and_from, and_right, and_left, ne_eqb, lt-ltb}
 use Rattle.std.proofs.lemmas.Fmt.{digits_is_IsNumeral}
 use Rattle.std.specs.Prelude.{option_map}
@@ -13,7 +13,7 @@ use Rattle.asm_tokens.specs.AreTokens.{is_token, is_mark}
 use Rattle.asm_tokens.specs.Numbers as numbers
 use Rattle.text_model.specs.declared.classes.Class.TheVariants.{Number}
 use Rattle.text_model.specs.Words.{item}
-use Rattle.text_model.specs.Statement.{number_value, item_by, more_tokens, items_behind}
+use Rattle.text_model.specs.Statement.{item_by, more_tokens, items_behind}
 use Rattle.text_model.specs.Text.{decimal, hexadecimal}
 
 -- A token that is a number.
@@ -86,30 +86,25 @@ hexadecimal_is n h = hexadecimal_number (digits 16 false n) n (digits_is_IsNumer
 small : (n : ℕ) → n < 2 ^ 64 → min n (2 ^ 127 - 1) ≡ n
 small n h = omega arith
 
-below_zero : (n k : ℕ) → 0 < n → n < 2 ^ 64 → number_value (record { is_negative = true; magnitude = n; count = k }) ≡ 2 * n + 1
-below_zero n k h l =
-    ap (λ (x : ℕ). if not (x == 0) then 2 * x + 1 else 2 * x) (small n l)
-    ∙ ap (λ (b : Bool). if not b then 2 * n + 1 else 2 * n) (ne_eqb n 0 (λ e. omega arith))
-
 module _ (t : List ℕ) (n : ℕ) (ts : List (List ℕ)) (h : n < 2 ^ 64) (s : IsNumber t n) where
   unsigned_is : numbers.signed_number (t ∷ ts) ≡ Some (numbers.plain_number n)
   unsigned_is =
       ap (λ (b : Bool). if b then option_map numbers.behind_minus (numbers.unsigned_number ts) else numbers.unsigned_number (t ∷ ts)) s.no_minus
       ∙ ap (λ (o : Option ℕ). option_map numbers.plain_number o) s.number
 
-  pub bare_items : items_behind 0 (t ∷ ts) ≡ item Number (2 * n) ∷ items_behind 0 ts
+  pub bare_items : items_behind 0 (t ∷ ts) ≡ item Number (pos n) ∷ items_behind 0 ts
   bare_items =
       ap (λ (o : Option numbers.Number). item_by o t ∷ items_behind (more_tokens o) ts)
       (ap (λ (b : Bool). if b then option_map numbers.behind_hash (numbers.signed_number ts) else numbers.signed_number (t ∷ ts)) s.no_hash ∙ unsigned_is)
-      ∙ ap (λ (x : ℕ). item Number (2 * x) ∷ items_behind 0 ts) (small n h)
+      ∙ ap (λ (x : ℕ). item Number (pos x) ∷ items_behind 0 ts) (small n h)
 
-  pub hash_items : items_behind 0 ((hash ∷ []) ∷ t ∷ ts) ≡ item Number (2 * n) ∷ items_behind 0 ts
+  pub hash_items : items_behind 0 ((hash ∷ []) ∷ t ∷ ts) ≡ item Number (pos n) ∷ items_behind 0 ts
   hash_items =
       ap (λ (o : Option numbers.Number). item_by (option_map numbers.behind_hash o) (hash ∷ []) ∷ items_behind (more_tokens (option_map numbers.behind_hash o)) (t ∷ ts)) unsigned_is
-      ∙ ap (λ (x : ℕ). item Number (2 * x) ∷ items_behind 0 ts) (small n h)
+      ∙ ap (λ (x : ℕ). item Number (pos x) ∷ items_behind 0 ts) (small n h)
 
-  pub minus_items : 0 < n → items_behind 0 ((hash ∷ []) ∷ (numbers.minus ∷ []) ∷ t ∷ ts) ≡ item Number (2 * n + 1) ∷ items_behind 0 ts
-  minus_items l =
+  pub minus_items : items_behind 0 ((hash ∷ []) ∷ (numbers.minus ∷ []) ∷ t ∷ ts) ≡ item Number (neg_ℤ (pos n)) ∷ items_behind 0 ts
+  minus_items =
       ap (λ (o : Option ℕ). let m = option_map numbers.behind_hash (option_map numbers.behind_minus (option_map numbers.plain_number o)) in
       item_by m (hash ∷ []) ∷ items_behind (more_tokens m) ((numbers.minus ∷ []) ∷ t ∷ ts)) s.number
-      ∙ ap (λ (x : ℕ). item Number x ∷ items_behind 0 ts) (below_zero n 3 l h)
+      ∙ ap (λ (x : ℕ). item Number (neg_ℤ (pos x)) ∷ items_behind 0 ts) (small n h)

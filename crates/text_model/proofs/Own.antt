@@ -1,8 +1,9 @@
 -- A pattern reads what it shows of a word as the word.
-use Rattle.std.proofs.Common.{◌≡◌, ℕ, ◌-◌, ◌*◌, ◌/◌, ◌%◌, ◌^◌, ◌<◌, ◌==◌, ◌&&◌, if◌then◌else◌, Bool, true, false, not, Ok, Err, List, [], ◌∷◌, ◌++◌, length, bit_and, bit_or, nat_le, refl, sym, ap, ap₂, ◌∙◌, subst, arith}
+use Rattle.std.proofs.Common.{◌≡◌, ℕ, ◌-◌, ◌%◌, ◌^◌, ◌<◌, ℤ, pos, ◌+ℤ◌, int_eq, ◌==◌, ◌&&◌, if◌then◌else◌, Bool, true, false, not, Ok, Err, List, [], ◌∷◌, ◌++◌, length, bit_and, bit_or, nat_le, refl, sym, ap, ap₂, ◌∙◌, subst, arith}
 use Rattle.std.proofs.lemmas.Bool.{and_parts, and_from, eqb-true, eq-eqb, false≢true}
 use Rattle.std.proofs.lemmas.Slice.Eq.{bytes_eq-Decides}
 use Rattle.std.proofs.Math.Nat.{mod-eq_of_lt}
+use Rattle.std.proofs.lemmas.Int.{ints}
 use Rattle.emu_bits.specs.Rows.{Place, width, ones_at}
 use Rattle.emu_bits.proofs.AllBelow.{each_below}
 use Rattle.text_model.specs.declared.classes.Class.{Class}
@@ -23,11 +24,14 @@ use Rattle.text_model.specs.Told.{Binding, class_tells, index_of, told, parted, 
 use Rattle.text_model.specs.Reading.{Pattern, is_left_out, raised, item_for, items_behind, filled, same_classes, same_values, same_name, is_canonical, all_canonical, word_told, has_target, judged}
 use Rattle.text_model.specs.Text.{class_places, slot_places, told_bits, shows}
 use Rattle.text_model.proofs.Tests.{is_good_shape, is_good_kind, is_good_need, is_good_style, is_good, are_good, all_places, is_readable}
-use Rattle.text_model.proofs.KindLaws.{is_unaimed, kind_law}
+use Rattle.text_model.proofs.KindLaws.{is_unaimed, kind_law, not_negative}
 use Rattle.text_model.proofs.Building.{AreSo, so_both, are_places, small_at, joined_small, parted_so, masked, places_of, with_bits, all_put, whole, nothing}
 
 pub self : (n : ℕ) → (n == n) ≡ true
 self n = eq-eqb n n refl
+
+self_integer : (z : ℤ) → int_eq z z ≡ true
+self_integer z = grind (arith, ints)
 
 -- ---- what a slot's own item tells is so
 
@@ -119,7 +123,7 @@ all_built base w m (s ∷ ss) g f c u =
 
 -- ---- nothing was left out
 
-kept : (k : Shape) (n : Need) (w v : ℕ) (is : List Item) → is_good_need k n ≡ true → is_left_out n false (record { class = class_in k w; value = v } ∷ is) ≡ false
+kept : (k : Shape) (n : Need) (w : ℕ) (v : ℤ) (is : List Item) → is_good_need k n ≡ true → is_left_out n false (record { class = class_in k w; value = v } ∷ is) ≡ false
 kept k Must w v is h = refl
 kept (Only c) Begins w v is h = ap not h
 kept (Told b g) Begins w v is h = absurd (false≢true h)
@@ -127,10 +131,9 @@ kept (Shown b g) Begins w v is h = absurd (false≢true h)
 kept k (Inside x) w v is h = refl
 
 -- a number that isn't negative stands for itself
-not_raised : (w m : ℕ) (c : Class) → raised (Hexadecimal w) (record { class = c; value = 2 * m }) ≡ record { class = c; value = 2 * m }
+not_raised : (w m : ℕ) (c : Class) → raised (Hexadecimal w) (record { class = c; value = pos m }) ≡ record { class = c; value = pos m }
 not_raised w m c =
-    let e : 2 * m % 2 ≡ 0 = omega arith in
-    ap (λ (x : ℕ). if x == 1 && nat_le (2 * m / 2) (2 ^ (w - 1)) then record { class = c; value = 2 * (2 ^ w - 2 * m / 2) } else record { class = c; value = 2 * m }) e
+    ap (λ (b : Bool). if b && nat_le m (2 ^ (w - 1)) then record { class = c; value = pos m +ℤ pos (2 ^ w) } else record { class = c; value = pos m }) (not_negative m)
 
 itself : (y : Style) (k : Kind) (c : Class) (b v : ℕ) → is_good_style y k ≡ true → raised y (record { class = c; value = shown k b v }) ≡ record { class = c; value = shown k b v }
 itself Word k c b v h = refl
@@ -159,7 +162,7 @@ own_classes (i ∷ is) = and_from _ _ (self (class_number i.class)) (own_classes
 
 own_values : (is : List Item) → same_values is is ≡ true
 own_values [] = refl
-own_values (i ∷ is) = and_from _ _ (self i.value) (own_values is)
+own_values (i ∷ is) = and_from _ _ (self_integer i.value) (own_values is)
 
 pub own_name : (s : List ℕ) → same_name s s ≡ true
 own_name s = (bytes_eq-Decides s s).1 refl

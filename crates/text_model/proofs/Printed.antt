@@ -1,5 +1,5 @@
 -- The tokens of a pattern's slots are read as the word that they show, with the bits of its target 0, and the target.
-use Rattle.std.proofs.Common.{◌≡◌, ℕ, ◌+◌, ◌-◌, ◌*◌, ◌/◌, ◌%◌, ◌^◌, ◌<◌, ◌≤◌, ◌==◌, ◌&&◌, ◌||◌, if◌then◌else◌, Bool, true, false, not, List, [], ◌∷◌, ◌++◌, bit_and, nat_lt, nat_le, refl, sym, ap, ap₂, ◌∙◌, subst, arith, inl, inr, ◌⊎◌}
+use Rattle.std.proofs.Common.{◌≡◌, ℕ, ◌+◌, ◌-◌, ◌*◌, ◌%◌, ◌^◌, ◌<◌, ◌≤◌, ℤ, pos, ◌==◌, ◌&&◌, ◌||◌, if◌then◌else◌, Bool, true, false, not, List, [], ◌∷◌, ◌++◌, bit_and, nat_le, refl, sym, ap, ap₂, ◌∙◌, subst, arith, inl, inr, ◌⊎◌}
 use Rattle.std.proofs.lemmas.Bool.{cases_Bool, and_parts, or_parts, and_from, not-true, eqb-true, eq-eqb, false≢true, true≢false, leb-true, lt-ltb, or_right}
 use Rattle.std.proofs.lemmas.Nat.{pow_pos, and_assoc, and_le_l}
 use lib.Bits.{and_zero_r}
@@ -24,7 +24,7 @@ use Rattle.text_model.proofs.Spelling.{same_number}
 use Rattle.text_model.proofs.Unlike.{Shaped}
 use Rattle.text_model.proofs.Again.{AreOf}
 use Rattle.text_model.proofs.Tests.{is_number_shape, ends_in_target, is_address_slot, retargeted, shape_places, has_all, has_none, looks_within, look_within, is_aimed_well}
-use Rattle.text_model.proofs.KindLaws.{is_unaimed}
+use Rattle.text_model.proofs.KindLaws.{is_unaimed, not_negative}
 use Rattle.text_model.proofs.Own.{all_unaimed, IsShown}
 
 -- ---- a word with the bits outside of a mask 0
@@ -165,7 +165,7 @@ plain_printed : (k : Kind) (b v pc : ℕ) → is_target k ≡ false → printed 
 plain_printed (Target n g) b v pc h = absurd (true≢false h)
 plain_printed k b v pc h = refl
 
-target_zero : (k : Kind) (b v : ℕ) → is_target k ≡ true → shown k b v ≡ 0
+target_zero : (k : Kind) (b v : ℕ) → is_target k ≡ true → shown k b v ≡ pos 0
 target_zero (Target n g) b v h = refl
 target_zero k b v h = absurd (false≢true h)
 
@@ -174,7 +174,7 @@ module _ (w m pc : ℕ) where
   plain_item s e l =
       let n = same w m s e l in
       let b : ℕ = bits_in (places s.codec.parts) in
-      ap₂ (λ (c : Class) (x : ℕ). item c x) n.class (plain_printed s.codec.kind b (joined (places s.codec.parts) w) pc e ∙ ap (shown s.codec.kind b) n.value)
+      ap₂ (λ (c : Class) (x : ℤ). item c x) n.class (plain_printed s.codec.kind b (joined (places s.codec.parts) w) pc e ∙ ap (shown s.codec.kind b) n.value)
 
   no_targets : (s : Slot) (ss : List Slot) → has_target (s ∷ ss) ≡ false → (is_target s.codec.kind ≡ false) × (has_target ss ≡ false)
   no_targets s ss h = or_parts (is_target s.codec.kind) (has_target ss) h
@@ -208,8 +208,8 @@ either_shaped [] w [] label s = inl tt
 either_shaped [] w (i ∷ is) label s = absurd s
 either_shaped (t ∷ ts) w [] label s = absurd s
 either_shaped (t ∷ []) w (i ∷ []) label s = elim (cases_Bool (label || is_address i)) [
-  | inl e ↦ inr (subst (λ (b : Bool). Shaped (retargeted (t ∷ [])) w ((if b then item Number 0 else i) ∷ [])) (sym e) (refl, tt))
-  | inr e ↦ inl (subst (λ (b : Bool). Shaped (t ∷ []) w ((if b then item Number 0 else i) ∷ [])) (sym e) s)
+  | inl e ↦ inr (subst (λ (b : Bool). Shaped (retargeted (t ∷ [])) w ((if b then item Number (pos 0) else i) ∷ [])) (sym e) (refl, tt))
+  | inr e ↦ inl (subst (λ (b : Bool). Shaped (t ∷ []) w ((if b then item Number (pos 0) else i) ∷ [])) (sym e) s)
 ]
 either_shaped (t ∷ []) w (i ∷ j ∷ js) label s = absurd s.1
 either_shaped (t ∷ u ∷ us) w (i ∷ []) label s = absurd s.1
@@ -225,24 +225,22 @@ address_item : (n g b v pc : ℕ) → is_address (item Number (printed (Target n
 address_item n g b v pc =
     let a : ℕ = address n g b v pc in
     let l : a < 2 ^ 64 = mod_small _ in
-    let e : 2 * a % 2 ≡ 0 = omega arith in
-    let q : 2 * a / 2 ≡ a = omega arith in
-    and_from _ _ (ap (λ (x : ℕ). x == 0) e) (ap (λ (x : ℕ). nat_lt x (2 ^ 64)) q ∙ lt-ltb a (2 ^ 64) l)
+    and_from _ _ (ap not (not_negative a)) (lt-ltb a (2 ^ 64) l)
 
 target_address : (k : Kind) (b v pc : ℕ) → is_target k ≡ true → is_address (item Number (printed k b v pc)) ≡ true
 target_address (Target n g) b v pc h = address_item n g b v pc
 target_address k b v pc h = absurd (false≢true h)
 
 module _ (w m pc : ℕ) (label : Bool) where
-  last_item : (s : Slot) → is_target s.codec.kind ≡ true → looks_within m s ≡ true → (if label || is_address (printed_item s w pc) then item Number 0 else printed_item s w pc) ≡ item_in s (bit_and w m)
+  last_item : (s : Slot) → is_target s.codec.kind ≡ true → looks_within m s ≡ true → (if label || is_address (printed_item s w pc) then item Number (pos 0) else printed_item s w pc) ≡ item_in s (bit_and w m)
   last_item s e l =
       let n = none w m s e l in
       let b : ℕ = bits_in (places s.codec.parts) in
-      let x : ℕ = printed s.codec.kind b (joined (places s.codec.parts) w) pc in
+      let x : ℤ = printed s.codec.kind b (joined (places s.codec.parts) w) pc in
       let a : (label || is_address (printed_item s w pc)) ≡ true =
       or_right label _ (ap (λ (c : Class). is_address (item c x)) (n.class w) ∙ target_address s.codec.kind b (joined (places s.codec.parts) w) pc e) in
-      ap (λ (t : Bool). if t then item Number 0 else printed_item s w pc) a
-      ∙ ap₂ (λ (c : Class) (y : ℕ). item c y) (sym (n.class (bit_and w m))) (sym (target_zero s.codec.kind b (joined (places s.codec.parts) (bit_and w m)) e))
+      ap (λ (t : Bool). if t then item Number (pos 0) else printed_item s w pc) a
+      ∙ ap₂ (λ (c : Class) (y : ℤ). item c y) (sym (n.class (bit_and w m))) (sym (target_zero s.codec.kind b (joined (places s.codec.parts) (bit_and w m)) e))
 
   pub targeted_items : (ss : List Slot) → ends_in_target ss ≡ true → look_within m ss ≡ true → untargeted label (printed_items ss w pc) ≡ items_in ss (bit_and w m)
   targeted_items [] h l = absurd (false≢true h)

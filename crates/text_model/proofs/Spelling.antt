@@ -1,6 +1,7 @@
 -- Each word of a class is spelled by a token that is read as it, computed over all classes.
-use Rattle.std.proofs.Common.{◌≡◌, ℕ, ◌<◌, ◌==◌, ◌&&◌, ◌||◌, if◌then◌else◌, Bool, true, false, not, Option, Some, None, List, [], ◌∷◌, get_or, refl, sym, ap, ap₂, ◌∙◌, inl, inr, ◌⊎◌}
+use Rattle.std.proofs.Common.{◌≡◌, ℕ, ◌<◌, ℤ, pos, int_eq, arith, ◌==◌, ◌&&◌, ◌||◌, if◌then◌else◌, Bool, true, false, not, Option, Some, None, List, [], ◌∷◌, get_or, refl, sym, ap, ap₂, ◌∙◌, inl, inr, ◌⊎◌}
 use Rattle.std.proofs.lemmas.Bool.{and_parts, or_cases, not-true, eqb-true, false≢true}
+use Rattle.std.proofs.lemmas.Int.{ints}
 use Rattle.std.specs.Prelude.{option_map}
 use Rattle.emu_bits.proofs.AllBelow.{all_below, each_below}
 use Rattle.asm_tokens.specs.Layout.{is_sign, hash}
@@ -12,7 +13,7 @@ use Rattle.text_model.specs.declared.classes.Class.TheVariants.{Unknown, Number,
 use Rattle.text_model.specs.Classes.{class_number}
 use Rattle.text_model.specs.Slots.{is_named}
 use Rattle.text_model.specs.declared.slots.Item.{Item}
-use Rattle.text_model.specs.Words.{dictionary, item, spelled, classed}
+use Rattle.text_model.specs.Words.{dictionary, item, word_item, spelled, classed}
 use Rattle.text_model.specs.Statement.{lowered, item_by, more_tokens, items_behind}
 
 -- how many words a class has
@@ -76,7 +77,7 @@ is_spelled : Class → ℕ → Bool
 is_spelled c v =
     let t = spelled c v in
     let i = classed (lowered t) in
-    (class_number i.class == class_number c && i.value == v) && (is_no_number (numeral t) && (not (is_sign hash t) && (not (is_sign minus t) && is_token t)))
+    (class_number i.class == class_number c && int_eq i.value (pos v)) && (is_no_number (numeral t) && (not (is_sign hash t) && (not (is_sign minus t) && is_token t)))
 
 -- counts that have no name have no word
 is_word_of : Class → ℕ → Bool
@@ -101,11 +102,16 @@ class_back c = refl
 pub same_number : (c d : Class) → class_number c ≡ class_number d → c ≡ d
 same_number c d h = sym (class_back c) ∙ ap (λ (n : ℕ). get_or all_classes n Unknown) h ∙ class_back d
 
+-- ---- integers
+
+pub same_integer : (x y : ℤ) → int_eq x y ≡ true → x ≡ y
+same_integer x y h = grind (arith, ints)
+
 -- ---- a word as an item
 
 -- A token that is read as a class and a value.
 pub record IsWord (t : List ℕ) (c : Class) (v : ℕ) : Type 0 where
-  pub is : classed (lowered t) ≡ item c v
+  pub is : classed (lowered t) ≡ word_item c v
   pub no_number : numeral t ≡ None
   pub no_hash : is_sign hash t ≡ false
   pub no_minus : is_sign minus t ≡ false
@@ -120,13 +126,13 @@ unfolding is_spelled
 word_of c v h =
     let t : List ℕ = spelled c v in
     let i : Item = classed (lowered t) in
-    let h1 = and_parts (class_number i.class == class_number c && i.value == v) _ h in
-    let h2 = and_parts (class_number i.class == class_number c) (i.value == v) h1.0 in
+    let h1 = and_parts (class_number i.class == class_number c && int_eq i.value (pos v)) _ h in
+    let h2 = and_parts (class_number i.class == class_number c) (int_eq i.value (pos v)) h1.0 in
     let h3 = and_parts (is_no_number (numeral t)) _ h1.1 in
     let h4 = and_parts (not (is_sign hash t)) _ h3.1 in
     let h5 = and_parts (not (is_sign minus t)) (is_token t) h4.1 in
     record {
-      is = ap₂ (λ (d : Class) (x : ℕ). item d x) (same_number i.class c (eqb-true _ _ h2.0)) (eqb-true _ _ h2.1);
+      is = ap₂ (λ (d : Class) (x : ℤ). item d x) (same_number i.class c (eqb-true _ _ h2.0)) (same_integer _ _ h2.1);
       no_number = none_of _ h3.0;
       no_hash = not-true _ h4.0;
       no_minus = not-true _ h5.0;
@@ -146,7 +152,7 @@ one_spelled c v n h = h
 pub spelled_is : (c : Class) (v : ℕ) → v < size_of c → (class_number c == class_number Count) ≡ false ⊎ (is_named v ≡ true) → IsWord (spelled c v) c v
 spelled_is c v h n = word_of c v (one_spelled c v n (each_below (size_of c) (is_word_of c) v (all_spelled c) h))
 
-pub word_items : (t : List ℕ) (c : Class) (v : ℕ) (ts : List (List ℕ)) → IsWord t c v → items_behind 0 (t ∷ ts) ≡ item c v ∷ items_behind 0 ts
+pub word_items : (t : List ℕ) (c : Class) (v : ℕ) (ts : List (List ℕ)) → IsWord t c v → items_behind 0 (t ∷ ts) ≡ word_item c v ∷ items_behind 0 ts
 word_items t c v ts w =
     ap (λ (o : Option numbers.Number). item_by o t ∷ items_behind (more_tokens o) ts)
     (ap (λ (b : Bool). if b then option_map numbers.behind_hash (numbers.signed_number ts) else numbers.signed_number (t ∷ ts)) w.no_hash

@@ -174,7 +174,7 @@ word_bound k b = 0
 
 -- no number that a slot of this kind shows is greater; 2^64 where it shows words
 abbrev pub number_bound : Kind → ℕ → ℕ
-number_bound (Fixed x) b = x / 2
+number_bound (Fixed x) b = x
 number_bound UnnamedCount b = 2 ^ b
 number_bound (Scaled n k) b = n * (2 ^ b + k)
 number_bound Falling b = 2 ^ b
@@ -210,10 +210,9 @@ class_list (Shown b g) = classes_of g
 abbrev pub is_written_word : Slot → ℕ → Bool
 is_written_word s b = (nat_lt 0 (word_bound s.codec.kind b) && has_words (word_bound s.codec.kind b) (class_list s.shape)) && is_count_named s.codec.kind s.shape
 
--- a number that may be negative is written with its sign, and a fixed one isn't negative
+-- a number that may be negative is written with its sign
 abbrev pub has_sign : Kind → Style → Bool
 has_sign (Signed n) s = is_counted s
-has_sign (Fixed x) s = x % 2 == 0
 has_sign k s = true
 
 abbrev pub is_number_shape : Shape → Bool

@@ -1,5 +1,5 @@
 -- A text is read as the word that it shows: over any patterns that pass the tests.
-use Rattle.std.proofs.Common.{◌≡◌, ℕ, zero, suc, ◌-◌, ◌*◌, ◌/◌, ◌%◌, ◌^◌, ◌<◌, ◌==◌, ◌&&◌, ◌||◌, if◌then◌else◌, Bool, true, false, not, Option, Some, None, Ok, List, [], ◌∷◌, ◌++◌, append_assoc, bit_and, refl, sym, ap, ap₂, ◌∙◌, subst, arith, inl, inr}
+use Rattle.std.proofs.Common.{◌≡◌, ℕ, zero, suc, ◌-◌, ◌%◌, ◌^◌, ◌<◌, ℤ, pos, unsigned_abs, ◌==◌, ◌&&◌, ◌||◌, if◌then◌else◌, Bool, true, false, not, Option, Some, None, Ok, List, [], ◌∷◌, ◌++◌, append_assoc, bit_and, refl, sym, ap, ap₂, ◌∙◌, subst, arith, inl, inr}
 use Rattle.std.proofs.lemmas.Bool.{cases_Bool, and_parts, or_parts, and_from, not-true, eqb-true, false≢true, true≢false}
 use Rattle.std.proofs.lemmas.Slice.Eq.{bytes_eq-Decides}
 use Rattle.std.proofs.lemmas.List.Folds.{list_all-append}
@@ -57,18 +57,15 @@ record EndsIn (ss : List Slot) (w pc : ℕ) (a : ℕ) : Type 0 where
   pub tokens : List (List ℕ)
   pub items : List Item
   pub tokens_are : slot_tokens ss w pc ≡ tokens ++ (hexadecimal a ∷ [])
-  pub items_are : printed_items ss w pc ≡ items ++ (item Number (2 * a) ∷ [])
+  pub items_are : printed_items ss w pc ≡ items ++ (item Number (pos a) ∷ [])
   pub target : target_of ss w pc ≡ Some a
   pub small : a < 2 ^ 64
 
-address_tokens : (y : Style) (i : Item) → is_plain_address y ≡ true → item_tokens y i ≡ hexadecimal (i.value / 2) ∷ []
+address_tokens : (y : Style) (i : Item) → is_plain_address y ≡ true → item_tokens y i ≡ hexadecimal (unsigned_abs i.value) ∷ []
 address_tokens Address i h = refl
 address_tokens y i h = absurd (false≢true h)
 
-twice : (a : ℕ) → 2 * a / 2 ≡ a
-twice a = omega arith
-
-number_item : (k : Shape) (w x : ℕ) → is_number_shape k ≡ true → item (class_in k w) x ≡ item Number x
+number_item : (k : Shape) (w : ℕ) (x : ℤ) → is_number_shape k ≡ true → item (class_in k w) x ≡ item Number x
 number_item (Only c) w x h = ap (λ (d : Class). item d x) (same_number c Number (eqb-true _ _ h))
 number_item (Told b g) w x h = absurd (false≢true h)
 number_item (Shown b g) w x h = absurd (false≢true h)
@@ -79,7 +76,7 @@ mod_small a = omega arith
 -- the address that a target is
 record IsReached (k : Kind) (ps : List Place) (w pc : ℕ) : Type 0 where
   pub address : ℕ
-  pub value : printed k (bits_in ps) (joined ps w) pc ≡ 2 * address
+  pub value : printed k (bits_in ps) (joined ps w) pc ≡ pos address
   pub target : (r : Option Reach) → reached (reach_or k ps r) w pc ≡ Some address
   pub small : address < 2 ^ 64
 
@@ -102,8 +99,8 @@ ends_in (s ∷ []) w pc h =
       record {
         tokens = [];
         items = [];
-        tokens_are = ap (λ (ts : List (List ℕ)). ts ++ []) (address_tokens s.style i h3.1 ∙ ap (λ (x : ℕ). hexadecimal x ∷ []) (ap (λ (x : ℕ). x / 2) r.value ∙ twice r.address));
-        items_are = ap (λ (j : Item). j ∷ []) (number_item s.shape w i.value h3.0 ∙ ap (λ (x : ℕ). item Number x) r.value);
+        tokens_are = ap (λ (ts : List (List ℕ)). ts ++ []) (address_tokens s.style i h3.1 ∙ ap (λ (x : ℤ). hexadecimal (unsigned_abs x) ∷ []) r.value);
+        items_are = ap (λ (j : Item). j ∷ []) (number_item s.shape w i.value h3.0 ∙ ap (λ (x : ℤ). item Number x) r.value);
         target = r.target None;
         small = r.small;
       },
@@ -124,13 +121,13 @@ ends_in (s ∷ t ∷ ts) w pc h =
       },
     )
 
-to_it : (a : ℕ) → a < 2 ^ 64 → (if is_label (hexadecimal a) then to_label (hexadecimal a) else to_address (2 * a / 2 % 2 ^ 64)) ≡ to_address a
-to_it a h = let e : 2 * a / 2 % 2 ^ 64 ≡ a = omega arith in ap to_address e
+to_it : (a : ℕ) → a < 2 ^ 64 → (if is_label (hexadecimal a) then to_label (hexadecimal a) else to_address (a % 2 ^ 64)) ≡ to_address a
+to_it a h = let e : a % 2 ^ 64 ≡ a = omega arith in ap to_address e
 
 -- the address is the statement's destination
 goes_there : (ss : List Slot) (w pc a : ℕ) → EndsIn ss w pc a → last_target (slot_tokens ss w pc) (printed_items ss w pc) ≡ Some (to_address a)
 goes_there ss w pc a e =
-    ap₂ destination (ap last_of e.tokens_are ∙ last_behind e.tokens (hexadecimal a)) (ap last_of e.items_are ∙ last_behind e.items (item Number (2 * a)))
+    ap₂ destination (ap last_of e.tokens_are ∙ last_behind e.tokens (hexadecimal a)) (ap last_of e.items_are ∙ last_behind e.items (item Number (pos a)))
     ∙ ap (λ (d : Destination). Some d) (to_it a e.small)
 
 no_reach : (ss : List Slot) → has_target ss ≡ false → reach_of ss ≡ None

@@ -1,6 +1,7 @@
 -- What a pattern makes of another's items: nothing that it reads, where the test says so.
-use Rattle.std.proofs.Common.{◌≡◌, ℕ, zero, suc, ◌-◌, ◌*◌, ◌/◌, ◌%◌, ◌^◌, ◌<◌, ◌≤◌, ◌==◌, ◌&&◌, ◌||◌, if◌then◌else◌, Bool, true, false, not, List, [], ◌∷◌, ◌++◌, length, get_or, nat_le, refl, sym, ap, ◌∙◌, subst, arith, inl, inr, length-append}
+use Rattle.std.proofs.Common.{◌≡◌, ℕ, zero, suc, ◌-◌, ◌^◌, ◌<◌, ◌≤◌, pos, ◌+ℤ◌, unsigned_abs, ◌==◌, ◌&&◌, ◌||◌, if◌then◌else◌, Bool, true, false, not, List, [], ◌∷◌, ◌++◌, length, get_or, nat_le, refl, sym, ap, ◌∙◌, subst, arith, inl, inr, length-append}
 use Rattle.std.proofs.lemmas.Bool.{cases_Bool, and_parts, and_left, and_right, or_cases, or_left, or_right, not-true, eqb-true, eq-eqb, ne_eqb, false≢true}
+use Rattle.std.specs.Int.{is_negative}
 use Rattle.text_model.specs.declared.classes.Class.{Class}
 use Rattle.text_model.specs.declared.classes.Class.TheVariants.{Unknown, Comma}
 use Rattle.text_model.specs.declared.classes.Group.{Group}
@@ -135,10 +136,12 @@ shorter (s ∷ ss) w (i ∷ is) h = and_right _ _ (shorter ss w is (omega arith)
 -- ---- the walk along both
 
 pub raised_class : (y : Style) (i : Item) → (raised y i).class ≡ i.class
-raised_class (Hexadecimal w) i = elim (cases_Bool (i.value % 2 == 1 && nat_le (i.value / 2) (2 ^ (w - 1)))) [
-  | inl e ↦ ap (λ (b : Bool). (if b then record i { value = 2 * (2 ^ w - i.value / 2) } else i).class) e
-  | inr e ↦ ap (λ (b : Bool). (if b then record i { value = 2 * (2 ^ w - i.value / 2) } else i).class) e
-]
+raised_class (Hexadecimal w) i =
+    let f = λ (b : Bool). (if b then record i { value = i.value +ℤ pos (2 ^ w) } else i).class in
+    elim (cases_Bool (is_negative i.value && nat_le (unsigned_abs i.value) (2 ^ (w - 1)))) [
+      | inl e ↦ ap f e
+      | inr e ↦ ap f e
+    ]
 raised_class y i = refl
 
 -- what is compared, by whether the first slot's item was left out

@@ -6,7 +6,9 @@
 -- isn't written so, or the word isn't in the table. That instructions are texts of slots is this project's own; the
 -- texts are the assembler syntax of the entries of the Arm Architecture Reference Manual for A-profile (DDI 0487), C6
 -- to C8.
-use Rattle.std.specs.Prelude.{ℕ, ◌-◌, ◌*◌, ◌/◌, ◌%◌, ◌^◌, ◌==◌, ◌&&◌, ◌||◌, Bool, true, false, not, if◌then◌else◌, Result, Ok, Err, List, [], ◌∷◌, ◌++◌, nat_lt, nat_le, unwrap_or, is_some}
+use Rattle.std.specs.Prelude.{ℕ, ◌-◌, ◌/◌, ◌%◌, ◌^◌, pos, ◌+ℤ◌, unsigned_abs, ◌&&◌, ◌||◌, Bool, true, false, not, if◌then◌else◌, Result, Ok, Err, List, [], ◌∷◌, ◌++◌, nat_lt, nat_le, unwrap_or, is_some}
+use Rattle.std.specs.Int.{is_negative}
+use Rattle.std.specs.Ordering.{int_eq}
 use Rattle.std.specs.Str.{bytes_eq}
 use Rattle.emu_bits.specs.Bitmask.{element_log}
 use Rattle.text_model.specs.declared.classes.Class.TheVariants.{Comma}
@@ -51,12 +53,13 @@ value_left_out (Inside v) = v
 -- A negative hexadecimal stands for itself plus 2^w, where it isn't below -2^(w-1).
 abbrev pub raised : Style → Item → Item
 raised (Hexadecimal w) i =
-    if i.value % 2 == 1 && nat_le (i.value / 2) (2 ^ (w - 1)) then record i { value = 2 * (2 ^ w - i.value / 2) } else i
+    if is_negative i.value && nat_le (unsigned_abs i.value) (2 ^ (w - 1))
+    then record i { value = i.value +ℤ pos (2 ^ w) } else i
 raised s i = i
 
 -- the item of a slot, if there is one
 abbrev pub item_for : Bool → Slot → List Item → List Item
-item_for true s is = record { class = class_in s.shape 0; value = value_left_out s.need } ∷ []
+item_for true s is = record { class = class_in s.shape 0; value = pos (value_left_out s.need) } ∷ []
 item_for false s [] = []
 item_for false s (i ∷ is) = raised s.style i ∷ []
 
@@ -82,7 +85,7 @@ abbrev pub same_values : List Item → List Item → Bool
 same_values [] [] = true
 same_values [] (j ∷ js) = false
 same_values (i ∷ is) [] = false
-same_values (i ∷ is) (j ∷ js) = i.value == j.value && same_values is js
+same_values (i ∷ is) (j ∷ js) = int_eq i.value j.value && same_values is js
 
 abbrev pub same_name : List ℕ → List ℕ → Bool
 same_name s t = bytes_eq s t

@@ -1,7 +1,7 @@
--- What a slot shows of a word: an item, which is a class and a value. The kinds are those of the tables 'Assembler
+-- What a slot shows of a word: an item, which is a class and an integer. The kinds are those of the tables 'Assembler
 -- Symbols' of the entries of the Arm Architecture Reference Manual for A-profile (DDI 0487), C6 to C8, each said by the
 -- bits of its fields; that a text is a row of slots is this project's own.
-use Rattle.std.specs.Prelude.{ℕ, zero, suc, ◌+◌, ◌-◌, ◌*◌, ◌/◌, ◌%◌, ◌^◌, ◌==◌, ◌&&◌, ◌||◌, Bool, true, if◌then◌else◌, List, [], ◌∷◌, length, get_or, nat_lt, nat_le, unwrap_or}
+use Rattle.std.specs.Prelude.{ℕ, zero, suc, ◌+◌, ◌-◌, ◌*◌, ◌/◌, ◌%◌, ◌^◌, ℤ, pos, neg_ℤ, ◌==◌, ◌&&◌, ◌||◌, Bool, true, if◌then◌else◌, List, [], ◌∷◌, length, get_or, nat_lt, nat_le, unwrap_or}
 use Rattle.emu_bits.specs.Fields.{field}
 use Rattle.emu_bits.specs.Rows.{Place, ◌to◌, width}
 use Rattle.text_model.specs.declared.classes.Class.{Class}
@@ -74,13 +74,6 @@ class_in (Shown b g) w = class_at g (at_place (place_of b) w)
 
 -- ---- the value
 
--- a number that isn't negative, as a value
-abbrev pub number : ℕ → ℕ
-number n = 2 * n
-
-abbrev pub negative : ℕ → ℕ
-negative n = 2 * n + 1
-
 -- a number of b bits is negative where its highest bit is 1
 abbrev pub is_low : ℕ → ℕ → Bool
 is_low b v = nat_lt v (2 ^ (b - 1))
@@ -94,28 +87,29 @@ spread (suc k) v = v % 2 * 255 + 256 * spread k (v / 2)
 abbrev pub inverse : ℕ → ℕ
 inverse c = if c % 2 == 0 then c + 1 else c - 1
 
--- What a slot shows of the number v of b bits. Of a target it shows 0: the address depends on the instruction's.
-abbrev pub shown : Kind → ℕ → ℕ → ℕ
-shown (Fixed x) b v = x
-shown Plain b v = v
-shown Stack b v = if v == 31 then 32 else v
-shown (After k) b v = (v + k) % 32
-shown NamedCount b v = v
-shown UnnamedCount b v = number v
-shown (Scaled n k) b v = number (n * (v + k))
-shown Falling b v = number (2 ^ b - v)
-shown (Signed n) b v = if is_low b v then number (n * v) else negative (n * (2 ^ b - v))
-shown (Target n g) b v = number 0
-shown (Bitmask w) b v = number (unwrap_or (bitmask_at w v) 0)
-shown Spread b v = number (spread 8 v)
-shown (LeftShift w) b v = number (w - 1 - v % 64)
-shown Inverted b v = inverse v
+-- What a slot shows of the number v of b bits: a number, or which one of its class a register or another word is. Of a
+-- target it shows 0: the address depends on the instruction's.
+abbrev pub shown : Kind → ℕ → ℕ → ℤ
+shown (Fixed x) b v = pos x
+shown Plain b v = pos v
+shown Stack b v = pos (if v == 31 then 32 else v)
+shown (After k) b v = pos ((v + k) % 32)
+shown NamedCount b v = pos v
+shown UnnamedCount b v = pos v
+shown (Scaled n k) b v = pos (n * (v + k))
+shown Falling b v = pos (2 ^ b - v)
+shown (Signed n) b v = if is_low b v then pos (n * v) else neg_ℤ (pos (n * (2 ^ b - v)))
+shown (Target n g) b v = pos 0
+shown (Bitmask w) b v = pos (unwrap_or (bitmask_at w v) 0)
+shown Spread b v = pos (spread 8 v)
+shown (LeftShift w) b v = pos (w - 1 - v % 64)
+shown Inverted b v = pos (inverse v)
 
 -- the address that a target of v, a number of b bits, is, where the instruction stands at pc
 abbrev pub address : ℕ → ℕ → ℕ → ℕ → ℕ → ℕ
 address n g b v pc = (pc - pc % g + (if is_low b v then n * v else 2 ^ 64 - n * (2 ^ b - v))) % 2 ^ 64
 
-abbrev pub value_in : Codec → ℕ → ℕ
+abbrev pub value_in : Codec → ℕ → ℤ
 value_in c w = shown c.kind (bits_in (places c.parts)) (joined (places c.parts) w)
 
 -- ---- the item

@@ -1,7 +1,8 @@
 -- A statement's tokens as items, and what a table's patterns make of them. What a label is, and that a target is the
 -- last item, is this project's own.
-use Rattle.std.specs.Prelude.{ℕ, zero, suc, ◌+◌, ◌-◌, ◌*◌, ◌/◌, ◌%◌, ◌^◌, ◌==◌, ◌&&◌, ◌||◌, Bool, false, not, if◌then◌else◌, Option, Some, None, Result, Ok, Err, List, [], ◌∷◌, nat_lt, min, map}
+use Rattle.std.specs.Prelude.{ℕ, zero, suc, ◌-◌, ◌%◌, ◌^◌, ◌==◌, ◌&&◌, ◌||◌, Bool, false, not, if◌then◌else◌, Option, Some, None, Result, Ok, Err, List, [], ◌∷◌, nat_lt, map, pos, unsigned_abs}
 use Rattle.std.specs.Char.{is_ascii_digit, to_ascii_lowercase}
+use Rattle.std.specs.Int.{is_negative}
 use Rattle.std.specs.List.{list_all}
 use Rattle.asm_tokens.specs.Tokens.{is_word_byte, dot}
 use Rattle.asm_tokens.specs.Numbers as numbers
@@ -17,13 +18,9 @@ use Rattle.text_model.specs.Words.{item, classed}
 abbrev pub lowered : List ℕ → List ℕ
 lowered cs = map to_ascii_lowercase cs
 
--- a number: twice its size, and one more where it is negative
-abbrev pub number_value : numbers.Number → ℕ
-number_value n = let m = min n.magnitude (2 ^ 127 - 1) in if n.is_negative && not (m == 0) then 2 * m + 1 else 2 * m
-
 -- the item that tokens begin with, where this is the number that they begin with
 abbrev pub item_by : Option numbers.Number → List ℕ → Item
-item_by (Some n) t = item Number (number_value n)
+item_by (Some n) t = item Number (numbers.value n)
 item_by None t = classed (lowered t)
 
 -- how many tokens it has behind the first
@@ -62,12 +59,12 @@ ends_in_label ts = is_label_at (last_of ts)
 
 -- a number from 0 to 2^64 - 1
 abbrev pub is_address : Item → Bool
-is_address i = same_class i.class Number && (i.value % 2 == 0 && nat_lt (i.value / 2) (2 ^ 64))
+is_address i = same_class i.class Number && (not (is_negative i.value) && nat_lt (unsigned_abs i.value) (2 ^ 64))
 
 -- items with 0 in place of the last one, where it is a label or an address
 abbrev pub untargeted : Bool → List Item → List Item
 untargeted label [] = []
-untargeted label (i ∷ []) = (if label || is_address i then item Number 0 else i) ∷ []
+untargeted label (i ∷ []) = (if label || is_address i then item Number (pos 0) else i) ∷ []
 untargeted label (i ∷ j ∷ js) = i ∷ untargeted label (j ∷ js)
 
 -- what a statement jumps to or addresses
@@ -78,7 +75,7 @@ pub data Destination : Type 0 where
 abbrev pub destination : Option (List ℕ) → Option Item → Option Destination
 destination None o = None
 destination (Some t) None = None
-destination (Some t) (Some i) = Some (if is_label t then to_label t else to_address (i.value / 2 % 2 ^ 64))
+destination (Some t) (Some i) = Some (if is_label t then to_label t else to_address (unsigned_abs i.value % 2 ^ 64))
 
 -- where a statement with a target goes: its last token is a label, or its last item an address
 abbrev pub last_target : List (List ℕ) → List Item → Option Destination

@@ -1,7 +1,8 @@
 -- The text of an instruction: its pattern's name and the tokens of its slots, laid out. Which of the ways of writing
 -- that the Arm manual allows is printed is this project's own.
-use Rattle.std.specs.Prelude.{ℕ, ◌-◌, ◌/◌, ◌%◌, ◌^◌, ◌==◌, ◌&&◌, Bool, false, if◌then◌else◌, Option, Some, None, List, [], ◌∷◌, ◌++◌, bit_and, bit_or}
+use Rattle.std.specs.Prelude.{ℕ, ◌-◌, ◌^◌, ℤ, pos, unsigned_abs, ◌==◌, ◌&&◌, Bool, false, if◌then◌else◌, Option, Some, None, List, [], ◌∷◌, ◌++◌, bit_and, bit_or}
 use Rattle.std.specs.Fmt.{digits}
+use Rattle.std.specs.Int.{is_negative}
 use Rattle.emu_bits.specs.Rows.{Place, ones_at}
 use Rattle.asm_tokens.specs.Layout.{laid, hash}
 use Rattle.asm_tokens.specs.Numbers.{minus}
@@ -13,7 +14,7 @@ use Rattle.text_model.specs.declared.slots.Style.{Style}
 use Rattle.text_model.specs.declared.slots.Style.TheVariants as style
 use Rattle.text_model.specs.declared.slots.Slot.{Slot}
 use Rattle.text_model.specs.declared.slots.Item.{Item}
-use Rattle.text_model.specs.Slots.{place_of, places, bits_in, joined, class_in, shown, number, address, all_fit}
+use Rattle.text_model.specs.Slots.{place_of, places, bits_in, joined, class_in, shown, address, all_fit}
 use Rattle.text_model.specs.Reading.{Pattern}
 use Rattle.text_model.specs.Words.{spelled}
 
@@ -28,16 +29,17 @@ hexadecimal n = 48 ∷ 120 ∷ digits 16 false n
 
 -- the tokens of an item: of a number its digits, with the signs that its style gives it
 abbrev pub item_tokens : Style → Item → List (List ℕ)
-item_tokens style.Word i = spelled i.class i.value ∷ []
+item_tokens style.Word i = spelled i.class (unsigned_abs i.value) ∷ []
 item_tokens style.Counted i =
-    (hash ∷ []) ∷ (if i.value % 2 == 0 then decimal (i.value / 2) ∷ [] else (minus ∷ []) ∷ decimal (i.value / 2) ∷ [])
-item_tokens style.Bare i = decimal (i.value / 2) ∷ []
-item_tokens (style.Hexadecimal w) i = (hash ∷ []) ∷ hexadecimal (i.value / 2) ∷ []
-item_tokens style.Address i = hexadecimal (i.value / 2) ∷ []
+    let n = decimal (unsigned_abs i.value) in
+    (hash ∷ []) ∷ (if is_negative i.value then (minus ∷ []) ∷ n ∷ [] else n ∷ [])
+item_tokens style.Bare i = decimal (unsigned_abs i.value) ∷ []
+item_tokens (style.Hexadecimal w) i = (hash ∷ []) ∷ hexadecimal (unsigned_abs i.value) ∷ []
+item_tokens style.Address i = hexadecimal (unsigned_abs i.value) ∷ []
 
 -- the value that is printed: of a target its address, where the instruction stands at pc
-abbrev pub printed : Kind → ℕ → ℕ → ℕ → ℕ
-printed (Target n g) b v pc = number (address n g b v pc)
+abbrev pub printed : Kind → ℕ → ℕ → ℕ → ℤ
+printed (Target n g) b v pc = pos (address n g b v pc)
 printed k b v pc = shown k b v
 
 abbrev pub printed_item : Slot → ℕ → ℕ → Item

@@ -1,6 +1,7 @@
 -- What an item tells of the bits of a word: those that a slot shows as this item, where there are such. That they are
 -- so is tested by showing them again (Reading.antt). This is this project's own.
-use Rattle.std.specs.Prelude.{ℕ, zero, suc, ◌+◌, ◌-◌, ◌*◌, ◌/◌, ◌%◌, ◌^◌, ◌==◌, if◌then◌else◌, List, [], ◌∷◌, ◌++◌, bit_and, bit_or}
+use Rattle.std.specs.Prelude.{ℕ, zero, suc, ◌+◌, ◌-◌, ◌*◌, ◌/◌, ◌%◌, ◌^◌, ℤ, unsigned_abs, ◌==◌, Bool, if◌then◌else◌, List, [], ◌∷◌, ◌++◌, bit_and, bit_or}
+use Rattle.std.specs.Int.{is_negative}
 use Rattle.emu_bits.specs.Rows.{Place, width, ones_at}
 use Rattle.text_model.specs.declared.classes.Class.{Class}
 use Rattle.text_model.specs.declared.slots.Shape.{Shape}
@@ -34,30 +35,33 @@ abbrev pub gathered : ℕ → ℕ → ℕ
 gathered zero m = 0
 gathered (suc k) m = m % 2 + 2 * gathered k (m / 256)
 
--- the number of b bits that is shown as this
-abbrev pub told : Kind → ℕ → ℕ → ℕ
-told (Fixed x) b y = 0
-told Plain b y = y
-told Stack b y = if y == 32 then 31 else y
-told (After k) b y = (y + (32 - k)) % 32
-told NamedCount b y = y
-told UnnamedCount b y = y / 2
-told (Scaled n k) b y = y / 2 / n - k
-told Falling b y = 2 ^ b - y / 2
-told (Signed n) b y = if y % 2 == 0 then y / 2 / n else 2 ^ b - y / 2 / n
-told (Target n g) b y = 0
-told (Bitmask w) b y = bitmask_fields w (y / 2)
-told Spread b y = gathered 8 (y / 2)
-told (LeftShift w) b y = (w - y / 2) % w * 64 + (w - 1 - y / 2)
-told Inverted b y = inverse y
+-- The number of b bits that is shown as an integer, which is negative or isn't, and is m without its sign.
+abbrev pub told_of : Kind → ℕ → Bool → ℕ → ℕ
+told_of (Fixed x) b negative m = 0
+told_of Plain b negative m = m
+told_of Stack b negative m = if m == 32 then 31 else m
+told_of (After k) b negative m = (m + (32 - k)) % 32
+told_of NamedCount b negative m = m
+told_of UnnamedCount b negative m = m
+told_of (Scaled n k) b negative m = m / n - k
+told_of Falling b negative m = 2 ^ b - m
+told_of (Signed n) b negative m = if negative then 2 ^ b - m / n else m / n
+told_of (Target n g) b negative m = 0
+told_of (Bitmask w) b negative m = bitmask_fields w m
+told_of Spread b negative m = gathered 8 m
+told_of (LeftShift w) b negative m = (w - m) % w * 64 + (w - 1 - m)
+told_of Inverted b negative m = inverse m
+
+abbrev pub told : Kind → ℕ → ℤ → ℕ
+told k b z = told_of k b (is_negative z) (unsigned_abs z)
 
 -- a number's parts, as the highest bits of it first
 abbrev pub parted : List Place → ℕ → List Binding
 parted [] v = []
 parted (p ∷ ps) v = record { place = p; value = v / 2 ^ bits_in ps } ∷ parted ps v
 
-abbrev pub codec_tells : Codec → ℕ → List Binding
-codec_tells c y = parted (places c.parts) (told c.kind (bits_in (places c.parts)) y)
+abbrev pub codec_tells : Codec → ℤ → List Binding
+codec_tells c z = parted (places c.parts) (told c.kind (bits_in (places c.parts)) z)
 
 abbrev pub slot_tells : Slot → Item → List Binding
 slot_tells s i = class_tells s.shape i.class ++ codec_tells s.codec i.value

@@ -79,7 +79,7 @@ hexadecimal w c = written (style.Hexadecimal w) c
 
 -- always the number n, `#5`
 abbrev pub amount : ℕ → Slot
-amount n = counted (always (2 * n))
+amount n = counted (always n)
 
 -- `target`: the address n times the signed bits behind the instruction's, which is rounded down to a multiple of g
 abbrev pub target : ℕ → ℕ → Parts → Slot
@@ -91,7 +91,7 @@ target n g p = written style.Address (coded (Target n g) p)
 abbrev pub perhaps : Slot
 perhaps = record then { need = Begins }
 
--- an item of such a part, which has this value where the part is left out; of a number it is twice the number
+-- an item of such a part, which has this value where the part is left out
 abbrev pub inside : ℕ → Slot → Slot
 inside v s = record s { need = Inside v }
 

@@ -1,11 +1,12 @@
 //! What the items of a statement are.
 
-/// What an item of a statement is. Its value tells which: a register's number, a number, a word's place in its list.
+/// What an item of a statement is. Its value tells which: a number, with its sign, or the number of a register or of
+/// another word among those of its class.
 #[derive(Clone, Copy)]
 pub enum Class {
     /// No item of a text.
     Unknown,
-    /// A number: twice its size, and one more where it is negative.
+    /// A number.
     Number,
     Comma,
     Slash,

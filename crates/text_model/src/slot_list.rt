@@ -437,9 +437,9 @@ pub(crate) const SLOTS: [Slot; 230] = [
         two!(23, 22, 20, 20)
     ),
     number!(Style::Counted, Kind::Scaled { by: 1, from: 1 }, at!(19, 16)),
+    number!(Style::Counted, Kind::Fixed(1), Parts::Nowhere),
     number!(Style::Counted, Kind::Fixed(2), Parts::Nowhere),
-    number!(Style::Counted, Kind::Fixed(4), Parts::Nowhere),
-    number!(Style::Counted, Kind::Fixed(6), Parts::Nowhere),
+    number!(Style::Counted, Kind::Fixed(3), Parts::Nowhere),
     number!(Style::Counted, Kind::Falling, at!(18, 16)),
     number!(Style::Counted, Kind::Falling, at!(19, 16)),
     number!(Style::Counted, Kind::Falling, at!(20, 16)),
@@ -470,7 +470,7 @@ pub(crate) const SLOTS: [Slot; 230] = [
     number!(Style::Counted, Kind::LeftShift(64), at!(21, 10)),
     number!(Style::Counted, Kind::Scaled { by: 8, from: 1 }, at!(12, 12)),
     number!(Style::Counted, Kind::Fixed(0), Parts::Nowhere),
-    number!(Style::Counted, Kind::Fixed(8), Parts::Nowhere),
+    number!(Style::Counted, Kind::Fixed(4), Parts::Nowhere),
     number!(Style::Counted, Kind::Signed(1), at!(20, 12)),
     number!(Style::Counted, Kind::Signed(4), at!(21, 15)),
     number!(Style::Counted, Kind::Signed(8), at!(21, 15)),
@@ -491,7 +491,7 @@ pub(crate) const SLOTS: [Slot; 230] = [
         Style::Counted,
         Kind::Scaled { by: 1, from: 1 },
         at!(19, 16),
-        Need::Inside(2)
+        Need::Inside(1)
     ),
     number!(
         Style::Counted,

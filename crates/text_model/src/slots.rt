@@ -117,11 +117,11 @@ impl Default for Slot {
     }
 }
 
-/// An item of a statement.
+/// An item of a statement: a number, or which one of its class a register, another word or a mark is.
 #[derive(Clone, Copy)]
 pub struct Item {
     pub class: Class,
-    pub value: u128,
+    pub value: i128,
 }
 
 impl Default for Item {

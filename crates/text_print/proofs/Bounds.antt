@@ -1,13 +1,14 @@
 -- How many bytes a pattern's text takes at most.
-use Rattle.std.proofs.Common.{◌≡◌, ℕ, zero, suc, ◌+◌, ◌-◌, ◌*◌, ◌/◌, ◌%◌, ◌^◌, ◌<◌, ◌≤◌, ◌==◌, ◌&&◌, ◌||◌, if◌then◌else◌, Bool, true, false, List, [], ◌∷◌, ◌++◌, length, get_or, max, nat_lt, refl, sym, ap, subst, ◌∙◌, arith, length-append, inl, inr}
+use Rattle.std.proofs.Common.{◌≡◌, ℕ, zero, suc, ◌+◌, ◌-◌, ◌*◌, ◌/◌, ◌%◌, ◌^◌, ◌<◌, ◌≤◌, ℤ, pos, neg_ℤ, unsigned_abs, ◌==◌, ◌&&◌, ◌||◌, if◌then◌else◌, Bool, true, false, List, [], ◌∷◌, ◌++◌, length, get_or, max, nat_lt, refl, sym, ap, subst, ◌∙◌, arith, length-append, inl, inr}
 use Rattle.std.proofs.lemmas.Bool.{cases_Bool, and_parts, or_cases, or_right, or_left, eqb-true, ltb-true, false≢true}
 use Rattle.std.proofs.Math.Nat.{pow-suc}
 use Rattle.std.specs.Prelude.{unwrap_or}
 use Rattle.std.specs.Fmt.{digits}
+use Rattle.std.specs.Int.{is_negative}
 use Rattle.asm_tokens.specs.Layout.{hash}
 use Rattle.asm_tokens.specs.Numbers.{minus}
 use Rattle.text_model.specs.declared.classes.Class.{Class}
-use Rattle.text_model.specs.declared.classes.Class.TheVariants.{Unknown}
+use Rattle.text_model.specs.declared.classes.Class.TheVariants.{Unknown, Number}
 use Rattle.text_model.specs.declared.classes.Group.{Group}
 use Rattle.text_model.specs.declared.slots.Shape.{Shape}
 use Rattle.text_model.specs.declared.slots.Shape.TheVariants.{Only, Told, Shown}
@@ -18,12 +19,12 @@ use Rattle.text_model.specs.declared.slots.Style.TheVariants.{Word, Counted, Bar
 use Rattle.text_model.specs.declared.slots.Slot.{Slot}
 use Rattle.text_model.specs.Classes.{same_class}
 use Rattle.text_model.specs.Masks.{bitmask_at}
-use Rattle.text_model.specs.Slots.{place_of, places, at_place, bits_in, joined, classes_of, class_in, number, is_low, spread, shown, address}
+use Rattle.text_model.specs.Slots.{place_of, places, at_place, bits_in, joined, classes_of, class_in, is_low, spread, shown}
 use Rattle.text_model.specs.Words as words
 use Rattle.text_model.specs.Words.{Family, dictionary, families, two_digits, spelled_word, spelled_in, spelled}
 use Rattle.text_model.specs.Text.{decimal, item_tokens, printed, printed_item}
 use Rattle.text_model.proofs.Building.{joined_small}
-use Rattle.text_model.proofs.KindLaws.{bitmask_small}
+use Rattle.text_model.proofs.KindLaws.{minus_size, bitmask_small}
 use Rattle.text_model.proofs.Unlike.{some_class}
 use Rattle.text_code.specs.Sound.{is_sound_kind, is_sound}
 use Rattle.text_code.proofs.Slots.{kind_sound}
@@ -102,17 +103,13 @@ shape_longest (Shown b g) w = longest_at (classes_of g) (at_place (place_of b) w
 product_small : (v w n : ℕ) → v ≤ w → n * w < 2 ^ 64 → n * v < 2 ^ 64
 product_small v w n h k = let p : n * v ≤ n * w = grind arith in omega (arith, p, k)
 
-half_even : (m : ℕ) → m < 2 ^ 64 → 2 * m / 2 < 2 ^ 64
-half_even m h = omega (arith, h)
-
-half_odd : (m : ℕ) → m < 2 ^ 64 → (2 * m + 1) / 2 < 2 ^ 64
-half_odd m h = omega (arith, h)
-
-signed_small : (n b v : ℕ) → v < 2 ^ b → n * 2 ^ b < 2 ^ 64 → shown (Signed n) b v / 2 < 2 ^ 64
-signed_small n b v h l = elim (cases_Bool (is_low b v)) [
-  | inl e ↦ subst (λ (t : Bool). (if t then number (n * v) else 2 * (n * (2 ^ b - v)) + 1) / 2 < 2 ^ 64) (sym e) (half_even (n * v) (product_small v (2 ^ b) n (omega (arith, h)) l))
-  | inr e ↦ subst (λ (t : Bool). (if t then number (n * v) else 2 * (n * (2 ^ b - v)) + 1) / 2 < 2 ^ 64) (sym e) (half_odd (n * (2 ^ b - v)) (product_small (2 ^ b - v) (2 ^ b) n (omega arith) l))
-]
+signed_small : (n b v : ℕ) → v < 2 ^ b → n * 2 ^ b < 2 ^ 64 → unsigned_abs (shown (Signed n) b v) < 2 ^ 64
+signed_small n b v h l =
+    let P = λ (t : Bool). unsigned_abs (if t then pos (n * v) else neg_ℤ (pos (n * (2 ^ b - v)))) < 2 ^ 64 in
+    elim (cases_Bool (is_low b v)) [
+      | inl e ↦ subst P (sym e) (product_small v (2 ^ b) n (omega (arith, h)) l)
+      | inr e ↦ subst P (sym e) (subst (λ (x : ℕ). x < 2 ^ 64) (sym (minus_size (n * (2 ^ b - v)))) (product_small (2 ^ b - v) (2 ^ b) n (omega arith) l))
+    ]
 
 mod_small : (a : ℕ) → a % 2 ^ 64 < 2 ^ 64
 mod_small a = omega arith
@@ -135,15 +132,15 @@ mask_small w b v h l =
     ] in
     bitmask_small w v t (omega (arith, m))
 
-printed_small : (k : Kind) (b v pc : ℕ) → v < 2 ^ b → is_sound_kind k b ≡ true → nat_lt (greatest k b) (2 ^ 64) ≡ true → printed k b v pc / 2 < 2 ^ 64
+printed_small : (k : Kind) (b v pc : ℕ) → v < 2 ^ b → is_sound_kind k b ≡ true → nat_lt (greatest k b) (2 ^ 64) ≡ true → unsigned_abs (printed k b v pc) < 2 ^ 64
 printed_small (Fixed x) b v pc h s l = ltb-true _ _ l
-printed_small UnnamedCount b v pc h s l = let m : 2 ^ b < 2 ^ 64 = ltb-true _ _ l in half_even v (omega (arith, h, m))
-printed_small (Scaled n k) b v pc h s l = half_even (n * (v + k)) (product_small (v + k) (2 ^ b + k) n (omega (arith, h)) (ltb-true _ _ l))
-printed_small Falling b v pc h s l = let m : 2 ^ b < 2 ^ 64 = ltb-true _ _ l in half_even (2 ^ b - v) (omega (arith, m))
+printed_small UnnamedCount b v pc h s l = let m : 2 ^ b < 2 ^ 64 = ltb-true _ _ l in omega (arith, h, m)
+printed_small (Scaled n k) b v pc h s l = product_small (v + k) (2 ^ b + k) n (omega (arith, h)) (ltb-true _ _ l)
+printed_small Falling b v pc h s l = let m : 2 ^ b < 2 ^ 64 = ltb-true _ _ l in omega (arith, m)
 printed_small (Signed n) b v pc h s l = signed_small n b v h (ltb-true _ _ l)
-printed_small (Target n g) b v pc h s l = half_even (address n g b v pc) (mod_small _)
-printed_small (Bitmask w) b v pc h s l = half_even (unwrap_or (bitmask_at w v) 0) (mask_small w b v s h)
-printed_small Spread b v pc h s l = half_even (spread 8 v) (spread_below 8 v)
+printed_small (Target n g) b v pc h s l = mod_small _
+printed_small (Bitmask w) b v pc h s l = mask_small w b v s h
+printed_small Spread b v pc h s l = spread_below 8 v
 printed_small Plain b v pc h s l = absurd (false≢true l)
 printed_small Stack b v pc h s l = absurd (false≢true l)
 printed_small (After k) b v pc h s l = absurd (false≢true l)
@@ -151,7 +148,7 @@ printed_small NamedCount b v pc h s l = absurd (false≢true l)
 printed_small (LeftShift w) b v pc h s l = absurd (false≢true l)
 printed_small Inverted b v pc h s l = absurd (false≢true l)
 
-pub item_small : (s : Slot) (w pc : ℕ) → is_sound s ≡ true → is_small s ≡ true → is_word s.style ≡ false → (printed_item s w pc).value / 2 < 2 ^ 64
+pub item_small : (s : Slot) (w pc : ℕ) → is_sound s ≡ true → is_small s ≡ true → is_word s.style ≡ false → unsigned_abs (printed_item s w pc).value < 2 ^ 64
 item_small s w pc h k n =
     let b : ℕ = bits_in (places s.codec.parts) in
     let l : nat_lt (greatest s.codec.kind b) (2 ^ 64) ≡ true = sym (ap (λ (t : Bool). t || nat_lt (greatest s.codec.kind b) (2 ^ 64)) n) ∙ k in
@@ -159,24 +156,25 @@ item_small s w pc h k n =
 
 -- ---- tokens
 
-counted_room : (v : ℕ) → v / 2 < 2 ^ 64 → room_of ((hash ∷ []) ∷ (if v % 2 == 0 then decimal (v / 2) ∷ [] else (minus ∷ []) ∷ decimal (v / 2) ∷ [])) ≤ 25
-counted_room v h =
-    let l : length (decimal (v / 2)) ≤ 20 = decimal_length (v / 2) h in
-    let P = λ (t : Bool). room_of ((hash ∷ []) ∷ (if t then decimal (v / 2) ∷ [] else (minus ∷ []) ∷ decimal (v / 2) ∷ [])) ≤ 25 in
-    elim (cases_Bool (v % 2 == 0)) [
+counted_room : (z : ℤ) → unsigned_abs z < 2 ^ 64 → room_of (item_tokens Counted (words.item Number z)) ≤ 25
+counted_room z h =
+    let n : List ℕ = decimal (unsigned_abs z) in
+    let l : length n ≤ 20 = decimal_length (unsigned_abs z) h in
+    let P = λ (t : Bool). room_of ((hash ∷ []) ∷ (if t then (minus ∷ []) ∷ n ∷ [] else n ∷ [])) ≤ 25 in
+    elim (cases_Bool (is_negative z)) [
       | inl e ↦ subst P (sym e) (omega (arith, l))
       | inr e ↦ subst P (sym e) (omega (arith, l))
     ]
 
-styled_room_is : (s : Style) (k : Shape) (w v : ℕ) → (is_word s ≡ false → v / 2 < 2 ^ 64) → room_of (item_tokens s (words.item (class_in k w) v)) ≤ styled_room s k
-styled_room_is Word k w v h =
-    let l : length (spelled (class_in k w) v) ≤ longest (class_in k w) = spelled_length (class_in k w) v in
+styled_room_is : (s : Style) (k : Shape) (w : ℕ) (z : ℤ) → (is_word s ≡ false → unsigned_abs z < 2 ^ 64) → room_of (item_tokens s (words.item (class_in k w) z)) ≤ styled_room s k
+styled_room_is Word k w z h =
+    let l : length (spelled (class_in k w) (unsigned_abs z)) ≤ longest (class_in k w) = spelled_length (class_in k w) (unsigned_abs z) in
     let m : longest (class_in k w) ≤ longest_shown k = shape_longest k w in
     omega (arith, l, m)
-styled_room_is Counted k w v h = counted_room v (h refl)
-styled_room_is Bare k w v h = let l : length (decimal (v / 2)) ≤ 20 = decimal_length (v / 2) (h refl) in omega (arith, l)
-styled_room_is (Hexadecimal n) k w v h = let l : length (digits 16 false (v / 2)) ≤ 16 = hexadecimal_length (v / 2) (h refl) in omega (arith, l)
-styled_room_is Address k w v h = let l : length (digits 16 false (v / 2)) ≤ 16 = hexadecimal_length (v / 2) (h refl) in omega (arith, l)
+styled_room_is Counted k w z h = counted_room z (h refl)
+styled_room_is Bare k w z h = let l : length (decimal (unsigned_abs z)) ≤ 20 = decimal_length (unsigned_abs z) (h refl) in omega (arith, l)
+styled_room_is (Hexadecimal n) k w z h = let l : length (digits 16 false (unsigned_abs z)) ≤ 16 = hexadecimal_length (unsigned_abs z) (h refl) in omega (arith, l)
+styled_room_is Address k w z h = let l : length (digits 16 false (unsigned_abs z)) ≤ 16 = hexadecimal_length (unsigned_abs z) (h refl) in omega (arith, l)
 
 pub slot_room : (s : Slot) (w pc : ℕ) → is_sound s ≡ true → is_small s ≡ true → room_of (item_tokens s.style (printed_item s w pc)) ≤ styled_room s.style s.shape
 slot_room s w pc h k = styled_room_is s.style s.shape w (printed_item s w pc).value (item_small s w pc h k)

@@ -1,5 +1,5 @@
 -- The tokens of a pattern's text, and its length.
-use Rattle.std.proofs.Common.{◌≡◌, ℕ, ◌+◌, ◌≤◌, ◌==◌, ◌&&◌, if◌then◌else◌, Bool, true, false, not, List, [], ◌∷◌, ◌++◌, length, nat_lt, nat_le, refl, sym, ap, ◌∙◌, arith, length-append, inl, inr}
+use Rattle.std.proofs.Common.{◌≡◌, ℕ, unsigned_abs, ◌+◌, ◌≤◌, ◌==◌, ◌&&◌, if◌then◌else◌, Bool, true, false, not, List, [], ◌∷◌, ◌++◌, length, nat_lt, nat_le, refl, sym, ap, ◌∙◌, arith, length-append, inl, inr}
 use Rattle.std.proofs.lemmas.Bool.{cases_Bool, and_parts, and_from, and_left, not-true, leb-true, false≢true}
 use Rattle.std.proofs.lemmas.List.Folds.{list_all-append}
 use Rattle.asm_tokens.specs.Layout.{is_sign, is_empty, put, laid}
@@ -94,7 +94,7 @@ is_bare Bare = true
 is_bare s = false
 
 item_no_colon : (s : Style) (i : Item) (us : List (List ℕ)) → is_bare s ≡ false → begins_with_colon (item_tokens s i ++ us) ≡ false
-item_no_colon Word i us h = spelled_no_colon i.class i.value
+item_no_colon Word i us h = spelled_no_colon i.class (unsigned_abs i.value)
 item_no_colon Counted i us h = refl
 item_no_colon Bare i us h = absurd (false≢true (sym h))
 item_no_colon (Hexadecimal n) i us h = refl

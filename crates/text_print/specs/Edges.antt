@@ -1,7 +1,9 @@
 -- Tokens laid out one after the other, by what stands between each and the next.
-use Rattle.std.specs.Prelude.{◌&&◌, ◌||◌, Bool, ℕ, List, [], ◌∷◌, ◌++◌}
+use Rattle.std.specs.Prelude.{◌&&◌, ◌||◌, Bool, if◌then◌else◌, ℕ, List, [], ◌∷◌, ◌++◌}
 use Rattle.asm_tokens.specs.Layout.{comma, hash, open_brace, is_sign, begins_word, put}
+use Rattle.asm_tokens.specs.Numbers.{minus}
 use Rattle.asm_tokens.specs.Tokens.{slash}
+use Rattle.text_model.specs.Text.{decimal}
 use Rattle.text_print.specs.declared.edges.Edge.{Edge}
 
 -- what a token is, as far as the spaces beside it go
@@ -27,3 +29,8 @@ laid_behind e (t ∷ ts) = put (has_gap e (edge_of t)) (t ++ laid_behind (edge_o
 abbrev pub last_edge : Edge → List (List ℕ) → Edge
 last_edge e [] = e
 last_edge e (t ∷ ts) = last_edge (edge_of t) ts
+
+-- the tokens of a number with its sign
+abbrev pub counted_tokens : Bool → ℕ → List (List ℕ)
+counted_tokens negative m =
+    (hash ∷ []) ∷ (if negative then (minus ∷ []) ∷ decimal m ∷ [] else decimal m ∷ [])

@@ -1,5 +1,5 @@
 -- The most bytes that a pattern's text takes. This is this project's own.
-use Rattle.std.specs.Prelude.{ℕ, ◌+◌, ◌-◌, ◌*◌, ◌/◌, ◌^◌, ◌&&◌, ◌||◌, Bool, true, false, if◌then◌else◌, List, [], ◌∷◌, length, max, nat_lt, nat_le}
+use Rattle.std.specs.Prelude.{ℕ, ◌+◌, ◌-◌, ◌*◌, ◌^◌, ◌&&◌, ◌||◌, Bool, true, false, if◌then◌else◌, List, [], ◌∷◌, length, max, nat_lt, nat_le}
 use Rattle.text_model.specs.declared.classes.Class.{Class}
 use Rattle.text_model.specs.declared.slots.Shape.{Shape}
 use Rattle.text_model.specs.declared.slots.Shape.TheVariants.{Only, Told, Shown}
@@ -41,7 +41,7 @@ longest_shown (Shown b g) = longest_of (classes_of g)
 
 -- no number that a slot shows of b bits is greater
 abbrev pub greatest : Kind → ℕ → ℕ
-greatest (Fixed x) b = x / 2
+greatest (Fixed x) b = x
 greatest UnnamedCount b = 2 ^ b
 greatest (Scaled n k) b = n * (2 ^ b + k)
 greatest Falling b = 2 ^ b

@@ -1,12 +1,12 @@
 //! Instructions printed.
-ghost use Rattle.std.specs.Prelude.{◌≡◌, ◌+◌, ◌/◌, ◌<◌, ◌≤◌, ◌^◌, true, false, [], ◌∷◌, ◌++◌, length};
+ghost use Rattle.std.specs.Prelude.{◌≡◌, ◌+◌, ◌<◌, ◌≤◌, ◌^◌, unsigned_abs, true, false, [], ◌∷◌, ◌++◌, length};
 ghost use Rattle.asm_tokens.specs.Layout.{put};
 ghost use Rattle.asm_tokens.specs.Numbers.{minus};
 ghost use Rattle.text_model.specs.Text.{decimal, item_tokens, slot_tokens, text, chosen, text_of};
 ghost use Rattle.text_code.specs.Reads.{all_lines_sound};
 ghost use Rattle.text_code.specs.Sound.{are_sound};
 ghost use Rattle.text_code.specs.Tables.{pattern_of, pattern_at};
-ghost use Rattle.text_print.specs.Edges.{edge_of, has_gap, laid_behind, last_edge};
+ghost use Rattle.text_print.specs.Edges.{edge_of, has_gap, laid_behind, last_edge, counted_tokens};
 ghost use Rattle.text_print.specs.Lines.{some_lines};
 ghost use Rattle.text_print.specs.Room.{is_word, room_of, slots_room, are_small, has_room, all_have_room};
 
@@ -36,38 +36,37 @@ fn put_token(out: &mut ArrayString<96>, last: Edge, token: &str) -> Edge
 #[tactic(auto, using(crate::proofs::Laid::one_more, crate::proofs::Laid::then_more))]
 fn put_item(out: &mut ArrayString<96>, last: Edge, style: Style, item: Item) -> Edge
     requires room { length out.old.bytes + room_of (item_tokens style item) ≤ 96 }
-    requires small { is_word style ≡ false → item.value / 2 < 2 ^ 64 }
+    requires small { is_word style ≡ false → unsigned_abs item.value < 2 ^ 64 }
     ensures text { out.new.bytes ≡ out.old.bytes ++ laid_behind last (item_tokens style item) }
     ensures edge { result ≡ last_edge last (item_tokens style item) }
     ensures len { length out.new.bytes ≤ length out.old.bytes + room_of (item_tokens style item) }
 {
+    let size = item.value.unsigned_abs();
     match style {
-        Style::Word => put_token(out, last, &spelled(item.class, item.value)),
-        Style::Counted => put_counted(out, last, item),
-        Style::Bare => put_token(out, last, &decimal((item.value / 2) as u64)),
+        Style::Word => put_token(out, last, &spelled(item.class, size)),
+        Style::Counted => put_counted(out, last, item.value < 0, size as u64),
+        Style::Bare => put_token(out, last, &decimal(size as u64)),
         Style::Hexadecimal(_) => {
             let hash = put_token(out, last, "#");
-            put_token(out, hash, &hexadecimal((item.value / 2) as u64))
+            put_token(out, hash, &hexadecimal(size as u64))
         }
-        Style::Address => put_token(out, last, &hexadecimal((item.value / 2) as u64)),
+        Style::Address => put_token(out, last, &hexadecimal(size as u64)),
     }
 }
 
-/// Appends `#` and a number in decimal, with its sign if it is negative.
+/// Appends `#` and a number of this size in decimal, with its sign if it is negative.
 #[tactic(auto, using(crate::proofs::Laid::one_more, crate::proofs::Laid::then_more))]
-fn put_counted(out: &mut ArrayString<96>, last: Edge, item: Item) -> Edge
-    requires room { length out.old.bytes + room_of (item_tokens Style.Counted item) ≤ 96 }
-    requires small { item.value / 2 < 2 ^ 64 }
-    ensures text { out.new.bytes ≡ out.old.bytes ++ laid_behind last (item_tokens Style.Counted item) }
-    ensures edge { result ≡ last_edge last (item_tokens Style.Counted item) }
-    ensures len { length out.new.bytes ≤ length out.old.bytes + room_of (item_tokens Style.Counted item) }
+fn put_counted(out: &mut ArrayString<96>, last: Edge, negative: bool, size: u64) -> Edge
+    requires { length out.old.bytes + room_of (counted_tokens negative size) ≤ 96 }
+    ensures text { out.new.bytes ≡ out.old.bytes ++ laid_behind last (counted_tokens negative size) }
+    ensures edge { result ≡ last_edge last (counted_tokens negative size) }
+    ensures len { length out.new.bytes ≤ length out.old.bytes + room_of (counted_tokens negative size) }
 {
     let hash = put_token(out, last, "#");
-    let n = (item.value / 2) as u64;
-    if item.value % 2 == 0 {
-        put_token(out, hash, &decimal(n))
+    if negative {
+        put_negative(out, hash, size)
     } else {
-        put_negative(out, hash, n)
+        put_token(out, hash, &decimal(size))
     }
 }
 

@@ -1,4 +1,7 @@
-use Rattle.std.proofs.Common.{◌≡◌, ℕ, sym, ap, ap₂, ◌∙◌}
+use Rattle.std.proofs.Common.{◌≡◌, ℕ, ℤ, to_z, of_z, rules, sym, ap, ap₂, ◌∙◌}
+use Rattle.std.proofs.lemmas.Int.{to_z-of_z}
+use Rattle.std.specs.Int.{w128}
+use Rattle.std.specs.Prelude.{FitsSigned}
 use Rattle.text_model.specs.declared.slots.Shape.{Shape}
 use Rattle.text_model.specs.Slots.{place_of, places, bits_in}
 use Rattle.text_model.specs.Told.{Built, class_tells, codec_tells, told, parted, put, put_all}
@@ -37,7 +40,9 @@ returns c =
           ∙ ap (λ (s : Shape). put_all a (class_tells s class)) (sym w.in-Told.is)
       | in_default w ↦ ap built_of w.built-is ∙ ap (put_all a) (sym (no_class shape class w.in_default.not-Told))
     ] in
-    let value : c.told.result ≡ told codec.kind (bits_in (places codec.parts)) c.args.item.value = c.told.ensures ∙ ap (λ (n : ℕ). told codec.kind n c.args.item.value) c.width_of.ensures.value in
+    let f : FitsSigned w128 c.args.item.value = search rules in
+    let e : to_z w128 (of_z w128 c.args.item.value) ≡ c.args.item.value = to_z-of_z w128 c.args.item.value f in
+    let value : c.told.result ≡ told codec.kind (bits_in (places codec.parts)) c.args.item.value = c.told.ensures ∙ ap₂ (λ (n : ℕ) (z : ℤ). told codec.kind n z) c.width_of.ensures.value e in
     c.with_parts.ensures
     ∙ ap₂ (λ (b : Built) (n : ℕ). put_all b (parted (places codec.parts) n)) classed value
     ∙ sym (told_both a (class_tells shape class) (codec_tells codec c.args.item.value))

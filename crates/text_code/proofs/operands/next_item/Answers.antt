@@ -1,4 +1,4 @@
-use Rattle.std.proofs.Common.{◌≡◌, ◌<◌, ◌∷◌, ◌^◌, ℤ, drop, to_z, of_z, rules, sym, ap, ◌∙◌, subst}
+use Rattle.std.proofs.Common.{◌≡◌, ◌∷◌, ℤ, drop, to_z, of_z, rules, sym, ap, ◌∙◌}
 use Rattle.std.proofs.lemmas.Int.{to_z-of_z}
 use Rattle.std.specs.Int.{w128}
 use Rattle.std.specs.Prelude.{FitsSigned}
@@ -7,16 +7,8 @@ use Rattle.text_model.specs.declared.classes.Class.TheVariants.{Number}
 use Rattle.text_model.specs.declared.slots.Item.{Item}
 use Rattle.text_model.specs.Statement.{items_behind}
 use Rattle.text_model.specs.Words.{item}
-use Rattle.text_code.specs.Places.{signed_value}
-use Rattle.text_code.proofs.NextItem.{small_value, some_tokens, number_next, number_behind}
+use Rattle.text_code.proofs.NextItem.{some_tokens, number_next, number_behind}
 use Rattle.text_code.proofs.operands.next_item.Goals as goal
-
-pub item_of_number-requires : goal.item_of_number-requires
-item_of_number-requires c =
-    let n = c.in-Some.ensures.number in
-    let f : FitsSigned w128 c.in-Some.value = search rules in
-    let e : to_z w128 (of_z w128 c.in-Some.value) ≡ c.in-Some.value = to_z-of_z w128 c.in-Some.value f in
-    subst (λ (x : ℤ). signed_value x < 2 ^ 128) (sym e) (subst (λ (x : ℤ). signed_value x < 2 ^ 128) (sym n.value_is) (small_value n.number))
 
 pub returns-in-Some-clause-item : goal.returns-in-Some-clause-item
 returns-in-Some-clause-item c =
@@ -25,7 +17,7 @@ returns-in-Some-clause-item c =
     let f : FitsSigned w128 c.in-Some.value = search rules in
     let e : to_z w128 (of_z w128 c.in-Some.value) ≡ c.in-Some.value = to_z-of_z w128 c.in-Some.value f in
     number_next c.args.rest.now c.args.at _ _ c.in-Some.value c.in-Some.to t n
-    ∙ ap (λ (x : ℤ). item Number (signed_value x) ∷ items_behind 0 (tokens (drop c.in-Some.to c.args.rest.now))) (sym e)
+    ∙ ap (λ (x : ℤ). item Number x ∷ items_behind 0 (tokens (drop c.in-Some.to c.args.rest.now))) (sym e)
     ∙ ap (λ (i : Item). i ∷ items_behind 0 (tokens (drop c.in-Some.to c.args.rest.now))) (sym c.item_of_number.ensures)
 
 pub returns-in-Some-clause-behind : goal.returns-in-Some-clause-behind

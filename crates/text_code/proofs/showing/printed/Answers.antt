@@ -1,4 +1,7 @@
-use Rattle.std.proofs.Common.{ℕ, ◌*◌, ◌^◌, ◌<◌, refl, sym, ap, ap₂, ◌∙◌, subst}
+use Rattle.std.proofs.Common.{◌≡◌, ℕ, ◌^◌, ◌<◌, pos, to_z, of_z, rules, refl, sym, ap, ap₂, ◌∙◌, subst}
+use Rattle.std.proofs.lemmas.Int.{to_z-of_z}
+use Rattle.std.specs.Int.{w128}
+use Rattle.std.specs.Prelude.{FitsSigned}
 use Rattle.text_model.specs.declared.slots.Kind.{Kind}
 use Rattle.text_model.specs.Slots.{places, bits_in, joined, shown, address}
 use Rattle.text_model.specs.Text.{printed}
@@ -31,7 +34,9 @@ pub returns-in-Target : goal.returns-in-Target
 returns-in-Target c =
     let b : ℕ = bits_in (places c.args.slot.codec.parts) in
     let v : ℕ = joined (places c.args.slot.codec.parts) c.args.word in
-    ap (λ (x : ℕ). 2 * x) (c.from.ensures ∙ c.address.ensures ∙ ap (λ (v : ℕ). address c.in-Target.by c.in-Target.page b v c.args.pc) c.number_of-number.ensures.value)
+    let f : FitsSigned w128 c.from.result = search rules in
+    let e : to_z w128 (of_z w128 c.from.result) ≡ c.from.result = to_z-of_z w128 c.from.result f in
+    e ∙ c.from.ensures ∙ ap pos (c.address.ensures ∙ ap (λ (v : ℕ). address c.in-Target.by c.in-Target.page b v c.args.pc) c.number_of-number.ensures.value)
     ∙ ap (λ (k : Kind). printed k b v c.args.pc) (sym c.in-Target.is)
 
 pub returns-in_default : goal.returns-in_default
@@ -39,4 +44,6 @@ returns-in_default c =
     let k : Kind = c.args.slot.codec.kind in
     let b : ℕ = bits_in (places c.args.slot.codec.parts) in
     let v : ℕ = joined (places c.args.slot.codec.parts) c.args.word in
-    c.shown.ensures ∙ ap₂ (shown k) c.width_of.ensures.value c.number_of-number.ensures.value ∙ printed_as_shown k b v c.args.pc c.in_default.not-Target
+    let f : FitsSigned w128 c.shown.result = search rules in
+    let e : to_z w128 (of_z w128 c.shown.result) ≡ c.shown.result = to_z-of_z w128 c.shown.result f in
+    e ∙ c.shown.ensures ∙ ap₂ (shown k) c.width_of.ensures.value c.number_of-number.ensures.value ∙ printed_as_shown k b v c.args.pc c.in_default.not-Target
