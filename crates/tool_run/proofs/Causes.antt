@@ -14,7 +14,7 @@ use Rattle.commands.specs.Endings.{ended_by}
 use Rattle.commands.specs.Promises.{is_failure}
 use Rattle.commands.specs.Reading.{EndsUnread}
 use Rattle.commands.proofs.Causing.{not_failed}
-use Rattle.tool_sites.specs.Explanation.{ended_text, explanation}
+use Rattle.tool_sites.specs.Explanation.{explanation_alone, hinted_text}
 use Rattle.tool_run.specs.Tells.{AreSymbolsOf, IsExplained, IsSilentExit}
 
 -- an ending that isn't an exit
@@ -22,7 +22,7 @@ pub loud : (ending : Ending) (said : List ℕ) → ((code : ℕ) → ending ≡ 
 loud ending said never code is = absurd (never code is)
 
 exit_text : (symbols : List Symbol) (segments : List Segment) (m : Parts) (ended : Option Ended) (code : ℕ) →
-    ending_of m ended ≡ Exit code → ended_text symbols segments m ended ≡ []
+    ending_of m ended ≡ Exit code → hinted_text symbols segments m ended ≡ []
 exit_text symbols segments m None code is = cc
 exit_text symbols segments m (Some (Exited c)) code is = refl
 exit_text symbols segments m (Some (Trapped t)) code is = cc
@@ -105,8 +105,13 @@ hushed_exit false ending text said hush aloud silent code is = aloud refl ∙ si
 -- the text by the symbols of a file explains
 pub explained_by : {T E : Type 0} (bytes : T → List ℕ) (file : List ℕ) (segments : List Segment) (m : Parts) (found
     read : List Symbol) (said : Result T E)
-    → read ≡ found → AreSymbolsOf file found → IfOk said (λ t. bytes t ≡ explanation read segments m) → IfOk said (λ
+    → read ≡ found → AreSymbolsOf file found → IfOk said (λ t. bytes t ≡ explanation_alone read segments m) → IfOk said (λ
     t. IsExplained file segments m (bytes t))
 explained_by bytes file segments m found read (Ok t) same theirs is =
-    record { found = found; theirs = theirs; is = is ∙ ap (λ (xs : List Symbol). explanation xs segments m) same }
+    record { found = found; theirs = theirs; is = is ∙ ap (λ (xs : List Symbol). explanation_alone xs segments m) same }
 explained_by bytes file segments m found read (Err e) same theirs is = tt
+
+-- what is said of a failure isn't said of an exit
+pub failure_exit : (ending : Ending) (said text : List ℕ) → (is_failure ending ≡ false → text ≡ said) → IsSilentExit
+    ending said → IsSilentExit ending text
+failure_exit ending said text kept silent code is = kept (ap is_failure is) ∙ silent code is

@@ -141,13 +141,20 @@ ended_stop : {T E : Type 0} (put : Result T E) (ending result : Ending) → resu
 ended_stop (Ok done) ending result by stop = subst (λ (x : Ending). HasStopped x) by stop
 ended_stop (Err failed) ending result by stop = absurd (failed_no_stop result (ap is_failure by) stop)
 
+stop_fine : (ending : Ending) → HasStopped ending → is_failure ending ≡ false
+stop_fine ending stop = elim stop [
+  | inl e ↦ ap is_failure e
+  | inr s ↦ ap is_failure s.1.1
+]
+
 pub explained_words : {T E : Type 0} (read words : List (List ℕ)) (named : Option Files) (o : Option (List ℕ)) (said
     shown : List ℕ) (put : Result T E) (ending result : Ending) (of : List (List ℕ) → Result Line WordsFault)
-    → read ≡ words → shown ≡ said → result ≡ ended_by put ending
+    → read ≡ words → (is_failure ending ≡ false → shown ≡ said) → result ≡ ended_by put ending
     → IfSome named (λ files. IfSome o (λ i. HasStopped ending → ExplainsLine read files i said (of read)))
     → IfSome named (λ files. IfSome o (λ i. HasStopped result → ExplainsLine words files i shown (of words)))
 explained_words read words named o said shown put ending result of same text by explained =
     IfSome_then named explained (λ files h. IfSome_then o h (λ i k stop.
+    let stopped : HasStopped ending = ended_stop put ending result by stop in
     subst (λ (ws : List (List ℕ)). ExplainsLine ws files i shown (of ws)) same
-    (subst (λ (xs : List ℕ). ExplainsLine read files i xs (of read)) (sym text) (k (ended_stop put ending result by
-    stop)))))
+    (subst (λ (xs : List ℕ). ExplainsLine read files i xs (of read)) (sym (text (stop_fine ending stopped))) (k
+    stopped))))

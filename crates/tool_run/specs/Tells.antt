@@ -5,7 +5,7 @@ use Rattle.elf_symbols.specs.declared.Symbol.{Symbol}
 use Rattle.elf_symbols.specs.Order.{AreInOrder, stands_with}
 use Rattle.elf_symbols.specs.Symbols.{symbols, seen}
 use Rattle.emu_system.specs.declared.image.Segment.{Segment}
-use Rattle.tool_sites.specs.Explanation.{explanation}
+use Rattle.tool_sites.specs.Explanation.{explanation_alone}
 use Rattle.command_lines.specs.Outcome.{Outcome}
 use Rattle.command_lines.specs.declared.ending.Ending.{Ending}
 use Rattle.command_lines.specs.declared.ending.Ending.TheVariants.{Exit}
@@ -52,7 +52,7 @@ pub record AreSymbolsOf (file : List ℕ) (found : List Symbol) : Type 0 where
 pub record IsExplained (file : List ℕ) (segments : List Segment) (m : Parts) (said : List ℕ) : Type 0 where
   pub found : List Symbol
   pub theirs : AreSymbolsOf file found
-  pub is : said ≡ explanation found segments m
+  pub is : said ≡ explanation_alone found segments m
 
 -- nothing is said of an exit
 abbrev pub IsSilentExit : Ending → List ℕ → Type 0

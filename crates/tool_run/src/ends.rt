@@ -1,6 +1,8 @@
 //! How a command ended, and what is said of it.
 ghost use Rattle.std.specs.Prelude.{◌≡◌, [], string_bytes, true, false, IfErr, IfOk};
+ghost use Rattle.commands.specs.Promises.{is_failure};
 
+use crate::refusals::file_text;
 use command_lines::Ending;
 use std::alloc::{AllocError, Global};
 
@@ -53,5 +55,37 @@ pub fn hushed(alloc: Global, told: Told, quiet: bool) -> Told
         silent(alloc, told.ending)
     } else {
         told
+    }
+}
+
+/// A text, or what was said before where memory is wanting for it.
+fn text_or(text: Result<String, AllocError>, said: String) -> String {
+    match text {
+        Ok(text) => text,
+        Err(_) => said,
+    }
+}
+
+/// What is said of an ending, or in its place a line where the input, the output or memory failed.
+fn failure_text(alloc: Global, ending: Ending, said: String) -> String
+    ensures { is_failure ending ≡ false → string_bytes result ≡ string_bytes said }
+{
+    match ending {
+        Ending::ReadFault => text_or(file_text(alloc, "the input", "can't be read"), said),
+        Ending::WriteFault => text_or(file_text(alloc, "the output", "can't be written"), said),
+        Ending::OutOfMemory => text_or(file_text(alloc, "the memory", "isn't enough"), said),
+        _ => said,
+    }
+}
+
+/// The same, with a line where the input, the output or memory failed. Nothing is said where memory is wanting for that.
+pub fn with_failure(alloc: Global, told: Told) -> Told
+    ensures ending { result.ending ≡ told.ending }
+    ensures said { is_failure told.ending ≡ false → string_bytes result.said ≡ string_bytes told.said }
+{
+    let Told { ending, said } = told;
+    Told {
+        ending,
+        said: failure_text(alloc, ending, said),
     }
 }

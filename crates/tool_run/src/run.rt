@@ -39,7 +39,7 @@ use emu_machine::Machine;
 use emu_system::Segment;
 use io_gate::{Images, Sink, Source};
 use std::alloc::{AllocError, Global};
-use tool_sites::explain;
+use tool_sites::explain_alone;
 
 /// What is said of a machine that stopped, by the bytes of its file and the segments of its image. Err is want of
 /// memory.
@@ -52,7 +52,7 @@ fn said_of(
     ensures { IfOk result (λ text. IsExplained bytes.now segments.now machine.now.parts (string_bytes text)) }
 {
     let found = symbols(alloc, bytes)?;
-    explain(alloc, machine, &found, segments)
+    explain_alone(alloc, machine, &found, segments)
 }
 
 /// Runs a machine, and tells how it stopped.

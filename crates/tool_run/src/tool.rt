@@ -14,7 +14,7 @@ ghost use Rattle.tool_run.specs.Explains.{ExplainsLine, HasStopped};
 ghost use Rattle.tool_run.specs.Tells.{IsSilentExit, Tells};
 ghost use Rattle.tool_run.specs.Unreported.{unreported, unreported_over};
 
-use crate::ends::{Told, hushed, silent, with_text};
+use crate::ends::{Told, hushed, silent, with_failure, with_text};
 use crate::refusals::words_text;
 use crate::run::run_file;
 use command_lines::{Ending, Line, line_of_words};
@@ -156,7 +156,7 @@ pub fn run_program<F: Images, I: Source, O: Sink, E: Sink>(
         Err(_) => silent(alloc, Ending::OutOfMemory),
         Ok(same) => {
             let ran = run_words(alloc, &same, line, files, input, output, errors);
-            let told = hushed(alloc, ran, line.quiet);
+            let told = hushed(alloc, with_failure(alloc, ran), line.quiet);
             let put = put_all(errors, told.said.as_bytes());
             ended(told, put)
         }

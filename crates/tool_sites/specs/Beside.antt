@@ -1,6 +1,6 @@
 -- What is next to an address that was refused.
 use Rattle.std.specs.Prelude.{ℕ, ◌+◌, ◌-◌, ◌*◌, ◌^◌, Bool, ◌&&◌, List, [], ◌∷◌, Option, Some, None, is_some, max, min}
-use Rattle.std.specs.Prelude.{nat_eq, nat_lt, nat_le, if◌then◌else◌}
+use Rattle.std.specs.Prelude.{nat_eq, nat_lt, nat_le, unwrap_or, if◌then◌else◌}
 use Rattle.elf_symbols.specs.declared.Symbol.{Symbol}
 use Rattle.emu_model.specs.Access.{Memory, page_of, page_size}
 use Rattle.emu_system.specs.Stack.{stack_top}
@@ -8,7 +8,10 @@ use Rattle.emu_system.specs.declared.image.Segment.{Segment}
 use Rattle.tool_texts.specs.Places.{SeenPlace}
 use Rattle.tool_texts.specs.declared.accesses.Beside.{Beside}
 use Rattle.tool_texts.specs.declared.accesses.Beside.TheVariants.{Null, Unallowed, BelowStack, BehindStack}
-use Rattle.tool_texts.specs.declared.accesses.Beside.TheVariants.{BelowSegment, BehindSegment, BehindSymbol, Nowhere}
+use Rattle.tool_texts.specs.declared.accesses.Beside.TheVariants.{BelowSegment, BehindSegment, BehindSymbol}
+use Rattle.tool_texts.specs.declared.accesses.Beside.TheVariants.{BehindBreak}
+use Rattle.tool_sites.specs.Guards.{beside_guards}
+use Rattle.tool_sites.specs.Nearby.{behind_page, beside_mapping, follows, least_above, least_below, near_pages}
 use Rattle.tool_sites.specs.Sites.{nameless, near, shown_name}
 
 -- the address of the stack's lowest byte
@@ -73,25 +76,42 @@ behind_segment symbols a count =
     let n = behind_by a (last_ending a symbols) in
     if nat_lt 0 n && nat_le n near then BehindSymbol n else BehindSegment count
 
--- above no page that is mapped, and not next to the stack
-abbrev pub beside_segments : List Symbol → List Segment → ℕ → Beside
-beside_segments symbols segments a =
+-- next to a segment, or else by the numbers of pages to the nearest ones below and above, which are 0 where none is near
+abbrev pub beside_segments : List Symbol → List Segment → ℕ → ℕ → ℕ → Beside
+beside_segments symbols segments a below above =
     if nat_lt 0 (end_below a segments) && nat_lt (a - end_below a segments) near
     then behind_segment symbols a (a - end_below a segments + 1)
     else (if nat_le (start_above a segments - a) near
-    then BelowSegment (start_above a segments - a) else Nowhere)
+    then BelowSegment (start_above a segments - a) else beside_mapping a below above)
 
-abbrev pub beside_stack : List Symbol → List Segment → ℕ → Beside
-beside_stack symbols segments a =
+-- the nearest page below is of the break: no segment is above, and the pages behind the last one follow it without a gap
+abbrev pub is_break : List Segment → Memory → ℕ → ℕ → Bool
+is_break segments memory a below =
+    nat_lt 0 below && (nat_eq (start_above a segments) (2 ^ 64 - 1)
+    && follows memory (end_below a segments) (a - page_size * below))
+
+abbrev pub beside_break : List Symbol → List Segment → Memory → ℕ → ℕ → ℕ → Beside
+beside_break symbols segments memory a below above =
+    if is_break segments memory a below then BehindBreak (behind_page a below)
+    else beside_segments symbols segments a below above
+
+-- next to the stack, or else to other pages
+abbrev pub beside_stack : List Symbol → List Segment → Memory → ℕ → Beside
+beside_stack symbols segments memory a =
     if nat_lt a stack_low && nat_le (stack_low - a) near then BelowStack (stack_low - a)
     else (if nat_le stack_top a && nat_lt (a - stack_top) near then BehindStack (a - stack_top + 1)
-    else beside_segments symbols segments a)
+    else beside_break symbols segments memory a (least_below memory a near_pages) (least_above memory a near_pages))
+
+-- in no page that is mapped: next to a guarded buffer, or else to pages
+abbrev pub beside_unmapped : List Symbol → List Segment → Memory → ℕ → Beside
+beside_unmapped symbols segments memory a =
+    unwrap_or (beside_guards symbols memory a) (beside_stack symbols segments memory a)
 
 -- what is next to an address whose access was refused
 abbrev pub beside : List Symbol → List Segment → Memory → ℕ → Beside
 beside symbols segments memory a =
     if nat_lt a page_size then Null
-    else (if is_some (page_of memory a) then Unallowed else beside_stack symbols segments a)
+    else (if is_some (page_of memory a) then Unallowed else beside_unmapped symbols segments memory a)
 
 -- the symbol that is nearest below
 abbrev pub near_of : List Symbol → ℕ → SeenPlace

@@ -1,9 +1,7 @@
 -- The line that tells where and why a run stopped. `explanation`, at the end, is the whole of it.
-use Rattle.std.specs.Prelude.{ℕ, ◌+◌, ◌*◌, List, [], Option, Some, None, unwrap_or, codes}
+use Rattle.std.specs.Prelude.{ℕ, ◌%◌, ◌^◌, List, [], Option, Some, None, codes, length, nat_eq, if◌then◌else◌}
 use Rattle.elf_symbols.specs.declared.Symbol.{Symbol}
-use Rattle.emu_model.specs.Access.{Memory, address}
-use Rattle.emu_model.specs.Pages.{peeked}
-use Rattle.emu_model.specs.State.{Parts}
+use Rattle.emu_model.specs.State.{Parts, read_x}
 use Rattle.emu_model.specs.declared.trap.Ended.{Ended}
 use Rattle.emu_model.specs.declared.trap.Ended.TheVariants.{Exit, Trap as Trapped}
 use Rattle.emu_model.specs.declared.trap.Trap.{Trap}
@@ -12,6 +10,7 @@ use Rattle.emu_model.specs.declared.trap.TrapKind.TheVariants.{Undefined, Halt, 
 use Rattle.emu_model.specs.declared.trap.TrapKind.TheVariants.{Fetch, Read, Write}
 use Rattle.emu_system.specs.declared.image.Segment.{Segment}
 use Rattle.tool_texts.specs.Explanations.{undefined_line, at_stop_line, jump_line, spent_line, access_line, call_line}
+use Rattle.tool_texts.specs.Explanations.{call_hint}
 use Rattle.tool_texts.specs.declared.accesses.Beside.TheVariants.{Unaligned}
 use Rattle.word_families.specs.Families.{first_family}
 use Rattle.word_families.specs.Texts.{name_of, advice_of}
@@ -19,16 +18,7 @@ use Rattle.word_families.specs.declared.Family.{Family}
 use Rattle.word_families.specs.declared.groups.TheConstants.{GROUPS}
 use Rattle.tool_sites.specs.Beside.{beside, near_of}
 use Rattle.tool_sites.specs.Sites.{place_of, stop_of}
-
--- ---- the word at an address
-
-abbrev pub byte_at : Memory → ℕ → ℕ
-byte_at m a = unwrap_or (peeked m a) 0
-
-abbrev pub word_at : Memory → ℕ → ℕ
-word_at m a =
-    byte_at m a + 256 * byte_at m (address (a + 1)) + 65536 * byte_at m (address (a + 2))
-    + 16777216 * byte_at m (address (a + 3))
+use Rattle.tool_sites.specs.Words.{word_at}
 
 -- ---- a trap
 
@@ -79,3 +69,26 @@ ended_text symbols segments m (Some (Trapped t)) = trap_text symbols segments m 
 -- what is said of a machine that stopped, by the symbols of its file and the segments of its image: nothing of an exit
 abbrev pub explanation : List Symbol → List Segment → Parts → List ℕ
 explanation symbols segments m = ended_text symbols segments m m.ended
+
+-- ---- a machine without threads
+
+-- the calls that only programs with threads make, by their numbers
+abbrev pub thread_call : ℕ → List ℕ
+thread_call number = if nat_eq number 220 then codes "clone" else (if nat_eq number 98 then codes "futex" else [])
+
+-- that of a machine that stopped, by the number in X8; none of one that exited
+abbrev pub call_of : Parts → Option Ended → List ℕ
+call_of m None = thread_call (read_x m.core 8 % 2 ^ 32)
+call_of m (Some (Exit code)) = []
+call_of m (Some (Trapped t)) = thread_call (read_x m.core 8 % 2 ^ 32)
+
+-- a text, and what is said of such a call behind it
+abbrev pub then_hint : List ℕ → List ℕ → List ℕ
+then_hint text call = if nat_eq (length call) 0 then text else call_hint text call
+
+abbrev pub hinted_text : List Symbol → List Segment → Parts → Option Ended → List ℕ
+hinted_text symbols segments m ended = then_hint (ended_text symbols segments m ended) (call_of m ended)
+
+-- the same of a machine that runs alone, where calls for threads are refused
+abbrev pub explanation_alone : List Symbol → List Segment → Parts → List ℕ
+explanation_alone symbols segments m = hinted_text symbols segments m m.ended

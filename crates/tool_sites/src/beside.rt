@@ -1,7 +1,9 @@
 //! What is next to an address that was refused.
-ghost use Rattle.std.specs.Prelude.{◌≡◌, Some, IfOk, if◌then◌else◌};
+ghost use Rattle.std.specs.Prelude.{◌≡◌, ◌≤◌, Some, IfOk, if◌then◌else◌};
 ghost use Rattle.tool_sites.specs.Beside as model;
 
+use crate::guards::beside_guards;
+use crate::nearby::{behind_page, beside_mapping, follows, least_above, least_below};
 use crate::places::{NEAR, end_place};
 use elf_symbols::Symbol;
 use emu_model::PAGE_SIZE;
@@ -113,9 +115,18 @@ fn behind_segment(symbols: &[Symbol<'_>], address: u64, count: u64) -> Beside
     }
 }
 
-/// Next to a segment, or far from all.
-fn beside_segments(symbols: &[Symbol<'_>], segments: &[Segment], address: u64) -> Beside
-    ensures { result ≡ model.beside_segments symbols.now segments.now address }
+/// Next to a segment, or else to other pages, by the numbers of pages to those below and above, which are 0 where none
+/// is near.
+fn beside_segments(
+    symbols: &[Symbol<'_>],
+    segments: &[Segment],
+    address: u64,
+    below: u64,
+    above: u64,
+) -> Beside
+    requires below { below ≤ 256 }
+    requires above { above ≤ 256 }
+    ensures { result ≡ model.beside_segments symbols.now segments.now address below above }
 {
     let end = end_below(address, segments);
     let start = start_above(address, segments);
@@ -125,13 +136,44 @@ fn beside_segments(symbols: &[Symbol<'_>], segments: &[Segment], address: u64) -
     if start.saturating_sub(address) <= NEAR {
         Beside::BelowSegment(start.saturating_sub(address))
     } else {
-        Beside::Nowhere
+        beside_mapping(address, below, above)
     }
 }
 
-/// Next to the stack or to a segment, or far from all.
-fn beside_stack(symbols: &[Symbol<'_>], segments: &[Segment], address: u64) -> Beside
-    ensures { result ≡ model.beside_stack symbols.now segments.now address }
+/// Whether the nearest page below an address, so many pages away, is one that the break gave.
+fn is_break(segments: &[Segment], memory: &Mem, address: u64, below: u64) -> bool
+    requires { below ≤ 256 }
+    ensures { result ≡ model.is_break segments.now memory.now.memory address below }
+{
+    let end = end_below(address, segments);
+    0 < below
+        && start_above(address, segments) == u64::MAX
+        && follows(memory, end, address.saturating_sub(PAGE_SIZE * below))
+}
+
+/// Next to the break, or else to other pages.
+fn beside_break(
+    symbols: &[Symbol<'_>],
+    segments: &[Segment],
+    memory: &Mem,
+    address: u64,
+    below: u64,
+    above: u64,
+) -> Beside
+    requires below { below ≤ 256 }
+    requires above { above ≤ 256 }
+    ensures { result ≡ model.beside_break symbols.now segments.now memory.now.memory address below above }
+{
+    if is_break(segments, memory, address, below) {
+        Beside::BehindBreak(behind_page(address, below))
+    } else {
+        beside_segments(symbols, segments, address, below, above)
+    }
+}
+
+/// Next to the stack, or else to other pages.
+fn beside_stack(symbols: &[Symbol<'_>], segments: &[Segment], memory: &Mem, address: u64) -> Beside
+    ensures { result ≡ model.beside_stack symbols.now segments.now memory.now.memory address }
 {
     if address < STACK_LOW && STACK_LOW - address <= NEAR {
         return Beside::BelowStack(STACK_LOW - address);
@@ -139,12 +181,29 @@ fn beside_stack(symbols: &[Symbol<'_>], segments: &[Segment], address: u64) -> B
     if STACK_TOP <= address && address - STACK_TOP < NEAR {
         return Beside::BehindStack(address - STACK_TOP + 1);
     }
-    beside_segments(symbols, segments, address)
+    let below = least_below(memory, address);
+    let above = least_above(memory, address);
+    beside_break(symbols, segments, memory, address, below, above)
+}
+
+/// Next to a guarded buffer, or else to pages.
+fn beside_unmapped(
+    symbols: &[Symbol<'_>],
+    segments: &[Segment],
+    memory: &Mem,
+    address: u64,
+) -> Beside
+    ensures { result ≡ model.beside_unmapped symbols.now segments.now memory.now.memory address }
+{
+    match beside_guards(symbols, memory, address) {
+        Some(beside) => beside,
+        None => beside_stack(symbols, segments, memory, address),
+    }
 }
 
 /// What is next to an address whose access was refused.
 pub fn beside_of(symbols: &[Symbol<'_>], segments: &[Segment], memory: &Mem, address: u64) -> Beside
-    ensures { result ≡ model.beside symbols.now segments.now memory.now address }
+    ensures { result ≡ model.beside symbols.now segments.now memory.now.memory address }
 {
     if address < PAGE_SIZE {
         return Beside::Null;
@@ -152,7 +211,7 @@ pub fn beside_of(symbols: &[Symbol<'_>], segments: &[Segment], memory: &Mem, add
     if memory.peek(address).is_some() {
         return Beside::Unallowed;
     }
-    beside_stack(symbols, segments, address)
+    beside_unmapped(symbols, segments, memory, address)
 }
 
 /// The place of an address by the symbol that is nearest below it. Err is want of memory.

@@ -3,8 +3,12 @@
 #![tactic(auto)]
 
 mod beside;
+mod guards;
+mod hints;
 mod lines;
+mod nearby;
 mod places;
 mod words;
 
+pub use hints::{explain_alone, explain_stuck};
 pub use lines::explain;

@@ -4,6 +4,7 @@ ghost use Rattle.tool_texts.specs.Explanations.{access_line, at_stop_line, jump_
 ghost use Rattle.tool_sites.specs.Beside.{near_of};
 ghost use Rattle.tool_sites.specs.Explanation as texts;
 ghost use Rattle.tool_sites.specs.Sites.{place_of, stop_of};
+ghost use Rattle.tool_sites.specs.Words.{word_at};
 
 use crate::beside::{beside_of, near_of};
 use crate::places::place_of;
@@ -38,7 +39,7 @@ fn undefined_text(
     symbols: &[Symbol<'_>],
 ) -> Result<String, AllocError>
     ensures { IfOk result (λ text. string_bytes text ≡ texts.undefined_text symbols.now machine.now.parts
-        (texts.word_at machine.now.parts.memory machine.now.parts.core.pc)) }
+        (word_at machine.now.parts.memory machine.now.parts.core.pc)) }
 {
     let mut text = String::new(alloc);
     let stop = stop_of(alloc, machine, symbols)?;

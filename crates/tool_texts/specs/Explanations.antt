@@ -114,6 +114,12 @@ spent_line text stop =
     then_short (((text ++ codes "svemu: ") ++ decimal stop.steps) ++ codes " steps are spent in ") stop.place
     ++ (codes " (SVEMU_BUDGET gives more)" ++ 10 ∷ [])
 
+-- behind the line of a stop: a call that only programs with threads make, by its name
+abbrev pub call_hint : List ℕ → List ℕ → List ℕ
+call_hint text call =
+    ((text ++ codes "svemu: x8 names the call ") ++ call)
+    ++ (codes ", which is refused here: svemu threads runs a program with threads" ++ 10 ∷ [])
+
 -- no thread is ready
 abbrev pub stuck_line : List ℕ → ℕ → List ℕ
 stuck_line text steps = then_steps (text ++ codes "svemu: no thread is ready, since each waits for another") steps

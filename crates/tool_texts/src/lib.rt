@@ -13,4 +13,6 @@ mod stops;
 pub use accesses::{Beside, push_access, push_call};
 pub use pieces::{Place, push_place, push_short};
 pub use refusals::{image_hint, push_family_line, push_file_line, push_value_line};
-pub use stops::{Stop, push_at_stop, push_jump, push_spent, push_stuck, push_undefined};
+pub use stops::{
+    Stop, push_at_stop, push_call_hint, push_jump, push_spent, push_stuck, push_undefined,
+};

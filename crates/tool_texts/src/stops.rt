@@ -2,6 +2,7 @@
 ghost use Rattle.std.specs.Prelude.{◌≡◌, string_bytes, OnOk};
 ghost use Rattle.tool_texts.specs.Explanations.{
   at_stop_line,
+  call_hint,
   jump_line,
   spent_line,
   stuck_line,
@@ -102,4 +103,13 @@ pub fn push_stuck(text: &mut String, steps: u64) -> Result<(), AllocError>
 {
     text.push_str("svemu: no thread is ready, since each waits for another")?;
     push_steps(text, steps)
+}
+
+/// Appends the line of a program that made a call which only programs with threads make, by the call's name.
+pub fn push_call_hint(text: &mut String, call: &str) -> Result<(), AllocError>
+    ensures { OnOk result (string_bytes text.new ≡ call_hint (string_bytes text.old) call.now) }
+{
+    text.push_str("svemu: x8 names the call ")?;
+    text.push_str(call)?;
+    text.push_str(", which is refused here: svemu threads runs a program with threads\n")
 }
