@@ -2,6 +2,7 @@ pub mod Assembling
 pub mod Causing
 pub mod Copies
 pub mod Disassembling
+pub mod Keeping
 pub mod Lines
 pub mod LoadPrograms
 pub mod MayEnd

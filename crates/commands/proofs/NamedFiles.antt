@@ -21,7 +21,7 @@ use Rattle.commands.proofs.Meetings.{nothing_meets, line_meets}
 
 -- ---- outcomes over a file
 
-found_so : (b : Bool) (bytes found : List ℕ) → cond b (Ok bytes) (Err images.TooLong) ≡ Ok found → (bytes ≡ found) × (b ≡ true)
+pub found_so : (b : Bool) (bytes found : List ℕ) → cond b (Ok bytes) (Err images.TooLong) ≡ Ok found → (bytes ≡ found) × (b ≡ true)
 found_so true bytes found e = (cc, refl)
 found_so false bytes found e = cc
 
@@ -35,7 +35,7 @@ fits n limit h = grind (arith, nat_tests)
 passes : (n limit : ℕ) → nat_le n limit ≡ false → nat_lt limit n ≡ true
 passes n limit h = grind (arith, nat_tests)
 
-abbrev too_long : Outcome
+abbrev pub too_long : Outcome
 too_long = refusal (TooLong file_limit) (too_long_line file_limit)
 
 -- what comes of the bytes of a file that isn't too long
@@ -46,7 +46,7 @@ with_found (Some found) bytes next e =
     ap (λ b. cond b (Some too_long) (next found)) (fits (length found) file_limit p.1) ∙ ap next p.0
 
 -- a file that is too long
-with_long : (o : Option (List ℕ)) (next : List ℕ → Option Outcome) → whole_file o file_limit ≡ Err images.TooLong → with_file o next ≡ Some too_long
+pub with_long : (o : Option (List ℕ)) (next : List ℕ → Option Outcome) → whole_file o file_limit ≡ Err images.TooLong → with_file o next ≡ Some too_long
 with_long None next e = cc
 with_long (Some found) next e = ap (λ b. cond b (Some too_long) (next found)) (passes (length found) file_limit (too_long_so (nat_le (length found) file_limit) found e))
 

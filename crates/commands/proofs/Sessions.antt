@@ -13,8 +13,6 @@ use Rattle.dbg_core.specs.Errors.{fault_in}
 use Rattle.line_words.specs.Reading.{IsErrorOf}
 use Rattle.dbg_core.specs.declared.script_reader.ScriptError.{ScriptError}
 use Rattle.dbg_core.specs.declared.script_reader.ScriptError.TheVariants.{Refused}
-use Rattle.emu_model.specs.Access.{Marks, no_marks}
-use Rattle.emu_model.specs.Marks.{fresh_marks}
 use Rattle.emu_model.specs.State.{Parts}
 use Rattle.command_lines.specs.Outcome.{Outcome, outcome_of_commands, outcome_of_script, outcome_of_session, outcome_of_session_back, over_whole}
 use Rattle.command_lines.specs.declared.ending.Ending.{Ending}
@@ -22,7 +20,6 @@ use Rattle.command_lines.specs.declared.ending.Ending.TheVariants.{Done, ScriptR
 use Rattle.emu_system.specs.Gained.{Gains}
 use Rattle.emu_system.specs.Start.{with_input}
 use Rattle.io_gate.specs.Pieces.{PutsAll}
-use Rattle.emu_run.specs.Marked.{parts_with}
 use Rattle.commands.specs.Endings.{ended_by, ending_of_back}
 use Rattle.commands.specs.Lines.{script_goes_back}
 use Rattle.commands.specs.Promises.{is_refusal, settled_sweep, settles_by}
@@ -88,18 +85,16 @@ kind_back backs.Done = refl
 kind_back backs.WriteFault = refl
 kind_back backs.ErrorsFault = refl
 
--- the machine has marks, of which the definitions' start has none: what it writes doesn't rest on them
-pub back_wrote : (commands : List Command) (budget pages : ℕ) (m opened : Parts) (input : List ℕ) (o0 o1 e0 e1 : Option (List ℕ)) (end : BackEnd) (result : Ending)
-    → m ≡ parts_with opened (fresh_marks pages) → parts_with opened (no_marks pages) ≡ opened → result ≡ ending_of_back end
-    → ((marks : Marks) → IfSome o0 (λ had. Gains (is_fault end) o1 had (session_back commands budget (with_input (parts_with m marks) input)).output))
-    → ((marks : Marks) → IfSome e0 (λ had. Gains (is_fault end) e1 had (session_back commands budget (with_input (parts_with m marks) input)).errors))
+pub back_wrote : (commands : List Command) (budget : ℕ) (m opened : Parts) (input : List ℕ) (o0 o1 e0 e1 : Option (List ℕ)) (end : BackEnd) (result : Ending)
+    → m ≡ opened → result ≡ ending_of_back end
+    → IfSome o0 (λ had. Gains (is_fault end) o1 had (session_back commands budget (with_input m input)).output)
+    → IfSome e0 (λ had. Gains (is_fault end) e1 had (session_back commands budget (with_input m input)).errors)
     → Writes (outcome_of_session_back commands budget opened input) result o0 o1 e0 e1
-back_wrote commands budget pages m opened input o0 o1 e0 e1 end result marked plain by outs errs =
-    let same : parts_with m (no_marks pages) ≡ opened = ap (λ (x : Parts). parts_with x (no_marks pages)) marked ∙ plain in
+back_wrote commands budget m opened input o0 o1 e0 e1 end result same by outs errs =
     subst (λ (x : Ending). Writes (outcome_of_session_back commands budget opened input) x o0 o1 e0 e1) (sym by)
     (back_writes (outcome_of_session_back commands budget opened input) o0 o1 e0 e1 end refl
-    (subst (λ (x : Parts). IfSome o0 (λ had. Gains (is_fault end) o1 had (session_back commands budget (with_input x input)).output)) same (outs (no_marks pages)))
-    (subst (λ (x : Parts). IfSome e0 (λ had. Gains (is_fault end) e1 had (session_back commands budget (with_input x input)).errors)) same (errs (no_marks pages))))
+    (subst (λ (x : Parts). IfSome o0 (λ had. Gains (is_fault end) o1 had (session_back commands budget (with_input x input)).output)) same outs)
+    (subst (λ (x : Parts). IfSome e0 (λ had. Gains (is_fault end) e1 had (session_back commands budget (with_input x input)).errors)) same errs))
 
 -- an input that was read is all of it
 pub back_takes : (commands : List Command) (budget : ℕ) (m : Parts) (i : List ℕ) → (outcome_of_session_back commands budget m i).taken ≡ length i

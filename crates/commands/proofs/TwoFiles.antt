@@ -86,11 +86,11 @@ read_before second told words place name bytes items named are found before =
     (subst (λ (n : List ℕ). TakesBefore second told n) (sym named) before)
 
 module _ (bytes text : List ℕ) (args : List (List ℕ)) (p : Program) where
-  refused_is : (second : SecondFile) (fault : ElfFault) (i : List ℕ) → refusal (ImageRefused fault) (image_line fault) ≡ outcome_by second bytes text args i p (Err fault)
+  pub refused_is : (second : SecondFile) (fault : ElfFault) (i : List ℕ) → refusal (ImageRefused fault) (image_line fault) ≡ outcome_by second bytes text args i p (Err fault)
   refused_is Script fault i = refl
   refused_is Schedule fault i = refl
 
-  accepted_is : (second : SecondFile) (image : Image) (i : List ℕ) → outcome_from second text i p.budget (opening bytes image args p.length p.pages) ≡ outcome_by second bytes text args i p (Ok image)
+  pub accepted_is : (second : SecondFile) (image : Image) (i : List ℕ) → outcome_from second text i p.budget (opening bytes image args p.length p.pages) ≡ outcome_by second bytes text args i p (Ok image)
   accepted_is Script image i = refl
   accepted_is Schedule image i = refl
 

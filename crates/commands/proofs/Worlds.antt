@@ -37,7 +37,7 @@ ends_as_world stops.Spent = record { settles = refl; accepts = refl; whole = ref
 ends_as_world stops.Stuck = record { settles = refl; accepts = refl; whole = refl }
 
 -- a run that stopped wasn't broken off, and stopped as its world says
-stops_whole : (end : WorldEnd) (stop : WorldEnding) → Ok stop ≡ stop_by end → is_broken_off end ≡ false
+pub stops_whole : (end : WorldEnd) (stop : WorldEnding) → Ok stop ≡ stop_by end → is_broken_off end ≡ false
 stops_whole (worlds.Exit code) stop is = refl
 stops_whole (worlds.Trap trap pc) stop is = refl
 stops_whole worlds.Spent stop is = refl
@@ -77,7 +77,7 @@ ended_stop put stop ending result is by = by ∙ ap (ended_by put) is
 
 -- ---- the causes of faults, where the run stopped
 
-fine_not : (stop : WorldEnding) (fault : Ending) → is_failure fault ≡ true → ending_of_world stop ≡ fault → ⊥
+pub fine_not : (stop : WorldEnding) (fault : Ending) → is_failure fault ≡ true → ending_of_world stop ≡ fault → ⊥
 fine_not stop fault is e = let f : false ≡ true = sym (ends_as_world stop).whole ∙ ap is_failure e ∙ is in cc
 
 apart : (stop : WorldEnding) (fault : Ending) (r : Result WorldEnding Ending) → Ok stop ≡ r → r ≡ Err fault → ⊥

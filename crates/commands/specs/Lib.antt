@@ -6,3 +6,5 @@ pub mod Meets
 pub mod Reading
 pub mod SecondFiles
 pub mod Sweeping
+pub mod Passing
+pub mod Whole

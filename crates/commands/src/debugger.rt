@@ -25,6 +25,8 @@ ghost use Rattle.commands.specs.Programs.{arguments_of, opening_of};
 ghost use Rattle.commands.specs.Promises.{settles_by};
 ghost use Rattle.commands.specs.Meets.{now, Meets, MeetsBy, MeetsSweep};
 ghost use Rattle.commands.specs.Sweeping.{ends_swept, Writes};
+ghost use Rattle.commands.specs.Whole.{InSession, Keeps};
+ghost use Rattle.commands.specs.Passing.{InText};
 
 use crate::files::ending_after_line;
 use crate::program::{Program, open_machine, open_marked};
@@ -99,6 +101,9 @@ fn debug_machine<I: Source, O: Sink, E: Sink>(
     ensures no_file { result ≢ Ending.FileFault }
     ensures no_memory { result ≢ Ending.OutOfMemory }
     ensures kind { ends_dbg result ≡ true }
+    ensures whole { Keeps (InSession script.now machine.old.parts budget result (I.left input.new))
+        (λ i. Some (outcome_of_session i (model.session script.now budget (with_input machine.old.parts i)))) result
+        (I.left input.old) (O.held output.old) (O.held output.new) (E.held errors.old) (E.held errors.new) }
 {
     ending_of_session(session(machine, script, budget, input, output, errors))
 }
@@ -131,6 +136,12 @@ fn debug_forward<I: Source, O: Sink, E: Sink>(
     ensures memory_first { result ≡ Ending.OutOfMemory
         → (input.new ≡ input.old) × (output.new ≡ output.old) × (errors.new ≡ errors.old) }
     ensures kind { ends_dbg result ≡ true }
+    ensures whole { Keeps (InSession script.now
+        (opening_of bytes.now (seen_image image.now) (map string_bytes words.now) program.now) program.now.budget
+        result (I.left input.new))
+        (λ i. Some (outcome_of_session i (model.session script.now program.now.budget (with_input
+        (opening_of bytes.now (seen_image image.now) (map string_bytes words.now) program.now) i)))) result
+        (I.left input.old) (O.held output.old) (O.held output.new) (E.held errors.old) (E.held errors.new) }
 {
     match open_machine(alloc, bytes, image, words, program) {
         Err(_) => Ending::OutOfMemory,
@@ -256,6 +267,13 @@ fn debug_script<I: Source, O: Sink, E: Sink>(
     ensures read_unwritten { has_back script.now ≡ true → result ≡ Ending.ReadFault
         → (output.new ≡ output.old) × (errors.new ≡ errors.old) }
     ensures kind { ends_dbg result ≡ true }
+    ensures whole { has_back script.now ≡ false → Keeps (InSession script.now
+        (opening_of bytes.now (seen_image image.now) (map string_bytes words.now) program.now) program.now.budget
+        result (I.left input.new))
+        (λ i. Some (outcome_of_commands i program.now.budget
+        (opening_of bytes.now (seen_image image.now) (map string_bytes words.now) program.now) script.now))
+        result (I.left input.old)
+        (O.held output.old) (O.held output.new) (E.held errors.old) (E.held errors.new) }
 {
     if script.has_back() {
         debug_back(
@@ -303,6 +321,15 @@ pub fn debug_image<I: Source, O: Sink, E: Sink>(
     ensures read_unwritten { text_goes_back text.now ≡ true → result ≡ Ending.ReadFault
         → (output.new ≡ output.old) × (errors.new ≡ errors.old) }
     ensures kind { ends_dbg result ≡ true }
+    ensures whole { text_goes_back text.now ≡ false → Keeps
+        (InText text.now
+        (opening_of bytes.now (seen_image image.now) (map string_bytes words.now) program.now) program.now.budget
+        result (I.left input.new))
+        (λ i. Some (outcome_of_script i program.now.budget
+        (opening_of bytes.now (seen_image image.now) (map string_bytes words.now) program.now)
+        (script_of_file text.now)))
+        result (I.left input.old)
+        (O.held output.old) (O.held output.new) (E.held errors.old) (E.held errors.new) }
 {
     match script_of(alloc, text) {
         Err(ScriptError::Refused(fault)) => ending_after_line(

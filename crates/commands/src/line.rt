@@ -26,6 +26,7 @@ ghost use Rattle.commands.specs.Lines.{
   takes_input,
   names_file,
   may_end,
+  reads_first,
   sweeps,
   RefusesLine,
   MissesFirst,
@@ -35,6 +36,7 @@ ghost use Rattle.commands.specs.Lines.{
 };
 ghost use Rattle.commands.specs.Meets.{MeetsLine, now};
 ghost use Rattle.commands.specs.Programs.{outcome_over};
+ghost use Rattle.commands.specs.Whole.{InLine, Keeps};
 ghost use Rattle.emu_system.specs.Gained.{Gains};
 ghost use Rattle.commands.specs.Promises.{is_failure, is_silent, NamesNoFile};
 
@@ -92,6 +94,11 @@ fn run_line<F: Images, I: Source, O: Sink, E: Sink>(
     ensures read_unwritten { TakesFirst (map string_bytes words.now) (Ok line.now) (F.named files.old)
         → result ≡ Ending.ReadFault → (output.new ≡ output.old) × (errors.new ≡ errors.old) }
     ensures kind { may_end line.now result ≡ true }
+    ensures whole { IfSome (F.named files.old) (λ named. takes_input (Ok line.now) ≡ true
+        → reads_first (map string_bytes words.now) named (Ok line.now) ≡ false
+        → Keeps (InLine (map string_bytes words.now) named (Ok line.now) result (I.left input.new))
+        (outcome_over (map string_bytes words.now) line.now named) result (I.left input.old)
+        (O.held output.old) (O.held output.new) (E.held errors.old) (E.held errors.new)) }
     ensures no_input { takes_input (Ok line.now) ≡ false → (input.new ≡ input.old) × (result ≢ Ending.ReadFault) }
     ensures no_file { names_file (Ok line.now) ≡ false → (files.new ≡ files.old) × (result ≢ Ending.FileFault) }
     ensures no_errors { takes_input (Ok line.now) ≡ false → is_silent result ≡ true → errors.new ≡ errors.old }
@@ -197,6 +204,12 @@ pub fn command<F: Images, I: Source, O: Sink, E: Sink>(
         (line (map string_bytes words.now)) (F.named files.old)
         → result ≡ Ending.ReadFault → (output.new ≡ output.old) × (errors.new ≡ errors.old) }
     ensures kind { IfOk (line (map string_bytes words.now)) (λ l. may_end l result ≡ true) }
+    ensures whole { IfSome (F.named files.old) (λ named. takes_input (line (map string_bytes words.now)) ≡ true
+        → reads_first (map string_bytes words.now) named (line (map string_bytes words.now)) ≡ false
+        → Keeps (InLine (map string_bytes words.now) named (line (map string_bytes words.now))
+        result (I.left input.new))
+        (result_of (map string_bytes words.now) named) result (I.left input.old)
+        (O.held output.old) (O.held output.new) (E.held errors.old) (E.held errors.new)) }
     ensures refused { RefusesLine (line (map string_bytes words.now)) result }
     ensures refused_output { IfErr (line (map string_bytes words.now)) (λ _. output.new ≡ output.old) }
     ensures refused_errors { IfErr (line (map string_bytes words.now)) (λ fault. IfSome (E.held errors.old)

@@ -2,7 +2,6 @@
 ghost use Rattle.std.specs.Prelude.{◌≡◌, ◌<◌, ◌≤◌, [], map, length, string_bytes, IfOk, false};
 ghost use Rattle.emu_model.specs.Access.{most_mapped_pages};
 ghost use Rattle.emu_model.specs.Marks.{fresh_marks};
-ghost use Rattle.emu_run.specs.Marked.{parts_with};
 ghost use Rattle.elf_image.specs.Images.{seen_image};
 ghost use Rattle.elf_image.specs.Loadable.{IsLoadable};
 ghost use Rattle.emu_system.specs.ArgumentLimits.{AreArguments};
@@ -62,7 +61,9 @@ pub fn open_machine(
           (arguments_of (map string_bytes words.now) program.now) program.now.length program.now.pages;
       accesses = [];
       failed = false;
+      marks = [];
       saved = [];
+      spare = m.spare;
     }) }
 {
     let args = arguments(alloc, words, program.file, program.args)?;
@@ -83,8 +84,8 @@ pub fn open_marked(
     requires arguments { AreArguments (arguments_of (map string_bytes words.now) program.now) }
     requires pages { program.now.pages ≤ most_mapped_pages }
     ensures parts { IfOk result (λ m. m.parts
-        ≡ parts_with (opening_of bytes.now (seen_image image.now) (map string_bytes words.now) program.now)
-        (fresh_marks program.now.pages)) }
+        ≡ opening_of bytes.now (seen_image image.now) (map string_bytes words.now) program.now) }
+    ensures marks { IfOk result (λ m. m.marks ≡ fresh_marks) }
     ensures places { IfOk result (λ m. length m.saved ≡ 16) }
     ensures failed { IfOk result (λ m. m.failed ≡ false) }
 {

@@ -37,6 +37,8 @@ ghost use Rattle.commands.specs.SecondFiles.{
   TakesBefore,
   TakesLater,
 };
+ghost use Rattle.commands.specs.Passing.{InBoth, InImage, InNamed, InSecond};
+ghost use Rattle.commands.specs.Whole.{Keeps};
 
 use crate::debugger::debug_image;
 use crate::files::{ending_after_line, file_bytes};
@@ -90,6 +92,13 @@ fn obey_text<I: Source, O: Sink, E: Sink>(
     ensures read_unwritten { text_reads_first second text.now ≡ true → result ≡ Ending.ReadFault
         → (output.new ≡ output.old) × (errors.new ≡ errors.old) }
     ensures kind { ends_by second result ≡ true }
+    ensures whole { text_reads_first second text.now ≡ false → Keeps (InSecond second text.now
+        (opening_of bytes.now (seen_image image.now) (map string_bytes words.now) program.now) program.now.budget
+        result (I.left input.new))
+        (λ i. Some (outcome_from second text.now i program.now.budget
+        (opening_of bytes.now (seen_image image.now) (map string_bytes words.now) program.now)))
+        result (I.left input.old)
+        (O.held output.old) (O.held output.new) (E.held errors.old) (E.held errors.new) }
 {
     match second {
         SecondFile::Script => debug_image(
@@ -133,6 +142,12 @@ fn obey_bytes<I: Source, O: Sink, E: Sink>(
     ensures read_unwritten { text_reads_first second text.now ≡ true → result ≡ Ending.ReadFault
         → (output.new ≡ output.old) × (errors.new ≡ errors.old) }
     ensures kind { ends_by second result ≡ true }
+    ensures whole { text_reads_first second text.now ≡ false → Keeps
+        (InImage second bytes.now (map string_bytes words.now) program.now text.now result (I.left input.new))
+        (λ i. Some (outcome_by second bytes.now text.now
+        (arguments_of (map string_bytes words.now) program.now) i program.now (elf bytes.now program.now.pages)))
+        result (I.left input.old)
+        (O.held output.old) (O.held output.new) (E.held errors.old) (E.held errors.new) }
 {
     match read(bytes, program.pages) {
         Err(fault) => ending_after_line(
@@ -185,6 +200,11 @@ fn obey_second<F: Images, I: Source, O: Sink, E: Sink>(
     ensures read_unwritten { TakesBefore second (F.named files.old) (get_or (map string_bytes words.now) place [])
         → result ≡ Ending.ReadFault → (output.new ≡ output.old) × (errors.new ≡ errors.old) }
     ensures kind { ends_by second result ≡ true }
+    ensures whole { IfSome (F.named files.old)
+        (λ named. file_reads_first second (file_at (map string_bytes words.now) named place) ≡ false → Keeps
+        (InNamed second bytes.now (map string_bytes words.now) program.now place named result (I.left input.new))
+        (outcome_with second bytes.now (map string_bytes words.now) program.now place named) result (I.left input.old)
+        (O.held output.old) (O.held output.new) (E.held errors.old) (E.held errors.new)) }
 {
     match file_bytes(alloc, word(words, place), files, errors) {
         Ok(text) => obey_bytes(
@@ -241,6 +261,11 @@ pub fn obey_files<F: Images, I: Source, O: Sink, E: Sink>(
     ensures read_unwritten { TakesBefore second (F.named files.old) (get_or (map string_bytes words.now) place [])
         → result ≡ Ending.ReadFault → (output.new ≡ output.old) × (errors.new ≡ errors.old) }
     ensures kind { ends_by second result ≡ true }
+    ensures whole { IfSome (F.named files.old)
+        (λ named. file_reads_first second (file_at (map string_bytes words.now) named place) ≡ false → Keeps
+        (InBoth second (map string_bytes words.now) program.now place named result (I.left input.new))
+        (outcome_of_both second (map string_bytes words.now) program.now place named) result (I.left input.old)
+        (O.held output.old) (O.held output.new) (E.held errors.old) (E.held errors.new)) }
 {
     match file_bytes(alloc, word(words, program.file), files, errors) {
         Ok(bytes) => obey_second(

@@ -8,6 +8,7 @@ ghost use Rattle.commands.specs.Lines.{
   takes_input,
   names_file,
   may_end,
+  reads_first,
   sweeps,
   IsOutcome,
   RefusesLine,
@@ -28,6 +29,7 @@ ghost use Rattle.commands.specs.Promises.{
   Loses,
   NamesNoFile,
 };
+ghost use Rattle.commands.specs.Whole.{InLine, Keeps};
 ghost use Rattle.svemu_call.specs.Headline.{IsQuiet, Completes};
 
 use command_lines::Ending;
@@ -121,6 +123,15 @@ pub fn svemu<F: Images, I: Source, O: Sink, E: Sink>(
     ensures read_unwritten { TakesFirst (map string_bytes words.now)
         (line (map string_bytes words.now)) (F.named files.old)
         → result ≡ Ending.ReadFault → (output.new ≡ output.old) × (errors.new ≡ errors.old) }
+
+    // Where a stream failed, and the line doesn't read its input first: the output and the errors, where they didn't
+    // fail, have all that the program, and a session, had put by then.
+    ensures whole { IfSome (F.named files.old) (λ named. takes_input (line (map string_bytes words.now)) ≡ true
+        → reads_first (map string_bytes words.now) named (line (map string_bytes words.now)) ≡ false
+        → Keeps (InLine (map string_bytes words.now) named (line (map string_bytes words.now))
+        result (I.left input.new))
+        (result_of (map string_bytes words.now) named) result (I.left input.old)
+        (O.held output.old) (O.held output.new) (E.held errors.old) (E.held errors.new)) }
 
     // A line that runs no machine over the input takes none, and puts nothing on the errors but the line of a refusal.
     ensures no_input { takes_input (line (map string_bytes words.now)) ≡ false

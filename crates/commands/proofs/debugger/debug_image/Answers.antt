@@ -1,4 +1,4 @@
-use Rattle.std.proofs.Common.{◌≡◌, Err, map, string_bytes, ap, refl, sym, ◌∙◌, true, subst}
+use Rattle.std.proofs.Common.{◌≡◌, Err, map, string_bytes, ap, refl, sym, ◌∙◌, true, subst, List, Ok, Result, Some, MatchResult}
 use Rattle.dbg_model.specs.declared.script.ScriptFault.{ScriptFault}
 use Rattle.dbg_model.specs.Script.{script_of_file}
 use Rattle.elf_image.specs.Images.{seen_image}
@@ -12,6 +12,11 @@ use Rattle.commands.proofs.Sessions.{backward_script, forward_script, is_refused
 use Rattle.commands.proofs.Settled.{failed_either}
 use Rattle.command_lines.specs.declared.ending.Ending.TheVariants as ends
 use Rattle.commands.proofs.Causing.{ended_cause, ended_other, no_cause}
+use Rattle.dbg_model.specs.declared.script.Command.{Command}
+use Rattle.command_lines.specs.Outcome.{outcome_of_commands, outcome_of_script}
+use Rattle.commands.specs.Whole.{InSession}
+use Rattle.commands.specs.Passing.{InText}
+use Rattle.commands.proofs.Keeping.{keeps_as, keeps_ended, keeps_none, none_put}
 use Rattle.commands.proofs.debugger.debug_image.Goals as goal
 
 pub returns-in-Err-Refused-clause-outcome : goal.returns-in-Err-Refused-clause-outcome
@@ -59,3 +64,22 @@ returns-in-Ok-clause-read_unwritten g c = λ back. c.debug_script.ensures.read_u
 
 pub returns-in-Err-Refused-clause-read_unwritten : goal.returns-in-Err-Refused-clause-read_unwritten
 returns-in-Err-Refused-clause-read_unwritten g c = λ _ e. absurd (ended_other c.put_script_refusal.result (ends.ScriptRefused _) c.ending_after_line.result ends.ReadFault c.ending_after_line.ensures (λ e. cc) (λ e. cc) e)
+
+pub returns-in-Err-Refused-clause-whole : goal.returns-in-Err-Refused-clause-whole
+returns-in-Err-Refused-clause-whole g c = λ _.
+    let is : script_of_file c.args.text.now ≡ Err c.in-Err-Refused.fault = is_refused (script_of_file c.args.text.now) c.in-Err-Refused.field-0 c.in-Err-Refused.fault c.in-Err-Refused.field-0-is c.in-Err-Refused.ensures in
+    keeps_ended (InText c.args.text.now (opening_of c.args.bytes.now (seen_image c.args.image.now) (map string_bytes c.args.words.now) c.args.program.now) c.args.program.now.budget c.ending_after_line.result (g.I.Source.left c.args.input.now)) (λ i. Some (outcome_of_script i c.args.program.now.budget (opening_of c.args.bytes.now (seen_image c.args.image.now) (map string_bytes c.args.words.now) c.args.program.now) (script_of_file c.args.text.now))) (g.O.Sink.held c.args.output.now) (g.O.Sink.held c.args.output.now) (g.E.Sink.held c.args.errors.now) _ c.put_script_refusal.result (ends.ScriptRefused _) c.ending_after_line.result (g.I.Source.left c.args.input.now) c.ending_after_line.ensures (λ e. cc) (λ e. cc)
+    (none_put (λ i. Some (outcome_of_script i c.args.program.now.budget (opening_of c.args.bytes.now (seen_image c.args.image.now) (map string_bytes c.args.words.now) c.args.program.now) (script_of_file c.args.text.now))) (g.I.Source.left c.args.input.now) (g.O.Sink.held c.args.output.now) (λ i. ap (λ (r : Result (List Command) ScriptFault). (outcome_of_script i c.args.program.now.budget (opening_of c.args.bytes.now (seen_image c.args.image.now) (map string_bytes c.args.words.now) c.args.program.now) r).output) is))
+
+pub returns-in-Err-OutOfMemory-clause-whole : goal.returns-in-Err-OutOfMemory-clause-whole
+returns-in-Err-OutOfMemory-clause-whole g c = λ _. keeps_none (InText c.args.text.now (opening_of c.args.bytes.now (seen_image c.args.image.now) (map string_bytes c.args.words.now) c.args.program.now) c.args.program.now.budget OutOfMemory (g.I.Source.left c.args.input.now)) (λ i. Some (outcome_of_script i c.args.program.now.budget (opening_of c.args.bytes.now (seen_image c.args.image.now) (map string_bytes c.args.words.now) c.args.program.now) (script_of_file c.args.text.now))) (g.O.Sink.held c.args.output.now) (g.O.Sink.held c.args.output.now) (g.E.Sink.held c.args.errors.now) (g.E.Sink.held c.args.errors.now) OutOfMemory (g.I.Source.left c.args.input.now) (λ e. cc) (λ e. cc) (λ e. cc)
+
+pub returns-in-Ok-clause-whole : goal.returns-in-Ok-clause-whole
+returns-in-Ok-clause-whole g c = λ forward.
+    let budget = c.args.program.now.budget in
+    let commands = c.in-Ok.script in
+    let is : script_of_file c.args.text.now ≡ Ok commands = c.in-Ok.ensures in
+    keeps_as (InSession commands (opening_of c.args.bytes.now (seen_image c.args.image.now) (map string_bytes c.args.words.now) c.args.program.now) budget c.debug_script.result (g.I.Source.left c.debug_script.new.input)) (InText c.args.text.now (opening_of c.args.bytes.now (seen_image c.args.image.now) (map string_bytes c.args.words.now) c.args.program.now) c.args.program.now.budget c.debug_script.result (g.I.Source.left c.debug_script.new.input)) (λ i. Some (outcome_of_commands i budget (opening_of c.args.bytes.now (seen_image c.args.image.now) (map string_bytes c.args.words.now) c.args.program.now) commands)) (λ i. Some (outcome_of_script i c.args.program.now.budget (opening_of c.args.bytes.now (seen_image c.args.image.now) (map string_bytes c.args.words.now) c.args.program.now) (script_of_file c.args.text.now))) c.debug_script.result (g.O.Sink.held c.args.output.now) (g.O.Sink.held c.debug_script.new.output) (g.E.Sink.held c.args.errors.now) (g.E.Sink.held c.debug_script.new.errors) (g.I.Source.left c.args.input.now)
+    (λ i st passed. subst (λ (r : Result (List Command) ScriptFault). MatchResult r (λ x. InSession x (opening_of c.args.bytes.now (seen_image c.args.image.now) (map string_bytes c.args.words.now) c.args.program.now) budget c.debug_script.result (g.I.Source.left c.debug_script.new.input) i st) (λ _. ⊥)) (sym is) passed)
+    (λ i. ap (λ (r : Result (List Command) ScriptFault). Some (outcome_of_script i budget (opening_of c.args.bytes.now (seen_image c.args.image.now) (map string_bytes c.args.words.now) c.args.program.now) r)) (sym is))
+    (c.debug_script.ensures.whole (forward_script (script_of_file c.args.text.now) commands is forward))

@@ -1,5 +1,6 @@
 use Rattle.std.proofs.Common.{◌≡◌, map, string_bytes, refl, sym, ap, subst, length, true, Bool, ◌||◌, ap₂, count_by, is_some}
 use Rattle.elf_image.specs.Images.{seen_image}
+use Rattle.emu_model.specs.Marks.{Marks}
 use Rattle.emu_model.specs.State.{Parts}
 use Rattle.command_lines.specs.Outcome.{outcome_of_session_back}
 use Rattle.command_lines.specs.declared.ending.Ending.{Ending}
@@ -11,10 +12,10 @@ use Rattle.commands.proofs.WholeInputs.{nothing_written}
 use Rattle.commands.proofs.debugger.debug_input.Goals as goal
 
 pub session_back-requires-clause-marks : goal.session_back-requires-clause-marks
-session_back-requires-clause-marks g c = ap (λ (m : Parts). length m.memory.marks.list) c.in-Ok.ensures.parts
+session_back-requires-clause-marks g c = ap (λ (m : Marks). length m) c.in-Ok.ensures.marks
 
 pub session_back-requires-clause-none : goal.session_back-requires-clause-none
-session_back-requires-clause-none g c = ap (λ (m : Parts). count_by is_some m.memory.marks.list) c.in-Ok.ensures.parts
+session_back-requires-clause-none g c = ap (λ (m : Marks). count_by is_some m) c.in-Ok.ensures.marks
 
 pub session_back-requires-clause-steps : goal.session_back-requires-clause-steps
 session_back-requires-clause-steps g c = ap (λ (m : Parts). m.steps) c.in-Ok.ensures.parts
@@ -28,8 +29,8 @@ returns-in-Err-clause-outcome g c =
 
 pub returns-in-Ok-clause-outcome : goal.returns-in-Ok-clause-outcome
 returns-in-Ok-clause-outcome g c =
-    back_wrote c.args.script.now c.args.program.now.budget c.args.program.now.pages c.in-Ok.machine.parts (opening_of c.args.bytes.now (seen_image c.args.image.now) (map string_bytes c.args.words.now) c.args.program.now) c.args.input.now _ _ _ _ c.session_back.result c.ending_of_back.result
-    c.in-Ok.ensures.parts refl c.ending_of_back.ensures c.session_back.ensures.output c.session_back.ensures.errors
+    back_wrote c.args.script.now c.args.program.now.budget c.in-Ok.machine.parts (opening_of c.args.bytes.now (seen_image c.args.image.now) (map string_bytes c.args.words.now) c.args.program.now) c.args.input.now _ _ _ _ c.session_back.result c.ending_of_back.result
+    c.in-Ok.ensures.parts c.ending_of_back.ensures c.session_back.ensures.output c.session_back.ensures.errors
 
 pub returns-in-Ok-clause-kind : goal.returns-in-Ok-clause-kind
 returns-in-Ok-clause-kind g c = subst (λ (x : Ending). ends_swept x ≡ true) (sym c.ending_of_back.ensures) (kind_back c.session_back.result)

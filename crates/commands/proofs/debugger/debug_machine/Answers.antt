@@ -7,6 +7,7 @@ use Rattle.commands.specs.Meets.{now, Meets}
 use Rattle.commands.proofs.Meetings.{session_meets}
 use Rattle.commands.proofs.MayEnd.{kind_session}
 use Rattle.commands.specs.Lines.{ends_dbg}
+use Rattle.commands.proofs.Keeping.{session_keeps}
 use Rattle.commands.proofs.debugger.debug_machine.Goals as goal
 
 pub returns-clause-outcome : goal.returns-clause-outcome
@@ -17,3 +18,8 @@ returns-clause-outcome g c =
 
 pub returns-clause-kind : goal.returns-clause-kind
 returns-clause-kind g c = subst (λ (x : Ending). ends_dbg x ≡ true) (sym c.ending_of_session.ensures) (kind_session c.session.result)
+
+pub returns-clause-whole : goal.returns-clause-whole
+returns-clause-whole g c =
+    session_keeps c.args.machine.now.parts c.session.new.machine c.args.script.now c.args.budget c.session.result c.ending_of_session.result (g.I.Source.left c.session.new.input) (g.O.Sink.held c.args.output.now) (g.O.Sink.held c.session.new.output) (g.E.Sink.held c.args.errors.now) (g.E.Sink.held c.session.new.errors) c.ending_of_session.ensures
+    c.session.ensures.line c.session.ensures.unended c.session.ensures.read_named c.session.ensures.write_named c.session.ensures.errors_named (λ i. Some (outcome_of_session i (session c.args.script.now c.args.budget (with_input c.args.machine.now.parts i)))) (g.I.Source.left c.args.input.now) c.session.ensures.whole_output c.session.ensures.whole_errors

@@ -1,8 +1,13 @@
-use Rattle.std.proofs.Common.{◌≡◌, map, string_bytes, sym, ◌∙◌, true, false}
+use Rattle.std.proofs.Common.{◌≡◌, map, string_bytes, sym, ◌∙◌, true, false, Bool, Some, ap, cond}
 use Rattle.elf_image.specs.Images.{seen_image}
 use Rattle.commands.specs.Programs.{opening_of}
 use Rattle.commands.specs.Meets.{now}
 use Rattle.commands.proofs.Sessions.{gone_back, gone_forward}
+use Rattle.emu_system.specs.Start.{with_input}
+use Rattle.dbg_model.specs.Session.{session}
+use Rattle.command_lines.specs.Outcome.{outcome_of_commands, outcome_of_session, outcome_of_session_back, over_whole}
+use Rattle.commands.specs.Whole.{InSession}
+use Rattle.commands.proofs.Keeping.{keeps_as}
 use Rattle.commands.proofs.debugger.debug_script.Goals as goal
 
 pub returns-then-has_back-clause-outcome : goal.returns-then-has_back-clause-outcome
@@ -20,3 +25,16 @@ returns-then-has_back-clause-memory_first g c = λ forward. absurd (let t : true
 
 pub returns-else-has_back-clause-read_unwritten : goal.returns-else-has_back-clause-read_unwritten
 returns-else-has_back-clause-read_unwritten g c = λ back. absurd (let t : false ≡ true = sym c.if-has_back.false ∙ c.has_back.ensures ∙ back in cc)
+
+pub returns-then-has_back-clause-whole : goal.returns-then-has_back-clause-whole
+returns-then-has_back-clause-whole g c = λ forward. absurd (let t : true ≡ false = sym c.if-has_back.true ∙ c.has_back.ensures ∙ forward in cc)
+
+pub returns-else-has_back-clause-whole : goal.returns-else-has_back-clause-whole
+returns-else-has_back-clause-whole g c = λ forward.
+    let m = (opening_of c.args.bytes.now (seen_image c.args.image.now) (map string_bytes c.args.words.now) c.args.program.now) in
+    let budget = c.args.program.now.budget in
+    let script = c.args.script.now in
+    keeps_as (InSession script m budget c.debug_forward.result (g.I.Source.left c.debug_forward.new.input)) (InSession script m budget c.debug_forward.result (g.I.Source.left c.debug_forward.new.input)) (λ i. Some (outcome_of_session i (session script budget (with_input m i)))) (λ i. Some (outcome_of_commands i budget m script)) c.debug_forward.result (g.O.Sink.held c.args.output.now) (g.O.Sink.held c.debug_forward.new.output) (g.E.Sink.held c.args.errors.now) (g.E.Sink.held c.debug_forward.new.errors) (g.I.Source.left c.args.input.now)
+    (λ i st passed. passed)
+    (λ i. ap (λ (b : Bool). Some (cond b (over_whole (outcome_of_session_back script budget m) i) (outcome_of_session i (session script budget (with_input m i))))) (sym forward))
+    c.debug_forward.ensures.whole

@@ -1,4 +1,4 @@
-use Rattle.std.proofs.Common.{inl, inr, ℕ, List, [], get_or, Option, Err, IfSome, map, string_bytes, sym, ap, subst, ◌≡◌, refl, ◌∙◌}
+use Rattle.std.proofs.Common.{inl, inr, ℕ, List, [], get_or, Option, Err, IfSome, map, string_bytes, sym, ap, subst, ◌≡◌, refl, ◌∙◌, false}
 use Rattle.io_gate.specs.Images.{MissesNamed}
 use Rattle.io_gate.specs.Streams.{Rose, Causes}
 use Rattle.command_lines.specs.Outcome.{Outcome, Files, file_at}
@@ -15,6 +15,10 @@ use Rattle.commands.proofs.Settled.{unread_either}
 use Rattle.commands.proofs.MayEnd.{stops_by}
 use Rattle.command_lines.specs.declared.ending.Ending.TheVariants as ends
 use Rattle.commands.proofs.Causing.{no_cause, unread_cause, unread_no_read, unread_no_write}
+use Rattle.emu_model.specs.State.{State}
+use Rattle.commands.specs.Passing.{InBoth, InNamed}
+use Rattle.commands.specs.Whole.{Keeps}
+use Rattle.commands.proofs.Keeping.{found_keeps, unread_keeps}
 use Rattle.commands.proofs.two_files.obey_files.Goals as goal
 
 -- what comes of the bytes of both files
@@ -95,3 +99,24 @@ returns-in-Ok-clause-read_unwritten g c = λ before e.
 
 pub returns-in-Err-clause-read_unwritten : goal.returns-in-Err-clause-read_unwritten
 returns-in-Err-clause-read_unwritten g c = λ _ e. absurd (unread_no_read (g.F.Images.named c.args.files.now) c.word.result.now c.in-Err.ending c.in-Err.ensures.unread e)
+
+-- where the line may be broken off, by the bytes of the program's file
+abbrev on : SecondFile → List (List ℕ) → Program → ℕ → Ending → Option (List ℕ) → Files → List ℕ → List ℕ → State → Type 0
+on second words p place ending left files bytes i st = InNamed second bytes words p place files ending left i st
+
+pub returns-in-Ok-clause-whole : goal.returns-in-Ok-clause-whole
+returns-in-Ok-clause-whole g c =
+    let ws = map string_bytes c.args.words.now in
+    let p = c.args.program.now in
+    found_keeps (on c.args.second ws p c.args.place c.obey_second.result (g.I.Source.left c.obey_second.new.input)) (over_two (outcome c.args.second p) ws c.args.place) (g.F.Images.named c.args.files.now) ws p.file c.word.result.now c.deref.result.now c.in-Ok.bytes.items
+    (g.I.Source.left c.args.input.now) (g.O.Sink.held c.args.output.now) (g.O.Sink.held c.obey_second.new.output) (g.E.Sink.held c.args.errors.now) (g.E.Sink.held c.obey_second.new.errors) c.obey_second.result (λ files. file_reads_first c.args.second (file_at ws files c.args.place) ≡ false)
+    c.word.ensures c.deref.ensures.value c.in-Ok.ensures.content
+    (subst (λ (told : Option Files). IfSome told (λ files. file_reads_first c.args.second (file_at ws files c.args.place) ≡ false → Keeps (on c.args.second ws p c.args.place c.obey_second.result (g.I.Source.left c.obey_second.new.input) files c.deref.result.now) (over_two (outcome c.args.second p) ws c.args.place files c.deref.result.now) c.obey_second.result (g.I.Source.left c.args.input.now) (g.O.Sink.held c.args.output.now) (g.O.Sink.held c.obey_second.new.output) (g.E.Sink.held c.args.errors.now) (g.E.Sink.held c.obey_second.new.errors))) c.in-Ok.ensures.told
+    (subst (λ (e : Option (List ℕ)). IfSome (g.F.Images.named c.file_bytes.new.files) (λ files. file_reads_first c.args.second (file_at ws files c.args.place) ≡ false → Keeps (on c.args.second ws p c.args.place c.obey_second.result (g.I.Source.left c.obey_second.new.input) files c.deref.result.now) (over_two (outcome c.args.second p) ws c.args.place files c.deref.result.now) c.obey_second.result (g.I.Source.left c.args.input.now) (g.O.Sink.held c.args.output.now) (g.O.Sink.held c.obey_second.new.output) e (g.E.Sink.held c.obey_second.new.errors))) (ap g.E.Sink.held c.in-Ok.ensures.read_still) c.obey_second.ensures.whole))
+
+pub returns-in-Err-clause-whole : goal.returns-in-Err-clause-whole
+returns-in-Err-clause-whole g c =
+    let ws = map string_bytes c.args.words.now in
+    let p = c.args.program.now in
+    unread_keeps (λ files. InBoth c.args.second ws p c.args.place files c.in-Err.ending (g.I.Source.left c.args.input.now)) (over_two (outcome c.args.second p) ws c.args.place) (g.F.Images.named c.args.files.now) ws p.file c.word.result.now c.in-Err.ending
+    (g.I.Source.left c.args.input.now) (g.O.Sink.held c.args.output.now) (g.E.Sink.held c.args.errors.now) _ (λ files. file_reads_first c.args.second (file_at ws files c.args.place) ≡ false) c.word.ensures c.in-Err.ensures.unread

@@ -1,4 +1,4 @@
-use Rattle.std.proofs.Common.{ℕ, List, Option, Some, map, string_bytes, ap, ◌≡◌, refl, subst, ◌⊎◌, Err, ◌∙◌}
+use Rattle.std.proofs.Common.{ℕ, List, Option, Some, map, string_bytes, ap, ◌≡◌, refl, subst, ◌⊎◌, Err, ◌∙◌, false}
 use Rattle.command_lines.specs.declared.ending.Ending.{Ending}
 use Rattle.io_gate.specs.Images.{MissesNamed}
 use Rattle.io_gate.specs.Streams.{Causes, Rose}
@@ -15,6 +15,9 @@ use Rattle.commands.proofs.TwoFiles.{found_second, read_before, read_later}
 use Rattle.commands.proofs.MayEnd.{stops_by}
 use Rattle.command_lines.specs.declared.ending.Ending.TheVariants as ends
 use Rattle.commands.proofs.Causing.{no_cause, unread_cause, unread_no_read, unread_no_write}
+use Rattle.commands.specs.Passing.{InImage, InNamed}
+use Rattle.commands.specs.Whole.{Keeps}
+use Rattle.commands.proofs.Keeping.{found_behind, unread_keeps}
 use Rattle.commands.proofs.two_files.obey_second.Goals as goal
 
 -- what comes of the bytes of the second file
@@ -73,3 +76,17 @@ returns-in-Ok-clause-read_unwritten g c = λ before e.
 
 pub returns-in-Err-clause-read_unwritten : goal.returns-in-Err-clause-read_unwritten
 returns-in-Err-clause-read_unwritten g c = λ _ e. absurd (unread_no_read (g.F.Images.named c.args.files.now) c.word.result.now c.in-Err.ending c.in-Err.ensures.unread e)
+
+pub returns-in-Ok-clause-whole : goal.returns-in-Ok-clause-whole
+returns-in-Ok-clause-whole g c =
+    let ws = map string_bytes c.args.words.now in
+    found_behind (λ _ text. InImage c.args.second c.args.bytes.now ws c.args.program.now text c.obey_bytes.result (g.I.Source.left c.obey_bytes.new.input)) (next c.args.second c.args.bytes.now ws c.args.program.now) c.args.second (g.F.Images.named c.args.files.now) ws c.args.place c.word.result.now c.deref.result.now c.in-Ok.text.items
+    (g.I.Source.left c.args.input.now) (g.O.Sink.held c.args.output.now) (g.O.Sink.held c.obey_bytes.new.output) (g.E.Sink.held c.args.errors.now) (g.E.Sink.held c.obey_bytes.new.errors) c.obey_bytes.result
+    c.word.ensures c.deref.ensures.value c.in-Ok.ensures.content
+    (λ files later. subst (λ (e : Option (List ℕ)). Keeps (InImage c.args.second c.args.bytes.now ws c.args.program.now c.deref.result.now c.obey_bytes.result (g.I.Source.left c.obey_bytes.new.input)) (next c.args.second c.args.bytes.now ws c.args.program.now files c.deref.result.now) c.obey_bytes.result (g.I.Source.left c.args.input.now) (g.O.Sink.held c.args.output.now) (g.O.Sink.held c.obey_bytes.new.output) e (g.E.Sink.held c.obey_bytes.new.errors)) (ap g.E.Sink.held c.in-Ok.ensures.read_still) (c.obey_bytes.ensures.whole later))
+
+pub returns-in-Err-clause-whole : goal.returns-in-Err-clause-whole
+returns-in-Err-clause-whole g c =
+    let ws = map string_bytes c.args.words.now in
+    unread_keeps (λ files. InNamed c.args.second c.args.bytes.now ws c.args.program.now c.args.place files c.in-Err.ending (g.I.Source.left c.args.input.now)) (next c.args.second c.args.bytes.now ws c.args.program.now) (g.F.Images.named c.args.files.now) ws c.args.place c.word.result.now c.in-Err.ending
+    (g.I.Source.left c.args.input.now) (g.O.Sink.held c.args.output.now) (g.E.Sink.held c.args.errors.now) _ (λ files. file_reads_first c.args.second (file_at ws files c.args.place) ≡ false) c.word.ensures c.in-Err.ensures.unread

@@ -49,6 +49,9 @@ returns-clause-memory_unwritten g c = c.command.ensures.memory_unwritten
 pub returns-clause-read_unwritten : goal.returns-clause-read_unwritten
 returns-clause-read_unwritten g c = c.command.ensures.read_unwritten
 
+pub returns-clause-whole : goal.returns-clause-whole
+returns-clause-whole g c = c.command.ensures.whole
+
 pub returns-clause-no_input : goal.returns-clause-no_input
 returns-clause-no_input g c = c.command.ensures.no_input
 
