@@ -14,7 +14,8 @@ use io_gate::{FileImages, StdSink, StdSource, put_all};
 use std::alloc::{AllocError, Global};
 use std::env;
 use std::process::ExitCode;
-use tool_lines::{RunLine, ToolFault, ToolLine, Variables, tool_line};
+use tool_counts::count_program;
+use tool_lines::{RunLine, ToolFault, ToolLine, Variables, counted_words, tool_line};
 use tool_run::{line_text, run_program};
 
 /// The status where a word of the command line isn't text, or where the words can't be had.
@@ -102,6 +103,30 @@ fn run(rt: &HostRuntime, words: &[String], line: &RunLine) -> u8
     .status()
 }
 
+/// Counts the words of a program: the line without its command is that of `svemu`.
+fn count(rt: &HostRuntime, words: &[String]) -> u8 {
+    // a line of this command has its name
+    if words.len() < 1 {
+        return REFUSED;
+    }
+    let Ok(same) = counted_words(rt.alloc(), words) else {
+        return OUT_OF_MEMORY;
+    };
+    let mut files = FileImages::new(rt);
+    let mut input = StdSource::new(rt.stdin());
+    let mut output = StdSink::new(rt.stdout());
+    let mut errors = StdSink::new(rt.stderr());
+    count_program(
+        rt.alloc(),
+        &same,
+        &mut files,
+        &mut input,
+        &mut output,
+        &mut errors,
+    )
+    .status()
+}
+
 /// Writes the family of a word that a text gives.
 fn write_family(rt: &HostRuntime, text: &str) -> u8 {
     let Some(word) = word_of(text) else {
@@ -153,6 +178,7 @@ fn obey(rt: &HostRuntime, words: &[String]) -> u8 {
                 REFUSED,
             ),
         Ok(ToolLine::Run(line)) => run(rt, words, &line),
+        Ok(ToolLine::Count) => count(rt, words),
         Ok(ToolLine::Help) => write_text(rt, USAGE),
         Ok(ToolLine::Version) => write_text(rt, VERSION),
         Ok(ToolLine::Family) if words.len() > 1 => families_of_words(rt, words),
@@ -164,10 +190,16 @@ fn obey(rt: &HostRuntime, words: &[String]) -> u8 {
 fn main(rt: HostRuntime) -> ExitCode {
     let all = match env::args(&rt) {
         Ok(all) => all,
-        Err(_) => return ExitCode::from(WORDS_UNREADABLE),
+        Err(_) => {
+            let text = "svemu: a word of the command line isn't text\n";
+            return ExitCode::from(write_error(&rt, text, WORDS_UNREADABLE));
+        }
     };
     match words_after_name(rt.alloc(), all) {
         Ok(words) => ExitCode::from(obey(&rt, &words)),
-        Err(_) => ExitCode::from(OUT_OF_MEMORY),
+        Err(_) => {
+            let text = "svemu: the memory isn't enough\n";
+            ExitCode::from(write_error(&rt, text, OUT_OF_MEMORY))
+        }
     }
 }

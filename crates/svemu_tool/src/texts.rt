@@ -4,6 +4,7 @@
 pub const USAGE: &str = "\
 usage: svemu-tool run [OPTION ..] PROGRAM [ARG ..]
        svemu-tool family [WORD ..]
+       svemu-tool count FILE --vl N|all --budget B [--pages P] [-- ARG ..]
        svemu-tool --help | --version
 
 run runs a static AArch64 program with SVE: its input, output, errors and status are its own. Where it doesn't come to
@@ -17,7 +18,10 @@ its exit, a line behind its errors says why and where.
 family says the family of each word, as 0x1e222820, that is no instruction of the table; without words those of the
 lines of its input.
 
-status: the program's own; 128 and the number of the signal of a trap; 120 without memory; 121 a refused line; 122 a
+count runs the program of FILE, and writes how often each of its instructions was executed, at one vector length or at
+each: a line for each address with its counts, and then how each run ended. What the program writes is dropped.
+
+status of run: the program's own; 128 and the number of the signal of a trap; 120 without memory; 121 a refused line; 122 a
 refused program; 123 the steps are spent; 124 or 125 the input or an output failed; 126 a file that can't be read; 127
 one that is too long.
 ";

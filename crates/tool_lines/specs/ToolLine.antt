@@ -3,7 +3,7 @@
 --
 -- Behind the command's name stand options, some with the next word as their value, then the word that names the program, and then
 -- the program's arguments. Behind the word `--` no option stands. Places of words are counted from 0.
-use Rattle.std.specs.Prelude.{◌<◌, ℕ, ◌+◌, ◌-◌, Bool, true, false, ◌||◌, not, List, [], ◌∷◌, length, drop, codes, Option, Some, None, is_some, IfSome, Result, Ok, Err, nat_eq, if◌then◌else◌}
+use Rattle.std.specs.Prelude.{◌<◌, ◌≤◌, ℕ, ◌+◌, ◌-◌, Bool, true, false, ◌||◌, not, List, [], ◌∷◌, length, drop, codes, Option, Some, None, is_some, IfSome, Result, Ok, Err, nat_eq, if◌then◌else◌}
 use Rattle.std.specs.List.{starts_with}
 use Rattle.std.specs.Str.{bytes_eq}
 use Rattle.tool_lines.specs.declared.line.ToolOption.{ToolOption}
@@ -133,9 +133,10 @@ line_of_command words name =
     if bytes_eq name (codes "--help") then Ok lines.Help
     else (if bytes_eq name (codes "--version") then Ok lines.Version
     else (if bytes_eq name (codes "family") then Ok lines.Family
+    else (if bytes_eq name (codes "count") then Ok lines.Count
     else (if bytes_eq name (codes "run")
     then and_then (read_words nothing_seen 1 (drop 1 words)) (λ seen. at_end seen (length words))
-    else refused UnknownCommand 0)))
+    else refused UnknownCommand 0))))
 
 abbrev pub tool_line : List (List ℕ) → Result ToolLine ToolFault
 tool_line [] = refused NoCommand 0
@@ -158,4 +159,5 @@ abbrev pub HasPlaces : ℕ → ToolLine → Type 0
 HasPlaces count lines.Help = Unit {0}
 HasPlaces count lines.Version = Unit {0}
 HasPlaces count lines.Family = Unit {0}
+HasPlaces count lines.Count = 1 ≤ count
 HasPlaces count (lines.Run line) = HasRunPlaces count line

@@ -2,8 +2,10 @@
 //! words of the line of `svemu` that does the same.
 #![tactic(auto)]
 
+mod counted;
 mod line;
 mod words;
 
+pub use counted::counted_words;
 pub use line::{RunLine, ToolFault, ToolLine, ToolOption, ToolWhy, tool_line};
 pub use words::{Variables, same_words};

@@ -61,6 +61,8 @@ pub enum ToolLine {
     Family,
     /// Runs a program.
     Run(RunLine),
+    /// Counts how often each word of a program is executed.
+    Count,
 }
 
 /// Why a command line is refused.
@@ -305,6 +307,9 @@ fn line_of_command(words: &[String], name: &str) -> Result<ToolLine, ToolFault>
     }
     if name == "family" {
         return Ok(ToolLine::Family);
+    }
+    if name == "count" {
+        return Ok(ToolLine::Count);
     }
     if name == "run" {
         return at_end(read_words(words)?, words.len());

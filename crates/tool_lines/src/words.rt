@@ -45,7 +45,7 @@ pub struct Variables {
 }
 
 /// Appends a copy of a word. Err is want of memory.
-fn push_word(alloc: Global, list: &mut Vec<String>, text: &str) -> Result<(), AllocError>
+pub(crate) fn push_word(alloc: Global, list: &mut Vec<String>, text: &str) -> Result<(), AllocError>
     ensures { OnOk result (map string_bytes list.new.items ≡ map string_bytes list.old.items ++ text.now ∷ []) }
 {
     list.push(String::from_str(alloc, text)?)?;

@@ -1,0 +1,8 @@
+use Rattle.tool_counts.proofs.Told.{then_told}
+use Rattle.tool_counts.specs.Counted.{stop_lines}
+use Rattle.tool_counts.proofs.command.put_counts.Goals as goal
+
+pub returns-in-Ok-put_stops-clause-done : goal.returns-in-Ok-put_stops-clause-done
+returns-in-Ok-put_stops-clause-done g c = λ _.
+    then_told (g.O.Sink.held c.args.output.now) (g.O.Sink.held c.put_all.new.sink) (g.O.Sink.held c.put_stops.new.output) c.as_bytes.result.now c.args.text.now (stop_lines c.args.headed c.args.stops.now)
+    c.as_bytes.ensures.value c.in-Ok.ensures.bytes c.in-Ok-put_stops.ensures.bytes
