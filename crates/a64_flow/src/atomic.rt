@@ -24,7 +24,9 @@ use guest_mem::{Access, AccessLog, Kind, Mem};
 pub(crate) fn exec(core: &mut Core, mem: &mut Mem, log: &mut AccessLog, i: &A64) -> Result<(), Trap>
     requires own { is_atomic i.now ≡ true }
     requires empty { log.old.items ≡ [] }
-    ensures { (v : Vectors) → access i.now core.old v mem.old ≡ ended result core.new v mem.new log.new.items }
+    ensures done { (v : Vectors) → access i.now core.old v mem.old.memory
+        ≡ ended result core.new v mem.new.memory log.new.items }
+    ensures marks { mem.new.marks ≡ mem.old.marks }
 {
     match *i.form() {
         A64Form::Atomic {
@@ -59,9 +61,10 @@ fn atomic(
     rt: Reg,
 ) -> Result<(), Trap>
     requires { log.old.items ≡ [] }
-    ensures { (acquires : Bool) (releases : Bool) (v : Vectors)
-        → access (A64Form.Atomic op size acquires releases rs rn rt) core.old v mem.old
-        ≡ ended result core.new v mem.new log.new.items }
+    ensures done { (acquires : Bool) (releases : Bool) (v : Vectors)
+        → access (A64Form.Atomic op size acquires releases rs rn rt) core.old v mem.old.memory
+        ≡ ended result core.new v mem.new.memory log.new.items }
+    ensures marks { mem.new.marks ≡ mem.old.marks }
 {
     test_sp(core, rn.get() == 31)?;
     let (address, n) = (core.x_sp(rn), bytes_of(size));
@@ -84,9 +87,10 @@ fn compare_swap(
     rt: Reg,
 ) -> Result<(), Trap>
     requires { log.old.items ≡ [] }
-    ensures { (acquires : Bool) (releases : Bool) (v : Vectors)
-        → access (A64Form.CompareSwap size acquires releases rs rn rt) core.old v mem.old
-        ≡ ended result core.new v mem.new log.new.items }
+    ensures done { (acquires : Bool) (releases : Bool) (v : Vectors)
+        → access (A64Form.CompareSwap size acquires releases rs rn rt) core.old v mem.old.memory
+        ≡ ended result core.new v mem.new.memory log.new.items }
+    ensures marks { mem.new.marks ≡ mem.old.marks }
 {
     test_sp(core, rn.get() == 31)?;
     let (address, n) = (core.x_sp(rn), bytes_of(size));
@@ -107,10 +111,11 @@ fn compare_swap(
 fn granted(mem: &mut Mem, address: u64, n: u32) -> Result<u64, Trap>
     requires some { 1 ≤ n }
     requires most { n ≤ 8 }
-    ensures result { MatchResult result (λ o. (refused mem.old address n Kind.Read ≡ None)
-        × ((refused mem.old address n Kind.Write ≡ None) × (o ≡ value mem.old address n)))
-        (λ trap. (c : CoreState) (v : Vectors) (d : Done) → step.unless_refused (refused mem.old address n Kind.Read)
-        (refused mem.old address n Kind.Write) c v mem.old d ≡ quietly c v mem.old (Effect.Trap trap)) }
+    ensures result { MatchResult result (λ o. (refused mem.old.memory address n Kind.Read ≡ None)
+        × ((refused mem.old.memory address n Kind.Write ≡ None) × (o ≡ value mem.old.memory address n)))
+        (λ trap. (c : CoreState) (v : Vectors) (d : Done) → step.unless_refused
+        (refused mem.old.memory address n Kind.Read) (refused mem.old.memory address n Kind.Write) c v mem.old.memory d
+        ≡ quietly c v mem.old.memory (Effect.Trap trap)) }
     ensures memory { mem.new ≡ mem.old }
 {
     let old = match mem.load(address, n, Kind::Read) {
@@ -157,9 +162,10 @@ fn exchange(mem: &mut Mem, log: &mut AccessLog, new: Option<u128>, address: u64,
     requires some { 1 ≤ n }
     requires most { n ≤ 8 }
     requires empty { log.old.items ≡ [] }
-    requires writable { refused mem.old address n Kind.Write ≡ None }
-    ensures { (c : CoreState) (v : Vectors) → step.exchanged address n new c v mem.old
-        ≡ record { core = c; vectors = v; memory = mem.new; accesses = log.new.items; effect = Effect.Next } }
+    requires writable { refused mem.old.memory address n Kind.Write ≡ None }
+    ensures done { (c : CoreState) (v : Vectors) → step.exchanged address n new c v mem.old.memory
+        ≡ record { core = c; vectors = v; memory = mem.new.memory; accesses = log.new.items; effect = Effect.Next } }
+    ensures marks { mem.new.marks ≡ mem.old.marks }
 {
     log.push(Access {
         address,

@@ -71,9 +71,10 @@ fn store_one(
     requires some { 1 ≤ n }
     requires most { n ≤ 16 }
     requires empty { log.old.items ≡ [] }
-    ensures { (after : CoreState → CoreState) → table.stored_to t
-        (reach mem.old Kind.Write (record { lane = 0; register = rt; address = address; bytes = n } ∷ [])) after
-        core.now vec.now mem.old ≡ followed_by after result core.now vec.now mem.new log.new.items }
+    ensures done { (after : CoreState → CoreState) → table.stored_to t
+        (reach mem.old.memory Kind.Write (record { lane = 0; register = rt; address = address; bytes = n } ∷ [])) after
+        core.now vec.now mem.old.memory ≡ followed_by after result core.now vec.now mem.new.memory log.new.items }
+    ensures marks { mem.new.marks ≡ mem.old.marks }
 {
     let v = stored_value(core, vec, t, rt);
     store_here(mem, log, v, address, n)
@@ -95,9 +96,10 @@ fn load_one(
     requires most { n ≤ greatest_of t }
     requires size { IsLowSize (8 * n) }
     requires empty { log.old.items ≡ [] }
-    ensures { (after : CoreState → CoreState) → table.loaded_to t
-        (reach mem.old Kind.Read (record { lane = 0; register = rt; address = address; bytes = n } ∷ [])) after core.old
-        vec.old mem.old ≡ followed_by after result core.new vec.new mem.new log.new.items }
+    ensures done { (after : CoreState → CoreState) → table.loaded_to t
+        (reach mem.old.memory Kind.Read (record { lane = 0; register = rt; address = address; bytes = n } ∷ [])) after
+        core.old vec.old mem.old.memory ≡ followed_by after result core.new vec.new mem.new.memory log.new.items }
+    ensures marks { mem.new.marks ≡ mem.old.marks }
 {
     let v = load_here(mem, log, address, n)?;
     put_loaded(core, vec, t, rt, n, v);
@@ -119,9 +121,10 @@ pub(crate) fn single(
     requires most { n ≤ greatest_of t }
     requires size { IsLowSize (8 * n) }
     requires empty { log.old.items ≡ [] }
-    ensures { (after : CoreState → CoreState)
-        → table.transferred t (table.elements_from (table.moved t rt) address n) after core.old vec.old mem.old
-        ≡ followed_by after result core.new vec.new mem.new log.new.items }
+    ensures done { (after : CoreState → CoreState)
+        → table.transferred t (table.elements_from (table.moved t rt) address n) after core.old vec.old mem.old.memory
+        ≡ followed_by after result core.new vec.new mem.new.memory log.new.items }
+    ensures marks { mem.new.marks ≡ mem.old.marks }
 {
     match t {
         Transfer::Prefetch => Ok(()),
@@ -149,9 +152,10 @@ fn store_couple_sized(
     requires some { 1 ≤ n }
     requires most { n ≤ 16 }
     requires empty { log.old.items ≡ [] }
-    ensures { (after : CoreState → CoreState) → table.stored_to t
-        (reach mem.old Kind.Write (table.elements_from (rt ∷ rt2 ∷ []) address n)) after core.now vec.now mem.old
-        ≡ followed_by after result core.now vec.now mem.new log.new.items }
+    ensures done { (after : CoreState → CoreState) → table.stored_to t
+        (reach mem.old.memory Kind.Write (table.elements_from (rt ∷ rt2 ∷ []) address n)) after core.now vec.now
+        mem.old.memory ≡ followed_by after result core.now vec.now mem.new.memory log.new.items }
+    ensures marks { mem.new.marks ≡ mem.old.marks }
 {
     match n {
         8 => store_couple(core, vec, mem, log, t, rt, rt2, address, n),
@@ -176,9 +180,10 @@ fn store_couple(
     requires some { 1 ≤ n }
     requires most { n ≤ 16 }
     requires empty { log.old.items ≡ [] }
-    ensures { (after : CoreState → CoreState) → table.stored_to t
-        (reach mem.old Kind.Write (table.elements_from (rt ∷ rt2 ∷ []) address n)) after core.now vec.now mem.old
-        ≡ followed_by after result core.now vec.now mem.new log.new.items }
+    ensures done { (after : CoreState → CoreState) → table.stored_to t
+        (reach mem.old.memory Kind.Write (table.elements_from (rt ∷ rt2 ∷ []) address n)) after core.now vec.now
+        mem.old.memory ≡ followed_by after result core.now vec.now mem.new.memory log.new.items }
+    ensures marks { mem.new.marks ≡ mem.old.marks }
 {
     let first = stored_value(core, vec, t, rt);
     let second = stored_value(core, vec, t, rt2);
@@ -203,9 +208,10 @@ fn load_couple_sized(
     requires most { n ≤ greatest_of t }
     requires size { IsLowSize (8 * n) }
     requires empty { log.old.items ≡ [] }
-    ensures { (after : CoreState → CoreState) → table.loaded_to t
-        (reach mem.old Kind.Read (table.elements_from (rt ∷ rt2 ∷ []) address n)) after core.old vec.old mem.old
-        ≡ followed_by after result core.new vec.new mem.new log.new.items }
+    ensures done { (after : CoreState → CoreState) → table.loaded_to t
+        (reach mem.old.memory Kind.Read (table.elements_from (rt ∷ rt2 ∷ []) address n)) after core.old vec.old
+        mem.old.memory ≡ followed_by after result core.new vec.new mem.new.memory log.new.items }
+    ensures marks { mem.new.marks ≡ mem.old.marks }
 {
     match n {
         8 => load_couple(core, vec, mem, log, t, rt, rt2, address, n),
@@ -230,9 +236,10 @@ fn load_couple(
     requires most { n ≤ greatest_of t }
     requires size { IsLowSize (8 * n) }
     requires empty { log.old.items ≡ [] }
-    ensures { (after : CoreState → CoreState) → table.loaded_to t
-        (reach mem.old Kind.Read (table.elements_from (rt ∷ rt2 ∷ []) address n)) after core.old vec.old mem.old
-        ≡ followed_by after result core.new vec.new mem.new log.new.items }
+    ensures done { (after : CoreState → CoreState) → table.loaded_to t
+        (reach mem.old.memory Kind.Read (table.elements_from (rt ∷ rt2 ∷ []) address n)) after core.old vec.old
+        mem.old.memory ≡ followed_by after result core.new vec.new mem.new.memory log.new.items }
+    ensures marks { mem.new.marks ≡ mem.old.marks }
 {
     let first = load_here(mem, log, address, n)?;
     let second = load_here(mem, log, address.wrapping_add(n as u64), n)?;
@@ -258,9 +265,10 @@ pub(crate) fn couple(
     requires most { n ≤ greatest_of t }
     requires size { IsLowSize (8 * n) }
     requires empty { log.old.items ≡ [] }
-    ensures { (after : CoreState → CoreState)
-        → table.transferred t (table.elements_from (rt ∷ rt2 ∷ []) address n) after core.old vec.old mem.old
-        ≡ followed_by after result core.new vec.new mem.new log.new.items }
+    ensures done { (after : CoreState → CoreState)
+        → table.transferred t (table.elements_from (rt ∷ rt2 ∷ []) address n) after core.old vec.old mem.old.memory
+        ≡ followed_by after result core.new vec.new mem.new.memory log.new.items }
+    ensures marks { mem.new.marks ≡ mem.old.marks }
 {
     match t {
         Transfer::Store => store_couple_sized(core, vec, mem, log, t, rt, rt2, address, n),

@@ -30,7 +30,9 @@ pub(crate) fn exec(
 ) -> Result<(), Trap>
     requires own { is_exclusive i.now ≡ true }
     requires empty { log.old.items ≡ [] }
-    ensures { access i.now core.old vec.old mem.old ≡ ended result core.new vec.new mem.new log.new.items }
+    ensures done { access i.now core.old vec.old mem.old.memory
+        ≡ ended result core.new vec.new mem.new.memory log.new.items }
+    ensures marks { mem.new.marks ≡ mem.old.marks }
 {
     match *i.form() {
         A64Form::StoreEx {
@@ -59,8 +61,9 @@ fn store_ex(
     rt: Reg,
 ) -> Result<(), Trap>
     requires { log.old.items ≡ [] }
-    ensures { (op : StoreName) → access (A64Form.StoreEx op size rs rn rt) core.old vec.old mem.old
-        ≡ ended result core.new vec.new mem.new log.new.items }
+    ensures done { (op : StoreName) → access (A64Form.StoreEx op size rs rn rt) core.old vec.old mem.old.memory
+        ≡ ended result core.new vec.new mem.new.memory log.new.items }
+    ensures marks { mem.new.marks ≡ mem.old.marks }
 {
     test_sp(core, rn.get() == 31)?;
     let (address, n) = (core.x_sp(rn), bytes_of(size));
@@ -85,8 +88,9 @@ fn load_ex(
     rt: Reg,
 ) -> Result<(), Trap>
     requires { log.old.items ≡ [] }
-    ensures { (op : LoadName) → access (A64Form.LoadEx op size rn rt) core.old vec.old mem.old
-        ≡ ended result core.new vec.new mem.new log.new.items }
+    ensures done { (op : LoadName) → access (A64Form.LoadEx op size rn rt) core.old vec.old mem.old.memory
+        ≡ ended result core.new vec.new mem.new.memory log.new.items }
+    ensures marks { mem.new.marks ≡ mem.old.marks }
 {
     test_sp(core, rn.get() == 31)?;
     let (address, n) = (core.x_sp(rn), bytes_of(size));
@@ -108,8 +112,9 @@ fn ordered(
     rt: Reg,
 ) -> Result<(), Trap>
     requires { log.old.items ≡ [] }
-    ensures { access (A64Form.Ordered op size rn rt) core.old vec.old mem.old
-        ≡ ended result core.new vec.new mem.new log.new.items }
+    ensures done { access (A64Form.Ordered op size rn rt) core.old vec.old mem.old.memory
+        ≡ ended result core.new vec.new mem.new.memory log.new.items }
+    ensures marks { mem.new.marks ≡ mem.old.marks }
 {
     test_sp(core, rn.get() == 31)?;
     let (address, n) = (core.x_sp(rn), bytes_of(size));

@@ -27,11 +27,12 @@ pub(crate) fn stored(
     requires { log.old.items ≡ [] }
     ensures done { result ≡ true → (w : Vectors) → (after : CoreState → CoreState)
         → table.stored_to Transfer.Store
-        (reach mem.old Kind.Write (record { lane = 0; register = rt; address = address; bytes = 2 ^ size } ∷ []))
-        after core.now w mem.old
-        ≡ done_with after core.now w mem.new log.new.items }
-    ensures memory { result ≡ false → mem.new ≡ mem.old }
+        (reach mem.old.memory Kind.Write (record { lane = 0; register = rt; address = address; bytes = 2 ^ size } ∷ []))
+        after core.now w mem.old.memory
+        ≡ done_with after core.now w mem.new.memory log.new.items }
+    ensures memory { result ≡ false → mem.new.memory ≡ mem.old.memory }
     ensures log { result ≡ false → log.new.items ≡ [] }
+    ensures marks { mem.new.marks ≡ mem.old.marks }
 {
     match size.get() {
         0 => stored_bytes(core, mem, log, rt, address, 1),
@@ -54,12 +55,13 @@ pub(crate) fn loaded(
     requires { log.old.items ≡ [] }
     ensures done { result ≡ true → (w : Vectors) → (after : CoreState → CoreState)
         → table.loaded_to Transfer.Load
-        (reach mem.old Kind.Read (record { lane = 0; register = rt; address = address; bytes = 2 ^ size } ∷ []))
-        after core.old w mem.old
-        ≡ done_with after core.new w mem.new log.new.items }
+        (reach mem.old.memory Kind.Read (record { lane = 0; register = rt; address = address; bytes = 2 ^ size } ∷ []))
+        after core.old w mem.old.memory
+        ≡ done_with after core.new w mem.new.memory log.new.items }
     ensures core { result ≡ false → core.new ≡ core.old }
-    ensures memory { result ≡ false → mem.new ≡ mem.old }
+    ensures memory { result ≡ false → mem.new.memory ≡ mem.old.memory }
     ensures log { result ≡ false → log.new.items ≡ [] }
+    ensures marks { mem.new.marks ≡ mem.old.marks }
 {
     match size.get() {
         0 => loaded_bytes(core, mem, log, rt, address, 1),
@@ -84,11 +86,12 @@ fn stored_bytes(
     requires empty { log.old.items ≡ [] }
     ensures done { result ≡ true → (w : Vectors) → (after : CoreState → CoreState)
         → table.stored_to Transfer.Store
-        (reach mem.old Kind.Write (record { lane = 0; register = rt; address = address; bytes = n } ∷ []))
-        after core.now w mem.old
-        ≡ done_with after core.now w mem.new log.new.items }
-    ensures memory { result ≡ false → mem.new ≡ mem.old }
+        (reach mem.old.memory Kind.Write (record { lane = 0; register = rt; address = address; bytes = n } ∷ []))
+        after core.now w mem.old.memory
+        ≡ done_with after core.now w mem.new.memory log.new.items }
+    ensures memory { result ≡ false → mem.new.memory ≡ mem.old.memory }
     ensures log { result ≡ false → log.new.items ≡ [] }
+    ensures marks { mem.new.marks ≡ mem.old.marks }
 {
     if address % PAGE_SIZE + u64::from(n) > PAGE_SIZE {
         return false;
@@ -118,12 +121,13 @@ fn loaded_bytes(
     requires empty { log.old.items ≡ [] }
     ensures done { result ≡ true → (w : Vectors) → (after : CoreState → CoreState)
         → table.loaded_to Transfer.Load
-        (reach mem.old Kind.Read (record { lane = 0; register = rt; address = address; bytes = n } ∷ []))
-        after core.old w mem.old
-        ≡ done_with after core.new w mem.new log.new.items }
+        (reach mem.old.memory Kind.Read (record { lane = 0; register = rt; address = address; bytes = n } ∷ []))
+        after core.old w mem.old.memory
+        ≡ done_with after core.new w mem.new.memory log.new.items }
     ensures core { result ≡ false → core.new ≡ core.old }
-    ensures memory { result ≡ false → mem.new ≡ mem.old }
+    ensures memory { result ≡ false → mem.new.memory ≡ mem.old.memory }
     ensures log { result ≡ false → log.new.items ≡ [] }
+    ensures marks { mem.new.marks ≡ mem.old.marks }
 {
     if address % PAGE_SIZE + u64::from(n) > PAGE_SIZE {
         return false;

@@ -37,8 +37,15 @@ pub fn exec(
 ) -> Effect
     requires own { (is_flow i.now || is_load_store i.now) ≡ true }
     requires empty { log.old.items ≡ [] }
-    ensures { performed i.now core.old vec.old mem.old
-        ≡ record { core = core.new; vectors = vec.new; memory = mem.new; accesses = log.new.items; effect = result } }
+    ensures done { performed i.now core.old vec.old mem.old.memory
+        ≡ record {
+          core = core.new;
+          vectors = vec.new;
+          memory = mem.new.memory;
+          accesses = log.new.items;
+          effect = result;
+        } }
+    ensures marks { mem.new.marks ≡ mem.old.marks }
 {
     match *i.form() {
         A64Form::Branch { op, imm26 } => branches::branch(core, op, imm26),

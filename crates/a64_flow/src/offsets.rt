@@ -37,9 +37,10 @@ pub(crate) fn from_base(
     address: u64,
 ) -> Result<(), Trap>
     requires { log.old.items ≡ [] }
-    ensures { (after : CoreState → CoreState)
-        → transferred_by (rows.from_base v size opc rn rt address after) core.old vec.old mem.old
-        ≡ followed_by after result core.new vec.new mem.new log.new.items }
+    ensures done { (after : CoreState → CoreState)
+        → transferred_by (rows.from_base v size opc rn rt address after) core.old vec.old mem.old.memory
+        ≡ followed_by after result core.new vec.new mem.new.memory log.new.items }
+    ensures marks { mem.new.marks ≡ mem.old.marks }
 {
     let t = transfer(v, size, opc);
     let n = access_bytes(v, size, opc);
@@ -139,8 +140,9 @@ pub(crate) fn ls_literal(
     rt: Reg,
 ) -> Result<(), Trap>
     requires { log.old.items ≡ [] }
-    ensures { access (A64Form.LsLiteral opc v imm19 rt) core.old vec.old mem.old
-        ≡ ended result core.new vec.new mem.new log.new.items }
+    ensures done { access (A64Form.LsLiteral opc v imm19 rt) core.old vec.old mem.old.memory
+        ≡ ended result core.new vec.new mem.new.memory log.new.items }
+    ensures marks { mem.new.marks ≡ mem.old.marks }
 {
     let (t, n) = (literal_transfer(v, opc), literal_bytes(v, opc));
     let address = target(core, imm19.get(), 19);

@@ -29,8 +29,9 @@ pub(crate) fn pair(
     rt: Reg,
 ) -> Result<(), Trap>
     requires { log.old.items ≡ [] }
-    ensures { access (A64Form.Pair opc v mode l imm7 rt2 rn rt) core.old vec.old mem.old
-        ≡ ended result core.new vec.new mem.new log.new.items }
+    ensures done { access (A64Form.Pair opc v mode l imm7 rt2 rn rt) core.old vec.old mem.old.memory
+        ≡ ended result core.new vec.new mem.new.memory log.new.items }
+    ensures marks { mem.new.marks ≡ mem.old.marks }
 {
     test_sp(core, rn.get() == 31)?;
     let (t, n) = (pair_transfer(v, opc, l), pair_bytes(v, opc, l));

@@ -21,7 +21,9 @@ pub(crate) fn access(
     i: &A64,
 ) -> Result<(), Trap>
     requires { log.old.items ≡ [] }
-    ensures { access i.now core.old vec.old mem.old ≡ ended result core.new vec.new mem.new log.new.items }
+    ensures done { access i.now core.old vec.old mem.old.memory
+        ≡ ended result core.new vec.new mem.new.memory log.new.items }
+    ensures marks { mem.new.marks ≡ mem.old.marks }
 {
     match *i.form() {
         A64Form::LsUnsigned { .. }

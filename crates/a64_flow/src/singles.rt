@@ -42,7 +42,9 @@ pub(crate) fn exec(
 ) -> Result<(), Trap>
     requires own { is_single i.now ≡ true }
     requires empty { log.old.items ≡ [] }
-    ensures { access i.now core.old vec.old mem.old ≡ ended result core.new vec.new mem.new log.new.items }
+    ensures done { access i.now core.old vec.old mem.old.memory
+        ≡ ended result core.new vec.new mem.new.memory log.new.items }
+    ensures marks { mem.new.marks ≡ mem.old.marks }
 {
     match attempted(core, mem, log, i) {
         None => Ok(()),
@@ -57,7 +59,9 @@ pub(crate) fn exec(
 fn attempted(core: &mut Core, mem: &mut Mem, log: &mut AccessLog, i: &A64) -> Option<Single>
     requires own { is_single i.now ≡ true }
     requires empty { log.old.items ≡ [] }
-    ensures { IsTried (access i.now core.old) result core.old core.new mem.old mem.new log.new.items }
+    ensures tried { IsTried (access i.now core.old) result
+        core.old core.new mem.old.memory mem.new.memory log.new.items }
+    ensures marks { mem.new.marks ≡ mem.old.marks }
 {
     match *i.form() {
         A64Form::LsUnsigned {
@@ -127,8 +131,9 @@ fn attempted(core: &mut Core, mem: &mut Mem, log: &mut AccessLog, i: &A64) -> Op
 fn attempted_at(core: &mut Core, mem: &mut Mem, log: &mut AccessLog, s: Single) -> Option<Single>
     requires { log.old.items ≡ [] }
     ensures tried { IsTried (transferred_by (row_of s) core.old) result
-        core.old core.new mem.old mem.new log.new.items }
+        core.old core.new mem.old.memory mem.new.memory log.new.items }
     ensures same { IfSome result (λ left. left ≡ s) }
+    ensures marks { mem.new.marks ≡ mem.old.marks }
 {
     if moved_general(core, mem, log, &s) {
         write_back(core, s.rn, s.back);
@@ -147,8 +152,9 @@ fn transfer_at(
     s: &Single,
 ) -> Result<(), Trap>
     requires { log.old.items ≡ [] }
-    ensures { transferred_by (row_of s.now) core.old vec.old mem.old
-        ≡ ended result core.new vec.new mem.new log.new.items }
+    ensures done { transferred_by (row_of s.now) core.old vec.old mem.old.memory
+        ≡ ended result core.new vec.new mem.new.memory log.new.items }
+    ensures marks { mem.new.marks ≡ mem.old.marks }
 {
     if moved(core, vec, mem, log, s) {
         write_back(core, s.rn, s.back);
@@ -167,8 +173,9 @@ fn tested(
     s: &Single,
 ) -> Result<(), Trap>
     requires { log.old.items ≡ [] }
-    ensures { transferred_by (row_of s.now) core.old vec.old mem.old
-        ≡ ended result core.new vec.new mem.new log.new.items }
+    ensures done { transferred_by (row_of s.now) core.old vec.old mem.old.memory
+        ≡ ended result core.new vec.new mem.new.memory log.new.items }
+    ensures marks { mem.new.marks ≡ mem.old.marks }
 {
     from_base(
         core, vec, mem, log, s.v, s.size, s.opc, s.rn, s.rt, s.address,

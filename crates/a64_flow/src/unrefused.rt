@@ -28,11 +28,12 @@ pub(crate) fn moved_general(core: &mut Core, mem: &mut Mem, log: &mut AccessLog,
     requires { log.old.items ≡ [] }
     ensures done { result ≡ true → (w : Vectors) → (after : CoreState → CoreState)
         → transferred_by (from_base s.now.v s.now.size s.now.opc s.now.rn s.now.rt s.now.address after)
-        core.old w mem.old
-        ≡ done_with after core.new w mem.new log.new.items }
+        core.old w mem.old.memory
+        ≡ done_with after core.new w mem.new.memory log.new.items }
     ensures core { result ≡ false → core.new ≡ core.old }
-    ensures memory { result ≡ false → mem.new ≡ mem.old }
+    ensures memory { result ≡ false → mem.new.memory ≡ mem.old.memory }
     ensures log { result ≡ false → log.new.items ≡ [] }
+    ensures marks { mem.new.marks ≡ mem.old.marks }
 {
     if s.v || s.opc.get() >= 2 || is_misaligned(core, s.rn) {
         return false;
@@ -57,12 +58,13 @@ pub(crate) fn moved(
     requires { log.old.items ≡ [] }
     ensures done { result ≡ true → (after : CoreState → CoreState)
         → transferred_by (from_base s.now.v s.now.size s.now.opc s.now.rn s.now.rt s.now.address after)
-        core.old vec.old mem.old
-        ≡ done_with after core.new vec.new mem.new log.new.items }
+        core.old vec.old mem.old.memory
+        ≡ done_with after core.new vec.new mem.new.memory log.new.items }
     ensures core { result ≡ false → core.new ≡ core.old }
     ensures vectors { result ≡ false → vec.new ≡ vec.old }
-    ensures memory { result ≡ false → mem.new ≡ mem.old }
+    ensures memory { result ≡ false → mem.new.memory ≡ mem.old.memory }
     ensures log { result ≡ false → log.new.items ≡ [] }
+    ensures marks { mem.new.marks ≡ mem.old.marks }
 {
     if is_misaligned(core, s.rn) {
         return false;
@@ -100,13 +102,14 @@ fn moved_rarely(
     requires aligned { table.is_misaligned (nat_eq rn 31) core.old ≡ false }
     requires empty { log.old.items ≡ [] }
     ensures done { result ≡ true → (after : CoreState → CoreState)
-        → table.tested (table.has_sp t rn) None core.old vec.old mem.old
-        (table.transferred t (table.elements_from (table.moved t rt) address n) after core.old vec.old mem.old)
-        ≡ done_with after core.new vec.new mem.new log.new.items }
+        → table.tested (table.has_sp t rn) None core.old vec.old mem.old.memory
+        (table.transferred t (table.elements_from (table.moved t rt) address n) after core.old vec.old mem.old.memory)
+        ≡ done_with after core.new vec.new mem.new.memory log.new.items }
     ensures core { result ≡ false → core.new ≡ core.old }
     ensures vectors { result ≡ false → vec.new ≡ vec.old }
-    ensures memory { result ≡ false → mem.new ≡ mem.old }
+    ensures memory { result ≡ false → mem.new.memory ≡ mem.old.memory }
     ensures log { result ≡ false → log.new.items ≡ [] }
+    ensures marks { mem.new.marks ≡ mem.old.marks }
 {
     match t {
         Transfer::LoadSigned | Transfer::LoadSigned32 => loaded_signed(
@@ -147,13 +150,14 @@ fn loaded_signed(
     requires empty { log.old.items ≡ [] }
     ensures done { result ≡ true → (after : CoreState → CoreState)
         → table.loaded_to t
-        (reach mem.old Kind.Read (record { lane = 0; register = rt; address = address; bytes = n } ∷ []))
-        after core.old vec.old mem.old
-        ≡ done_with after core.new vec.new mem.new log.new.items }
+        (reach mem.old.memory Kind.Read (record { lane = 0; register = rt; address = address; bytes = n } ∷ []))
+        after core.old vec.old mem.old.memory
+        ≡ done_with after core.new vec.new mem.new.memory log.new.items }
     ensures core { result ≡ false → core.new ≡ core.old }
     ensures vectors { result ≡ false → vec.new ≡ vec.old }
-    ensures memory { result ≡ false → mem.new ≡ mem.old }
+    ensures memory { result ≡ false → mem.new.memory ≡ mem.old.memory }
     ensures log { result ≡ false → log.new.items ≡ [] }
+    ensures marks { mem.new.marks ≡ mem.old.marks }
 {
     match n {
         4 => loaded(core, vec, mem, log, t, rt, address, n),
@@ -179,11 +183,12 @@ fn stored_vector(
     requires empty { log.old.items ≡ [] }
     ensures done { result ≡ true → (after : CoreState → CoreState)
         → table.stored_to t
-        (reach mem.old Kind.Write (record { lane = 0; register = rt; address = address; bytes = n } ∷ []))
-        after core.now vec.now mem.old
-        ≡ done_with after core.now vec.now mem.new log.new.items }
-    ensures memory { result ≡ false → mem.new ≡ mem.old }
+        (reach mem.old.memory Kind.Write (record { lane = 0; register = rt; address = address; bytes = n } ∷ []))
+        after core.now vec.now mem.old.memory
+        ≡ done_with after core.now vec.now mem.new.memory log.new.items }
+    ensures memory { result ≡ false → mem.new.memory ≡ mem.old.memory }
     ensures log { result ≡ false → log.new.items ≡ [] }
+    ensures marks { mem.new.marks ≡ mem.old.marks }
 {
     match n {
         16 => stored(core, vec, mem, log, t, rt, address, n),
@@ -211,13 +216,14 @@ fn loaded_vector(
     requires empty { log.old.items ≡ [] }
     ensures done { result ≡ true → (after : CoreState → CoreState)
         → table.loaded_to t
-        (reach mem.old Kind.Read (record { lane = 0; register = rt; address = address; bytes = n } ∷ []))
-        after core.old vec.old mem.old
-        ≡ done_with after core.new vec.new mem.new log.new.items }
+        (reach mem.old.memory Kind.Read (record { lane = 0; register = rt; address = address; bytes = n } ∷ []))
+        after core.old vec.old mem.old.memory
+        ≡ done_with after core.new vec.new mem.new.memory log.new.items }
     ensures core { result ≡ false → core.new ≡ core.old }
     ensures vectors { result ≡ false → vec.new ≡ vec.old }
-    ensures memory { result ≡ false → mem.new ≡ mem.old }
+    ensures memory { result ≡ false → mem.new.memory ≡ mem.old.memory }
     ensures log { result ≡ false → log.new.items ≡ [] }
+    ensures marks { mem.new.marks ≡ mem.old.marks }
 {
     match n {
         16 => loaded(core, vec, mem, log, t, rt, address, n),
@@ -244,11 +250,12 @@ fn stored(
     requires empty { log.old.items ≡ [] }
     ensures done { result ≡ true → (after : CoreState → CoreState)
         → table.stored_to t
-        (reach mem.old Kind.Write (record { lane = 0; register = rt; address = address; bytes = n } ∷ []))
-        after core.now vec.now mem.old
-        ≡ done_with after core.now vec.now mem.new log.new.items }
-    ensures memory { result ≡ false → mem.new ≡ mem.old }
+        (reach mem.old.memory Kind.Write (record { lane = 0; register = rt; address = address; bytes = n } ∷ []))
+        after core.now vec.now mem.old.memory
+        ≡ done_with after core.now vec.now mem.new.memory log.new.items }
+    ensures memory { result ≡ false → mem.new.memory ≡ mem.old.memory }
     ensures log { result ≡ false → log.new.items ≡ [] }
+    ensures marks { mem.new.marks ≡ mem.old.marks }
 {
     let v = stored_value(core, vec, t, rt);
     match store_here(mem, log, v, address, n) {
@@ -275,13 +282,14 @@ fn loaded(
     requires empty { log.old.items ≡ [] }
     ensures done { result ≡ true → (after : CoreState → CoreState)
         → table.loaded_to t
-        (reach mem.old Kind.Read (record { lane = 0; register = rt; address = address; bytes = n } ∷ []))
-        after core.old vec.old mem.old
-        ≡ done_with after core.new vec.new mem.new log.new.items }
+        (reach mem.old.memory Kind.Read (record { lane = 0; register = rt; address = address; bytes = n } ∷ []))
+        after core.old vec.old mem.old.memory
+        ≡ done_with after core.new vec.new mem.new.memory log.new.items }
     ensures core { result ≡ false → core.new ≡ core.old }
     ensures vectors { result ≡ false → vec.new ≡ vec.old }
-    ensures memory { result ≡ false → mem.new ≡ mem.old }
+    ensures memory { result ≡ false → mem.new.memory ≡ mem.old.memory }
     ensures log { result ≡ false → log.new.items ≡ [] }
+    ensures marks { mem.new.marks ≡ mem.old.marks }
 {
     match load_here(mem, log, address, n) {
         Ok(v) => {

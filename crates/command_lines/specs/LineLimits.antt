@@ -27,7 +27,7 @@ HasArguments words (Load number) = Unit {0}
 HasArguments words (Sweep file args budget pages) = AreArguments (program_arguments words file args)
 HasArguments words (Threads file schedule args bits budget pages) = AreArguments (program_arguments words file args)
 
--- no more pages are asked for than a machine with marks may have
+-- no more pages are asked for than may be mapped
 abbrev pub HasLimit : Line → Type 0
 HasLimit (Run file args bits budget pages) = pages ≤ most_mapped_pages
 HasLimit (Asm listing) = Unit {0}

@@ -9,7 +9,7 @@ use Rattle.emu_run.specs.RunLaws.{Moves, prefix_refl, prefix_trans, step_moves, 
 use Rattle.dbg_model.specs.declared.script.Command.{Command}
 use Rattle.dbg_model.specs.declared.script.Command.TheVariants.{Step, Go, Break, Watch, Regs, Vl, Zreg, Preg, Ffr, Lanes, Mem, Back}
 use Rattle.dbg_model.specs.declared.script.Stop.{Stop}
-use Rattle.dbg_model.specs.Session.{Marks, no_marks, is_touched, mark_met, marked, shown, stepped_text, stop_line, watch_met}
+use Rattle.dbg_model.specs.Session.{Points, no_points, is_touched, point_met, with_point, shown, stepped_text, stop_line, watch_met}
 use Rattle.dbg_model.specs.CourseLaws.{moved_added, moved_one, moved_over, step_most, stepped_parts, turn_counts}
 use Rattle.dbg_model.specs.SessionBack.{Course, back_text, ending_text, go, moved, moved_to, obeyed, obeyed_all, put, stepped, stopped_or}
 use Rattle.dbg_model.specs.SessionBackEquations.{go-suc, go-zero, moved-zero}
@@ -51,17 +51,17 @@ appends_stop : (stop : Option Stop) (c d e : Course) → Appends c d → Appends
 appends_stop None c d e here there = there
 appends_stop (Some stop) c d e here there = appends_trans c d (put (stop_line stop) d) here (appends_put (stop_line stop) d)
 
-pub appends_go : (points : Marks) (k : ℕ) (c : Course) → Appends c (go points c k)
+pub appends_go : (points : Points) (k : ℕ) (c : Course) → Appends c (go points c k)
 appends_go points zero c = rw (go-zero points c) (appends_put ending_text c)
 appends_go points (suc k) c =
-    rw (go-suc points c k) (elim (goes_on c.state) as (λ b. Appends c (if b then stopped_or (mark_met points (accesses c.state.parts) (stepped c).state.parts) (stepped c) (go points (stepped c) k) else put ending_text c)) [
+    rw (go-suc points c k) (elim (goes_on c.state) as (λ b. Appends c (if b then stopped_or (point_met points (accesses c.state.parts) (stepped c).state.parts) (stepped c) (go points (stepped c) k) else put ending_text c)) [
       | true ↦
-          appends_stop (mark_met points (accesses c.state.parts) (stepped c).state.parts) c (stepped c) (go points (stepped c) k) (appends_stepped c)
+          appends_stop (point_met points (accesses c.state.parts) (stepped c).state.parts) c (stepped c) (go points (stepped c) k) (appends_stepped c)
           (appends_trans c (stepped c) (go points (stepped c) k) (appends_stepped c) (appends_go points k (stepped c)))
       | false ↦ appends_put ending_text c
     ])
 
-pub appends_obeyed : (start : State) (command : Command) (points : Marks) (budget : ℕ) (c : Course) → Appends c (obeyed start command points budget c)
+pub appends_obeyed : (start : State) (command : Command) (points : Points) (budget : ℕ) (c : Course) → Appends c (obeyed start command points budget c)
 appends_obeyed start (Step n) points budget c =
     let k : ℕ = min (c.state.parts.steps + n) budget - c.state.parts.steps in
     appends_trans c (moved c k) (obeyed start (Step n) points budget c) (appends_moved k c) (appends_put (stepped_text (c.state.parts.steps + n)) (moved c k))
@@ -77,11 +77,11 @@ appends_obeyed start (Lanes k size) points budget c = appends_put (shown (Lanes 
 appends_obeyed start (Mem address count) points budget c = appends_put (shown (Mem address count)) c
 appends_obeyed start (Back k) points budget c = record { output = (back_text (until_end start (c.state.parts.steps - k)).parts, refl); errors = prefix_refl c.state.errors }
 
-pub appends_all : (start : State) (commands : List Command) (points : Marks) (budget : ℕ) (c : Course) → Appends c (obeyed_all start commands points budget c)
+pub appends_all : (start : State) (commands : List Command) (points : Points) (budget : ℕ) (c : Course) → Appends c (obeyed_all start commands points budget c)
 appends_all start [] points budget c = appends_not c
 appends_all start (command ∷ commands) points budget c =
     let next : Course = obeyed start command points budget c in
-    appends_trans c next (obeyed_all start commands (marked command points) budget next) (appends_obeyed start command points budget c) (appends_all start commands (marked command points) budget next)
+    appends_trans c next (obeyed_all start commands (with_point command points) budget next) (appends_obeyed start command points budget c) (appends_all start commands (with_point command points) budget next)
 
 -- ---- how many steps are counted
 
@@ -151,26 +151,26 @@ none_when : (b : Bool) (met : Option Stop) → met ≡ None → (if b then met e
 none_when true met none = none
 none_when false met none = refl
 
-none_met : (made : List Access) (m : Parts) → mark_met no_marks made m ≡ None
-none_met made m = none_when (is_none m.ended) (watch_met no_marks m.core.pc (position (is_touched made) no_marks.watches)) refl
+none_met : (made : List Access) (m : Parts) → point_met no_points made m ≡ None
+none_met made m = none_when (is_none m.ended) (watch_met no_points m.core.pc (position (is_touched made) no_points.watches)) refl
 
-pub go_over : (points : Marks) (c : Course) (k : ℕ) → goes_on c.state ≡ false → go points c k ≡ put ending_text c
+pub go_over : (points : Points) (c : Course) (k : ℕ) → goes_on c.state ≡ false → go points c k ≡ put ending_text c
 go_over points c zero h = go-zero points c
 go_over points c (suc k) h =
-    go-suc points c k ∙ ap (λ (b : Bool). if b then stopped_or (mark_met points (accesses c.state.parts) (stepped c).state.parts) (stepped c) (go points (stepped c) k) else put ending_text c) h
+    go-suc points c k ∙ ap (λ (b : Bool). if b then stopped_or (point_met points (accesses c.state.parts) (stepped c).state.parts) (stepped c) (go points (stepped c) k) else put ending_text c) h
 
-pub go_one : (points : Marks) (c : Course) (k : ℕ) → goes_on c.state ≡ true → go points c (suc k) ≡ stopped_or (mark_met points (accesses c.state.parts) (stepped c).state.parts) (stepped c) (go points (stepped c) k)
+pub go_one : (points : Points) (c : Course) (k : ℕ) → goes_on c.state ≡ true → go points c (suc k) ≡ stopped_or (point_met points (accesses c.state.parts) (stepped c).state.parts) (stepped c) (go points (stepped c) k)
 go_one points c k h =
-    go-suc points c k ∙ ap (λ (b : Bool). if b then stopped_or (mark_met points (accesses c.state.parts) (stepped c).state.parts) (stepped c) (go points (stepped c) k) else put ending_text c) h
+    go-suc points c k ∙ ap (λ (b : Bool). if b then stopped_or (point_met points (accesses c.state.parts) (stepped c).state.parts) (stepped c) (go points (stepped c) k) else put ending_text c) h
 
-pub go_unmarked : (k : ℕ) (c : Course) → go no_marks c k ≡ put ending_text (moved c k)
-go_unmarked zero c = go-zero no_marks c ∙ ap (put ending_text) (sym (moved-zero c))
-go_unmarked (suc k) c =
-    elim (goes_on c.state) as (λ b. goes_on c.state ≡ b → go no_marks c (suc k) ≡ put ending_text (moved c (suc k))) [
+pub go_without : (k : ℕ) (c : Course) → go no_points c k ≡ put ending_text (moved c k)
+go_without zero c = go-zero no_points c ∙ ap (put ending_text) (sym (moved-zero c))
+go_without (suc k) c =
+    elim (goes_on c.state) as (λ b. goes_on c.state ≡ b → go no_points c (suc k) ≡ put ending_text (moved c (suc k))) [
       | true ↦ λ h.
-          go_one no_marks c k h
-          ∙ ap (λ (stop : Option Stop). stopped_or stop (stepped c) (go no_marks (stepped c) k)) (none_met (accesses c.state.parts) (stepped c).state.parts)
-          ∙ go_unmarked k (stepped c)
+          go_one no_points c k h
+          ∙ ap (λ (stop : Option Stop). stopped_or stop (stepped c) (go no_points (stepped c) k)) (none_met (accesses c.state.parts) (stepped c).state.parts)
+          ∙ go_without k (stepped c)
           ∙ ap (put ending_text) (sym (moved_one c k h))
-      | false ↦ λ h. go_over no_marks c (suc k) h ∙ ap (put ending_text) (sym (moved_over c (suc k) h))
+      | false ↦ λ h. go_over no_points c (suc k) h ∙ ap (put ending_text) (sym (moved_over c (suc k) h))
     ] refl

@@ -2,11 +2,9 @@
 use Rattle.std.proofs.Common.{◌≡◌, ℕ, Bool, true, false, List, [], Option, Some, None, Result, Ok, Err, refl, sym, ap, subst, ◌∙◌, append-nil}
 use Rattle.io_gate.specs.declared.streams.Failed.{Failed}
 use Rattle.io_gate.specs.Pieces.{PutsAll}
-use Rattle.emu_model.specs.Access.{Marks}
 use Rattle.emu_model.specs.State.{Parts, State}
 use Rattle.emu_machine.specs.Machines.{MachineState}
 use Rattle.emu_report.proofs.Puts.{puts_equal}
-use Rattle.emu_run.specs.Marked.{parts_with}
 use Rattle.dbg_model.specs.SessionBack.{Course, put}
 use Rattle.dbg_back.specs.declared.trail.Trail.{Trail}
 use Rattle.dbg_back.specs.Ends.{end_of_put, is_fault}
@@ -64,12 +62,8 @@ walk_put start input c m t text h = record {
   marks = h.marks;
 }
 
--- a text that doesn't look at marks
-abbrev pub IsPlain : (Parts → List ℕ) → Type 0
-IsPlain text = (p : Parts) (x : Marks) → text (parts_with p x) ≡ text p
-
-pub text_of : (text : Parts → List ℕ) (st : State) (input : List ℕ) (m : MachineState) (place : ℕ) → IsPlain text → IsIn st input m place → text m.parts ≡ text st.parts
-text_of text st input m place plain h = ap text h.parts ∙ plain st.parts m.parts.memory.marks
+text_of : (text : Parts → List ℕ) (st : State) (input : List ℕ) (m : MachineState) (place : ℕ) → IsIn st input m place → text m.parts ≡ text st.parts
+text_of text st input m place h = ap text h.parts
 
 -- where a line ends the call, the errors are as they were
 errs_stay : (had : Option (List ℕ)) (line : Result (Unit {0}) Failed) (errs : Option (List ℕ)) (bytes : List ℕ) → Gained had false errs bytes → Gained had (is_fault (end_of_put line)) errs bytes
@@ -77,12 +71,12 @@ errs_stay had (Ok done) errs bytes g = g
 errs_stay None (Err failed) errs bytes g = tt
 errs_stay (Some h) (Err failed) errs bytes g = record { gained = bytes; is = g; first = ([], sym (append-nil bytes)) }
 
-pub does_put : (input : List ℕ) (m : MachineState) (t : Trail) (hp hq errs : Option (List ℕ)) (text : Parts → List ℕ) (line : Result (Unit {0}) Failed) → IsPlain text → PutsAll hp hq (text m.parts) line
+pub does_put : (input : List ℕ) (m : MachineState) (t : Trail) (hp hq errs : Option (List ℕ)) (text : Parts → List ℕ) (line : Result (Unit {0}) Failed) → PutsAll hp hq (text m.parts) line
     → Does (λ start. put text) input m m t t hp hq errs errs (is_fault (end_of_put line))
-does_put input m t hp hq errs text line plain puts = record {
+does_put input m t hp hq errs text line puts = record {
   walks = λ start c h fine. walk_put start input c m t text h;
   output = λ start c had h before.
-      gained_put had hp hq c.state.output (text c.state.parts) line before (puts_equal hp hq (text m.parts) (text c.state.parts) line (text_of text c.state input m t.place plain h.here) puts);
+      gained_put had hp hq c.state.output (text c.state.parts) line before (puts_equal hp hq (text m.parts) (text c.state.parts) line (text_of text c.state input m t.place h.here) puts);
   errors = λ start c had h before. errs_stay had line errs c.state.errors before;
 }
 

@@ -9,10 +9,9 @@ use Rattle.emu_run.specs.Reports.{ending_line}
 use Rattle.emu_run.specs.Run.{goes_on}
 use Rattle.emu_run.specs.Step.{accesses}
 use Rattle.emu_machine.specs.Machines.{MachineState}
-use Rattle.emu_run.specs.Steps.{accesses_with}
 use Rattle.dbg_model.specs.declared.script.Stop.{Stop as Met}
 use Rattle.dbg_model.specs.declared.script.Stop.TheVariants.{AtWatch, AtBreak}
-use Rattle.dbg_model.specs.Session.{Marks, mark_met, is_touched, stop_line, watch_met}
+use Rattle.dbg_model.specs.Session.{Points, point_met, is_touched, stop_line, watch_met}
 use Rattle.dbg_core.specs.declared.points.Stop.{Stop}
 use Rattle.dbg_core.specs.declared.points.Stop.TheVariants.{Ended, Watch, Break, Spent}
 use Rattle.dbg_core.specs.Stops.{HasEnded, first_met, line_of_stop, met_or, spent_met}
@@ -23,7 +22,7 @@ use Rattle.dbg_back.specs.Walks.{IsIn, advanced, part_end}
 use Rattle.dbg_back.proofs.Courses.{Appends, appends_go, appends_put, go_one, go_over, stepped_counts}
 use Rattle.dbg_back.proofs.Running.{part_below}
 
-abbrev pub go_at : Marks → ℕ → Course → Course
+abbrev pub go_at : Points → ℕ → Course → Course
 go_at points budget c = go points c (budget - c.state.parts.steps)
 
 -- ---- one step
@@ -44,18 +43,18 @@ one_step c going below =
 
 -- ---- the tests behind it
 
-none_over : (points : Marks) (made : List Access) (m : Parts) → is_none m.ended ≡ false → mark_met points made m ≡ None
+none_over : (points : Points) (made : List Access) (m : Parts) → is_none m.ended ≡ false → point_met points made m ≡ None
 none_over points made m over = ap (λ (b : Bool). if b then watch_met points m.core.pc (position (is_touched made) points.watches) else None) over
 
 -- what the first of the four tests says of the others
-pub record Tested (points : Marks) (budget : ℕ) (made : List Access) (m : Parts) (found : Option Stop) : Type 0 where
-  pub none : found ≡ None → (is_none m.ended ≡ true) × (mark_met points made m ≡ None) × (m.steps < budget)
+pub record Tested (points : Points) (budget : ℕ) (made : List Access) (m : Parts) (found : Option Stop) : Type 0 where
+  pub none : found ≡ None → (is_none m.ended ≡ true) × (point_met points made m ≡ None) × (m.steps < budget)
   pub ended : found ≡ Some Ended → is_none m.ended ≡ false
-  pub watch : (k : ℕ) → found ≡ Some (Watch k) → mark_met points made m ≡ Some (AtWatch k)
-  pub stands : found ≡ Some Break → mark_met points made m ≡ Some AtBreak
-  pub spent : found ≡ Some Spent → (is_none m.ended ≡ true) × (mark_met points made m ≡ None) × (budget ≤ m.steps)
+  pub watch : (k : ℕ) → found ≡ Some (Watch k) → point_met points made m ≡ Some (AtWatch k)
+  pub stands : found ≡ Some Break → point_met points made m ≡ Some AtBreak
+  pub spent : found ≡ Some Spent → (is_none m.ended ≡ true) × (point_met points made m ≡ None) × (budget ≤ m.steps)
 
-tested_spent : (points : Marks) (budget : ℕ) (made : List Access) (m : Parts) → is_none m.ended ≡ true → mark_met points made m ≡ None → Tested points budget made m (spent_met m.steps budget)
+tested_spent : (points : Points) (budget : ℕ) (made : List Access) (m : Parts) → is_none m.ended ≡ true → point_met points made m ≡ None → Tested points budget made m (spent_met m.steps budget)
 tested_spent points budget made m going none =
     elim (nat_le budget m.steps) as (λ b. nat_le budget m.steps ≡ b → Tested points budget made m (if b then Some Spent else None)) [
       | true ↦ λ h. record {
@@ -74,7 +73,7 @@ tested_spent points budget made m going none =
       }
     ] refl
 
-tested_met : (points : Marks) (budget : ℕ) (made : List Access) (m : Parts) (met : Option Met) → is_none m.ended ≡ true → mark_met points made m ≡ met → Tested points budget made m (met_or met (spent_met m.steps budget))
+tested_met : (points : Points) (budget : ℕ) (made : List Access) (m : Parts) (met : Option Met) → is_none m.ended ≡ true → point_met points made m ≡ met → Tested points budget made m (met_or met (spent_met m.steps budget))
 tested_met points budget made m None going is = tested_spent points budget made m going is
 tested_met points budget made m (Some (AtWatch k)) going is = record {
   none = λ (e : Some (Watch k) ≡ None). cc;
@@ -91,8 +90,8 @@ tested_met points budget made m (Some AtBreak) going is = record {
   spent = λ (e : Some Break ≡ Some Spent). cc;
 }
 
-tested_at : (e : Option Ending) (points : Marks) (budget : ℕ) (made : List Access) (m : Parts) → m.ended ≡ e → Tested points budget made m (if is_some e then Some Ended else met_or (mark_met points made m) (spent_met m.steps budget))
-tested_at None points budget made m is = tested_met points budget made m (mark_met points made m) (ap (λ (x : Option Ending). is_none x) is) refl
+tested_at : (e : Option Ending) (points : Points) (budget : ℕ) (made : List Access) (m : Parts) → m.ended ≡ e → Tested points budget made m (if is_some e then Some Ended else met_or (point_met points made m) (spent_met m.steps budget))
+tested_at None points budget made m is = tested_met points budget made m (point_met points made m) (ap (λ (x : Option Ending). is_none x) is) refl
 tested_at (Some x) points budget made m is = record {
   none = λ (e : Some Ended ≡ None). cc;
   ended = λ _. ap (λ (y : Option Ending). is_none y) is;
@@ -101,7 +100,7 @@ tested_at (Some x) points budget made m is = record {
   spent = λ (e : Some Ended ≡ Some Spent). cc;
 }
 
-pub tested : (points : Marks) (budget : ℕ) (made : List Access) (m : Parts) → Tested points budget made m (first_met points budget made m)
+pub tested : (points : Points) (budget : ℕ) (made : List Access) (m : Parts) → Tested points budget made m (first_met points budget made m)
 tested points budget made m = tested_at m.ended points budget made m refl
 
 -- a machine of which it is said that it has ended has
@@ -109,7 +108,7 @@ some_of : (e : Option Ending) → is_none e ≡ false → is_some e ≡ true
 some_of None h = cc
 some_of (Some x) h = refl
 
-pub has_ended_by : (stop : Stop) (points : Marks) (budget : ℕ) (made : List Access) (m : Parts) → first_met points budget made m ≡ Some stop → HasEnded stop m
+pub has_ended_by : (stop : Stop) (points : Points) (budget : ℕ) (made : List Access) (m : Parts) → first_met points budget made m ≡ Some stop → HasEnded stop m
 has_ended_by Ended points budget made m is = some_of m.ended ((tested points budget made m).ended is)
 has_ended_by (Watch k) points budget made m is = tt
 has_ended_by Break points budget made m is = tt
@@ -121,9 +120,9 @@ stop_appends : (stop : Option Met) (d e : Course) → Appends d e → Appends d 
 stop_appends None d e more = more
 stop_appends (Some stop) d e more = appends_put (stop_line stop) d
 
-module _ (points : Marks) (budget : ℕ) (c : Course) (going : goes_on c.state ≡ true) (below : c.state.parts.steps < budget) where
+module _ (points : Points) (budget : ℕ) (c : Course) (going : goes_on c.state ≡ true) (below : c.state.parts.steps < budget) where
   abbrev met_there : Option Met
-  met_there = mark_met points (accesses c.state.parts) (stepped c).state.parts
+  met_there = point_met points (accesses c.state.parts) (stepped c).state.parts
 
   go_met : (met : Option Met) → met_there ≡ met → go_at points budget c ≡ stopped_or met (stepped c) (go points (stepped c) (budget - (c.state.parts.steps + 1)))
   go_met met is =
@@ -164,17 +163,16 @@ module _ (points : Marks) (budget : ℕ) (c : Course) (going : goes_on c.state �
 
 -- ---- it has ended, or the budget is spent
 
-pub go_rests : (points : Marks) (budget : ℕ) (c : Course) → budget ≤ c.state.parts.steps → go_at points budget c ≡ put ending_text c
+pub go_rests : (points : Points) (budget : ℕ) (c : Course) → budget ≤ c.state.parts.steps → go_at points budget c ≡ put ending_text c
 go_rests points budget c over = let none : budget - c.state.parts.steps ≡ 0 = omega (arith, over) in ap (go points c) none ∙ go-zero points c
 
-pub go_ended : (points : Marks) (budget : ℕ) (c : Course) → goes_on c.state ≡ false → go_at points budget c ≡ put ending_text c
+pub go_ended : (points : Points) (budget : ℕ) (c : Course) → goes_on c.state ≡ false → go_at points budget c ≡ put ending_text c
 go_ended points budget c over = go_over points c (budget - c.state.parts.steps) over
 
 -- ---- the same of the machine
 
--- the tests don't look at its marks
-pub first_met_of : (points : Marks) (budget : ℕ) (st : State) (input : List ℕ) (m : MachineState) (place : ℕ) (made : List Access) → IsIn st input m place → first_met points budget made m.parts ≡ first_met points budget made st.parts
+pub first_met_of : (points : Points) (budget : ℕ) (st : State) (input : List ℕ) (m : MachineState) (place : ℕ) (made : List Access) → IsIn st input m place → first_met points budget made m.parts ≡ first_met points budget made st.parts
 first_met_of points budget st input m place made h = ap (first_met points budget made) h.parts
 
 pub accesses_of : (st : State) (input : List ℕ) (m : MachineState) (place : ℕ) → IsIn st input m place → accesses m.parts ≡ accesses st.parts
-accesses_of st input m place h = ap accesses h.parts ∙ accesses_with st.parts m.parts.memory.marks
+accesses_of st input m place h = ap accesses h.parts

@@ -4,7 +4,7 @@ use Rattle.std.proofs.lemmas.Bool.Decides.{nat_tests}
 use Rattle.std.proofs.lemmas.List.{drop-drop, take_all}
 use Rattle.emu_model.specs.declared.access.Access.{Access}
 use Rattle.emu_model.specs.declared.trap.Ended.{Ended}
-use Rattle.emu_model.specs.Access.{Marks}
+use Rattle.emu_model.specs.Marks.{Marks}
 use Rattle.emu_model.specs.State.{Parts, State}
 use Rattle.emu_run.specs.Step.{accesses}
 use Rattle.emu_run.specs.Run.{run, until_end}
@@ -18,8 +18,6 @@ use Rattle.emu_machine.specs.declared.ends.RunEnd.{RunEnd}
 use Rattle.emu_machine.specs.declared.ends.RunEnd.TheVariants as runs
 use Rattle.emu_machine.proofs.Composed.{from_nothing}
 use Rattle.emu_machine.proofs.Logs.{last_none, log_one}
-use Rattle.emu_run.specs.Marked.{parts_with, state_with}
-use Rattle.emu_run.specs.Steps.{until_end_with}
 use Rattle.dbg_model.specs.CourseLaws.{moved_below, moved_beyond, on_same, on_until}
 use Rattle.dbg_model.specs.SessionBack.{Course, moved, moved_to}
 use Rattle.dbg_back.specs.declared.trail.Trail.{Trail}
@@ -27,31 +25,30 @@ use Rattle.dbg_back.specs.Walks.{AreMarks, CanWalk, Does, Gained, IsIn, IsWalk, 
 use Rattle.dbg_back.proofs.Courses.{until_most}
 use Rattle.dbg_back.proofs.Streams.{gained_as, gained_more}
 
--- ---- the run, whatever marks the machine has and whatever was written
+-- ---- the run, whatever was written
 
 module _ (st : State) (input : List ℕ) (m : MachineState) (place until : ℕ) (h : IsIn st input m place) where
   abbrev quiet_state : State
   quiet_state = with_input st.parts st.input
 
-  ran_marked : run (with_input m.parts st.input) until ≡ state_with (run quiet_state until) m.parts.memory.marks
-  ran_marked =
-      ap (λ (p : Parts). run (with_input p st.input) until) h.parts ∙ until_end_with quiet_state (until - st.parts.steps) m.parts.memory.marks
+  ran_there : run (with_input m.parts st.input) until ≡ run quiet_state until
+  ran_there = ap (λ (p : Parts). run (with_input p st.input) until) h.parts
 
   ran_behind : run st until ≡ behind st.output st.errors (run quiet_state until)
   ran_behind = ap (λ (s : State). run s until) (from_nothing st) ∙ run_behind st.output st.errors quiet_state until
 
   -- the machine that it leaves
-  pub ran_parts : (n : MachineState) (told left : Option (List ℕ)) → told ≡ Some st.input → Becomes (λ s. run s until) m.parts n.parts told left false → n.parts ≡ parts_with (run st until).parts m.parts.memory.marks
+  pub ran_parts : (n : MachineState) (told left : Option (List ℕ)) → told ≡ Some st.input → Becomes (λ s. run s until) m.parts n.parts told left false → n.parts ≡ (run st until).parts
   ran_parts n told left is done =
       let d = subst (λ (t : Option (List ℕ)). Becomes (λ s. run s until) m.parts n.parts t left false) is done refl in
-      d.0 ∙ ap (λ (s : State). s.parts) ran_marked ∙ ap (λ (s : State). parts_with s.parts m.parts.memory.marks) (sym ran_behind)
+      d.0 ∙ ap (λ (s : State). s.parts) ran_there ∙ ap (λ (s : State). s.parts) (sym ran_behind)
 
   -- what is left of the input
   pub ran_left : (n : MachineState) (told : Option (List ℕ)) (rest : List ℕ) → told ≡ Some st.input → Becomes (λ s. run s until) m.parts n.parts told (Some rest) false → rest ≡ (run st until).input
   ran_left n told rest is done =
       let d = subst (λ (t : Option (List ℕ)). Becomes (λ s. run s until) m.parts n.parts t (Some rest) false) is done refl in
       let one : rest ≡ (run (with_input m.parts st.input) until).input = cc (d.1) in
-      one ∙ ap (λ (s : State). s.input) ran_marked ∙ ap (λ (s : State). s.input) (sym ran_behind)
+      one ∙ ap (λ (s : State). s.input) ran_there ∙ ap (λ (s : State). s.input) (sym ran_behind)
 
   -- its place there
   place_of : (rest : List ℕ) (after : ℕ) → rest ≡ (run st until).input → after ≡ length input - length rest → (drop after input ≡ (run st until).input) × (after ≤ length input)
@@ -67,24 +64,22 @@ module _ (st : State) (input : List ℕ) (m : MachineState) (place until : ℕ) 
   pub ran_in : (n : MachineState) (told : Option (List ℕ)) (rest : List ℕ) (after : ℕ) → told ≡ Some st.input → Becomes (λ s. run s until) m.parts n.parts told (Some rest) false → n.failed ≡ false → after ≡ length input - length rest
       → IsIn (run st until) input n after
   ran_in n told rest after is done fine count =
-      let parts = ran_parts n told (Some rest) is done in
-      let marks : m.parts.memory.marks ≡ n.parts.memory.marks = ap (λ (p : Parts). p.memory.marks) (sym parts) in
       let there = place_of rest after (ran_left n told rest is done) count in
-      record { parts = parts ∙ ap (λ (x : Marks). parts_with (run st until).parts x) marks; failed = fine; left = there.0; within = there.1 }
+      record { parts = ran_parts n told (Some rest) is done; failed = fine; left = there.0; within = there.1 }
 
   -- what a sink gained
   module _ (b : Bool) (told had hp hq : Option (List ℕ)) (is : told ≡ Some st.input) where
     pub ran_output : Puts (λ s. (run s until).output) m.parts told hp hq b → Gained had false hp st.output → Gained had b hq (run st until).output
     ran_output puts before =
         let p = subst (λ (t : Option (List ℕ)). Puts (λ s. (run s until).output) m.parts t hp hq b) is puts in
-        let q : IfSome hp (λ x. Gains b hq x (run quiet_state until).output) = subst (λ (s : State). IfSome hp (λ x. Gains b hq x s.output)) ran_marked p in
+        let q : IfSome hp (λ x. Gains b hq x (run quiet_state until).output) = subst (λ (s : State). IfSome hp (λ x. Gains b hq x s.output)) ran_there p in
         gained_as had b hq (st.output ++ (run quiet_state until).output) (run st until).output (ap (λ (s : State). s.output) (sym ran_behind))
         (gained_more b had hp hq st.output (run quiet_state until).output before q)
 
     pub ran_errors : Puts (λ s. (run s until).errors) m.parts told hp hq b → Gained had false hp st.errors → Gained had b hq (run st until).errors
     ran_errors puts before =
         let p = subst (λ (t : Option (List ℕ)). Puts (λ s. (run s until).errors) m.parts t hp hq b) is puts in
-        let q : IfSome hp (λ x. Gains b hq x (run quiet_state until).errors) = subst (λ (s : State). IfSome hp (λ x. Gains b hq x s.errors)) ran_marked p in
+        let q : IfSome hp (λ x. Gains b hq x (run quiet_state until).errors) = subst (λ (s : State). IfSome hp (λ x. Gains b hq x s.errors)) ran_there p in
         gained_as had b hq (st.errors ++ (run quiet_state until).errors) (run st until).errors (ap (λ (s : State). s.errors) (sym ran_behind))
         (gained_more b had hp hq st.errors (run quiet_state until).errors before q)
 
@@ -133,15 +128,15 @@ ran_accesses before m bytes until going one =
 
 -- ---- of the course of a session
 
-pub same_marks : (start : State) (input : List ℕ) (m n : MachineState) (t v : Trail) → n.parts.memory.marks ≡ m.parts.memory.marks → n.saved ≡ m.saved → v.steps ≡ t.steps → v.places ≡ t.places
-    → AreMarks start input m.parts.memory.marks.list m.saved t.steps t.places → AreMarks start input n.parts.memory.marks.list n.saved v.steps v.places
+pub same_marks : (start : State) (input : List ℕ) (m n : MachineState) (t v : Trail) → n.marks ≡ m.marks → n.saved ≡ m.saved → v.steps ≡ t.steps → v.places ≡ t.places
+    → AreMarks start input m.marks m.saved t.steps t.places → AreMarks start input n.marks n.saved v.steps v.places
 same_marks start input m n t v marks saved steps places h =
-    subst (λ (x : Marks). AreMarks start input x.list n.saved v.steps v.places) (sym marks)
-    (subst (λ s. AreMarks start input m.parts.memory.marks.list s v.steps v.places) (sym saved)
-    (subst (λ (s : List ℕ). AreMarks start input m.parts.memory.marks.list m.saved s v.places) (sym steps)
-    (subst (λ (p : List ℕ). AreMarks start input m.parts.memory.marks.list m.saved t.steps p) (sym places) h)))
+    subst (λ (x : Marks). AreMarks start input x n.saved v.steps v.places) (sym marks)
+    (subst (λ s. AreMarks start input m.marks s v.steps v.places) (sym saved)
+    (subst (λ (s : List ℕ). AreMarks start input m.marks m.saved s v.places) (sym steps)
+    (subst (λ (p : List ℕ). AreMarks start input m.marks m.saved t.steps p) (sym places) h)))
 
-module _ (input : List ℕ) (m n : MachineState) (t v : Trail) (part : ℕ) (marks : n.parts.memory.marks ≡ m.parts.memory.marks) (saved : n.saved ≡ m.saved) (steps : v.steps ≡ t.steps) (places : v.places ≡ t.places) where
+module _ (input : List ℕ) (m n : MachineState) (t v : Trail) (part : ℕ) (marks : n.marks ≡ m.marks) (saved : n.saved ≡ m.saved) (steps : v.steps ≡ t.steps) (places : v.places ≡ t.places) where
   -- up to the furthest count
   pub walk_below : (start : State) (c : Course) → IsWalk start input c m t → c.state.parts.steps ≤ part → part ≤ c.top → v.top ≡ t.top → IsIn (run c.state part) input n v.place
       → IsWalk start input (moved c (part - c.state.parts.steps)) n v
@@ -193,7 +188,7 @@ module _ (input : List ℕ) (m n : MachineState) (t v : Trail) (until : ℕ) (hp
   steps_of start c w = ap (λ (p : Parts). p.steps) w.here.parts
 
   -- below the furthest count, by sinks that drop what they get
-  pub advances_below : (part : ℕ) → part ≡ min until t.top → m.parts.steps < t.top → m.parts.steps < until → n.parts.memory.marks ≡ m.parts.memory.marks → n.saved ≡ m.saved → v.steps ≡ t.steps → v.places ≡ t.places → v.top ≡ t.top
+  pub advances_below : (part : ℕ) → part ≡ min until t.top → m.parts.steps < t.top → m.parts.steps < until → n.marks ≡ m.marks → n.saved ≡ m.saved → v.steps ≡ t.steps → v.places ≡ t.places → v.top ≡ t.top
       → ((st : State) → IsIn st input m t.place → IsIn (run st part) input n v.place) → Does (λ start. advanced until) input m n t v hp hp ep ep false
   advances_below part is below before marks saved steps places top here =
       let ends : (start : State) (c : Course) → IsWalk start input c m t → part_end c until ≡ part =
@@ -217,7 +212,7 @@ module _ (input : List ℕ) (m n : MachineState) (t v : Trail) (until : ℕ) (hp
       }
 
   -- from it on, by those of the session
-  pub advances_beyond : (b : Bool) → t.top ≤ m.parts.steps → (b ≡ false → n.parts.memory.marks ≡ m.parts.memory.marks) → n.saved ≡ m.saved → v.steps ≡ t.steps → v.places ≡ t.places → v.top ≡ n.parts.steps
+  pub advances_beyond : (b : Bool) → t.top ≤ m.parts.steps → n.marks ≡ m.marks → n.saved ≡ m.saved → v.steps ≡ t.steps → v.places ≡ t.places → v.top ≡ n.parts.steps
       → Runs until input m n t.place v.place hp hq ep eq b → Does (λ start. advanced until) input m n t v hp hq ep eq b
   advances_beyond b beyond marks saved steps places top ran =
       let at : (start : State) (c : Course) → IsWalk start input c m t → c.top ≡ c.state.parts.steps =
@@ -226,7 +221,7 @@ module _ (input : List ℕ) (m n : MachineState) (t v : Trail) (until : ℕ) (hp
       λ start c w. let same = at start c w in part_beyond c until (omega (arith, same)) in
       record {
         walks = λ start c w fine.
-            rw (ends start c w) (walk_beyond input m n t v until (marks fine) saved steps places start c w (at start c w) top (ran.here c.state w.here fine));
+            rw (ends start c w) (walk_beyond input m n t v until marks saved steps places start c w (at start c w) top (ran.here c.state w.here fine));
         output = λ start c had w had_before.
             rw (ends start c w, moved_beyond (until - c.state.parts.steps) c (at start c w)) (ran.output c.state had w.here had_before);
         errors = λ start c had w had_before.

@@ -1,13 +1,10 @@
 -- A machine with marks on its way through a session that may go back, and what calls make of it and of the sinks.
 use Rattle.std.specs.Prelude.{◌≡◌, ◌≤◌, ◌⊎◌, ℕ, ◌-◌, min, Bool, true, false, List, length, drop, get_or, Option, Some, None, is_none, is_some, IfSome, nat_lt, if◌then◌else◌}
-use Rattle.std.specs.Ordering.{nat_cmp}
-use Rattle.std.specs.FinMap.{FinMap}
-use Rattle.emu_model.specs.Access.{Page}
+use Rattle.emu_model.specs.Marks.{Marks}
 use Rattle.emu_model.specs.State.{Parts, State}
 use Rattle.emu_run.specs.Run.{goes_on, run, until_end}
 use Rattle.emu_system.specs.Gained.{Gains}
 use Rattle.emu_machine.specs.Machines.{MachineState, Saved, saved_of}
-use Rattle.emu_run.specs.Marked.{parts_with}
 use Rattle.dbg_model.specs.CourseLaws.{IsOn}
 use Rattle.dbg_model.specs.SessionBack.{Course, moved, moved_to}
 use Rattle.dbg_back.specs.declared.trail.Trail.{Trail}
@@ -16,8 +13,8 @@ use Rattle.dbg_back.specs.declared.trail.Trail.{Trail}
 
 -- what mark k keeps, by the pages and the rest that the machine has of its marks: the machine of the run from the start
 -- behind so many steps, and its place in the input
-pub record IsMark (start : State) (input : List ℕ) (list : List (Option (FinMap nat_cmp Page))) (saved : List Saved) (k steps place : ℕ) : Type 0 where
-  pub pages : get_or list k None ≡ Some (until_end start steps).parts.memory.pages
+pub record IsMark (start : State) (input : List ℕ) (marks : Marks) (saved : List Saved) (k steps place : ℕ) : Type 0 where
+  pub pages : get_or marks k None ≡ Some (until_end start steps).parts.memory.pages
   pub rest : (d : Saved) → get_or saved k d ≡ saved_of (until_end start steps).parts
   pub going : goes_on (until_end start steps) ≡ true
   pub counted : (until_end start steps).parts.steps ≡ steps
@@ -25,20 +22,20 @@ pub record IsMark (start : State) (input : List ℕ) (list : List (Option (FinMa
   pub within : place ≤ length input
 
 -- the first mark keeps the start
-pub record AreMarks (start : State) (input : List ℕ) (list : List (Option (FinMap nat_cmp Page))) (saved : List Saved) (steps places : List ℕ) : Type 0 where
-  pub count : length list ≡ 16
+pub record AreMarks (start : State) (input : List ℕ) (marks : Marks) (saved : List Saved) (steps places : List ℕ) : Type 0 where
+  pub count : length marks ≡ 16
   pub count_saved : length saved ≡ 16
   pub count_steps : length steps ≡ 16
   pub count_places : length places ≡ 16
-  pub first : is_some (get_or list 0 None) ≡ true
+  pub first : is_some (get_or marks 0 None) ≡ true
   pub start_steps : get_or steps 0 0 ≡ 0
-  pub each : (k : ℕ) → is_some (get_or list k None) ≡ true → IsMark start input list saved k (get_or steps k 0) (get_or places k 0)
+  pub each : (k : ℕ) → is_some (get_or marks k None) ≡ true → IsMark start input marks saved k (get_or steps k 0) (get_or places k 0)
 
 -- ---- where the machine is
 
--- a machine with any marks, and its place in the input, as in a state
+-- a machine and its place in the input, as in a state
 pub record IsIn (st : State) (input : List ℕ) (m : MachineState) (place : ℕ) : Type 0 where
-  pub parts : m.parts ≡ parts_with st.parts m.parts.memory.marks
+  pub parts : m.parts ≡ st.parts
   pub failed : m.failed ≡ false
   pub left : drop place input ≡ st.input
   pub within : place ≤ length input
@@ -50,7 +47,7 @@ pub record IsWalk (start : State) (input : List ℕ) (c : Course) (m : MachineSt
   pub top : t.top ≡ c.top
   pub below : c.state.parts.steps ≤ c.top
   pub none : start.parts.steps ≡ 0
-  pub marks : AreMarks start input m.parts.memory.marks.list m.saved t.steps t.places
+  pub marks : AreMarks start input m.marks m.saved t.steps t.places
 
 -- in some session
 pub record CanWalk (input : List ℕ) (m : MachineState) (t : Trail) : Type 0 where

@@ -44,9 +44,9 @@ fn put_back<S: Sink>(machine: &Machine, sink: &mut S) -> Result<(), Failed>
 /// Makes the machine that of the mark of the greatest number of steps up to `target`, and drops all marks but this one
 /// and the first.
 fn restore_before(machine: &mut Machine, trail: &mut Trail, target: u64)
-    requires count { len machine.old.parts.memory.marks.list ≡ 16 }
+    requires count { len machine.old.marks ≡ 16 }
     requires saved { len machine.old.saved ≡ 16 }
-    requires first { is_some (get_or machine.old.parts.memory.marks.list 0 None) ≡ true }
+    requires first { is_some (get_or machine.old.marks 0 None) ≡ true }
     requires start { get_or trail.old.steps 0 0 ≡ 0 }
     ensures { Turns target machine.old machine.new trail.old trail.new }
 {

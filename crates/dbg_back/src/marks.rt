@@ -2,8 +2,6 @@
 ghost use Rattle.std.specs.Prelude.{◌≡◌, ◌≢◌, ◌≤◌, ◌<◌, ◌+◌, ℕ};
 ghost use Rattle.std.specs.Prelude.{length as len, get_or, is_some, true, false, None, IfSome};
 ghost use Rattle.std.specs.Bool.{OnTrue};
-ghost use Rattle.std.specs.FinMap as finmap;
-ghost use Rattle.emu_run.specs.Marked.{parts_with};
 
 use crate::trail::Trail;
 use emu_machine::Machine;
@@ -13,19 +11,17 @@ const MARKS: u32 = 16;
 
 /// Whether there are frames enough, so that the machine can be marked.
 fn has_room(machine: &Machine) -> bool
-    ensures { OnTrue result (machine.now.parts.memory.limit + finmap.len machine.now.parts.memory.pages ≤
-        machine.now.parts.memory.marks.unmarked) }
+    ensures { OnTrue result (machine.now.parts.memory.limit ≤ machine.now.spare) }
 {
-    let pages = machine.mem().pages();
-    u64::from(pages.limit()) + u64::from(pages.mapped()) <= u64::from(pages.spare())
+    machine.limit() <= machine.spare()
 }
 
 /// The least mark behind the first that is none.
 fn unset_mark(machine: &Machine) -> Option<u32>
-    requires { len machine.now.parts.memory.marks.list ≡ 16 }
+    requires { len machine.now.marks ≡ 16 }
     ensures first { IfSome result (λ k. 1 ≤ k) }
     ensures index { IfSome result (λ k. k < 16) }
-    ensures none { IfSome result (λ k. is_some (get_or machine.now.parts.memory.marks.list k None) ≡ false) }
+    ensures none { IfSome result (λ k. is_some (get_or machine.now.marks k None) ≡ false) }
 {
     let pages = machine.mem().pages();
     'marks: for k in 1..MARKS {
@@ -39,12 +35,11 @@ fn unset_mark(machine: &Machine) -> Option<u32>
 /// A mark behind the first that is none, where the machine can be marked as it is. None where there aren't frames
 /// enough, or all marks are used.
 fn usable_mark(machine: &Machine) -> Option<u32>
-    requires { len machine.now.parts.memory.marks.list ≡ 16 }
+    requires { len machine.now.marks ≡ 16 }
     ensures first { IfSome result (λ k. 1 ≤ k) }
     ensures index { IfSome result (λ k. k < 16) }
-    ensures none { IfSome result (λ k. is_some (get_or machine.now.parts.memory.marks.list k None) ≡ false) }
-    ensures room { IfSome result (λ k. machine.now.parts.memory.limit + finmap.len machine.now.parts.memory.pages ≤
-        machine.now.parts.memory.marks.unmarked) }
+    ensures none { IfSome result (λ k. is_some (get_or machine.now.marks k None) ≡ false) }
+    ensures room { IfSome result (λ k. machine.now.parts.memory.limit ≤ machine.now.spare) }
 {
     if !has_room(machine) {
         return None;
@@ -54,15 +49,15 @@ fn usable_mark(machine: &Machine) -> Option<u32>
 
 /// Drops the marks from `first` on up to `end`.
 fn drop_between(machine: &mut Machine, first: u32, end: u32)
-    requires count { len machine.old.parts.memory.marks.list ≡ 16 }
+    requires count { len machine.old.marks ≡ 16 }
     requires within { end ≤ 16 }
-    ensures parts { machine.new.parts ≡ parts_with machine.old.parts machine.new.parts.memory.marks }
-    ensures count { len machine.new.parts.memory.marks.list ≡ 16 }
-    ensures dropped { (k : ℕ) → first ≤ k → k < end → get_or machine.new.parts.memory.marks.list k None ≡ None }
-    ensures below { (k : ℕ) → k < first → get_or machine.new.parts.memory.marks.list k None ≡ get_or
-        machine.old.parts.memory.marks.list k None }
-    ensures above { (k : ℕ) → end ≤ k → get_or machine.new.parts.memory.marks.list k None ≡ get_or
-        machine.old.parts.memory.marks.list k None }
+    ensures parts { machine.new.parts ≡ machine.old.parts }
+    ensures count { len machine.new.marks ≡ 16 }
+    ensures dropped { (k : ℕ) → first ≤ k → k < end → get_or machine.new.marks k None ≡ None }
+    ensures below { (k : ℕ) → k < first → get_or machine.new.marks k None ≡ get_or
+        machine.old.marks k None }
+    ensures above { (k : ℕ) → end ≤ k → get_or machine.new.marks k None ≡ get_or
+        machine.old.marks k None }
     ensures saved { machine.new.saved ≡ machine.old.saved }
     ensures failed { machine.new.failed ≡ machine.old.failed }
 {
@@ -73,17 +68,17 @@ fn drop_between(machine: &mut Machine, first: u32, end: u32)
 
 /// Drops all marks but the first and another.
 pub fn drop_marks(machine: &mut Machine, but: u32)
-    requires count { len machine.old.parts.memory.marks.list ≡ 16 }
+    requires count { len machine.old.marks ≡ 16 }
     requires within { but < 16 }
-    ensures parts { machine.new.parts ≡ parts_with machine.old.parts machine.new.parts.memory.marks }
-    ensures count { len machine.new.parts.memory.marks.list ≡ 16 }
-    ensures first { get_or machine.new.parts.memory.marks.list 0 None ≡ get_or machine.old.parts.memory.marks.list 0
+    ensures parts { machine.new.parts ≡ machine.old.parts }
+    ensures count { len machine.new.marks ≡ 16 }
+    ensures first { get_or machine.new.marks 0 None ≡ get_or machine.old.marks 0
         None }
-    ensures other { get_or machine.new.parts.memory.marks.list but None ≡ get_or machine.old.parts.memory.marks.list
+    ensures other { get_or machine.new.marks but None ≡ get_or machine.old.marks
         but None }
-    ensures kept { (k : ℕ) → is_some (get_or machine.new.parts.memory.marks.list k None) ≡ true → get_or
-        machine.new.parts.memory.marks.list k None ≡ get_or machine.old.parts.memory.marks.list k None }
-    ensures dropped { (k : ℕ) → k ≢ 0 → k ≢ but → get_or machine.new.parts.memory.marks.list k None ≡ None }
+    ensures kept { (k : ℕ) → is_some (get_or machine.new.marks k None) ≡ true → get_or
+        machine.new.marks k None ≡ get_or machine.old.marks k None }
+    ensures dropped { (k : ℕ) → k ≢ 0 → k ≢ but → get_or machine.new.marks k None ≡ None }
     ensures saved { machine.new.saved ≡ machine.old.saved }
     ensures failed { machine.new.failed ≡ machine.old.failed }
 {
@@ -94,18 +89,17 @@ pub fn drop_marks(machine: &mut Machine, but: u32)
 /// A mark behind the first that is none, where the machine can be marked as it is. Where there aren't frames enough, or
 /// all marks are used, all but the first are dropped.
 pub fn free_mark(machine: &mut Machine) -> u32
-    requires { len machine.old.parts.memory.marks.list ≡ 16 }
+    requires { len machine.old.marks ≡ 16 }
     ensures first { 1 ≤ result }
     ensures index { result < 16 }
-    ensures parts { machine.new.parts ≡ parts_with machine.old.parts machine.new.parts.memory.marks }
-    ensures count { len machine.new.parts.memory.marks.list ≡ 16 }
-    ensures none { get_or machine.new.parts.memory.marks.list result None ≡ None }
-    ensures room { machine.new.parts.memory.limit + finmap.len machine.new.parts.memory.pages ≤
-        machine.new.parts.memory.marks.unmarked }
-    ensures start { get_or machine.new.parts.memory.marks.list 0 None ≡ get_or machine.old.parts.memory.marks.list 0
+    ensures parts { machine.new.parts ≡ machine.old.parts }
+    ensures count { len machine.new.marks ≡ 16 }
+    ensures none { get_or machine.new.marks result None ≡ None }
+    ensures room { machine.new.parts.memory.limit ≤ machine.new.spare }
+    ensures start { get_or machine.new.marks 0 None ≡ get_or machine.old.marks 0
         None }
-    ensures kept { (k : ℕ) → is_some (get_or machine.new.parts.memory.marks.list k None) ≡ true → get_or
-        machine.new.parts.memory.marks.list k None ≡ get_or machine.old.parts.memory.marks.list k None }
+    ensures kept { (k : ℕ) → is_some (get_or machine.new.marks k None) ≡ true → get_or
+        machine.new.marks k None ≡ get_or machine.old.marks k None }
     ensures saved { machine.new.saved ≡ machine.old.saved }
     ensures failed { machine.new.failed ≡ machine.old.failed }
 {
@@ -121,13 +115,13 @@ pub fn free_mark(machine: &mut Machine) -> u32
 
 /// The one of a mark and the nearest before it that is nearest before `target`.
 fn nearer(machine: &Machine, trail: &Trail, target: u64, k: u32, nearest: u32) -> u32
-    requires count { len machine.now.parts.memory.marks.list ≡ 16 }
+    requires count { len machine.now.marks ≡ 16 }
     requires index { k < 16 }
     requires nearest { nearest < 16 }
-    requires set { is_some (get_or machine.now.parts.memory.marks.list nearest None) ≡ true }
+    requires set { is_some (get_or machine.now.marks nearest None) ≡ true }
     requires before { get_or trail.now.steps nearest 0 ≤ target }
     ensures index { result < 16 }
-    ensures set { is_some (get_or machine.now.parts.memory.marks.list result None) ≡ true }
+    ensures set { is_some (get_or machine.now.marks result None) ≡ true }
     ensures before { get_or trail.now.steps result 0 ≤ target }
 {
     if !machine.mem().pages().is_marked(k) {
@@ -142,11 +136,11 @@ fn nearer(machine: &Machine, trail: &Trail, target: u64, k: u32, nearest: u32) -
 
 /// The mark of the greatest number of steps up to `target`. The first mark is of none.
 pub fn nearest_mark(machine: &Machine, trail: &Trail, target: u64) -> u32
-    requires count { len machine.now.parts.memory.marks.list ≡ 16 }
-    requires first { is_some (get_or machine.now.parts.memory.marks.list 0 None) ≡ true }
+    requires count { len machine.now.marks ≡ 16 }
+    requires first { is_some (get_or machine.now.marks 0 None) ≡ true }
     requires start { get_or trail.now.steps 0 0 ≡ 0 }
     ensures index { result < 16 }
-    ensures set { is_some (get_or machine.now.parts.memory.marks.list result None) ≡ true }
+    ensures set { is_some (get_or machine.now.marks result None) ≡ true }
     ensures before { get_or trail.now.steps result 0 ≤ target }
 {
     let mut nearest = 0;

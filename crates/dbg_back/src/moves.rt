@@ -31,7 +31,7 @@ fn run_to<O: Sink, E: Sink>(
     ensures stopped { is_fault result ≡ false → Stopped until machine.new.parts }
     ensures accesses { is_fault result ≡ false → until ≡ machine.old.parts.steps + 1 → machine.new.accesses ≡
         accesses machine.old.parts }
-    ensures marks { is_fault result ≡ false → machine.new.parts.memory.marks ≡ machine.old.parts.memory.marks }
+    ensures marks { machine.new.marks ≡ machine.old.marks }
     ensures saved { machine.new.saved ≡ machine.old.saved }
     ensures top { trail.new.top ≡ trail.old.top }
     ensures due { trail.new.due ≡ trail.old.due }
@@ -160,7 +160,7 @@ pub fn go<O: Sink, E: Sink>(
     if points.is_empty() {
         go_free(machine, trail, budget, input, output, errors)
     } else {
-        go_marked(machine, trail, points, budget, input, output, errors)
+        go_to_point(machine, trail, points, budget, input, output, errors)
     }
 }
 
@@ -187,7 +187,7 @@ fn go_free<O: Sink, E: Sink>(
 }
 
 /// `go` with breaks and watches.
-fn go_marked<O: Sink, E: Sink>(
+fn go_to_point<O: Sink, E: Sink>(
     machine: &mut Machine,
     trail: &mut Trail,
     points: &Points,

@@ -2,11 +2,9 @@
 ghost use Rattle.std.specs.Prelude.{◌≡◌, ◌<◌, false, is_some, length, slice_get, IfSome, IsTrue, Some};
 ghost use Rattle.std.specs.List.{count_by};
 ghost use Rattle.io_gate.specs.Streams.{Causes};
-ghost use Rattle.emu_model.specs.Access.{Marks};
 ghost use Rattle.emu_system.specs.Gained.{Gains};
 ghost use Rattle.emu_system.specs.Start.{with_input};
 ghost use Rattle.emu_machine.specs.Machines.{has_ended};
-ghost use Rattle.emu_run.specs.Marked.{parts_with};
 ghost use Rattle.emu_model.specs.State.{State};
 ghost use Rattle.dbg_model.specs.ScriptLimits.{is_within};
 ghost use Rattle.dbg_model.specs.SessionBack as model;
@@ -61,9 +59,8 @@ fn obey<O: Sink, E: Sink>(
 /// bytes that the program writes there; what the program writes is put by the first step that counts so far, and not
 /// again by a step behind `back`.
 ///
-/// Which marks the start is said to have makes no difference, since no step looks at them. A fault is answered only
-/// where that stream failed, and then the session is broken off: what was put are first bytes of what the whole session
-/// puts. It takes no memory.
+/// A fault is answered only where that stream failed, and then the session is broken off: what was put are first bytes
+/// of what the whole session puts. It takes no memory.
 pub fn session_back<O: Sink, E: Sink>(
     machine: &mut Machine,
     script: &Script,
@@ -72,17 +69,15 @@ pub fn session_back<O: Sink, E: Sink>(
     output: &mut O,
     errors: &mut E,
 ) -> BackEnd
-    requires marks { length machine.old.parts.memory.marks.list ≡ 16 }
+    requires marks { length machine.old.marks ≡ 16 }
     requires places { length machine.old.saved ≡ 16 }
-    requires none { count_by is_some machine.old.parts.memory.marks.list ≡ 0 }
+    requires none { count_by is_some machine.old.marks ≡ 0 }
     requires steps { machine.old.parts.steps ≡ 0 }
     requires going { has_ended machine.old ≡ false }
-    ensures output { (marks : Marks) → IfSome (O.held output.old) (λ had. Gains (is_fault result) (O.held output.new)
-        had (model.session_back script.now budget (with_input (parts_with machine.old.parts marks)
-        input.now)).output) }
-    ensures errors { (marks : Marks) → IfSome (E.held errors.old) (λ had. Gains (is_fault result) (E.held errors.new)
-        had (model.session_back script.now budget (with_input (parts_with machine.old.parts marks)
-        input.now)).errors) }
+    ensures output { IfSome (O.held output.old) (λ had. Gains (is_fault result) (O.held output.new) had
+        (model.session_back script.now budget (with_input machine.old.parts input.now)).output) }
+    ensures errors { IfSome (E.held errors.old) (λ had. Gains (is_fault result) (E.held errors.new) had
+        (model.session_back script.now budget (with_input machine.old.parts input.now)).errors) }
     ensures write_cause { Causes (result ≡ BackEnd.WriteFault) (O.faults output.old) (O.faults output.new) }
     ensures errors_cause { Causes (result ≡ BackEnd.ErrorsFault) (E.faults errors.old) (E.faults errors.new) }
 {

@@ -1,11 +1,9 @@
 //! Where a machine with marks stands in its input, and what its marks keep beside it.
 ghost use Rattle.std.specs.Prelude.{◌≡◌, ◌<◌, ◌-◌, ◌^◌, ℕ, List, length as len, get_or, false, is_some};
 ghost use Rattle.std.specs.List.{count_by};
-ghost use Rattle.emu_model.specs.Access.{Marks};
 ghost use Rattle.emu_model.specs.State.{State};
 ghost use Rattle.emu_system.specs.Start.{with_input};
 ghost use Rattle.emu_machine.specs.Machines.{has_ended};
-ghost use Rattle.emu_run.specs.Marked.{parts_with};
 ghost use Rattle.dbg_model.specs.SessionBack.{Course, begun};
 ghost use Rattle.dbg_back.specs.Walks.{IsWalk};
 
@@ -33,13 +31,13 @@ pub struct Trail {
 impl Trail {
     /// The beginning of a session: the first mark keeps the machine, which has counted no step.
     pub fn begin(machine: &mut Machine) -> Trail
-        requires marks { len machine.old.parts.memory.marks.list ≡ 16 }
+        requires marks { len machine.old.marks ≡ 16 }
         requires places { len machine.old.saved ≡ 16 }
-        requires none { count_by is_some machine.old.parts.memory.marks.list ≡ 0 }
+        requires none { count_by is_some machine.old.marks ≡ 0 }
         requires steps { machine.old.parts.steps ≡ 0 }
         requires going { has_ended machine.old ≡ false }
-        ensures { (marks : Marks) (input : List ℕ) → IsWalk (with_input (parts_with machine.old.parts marks) input)
-            input (begun (with_input (parts_with machine.old.parts marks) input)) machine.new result }
+        ensures { (input : List ℕ) → IsWalk (with_input machine.old.parts input) input
+            (begun (with_input machine.old.parts input)) machine.new result }
     {
         let _spare = machine.spare();
         machine.mark(0);
@@ -54,7 +52,7 @@ impl Trail {
 
     /// Marks the machine as it is, where a mark is due.
     pub fn keep(&mut self, machine: &mut Machine)
-        requires marks { len machine.old.parts.memory.marks.list ≡ 16 }
+        requires marks { len machine.old.marks ≡ 16 }
         requires places { len machine.old.saved ≡ 16 }
         requires going { has_ended machine.old ≡ false }
         requires room { machine.old.parts.steps < 2 ^ 64 - 1 }

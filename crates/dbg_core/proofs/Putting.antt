@@ -1,5 +1,5 @@
 -- What a sink that didn't fail has gained where a part of a session was broken off, or a line of it couldn't be put.
-use Rattle.std.proofs.Common.{◌≡◌, ◌⊎◌, ℕ, suc, ◌+◌, ◌-◌, ◌<◌, Bool, true, false, List, [], ◌++◌, length, take, Option, Some, None, is_none, IfSome, Result, Ok, Err, refl, sym, ap, subst, ◌∙◌}
+use Rattle.std.proofs.Common.{◌≡◌, ◌⊎◌, ℕ, suc, ◌+◌, ◌-◌, ◌<◌, Bool, true, false, List, [], ◌++◌, length, take, Option, Some, None, is_none, IfSome, Result, Ok, refl, sym, ap, subst, ◌∙◌}
 use Rattle.std.specs.Prelude.{slice_get}
 use Rattle.io_gate.specs.declared.streams.Failed.{Failed}
 use Rattle.emu_model.specs.State.{Parts, State}
@@ -14,17 +14,17 @@ use Rattle.emu_machine.specs.declared.ends.RunEnd.TheVariants as runs
 use Rattle.emu_machine.specs.declared.ends.StepEnd.{StepEnd}
 use Rattle.emu_machine.specs.declared.ends.StepEnd.TheVariants as steps
 use Rattle.dbg_model.specs.declared.script.Command.{Command}
-use Rattle.dbg_model.specs.Session.{Marks, no_marks, obeyed, session}
+use Rattle.dbg_model.specs.Session.{Points, no_points, obeyed, session}
 use Rattle.dbg_core.specs.declared.ends.SessionEnd.{SessionEnd}
 use Rattle.dbg_core.specs.declared.ends.SessionEnd.TheVariants.{Done, ReadFault, WriteFault, ErrorsFault}
 use Rattle.dbg_core.specs.Ends.{HaltsWith, Spares, StandsWith, is_fault, end_of_run, end_of_step, end_of_put}
-use Rattle.emu_machine.proofs.Composed.{Came, Comes, comes_by, comes_same, comes_still, comes_then, gains_more, gains_none}
+use Rattle.emu_machine.proofs.Composed.{Came, Comes, comes_by, comes_same, comes_then, gains_more, gains_none}
 use Rattle.emu_machine.proofs.Runs.{step_moving}
 use Rattle.emu_machine.proofs.Spared.{each_way, either}
 use Rattle.dbg_core.proofs.Leaving.{never, no_halt, one_more}
 use Rattle.dbg_core.proofs.Obeying.{last_run, last_step, no_errs, no_read}
 use Rattle.dbg_core.proofs.Sessions.{all_moving, obeyed_blind, obeyed_moving}
-use Rattle.dbg_core.proofs.Standing.{marked_all, next_of, seen_ends}
+use Rattle.dbg_core.proofs.Standing.{points_all, next_of, seen_ends}
 
 -- ---- what a sink gained
 
@@ -238,18 +238,18 @@ errors_alone : (f : State → State) (p q : Parts) (told left hp hq ep eq : Opti
 errors_alone f p q None left hp hq ep eq c = tt
 errors_alone f p q (Some bytes) left hp hq ep eq c = record { state = c.state; input = c.input; output = tt; errors = c.errors }
 
-module _ (script : List Command) (k : ℕ) (command : Command) (is : slice_get script k ≡ Some command) (within : k < length script) (marks : Marks) (so_far : marks ≡ marked_all (take k script) no_marks) (budget : ℕ) (old p : Parts) (told left_p : Option (List ℕ))
+module _ (script : List Command) (k : ℕ) (command : Command) (is : slice_get script k ≡ Some command) (within : k < length script) (points : Points) (so_far : points ≡ points_all (take k script) no_points) (budget : ℕ) (old p : Parts) (told left_p : Option (List ℕ))
     (stood : Becomes (session (take k script) budget) old p told left_p false) where
   -- the command was obeyed
-  pub comes_next : (q : Parts) (left_q ho hp hq eo ep eq : Option (List ℕ)) → Comes (session (take k script) budget) old p told left_p ho hp eo ep false → Comes (obeyed command marks budget) p q left_p left_q hp hq ep eq false
+  pub comes_next : (q : Parts) (left_q ho hp hq eo ep eq : Option (List ℕ)) → Comes (session (take k script) budget) old p told left_p ho hp eo ep false → Comes (obeyed command points budget) p q left_p left_q hp hq ep eq false
       → Comes (session (take (k + 1) script) budget) old q told left_q ho hq eo eq false
   comes_next q left_q ho hp hq eo ep eq c d =
-      comes_same (λ st. obeyed command marks budget (session (take k script) budget st)) (session (take (k + 1) script) budget) old q told left_q ho hq eo eq false
-      (λ input. next_of script k command is within marks so_far budget old p told left_p stood (with_input old input))
-      (comes_then (session (take k script) budget) (obeyed command marks budget) old p q told left_p left_q ho hp hq eo ep eq false (obeyed_blind command marks budget) (all_moving (take k script) no_marks budget) (obeyed_moving command marks budget) c d)
+      comes_same (λ st. obeyed command points budget (session (take k script) budget st)) (session (take (k + 1) script) budget) old q told left_q ho hq eo eq false
+      (λ input. next_of script k command is within points so_far budget old p told left_p stood (with_input old input))
+      (comes_then (session (take k script) budget) (obeyed command points budget) old p q told left_p left_q ho hp hq eo ep eq false (obeyed_blind command points budget) (all_moving (take k script) no_points budget) (obeyed_moving command points budget) c d)
 
   module _ (new : MachineState) (left_q ho hp hq eo ep eq : Option (List ℕ)) (end : SessionEnd) (whole : Comes (session (take k script) budget) old p told left_p ho hp eo ep false)
-      (becomes : Becomes (obeyed command marks budget) p new.parts left_p left_q new.failed) (spared : Spares (obeyed command marks budget) p new left_p left_q hp hq ep eq end) where
+      (becomes : Becomes (obeyed command points budget) p new.parts left_p left_q new.failed) (spared : Spares (obeyed command points budget) p new left_p left_q hp hq ep eq end) where
     -- it was broken off: the output
     pub output_broken : new.failed ≡ true → (end ≡ ReadFault) ⊎ (end ≡ ErrorsFault) → IfSome told (λ bytes. StandsWith (λ st. st.output) script budget (with_input old bytes) new left_q ho hq)
     output_broken failed h = output_stands script k budget old p new left_p left_q ho hp hq eo ep eq failed told whole (spared.output h)
@@ -260,7 +260,7 @@ module _ (script : List Command) (k : ℕ) (command : Command) (is : slice_get s
         elim new.failed as (λ b. new.failed ≡ b → IfSome told (λ bytes. StandsWith (λ st. st.errors) script budget (with_input old bytes) new left_q eo eq)) [
           | true ↦ λ failed. errors_stands script k budget old p new left_p left_q ho hp hq eo ep eq failed told whole (spared.errors failed h)
           | false ↦ λ fine.
-              let r : State → State = obeyed command marks budget in
+              let r : State → State = obeyed command points budget in
               let state : Becomes r p new.parts left_p left_q false = subst (λ (b : Bool). Becomes r p new.parts left_p left_q b) fine becomes in
               let d : Comes r p new.parts left_p left_q None None ep eq false =
               comes_by r p new.parts left_p left_q None None ep eq false false refl state (no_halt (λ bytes. LeftOf bytes (length (r (with_input p bytes)).input) left_q) left_p false refl)

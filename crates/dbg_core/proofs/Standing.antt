@@ -10,28 +10,28 @@ use Rattle.emu_run.specs.RunLaws.{behind, run_behind}
 use Rattle.emu_machine.specs.Ends.{Becomes, IsKept}
 use Rattle.emu_machine.specs.Machines.{MachineState}
 use Rattle.dbg_model.specs.declared.script.Command.{Command}
-use Rattle.dbg_model.specs.Session.{Marks, no_marks, marked, obeyed, obeyed_all, session}
+use Rattle.dbg_model.specs.Session.{Points, no_points, with_point, obeyed, obeyed_all, session}
 use Rattle.dbg_core.specs.declared.ends.SessionEnd.{SessionEnd}
 use Rattle.dbg_core.specs.Ends.{Halts, Leaves, StandsIn}
 use Rattle.emu_machine.proofs.Composed.{Blind, from_nothing}
 use Rattle.dbg_core.proofs.Sessions.{obeyed_blind}
 use Rattle.dbg_core.proofs.Leaving.{becomes_same, broken_whole, made_of, no_halt}
 
--- the marks of commands, behind others
-abbrev pub marked_all : List Command → Marks → Marks
-marked_all [] marks = marks
-marked_all (command ∷ commands) marks = marked_all commands (marked command marks)
+-- the points of commands, behind others
+abbrev pub points_all : List Command → Points → Points
+points_all [] points = points
+points_all (command ∷ commands) points = points_all commands (with_point command points)
 
 -- ---- one command more
 
-marked_more : (commands : List Command) (command : Command) (marks : Marks) → marked_all (commands ++ command ∷ []) marks ≡ marked command (marked_all commands marks)
-marked_more [] command marks = refl
-marked_more (first ∷ commands) command marks = marked_more commands command (marked first marks)
+points_more : (commands : List Command) (command : Command) (points : Points) → points_all (commands ++ command ∷ []) points ≡ with_point command (points_all commands points)
+points_more [] command points = refl
+points_more (first ∷ commands) command points = points_more commands command (with_point first points)
 
-obeyed_more : (commands : List Command) (command : Command) (marks : Marks) (budget : ℕ) (st : State)
-    → obeyed_all (commands ++ command ∷ []) marks budget st ≡ obeyed command (marked_all commands marks) budget (obeyed_all commands marks budget st)
-obeyed_more [] command marks budget st = refl
-obeyed_more (first ∷ commands) command marks budget st = obeyed_more commands command (marked first marks) budget (obeyed first marks budget st)
+obeyed_more : (commands : List Command) (command : Command) (points : Points) (budget : ℕ) (st : State)
+    → obeyed_all (commands ++ command ∷ []) points budget st ≡ obeyed command (points_all commands points) budget (obeyed_all commands points budget st)
+obeyed_more [] command points budget st = refl
+obeyed_more (first ∷ commands) command points budget st = obeyed_more commands command (with_point first points) budget (obeyed first points budget st)
 
 -- ---- what one function makes behind another
 
@@ -90,24 +90,24 @@ module _ (script : List Command) (k : ℕ) (command : Command) (is : slice_get s
   one_taken : take (k + 1) script ≡ take k script ++ command ∷ []
   one_taken = take_more script k command within ∙ ap (λ (c : Command). take k script ++ c ∷ []) (get_or_from_slice_get script k command command is)
 
-  pub marks_next : (marks more : Marks) → more ≡ marked command marks → marks ≡ marked_all (take k script) no_marks → more ≡ marked_all (take (k + 1) script) no_marks
-  marks_next marks more added so_far =
-      added ∙ ap (λ (m : Marks). marked command m) so_far ∙ sym (ap (λ (cs : List Command). marked_all cs no_marks) one_taken ∙ marked_more (take k script) command no_marks)
+  pub points_next : (points more : Points) → more ≡ with_point command points → points ≡ points_all (take k script) no_points → more ≡ points_all (take (k + 1) script) no_points
+  points_next points more added so_far =
+      added ∙ ap (λ (m : Points). with_point command m) so_far ∙ sym (ap (λ (cs : List Command). points_all cs no_points) one_taken ∙ points_more (take k script) command no_points)
 
-  module _ (marks : Marks) (so_far : marks ≡ marked_all (take k script) no_marks) (budget : ℕ) (old p : Parts) (told left_p : Option (List ℕ)) (stood : Becomes (session (take k script) budget) old p told left_p false) where
-    pub next_of : (st : State) → obeyed command marks budget (session (take k script) budget st) ≡ session (take (k + 1) script) budget st
+  module _ (points : Points) (so_far : points ≡ points_all (take k script) no_points) (budget : ℕ) (old p : Parts) (told left_p : Option (List ℕ)) (stood : Becomes (session (take k script) budget) old p told left_p false) where
+    pub next_of : (st : State) → obeyed command points budget (session (take k script) budget st) ≡ session (take (k + 1) script) budget st
     next_of st =
-        ap (λ (m : Marks). obeyed command m budget (session (take k script) budget st)) so_far
-        ∙ sym (ap (λ (cs : List Command). session cs budget st) one_taken ∙ obeyed_more (take k script) command no_marks budget st)
+        ap (λ (m : Points). obeyed command m budget (session (take k script) budget st)) so_far
+        ∙ sym (ap (λ (cs : List Command). session cs budget st) one_taken ∙ obeyed_more (take k script) command no_points budget st)
 
     -- the command was obeyed
-    pub stands_next : (q : Parts) (left_q : Option (List ℕ)) → Becomes (obeyed command marks budget) p q left_p left_q false → Becomes (session (take (k + 1) script) budget) old q told left_q false
+    pub stands_next : (q : Parts) (left_q : Option (List ℕ)) → Becomes (obeyed command points budget) p q left_p left_q false → Becomes (session (take (k + 1) script) budget) old q told left_q false
     stands_next q left_q done =
-        becomes_same (λ st. obeyed command marks budget (session (take k script) budget st)) (session (take (k + 1) script) budget) old q told left_q false (λ input. next_of (with_input old input))
-        (made_behind (session (take k script) budget) (obeyed command marks budget) old p q told left_p left_q (obeyed_blind command marks budget) stood done)
+        becomes_same (λ st. obeyed command points budget (session (take k script) budget st)) (session (take (k + 1) script) budget) old q told left_q false (λ input. next_of (with_input old input))
+        (made_behind (session (take k script) budget) (obeyed command points budget) old p q told left_p left_q (obeyed_blind command points budget) stood done)
 
     -- it was broken off
-    pub stands_broken : (new : MachineState) (left_q : Option (List ℕ)) (end : SessionEnd) → Leaves (obeyed command marks budget) budget p new left_p left_q end → IfSome told (λ bytes. StandsIn script budget (with_input old bytes) new left_q)
+    pub stands_broken : (new : MachineState) (left_q : Option (List ℕ)) (end : SessionEnd) → Leaves (obeyed command points budget) budget p new left_p left_q end → IfSome told (λ bytes. StandsIn script budget (with_input old bytes) new left_q)
     stands_broken new left_q end l =
         elim new.failed as (λ b. new.failed ≡ b → IfSome told (λ bytes. StandsIn script budget (with_input old bytes) new left_q)) [
           | true ↦ λ h.
@@ -115,5 +115,5 @@ module _ (script : List Command) (k : ℕ) (command : Command) (is : slice_get s
               (halted_behind (session (take k script) budget) old p new.parts told left_p left_q new.failed stood l.halted)
           | false ↦ λ h.
               stands_whole script (k + 1) budget old new told left_q h
-              (stands_next new.parts left_q (subst (λ (b : Bool). Becomes (obeyed command marks budget) p new.parts left_p left_q b) h l.whole))
+              (stands_next new.parts left_q (subst (λ (b : Bool). Becomes (obeyed command points budget) p new.parts left_p left_q b) h l.whole))
         ] refl

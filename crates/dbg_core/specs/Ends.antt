@@ -12,7 +12,7 @@ use Rattle.emu_machine.specs.declared.ends.StepEnd.{StepEnd}
 use Rattle.emu_machine.specs.declared.ends.StepEnd.TheVariants as steps
 use Rattle.dbg_model.specs.declared.script.Command.{Command}
 use Rattle.dbg_model.specs.declared.script.Command.TheVariants.{Break, Watch}
-use Rattle.dbg_model.specs.Session.{Marks, session}
+use Rattle.dbg_model.specs.Session.{Points, session}
 use Rattle.dbg_core.specs.declared.ends.SessionEnd.{SessionEnd}
 use Rattle.dbg_core.specs.declared.ends.SessionEnd.TheVariants.{Done, ReadFault, WriteFault, ErrorsFault}
 
@@ -101,8 +101,8 @@ pub record StandsWith (put : State → List ℕ) (commands : List Command) (budg
   pub kept : now.failed ≡ true → IsKept (until_end (session (take first commands) budget start) steps).parts now.parts (Some (until_end (session (take first commands) budget start) steps).input) left
   pub gained : IfSome held_old (λ had. held_new ≡ Some (had ++ put (until_end (session (take first commands) budget start) steps)))
 
--- one more mark may be added by a command
-abbrev pub TakesMark : Marks → Command → Type 0
-TakesMark marks (Break address) = length marks.breaks < 64
-TakesMark marks (Watch address count) = length marks.watches < 64
-TakesMark marks command = Unit {0}
+-- one more point may be added by a command
+abbrev pub TakesPoint : Points → Command → Type 0
+TakesPoint points (Break address) = length points.breaks < 64
+TakesPoint points (Watch address count) = length points.watches < 64
+TakesPoint points command = Unit {0}

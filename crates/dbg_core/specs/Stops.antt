@@ -7,7 +7,7 @@ use Rattle.dbg_model.specs.declared.script.Command.{Command}
 use Rattle.dbg_model.specs.declared.script.Command.TheVariants.{Step}
 use Rattle.dbg_model.specs.declared.script.Stop.{Stop as Met}
 use Rattle.dbg_model.specs.declared.script.Stop.TheVariants.{AtWatch, AtBreak}
-use Rattle.dbg_model.specs.Session.{Marks, break_line, mark_met, shown, step_line, watch_line}
+use Rattle.dbg_model.specs.Session.{Points, break_line, point_met, shown, step_line, watch_line}
 use Rattle.dbg_core.specs.declared.points.Stop.{Stop}
 use Rattle.dbg_core.specs.declared.points.Stop.TheVariants.{Ended, Watch, Break, Spent}
 
@@ -21,8 +21,8 @@ met_or (Some AtBreak) rest = Some Break
 met_or None rest = rest
 
 -- The first of the four tests that holds of a machine behind a step that made these accesses: end, watch, break, budget.
-abbrev pub first_met : Marks → ℕ → List Access → Parts → Option Stop
-first_met points budget made m = if is_some m.ended then Some Ended else met_or (mark_met points made m) (spent_met m.steps budget)
+abbrev pub first_met : Points → ℕ → List Access → Parts → Option Stop
+first_met points budget made m = if is_some m.ended then Some Ended else met_or (point_met points made m) (spent_met m.steps budget)
 
 -- a machine of which it is said that it has ended has
 abbrev pub HasEnded : Stop → Parts → Type 0

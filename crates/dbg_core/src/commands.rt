@@ -29,7 +29,7 @@ fn command_at(commands: &[Command], k: usize) -> &Command
 /// Obeys one command.
 fn obey<I: Source, O: Sink, E: Sink>(
     command: &Command,
-    marks: &Points,
+    points: &Points,
     machine: &mut Machine,
     budget: u64,
     input: &mut I,
@@ -38,12 +38,12 @@ fn obey<I: Source, O: Sink, E: Sink>(
 ) -> SessionEnd
     requires failed { machine.old.failed ≡ false }
     requires within { IsTrue (is_within command.now) }
-    ensures obeys { Obeys (model.obeyed command.now marks.now budget) machine.old.parts machine.new.parts
+    ensures obeys { Obeys (model.obeyed command.now points.now budget) machine.old.parts machine.new.parts
         (I.left input.old) (I.left input.new) (O.held output.old) (O.held output.new) (E.held errors.old)
         (E.held errors.new) result }
-    ensures leaves { Leaves (model.obeyed command.now marks.now budget) budget machine.old.parts machine.new
+    ensures leaves { Leaves (model.obeyed command.now points.now budget) budget machine.old.parts machine.new
         (I.left input.old) (I.left input.new) result }
-    ensures spares { Spares (model.obeyed command.now marks.now budget) machine.old.parts machine.new
+    ensures spares { Spares (model.obeyed command.now points.now budget) machine.old.parts machine.new
         (I.left input.old) (I.left input.new) (O.held output.old) (O.held output.new) (E.held errors.old)
         (E.held errors.new) result }
     ensures done { result ≡ SessionEnd.Done → machine.new.failed ≡ false }
@@ -55,7 +55,7 @@ fn obey<I: Source, O: Sink, E: Sink>(
 {
     match command {
         Command::Step(n) => step(machine, *n, budget, input, output, errors),
-        Command::Go => go(machine, marks, budget, input, output, errors),
+        Command::Go => go(machine, points, budget, input, output, errors),
         shown => end_of_put(put_shown(shown, machine, output)),
     }
 }
@@ -106,14 +106,14 @@ pub fn session<I: Source, O: Sink, E: Sink>(
         (with_input machine.old.parts bytes) machine.new (I.left input.new) (E.held errors.old) (E.held errors.new)) }
 {
     let commands = script.commands();
-    let mut marks = Points::new();
+    let mut points = Points::new();
     'walk: for k in 0..commands.len() {
         let command = command_at(commands, k);
-        match obey(command, &marks, machine, budget, input, output, errors) {
+        match obey(command, &points, machine, budget, input, output, errors) {
             SessionEnd::Done => {}
             end => return end,
         }
-        marks.add_if(command);
+        points.add_if(command);
     }
     SessionEnd::Done
 }

@@ -4,7 +4,7 @@ ghost use Rattle.io_gate.specs.Streams.{Causes};
 ghost use Rattle.linux_calls.specs.Names.{NamesRead};
 ghost use Rattle.emu_machine.specs.Machines.{MakesWrite};
 ghost use Rattle.emu_run.specs.Run.{run};
-ghost use Rattle.dbg_model.specs.Session.{go, no_marks, stepped};
+ghost use Rattle.dbg_model.specs.Session.{go, no_points, stepped};
 ghost use Rattle.dbg_core.specs.Ends.{Leaves, Obeys, Spares, is_fault};
 
 use crate::ends::{SessionEnd, end_of_put, end_of_run, end_of_step};
@@ -82,19 +82,19 @@ pub fn step<I: Source, O: Sink, E: Sink>(
 /// spent, tested in this order behind each step, and puts which it was.
 pub fn go<I: Source, O: Sink, E: Sink>(
     machine: &mut Machine,
-    marks: &Points,
+    points: &Points,
     budget: u64,
     input: &mut I,
     output: &mut O,
     errors: &mut E,
 ) -> SessionEnd
     requires { machine.old.failed ≡ false }
-    ensures obeys { Obeys (λ st. go marks.now st (budget - st.parts.steps)) machine.old.parts machine.new.parts
+    ensures obeys { Obeys (λ st. go points.now st (budget - st.parts.steps)) machine.old.parts machine.new.parts
         (I.left input.old) (I.left input.new) (O.held output.old) (O.held output.new) (E.held errors.old)
         (E.held errors.new) result }
-    ensures leaves { Leaves (λ st. go marks.now st (budget - st.parts.steps)) budget machine.old.parts machine.new
+    ensures leaves { Leaves (λ st. go points.now st (budget - st.parts.steps)) budget machine.old.parts machine.new
         (I.left input.old) (I.left input.new) result }
-    ensures spares { Spares (λ st. go marks.now st (budget - st.parts.steps)) machine.old.parts machine.new
+    ensures spares { Spares (λ st. go points.now st (budget - st.parts.steps)) machine.old.parts machine.new
         (I.left input.old) (I.left input.new) (O.held output.old) (O.held output.new) (E.held errors.old)
         (E.held errors.new) result }
     ensures done { result ≡ SessionEnd.Done → machine.new.failed ≡ false }
@@ -104,10 +104,10 @@ pub fn go<I: Source, O: Sink, E: Sink>(
     ensures read_named { result ≡ SessionEnd.ReadFault → NamesRead machine.new.parts.core }
     ensures errors_named { result ≡ SessionEnd.ErrorsFault → MakesWrite machine.new.parts 2 }
 {
-    if marks.is_empty() {
+    if points.is_empty() {
         go_free(machine, budget, input, output, errors)
     } else {
-        go_marked(machine, marks, budget, input, output, errors)
+        go_to_point(machine, points, budget, input, output, errors)
     }
 }
 
@@ -120,12 +120,12 @@ fn go_free<I: Source, O: Sink, E: Sink>(
     errors: &mut E,
 ) -> SessionEnd
     requires { machine.old.failed ≡ false }
-    ensures obeys { Obeys (λ st. go no_marks st (budget - st.parts.steps)) machine.old.parts machine.new.parts
+    ensures obeys { Obeys (λ st. go no_points st (budget - st.parts.steps)) machine.old.parts machine.new.parts
         (I.left input.old) (I.left input.new) (O.held output.old) (O.held output.new) (E.held errors.old)
         (E.held errors.new) result }
-    ensures leaves { Leaves (λ st. go no_marks st (budget - st.parts.steps)) budget machine.old.parts machine.new
+    ensures leaves { Leaves (λ st. go no_points st (budget - st.parts.steps)) budget machine.old.parts machine.new
         (I.left input.old) (I.left input.new) result }
-    ensures spares { Spares (λ st. go no_marks st (budget - st.parts.steps)) machine.old.parts machine.new
+    ensures spares { Spares (λ st. go no_points st (budget - st.parts.steps)) machine.old.parts machine.new
         (I.left input.old) (I.left input.new) (O.held output.old) (O.held output.new) (E.held errors.old)
         (E.held errors.new) result }
     ensures done { result ≡ SessionEnd.Done → machine.new.failed ≡ false }
@@ -142,21 +142,21 @@ fn go_free<I: Source, O: Sink, E: Sink>(
 }
 
 /// `go` with breaks and watches.
-fn go_marked<I: Source, O: Sink, E: Sink>(
+fn go_to_point<I: Source, O: Sink, E: Sink>(
     machine: &mut Machine,
-    marks: &Points,
+    points: &Points,
     budget: u64,
     input: &mut I,
     output: &mut O,
     errors: &mut E,
 ) -> SessionEnd
     requires { machine.old.failed ≡ false }
-    ensures obeys { Obeys (λ st. go marks.now st (budget - st.parts.steps)) machine.old.parts machine.new.parts
+    ensures obeys { Obeys (λ st. go points.now st (budget - st.parts.steps)) machine.old.parts machine.new.parts
         (I.left input.old) (I.left input.new) (O.held output.old) (O.held output.new) (E.held errors.old)
         (E.held errors.new) result }
-    ensures leaves { Leaves (λ st. go marks.now st (budget - st.parts.steps)) budget machine.old.parts machine.new
+    ensures leaves { Leaves (λ st. go points.now st (budget - st.parts.steps)) budget machine.old.parts machine.new
         (I.left input.old) (I.left input.new) result }
-    ensures spares { Spares (λ st. go marks.now st (budget - st.parts.steps)) machine.old.parts machine.new
+    ensures spares { Spares (λ st. go points.now st (budget - st.parts.steps)) machine.old.parts machine.new
         (I.left input.old) (I.left input.new) (O.held output.old) (O.held output.new) (E.held errors.old)
         (E.held errors.new) result }
     ensures done { result ≡ SessionEnd.Done → machine.new.failed ≡ false }
@@ -179,7 +179,7 @@ fn go_marked<I: Source, O: Sink, E: Sink>(
                 };
             }
         }
-        match marks.point_met(machine) {
+        match points.point_met(machine) {
             None => {}
             Some(stop) => return end_of_put(put_met(stop, machine, output)),
         }

@@ -2,9 +2,9 @@
 ghost use Rattle.std.specs.Prelude.{◌≡◌, ◌<◌, ◌||◌, true, nat_eq, position, IfSome};
 ghost use Rattle.std.specs.List.{list_any};
 ghost use Rattle.std.specs.Bool.{OnTrue};
-ghost use Rattle.dbg_model.specs.Session.{Marks, break_met, is_touched, mark_met, marked, no_marks, shares};
+ghost use Rattle.dbg_model.specs.Session.{break_met, is_touched, no_points, point_met, shares, with_point};
 ghost use Rattle.dbg_model.specs.Commands.{is_break, is_watch};
-ghost use Rattle.dbg_core.specs.Ends.{TakesMark};
+ghost use Rattle.dbg_core.specs.Ends.{TakesPoint};
 ghost use Rattle.dbg_core.specs.Stops.{first_met, spent_met};
 
 use arrayvec::ArrayVec;
@@ -37,9 +37,9 @@ pub struct Points {
 }
 
 impl Model for Points {
-    ghost use Rattle.dbg_model.specs.Session.{Marks};
+    ghost use Rattle.dbg_model.specs.Session.{Points as AddedPoints};
 
-    ghost Value = { Marks };
+    ghost Value = { AddedPoints };
 
     ghost view = { λ m. record { breaks = m.breaks.items; watches = m.watches.items } };
 }
@@ -63,7 +63,7 @@ fn is_touched(accesses: &[Access], watch: &Watch) -> bool
 impl Points {
     /// None.
     pub fn new() -> Points
-        ensures { result ≡ no_marks }
+        ensures { result ≡ no_points }
     {
         Points {
             breaks: ArrayVec::new(),
@@ -73,8 +73,8 @@ impl Points {
 
     /// Whether there is neither a break nor a watch.
     pub fn is_empty(&self) -> bool
-        ensures none { OnTrue result (self.now ≡ no_marks) }
-        ensures some { self.now ≡ no_marks → result ≡ true }
+        ensures none { OnTrue result (self.now ≡ no_points) }
+        ensures some { self.now ≡ no_points → result ≡ true }
     {
         self.breaks.is_empty() && self.watches.is_empty()
     }
@@ -82,16 +82,16 @@ impl Points {
     /// Adds the break or the watch of a command, which is one of the two. Fewer than 64 of its kind were added before.
     pub fn add(&mut self, command: &Command)
         requires point { (is_break command.now || is_watch command.now) ≡ true }
-        requires room { TakesMark self.old command.now }
-        ensures { self.new ≡ marked command.now self.old }
+        requires room { TakesPoint self.old command.now }
+        ensures { self.new ≡ with_point command.now self.old }
     {
         self.add_if(command);
     }
 
     /// Adds the break or the watch of a command, if it is one.
     pub fn add_if(&mut self, command: &Command)
-        requires { TakesMark self.old command.now }
-        ensures { self.new ≡ marked command.now self.old }
+        requires { TakesPoint self.old command.now }
+        ensures { self.new ≡ with_point command.now self.old }
     {
         match command {
             Command::Break(address) => self.breaks.push(*address),
@@ -134,7 +134,7 @@ impl Points {
     /// What stops a machine that has taken a step: the least watch that the step touched, else a break. None where
     /// there is neither, or the machine has ended.
     pub(crate) fn point_met(&self, machine: &Machine) -> Option<Met>
-        ensures { result ≡ mark_met self.now machine.now.accesses machine.now.parts }
+        ensures { result ≡ point_met self.now machine.now.accesses machine.now.parts }
     {
         if machine.ending().is_some() {
             return None;

@@ -21,5 +21,5 @@ abbrev pub has_back : List Command → Bool
 has_back commands = list_any is_back commands
 
 -- at most so many breaks, and so many watches
-abbrev pub most_marks : ℕ
-most_marks = 64
+abbrev pub most_points : ℕ
+most_points = 64

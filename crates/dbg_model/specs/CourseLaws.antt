@@ -15,11 +15,12 @@ use Rattle.emu_run.specs.declared.insn.Insn.{Insn}
 use Rattle.emu_run.specs.Step.{accesses, decode, executed, fetched, finished, performed, step, trapped, turn}
 use Rattle.emu_run.specs.Run.{goes_on, until_end}
 use Rattle.emu_run.specs.RunLaws.{until_end_none, until_end_one, until_end_over}
+use Rattle.emu_run.specs.Steps.{until_end_added}
 use Rattle.dbg_model.specs.declared.script.Command.{Command}
 use Rattle.dbg_model.specs.declared.script.Command.TheVariants.{Step, Go, Break, Watch, Regs, Vl, Zreg, Preg, Ffr, Lanes, Mem, Back}
 use Rattle.dbg_model.specs.declared.script.Stop.{Stop}
-use Rattle.dbg_model.specs.Reached.{same_input, same_parts, same_seen, until_end_added}
-use Rattle.dbg_model.specs.Session.{Marks, no_marks, mark_met, marked, shown, stepped_text, stop_line}
+use Rattle.dbg_model.specs.Reached.{same_input, same_parts, same_seen}
+use Rattle.dbg_model.specs.Session.{Points, no_points, point_met, with_point, shown, stepped_text, stop_line}
 use Rattle.dbg_model.specs.SessionBack.{Course, begun, ending_text, go, moved, moved_to, obeyed, obeyed_all, put, session_back, stepped, stopped_or, went_back}
 use Rattle.dbg_model.specs.SessionBackEquations.{go-suc, go-zero, moved-suc, moved-zero}
 
@@ -252,20 +253,20 @@ on_stop : (start : State) (stop : Option Stop) (c d : Course) → IsOn start c.s
 on_stop start None c d here there = there
 on_stop start (Some stop) c d here there = on_put start (stop_line stop) c here
 
-on_go : (start : State) (points : Marks) (k : ℕ) (c : Course) → IsOn start c.state → IsOn start (go points c k).state
+on_go : (start : State) (points : Points) (k : ℕ) (c : Course) → IsOn start c.state → IsOn start (go points c k).state
 on_go start points zero c p = rw (go-zero points c) (on_put start ending_text c p)
 on_go start points (suc k) c p =
-    rw (go-suc points c k) (elim (goes_on c.state) as (λ b. goes_on c.state ≡ b → IsOn start (if b then stopped_or (mark_met points (accesses c.state.parts) (stepped c).state.parts) (stepped c) (go points (stepped c) k) else put ending_text c).state) [
+    rw (go-suc points c k) (elim (goes_on c.state) as (λ b. goes_on c.state ≡ b → IsOn start (if b then stopped_or (point_met points (accesses c.state.parts) (stepped c).state.parts) (stepped c) (go points (stepped c) k) else put ending_text c).state) [
       | true ↦ λ h.
           let next = on_step start c h p in
-          on_stop start (mark_met points (accesses c.state.parts) (stepped c).state.parts) (stepped c) (go points (stepped c) k) next (on_go start points k (stepped c) next)
+          on_stop start (point_met points (accesses c.state.parts) (stepped c).state.parts) (stepped c) (go points (stepped c) k) next (on_go start points k (stepped c) next)
       | false ↦ λ h. on_put start ending_text c p
     ] refl)
 
 pub on_back : (start : State) (k : ℕ) (c : Course) → IsOn start (went_back start k c).state
 on_back start k c = record { count = c.state.parts.steps - k; parts = refl; input = refl }
 
-pub on_obeyed : (start : State) (command : Command) (points : Marks) (budget : ℕ) (c : Course) → IsOn start c.state → IsOn start (obeyed start command points budget c).state
+pub on_obeyed : (start : State) (command : Command) (points : Points) (budget : ℕ) (c : Course) → IsOn start c.state → IsOn start (obeyed start command points budget c).state
 on_obeyed start (Step n) points budget c p =
     on_put start (stepped_text (c.state.parts.steps + n)) (moved c (min (c.state.parts.steps + n) budget - c.state.parts.steps)) (on_moved start (min (c.state.parts.steps + n) budget - c.state.parts.steps) c p)
 on_obeyed start Go points budget c p = on_go start points (budget - c.state.parts.steps) c p
@@ -280,10 +281,10 @@ on_obeyed start (Lanes k size) points budget c p = on_put start (shown (Lanes k 
 on_obeyed start (Mem address count) points budget c p = on_put start (shown (Mem address count)) c p
 on_obeyed start (Back k) points budget c p = on_back start k c
 
-on_all : (start : State) (commands : List Command) (points : Marks) (budget : ℕ) (c : Course) → IsOn start c.state → IsOn start (obeyed_all start commands points budget c).state
+on_all : (start : State) (commands : List Command) (points : Points) (budget : ℕ) (c : Course) → IsOn start c.state → IsOn start (obeyed_all start commands points budget c).state
 on_all start [] points budget c p = p
 on_all start (command ∷ commands) points budget c p =
-    on_all start commands (marked command points) budget (obeyed start command points budget c) (on_obeyed start command points budget c p)
+    on_all start commands (with_point command points) budget (obeyed start command points budget c) (on_obeyed start command points budget c p)
 
 pub sessions_are_on : (commands : List Command) (budget : ℕ) (start : State) → IsOn start (session_back commands budget start)
-sessions_are_on commands budget start = on_all start commands no_marks budget (begun start) (on_start start)
+sessions_are_on commands budget start = on_all start commands no_points budget (begun start) (on_start start)

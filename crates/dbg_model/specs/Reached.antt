@@ -1,15 +1,16 @@
 -- The machine of a session is one that the run from its start passes, within the budget and no further than the machine's end.
 use Rattle.std.specs.Prelude.{◌≡◌, ◌≤◌, ◌⊎◌, ℕ, zero, suc, ◌+◌, ◌-◌, min, true, false, List, [], ◌∷◌, Option, Some, None, is_none, if◌then◌else◌}
-use Rattle.std.proofs.Common.{inl, inr, refl, sym, ap, ◌∙◌, append-nil, arith, zero-add}
+use Rattle.std.proofs.Common.{inl, inr, refl, sym, ap, ◌∙◌, append-nil, arith}
 use Rattle.emu_model.specs.State.{Parts, State}
 use Rattle.emu_system.specs.Start.{with_input}
 use Rattle.emu_run.specs.Step.{accesses, step}
 use Rattle.emu_run.specs.Run.{goes_on, until_end, run}
 use Rattle.emu_run.specs.RunLaws.{behind, step_counts, until_end_none, until_end_one, until_end_over, until_end_behind}
+use Rattle.emu_run.specs.Steps.{until_end_added}
 use Rattle.dbg_model.specs.declared.script.Command.{Command}
 use Rattle.dbg_model.specs.declared.script.Command.TheVariants.{Step, Go, Break, Watch, Regs, Vl, Zreg, Preg, Ffr, Lanes, Mem, Back}
 use Rattle.dbg_model.specs.declared.script.Stop.{Stop}
-use Rattle.dbg_model.specs.Session.{Marks, no_marks, marked, mark_met, printed, stopped_or, go, obeyed, obeyed_all, session, ending_printed}
+use Rattle.dbg_model.specs.Session.{Points, no_points, with_point, point_met, printed, stopped_or, go, obeyed, obeyed_all, session, ending_printed}
 use Rattle.dbg_model.specs.SessionEquations.{go-zero, go-suc}
 
 -- some number of steps, at most the limit, leads from one machine and its input to the other, with none past the machine's end
@@ -20,16 +21,6 @@ pub record IsReached (limit : ℕ) (old new : State) : Type 0 where
   pub input : new.input ≡ (until_end old count).input
 
 -- ---- steps and then steps
-
-pub until_end_added : (j k : ℕ) (st : State) → until_end (until_end st j) k ≡ until_end st (j + k)
-until_end_added zero k st = ap (λ (s : State). until_end s k) (until_end_none st) ∙ ap (until_end st) (sym (zero-add k))
-until_end_added (suc j) k st =
-    elim (goes_on st) as (λ b. goes_on st ≡ b → until_end (until_end st (suc j)) k ≡ until_end st (suc j + k)) [
-      | true ↦ λ h.
-          let e : suc (j + k) ≡ suc j + k = omega arith in
-          ap (λ (s : State). until_end s k) (until_end_one st j h) ∙ until_end_added j k (step st) ∙ sym (until_end_one st (j + k) h) ∙ ap (until_end st) e
-      | false ↦ λ h. ap (λ (s : State). until_end s k) (until_end_over st (suc j) h) ∙ until_end_over st k h ∙ sym (until_end_over st (suc j + k) h)
-    ] refl
 
 -- the machine has ended, or has counted each of so many steps
 abbrev pub EndsOrCounts : ℕ → State → State → Type 0
@@ -122,38 +113,38 @@ reached_stop : (limit : ℕ) (stop : Option Stop) (a s r : State) → IsReached 
 reached_stop limit None a s r here there = there
 reached_stop limit (Some stop) a s r here there = reached_printed limit _ a s here
 
-reached_go : (marks : Marks) (k : ℕ) (st : State) → IsReached k st (go marks st k)
-reached_go marks zero st = rw (go-zero marks st) (reached_shown 0 _ st)
-reached_go marks (suc k) st =
-    rw (go-suc marks st k) (elim (goes_on st) as (λ b. goes_on st ≡ b → IsReached (suc k) st (if b then stopped_or (mark_met marks (accesses st.parts) (step st).parts) (step st) (go marks (step st) k) else ending_printed st)) [
-      | true ↦ λ h. reached_stop (suc k) (mark_met marks (accesses st.parts) (step st).parts) st (step st) (go marks (step st) k)
+reached_go : (points : Points) (k : ℕ) (st : State) → IsReached k st (go points st k)
+reached_go points zero st = rw (go-zero points st) (reached_shown 0 _ st)
+reached_go points (suc k) st =
+    rw (go-suc points st k) (elim (goes_on st) as (λ b. goes_on st ≡ b → IsReached (suc k) st (if b then stopped_or (point_met points (accesses st.parts) (step st).parts) (step st) (go points (step st) k) else ending_printed st)) [
+      | true ↦ λ h. reached_stop (suc k) (point_met points (accesses st.parts) (step st).parts) st (step st) (go points (step st) k)
           (reached_on k st (step st) h (reached_here k (step st)))
-          (reached_on k st (go marks (step st) k) h (reached_go marks k (step st)))
+          (reached_on k st (go points (step st) k) h (reached_go points k (step st)))
       | false ↦ λ h. reached_shown (suc k) _ st
     ] refl)
 
-reached_obeyed : (command : Command) (marks : Marks) (budget : ℕ) (st : State) → IsReached (budget - st.parts.steps) st (obeyed command marks budget st)
-reached_obeyed (Step n) marks budget st =
+reached_obeyed : (command : Command) (points : Points) (budget : ℕ) (st : State) → IsReached (budget - st.parts.steps) st (obeyed command points budget st)
+reached_obeyed (Step n) points budget st =
     reached_printed _ _ st (run st (min (st.parts.steps + n) budget)) (reached_run (budget - st.parts.steps) (min (st.parts.steps + n) budget - st.parts.steps) st (omega arith))
-reached_obeyed Go marks budget st = reached_go marks (budget - st.parts.steps) st
-reached_obeyed (Break address) marks budget st = reached_shown _ _ st
-reached_obeyed (Watch address count) marks budget st = reached_shown _ _ st
-reached_obeyed Regs marks budget st = reached_shown _ _ st
-reached_obeyed Vl marks budget st = reached_shown _ _ st
-reached_obeyed (Zreg k) marks budget st = reached_shown _ _ st
-reached_obeyed (Preg k) marks budget st = reached_shown _ _ st
-reached_obeyed Ffr marks budget st = reached_shown _ _ st
-reached_obeyed (Lanes k size) marks budget st = reached_shown _ _ st
-reached_obeyed (Mem address count) marks budget st = reached_shown _ _ st
-reached_obeyed (Back k) marks budget st = reached_shown _ _ st
+reached_obeyed Go points budget st = reached_go points (budget - st.parts.steps) st
+reached_obeyed (Break address) points budget st = reached_shown _ _ st
+reached_obeyed (Watch address count) points budget st = reached_shown _ _ st
+reached_obeyed Regs points budget st = reached_shown _ _ st
+reached_obeyed Vl points budget st = reached_shown _ _ st
+reached_obeyed (Zreg k) points budget st = reached_shown _ _ st
+reached_obeyed (Preg k) points budget st = reached_shown _ _ st
+reached_obeyed Ffr points budget st = reached_shown _ _ st
+reached_obeyed (Lanes k size) points budget st = reached_shown _ _ st
+reached_obeyed (Mem address count) points budget st = reached_shown _ _ st
+reached_obeyed (Back k) points budget st = reached_shown _ _ st
 
 -- ---- the commands one after the other
 
-reached_all : (commands : List Command) (marks : Marks) (budget : ℕ) (st : State) → IsReached (budget - st.parts.steps) st (obeyed_all commands marks budget st)
-reached_all [] marks budget st = reached_here _ st
-reached_all (command ∷ commands) marks budget st =
-    let next : State = obeyed command marks budget st in
-    reached_then budget st next (obeyed_all commands (marked command marks) budget next) (reached_obeyed command marks budget st) (reached_all commands (marked command marks) budget next)
+reached_all : (commands : List Command) (points : Points) (budget : ℕ) (st : State) → IsReached (budget - st.parts.steps) st (obeyed_all commands points budget st)
+reached_all [] points budget st = reached_here _ st
+reached_all (command ∷ commands) points budget st =
+    let next : State = obeyed command points budget st in
+    reached_then budget st next (obeyed_all commands (with_point command points) budget next) (reached_obeyed command points budget st) (reached_all commands (with_point command points) budget next)
 
 pub sessions_are_reached : (commands : List Command) (budget : ℕ) (st : State) → IsReached (budget - st.parts.steps) st (session commands budget st)
-sessions_are_reached commands budget st = reached_all commands no_marks budget st
+sessions_are_reached commands budget st = reached_all commands no_points budget st

@@ -13,7 +13,7 @@ use Rattle.dbg_model.specs.declared.script.Command.TheVariants.{Step, Go, Break,
 use Rattle.dbg_model.specs.declared.script.ScriptFault.{ScriptFault}
 use Rattle.dbg_model.specs.declared.script.ScriptWhy.{ScriptWhy}
 use Rattle.dbg_model.specs.declared.script.ScriptWhy.TheVariants.{NotUtf8, TooManyLines, UnknownCommand, MissingWord, BadNumber, OutOfRange, ExtraWord, TooMany}
-use Rattle.dbg_model.specs.Commands.{is_break, is_watch, most_marks}
+use Rattle.dbg_model.specs.Commands.{is_break, is_watch, most_points}
 
 -- ---- arguments
 
@@ -97,8 +97,8 @@ command_of words = command_named (get_or words 0 []) words
 
 -- there are as many breaks, or watches, as there may be
 abbrev pub is_full : List Command → Command → Bool
-is_full commands (Break address) = nat_le most_marks (count_by is_break commands)
-is_full commands (Watch address count) = nat_le most_marks (count_by is_watch commands)
+is_full commands (Break address) = nat_le most_points (count_by is_break commands)
+is_full commands (Watch address count) = nat_le most_points (count_by is_watch commands)
 is_full commands command = false
 
 abbrev pub followed : List Command → Command → Result (List Command) ScriptWhy

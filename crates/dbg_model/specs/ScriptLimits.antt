@@ -3,7 +3,7 @@ use Rattle.std.specs.Prelude.{◌≤◌, ◌<◌, ◌^◌, ℕ, Bool, true, ◌&
 use Rattle.std.specs.List.{list_all}
 use Rattle.dbg_model.specs.declared.script.Command.{Command}
 use Rattle.dbg_model.specs.declared.script.Command.TheVariants.{Step, Break, Watch, Mem, Back}
-use Rattle.dbg_model.specs.Commands.{is_break, is_watch, most_marks}
+use Rattle.dbg_model.specs.Commands.{is_break, is_watch, most_points}
 
 -- so many bytes may be watched or printed at once
 abbrev pub is_count : ℕ → Bool
@@ -19,11 +19,11 @@ is_within command = true
 
 pub record IsScript (commands : List Command) : Type 0 where
   pub within : IsTrue (list_all is_within commands)
-  pub breaks : count_by is_break commands ≤ most_marks
-  pub watches : count_by is_watch commands ≤ most_marks
+  pub breaks : count_by is_break commands ≤ most_points
+  pub watches : count_by is_watch commands ≤ most_points
 
 -- a command may stand behind these
 abbrev pub HasRoom : List Command → Command → Type 0
-HasRoom commands (Break address) = count_by is_break commands < most_marks
-HasRoom commands (Watch address count) = count_by is_watch commands < most_marks
+HasRoom commands (Break address) = count_by is_break commands < most_points
+HasRoom commands (Watch address count) = count_by is_watch commands < most_points
 HasRoom commands command = Unit {0}

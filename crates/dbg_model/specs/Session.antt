@@ -81,17 +81,17 @@ shown command m = []
 -- ---- breaks and watches
 
 -- the addresses of the breaks, and the watches, in the order in which they were added
-pub record Marks : Type 0 where
+pub record Points : Type 0 where
   pub breaks : List ℕ
   pub watches : List Watched
 
-abbrev pub no_marks : Marks
-no_marks = record { breaks = []; watches = [] }
+abbrev pub no_points : Points
+no_points = record { breaks = []; watches = [] }
 
-abbrev pub marked : Command → Marks → Marks
-marked (Break address) marks = record marks { breaks = marks.breaks ++ address ∷ [] }
-marked (Watch address count) marks = record marks { watches = marks.watches ++ record { address = address; count = count } ∷ [] }
-marked command marks = marks
+abbrev pub with_point : Command → Points → Points
+with_point (Break address) points = record points { breaks = points.breaks ++ address ∷ [] }
+with_point (Watch address count) points = record points { watches = points.watches ++ record { address = address; count = count } ∷ [] }
+with_point command points = points
 
 -- an access shares a byte with a watch
 abbrev pub shares : Watched → Access → Bool
@@ -119,17 +119,17 @@ stop_line (AtWatch k) m = watch_line k m.steps m.core.pc
 stop_line AtBreak m = break_line m.steps m.core.pc
 
 -- a break, where the program counter stands on one
-abbrev pub break_met : Marks → ℕ → Option Stop
-break_met marks pc = if list_any (λ address. nat_eq address pc) marks.breaks then Some AtBreak else None
+abbrev pub break_met : Points → ℕ → Option Stop
+break_met points pc = if list_any (λ address. nat_eq address pc) points.breaks then Some AtBreak else None
 
 -- the least of the watches that the last step touched, else a break
-abbrev pub watch_met : Marks → ℕ → Option ℕ → Option Stop
-watch_met marks pc (Some k) = Some (AtWatch k)
-watch_met marks pc None = break_met marks pc
+abbrev pub watch_met : Points → ℕ → Option ℕ → Option Stop
+watch_met points pc (Some k) = Some (AtWatch k)
+watch_met points pc None = break_met points pc
 
 -- what stops a machine that goes on behind a step that made these accesses
-abbrev pub mark_met : Marks → List Access → Parts → Option Stop
-mark_met marks made m = if is_none m.ended then watch_met marks m.core.pc (position (is_touched made) marks.watches) else None
+abbrev pub point_met : Points → List Access → Parts → Option Stop
+point_met points made m = if is_none m.ended then watch_met points m.core.pc (position (is_touched made) points.watches) else None
 
 -- ---- what a command makes of a machine
 
@@ -147,29 +147,29 @@ stepped_text target m = if nat_eq m.steps target && is_none m.ended then step_li
 abbrev pub stepped : ℕ → ℕ → State → State
 stepped target budget st = let end = run st (min target budget) in printed (stepped_text target end.parts) end
 
--- where a mark was met its line, else what comes of going on
+-- where a point was met its line, else what comes of going on
 abbrev pub stopped_or : Option Stop → State → State → State
 stopped_or (Some stop) st rest = printed (stop_line stop st.parts) st
 stopped_or None st rest = rest
 
--- at most so many steps, up to the end or to the first mark that is met; the tests behind a step are: end, watch, break, budget
-unfoldable pub go : Marks → State → ℕ → State
-go marks st zero = ending_printed st
-go marks st (suc k) =
-    if goes_on st then stopped_or (mark_met marks (accesses st.parts) (step st).parts) (step st) (go marks (step st) k)
+-- at most so many steps, up to the end or to the first point that is met; the tests behind a step are: end, watch, break, budget
+unfoldable pub go : Points → State → ℕ → State
+go points st zero = ending_printed st
+go points st (suc k) =
+    if goes_on st then stopped_or (point_met points (accesses st.parts) (step st).parts) (step st) (go points (step st) k)
     else ending_printed st
 
-abbrev pub obeyed : Command → Marks → ℕ → State → State
-obeyed (Step n) marks budget st = stepped (st.parts.steps + n) budget st
-obeyed Go marks budget st = go marks st (budget - st.parts.steps)
-obeyed command marks budget st = printed (shown command st.parts) st
+abbrev pub obeyed : Command → Points → ℕ → State → State
+obeyed (Step n) points budget st = stepped (st.parts.steps + n) budget st
+obeyed Go points budget st = go points st (budget - st.parts.steps)
+obeyed command points budget st = printed (shown command st.parts) st
 
 -- ---- the commands one after the other
 
-abbrev pub obeyed_all : List Command → Marks → ℕ → State → State
-obeyed_all [] marks budget st = st
-obeyed_all (command ∷ commands) marks budget st = obeyed_all commands (marked command marks) budget (obeyed command marks budget st)
+abbrev pub obeyed_all : List Command → Points → ℕ → State → State
+obeyed_all [] points budget st = st
+obeyed_all (command ∷ commands) points budget st = obeyed_all commands (with_point command points) budget (obeyed command points budget st)
 
--- a session with a budget of steps, at first without marks
+-- a session with a budget of steps, at first without points
 abbrev pub session : List Command → ℕ → State → State
-session commands budget st = obeyed_all commands no_marks budget st
+session commands budget st = obeyed_all commands no_points budget st

@@ -13,7 +13,7 @@ use Rattle.emu_run.specs.Run.{goes_on, until_end}
 use Rattle.dbg_model.specs.declared.script.Command.{Command}
 use Rattle.dbg_model.specs.declared.script.Command.TheVariants.{Step, Go, Back}
 use Rattle.dbg_model.specs.declared.script.Stop.{Stop}
-use Rattle.dbg_model.specs.Session.{Marks, no_marks, marked, mark_met, shown, stepped_text, stop_line}
+use Rattle.dbg_model.specs.Session.{Points, no_points, with_point, point_met, shown, stepped_text, stop_line}
 
 -- how far a session has come: its machine, what is left of the input and what the session has put, and the furthest
 -- number of steps that was counted
@@ -54,10 +54,10 @@ stopped_or (Some stop) c rest = put (stop_line stop) c
 stopped_or None c rest = rest
 
 -- at most so many steps, up to the end or to the first break or watch that is met
-unfoldable pub go : Marks → Course → ℕ → Course
+unfoldable pub go : Points → Course → ℕ → Course
 go points c zero = put ending_text c
 go points c (suc k) =
-    if goes_on c.state then stopped_or (mark_met points (accesses c.state.parts) (stepped c).state.parts) (stepped c) (go points (stepped c) k)
+    if goes_on c.state then stopped_or (point_met points (accesses c.state.parts) (stepped c).state.parts) (stepped c) (go points (stepped c) k)
     else put ending_text c
 
 -- ---- commands
@@ -77,16 +77,16 @@ abbrev pub steps_taken : ℕ → ℕ → Course → Course
 steps_taken n budget c =
     put (stepped_text (c.state.parts.steps + n)) (moved c (min (c.state.parts.steps + n) budget - c.state.parts.steps))
 
-abbrev pub obeyed : State → Command → Marks → ℕ → Course → Course
+abbrev pub obeyed : State → Command → Points → ℕ → Course → Course
 obeyed start (Step n) points budget c = steps_taken n budget c
 obeyed start Go points budget c = go points c (budget - c.state.parts.steps)
 obeyed start (Back k) points budget c = went_back start k c
 obeyed start command points budget c = put (shown command) c
 
 -- the commands one after the other
-abbrev pub obeyed_all : State → List Command → Marks → ℕ → Course → Course
+abbrev pub obeyed_all : State → List Command → Points → ℕ → Course → Course
 obeyed_all start [] points budget c = c
-obeyed_all start (command ∷ commands) points budget c = obeyed_all start commands (marked command points) budget (obeyed start command points budget c)
+obeyed_all start (command ∷ commands) points budget c = obeyed_all start commands (with_point command points) budget (obeyed start command points budget c)
 
 -- at first no step was counted
 abbrev pub begun : State → Course
@@ -95,4 +95,4 @@ begun start = record { state = start; top = 0 }
 -- a session from a machine that has counted no step, with its whole input and a budget of steps; at first there is
 -- neither a break nor a watch
 abbrev pub session_back : List Command → ℕ → State → State
-session_back commands budget start = (obeyed_all start commands no_marks budget (begun start)).state
+session_back commands budget start = (obeyed_all start commands no_points budget (begun start)).state

@@ -3,7 +3,7 @@ use Rattle.std.proofs.Common.{refl}
 use Rattle.std.specs.Prelude.{◌≡◌, ℕ, suc, if◌then◌else◌}
 use Rattle.emu_run.specs.Step.{accesses}
 use Rattle.emu_run.specs.Run.{goes_on}
-use Rattle.dbg_model.specs.Session.{Marks, mark_met}
+use Rattle.dbg_model.specs.Session.{Points, point_met}
 use Rattle.dbg_model.specs.SessionBack.{put, Course, moved, stepped, go, ending_text, stopped_or}
 
 pub moved-zero : (c : Course) → moved c 0 ≡ c
@@ -14,10 +14,10 @@ pub moved-suc : (c : Course) (k : ℕ) → moved c (suc k) ≡ (if goes_on c.sta
 unfolding moved
 moved-suc c k = refl
 
-pub go-zero : (points : Marks) (c : Course) → go points c 0 ≡ put ending_text c
+pub go-zero : (points : Points) (c : Course) → go points c 0 ≡ put ending_text c
 unfolding go
 go-zero points c = refl
 
-pub go-suc : (points : Marks) (c : Course) (k : ℕ) → go points c (suc k) ≡ (if goes_on c.state then stopped_or (mark_met points (accesses c.state.parts) (stepped c).state.parts) (stepped c) (go points (stepped c) k) else put ending_text c)
+pub go-suc : (points : Points) (c : Course) (k : ℕ) → go points c (suc k) ≡ (if goes_on c.state then stopped_or (point_met points (accesses c.state.parts) (stepped c).state.parts) (stepped c) (go points (stepped c) k) else put ending_text c)
 unfolding go
 go-suc points c k = refl

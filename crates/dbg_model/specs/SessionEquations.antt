@@ -4,12 +4,12 @@ use Rattle.std.specs.Prelude.{◌≡◌, ℕ, suc, if◌then◌else◌}
 use Rattle.emu_model.specs.State.{State}
 use Rattle.emu_run.specs.Step.{accesses, step}
 use Rattle.emu_run.specs.Run.{goes_on}
-use Rattle.dbg_model.specs.Session.{Marks, go, mark_met, ending_printed, stopped_or}
+use Rattle.dbg_model.specs.Session.{Points, go, point_met, ending_printed, stopped_or}
 
-pub go-zero : (marks : Marks) (st : State) → go marks st 0 ≡ ending_printed st
+pub go-zero : (points : Points) (st : State) → go points st 0 ≡ ending_printed st
 unfolding go
-go-zero marks st = refl
+go-zero points st = refl
 
-pub go-suc : (marks : Marks) (st : State) (k : ℕ) → go marks st (suc k) ≡ (if goes_on st then stopped_or (mark_met marks (accesses st.parts) (step st).parts) (step st) (go marks (step st) k) else ending_printed st)
+pub go-suc : (points : Points) (st : State) (k : ℕ) → go points st (suc k) ≡ (if goes_on st then stopped_or (point_met points (accesses st.parts) (step st).parts) (step st) (go points (step st) k) else ending_printed st)
 unfolding go
-go-suc marks st k = refl
+go-suc points st k = refl

@@ -54,9 +54,10 @@ fn load_buffered<const N: usize>(
     requires plan { IsPlan plan.now vec.old }
     requires room { plan.now.lanes * plan.now.registers ≤ N }
     requires empty { log.old.items ≡ [] }
-    ensures { (c : CoreState) → loaded_to (reach mem.old Kind.Read (elements_of (layout_of plan.now vec.old)))
-        (loaded_by plan.now.target plan.now.is_signed (layout_of plan.now vec.old) mem.old vec.old) c vec.old mem.old
-        ≡ record { core = c; vectors = vec.new; memory = mem.new; accesses = log.new.items; effect = result } }
+    ensures done { let l = layout_of plan.now vec.old in let m = mem.old.memory in (c : CoreState) → loaded_to
+        (reach m Kind.Read (elements_of l)) (loaded_by plan.now.target plan.now.is_signed l m vec.old) c vec.old m
+        ≡ record { core = c; vectors = vec.new; memory = mem.new.memory; accesses = log.new.items; effect = result } }
+    ensures marks { mem.new.marks ≡ mem.old.marks }
 {
     match load_values::<N>(plan, vec, mem, log) {
         Ok(values) => {
@@ -72,9 +73,10 @@ fn load_buffered<const N: usize>(
 fn load_elements(plan: &Plan, vec: &mut VecRegs, mem: &mut Mem, log: &mut AccessLog) -> Effect
     requires plan { IsPlan plan.now vec.old }
     requires empty { log.old.items ≡ [] }
-    ensures { (c : CoreState) → loaded_to (reach mem.old Kind.Read (elements_of (layout_of plan.now vec.old)))
-        (loaded_by plan.now.target plan.now.is_signed (layout_of plan.now vec.old) mem.old vec.old) c vec.old mem.old
-        ≡ record { core = c; vectors = vec.new; memory = mem.new; accesses = log.new.items; effect = result } }
+    ensures done { let l = layout_of plan.now vec.old in let m = mem.old.memory in (c : CoreState) → loaded_to
+        (reach m Kind.Read (elements_of l)) (loaded_by plan.now.target plan.now.is_signed l m vec.old) c vec.old m
+        ≡ record { core = c; vectors = vec.new; memory = mem.new.memory; accesses = log.new.items; effect = result } }
+    ensures marks { mem.new.marks ≡ mem.old.marks }
 {
     if most_elements(plan, vec) <= 64 {
         load_buffered::<64>(plan, vec, mem, log)
@@ -94,8 +96,9 @@ pub fn load(
 ) -> Effect
     requires plan { IsPlan plan.now vec.old }
     requires empty { log.old.items ≡ [] }
-    ensures { load_by plan.now core.now vec.old mem.old
-        ≡ record { core = core.now; vectors = vec.new; memory = mem.new; accesses = log.new.items; effect = result } }
+    ensures done { let m = mem.new.memory in load_by plan.now core.now vec.old mem.old.memory
+        ≡ record { core = core.now; vectors = vec.new; memory = m; accesses = log.new.items; effect = result } }
+    ensures marks { mem.new.marks ≡ mem.old.marks }
 {
     if let Err(trap) = test_sp(core, tests_sp(plan, vec)) {
         return Effect::Trap(trap);
@@ -111,8 +114,9 @@ pub fn load(
 pub fn store(plan: &Plan, core: &Core, vec: &VecRegs, mem: &mut Mem, log: &mut AccessLog) -> Effect
     requires plan { IsPlan plan.now vec.now }
     requires empty { log.old.items ≡ [] }
-    ensures { store_by plan.now core.now vec.now mem.old
-        ≡ record { core = core.now; vectors = vec.now; memory = mem.new; accesses = log.new.items; effect = result } }
+    ensures done { let m = mem.new.memory in store_by plan.now core.now vec.now mem.old.memory
+        ≡ record { core = core.now; vectors = vec.now; memory = m; accesses = log.new.items; effect = result } }
+    ensures marks { mem.new.marks ≡ mem.old.marks }
 {
     if let Err(trap) = test_sp(core, tests_sp(plan, vec)) {
         return Effect::Trap(trap);
@@ -135,8 +139,9 @@ pub fn load_each(
 ) -> Effect
     requires plan { IsPlan plan.now vec.old }
     requires empty { log.old.items ≡ [] }
-    ensures { load_by plan.now core.now vec.old mem.old
-        ≡ record { core = core.now; vectors = vec.new; memory = mem.new; accesses = log.new.items; effect = result } }
+    ensures done { let m = mem.new.memory in load_by plan.now core.now vec.old mem.old.memory
+        ≡ record { core = core.now; vectors = vec.new; memory = m; accesses = log.new.items; effect = result } }
+    ensures marks { mem.new.marks ≡ mem.old.marks }
 {
     if let Err(trap) = test_sp(core, tests_sp(plan, vec)) {
         return Effect::Trap(trap);
@@ -155,8 +160,9 @@ pub fn store_each(
 ) -> Effect
     requires plan { IsPlan plan.now vec.now }
     requires empty { log.old.items ≡ [] }
-    ensures { store_by plan.now core.now vec.now mem.old
-        ≡ record { core = core.now; vectors = vec.now; memory = mem.new; accesses = log.new.items; effect = result } }
+    ensures done { let m = mem.new.memory in store_by plan.now core.now vec.now mem.old.memory
+        ≡ record { core = core.now; vectors = vec.now; memory = m; accesses = log.new.items; effect = result } }
+    ensures marks { mem.new.marks ≡ mem.old.marks }
 {
     if let Err(trap) = test_sp(core, tests_sp(plan, vec)) {
         return Effect::Trap(trap);

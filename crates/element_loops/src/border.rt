@@ -12,9 +12,9 @@ use guest_mem::{Kind, Mem};
 fn copy_part(mem: &mut Mem, at: u64, most: usize, bytes: &mut [u8], place: usize) -> Option<usize>
     requires { place + most ≤ length bytes.old }
     ensures few { IfSome result (λ n. n ≤ most) }
-    ensures allowed { IfSome result (λ n. refused mem.old at n Kind.Read ≡ None) }
+    ensures allowed { IfSome result (λ n. refused mem.old.memory at n Kind.Read ≡ None) }
     ensures here { IfSome result
-        (λ n. (j : ℕ) → j < n → get_or bytes.new (place + j) 0 ≡ get_or (bytes_at mem.old at n) j 0) }
+        (λ n. (j : ℕ) → j < n → get_or bytes.new (place + j) 0 ≡ get_or (bytes_at mem.old.memory at n) j 0) }
     ensures before { (j : ℕ) → j < place → get_or bytes.new j 0 ≡ get_or bytes.old j 0 }
     ensures behind { IfSome result (λ n. (j : ℕ) → place + n ≤ j → get_or bytes.new j 0 ≡ get_or bytes.old j 0) }
     ensures long { length bytes.new ≡ length bytes.old }
@@ -34,9 +34,9 @@ fn copy_part(mem: &mut Mem, at: u64, most: usize, bytes: &mut [u8], place: usize
 /// and says whether they may be read. The other places stay.
 pub(crate) fn joined(mem: &mut Mem, base: u64, total: usize, bytes: &mut [u8]) -> bool
     requires { total ≤ length bytes.old }
-    ensures allowed { result ≡ true → refused mem.old base total Kind.Read ≡ None }
+    ensures allowed { result ≡ true → refused mem.old.memory base total Kind.Read ≡ None }
     ensures bytes { result ≡ true → (j : ℕ) → j < total
-        → get_or bytes.new j 0 ≡ get_or (bytes_at mem.old base total) j 0 }
+        → get_or bytes.new j 0 ≡ get_or (bytes_at mem.old.memory base total) j 0 }
     ensures behind { result ≡ true → (j : ℕ) → total ≤ j → get_or bytes.new j 0 ≡ get_or bytes.old j 0 }
     ensures long { length bytes.new ≡ length bytes.old }
     ensures memory { mem.new ≡ mem.old }
@@ -60,10 +60,12 @@ pub(crate) fn joined(mem: &mut Mem, base: u64, total: usize, bytes: &mut [u8]) -
 /// Writes bytes that fit their page, where it may be written, and says whether it may.
 pub(crate) fn put_bytes(mem: &mut Mem, at: u64, bytes: &[u8]) -> bool
     requires { at % page_size + length bytes.now ≤ page_size }
-    ensures allowed { result ≡ true → refused mem.old at (length bytes.now) Kind.Write ≡ None }
-    ensures written { result ≡ true → mem.new ≡ with_bytes mem.old at bytes.now }
-    ensures kept { result ≡ false → mem.new ≡ mem.old }
-    ensures sure { 0 < length bytes.now → refused mem.old at (length bytes.now) Kind.Write ≡ None → result ≡ true }
+    ensures allowed { result ≡ true → refused mem.old.memory at (length bytes.now) Kind.Write ≡ None }
+    ensures written { result ≡ true → mem.new.memory ≡ with_bytes mem.old.memory at bytes.now }
+    ensures kept { result ≡ false → mem.new.memory ≡ mem.old.memory }
+    ensures sure { 0 < length bytes.now → refused mem.old.memory at (length bytes.now) Kind.Write ≡ None
+        → result ≡ true }
+    ensures marks { mem.new.marks ≡ mem.old.marks }
 {
     match mem.write_at(at, bytes) {
         Some(_) => true,
@@ -74,9 +76,10 @@ pub(crate) fn put_bytes(mem: &mut Mem, at: u64, bytes: &[u8]) -> bool
 /// Writes bytes that end in their page or in the next, where both may be written, and says whether they may.
 pub(crate) fn put_over(mem: &mut Mem, at: u64, bytes: &[u8]) -> bool
     requires { length bytes.now ≤ page_size }
-    ensures allowed { result ≡ true → refused mem.old at (length bytes.now) Kind.Write ≡ None }
-    ensures written { result ≡ true → mem.new ≡ with_bytes mem.old at bytes.now }
-    ensures kept { result ≡ false → mem.new ≡ mem.old }
+    ensures allowed { result ≡ true → refused mem.old.memory at (length bytes.now) Kind.Write ≡ None }
+    ensures written { result ≡ true → mem.new.memory ≡ with_bytes mem.old.memory at bytes.now }
+    ensures kept { result ≡ false → mem.new.memory ≡ mem.old.memory }
+    ensures marks { mem.new.marks ≡ mem.old.marks }
 {
     let first = (PAGE_SIZE - at % PAGE_SIZE) as usize;
     if bytes.len() <= first {

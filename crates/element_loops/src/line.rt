@@ -183,9 +183,9 @@ fn take_across(
     requires front { IsFront line.now.front plan.now vec.old }
     requires target { plan.now.target ≡ Target.Registers }
     requires empty { log.old.items ≡ [] }
-    ensures loaded { result ≡ true → AreLoaded mem.old (elements_of (layout_of plan.now vec.old)) log.new.items }
+    ensures loaded { result ≡ true → AreLoaded mem.old.memory (elements_of (layout_of plan.now vec.old)) log.new.items }
     ensures registers { result ≡ true
-        → vec.new ≡ loaded_by plan.now.target plan.now.is_signed (layout_of plan.now vec.old) mem.old vec.old }
+        → vec.new ≡ loaded_by plan.now.target plan.now.is_signed (layout_of plan.now vec.old) mem.old.memory vec.old }
     ensures kept { result ≡ false → vec.new ≡ vec.old }
     ensures unlogged { result ≡ false → log.new ≡ log.old }
     ensures memory { mem.new ≡ mem.old }
@@ -216,9 +216,9 @@ pub(crate) fn take_line(
     requires front { IsFront line.now.front plan.now vec.old }
     requires target { plan.now.target ≡ Target.Registers }
     requires empty { log.old.items ≡ [] }
-    ensures loaded { result ≡ true → AreLoaded mem.old (elements_of (layout_of plan.now vec.old)) log.new.items }
+    ensures loaded { result ≡ true → AreLoaded mem.old.memory (elements_of (layout_of plan.now vec.old)) log.new.items }
     ensures registers { result ≡ true
-        → vec.new ≡ loaded_by plan.now.target plan.now.is_signed (layout_of plan.now vec.old) mem.old vec.old }
+        → vec.new ≡ loaded_by plan.now.target plan.now.is_signed (layout_of plan.now vec.old) mem.old.memory vec.old }
     ensures kept { result ≡ false → vec.new ≡ vec.old }
     ensures unlogged { result ≡ false → log.new ≡ log.old }
     ensures memory { mem.new ≡ mem.old }

@@ -119,9 +119,10 @@ fn store_all(plan: &Plan, vec: &VecRegs, mem: &mut Mem, log: &mut AccessLog, lin
     requires target { plan.now.target ≡ Target.Registers }
     requires empty { log.old.items ≡ [] }
     ensures stored { result ≡ true → let l = layout_of plan.now vec.now in
-        AreStored (stored_by plan.now.target l vec.now) mem.old (elements_of l) mem.new log.new.items }
-    ensures kept { result ≡ false → mem.new ≡ mem.old }
+        AreStored (stored_by plan.now.target l vec.now) mem.old.memory (elements_of l) mem.new.memory log.new.items }
+    ensures kept { result ≡ false → mem.new.memory ≡ mem.old.memory }
     ensures unlogged { result ≡ false → log.new ≡ log.old }
+    ensures marks { mem.new.marks ≡ mem.old.marks }
 {
     let total = total_bytes(plan, vec);
     if total > 1024 || !are_all_on(plan, vec, line) {
@@ -141,9 +142,10 @@ fn store_registers(plan: &Plan, vec: &VecRegs, mem: &mut Mem, log: &mut AccessLo
     requires plan { IsPlan plan.now vec.now }
     requires empty { log.old.items ≡ [] }
     ensures stored { result ≡ true → let l = layout_of plan.now vec.now in
-        AreStored (stored_by plan.now.target l vec.now) mem.old (elements_of l) mem.new log.new.items }
-    ensures kept { result ≡ false → mem.new ≡ mem.old }
+        AreStored (stored_by plan.now.target l vec.now) mem.old.memory (elements_of l) mem.new.memory log.new.items }
+    ensures kept { result ≡ false → mem.new.memory ≡ mem.old.memory }
     ensures unlogged { result ≡ false → log.new ≡ log.old }
+    ensures marks { mem.new.marks ≡ mem.old.marks }
 {
     match line_of(plan, vec) {
         Some(line) => store_all(plan, vec, mem, log, &line),
@@ -156,9 +158,10 @@ pub(crate) fn store_line(plan: &Plan, vec: &VecRegs, mem: &mut Mem, log: &mut Ac
     requires plan { IsPlan plan.now vec.now }
     requires empty { log.old.items ≡ [] }
     ensures stored { result ≡ true → let l = layout_of plan.now vec.now in
-        AreStored (stored_by plan.now.target l vec.now) mem.old (elements_of l) mem.new log.new.items }
-    ensures kept { result ≡ false → mem.new ≡ mem.old }
+        AreStored (stored_by plan.now.target l vec.now) mem.old.memory (elements_of l) mem.new.memory log.new.items }
+    ensures kept { result ≡ false → mem.new.memory ≡ mem.old.memory }
     ensures unlogged { result ≡ false → log.new ≡ log.old }
+    ensures marks { mem.new.marks ≡ mem.old.marks }
 {
     match plan.target {
         Target::Predicate(pt) => put_bits(plan, vec, mem, log, pt),

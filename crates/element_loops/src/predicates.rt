@@ -54,9 +54,9 @@ fn take_line(
     requires target { plan.now.target ≡ Target.Predicate pt }
     requires line { IsLine line.now.base line.now.pg line.now.whole plan.now vec.old }
     requires empty { log.old.items ≡ [] }
-    ensures loaded { result ≡ true → AreLoaded mem.old (elements_of (layout_of plan.now vec.old)) log.new.items }
+    ensures loaded { result ≡ true → AreLoaded mem.old.memory (elements_of (layout_of plan.now vec.old)) log.new.items }
     ensures registers { result ≡ true
-        → vec.new ≡ loaded_by plan.now.target plan.now.is_signed (layout_of plan.now vec.old) mem.old vec.old }
+        → vec.new ≡ loaded_by plan.now.target plan.now.is_signed (layout_of plan.now vec.old) mem.old.memory vec.old }
     ensures kept { result ≡ false → vec.new ≡ vec.old }
     ensures unlogged { result ≡ false → log.new ≡ log.old }
     ensures memory { mem.new ≡ mem.old }
@@ -82,9 +82,9 @@ pub(crate) fn take_bits(
     requires plan { IsPlan plan.now vec.old }
     requires target { plan.now.target ≡ Target.Predicate pt }
     requires empty { log.old.items ≡ [] }
-    ensures loaded { result ≡ true → AreLoaded mem.old (elements_of (layout_of plan.now vec.old)) log.new.items }
+    ensures loaded { result ≡ true → AreLoaded mem.old.memory (elements_of (layout_of plan.now vec.old)) log.new.items }
     ensures registers { result ≡ true
-        → vec.new ≡ loaded_by plan.now.target plan.now.is_signed (layout_of plan.now vec.old) mem.old vec.old }
+        → vec.new ≡ loaded_by plan.now.target plan.now.is_signed (layout_of plan.now vec.old) mem.old.memory vec.old }
     ensures kept { result ≡ false → vec.new ≡ vec.old }
     ensures unlogged { result ≡ false → log.new ≡ log.old }
     ensures memory { mem.new ≡ mem.old }
@@ -120,9 +120,10 @@ fn put_line(
     requires line { IsLine line.now.base line.now.pg line.now.whole plan.now vec.now }
     requires empty { log.old.items ≡ [] }
     ensures stored { result ≡ true → let l = layout_of plan.now vec.now in
-        AreStored (stored_by plan.now.target l vec.now) mem.old (elements_of l) mem.new log.new.items }
-    ensures kept { result ≡ false → mem.new ≡ mem.old }
+        AreStored (stored_by plan.now.target l vec.now) mem.old.memory (elements_of l) mem.new.memory log.new.items }
+    ensures kept { result ≡ false → mem.new.memory ≡ mem.old.memory }
     ensures unlogged { result ≡ false → log.new ≡ log.old }
+    ensures marks { mem.new.marks ≡ mem.old.marks }
 {
     let _number = pt.get();
     let total = vec.length().bits() / 64;
@@ -146,9 +147,10 @@ pub(crate) fn put_bits(
     requires target { plan.now.target ≡ Target.Predicate pt }
     requires empty { log.old.items ≡ [] }
     ensures stored { result ≡ true → let l = layout_of plan.now vec.now in
-        AreStored (stored_by plan.now.target l vec.now) mem.old (elements_of l) mem.new log.new.items }
-    ensures kept { result ≡ false → mem.new ≡ mem.old }
+        AreStored (stored_by plan.now.target l vec.now) mem.old.memory (elements_of l) mem.new.memory log.new.items }
+    ensures kept { result ≡ false → mem.new.memory ≡ mem.old.memory }
     ensures unlogged { result ≡ false → log.new ≡ log.old }
+    ensures marks { mem.new.marks ≡ mem.old.marks }
 {
     match line_of_bytes(plan, vec, pt) {
         Some(line) => put_line(plan, vec, mem, log, &line, pt),

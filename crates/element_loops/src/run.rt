@@ -123,9 +123,9 @@ pub(crate) fn run_of(plan: &Plan, vec: &VecRegs) -> Option<Run>
 fn load_registers(plan: &Plan, vec: &mut VecRegs, mem: &mut Mem, log: &mut AccessLog) -> bool
     requires plan { IsPlan plan.now vec.old }
     requires empty { log.old.items ≡ [] }
-    ensures loaded { result ≡ true → AreLoaded mem.old (elements_of (layout_of plan.now vec.old)) log.new.items }
+    ensures loaded { result ≡ true → AreLoaded mem.old.memory (elements_of (layout_of plan.now vec.old)) log.new.items }
     ensures registers { result ≡ true
-        → vec.new ≡ loaded_by plan.now.target plan.now.is_signed (layout_of plan.now vec.old) mem.old vec.old }
+        → vec.new ≡ loaded_by plan.now.target plan.now.is_signed (layout_of plan.now vec.old) mem.old.memory vec.old }
     ensures kept { result ≡ false → vec.new ≡ vec.old }
     ensures unlogged { result ≡ false → log.new ≡ log.old }
     ensures memory { mem.new ≡ mem.old }
@@ -141,9 +141,9 @@ fn load_registers(plan: &Plan, vec: &mut VecRegs, mem: &mut Mem, log: &mut Acces
 pub fn load_run(plan: &Plan, vec: &mut VecRegs, mem: &mut Mem, log: &mut AccessLog) -> bool
     requires plan { IsPlan plan.now vec.old }
     requires empty { log.old.items ≡ [] }
-    ensures loaded { result ≡ true → AreLoaded mem.old (elements_of (layout_of plan.now vec.old)) log.new.items }
+    ensures loaded { result ≡ true → AreLoaded mem.old.memory (elements_of (layout_of plan.now vec.old)) log.new.items }
     ensures registers { result ≡ true
-        → vec.new ≡ loaded_by plan.now.target plan.now.is_signed (layout_of plan.now vec.old) mem.old vec.old }
+        → vec.new ≡ loaded_by plan.now.target plan.now.is_signed (layout_of plan.now vec.old) mem.old.memory vec.old }
     ensures kept { result ≡ false → vec.new ≡ vec.old }
     ensures unlogged { result ≡ false → log.new ≡ log.old }
     ensures memory { mem.new ≡ mem.old }

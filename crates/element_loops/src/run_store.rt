@@ -60,8 +60,10 @@ fn put_lanes(
     ensures count { array_vec_len log.new ≤ k + result }
     // whatever the memory was before the first store
     ensures stored { (m : Memory) → let l = layout_of plan.now vec.now in
-        AreStored (stored_by plan.now.target l vec.now) m (elements_below l k) mem.old log.old.items
-        → AreStored (stored_by plan.now.target l vec.now) m (elements_below l (k + result)) mem.new log.new.items }
+        AreStored (stored_by plan.now.target l vec.now) m (elements_below l k) mem.old.memory log.old.items
+        → AreStored (stored_by plan.now.target l vec.now) m (elements_below l (k + result)) mem.new.memory
+        log.new.items }
+    ensures marks { mem.new.marks ≡ mem.old.marks }
 {
     let _length = vec.length();
     let from = (k * plan.bytes) as usize;
@@ -130,8 +132,10 @@ fn put_some(
     ensures count { array_vec_len log.new ≤ k + result }
     // whatever the memory was before the first store
     ensures stored { (m : Memory) → let l = layout_of plan.now vec.now in
-        AreStored (stored_by plan.now.target l vec.now) m (elements_below l k) mem.old log.old.items
-        → AreStored (stored_by plan.now.target l vec.now) m (elements_below l (k + result)) mem.new log.new.items }
+        AreStored (stored_by plan.now.target l vec.now) m (elements_below l k) mem.old.memory log.old.items
+        → AreStored (stored_by plan.now.target l vec.now) m (elements_below l (k + result)) mem.new.memory
+        log.new.items }
+    ensures marks { mem.new.marks ≡ mem.old.marks }
 {
     let _length = vec.length();
     let at = run.base.wrapping_add(u64::from(k * plan.bytes));
@@ -167,10 +171,11 @@ fn put_next(
     ensures few { IfOk result (λ d. k + d ≤ plan.now.lanes) }
     // whatever the memory was before the first store
     ensures stored { (m : Memory) → let l = layout_of plan.now vec.now in
-        AreStored (stored_by plan.now.target l vec.now) m (elements_below l k) mem.old log.old.items
+        AreStored (stored_by plan.now.target l vec.now) m (elements_below l k) mem.old.memory log.old.items
         → MatchResult result
-        (λ d. AreStored (stored_by plan.now.target l vec.now) m (elements_below l (k + d)) mem.new log.new.items)
-        (λ trap. StopsStore (stored_by plan.now.target l vec.now) m (elements_of l) mem.new log.new.items trap) }
+        (λ d. AreStored (stored_by plan.now.target l vec.now) m (elements_below l (k + d)) mem.new.memory log.new.items)
+        (λ trap. StopsStore (stored_by plan.now.target l vec.now) m (elements_of l) mem.new.memory log.new.items trap) }
+    ensures marks { mem.new.marks ≡ mem.old.marks }
 {
     if !is_on(plan, vec, k) {
         return Ok(idle_lanes(plan, vec, run, k));
@@ -197,9 +202,10 @@ pub(crate) fn store_run(
     requires run { IsRun run.now.base run.now.pg run.now.whole plan.now vec.now }
     requires front { IsFront run.now.front plan.now vec.now }
     requires empty { log.old.items ≡ [] }
-    ensures { let l = layout_of plan.now vec.now in MatchResult result
-        (λ x. AreStored (stored_by plan.now.target l vec.now) mem.old (elements_of l) mem.new log.new.items)
-        (λ trap. StopsStore (stored_by plan.now.target l vec.now) mem.old (elements_of l) mem.new log.new.items trap) }
+    ensures stored { let l = layout_of plan.now vec.now in let m = mem.old.memory in MatchResult result
+        (λ x. AreStored (stored_by plan.now.target l vec.now) m (elements_of l) mem.new.memory log.new.items)
+        (λ trap. StopsStore (stored_by plan.now.target l vec.now) m (elements_of l) mem.new.memory log.new.items trap) }
+    ensures marks { mem.new.marks ≡ mem.old.marks }
 {
     let _length = vec.length();
     let mut bytes = [0u8; 256];

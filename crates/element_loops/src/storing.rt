@@ -90,11 +90,12 @@ fn store_lane(
     requires on { let l = layout_of plan.now vec.now in l.is_on k ≡ true }
     requires count { array_vec_len log.old ≤ k * plan.now.registers }
     // whatever the memory was before the first store
-    ensures { (m : Memory) → let l = layout_of plan.now vec.now in
-        AreStored (stored_by plan.now.target l vec.now) m (elements_below l k) mem.old log.old.items
+    ensures stored { (m : Memory) → let l = layout_of plan.now vec.now in
+        AreStored (stored_by plan.now.target l vec.now) m (elements_below l k) mem.old.memory log.old.items
         → MatchResult result
-        (λ x. AreStored (stored_by plan.now.target l vec.now) m (elements_below l (k + 1)) mem.new log.new.items)
-        (λ trap. StopsStore (stored_by plan.now.target l vec.now) m (elements_of l) mem.new log.new.items trap) }
+        (λ x. AreStored (stored_by plan.now.target l vec.now) m (elements_below l (k + 1)) mem.new.memory log.new.items)
+        (λ trap. StopsStore (stored_by plan.now.target l vec.now) m (elements_of l) mem.new.memory log.new.items trap) }
+    ensures marks { mem.new.marks ≡ mem.old.marks }
 {
     for j in 0..plan.registers {
         let _room = position(plan, vec, k, j);
@@ -120,11 +121,12 @@ pub(crate) fn put_lane(
     requires within { k < plan.now.lanes }
     requires count { array_vec_len log.old ≤ k * plan.now.registers }
     // whatever the memory was before the first store
-    ensures { (m : Memory) → let l = layout_of plan.now vec.now in
-        AreStored (stored_by plan.now.target l vec.now) m (elements_below l k) mem.old log.old.items
+    ensures stored { (m : Memory) → let l = layout_of plan.now vec.now in
+        AreStored (stored_by plan.now.target l vec.now) m (elements_below l k) mem.old.memory log.old.items
         → MatchResult result
-        (λ x. AreStored (stored_by plan.now.target l vec.now) m (elements_below l (k + 1)) mem.new log.new.items)
-        (λ trap. StopsStore (stored_by plan.now.target l vec.now) m (elements_of l) mem.new log.new.items trap) }
+        (λ x. AreStored (stored_by plan.now.target l vec.now) m (elements_below l (k + 1)) mem.new.memory log.new.items)
+        (λ trap. StopsStore (stored_by plan.now.target l vec.now) m (elements_of l) mem.new.memory log.new.items trap) }
+    ensures marks { mem.new.marks ≡ mem.old.marks }
 {
     if is_on(plan, vec, k) {
         return store_lane(plan, vec, mem, log, k);
@@ -141,9 +143,10 @@ pub(crate) fn store_lanes(
 ) -> Result<(), Trap>
     requires plan { IsPlan plan.now vec.now }
     requires empty { log.old.items ≡ [] }
-    ensures { let l = layout_of plan.now vec.now in MatchResult result
-        (λ x. AreStored (stored_by plan.now.target l vec.now) mem.old (elements_of l) mem.new log.new.items)
-        (λ trap. StopsStore (stored_by plan.now.target l vec.now) mem.old (elements_of l) mem.new log.new.items trap) }
+    ensures stored { let l = layout_of plan.now vec.now in let m = mem.old.memory in MatchResult result
+        (λ x. AreStored (stored_by plan.now.target l vec.now) m (elements_of l) mem.new.memory log.new.items)
+        (λ trap. StopsStore (stored_by plan.now.target l vec.now) m (elements_of l) mem.new.memory log.new.items trap) }
+    ensures marks { mem.new.marks ≡ mem.old.marks }
 {
     for k in 0..plan.lanes {
         put_lane(plan, vec, mem, log, k)?;
@@ -160,9 +163,10 @@ pub(crate) fn store_values(
 ) -> Result<(), Trap>
     requires plan { IsPlan plan.now vec.now }
     requires empty { log.old.items ≡ [] }
-    ensures { let l = layout_of plan.now vec.now in MatchResult result
-        (λ x. AreStored (stored_by plan.now.target l vec.now) mem.old (elements_of l) mem.new log.new.items)
-        (λ trap. StopsStore (stored_by plan.now.target l vec.now) mem.old (elements_of l) mem.new log.new.items trap) }
+    ensures stored { let l = layout_of plan.now vec.now in let m = mem.old.memory in MatchResult result
+        (λ x. AreStored (stored_by plan.now.target l vec.now) m (elements_of l) mem.new.memory log.new.items)
+        (λ trap. StopsStore (stored_by plan.now.target l vec.now) m (elements_of l) mem.new.memory log.new.items trap) }
+    ensures marks { mem.new.marks ≡ mem.old.marks }
 {
     match run_of(plan, vec) {
         Some(run) => store_run(plan, vec, mem, log, &run),

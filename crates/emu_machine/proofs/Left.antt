@@ -8,6 +8,7 @@ use Rattle.emu_model.specs.declared.trap.Effect.TheVariants.{Next, Branch, Call,
 use Rattle.emu_model.specs.declared.trap.Ended.{Ended}
 use Rattle.emu_model.specs.Access.{Memory}
 use Rattle.emu_model.specs.Done.{Done}
+use Rattle.emu_model.specs.Marks.{Marks}
 use Rattle.emu_model.specs.State.{Core, Vectors, Parts}
 use Rattle.emu_run.specs.declared.insn.Insn.{Insn}
 use Rattle.emu_run.specs.Step.{executed, executed_accesses, finish, performed}
@@ -22,34 +23,39 @@ use Rattle.emu_machine.proofs.Runs.{goes}
 -- the step of an instruction, or of a word that is none
 pub record HasDone (insn : Option Insn) (old new : MachineState) (r : Progress) : Type 0 where
   pub turn : MatchCall r ((input : List ℕ) → executed old.parts input insn ≡ call old.parts input) ((input : List ℕ) → executed old.parts input insn ≡ quiet new.parts input)
-  pub kept : MatchCall r (new ≡ old) (new.failed ≡ false)
+  pub kept : MatchCall r (new ≡ record old { spare = new.spare }) (new.failed ≡ false)
   pub svc : r ≡ AtCall → is_svc insn ≡ true
   pub alone : MatchCall r ⊤ (is_svc insn ≡ false)
   pub ended : EndsBy r new.parts
   pub counted : r ≡ GoesOn → new.parts.steps ≡ old.parts.steps + 1
   pub accesses : new.accesses ≡ executed_accesses old.parts insn
+  pub marks : new.marks ≡ old.marks
   pub saved : new.saved ≡ old.saved
 
-abbrev state_of : Parts → List Access → Bool → List Saved → MachineState
-state_of p l failed saved = record { parts = p; accesses = l; failed = failed; saved = saved }
+abbrev state_of : Parts → List Access → Bool → Marks → List Saved → ℕ → MachineState
+state_of p l failed marks saved spare = record { parts = p; accesses = l; failed = failed; marks = marks; saved = saved; spare = spare }
 
-rebuilt : (p : Parts) (l : List Access) (failed : Bool) (saved : List Saved) (m : MachineState) → m.parts ≡ p → m.accesses ≡ l → m.failed ≡ failed → m.saved ≡ saved → state_of p l failed saved ≡ m
-rebuilt p l failed saved m parts log same kept =
-    ap (λ (x : Parts). state_of x l failed saved) (sym parts) ∙ ap (λ (x : List Access). state_of m.parts x failed saved) (sym log) ∙ ap (λ (x : Bool). state_of m.parts m.accesses x saved) (sym same)
-    ∙ ap (λ (x : List Saved). state_of m.parts m.accesses m.failed x) (sym kept)
+rebuilt : (p : Parts) (l : List Access) (failed : Bool) (marks : Marks) (saved : List Saved) (m : MachineState) → m.parts ≡ p → m.accesses ≡ l → m.failed ≡ failed → m.marks ≡ marks → m.saved ≡ saved
+    → state_of p l failed marks saved m.spare ≡ m
+rebuilt p l failed marks saved m parts log same marked kept =
+    ap (λ (x : Parts). state_of x l failed marks saved m.spare) (sym parts)
+    ∙ ap (λ (x : List Access). state_of m.parts x failed marks saved m.spare) (sym log)
+    ∙ ap (λ (x : Bool). state_of m.parts m.accesses x marks saved m.spare) (sym same)
+    ∙ ap (λ (x : Marks). state_of m.parts m.accesses m.failed x saved m.spare) (sym marked)
+    ∙ ap (λ (x : List Saved). state_of m.parts m.accesses m.failed m.marks x m.spare) (sym kept)
 
 -- the registers behind their boxes
 pub performed_as : (i : Insn) (c c2 : Core) (v v2 : Vectors) (m : Memory) → c ≡ c2 → v ≡ v2 → (d : Done) → performed i c v m ≡ d → performed i c2 v2 m ≡ d
 performed_as i c c2 v v2 m same_core same_vectors d is =
     sym (ap (λ (x : Core). performed i x v2 m) same_core) ∙ sym (ap (λ (x : Vectors). performed i c x m) same_vectors) ∙ is
 
-module _ (i : Insn) (c d : Core) (v w : Vectors) (m n : Memory) (brk : Break) (steps : ℕ) (ended : Option Ended) (k l : List Access) (failed : Bool) (saved : List Saved) where
-  -- the machine before the instruction, and what the instruction left
+module _ (i : Insn) (c d : Core) (v w : Vectors) (m n : Memory) (brk : Break) (steps : ℕ) (ended : Option Ended) (k l : List Access) (failed : Bool) (marks : Marks) (saved : List Saved) (spare later : ℕ) where
+  -- the machine before the instruction, and what the instruction left; spare frames are taken on the way
   abbrev before : MachineState
-  before = machine_of c v m brk steps ended k failed saved
+  before = machine_of c v m brk steps ended k failed marks saved spare
 
   abbrev left : Effect → MachineState
-  left e = state_of (left_by_effect e (machine_of d w n brk steps ended l failed saved).parts) l failed saved
+  left e = state_of (left_by_effect e (machine_of d w n brk steps ended l failed marks saved later).parts) l failed marks saved later
 
   module _ (clear : k ≡ []) (going : has_ended before ≡ false) where
     by_effect : (e : Effect) → performed i c v m ≡ record { core = d; vectors = w; memory = n; accesses = l; effect = e } → HasDone (Some i) before (left e) (progress_by e)
@@ -61,6 +67,7 @@ module _ (i : Insn) (c d : Core) (v w : Vectors) (m n : Memory) (brk : Break) (s
       ended = goes ended failed going;
       counted = λ h. refl;
       accesses = sym (ap (λ (x : Done). x.accesses) is);
+      marks = refl;
       saved = refl;
     }
     by_effect (Branch a) is = record {
@@ -71,6 +78,7 @@ module _ (i : Insn) (c d : Core) (v w : Vectors) (m n : Memory) (brk : Break) (s
       ended = goes ended failed going;
       counted = λ h. refl;
       accesses = sym (ap (λ (x : Done). x.accesses) is);
+      marks = refl;
       saved = refl;
     }
     by_effect (Trap t) is = record {
@@ -81,25 +89,28 @@ module _ (i : Insn) (c d : Core) (v w : Vectors) (m n : Memory) (brk : Break) (s
       ended = refl;
       counted = λ h. cc;
       accesses = sym (ap (λ (x : Done). x.accesses) is);
+      marks = refl;
       saved = refl;
     }
     by_effect Call is =
         let asked : AsksFor i c d v w m n l = asks_for i c d v w m n l Call is refl in
         record {
           turn = λ input. ap (λ (x : Done). finish before.parts input x) is;
-          kept = same_machine c d v w m n brk steps ended k l failed saved asked.core asked.vectors asked.memory (asked.none ∙ sym clear);
+          kept = same_machine c d v w m n brk steps ended k l failed marks saved later asked.core asked.vectors asked.memory (asked.none ∙ sym clear);
           svc = λ h. asked.svc;
           alone = tt;
           ended = tt;
           counted = λ h. cc;
           accesses = sym (ap (λ (x : Done). x.accesses) is);
+          marks = refl;
           saved = refl;
         }
 
   pub done_by : (e : Effect) (r : Progress) (old new : MachineState) → before ≡ old → old.accesses ≡ [] → has_ended old ≡ false
-      → performed i c v m ≡ record { core = d; vectors = w; memory = n; accesses = l; effect = e } → r ≡ progress_by e → new.parts ≡ (left e).parts → new.accesses ≡ l → new.failed ≡ failed → new.saved ≡ saved → HasDone (Some i) old new r
-  done_by e r old new view clear going is by parts log same kept =
-      let made : left e ≡ new = rebuilt (left e).parts l failed saved new parts log same kept in
+      → performed i c v m ≡ record { core = d; vectors = w; memory = n; accesses = l; effect = e } → r ≡ progress_by e → new.parts ≡ (left e).parts → new.accesses ≡ l → new.failed ≡ failed → new.marks ≡ marks → new.saved ≡ saved
+      → later ≡ new.spare → HasDone (Some i) old new r
+  done_by e r old new view clear going is by parts log same marked kept free =
+      let made : left e ≡ new = ap (λ (x : ℕ). record (left e) { spare = x }) free ∙ rebuilt (left e).parts l failed marks saved new parts log same marked kept in
       let none : k ≡ [] = ap (λ (s : MachineState). s.accesses) view ∙ clear in
       let goes_on : has_ended before ≡ false = ap has_ended view ∙ going in
       subst (λ (x : MachineState). HasDone (Some i) x new r) view

@@ -3,7 +3,6 @@ pub mod Breaks
 pub mod CallLaws
 pub mod Composed
 pub mod InTurns
-pub mod Kept
 pub mod Laid
 pub mod Left
 pub mod Loading

@@ -25,7 +25,7 @@ use Rattle.emu_system.specs.StartPages.{find_both, find_numbered}
 use Rattle.emu_system.specs.Pieces.{Piece, byte_among, page_among}
 use Rattle.guest_pages.specs.MapFault.{first_fault}
 use Rattle.emu_machine.specs.Loads.{HasPages}
-use Rattle.emu_machine.proofs.Written.{patched, map_page, get_written, limit_written, marks_written, rights_patched, length_patched, far_patched, byte_inside, byte_outside}
+use Rattle.emu_machine.proofs.Written.{patched, map_page, get_written, limit_written, rights_patched, length_patched, far_patched, byte_inside, byte_outside}
 
 -- ---- the pages that map found free
 
@@ -128,17 +128,12 @@ module _ (old : Memory) (first count : ℕ) (rights : Rights) where
   limit_of_pieces [] = refl
   limit_of_pieces (p ∷ ps) = limit_written p.bytes (with_pieces (mapped old first count rights) ps) p.at ∙ limit_of_pieces ps
 
-  marks_of_pieces : (ps : List Piece) → (with_pieces (mapped old first count rights) ps).marks ≡ old.marks
-  marks_of_pieces [] = refl
-  marks_of_pieces (p ∷ ps) = marks_written p.bytes (with_pieces (mapped old first count rights) ps) p.at ∙ marks_of_pieces ps
-
   pub has_pages : (ps : List Piece) (new : Memory) → AllByRecursion (IsWithin first count) ps → least_mapped old.pages first count ≡ None
       → new ≡ with_pieces (mapped old first count rights) ps → HasPages first count (page_among rights ps) old new
   has_pages ps new within none is = record {
     free = λ q t. let b = is_in first count q t in none_free old.pages count first none q b.0 b.1;
     pages = λ q. ap (λ (m : Memory). get m.pages q) is ∙ get_pieces ps q within;
     limit = ap (λ (m : Memory). m.limit) is ∙ limit_of_pieces ps;
-    marks = ap (λ (m : Memory). m.marks) is ∙ marks_of_pieces ps;
   }
 
 -- ---- the map that a list of pages makes, with those of one more range
@@ -184,5 +179,4 @@ program_loaded file image args old loaded new is has =
     entries_more segments first_stack_page stack_page_count (stack_page image args) loaded new (ap (λ (m : Memory). m.pages) is) has
     ∙ ap (λ (es : List (ℕ × Page)). from_entries (segments ++ es)) (sym (stack_pages_are image args)) in
     let limit : new.limit ≡ old.limit = has.limit ∙ ap (λ (m : Memory). m.limit) is in
-    let marks : new.marks ≡ old.marks = has.marks ∙ ap (λ (m : Memory). m.marks) is in
-    λ j. record { pages = pages j; limit = limit j; marks = marks j }
+    λ j. record { pages = pages j; limit = limit j }

@@ -14,6 +14,7 @@ use Rattle.emu_model.specs.declared.trap.Effect.TheVariants.{Call}
 use Rattle.emu_model.specs.Access.{Memory, refused, value}
 use Rattle.emu_model.specs.declared.program_break.Break.{Break}
 use Rattle.emu_model.specs.declared.trap.Ended.{Ended}
+use Rattle.emu_model.specs.Marks.{Marks}
 use Rattle.emu_model.specs.State.{Core, Vectors, read_x}
 use Rattle.emu_run.specs.declared.insn.Insn.{Insn}
 use Rattle.emu_run.specs.declared.insn.Insn.TheVariants.{A64, Sve}
@@ -238,12 +239,19 @@ asks_for i c d v w m n l e is call =
       none = ap (λ (x : Done). x.accesses) same;
     }
 
-abbrev pub machine_of : Core → Vectors → Memory → Break → ℕ → Option Ended → List Access → Bool → List Saved → MachineState
-machine_of c vectors m brk steps ended l failed saved = record { parts = record { core = c; vectors = vectors; memory = m; brk = brk; steps = steps; ended = ended }; accesses = l; failed = failed; saved = saved }
+abbrev pub machine_of : Core → Vectors → Memory → Break → ℕ → Option Ended → List Access → Bool → Marks → List Saved → ℕ → MachineState
+machine_of c vectors m brk steps ended l failed marks saved spare = record {
+  parts = record { core = c; vectors = vectors; memory = m; brk = brk; steps = steps; ended = ended };
+  accesses = l;
+  failed = failed;
+  marks = marks;
+  saved = saved;
+  spare = spare;
+}
 
-pub same_machine : (c d : Core) (v w : Vectors) (m n : Memory) (brk : Break) (steps : ℕ) (ended : Option Ended) (k l : List Access) (failed : Bool) (saved : List Saved) → d ≡ c → w ≡ v → n ≡ m → l ≡ k
-    → machine_of d w n brk steps ended l failed saved ≡ machine_of c v m brk steps ended k failed saved
-same_machine c d v w m n brk steps ended k l failed saved core vectors memory accesses = cc
+pub same_machine : (c d : Core) (v w : Vectors) (m n : Memory) (brk : Break) (steps : ℕ) (ended : Option Ended) (k l : List Access) (failed : Bool) (marks : Marks) (saved : List Saved) (spare : ℕ) → d ≡ c → w ≡ v → n ≡ m → l ≡ k
+    → machine_of d w n brk steps ended l failed marks saved spare ≡ machine_of c v m brk steps ended k failed marks saved spare
+same_machine c d v w m n brk steps ended k l failed marks saved spare core vectors memory accesses = cc
 
 -- a machine that hasn't ended hasn't failed
 pub not_failed : (m : MachineState) → has_ended m ≡ false → m.failed ≡ false

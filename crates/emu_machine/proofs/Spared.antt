@@ -1,13 +1,12 @@
 -- A call that reads the input puts nothing, and one that writes to a file puts nothing to any other file: so a step that one stream broke off leaves
 -- the other sinks as they were, and what they hold is all that the steps before it put.
-use Rattle.std.proofs.Common.{◌≡◌, ◌≤◌, ◌⊎◌, inl, inr, ℕ, Bool, true, false, if◌then◌else◌, nat_eq, nat_lt, List, [], ◌∷◌, Option, refl, sym, ap, subst, ◌∙◌, arith, ◌+◌, ◌*◌, is_none, ◌<◌}
+use Rattle.std.proofs.Common.{◌≡◌, ◌≤◌, ◌⊎◌, inl, inr, ℕ, Bool, true, false, if◌then◌else◌, nat_eq, nat_lt, List, [], ◌∷◌, Option, refl, sym, ap, subst, ◌∙◌, arith, ◌+◌, ◌*◌}
 use Rattle.std.specs.List.{list_any}
 use Rattle.emu_model.specs.declared.access.Access.{Access}
 use Rattle.emu_model.specs.declared.access.Kind.{Kind}
 use Rattle.emu_model.specs.declared.access.Kind.TheVariants.{Read as ToRead, Write as ToWrite}
-use Rattle.emu_model.specs.declared.program_break.Break.{Break}
 use Rattle.emu_model.specs.Access.{Memory}
-use Rattle.emu_model.specs.State.{Core, Parts, Vectors}
+use Rattle.emu_model.specs.State.{Core, Parts}
 use Rattle.emu_system.specs.declared.system_call.Errno.TheVariants.{EBADF, EFAULT, EINVAL}
 use Rattle.emu_system.specs.declared.system_call.Range.{Range}
 use Rattle.emu_system.specs.SystemCall.{Action, answers, argument, action, action_of, buffer, call_name, cut_to, entries, fails, file_of, is_denied, is_sink, is_too_long, most_bytes, puts, takes, with_buffer, with_entries, with_vector}

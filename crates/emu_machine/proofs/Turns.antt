@@ -108,19 +108,20 @@ call_none m is = by_fetch (nat_eq (m.core.pc % 4) 0) (refused m.memory m.core.pc
 -- what a step that makes no call makes of a machine
 pub record HasStepped (old new : MachineState) (r : Progress) : Type 0 where
   pub turn : MatchCall r ((input : List ℕ) → turn old.parts input ≡ call old.parts input) ((input : List ℕ) → turn old.parts input ≡ quiet new.parts input)
-  pub kept : MatchCall r (new ≡ old) (new.failed ≡ false)
+  pub kept : MatchCall r (new ≡ record old { spare = new.spare }) (new.failed ≡ false)
   pub svc : r ≡ AtCall → is_at_call old.parts ≡ true
   pub alone : MatchCall r ⊤ (makes_call old.parts ≡ false)
   pub ended : EndsBy r new.parts
   pub counted : r ≡ GoesOn → new.parts.steps ≡ old.parts.steps + 1
   pub accesses : new.accesses ≡ accesses old.parts
+  pub marks : new.marks ≡ old.marks
   pub saved : new.saved ≡ old.saved
 
 -- `at` is the machine as it traps
 pub has_trapped : (old at new : MachineState) (r : Progress) (kind : TrapKind) (a : ℕ) → at ≡ old → has_ended old ≡ false → old.accesses ≡ [] → r ≡ Trapped
-    → new.parts ≡ trapped at.parts kind a → new.accesses ≡ at.accesses → new.failed ≡ at.failed → new.saved ≡ at.saved
+    → new.parts ≡ trapped at.parts kind a → new.accesses ≡ at.accesses → new.failed ≡ at.failed → new.marks ≡ at.marks → new.saved ≡ at.saved
     → makes_call old.parts ≡ false → ((input : List ℕ) → turn old.parts input ≡ quiet (trapped old.parts kind a) input) → accesses old.parts ≡ [] → HasStepped old new r
-has_trapped old at new r kind a same going clear is parts log failed saved alone turns none =
+has_trapped old at new r kind a same going clear is parts log failed marks saved alone turns none =
     let left : new.parts ≡ trapped old.parts kind a = parts ∙ ap (λ (s : MachineState). trapped s.parts kind a) same in
     subst (λ (x : Progress). HasStepped old new x) (sym is) (record {
       turn = λ input. turns input ∙ ap (λ (p : Parts). quiet p input) (sym left);
@@ -130,6 +131,7 @@ has_trapped old at new r kind a same going clear is parts log failed saved alone
       ended = ap (λ (p : Parts). is_none p.ended) left;
       counted = λ h. cc;
       accesses = log ∙ ap (λ (s : MachineState). s.accesses) same ∙ clear ∙ sym none;
+      marks = marks ∙ ap (λ (s : MachineState). s.marks) same;
       saved = saved ∙ ap (λ (s : MachineState). s.saved) same;
     })
 
@@ -181,5 +183,6 @@ has_stepped word insn old at new r same has is done =
       ended = d.ended;
       counted = d.counted;
       accesses = d.accesses ∙ accesses_of_word old.parts word has;
+      marks = d.marks;
       saved = d.saved;
     }

@@ -70,10 +70,6 @@ pub limit_written : (bytes : List ℕ) (m : Memory) (a : ℕ) → (with_bytes m 
 limit_written [] m a = refl
 limit_written (b ∷ bytes) m a = limit_written bytes (with_byte m (address a) b) (a + 1)
 
-pub marks_written : (bytes : List ℕ) (m : Memory) (a : ℕ) → (with_bytes m a bytes).marks ≡ m.marks
-marks_written [] m a = refl
-marks_written (b ∷ bytes) m a = marks_written bytes (with_byte m (address a) b) (a + 1)
-
 one_rights : (t : Bool) (p : Page) (k b : ℕ) → (if t then page_with_byte p k b else p).rights ≡ p.rights
 one_rights true p k b = refl
 one_rights false p k b = refl

@@ -11,7 +11,6 @@ pub record HasPages (first count : ℕ) (page : ℕ → Page) (old new : Memory)
   pub free : (q : ℕ) → is_among first count q ≡ true → get old.pages q ≡ None
   pub pages : (q : ℕ) → get new.pages q ≡ cond (is_among first count q) (Some (page q)) (get old.pages q)
   pub limit : new.limit ≡ old.limit
-  pub marks : new.marks ≡ old.marks
 
 -- ends at or below 0x7F0000000000
 abbrev pub IsBelowLimit : Segment → Type 0

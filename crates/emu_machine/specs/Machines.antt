@@ -1,4 +1,4 @@
--- A machine: its parts, the accesses of its last step, whether a stream has failed, and what its marks keep.
+-- A machine: its parts, the accesses of its last step, and whether a stream has failed; and beside these its marks.
 use Rattle.std.specs.Prelude.{◌≡◌, ℕ, ◌%◌, Bool, true, false, ◌||◌, ◌&&◌, is_none, is_some, List, get_or, nat_eq, Option, Some, None, option_map}
 use Rattle.std.specs.Ordering.{nat_cmp}
 use Rattle.std.specs.FinMap.{FinMap}
@@ -9,7 +9,8 @@ use Rattle.a64_insn.specs.declared.ops.ExceptOp.TheVariants.{Svc}
 use Rattle.emu_model.specs.declared.access.Access.{Access}
 use Rattle.emu_model.specs.declared.program_break.Break.{Break}
 use Rattle.emu_model.specs.declared.access.Kind.TheVariants.{Fetch}
-use Rattle.emu_model.specs.Access.{Memory, Page, refused, value}
+use Rattle.emu_model.specs.Access.{Page, refused, value}
+use Rattle.emu_model.specs.Marks.{Marks, coded_marks}
 use Rattle.emu_model.specs.State.{Core, Vectors, Parts, State}
 use Rattle.emu_model.specs.Codes.{coded_core, coded_parts, coded_vectors}
 use Rattle.emu_run.specs.declared.insn.Insn.{Insn}
@@ -18,7 +19,7 @@ use Rattle.emu_run.specs.Step.{decode, taken_by}
 use Rattle.emu_system.specs.SystemCall.{call}
 use Rattle.linux_calls.specs.Names.{NamesRead, NamesWrite}
 
--- what a mark keeps of a machine that hasn't ended, beside its pages: the memory keeps these, and says which marks are none
+-- what a mark keeps of a machine that hasn't ended, beside its pages
 pub record Saved : Type 0 where
   pub core : Core
   pub vectors : Vectors
@@ -26,12 +27,15 @@ pub record Saved : Type 0 where
   pub steps : ℕ
 
 -- `accesses` are those of the last step, and none before the first; `failed` says that a stream failed in a step, which ends
--- the machine; `saved` has one place for each mark, and none in a machine without marks
+-- the machine; `marks` are those of the memory, none or its pages, and `saved` has what each of them keeps beside these; a
+-- machine without marks has none of both; `spare` is the number of frames that no page and no mark has
 pub record MachineState : Type 0 where
   pub parts : Parts
   pub accesses : List Access
   pub failed : Bool
+  pub marks : Marks
   pub saved : List Saved
+  pub spare : ℕ
 
 abbrev pub coded_access : Coded Access
 coded_access = code_by (ℕ × (ℕ × Bool)) (coded× coded_ℕ (coded× coded_ℕ coded_bool)) (λ a. (a.address, (a.bytes, a.write)))
@@ -44,8 +48,10 @@ coded_saved = code_by (Core × (Vectors × ((ℕ × ℕ) × ℕ))) (coded× code
 
 abbrev pub coded_machine : Coded MachineState
 coded_machine =
-    code_by (Parts × (List Access × (Bool × List Saved))) (coded× coded_parts (coded× (coded_list coded_access) (coded× coded_bool (coded_list coded_saved))))
-    (λ m. (m.parts, (m.accesses, (m.failed, m.saved)))) (λ t. record { parts = t.0; accesses = t.1.0; failed = t.1.1.0; saved = t.1.1.1 }) (λ _. refl)
+    code_by (Parts × (List Access × (Bool × (Marks × (List Saved × ℕ)))))
+    (coded× coded_parts (coded× (coded_list coded_access) (coded× coded_bool (coded× coded_marks (coded× (coded_list coded_saved) coded_ℕ)))))
+    (λ m. (m.parts, (m.accesses, (m.failed, (m.marks, (m.saved, m.spare))))))
+    (λ t. record { parts = t.0; accesses = t.1.0; failed = t.1.1.0; marks = t.1.1.1.0; saved = t.1.1.1.1.0; spare = t.1.1.1.1.1 }) (λ _. refl)
 
 -- by an exit, a trap or a fault of a stream
 abbrev pub has_ended : MachineState → Bool
@@ -57,13 +63,20 @@ has_ended m = is_some m.parts.ended || m.failed
 abbrev pub saved_of : Parts → Saved
 saved_of m = record { core = m.core; vectors = m.vectors; brk = m.brk; steps = m.steps }
 
--- the parts of a machine that hasn't ended, with the limit and the marks of a memory
-abbrev pub parts_saved : Memory → Saved → FinMap nat_cmp Page → Parts
-parts_saved memory s pages = record { core = s.core; vectors = s.vectors; memory = record memory { pages = pages }; brk = s.brk; steps = s.steps; ended = None }
+-- the parts of a machine that hasn't ended, with a limit of pages
+abbrev pub parts_saved : ℕ → Saved → FinMap nat_cmp Page → Parts
+parts_saved limit s pages = record {
+  core = s.core;
+  vectors = s.vectors;
+  memory = record { pages = pages; limit = limit };
+  brk = s.brk;
+  steps = s.steps;
+  ended = None;
+}
 
 -- mark k: none, or a machine that hasn't ended
 abbrev pub mark_at : MachineState → ℕ → Option Parts
-mark_at m k = option_map (parts_saved m.parts.memory (get_or m.saved k (saved_of m.parts))) (get_or m.parts.memory.marks.list k None)
+mark_at m k = option_map (parts_saved m.parts.memory.limit (get_or m.saved k (saved_of m.parts))) (get_or m.marks k None)
 
 -- ---- calls
 

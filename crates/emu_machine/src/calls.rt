@@ -52,7 +52,7 @@ impl Machine {
         ensures unstored { is_unput result ≡ true → self.new.parts ≡ self.old.parts }
         ensures accesses { self.new.accesses ≡ self.old.accesses }
         ensures failed { self.new.failed ≡ is_undone result }
-        ensures marks { self.new.parts.memory.marks ≡ self.old.parts.memory.marks }
+        ensures marks { self.new.marks ≡ self.old.marks }
         ensures saved { self.new.saved ≡ self.old.saved }
         ensures read_cause { Causes (result ≡ StepEnd.ReadFault) (I.faults input.old) (I.faults input.new) }
         ensures write_cause { Causes (result ≡ StepEnd.WriteFault) (O.faults output.old) (O.faults output.new) }
@@ -82,6 +82,7 @@ impl Machine {
         ensures parts { self.new.parts ≡ left_by end self.old.parts }
         ensures accesses { self.new.accesses ≡ self.old.accesses }
         ensures failed { self.new.failed ≡ is_fault end }
+        ensures marks { self.new.marks ≡ self.old.marks }
         ensures saved { self.new.saved ≡ self.old.saved }
         ensures end { result ≡ step_by end }
     {

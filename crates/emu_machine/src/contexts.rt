@@ -60,6 +60,7 @@ impl Machine {
         requires most { n ≤ 16 }
         ensures machine { self.new ≡ record self.old {
           parts = record self.old.parts { memory = after_store self.old.parts.memory address n v };
+          spare = self.new.spare;
         } }
         ensures value { result
             ≡ done_unless (refused self.old.parts.memory address n Kind.Write) Kind.Write (record {}) }

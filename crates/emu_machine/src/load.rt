@@ -16,10 +16,11 @@ use guest_pages::Pages;
 /// Maps the pages of the segments, with the file's bytes in their place and 0 elsewhere.
 pub fn load_segments(pages: &mut Pages, file: &[u8], segments: &[Segment])
     requires loadable { AreLoadable file.now segments.now }
-    requires empty { pages.old.pages ≡ map.empty }
-    requires within_limit { pages_of segments.now ≤ pages.old.limit }
-    ensures { pages.new
-        ≡ record pages.old { pages = map.from_entries (flat_map (segment_pages file.now) segments.now) } }
+    requires empty { pages.old.memory.pages ≡ map.empty }
+    requires within_limit { pages_of segments.now ≤ pages.old.memory.limit }
+    ensures memory { pages.new.memory
+        ≡ record pages.old.memory { pages = map.from_entries (flat_map (segment_pages file.now) segments.now) } }
+    ensures marks { pages.new.marks ≡ pages.old.marks }
 {
     for segment in segments {
         load_segment(pages, file, segment);
@@ -29,9 +30,10 @@ pub fn load_segments(pages: &mut Pages, file: &[u8], segments: &[Segment])
 /// Maps the pages of a segment, which are free, with the file's bytes in their place and 0 elsewhere.
 fn load_segment(pages: &mut Pages, file: &[u8], segment: &Segment)
     requires loadable { IsLoadableSegment file.now segment.now }
-    requires free { map_fault pages.old (first_page segment.now) (page_count segment.now) ≡ None }
-    ensures { HasPages (first_page segment.now) (page_count segment.now)
-        (segment_page file.now segment.now) pages.old pages.new }
+    requires free { map_fault pages.old.memory (first_page segment.now) (page_count segment.now) ≡ None }
+    ensures pages { HasPages (first_page segment.now) (page_count segment.now)
+        (segment_page file.now segment.now) pages.old.memory pages.new.memory }
+    ensures marks { pages.new.marks ≡ pages.old.marks }
 {
     let first = segment.address / PAGE_SIZE;
     let end = end_page(segment);
@@ -45,7 +47,8 @@ fn load_segment(pages: &mut Pages, file: &[u8], segment: &Segment)
 /// Writes bytes from an address on, page by page. What falls on pages that aren't mapped is left out.
 pub fn copy(pages: &mut Pages, address: u64, bytes: &[u8])
     requires { address + length bytes.now ≤ 2 ^ 47 }
-    ensures { pages.new ≡ with_bytes pages.old address bytes.now }
+    ensures bytes { pages.new.memory ≡ with_bytes pages.old.memory address bytes.now }
+    ensures marks { pages.new.marks ≡ pages.old.marks }
 {
     let mut at = 0;
     while at < bytes.len() {

@@ -61,8 +61,8 @@ use io_gate::{Sink, Source};
 use std::marker::Model;
 use vec_regs::VecRegs;
 
-/// A machine. Contracts see its parts, the accesses of its last step, whether a stream has failed in one of its steps,
-/// and what its marks keep beside their pages.
+/// A machine. Contracts see its parts, the accesses of its last step and whether a stream has failed in one of its
+/// steps; and beside these its marks, what they keep beside their pages, and the number of spare frames.
 #[derive(Drop)]
 pub struct Machine {
     // first, so that its address is the machine's, and a step needs one register of the host for both
@@ -92,14 +92,16 @@ impl Model for Machine {
       parts = record {
         core = a.core.value;
         vectors = a.vec.value;
-        memory = a.memory;
+        memory = a.memory.memory;
         brk = a.brk;
         steps = a.steps;
         ended = a.ended;
       };
       accesses = a.log.items;
       failed = a.failed;
+      marks = a.memory.marks;
       saved = a.saved.items;
+      spare = a.memory.spare;
     } };
 
     ghost use Rattle.emu_model.specs.SoundState.{IsSoundBreak};
@@ -120,14 +122,16 @@ impl Machine {
           parts = record {
             core = registers.core.value;
             vectors = registers.vec.value;
-            memory = memory;
+            memory = memory.memory;
             brk = brk;
             steps = 0;
             ended = None;
           };
           accesses = [];
           failed = false;
+          marks = memory.marks;
           saved = saved.items;
+          spare = memory.spare;
         } }
     {
         let Registers { core, vec, words } = registers;
@@ -180,9 +184,10 @@ impl Machine {
         &self.vec
     }
 
-    /// The memory.
+    /// The memory, with its marks.
     pub fn mem(&self) -> &Mem
-        ensures { result.now ≡ self.now.parts.memory }
+        ensures { result.now
+            ≡ record { memory = self.now.parts.memory; marks = self.now.marks; spare = self.now.spare } }
     {
         &self.memory
     }
@@ -202,6 +207,7 @@ impl Machine {
         ensures parts { self.new.parts ≡ model.trapped self.old.parts kind address }
         ensures accesses { self.new.accesses ≡ self.old.accesses }
         ensures failed { self.new.failed ≡ self.old.failed }
+        ensures marks { self.new.marks ≡ self.old.marks }
         ensures saved { self.new.saved ≡ self.old.saved }
         ensures progress { result ≡ Progress.Trapped }
     {
@@ -216,7 +222,9 @@ impl Machine {
             ≡ went_on self.old.parts self.old.parts.core self.old.parts.vectors self.old.parts.memory address }
         ensures accesses { self.new.accesses ≡ self.old.accesses }
         ensures failed { self.new.failed ≡ self.old.failed }
+        ensures marks { self.new.marks ≡ self.old.marks }
         ensures saved { self.new.saved ≡ self.old.saved }
+        ensures spare { self.new.spare ≡ self.old.spare }
     {
         self.core.set_pc(address);
         self.steps += 1;
@@ -229,6 +237,7 @@ impl Machine {
         ensures parts { self.new.parts ≡ left_by_effect effect self.old.parts }
         ensures accesses { self.new.accesses ≡ self.old.accesses }
         ensures failed { self.new.failed ≡ self.old.failed }
+        ensures marks { self.new.marks ≡ self.old.marks }
         ensures saved { self.new.saved ≡ self.old.saved }
         ensures progress { result ≡ progress_by effect }
     {
@@ -247,7 +256,7 @@ impl Machine {
         }
     }
 
-    /// A step that makes no call. At a call nothing is changed.
+    /// A step that makes no call. At a call nothing is changed but the number of spare frames, of which nothing is said.
     #[inline(always)]
     fn plain(&mut self) -> Progress
         requires going { has_ended self.old ≡ false }
@@ -255,12 +264,14 @@ impl Machine {
         requires clear { self.old.accesses ≡ [] }
         ensures turn { MatchCall result ((input : List ℕ) → model.turn self.old.parts input ≡ call self.old.parts input)
             ((input : List ℕ) → model.turn self.old.parts input ≡ quiet self.new.parts input) }
-        ensures kept { MatchCall result (self.new ≡ self.old) (self.new.failed ≡ false) }
+        ensures kept { MatchCall result (self.new ≡ record self.old { spare = self.new.spare })
+            (self.new.failed ≡ false) }
         ensures svc { result ≡ Progress.AtCall → is_at_call self.old.parts ≡ true }
         ensures alone { MatchCall result ⊤ (makes_call self.old.parts ≡ false) }
         ensures ended { EndsBy result self.new.parts }
         ensures counted { result ≡ Progress.GoesOn → self.new.parts.steps ≡ self.old.parts.steps + 1 }
         ensures accesses { self.new.accesses ≡ model.accesses self.old.parts }
+        ensures marks { self.new.marks ≡ self.old.marks }
         ensures saved { self.new.saved ≡ self.old.saved }
     {
         let pc = self.core.pc();
@@ -280,7 +291,7 @@ impl Machine {
         }
     }
 
-    /// Does an A64 instruction that makes no call. At a call nothing is changed.
+    /// Does an A64 instruction that makes no call. At a call nothing is changed, but that nothing is said of spare frames.
     #[inline(always)]
     fn scalar(&mut self, insn: &A64) -> Progress
         requires going { has_ended self.old ≡ false }
@@ -290,12 +301,14 @@ impl Machine {
             → model.executed self.old.parts input (model.a64 (Some insn.now)) ≡ call self.old.parts input)
             ((input : List ℕ)
             → model.executed self.old.parts input (model.a64 (Some insn.now)) ≡ quiet self.new.parts input) }
-        ensures kept { MatchCall result (self.new ≡ self.old) (self.new.failed ≡ false) }
+        ensures kept { MatchCall result (self.new ≡ record self.old { spare = self.new.spare })
+            (self.new.failed ≡ false) }
         ensures svc { result ≡ Progress.AtCall → is_svc (model.a64 (Some insn.now)) ≡ true }
         ensures alone { MatchCall result ⊤ (is_svc (model.a64 (Some insn.now)) ≡ false) }
         ensures ended { EndsBy result self.new.parts }
         ensures counted { result ≡ Progress.GoesOn → self.new.parts.steps ≡ self.old.parts.steps + 1 }
         ensures accesses { self.new.accesses ≡ model.executed_accesses self.old.parts (model.a64 (Some insn.now)) }
+        ensures marks { self.new.marks ≡ self.old.marks }
         ensures saved { self.new.saved ≡ self.old.saved }
     {
         let effect = perform_a64(
@@ -319,12 +332,14 @@ impl Machine {
         ensures turn { MatchCall result
             ((input : List ℕ) → model.executed self.old.parts input (model.decode word) ≡ call self.old.parts input)
             ((input : List ℕ) → model.executed self.old.parts input (model.decode word) ≡ quiet self.new.parts input) }
-        ensures kept { MatchCall result (self.new ≡ self.old) (self.new.failed ≡ false) }
+        ensures kept { MatchCall result (self.new ≡ record self.old { spare = self.new.spare })
+            (self.new.failed ≡ false) }
         ensures svc { result ≡ Progress.AtCall → is_svc (model.decode word) ≡ true }
         ensures alone { MatchCall result ⊤ (is_svc (model.decode word) ≡ false) }
         ensures ended { EndsBy result self.new.parts }
         ensures counted { result ≡ Progress.GoesOn → self.new.parts.steps ≡ self.old.parts.steps + 1 }
         ensures accesses { self.new.accesses ≡ model.executed_accesses self.old.parts (model.decode word) }
+        ensures marks { self.new.marks ≡ self.old.marks }
         ensures saved { self.new.saved ≡ self.old.saved }
     {
         match self.words.find(word) {
@@ -381,7 +396,7 @@ impl Machine {
         ensures accesses { self.new.accesses ≡ model.accesses self.old.parts }
         ensures undone { is_undone result ≡ true → self.new.accesses ≡ [] }
         ensures failed { self.new.failed ≡ is_undone result }
-        ensures marks { self.new.parts.memory.marks ≡ self.old.parts.memory.marks }
+        ensures marks { self.new.marks ≡ self.old.marks }
         ensures saved { self.new.saved ≡ self.old.saved }
         ensures read_cause { Causes (result ≡ StepEnd.ReadFault) (I.faults input.old) (I.faults input.new) }
         ensures write_cause { Causes (result ≡ StepEnd.WriteFault) (O.faults output.old) (O.faults output.new) }
@@ -406,6 +421,7 @@ impl Machine {
         requires within { self.old.parts.steps < until }
         ensures steps { Advances until self.old self.new result }
         ensures failed { self.new.failed ≡ false }
+        ensures marks { self.new.marks ≡ self.old.marks }
         ensures saved { self.new.saved ≡ self.old.saved }
         ensures going { MatchCall result (has_ended self.new ≡ false) ⊤ }
         ensures below { MatchCall result (self.new.parts.steps < until) ⊤ }
@@ -430,6 +446,7 @@ impl Machine {
         requires within { self.old.parts.steps < until }
         ensures steps { Advances until self.old self.new result }
         ensures failed { self.new.failed ≡ false }
+        ensures marks { self.new.marks ≡ self.old.marks }
         ensures saved { self.new.saved ≡ self.old.saved }
         ensures going { MatchCall result (has_ended self.new ≡ false) ⊤ }
         ensures below { MatchCall result (self.new.parts.steps < until) ⊤ }
@@ -461,6 +478,7 @@ impl Machine {
         ensures turn { 0 < length schedule.now → IsTurn schedule.now numbers.now contexts.new turn.new }
         ensures count { length contexts.new ≡ length contexts.old }
         ensures failed { self.new.failed ≡ false }
+        ensures marks { self.new.marks ≡ self.old.marks }
         ensures saved { self.new.saved ≡ self.old.saved }
         ensures going { MatchCall result (has_ended self.new ≡ false) ⊤ }
         ensures below { MatchCall result (self.new.parts.steps < turn.new.until) ⊤ }
@@ -496,6 +514,7 @@ impl Machine {
         ensures counted { result ≡ Progress.GoesOn → self.new.parts.steps ≡ self.old.parts.steps + 1 }
         ensures accesses { self.new.accesses ≡ model.accesses self.old.parts }
         ensures failed { self.new.failed ≡ false }
+        ensures marks { self.new.marks ≡ self.old.marks }
         ensures saved { self.new.saved ≡ self.old.saved }
     {
         let next = self.steps + 1;
@@ -537,7 +556,7 @@ impl Machine {
         ensures unspent { is_broken_off result ≡ true → self.new.parts.steps < budget }
         ensures unended { is_broken_off result ≡ true → is_none self.new.parts.ended ≡ true }
         ensures failed { self.new.failed ≡ is_broken_off result }
-        ensures marks { self.new.parts.memory.marks ≡ self.old.parts.memory.marks }
+        ensures marks { self.new.marks ≡ self.old.marks }
         ensures saved { self.new.saved ≡ self.old.saved }
         ensures read_cause { Causes (result ≡ RunEnd.ReadFault) (I.faults input.old) (I.faults input.new) }
         ensures write_cause { Causes (result ≡ RunEnd.WriteFault) (O.faults output.old) (O.faults output.new) }

@@ -3,7 +3,6 @@ ghost use Rattle.std.specs.Prelude.{
   ◌≡◌,
   ◌≤◌,
   ◌<◌,
-  ◌+◌,
   length as len,
   set,
   get_or,
@@ -17,7 +16,6 @@ ghost use Rattle.std.specs.Prelude.{
   string_bytes,
   false,
 };
-ghost use Rattle.std.specs.FinMap as finmap;
 ghost use Rattle.std.specs.List.{count_by};
 ghost use Rattle.emu_model.specs.Access.{most_mapped_pages};
 ghost use Rattle.emu_model.specs.Marks.{fresh_marks};
@@ -25,7 +23,6 @@ ghost use Rattle.emu_system.specs.ArgumentLimits.{AreArguments};
 ghost use Rattle.emu_system.specs.Start.{opening};
 ghost use Rattle.elf_image.specs.Images.{seen_image};
 ghost use Rattle.elf_image.specs.Loadable.{IsLoadable};
-ghost use Rattle.emu_run.specs.Marked.{parts_with};
 ghost use Rattle.emu_machine.specs.Machines.{has_ended, mark_at, saved_of};
 
 use crate::machine::Machine;
@@ -50,8 +47,9 @@ impl Machine {
         requires loadable { IsLoadable bytes.now pages (seen_image image.now) }
         requires arguments { AreArguments (map string_bytes args.now) }
         requires few { pages ≤ most_mapped_pages }
-        ensures parts { IfOk result (λ m. m.parts ≡ parts_with
-            (opening bytes.now (seen_image image.now) (map string_bytes args.now) length pages) (fresh_marks pages)) }
+        ensures parts { IfOk result (λ m. m.parts
+            ≡ opening bytes.now (seen_image image.now) (map string_bytes args.now) length pages) }
+        ensures marks { IfOk result (λ m. m.marks ≡ fresh_marks) }
         ensures places { IfOk result (λ m. len m.saved ≡ 16) }
         ensures accesses { IfOk result (λ m. m.accesses ≡ []) }
         ensures failed { IfOk result (λ m. m.failed ≡ false) }
@@ -69,39 +67,33 @@ impl Machine {
         self.memory.pages().limit()
     }
 
-    /// The number of spare frames. There are no more of them than frames that no mark names, and no fewer but for one a
-    /// mapped page. In a machine with marks of which at most one isn't none, the machine can be marked.
+    /// The number of spare frames. In a machine with marks of which at most one isn't none, it can be marked.
     pub fn spare(&self) -> u32
-        ensures most { result ≤ self.now.parts.memory.marks.unmarked }
-        ensures least { self.now.parts.memory.marks.unmarked ≤ result + finmap.len self.now.parts.memory.pages }
-        ensures one_mark { 0 < len self.now.parts.memory.marks.list
-            → count_by is_some self.now.parts.memory.marks.list ≤ 1
-            → self.now.parts.memory.limit + finmap.len self.now.parts.memory.pages
-            ≤ self.now.parts.memory.marks.unmarked }
-        ensures room { self.now.parts.memory.limit ≤ result + finmap.len self.now.parts.memory.pages }
+        ensures spare { result ≡ self.now.spare }
+        ensures one_mark { 0 < len self.now.marks → count_by is_some self.now.marks ≤ 1
+            → self.now.parts.memory.limit ≤ self.now.spare }
     {
         self.memory.pages().spare()
     }
 
     /// The number of marks that aren't none.
     pub fn marked(&self) -> u32
-        ensures { result ≡ count_by is_some self.now.parts.memory.marks.list }
+        ensures { result ≡ count_by is_some self.now.marks }
     {
         self.memory.pages().marked()
     }
 
-    /// Makes mark `k` the machine as it is.
+    /// Makes mark `k` the machine as it is. It takes no spare frame.
     pub fn mark(&mut self, k: u32)
         requires going { has_ended self.old ≡ false }
-        requires index { k < len self.old.parts.memory.marks.list }
+        requires index { k < len self.old.marks }
         requires place { k < len self.old.saved }
-        requires none { get_or self.old.parts.memory.marks.list k None ≡ None }
-        requires room { self.old.parts.memory.limit + finmap.len self.old.parts.memory.pages
-            ≤ self.old.parts.memory.marks.unmarked }
-        ensures parts { self.new.parts ≡ parts_with self.old.parts self.new.parts.memory.marks }
-        ensures pages { self.new.parts.memory.marks.list
-            ≡ set self.old.parts.memory.marks.list k (Some self.old.parts.memory.pages) }
+        requires none { get_or self.old.marks k None ≡ None }
+        requires room { self.old.parts.memory.limit ≤ self.old.spare }
+        ensures parts { self.new.parts ≡ self.old.parts }
+        ensures marks { self.new.marks ≡ set self.old.marks k (Some self.old.parts.memory.pages) }
         ensures saved { self.new.saved ≡ set self.old.saved k (saved_of self.old.parts) }
+        ensures spare { self.new.spare ≡ self.old.spare }
         ensures accesses { self.new.accesses ≡ self.old.accesses }
         ensures failed { self.new.failed ≡ self.old.failed }
     {
@@ -111,10 +103,11 @@ impl Machine {
 
     /// Makes mark `k` none.
     pub fn drop_mark(&mut self, k: u32)
-        requires { k < len self.old.parts.memory.marks.list }
-        ensures parts { self.new.parts ≡ parts_with self.old.parts self.new.parts.memory.marks }
-        ensures pages { self.new.parts.memory.marks.list ≡ set self.old.parts.memory.marks.list k None }
+        requires { k < len self.old.marks }
+        ensures parts { self.new.parts ≡ self.old.parts }
+        ensures marks { self.new.marks ≡ set self.old.marks k None }
         ensures saved { self.new.saved ≡ self.old.saved }
+        ensures spare { self.old.spare ≤ self.new.spare }
         ensures accesses { self.new.accesses ≡ self.old.accesses }
         ensures failed { self.new.failed ≡ self.old.failed }
     {
@@ -124,11 +117,12 @@ impl Machine {
     /// Makes the machine that of mark `k`, which hadn't ended, with the number of steps that it had counted. A machine
     /// that has ended, or in which a stream has failed, goes back too.
     pub fn restore(&mut self, k: u32)
-        requires index { k < len self.old.parts.memory.marks.list }
+        requires index { k < len self.old.marks }
         requires place { k < len self.old.saved }
-        requires set { IsSome (get_or self.old.parts.memory.marks.list k None) }
-        requires few { count_by is_some self.old.parts.memory.marks.list ≤ 2 }
+        requires set { IsSome (get_or self.old.marks k None) }
+        requires few { count_by is_some self.old.marks ≤ 2 }
         ensures machine { mark_at self.old k ≡ Some self.new.parts }
+        ensures marks { self.new.marks ≡ self.old.marks }
         ensures saved { self.new.saved ≡ self.old.saved }
         ensures accesses { self.new.accesses ≡ [] }
         ensures failed { self.new.failed ≡ false }

@@ -6,7 +6,6 @@ ghost use Rattle.emu_system.specs.Start.{opening};
 ghost use Rattle.elf_image.specs.Images.{seen_image};
 ghost use Rattle.elf_image.specs.Loadable.{IsLoadable};
 ghost use Rattle.emu_system.specs.ArgumentLimits.{AreArguments};
-ghost use Rattle.emu_run.specs.Marked.{parts_with};
 
 use crate::load::highest_page;
 use crate::machine::Machine;
@@ -43,7 +42,9 @@ impl Machine {
           parts = opening bytes.now (seen_image image.now) (map string_bytes args.now) length pages;
           accesses = [];
           failed = false;
+          marks = [];
           saved = [];
+          spare = m.spare;
         }) }
     {
         let memory = Pages::new(alloc, pages)?;
@@ -60,17 +61,19 @@ impl Machine {
         image: &Image,
         args: &[String],
     ) -> Machine
-        requires loadable { IsLoadable bytes.now memory.limit (seen_image image.now) }
+        requires loadable { IsLoadable bytes.now memory.memory.limit (seen_image image.now) }
         requires arguments { AreArguments (map string_bytes args.now) }
-        requires empty { memory.pages ≡ finmap.empty }
+        requires empty { memory.memory.pages ≡ finmap.empty }
         requires core { registers.core.value ≡ zero_core }
         requires vectors { registers.vec.value ≡ zero_vectors registers.vec.value.most }
         ensures { result ≡ record {
-          parts = parts_with (opening bytes.now (seen_image image.now)
-              (map string_bytes args.now) registers.vec.value.most memory.limit) memory.marks;
+          parts = opening bytes.now (seen_image image.now)
+              (map string_bytes args.now) registers.vec.value.most memory.memory.limit;
           accesses = [];
           failed = false;
+          marks = memory.marks;
           saved = saved.items;
+          spare = result.spare;
         } }
     {
         let layout = Layout::of(args);

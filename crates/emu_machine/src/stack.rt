@@ -123,9 +123,10 @@ fn aligned(address: u64) -> u64
 pub fn load_stack(pages: &mut Pages, image: &Image, args: &[String], layout: Layout)
     requires arguments { AreArguments (map string_bytes args.now) }
     requires layout { IsLayout (map string_bytes args.now) layout }
-    requires free { map_fault pages.old first_stack_page stack_page_count ≡ None }
-    ensures { HasPages first_stack_page stack_page_count
-        (stack_page (seen_image image.now) (map string_bytes args.now)) pages.old pages.new }
+    requires free { map_fault pages.old.memory first_stack_page stack_page_count ≡ None }
+    ensures pages { HasPages first_stack_page stack_page_count
+        (stack_page (seen_image image.now) (map string_bytes args.now)) pages.old.memory pages.new.memory }
+    ensures marks { pages.new.marks ≡ pages.old.marks }
 {
     // nothing refuses it
     let _ = pages.map(FIRST_PAGE, PAGE_COUNT, RIGHTS);
@@ -145,7 +146,9 @@ fn random_bytes() -> [u8; 16]
 /// Writes the arguments from an address on, each followed by a byte 0.
 fn put_arguments(pages: &mut Pages, address: u64, args: &[String])
     requires { address + length (argument_bytes (map string_bytes args.now)) ≤ 2 ^ 47 }
-    ensures { pages.new ≡ with_bytes pages.old address (argument_bytes (map string_bytes args.now)) }
+    ensures bytes { pages.new.memory
+        ≡ with_bytes pages.old.memory address (argument_bytes (map string_bytes args.now)) }
+    ensures marks { pages.new.marks ≡ pages.old.marks }
 {
     let mut at = address;
     for arg in args {
@@ -161,7 +164,8 @@ fn put_arguments(pages: &mut Pages, address: u64, args: &[String])
 #[tactic(auto, using(crate::proofs::Laid::written))]
 fn put_words(pages: &mut Pages, address: u64, words: &[u64])
     requires { address + 8 * length words.now ≤ 2 ^ 47 }
-    ensures { pages.new ≡ with_bytes pages.old address (word_bytes words.now) }
+    ensures bytes { pages.new.memory ≡ with_bytes pages.old.memory address (word_bytes words.now) }
+    ensures marks { pages.new.marks ≡ pages.old.marks }
 {
     let mut at = address;
     for word in words {
@@ -174,8 +178,9 @@ fn put_words(pages: &mut Pages, address: u64, words: &[u64])
 fn put_addresses(pages: &mut Pages, address: u64, first: u64, args: &[String])
     requires room { address + 8 * length args.now ≤ 2 ^ 47 }
     requires arguments { first + length (argument_bytes (map string_bytes args.now)) ≤ 2 ^ 47 }
-    ensures { pages.new
-        ≡ with_bytes pages.old address (word_bytes (argument_addresses first (map string_bytes args.now))) }
+    ensures bytes { pages.new.memory
+        ≡ with_bytes pages.old.memory address (word_bytes (argument_addresses first (map string_bytes args.now))) }
+    ensures marks { pages.new.marks ≡ pages.old.marks }
 {
     let mut at = address;
     let mut argument = first;
@@ -190,8 +195,9 @@ fn put_addresses(pages: &mut Pages, address: u64, first: u64, args: &[String])
 fn put_start_words(pages: &mut Pages, image: &Image, args: &[String], layout: Layout)
     requires arguments { AreArguments (map string_bytes args.now) }
     requires layout { IsLayout (map string_bytes args.now) layout }
-    ensures { pages.new ≡ with_bytes pages.old layout.words
+    ensures bytes { pages.new.memory ≡ with_bytes pages.old.memory layout.words
         (word_bytes (start_words (seen_image image.now) (map string_bytes args.now))) }
+    ensures marks { pages.new.marks ≡ pages.old.marks }
 {
     let count = args.len() as u64;
     put_words(pages, layout.words, &[count]);

@@ -14,10 +14,12 @@ abbrev pub coded_page : Coded Page
 coded_page = code_by ((Bool × (Bool × Bool)) × List ℕ) (coded× (coded× coded_bool (coded× coded_bool coded_bool)) (coded_list coded_ℕ))
     (λ p. ((p.rights.r, (p.rights.w, p.rights.x)), p.bytes)) (λ q. record { rights = record { r = q.0.0; w = q.0.1.0; x = q.0.1.1 }; bytes = q.1 }) (λ _. refl)
 
+abbrev pub coded_pages : Coded (FinMap nat_cmp Page)
+coded_pages = code coded_ℕ coded_page
+
 abbrev pub coded_memory : Coded Memory
-coded_memory =
-    code_by (FinMap nat_cmp Page × (ℕ × (List (Option (FinMap nat_cmp Page)) × ℕ))) (coded× (code coded_ℕ coded_page) (coded× coded_ℕ (coded× (coded_list (coded_option (code coded_ℕ coded_page))) coded_ℕ)))
-    (λ m. (m.pages, (m.limit, (m.marks.list, m.marks.unmarked)))) (λ p. record { pages = p.0; limit = p.1.0; marks = record { list = p.1.1.0; unmarked = p.1.1.1 } }) (λ _. refl)
+coded_memory = code_by (FinMap nat_cmp Page × ℕ) (coded× coded_pages coded_ℕ)
+    (λ m. (m.pages, m.limit)) (λ p. record { pages = p.0; limit = p.1 }) (λ _. refl)
 
 abbrev pub coded_flags : Coded Flags
 coded_flags = code_by (Bool × (Bool × (Bool × Bool))) (coded× coded_bool (coded× coded_bool (coded× coded_bool coded_bool)))

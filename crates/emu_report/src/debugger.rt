@@ -116,7 +116,7 @@ pub fn put_lanes<S: Sink>(k: Reg, size: Esize, vec: &VecRegs, sink: &mut S) -> R
 /// `0x0000000000400000: e0 00 80 d2`. A byte whose page isn't mapped is `--`.
 pub fn put_memory<S: Sink>(address: u64, count: u64, mem: &Mem, sink: &mut S) -> Result<(), Failed>
     requires { address + count ≤ 2 ^ 63 }
-    ensures bytes { PutsAll (S.held sink.old) (S.held sink.new) (memory_lines mem.now address count) result }
+    ensures bytes { PutsAll (S.held sink.old) (S.held sink.new) (memory_lines mem.now.memory address count) result }
     ensures cause { HasCause (S.faults sink.old) (S.faults sink.new) result }
 {
     let lines = (count + 15) / BYTES_IN_LINE;
@@ -131,7 +131,7 @@ pub fn put_memory<S: Sink>(address: u64, count: u64, mem: &Mem, sink: &mut S) ->
 fn put_memory_line<S: Sink>(address: u64, count: u64, mem: &Mem, sink: &mut S) -> Result<(), Failed>
     requires few { count ≤ 16 }
     requires within { address + count ≤ 2 ^ 63 }
-    ensures bytes { PutsAll (S.held sink.old) (S.held sink.new) (memory_line mem.now address count) result }
+    ensures bytes { PutsAll (S.held sink.old) (S.held sink.new) (memory_line mem.now.memory address count) result }
     ensures cause { HasCause (S.faults sink.old) (S.faults sink.new) result }
 {
     let mut text = Text::new();
@@ -147,7 +147,7 @@ fn push_bytes(text: &mut Text, address: u64, count: u64, mem: &Mem)
     requires few { count ≤ 16 }
     requires within { address + count ≤ 2 ^ 63 }
     requires room { length text.old ≤ 100 }
-    ensures text { text.new ≡ text.old ++ lines_of count (λ k. byte_text (peeked mem.now (address + k))) }
+    ensures text { text.new ≡ text.old ++ lines_of count (λ k. byte_text (peeked mem.now.memory (address + k))) }
     ensures len { length text.new ≤ length text.old + 48 }
 {
     'bytes: for k in 0..count {

@@ -6,11 +6,7 @@ pub mod RunLaws
 pub mod Sound
 pub mod Step
 pub mod Text
-pub mod Calls
-pub mod Marked
-pub mod Scalar
 pub mod Steps
-pub mod Vector
 pub mod Codes
 pub mod Living
 pub mod ThreadCall

@@ -4,7 +4,6 @@
 
 pub mod insn;
 pub mod laws;
-pub mod mark_laws;
 pub mod thread;
 pub mod thread_laws;
 

@@ -15,9 +15,11 @@ pub fn store(mem: &mut Mem, log: &mut AccessLog, v: u128, address: u64, n: u32) 
     requires some { 1 ≤ n }
     requires most { n ≤ 16 }
     requires room { array_vec_len log.old < 1024 }
-    ensures result { MatchResult result (λ x. refused mem.old address n Kind.Write ≡ None)
-        (λ trap. (trap.kind ≡ TrapKind.Write) × (refused mem.old address n Kind.Write ≡ Some trap.address)) }
-    ensures memory { MatchResult result (λ x. mem.new ≡ stored mem.old address n v) (λ trap. mem.new ≡ mem.old) }
+    ensures result { MatchResult result (λ x. refused mem.old.memory address n Kind.Write ≡ None)
+        (λ trap. (trap.kind ≡ TrapKind.Write) × (refused mem.old.memory address n Kind.Write ≡ Some trap.address)) }
+    ensures memory { MatchResult result (λ x. mem.new.memory ≡ stored mem.old.memory address n v)
+        (λ trap. mem.new.memory ≡ mem.old.memory) }
+    ensures marks { mem.new.marks ≡ mem.old.marks }
     ensures log { MatchResult result
         (λ x. log.new.items ≡ log.old.items ++ record { address = address; bytes = n; write = true } ∷ [])
         (λ trap. log.new.items ≡ log.old.items) }
@@ -37,9 +39,11 @@ pub fn store_here(
     requires some { 1 ≤ n }
     requires most { n ≤ 16 }
     requires room { array_vec_len log.old < 1024 }
-    ensures result { MatchResult result (λ x. refused mem.old address n Kind.Write ≡ None)
-        (λ trap. (trap.kind ≡ TrapKind.Write) × (refused mem.old address n Kind.Write ≡ Some trap.address)) }
-    ensures memory { MatchResult result (λ x. mem.new ≡ stored mem.old address n v) (λ trap. mem.new ≡ mem.old) }
+    ensures result { MatchResult result (λ x. refused mem.old.memory address n Kind.Write ≡ None)
+        (λ trap. (trap.kind ≡ TrapKind.Write) × (refused mem.old.memory address n Kind.Write ≡ Some trap.address)) }
+    ensures memory { MatchResult result (λ x. mem.new.memory ≡ stored mem.old.memory address n v)
+        (λ trap. mem.new.memory ≡ mem.old.memory) }
+    ensures marks { mem.new.marks ≡ mem.old.marks }
     ensures log { MatchResult result
         (λ x. log.new.items ≡ log.old.items ++ record { address = address; bytes = n; write = true } ∷ [])
         (λ trap. log.new.items ≡ log.old.items) }
@@ -66,8 +70,8 @@ pub fn load(mem: &mut Mem, log: &mut AccessLog, address: u64, n: u32) -> Result<
     requires most { n ≤ 16 }
     requires room { array_vec_len log.old < 1024 }
     ensures result { MatchResult result
-        (λ v. (refused mem.old address n Kind.Read ≡ None) × (v ≡ value mem.old address n))
-        (λ trap. (trap.kind ≡ TrapKind.Read) × (refused mem.old address n Kind.Read ≡ Some trap.address)) }
+        (λ v. (refused mem.old.memory address n Kind.Read ≡ None) × (v ≡ value mem.old.memory address n))
+        (λ trap. (trap.kind ≡ TrapKind.Read) × (refused mem.old.memory address n Kind.Read ≡ Some trap.address)) }
     ensures small { MatchResult result (λ v. v < 256 ^ n) (λ trap. ⊤) }
     ensures memory { mem.new ≡ mem.old }
     ensures log { MatchResult result
@@ -84,8 +88,8 @@ pub fn load_here(mem: &mut Mem, log: &mut AccessLog, address: u64, n: u32) -> Re
     requires most { n ≤ 16 }
     requires room { array_vec_len log.old < 1024 }
     ensures result { MatchResult result
-        (λ v. (refused mem.old address n Kind.Read ≡ None) × (v ≡ value mem.old address n))
-        (λ trap. (trap.kind ≡ TrapKind.Read) × (refused mem.old address n Kind.Read ≡ Some trap.address)) }
+        (λ v. (refused mem.old.memory address n Kind.Read ≡ None) × (v ≡ value mem.old.memory address n))
+        (λ trap. (trap.kind ≡ TrapKind.Read) × (refused mem.old.memory address n Kind.Read ≡ Some trap.address)) }
     ensures small { MatchResult result (λ v. v < 256 ^ n) (λ trap. ⊤) }
     ensures memory { mem.new ≡ mem.old }
     ensures log { MatchResult result
@@ -114,8 +118,8 @@ pub fn load_u64(mem: &mut Mem, log: &mut AccessLog, address: u64, n: u32) -> Res
     requires most { n ≤ 8 }
     requires room { array_vec_len log.old < 1024 }
     ensures result { MatchResult result
-        (λ v. (refused mem.old address n Kind.Read ≡ None) × (v ≡ value mem.old address n))
-        (λ trap. (trap.kind ≡ TrapKind.Read) × (refused mem.old address n Kind.Read ≡ Some trap.address)) }
+        (λ v. (refused mem.old.memory address n Kind.Read ≡ None) × (v ≡ value mem.old.memory address n))
+        (λ trap. (trap.kind ≡ TrapKind.Read) × (refused mem.old.memory address n Kind.Read ≡ Some trap.address)) }
     ensures memory { mem.new ≡ mem.old }
     ensures log { MatchResult result
         (λ v. log.new.items ≡ log.old.items ++ record { address = address; bytes = n; write = false } ∷ [])

@@ -22,16 +22,17 @@ ghost use Rattle.std.specs.Prelude.{
   OnErr,
   IsTrue,
   option_map,
+  [],
   ⊤,
 };
 ghost use Rattle.std.specs.FinMap as map;
 ghost use Rattle.std.specs.List.{count_by};
 ghost use mathlib.Core.Option.{none};
-ghost use Rattle.emu_model.specs.Access.{gives, no_marks, page_gives, page_size, most_mapped_pages};
+ghost use Rattle.emu_model.specs.Access.{gives, page_gives, page_size, most_mapped_pages};
 ghost use Rattle.emu_model.specs.Marks.{fresh_marks};
-ghost use Rattle.std.specs.Borrow.{sem, follows_so, Lends, LendsIf, Array, u8 as byte};
+ghost use Rattle.std.specs.Borrow.{sem, follows_so, Lends, LendsSo, Array, u8 as byte};
 ghost use Rattle.guest_pages.specs.contracts.pages.Pages.{the_row};
-ghost use Rattle.guest_pages.specs.Lending.{with_part};
+ghost use Rattle.guest_pages.specs.Lending.{memory_with_part, with_part};
 ghost use Rattle.emu_model.specs.Pages.{bytes_at, free_run, least_unmapped, mapped, protected, unmapped, with_bytes};
 ghost use Rattle.emu_model.specs.SoundState.{IsSoundMemory};
 ghost use Rattle.guest_pages.specs.MapFault.{map_fault, protect_answer};
@@ -64,8 +65,8 @@ pub struct Unmapped {
     pub page: u64,
 }
 
-/// The mapped pages. Contracts see them as a finite map from page to rights and bytes, the greatest number of pages,
-/// and the marks, each none or such a map.
+/// The mapped pages. Contracts see them as memory, a finite map from page to rights and bytes with the greatest number
+/// of pages; and beside it the marks, each none or such a map, and the number of spare frames.
 #[derive(Drop)]
 pub struct Pages {
     list: PageList,
@@ -73,16 +74,15 @@ pub struct Pages {
 }
 
 impl Model for Pages {
-    ghost use Rattle.emu_model.specs.Access.{Memory};
-    ghost use Rattle.emu_model.specs.Codes.{coded_memory};
+    ghost use Rattle.emu_model.specs.Marks.{MarkedMemory, coded_marked_memory};
 
-    ghost Value = { Memory };
+    ghost Value = { MarkedMemory };
 
-    ghost coded = { coded_memory };
+    ghost coded = { coded_marked_memory };
 
-    ghost use Rattle.guest_pages.specs.Places.{memory_of, IsInOrder};
+    ghost use Rattle.guest_pages.specs.Places.{IsInOrder, marked_memory_of};
 
-    ghost view = { memory_of };
+    ghost view = { marked_memory_of };
 
     ghost invariant = { IsInOrder };
 }
@@ -90,7 +90,8 @@ impl Model for Pages {
 impl Pages {
     /// No pages, of which at most `limit` may be mapped. No later call takes memory.
     pub fn new(alloc: Global, limit: u32) -> Result<Pages, OutOfMemory>
-        ensures { IfOk result (λ p. p ≡ record { pages = map.empty; limit = limit; marks = no_marks limit }) }
+        ensures { IfOk result
+            (λ p. p ≡ record { memory = record { pages = map.empty; limit = limit }; marks = []; spare = limit }) }
     {
         let list = PageList::new(alloc, limit)?;
         Ok(Pages {
@@ -101,23 +102,23 @@ impl Pages {
 
     /// The number of mapped pages.
     pub fn mapped(&self) -> u32
-        ensures count { result ≡ map.len self.now.pages }
-        ensures sound { IsSoundMemory self.now }
+        ensures count { result ≡ map.len self.now.memory.pages }
+        ensures sound { IsSoundMemory self.now.memory }
     {
         self.list.len() as u32
     }
 
     /// Whether a page is mapped.
     pub fn is_mapped(&self, page: u64) -> bool
-        ensures { result ≡ map.contains_key self.now.pages page }
+        ensures { result ≡ map.contains_key self.now.memory.pages page }
     {
         is_mapped(&self.list, &self.cache, page)
     }
 
     /// The rights and the 4,096 bytes of a page. None exactly where the page isn't mapped.
     pub fn find(&self, page: u64) -> Option<(Rights, &[u8])>
-        ensures found { MatchOption result (map.get self.now.pages page ≡ None)
-            (λ f. map.get self.now.pages page ≡ Some (record { rights = f.0; bytes = f.1.now })) }
+        ensures found { MatchOption result (map.get self.now.memory.pages page ≡ None)
+            (λ f. map.get self.now.memory.pages page ≡ Some (record { rights = f.0; bytes = f.1.now })) }
         ensures whole { MatchOption result ⊤ (λ f. length f.1.now ≡ page_size) }
     {
         match cached_place(&self.list, &self.cache, page) {
@@ -131,8 +132,8 @@ impl Pages {
     pub fn seek(&mut self, page: u64) -> Option<(Rights, &[u8])>
         ensures* unchanged { sem 𝓛
             (follows_so the_row the_row self.entry.ghost_name none (λ _ _. ⊤) (λ m. m ≡ self.old)) }
-        ensures found { MatchOption result (map.get self.old.pages page ≡ None)
-            (λ f. map.get self.old.pages page ≡ Some (record { rights = f.0; bytes = f.1.now })) }
+        ensures found { MatchOption result (map.get self.old.memory.pages page ≡ None)
+            (λ f. map.get self.old.memory.pages page ≡ Some (record { rights = f.0; bytes = f.1.now })) }
         ensures whole { MatchOption result ⊤ (λ f. length f.1.now ≡ page_size) }
     {
         match look_up(&self.list, &mut self.cache, page) {
@@ -146,8 +147,8 @@ impl Pages {
     pub fn seek_for(&mut self, page: u64, kind: Kind) -> Option<&[u8]>
         ensures* unchanged { sem 𝓛
             (follows_so the_row the_row self.entry.ghost_name none (λ _ _. ⊤) (λ m. m ≡ self.old)) }
-        ensures found { MatchOption result (page_gives (map.get self.old.pages page) kind ≡ false)
-            (λ s. IsOpen (map.get self.old.pages page) kind s.now) }
+        ensures found { MatchOption result (page_gives (map.get self.old.memory.pages page) kind ≡ false)
+            (λ s. IsOpen (map.get self.old.memory.pages page) kind s.now) }
         ensures whole { MatchOption result ⊤ (λ s. length s.now ≡ page_size) }
     {
         match kind {
@@ -161,8 +162,8 @@ impl Pages {
     fn seek_data(&mut self, page: u64, kind: Kind) -> Option<&[u8]>
         ensures* unchanged { sem 𝓛
             (follows_so the_row the_row self.entry.ghost_name none (λ _ _. ⊤) (λ m. m ≡ self.old)) }
-        ensures found { MatchOption result (page_gives (map.get self.old.pages page) kind ≡ false)
-            (λ s. IsOpen (map.get self.old.pages page) kind s.now) }
+        ensures found { MatchOption result (page_gives (map.get self.old.memory.pages page) kind ≡ false)
+            (λ s. IsOpen (map.get self.old.memory.pages page) kind s.now) }
         ensures whole { MatchOption result ⊤ (λ s. length s.now ≡ page_size) }
     {
         match look_up(&self.list, &mut self.cache, page) {
@@ -182,8 +183,8 @@ impl Pages {
     fn seek_code(&mut self, page: u64) -> Option<&[u8]>
         ensures* unchanged { sem 𝓛
             (follows_so the_row the_row self.entry.ghost_name none (λ _ _. ⊤) (λ m. m ≡ self.old)) }
-        ensures found { MatchOption result (page_gives (map.get self.old.pages page) Kind.Fetch ≡ false)
-            (λ s. IsOpen (map.get self.old.pages page) Kind.Fetch s.now) }
+        ensures found { MatchOption result (page_gives (map.get self.old.memory.pages page) Kind.Fetch ≡ false)
+            (λ s. IsOpen (map.get self.old.memory.pages page) Kind.Fetch s.now) }
         ensures whole { MatchOption result ⊤ (λ s. length s.now ≡ page_size) }
     {
         if self.list.is_code(page) {
@@ -198,39 +199,47 @@ impl Pages {
     /// The 4,096 bytes of a page, for writing. None exactly where the page isn't mapped.
     pub fn find_mut(&mut self, page: u64) -> Option<&mut [u8]>
         ensures* writes_back { sem 𝓛
-            (LendsIf the_row (Array byte 0) self.entry result (with_part self.old page 0) self.old) }
-        ensures found { option_map (λ s. s.now) result ≡ option_map (λ p. p.bytes) (map.get self.old.pages page) }
+            (LendsSo the_row (Array byte 0) self.entry result
+            (λ n w. (n.memory ≡ memory_with_part self.old.memory page 0 w) × (n.marks ≡ self.old.marks))
+            (λ n. n ≡ self.old)) }
+        ensures found { option_map (λ s. s.now) result
+            ≡ option_map (λ p. p.bytes) (map.get self.old.memory.pages page) }
         ensures whole { MatchOption result ⊤ (λ s. length s.now ≡ page_size) }
     {
+        let mut spare = 0;
         if self.is_mapped(page) {
-            Some(self.page_mut(page))
+            Some(self.page_mut(page, &mut spare))
         } else {
             None
         }
     }
 
-    /// The 4,096 bytes of a page that is mapped, for writing.
-    pub fn page_mut(&mut self, page: u64) -> &mut [u8]
-        requires { IsTrue (map.contains_key self.old.pages page) }
-        ensures* writes_back { sem 𝓛 (Lends the_row (Array byte 0) self.entry result (with_part self.old page 0)) }
-        ensures found { Some result.now ≡ option_map (λ p. p.bytes) (map.get self.old.pages page) }
+    /// The 4,096 bytes of a page that is mapped, for writing, and sets `spare` to the number of frames that are spare
+    /// then.
+    pub fn page_mut(&mut self, page: u64, spare: &mut u32) -> &mut [u8]
+        requires { IsTrue (map.contains_key self.old.memory.pages page) }
+        ensures* writes_back { sem 𝓛
+            (Lends the_row (Array byte 0) self.entry result (with_part self.old spare.new page 0)) }
+        ensures found { Some result.now ≡ option_map (λ p. p.bytes) (map.get self.old.memory.pages page) }
         ensures whole { length result.now ≡ page_size }
     {
         // a field is looked at, so that the proof may use what the pages keep to
         let _ = &self.cache;
-        self.part_mut(page, 0, PAGE_BYTES)
+        self.part_mut(page, 0, PAGE_BYTES, spare)
     }
 
-    /// `count` bytes of a page that is mapped, from place `at` on, for writing.
-    pub fn part_mut(&mut self, page: u64, at: usize, count: usize) -> &mut [u8]
-        requires mapped { IsTrue (map.contains_key self.old.pages page) }
+    /// `count` bytes of a page that is mapped, from place `at` on, for writing, and sets `spare` to the number of
+    /// frames that are spare then.
+    pub fn part_mut(&mut self, page: u64, at: usize, count: usize, spare: &mut u32) -> &mut [u8]
+        requires mapped { IsTrue (map.contains_key self.old.memory.pages page) }
         requires within { at + count ≤ page_size }
-        ensures* writes_back { sem 𝓛 (Lends the_row (Array byte 0) self.entry result (with_part self.old page at)) }
-        ensures value { result.now ≡ bytes_at self.old (page * page_size + at) count }
+        ensures* writes_back { sem 𝓛
+            (Lends the_row (Array byte 0) self.entry result (with_part self.old spare.new page at)) }
+        ensures value { result.now ≡ bytes_at self.old.memory (page * page_size + at) count }
         ensures length { length result.now ≡ count }
     {
         let i = mapped_place(&self.list, &mut self.cache, page);
-        self.list.part_mut(i, at, count)
+        self.list.part_mut(i, at, count, spare)
     }
 
     /// Maps `count` pages from page `first` on, with these rights and their bytes 0. `Taken` has the least of them that
@@ -239,9 +248,10 @@ impl Pages {
     pub fn map(&mut self, first: u64, count: u64, rights: Rights) -> Result<(), MapFault>
         requires begins { 1 ≤ first }
         requires ends { first + count ≤ 2 ^ 35 }
-        ensures refused { IfSome (map_fault self.old first count) (λ fault. result ≡ Err fault) }
-        ensures granted { map_fault self.old first count ≡ None → result ≡ Ok (record {}) }
-        ensures mapped { OnOk result (self.new ≡ mapped self.old first count rights) }
+        ensures refused { IfSome (map_fault self.old.memory first count) (λ fault. result ≡ Err fault) }
+        ensures granted { map_fault self.old.memory first count ≡ None → result ≡ Ok (record {}) }
+        ensures mapped { OnOk result (self.new.memory ≡ mapped self.old.memory first count rights) }
+        ensures marks { self.new.marks ≡ self.old.marks }
         ensures unchanged { OnErr result (self.new ≡ self.old) }
     {
         let at = self.list.place(first);
@@ -259,7 +269,8 @@ impl Pages {
     /// Takes away those of `count` pages from page `first` on that are mapped.
     pub fn unmap(&mut self, first: u64, count: u64)
         requires { first + count ≤ 2 ^ 35 }
-        ensures { self.new ≡ unmapped self.old first count }
+        ensures unmapped { self.new.memory ≡ unmapped self.old.memory first count }
+        ensures marks { self.new.marks ≡ self.old.marks }
     {
         self.cache = Cache::empty();
         remove_pages(&mut self.list, first, count);
@@ -269,8 +280,9 @@ impl Pages {
     /// then no page is changed.
     pub fn protect(&mut self, first: u64, count: u64, rights: Rights) -> Result<(), Unmapped>
         requires { first + count ≤ 2 ^ 35 }
-        ensures result { result ≡ protect_answer (least_unmapped self.old.pages first count) }
-        ensures protected { OnOk result (self.new ≡ protected self.old first count rights) }
+        ensures result { result ≡ protect_answer (least_unmapped self.old.memory.pages first count) }
+        ensures protected { OnOk result (self.new.memory ≡ protected self.old.memory first count rights) }
+        ensures marks { self.new.marks ≡ self.old.marks }
         ensures unchanged { OnErr result (self.new ≡ self.old) }
     {
         if let Some(page) = unmapped_page(&self.list, &self.cache, first, count) {
@@ -283,7 +295,7 @@ impl Pages {
     /// The greatest page, from page 1 on, from which `count` pages are unmapped that end at or below page `below`. None
     /// exactly where there is no such page.
     pub fn free_run(&self, count: u64, below: u64) -> Option<u64>
-        ensures { result ≡ free_run self.now.pages count below }
+        ensures { result ≡ free_run self.now.memory.pages count below }
     {
         free_run(&self.list, count, below)
     }
@@ -292,7 +304,8 @@ impl Pages {
     pub fn write(&mut self, page: u64, at: usize, bytes: &[u8])
         requires number { page < 2 ^ 52 }
         requires within { at + length bytes.now ≤ page_size }
-        ensures { self.new ≡ with_bytes self.old (page * page_size + at) bytes.now }
+        ensures bytes { self.new.memory ≡ with_bytes self.old.memory (page * page_size + at) bytes.now }
+        ensures marks { self.new.marks ≡ self.old.marks }
     {
         write_page(&mut self.list, &mut self.cache, page, at, bytes);
     }
@@ -302,9 +315,10 @@ impl Pages {
     pub fn store(&mut self, page: u64, at: usize, bytes: &[u8]) -> bool
         requires number { page < 2 ^ 52 }
         requires within { at + length bytes.now ≤ page_size }
-        ensures allowed { result ≡ page_gives (map.get self.old.pages page) Kind.Write }
-        ensures bytes { self.new
-            ≡ (if result then with_bytes self.old (page * page_size + at) bytes.now else self.old) }
+        ensures allowed { result ≡ page_gives (map.get self.old.memory.pages page) Kind.Write }
+        ensures bytes { self.new.memory
+            ≡ (if result then with_bytes self.old.memory (page * page_size + at) bytes.now else self.old.memory) }
+        ensures marks { self.new.marks ≡ self.old.marks }
     {
         store_page(&mut self.list, &mut self.cache, page, at, bytes)
     }
@@ -312,7 +326,11 @@ impl Pages {
     /// No pages, of which at most `limit` may be mapped, and sixteen marks, which are none. No later call takes memory.
     pub fn with_marks(alloc: Global, limit: u32) -> Result<Pages, OutOfMemory>
         requires { limit ≤ most_mapped_pages }
-        ensures { IfOk result (λ p. p ≡ record { pages = map.empty; limit = limit; marks = fresh_marks limit }) }
+        ensures { IfOk result (λ p. p ≡ record {
+          memory = record { pages = map.empty; limit = limit };
+          marks = fresh_marks;
+          spare = 3 * limit;
+        }) }
     {
         let list = PageList::with_marks(alloc, limit)?;
         Ok(Pages {
@@ -323,74 +341,71 @@ impl Pages {
 
     /// The greatest number of pages.
     pub fn limit(&self) -> u32
-        ensures { result ≡ self.now.limit }
+        ensures { result ≡ self.now.memory.limit }
     {
         self.list.limit()
     }
 
-    /// The number of spare frames. There are no more of them than frames that no mark names, and no fewer but for one a
-    /// mapped page. Where at most one mark isn't none, the pages can be marked.
+    /// The number of spare frames. Where at most one mark isn't none, the pages can be marked.
     pub fn spare(&self) -> u32
-        ensures most { result ≤ self.now.marks.unmarked }
-        ensures least { self.now.marks.unmarked ≤ result + map.len self.now.pages }
-        ensures one_mark { 0 < length self.now.marks.list → count_by is_some self.now.marks.list ≤ 1
-            → self.now.limit + map.len self.now.pages ≤ self.now.marks.unmarked }
-        ensures room { self.now.limit ≤ result + map.len self.now.pages }
+        ensures spare { result ≡ self.now.spare }
+        ensures one_mark { 0 < length self.now.marks → count_by is_some self.now.marks ≤ 1
+            → self.now.memory.limit ≤ self.now.spare }
     {
         self.list.spare()
     }
 
     /// The number of marks, whether they are none or not: none, or sixteen.
     pub fn marks(&self) -> usize
-        ensures { result ≡ length self.now.marks.list }
+        ensures { result ≡ length self.now.marks }
     {
         self.list.marks()
     }
 
     /// Whether mark `k` isn't none.
     pub fn is_marked(&self, k: u32) -> bool
-        requires { k < length self.now.marks.list }
-        ensures { result ≡ is_some (get_or self.now.marks.list k None) }
+        requires { k < length self.now.marks }
+        ensures { result ≡ is_some (get_or self.now.marks k None) }
     {
         self.list.is_marked(k as usize)
     }
 
     /// The number of marks that aren't none.
     pub fn marked(&self) -> u32
-        ensures { result ≡ count_by is_some self.now.marks.list }
+        ensures { result ≡ count_by is_some self.now.marks }
     {
         self.list.marked()
     }
 
-    /// Makes mark `k` the pages as they are.
+    /// Makes mark `k` the pages as they are. It takes no spare frame.
     pub fn mark(&mut self, k: u32)
-        requires index { k < length self.old.marks.list }
-        requires none { get_or self.old.marks.list k None ≡ None }
-        requires room { self.old.limit + map.len self.old.pages ≤ self.old.marks.unmarked }
-        ensures pages { self.new.pages ≡ self.old.pages }
-        ensures limit { self.new.limit ≡ self.old.limit }
-        ensures marks { self.new.marks.list ≡ set self.old.marks.list k (Some self.old.pages) }
+        requires index { k < length self.old.marks }
+        requires none { get_or self.old.marks k None ≡ None }
+        requires room { self.old.memory.limit ≤ self.old.spare }
+        ensures memory { self.new.memory ≡ self.old.memory }
+        ensures marks { self.new.marks ≡ set self.old.marks k (Some self.old.memory.pages) }
+        ensures spare { self.new.spare ≡ self.old.spare }
     {
         self.list.mark(k as usize);
     }
 
     /// Makes mark `k` none.
     pub fn drop_mark(&mut self, k: u32)
-        requires index { k < length self.old.marks.list }
-        ensures pages { self.new.pages ≡ self.old.pages }
-        ensures limit { self.new.limit ≡ self.old.limit }
-        ensures marks { self.new.marks.list ≡ set self.old.marks.list k None }
+        requires index { k < length self.old.marks }
+        ensures memory { self.new.memory ≡ self.old.memory }
+        ensures marks { self.new.marks ≡ set self.old.marks k None }
+        ensures spare { self.old.spare ≤ self.new.spare }
     {
         self.list.drop_mark(k as usize);
     }
 
     /// Makes the pages those of mark `k`.
     pub fn restore(&mut self, k: u32)
-        requires index { k < length self.old.marks.list }
-        requires set { IsSome (get_or self.old.marks.list k None) }
-        requires few { count_by is_some self.old.marks.list ≤ 2 }
-        ensures pages { get_or self.old.marks.list k None ≡ Some self.new.pages }
-        ensures limit { self.new.limit ≡ self.old.limit }
+        requires index { k < length self.old.marks }
+        requires set { IsSome (get_or self.old.marks k None) }
+        requires few { count_by is_some self.old.marks ≤ 2 }
+        ensures pages { get_or self.old.marks k None ≡ Some self.new.memory.pages }
+        ensures limit { self.new.memory.limit ≡ self.old.memory.limit }
         ensures marks { self.new.marks ≡ self.old.marks }
     {
         self.list.restore(k as usize);

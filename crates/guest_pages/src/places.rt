@@ -112,7 +112,8 @@ pub fn search_code(list: &mut PageList, cache: &mut Cache, page: u64) -> Option<
     ensures allowed { IfSome result (λ i. (entry_at list.old.pages i).1.rights.x ≡ true) }
     ensures pages { list.new.pages ≡ list.old.pages }
     ensures limit { list.new.limit ≡ list.old.limit }
-    ensures marks { (list.new.marks ≡ list.old.marks) × (list.new.unmarked ≡ list.old.unmarked) }
+    ensures marks { list.new.marks ≡ list.old.marks }
+    ensures spare { list.new.spare ≡ list.old.spare }
     ensures right { IsRight list.old.pages cache.new }
 {
     match look_up(list, cache, page) {
@@ -162,7 +163,7 @@ pub fn write_page(list: &mut PageList, cache: &mut Cache, page: u64, at: usize, 
     requires within { at + length bytes.now ≤ page_size }
     ensures pages { list.new.pages ≡ changed (page_with_bytes at bytes.now) page list.old.pages }
     ensures limit { list.new.limit ≡ list.old.limit }
-    ensures marks { (list.new.marks ≡ list.old.marks) × (list.new.unmarked ≡ list.old.unmarked) }
+    ensures marks { list.new.marks ≡ list.old.marks }
     ensures right { IsRight list.new.pages cache.new }
 {
     if let Some(i) = look_up(list, cache, page) {
@@ -186,7 +187,7 @@ pub fn store_page(
     ensures pages { list.new.pages
         ≡ (if result then changed (page_with_bytes at bytes.now) page list.old.pages else list.old.pages) }
     ensures limit { list.new.limit ≡ list.old.limit }
-    ensures marks { (list.new.marks ≡ list.old.marks) × (list.new.unmarked ≡ list.old.unmarked) }
+    ensures marks { list.new.marks ≡ list.old.marks }
     ensures right { IsRight list.new.pages cache.new }
 {
     match look_up(list, cache, page) {
@@ -204,7 +205,7 @@ pub fn remove_pages(list: &mut PageList, first: u64, count: u64)
     requires ends { first + count ≤ 2 ^ 35 }
     ensures pages { list.new.pages ≡ filter (λ e. not (is_among first count e.0)) list.old.pages }
     ensures limit { list.new.limit ≡ list.old.limit }
-    ensures marks { (list.new.marks ≡ list.old.marks) × (list.new.unmarked ≡ list.old.unmarked) }
+    ensures marks { list.new.marks ≡ list.old.marks }
 {
     let at = list.place(first);
     let end = list.place(first + count);
@@ -244,7 +245,7 @@ fn protect_page(list: &mut PageList, page: u64, rights: Rights)
     requires { IsAscending list.old.pages }
     ensures pages { list.new.pages ≡ changed (page_with_rights rights) page list.old.pages }
     ensures limit { list.new.limit ≡ list.old.limit }
-    ensures marks { (list.new.marks ≡ list.old.marks) × (list.new.unmarked ≡ list.old.unmarked) }
+    ensures marks { list.new.marks ≡ list.old.marks }
 {
     if let Some(i) = find_place(list, page) {
         list.set_rights(i, rights);
@@ -257,7 +258,7 @@ pub fn protect_pages(list: &mut PageList, first: u64, count: u64, rights: Rights
     requires ends { first + count ≤ 2 ^ 35 }
     ensures pages { list.new.pages ≡ all_changed (page_with_rights rights) first count list.old.pages }
     ensures limit { list.new.limit ≡ list.old.limit }
-    ensures marks { (list.new.marks ≡ list.old.marks) × (list.new.unmarked ≡ list.old.unmarked) }
+    ensures marks { list.new.marks ≡ list.old.marks }
 {
     for page in first..first + count {
         protect_page(list, page, rights);

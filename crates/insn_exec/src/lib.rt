@@ -41,13 +41,14 @@ pub fn perform(
     insn: &Insn,
 ) -> Effect
     requires { log.old.items ≡ [] }
-    ensures { performed insn.now core.old vec.old memory.old ≡ record {
+    ensures done { performed insn.now core.old vec.old memory.old.memory ≡ record {
       core = core.new;
       vectors = vec.new;
-      memory = memory.new;
+      memory = memory.new.memory;
       accesses = log.new.items;
       effect = result;
     } }
+    ensures marks { memory.new.marks ≡ memory.old.marks }
 {
     match insn {
         Insn::A64(insn) => perform_a64(core, vec, memory, log, insn),
@@ -66,13 +67,14 @@ pub fn perform_a64(
     insn: &A64,
 ) -> Effect
     requires { log.old.items ≡ [] }
-    ensures { a64.performed insn.now core.old vec.old memory.old ≡ record {
+    ensures done { a64.performed insn.now core.old vec.old memory.old.memory ≡ record {
       core = core.new;
       vectors = vec.new;
-      memory = memory.new;
+      memory = memory.new.memory;
       accesses = log.new.items;
       effect = result;
     } }
+    ensures marks { memory.new.marks ≡ memory.old.marks }
 {
     match a64_effects::group_of(insn.form()) {
         A64Group::Data => a64_data::exec(core, insn),
@@ -92,13 +94,14 @@ pub fn perform_sve(
     insn: &Sve,
 ) -> Effect
     requires { log.old.items ≡ [] }
-    ensures { sve.performed insn.now core.old vec.old memory.old ≡ record {
+    ensures done { sve.performed insn.now core.old vec.old memory.old.memory ≡ record {
       core = core.new;
       vectors = vec.new;
-      memory = memory.new;
+      memory = memory.new.memory;
       accesses = log.new.items;
       effect = result;
     } }
+    ensures marks { memory.new.marks ≡ memory.old.marks }
 {
     match sve_effects::group_of(insn.form()) {
         // apart, so that each crate goes by the group that is known here
@@ -125,13 +128,14 @@ fn load_first_fault(
 ) -> Effect
     requires own { is_first_fault insn.now ≡ true }
     requires empty { log.old.items ≡ [] }
-    ensures { first_fault insn.now core.old vec.old memory.old ≡ record {
+    ensures done { first_fault insn.now core.old vec.old memory.old.memory ≡ record {
       core = core.new;
       vectors = vec.new;
-      memory = memory.new;
+      memory = memory.new.memory;
       accesses = log.new.items;
       effect = result;
     } }
+    ensures marks { memory.new.marks ≡ memory.old.marks }
 {
     if load_unrefused(core, vec, memory, log, insn) {
         return Effect::Next;
@@ -151,10 +155,10 @@ fn load_unrefused(
 ) -> bool
     requires own { is_first_fault insn.now ≡ true }
     requires empty { log.old.items ≡ [] }
-    ensures loaded { result ≡ true → first_fault insn.now core.now vec.old memory.old ≡ record {
+    ensures loaded { result ≡ true → first_fault insn.now core.now vec.old memory.old.memory ≡ record {
       core = core.now;
       vectors = vec.new;
-      memory = memory.new;
+      memory = memory.new.memory;
       accesses = log.new.items;
       effect = Effect.Next;
     } }
@@ -181,13 +185,14 @@ pub fn load_listed(
 ) -> Effect
     requires own { is_first_fault insn.now ≡ true }
     requires empty { log.old.items ≡ [] }
-    ensures { first_fault insn.now core.old vec.old memory.old ≡ record {
+    ensures done { first_fault insn.now core.old vec.old memory.old.memory ≡ record {
       core = core.new;
       vectors = vec.new;
-      memory = memory.new;
+      memory = memory.new.memory;
       accesses = log.new.items;
       effect = result;
     } }
+    ensures marks { memory.new.marks ≡ memory.old.marks }
 {
     let list = elements_of(core, vec, insn);
     sve_ffr::exec(core, vec, memory, log, insn, &list)

@@ -59,9 +59,8 @@ told_cause end other before behind q = record {
 
 module _ (c : Core) (m now : Memory) (r r2 w w2 e e2 : ℕ) where
   -- no stream broke it off
-  pub accounted : (end : CallEnd) → is_fault end ≡ false → now.marks ≡ m.marks → r2 ≡ r → w2 ≡ w → e2 ≡ e → IsAccounted end c m now r r2 w w2 e e2
-  accounted end fine marks same_read same_written same_errors = record {
-    marks = marks;
+  pub accounted : (end : CallEnd) → is_fault end ≡ false → r2 ≡ r → w2 ≡ w → e2 ≡ e → IsAccounted end c m now r r2 w w2 e e2
+  accounted end fine same_read same_written same_errors = record {
     unstored = λ h. let clash : false ≡ true = sym fine ∙ put_is_fault end h in cc;
     read_cause = still_caused (end ≡ ReadFault) r r2 (other_end is_fault end ReadFault fine refl) same_read;
     write_cause = still_caused (end ≡ WriteFault) w w2 (other_end is_fault end WriteFault fine refl) same_written;
@@ -72,9 +71,8 @@ module _ (c : Core) (m now : Memory) (r r2 w w2 e e2 : ℕ) where
   }
 
   -- the input did
-  pub accounted_read : NamesRead c → now.marks ≡ m.marks → r ≤ r2 → Rose r r2 → w2 ≡ w → e2 ≡ e → IsAccounted ReadFault c m now r r2 w w2 e e2
-  accounted_read named marks later rose same_written same_errors = record {
-    marks = marks;
+  pub accounted_read : NamesRead c → r ≤ r2 → Rose r r2 → w2 ≡ w → e2 ≡ e → IsAccounted ReadFault c m now r r2 w w2 e e2
+  accounted_read named later rose same_written same_errors = record {
     unstored = λ h. let clash : false ≡ true = h in cc;
     read_cause = record { later = later; rose = λ _. rose; kept = λ isnt. absurd (isnt refl) };
     write_cause = still_caused (ReadFault ≡ WriteFault) w w2 (other_end is_put_fault ReadFault WriteFault refl refl) same_written;
@@ -92,7 +90,6 @@ module _ (c : Core) (m now : Memory) (r r2 w w2 e e2 : ℕ) where
       let put : is_put_fault end ≡ true = ap is_put_fault file ∙ put_fault (file_of c) in
       let unread : end ≡ ReadFault → ⊥ = λ h. other_end is_put_fault ReadFault end refl put (sym h) in
       record {
-        marks = ap (λ (x : Memory). x.marks) unchanged;
         unstored = λ _. unchanged;
         read_cause = still_caused (end ≡ ReadFault) r r2 unread same_read;
         write_cause = told_cause end WriteFault w w2 written;

@@ -57,19 +57,6 @@ nothing_dropped : (l : List ℕ) → drop 0 l ≡ l
 nothing_dropped [] = refl
 nothing_dropped (b ∷ l) = refl
 
--- ---- the marks stay
-
-marks_written : (bytes : List ℕ) (m : Memory) (a : ℕ) → (with_bytes m a bytes).marks ≡ m.marks
-marks_written [] m a = refl
-marks_written (b ∷ bytes) m a = marks_written bytes (with_byte m (address a) b) (a + 1)
-
-marks_filled : (rs : List Range) (m : Memory) (bytes : List ℕ) → (filled m rs bytes).marks ≡ m.marks
-marks_filled [] m bytes = refl
-marks_filled (r ∷ rs) m bytes = marks_filled rs (with_bytes m r.address (take r.length bytes)) (drop r.length bytes) ∙ marks_written (take r.length bytes) m r.address
-
-pub marks_taken : {E : Type 0} (rs : List Range) (most : ℕ) (m now : Memory) (told left : Option (List ℕ)) (r : Result ℕ E) → Took most (filled m rs) now told left r → now.marks ≡ m.marks
-marks_taken rs most m now told left r p = let t = p.takes in ap (λ (n : Memory). n.marks) t.memory ∙ marks_filled rs m t.taken
-
 -- ---- ranges and then ranges
 
 pub filled_split : (xs ys : List Range) (m : Memory) (bytes : List ℕ) → filled m (xs ++ ys) bytes ≡ filled (filled m xs (take (total xs) bytes)) ys (drop (total xs) bytes)

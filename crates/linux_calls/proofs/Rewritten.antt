@@ -15,7 +15,7 @@ use Rattle.emu_model.specs.Pages.{bytes_at, with_bytes}
 use Rattle.emu_model.specs.PageEquations.{bytes_at-zero, bytes_at-suc}
 use Rattle.emu_model.specs.SoundState.{AreBytes}
 use Rattle.emu_model.specs.WithinPage.{insert_same}
-use Rattle.guest_mem.specs.Slices.{with_slice, to_page_end}
+use Rattle.guest_mem.specs.Slices.{memory_with_slice, to_page_end}
 use Rattle.guest_pages.specs.Bytes.{as_bytes-same}
 
 -- ---- a byte that is written as it stood
@@ -91,7 +91,7 @@ rewritten m a len xs few fits =
     ∙ same_bytes (len - n) (with_bytes m a xs) (a + n)
 
 -- the same of a slice of a page that was lent
-pub slice_rewritten : (m : Memory) (a most : ℕ) (xs w : List ℕ) → a < 2 ^ 64 → AreBytes w → length xs ≤ to_page_end a most → w ≡ xs ++ drop (length xs) (bytes_at m a (to_page_end a most)) → length w ≡ to_page_end a most → with_slice m a w ≡ with_bytes m a xs
+pub slice_rewritten : (m : Memory) (a most : ℕ) (xs w : List ℕ) → a < 2 ^ 64 → AreBytes w → length xs ≤ to_page_end a most → w ≡ xs ++ drop (length xs) (bytes_at m a (to_page_end a most)) → length w ≡ to_page_end a most → memory_with_slice m a w ≡ with_bytes m a xs
 slice_rewritten m a most xs w word small few is long =
     ap (λ (l : List ℕ). with_bytes m a (take (page_size - a % page_size) l)) (as_bytes-same w small)
     ∙ ap (λ (l : List ℕ). with_bytes m a l) (take_all (page_size - a % page_size) w (omega (arith, long)))

@@ -10,7 +10,7 @@ use Rattle.emu_model.specs.Access.{Memory, address, allowed, refused}
 use Rattle.emu_model.specs.AccessLaws.{length_bytes_at, with_bytes_split}
 use Rattle.emu_model.specs.Pages.{bytes_at, with_bytes}
 use Rattle.emu_model.specs.SoundState.{AreBytes}
-use Rattle.guest_mem.specs.Slices.{to_page_end, with_slice}
+use Rattle.guest_mem.specs.Slices.{to_page_end, memory_with_slice}
 use Rattle.linux_calls.specs.Taken.{Takes, Took}
 use Rattle.linux_calls.proofs.Bytes.{first_allowed, rest_granted}
 use Rattle.linux_calls.proofs.Rewritten.{refused_written, slice_rewritten, written_same}
@@ -42,7 +42,7 @@ module _ (E : Type 0) (m : Memory) (a most : ℕ) (word : a < 2 ^ 64) (old new :
   first_of n None left h = tt
   first_of n (Some bytes) left h = (h.2, h.1)
 
-  pub took_piece : (told left : Option (List ℕ)) (r : Result ℕ E) → TakesAtMost r old → TakesFirst told left new r → KeepsRest old new r → Took (to_page_end a most) (with_bytes m a) (with_slice m a new) told left r
+  pub took_piece : (told left : Option (List ℕ)) (r : Result ℕ E) → TakesAtMost r old → TakesFirst told left new r → KeepsRest old new r → Took (to_page_end a most) (with_bytes m a) (memory_with_slice m a new) told left r
   took_piece told left (Ok n) few first rest =
       let cut : length (take n new) ≡ n = omega (arith, length-take n new, few, same) in
       let is : new ≡ take n new ++ drop (length (take n new)) (bytes_at m a (to_page_end a most)) =

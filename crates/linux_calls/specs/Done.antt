@@ -39,9 +39,8 @@ pub record IsDone (action : Action) (old new : Around) (same_input same_output s
   pub errors_kept : does_put 2 action ≡ false → same_errors
 
 -- How a call ended, by the streams' counts of faults before it and behind it: a fault comes only where the call names the stream
--- and its count rose. The marks stay, and a call that a sink broke off stored nothing.
+-- and its count rose. A call that a sink broke off stored nothing.
 pub record IsAccounted (call_end : CallEnd) (core : Core) (old new : Memory) (read_before read_behind written_before written_behind errors_before errors_behind : ℕ) : Type 0 where
-  pub marks : new.marks ≡ old.marks
   pub unstored : is_put_fault call_end ≡ true → new ≡ old
   pub read_cause : Causes (call_end ≡ ReadFault) read_before read_behind
   pub write_cause : Causes (call_end ≡ WriteFault) written_before written_behind

@@ -18,11 +18,11 @@ pub const MOST_BYTES: u64 = 0x7FFF_F000;
 /// The buffer (file, address, count) of a call that needs a right to its bytes. An Err has the reply where no byte is
 /// to be moved.
 pub fn buffer(core: &Core, mem: &mut Mem, kind: Kind) -> Result<Range, Reply>
-    ensures refused { IfErr result
-        (λ reply. (moves : List Range → model.Action) → model.with_buffer kind moves core.now mem.old ≡ replied reply) }
+    ensures refused { IfErr result (λ reply. (moves : List Range → model.Action)
+        → model.with_buffer kind moves core.now mem.old.memory ≡ replied reply) }
     ensures range { IfOk result (λ range. (moves : List Range → model.Action)
-        → model.with_buffer kind moves core.now mem.old ≡ moves (range ∷ [])) }
-    ensures granted { IfOk result (λ range. AreGranted mem.old kind (range ∷ [])) }
+        → model.with_buffer kind moves core.now mem.old.memory ≡ moves (range ∷ [])) }
+    ensures granted { IfOk result (λ range. AreGranted mem.old.memory kind (range ∷ [])) }
     ensures unchanged { mem.new ≡ mem.old }
 {
     let address = argument(core, 1);

@@ -51,31 +51,34 @@ pub fn call<I: Source, O: Sink, E: Sink>(
     errors: &mut E,
 ) -> CallEnd
     requires { IsSoundBreak brk.old }
-    ensures state { OfInput (model.action (caller core.old vec.old mem.old brk.old)) (I.left input.old)
-        (λ bytes. is_fault result ≡ false → behind result core.new vec.new mem.new brk.new
-        ≡ (model.call (caller core.old vec.old mem.old brk.old) bytes).parts) }
+    ensures state { OfInput (model.action (caller core.old vec.old mem.old.memory brk.old)) (I.left input.old)
+        (λ bytes. is_fault result ≡ false → behind result core.new vec.new mem.new.memory brk.new
+        ≡ (model.call (caller core.old vec.old mem.old.memory brk.old) bytes).parts) }
     ensures input { IfSome (I.left input.old) (λ bytes. is_fault result ≡ false
-        → I.left input.new ≡ Some (model.call (caller core.old vec.old mem.old brk.old) bytes).input) }
+        → I.left input.new ≡ Some (model.call (caller core.old vec.old mem.old.memory brk.old) bytes).input) }
     ensures output { (bytes : List ℕ) → IfSome (O.held output.old) (λ had. Gains (is_fault result)
-        (O.held output.new) had (model.call (caller core.old vec.old mem.old brk.old) bytes).output) }
+        (O.held output.new) had (model.call (caller core.old vec.old mem.old.memory brk.old) bytes).output) }
     ensures errors { (bytes : List ℕ) → IfSome (E.held errors.old) (λ had. Gains (is_fault result)
-        (E.held errors.new) had (model.call (caller core.old vec.old mem.old brk.old) bytes).errors) }
-    ensures end { is_fault result ≡ false → result ≡ end_of (model.action (caller core.old vec.old mem.old brk.old)) }
+        (E.held errors.new) had (model.call (caller core.old vec.old mem.old.memory brk.old) bytes).errors) }
+    ensures end { is_fault result ≡ false
+        → result ≡ end_of (model.action (caller core.old vec.old mem.old.memory brk.old)) }
     ensures sound { IsSoundBreak brk.new }
 
     // marks are no part of what a call looks at or changes, however it ends
     ensures marks { mem.new.marks ≡ mem.old.marks }
 
     // an error changes nothing but the registers
-    ensures refused { (error : Errno) → model.action (caller core.old vec.old mem.old brk.old) ≡ model.fails error
-        → (mem.new ≡ mem.old) × (brk.new ≡ brk.old) × (input.new ≡ input.old) × (output.new ≡ output.old)
+    ensures refused { (error : Errno)
+        → model.action (caller core.old vec.old mem.old.memory brk.old) ≡ model.fails error
+        → (mem.new.memory ≡ mem.old.memory) × (brk.new ≡ brk.old) × (input.new ≡ input.old) × (output.new ≡ output.old)
         × (errors.new ≡ errors.old) }
 
     // where a stream failed
     ensures kept { is_fault result ≡ true → (core.new ≡ core.old) × (vec.new ≡ vec.old) × (brk.new ≡ brk.old) }
     ensures stored { is_fault result ≡ true → Stores
-        (model.action (caller core.old vec.old mem.old brk.old)) mem.old mem.new (I.left input.old) (I.left input.new) }
-    ensures unstored { is_put_fault result ≡ true → mem.new ≡ mem.old }
+        (model.action (caller core.old vec.old mem.old.memory brk.old)) mem.old.memory mem.new.memory
+        (I.left input.old) (I.left input.new) }
+    ensures unstored { is_put_fault result ≡ true → mem.new.memory ≡ mem.old.memory }
     ensures read_cause { Causes (result ≡ CallEnd.ReadFault) (I.faults input.old) (I.faults input.new) }
     ensures write_cause { Causes (result ≡ CallEnd.WriteFault) (O.faults output.old) (O.faults output.new) }
     ensures errors_cause { Causes (result ≡ CallEnd.ErrorsFault) (E.faults errors.old) (E.faults errors.new) }
@@ -84,11 +87,11 @@ pub fn call<I: Source, O: Sink, E: Sink>(
     ensures errors_named { result ≡ CallEnd.ErrorsFault → NamesWrite core.old 2 }
 
     // a stream that the call doesn't speak of
-    ensures untaken { does_take (model.action (caller core.old vec.old mem.old brk.old)) ≡ false
+    ensures untaken { does_take (model.action (caller core.old vec.old mem.old.memory brk.old)) ≡ false
         → input.new ≡ input.old }
-    ensures output_kept { does_put 1 (model.action (caller core.old vec.old mem.old brk.old)) ≡ false
+    ensures output_kept { does_put 1 (model.action (caller core.old vec.old mem.old.memory brk.old)) ≡ false
         → output.new ≡ output.old }
-    ensures errors_kept { does_put 2 (model.action (caller core.old vec.old mem.old brk.old)) ≡ false
+    ensures errors_kept { does_put 2 (model.action (caller core.old vec.old mem.old.memory brk.old)) ≡ false
         → errors.new ≡ errors.old }
 {
     let name = name_of_call(core);
@@ -108,10 +111,10 @@ fn make<I: Source, O: Sink, E: Sink>(
 ) -> CallEnd
     requires number { HasNumber name (model.number_of_call core.old) }
     requires sound { IsSoundBreak brk.old }
-    ensures done { IsDone (model.action_of name core.old vec.old mem.old brk.old) (record {
+    ensures done { IsDone (model.action_of name core.old vec.old mem.old.memory brk.old) (record {
       core = core.old;
       vectors = vec.old;
-      memory = mem.old;
+      memory = mem.old.memory;
       brk = brk.old;
       left = I.left input.old;
       output = O.held output.old;
@@ -119,14 +122,16 @@ fn make<I: Source, O: Sink, E: Sink>(
     }) (record {
       core = core.new;
       vectors = vec.new;
-      memory = mem.new;
+      memory = mem.new.memory;
       brk = brk.new;
       left = I.left input.new;
       output = O.held output.new;
       errors = E.held errors.new;
     }) (input.new ≡ input.old) (output.new ≡ output.old) (errors.new ≡ errors.old) result }
-    ensures accounted { IsAccounted result core.old mem.old mem.new (I.faults input.old) (I.faults input.new)
-        (O.faults output.old) (O.faults output.new) (E.faults errors.old) (E.faults errors.new) }
+    ensures accounted { IsAccounted result core.old mem.old.memory mem.new.memory
+        (I.faults input.old) (I.faults input.new) (O.faults output.old) (O.faults output.new)
+        (E.faults errors.old) (E.faults errors.new) }
+    ensures marks { mem.new.marks ≡ mem.old.marks }
 {
     match name {
         CallName::Exit | CallName::ExitGroup => CallEnd::Exit((argument(core, 0) % 256) as u8),

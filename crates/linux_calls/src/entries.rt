@@ -26,10 +26,10 @@ pub type Ranges = ArrayVec<Range, MOST_RANGES>;
 pub fn read_vector(core: &Core, mem: &mut Mem, kind: Kind, ranges: &mut Ranges) -> Result<(), Errno>
     requires { ranges.old.items ≡ [] }
     ensures refused { IfErr result (λ error. (moves : List Range → model.Action)
-        → model.with_vector kind moves core.now mem.old ≡ model.fails error) }
-    ensures ranges { OnOk result
-        ((moves : List Range → model.Action) → model.with_vector kind moves core.now mem.old ≡ moves ranges.new.items) }
-    ensures granted { OnOk result (AreGranted mem.old kind ranges.new.items) }
+        → model.with_vector kind moves core.now mem.old.memory ≡ model.fails error) }
+    ensures ranges { OnOk result ((moves : List Range → model.Action)
+        → model.with_vector kind moves core.now mem.old.memory ≡ moves ranges.new.items) }
+    ensures granted { OnOk result (AreGranted mem.old.memory kind ranges.new.items) }
     ensures unchanged { mem.new ≡ mem.old }
 {
     let count = argument(core, 2);
@@ -48,8 +48,8 @@ pub fn read_vector(core: &Core, mem: &mut Mem, kind: Kind, ranges: &mut Ranges) 
 fn read_entries(mem: &mut Mem, at: u64, count: usize, ranges: &mut Ranges)
     requires few { count ≤ 1024 }
     requires none { ranges.old.items ≡ [] }
-    requires readable { refused mem.old at (16 * count) Kind.Read ≡ None }
-    ensures entries { ranges.new.items ≡ model.entries mem.old at count }
+    requires readable { refused mem.old.memory at (16 * count) Kind.Read ≡ None }
+    ensures entries { ranges.new.items ≡ model.entries mem.old.memory at count }
     ensures unchanged { mem.new ≡ mem.old }
 {
     for k in 0..count {
@@ -62,8 +62,8 @@ fn read_entries(mem: &mut Mem, at: u64, count: usize, ranges: &mut Ranges)
 
 /// The number in 8 bytes that may be read.
 fn load(mem: &mut Mem, address: u64) -> u64
-    requires { refused mem.old address 8 Kind.Read ≡ None }
-    ensures value { result ≡ value mem.old address 8 }
+    requires { refused mem.old.memory address 8 Kind.Read ≡ None }
+    ensures value { result ≡ value mem.old.memory address 8 }
     ensures unchanged { mem.new ≡ mem.old }
 {
     match mem.load(address, 8, Kind::Read) {
@@ -75,10 +75,10 @@ fn load(mem: &mut Mem, address: u64) -> u64
 /// Cuts ranges to the most bytes of one call, and tests them.
 fn cut_entries(mem: &mut Mem, kind: Kind, ranges: &mut Ranges) -> Result<(), Errno>
     ensures refused { IfErr result (λ error. (moves : List Range → model.Action)
-        → model.with_entries kind moves ranges.old.items mem.old ≡ model.fails error) }
+        → model.with_entries kind moves ranges.old.items mem.old.memory ≡ model.fails error) }
     ensures ranges { OnOk result ((moves : List Range → model.Action)
-        → model.with_entries kind moves ranges.old.items mem.old ≡ moves ranges.new.items) }
-    ensures granted { OnOk result (AreGranted mem.old kind ranges.new.items) }
+        → model.with_entries kind moves ranges.old.items mem.old.memory ≡ moves ranges.new.items) }
+    ensures granted { OnOk result (AreGranted mem.old.memory kind ranges.new.items) }
     ensures unchanged { mem.new ≡ mem.old }
 {
     if is_any_too_long(ranges.as_slice()) {

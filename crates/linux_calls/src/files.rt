@@ -36,10 +36,11 @@ pub fn ioctl(core: &Core) -> Reply
 /// read(file, address, count): bytes of the input are taken to the buffer, and their number is answered.
 pub fn read<S: Source>(core: &Core, mem: &mut Mem, input: &mut S) -> Result<Reply, Failed>
     ensures replied { (v : Vectors) (brk : Break)
-        → IfOk result (HasTaken (model.action_of CallName.Read core.now v mem.old brk) mem.old mem.new
-        (S.left input.old) (S.left input.new) (input.new ≡ input.old)) }
+        → IfOk result (HasTaken (model.action_of CallName.Read core.now v mem.old.memory brk) mem.old.memory
+        mem.new.memory (S.left input.old) (S.left input.new) (input.new ≡ input.old)) }
     ensures failed { (v : Vectors) (brk : Break) → OnErr result (HasBrokenOff
-        (model.action_of CallName.Read core.now v mem.old brk) mem.old mem.new (S.left input.old) (S.left input.new)) }
+        (model.action_of CallName.Read core.now v mem.old.memory brk) mem.old.memory mem.new.memory
+        (S.left input.old) (S.left input.new)) }
     ensures file { OnErr result (model.file_of core.now ≡ 0) }
     ensures marks { mem.new.marks ≡ mem.old.marks }
     ensures cause { HasCause (S.faults input.old) (S.faults input.new) result }
@@ -57,10 +58,11 @@ pub fn read<S: Source>(core: &Core, mem: &mut Mem, input: &mut S) -> Result<Repl
 #[inline(never)]
 pub fn readv<S: Source>(core: &Core, mem: &mut Mem, input: &mut S) -> Result<Reply, Failed>
     ensures replied { (v : Vectors) (brk : Break)
-        → IfOk result (HasTaken (model.action_of CallName.Readv core.now v mem.old brk) mem.old mem.new
-        (S.left input.old) (S.left input.new) (input.new ≡ input.old)) }
+        → IfOk result (HasTaken (model.action_of CallName.Readv core.now v mem.old.memory brk) mem.old.memory
+        mem.new.memory (S.left input.old) (S.left input.new) (input.new ≡ input.old)) }
     ensures failed { (v : Vectors) (brk : Break) → OnErr result (HasBrokenOff
-        (model.action_of CallName.Readv core.now v mem.old brk) mem.old mem.new (S.left input.old) (S.left input.new)) }
+        (model.action_of CallName.Readv core.now v mem.old.memory brk) mem.old.memory mem.new.memory
+        (S.left input.old) (S.left input.new)) }
     ensures file { OnErr result (model.file_of core.now ≡ 0) }
     ensures marks { mem.new.marks ≡ mem.old.marks }
     ensures cause { HasCause (S.faults input.old) (S.faults input.new) result }
@@ -77,11 +79,11 @@ pub fn readv<S: Source>(core: &Core, mem: &mut Mem, input: &mut S) -> Result<Rep
 
 /// Takes bytes of the input to ranges.
 fn take<S: Source>(mem: &mut Mem, ranges: &[Range], input: &mut S) -> Result<Reply, Failed>
-    requires { AreGranted mem.old Kind.Write ranges.now }
-    ensures replied { IfOk result (HasTaken (model.takes ranges.now) mem.old mem.new (S.left input.old)
+    requires { AreGranted mem.old.memory Kind.Write ranges.now }
+    ensures replied { IfOk result (HasTaken (model.takes ranges.now) mem.old.memory mem.new.memory (S.left input.old)
         (S.left input.new) (input.new ≡ input.old)) }
     ensures failed { OnErr result
-        (HasBrokenOff (model.takes ranges.now) mem.old mem.new (S.left input.old) (S.left input.new)) }
+        (HasBrokenOff (model.takes ranges.now) mem.old.memory mem.new.memory (S.left input.old) (S.left input.new)) }
     ensures marks { mem.new.marks ≡ mem.old.marks }
     ensures cause { HasCause (S.faults input.old) (S.faults input.new) result }
 {
@@ -97,8 +99,9 @@ pub fn write<O: Sink, E: Sink>(
     errors: &mut E,
 ) -> Result<Reply, CallEnd>
     ensures written { (v : Vectors) (brk : Break) → HasWritten
-        (model.action_of CallName.Write core.now v mem.old brk) mem.old (O.held output.old) (O.held output.new)
-        (output.new ≡ output.old) (E.held errors.old) (E.held errors.new) (errors.new ≡ errors.old) result }
+        (model.action_of CallName.Write core.now v mem.old.memory brk) mem.old.memory (O.held output.old)
+        (O.held output.new) (output.new ≡ output.old) (E.held errors.old) (E.held errors.new)
+        (errors.new ≡ errors.old) result }
     ensures file { IfErr result (λ end. end ≡ fault_of (model.file_of core.now)) }
     ensures sink { IfErr result (λ end. IsTrue (model.is_sink (model.file_of core.now))) }
     ensures unchanged { mem.new ≡ mem.old }
@@ -124,8 +127,9 @@ pub fn writev<O: Sink, E: Sink>(
     errors: &mut E,
 ) -> Result<Reply, CallEnd>
     ensures written { (v : Vectors) (brk : Break) → HasWritten
-        (model.action_of CallName.Writev core.now v mem.old brk) mem.old (O.held output.old) (O.held output.new)
-        (output.new ≡ output.old) (E.held errors.old) (E.held errors.new) (errors.new ≡ errors.old) result }
+        (model.action_of CallName.Writev core.now v mem.old.memory brk) mem.old.memory (O.held output.old)
+        (O.held output.new) (output.new ≡ output.old) (E.held errors.old) (E.held errors.new)
+        (errors.new ≡ errors.old) result }
     ensures file { IfErr result (λ end. end ≡ fault_of (model.file_of core.now)) }
     ensures sink { IfErr result (λ end. IsTrue (model.is_sink (model.file_of core.now))) }
     ensures unchanged { mem.new ≡ mem.old }
@@ -159,12 +163,12 @@ fn put<O: Sink, E: Sink>(
     errors: &mut E,
 ) -> Result<Reply, CallEnd>
     requires file { IsTrue (model.is_sink file) }
-    requires granted { AreGranted mem.old Kind.Read ranges.now }
+    requires granted { AreGranted mem.old.memory Kind.Read ranges.now }
     ensures replied { IfOk result (HasPut (model.puts file ranges.now)) }
     ensures failed { IfErr result (FailsAt (model.puts file ranges.now)) }
-    ensures output { PutsTo 1 (model.puts file ranges.now) mem.old (O.held output.old) (O.held output.new)
+    ensures output { PutsTo 1 (model.puts file ranges.now) mem.old.memory (O.held output.old) (O.held output.new)
         (output.new ≡ output.old) (is_err result) }
-    ensures errors { PutsTo 2 (model.puts file ranges.now) mem.old (E.held errors.old) (E.held errors.new)
+    ensures errors { PutsTo 2 (model.puts file ranges.now) mem.old.memory (E.held errors.old) (E.held errors.new)
         (errors.new ≡ errors.old) (is_err result) }
     ensures unchanged { mem.new ≡ mem.old }
     ensures write_cause { Causes (result ≡ Err CallEnd.WriteFault) (O.faults output.old) (O.faults output.new) }

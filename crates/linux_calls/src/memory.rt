@@ -34,7 +34,8 @@ const READ_WRITE: Rights = Rights {
 /// brk(address): moves the break there, if the pages can be had, and answers where it is.
 pub fn move_break(mem: &mut Mem, brk: &mut Break, to: u64) -> Reply
     requires { IsSoundBreak brk.old }
-    ensures done { HasDone (model.moved_break mem.old brk.old to) mem.old brk.old mem.new brk.new result }
+    ensures done { HasDone (model.moved_break mem.old.memory brk.old to) mem.old.memory brk.old
+        mem.new.memory brk.new result }
     ensures sound { IsSoundBreak brk.new }
     ensures marks { mem.new.marks ≡ mem.old.marks }
 {
@@ -57,7 +58,8 @@ pub fn move_break(mem: &mut Mem, brk: &mut Break, to: u64) -> Reply
 
 /// munmap(address, length): takes away the pages of the range that are mapped.
 pub fn unmap(mem: &mut Mem, address: u64, length: u64) -> Reply
-    ensures done { (brk : Break) → HasDone (model.unmapping mem.old address length) mem.old brk mem.new brk result }
+    ensures done { (brk : Break) → HasDone (model.unmapping mem.old.memory address length) mem.old.memory brk
+        mem.new.memory brk result }
     ensures marks { mem.new.marks ≡ mem.old.marks }
 {
     if address % PAGE_SIZE != 0 || length == 0 {
@@ -74,7 +76,8 @@ pub fn unmap(mem: &mut Mem, address: u64, length: u64) -> Reply
 
 /// mmap(_, length, rights, flags): maps the highest free pages, and answers their address.
 pub fn map(mem: &mut Mem, length: u64, prot: u64, flags: u64) -> Reply
-    ensures done { (brk : Break) → HasDone (model.mapping mem.old length prot flags) mem.old brk mem.new brk result }
+    ensures done { (brk : Break) → HasDone (model.mapping mem.old.memory length prot flags) mem.old.memory brk
+        mem.new.memory brk result }
     ensures marks { mem.new.marks ≡ mem.old.marks }
 {
     if length == 0 || prot > 7 || flags & (u64::MAX - WITHOUT_MEANING) != PRIVATE_AND_ANONYMOUS {
@@ -86,8 +89,8 @@ pub fn map(mem: &mut Mem, length: u64, prot: u64, flags: u64) -> Reply
 /// Maps the highest `count` pages that are free one after the other, and answers their address.
 fn map_highest(mem: &mut Mem, count: u64, rights: Rights) -> Reply
     ensures done { (brk : Break)
-        → HasDone (model.mapping_at (free_run mem.old.pages count (model.highest / page_size)) mem.old count rights)
-        mem.old brk mem.new brk result }
+        → HasDone (model.mapping_at (free_run mem.old.memory.pages count (model.highest / page_size))
+        mem.old.memory count rights) mem.old.memory brk mem.new.memory brk result }
     ensures marks { mem.new.marks ≡ mem.old.marks }
 {
     let Some(first) = mem.pages().free_run(count, HIGHEST / PAGE_SIZE) else {
@@ -102,7 +105,7 @@ fn map_highest(mem: &mut Mem, count: u64, rights: Rights) -> Reply
 /// mprotect(address, length, rights): gives the pages of the range these rights, if all are mapped.
 pub fn protect(mem: &mut Mem, address: u64, length: u64, prot: u64) -> Reply
     ensures done { (brk : Break)
-        → HasDone (model.protection mem.old address length prot) mem.old brk mem.new brk result }
+        → HasDone (model.protection mem.old.memory address length prot) mem.old.memory brk mem.new.memory brk result }
     ensures marks { mem.new.marks ≡ mem.old.marks }
 {
     if address % PAGE_SIZE != 0 || prot > 7 {

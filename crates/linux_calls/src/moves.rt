@@ -15,7 +15,7 @@ use io_gate::{Failed, Sink, Source};
 /// Whether each byte of each range has a right.
 pub fn are_allowed(mem: &mut Mem, ranges: &[Range], kind: Kind) -> bool
     requires { total ranges.now ≤ 0x7FFFF000 }
-    ensures answer { result ≡ not (list_any (is_denied mem.old kind) ranges.now) }
+    ensures answer { result ≡ not (list_any (is_denied mem.old.memory kind) ranges.now) }
     ensures unchanged { mem.new ≡ mem.old }
 {
     for range in ranges {
@@ -29,8 +29,8 @@ pub fn are_allowed(mem: &mut Mem, ranges: &[Range], kind: Kind) -> bool
 /// Puts the bytes of ranges one after the other.
 pub fn put_ranges<S: Sink>(mem: &mut Mem, ranges: &[Range], sink: &mut S) -> Result<(), Failed>
     requires few { total ranges.now ≤ 0x7FFFF000 }
-    requires readable { list_any (is_denied mem.old Kind.Read) ranges.now ≡ false }
-    ensures bytes { PutsAll (S.held sink.old) (S.held sink.new) (gathered mem.old ranges.now) result }
+    requires readable { list_any (is_denied mem.old.memory Kind.Read) ranges.now ≡ false }
+    ensures bytes { PutsAll (S.held sink.old) (S.held sink.new) (gathered mem.old.memory ranges.now) result }
     ensures cause { HasCause (S.faults sink.old) (S.faults sink.new) result }
     ensures unchanged { mem.new ≡ mem.old }
 {
@@ -47,10 +47,11 @@ pub fn take_ranges<S: Source>(
     source: &mut S,
 ) -> Result<u64, Failed>
     requires few { total ranges.now ≤ 0x7FFFF000 }
-    requires writable { list_any (is_denied mem.old Kind.Write) ranges.now ≡ false }
-    ensures took { Took (total ranges.now) (filled mem.old ranges.now) mem.new (S.left source.old)
+    requires writable { list_any (is_denied mem.old.memory Kind.Write) ranges.now ≡ false }
+    ensures took { Took (total ranges.now) (filled mem.old.memory ranges.now) mem.new.memory (S.left source.old)
         (S.left source.new) result }
     ensures all { IfOk result (λ n. IfSome (S.left source.old) (λ bytes. n ≡ min (total ranges.now) (length bytes))) }
+    ensures marks { mem.new.marks ≡ mem.old.marks }
     ensures cause { HasCause (S.faults source.old) (S.faults source.new) result }
 {
     let mut count = 0;

@@ -16,7 +16,7 @@ use io_gate::{Failed, Sink, Source, put_all};
 /// Whether each of `count` bytes from an address on has a right.
 pub fn is_allowed(mem: &mut Mem, address: u64, count: usize, kind: Kind) -> bool
     requires { count ≤ 0x7FFFF000 }
-    ensures answer { result ≡ is_none (refused mem.old address count kind) }
+    ensures answer { result ≡ is_none (refused mem.old.memory address count kind) }
     ensures unchanged { mem.new ≡ mem.old }
 {
     let mut at: usize = 0;
@@ -37,8 +37,8 @@ pub fn put_range<S: Sink>(
     sink: &mut S,
 ) -> Result<(), Failed>
     requires few { count ≤ 0x7FFFF000 }
-    requires readable { refused mem.old address count Kind.Read ≡ None }
-    ensures bytes { PutsAll (S.held sink.old) (S.held sink.new) (bytes_at mem.old address count) result }
+    requires readable { refused mem.old.memory address count Kind.Read ≡ None }
+    ensures bytes { PutsAll (S.held sink.old) (S.held sink.new) (bytes_at mem.old.memory address count) result }
     ensures cause { HasCause (S.faults sink.old) (S.faults sink.new) result }
     ensures unchanged { mem.new ≡ mem.old }
 {
@@ -71,13 +71,15 @@ fn take_piece<S: Source>(
     source: &mut S,
 ) -> Result<usize, Failed>
     requires some { 0 < most }
-    requires writable { allowed mem.old Kind.Write address ≡ true }
-    ensures took { Took (to_page_end address most) (with_bytes mem.old address) mem.new (S.left source.old)
-        (S.left source.new) result }
+    requires writable { allowed mem.old.memory Kind.Write address ≡ true }
+    ensures took { Took (to_page_end address most) (with_bytes mem.old.memory address) mem.new.memory
+        (S.left source.old) (S.left source.new) result }
     ensures some { TakesSome (S.left source.old) result }
+    ensures marks { mem.new.marks ≡ mem.old.marks }
     ensures cause { HasCause (S.faults source.old) (S.faults source.new) result }
 {
-    let piece = mem.writable(address, most);
+    let mut spare = 0;
+    let piece = mem.writable(address, most, &mut spare);
     let taken = source.take(piece);
     // for its clause
     let _bytes = told_bytes(piece);
@@ -92,9 +94,11 @@ pub fn take_range<S: Source>(
     source: &mut S,
 ) -> Result<usize, Failed>
     requires few { count ≤ 0x7FFFF000 }
-    requires writable { refused mem.old address count Kind.Write ≡ None }
-    ensures took { Took count (with_bytes mem.old address) mem.new (S.left source.old) (S.left source.new) result }
+    requires writable { refused mem.old.memory address count Kind.Write ≡ None }
+    ensures took { Took count (with_bytes mem.old.memory address) mem.new.memory
+        (S.left source.old) (S.left source.new) result }
     ensures all { IfOk result (λ n. IfSome (S.left source.old) (λ bytes. n ≡ min count (length bytes))) }
+    ensures marks { mem.new.marks ≡ mem.old.marks }
     ensures cause { HasCause (S.faults source.old) (S.faults source.new) result }
 {
     let mut at: usize = 0;

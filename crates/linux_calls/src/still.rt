@@ -21,7 +21,8 @@ pub fn make_still(name: CallName, core: &Core, mem: &mut Mem, brk: &mut Break) -
     requires still { is_still name ≡ true }
     requires sound { IsSoundBreak brk.old }
     ensures done { (v : Vectors)
-        → HasDone (model.action_of name core.now v mem.old brk.old) mem.old brk.old mem.new brk.new result }
+        → HasDone (model.action_of name core.now v mem.old.memory brk.old) mem.old.memory brk.old
+        mem.new.memory brk.new result }
     ensures sound { IsSoundBreak brk.new }
     ensures marks { mem.new.marks ≡ mem.old.marks }
 {

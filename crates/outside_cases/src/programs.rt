@@ -75,7 +75,10 @@ fn part(pages: &mut guest_pages::Pages, page: u64, at: usize, row: &[u8]) -> Ans
     if !pages.is_mapped(page) {
         return Answer::Missing;
     }
-    pages.part_mut(page, at, row.len()).copy_from_slice(row);
+    let mut spare = 0;
+    pages
+        .part_mut(page, at, row.len(), &mut spare)
+        .copy_from_slice(row);
     Answer::Done
 }
 

@@ -1,9 +1,9 @@
 -- The marks of a list, and how many blocks they name.
-use Rattle.std.proofs.Common.{◌≡◌, ◌<◌, ◌≤◌, ◌+◌, ◌-◌, ◌*◌, ◌==◌, ℕ, zero, suc, Bool, true, false, cond, append_assoc, List, [], ◌∷◌, ◌++◌, set, length, get_or, Option, Some, None, is_some, replicate, refl, sym, ap, subst, ◌∙◌, arith}
+use Rattle.std.proofs.Common.{◌≡◌, ◌<◌, ◌≤◌, ◌+◌, ◌-◌, ◌*◌, ◌==◌, ℕ, zero, suc, Bool, true, false, cond, List, [], ◌∷◌, ◌++◌, set, length, get_or, Option, Some, None, is_some, replicate, refl, sym, ap, subst, ◌∙◌, arith}
 use Rattle.std.specs.Ordering.{nat_cmp}
 use Rattle.std.specs.Cmp.{nat_cmp_total, unsigned_tied}
 use Rattle.std.proofs.Math.Nat.{suc-mul}
-use Rattle.std.specs.FinMap.{empty, empty_of_len, get, remove, len, contains_key, same_map, nat_cmp-IsAntisymmetric, get-empty, get-remove, len-remove, len-empty}
+use Rattle.std.specs.FinMap.{empty, get, remove, len, contains_key, same_map, nat_cmp-IsAntisymmetric, get-empty, get-remove, len-remove, len-empty}
 use Rattle.std.proofs.lemmas.Bool.{eqb-true, eqb-false, eq-eqb, false≢true}
 use Rattle.std.proofs.lemmas.List.{length-append, map-set, get_or-map}
 use Rattle.std.proofs.lemmas.List.Sums.{sum_by-cons, sum_by-set, get_or-le-sum_by}
@@ -14,9 +14,23 @@ use Rattle.frame_arena.specs.Frames.{Block, Live}
 use Rattle.page_list.specs.declared.slots.Slot.{Slot}
 use Rattle.page_list.specs.declared.slots.Mark.{Mark}
 use Rattle.page_list.specs.Entries.{Entry}
-use Rattle.page_list.specs.Slots.{entries_in, one, holders, is_last, mark_in, marks_in, marked, marked_slots, named, shared_slots, IsMark, frame_of}
-use Rattle.page_list.proofs.Held.{first, holders-append, has_it, has_not, one_most}
+use Rattle.page_list.specs.Slots.{entries_in, one, holders, mark_in, marks_in, marked, shared_slots, IsMark, frame_of}
+use Rattle.page_list.proofs.Held.{first, holders-append, has_not, one_most}
 use Rattle.page_list.proofs.Shared.{holders_most}
+
+-- the slots of all marks
+abbrev pub marked_slots : List Mark → List Slot
+marked_slots [] = []
+marked_slots (m ∷ ms) = m.slots.items ++ marked_slots ms
+
+-- how many blocks slots name
+abbrev pub is_last : Option ℕ → List Slot → ℕ
+is_last None slots = 0
+is_last (Some f) slots = one (holders f slots == 0)
+
+abbrev pub named : List Slot → ℕ
+named [] = 0
+named (s ∷ ss) = is_last (frame_of s) ss + named ss
 
 -- the marks' slots, one by one or in one list
 pub holders-marked : (f : ℕ) (ms : List Mark) → holders f (marked_slots ms) ≡ marked f ms
@@ -95,32 +109,6 @@ pub named-front : (xs ys : List Slot) → named (xs ++ ys) ≤ length xs + named
 named-front [] ys = omega arith
 named-front (x ∷ xs) ys = let a = is_last-most (frame_of x) (xs ++ ys) in let b = named-front xs ys in omega (arith, a, b)
 
--- slots between others
-is_last-more : (o : Option ℕ) (xs ys zs : List Slot) → is_last o (xs ++ (ys ++ zs)) ≤ is_last o (xs ++ zs)
-is_last-more None xs ys zs = omega arith
-is_last-more (Some f) xs ys zs =
-    let a = holders-append f xs (ys ++ zs) in let b = holders-append f ys zs in let c = holders-append f xs zs in
-    by_bool (holders f (xs ++ (ys ++ zs)) == 0)
-    (λ t. let n = eqb-true (holders f (xs ++ (ys ++ zs))) 0 t in let k = ap one (eq-eqb (holders f (xs ++ zs)) 0 (omega (arith, a, b, c, n))) in let m = one_most (holders f (xs ++ (ys ++ zs)) == 0) in omega (arith, k, m))
-    (λ t. let k = ap one t in omega (arith, k))
-
-named-between : (xs ys zs : List Slot) → named (xs ++ (ys ++ zs)) ≤ named (xs ++ zs) + length ys
-named-between [] ys zs = let a = named-front ys zs in omega (arith, a)
-named-between (x ∷ xs) ys zs = let a = is_last-more (frame_of x) xs ys zs in let b = named-between xs ys zs in omega (arith, a, b)
-
--- a mark that was empty is filled
-named-behind : (xs : List Slot) (ms : List Mark) (k : ℕ) (m d : Mark) → k < length ms → (get_or ms k d).slots.items ≡ [] → named (xs ++ marked_slots (set ms k m)) ≤ named (xs ++ marked_slots ms) + length m.slots.items
-named-behind xs [] k m d l e = absurd (omega (arith, l))
-named-behind xs (n ∷ ms) zero m d l e =
-    let a = named-between xs m.slots.items (marked_slots ms) in let b = ap (λ (ys : List Slot). named (xs ++ (ys ++ marked_slots ms))) e in omega (arith, a, b)
-named-behind xs (n ∷ ms) (suc k) m d l e =
-    let a = named-behind (xs ++ n.slots.items) ms k m d (omega (arith, l)) e in
-    let b = ap named (append_assoc xs n.slots.items (marked_slots (set ms k m))) in let c = ap named (append_assoc xs n.slots.items (marked_slots ms)) in
-    omega (arith, a, b, c)
-
-pub named-filled : (ms : List Mark) (k : ℕ) (m d : Mark) → k < length ms → (get_or ms k d).slots.items ≡ [] → named (marked_slots (set ms k m)) ≤ named (marked_slots ms) + length m.slots.items
-named-filled ms k m d l e = named-behind [] ms k m d l e
-
 -- a mark stands for none only where it isn't set
 pub unset_of : (live : Live) (b : Bool) (es : List Entry) → cond b (Some es) None ≡ None → b ≡ false
 unset_of live true es e = absurd (false≢true (sym (ap is_some e)))
@@ -149,12 +137,6 @@ module _ (live : Live) (limit : ℕ) (ms : List Mark) (k : ℕ) (m : Mark) (l : 
 
   pub mark-replaced : (f : ℕ) (n : Mark) → marked f (set ms k n) + holders f m.slots.items ≡ marked f ms + holders f n.slots.items
   mark-replaced f n = let a = marked-set f ms k n m l in let b = ap (λ (x : Mark). holders f x.slots.items) at in omega (arith, a, b)
-
--- a mark whose slots are the same
-pub slots-replaced : (ms : List Mark) (k : ℕ) (m d : Mark) → m.slots.items ≡ (get_or ms k d).slots.items → marked_slots (set ms k m) ≡ marked_slots ms
-slots-replaced [] k m d e = refl
-slots-replaced (n ∷ ms) zero m d e = ap (λ l. l ++ marked_slots ms) e
-slots-replaced (n ∷ ms) (suc k) m d e = ap (λ l. n.slots.items ++ l) (slots-replaced ms k m d e)
 
 -- ---- how many slots marks have
 
@@ -206,33 +188,6 @@ fresh_slots limit (m ∷ ms) h = ap (λ l. l ++ marked_slots ms) h.0.none ∙ fr
 pub shown_set : (b : Bool) (es : List Entry) → is_some (cond b (Some es) None) ≡ b
 shown_set true es = refl
 shown_set false es = refl
-
--- ---- no fewer blocks are in use than are named
-
-len-with : (m : Live) (q : ℕ) → contains_key m q ≡ true → 0 < len m
-len-with m q e =
-    by_bool (len m == 0)
-    (λ t. absurd (false≢true (sym (ap is_some (ap (λ k. get k q) (empty_of_len m (eqb-true (len m) 0 t)) ∙ get-empty nat_cmp q)) ∙ e)))
-    (λ t. let ne = eqb-false (len m) 0 t in omega (arith, ne))
-
-module _ (ss : List Slot) (so : (live : Live) → ((f : ℕ) → 1 ≤ holders f ss → contains_key live f ≡ true) → named ss ≤ len live) (live : Live) (s : Slot) (h : (f : ℕ) → 1 ≤ holders f (s ∷ ss) → contains_key live f ≡ true) where
-  later : (f : ℕ) → 1 ≤ holders f ss → contains_key live f ≡ true
-  later f m = h f (let a = first f s ss in omega (arith, a, m))
-
-  least_one : (o : Option ℕ) → frame_of s ≡ o → is_last o ss + named ss ≤ len live
-  least_one None is = let l = so live later in omega (arith, l)
-  least_one (Some g) is =
-      by_bool (holders g ss == 0)
-      (λ t.
-      let none = eqb-true (holders g ss) 0 t in let here : contains_key live g ≡ true = h g (let a = first g s ss in let b = has_it g (frame_of s) is in omega (arith, a, b)) in
-      let less = so (remove live g) (λ f m. let ne : f ≡ g → ⊥ = λ e. let n = ap (λ q. holders q ss) e in omega (arith, n, none, m) in ap is_some (get-remove_other live g f ne) ∙ later f m) in
-      let n = len-remove nat_cmp_total live g in let c = ap (λ b. cond b (len live - 1) (len live)) here in let some = len-with live g here in let one_here = ap one t in
-      omega (arith, less, n, c, some, one_here))
-      (λ t. let l = so live later in let zero_here = ap one t in omega (arith, l, zero_here))
-
-pub named_least : (ss : List Slot) (live : Live) → ((f : ℕ) → 1 ≤ holders f ss → contains_key live f ≡ true) → named ss ≤ len live
-named_least [] live h = omega arith
-named_least (s ∷ ss) live h = least_one ss (named_least ss) live s h (frame_of s) refl
 
 pub one_at_most : (n limit : ℕ) → n ≤ 1 → n * limit ≤ limit
 one_at_most zero limit h = omega arith

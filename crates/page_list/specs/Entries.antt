@@ -11,14 +11,14 @@ use Rattle.emu_model.specs.Pages.{zeroed_page}
 abbrev pub Entry : Type 0
 Entry = ℕ × Page
 
--- the pages that are listed, how many there may be, the number of the page at hand for fetches, or no page's, the marks, and how
--- many frames no mark names
+-- the pages that are listed, how many there may be, the number of the page at hand for fetches, or no page's, the marks, and
+-- the number of spare frames
 pub record Listed : Type 0 where
   pub pages : List Entry
   pub limit : ℕ
   pub code : ℕ
   pub marks : List (Option (List Entry))
-  pub unmarked : ℕ
+  pub spare : ℕ
 
 -- no page has this number
 abbrev pub no_page : ℕ
@@ -30,7 +30,7 @@ coded_entries = coded_list (coded× coded_ℕ coded_page)
 abbrev pub coded_listed : Coded Listed
 coded_listed =
     code_by (List Entry × (ℕ × (ℕ × (List (Option (List Entry)) × ℕ)))) (coded× coded_entries (coded× coded_ℕ (coded× coded_ℕ (coded× (coded_list (coded_option coded_entries)) coded_ℕ))))
-    (λ l. (l.pages, (l.limit, (l.code, (l.marks, l.unmarked))))) (λ p. record { pages = p.0; limit = p.1.0; code = p.1.1.0; marks = p.1.1.1.0; unmarked = p.1.1.1.1 }) (λ _. refl)
+    (λ l. (l.pages, (l.limit, (l.code, (l.marks, l.spare))))) (λ p. record { pages = p.0; limit = p.1.0; code = p.1.1.0; marks = p.1.1.1.0; spare = p.1.1.1.1 }) (λ _. refl)
 
 abbrev pub no_entry : Entry
 no_entry = (0, record { rights = record { r = false; w = false; x = false }; bytes = [] })

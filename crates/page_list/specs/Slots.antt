@@ -1,5 +1,5 @@
 -- What a list of slots stands for, by the bytes of the blocks in use, and how often blocks are named.
-use Rattle.std.specs.Prelude.{◌≡◌, ◌≤◌, ◌<◌, ◌^◌, if◌then◌else◌, ℕ, zero, suc, ◌+◌, ◌-◌, ◌*◌, ◌==◌, Bool, true, false, ◌&&◌, not, List, [], ◌∷◌, ◌++◌, map, length, get_or, Option, Some, None}
+use Rattle.std.specs.Prelude.{◌≡◌, ◌≤◌, ◌<◌, ◌^◌, if◌then◌else◌, ℕ, zero, suc, ◌+◌, ◌*◌, ◌==◌, Bool, true, false, ◌&&◌, not, List, [], ◌∷◌, map, length, get_or, Option, Some, None}
 use Rattle.std.specs.List.{sum_by, AllByRecursion}
 use Rattle.std.specs.Vec.{vec_capacity}
 use Rattle.emu_model.specs.Access.{page_size, most_mapped_pages}
@@ -161,26 +161,8 @@ marks_in live marks = map (mark_in live) marks
 abbrev pub marked : ℕ → List Mark → ℕ
 marked f marks = sum_by (λ (m : Mark). holders f m.slots.items) marks
 
--- the slots of all marks
-abbrev pub marked_slots : List Mark → List Slot
-marked_slots [] = []
-marked_slots (m ∷ ms) = m.slots.items ++ marked_slots ms
-
--- how many blocks slots name
-abbrev pub is_last : Option ℕ → List Slot → ℕ
-is_last None slots = 0
-is_last (Some f) slots = one (holders f slots == 0)
-
-abbrev pub named : List Slot → ℕ
-named [] = 0
-named (s ∷ ss) = is_last (frame_of s) ss + named ss
-
--- how many blocks no mark names
-abbrev pub unmarked : ℕ → List Mark → ℕ
-unmarked total marks = total - named (marked_slots marks)
-
 abbrev pub listed : Inside → Listed
-listed a = record { pages = entries_in a.arena.live a.slots.items; limit = a.limit; code = a.code.number; marks = marks_in a.arena.live a.marks.items; unmarked = unmarked a.arena.total a.marks.items }
+listed a = record { pages = entries_in a.arena.live a.slots.items; limit = a.limit; code = a.code.number; marks = marks_in a.arena.live a.marks.items; spare = a.arena.spare }
 
 -- a mark has room, one that isn't set is empty, and its slots say of no block that they alone name it
 pub record IsMark (limit : ℕ) (m : Mark) : Type 0 where

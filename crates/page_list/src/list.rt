@@ -80,7 +80,7 @@ impl PageList {
     /// No pages, with room for `limit` of them. No later call takes memory.
     pub fn new(alloc: Global, limit: u32) -> Result<PageList, OutOfMemory>
         ensures { IfOk result
-            (λ l. l ≡ record { pages = []; limit = limit; code = no_page; marks = []; unmarked = limit }) }
+            (λ l. l ≡ record { pages = []; limit = limit; code = no_page; marks = []; spare = limit }) }
     {
         let slots = Vec::with_capacity(alloc, limit as usize)?;
         let arena = FrameArena::new(alloc, limit)?;
@@ -163,7 +163,7 @@ impl PageList {
         ensures pages { self.new.pages ≡ self.old.pages }
         ensures limit { self.new.limit ≡ self.old.limit }
         ensures marks { self.new.marks ≡ self.old.marks }
-        ensures unmarked { self.new.unmarked ≡ self.old.unmarked }
+        ensures spare { self.new.spare ≡ self.old.spare }
     {
         if let Some(code) = code_of(&self.slots[i]) {
             self.code = code;
@@ -176,24 +176,26 @@ impl PageList {
         ensures pages { self.new.pages ≡ changed_at (page_with_rights rights) i self.old.pages }
         ensures limit { self.new.limit ≡ self.old.limit }
         ensures marks { self.new.marks ≡ self.old.marks }
-        ensures unmarked { self.new.unmarked ≡ self.old.unmarked }
+        ensures spare { self.new.spare ≡ self.old.spare }
     {
         self.code = NO_CODE;
         self.slots[i].rights = rights;
     }
 
-    /// `count` bytes of the page at place `i` from place `at` on, for writing.
+    /// `count` bytes of the page at place `i` from place `at` on, for writing. The page gets a frame of its own first,
+    /// where it has none; `spare` is set to the number of frames that are spare then.
     #[inline(always)]
-    pub fn part_mut(&mut self, i: usize, at: usize, count: usize) -> &mut [u8]
+    pub fn part_mut(&mut self, i: usize, at: usize, count: usize, spare: &mut u32) -> &mut [u8]
         requires place { i < length self.old.pages }
         requires within { at + count ≤ page_size }
-        ensures* writes_back { sem 𝓛 (LendsPart self.entry i at result) }
+        ensures* writes_back { sem 𝓛 (LendsPart self.entry spare.new i at result) }
         ensures bytes { result.now ≡ take count (drop at (entry_at self.old.pages i).1.bytes) }
         ensures length { length result.now ≡ count }
     {
         ensure_own(&mut self.slots, &mut self.arena, &mut self.code, i);
         // for its clause: what the frame has are bytes
         let _bytes = told_bytes(self.arena.bytes(own_frame(&self.slots, i)));
+        *spare = self.arena.spare();
         self.arena.part_mut(own_frame(&self.slots, i), at, count)
     }
 
@@ -205,10 +207,11 @@ impl PageList {
         ensures pages { self.new.pages ≡ changed_at (page_with_bytes at bytes.now) i self.old.pages }
         ensures limit { self.new.limit ≡ self.old.limit }
         ensures marks { self.new.marks ≡ self.old.marks }
-        ensures unmarked { self.new.unmarked ≡ self.old.unmarked }
     {
         let bytes = told_bytes(bytes);
-        self.part_mut(i, at, bytes.len()).copy_from_slice(bytes);
+        let mut spare = 0;
+        self.part_mut(i, at, bytes.len(), &mut spare)
+            .copy_from_slice(bytes);
     }
 
     /// The number of pages that come before a page.
@@ -230,7 +233,6 @@ impl PageList {
             ≡ take at self.old.pages ++ (zeroed_entries first count rights ++ drop at self.old.pages) }
         ensures limit { self.new.limit ≡ self.old.limit }
         ensures marks { self.new.marks ≡ self.old.marks }
-        ensures unmarked { self.new.unmarked ≡ self.old.unmarked }
     {
         self.code = NO_CODE;
         push_all(&mut self.slots, first, count, rights);
@@ -243,7 +245,6 @@ impl PageList {
         ensures pages { self.new.pages ≡ take at self.old.pages ++ drop count (drop at self.old.pages) }
         ensures limit { self.new.limit ≡ self.old.limit }
         ensures marks { self.new.marks ≡ self.old.marks }
-        ensures unmarked { self.new.unmarked ≡ self.old.unmarked }
     {
         self.code = NO_CODE;
         move_to_end(&mut self.slots, at, count);
@@ -254,7 +255,7 @@ impl PageList {
     pub fn with_marks(alloc: Global, limit: u32) -> Result<PageList, OutOfMemory>
         requires { limit ≤ most_mapped_pages }
         ensures { IfOk result (λ l. l
-            ≡ record { pages = []; limit = limit; code = no_page; marks = replicate 16 None; unmarked = 3 * limit }) }
+            ≡ record { pages = []; limit = limit; code = no_page; marks = replicate 16 None; spare = 3 * limit }) }
     {
         let slots = Vec::with_capacity(alloc, limit as usize)?;
         let arena = FrameArena::new(alloc, 3 * limit)?;
@@ -274,14 +275,12 @@ impl PageList {
         })
     }
 
-    /// The number of spare frames. There are no more of them than frames that no mark names, and no fewer but for one a
-    /// page. Where at most one mark is set, the pages can be marked.
+    /// The number of spare frames, which no page and no mark has. Where at most one mark is set, there are as many as
+    /// there may be pages.
     pub fn spare(&self) -> u32
-        ensures most { result ≤ self.now.unmarked }
-        ensures least { self.now.unmarked ≤ result + length self.now.pages }
+        ensures spare { result ≡ self.now.spare }
         ensures one_mark { 0 < length self.now.marks → count_by is_some self.now.marks ≤ 1
-            → self.now.limit + length self.now.pages ≤ self.now.unmarked }
-        ensures room { self.now.limit ≤ result + length self.now.pages }
+            → self.now.limit ≤ self.now.spare }
     {
         let _marks = &self.marks;
         self.arena.spare()
@@ -315,19 +314,17 @@ impl PageList {
         count
     }
 
-    /// Makes mark `k` the pages as they are.
+    /// Makes mark `k` the pages as they are. They share their frames with it, and no frame is taken.
     pub fn mark(&mut self, k: usize)
         requires index { k < length self.old.marks }
         requires none { get_or self.old.marks k None ≡ None }
-        requires room { self.old.limit + length self.old.pages ≤ self.old.unmarked }
+        requires room { self.old.limit ≤ self.old.spare }
         ensures pages { self.new.pages ≡ self.old.pages }
         ensures limit { self.new.limit ≡ self.old.limit }
         ensures marks { self.new.marks ≡ set self.old.marks k (Some self.old.pages) }
-        ensures unmarked { self.old.unmarked ≤ self.new.unmarked + length self.old.pages }
+        ensures spare { self.new.spare ≡ self.old.spare }
     {
         self.code = NO_CODE;
-        // for its clauses
-        let _spare = self.arena.spare();
         fill_mark(&mut self.slots, &mut self.marks[k], &mut self.arena);
     }
 
@@ -337,6 +334,7 @@ impl PageList {
         ensures pages { self.new.pages ≡ self.old.pages }
         ensures limit { self.new.limit ≡ self.old.limit }
         ensures marks { self.new.marks ≡ set self.old.marks k None }
+        ensures spare { self.old.spare ≤ self.new.spare }
     {
         clear_mark(&mut self.marks[k], &mut self.arena);
     }
@@ -349,7 +347,6 @@ impl PageList {
         ensures pages { get_or self.old.marks k None ≡ Some self.new.pages }
         ensures limit { self.new.limit ≡ self.old.limit }
         ensures marks { self.new.marks ≡ self.old.marks }
-        ensures unmarked { self.new.unmarked ≡ self.old.unmarked }
     {
         self.code = NO_CODE;
         pop_every(&mut self.slots, &mut self.arena);

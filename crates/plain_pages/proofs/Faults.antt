@@ -1,5 +1,5 @@
 -- Why pages can't be mapped, by the slots.
-use Rattle.std.proofs.Common.{◌≡◌, ◌+◌, ◌-◌, ℕ, Bool, List, length, Option, None, sym, ap, ◌∙◌, nat_lt}
+use Rattle.std.proofs.Common.{◌≡◌, ◌+◌, ℕ, Bool, List, length, Option, None, sym, ap, ◌∙◌, nat_lt}
 use Rattle.std.proofs.lemmas.List.{length-map}
 use Rattle.emu_model.specs.Access.{Memory}
 use Rattle.emu_model.specs.Pages.{least_mapped, is_over_limit}

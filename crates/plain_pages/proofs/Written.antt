@@ -4,7 +4,7 @@ use Rattle.std.proofs.lemmas.List.{length-map, with_items_is}
 use Rattle.std.specs.FinMap.{FinMap, get}
 use Rattle.std.specs.Ordering.{nat_cmp}
 use Rattle.std.specs.Vec.{with_items}
-use Rattle.emu_model.specs.Access.{Page, no_marks, page_size}
+use Rattle.emu_model.specs.Access.{Page, page_size}
 use Rattle.emu_model.specs.Pages.{with_bytes}
 use Rattle.emu_model.specs.SoundState.{IsByte, AreBytes}
 use Rattle.emu_model.specs.WithinPage.{overwritten, page_with_bytes, length_overwritten, with_bytes_is}
@@ -30,9 +30,9 @@ module _ (a : Inside) (page at : ℕ) (bytes : List ℕ) (far : page < 2 ^ 52) (
   order_written = order_changed a.limit (page_with_bytes at bytes) page (entries_of a.slots.items) (λ p long old. (length_overwritten at bytes p.bytes (omega (arith, long, fits)) ∙ long, are_overwritten p.bytes old)) h
 
   -- and they stand for the memory with the bytes replaced
-  pub written_is : record { pages = pages_of (changed (page_with_bytes at bytes) page (entries_of a.slots.items)); limit = a.limit; marks = no_marks a.limit } ≡ with_bytes (memory_of a) (page * page_size + at) bytes
+  pub written_is : record { pages = pages_of (changed (page_with_bytes at bytes) page (entries_of a.slots.items)); limit = a.limit } ≡ with_bytes (memory_of a) (page * page_size + at) bytes
   written_is =
-      ap (λ (p : FinMap nat_cmp Page). record { pages = p; limit = a.limit; marks = no_marks a.limit }) (changed_is (page_with_bytes at bytes) (entries_of a.slots.items) page)
+      ap (λ (p : FinMap nat_cmp Page). record { pages = p; limit = a.limit }) (changed_is (page_with_bytes at bytes) (entries_of a.slots.items) page)
       ∙ sym (with_bytes_is bytes (memory_of a) page at (get (pages_of (entries_of a.slots.items)) page) far fits (λ p e. whole (entries_of a.slots.items) page p h.each e) refl)
 
   pub stored_back : (b : Bool) (new : List Slot) → entries_of new ≡ cond b (changed (page_with_bytes at bytes) page (entries_of a.slots.items)) (entries_of a.slots.items)
@@ -44,6 +44,6 @@ module _ (a : Inside) (page at : ℕ) (bytes : List ℕ) (far : page < 2 ^ 52) (
   order_stored true = order_written
   order_stored false = h
 
-  pub stored_is : (b : Bool) → record { pages = pages_of (cond b (changed (page_with_bytes at bytes) page (entries_of a.slots.items)) (entries_of a.slots.items)); limit = a.limit; marks = no_marks a.limit } ≡ cond b (with_bytes (memory_of a) (page * page_size + at) bytes) (memory_of a)
+  pub stored_is : (b : Bool) → record { pages = pages_of (cond b (changed (page_with_bytes at bytes) page (entries_of a.slots.items)) (entries_of a.slots.items)); limit = a.limit } ≡ cond b (with_bytes (memory_of a) (page * page_size + at) bytes) (memory_of a)
   stored_is true = written_is
   stored_is false = refl

@@ -1,6 +1,6 @@
 -- What a list of slots stands for: the entries of pages that a list of pages in frames has too.
 use Rattle.std.specs.Prelude.{◌≡◌, ◌<◌, ℕ, List, map, length, get_or}
-use Rattle.emu_model.specs.Access.{Memory, Page, no_marks}
+use Rattle.emu_model.specs.Access.{Memory, Page}
 use Rattle.page_list.specs.Bytes.{as_bytes}
 use Rattle.plain_pages.specs.declared.slots.Slot.{Slot}
 use Rattle.plain_pages.specs.declared.pages.Pages.TheInside.{Inside}
@@ -16,7 +16,7 @@ abbrev pub entries_of : List Slot → List Entry
 entries_of slots = map entry_of slots
 
 abbrev pub memory_of : Inside → Memory
-memory_of a = record { pages = pages_of (entries_of a.slots.items); limit = a.limit; marks = no_marks a.limit }
+memory_of a = record { pages = pages_of (entries_of a.slots.items); limit = a.limit }
 
 abbrev pub IsInOrder : Inside → Type 0
 IsInOrder a = AreInOrder a.limit (entries_of a.slots.items)

@@ -17,7 +17,7 @@ ghost use Rattle.std.specs.Prelude.{
   ⊤,
 };
 ghost use Rattle.std.specs.FinMap as map;
-ghost use Rattle.emu_model.specs.Access.{no_marks, page_gives, page_size};
+ghost use Rattle.emu_model.specs.Access.{page_gives, page_size};
 ghost use Rattle.emu_model.specs.Pages.{free_run, least_unmapped, mapped, protected, unmapped, with_bytes};
 ghost use Rattle.emu_model.specs.SoundState.{IsSoundMemory};
 ghost use Rattle.guest_pages.specs.MapFault.{map_fault, protect_answer};
@@ -69,7 +69,7 @@ impl Model for Pages {
 impl Pages {
     /// No pages, of which at most `limit` may be mapped.
     pub fn new(alloc: Global, limit: u32) -> Result<Pages, OutOfMemory>
-        ensures { IfOk result (λ p. p ≡ record { pages = map.empty; limit = limit; marks = no_marks limit }) }
+        ensures { IfOk result (λ p. p ≡ record { pages = map.empty; limit = limit }) }
     {
         Ok(Pages {
             alloc,

@@ -43,9 +43,10 @@ pub fn exec(
     requires bytes { let l = layout i.now core.old vec.old in list.now.bytes ≡ l.bytes }
     requires is_signed { list.now.signed ≡ loads_signed i.now }
     requires empty { log.old.items ≡ [] }
-    ensures { let l = layout i.now core.old vec.old in
-        first_fault_of i.now (listed l.register list.now) core.old vec.old mem.old
-        ≡ record { core = core.new; vectors = vec.new; memory = mem.new; accesses = log.new.items; effect = result } }
+    ensures done { let l = layout i.now core.old vec.old in let m = mem.new.memory in
+        first_fault_of i.now (listed l.register list.now) core.old vec.old mem.old.memory
+        ≡ record { core = core.new; vectors = vec.new; memory = m; accesses = log.new.items; effect = result } }
+    ensures marks { mem.new.marks ≡ mem.old.marks }
 {
     let row = row::row_of(i);
     load::first_fault(core, vec, mem, log, &row, list)

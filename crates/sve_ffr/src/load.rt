@@ -41,7 +41,7 @@ fn test_first(mem: &mut Mem, row: &Row, list: &ElementList) -> Result<(), Trap>
     requires some { 1 ≤ list.now.bytes }
     requires most { list.now.bytes ≤ 8 }
     ensures result { let denied : Option ℕ = if row.now.is_non_fault then None
-        else first_refused mem.old (listed row.now.register list.now) in
+        else first_refused mem.old.memory (listed row.now.register list.now) in
         MatchResult result (λ x. denied ≡ None) (λ trap. (denied ≡ Some trap.address) × (trap.kind ≡ TrapKind.Read)) }
     ensures memory { mem.new ≡ mem.old }
 {
@@ -64,9 +64,10 @@ fn load(vec: &mut VecRegs, mem: &mut Mem, log: &mut AccessLog, row: &Row, list: 
     requires most { list.now.bytes ≤ 8 }
     requires lanes { AreFrom 0 (vec.old.bits / row.now.bits) (lanes_of (listed row.now.register list.now)) }
     requires empty { log.old.items ≡ [] }
-    ensures { (c : CoreState) → first_fault_loaded list.now.signed row.now.bits row.now.register
-        (listed row.now.register list.now) c vec.old mem.old
-        ≡ record { core = c; vectors = vec.new; memory = mem.new; accesses = log.new.items; effect = Effect.Next } }
+    ensures done { let m = mem.new.memory in (c : CoreState) → first_fault_loaded list.now.signed
+        row.now.bits row.now.register (listed row.now.register list.now) c vec.old mem.old.memory
+        ≡ record { core = c; vectors = vec.new; memory = m; accesses = log.new.items; effect = Effect.Next } }
+    ensures marks { mem.new.marks ≡ mem.old.marks }
 {
     let lanes = vec.length().bits() / row.bits;
     let taken = take(mem, log, list, row.bits, lanes);
@@ -89,8 +90,10 @@ pub(crate) fn first_fault(
     requires most { list.now.bytes ≤ 8 }
     requires lanes { AreFrom 0 (vec.old.bits / row.now.bits) (lanes_of (listed row.now.register list.now)) }
     requires empty { log.old.items ≡ [] }
-    ensures { first_fault_by row.now list.now.signed (listed row.now.register list.now) core.now vec.old mem.old
-        ≡ record { core = core.now; vectors = vec.new; memory = mem.new; accesses = log.new.items; effect = result } }
+    ensures done { let m = mem.new.memory in first_fault_by row.now list.now.signed
+        (listed row.now.register list.now) core.now vec.old mem.old.memory
+        ≡ record { core = core.now; vectors = vec.new; memory = m; accesses = log.new.items; effect = result } }
+    ensures marks { mem.new.marks ≡ mem.old.marks }
 {
     if let Err(trap) = test_sp(core, tests_sp(row, list)) {
         return Effect::Trap(trap);

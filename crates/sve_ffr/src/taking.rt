@@ -57,8 +57,8 @@ fn take_lane(
     requires count { array_vec_len taken.old.values ≡ k }
     requires room { array_vec_len log.old ≤ k }
     // of whatever register the elements are, and however many lanes there are
-    ensures lane { (r n : ℕ) → AreTaken r e n list.now mem.old k taken.old log.old.items
-        → AreTaken r e n list.now mem.old (k + 1) taken.new log.new.items }
+    ensures lane { (r n : ℕ) → AreTaken r e n list.now mem.old.memory k taken.old log.old.items
+        → AreTaken r e n list.now mem.old.memory (k + 1) taken.new log.new.items }
     ensures memory { mem.new ≡ mem.old }
     ensures count { array_vec_len taken.new.values ≡ k + 1 }
     ensures room { array_vec_len log.new ≤ k + 1 }
@@ -87,7 +87,7 @@ pub(crate) fn take(mem: &mut Mem, log: &mut AccessLog, list: &ElementList, e: u3
     requires empty { log.old.items ≡ [] }
     // of whatever register the elements are
     ensures taken { (r : ℕ) → AreFrom 0 n (lanes_of (listed r list.now))
-        → AreTaken r e n list.now mem.old n result log.new.items }
+        → AreTaken r e n list.now mem.old.memory n result log.new.items }
     ensures count { array_vec_len result.values ≡ n }
     ensures memory { mem.new ≡ mem.old }
 {

@@ -47,8 +47,9 @@ fn load_number(mem: &mut Mem, log: &mut AccessLog, at: u64, n: u32) -> Result<u6
     requires some { 1 ≤ n }
     requires most { n ≤ 8 }
     requires room { array_vec_len log.old < 1024 }
-    ensures result { MatchResult result (λ v. (refused mem.old at n Kind.Read ≡ None) × (v ≡ value mem.old at n))
-        (λ trap. (trap.kind ≡ TrapKind.Read) × (refused mem.old at n Kind.Read ≡ Some trap.address)) }
+    ensures result { MatchResult result
+        (λ v. (refused mem.old.memory at n Kind.Read ≡ None) × (v ≡ value mem.old.memory at n))
+        (λ trap. (trap.kind ≡ TrapKind.Read) × (refused mem.old.memory at n Kind.Read ≡ Some trap.address)) }
     ensures memory { mem.new ≡ mem.old }
     ensures log { MatchResult result
         (λ v. log.new.items ≡ log.old.items ++ record { address = at; bytes = n; write = false } ∷ [])
@@ -74,11 +75,11 @@ fn load_lane<const E: u32, const N: u32>(
     requires bits { E ≡ plan.now.bits }
     requires bytes { N ≡ plan.now.bytes }
     requires within { k < plan.now.lanes }
-    requires loaded { AreLoaded mem.old (elements_below (layout_of plan.now vec.now) k) log.old.items }
+    requires loaded { AreLoaded mem.old.memory (elements_below (layout_of plan.now vec.now) k) log.old.items }
     ensures loaded { let l = layout_of plan.now vec.now in MatchResult result
-        (λ v. AreLoaded mem.old (elements_below l (k + 1)) log.new.items)
-        (λ trap. StopsLoad mem.old (elements_of l) log.new.items trap) }
-    ensures value { MatchResult result (λ v. v ≡ lane_value plan.now vec.now mem.old k) (λ trap. ⊤) }
+        (λ v. AreLoaded mem.old.memory (elements_below l (k + 1)) log.new.items)
+        (λ trap. StopsLoad mem.old.memory (elements_of l) log.new.items trap) }
+    ensures value { MatchResult result (λ v. v ≡ lane_value plan.now vec.now mem.old.memory k) (λ trap. ⊤) }
     ensures memory { mem.new ≡ mem.old }
 {
     let _room = position(plan, vec, k, 0);
@@ -126,13 +127,13 @@ fn load_word<const E: u32, const N: u32>(
     requires bits { E ≡ plan.now.bits }
     requires bytes { N ≡ plan.now.bytes }
     requires within { i < vec.now.bits / 64 }
-    requires loaded { AreLoaded mem.old
+    requires loaded { AreLoaded mem.old.memory
         (elements_below (layout_of plan.now vec.now) (i * (64 / plan.now.bits))) log.old.items }
     ensures loaded { let l = layout_of plan.now vec.now in MatchResult result
-        (λ word. AreLoaded mem.old (elements_below l ((i + 1) * (64 / plan.now.bits))) log.new.items)
-        (λ trap. StopsLoad mem.old (elements_of l) log.new.items trap) }
+        (λ word. AreLoaded mem.old.memory (elements_below l ((i + 1) * (64 / plan.now.bits))) log.new.items)
+        (λ trap. StopsLoad mem.old.memory (elements_of l) log.new.items trap) }
     ensures word { MatchResult result
-        (λ word. word ≡ word_of_lanes plan.now.bits (lane_value plan.now vec.now mem.old) i) (λ trap. ⊤) }
+        (λ word. word ≡ word_of_lanes plan.now.bits (lane_value plan.now vec.now mem.old.memory) i) (λ trap. ⊤) }
     ensures memory { mem.new ≡ mem.old }
 {
     let _length = vec.length();
@@ -160,12 +161,12 @@ fn load_words<const E: u32, const N: u32>(
     requires indexed { IsIndexed plan.now }
     requires bits { E ≡ plan.now.bits }
     requires bytes { N ≡ plan.now.bytes }
-    requires zero { AreWords plan.now vec.now mem.old 0 words.old }
+    requires zero { AreWords plan.now vec.now mem.old.memory 0 words.old }
     requires empty { log.old.items ≡ [] }
     ensures loaded { let l = layout_of plan.now vec.now in MatchResult result
-        (λ x. AreLoaded mem.old (elements_of l) log.new.items)
-        (λ trap. StopsLoad mem.old (elements_of l) log.new.items trap) }
-    ensures words { MatchResult result (λ x. AreWords plan.now vec.now mem.old (vec.now.bits / 64) words.new)
+        (λ x. AreLoaded mem.old.memory (elements_of l) log.new.items)
+        (λ trap. StopsLoad mem.old.memory (elements_of l) log.new.items trap) }
+    ensures words { MatchResult result (λ x. AreWords plan.now vec.now mem.old.memory (vec.now.bits / 64) words.new)
         (λ trap. ⊤) }
     ensures memory { mem.new ≡ mem.old }
 {
@@ -207,10 +208,10 @@ fn load_register<const E: u32, const N: u32>(
     requires bytes { N ≡ plan.now.bytes }
     requires empty { log.old.items ≡ [] }
     ensures loaded { let l = layout_of plan.now vec.old in MatchResult result
-        (λ x. AreLoaded mem.old (elements_of l) log.new.items)
-        (λ trap. StopsLoad mem.old (elements_of l) log.new.items trap) }
-    ensures registers { MatchResult result
-        (λ x. vec.new ≡ loaded_by plan.now.target plan.now.is_signed (layout_of plan.now vec.old) mem.old vec.old)
+        (λ x. AreLoaded mem.old.memory (elements_of l) log.new.items)
+        (λ trap. StopsLoad mem.old.memory (elements_of l) log.new.items trap) }
+    ensures registers { let l = layout_of plan.now vec.old in MatchResult result
+        (λ x. vec.new ≡ loaded_by plan.now.target plan.now.is_signed l mem.old.memory vec.old)
         (λ trap. vec.new ≡ vec.old) }
     ensures memory { mem.new ≡ mem.old }
 {
@@ -231,10 +232,10 @@ fn load_all(plan: &Plan, vec: &mut VecRegs, mem: &mut Mem, log: &mut AccessLog) 
     requires indexed { IsIndexed plan.now }
     requires empty { log.old.items ≡ [] }
     ensures loaded { let l = layout_of plan.now vec.old in MatchResult result
-        (λ x. AreLoaded mem.old (elements_of l) log.new.items)
-        (λ trap. StopsLoad mem.old (elements_of l) log.new.items trap) }
-    ensures registers { MatchResult result
-        (λ x. vec.new ≡ loaded_by plan.now.target plan.now.is_signed (layout_of plan.now vec.old) mem.old vec.old)
+        (λ x. AreLoaded mem.old.memory (elements_of l) log.new.items)
+        (λ trap. StopsLoad mem.old.memory (elements_of l) log.new.items trap) }
+    ensures registers { let l = layout_of plan.now vec.old in MatchResult result
+        (λ x. vec.new ≡ loaded_by plan.now.target plan.now.is_signed l mem.old.memory vec.old)
         (λ trap. vec.new ≡ vec.old) }
     ensures memory { mem.new ≡ mem.old }
 {
@@ -260,9 +261,10 @@ fn load_indexed(plan: &Plan, vec: &mut VecRegs, mem: &mut Mem, log: &mut AccessL
     requires gather { IsGather plan.now }
     requires indexed { IsIndexed plan.now }
     requires empty { log.old.items ≡ [] }
-    ensures { (c : CoreState) → loaded_to (reach mem.old Kind.Read (elements_of (layout_of plan.now vec.old)))
-        (loaded_by plan.now.target plan.now.is_signed (layout_of plan.now vec.old) mem.old vec.old) c vec.old mem.old
-        ≡ record { core = c; vectors = vec.new; memory = mem.new; accesses = log.new.items; effect = result } }
+    ensures done { let l = layout_of plan.now vec.old in let m = mem.old.memory in (c : CoreState) → loaded_to
+        (reach m Kind.Read (elements_of l)) (loaded_by plan.now.target plan.now.is_signed l m vec.old) c vec.old m
+        ≡ record { core = c; vectors = vec.new; memory = mem.new.memory; accesses = log.new.items; effect = result } }
+    ensures marks { mem.new.marks ≡ mem.old.marks }
 {
     match load_all(plan, vec, mem, log) {
         Ok(()) => Effect::Next,
@@ -282,8 +284,9 @@ pub fn load(
     requires plan { IsPlan plan.now vec.old }
     requires gather { IsGather plan.now }
     requires empty { log.old.items ≡ [] }
-    ensures { load_by plan.now core.now vec.old mem.old
-        ≡ record { core = core.now; vectors = vec.new; memory = mem.new; accesses = log.new.items; effect = result } }
+    ensures done { let m = mem.new.memory in load_by plan.now core.now vec.old mem.old.memory
+        ≡ record { core = core.now; vectors = vec.new; memory = m; accesses = log.new.items; effect = result } }
+    ensures marks { mem.new.marks ≡ mem.old.marks }
 {
     if !is_indexed(plan) {
         return element_loops::load_each(plan, core, vec, mem, log);
@@ -300,9 +303,9 @@ pub fn load_unrefused(plan: &Plan, vec: &mut VecRegs, mem: &mut Mem, log: &mut A
     requires plan { IsPlan plan.now vec.old }
     requires gather { IsGather plan.now }
     requires empty { log.old.items ≡ [] }
-    ensures loaded { result ≡ true → AreLoaded mem.old (elements_of (layout_of plan.now vec.old)) log.new.items }
+    ensures loaded { result ≡ true → AreLoaded mem.old.memory (elements_of (layout_of plan.now vec.old)) log.new.items }
     ensures registers { result ≡ true
-        → vec.new ≡ loaded_by plan.now.target plan.now.is_signed (layout_of plan.now vec.old) mem.old vec.old }
+        → vec.new ≡ loaded_by plan.now.target plan.now.is_signed (layout_of plan.now vec.old) mem.old.memory vec.old }
     ensures kept { result ≡ false → vec.new ≡ vec.old }
     ensures unlogged { result ≡ false → log.new.items ≡ [] }
     ensures memory { mem.new ≡ mem.old }

@@ -38,10 +38,11 @@ fn store_lane<const E: u32, const N: u32>(
     ensures count { array_vec_len log.new ≤ k + 1 }
     // whatever the memory was before the first store
     ensures stored { (m : Memory) → let l = layout_of plan.now vec.now in
-        AreStored (stored_by plan.now.target l vec.now) m (elements_below l k) mem.old log.old.items
+        AreStored (stored_by plan.now.target l vec.now) m (elements_below l k) mem.old.memory log.old.items
         → MatchResult result
-        (λ x. AreStored (stored_by plan.now.target l vec.now) m (elements_below l (k + 1)) mem.new log.new.items)
-        (λ trap. StopsStore (stored_by plan.now.target l vec.now) m (elements_of l) mem.new log.new.items trap) }
+        (λ x. AreStored (stored_by plan.now.target l vec.now) m (elements_below l (k + 1)) mem.new.memory log.new.items)
+        (λ trap. StopsStore (stored_by plan.now.target l vec.now) m (elements_of l) mem.new.memory log.new.items trap) }
+    ensures marks { mem.new.marks ≡ mem.old.marks }
 {
     let _room = position(plan, vec, k, 0);
     if !is_on(plan, index, vec, E, k) {
@@ -70,9 +71,10 @@ fn store_lanes<const E: u32, const N: u32>(
     requires bits { E ≡ plan.now.bits }
     requires bytes { N ≡ plan.now.bytes }
     requires empty { log.old.items ≡ [] }
-    ensures { let l = layout_of plan.now vec.now in MatchResult result
-        (λ x. AreStored (stored_by plan.now.target l vec.now) mem.old (elements_of l) mem.new log.new.items)
-        (λ trap. StopsStore (stored_by plan.now.target l vec.now) mem.old (elements_of l) mem.new log.new.items trap) }
+    ensures stored { let l = layout_of plan.now vec.now in let m = mem.old.memory in MatchResult result
+        (λ x. AreStored (stored_by plan.now.target l vec.now) m (elements_of l) mem.new.memory log.new.items)
+        (λ trap. StopsStore (stored_by plan.now.target l vec.now) m (elements_of l) mem.new.memory log.new.items trap) }
+    ensures marks { mem.new.marks ≡ mem.old.marks }
 {
     let plan = *plan;
     let index = index_of(&plan);
@@ -88,9 +90,10 @@ fn store_all(plan: &Plan, vec: &VecRegs, mem: &mut Mem, log: &mut AccessLog) -> 
     requires gather { IsGather plan.now }
     requires indexed { IsIndexed plan.now }
     requires empty { log.old.items ≡ [] }
-    ensures { let l = layout_of plan.now vec.now in MatchResult result
-        (λ x. AreStored (stored_by plan.now.target l vec.now) mem.old (elements_of l) mem.new log.new.items)
-        (λ trap. StopsStore (stored_by plan.now.target l vec.now) mem.old (elements_of l) mem.new log.new.items trap) }
+    ensures stored { let l = layout_of plan.now vec.now in let m = mem.old.memory in MatchResult result
+        (λ x. AreStored (stored_by plan.now.target l vec.now) m (elements_of l) mem.new.memory log.new.items)
+        (λ trap. StopsStore (stored_by plan.now.target l vec.now) m (elements_of l) mem.new.memory log.new.items trap) }
+    ensures marks { mem.new.marks ≡ mem.old.marks }
 {
     if plan.bits == 64 {
         match plan.bytes {
@@ -114,8 +117,9 @@ pub fn store(plan: &Plan, core: &Core, vec: &VecRegs, mem: &mut Mem, log: &mut A
     requires plan { IsPlan plan.now vec.now }
     requires gather { IsGather plan.now }
     requires empty { log.old.items ≡ [] }
-    ensures { store_by plan.now core.now vec.now mem.old
-        ≡ record { core = core.now; vectors = vec.now; memory = mem.new; accesses = log.new.items; effect = result } }
+    ensures done { let m = mem.new.memory in store_by plan.now core.now vec.now mem.old.memory
+        ≡ record { core = core.now; vectors = vec.now; memory = m; accesses = log.new.items; effect = result } }
+    ensures marks { mem.new.marks ≡ mem.old.marks }
 {
     if !is_indexed(plan) {
         return element_loops::store_each(plan, core, vec, mem, log);

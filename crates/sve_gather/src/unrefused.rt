@@ -54,10 +54,10 @@ pub fn load(plan: &Plan, core: &Core, vec: &mut VecRegs, mem: &mut Mem, log: &mu
     requires empty { log.old.items ≡ [] }
     // a first-faulting load, and a non-faulting one
     ensures loaded { result ≡ true → (is_non_fault : Bool)
-        → first_fault_by is_non_fault plan.now core.now vec.old mem.old ≡ record {
+        → first_fault_by is_non_fault plan.now core.now vec.old mem.old.memory ≡ record {
           core = core.now;
           vectors = vec.new;
-          memory = mem.new;
+          memory = mem.new.memory;
           accesses = log.new.items;
           effect = Effect.Next;
         } }
@@ -86,10 +86,10 @@ pub fn load_gather(
     requires empty { log.old.items ≡ [] }
     // a first-faulting load, and a non-faulting one
     ensures loaded { result ≡ true → (is_non_fault : Bool)
-        → first_fault_by is_non_fault plan.now core.now vec.old mem.old ≡ record {
+        → first_fault_by is_non_fault plan.now core.now vec.old mem.old.memory ≡ record {
           core = core.now;
           vectors = vec.new;
-          memory = mem.new;
+          memory = mem.new.memory;
           accesses = log.new.items;
           effect = Effect.Next;
         } }

@@ -44,8 +44,9 @@ pub fn exec(
 ) -> Effect
     requires own { (is_contiguous_load i.now || is_contiguous_store i.now) ≡ true }
     requires empty { log.old.items ≡ [] }
-    ensures { performed i.now core.old vec.old mem.old
-        ≡ record { core = core.new; vectors = vec.new; memory = mem.new; accesses = log.new.items; effect = result } }
+    ensures done { let m = mem.new.memory in performed i.now core.old vec.old mem.old.memory
+        ≡ record { core = core.new; vectors = vec.new; memory = m; accesses = log.new.items; effect = result } }
+    ensures marks { mem.new.marks ≡ mem.old.marks }
 {
     match group_of(i.form()) {
         Group::Loads => load(core, vec, mem, log, i),
@@ -67,8 +68,9 @@ pub fn exec(
 fn load(core: &Core, vec: &mut VecRegs, mem: &mut Mem, log: &mut AccessLog, i: &Sve) -> Effect
     requires own { is_contiguous_load i.now ≡ true }
     requires empty { log.old.items ≡ [] }
-    ensures { vector_load i.now core.now vec.old mem.old
-        ≡ record { core = core.now; vectors = vec.new; memory = mem.new; accesses = log.new.items; effect = result } }
+    ensures done { let m = mem.new.memory in vector_load i.now core.now vec.old mem.old.memory
+        ≡ record { core = core.now; vectors = vec.new; memory = m; accesses = log.new.items; effect = result } }
+    ensures marks { mem.new.marks ≡ mem.old.marks }
 {
     let plan = rows::load_plan(core, vec, i);
     element_loops::load(&plan, core, vec, mem, log)
@@ -80,8 +82,9 @@ fn load(core: &Core, vec: &mut VecRegs, mem: &mut Mem, log: &mut AccessLog, i: &
 fn store(core: &Core, vec: &VecRegs, mem: &mut Mem, log: &mut AccessLog, i: &Sve) -> Effect
     requires own { is_contiguous_store i.now ≡ true }
     requires empty { log.old.items ≡ [] }
-    ensures { vector_store i.now core.now vec.now mem.old
-        ≡ record { core = core.now; vectors = vec.now; memory = mem.new; accesses = log.new.items; effect = result } }
+    ensures done { let m = mem.new.memory in vector_store i.now core.now vec.now mem.old.memory
+        ≡ record { core = core.now; vectors = vec.now; memory = m; accesses = log.new.items; effect = result } }
+    ensures marks { mem.new.marks ≡ mem.old.marks }
 {
     let plan = rows::store_plan(core, vec, i);
     element_loops::store(&plan, core, vec, mem, log)
@@ -111,10 +114,10 @@ pub fn load_unrefused(
 ) -> bool
     requires own { is_first_contiguous i.now ≡ true }
     requires empty { log.old.items ≡ [] }
-    ensures loaded { result ≡ true → first_fault i.now core.now vec.old mem.old ≡ record {
+    ensures loaded { result ≡ true → first_fault i.now core.now vec.old mem.old.memory ≡ record {
       core = core.now;
       vectors = vec.new;
-      memory = mem.new;
+      memory = mem.new.memory;
       accesses = log.new.items;
       effect = Effect.Next;
     } }

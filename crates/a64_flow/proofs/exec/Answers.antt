@@ -1,20 +1,20 @@
 use Rattle.std.proofs.Common.{arith}
 use Rattle.a64_flow.proofs.exec.Goals as goal
 
-pub returns-in-Branch : goal.returns-in-Branch
-returns-in-Branch c = grind (arith, c.branch-core.ensures c.args.vec.now c.args.mem.now)
+pub returns-in-Branch-clause-done : goal.returns-in-Branch-clause-done
+returns-in-Branch-clause-done c = grind (arith, c.branch-core.ensures c.args.vec.now c.args.mem.now.memory)
 
-pub returns-in-BranchCond : goal.returns-in-BranchCond
-returns-in-BranchCond c = grind (arith, c.branch_cond.ensures c.args.vec.now c.args.mem.now)
+pub returns-in-BranchCond-clause-done : goal.returns-in-BranchCond-clause-done
+returns-in-BranchCond-clause-done c = grind (arith, c.branch_cond.ensures c.args.vec.now c.args.mem.now.memory)
 
-pub returns-in-Compare : goal.returns-in-Compare
-returns-in-Compare c = grind (arith, c.compare.ensures c.args.vec.now c.args.mem.now)
+pub returns-in-Compare-clause-done : goal.returns-in-Compare-clause-done
+returns-in-Compare-clause-done c = grind (arith, c.compare.ensures c.args.vec.now c.args.mem.now.memory)
 
-pub returns-in-Test : goal.returns-in-Test
-returns-in-Test c = grind (arith, c.test.ensures c.args.vec.now c.args.mem.now)
+pub returns-in-Test-clause-done : goal.returns-in-Test-clause-done
+returns-in-Test-clause-done c = grind (arith, c.test.ensures c.args.vec.now c.args.mem.now.memory)
 
-pub returns-in-BranchReg : goal.returns-in-BranchReg
-returns-in-BranchReg c = grind (arith, c.branch_reg.ensures c.args.vec.now c.args.mem.now)
+pub returns-in-BranchReg-clause-done : goal.returns-in-BranchReg-clause-done
+returns-in-BranchReg-clause-done c = grind (arith, c.branch_reg.ensures c.args.vec.now c.args.mem.now.memory)
 
-pub returns-in-Except : goal.returns-in-Except
-returns-in-Except c = grind (arith, c.except.ensures c.args.vec.now c.args.mem.now)
+pub returns-in-Except-clause-done : goal.returns-in-Except-clause-done
+returns-in-Except-clause-done c = grind (arith, c.except.ensures c.args.vec.now c.args.mem.now.memory)

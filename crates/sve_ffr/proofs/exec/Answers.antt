@@ -19,11 +19,11 @@ first_fault-requires-clause-lanes c =
     (subst (λ (r : ℕ). AreFrom 0 l.lanes (lanes_of (listed r c.args.list.now))) register
     (subst (λ (qs : List ℕ). AreFrom 0 l.lanes qs) (sym c.requires.lanes) (below_from l.lanes l (row_registers c.args.i.now c.args.core.now c.args.vec.now c.requires.own))))
 
-pub returns : goal.returns
-returns c =
+pub returns-clause-done : goal.returns-clause-done
+returns-clause-done c =
     let l : Layout = layout c.args.i.now c.args.core.now c.args.vec.now in
     let register : l.register ≡ c.row_of-row.result.register = ap (λ (r : Row). r.register) (sym c.row_of-row.ensures.value) in
-    ap (λ (s : Bool). first_fault_by (row_of c.args.i.now) s (listed l.register c.args.list.now) c.args.core.now c.args.vec.now c.args.mem.now) (sym c.requires.is_signed)
-    ∙ ap (λ (r : Row). first_fault_by r c.args.list.now.signed (listed l.register c.args.list.now) c.args.core.now c.args.vec.now c.args.mem.now) (sym c.row_of-row.ensures.value)
-    ∙ ap (λ (r : ℕ). first_fault_by c.row_of-row.result c.args.list.now.signed (listed r c.args.list.now) c.args.core.now c.args.vec.now c.args.mem.now) register
-    ∙ c.first_fault.ensures
+    ap (λ (s : Bool). first_fault_by (row_of c.args.i.now) s (listed l.register c.args.list.now) c.args.core.now c.args.vec.now c.args.mem.now.memory) (sym c.requires.is_signed)
+    ∙ ap (λ (r : Row). first_fault_by r c.args.list.now.signed (listed l.register c.args.list.now) c.args.core.now c.args.vec.now c.args.mem.now.memory) (sym c.row_of-row.ensures.value)
+    ∙ ap (λ (r : ℕ). first_fault_by c.row_of-row.result c.args.list.now.signed (listed r c.args.list.now) c.args.core.now c.args.vec.now c.args.mem.now.memory) register
+    ∙ c.first_fault.ensures.done

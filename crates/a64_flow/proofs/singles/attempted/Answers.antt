@@ -4,22 +4,22 @@ use Rattle.a64_effects.specs.Groups.{access}
 use Rattle.a64_flow.proofs.Tried.{tried_by}
 use Rattle.a64_flow.proofs.singles.attempted.Goals as goal
 
-pub returns-in-LsUnsigned : goal.returns-in-LsUnsigned
-returns-in-LsUnsigned c =
+pub returns-in-LsUnsigned-clause-tried : goal.returns-in-LsUnsigned-clause-tried
+returns-in-LsUnsigned-clause-tried c =
     tried_by _ _ _ _ _ _ _ _ (λ w n. ap (λ (f : A64Form). access f c.args.core.now w n) (sym c.form.ensures.form ∙ c.in-LsUnsigned.is) ∙ c.unsigned-s.ensures w n) c.attempted_at.ensures.tried
 
-pub returns-in-LsUnscaled : goal.returns-in-LsUnscaled
-returns-in-LsUnscaled c =
+pub returns-in-LsUnscaled-clause-tried : goal.returns-in-LsUnscaled-clause-tried
+returns-in-LsUnscaled-clause-tried c =
     tried_by _ _ _ _ _ _ _ _ (λ w n. ap (λ (f : A64Form). access f c.args.core.now w n) (sym c.form.ensures.form ∙ c.in-LsUnscaled.is) ∙ c.unscaled-s.ensures w n) c.attempted_at-in-LsUnscaled.ensures.tried
 
-pub returns-in-LsReg : goal.returns-in-LsReg
-returns-in-LsReg c =
+pub returns-in-LsReg-clause-tried : goal.returns-in-LsReg-clause-tried
+returns-in-LsReg-clause-tried c =
     tried_by _ _ _ _ _ _ _ _ (λ w n. ap (λ (f : A64Form). access f c.args.core.now w n) (sym c.form.ensures.form ∙ c.in-LsReg.is) ∙ c.register-s.ensures w n) c.attempted_at-in-LsReg.ensures.tried
 
-pub returns-in-LsPost : goal.returns-in-LsPost
-returns-in-LsPost c =
+pub returns-in-LsPost-clause-tried : goal.returns-in-LsPost-clause-tried
+returns-in-LsPost-clause-tried c =
     tried_by _ _ _ _ _ _ _ _ (λ w n. ap (λ (f : A64Form). access f c.args.core.now w n) (sym c.form.ensures.form ∙ c.in-LsPost.is) ∙ c.post-s.ensures w n) c.attempted_at-in-LsPost.ensures.tried
 
-pub returns-in-LsPre : goal.returns-in-LsPre
-returns-in-LsPre c =
+pub returns-in-LsPre-clause-tried : goal.returns-in-LsPre-clause-tried
+returns-in-LsPre-clause-tried c =
     tried_by _ _ _ _ _ _ _ _ (λ w n. ap (λ (f : A64Form). access f c.args.core.now w n) (sym c.form.ensures.form ∙ c.in-LsPre.is) ∙ c.pre-s.ensures w n) c.attempted_at-in-LsPre.ensures.tried

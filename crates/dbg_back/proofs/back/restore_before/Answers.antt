@@ -15,7 +15,7 @@ restore-requires c =
       index = omega (arith, index, count);
       place = omega (arith, index, places, same);
       set = ap (λ o. is_some o) d.other ∙ c.nearest_mark-nearest.ensures.set;
-      few = two_left c.drop_marks.new.machine.parts.memory.marks.list k d.dropped;
+      few = two_left c.drop_marks.new.machine.marks k d.dropped;
     }
 
 pub returns : goal.returns
@@ -24,5 +24,5 @@ returns c = λ start input course w within.
     let k = c.nearest_mark-nearest.result in
     let set = ap (λ o. is_some o) d.other ∙ c.nearest_mark-nearest.ensures.set in
     walk_turned c.args.target start input course c.drop_marks.new.machine c.restore.new.self c.args.trail.now c.stand_at.new.self k within set c.nearest_mark-nearest.ensures.before
-    c.restore.ensures.machine c.restore.ensures.saved c.restore.ensures.failed c.stand_at.ensures.place c.stand_at.ensures.top c.stand_at.ensures.steps c.stand_at.ensures.places
+    c.restore.ensures.machine c.restore.ensures.marks c.restore.ensures.saved c.restore.ensures.failed c.stand_at.ensures.place c.stand_at.ensures.top c.stand_at.ensures.steps c.stand_at.ensures.places
     (walk_dropped start input course c.args.machine.now c.drop_marks.new.machine c.args.trail.now d.parts d.count d.first d.kept d.saved d.failed w)

@@ -1,9 +1,7 @@
 use Rattle.std.proofs.Common.{◌≡◌, ◌≤◌, ◌<◌, ◌⊎◌, ℕ, length, get_or, set, None, inl, inr, refl, ap, ◌∙◌, arith}
 use Rattle.std.proofs.lemmas.Bool.{cases_eq, cases_lt}
 use Rattle.std.proofs.lemmas.List.{get_or-set_same, get_or-set_other, length-set}
-use Rattle.emu_model.specs.State.{Parts}
-use Rattle.emu_run.specs.Marked.{parts_with}
-use Rattle.dbg_back.proofs.Marking.{PageMarks}
+use Rattle.emu_model.specs.Marks.{Marks}
 use Rattle.dbg_back.proofs.marks.drop_between.Goals as goal
 
 pub marks-init : goal.marks-init
@@ -20,18 +18,18 @@ marks-init c = record {
 pub marks-preserved : goal.marks-preserved
 marks-preserved c =
     let i = c.marks.invariant in
-    let l = c.marks.machine.parts.memory.marks.list in
-    let pages = c.drop_mark.ensures.pages in
+    let l = c.marks.machine.marks in
+    let pages = c.drop_mark.ensures.marks in
     let k = c.marks.k in
     let count = i.count in
     let within = c.requires.within in
     let in_list : k < length l = omega (arith, count, within) in
     record {
-      parts = c.drop_mark.ensures.parts ∙ ap (λ (p : Parts). parts_with p c.drop_mark.new.self.parts.memory.marks) i.parts;
+      parts = c.drop_mark.ensures.parts ∙ i.parts;
       count = ap length pages ∙ length-set l k None ∙ i.count;
-      dropped = λ j from below. elim (cases_eq j k) as (λ _. get_or c.drop_mark.new.self.parts.memory.marks.list j None ≡ None) [
-        | inl same ↦ ap (λ (x : PageMarks). get_or x j None) pages ∙ ap (λ (n : ℕ). get_or (set l k None) n None) same ∙ get_or-set_same l k None None in_list
-        | inr other ↦ ap (λ (x : PageMarks). get_or x j None) pages ∙ get_or-set_other l k j None None other ∙ i.dropped j from (let apart = other in omega (arith, below, apart))
+      dropped = λ j from below. elim (cases_eq j k) as (λ _. get_or c.drop_mark.new.self.marks j None ≡ None) [
+        | inl same ↦ ap (λ (x : Marks). get_or x j None) pages ∙ ap (λ (n : ℕ). get_or (set l k None) n None) same ∙ get_or-set_same l k None None in_list
+        | inr other ↦ ap (λ (x : Marks). get_or x j None) pages ∙ get_or-set_other l k j None None other ∙ i.dropped j from (let apart = other in omega (arith, below, apart))
       ];
       kept = λ j out.
           let other : j ≡ k → ⊥ = elim out as (λ _. j ≡ k → ⊥) [
@@ -42,7 +40,7 @@ marks-preserved c =
             | inl under ↦ inl under
             | inr over ↦ inr (omega (arith, over))
           ] in
-          ap (λ (x : PageMarks). get_or x j None) pages ∙ get_or-set_other l k j None None other ∙ i.kept j before;
+          ap (λ (x : Marks). get_or x j None) pages ∙ get_or-set_other l k j None None other ∙ i.kept j before;
       most = omega arith;
       saved = c.drop_mark.ensures.saved ∙ i.saved;
       failed = c.drop_mark.ensures.failed ∙ i.failed;

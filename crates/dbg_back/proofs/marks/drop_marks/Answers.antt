@@ -1,7 +1,5 @@
-use Rattle.std.proofs.Common.{◌≡◌, ◌≤◌, ℕ, ◌+◌, get_or, None, inl, inr, ap, ◌∙◌, arith}
+use Rattle.std.proofs.Common.{◌≡◌, ◌≤◌, ℕ, ◌+◌, get_or, None, inl, inr, ◌∙◌, arith}
 use Rattle.std.proofs.lemmas.Bool.{cases_lt}
-use Rattle.emu_model.specs.State.{Parts}
-use Rattle.emu_run.specs.Marked.{parts_with}
 use Rattle.dbg_back.proofs.Counts.{kept_by, none_behind}
 use Rattle.dbg_back.proofs.marks.drop_marks.Goals as goal
 
@@ -9,8 +7,8 @@ pub returns : goal.returns
 returns c =
     let one = c.drop_between.ensures in
     let two = c.drop_between-2.ensures in
-    let old = c.args.machine.now.parts.memory.marks.list in
-    let new = c.drop_between-2.new.machine.parts.memory.marks.list in
+    let old = c.args.machine.now.marks in
+    let new = c.drop_between-2.new.machine.marks in
     let but = c.args.but in
     let first : get_or new 0 None ≡ get_or old 0 None = two.below 0 (omega arith) ∙ one.below 0 (omega arith) in
     let other : get_or new but None ≡ get_or old but None = two.below but (omega arith) ∙ one.above but (omega arith) in
@@ -26,7 +24,7 @@ returns c =
           ]
     ] in
     record {
-      parts = two.parts ∙ ap (λ (p : Parts). parts_with p c.drop_between-2.new.machine.parts.memory.marks) one.parts;
+      parts = two.parts ∙ one.parts;
       count = two.count;
       first = first;
       other = other;

@@ -19,7 +19,7 @@ returns-in-Some c = record {
 pub returns-in-None : goal.returns-in-None
 returns-in-None c =
     let d = c.drop_marks.ensures in
-    let list = c.drop_marks.new.machine.parts.memory.marks.list in
+    let list = c.drop_marks.new.machine.marks in
     let few : count_by is_some list ≤ 1 = one_left list 0 (λ k apart. d.dropped k apart apart) in
     let count = d.count in
     record {

@@ -5,6 +5,6 @@ use Rattle.dbg_back.proofs.marks.nearest_mark.Given as goal
 abbrev pub invariant-marks : goal.invariant-marks
 invariant-marks l = record {
   index : l.nearest < 16;
-  set : is_some (get_or l.machine.parts.memory.marks.list l.nearest None) ≡ true;
+  set : is_some (get_or l.machine.marks l.nearest None) ≡ true;
   before : get_or l.trail.steps l.nearest 0 ≤ l.target;
 }

@@ -28,7 +28,7 @@ returns-then-steps-trail g c =
     record {
       does = does_when c.args.input.now m n t v _ _ _ _ (λ start. advanced until) false (is_fault result) (sym fine)
           (advances_below c.args.input.now m n t v until (g.O.Sink.held c.args.output.now) (g.O.Sink.held c.args.output.now) (g.E.Sink.held c.args.errors.now) (g.E.Sink.held c.args.errors.now)
-          part is below before (r.marks fine) r.saved r.steps r.places r.top (λ st h. r.runs.here st h fine));
+          part is below before r.marks r.saved r.steps r.places r.top (λ st h. r.runs.here st h fine));
       further = λ unbroken going. stopped_further part m.parts.steps n (omega (arith, is, below, before)) (r.stopped fine) (going_by n going);
       accesses = λ unbroken one. r.accesses fine (omega (arith, is, below, one));
       write_cause = causes_none (result ≡ WriteFault) _ _ refl (no_fault result WriteFault fine refl);

@@ -4,7 +4,6 @@ use Rattle.dbg_model.specs.SessionBack.{Course, ending_text, moved, put}
 use Rattle.dbg_back.specs.Ends.{end_of_put, is_fault}
 use Rattle.dbg_back.proofs.Courses.{appends_put}
 use Rattle.dbg_back.proofs.Doing.{does_cut, does_put, does_then, does_when}
-use Rattle.dbg_back.proofs.Lines.{ending_plain}
 use Rattle.dbg_back.proofs.Streams.{not_done, put_errs, put_write}
 use Rattle.dbg_back.specs.declared.ends.BackEnd.TheVariants.{Done, WriteFault, ErrorsFault}
 use Rattle.dbg_back.proofs.moves.go_free.Goals as goal
@@ -23,7 +22,7 @@ returns-in-Done g c =
       does = does_when input m n t v (g.O.Sink.held c.args.output.now) (g.O.Sink.held c.put_ending.new.sink) (g.E.Sink.held c.args.errors.now) (g.E.Sink.held c.move_to.new.errors) (λ start course. put ending_text (steps start course)) (is_fault (end_of_put line)) (is_fault c.end_of_put.result) (ap is_fault (sym is))
           (does_then input m n n t v v (g.O.Sink.held c.args.output.now) (g.O.Sink.held c.move_to.new.output) (g.O.Sink.held c.put_ending.new.sink) (g.E.Sink.held c.args.errors.now) (g.E.Sink.held c.move_to.new.errors) (g.E.Sink.held c.move_to.new.errors)
           steps (λ start. put ending_text) (is_fault (end_of_put line)) c.in-Done.ensures.does
-          (does_put input n v (g.O.Sink.held c.move_to.new.output) (g.O.Sink.held c.put_ending.new.sink) (g.E.Sink.held c.move_to.new.errors) ending_text line ending_plain c.put_ending.ensures.bytes));
+          (does_put input n v (g.O.Sink.held c.move_to.new.output) (g.O.Sink.held c.put_ending.new.sink) (g.E.Sink.held c.move_to.new.errors) ending_text line c.put_ending.ensures.bytes));
       write_cause = put_write line c.end_of_put.result is _ _ _ (c.in-Done.ensures.write_cause.kept (λ (h : Done ≡ WriteFault). cc)) c.put_ending.ensures.cause;
       errors_cause = put_errs line c.end_of_put.result is _ _ (c.in-Done.ensures.errors_cause.kept (λ (h : Done ≡ ErrorsFault). cc));
     }

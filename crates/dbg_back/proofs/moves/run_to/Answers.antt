@@ -38,7 +38,7 @@ returns g c =
           (c.run-end.ensures.failed ∙ same) count;
       stopped = λ unbroken. ran_stopped until n.parts end (c.run-end.ensures.end (same ∙ unbroken)) c.run-end.ensures.spent;
       accesses = λ unbroken one. c.run-end.ensures.accesses (same ∙ unbroken) ∙ ran_accesses m.accesses m.parts _ until (going_by m c.requires.going) one;
-      marks = λ _. c.run-end.ensures.marks;
+      marks = c.run-end.ensures.marks;
       saved = c.run-end.ensures.saved;
       top = refl;
       due = refl;

@@ -6,7 +6,6 @@ use Rattle.dbg_back.specs.declared.ends.BackEnd.TheVariants.{Done, WriteFault, E
 use Rattle.dbg_back.specs.Ends.{end_of_put, is_fault}
 use Rattle.dbg_back.proofs.Courses.{appends_put}
 use Rattle.dbg_back.proofs.Doing.{does_as, does_cut, does_put, does_then, does_when}
-use Rattle.dbg_back.proofs.Lines.{stepped_plain}
 use Rattle.dbg_back.proofs.Streams.{not_done, put_errs, put_write}
 use Rattle.dbg_back.proofs.moves.step.Goals as goal
 
@@ -42,7 +41,7 @@ returns-in-Done g c =
           (does_when input m n t v (g.O.Sink.held c.args.output.now) (g.O.Sink.held c.put_stepped.new.sink) (g.E.Sink.held c.args.errors.now) (g.E.Sink.held c.move_to.new.errors) (with_line (s + c.args.n) target) (is_fault (end_of_put line)) (is_fault c.end_of_put.result) (ap is_fault (sym is))
           (does_then input m n n t v v (g.O.Sink.held c.args.output.now) (g.O.Sink.held c.move_to.new.output) (g.O.Sink.held c.put_stepped.new.sink) (g.E.Sink.held c.args.errors.now) (g.E.Sink.held c.move_to.new.errors) (g.E.Sink.held c.move_to.new.errors)
           (to_target target) (λ start. put (stepped_text (s + c.args.n))) (is_fault (end_of_put line)) c.in-Done.ensures.does
-          (does_put input n v (g.O.Sink.held c.move_to.new.output) (g.O.Sink.held c.put_stepped.new.sink) (g.E.Sink.held c.move_to.new.errors) (stepped_text (s + c.args.n)) line (stepped_plain (s + c.args.n)) c.put_stepped.ensures.bytes)));
+          (does_put input n v (g.O.Sink.held c.move_to.new.output) (g.O.Sink.held c.put_stepped.new.sink) (g.E.Sink.held c.move_to.new.errors) (stepped_text (s + c.args.n)) line c.put_stepped.ensures.bytes)));
       write_cause = put_write line c.end_of_put.result is _ _ _ (c.in-Done.ensures.write_cause.kept (λ (h : Done ≡ WriteFault). cc)) c.put_stepped.ensures.cause;
       errors_cause = put_errs line c.end_of_put.result is _ _ (c.in-Done.ensures.errors_cause.kept (λ (h : Done ≡ ErrorsFault). cc));
     }

@@ -4,7 +4,7 @@ use Rattle.dbg_model.specs.SessionBack.{obeyed, put}
 use Rattle.dbg_core.specs.Stops.{shown_behind}
 use Rattle.dbg_back.specs.Ends.{end_of_put, is_fault}
 use Rattle.dbg_back.proofs.Doing.{does_as, does_put, does_when}
-use Rattle.dbg_back.proofs.Lines.{shown_plain, shows}
+use Rattle.dbg_back.proofs.Lines.{shows}
 use Rattle.dbg_back.proofs.Streams.{put_errs, put_write}
 use Rattle.dbg_back.proofs.session.obey.Goals as goal
 
@@ -19,7 +19,7 @@ returns-in_default g c =
       does = does_when c.args.input.now m m t t _ _ _ _ (λ start. obeyed start command c.args.points.now c.args.budget) (is_fault (end_of_put line)) (is_fault c.end_of_put.result) (ap is_fault (sym is))
           (does_as c.args.input.now m m t t _ _ _ _ (λ start. put (shown_behind command)) (λ start. obeyed start command c.args.points.now c.args.budget) (is_fault (end_of_put line))
           (λ start course w. shows command c.args.points.now c.args.budget c.in_default.not-Step c.in_default.not-Go c.in_default.not-Back start course)
-          (does_put c.args.input.now m t (g.O.Sink.held c.args.output.now) (g.O.Sink.held c.show.new.output) (g.E.Sink.held c.args.errors.now) (shown_behind command) line (shown_plain command) c.show.ensures.bytes));
+          (does_put c.args.input.now m t (g.O.Sink.held c.args.output.now) (g.O.Sink.held c.show.new.output) (g.E.Sink.held c.args.errors.now) (shown_behind command) line c.show.ensures.bytes));
       write_cause = put_write line c.end_of_put.result is _ _ _ refl c.show.ensures.cause;
       errors_cause = put_errs line c.end_of_put.result is _ _ refl;
     }

@@ -2,7 +2,7 @@ use Rattle.std.proofs.Common.{◌≡◌, ◌<◌, ◌≤◌, ◌+◌, true, List
 use Rattle.std.specs.Prelude.{slice_get}
 use Rattle.dbg_model.specs.declared.script.Command.{Command}
 use Rattle.dbg_model.specs.Commands.{is_break, is_watch}
-use Rattle.dbg_model.specs.Session.{Marks, obeyed, obeyed_all, session}
+use Rattle.dbg_model.specs.Session.{Points, obeyed, obeyed_all, session}
 use Rattle.dbg_core.specs.declared.ends.SessionEnd.TheVariants.{Done, ReadFault, WriteFault, ErrorsFault}
 use Rattle.dbg_core.specs.Ends.{is_fault}
 use Rattle.emu_machine.proofs.Composed.{Leads, comes_still, leads_start}
@@ -10,26 +10,26 @@ use Rattle.emu_machine.proofs.Spared.{either}
 use Rattle.dbg_core.proofs.Obeying.{causes_later, causes_none, comes_of}
 use Rattle.dbg_core.proofs.Scripts.{command_in, room_at, breaks_at, watches_at, done_at, broken_at, all_done}
 use Rattle.dbg_core.proofs.Leaving.{never}
-use Rattle.dbg_core.proofs.Standing.{marks_next, stands_start, stands_whole, stands_next, stands_broken}
+use Rattle.dbg_core.proofs.Standing.{points_next, stands_start, stands_whole, stands_next, stands_broken}
 use Rattle.dbg_core.proofs.Putting.{comes_next, errors_broken, failed_by, output_broken}
 use Rattle.dbg_core.proofs.commands.session.Goals as goal
 
 pub walk-init : goal.walk-init
 walk-init g c =
     let script = c.args.script.now in
-    let none = sym c.new-marks.ensures in
+    let none = sym c.new-points.ensures in
     let b = c.commands-commands.ensures.script.breaks in
     let w = c.commands-commands.ensures.script.watches in
     record {
       failed = c.requires.failed;
-      leads = subst (λ (m : Marks). Leads (session script c.args.budget) (obeyed_all (drop 0 script) m c.args.budget) c.args.machine.now.parts c.args.machine.now.parts (g.I.Source.left c.args.input.now) (g.I.Source.left c.args.input.now)
+      leads = subst (λ (m : Points). Leads (session script c.args.budget) (obeyed_all (drop 0 script) m c.args.budget) c.args.machine.now.parts c.args.machine.now.parts (g.I.Source.left c.args.input.now) (g.I.Source.left c.args.input.now)
           (g.O.Sink.held c.args.output.now) (g.O.Sink.held c.args.output.now) (g.E.Sink.held c.args.errors.now) (g.E.Sink.held c.args.errors.now)) none
           (leads_start (session script c.args.budget) c.args.machine.now.parts (g.I.Source.left c.args.input.now) (g.O.Sink.held c.args.output.now) (g.E.Sink.held c.args.errors.now));
-      so_far = c.new-marks.ensures;
+      so_far = c.new-points.ensures;
       stood = stands_start c.args.machine.now.parts (g.I.Source.left c.args.input.now);
       whole = comes_still c.args.machine.now.parts (g.I.Source.left c.args.input.now) (g.O.Sink.held c.args.output.now) (g.E.Sink.held c.args.errors.now);
-      breaks = subst (λ (m : Marks). length m.breaks + count_by is_break (drop 0 script) ≤ 64) none (omega (arith, b));
-      watches = subst (λ (m : Marks). length m.watches + count_by is_watch (drop 0 script) ≤ 64) none (omega (arith, w));
+      breaks = subst (λ (m : Points). length m.breaks + count_by is_break (drop 0 script) ≤ 64) none (omega (arith, b));
+      watches = subst (λ (m : Points). length m.watches + count_by is_watch (drop 0 script) ≤ 64) none (omega (arith, w));
       read = refl;
       write = refl;
       errors = refl;
@@ -50,7 +50,7 @@ add_if-requires g c =
     let here : slice_get script k ≡ Some command = subst (λ (cs : List Command). slice_get cs k ≡ Some command) c.commands-commands.ensures.commands c.command_at-command.ensures in
     let same = ap length c.commands-commands.ensures.commands in
     let within : k < length script = omega (arith, same) in
-    room_at script k command here within c.walk.marks c.walk.invariant.breaks c.walk.invariant.watches
+    room_at script k command here within c.walk.points c.walk.invariant.breaks c.walk.invariant.watches
 
 pub walk-preserved : goal.walk-preserved
 walk-preserved g c =
@@ -64,17 +64,17 @@ walk-preserved g c =
     let q = c.obey.new.machine.parts in
     record {
       failed = c.in-Done.ensures.done refl;
-      leads = done_at script k command here within (session script c.args.budget) c.walk.marks c.args.budget c.args.machine.now.parts p q (g.I.Source.left c.args.input.now) (g.I.Source.left c.walk.input) (g.I.Source.left c.obey.new.input)
+      leads = done_at script k command here within (session script c.args.budget) c.walk.points c.args.budget c.args.machine.now.parts p q (g.I.Source.left c.args.input.now) (g.I.Source.left c.walk.input) (g.I.Source.left c.obey.new.input)
           (g.O.Sink.held c.args.output.now) (g.O.Sink.held c.walk.output) (g.O.Sink.held c.obey.new.output) (g.E.Sink.held c.args.errors.now) (g.E.Sink.held c.walk.errors) (g.E.Sink.held c.obey.new.errors)
           c.walk.invariant.leads c.add_if.new.self c.add_if.ensures c.in-Done.ensures.obeys;
-      so_far = marks_next script k command here within c.walk.marks c.add_if.new.self c.add_if.ensures c.walk.invariant.so_far;
-      stood = stands_next script k command here within c.walk.marks c.walk.invariant.so_far c.args.budget c.args.machine.now.parts p (g.I.Source.left c.args.input.now) (g.I.Source.left c.walk.input) c.walk.invariant.stood
+      so_far = points_next script k command here within c.walk.points c.add_if.new.self c.add_if.ensures c.walk.invariant.so_far;
+      stood = stands_next script k command here within c.walk.points c.walk.invariant.so_far c.args.budget c.args.machine.now.parts p (g.I.Source.left c.args.input.now) (g.I.Source.left c.walk.input) c.walk.invariant.stood
           q (g.I.Source.left c.obey.new.input) c.in-Done.ensures.obeys.state;
-      whole = comes_next script k command here within c.walk.marks c.walk.invariant.so_far c.args.budget c.args.machine.now.parts p (g.I.Source.left c.args.input.now) (g.I.Source.left c.walk.input) c.walk.invariant.stood
+      whole = comes_next script k command here within c.walk.points c.walk.invariant.so_far c.args.budget c.args.machine.now.parts p (g.I.Source.left c.args.input.now) (g.I.Source.left c.walk.input) c.walk.invariant.stood
           q (g.I.Source.left c.obey.new.input) (g.O.Sink.held c.args.output.now) (g.O.Sink.held c.walk.output) (g.O.Sink.held c.obey.new.output) (g.E.Sink.held c.args.errors.now) (g.E.Sink.held c.walk.errors) (g.E.Sink.held c.obey.new.errors) c.walk.invariant.whole
-          (comes_of (obeyed command c.walk.marks c.args.budget) p q (g.I.Source.left c.walk.input) (g.I.Source.left c.obey.new.input) (g.O.Sink.held c.walk.output) (g.O.Sink.held c.obey.new.output) (g.E.Sink.held c.walk.errors) (g.E.Sink.held c.obey.new.errors) Done c.in-Done.ensures.obeys);
-      breaks = breaks_at script k command here within c.walk.marks c.add_if.new.self c.add_if.ensures c.walk.invariant.breaks;
-      watches = watches_at script k command here within c.walk.marks c.add_if.new.self c.add_if.ensures c.walk.invariant.watches;
+          (comes_of (obeyed command c.walk.points c.args.budget) p q (g.I.Source.left c.walk.input) (g.I.Source.left c.obey.new.input) (g.O.Sink.held c.walk.output) (g.O.Sink.held c.obey.new.output) (g.E.Sink.held c.walk.errors) (g.E.Sink.held c.obey.new.errors) Done c.in-Done.ensures.obeys);
+      breaks = breaks_at script k command here within c.walk.points c.add_if.new.self c.add_if.ensures c.walk.invariant.breaks;
+      watches = watches_at script k command here within c.walk.points c.add_if.new.self c.add_if.ensures c.walk.invariant.watches;
       read = c.in-Done.ensures.read_cause.kept (λ (h : Done ≡ ReadFault). cc) ∙ c.walk.invariant.read;
       write = c.in-Done.ensures.write_cause.kept (λ (h : Done ≡ WriteFault). cc) ∙ c.walk.invariant.write;
       errors = c.in-Done.ensures.errors_cause.kept (λ (h : Done ≡ ErrorsFault). cc) ∙ c.walk.invariant.errors;
@@ -90,7 +90,7 @@ returns-in_default g c =
     let within : k < length script = omega (arith, same) in
     let p = c.walk.machine.parts in
     let q = c.obey.new.machine.parts in
-    let o = broken_at script k command here within (session script c.args.budget) c.walk.marks c.args.budget c.args.machine.now.parts p q (g.I.Source.left c.args.input.now) (g.I.Source.left c.walk.input) (g.I.Source.left c.obey.new.input)
+    let o = broken_at script k command here within (session script c.args.budget) c.walk.points c.args.budget c.args.machine.now.parts p q (g.I.Source.left c.args.input.now) (g.I.Source.left c.walk.input) (g.I.Source.left c.obey.new.input)
     (g.O.Sink.held c.args.output.now) (g.O.Sink.held c.walk.output) (g.O.Sink.held c.obey.new.output) (g.E.Sink.held c.args.errors.now) (g.E.Sink.held c.walk.errors) (g.E.Sink.held c.obey.new.errors)
     c.walk.invariant.leads c.obey.result c.in_default.not-Done c.obey.ensures.obeys in
     record {
@@ -98,7 +98,7 @@ returns-in_default g c =
       input = o.input;
       output = o.output;
       errors = o.errors;
-      stands = stands_broken script k command here within c.walk.marks c.walk.invariant.so_far c.args.budget c.args.machine.now.parts p (g.I.Source.left c.args.input.now) (g.I.Source.left c.walk.input) c.walk.invariant.stood
+      stands = stands_broken script k command here within c.walk.points c.walk.invariant.so_far c.args.budget c.args.machine.now.parts p (g.I.Source.left c.args.input.now) (g.I.Source.left c.walk.input) c.walk.invariant.stood
           c.obey.new.machine (g.I.Source.left c.obey.new.input) c.obey.result c.obey.ensures.leaves;
       done = λ h. absurd (c.in_default.not-Done h);
       line = c.obey.ensures.leaves.line;
@@ -110,10 +110,10 @@ returns-in_default g c =
       read_named = c.obey.ensures.read_named;
       write_named = c.obey.ensures.leaves.write_named;
       errors_named = c.obey.ensures.errors_named;
-      whole_output = λ h. output_broken script k command here within c.walk.marks c.walk.invariant.so_far c.args.budget c.args.machine.now.parts p (g.I.Source.left c.args.input.now) (g.I.Source.left c.walk.input) c.walk.invariant.stood
+      whole_output = λ h. output_broken script k command here within c.walk.points c.walk.invariant.so_far c.args.budget c.args.machine.now.parts p (g.I.Source.left c.args.input.now) (g.I.Source.left c.walk.input) c.walk.invariant.stood
           c.obey.new.machine (g.I.Source.left c.obey.new.input) (g.O.Sink.held c.args.output.now) (g.O.Sink.held c.walk.output) (g.O.Sink.held c.obey.new.output) (g.E.Sink.held c.args.errors.now) (g.E.Sink.held c.walk.errors) (g.E.Sink.held c.obey.new.errors) c.obey.result c.walk.invariant.whole c.obey.ensures.leaves.whole c.obey.ensures.spares
           (failed_by c.obey.new.machine.failed c.obey.result c.obey.ensures.leaves.line h) h;
-      whole_errors = errors_broken script k command here within c.walk.marks c.walk.invariant.so_far c.args.budget c.args.machine.now.parts p (g.I.Source.left c.args.input.now) (g.I.Source.left c.walk.input) c.walk.invariant.stood
+      whole_errors = errors_broken script k command here within c.walk.points c.walk.invariant.so_far c.args.budget c.args.machine.now.parts p (g.I.Source.left c.args.input.now) (g.I.Source.left c.walk.input) c.walk.invariant.stood
           c.obey.new.machine (g.I.Source.left c.obey.new.input) (g.O.Sink.held c.args.output.now) (g.O.Sink.held c.walk.output) (g.O.Sink.held c.obey.new.output) (g.E.Sink.held c.args.errors.now) (g.E.Sink.held c.walk.errors) (g.E.Sink.held c.obey.new.errors) c.obey.result c.walk.invariant.whole c.obey.ensures.leaves.whole c.obey.ensures.spares;
     }
 
@@ -122,7 +122,7 @@ returns g c =
     let script = c.args.script.now in
     let same = ap length c.commands-commands.ensures.commands in
     let over : length script ≤ c.walk.k = omega (arith, same) in
-    let o = all_done (session script c.args.budget) script c.walk.k c.walk.marks c.args.budget c.args.machine.now.parts c.walk.machine.parts (g.I.Source.left c.args.input.now) (g.I.Source.left c.walk.input)
+    let o = all_done (session script c.args.budget) script c.walk.k c.walk.points c.args.budget c.args.machine.now.parts c.walk.machine.parts (g.I.Source.left c.args.input.now) (g.I.Source.left c.walk.input)
     (g.O.Sink.held c.args.output.now) (g.O.Sink.held c.walk.output) (g.E.Sink.held c.args.errors.now) (g.E.Sink.held c.walk.errors) over c.walk.invariant.leads in
     record {
       state = o.state;

@@ -26,11 +26,11 @@ first_allowed (suc n) m a h word none =
 
 pub returns-in-None-clause-sure : goal.returns-in-None-clause-sure
 returns-in-None-clause-sure c = λ some none.
-    let yes : allowed c.args.mem.now Write c.args.at ≡ true = first_allowed (length c.args.bytes.now) c.args.mem.now c.args.at some c.ranges.at.fits none in
-    let no : allowed c.args.mem.now Write c.args.at ≡ false = none_allowed (allowed c.args.mem.now Write c.args.at) (to_page_end c.args.at (length c.args.bytes.now)) c.in-None.ensures.count in
+    let yes : allowed c.args.mem.now.memory Write c.args.at ≡ true = first_allowed (length c.args.bytes.now) c.args.mem.now.memory c.args.at some c.ranges.at.fits none in
+    let no : allowed c.args.mem.now.memory Write c.args.at ≡ false = none_allowed (allowed c.args.mem.now.memory Write c.args.at) (to_page_end c.args.at (length c.args.bytes.now)) c.in-None.ensures.count in
     cc
 
 pub returns-in-Some-clause-allowed : goal.returns-in-Some-clause-allowed
 returns-in-Some-clause-allowed c = λ is.
-    none_refused_within c.args.mem.now c.args.at (length c.args.bytes.now) c.ranges.at.fits c.requires Write
-    (some_allowed (allowed c.args.mem.now Write c.args.at) c.in-Some.field-0 (to_page_end c.args.at (length c.args.bytes.now)) c.in-Some.ensures.count)
+    none_refused_within c.args.mem.now.memory c.args.at (length c.args.bytes.now) c.ranges.at.fits c.requires Write
+    (some_allowed (allowed c.args.mem.now.memory Write c.args.at) c.in-Some.field-0 (to_page_end c.args.at (length c.args.bytes.now)) c.in-Some.ensures.count)

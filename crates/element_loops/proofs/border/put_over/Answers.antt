@@ -14,11 +14,11 @@ returns-clause-allowed c = λ is.
     let b : ℕ = (c.args.at + (page_size - c.args.at % page_size)) % 2 ^ 64 in
     let n : ℕ = length c.args.bytes.now in
     let long : length (take (page_size - c.args.at % page_size) c.args.bytes.now) ≡ page_size - c.args.at % page_size = omega (arith, length-take (page_size - c.args.at % page_size) c.args.bytes.now, c.if-bytes-first.false) in
-    let one : refused c.args.mem.now c.args.at f Write ≡ None = subst (λ n. refused c.args.mem.now c.args.at n Write ≡ None) long (c.if-not-put_bytes.ensures.allowed refl) in
+    let one : refused c.args.mem.now.memory c.args.at f Write ≡ None = subst (λ n. refused c.args.mem.now.memory c.args.at n Write ≡ None) long (c.if-not-put_bytes.ensures.allowed refl) in
     let fits : b % page_size + (n - f) ≤ page_size = omega (arith, c.requires) in
     let word : b < 2 ^ 64 = omega arith in
-    let two : refused c.args.mem.now b (n - f) Write ≡ None = none_refused_within c.args.mem.now b (n - f) word fits Write (sym c.may_write.ensures ∙ c.if-not-may_write.false) in
-    joined_allowed c.args.mem.now Write c.args.at n f (n - f) b one two refl (omega arith) (omega arith) (omega arith)
+    let two : refused c.args.mem.now.memory b (n - f) Write ≡ None = none_refused_within c.args.mem.now.memory b (n - f) word fits Write (sym c.may_write.ensures ∙ c.if-not-may_write.false) in
+    joined_allowed c.args.mem.now.memory Write c.args.at n f (n - f) b one two refl (omega arith) (omega arith) (omega arith)
 
 pub returns-clause-written : goal.returns-clause-written
 returns-clause-written c = λ is.
@@ -28,17 +28,17 @@ returns-clause-written c = λ is.
     let bs : List ℕ = c.args.bytes.now in
     let fits : b % page_size + (n - f) ≤ page_size = omega (arith, c.requires) in
     let word : b < 2 ^ 64 = omega arith in
-    let two : refused c.args.mem.now b (n - f) Write ≡ None = none_refused_within c.args.mem.now b (n - f) word fits Write (sym c.may_write.ensures ∙ c.if-not-may_write.false) in
-    let first : c.put_bytes-2.new.mem ≡ with_bytes c.args.mem.now c.args.at (take f bs) = c.if-not-put_bytes.ensures.written refl in
+    let two : refused c.args.mem.now.memory b (n - f) Write ≡ None = none_refused_within c.args.mem.now.memory b (n - f) word fits Write (sym c.may_write.ensures ∙ c.if-not-may_write.false) in
+    let first : c.put_bytes-2.new.mem.memory ≡ with_bytes c.args.mem.now.memory c.args.at (take f bs) = c.if-not-put_bytes.ensures.written refl in
     let piece : take (n - f) (drop f bs) ≡ drop f bs = take_all (n - f) (drop f bs) (omega (arith, length-drop f bs)) in
     let long : length (take (n - f) (drop f bs)) ≡ n - f = ap (λ (xs : List ℕ). length xs) piece ∙ length-drop f bs in
-    let still : refused c.put_bytes-2.new.mem b (length (take (n - f) (drop f bs))) Write ≡ None
+    let still : refused c.put_bytes-2.new.mem.memory b (length (take (n - f) (drop f bs))) Write ≡ None
     = ap (λ (m : Memory). refused m b (length (take (n - f) (drop f bs))) Write) first
-    ∙ written_refused (take f bs) c.args.mem.now c.args.at b (length (take (n - f) (drop f bs))) Write (λ t. part_small_first f bs t (λ k. (c.type_inv.bytes k).fits))
-    ∙ ap (λ n. refused c.args.mem.now b n Write) long ∙ two in
+    ∙ written_refused (take f bs) c.args.mem.now.memory c.args.at b (length (take (n - f) (drop f bs))) Write (λ t. part_small_first f bs t (λ k. (c.type_inv.bytes k).fits))
+    ∙ ap (λ n. refused c.args.mem.now.memory b n Write) long ∙ two in
     let some : 0 < length (take (n - f) (drop f bs)) = omega (arith, long, c.if-bytes-first.false) in
     let sure : c.put_bytes-3.result ≡ true = c.put_bytes-3.ensures.sure some still in
     c.put_bytes-3.ensures.written sure
-    ∙ ap (λ (xs : List ℕ). with_bytes c.put_bytes-2.new.mem b xs) piece
+    ∙ ap (λ (xs : List ℕ). with_bytes c.put_bytes-2.new.mem.memory b xs) piece
     ∙ ap (λ (m : Memory). with_bytes m b (drop f bs)) first
-    ∙ written_parts bs c.args.mem.now c.args.at f b (omega (arith, c.if-bytes-first.false)) (omega arith)
+    ∙ written_parts bs c.args.mem.now.memory c.args.at f b (omega (arith, c.if-bytes-first.false)) (omega arith)

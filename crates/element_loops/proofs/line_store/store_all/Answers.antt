@@ -21,9 +21,9 @@ returns-then-put_over-clause-stored c = λ is.
     let few : c.total_bytes-total.result ≤ length c.fill.new.bytes = omega (arith, c.if-total-gt1024.false, c.fill.ensures.long) in
     let count : length (take c.total_bytes-total.result c.fill.new.bytes) ≡ c.args.plan.now.lanes * c.args.plan.now.registers * c.args.plan.now.bytes
     = omega (arith, length-take c.total_bytes-total.result c.fill.new.bytes, few, total) in
-    let free : refused c.args.mem.now c.args.line.now.base (c.args.plan.now.lanes * c.args.plan.now.registers * c.args.plan.now.bytes) Write ≡ None
-    = subst (λ n. refused c.args.mem.now c.args.line.now.base n Write ≡ None) count (c.if-put_over.ensures.allowed refl) in
-    all_stored c.args.line.now.base c.args.line.now.pg c.args.line.now.whole c.args.plan.now c.args.vec.now c.requires.line f c.args.mem.now c.fill.new.bytes c.requires.plan.most free (omega (arith, few, total)) c.fill.ensures.filled
-    (c.are_all_on.ensures c.if-not-are_all_on.false) c.put_over.new.mem c.args.log.now.items c.push_run.new.self.items c.requires.empty
-    (c.if-put_over.ensures.written refl ∙ ap (λ n. with_bytes c.args.mem.now c.args.line.now.base (take n c.fill.new.bytes)) total)
+    let free : refused c.args.mem.now.memory c.args.line.now.base (c.args.plan.now.lanes * c.args.plan.now.registers * c.args.plan.now.bytes) Write ≡ None
+    = subst (λ n. refused c.args.mem.now.memory c.args.line.now.base n Write ≡ None) count (c.if-put_over.ensures.allowed refl) in
+    all_stored c.args.line.now.base c.args.line.now.pg c.args.line.now.whole c.args.plan.now c.args.vec.now c.requires.line f c.args.mem.now.memory c.fill.new.bytes c.requires.plan.most free (omega (arith, few, total)) c.fill.ensures.filled
+    (c.are_all_on.ensures c.if-not-are_all_on.false) c.put_over.new.mem.memory c.args.log.now.items c.push_run.new.self.items c.requires.empty
+    (c.if-put_over.ensures.written refl ∙ ap (λ n. with_bytes c.args.mem.now.memory c.args.line.now.base (take n c.fill.new.bytes)) total)
     (c.push_run.ensures.items ∙ ap (λ n. c.args.log.now.items ++ each n (λ (i : ℕ). let x : Access = record { address = address (c.args.line.now.base + i * c.args.plan.now.bytes); bytes = c.args.plan.now.bytes; write = true } in x)) c.most_elements.ensures.value)

@@ -33,13 +33,13 @@ returns-then-put_over-clause-stored c = λ is.
     let count : length (take (c.bits-total.result / 64) c.bytes_of_words-bytes.result) ≡ c.args.plan.now.lanes * c.args.plan.now.registers * c.args.plan.now.bytes
     = omega (arith, length-take (c.bits-total.result / 64) c.bytes_of_words-bytes.result, few, total, all) in
     let room : c.args.plan.now.lanes * c.args.plan.now.registers * c.args.plan.now.bytes ≤ length c.bytes_of_words-bytes.result = omega (arith, few, total, all) in
-    let free : refused c.args.mem.now c.args.line.now.base (c.args.plan.now.lanes * c.args.plan.now.registers * c.args.plan.now.bytes) Write ≡ None
-    = subst (λ n. refused c.args.mem.now c.args.line.now.base n Write ≡ None) count (c.if-put_over.ensures.allowed refl) in
+    let free : refused c.args.mem.now.memory c.args.line.now.base (c.args.plan.now.lanes * c.args.plan.now.registers * c.args.plan.now.bytes) Write ≡ None
+    = subst (λ n. refused c.args.mem.now.memory c.args.line.now.base n Write ≡ None) count (c.if-put_over.ensures.allowed refl) in
     let filled : AreFilled p.bytes (stored_in_turn (stored_by p.target (layout_of p v) v) p v) (p.lanes * p.registers) bs
     = subst (λ (t : Target). AreFilled p.bytes (stored_in_turn (stored_by t (layout_of p v) v) p v) (p.lanes * p.registers) bs) (sym c.requires.target)
     (bits_filled c.args.pt p v bs c.p_words.result.now whole small c.length.ensures.length c.p_words.ensures.words c.bytes_of_words-bytes.ensures) in
-    all_stored base c.args.line.now.pg c.args.line.now.whole p v c.requires.line (stored_by p.target (layout_of p v) v) c.args.mem.now bs c.requires.plan.most free room filled
-    (all_on c.args.pt base c.args.line.now.pg c.args.line.now.whole p v c.requires.line whole) c.put_over.new.mem before c.push_run.new.self.items c.requires.empty
-    (c.if-put_over.ensures.written refl ∙ ap (λ n. with_bytes c.args.mem.now base (take n bs)) (total ∙ sym all))
+    all_stored base c.args.line.now.pg c.args.line.now.whole p v c.requires.line (stored_by p.target (layout_of p v) v) c.args.mem.now.memory bs c.requires.plan.most free room filled
+    (all_on c.args.pt base c.args.line.now.pg c.args.line.now.whole p v c.requires.line whole) c.put_over.new.mem.memory before c.push_run.new.self.items c.requires.empty
+    (c.if-put_over.ensures.written refl ∙ ap (λ n. with_bytes c.args.mem.now.memory base (take n bs)) (total ∙ sym all))
     (c.push_run.ensures.items ∙ ap (λ n. before ++ each n (λ (i : ℕ). let x : Access = record { address = address (base + i * 1); bytes = 1; write = true } in x)) lanes
     ∙ ap (λ n. before ++ each (p.lanes * p.registers) (λ (i : ℕ). let x : Access = record { address = address (base + i * n); bytes = n; write = true } in x)) (sym whole.bytes))

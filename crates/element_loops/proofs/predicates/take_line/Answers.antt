@@ -31,10 +31,10 @@ returns-clause-loaded c = λ is.
     let total : c.bits-total.result / 64 ≡ c.args.vec.now.bits / 64 = ap (λ n. n / 64) (c.bits-total.ensures.value ∙ c.length.ensures.value) in
     let all : c.args.plan.now.lanes * c.args.plan.now.registers * c.args.plan.now.bytes ≡ c.args.vec.now.bits / 64
     = all_bytes c.args.pt c.args.line.now.base c.args.line.now.pg c.args.line.now.whole p v c.requires.line whole in
-    let free : refused c.args.mem.now c.args.line.now.base (c.args.plan.now.lanes * c.args.plan.now.registers * c.args.plan.now.bytes) Read ≡ None
-    = subst (λ n. refused c.args.mem.now c.args.line.now.base n Read ≡ None) (total ∙ sym all) (c.joined.ensures.allowed c.if-not-joined.false) in
+    let free : refused c.args.mem.now.memory c.args.line.now.base (c.args.plan.now.lanes * c.args.plan.now.registers * c.args.plan.now.bytes) Read ≡ None
+    = subst (λ n. refused c.args.mem.now.memory c.args.line.now.base n Read ≡ None) (total ∙ sym all) (c.joined.ensures.allowed c.if-not-joined.false) in
     record {
-      reached = line_reached c.args.line.now.base c.args.line.now.pg c.args.line.now.whole p v c.requires.line c.args.mem.now Read free;
+      reached = line_reached c.args.line.now.base c.args.line.now.pg c.args.line.now.whole p v c.requires.line c.args.mem.now.memory Read free;
       logged = bytes_noted c.args.pt c.args.line.now.base c.args.line.now.pg c.args.line.now.whole p v c.requires.line whole false c.args.log.now.items c.push_run.new.self.items c.requires.empty
           (c.push_run.ensures.items ∙ ap (λ n. c.args.log.now.items ++ each n (λ (i : ℕ). let x : Access = record { address = address (c.args.line.now.base + i * 1); bytes = 1; write = false } in x)) total);
     }
@@ -46,6 +46,6 @@ returns-clause-registers c = λ is.
     let whole : IsPredicate c.args.pt c.args.plan.now c.args.vec.now = subst (λ (t : Target). IsTarget t c.args.plan.now c.args.vec.now) c.requires.target c.requires.plan.target in
     let total : c.bits-total.result / 64 ≡ c.args.vec.now.bits / 64 = ap (λ n. n / 64) (c.bits-total.ensures.value ∙ c.length.ensures.value) in
     c.set_p_words.ensures
-    ∙ bits_loaded c.args.pt c.args.line.now.base c.args.line.now.pg c.args.line.now.whole p v c.requires.line whole c.args.mem.now c.joined.new.bytes c.bits_of_bytes.result c.length.ensures.length
-    (λ j b. c.joined.ensures.bytes c.if-not-joined.false j (omega (arith, b, total)) ∙ ap (λ n. get_or (bytes_at c.args.mem.now c.args.line.now.base n) j 0) total) c.bits_of_bytes.ensures
-    ∙ ap (λ (t : Target). loaded_by t p.is_signed (layout_of p v) c.args.mem.now v) (sym c.requires.target)
+    ∙ bits_loaded c.args.pt c.args.line.now.base c.args.line.now.pg c.args.line.now.whole p v c.requires.line whole c.args.mem.now.memory c.joined.new.bytes c.bits_of_bytes.result c.length.ensures.length
+    (λ j b. c.joined.ensures.bytes c.if-not-joined.false j (omega (arith, b, total)) ∙ ap (λ n. get_or (bytes_at c.args.mem.now.memory c.args.line.now.base n) j 0) total) c.bits_of_bytes.ensures
+    ∙ ap (λ (t : Target). loaded_by t p.is_signed (layout_of p v) c.args.mem.now.memory v) (sym c.requires.target)

@@ -29,10 +29,10 @@ pub returns-in-Some-clause-loaded : goal.returns-in-Some-clause-loaded
 returns-in-Some-clause-loaded c = λ is.
     let count : to_page_end c.args.line.now.base c.total_bytes-total.result ≡ c.args.plan.now.lanes * c.args.plan.now.registers * c.args.plan.now.bytes
     = sym c.in-Some.ensures.length ∙ c.if-bytes-total.true ∙ c.total_bytes-total.ensures in
-    let free : refused c.args.mem.now c.args.line.now.base (c.args.plan.now.lanes * c.args.plan.now.registers * c.args.plan.now.bytes) Read ≡ None
-    = subst (λ n. refused c.args.mem.now c.args.line.now.base n Read ≡ None) count c.in-Some.ensures.allowed in
+    let free : refused c.args.mem.now.memory c.args.line.now.base (c.args.plan.now.lanes * c.args.plan.now.registers * c.args.plan.now.bytes) Read ≡ None
+    = subst (λ n. refused c.args.mem.now.memory c.args.line.now.base n Read ≡ None) count c.in-Some.ensures.allowed in
     record {
-      reached = line_reached c.args.line.now.base c.args.line.now.pg c.args.line.now.whole c.args.plan.now c.args.vec.now c.requires.line c.args.mem.now Read free;
+      reached = line_reached c.args.line.now.base c.args.line.now.pg c.args.line.now.whole c.args.plan.now c.args.vec.now c.requires.line c.args.mem.now.memory Read free;
       logged = c.note.ensures;
     }
 
@@ -44,9 +44,9 @@ returns-in-Some-clause-registers c = λ is.
     c.set_z_words.ensures
     ∙ ap (λ (bs : List ℕ). with_z c.args.vec.now c.args.plan.now.register bs)
     (repeated_bytes c.args.plan.now.bits c.args.plan.now.lanes c.args.vec.now.bits (is_kept 0 c.args.line.now.pg c.args.plan.now.bits c.args.vec.now)
-    (lane_at c.args.plan.now.is_signed c.args.plan.now.bits c.args.plan.now.bytes c.in-Some.bytes.now 0 c.args.plan.now.bytes) (loaded_lane false (layout_of c.args.plan.now c.args.vec.now) c.args.mem.now 0)
+    (lane_at c.args.plan.now.is_signed c.args.plan.now.bits c.args.plan.now.bytes c.in-Some.bytes.now 0 c.args.plan.now.bytes) (loaded_lane false (layout_of c.args.plan.now c.args.vec.now) c.args.mem.now.memory 0)
     c.put_words.new.words c.keep_active.new.words c.repeat_first.new.words c.requires.plan.size repeated.lanes c.put_words.ensures.bytes c.keep_active.ensures.bytes
     (λ j b. c.repeat_first.ensures.bytes j (omega (arith, b, c.bits-count.ensures.value, c.length.ensures.value, c.length.ensures.length.multiple)))
-    (λ k b. quad_lane c.args.line.now.base c.args.line.now.pg c.args.line.now.whole c.args.plan.now c.args.vec.now c.requires.line c.requires.none repeated.one repeated.unsigned c.args.mem.now c.in-Some.bytes.now k b
-    (c.in-Some.ensures.bytes ∙ ap (λ n. bytes_at c.args.mem.now c.args.line.now.base n) count)))
-    ∙ ap (λ (t : Target). loaded_by t c.args.plan.now.is_signed (layout_of c.args.plan.now c.args.vec.now) c.args.mem.now c.args.vec.now) (sym c.requires.target)
+    (λ k b. quad_lane c.args.line.now.base c.args.line.now.pg c.args.line.now.whole c.args.plan.now c.args.vec.now c.requires.line c.requires.none repeated.one repeated.unsigned c.args.mem.now.memory c.in-Some.bytes.now k b
+    (c.in-Some.ensures.bytes ∙ ap (λ n. bytes_at c.args.mem.now.memory c.args.line.now.base n) count)))
+    ∙ ap (λ (t : Target). loaded_by t c.args.plan.now.is_signed (layout_of c.args.plan.now c.args.vec.now) c.args.mem.now.memory c.args.vec.now) (sym c.requires.target)

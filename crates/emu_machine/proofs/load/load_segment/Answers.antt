@@ -7,9 +7,9 @@ use Rattle.guest_pages.specs.MapFault.{map_fault}
 use Rattle.emu_machine.proofs.Loading.{has_pages, free_of, when_ok}
 use Rattle.emu_machine.proofs.load.load_segment.Goals as goal
 
-pub returns : goal.returns
-returns c =
-    let old = c.args.pages.now in
+pub returns-clause-pages : goal.returns-clause-pages
+returns-clause-pages c =
+    let old = c.args.pages.now.memory in
     let file = c.args.file.now in
     let s = c.args.segment.now in
     let first = first_page s in
@@ -21,9 +21,9 @@ returns c =
     length-take s.file_size (drop s.offset file) ∙ (let e = length-drop s.offset file in let within = c.requires.loadable.within in omega (arith, e)) in
     let part = c.requires.loadable.part in
     let high = c.requires.loadable.high in
-    has_pages old first (page_count s) s.rights (record { at = s.address; bytes = take s.file_size (drop s.offset file) } ∷ []) c.copy.new.pages
+    has_pages old first (page_count s) s.rights (record { at = s.address; bytes = take s.file_size (drop s.offset file) } ∷ []) c.copy.new.pages.memory
     (record { low = omega (arith, many); high = omega (arith, many); word = omega (arith, many) }, tt)
     (free_of (least_mapped old.pages first (page_count s)) (is_over_limit old (page_count s)) c.requires.free)
-    (c.copy.ensures
+    (c.copy.ensures.bytes
     ∙ ap (λ (m : Memory). with_bytes m s.address (take ((s.offset + s.file_size) - s.offset) (drop s.offset file))) (mapped_is ∙ ap (λ n. mapped old first (n - first) s.rights) end)
     ∙ ap (λ n. with_bytes (mapped old first (page_count s) s.rights) s.address (take n (drop s.offset file))) size)

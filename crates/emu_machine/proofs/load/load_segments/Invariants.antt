@@ -6,7 +6,7 @@ use Rattle.emu_machine.proofs.load.load_segments.Given as goal
 
 abbrev pub invariant-loop-segment : goal.invariant-loop-segment
 invariant-loop-segment l = record {
-  pages : l.pages.pages ≡ from_entries (flat_map (segment_pages l.file) (take l.segment-index l.segments));
-  limit : l.pages.limit ≡ l.fn.pages.limit;
+  pages : l.pages.memory.pages ≡ from_entries (flat_map (segment_pages l.file) (take l.segment-index l.segments));
+  limit : l.pages.memory.limit ≡ l.fn.pages.memory.limit;
   marks : l.pages.marks ≡ l.fn.pages.marks;
 }

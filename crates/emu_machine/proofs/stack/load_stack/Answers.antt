@@ -15,20 +15,20 @@ put_arguments-requires c =
     let at = c.requires.layout.arguments in
     omega arith
 
-pub returns : goal.returns
-returns c =
-    let old = c.args.pages.now in
+pub returns-clause-pages : goal.returns-clause-pages
+returns-clause-pages c =
+    let old = c.args.pages.now.memory in
     let args = map string_bytes c.args.args.now in
     let image = seen_image c.args.image.now in
     let words : List ℕ = word_bytes (start_words image args) in
     let bytes : List ℕ = argument_bytes args in
     let blank : Memory = mapped old first_stack_page stack_page_count stack_rights in
     let at = c.requires.layout in
-    has_pages old first_stack_page stack_page_count stack_rights (stack_pieces image args) c.put_start_words.new.pages
+    has_pages old first_stack_page stack_page_count stack_rights (stack_pieces image args) c.put_start_words.new.pages.memory
     (pieces_within image args c.requires.arguments)
     (free_of (least_mapped old.pages first_stack_page stack_page_count) (is_over_limit old stack_page_count) c.requires.free)
-    (c.put_start_words.ensures
-    ∙ ap (λ (m : Memory). with_bytes m c.args.layout.words words) (c.copy.ensures ∙ ap (λ (m : Memory). with_bytes m c.args.layout.random c.random_bytes.result) c.put_arguments.ensures)
+    (c.put_start_words.ensures.bytes
+    ∙ ap (λ (m : Memory). with_bytes m c.args.layout.words words) (c.copy.ensures.bytes ∙ ap (λ (m : Memory). with_bytes m c.args.layout.random c.random_bytes.result) c.put_arguments.ensures.bytes)
     ∙ ap (λ (m : Memory). with_bytes (with_bytes (with_bytes m c.args.layout.arguments bytes) c.args.layout.random c.random_bytes.result) c.args.layout.words words) (when_ok c.map.result (record {}) (c.map.ensures.granted c.requires.free) c.map.ensures.mapped)
     ∙ ap (λ n. with_bytes (with_bytes (with_bytes blank n bytes) c.args.layout.random c.random_bytes.result) c.args.layout.words words) at.arguments
     ∙ ap (λ n. with_bytes (with_bytes (with_bytes blank (arguments_at args) bytes) n c.random_bytes.result) c.args.layout.words words) at.random

@@ -12,7 +12,7 @@ loop-arg-preserved c =
     let xs = c.args.args.now in
     let i = c.loop-arg.arg-index in
     let arg = c.arg-item.result in
-    let m = c.loop-arg.pages in
+    let m = c.loop-arg.pages.memory in
     let at = c.loop-arg.at in
     let others = argument_bytes (map string_bytes (drop (i + 1) xs)) in
     let bytes = c.as_bytes-bytes.ensures.value ∙ ap (λ (s : String Global). string_bytes s) c.arg-item.is in
@@ -22,9 +22,10 @@ loop-arg-preserved c =
     record {
       place = omega arith;
       rest =
-          ap (λ (n : Memory). with_bytes n (at + length c.as_bytes-bytes.result.now + 1) others) c.copy-in-loop-arg.ensures
-          ∙ ap (λ (n : Memory). with_bytes (with_bytes n (at + length c.as_bytes-bytes.result.now) (0 ∷ [])) (at + length c.as_bytes-bytes.result.now + 1) others) c.copy.ensures
+          ap (λ (n : Memory). with_bytes n (at + length c.as_bytes-bytes.result.now + 1) others) c.copy-in-loop-arg.ensures.bytes
+          ∙ ap (λ (n : Memory). with_bytes (with_bytes n (at + length c.as_bytes-bytes.result.now) (0 ∷ [])) (at + length c.as_bytes-bytes.result.now + 1) others) c.copy.ensures.bytes
           ∙ ap (λ (l : List ℕ). with_bytes (with_bytes (with_bytes m at l) (at + length l) (0 ∷ [])) (at + length l + 1) others) bytes
           ∙ argument_written string_bytes xs i arg (omega arith) m at
           ∙ kept.rest;
+      marks = c.copy-in-loop-arg.ensures.marks ∙ c.copy.ensures.marks ∙ kept.marks;
     }

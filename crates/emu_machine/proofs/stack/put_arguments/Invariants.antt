@@ -6,5 +6,6 @@ use Rattle.emu_machine.proofs.stack.put_arguments.Given as goal
 abbrev pub invariant-loop-arg : goal.invariant-loop-arg
 invariant-loop-arg l = record {
   place : l.at + length (argument_bytes (map string_bytes (drop l.arg-index l.args))) ≡ l.address + length (argument_bytes (map string_bytes l.args));
-  rest : with_bytes l.pages l.at (argument_bytes (map string_bytes (drop l.arg-index l.args))) ≡ with_bytes l.fn.pages l.address (argument_bytes (map string_bytes l.args));
+  rest : with_bytes l.pages.memory l.at (argument_bytes (map string_bytes (drop l.arg-index l.args))) ≡ with_bytes l.fn.pages.memory l.address (argument_bytes (map string_bytes l.args));
+  marks : l.pages.marks ≡ l.fn.pages.marks;
 }

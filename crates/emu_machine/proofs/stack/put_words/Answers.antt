@@ -5,9 +5,9 @@ use Rattle.emu_system.specs.Stack.{word_bytes}
 use Rattle.emu_machine.proofs.Laid.{no_words_written}
 use Rattle.emu_machine.proofs.stack.put_words.Goals as goal
 
-pub returns : goal.returns
-returns c =
-    let m = c.loop-word.pages in
+pub returns-clause-bytes : goal.returns-clause-bytes
+returns-clause-bytes c =
+    let m = c.loop-word.pages.memory in
     let at = c.loop-word.at in
     sym (no_words_written m at)
     ∙ ap (λ (ws : List ℕ). with_bytes m at (word_bytes ws)) (sym (drop_all c.loop-word.word-index c.args.words.now (omega arith)))

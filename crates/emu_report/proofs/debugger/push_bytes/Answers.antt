@@ -6,7 +6,7 @@ use Rattle.emu_report.proofs.debugger.push_bytes.Goals as goal
 
 pub bytes-preserved : goal.bytes-preserved
 bytes-preserved c = record {
-  text = lines_appended _ _ _ (λ k. byte_text (peeked c.args.mem.now (c.args.address + k))) c.bytes.k c.bytes.invariant.text
+  text = lines_appended _ _ _ (λ k. byte_text (peeked c.args.mem.now.memory (c.args.address + k))) c.bytes.k c.bytes.invariant.text
       (c.push_byte.ensures.text ∙ ap (λ (byte : Option ℕ). c.bytes.text ++ byte_text byte) c.peek.ensures);
   count = omega arith;
 }

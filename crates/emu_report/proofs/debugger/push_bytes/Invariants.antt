@@ -6,6 +6,6 @@ use Rattle.emu_report.proofs.debugger.push_bytes.Given as goal
 
 abbrev pub invariant-bytes : goal.invariant-bytes
 invariant-bytes l = record {
-  text : l.text ≡ l.fn.text ++ lines_of l.k (λ k. byte_text (peeked l.mem (l.address + k)));
+  text : l.text ≡ l.fn.text ++ lines_of l.k (λ k. byte_text (peeked l.mem.memory (l.address + k)));
   count : length l.text ≡ length l.fn.text + 3 * l.k;
 }

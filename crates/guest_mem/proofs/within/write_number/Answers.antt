@@ -6,7 +6,7 @@ use Rattle.guest_mem.proofs.within.write_number.Goals as goal
 
 pub returns-in-1-clause-memory : goal.returns-in-1-clause-memory
 returns-in-1-clause-memory c =
-    let m = c.args.pages.now in
+    let m = c.args.pages.now.memory in
     let a = c.args.address in
     let v = c.args.v in
     c.store.ensures.bytes
@@ -14,7 +14,7 @@ returns-in-1-clause-memory c =
 
 pub returns-in-2-clause-memory : goal.returns-in-2-clause-memory
 returns-in-2-clause-memory c =
-    let m = c.args.pages.now in
+    let m = c.args.pages.now.memory in
     let a = c.args.address in
     let v = c.args.v in
     c.store-in-2.ensures.bytes
@@ -23,7 +23,7 @@ returns-in-2-clause-memory c =
 
 pub returns-in-4-clause-memory : goal.returns-in-4-clause-memory
 returns-in-4-clause-memory c =
-    let m = c.args.pages.now in
+    let m = c.args.pages.now.memory in
     let a = c.args.address in
     let v = c.args.v in
     c.store-in-4.ensures.bytes
@@ -32,7 +32,7 @@ returns-in-4-clause-memory c =
 
 pub returns-in-8-clause-memory : goal.returns-in-8-clause-memory
 returns-in-8-clause-memory c =
-    let m = c.args.pages.now in
+    let m = c.args.pages.now.memory in
     let a = c.args.address in
     let v = c.args.v in
     c.store-in-8.ensures.bytes
@@ -41,7 +41,7 @@ returns-in-8-clause-memory c =
 
 pub returns-in_default-clause-memory : goal.returns-in_default-clause-memory
 returns-in_default-clause-memory c =
-    let m = c.args.pages.now in
+    let m = c.args.pages.now.memory in
     let a = c.args.address in
     let n = c.args.n in
     c.store-in_default.ensures.bytes

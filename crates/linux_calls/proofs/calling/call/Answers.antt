@@ -6,4 +6,4 @@ use Rattle.linux_calls.proofs.calling.call.Goals as goal
 
 pub returns-clause-refused : goal.returns-clause-refused
 returns-clause-refused g c error is =
-    refused_done _ _ _ _ _ _ _ error c.make.result (ap (λ (n : CallName). action_of n c.args.core.now c.args.vec.now c.args.mem.now c.args.brk.now) c.name_of_call-name.ensures.name) c.make.ensures.done is
+    refused_done _ _ _ _ _ _ _ error c.make.result (ap (λ (n : CallName). action_of n c.args.core.now c.args.vec.now c.args.mem.now.memory c.args.brk.now) c.name_of_call-name.ensures.name) c.make.ensures.done is

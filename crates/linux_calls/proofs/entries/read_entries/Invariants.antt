@@ -5,5 +5,5 @@ use Rattle.linux_calls.proofs.entries.read_entries.Given as goal
 abbrev pub invariant-loop-k : goal.invariant-loop-k
 invariant-loop-k l = record {
   unchanged : l.mem ≡ l.fn.mem;
-  entries : l.ranges.items ≡ entries l.fn.mem l.at l.k;
+  entries : l.ranges.items ≡ entries l.fn.mem.memory l.at l.k;
 }

@@ -8,8 +8,9 @@ use Rattle.linux_calls.proofs.ranges.take_range.Given as goal
 abbrev pub invariant-loop-at : goal.invariant-loop-at
 invariant-loop-at g l = record {
   within : l.at ≤ l.count;
-  writable : refused l.mem (l.address + l.at) (l.count - l.at) Write ≡ None;
-  takes : Takes l.at (with_bytes l.fn.mem l.address) l.mem (g.S.Source.left l.fn.source) (g.S.Source.left l.source);
+  writable : refused l.mem.memory (l.address + l.at) (l.count - l.at) Write ≡ None;
+  takes : Takes l.at (with_bytes l.fn.mem.memory l.address) l.mem.memory (g.S.Source.left l.fn.source) (g.S.Source.left l.source);
+  marks : l.mem.marks ≡ l.fn.mem.marks;
   kept : g.S.Source.faults l.source ≡ g.S.Source.faults l.fn.source;
 }
 

@@ -5,7 +5,7 @@ use Rattle.sve_ffr.proofs.taking.take.Given as goal
 
 abbrev pub invariant-loop-k : goal.invariant-loop-k
 invariant-loop-k l = record {
-  taken : (r : ℕ) → AreFrom 0 l.n (lanes_of (listed r l.list)) → AreTaken r l.e l.n l.list l.fn.mem l.k l.taken l.log.items;
+  taken : (r : ℕ) → AreFrom 0 l.n (lanes_of (listed r l.list)) → AreTaken r l.e l.n l.list l.fn.mem.memory l.k l.taken l.log.items;
   memory : l.mem ≡ l.fn.mem;
   count : length l.taken.values.items ≡ l.k;
   room : length l.log.items ≤ l.k;

@@ -7,7 +7,7 @@ use Rattle.sve_gather.proofs.gather.load_words.Given as goal
 
 abbrev pub invariant-loop-i : goal.invariant-loop-i
 invariant-loop-i g l = record {
-  loaded : AreLoaded l.fn.mem (elements_below (layout_of l.plan l.vec) (l.i * (64 / l.plan.bits))) l.log.items;
-  words : AreWords l.plan l.vec l.fn.mem l.i l.words;
+  loaded : AreLoaded l.fn.mem.memory (elements_below (layout_of l.plan l.vec) (l.i * (64 / l.plan.bits))) l.log.items;
+  words : AreWords l.plan l.vec l.fn.mem.memory l.i l.words;
   memory : l.mem ≡ l.fn.mem;
 }

@@ -14,13 +14,13 @@ mark-requires c =
       going = c.requires.going;
       index = omega (arith, count);
       place = omega (arith, saved);
-      none = all_none c.args.machine.now.parts.memory.marks.list 0 c.requires.none;
+      none = all_none c.args.machine.now.marks 0 c.requires.none;
       room = c.spare-spare.ensures.one_mark (omega (arith, count)) (omega (arith, none));
     }
 
 pub returns : goal.returns
-returns c = λ marks input.
-    walk_begun marks input c.args.machine.now c.mark.new.self _ c.requires.marks c.requires.places c.requires.none c.requires.steps c.requires.going
-    c.mark.ensures.parts c.mark.ensures.pages c.mark.ensures.saved c.mark.ensures.failed
+returns c = λ input.
+    walk_begun input c.args.machine.now c.mark.new.self _ c.requires.marks c.requires.places c.requires.none c.requires.steps c.requires.going
+    c.mark.ensures.parts c.mark.ensures.marks c.mark.ensures.saved c.mark.ensures.failed
     (going_by c.args.machine.now c.requires.going) (unfailed c.args.machine.now.parts.ended c.args.machine.now.failed c.requires.going)
     refl refl refl refl refl refl

@@ -29,7 +29,7 @@ returns c = record {
       let k = c.free_mark-k.result in
       let v : Trail = record { place = t.place; top = t.top; due = c.saturating_add-self.result; steps = set t.steps k c.steps-2.result; places = set t.places k t.place } in
       walk_marked start input course m c.mark.new.self t v k c.free_mark-k.ensures.first c.free_mark-k.ensures.index goes
-      c.mark.ensures.parts c.mark.ensures.pages c.mark.ensures.saved c.mark.ensures.failed refl refl (ap (λ (n : ℕ). set t.steps k n) (c.steps-2.ensures ∙ ap (λ (p : Parts). p.steps) c.mark.ensures.parts)) refl
+      c.mark.ensures.parts c.mark.ensures.marks c.mark.ensures.saved c.mark.ensures.failed refl refl (ap (λ (n : ℕ). set t.steps k n) (c.steps-2.ensures ∙ ap (λ (p : Parts). p.steps) c.mark.ensures.parts)) refl
       (walk_dropped start input course old m c.args.self.now c.free_mark-k.ensures.parts c.free_mark-k.ensures.count c.free_mark-k.ensures.start c.free_mark-k.ensures.kept c.free_mark-k.ensures.saved c.free_mark-k.ensures.failed w);
   steps = ap (λ (p : Parts). p.steps) c.mark.ensures.parts ∙ ap (λ (p : Parts). p.steps) c.free_mark-k.ensures.parts;
   going = rw (ap (λ (p : Parts). p.ended) (c.mark.ensures.parts), c.mark.ensures.failed, ap (λ (p : Parts). p.ended) c.free_mark-k.ensures.parts, c.free_mark-k.ensures.failed) c.requires.going;

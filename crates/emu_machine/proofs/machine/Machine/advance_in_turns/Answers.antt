@@ -13,16 +13,19 @@ use Rattle.emu_machine.proofs.machine.Machine.advance_in_turns.Goals as goal
 -- a machine that is open, as it is seen
 abbrev seen : Inside → MachineState
 seen i = record {
-  parts = record { core = i.core.value; vectors = i.vec.value; memory = i.memory; brk = i.brk; steps = i.steps; ended = i.ended };
+  parts = record { core = i.core.value; vectors = i.vec.value; memory = i.memory.memory; brk = i.brk; steps = i.steps; ended = i.ended };
   accesses = i.log.items;
   failed = i.failed;
+  marks = i.memory.marks;
   saved = i.saved.items;
+  spare = i.memory.spare;
 }
 
 pub loop-contexts-init : goal.loop-contexts-init
 loop-contexts-init c = record {
   going = c.requires.going;
   below = c.requires.within;
+  marks = refl;
   saved = refl;
   turn = c.requires.turn;
   count = refl;
@@ -72,6 +75,7 @@ loop-contexts-preserved c =
     record {
       going = ap has_ended c.self.view_is ∙ still_goes c.take_steps.new.self spent.ahead.goes c.take_steps.ensures.failed;
       below = omega (arith, counted, later);
+      marks = ap (λ (x : MachineState). x.marks) c.self.view_is ∙ c.take_steps.ensures.marks ∙ i.marks;
       saved = ap (λ (x : MachineState). x.saved) c.self.view_is ∙ c.take_steps.ensures.saved ∙ i.saved;
       turn = λ _. begins.turn;
       count = begins.count ∙ i.count;

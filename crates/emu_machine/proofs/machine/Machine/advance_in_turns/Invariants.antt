@@ -8,6 +8,7 @@ abbrev pub invariant-loop-contexts : goal.invariant-loop-contexts
 invariant-loop-contexts l = record {
   going : has_ended l.self ≡ false;
   below : l.self.parts.steps < l.turn.until;
+  marks : l.self.marks ≡ l.fn.self.marks;
   saved : l.self.saved ≡ l.fn.self.saved;
   turn : 0 < length l.schedule → IsTurn l.schedule l.numbers l.contexts l.turn;
   count : length l.contexts ≡ length l.fn.contexts;

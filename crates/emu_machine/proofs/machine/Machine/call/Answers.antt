@@ -8,13 +8,12 @@ use Rattle.emu_machine.specs.declared.ends.StepEnd.TheVariants.{ReadFault, Write
 use Rattle.emu_machine.specs.Ends.{step_by}
 use Rattle.emu_machine.specs.Machines.{MachineState, has_ended}
 use Rattle.emu_machine.proofs.CallLaws.{count_left, end_left, end_made, ended_as, errors_made, kept_left, not_ended, output_made, parts_made, state_made, taken_within, undone, unstored_left}
-use Rattle.emu_machine.proofs.Kept.{left_keeps}
 use Rattle.emu_machine.proofs.Runs.{causes_from}
 use Rattle.emu_machine.proofs.Spared.{either, read_puts_none, write_puts_none}
 use Rattle.emu_machine.proofs.machine.Machine.call.Goals as goal
 
 abbrev before : (g : _) → goal.After-leave g → Parts
-before g c = let i = c.self.inside in record { core = c.deref_mut.result.now; vectors = c.deref_mut-2.result.now; memory = i.memory; brk = i.brk; steps = i.steps; ended = i.ended }
+before g c = let i = c.self.inside in record { core = c.deref_mut.result.now; vectors = c.deref_mut-2.result.now; memory = i.memory.memory; brk = i.brk; steps = i.steps; ended = i.ended }
 
 -- with the registers behind their boxes
 seen : (g : _) (c : goal.After-leave g) → before g c ≡ c.args.self.now.parts
@@ -47,19 +46,19 @@ returns g c =
     let now = g.I.Source.left c.call-end.new.input in
     let fell = undone end r p q is same in
     record {
-      state = state_made end r p q is same n.core n.vec n.mem n.brk new none left told now e.state e.input;
-      machine = parts_made end r p q is same n.core n.vec n.mem n.brk new none left told e.state;
-      input = taken_within end r p q is same told now n.mem e.stored (λ u. ap g.I.Source.left (e.untaken u));
+      state = state_made end r p q is same n.core n.vec n.mem.memory n.brk new none left told now e.state e.input;
+      machine = parts_made end r p q is same n.core n.vec n.mem.memory n.brk new none left told e.state;
+      input = taken_within end r p q is same told now n.mem.memory e.stored (λ u. ap g.I.Source.left (e.untaken u));
       output = λ bytes. output_made end r p q is same (Some bytes) (g.O.Sink.held c.args.output.now) (g.O.Sink.held c.call-end.new.output) e.output;
       errors = λ bytes. errors_made end r p q is same (Some bytes) (g.E.Sink.held c.args.errors.now) (g.E.Sink.held c.call-end.new.errors) e.errors;
-      end = end_left end r p q is same n.core n.vec n.mem n.brk new none left;
+      end = end_left end r p q is same n.core n.vec n.mem.memory n.brk new none left;
       ends = λ bytes. end_made end r p q is same bytes none e.end;
-      counted = count_left end r p q is same n.core n.vec n.mem n.brk new none left;
-      kept = kept_left end r p q is same n.core n.vec n.mem n.brk new none left told now e.kept e.stored;
-      unstored = unstored_left end r p q is same n.core n.vec n.mem n.brk new none left e.kept e.unstored;
+      counted = count_left end r p q is same n.core n.vec n.mem.memory n.brk new none left;
+      kept = kept_left end r p q is same n.core n.vec n.mem.memory n.brk new none left told now e.kept e.stored;
+      unstored = unstored_left end r p q is same n.core n.vec n.mem.memory n.brk new none left e.kept e.unstored;
       accesses = c.leave.ensures.accesses ∙ ap (λ (s : MachineState). s.accesses) c.self.view_is;
       failed = c.leave.ensures.failed ∙ fell;
-      marks = left_keeps end (record p { core = n.core; vectors = n.vec; memory = n.mem; brk = n.brk }) new left ∙ e.marks ∙ ap (λ (s : MachineState). s.parts.memory.marks) c.self.view_is;
+      marks = c.leave.ensures.marks ∙ e.marks ∙ ap (λ (s : MachineState). s.marks) c.self.view_is;
       saved = c.leave.ensures.saved ∙ ap (λ (s : MachineState). s.saved) c.self.view_is;
       read_cause = causes_from (end ≡ CallReadFault) (r ≡ ReadFault) (g.I.Source.faults c.args.input.now) (g.I.Source.faults c.args.input.now) (g.I.Source.faults c.call-end.new.input) refl e.read_cause
           (ended_as end r p q is same ReadFault) (λ (so : end ≡ CallReadFault). is ∙ ap step_by so);

@@ -1,18 +1,17 @@
-use Rattle.std.proofs.Common.{ℕ, length, ap, sym, subst, ◌∙◌, map, string_bytes}
-use Rattle.emu_model.specs.Access.{Memory}
+use Rattle.std.proofs.Common.{length, ap, sym, subst, ◌∙◌, map, string_bytes}
+use Rattle.emu_model.specs.Marks.{MarkedMemory}
 use Rattle.emu_model.specs.State.{Vectors, zero_vectors}
 use Rattle.emu_system.specs.Start.{opening}
 use Rattle.elf_image.specs.Images.{seen_image}
 use Rattle.elf_image.specs.Loadable.{IsLoadable}
-use Rattle.emu_run.specs.Marked.{parts_with}
 use Rattle.emu_machine.specs.Machines.{MachineState}
 use Rattle.emu_machine.proofs.machine.Machine.open_marked.Goals as goal
 
 pub opened-requires-clause-loadable : goal.opened-requires-clause-loadable
-opened-requires-clause-loadable c = subst (λ n. IsLoadable c.args.bytes.now n (seen_image c.args.image.now)) (sym (ap (λ (m : Memory). m.limit) c.in_ok-memory.ensures)) c.requires.loadable
+opened-requires-clause-loadable c = subst (λ n. IsLoadable c.args.bytes.now n (seen_image c.args.image.now)) (sym (ap (λ (m : MarkedMemory). m.memory.limit) c.in_ok-memory.ensures)) c.requires.loadable
 
 pub opened-requires-clause-empty : goal.opened-requires-clause-empty
-opened-requires-clause-empty c = ap (λ (m : Memory). m.pages) c.in_ok-memory.ensures
+opened-requires-clause-empty c = ap (λ (m : MarkedMemory). m.memory.pages) c.in_ok-memory.ensures
 
 pub opened-requires-clause-core : goal.opened-requires-clause-core
 opened-requires-clause-core c = c.in_ok-registers.ensures.core
@@ -22,10 +21,13 @@ opened-requires-clause-vectors c = let e = c.in_ok-registers.ensures.vectors in 
 
 pub returns-clause-parts : goal.returns-clause-parts
 returns-clause-parts c =
-    let made = λ (n : ℕ) (m : Memory). parts_with (opening c.args.bytes.now (seen_image c.args.image.now) (map string_bytes c.args.args.now) n m.limit) m.marks in
+    let made = opening c.args.bytes.now (seen_image c.args.image.now) (map string_bytes c.args.args.now) in
     ap (λ (s : MachineState). s.parts) c.opened.ensures
-    ∙ ap (λ (v : Vectors). made v.most c.in_ok-memory.memory) c.in_ok-registers.ensures.vectors
-    ∙ ap (λ (m : Memory). made c.args.length m) c.in_ok-memory.ensures
+    ∙ ap (λ (v : Vectors). made v.most c.in_ok-memory.memory.memory.limit) c.in_ok-registers.ensures.vectors
+    ∙ ap (λ (m : MarkedMemory). made c.args.length m.memory.limit) c.in_ok-memory.ensures
+
+pub returns-clause-marks : goal.returns-clause-marks
+returns-clause-marks c = ap (λ (s : MachineState). s.marks) c.opened.ensures ∙ ap (λ (m : MarkedMemory). m.marks) c.in_ok-memory.ensures
 
 pub returns-clause-places : goal.returns-clause-places
 returns-clause-places c = ap (λ (s : MachineState). length s.saved) c.opened.ensures ∙ c.in_ok-saved.ensures

@@ -1,5 +1,6 @@
 use Rattle.std.proofs.Common.{◌≡◌, ℕ, ◌%◌, Some, None, Ok, Err, refl, ap, sym, ◌∙◌}
-use Rattle.emu_model.specs.Access.{Memory, refused, value}
+use Rattle.emu_model.specs.Access.{refused, value}
+use Rattle.emu_model.specs.Marks.{MarkedMemory}
 use Rattle.emu_model.specs.LoadsAndStores.{done_unless}
 use Rattle.emu_model.specs.declared.access.Kind.TheVariants.{Fetch}
 use Rattle.emu_model.specs.declared.trap.TrapKind.TheVariants.{PcAlign, Undefined, Fetch as TrapFetch}
@@ -15,17 +16,19 @@ use Rattle.emu_machine.proofs.machine.Machine.plain.Goals.{After-trap, After-tra
 use Rattle.emu_machine.proofs.machine.Machine.plain.Goals as goal
 
 -- a machine that is open, as it is seen with this memory
-abbrev seen : Inside → Memory → MachineState
+abbrev seen : Inside → MarkedMemory → MachineState
 seen i memory = record {
-  parts = record { core = i.core.value; vectors = i.vec.value; memory = memory; brk = i.brk; steps = i.steps; ended = i.ended };
+  parts = record { core = i.core.value; vectors = i.vec.value; memory = memory.memory; brk = i.brk; steps = i.steps; ended = i.ended };
   accesses = i.log.items;
   failed = i.failed;
+  marks = memory.marks;
   saved = i.saved.items;
+  spare = memory.spare;
 }
 
 -- a fetch leaves the machine as it was
-fetched_same : (i : Inside) (memory : Memory) (old : MachineState) → memory ≡ i.memory → seen i i.memory ≡ old → seen i memory ≡ old
-fetched_same i memory old same is = ap (λ (x : Memory). seen i x) same ∙ is
+fetched_same : (i : Inside) (memory : MarkedMemory) (old : MachineState) → memory ≡ i.memory → seen i i.memory ≡ old → seen i memory ≡ old
+fetched_same i memory old same is = ap (λ (x : MarkedMemory). seen i x) same ∙ is
 
 -- its program counter, as it was read
 at_pc : (i : Inside) (core : Core) (pc : ℕ) (old : MachineState) → pc ≡ core.pc → core ≡ i.core.value → seen i i.memory ≡ old → pc ≡ old.parts.core.pc
@@ -33,11 +36,11 @@ at_pc i core pc old at same is = at ∙ ap (λ (x : Core). x.pc) same ∙ ap (λ
 
 -- what the fetch answered
 module _ (i : Inside) (pc : ℕ) (old : MachineState) (at : pc ≡ old.parts.core.pc) (is : seen i i.memory ≡ old) where
-  fetched_at : (word : ℕ) → pc % 4 ≡ 0 → Ok word ≡ done_unless (refused i.memory pc 4 Fetch) Fetch (value i.memory pc 4) → HasFetched old.parts word
+  fetched_at : (word : ℕ) → pc % 4 ≡ 0 → Ok word ≡ done_unless (refused i.memory.memory pc 4 Fetch) Fetch (value i.memory.memory pc 4) → HasFetched old.parts word
   fetched_at word aligned done = record {
     aligned = ap (λ n. n % 4) (sym at) ∙ aligned;
     done = done
-        ∙ ap (λ n. done_unless (refused i.memory n 4 Fetch) Fetch (value i.memory n 4)) at
+        ∙ ap (λ n. done_unless (refused i.memory.memory n 4 Fetch) Fetch (value i.memory.memory n 4)) at
         ∙ ap (λ (s : MachineState). done_unless (refused s.parts.memory old.parts.core.pc 4 Fetch) Fetch (value s.parts.memory old.parts.core.pc 4)) is;
   }
 
@@ -50,7 +53,7 @@ odd c =
     let at = at_pc i c.deref.result.now c.pc-pc.result old c.pc-pc.ensures.value c.deref.ensures c.self.view_is in
     let is_odd : old.parts.core.pc % 4 ≡ 0 → ⊥ = λ e. c.if-pc-ne0.true (ap (λ n. n % 4) at ∙ e) in
     has_trapped old old c.trap.new.self c.trap.result PcAlign c.pc-pc.result refl c.requires.going c.requires.clear c.trap.ensures.progress c.trap.ensures.parts
-    c.trap.ensures.accesses c.trap.ensures.failed c.trap.ensures.saved (makes_none old.parts is_odd)
+    c.trap.ensures.accesses c.trap.ensures.failed c.trap.ensures.marks c.trap.ensures.saved (makes_none old.parts is_odd)
     (λ input. turn_of_odd old.parts is_odd input ∙ ap (λ n. quiet (trapped old.parts PcAlign n) input) (sym at)) (accesses_of_odd old.parts is_odd)
 
 pub returns-then-pc-ne0 : goal.returns-then-pc-ne0
@@ -64,6 +67,7 @@ returns-then-pc-ne0 c =
       ended = d.ended;
       counted = d.counted;
       accesses = d.accesses;
+      marks = d.marks;
       saved = d.saved;
     }
 
@@ -75,10 +79,10 @@ denied c =
     let aligned : old.parts.core.pc % 4 ≡ 0 = ap (λ n. n % 4) (sym at) ∙ c.if-pc-ne0.false in
     let refuses : Err c.in-Err.denied ≡ done_unless (refused old.parts.memory old.parts.core.pc 4 Fetch) Fetch (value old.parts.memory old.parts.core.pc 4) =
     sym c.in-Err.is ∙ c.load.ensures.value
-    ∙ ap (λ n. done_unless (refused i.memory n 4 Fetch) Fetch (value i.memory n 4)) at
+    ∙ ap (λ n. done_unless (refused i.memory.memory n 4 Fetch) Fetch (value i.memory.memory n 4)) at
     ∙ ap (λ (s : MachineState). done_unless (refused s.parts.memory old.parts.core.pc 4 Fetch) Fetch (value s.parts.memory old.parts.core.pc 4)) c.self.view_is in
     has_trapped old (seen i c.load.new.self) c.trap-in-Err.new.self c.trap-in-Err.result TrapFetch c.in-Err.denied.address (fetched_same i c.load.new.self old c.load.ensures.unchanged c.self.view_is)
-    c.requires.going c.requires.clear c.trap-in-Err.ensures.progress c.trap-in-Err.ensures.parts c.trap-in-Err.ensures.accesses c.trap-in-Err.ensures.failed c.trap-in-Err.ensures.saved
+    c.requires.going c.requires.clear c.trap-in-Err.ensures.progress c.trap-in-Err.ensures.parts c.trap-in-Err.ensures.accesses c.trap-in-Err.ensures.failed c.trap-in-Err.ensures.marks c.trap-in-Err.ensures.saved
     (makes_refused old.parts c.in-Err.denied refuses) (turn_of_refused old.parts c.in-Err.denied aligned refuses) (accesses_of_refused old.parts c.in-Err.denied aligned refuses)
 
 pub returns-in-Err : goal.returns-in-Err
@@ -92,6 +96,7 @@ returns-in-Err c =
       ended = d.ended;
       counted = d.counted;
       accesses = d.accesses;
+      marks = d.marks;
       saved = d.saved;
     }
 
@@ -103,7 +108,7 @@ undefined c =
     let has = fetched_at i c.pc-pc.result old at c.self.view_is c.in-Ok.word c.if-pc-ne0.false (sym c.in-Ok.is ∙ c.load.ensures.value) in
     let none : decode c.in-Ok.word ≡ None = sym c.decode_a64_word.ensures.table ∙ ap a64 c.in-None.is in
     has_trapped old (seen i c.load.new.self) c.trap-in-None.new.self c.trap-in-None.result Undefined c.pc-pc.result (fetched_same i c.load.new.self old c.load.ensures.unchanged c.self.view_is)
-    c.requires.going c.requires.clear c.trap-in-None.ensures.progress c.trap-in-None.ensures.parts c.trap-in-None.ensures.accesses c.trap-in-None.ensures.failed c.trap-in-None.ensures.saved
+    c.requires.going c.requires.clear c.trap-in-None.ensures.progress c.trap-in-None.ensures.parts c.trap-in-None.ensures.accesses c.trap-in-None.ensures.failed c.trap-in-None.ensures.marks c.trap-in-None.ensures.saved
     (makes_no_row old.parts c.in-Ok.word has none)
     (λ input. turn_of_none old.parts c.in-Ok.word has none input ∙ ap (λ n. quiet (trapped old.parts Undefined n) input) (sym at)) (accesses_of_none old.parts c.in-Ok.word has none)
 
@@ -118,6 +123,7 @@ returns-in-None c =
       ended = d.ended;
       counted = d.counted;
       accesses = d.accesses;
+      marks = d.marks;
       saved = d.saved;
     }
 
@@ -131,7 +137,7 @@ of_vector c =
     let has = fetched_at i c.pc-pc.result old at c.self.view_is c.in-Ok.word c.if-pc-ne0.false (sym c.in-Ok.is ∙ c.load.ensures.value) in
     let e = c.vector.ensures in
     let done : HasDone (decode c.in-Ok.word) (seen i c.load.new.self) c.vector.new.self c.vector.result =
-    record { turn = e.turn; kept = e.kept; svc = e.svc; alone = e.alone; ended = e.ended; counted = e.counted; accesses = e.accesses; saved = e.saved } in
+    record { turn = e.turn; kept = e.kept; svc = e.svc; alone = e.alone; ended = e.ended; counted = e.counted; accesses = e.accesses; marks = e.marks; saved = e.saved } in
     has_stepped c.in-Ok.word (decode c.in-Ok.word) old (seen i c.load.new.self) c.vector.new.self c.vector.result (fetched_same i c.load.new.self old c.load.ensures.unchanged c.self.view_is) has refl done
 
 pub returns-then-may_be_sve : goal.returns-then-may_be_sve
@@ -145,6 +151,7 @@ returns-then-may_be_sve c =
       ended = d.ended;
       counted = d.counted;
       accesses = d.accesses;
+      marks = d.marks;
       saved = d.saved;
     }
 
@@ -156,7 +163,7 @@ of_scalar c =
     let has = fetched_at i c.pc-pc.result old at c.self.view_is c.in-Ok.word c.if-pc-ne0.false (sym c.in-Ok.is ∙ c.load.ensures.value) in
     let e = c.scalar.ensures in
     let done : HasDone (Some (A64 c.in-Some.insn)) (seen i c.load.new.self) c.scalar.new.self c.scalar.result =
-    record { turn = e.turn; kept = e.kept; svc = e.svc; alone = e.alone; ended = e.ended; counted = e.counted; accesses = e.accesses; saved = e.saved } in
+    record { turn = e.turn; kept = e.kept; svc = e.svc; alone = e.alone; ended = e.ended; counted = e.counted; accesses = e.accesses; marks = e.marks; saved = e.saved } in
     has_stepped c.in-Ok.word (Some (A64 c.in-Some.insn)) old (seen i c.load.new.self) c.scalar.new.self c.scalar.result (fetched_same i c.load.new.self old c.load.ensures.unchanged c.self.view_is) has
     (ap a64 (sym c.in-Some.is) ∙ c.decode_a64_word.ensures.table) done
 
@@ -171,5 +178,6 @@ returns-in-Some c =
       ended = d.ended;
       counted = d.counted;
       accesses = d.accesses;
+      marks = d.marks;
       saved = d.saved;
     }

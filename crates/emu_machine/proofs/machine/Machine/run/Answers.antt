@@ -6,7 +6,6 @@ use Rattle.emu_machine.specs.Accesses.{run_accesses}
 use Rattle.emu_machine.specs.declared.ends.StepEnd.TheVariants.{Going, ReadFault, WriteFault, ErrorsFault}
 use Rattle.emu_machine.specs.Ends.{IsKept, is_undone, is_unput, is_broken_off, run_end_of, step_end}
 use Rattle.emu_machine.specs.Machines.{MachineState, MakesWrite}
-use Rattle.emu_machine.proofs.Kept.{ahead_keeps, turn_keeps}
 use Rattle.emu_machine.proofs.Logs.{Logs, logs_start, logs_on, logs_end, logs_as, logs_spent}
 use Rattle.emu_machine.proofs.Stands.{stands_start, stands_on, stands_there, kept_there}
 use Rattle.emu_machine.proofs.Composed.{leads_start}
@@ -54,7 +53,7 @@ loop-self-preserved g c =
       stands = stands_on c.args.budget _ p _ _ _ _ _ q _ _ _ _ leads
           (ran_when _ _ _ _ _ _ _ _ _ _ _ (ap is_undone c.in-Going.is) stepped) ahead.goes counted stands;
       any = any_counts _ _ p _ _ ahead _ _ _ _ _ _ c.loop-self.invariant.any q _ _ _ counted (ran_when _ _ _ _ _ _ _ _ _ _ _ (ap is_undone c.in-Going.is) stepped);
-      marks = c.step.ensures.marks ∙ ahead_keeps _ _ _ _ ahead ∙ c.loop-self.invariant.marks;
+      marks = c.step.ensures.marks ∙ c.advance.ensures.marks ∙ c.loop-self.invariant.marks;
       saved = c.step.ensures.saved ∙ c.advance.ensures.saved ∙ c.loop-self.invariant.saved;
       read = c.step.ensures.read_cause.kept (going_is_no c.step.result ReadFault (λ (e : Going ≡ ReadFault). cc) c.in-Going.is) ∙ c.loop-self.invariant.read;
       write = c.step.ensures.write_cause.kept (going_is_no c.step.result WriteFault (λ (e : Going ≡ WriteFault). cc) c.in-Going.is) ∙ c.loop-self.invariant.write;
@@ -80,7 +79,7 @@ returns-in-GoesOn g c =
       unended = λ h. not_both _ _ refl h;
       spent = λ _. d.spent;
       failed = c.advance.ensures.failed;
-      marks = ahead_keeps _ _ _ _ d.ahead ∙ c.loop-self.invariant.marks;
+      marks = c.advance.ensures.marks ∙ c.loop-self.invariant.marks;
       saved = c.advance.ensures.saved ∙ c.loop-self.invariant.saved;
       read_cause = causes_not _ _ _ c.loop-self.invariant.read (λ e. not_both _ _ refl (ap is_broken_off e));
       write_cause = causes_not _ _ _ c.loop-self.invariant.write (λ e. not_both _ _ refl (ap is_broken_off e));
@@ -115,7 +114,7 @@ returns-in-Trapped g c =
       unended = λ h. not_both _ _ whole h;
       spent = λ h. not_ended _ q.parts.ended (sym (last_step end c.run_end_of.result _ c.run_end_of.ensures h) ∙ ended) d.ended;
       failed = c.advance.ensures.failed ∙ sym whole;
-      marks = turn_keeps d.at q.parts d.turns ∙ ahead_keeps _ _ _ _ d.ahead ∙ c.loop-self.invariant.marks;
+      marks = c.advance.ensures.marks ∙ c.loop-self.invariant.marks;
       saved = c.advance.ensures.saved ∙ c.loop-self.invariant.saved;
       read_cause = causes_not _ _ _ c.loop-self.invariant.read (λ e. not_both _ _ whole (ap is_broken_off e));
       write_cause = causes_not _ _ _ c.loop-self.invariant.write (λ e. not_both _ _ whole (ap is_broken_off e));
@@ -160,7 +159,7 @@ returns-in_default g c =
       unspent = λ h. let same = ap (λ (m : Parts). m.steps) (kept h).is in omega (arith, same, below);
       unended = λ h. ap (λ (m : Parts). is_none m.ended) (kept h).is ∙ ahead.goes;
       spent = λ h. absurd (c.in_default.not-Going (last_step c.step.result c.run_end_of-in_default.result _ c.run_end_of-in_default.ensures h));
-      marks = c.step.ensures.marks ∙ ahead_keeps _ _ _ _ ahead ∙ c.loop-self.invariant.marks;
+      marks = c.step.ensures.marks ∙ c.advance.ensures.marks ∙ c.loop-self.invariant.marks;
       saved = c.step.ensures.saved ∙ c.advance.ensures.saved ∙ c.loop-self.invariant.saved;
       failed = failed_as c.step.result c.run_end_of-in_default.result c.step.new.self.failed c.run_end_of-in_default.ensures c.step.ensures.failed;
       read_cause = causes_from _ _ _ _ _ c.loop-self.invariant.read c.step.ensures.read_cause (last_step c.step.result c.run_end_of-in_default.result _ c.run_end_of-in_default.ensures) (λ (e : c.step.result ≡ ReadFault). c.run_end_of-in_default.ensures ∙ ap run_end_of e);

@@ -16,7 +16,7 @@ invariant-loop-self g l = record {
   stands : Stands l.fn.self.parts (g.I.Source.left l.fn.input) l.self.parts (g.I.Source.left l.input);
   any : LeadsAny l.fn.self.parts l.self.parts (g.I.Source.left l.fn.input) (g.I.Source.left l.input)
       (g.O.Sink.held l.fn.output) (g.O.Sink.held l.output) (g.E.Sink.held l.fn.errors) (g.E.Sink.held l.errors);
-  marks : l.self.parts.memory.marks ≡ l.fn.self.parts.memory.marks;
+  marks : l.self.marks ≡ l.fn.self.marks;
   saved : l.self.saved ≡ l.fn.self.saved;
   read : g.I.Source.faults l.input ≡ g.I.Source.faults l.fn.input;
   write : g.O.Sink.faults l.output ≡ g.O.Sink.faults l.fn.output;

@@ -4,7 +4,6 @@ use Rattle.emu_system.specs.SystemCall.{Turn, call, quiet}
 use Rattle.emu_run.specs.Step.{step, turn}
 use Rattle.linux_calls.specs.Names.{NamesRead, NamesWrite}
 use Rattle.emu_machine.specs.Ends.{IsKept, is_undone, is_unput, step_end}
-use Rattle.emu_machine.proofs.Kept.{turn_keeps}
 use Rattle.emu_machine.proofs.Advanced.{causes_not, counted_as, not_both, turned}
 use Rattle.emu_machine.proofs.Performed.{still_goes}
 use Rattle.emu_machine.proofs.Turns.{call_none}
@@ -42,7 +41,7 @@ returns-in_default g c =
       accesses = c.once.ensures.accesses;
       undone = λ h. not_both _ _ (done g c) h;
       failed = c.once.ensures.failed ∙ sym (done g c);
-      marks = turn_keeps m q (turns g c);
+      marks = c.once.ensures.marks;
       saved = c.once.ensures.saved;
       read_cause = causes_not _ _ _ refl (λ e. not_both _ _ (done g c) (ap is_undone e));
       write_cause = causes_not _ _ _ refl (λ e. not_both _ _ (done g c) (ap is_undone e));
@@ -88,7 +87,7 @@ returns-in-AtCall g c =
       accesses = c.call.ensures.accesses ∙ c.once.ensures.accesses;
       undone = λ h. c.call.ensures.accesses ∙ c.once.ensures.accesses ∙ call_none c.args.self.now.parts at;
       failed = c.call.ensures.failed;
-      marks = c.call.ensures.marks ∙ ap (λ (x : Parts). x.memory.marks) is;
+      marks = c.call.ensures.marks ∙ c.once.ensures.marks;
       saved = c.call.ensures.saved ∙ c.once.ensures.saved;
       read_cause = c.call.ensures.read_cause;
       write_cause = c.call.ensures.write_cause;

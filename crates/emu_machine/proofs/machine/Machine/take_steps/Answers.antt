@@ -22,6 +22,7 @@ pub loop-self-init : goal.loop-self-init
 loop-self-init c = record {
   going = c.requires.going;
   below = c.requires.within;
+  marks = refl;
   saved = refl;
   ahead = ahead_start c.args.self.now.parts c.args.self.now.accesses (goes c.args.self.now.parts.ended c.args.self.now.failed c.requires.going);
 }
@@ -36,6 +37,7 @@ pub loop-self-preserved : goal.loop-self-preserved
 loop-self-preserved c = record {
   going = still_goes c.plain.new.self c.in-GoesOn.ensures.ended c.in-GoesOn.ensures.kept;
   below = let counted = c.steps.ensures in omega (arith, counted);
+  marks = c.plain.ensures.marks ∙ ap (λ (s : MachineState). s.marks) c.self.view_is ∙ c.loop-self.invariant.marks;
   saved = c.plain.ensures.saved ∙ ap (λ (s : MachineState). s.saved) c.self.view_is ∙ c.loop-self.invariant.saved;
   ahead = ahead_by c.args.self.now c.loop-self.self _ c.plain.new.self c.self.view_is c.loop-self.invariant.ahead c.in-GoesOn.ensures.alone c.in-GoesOn.ensures.turn (c.plain.ensures.counted c.in-GoesOn.is) c.in-GoesOn.ensures.ended c.plain.ensures.accesses;
 }

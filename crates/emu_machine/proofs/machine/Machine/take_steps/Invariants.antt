@@ -7,6 +7,7 @@ abbrev pub invariant-loop-self : goal.invariant-loop-self
 invariant-loop-self l = record {
   going : has_ended l.self ≡ false;
   below : l.self.parts.steps < l.until;
+  marks : l.self.marks ≡ l.fn.self.marks;
   saved : l.self.saved ≡ l.fn.self.saved;
   ahead : IsAhead l.fn.self.parts l.self.parts l.fn.self.accesses l.self.accesses;
 }

@@ -1,4 +1,4 @@
-use Rattle.std.proofs.Common.{◌≡◌, Some, Option, subst}
+use Rattle.std.proofs.Common.{◌≡◌, Some, Option, refl, subst, ◌∙◌}
 use Rattle.emu_run.specs.declared.insn.Insn.{Insn}
 use Rattle.emu_run.specs.declared.insn.Insn.TheVariants.{Sve}
 use Rattle.emu_run.specs.Step.{decode}
@@ -12,8 +12,10 @@ done c =
     let n = c.perform_sve-effect.new in
     let is : Some (Sve c.in-Some.insn.now) ≡ decode c.args.word = c.in-Some.ensures in
     subst (λ (o : Option Insn). HasDone o c.args.self.now c.leave_insn.new.self c.leave_insn.result) is
-    (done_by (Sve c.in-Some.insn.now) i.core.value n.core i.vec.value n.vec i.memory n.memory i.brk i.steps i.ended i.log.items n.log.items i.failed i.saved.items c.perform_sve-effect.result c.leave_insn.result c.args.self.now c.leave_insn.new.self
-    c.self.view_is c.requires.clear c.requires.going (performed_as (Sve c.in-Some.insn.now) c.deref_mut.result.now i.core.value c.deref_mut-in-Some.result.now i.vec.value i.memory c.deref_mut.ensures.value c.deref_mut-in-Some.ensures.value _ c.perform_sve-effect.ensures) c.leave_insn.ensures.progress c.leave_insn.ensures.parts c.leave_insn.ensures.accesses c.leave_insn.ensures.failed c.leave_insn.ensures.saved)
+    (done_by (Sve c.in-Some.insn.now) i.core.value n.core i.vec.value n.vec i.memory.memory n.memory.memory i.brk i.steps i.ended i.log.items n.log.items i.failed i.memory.marks i.saved.items i.memory.spare c.leave_insn.new.self.spare
+    c.perform_sve-effect.result c.leave_insn.result c.args.self.now c.leave_insn.new.self
+    c.self.view_is c.requires.clear c.requires.going (performed_as (Sve c.in-Some.insn.now) c.deref_mut.result.now i.core.value c.deref_mut-in-Some.result.now i.vec.value i.memory.memory c.deref_mut.ensures.value c.deref_mut-in-Some.ensures.value _ c.perform_sve-effect.ensures.done) c.leave_insn.ensures.progress c.leave_insn.ensures.parts c.leave_insn.ensures.accesses c.leave_insn.ensures.failed
+    (c.leave_insn.ensures.marks ∙ c.perform_sve-effect.ensures.marks) c.leave_insn.ensures.saved refl)
 
 pub returns-in-Some : goal.returns-in-Some
 returns-in-Some c =
@@ -26,5 +28,6 @@ returns-in-Some c =
       ended = d.ended;
       counted = d.counted;
       accesses = d.accesses;
+      marks = d.marks;
       saved = d.saved;
     }

@@ -2,6 +2,7 @@ use Rattle.std.proofs.Common.{◌≡◌, ℕ, List, Some, refl, sym, ap, ◌∙�
 use Rattle.std.specs.FinMap.{find, get}
 use Rattle.std.specs.Ordering.{nat_cmp}
 use Rattle.emu_model.specs.Access.{Memory, page_gives}
+use Rattle.emu_model.specs.Marks.{MarkedMemory}
 use Rattle.emu_model.specs.declared.access.Kind.TheVariants.{Fetch}
 use Rattle.page_list.specs.Entries.{IsFetched}
 use Rattle.guest_pages.specs.Open.{IsOpen}
@@ -28,7 +29,7 @@ returns-then-is_code c = (
   (refl, λ _. tt, c.self.view_is),
   record {
     unchanged = tt;
-    found = open_at c.self.inside c.args.self.now c.self.view_is c.args.page c.self.invariant.order.ascending c.code.result.now c.code.ensures.fetched;
+    found = open_at c.self.inside c.args.self.now.memory (ap (λ (m : MarkedMemory). m.memory) c.self.view_is) c.args.page c.self.invariant.order.ascending c.code.result.now c.code.ensures.fetched;
     whole = c.code.ensures.length;
   },
 )
@@ -36,10 +37,10 @@ returns-then-is_code c = (
 pub returns-in-None : goal.returns-in-None
 returns-in-None c =
     let e = c.search_code.ensures in (
-      (refl, λ _. tt, (λ j. record { pages = pages_of (e.pages j); limit = e.limit j; marks = marks_of (e.marks.0 j) (e.marks.1 j) }) ∙ c.self.view_is),
+      (refl, λ _. tt, (λ j. record { memory = record { pages = pages_of (e.pages j); limit = e.limit j }; marks = marks_of (e.marks j); spare = e.spare j }) ∙ c.self.view_is),
       record {
         unchanged = tt;
-        found = ap (λ o. page_gives o Fetch) (found c.self.inside c.args.self.now c.self.view_is c.args.page) ∙ c.in-None.ensures.place;
+        found = ap (λ o. page_gives o Fetch) (found c.self.inside c.args.self.now.memory (ap (λ (m : MarkedMemory). m.memory) c.self.view_is) c.args.page) ∙ c.in-None.ensures.place;
         whole = tt;
       },
     )
@@ -48,10 +49,10 @@ pub returns-in-Some : goal.returns-in-Some
 returns-in-Some c =
     let e = c.search_code.ensures in let at = c.in-Some.ensures.place in
     let bytes = ap (λ (es : List Entry). (entry_at es c.in-Some.i).1.bytes) (sym e.pages) ∙ sym c.bytes.ensures.bytes in (
-      (refl, λ _. tt, (λ j. record { pages = pages_of (e.pages j); limit = e.limit j; marks = marks_of (e.marks.0 j) (e.marks.1 j) }) ∙ c.self.view_is),
+      (refl, λ _. tt, (λ j. record { memory = record { pages = pages_of (e.pages j); limit = e.limit j }; marks = marks_of (e.marks j); spare = e.spare j }) ∙ c.self.view_is),
       record {
         unchanged = tt;
-        found = open_at c.self.inside c.args.self.now c.self.view_is c.args.page c.self.invariant.order.ascending c.bytes.result.now (record {
+        found = open_at c.self.inside c.args.self.now.memory (ap (λ (m : MarkedMemory). m.memory) c.self.view_is) c.args.page c.self.invariant.order.ascending c.bytes.result.now (record {
           place = c.in-Some.i;
           within = at.within;
           number = at.number;

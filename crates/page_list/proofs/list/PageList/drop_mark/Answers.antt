@@ -1,8 +1,8 @@
-use Rattle.std.proofs.Common.{◌≡◌, ◌<◌, ◌≤◌, ◌+◌, ℕ, List, length, set, Option, Some, None, cond, ap, ◌∙◌, sym, arith}
+use Rattle.std.proofs.Common.{◌≡◌, ◌<◌, ◌≤◌, ◌+◌, ℕ, List, [], length, set, Option, Some, None, cond, ap, ◌∙◌, sym, arith}
 use Rattle.std.proofs.lemmas.List.{length-map, length-set}
 use Rattle.frame_arena.specs.Frames.{count_of}
 use Rattle.page_list.specs.Entries.{Entry, Listed}
-use Rattle.page_list.specs.Slots.{IsMark, entries_in, holders, mark_in, marks_in, shared_slots}
+use Rattle.page_list.specs.Slots.{AreBeside, IsMark, entries_in, holders, mark_in, marks_in, shared_slots}
 use Rattle.page_list.proofs.Held.{unchanged, marks_unchanged, own-beside}
 use Rattle.page_list.proofs.Marks.{all-set, is_mark, mark_held, mark-replaced, marks-set}
 use Rattle.page_list.proofs.list.PageList.drop_mark.Goals as goal
@@ -64,3 +64,10 @@ returns-clause-marks c =
     ∙ marks-set live ms k n
     ∙ ap (λ (o : Option (List Entry)). set (marks_in live ms) k o) here_before
     ∙ ap (λ (l : Listed). set l.marks k None) c.self.view_is
+
+pub returns-clause-spare : goal.returns-clause-spare
+returns-clause-spare c =
+    let a = c.self.inside in let live = a.arena.live in let ms = a.marks.items in let k = c.args.k in let m = c.index_mut.result.now in let inv = c.self.invariant in
+    let l : k < length ms = omega (arith, c.requires.index, ap (λ (l : Listed). length l.marks) c.self.view_is, length-map ms (mark_in live)) in
+    let held : AreBeside live m.slots.items [] = λ f. let n = inv.counts f in let h = mark_held live a.limit ms k m l c.index_mut.ensures.value inv.marks f in omega (arith, n, h) in
+    let r = c.clear_mark.ensures.room [] held in omega (arith, r, ap (λ (l : Listed). l.spare) c.self.view_is)

@@ -1,14 +1,12 @@
-use Rattle.std.proofs.Common.{◌≡◌, ◌<◌, ◌≤◌, ◌+◌, ◌*◌, ◌++◌, List, [], length, set, get_or, Option, Some, None, cond, ap, ◌∙◌, sym, subst, arith}
+use Rattle.std.proofs.Common.{◌≡◌, ◌<◌, ◌≤◌, ◌*◌, List, [], length, set, get_or, Option, Some, None, cond, ap, ◌∙◌, sym, subst, arith}
 use Rattle.std.proofs.lemmas.Bool.{false≢true}
 use Rattle.std.proofs.lemmas.List.{length-map, length-set}
-use Rattle.std.specs.FinMap.{len}
 use Rattle.page_list.specs.declared.slots.Slot.{Slot}
-use Rattle.page_list.specs.declared.slots.Mark.{Mark}
 use Rattle.page_list.specs.Entries.{Entry, Listed}
-use Rattle.page_list.specs.Slots.{AreOwn, HasMarks, IsMark, entries_in, entry_in, holders, mark_in, marks_in, marked_slots, named, shared_slots}
-use Rattle.page_list.proofs.Held.{holders-append, unchanged, marks_unchanged}
+use Rattle.page_list.specs.Slots.{AreOwn, HasMarks, IsMark, entries_in, holders, mark_in, marks_in, shared_slots}
+use Rattle.page_list.proofs.Held.{unchanged, marks_unchanged}
 use Rattle.page_list.proofs.Shared.{entries-shared, holders-shared, holders_most, length-shared, own-shared, shared_twice}
-use Rattle.page_list.proofs.Marks.{all-set, is_mark, mark_empty, mark-replaced, marked_most, marks-set, holders-marked, named_most, named-front, named-filled}
+use Rattle.page_list.proofs.Marks.{all-set, is_mark, mark_empty, mark-replaced, marked_most, marks-set}
 use Rattle.page_list.proofs.list.PageList.mark.Goals as goal
 
 pub fill_mark-requires-clause-few : goal.fill_mark-requires-clause-few
@@ -29,13 +27,7 @@ invariant_of-self c =
     let e = c.fill_mark.ensures in let n = c.fill_mark.new.mark in let xs = c.fill_mark.new.slots.items in
     let has : HasMarks a.arena.total a.limit ms = inv.object (omega (arith, l)) in
     let long = length-set ms k n in
-    let full : len live ≤ length ss + named (marked_slots ms) =
-    (let b = named_most (ss ++ marked_slots ms) live
-    (λ f t. let x = inv.counts f in let y = c.spare-spare.ensures.counted f t in let z = holders-append f ss (marked_slots ms) in let w = holders-marked f ms in omega (arith, x, y, z, w)) in
-    let d = named-front ss (marked_slots ms) in omega (arith, b, d)) in
-    let pages : length c.args.self.now.pages ≡ length ss = sym (ap (λ (l : Listed). length l.pages) c.self.view_is) ∙ length-map ss (entry_in live) in
-    let free : a.limit ≤ a.arena.spare =
-    omega (arith, full, c.requires.room, ap (λ (l : Listed). l.limit) c.self.view_is, ap (λ (l : Listed). l.unmarked) c.self.view_is, pages, c.spare-spare.ensures.spare, c.spare-spare.ensures.total) in
+    let free : a.limit ≤ a.arena.spare = omega (arith, c.requires.room, ap (λ (l : Listed). l.limit) c.self.view_is, ap (λ (l : Listed). l.spare) c.self.view_is) in
     record {
       counts = λ f.
           let x = e.counts f in let y = inv.counts f in let z = mark-replaced live a.limit ms k m l at inv.marks f n in
@@ -77,14 +69,5 @@ returns-clause-marks c =
     ∙ ap (λ (o : Option (List Entry)). set (marks_in after ms) k o) here
     ∙ ap (λ (l : List (Option (List Entry))). set l k (Some c.args.self.now.pages)) (marks_unchanged live after ms (λ f _. e.bytes f) ∙ ap (λ (l : Listed). l.marks) c.self.view_is)
 
-pub returns-clause-unmarked : goal.returns-clause-unmarked
-returns-clause-unmarked c =
-    let a = c.self.inside in let live = a.arena.live in let ss = a.slots.items in let ms = a.marks.items in let k = c.args.k in let m = c.index_mut.result.now in let inv = c.self.invariant in
-    let l : k < length ms = omega (arith, c.requires.index, ap (λ (l : Listed). length l.marks) c.self.view_is, length-map ms (mark_in live)) in
-    let at = c.index_mut.ensures.value in
-    let none : m.slots.items ≡ [] = mark_empty live a.limit ms k m l at inv.marks (ap (λ (l : Listed). get_or l.marks k None) c.self.view_is ∙ c.requires.none) in
-    let e = c.fill_mark.ensures in let n = c.fill_mark.new.mark in
-    let filled = named-filled ms k n m l (ap (λ (x : Mark). x.slots.items) (sym at) ∙ none) in
-    let w = ap length e.to ∙ length-shared ss in
-    let pages : length c.args.self.now.pages ≡ length ss = sym (ap (λ (l : Listed). length l.pages) c.self.view_is) ∙ length-map ss (entry_in live) in
-    omega (arith, filled, w, e.total, pages, ap (λ (l : Listed). l.unmarked) c.self.view_is)
+pub returns-clause-spare : goal.returns-clause-spare
+returns-clause-spare c = c.fill_mark.ensures.spare ∙ ap (λ (l : Listed). l.spare) c.self.view_is

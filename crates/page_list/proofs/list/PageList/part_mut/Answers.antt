@@ -8,7 +8,7 @@ use Rattle.frame_arena.specs.Frames.{Live, bytes_of, count_of}
 use Rattle.page_list.specs.Bytes.{as_bytes, as_bytes-same}
 use Rattle.page_list.specs.Entries.{Entry, Listed, changed_at, entry_at}
 use Rattle.page_list.specs.Lending.{with_part}
-use Rattle.page_list.specs.Slots.{bytes_in, entry_in, entries_in, frame_at, holders, is_sole, marked, marks_in, no_slot, unmarked, HasMarks, frame_of}
+use Rattle.page_list.specs.Slots.{bytes_in, entry_in, entries_in, frame_at, holders, is_sole, marked, marks_in, no_slot, HasMarks, frame_of}
 use Rattle.page_list.specs.declared.slots.Slot.{Slot}
 use Rattle.page_list.proofs.Bytes.{as_bytes-overwritten}
 use Rattle.page_list.proofs.Held.{slot_there, entry_is, holds_at, written, marks_beside, marks_unchanged, counts_after, after_write, counts-written, bytes-written, bytes-written_same, sole-written, own-written}
@@ -90,8 +90,8 @@ returns c =
             let marks : marks_in after ms ≡ marks_in a.arena.live ms =
             marks_unchanged live after ms (λ f m. bytes-written live k z sole f (λ e. let n = ap (λ (f : ℕ). marked f ms) e in omega (arith, n, alone, m)))
             ∙ marks_beside a.arena b a.slots.items ss ms inv.counts c.ensure_own.ensures.changes in
-            (λ j. record { pages = pages j; limit = a.limit; code = c.ensure_own.ensures.number j; marks = marks j; unmarked = unmarked (c.ensure_own.ensures.changes.total j) ms })
-            ∙ ap (λ (l : Listed). with_part l i at w) c.self.view_is,
+            (λ j. record { pages = pages j; limit = a.limit; code = c.ensure_own.ensures.number j; marks = marks j; spare = sym c.spare.ensures.spare j })
+            ∙ ap (λ (l : Listed). with_part l c.spare.result i at w) c.self.view_is,
       ),
       record {
         writes_back = tt;

@@ -1,4 +1,4 @@
-use Rattle.std.proofs.Common.{◌≡◌, ◌<◌, ◌≤◌, ◌+◌, ◌-◌, ◌*◌, ℕ, Bool, false, true, List, length, set, get_or, Some, None, is_some, cond, ap, ◌∙◌, sym, subst, refl, arith}
+use Rattle.std.proofs.Common.{◌≡◌, ◌<◌, ◌≤◌, ◌+◌, ◌*◌, ℕ, Bool, false, true, List, length, set, get_or, Some, None, is_some, cond, ap, ◌∙◌, sym, subst, refl, arith}
 use Rattle.std.proofs.Math.Seq.{map-set_same}
 use Rattle.std.proofs.lemmas.Bool.{false≢true}
 use Rattle.std.proofs.lemmas.List.{length-map, length-set}
@@ -8,10 +8,10 @@ use Rattle.frame_arena.specs.Frames.{bytes_of, count_of}
 use Rattle.page_list.specs.declared.slots.Slot.{Slot}
 use Rattle.page_list.specs.declared.slots.Mark.{Mark}
 use Rattle.page_list.specs.Entries.{Entry, Listed}
-use Rattle.page_list.specs.Slots.{AreOwn, HasMarks, IsMark, entries_in, holders, mark_in, marks_in, marked, marked_slots, named, shared_slots, unmarked}
+use Rattle.page_list.specs.Slots.{AreOwn, HasMarks, IsMark, entries_in, holders, mark_in, marks_in, marked, shared_slots}
 use Rattle.page_list.proofs.Held.{unchanged, marks_unchanged}
 use Rattle.page_list.proofs.Shared.{entries-shared, holders-shared, length-shared, own-shared, shared_twice}
-use Rattle.page_list.proofs.Marks.{all-set, is_mark, mark_shown, mark_held, mark-replaced, marked_most, holders-marked, named_most, named-length, slots_most, two_most, slots-replaced}
+use Rattle.page_list.proofs.Marks.{all-set, is_mark, mark_shown, mark_held, mark-replaced, marked_most, marked_slots, named, holders-marked, named_most, named-length, slots_most, two_most}
 use Rattle.page_list.proofs.list.PageList.restore.Goals as goal
 
 set_of : (b : Bool) (es : List Entry) → is_some (cond b (Some es) None) ≡ true → b ≡ true
@@ -99,18 +99,3 @@ returns-clause-marks c =
     map-set_same (mark_in d.live) ms k n m same
     ∙ marks_unchanged live d.live ms bytes
     ∙ ap (λ (l : Listed). l.marks) c.self.view_is
-
-pub returns-clause-unmarked : goal.returns-clause-unmarked
-returns-clause-unmarked c =
-    let a = c.self.inside in let live = a.arena.live in let ss = a.slots.items in let ms = a.marks.items in let k = c.args.k in let m = c.index_mut.result.now in let inv = c.self.invariant in
-    let l : k < length ms = omega (arith, c.requires.index, ap (λ (l : Listed). length l.marks) c.self.view_is, length-map ms (mark_in live)) in
-    let at = c.index_mut.ensures.value in let b = c.pop_every.new.arena in
-    let left : (f : ℕ) → count_of b.live f ≡ marked f ms = λ f. let x = c.pop_every.ensures.changes.counts f in let y = inv.counts f in omega (arith, x, y) in
-    let has : HasMarks a.arena.total a.limit ms = inv.object (omega (arith, l)) in let mark = is_mark live a.limit ms k m l at inv.marks in
-    let e = c.share_all.ensures in let d = c.share_all.new.arena in
-    let bytes : (f : ℕ) → 1 ≤ marked f ms → bytes_of d.live f ≡ bytes_of live f = λ f t. e.bytes f ∙ c.pop_every.ensures.changes.bytes f (let y = inv.counts f in omega (arith, y, t)) (let x = left f in omega (arith, x, t)) in
-    let n : Mark = record { slots = c.share_all.new.from; set = m.set } in
-    let total : d.total ≡ a.arena.total = e.total ∙ c.pop_every.ensures.changes.total in
-    (λ j. unmarked (total j) (set ms k n))
-    ∙ ap (λ (xs : List Slot). a.arena.total - named xs) (slots-replaced ms k n m (e.from ∙ mark.plain ∙ ap (λ (x : Mark). x.slots.items) at))
-    ∙ ap (λ (l : Listed). l.unmarked) c.self.view_is

@@ -1,8 +1,7 @@
-use Rattle.std.proofs.Common.{◌≡◌, ◌-◌, ◌*◌, List, [], length, replicate, None, refl, sym, ap, subst, ◌∙◌, arith}
+use Rattle.std.proofs.Common.{◌≡◌, ◌*◌, [], length, replicate, None, refl, sym, ap, subst, ◌∙◌, arith}
 use Rattle.frame_arena.specs.Frames.{Frames, count_of}
-use Rattle.page_list.specs.declared.slots.Slot.{Slot}
 use Rattle.page_list.specs.Entries.{no_page}
-use Rattle.page_list.specs.Slots.{AreOwn, entries_in, holders, marks_in, marked_slots, named, sole_in, unmarked}
+use Rattle.page_list.specs.Slots.{AreOwn, entries_in, holders, marks_in, sole_in}
 use Rattle.page_list.proofs.Held.{empty-counts}
 use Rattle.page_list.proofs.Marks.{fresh_marks, fresh_shown, fresh_slots, holders-marked}
 use Rattle.page_list.proofs.list.PageList.with_marks.Goals as goal
@@ -33,6 +32,5 @@ returns c =
     let sixteen : length ms ≡ 16 = omega (arith, i.0, c.loop-turn-test.false) in
     let pages : entries_in a.live ss ≡ [] = ap (entries_in a.live) none in
     let marks : marks_in a.live ms ≡ replicate 16 None = fresh_shown a.live limit ms i.2 ∙ ap (λ n. replicate n None) sixteen in
-    let total : a.total ≡ 3 * limit = ap (λ (x : Frames). x.total) c.in_ok-arena.ensures in
-    let free : unmarked a.total ms ≡ 3 * limit = ap (λ n. n - named (marked_slots ms)) total ∙ ap (λ (xs : List Slot). 3 * limit - named xs) (fresh_slots limit ms i.2) ∙ omega arith in
-    λ j. record { pages = pages j; limit = limit; code = no_page; marks = marks j; unmarked = free j }
+    let spare : a.spare ≡ 3 * limit = ap (λ (x : Frames). x.spare) c.in_ok-arena.ensures in
+    λ j. record { pages = pages j; limit = limit; code = no_page; marks = marks j; spare = spare j }

@@ -4,7 +4,7 @@ use Rattle.std.specs.FinMap.{FinMap}
 use Rattle.std.specs.Vec.{vec_len}
 use Rattle.std.proofs.lemmas.List.{length-map}
 use Rattle.std.specs.Ordering.{nat_cmp}
-use Rattle.emu_model.specs.Access.{Memory, Page, no_marks}
+use Rattle.emu_model.specs.Access.{Memory, Page}
 use Rattle.emu_model.specs.Pages.{mapped}
 use Rattle.guest_pages.specs.declared.pages.MapFault.{MapFault}
 use Rattle.guest_pages.specs.declared.pages.MapFault.TheVariants.{Full}
@@ -79,13 +79,13 @@ module _ (c : goal.Joined-insert_slots) where
     | in-Err w ↦ subst (λ (l : List Slot). AreInOrder c.self.inside.limit (entries_of l)) (sym w.in-Err.ensures.err) c.self.invariant
   ]
 
-  done : OnOk c.match-insert_slots.result (record { pages = pages_of (entries_of c.insert_slots.new.slots.items); limit = c.self.inside.limit; marks = no_marks c.self.inside.limit } ≡ mapped c.args.self.now c.args.first c.args.count c.args.rights)
+  done : OnOk c.match-insert_slots.result (record { pages = pages_of (entries_of c.insert_slots.new.slots.items); limit = c.self.inside.limit } ≡ mapped c.args.self.now c.args.first c.args.count c.args.rights)
   done = elim c.match-insert_slots.branch [
-    | in-Ok-insert_slots w ↦ subst (λ (r : Result (Unit {0}) MapError). OnOk r (record { pages = pages_of (entries_of c.insert_slots.new.slots.items); limit = c.self.inside.limit; marks = no_marks c.self.inside.limit } ≡ mapped c.args.self.now c.args.first c.args.count c.args.rights)) (sym w.result-is) (
-        ap (λ es. record { pages = pages_of es; limit = c.self.inside.limit; marks = no_marks c.self.inside.limit }) (after w.in-Ok-insert_slots.ensures.ok)
-        ∙ ap (λ (p : FinMap nat_cmp Page). record { pages = p; limit = c.self.inside.limit; marks = no_marks c.self.inside.limit }) (put_is c.args.first c.args.count c.args.rights (entries_of c.self.inside.slots.items) c.place-at.result below past)
+    | in-Ok-insert_slots w ↦ subst (λ (r : Result (Unit {0}) MapError). OnOk r (record { pages = pages_of (entries_of c.insert_slots.new.slots.items); limit = c.self.inside.limit } ≡ mapped c.args.self.now c.args.first c.args.count c.args.rights)) (sym w.result-is) (
+        ap (λ es. record { pages = pages_of es; limit = c.self.inside.limit }) (after w.in-Ok-insert_slots.ensures.ok)
+        ∙ ap (λ (p : FinMap nat_cmp Page). record { pages = p; limit = c.self.inside.limit }) (put_is c.args.first c.args.count c.args.rights (entries_of c.self.inside.slots.items) c.place-at.result below past)
         ∙ ap (λ (m : Memory). mapped m c.args.first c.args.count c.args.rights) c.self.view_is)
-    | in-Err w ↦ subst (λ (r : Result (Unit {0}) MapError). OnOk r (record { pages = pages_of (entries_of c.insert_slots.new.slots.items); limit = c.self.inside.limit; marks = no_marks c.self.inside.limit } ≡ mapped c.args.self.now c.args.first c.args.count c.args.rights)) (sym w.result-is) tt
+    | in-Err w ↦ subst (λ (r : Result (Unit {0}) MapError). OnOk r (record { pages = pages_of (entries_of c.insert_slots.new.slots.items); limit = c.self.inside.limit } ≡ mapped c.args.self.now c.args.first c.args.count c.args.rights)) (sym w.result-is) tt
   ]
 
 pub invariant_of-self : goal.invariant_of-self

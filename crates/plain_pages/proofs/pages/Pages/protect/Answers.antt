@@ -2,7 +2,7 @@ use Rattle.std.proofs.Common.{◌≡◌, List, sym, ap, ◌∙◌, subst}
 use Rattle.std.specs.FinMap.{FinMap}
 use Rattle.std.specs.Ordering.{nat_cmp}
 use Rattle.std.specs.Vec.{with_items}
-use Rattle.emu_model.specs.Access.{Memory, Page, no_marks}
+use Rattle.emu_model.specs.Access.{Memory, Page}
 use Rattle.emu_model.specs.Pages.{protected}
 use Rattle.plain_pages.specs.declared.slots.Slot.{Slot}
 use Rattle.plain_pages.specs.Slots.{pages_of, AreInOrder, entries_of, all_changed, page_with_rights}
@@ -22,6 +22,6 @@ invariant_of-self c = subst (λ es. AreInOrder c.self.inside.limit es) (sym (aft
 
 pub returns-clause-protected : goal.returns-clause-protected
 returns-clause-protected c =
-    ap (λ es. record { pages = pages_of es; limit = c.self.inside.limit; marks = no_marks c.self.inside.limit }) (after c)
-    ∙ ap (λ (p : FinMap nat_cmp Page). record { pages = p; limit = c.self.inside.limit; marks = no_marks c.self.inside.limit }) (protected_is c.args.count c.args.first c.args.rights (entries_of c.self.inside.slots.items))
+    ap (λ es. record { pages = pages_of es; limit = c.self.inside.limit }) (after c)
+    ∙ ap (λ (p : FinMap nat_cmp Page). record { pages = p; limit = c.self.inside.limit }) (protected_is c.args.count c.args.first c.args.rights (entries_of c.self.inside.slots.items))
     ∙ ap (λ (m : Memory). protected m c.args.first c.args.count c.args.rights) c.self.view_is

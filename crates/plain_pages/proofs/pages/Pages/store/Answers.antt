@@ -3,7 +3,7 @@ use Rattle.std.specs.FinMap.{get, find}
 use Rattle.std.specs.Ordering.{nat_cmp}
 use Rattle.std.specs.Vec.{with_items}
 use Rattle.emu_model.specs.declared.access.Kind.TheVariants.{Write}
-use Rattle.emu_model.specs.Access.{Memory, page_gives, no_marks, page_size}
+use Rattle.emu_model.specs.Access.{Memory, page_gives, page_size}
 use Rattle.emu_model.specs.Pages.{with_bytes}
 use Rattle.emu_model.specs.WithinPage.{page_with_bytes}
 use Rattle.plain_pages.specs.declared.slots.Slot.{Slot}
@@ -31,6 +31,6 @@ returns-clause-allowed c =
 
 pub returns-clause-bytes : goal.returns-clause-bytes
 returns-clause-bytes c =
-    ap (λ es. record { pages = pages_of es; limit = c.self.inside.limit; marks = no_marks c.self.inside.limit }) (after c)
+    ap (λ es. record { pages = pages_of es; limit = c.self.inside.limit }) (after c)
     ∙ stored_is c.self.inside c.args.page c.args.at c.args.bytes.now c.requires.number c.requires.within (are_bytes c.args.bytes.now (λ k. (c.type_inv.bytes k).fits)) c.self.invariant c.store_slot.result
     ∙ ap (λ (m : Memory). cond c.store_slot.result (with_bytes m (c.args.page * page_size + c.args.at) c.args.bytes.now) m) c.self.view_is

@@ -1,7 +1,7 @@
 use Rattle.std.proofs.Common.{not, sym, ap, ◌∙◌, subst}
 use Rattle.std.specs.FinMap.{FinMap}
 use Rattle.std.specs.Ordering.{nat_cmp}
-use Rattle.emu_model.specs.Access.{Memory, Page, no_marks}
+use Rattle.emu_model.specs.Access.{Memory, Page}
 use Rattle.emu_model.specs.Pages.{is_among, unmapped}
 use Rattle.plain_pages.specs.Slots.{pages_of, AreInOrder, entries_of}
 use Rattle.guest_pages.proofs.Removed.{removed_is, order_filter}
@@ -12,6 +12,6 @@ invariant_of-self c = subst (λ es. AreInOrder c.self.inside.limit es) (sym c.re
 
 pub returns : goal.returns
 returns c =
-    ap (λ es. record { pages = pages_of es; limit = c.self.inside.limit; marks = no_marks c.self.inside.limit }) c.remove_slots.ensures
-    ∙ ap (λ (p : FinMap nat_cmp Page). record { pages = p; limit = c.self.inside.limit; marks = no_marks c.self.inside.limit }) (removed_is c.args.first c.args.count (entries_of c.self.inside.slots.items))
+    ap (λ es. record { pages = pages_of es; limit = c.self.inside.limit }) c.remove_slots.ensures
+    ∙ ap (λ (p : FinMap nat_cmp Page). record { pages = p; limit = c.self.inside.limit }) (removed_is c.args.first c.args.count (entries_of c.self.inside.slots.items))
     ∙ ap (λ (m : Memory). unmapped m c.args.first c.args.count) c.self.view_is

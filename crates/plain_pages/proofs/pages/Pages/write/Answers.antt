@@ -1,6 +1,6 @@
 use Rattle.std.proofs.Common.{◌≡◌, ◌+◌, ◌*◌, List, sym, ap, ◌∙◌, subst}
 use Rattle.std.specs.Vec.{with_items}
-use Rattle.emu_model.specs.Access.{Memory, no_marks, page_size}
+use Rattle.emu_model.specs.Access.{Memory, page_size}
 use Rattle.emu_model.specs.Pages.{with_bytes}
 use Rattle.emu_model.specs.WithinPage.{page_with_bytes}
 use Rattle.plain_pages.specs.declared.slots.Slot.{Slot}
@@ -22,6 +22,6 @@ invariant_of-self c = subst (λ es. AreInOrder c.self.inside.limit es) (sym (aft
 
 pub returns : goal.returns
 returns c =
-    ap (λ es. record { pages = pages_of es; limit = c.self.inside.limit; marks = no_marks c.self.inside.limit }) (after c)
+    ap (λ es. record { pages = pages_of es; limit = c.self.inside.limit }) (after c)
     ∙ written_is c.self.inside c.args.page c.args.at c.args.bytes.now c.requires.number c.requires.within (are_bytes c.args.bytes.now (λ k. (c.type_inv.bytes k).fits)) c.self.invariant
     ∙ ap (λ (m : Memory). with_bytes m (c.args.page * page_size + c.args.at) c.args.bytes.now) c.self.view_is

@@ -1,7 +1,7 @@
 use Rattle.std.proofs.Common.{◌≡◌, ◌-◌}
 use Rattle.dbg_back.proofs.Doing.{Leads}
 use Rattle.dbg_back.proofs.Going.{go_at}
-use Rattle.dbg_back.proofs.moves.go_marked.Given as goal
+use Rattle.dbg_back.proofs.moves.go_to_point.Given as goal
 
 abbrev pub invariant-walk : goal.invariant-walk
 invariant-walk g l = record {

@@ -5,7 +5,7 @@ use Rattle.emu_system.specs.Start.{with_input}
 use Rattle.emu_run.specs.Step.{step}
 use Rattle.emu_machine.specs.Ends.{Becomes, is_undone}
 use Rattle.emu_machine.specs.declared.ends.StepEnd.TheVariants as steps
-use Rattle.dbg_model.specs.Session.{mark_met}
+use Rattle.dbg_model.specs.Session.{point_met}
 use Rattle.dbg_core.specs.declared.ends.SessionEnd.TheVariants.{Done, ReadFault, WriteFault, ErrorsFault}
 use Rattle.dbg_core.specs.Ends.{is_fault, end_of_put, end_of_step}
 use Rattle.emu_machine.proofs.Composed.{leads_start}
@@ -15,7 +15,7 @@ use Rattle.dbg_core.proofs.Going.{go_at, at_over, go_spent, go_goes, go_stops, g
 use Rattle.dbg_core.proofs.Leaving.{at_start, at_next, becomes_same, becomes_printed, leaves_line, leaves_step}
 use Rattle.dbg_core.proofs.Obeying.{obeys_as, obeys_same, obeys_put, over_by, going_by, not_ended, still_going, fault_of_step, not_done, causes_as, causes_later, last_step, put_read, put_write, put_errs, no_read, no_errs, read_named, errors_named}
 use Rattle.dbg_core.proofs.Putting.{errors_still, puts_same, spares_line, spares_step, with_next, with_start}
-use Rattle.dbg_core.proofs.moves.go_marked.Goals as goal
+use Rattle.dbg_core.proofs.moves.go_to_point.Goals as goal
 
 pub returns-then-ended : goal.returns-then-ended
 returns-then-ended g c =
@@ -23,17 +23,17 @@ returns-then-ended g c =
     let put = c.put_ending.result in
     let is = c.end_of_put.ensures in
     record {
-      obeys = obeys_as p p _ _ _ _ _ _ (go_at c.args.marks.now c.args.budget) (end_of_put put) c.end_of_put.result is
-          (obeys_same p p _ _ _ _ _ _ (prints ending_text) (go_at c.args.marks.now c.args.budget) (end_of_put put)
-          (λ input. sym (at_over c.args.marks.now c.args.budget (with_input p input) (over_by c.args.machine.now c.requires (sym c.ended.ensures ∙ c.if-ended.true))))
+      obeys = obeys_as p p _ _ _ _ _ _ (go_at c.args.points.now c.args.budget) (end_of_put put) c.end_of_put.result is
+          (obeys_same p p _ _ _ _ _ _ (prints ending_text) (go_at c.args.points.now c.args.budget) (end_of_put put)
+          (λ input. sym (at_over c.args.points.now c.args.budget (with_input p input) (over_by c.args.machine.now c.requires (sym c.ended.ensures ∙ c.if-ended.true))))
           (obeys_put ending_text p (g.I.Source.left c.args.input.now) (g.O.Sink.held c.args.output.now) (g.O.Sink.held c.put_ending.new.sink) (g.E.Sink.held c.args.errors.now) put c.put_ending.ensures.bytes));
-      leaves = leaves_line (go_at c.args.marks.now c.args.budget) c.args.budget p c.args.machine.now (g.I.Source.left c.args.input.now) (g.I.Source.left c.args.input.now) put c.end_of_put.result is c.requires
-          (becomes_same (prints ending_text) (go_at c.args.marks.now c.args.budget) p p (g.I.Source.left c.args.input.now) (g.I.Source.left c.args.input.now) false
-          (λ input. sym (at_over c.args.marks.now c.args.budget (with_input p input) (over_by c.args.machine.now c.requires (sym c.ended.ensures ∙ c.if-ended.true))))
+      leaves = leaves_line (go_at c.args.points.now c.args.budget) c.args.budget p c.args.machine.now (g.I.Source.left c.args.input.now) (g.I.Source.left c.args.input.now) put c.end_of_put.result is c.requires
+          (becomes_same (prints ending_text) (go_at c.args.points.now c.args.budget) p p (g.I.Source.left c.args.input.now) (g.I.Source.left c.args.input.now) false
+          (λ input. sym (at_over c.args.points.now c.args.budget (with_input p input) (over_by c.args.machine.now c.requires (sym c.ended.ensures ∙ c.if-ended.true))))
           (becomes_printed ending_text p (g.I.Source.left c.args.input.now)));
-      spares = spares_line (go_at c.args.marks.now c.args.budget) p c.args.machine.now (g.I.Source.left c.args.input.now) (g.I.Source.left c.args.input.now) (g.O.Sink.held c.args.output.now) (g.O.Sink.held c.put_ending.new.sink) (g.E.Sink.held c.args.errors.now) (g.E.Sink.held c.args.errors.now) put c.end_of_put.result is c.requires
-          (puts_same (λ st. st.errors) (λ st. (go_at c.args.marks.now c.args.budget st).errors) p (g.I.Source.left c.args.input.now) (g.E.Sink.held c.args.errors.now) (g.E.Sink.held c.args.errors.now)
-          (λ input. ap (λ (s : State). s.errors) (sym (at_over c.args.marks.now c.args.budget (with_input p input) (over_by c.args.machine.now c.requires (sym c.ended.ensures ∙ c.if-ended.true)))))
+      spares = spares_line (go_at c.args.points.now c.args.budget) p c.args.machine.now (g.I.Source.left c.args.input.now) (g.I.Source.left c.args.input.now) (g.O.Sink.held c.args.output.now) (g.O.Sink.held c.put_ending.new.sink) (g.E.Sink.held c.args.errors.now) (g.E.Sink.held c.args.errors.now) put c.end_of_put.result is c.requires
+          (puts_same (λ st. st.errors) (λ st. (go_at c.args.points.now c.args.budget st).errors) p (g.I.Source.left c.args.input.now) (g.E.Sink.held c.args.errors.now) (g.E.Sink.held c.args.errors.now)
+          (λ input. ap (λ (s : State). s.errors) (sym (at_over c.args.points.now c.args.budget (with_input p input) (over_by c.args.machine.now c.requires (sym c.ended.ensures ∙ c.if-ended.true)))))
           (errors_still p (g.I.Source.left c.args.input.now) (g.E.Sink.held c.args.errors.now)));
       done = λ _. c.requires;
       read_cause = put_read put c.end_of_put.result is _ _ refl;
@@ -47,7 +47,7 @@ pub walk-init : goal.walk-init
 walk-init g c = record {
   failed = c.requires;
   going = going_by c.args.machine.now (sym c.ended.ensures ∙ c.if-ended.false);
-  leads = leads_start (go_at c.args.marks.now c.args.budget) c.args.machine.now.parts (g.I.Source.left c.args.input.now) (g.O.Sink.held c.args.output.now) (g.E.Sink.held c.args.errors.now);
+  leads = leads_start (go_at c.args.points.now c.args.budget) c.args.machine.now.parts (g.I.Source.left c.args.input.now) (g.O.Sink.held c.args.output.now) (g.E.Sink.held c.args.errors.now);
   came = at_start c.args.machine.now.parts (g.I.Source.left c.args.input.now);
   put = with_start c.args.machine.now.parts (g.I.Source.left c.args.input.now) (g.O.Sink.held c.args.output.now) (g.E.Sink.held c.args.errors.now);
   read = refl;
@@ -71,10 +71,10 @@ walk-preserved g c =
     record {
       failed = c.step.ensures.failed ∙ fine;
       going = still_going q.ended r (c.step.ensures.end fine) c.in-Going.is;
-      leads = go_goes c.args.marks.now c.args.budget c.args.machine.now.parts p q (g.I.Source.left c.args.input.now) (g.I.Source.left c.walk.input) (g.I.Source.left c.step.new.input)
+      leads = go_goes c.args.points.now c.args.budget c.args.machine.now.parts p q (g.I.Source.left c.args.input.now) (g.I.Source.left c.walk.input) (g.I.Source.left c.step.new.input)
           (g.O.Sink.held c.args.output.now) (g.O.Sink.held c.walk.output) (g.O.Sink.held c.step.new.output) (g.E.Sink.held c.args.errors.now) (g.E.Sink.held c.walk.errors) (g.E.Sink.held c.step.new.errors)
           c.walk.invariant.leads c.walk.invariant.going below counted
-          (ap (λ (made : List Access). mark_met c.args.marks.now made q) (sym c.step.ensures.accesses) ∙ sym c.point_met.ensures ∙ c.in-None.is)
+          (ap (λ (made : List Access). point_met c.args.points.now made q) (sym c.step.ensures.accesses) ∙ sym c.point_met.ensures ∙ c.in-None.is)
           (comes_step p q (g.I.Source.left c.walk.input) (g.I.Source.left c.step.new.input) (g.O.Sink.held c.walk.output) (g.O.Sink.held c.step.new.output) (g.E.Sink.held c.walk.errors) (g.E.Sink.held c.step.new.errors)
           (is_undone r) false fine c.step.ensures.state c.step.ensures.input c.step.ensures.output c.step.ensures.errors);
       came = at_next c.args.machine.now.parts p q (g.I.Source.left c.args.input.now) (g.I.Source.left c.walk.input) (g.I.Source.left c.step.new.input) c.walk.invariant.going
@@ -101,28 +101,28 @@ returns-in-Some g c =
     let test = c.walk-test.true in
     let below : p.steps < c.args.budget = omega (arith, now, test) in
     record {
-      obeys = obeys_as c.args.machine.now.parts q _ _ _ _ _ _ (go_at c.args.marks.now c.args.budget) (end_of_put put) c.end_of_put-in-Some.result is
-          (go_stops c.args.marks.now c.args.budget c.args.machine.now.parts p q (g.I.Source.left c.args.input.now) (g.I.Source.left c.walk.input) (g.I.Source.left c.step.new.input)
+      obeys = obeys_as c.args.machine.now.parts q _ _ _ _ _ _ (go_at c.args.points.now c.args.budget) (end_of_put put) c.end_of_put-in-Some.result is
+          (go_stops c.args.points.now c.args.budget c.args.machine.now.parts p q (g.I.Source.left c.args.input.now) (g.I.Source.left c.walk.input) (g.I.Source.left c.step.new.input)
           (g.O.Sink.held c.args.output.now) (g.O.Sink.held c.walk.output) (g.O.Sink.held c.step.new.output) (g.E.Sink.held c.args.errors.now) (g.E.Sink.held c.walk.errors) (g.E.Sink.held c.step.new.errors)
           c.walk.invariant.leads c.walk.invariant.going below c.in-Some.stop (g.O.Sink.held c.put_met.new.sink) put
-          (ap (λ (made : List Access). mark_met c.args.marks.now made q) (sym c.step.ensures.accesses) ∙ sym c.point_met.ensures ∙ c.in-Some.is)
+          (ap (λ (made : List Access). point_met c.args.points.now made q) (sym c.step.ensures.accesses) ∙ sym c.point_met.ensures ∙ c.in-Some.is)
           (comes_step p q (g.I.Source.left c.walk.input) (g.I.Source.left c.step.new.input) (g.O.Sink.held c.walk.output) (g.O.Sink.held c.step.new.output) (g.E.Sink.held c.walk.errors) (g.E.Sink.held c.step.new.errors)
           (is_undone r) false fine c.step.ensures.state c.step.ensures.input c.step.ensures.output c.step.ensures.errors)
           c.put_met.ensures.bytes);
-      leaves = leaves_line (go_at c.args.marks.now c.args.budget) c.args.budget c.args.machine.now.parts c.step.new.self (g.I.Source.left c.args.input.now) (g.I.Source.left c.step.new.input) put c.end_of_put-in-Some.result is
+      leaves = leaves_line (go_at c.args.points.now c.args.budget) c.args.budget c.args.machine.now.parts c.step.new.self (g.I.Source.left c.args.input.now) (g.I.Source.left c.step.new.input) put c.end_of_put-in-Some.result is
           (c.step.ensures.failed ∙ fine)
-          (whole_stops c.args.marks.now c.args.budget c.args.machine.now.parts p q (g.I.Source.left c.args.input.now) (g.I.Source.left c.walk.input) (g.I.Source.left c.step.new.input)
+          (whole_stops c.args.points.now c.args.budget c.args.machine.now.parts p q (g.I.Source.left c.args.input.now) (g.I.Source.left c.walk.input) (g.I.Source.left c.step.new.input)
           (g.O.Sink.held c.args.output.now) (g.O.Sink.held c.walk.output) (g.O.Sink.held c.step.new.output) (g.E.Sink.held c.args.errors.now) (g.E.Sink.held c.walk.errors) (g.E.Sink.held c.step.new.errors)
           c.walk.invariant.leads c.walk.invariant.going below c.in-Some.stop
-          (ap (λ (made : List Access). mark_met c.args.marks.now made q) (sym c.step.ensures.accesses) ∙ sym c.point_met.ensures ∙ c.in-Some.is)
+          (ap (λ (made : List Access). point_met c.args.points.now made q) (sym c.step.ensures.accesses) ∙ sym c.point_met.ensures ∙ c.in-Some.is)
           (comes_step p q (g.I.Source.left c.walk.input) (g.I.Source.left c.step.new.input) (g.O.Sink.held c.walk.output) (g.O.Sink.held c.step.new.output) (g.E.Sink.held c.walk.errors) (g.E.Sink.held c.step.new.errors)
           (is_undone r) false fine c.step.ensures.state c.step.ensures.input c.step.ensures.output c.step.ensures.errors));
-      spares = spares_line (go_at c.args.marks.now c.args.budget) c.args.machine.now.parts c.step.new.self (g.I.Source.left c.args.input.now) (g.I.Source.left c.step.new.input) (g.O.Sink.held c.args.output.now) (g.O.Sink.held c.put_met.new.sink) (g.E.Sink.held c.args.errors.now) (g.E.Sink.held c.step.new.errors) put c.end_of_put-in-Some.result is
+      spares = spares_line (go_at c.args.points.now c.args.budget) c.args.machine.now.parts c.step.new.self (g.I.Source.left c.args.input.now) (g.I.Source.left c.step.new.input) (g.O.Sink.held c.args.output.now) (g.O.Sink.held c.put_met.new.sink) (g.E.Sink.held c.args.errors.now) (g.E.Sink.held c.step.new.errors) put c.end_of_put-in-Some.result is
           (c.step.ensures.failed ∙ fine)
-          (stops_errors c.args.marks.now c.args.budget c.args.machine.now.parts p q (g.I.Source.left c.args.input.now) (g.I.Source.left c.walk.input) (g.I.Source.left c.step.new.input)
+          (stops_errors c.args.points.now c.args.budget c.args.machine.now.parts p q (g.I.Source.left c.args.input.now) (g.I.Source.left c.walk.input) (g.I.Source.left c.step.new.input)
           (g.O.Sink.held c.args.output.now) (g.O.Sink.held c.walk.output) (g.O.Sink.held c.step.new.output) (g.E.Sink.held c.args.errors.now) (g.E.Sink.held c.walk.errors) (g.E.Sink.held c.step.new.errors)
           c.walk.invariant.leads c.walk.invariant.going below c.in-Some.stop
-          (ap (λ (made : List Access). mark_met c.args.marks.now made q) (sym c.step.ensures.accesses) ∙ sym c.point_met.ensures ∙ c.in-Some.is)
+          (ap (λ (made : List Access). point_met c.args.points.now made q) (sym c.step.ensures.accesses) ∙ sym c.point_met.ensures ∙ c.in-Some.is)
           (comes_step p q (g.I.Source.left c.walk.input) (g.I.Source.left c.step.new.input) (g.O.Sink.held c.walk.output) (g.O.Sink.held c.step.new.output) (g.E.Sink.held c.walk.errors) (g.E.Sink.held c.step.new.errors)
           (is_undone r) false fine c.step.ensures.state c.step.ensures.input c.step.ensures.output c.step.ensures.errors));
       done = λ _. c.step.ensures.failed ∙ fine;
@@ -146,25 +146,25 @@ returns-in-Done g c =
     let test = c.walk-test.true in
     let below : p.steps < c.args.budget = omega (arith, now, test) in
     record {
-      obeys = obeys_as c.args.machine.now.parts q _ _ _ _ _ _ (go_at c.args.marks.now c.args.budget) (end_of_put put) c.end_of_put-in-Done.result is
-          (go_ends c.args.marks.now c.args.budget c.args.machine.now.parts p q (g.I.Source.left c.args.input.now) (g.I.Source.left c.walk.input) (g.I.Source.left c.step.new.input)
+      obeys = obeys_as c.args.machine.now.parts q _ _ _ _ _ _ (go_at c.args.points.now c.args.budget) (end_of_put put) c.end_of_put-in-Done.result is
+          (go_ends c.args.points.now c.args.budget c.args.machine.now.parts p q (g.I.Source.left c.args.input.now) (g.I.Source.left c.walk.input) (g.I.Source.left c.step.new.input)
           (g.O.Sink.held c.args.output.now) (g.O.Sink.held c.walk.output) (g.O.Sink.held c.step.new.output) (g.E.Sink.held c.args.errors.now) (g.E.Sink.held c.walk.errors) (g.E.Sink.held c.step.new.errors)
           c.walk.invariant.leads c.walk.invariant.going below (g.O.Sink.held c.put_ending-in-Done.new.sink) put
           (not_going q.ended r (c.step.ensures.end fine) c.in_default.not-Going)
           (comes_step p q (g.I.Source.left c.walk.input) (g.I.Source.left c.step.new.input) (g.O.Sink.held c.walk.output) (g.O.Sink.held c.step.new.output) (g.E.Sink.held c.walk.errors) (g.E.Sink.held c.step.new.errors)
           (is_undone r) false fine c.step.ensures.state c.step.ensures.input c.step.ensures.output c.step.ensures.errors)
           c.put_ending-in-Done.ensures.bytes);
-      leaves = leaves_line (go_at c.args.marks.now c.args.budget) c.args.budget c.args.machine.now.parts c.step.new.self (g.I.Source.left c.args.input.now) (g.I.Source.left c.step.new.input) put c.end_of_put-in-Done.result is
+      leaves = leaves_line (go_at c.args.points.now c.args.budget) c.args.budget c.args.machine.now.parts c.step.new.self (g.I.Source.left c.args.input.now) (g.I.Source.left c.step.new.input) put c.end_of_put-in-Done.result is
           (c.step.ensures.failed ∙ fine)
-          (whole_ends c.args.marks.now c.args.budget c.args.machine.now.parts p q (g.I.Source.left c.args.input.now) (g.I.Source.left c.walk.input) (g.I.Source.left c.step.new.input)
+          (whole_ends c.args.points.now c.args.budget c.args.machine.now.parts p q (g.I.Source.left c.args.input.now) (g.I.Source.left c.walk.input) (g.I.Source.left c.step.new.input)
           (g.O.Sink.held c.args.output.now) (g.O.Sink.held c.walk.output) (g.O.Sink.held c.step.new.output) (g.E.Sink.held c.args.errors.now) (g.E.Sink.held c.walk.errors) (g.E.Sink.held c.step.new.errors)
           c.walk.invariant.leads c.walk.invariant.going below
           (not_going q.ended r (c.step.ensures.end fine) c.in_default.not-Going)
           (comes_step p q (g.I.Source.left c.walk.input) (g.I.Source.left c.step.new.input) (g.O.Sink.held c.walk.output) (g.O.Sink.held c.step.new.output) (g.E.Sink.held c.walk.errors) (g.E.Sink.held c.step.new.errors)
           (is_undone r) false fine c.step.ensures.state c.step.ensures.input c.step.ensures.output c.step.ensures.errors));
-      spares = spares_line (go_at c.args.marks.now c.args.budget) c.args.machine.now.parts c.step.new.self (g.I.Source.left c.args.input.now) (g.I.Source.left c.step.new.input) (g.O.Sink.held c.args.output.now) (g.O.Sink.held c.put_ending-in-Done.new.sink) (g.E.Sink.held c.args.errors.now) (g.E.Sink.held c.step.new.errors) put c.end_of_put-in-Done.result is
+      spares = spares_line (go_at c.args.points.now c.args.budget) c.args.machine.now.parts c.step.new.self (g.I.Source.left c.args.input.now) (g.I.Source.left c.step.new.input) (g.O.Sink.held c.args.output.now) (g.O.Sink.held c.put_ending-in-Done.new.sink) (g.E.Sink.held c.args.errors.now) (g.E.Sink.held c.step.new.errors) put c.end_of_put-in-Done.result is
           (c.step.ensures.failed ∙ fine)
-          (ends_errors c.args.marks.now c.args.budget c.args.machine.now.parts p q (g.I.Source.left c.args.input.now) (g.I.Source.left c.walk.input) (g.I.Source.left c.step.new.input)
+          (ends_errors c.args.points.now c.args.budget c.args.machine.now.parts p q (g.I.Source.left c.args.input.now) (g.I.Source.left c.walk.input) (g.I.Source.left c.step.new.input)
           (g.O.Sink.held c.args.output.now) (g.O.Sink.held c.walk.output) (g.O.Sink.held c.step.new.output) (g.E.Sink.held c.args.errors.now) (g.E.Sink.held c.walk.errors) (g.E.Sink.held c.step.new.errors)
           c.walk.invariant.leads c.walk.invariant.going below
           (not_going q.ended r (c.step.ensures.end fine) c.in_default.not-Going)
@@ -191,14 +191,14 @@ returns-in_default-end_of_step g c =
     let test = c.walk-test.true in
     let below : p.steps < c.args.budget = omega (arith, now, test) in
     record {
-      obeys = go_breaks c.args.marks.now c.args.budget c.args.machine.now.parts p q (g.I.Source.left c.args.input.now) (g.I.Source.left c.walk.input) (g.I.Source.left c.step.new.input)
+      obeys = go_breaks c.args.points.now c.args.budget c.args.machine.now.parts p q (g.I.Source.left c.args.input.now) (g.I.Source.left c.walk.input) (g.I.Source.left c.step.new.input)
           (g.O.Sink.held c.args.output.now) (g.O.Sink.held c.walk.output) (g.O.Sink.held c.step.new.output) (g.E.Sink.held c.args.errors.now) (g.E.Sink.held c.walk.errors) (g.E.Sink.held c.step.new.errors)
           c.walk.invariant.leads c.walk.invariant.going below end other
           (comes_step p q (g.I.Source.left c.walk.input) (g.I.Source.left c.step.new.input) (g.O.Sink.held c.walk.output) (g.O.Sink.held c.step.new.output) (g.E.Sink.held c.walk.errors) (g.E.Sink.held c.step.new.errors)
           (is_undone r) true broken c.step.ensures.state c.step.ensures.input c.step.ensures.output c.step.ensures.errors);
-      leaves = leaves_step (go_at c.args.marks.now c.args.budget) c.args.budget c.args.machine.now.parts p c.step.new.self (g.I.Source.left c.args.input.now) (g.I.Source.left c.walk.input) (g.I.Source.left c.step.new.input)
+      leaves = leaves_step (go_at c.args.points.now c.args.budget) c.args.budget c.args.machine.now.parts p c.step.new.self (g.I.Source.left c.args.input.now) (g.I.Source.left c.walk.input) (g.I.Source.left c.step.new.input)
           r end is broken c.step.ensures.failed c.walk.invariant.came c.step.ensures.kept c.step.ensures.unstored c.step.ensures.write_named below c.walk.invariant.going;
-      spares = spares_step (go_at c.args.marks.now c.args.budget) c.args.machine.now.parts p c.step.new.self (g.I.Source.left c.args.input.now) (g.I.Source.left c.walk.input) (g.I.Source.left c.step.new.input) (g.O.Sink.held c.args.output.now) (g.O.Sink.held c.walk.output) (g.O.Sink.held c.step.new.output) (g.E.Sink.held c.args.errors.now) (g.E.Sink.held c.walk.errors) (g.E.Sink.held c.step.new.errors)
+      spares = spares_step (go_at c.args.points.now c.args.budget) c.args.machine.now.parts p c.step.new.self (g.I.Source.left c.args.input.now) (g.I.Source.left c.walk.input) (g.I.Source.left c.step.new.input) (g.O.Sink.held c.args.output.now) (g.O.Sink.held c.walk.output) (g.O.Sink.held c.step.new.output) (g.E.Sink.held c.args.errors.now) (g.E.Sink.held c.walk.errors) (g.E.Sink.held c.step.new.errors)
           r end is broken c.step.ensures.failed c.walk.invariant.put c.step.ensures.kept (λ h. ap g.O.Sink.held (c.step.ensures.output_kept h)) (λ h. ap g.E.Sink.held (c.step.ensures.errors_kept h));
       done = λ h. absurd (other h);
       read_cause = causes_later _ _ _ _ c.walk.invariant.read (causes_as _ _ _ _ (λ h. is ∙ ap end_of_step h) (λ h. last_step r ReadFault (sym is ∙ h)) c.step.ensures.read_cause);
@@ -217,16 +217,16 @@ returns g c =
     let test = c.walk-test.false in
     let spent : c.args.budget ≤ p.steps = omega (arith, now, test) in
     record {
-      obeys = obeys_as c.args.machine.now.parts p _ _ _ _ _ _ (go_at c.args.marks.now c.args.budget) (end_of_put put) c.end_of_put-2.result is
-          (go_spent c.args.marks.now c.args.budget c.args.machine.now.parts p p (g.I.Source.left c.args.input.now) (g.I.Source.left c.walk.input) (g.I.Source.left c.walk.input)
+      obeys = obeys_as c.args.machine.now.parts p _ _ _ _ _ _ (go_at c.args.points.now c.args.budget) (end_of_put put) c.end_of_put-2.result is
+          (go_spent c.args.points.now c.args.budget c.args.machine.now.parts p p (g.I.Source.left c.args.input.now) (g.I.Source.left c.walk.input) (g.I.Source.left c.walk.input)
           (g.O.Sink.held c.args.output.now) (g.O.Sink.held c.walk.output) (g.O.Sink.held c.walk.output) (g.E.Sink.held c.args.errors.now) (g.E.Sink.held c.walk.errors) (g.E.Sink.held c.walk.errors)
           c.walk.invariant.leads (g.O.Sink.held c.put_ending-2.new.sink) put spent c.put_ending-2.ensures.bytes);
-      leaves = leaves_line (go_at c.args.marks.now c.args.budget) c.args.budget c.args.machine.now.parts c.walk.machine (g.I.Source.left c.args.input.now) (g.I.Source.left c.walk.input) put c.end_of_put-2.result is c.walk.invariant.failed
-          (whole_spent c.args.marks.now c.args.budget c.args.machine.now.parts p p (g.I.Source.left c.args.input.now) (g.I.Source.left c.walk.input) (g.I.Source.left c.walk.input)
+      leaves = leaves_line (go_at c.args.points.now c.args.budget) c.args.budget c.args.machine.now.parts c.walk.machine (g.I.Source.left c.args.input.now) (g.I.Source.left c.walk.input) put c.end_of_put-2.result is c.walk.invariant.failed
+          (whole_spent c.args.points.now c.args.budget c.args.machine.now.parts p p (g.I.Source.left c.args.input.now) (g.I.Source.left c.walk.input) (g.I.Source.left c.walk.input)
           (g.O.Sink.held c.args.output.now) (g.O.Sink.held c.walk.output) (g.O.Sink.held c.walk.output) (g.E.Sink.held c.args.errors.now) (g.E.Sink.held c.walk.errors) (g.E.Sink.held c.walk.errors)
           c.walk.invariant.leads spent);
-      spares = spares_line (go_at c.args.marks.now c.args.budget) c.args.machine.now.parts c.walk.machine (g.I.Source.left c.args.input.now) (g.I.Source.left c.walk.input) (g.O.Sink.held c.args.output.now) (g.O.Sink.held c.put_ending-2.new.sink) (g.E.Sink.held c.args.errors.now) (g.E.Sink.held c.walk.errors) put c.end_of_put-2.result is c.walk.invariant.failed
-          (spent_errors c.args.marks.now c.args.budget c.args.machine.now.parts p p (g.I.Source.left c.args.input.now) (g.I.Source.left c.walk.input) (g.I.Source.left c.walk.input)
+      spares = spares_line (go_at c.args.points.now c.args.budget) c.args.machine.now.parts c.walk.machine (g.I.Source.left c.args.input.now) (g.I.Source.left c.walk.input) (g.O.Sink.held c.args.output.now) (g.O.Sink.held c.put_ending-2.new.sink) (g.E.Sink.held c.args.errors.now) (g.E.Sink.held c.walk.errors) put c.end_of_put-2.result is c.walk.invariant.failed
+          (spent_errors c.args.points.now c.args.budget c.args.machine.now.parts p p (g.I.Source.left c.args.input.now) (g.I.Source.left c.walk.input) (g.I.Source.left c.walk.input)
           (g.O.Sink.held c.args.output.now) (g.O.Sink.held c.walk.output) (g.O.Sink.held c.walk.output) (g.E.Sink.held c.args.errors.now) (g.E.Sink.held c.walk.errors) (g.E.Sink.held c.walk.errors)
           c.walk.invariant.leads spent);
       done = λ _. c.walk.invariant.failed;

@@ -4,7 +4,7 @@ use Rattle.emu_model.specs.State.{Parts, State}
 use Rattle.emu_run.specs.Run.{goes_on}
 use Rattle.emu_run.specs.Step.{accesses}
 use Rattle.emu_machine.specs.Machines.{MachineState, has_ended}
-use Rattle.dbg_model.specs.Session.{Marks}
+use Rattle.dbg_model.specs.Session.{Points}
 use Rattle.dbg_core.specs.declared.points.Stop.{Stop}
 use Rattle.dbg_core.specs.Stops.{first_met, line_of_stop}
 use Rattle.dbg_core.proofs.Obeying.{causes_later, going_by, not_ended, over_by}
@@ -16,9 +16,8 @@ use Rattle.dbg_back.specs.Walks.{Does, IsWalk, advanced}
 use Rattle.dbg_back.proofs.Courses.{Appends}
 use Rattle.dbg_back.proofs.Doing.{does_as, does_put, does_then, does_when, leads_cut, leads_end, leads_kept, leads_on, leads_start, leads_walk}
 use Rattle.dbg_back.proofs.Going.{accesses_of, first_met_of, go_appends, go_at, go_ended, go_goes, go_rests, go_stops, has_ended_by, one_step, tested}
-use Rattle.dbg_back.proofs.Lines.{ending_plain, stop_plain}
 use Rattle.dbg_back.proofs.Streams.{not_done, put_errs, put_write}
-use Rattle.dbg_back.proofs.moves.go_marked.Goals as goal
+use Rattle.dbg_back.proofs.moves.go_to_point.Goals as goal
 
 pub walk-init : goal.walk-init
 walk-init g c = record {
@@ -55,7 +54,7 @@ advance-requires g c =
 
 -- ---- what the tests of the machine say of its course
 
-module _ (points : Marks) (budget until : ℕ) (input : List ℕ) (m : MachineState) (t : Trail) (going : has_ended m ≡ false) (below : m.parts.steps < budget) (is : until ≡ m.parts.steps + 1) (start : State) (c : Course) (w : IsWalk start input c m t) where
+module _ (points : Points) (budget until : ℕ) (input : List ℕ) (m : MachineState) (t : Trail) (going : has_ended m ≡ false) (below : m.parts.steps < budget) (is : until ≡ m.parts.steps + 1) (start : State) (c : Course) (w : IsWalk start input c m t) where
   goes : goes_on c.state ≡ true
   goes = ap (λ (p : Parts). is_none p.ended) (sym w.here.parts) ∙ going_by m going
 
@@ -152,7 +151,7 @@ returns-in-Some g c =
     let last : Does (λ start course. put (line_of_stop stop) (advanced until course)) input m n t v (g.O.Sink.held c.walk.output) (g.O.Sink.held c.put_stop.new.output) (g.E.Sink.held c.walk.errors) (g.E.Sink.held c.advance.new.errors) (is_fault (end_of_put line)) =
     does_then input m n n t v v (g.O.Sink.held c.walk.output) (g.O.Sink.held c.advance.new.output) (g.O.Sink.held c.put_stop.new.output) (g.E.Sink.held c.walk.errors) (g.E.Sink.held c.advance.new.errors) (g.E.Sink.held c.advance.new.errors)
     (λ start. advanced until) (λ start. put (line_of_stop stop)) (is_fault (end_of_put line)) d
-    (does_put input n v (g.O.Sink.held c.advance.new.output) (g.O.Sink.held c.put_stop.new.output) (g.E.Sink.held c.advance.new.errors) (line_of_stop stop) line (stop_plain stop) c.put_stop.ensures.bytes) in
+    (does_put input n v (g.O.Sink.held c.advance.new.output) (g.O.Sink.held c.put_stop.new.output) (g.E.Sink.held c.advance.new.errors) (line_of_stop stop) line c.put_stop.ensures.bytes) in
     record {
       does = does_when input c.args.machine.now n c.args.trail.now v (g.O.Sink.held c.args.output.now) (g.O.Sink.held c.put_stop.new.output) (g.E.Sink.held c.args.errors.now) (g.E.Sink.held c.advance.new.errors) f (is_fault (end_of_put line)) (is_fault c.end_of_put.result) (ap is_fault (sym is))
           (leads_end f f input c.args.machine.now m c.args.trail.now t
@@ -192,7 +191,7 @@ returns-in_default g c =
     }
 
 -- it has ended, or there is no step left
-rests : (points : Marks) (budget : ℕ) (start : State) (input : List ℕ) (c : Course) (m : MachineState) (t : Trail) → (has_ended m ≡ true) ⊎ (budget ≤ m.parts.steps) → IsWalk start input c m t → put ending_text c ≡ go_at points budget c
+rests : (points : Points) (budget : ℕ) (start : State) (input : List ℕ) (c : Course) (m : MachineState) (t : Trail) → (has_ended m ≡ true) ⊎ (budget ≤ m.parts.steps) → IsWalk start input c m t → put ending_text c ≡ go_at points budget c
 rests points budget start input c m t over w = elim over as (λ _. put ending_text c ≡ go_at points budget c) [
   | inl ended ↦ sym (go_ended points budget c (ap (λ (p : Parts). is_none p.ended) (sym w.here.parts) ∙ over_by m w.here.failed ended))
   | inr counted ↦ let same = ap (λ (p : Parts). p.steps) w.here.parts in sym (go_rests points budget c (omega (arith, counted, same)))
@@ -212,7 +211,7 @@ returns g c =
           (g.O.Sink.held c.args.output.now) (g.O.Sink.held c.walk.output) (g.E.Sink.held c.args.errors.now) (g.E.Sink.held c.walk.errors) c.walk.invariant.leads m t (g.O.Sink.held c.put_ending.new.sink) (g.E.Sink.held c.walk.errors) (is_fault (end_of_put line))
           (does_as input m m t t (g.O.Sink.held c.walk.output) (g.O.Sink.held c.put_ending.new.sink) (g.E.Sink.held c.walk.errors) (g.E.Sink.held c.walk.errors) (λ start. put ending_text) f (is_fault (end_of_put line))
           (λ start course w. rests c.args.points.now c.args.budget start input course m t (c.is_below.ensures.over c.walk-test.false) w)
-          (does_put input m t (g.O.Sink.held c.walk.output) (g.O.Sink.held c.put_ending.new.sink) (g.E.Sink.held c.walk.errors) ending_text line ending_plain c.put_ending.ensures.bytes)));
+          (does_put input m t (g.O.Sink.held c.walk.output) (g.O.Sink.held c.put_ending.new.sink) (g.E.Sink.held c.walk.errors) ending_text line c.put_ending.ensures.bytes)));
       write_cause = put_write line c.end_of_put-2.result is _ _ _ c.walk.invariant.write c.put_ending.ensures.cause;
       errors_cause = put_errs line c.end_of_put-2.result is _ _ c.walk.invariant.errors;
     }
