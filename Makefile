@@ -11,8 +11,8 @@ TO = $(DESTDIR)$(PREFIX)
 
 # Tools in Python stand in lib/svemu beside their modules and the program, and in bin/ by links.
 SCRIPTS = svemu-runner svemu-filter svemu-lengths
-TOOLS = svemu-lanes svemu-curve svemu-diff svemu-schedules
-MODULES = svemu_pages.py svemu_program.py svemu_calls.py svemu_turns.py
+TOOLS = svemu-lanes svemu-curve svemu-cover svemu-diff svemu-schedules
+MODULES = svemu_pages.py svemu_program.py svemu_calls.py svemu_turns.py svemu_accesses.py svemu_trace.py svemu_failing.py
 GUESTS = start.S guest.h threads.h kernel_test.h
 
 # The shell reads both as they are, whatever quotes they have.

@@ -22,6 +22,10 @@
 //     TEST_FOLD2(kernel, reference, T, A, B)    T kernel(const A *a, const B *b, unsigned long n)
 //     TEST_UPDATE(kernel, reference, T)         void kernel(T *data, unsigned long n)
 //
+// The kernel is the name of a function, which is called by its address, so it stays a function of its own. In a program
+// with symbols `svemu-diff --test` tells which step wrote the number that is wrong: the first difference is kept under
+// the symbol kernel_test_difference.
+//
 // The types are of integers, and may be other than one another. For kernels of another kind there are the parts:
 // FOR_EACH_COUNT, vector_bytes, fill_with_noise, guarded_end and its kin, and first_difference.
 
@@ -105,6 +109,7 @@ struct kernel_buffer {
 // the begin; then every alignment within a vector, for a count a bit below a vector and one a bit above two.
 struct kernel_test {
     const char *name;
+    unsigned long kernel; // its address
     // bytes of an element of the output and of the inputs, 0 of an input that there isn't; no two sizes are neighbours,
     // since clang stores neighbours that are equal by one Advanced SIMD register
     unsigned long out_size;
@@ -121,6 +126,26 @@ struct kernel_test {
 };
 
 enum { CANARY = 0xa5 };
+
+// The first difference that the program's tests found, for svemu-diff: all zeros where there is none. The symbol is one
+// for the whole program.
+struct kernel_difference {
+    unsigned long kernel;               // the kernel's address
+    const unsigned char *at;            // the first byte of the element that is wrong, or of what was written outside
+    unsigned long size;                 // its bytes
+    const unsigned char *output;        // the output and its bytes
+    unsigned long output_bytes;
+    unsigned long answers;              // whether the kernel answers its result
+};
+
+#ifdef __cplusplus
+extern "C" {
+#endif
+extern struct kernel_difference kernel_test_difference;
+__attribute__((weak, section(".bss.kernel_test_difference"))) struct kernel_difference kernel_test_difference;
+#ifdef __cplusplus
+}
+#endif
 
 static inline int make_buffer(struct kernel_buffer *buffer, struct kernel_place place, unsigned long n,
                               unsigned long size)
@@ -150,6 +175,20 @@ static inline unsigned long outputs(const struct kernel_test *test)
     return test->folds ? 1 : test->n;
 }
 
+static inline void keep_difference(const struct kernel_test *test, const unsigned char *at, unsigned long size)
+{
+    struct kernel_difference *kept = &kernel_test_difference;
+
+    if (kept->kernel != 0)
+        return;
+    kept->output = test->got.first;
+    kept->size = size;
+    kept->at = at;
+    kept->output_bytes = outputs(test) * test->out_size;
+    kept->answers = (unsigned long)test->folds;
+    kept->kernel = test->kernel;
+}
+
 static inline void put_call(const struct kernel_test *test)
 {
     const unsigned char *first = test->a_size == 0 ? test->got.first : test->a.first;
@@ -170,6 +209,7 @@ static inline int output_agrees(const struct kernel_test *test)
 
     if (part == outputs(test))
         return 1;
+    keep_difference(test, test->got.first + part * size, size);
     put_call(test);
     if (!test->folds) {
         put_text(", element ");
@@ -212,6 +252,7 @@ static inline int canaries_live(const struct kernel_test *test)
 
     for (const unsigned char *at = canaries_from(test); at != canaries_to(test); at++)
         if ((at < first || at >= end) && *at != CANARY) {
+            keep_difference(test, at, 1);
             put_call(test);
             put_text(": wrote ");
             put_number(at < first ? first - at : at - end + 1);
@@ -283,8 +324,8 @@ static inline int next_call(struct kernel_test *test)
     return 1;
 }
 
-static inline struct kernel_test new_test(const char *name, unsigned long out_size, unsigned long a_size,
-                                          unsigned long b_size, int folds, int updates)
+static inline struct kernel_test new_test(const char *name, unsigned long kernel, unsigned long out_size,
+                                          unsigned long a_size, unsigned long b_size, int folds, int updates)
 {
     struct kernel_test test;
     unsigned char *bytes = (unsigned char *)&test;
@@ -292,6 +333,7 @@ static inline struct kernel_test new_test(const char *name, unsigned long out_si
     for (unsigned long k = 0; k < sizeof test; k++)
         bytes[k] = 0;
     test.name = name;
+    test.kernel = kernel;
     test.out_size = out_size;
     test.a_size = a_size;
     test.b_size = b_size;
@@ -301,10 +343,12 @@ static inline struct kernel_test new_test(const char *name, unsigned long out_si
     return test;
 }
 
-// The five tests: 0 where all calls agree, else 1.
+// The five tests: 0 where all calls agree, else 1. The kernel is called by its address, which the compiler doesn't know.
 #define TEST_CALLS(kernel, out_size, a_size, b_size, folds, updates, REFERENCE, KERNEL) \
     __extension__({ \
-        struct kernel_test test_ = new_test(#kernel, out_size, a_size, b_size, folds, updates); \
+        __typeof__(&kernel) kernel_ = &kernel; \
+        __asm__("" : "+r"(kernel_)); \
+        struct kernel_test test_ = new_test(#kernel, (unsigned long)kernel_, out_size, a_size, b_size, folds, updates); \
         while (next_call(&test_)) { \
             REFERENCE; \
             KERNEL; \
@@ -315,25 +359,25 @@ static inline struct kernel_test new_test(const char *name, unsigned long out_si
 #define TEST_MAP(kernel, reference, T, A) \
     TEST_CALLS(kernel, sizeof(T), sizeof(A), 0, 0, 0, \
         reference((T *)test_.wanted.first, (const A *)test_.a.first, test_.n), \
-        kernel((T *)test_.got.first, (const A *)test_.a.first, test_.n))
+        kernel_((T *)test_.got.first, (const A *)test_.a.first, test_.n))
 
 #define TEST_MAP2(kernel, reference, T, A, B) \
     TEST_CALLS(kernel, sizeof(T), sizeof(A), sizeof(B), 0, 0, \
         reference((T *)test_.wanted.first, (const A *)test_.a.first, (const B *)test_.b.first, test_.n), \
-        kernel((T *)test_.got.first, (const A *)test_.a.first, (const B *)test_.b.first, test_.n))
+        kernel_((T *)test_.got.first, (const A *)test_.a.first, (const B *)test_.b.first, test_.n))
 
 #define TEST_FOLD(kernel, reference, T, A) \
     TEST_CALLS(kernel, sizeof(T), sizeof(A), 0, 1, 0, \
         *(T *)test_.wanted.first = reference((const A *)test_.a.first, test_.n), \
-        *(T *)test_.got.first = kernel((const A *)test_.a.first, test_.n))
+        *(T *)test_.got.first = kernel_((const A *)test_.a.first, test_.n))
 
 #define TEST_FOLD2(kernel, reference, T, A, B) \
     TEST_CALLS(kernel, sizeof(T), sizeof(A), sizeof(B), 1, 0, \
         *(T *)test_.wanted.first = reference((const A *)test_.a.first, (const B *)test_.b.first, test_.n), \
-        *(T *)test_.got.first = kernel((const A *)test_.a.first, (const B *)test_.b.first, test_.n))
+        *(T *)test_.got.first = kernel_((const A *)test_.a.first, (const B *)test_.b.first, test_.n))
 
 #define TEST_UPDATE(kernel, reference, T) \
     TEST_CALLS(kernel, sizeof(T), 0, 0, 0, 1, reference((T *)test_.wanted.first, test_.n), \
-        kernel((T *)test_.got.first, test_.n))
+        kernel_((T *)test_.got.first, test_.n))
 
 #endif

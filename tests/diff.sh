@@ -16,7 +16,7 @@ with_symbols() {
     apart=-fno-inline
     [ "$2" = clang ] || apart="-fno-inline -fno-ipa-cp"
     # shellcheck disable=SC2046 # words
-    make -s -C "$1" CC="$2" CFLAGS="-O2 -g $apart -Wno-address" \
+    make -s -C "$1" CC="$2" DEBUG=-g CFLAGS="-O2 $apart -Wno-address" \
         SMALL="-ffunction-sections -Wl,--gc-sections -Wl,--build-id=none -Wl,-z,max-page-size=4096" \
         $(cd "$1" && for source in *.c; do echo "${source%.c}.elf"; done)
 }
@@ -48,6 +48,8 @@ where_lengths_part() {
     drawn_call
     sum_that_parts
     calls_that_part
+    where_it_traps
+    what_a_test_found
     diff_of_a_stripped_program
 }
 
@@ -172,6 +174,76 @@ signal.signal(signal.SIGINT, signal.SIG_DFL)
 sys.exit(os.waitstatus_to_exitcode(pty.spawn(sys.argv[1:])))' \
         timeout --preserve-status -s INT 6 "$diff_tool" --vl 128 --beside 256 --budget 1000000000000 "$parting" endless
     holds "progress on a terminal" grep -Eq 'svemu-diff: the calls at 128 bits: 0 stops, [0-9]+ seconds' "$scratch/output"
+}
+
+# Where all lengths end alike, and not by exit 0: by a trap, by a status, or at two lengths that are given.
+where_it_traps() {
+    parting=$scratch/parting/parting.elf
+    run "$diff_tool" "$parting" null
+    holds "a trap at all lengths" awk '
+        NR == 1 { bad = $0 != "all sixteen lengths end by the same kind of trap, and write the same before" }
+        NR == 2 { bad = bad || !/^at 128 bits it ends by trap read 0x8 after [0-9]+ steps, in call 1 of main \(of _start\+0x8\)$/ }
+        NR == 3 { bad = bad || !/^by ldr w[0-9]+, .* at main\+0x[0-9a-f]+ \(parting\.c:[0-9]+\)$/ }
+        NR == 4 { bad = bad || !/^what to do: .What you see. of docs\/MANUAL\.md has it below .trap read.$/ }
+        NR == 5 { bad = bad || !/^svemu-lanes --in main --call 1 --vl 128 draws it$/ }
+        END { exit bad || NR != 5 }' "$scratch/output"
+    holds "its status" [ "$status" -eq 1 ]
+    # shellcheck disable=SC2046 # words
+    set -- $(tail -n 1 "$scratch/output")
+    run "$lanes" "$2" "$3" "$4" "$5" "$6" "$7" "$parting" null
+    holds "the steps before it are drawn" sh -c '[ "$1" -eq 0 ] && grep -q "trap read 0x0*8 " "$2"' sh "$status" "$scratch/output"
+    run "$diff_tool" --vl 384 --beside 512 "$parting" trap
+    holds "a trap at two lengths" sh -c '[ "$1" -eq 1 ] && sed -n 1p "$2" | grep -qx "$3" && grep -Eq "$4" "$2" && grep -q "$5" "$2"' \
+        sh "$status" "$scratch/output" "384 and 512 bits don't part: both end by the same kind of trap" \
+        '^by brk #0 at broken\+0x[0-9a-f]+ \(parting\.c:[0-9]+\)$' "^what to do: .*below 'trap break'$"
+    run "$diff_tool" "$parting" status
+    ended "a status that isn't 0" 0 'the output and the ending are the same at all sixteen lengths: exit 3\n' ''
+}
+
+# The planted bugs, tested by kernel_test.h itself: each by the step and the instruction that made it, at one length.
+what_a_test_found() {
+    rm -rf "$scratch/tested"
+    mkdir "$scratch/tested"
+    cp examples/Makefile examples/start.S examples/*.h examples/prefix_sum.c tests/planted/*.c "$scratch/tested"
+    # shellcheck disable=SC2046 # a word an image
+    holds "tests of kernels with symbols by $compiler" make -s -C "$scratch/tested" CC="$compiler" DEBUG=-g \
+        SMALL="-ffunction-sections -Wl,--gc-sections -Wl,--build-id=none" \
+        $(cd "$scratch/tested" && for source in *.c; do echo "${source%.c}.elf"; done)
+    grep -v '^#' tests/planted/tells.txt >"$scratch/tells"
+    holds "each planted bug has its line of --test" sh -c \
+        '[ "$(ls tests/planted/*.c | wc -l)" -eq "$(wc -l <"$1")" ]' sh "$scratch/tells"
+    while IFS='|' read -r kernel length told instruction; do
+        run "$diff_tool" --test --vl "$length" "$scratch/tested/$kernel.elf"
+        holds "the test of $kernel: its instruction" sh -c '[ "$1" -eq 1 ] && grep -Eqx "$3" "$2"' sh "$status" "$scratch/output" \
+            "$told ([0-9]+, )?$instruction.* at $kernel\\+0x[0-9a-f]+( \\($kernel\\.c:[0-9]+\\))?(, lane [0-9]+ of its [0-9]+)?(, in call [0-9]+ of $kernel \\(of main\\+0x[0-9a-f]+\\))?"
+    done <"$scratch/tells"
+    run "$diff_tool" --test "$scratch/tested/no_saturation.elf"
+    holds "a test that fails at all lengths" awk '
+        NR == 1 { bad = $0 != "the test fails at all sixteen lengths" }
+        NR == 2 { bad = bad || !/^at 128 bits no_saturation parts: n 2, guarded at its end, alignment 14, element 0: wanted ff, got 23$/ }
+        NR == 4 { bad = bad || $0 != "svemu-lanes --in no_saturation --call 5 --vl 128 draws it" }
+        END { exit bad || NR != 4 }' "$scratch/output"
+    run "$diff_tool" --test "$scratch/tested/last_step.elf"
+    holds "a test that fails at some" sh -c 'sed -n 1p "$1" | grep -qx "the test fails at 640 to 2048 bits"' sh "$scratch/output"
+    run "$diff_tool" "$scratch/tested/full_predicate.elf"
+    holds "the call that traps is named for svemu-lanes" sh -c 'tail -n 1 "$1" | grep -qx "svemu-lanes --in full_predicate --call 3 --vl 128 draws it"' sh "$scratch/output"
+    holds "an over-read of a guarded buffer" sh -c '[ "$1" -eq 1 ] && grep -Eqx "$3" "$2" && grep -q "^what to do: .*Over-reads" "$2"' \
+        sh "$status" "$scratch/output" '0x[0-9a-f]+000 is 1 byte behind the end of a guarded buffer of 4 bytes'
+    run "$diff_tool" --test --vl 256 "$scratch/tested/prefix_sum.elf"
+    ended "a test that agrees" 0 'the test fails nowhere at 256 bits\n' ''
+    run "$diff_tool" --test "$scratch/tested/prefix_sum.elf"
+    ended "a test that agrees at all lengths" 0 'the test fails at none of the sixteen lengths\n' ''
+    if ! lacks "a kernel without a symbol" aarch64-linux-gnu-objcopy; then
+        aarch64-linux-gnu-objcopy --strip-symbol=last_step "$scratch/tested/last_step.elf" "$scratch/tested/unnamed.elf"
+        run "$diff_tool" --test --vl 640 "$scratch/tested/unnamed.elf"
+        ended_like "a kernel without a symbol" 2 'svemu-diff: no symbol says that the kernel, at 0x[0-9a-f]+, is a function: .*'
+    fi
+    run "$diff_tool" --test "$scratch/parting/parting.elf"
+    ended "what is no test" 2 '' "svemu-diff: $scratch/parting/parting.elf has no kernel_test_difference: --test is for a kernel's test by kernel_test.h\n"
+    run "$diff_tool" --test --beside 256 "$scratch/tested/prefix_sum.elf"
+    ended "a test at two lengths" 2 '' 'svemu-diff: --test is for one length, and takes neither --beside nor --in\n'
+    run "$diff_tool" --test --vl 100 "$scratch/tested/prefix_sum.elf"
+    ended "a test at no length" 2 '' 'svemu-diff: --vl wants a number from 128 to 2048, not 100\n'
 }
 
 diff_of_a_stripped_program() {

@@ -37,6 +37,15 @@ bare() {
         -o "$scratch/$name" "$top/tests/failures/$name.c" || exit 2
 }
 
+# Builds a program of tests/failures under a name of its own, by flags: built NAME SOURCE FLAG ..
+built() {
+    name=$1
+    source=${2%_below}
+    shift 2
+    "$gcc" -O1 -march=armv8-a+sve -nostdlib -ffreestanding -fno-stack-protector -Wl,--build-id=none -static -no-pie \
+        -fno-pic "$@" -o "$scratch/$name" "$top/tests/failures/$source.c" || exit 2
+}
+
 # Runs a file with a budget and compares the status and the line: says NAME STATUS PATTERN
 says() {
     count=$((count + 1))
@@ -61,6 +70,16 @@ says stack 139 'svemu: write to 0x7fffffe[0-9a-f]*, [0-9]* bytes below the stack
 says null_read 139 'svemu: read from 0x8, in page 0 (a null pointer), at 0x[0-9a-f]*, main+0x[0-9a-f]* .*'
 says null_write 139 'svemu: write to 0x0, in page 0 (a null pointer), at 0x[0-9a-f]*, main+0x[0-9a-f]* .*'
 says null_call 139 'svemu: fetch from 0x0: a call of a null pointer from main+0x[0-9a-f]* (x30), after [0-9]* steps'
+for at in 'guard -DBELOW=0' 'guard_below -DBELOW=1' 'mapping -DPLACE=16384+6' 'mapping_below -DPLACE=-7' break clone; do
+    # shellcheck disable=SC2086 # words
+    built ${at%% *} $at
+done
+says guard 139 'svemu: read from 0x[0-9a-f]*, 3 bytes behind the end of a guarded buffer of 100 bytes, at 0x[0-9a-f]*, main+0x[0-9a-f]* .*'
+says guard_below 139 'svemu: read from 0x[0-9a-f]*, 5 bytes below a guarded buffer of 100 bytes, at 0x[0-9a-f]*, main+0x[0-9a-f]* .*'
+says break 139 'svemu: write to 0x[0-9a-f]*, .*, 10 bytes behind the break, at 0x[0-9a-f]*, main+0x[0-9a-f]* .*'
+says mapping 139 'svemu: write to 0x[0-9a-f]*, 7 bytes behind a mapping, at 0x[0-9a-f]*, main+0x[0-9a-f]* .*'
+says mapping_below 139 'svemu: write to 0x[0-9a-f]*, 7 bytes below a mapping, at 0x[0-9a-f]*, main+0x[0-9a-f]* .*'
+says clone 123 'svemu: x8 names the call clone, which is refused here: svemu threads runs a program with threads'
 says behind 139 'svemu: write to 0x[0-9a-f]*.*, 4901 bytes behind the end of table, at 0x[0-9a-f]*, main+0x[0-9a-f]* .*'
 says sp 135 'svemu: an access by SP, which is no multiple of 16, at 0x[0-9a-f]*, main+0x4 .*'
 says spin 123 'svemu: 1000000 steps are spent in spin.* (SVEMU_BUDGET gives more)'
@@ -79,6 +98,10 @@ says library 122 'svemu: .*/library is position independent (add -static -no-pie
 says big 122 'svemu: .*/big is big endian'
 if "$gcc" -no-pie -o "$scratch/dynamic" "$scratch/host.c" 2>/dev/null; then
     says dynamic 122 'svemu: .*/dynamic is a dynamic program: link it with -static'
+fi
+printf '#include <stdio.h>\nint main(void) { printf("%%d\\n", 3); return 0; }\n' >"$scratch/printf.c"
+if "$gcc" -O1 -static -no-pie -o "$scratch/printf" "$scratch/printf.c" 2>/dev/null; then
+    says printf 132 'svemu: undefined word 0x[0-9a-f]* (Advanced SIMD: keep compilers from it .*) at 0x[0-9a-f]*, .* (called from .*), after [0-9]* steps'
 fi
 if [ "$(uname -m)" = x86_64 ] && cc -o "$scratch/x86" "$scratch/host.c" 2>/dev/null; then
     says x86 122 "svemu: .*/x86 is an x86-64 program: built by the host's compiler?"
@@ -109,5 +132,24 @@ line=$("$tool" run --quiet "$scratch/trap" 2>&1)
     bad=$((bad + 1))
     echo "failures.sh: --quiet: $line" >&2
 }
+
+# what failed of the input, of the output and of memory
+fails() {
+    [ "$1 $2" = "$3" ] || {
+        bad=$((bad + 1))
+        echo "failures.sh: $1, and it says: $2" >&2
+    }
+}
+line=$("$tool" run "$(printf '\377')" 2>&1)
+fails "$?" "$line" "118 svemu: a word of the command line isn't text"
+built reads reads
+line=$("$tool" run "$scratch/reads" 2>&1 <"$scratch")
+fails "$?" "$line" "124 svemu: the input can't be read"
+line=$("$tool" run --quiet "$scratch/reads" 2>&1 <"$scratch")
+fails "$?" "$line" "124 "
+if [ -c /dev/full ]; then
+    line=$("$tool" run "$scratch/reads" 2>&1 >/dev/full </dev/null)
+    fails "$?" "$line" "125 svemu: the output can't be written"
+fi
 echo "failures.sh: $count programs, $bad wrong"
 [ "$bad" -eq 0 ]

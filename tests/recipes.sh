@@ -19,6 +19,7 @@ recipe() {
     rm -rf "$scratch/recipe"
     mkdir "$scratch/recipe"
     for file in "$@"; do
+        mkdir -p "$(dirname "$scratch/recipe/$file")"
         block "\`$file\`:" >"$scratch/recipe/$file"
         [ -s "$scratch/recipe/$file" ] || fail "$name" "the page has no $file"
     done
@@ -50,6 +51,7 @@ recipes() {
         five_minutes gcc "how a program is built, with gcc:"
         first_program gcc
         before_a_run
+        seeing_what_ran
         seeing_the_lengths
         seeing_the_lanes
         reading_a_trap
@@ -61,6 +63,7 @@ recipes() {
         cmake_recipe
         lit_recipe
     fi
+    scaled_by_a_class
     if ! lacks Highway aarch64-linux-gnu-g++; then
         if [ -f /usr/include/hwy/highway.h ]; then
             highway
@@ -92,6 +95,15 @@ reading_behind_the_end() {
         NR <= 16 && / exit 0 after .* same$/ { passed++ }
         NR > 16 && / trap read 0x[0-9a-f]*000 at / { trapped++ }
         END { exit NR != 32 || passed != 16 || trapped != 16 }' "$scratch/output"
+    ! lacks "where an over-read is" python3 || return 0
+    block "Ask where it reads:" >"$scratch/commands"
+    cd "$scratch/recipe" || exit 1
+    run env SVEMU_TOP="$checkout" sh -eu "$scratch/commands"
+    cd "$top" || exit 1
+    block_behind "Ask where it reads:" | sed 's/[0-9][0-9a-fx]*/N/g' >"$scratch/wanted"
+    # The page has the addresses and steps of one compiler.
+    holds "where an over-read is" sh -c '[ "$1" -eq 1 ] && sed "s/[0-9][0-9a-fx]*/N/g" "$2" | cmp - "$3"' sh \
+        "$status" "$scratch/output" "$scratch/wanted"
 }
 
 testing_a_kernel() {
@@ -99,6 +111,16 @@ testing_a_kernel() {
     block_behind "The right one writes" >"$scratch/wanted"
     holds "a kernel's test at all lengths" sh -c '[ "$(head -n 16 "$1" | grep -c " exit 0 after .* same$")" -eq 16 ]' sh "$scratch/output"
     holds "a kernel's bug is told" sh -c 'tail -n +17 "$1" | cmp -s - "$2"' sh "$scratch/output" "$scratch/wanted"
+    ! lacks "which step made a kernel's test fail" python3 || return 0
+    block 'Ask which step it was:' >"$scratch/commands"
+    cd "$scratch/recipe" || exit 1
+    run env SVEMU_TOP="$checkout" sh -eu "$scratch/commands"
+    cd "$top" || exit 1
+    block_behind "Ask which step it was:" >"$scratch/wanted"
+    # The page has the addresses and steps of one compiler.
+    holds "which step made a kernel's test fail" sh -c '[ "$1" -eq 1 ] && [ "$(wc -l <"$2")" -eq 4 ] &&
+        sed "s/[0-9][0-9a-fx]*/N/g" "$2" >"$2.alike" && sed "s/[0-9][0-9a-fx]*/N/g" "$3" | cmp - "$2.alike"' sh \
+        "$status" "$scratch/output" "$scratch/wanted"
 }
 
 # Prints the lines that are set in behind the line that begins so.
@@ -117,12 +139,18 @@ trying_schedules() {
     holds "schedules of the stack are kept" sh -c 'ls "$1"/schedules/*.schedule | wc -l | grep -qx 3' sh "$scratch/recipe"
     run "$SVEMU" threads "$scratch/recipe/stack.elf" "$scratch/recipe/schedules/shortest.schedule" --vl 512 --budget 100
     holds "all threads of the shortest, with a lower budget" sh -c '[ "$1" -eq 123 ] && grep -qx "thread 1" "$2"' sh "$status" "$scratch/errors"
+    block "Show the run of the shortest schedule:" >"$scratch/commands"
+    cd "$scratch/recipe" || exit 1
+    run env SVEMU_TOP="$checkout" sh -eu "$scratch/commands"
+    cd "$top" || exit 1
+    holds "the shortest schedule of the stack is traced" sh -c '[ "$1" -eq 1 ] && grep -q "^1) " "$2" &&
+        grep -q "^(1 and 1): thread [01] .*; between them thread [01] writes " "$2"' sh "$status" "$scratch/output"
     recipe "trying schedules" "Try schedules of the stack that counts changes:" stack.c
     holds "no schedule of the counted stack parts" [ "$status" -eq 0 ]
-    holds "its lines" sh -c '[ "$(tail -n 1 "$1")" = "300 schedules, 0 part" ]' sh "$scratch/output"
+    holds "its lines" sh -c '[ "$(tail -n 1 "$1")" = "=> 300 schedules, 0 part" ]' sh "$scratch/output"
     recipe "trying schedules" "Try all schedules with few switches:"
     holds "a schedule with one switch parts" [ "$status" -eq 1 ]
-    holds "all with one agree, and one parts" sh -c 'grep -qx "all [0-9]* schedules with at most 1 switch agree" "$1" &&
+    holds "all with one agree, and one parts" sh -c 'grep -qx "=> all [0-9]* schedules with at most 1 switch agree" "$1" &&
         grep -q "^shortest 3 turns stuck after " "$1" && [ -s "$2/schedules/shortest.schedule" ]' sh \
         "$scratch/output" "$scratch/recipe"
 }
@@ -165,6 +193,18 @@ before_a_run() {
     cd "$top" || exit 1
 }
 
+# What ran of the program over the lengths: the two blocks behind these words, as they stand.
+seeing_what_ran() {
+    ! lacks "seeing what ran" python3 || return 0
+    block "Draw what ran:" >"$scratch/commands"
+    block "Write what other tools read:" >>"$scratch/commands"
+    cd "$scratch/recipe" || exit 1
+    run env SVEMU_TOP="$checkout" SVEMU_TOOL="$tool" sh -eu "$scratch/commands"
+    cd "$top" || exit 1
+    holds "seeing what ran" sh -c '[ "$1" -eq 0 ] && grep -q "<title>What ran of sum.elf from 128 to 2048 bits<" "$2/ran.html" && grep -q "^main: " "$2/ran.txt" && grep -q "^TN:vl_2048" "$2/ran.info" && grep -q "^events: VL128 " "$2/ran.callgrind"' \
+        sh "$status" "$scratch/recipe"
+}
+
 # Of the program that was built last.
 seeing_the_lengths() {
     ! lacks "seeing the lengths" python3 || return 0
@@ -194,10 +234,22 @@ seeing_the_lanes() {
     holds "seeing the lanes" sh -c "[ $status -eq 0 ] && grep -q '<title>sum.elf at 384 bits, step ' '$scratch/recipe/sum.html' && grep -q '\"at\":\"main\"' '$scratch/recipe/sum.html'"
 }
 
+# A program in C++ without a library.
+scaled_by_a_class() {
+    for compiler in g++ clang++; do
+        needed=aarch64-linux-gnu-g++
+        [ "$compiler" = g++ ] || needed="clang++ ld.lld"
+        # shellcheck disable=SC2086 # words
+        ! lacks "C++ by $compiler" $needed || continue
+        recipe "C++ by $compiler" "Build the class with $compiler and run it:" scaled.cc
+        holds "a class is built by $compiler and runs at all lengths" sh -c "[ $status -eq 0 ] && [ \"\$(grep -cE '^vl [0-9]+ exit 0 after [0-9]+ steps out 13 err 0 same\$' '$scratch/output')\" -eq 16 ]"
+    done
+}
+
 highway() {
     for compiler in g++ clang++; do
         [ "$compiler" = g++ ] || ! lacks "Highway by clang++" clang++ ld.lld || continue
-        recipe Highway "Build with $compiler and run it:" sum.cc
+        recipe Highway "Build with $compiler and run it:" highway_sum.cc
         holds "Highway's sum is built by $compiler and runs at all lengths" sh -c "[ $status -eq 0 ] && [ \"\$(grep -cE '^vl [0-9]+ exit 0 after [0-9]+ steps out 11 err 0 same\$' '$scratch/output')\" -eq 16 ]"
     done
     positives "checked in:" "$top/examples"
@@ -222,10 +274,10 @@ positives() {
 }
 
 reading_a_trap() {
-    block "Build with gcc:" | sed 's/sum/popcount/g' >"$scratch/build"
-    recipe "reading a trap" "Build with gcc:" popcount.c sum.c
+    recipe "reading a trap" "Build the popcount and run it:" popcount.c
+    holds "a popcount is run" [ "$status" -eq 132 ]
+    sed '/svemu-runner/d' "$scratch/commands" >"$scratch/build"
     cd "$scratch/recipe" || exit 1
-    run env SVEMU_TOP="$checkout" sh -eu "$scratch/build"
     run "$runner" popcount.elf
     address=$(sed -n 's/^svemu: undefined word 0x[0-9a-f]* (.*) at 0x\([0-9a-f]*\), .*, after [0-9]* steps$/\1/p' "$scratch/errors")
     cd "$top" || exit 1
@@ -245,14 +297,18 @@ reading_a_trap() {
 }
 
 cmake_recipe() {
-    ! lacks CMake cmake ctest || return 0
-    recipe CMake "Run with CMake:" toolchain.cmake CMakeLists.txt sum.c
-    holds "CMake" sh -c "[ $status -eq 0 ] && grep -q '100% tests passed, 0 tests failed out of 4' '$scratch/output'"
+    ! lacks CMake cmake ctest aarch64-linux-gnu-g++ || return 0
+    if ! lacks "CMake by clang" clang clang++ ld.lld; then
+        recipe "CMake by clang" "Run with CMake, by clang:" toolchain-clang.cmake CMakeLists.txt sum.c scaled.cc
+        holds "CMake by clang" sh -c "[ $status -eq 0 ] && grep -q '100% tests passed, 0 tests failed out of 8' '$scratch/output'"
+    fi
+    recipe CMake "Run with CMake:" toolchain.cmake CMakeLists.txt sum.c scaled.cc
+    holds "CMake" sh -c "[ $status -eq 0 ] && grep -q '100% tests passed, 0 tests failed out of 8' '$scratch/output'"
     # A test that fails is seen.
     sed 's/sum == 500500/sum != 500500/' "$scratch/recipe/sum.c" >"$scratch/wrong.c"
     cp "$scratch/wrong.c" "$scratch/recipe/sum.c"
     run env SVEMU_TOP="$checkout" sh -c 'cmake --build "$1" && cd "$1" && ctest' sh "$scratch/recipe/build"
-    holds "CMake with a wrong program" sh -c "[ $status -ne 0 ] && grep -q '0% tests passed, 4 tests failed out of 4' '$scratch/output'"
+    holds "CMake with a wrong program" sh -c "[ $status -ne 0 ] && grep -q '50% tests passed, 4 tests failed out of 8' '$scratch/output'"
 }
 
 lit_recipe() {
@@ -273,11 +329,11 @@ lit_recipe() {
     chmod +x "$scratch/bin/lit"
     before=$PATH
     PATH=$scratch/bin:${check%/*}:$PATH
-    recipe lit "Run with lit:" lit.cfg.py kernel.c
+    recipe lit "Run with lit:" checked/lit.cfg.py checked/lanes.c
     holds lit sh -c "[ $status -eq 0 ] && grep -Eq 'Passed *: *1|Expected Passes *: *1' '$scratch/output'"
-    sed 's/svcntd()) /svcntw()) /; s/== svcntd()/== svcntw()/' "$scratch/recipe/kernel.c" >"$scratch/wrong.c"
-    cp "$scratch/wrong.c" "$scratch/recipe/kernel.c"
-    run env SVEMU_TOP="$checkout" lit "$scratch/recipe"
+    sed 's/svcntd()) /svcntw()) /; s/== svcntd()/== svcntw()/' "$scratch/recipe/checked/lanes.c" >"$scratch/wrong.c"
+    cp "$scratch/wrong.c" "$scratch/recipe/checked/lanes.c"
+    run env SVEMU_TOP="$checkout" lit "$scratch/recipe/checked"
     holds "lit with a wrong program" sh -c "[ $status -ne 0 ] && grep -Eq 'Failed *: *1|Unexpected Failures *: *1' '$scratch/output'"
     PATH=$before
 }

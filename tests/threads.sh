@@ -37,17 +37,25 @@ tried_schedules() {
     run "$schedules" --keep "$scratch/kept" 40 examples/lost_update.elf
     holds "schedules that show the bug" [ "$status" -eq 1 ]
     cp "$scratch/output" "$scratch/tried"
-    holds "their lines" awk '
+    holds "their lines" awk -v kept="$scratch/kept/shortest.schedule" '
         NR == 1 { bad = !/^schedule 1 exit 0 after [0-9]+ steps out 9 same$/; next }
-        /^40 schedules, [0-9]+ part$/ { last = NR; part = $3; next }
-        last && NR == last + 1 {
+        last { bad = 1 }
+        /^shortest / {
             bad = bad || !/^shortest [0-9]+ turns exit 0 after [0-9]+ steps out 9 parts at 7$/
             turns = $2
             next
         }
-        last { bad = bad || !/^[0-9]+ [1-9][0-9]*$/; next }
+        /^=> / {
+            bad = bad || !/^=> 40 schedules, [0-9]+ part; the shortest is kept as [^ ]+, and --trace shows its run$/
+            bad = bad || index($0, "kept as " kept ",") == 0
+            part = $4
+            last = 1
+            next
+        }
+        turns { bad = bad || !/^[01] [1-9][0-9]*$/; given++; next }
         !/^schedule [0-9]+ exit 0 after [0-9]+ steps out 9 parts at 7$/ || $2 < 2 || $2 > 40 { bad = 1 }
-        END { exit bad || part == 0 || part != last - 2 || turns < 2 || NR != last + 1 + turns }' "$scratch/tried"
+        { ways++ }
+        END { exit bad || !last || ways < 1 || ways > 5 || part < ways || turns < 2 || given != turns }' "$scratch/tried"
     first=$(sed -n '2s/^schedule \([0-9]*\) .*/\1/p' "$scratch/tried")
     holds "three schedules are kept" \
         [ "$(cd "$scratch/kept" && echo *)" = "1.schedule $first.schedule shortest.schedule" ]
@@ -57,14 +65,16 @@ tried_schedules() {
     counted "the schedule that was kept since it parts" -lt
     shortest_is_short
     run "$schedules" 40 examples/lost_update.elf
-    holds "the same schedules for the same seed" cmp "$scratch/output" "$scratch/tried"
+    sed '/^=> /d' "$scratch/tried" >"$scratch/before"
+    holds "the same schedules for the same seed" sh -c 'sed "/^=> /d" "$1" | cmp - "$2"' sh \
+        "$scratch/output" "$scratch/before"
     run "$schedules" --seed 2 40 examples/lost_update.elf
     holds "other ones for another seed" sh -c '! cmp -s "$1" "$2"' sh "$scratch/output" "$scratch/tried"
     run "$schedules" --vl 128 40 examples/lost_update.elf once
     holds "no schedule loses what is added at once" [ "$status" -eq 0 ]
     holds "its lines" awk '
         NR == 1 { bad = !/^schedule 1 exit 0 after [0-9]+ steps out 9 same$/; next }
-        NR == 2 { bad = bad || $0 != "40 schedules, 0 part" }
+        NR == 2 { bad = bad || $0 != "=> 40 schedules, 0 part" }
         END { exit bad || NR != 2 }' "$scratch/output"
 }
 
@@ -73,7 +83,7 @@ shortest_is_short() {
     run "$SVEMU" threads examples/lost_update.elf "$scratch/kept/shortest.schedule" --vl 512 --budget 9999
     counted "the shortest schedule" -lt
     grep -v '^#' "$scratch/kept/shortest.schedule" >"$scratch/turns"
-    holds "the shortest is shown" sh -c 'sed "1,/^shortest/d" "$1" | cmp - "$2"' sh "$scratch/tried" "$scratch/turns"
+    holds "the shortest is shown" sh -c 'sed "1,/^shortest/d; /^=>/d" "$1" | cmp - "$2"' sh "$scratch/tried" "$scratch/turns"
     turn=$(wc -l <"$scratch/turns")
     while [ "$turn" -gt 0 ]; do
         sed "${turn}d" "$scratch/turns" >"$scratch/fewer"
@@ -114,9 +124,11 @@ bounded_schedules() {
             /^[12] switch(es)?: [0-9]+ schedules$/ { levels++; next }
             /^switch after [0-9]+ steps: thread [01] at 0x[0-9a-f]+ .*, thread [01] goes on$/ { lines++; next }
             /^shortest / { turns = $2; bad = bad || index($0, ending) == 0; next }
+            last { bad = 1 }
             turns && /^[0-9]+ [0-9]+$/ { given++; next }
+            /^=> a schedule with [12] switch(es)? parts; the shortest is kept as / { last = $5; next }
             { bad = 1 }
-            END { exit bad || levels != switches || lines != switches || turns < 2 || given != turns
+            END { exit bad || last != switches || levels != switches || lines != switches || turns < 2 || given != turns
             }' "$scratch/output"
         holds "$structure $broken: the status" [ "$status" -eq 1 ]
         cp "$scratch/output" "$scratch/tried"
@@ -135,16 +147,16 @@ END
     ended "all schedules of what is added at once" 0 "0 switches: 1 schedule, exit 0 after 205 steps out 9
 1 switch: 6 schedules
 2 switches: 30 schedules
-all 37 schedules with at most 2 switches agree
+=> all 37 schedules with at most 2 switches agree
 " ''
     for structure in treiber_stack ticket_lock seqlock; do
         run "$schedules" --vl 128 --bound 2 "examples/$structure.elf"
         holds "$structure agrees" sh -c '[ "$1" -eq 0 ] && tail -n 1 "$2" |
-            grep -qx "all [0-9]* schedules with at most 2 switches agree"' sh "$status" "$scratch/output"
+            grep -qx "=> all [0-9]* schedules with at most 2 switches agree"' sh "$status" "$scratch/output"
     done
     run "$schedules" --bound 2 examples/strlen.elf
     holds "a program of one thread has one schedule" sh -c '[ "$1" -eq 0 ] && tail -n 1 "$2" |
-        grep -qx "the one schedule with at most 2 switches agrees"' sh "$status" "$scratch/output"
+        grep -qx "=> the one schedule with at most 2 switches agrees"' sh "$status" "$scratch/output"
 }
 
 # Where a thread waits or leaves and more than one could go on, each is tried: main waits for the first of two others,
@@ -172,10 +184,57 @@ TEXT
         INSIDE='-march=armv8.1-a+sve'
     run "$schedules" --vl 128 --bound 0 "$scratch/three/three.elf"
     holds "each choice agrees" sh -c '[ "$1" -eq 0 ] && tail -n 1 "$2" |
-        grep -qx "all 3 schedules with at most 0 switches agree"' sh "$status" "$scratch/output"
+        grep -qx "=> all 3 schedules with at most 0 switches agree"' sh "$status" "$scratch/output"
     run "$schedules" --vl 128 --bound 0 "$scratch/three/three.elf" ordered
     holds "a choice parts" sh -c '[ "$1" -eq 1 ] && grep -q "^shortest [0-9]* turns exit 0 .* parts at 6$" "$2" &&
         ! grep -q "^switch after" "$2"' sh "$status" "$scratch/output"
+}
+
+# The shortest schedule's run as an interleaving: the two accesses of a thread between which the other one wrote, what is
+# said of them, and that what is said is so of the steps that are shown; and places by symbols and lines.
+traced_schedules() {
+    while read -r structure broken thread what; do
+        # shellcheck disable=SC2046 # no word or one
+        run "$schedules" --vl 128 --bound 2 --trace "examples/$structure.elf" $([ "$broken" = - ] || echo "$broken")
+        holds "$structure $broken is traced" awk -v thread="$thread" -v what="$what" '
+            /^its run from the first start of a thread on, behind [0-9]+ steps/ { shown = 1; next }
+            !shown { next }
+            /^\(1 and 1\): / {
+                said = "^\\(1 and 1\\): thread " thread " " what "; between them thread " 1 - thread " writes .*, last in step " write "$"
+                bad = bad || $0 !~ said || index($0, "in step " first " and ") == 0 || index($0, "in step " second ";") == 0
+                lines++
+                next
+            }
+            /^=> / { bad = bad || /--trace/; last = NR; next }
+            /^the run ends by / { bad = bad || !/^the run ends by (exit 0|stuck) after [0-9]+ steps$/; ends++; next }
+            / step +thread +place +instruction +shared memory$/ { next }
+            { bad = bad || !/^(\(1|!1|1\))? +([0-9]+ +[01] +0x[0-9a-f]+ +[a-z].* (reads|writes|starts|waits|wakes|leaves|goes on).*|[01] +\.\. [0-9]+ steps?)$/ }
+            /^\(1 / { first = $2; bad = bad || $3 != thread; marks++ }
+            /^!1 / { write = $2; bad = bad || $3 == thread || !/writes /; marks++ }
+            /^1\) / { second = $2; bad = bad || $3 != thread; marks++ }
+            END { exit bad || marks != 3 || lines != 1 || ends != 1 || last != NR || !(first < write && write < second) }
+            ' "$scratch/output"
+    done <<'END'
+lost_update - 0 reads 0x401380 in step [0-9]+ and writes it in step [0-9]+
+treiber_stack uncounted 0 reads 0x40145c in step [0-9]+ and reads and writes 0x401440 in step [0-9]+
+ticket_lock torn 0 reads 0x4013e4 in step [0-9]+ and writes it in step [0-9]+
+seqlock once 1 reads 0x4013c4 in step [0-9]+ and reads 0x4013c8 in step [0-9]+
+END
+    run "$schedules" --vl 128 --trace 40 examples/lost_update.elf
+    holds "a schedule by chance is traced" sh -c '[ "$1" -eq 1 ] && grep -q "^1) .* writes 0x[0-9]* to 0x401380$" "$2" &&
+        tail -n 1 "$2" | grep -Eqx "=> 40 schedules, [0-9]+ part; the shortest is above"' sh "$status" "$scratch/output"
+    run "$schedules" --vl 128 --trace 40 examples/lost_update.elf once
+    holds "where none parts, none is traced" sh -c '[ "$1" -eq 0 ] && [ "$(wc -l <"$2")" -eq 2 ]' sh "$status" "$scratch/output"
+    holds "what each instruction loads and stores" python3 tests/accesses.py "$built"
+    ! lacks "a trace with symbols" aarch64-linux-gnu-gcc || return 0
+    mkdir -p "$scratch/lines"
+    cp examples/lost_update.c "$scratch/lines"
+    holds "a program with symbols" make -f "$top/examples/Makefile" "$scratch/lines/lost_update.elf" DEBUG=-g \
+        SMALL= INSIDE='-march=armv8.1-a+sve'
+    run "$schedules" --vl 128 --bound 1 --trace "$scratch/lines/lost_update.elf"
+    holds "places by symbols and lines" sh -c '
+        grep -Eq "^1\) +[0-9]+ +0 +plainly\+0x[0-9a-f]+ \(lost_update\.c:[0-9]+\) +str w0, \[.*\] +writes 0x1 to number$" "$1"' sh \
+        "$scratch/output"
 }
 
 # A progress line on a terminal, and the end by Ctrl-C.
@@ -198,11 +257,11 @@ try:
 except OSError:
     pass
 told = b"\r\x1b[K5 of 7 schedules" in shown and shown.endswith(b"\r\x1b[K")
-sys.exit(0 if told and done.stdout.endswith(b"7 schedules, 0 part\n") else f"{done.stdout} {shown}")
+sys.exit(0 if told and done.stdout.endswith(b"=> 7 schedules, 0 part\n") else f"{done.stdout} {shown}")
 TEXT
     holds "a line says how far it is" env SVEMU="$scratch/slow" python3 "$scratch/terminal.py" "$schedules" 7 p
     run env SVEMU="$scratch/slow" "$schedules" 7 p
-    ended "no such line without a terminal" 0 'schedule 1 exit 0 after 1 steps out 0 same\n7 schedules, 0 part\n' ''
+    ended "no such line without a terminal" 0 'schedule 1 exit 0 after 1 steps out 0 same\n=> 7 schedules, 0 part\n' ''
     # Ctrl-C is the signal INT, which may be ignored where these tests are started from. It comes in the second run.
     cat >"$scratch/until_ctrl_c" <<'TEXT'
 #!/bin/sh
@@ -253,7 +312,6 @@ schedule 3 stuck after 9 steps out 3 same
 schedule 4 trap undefined 0x0000000000400000 at 0x0000000000400000 after 0 steps out 3 same
 schedule 5 exit 1 after 5 steps out 2 parts at 2
 schedule 6 spent after 7 steps out 4 parts at 3
-7 schedules, 5 part
 " ''
     cat >"$scratch/of_schedules" <<'TEXT'
 #!/bin/sh
@@ -262,7 +320,7 @@ printf 'exit 0 after 1 steps\nthread 0\nx0 0000000000000000\n' >&2
 TEXT
     chmod +x "$scratch/of_schedules"
     run env TEXTS="$scratch/texts" SVEMU="$scratch/of_schedules" "$schedules" 30 p
-    ended "no schedule that parts" 0 'schedule 1 exit 0 after 1 steps out 0 same\n30 schedules, 0 part\n' ''
+    ended "no schedule that parts" 0 'schedule 1 exit 0 after 1 steps out 0 same\n=> 30 schedules, 0 part\n' ''
     holds "turns of schedules" awk '
         NF != 2 || $1 !~ /^[0-9]+$/ || $1 > 63 || $2 !~ /^[1-9][0-9]*$/ { bad = 1 }
         END { exit bad || NR < 500 }' "$scratch/texts"
@@ -316,6 +374,7 @@ threads() {
     tried_schedules
     bounded_schedules
     bounded_choices
+    traced_schedules
     schedules_on_a_terminal
     schedules_and_stand_ins
     schedules_refused

@@ -58,6 +58,8 @@ packages_of() {
             ld.lld) echo lld ;;
             qemu-aarch64) echo qemu-user ;;
             man) echo man-db ;;
+            callgrind_annotate) echo valgrind ;;
+            genhtml) echo lcov ;;
             ctest) echo cmake ;;
             cc) echo gcc ;;
             *) echo "$word" ;;
@@ -167,9 +169,9 @@ builds() {
             *) holds "examples built by $compiler" make -C "$scratch/examples" ;;
         esac
         if [ "$compiler" != clang ]; then
-            cp examples/dot_product.c "$scratch/mine.c"
-            holds "a program in the folder above" make -C "$scratch/examples" ../mine.elf
-            run "$runner" "$scratch/mine.elf"
+            mkdir -p "$scratch/made" && cp examples/dot_product.c "$scratch/made/mine.c"
+            holds "a program in the folder above" make -C "$scratch/examples" ../made/mine.elf
+            run "$runner" "$scratch/made/mine.elf"
             ended "it runs" 0 "$(cat examples/dot_product.out)\n" ''
         fi
         examples "$scratch/examples" "built by $compiler:"
@@ -474,13 +476,22 @@ TEXT
 
 # The families of words, by the second program, where it is built, and by GNU's disassembler.
 families_of_words() {
-    tool=${SVEMU_TOOL:-$top/crates/svemu_tool/out/svemu_tool}
-    if [ ! -x "$tool" ]; then
-        skip "families of words" "svemu-tool isn't built here: rt ci does it"
-        return
-    fi
     ! lacks "families of words" python3 aarch64-linux-gnu-objdump || return 0
     holds "families of words" python3 tests/families.py "$tool" family
+}
+
+# The counts of the second program add up to the steps, and are those of QEMU.
+counts_of_words() {
+    ! lacks "counts of words" python3 || return 0
+    set --
+    for name in gathers heap integers lanes loops pictures spills strings structures; do
+        set -- "$@" "crates/command_cases/data/$name.elf"
+    done
+    # what else the examples do rests on addresses, which QEMU chooses otherwise
+    for name in histogram lost_sums memcpy positives set_length strlen; do
+        set -- "$@" "examples/$name.elf"
+    done
+    holds "counts of words" python3 tests/counts.py "$tool" "$@"
 }
 
 . tests/start.sh
@@ -488,6 +499,7 @@ families_of_words() {
 . tests/recipes.sh
 . tests/kernels.sh
 . tests/diff.sh
+. tests/cover.sh
 . tests/listings.sh
 . tests/documents.sh
 . tests/threads.sh
@@ -528,8 +540,10 @@ if [ "$failed" -eq 0 ]; then
     part "the manual page" manual_page
     part "the recipes" recipes
     part "families of words" families_of_words
+    part "counts of words" counts_of_words
     part "kernels and guarded buffers" kernel_tests
     part "where two lengths part" where_lengths_part
+    part "what ran over the lengths" covered
     part "pages" pages
     part "refused memory" refused_memory
     part "load programs" load_programs

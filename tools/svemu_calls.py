@@ -205,13 +205,13 @@ def registers_at(run, step, more=()):
     return values, int(shown[33]), output[shown.end():].decode().splitlines()
 
 
-def last_writer(run, first, last, address):
-    """The last of the steps behind the first up to the last that stored to a byte: its number, and the instruction's
-    address. None where there is none."""
+def last_writer(run, first, last, address, count=1):
+    """The last of the steps behind the first up to the last that stored to one of so many bytes: its number, and the
+    instruction's address. None where there is none."""
     at, size, writer, ended = first, 64, None, False
     while not ended:
         PROGRESS.tell(f"looking for who wrote {address:#x}")
-        script = [f"step {at}"] * (at > 0) + [f"watch {address:#x} 1"] + ["go"] * size
+        script = [f"step {at}"] * (at > 0) + [f"watch {address:#x} {count}"] + ["go"] * size
         for stop in STOP.finditer(run.session(script, last)):
             if stop[4]:
                 ended = True
@@ -241,6 +241,17 @@ def last_change(run, first, last, register="x0"):
             if states[k][0] != states[k - 1][0]:
                 return begin + k, states[k - 1][1]
     return None
+
+
+def last_branch(run, first, last):
+    """The last conditional branch among the steps behind the first up to the last: its number, and its address. None where
+    there is none among the last 2,048."""
+    begin = max(first, last - 2048)
+    output = run.session([f"step {begin}"] * (begin > 0) + ["regs"] + ["step 1", "regs"] * (last - begin))
+    places = [int(re.search(rb"\npc ([0-9a-f]+)", shown[0])[1], 16) for shown in SHOWN.finditer(output)]
+    branches = [k for k, pc in enumerate(places[:-1])
+                if run.program.texts.get(pc, "").startswith(("b.", "cbz", "cbnz", "tbz", "tbnz"))]
+    return (begin + branches[-1] + 1, places[branches[-1]]) if branches else None
 
 
 def lane_of(run, step, text, address):

@@ -41,7 +41,7 @@ def run(tool, main):
     """Calls main with the words of the command line, and writes the page that it gives, or opens it. On a failure nothing
     is written."""
     try:
-        words, shows = without_open(sys.argv[1:])
+        words, shows = without(sys.argv[1:], "--open")
         page = main(words).encode()
         if shows and opened(file := kept(page)):
             return
@@ -61,17 +61,17 @@ def fail(tool, why):
     return 2
 
 
-def without_open(words):
-    """The words without an option `--open`, and whether there was one. All other options of the tools have a value."""
-    rest, shows = list(words), False
+def without(words, flag):
+    """The words without an option that has no value, and whether there was one. All other options have a value."""
+    rest, there = list(words), False
     place = 0
     while place < len(rest) and rest[place].startswith("--") and rest[place] not in ("--", "--help"):
-        if rest[place] == "--open":
-            shows = True
+        if rest[place] == flag:
+            there = True
             del rest[place]
         else:
             place += 2
-    return rest, shows
+    return rest, there
 
 
 def kept(page):

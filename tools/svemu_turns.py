@@ -1,5 +1,6 @@
 """Runs of a program of several threads under turns: how they end, who took each step, and what makes them shorter."""
 
+import math
 import re
 import sys
 import tempfile
@@ -132,6 +133,17 @@ def joined(turns):
         (place, steps), (other, more) = turns[at], turns[at + 1]
         for taken in dict.fromkeys((place, other)):
             yield turns[:at] + [(taken, steps + more)] + turns[at + 2:]
+
+
+def as_read(run, turns, end):
+    """The turns with places as they are read, below the number of threads where that makes the same run. A place counts
+    modulo the number of those that are ready, so what is left of it by all numbers that there may be does at any rate."""
+    threads = len(end.threads)
+    for count in (threads, math.lcm(*range(1, threads + 1))):
+        shorter = [(place % count, steps) for place, steps in turns]
+        if shorter == turns or ended(run, shorter) == end:
+            return shorter
+    return turns
 
 
 class Follower:

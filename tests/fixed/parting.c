@@ -71,6 +71,10 @@ int main(int count, char **words)
     } else if (what == 'u') {
         unread();
         once();
+    } else if (what == 'n') {
+        return *(volatile int *)8l;
+    } else if (what == 's') {
+        return 3;
     } else if (what == 'e') {
         for (;;)
             __asm__ volatile("");
