@@ -25,7 +25,7 @@ use Rattle.a64_effects.specs.Groups.{group, same_group}
 use Rattle.a64_effects.specs.Operations.{Operation, computes, flows, transfers, exchanges, copies, operation_of}
 use Rattle.sve_insn.specs.declared.form.SveForm.{SveForm}
 use Rattle.sve_effects.specs.Rows as sve
-use Rattle.sve_effects.specs.FirstFault.{first_fault_row, first_refused, loaded_unless, never_traps}
+use Rattle.sve_effects.specs.FirstFault.{first_fault_row, first_refused, loaded_unless}
 use Rattle.sve_effects.specs.FirstFaultParts.{first_fault_loaded}
 use Rattle.sve_effects.specs.Row.{Row, done_by, done_by_way}
 use Rattle.sve_effects.specs.Rows.{row}
@@ -37,7 +37,7 @@ use Rattle.emu_model.specs.Done.{Done, quietly, traps}
 use Rattle.emu_model.specs.Elements.{Element, reach}
 use Rattle.a64_effects.specs.Flow.{branches_if, is_taken, is_taken_by, digit, tested_bit, target}
 use Rattle.a64_effects.specs.Atomic.{exchanged, unless_refused, one_step}
-use Rattle.a64_effects.specs.LoadStore.{Transferring, Exchanging, elements_from, is_misaligned, load_as_far, loaded_to, misaligned, store_as_far, stored_to, tested, transferred, transferred_by, exchanged_by, unless_misaligned, unless_multiple}
+use Rattle.a64_effects.specs.LoadStore.{Transferring, Exchanging, elements_from, is_misaligned, loaded_to, misaligned, stored_to, tested, transferred, transferred_by, exchanged_by, unless_misaligned, unless_multiple}
 use Rattle.a64_effects.specs.Scalar.{operand}
 use Rattle.emu_run.specs.Step.{performed}
 use Rattle.emu_machine.specs.Machines.{MachineState, Saved, has_ended, is_svc}
@@ -50,11 +50,11 @@ module _ (c : Core) (v : Vectors) (m : Memory) where
   -- ---- loads and stores ask for none
 
   module _ (after : Core → Core) where
-    stored_is_other : (t : Transfer) (stop : Option ℕ) (es : List Element) → IsOther (store_as_far t stop es after c v m).effect
+    stored_is_other : (t : Transfer) (stop : Option ℕ) (es : List Element) → IsOther (stored_to t (record { done = es; stop = stop }) after c v m).effect
     stored_is_other t None es = λ h. cc
     stored_is_other t (Some a) es = λ h. cc
 
-    loaded_is_other : (t : Transfer) (stop : Option ℕ) (es : List Element) → IsOther (load_as_far t stop es after c v m).effect
+    loaded_is_other : (t : Transfer) (stop : Option ℕ) (es : List Element) → IsOther (loaded_to t (record { done = es; stop = stop }) after c v m).effect
     loaded_is_other t None es = λ h. cc
     loaded_is_other t (Some a) es = λ h. cc
 
@@ -141,11 +141,11 @@ module _ (c : Core) (v : Vectors) (m : Memory) where
 
   -- ---- no SVE row does
 
-  vector_loaded_is_other : (stop : Option ℕ) (es : List Element) (after : Vectors) → IsOther (memory_rows.load_as_far stop es after c v m).effect
+  vector_loaded_is_other : (stop : Option ℕ) (es : List Element) (after : Vectors) → IsOther (memory_rows.loaded_to (record { done = es; stop = stop }) after c v m).effect
   vector_loaded_is_other None es after = λ h. cc
   vector_loaded_is_other (Some a) es after = λ h. cc
 
-  vector_stored_is_other : (stop : Option ℕ) (es : List Element) (stores : Element → ℕ) → IsOther (memory_rows.store_as_far stop es stores c v m).effect
+  vector_stored_is_other : (stop : Option ℕ) (es : List Element) (stores : Element → ℕ) → IsOther (memory_rows.stored_to (record { done = es; stop = stop }) stores c v m).effect
   vector_stored_is_other None es stores = λ h. cc
   vector_stored_is_other (Some a) es stores = λ h. cc
 
@@ -173,27 +173,21 @@ module _ (c : Core) (v : Vectors) (m : Memory) where
   loaded_unless_is_other None d other = other
   loaded_unless_is_other (Some a) d other = λ h. cc
 
-  first_fault_is_other : (r : MemoryRow) (es : List Element) → IsOther (first_fault_row r es c v m).effect
-  first_fault_is_other r es =
+  first_fault_is_other : (never_traps : Bool) (r : MemoryRow) (es : List Element) → IsOther (first_fault_row never_traps r es c v m).effect
+  first_fault_is_other never_traps r es =
       let d = first_fault_loaded r.width.is_signed r.width.bits r.first es c v m in
-      let o : Option ℕ = if never_traps r.way then None else first_refused m es in
+      let o : Option ℕ = if never_traps then None else first_refused m es in
       unless_sp_is_other (memory_rows.has_sp_base r.brackets) es (loaded_unless o d c v m) (loaded_unless_is_other o d (λ h. cc))
 
   way_is_other : (way : Way) (r : MemoryRow) → IsOther (done_by_way way r c v m).effect
   way_is_other Way.loads r = load_row_is_other r
   way_is_other Way.stores r = store_row_is_other r
-  way_is_other (Way.gathers true) r = first_fault_is_other r (elements_of (row_layout r c v))
-  way_is_other (Way.gathers false) r = load_row_is_other r
-  way_is_other Way.scatters r = store_row_is_other r
-  way_is_other Way.first_faults r = first_fault_is_other r (elements_of (row_layout r c v))
-  way_is_other Way.non_faults r = first_fault_is_other r (elements_of (row_layout r c v))
+  way_is_other Way.first_faults r = first_fault_is_other false r (elements_of (row_layout r c v))
+  way_is_other Way.non_faults r = first_fault_is_other true r (elements_of (row_layout r c v))
 
   row_is_other : (r : Row) → IsOther (done_by r c v m).effect
   row_is_other (Row.by_lanes f) = λ h. cc
-  row_is_other (Row.permutes f) = λ h. cc
-  row_is_other (Row.counts f) = λ h. cc
-  row_is_other (Row.folds f) = λ h. cc
-  row_is_other (Row.predicates f) = λ h. cc
+  row_is_other (Row.by_registers f) = λ h. cc
   row_is_other (Row.memory r) = way_is_other r.way r
 
   sve_is_other : (form : SveForm) → IsOther (sve.performed form c v m).effect

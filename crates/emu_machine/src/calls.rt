@@ -64,10 +64,10 @@ impl Machine {
         ensures errors_kept { (result ≡ StepEnd.ReadFault) ⊎ (result ≡ StepEnd.WriteFault) → errors.new ≡ errors.old }
     {
         let end = call(
-            &mut *self.core,
-            &mut *self.vec,
-            &mut self.memory,
-            &mut self.brk,
+            &mut *self.running.core,
+            &mut *self.running.vec,
+            &mut self.running.memory,
+            &mut self.running.brk,
             input,
             output,
             errors,
@@ -88,25 +88,25 @@ impl Machine {
     {
         match end {
             CallEnd::Returned => {
-                let next = self.core.pc().wrapping_add(4);
-                self.go_on(next);
+                let next = self.running.core.pc().wrapping_add(4);
+                self.running.go_on(next);
                 StepEnd::Going
             }
             CallEnd::Exit(code) => {
-                self.steps += 1;
-                self.ended = Some(Ended::Exit(code));
+                self.running.steps += 1;
+                self.running.ended = Some(Ended::Exit(code));
                 StepEnd::Exit(code)
             }
             CallEnd::ReadFault => {
-                self.failed = true;
+                self.running.failed = true;
                 StepEnd::ReadFault
             }
             CallEnd::WriteFault => {
-                self.failed = true;
+                self.running.failed = true;
                 StepEnd::WriteFault
             }
             CallEnd::ErrorsFault => {
-                self.failed = true;
+                self.running.failed = true;
                 StepEnd::ErrorsFault
             }
         }

@@ -23,8 +23,8 @@ impl Machine {
         ensures core { core.new ≡ self.old.parts.core }
         ensures vec { vec.new ≡ self.old.parts.vectors }
     {
-        std::mem::swap(&mut *self.core, core);
-        std::mem::swap(&mut *self.vec, vec);
+        std::mem::swap(&mut *self.running.core, core);
+        std::mem::swap(&mut *self.running.vec, vec);
     }
 
     /// Exchanges them with those of the context at a place, by their boxes alone.
@@ -40,7 +40,7 @@ impl Machine {
         ensures contexts { contexts.new
             ≡ set contexts.old k (with_machine (get_or contexts.old k worlds.no_context) self.old.parts) }
     {
-        exchange(&mut self.core, &mut self.vec, contexts, k);
+        exchange(&mut self.running.core, &mut self.running.vec, contexts, k);
     }
 
     /// Loads n bytes, 1 to 16, as a little-endian number, if none is refused.
@@ -51,7 +51,7 @@ impl Machine {
         ensures value { result ≡ loaded self.old.parts.memory address n kind }
         ensures small { IfOk result (λ v. v < 256 ^ n) }
     {
-        self.memory.load(address, n, kind)
+        self.running.memory.load(address, n, kind)
     }
 
     /// Stores the low n bytes of a number, 1 to 16, if none is refused.
@@ -65,7 +65,7 @@ impl Machine {
         ensures value { result
             ≡ done_unless (refused self.old.parts.memory address n Kind.Write) Kind.Write (record {}) }
     {
-        self.memory.store(address, n, v)
+        self.running.memory.store(address, n, v)
     }
 
     /// Returns from a call with this answer in x0, and counts its step.
@@ -73,18 +73,18 @@ impl Machine {
         requires { self.old.parts.steps < 2 ^ 64 - 1 }
         ensures { self.new ≡ record self.old { parts = returned self.old.parts v } }
     {
-        self.core.set_x(Reg::at(0, 0), 64, v);
-        self.core.set_monitor(None);
-        self.vec.after_call();
-        let next = self.core.pc().wrapping_add(4);
-        self.go_on(next);
+        self.running.core.set_x(Reg::at(0, 0), 64, v);
+        self.running.core.set_monitor(None);
+        self.running.vec.after_call();
+        let next = self.running.core.pc().wrapping_add(4);
+        self.running.go_on(next);
     }
 
     /// Empties the exclusive monitor.
     pub fn clear_monitor(&mut self)
         ensures { self.new ≡ record self.old { parts = without_monitor self.old.parts } }
     {
-        self.core.set_monitor(None);
+        self.running.core.set_monitor(None);
     }
 
     /// Counts a step that leaves the registers and the memory as they are, and ends the machine with this code, where
@@ -93,9 +93,9 @@ impl Machine {
         requires { self.old.parts.steps < 2 ^ 64 - 1 }
         ensures { self.new ≡ record self.old { parts = counted_to code self.old.parts } }
     {
-        self.steps += 1;
+        self.running.steps += 1;
         if let Some(code) = code {
-            self.ended = Some(Ended::Exit(code));
+            self.running.ended = Some(Ended::Exit(code));
         }
     }
 }

@@ -14,6 +14,7 @@ mod marks;
 mod open;
 mod program;
 mod registers;
+mod running;
 mod saved;
 mod stack;
 

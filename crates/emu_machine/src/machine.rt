@@ -20,14 +20,13 @@ ghost use Rattle.std.specs.Prelude.{
   length,
 };
 ghost use Rattle.io_gate.specs.Streams.{Causes};
-ghost use Rattle.emu_bits.specs.Fields.{field};
 ghost use Rattle.emu_model.specs.SoundState.{IsSoundBreak};
 ghost use Rattle.emu_system.specs.Start.{with_input};
 ghost use Rattle.emu_run.specs.Run as runs;
 ghost use Rattle.emu_run.specs.Step as model;
-ghost use Rattle.emu_system.specs.SystemCall.{call, quiet, went_on};
+ghost use Rattle.emu_system.specs.SystemCall.{call, quiet};
 ghost use Rattle.emu_machine.specs.Accesses.{run_accesses};
-ghost use Rattle.emu_machine.specs.Advances.{Advances, EndsBy, MatchCall, left_by_effect, progress_by};
+ghost use Rattle.emu_machine.specs.Advances.{Advances, EndsBy, MatchCall};
 ghost use Rattle.emu_machine.specs.InTurns.{AdvancesInTurns, turn_of};
 ghost use Rattle.guest_contexts.specs.Begins.{IsTurn, begins_next};
 ghost use Rattle.linux_calls.specs.Names.{NamesRead};
@@ -45,18 +44,16 @@ ghost use Rattle.emu_machine.specs.Ends.{
   PutsAlways,
   IsKept,
 };
-ghost use Rattle.emu_machine.specs.Machines.{has_ended, is_at_call, is_svc, makes_call, MakesRead, MakesWrite};
+ghost use Rattle.emu_machine.specs.Machines.{has_ended, is_at_call, MakesRead, MakesWrite};
 
 use crate::ends::{Progress, RunEnd, StepEnd, run_end_of, step_end};
 use crate::registers::Registers;
+use crate::running::Running;
 use crate::saved::Saved;
-use a64_insn::A64;
-use core_regs::{Core, Effect};
-use emu_model::{Break, Ended, Kind, Trap, TrapKind};
+use core_regs::Core;
+use emu_model::{Break, Ended};
 use guest_contexts::{Context, Turn, begin_next};
-use guest_mem::{Access, AccessLog, Mem};
-use insn_decode::{DecodedWords, decode_a64_word, may_be_sve};
-use insn_exec::{perform_a64, perform_sve};
+use guest_mem::{Access, AccessList, AccessLog, Mem};
 use io_gate::{Sink, Source};
 use std::marker::Model;
 use vec_regs::VecRegs;
@@ -65,48 +62,23 @@ use vec_regs::VecRegs;
 /// steps; and beside these its marks, what they keep beside their pages, and the number of spare frames.
 #[derive(Drop)]
 pub struct Machine {
-    // first, so that its address is the machine's, and a step needs one register of the host for both
-    pub(crate) memory: Mem,
-    // in boxes, so that they can be exchanged and moved as they are
-    pub(crate) core: Box<Core>,
-    pub(crate) vec: Box<VecRegs>,
-    pub(crate) log: AccessLog,
-    // no part of what contracts see: a step does the same whatever it has
-    pub(crate) words: DecodedWords,
-    pub(crate) brk: Break,
-    pub(crate) steps: u64,
-    pub(crate) ended: Option<Ended>,
-    pub(crate) failed: bool,
-    // none, or sixteen
-    pub(crate) saved: Vec<Saved>,
+    // first, so that both have one address
+    pub(crate) running: Running,
+    // the accesses of its log, from where the loop of steps was left
+    pub(crate) shown: AccessList,
 }
 
 impl Model for Machine {
+    ghost use Rattle.std.specs.Prelude.{◌≡◌};
     ghost use Rattle.emu_machine.specs.Machines.{MachineState, coded_machine};
 
     ghost Value = { MachineState };
 
     ghost coded = { coded_machine };
 
-    ghost view = { λ a. record {
-      parts = record {
-        core = a.core.value;
-        vectors = a.vec.value;
-        memory = a.memory.memory;
-        brk = a.brk;
-        steps = a.steps;
-        ended = a.ended;
-      };
-      accesses = a.log.items;
-      failed = a.failed;
-      marks = a.memory.marks;
-      saved = a.saved.items;
-      spare = a.memory.spare;
-    } };
+    ghost view = { λ a. a.running };
 
-    ghost use Rattle.emu_model.specs.SoundState.{IsSoundBreak};
-
-    ghost invariant = { λ a. IsSoundBreak a.brk };
+    ghost invariant = { λ a. a.shown.items ≡ a.running.accesses };
 }
 
 impl Machine {
@@ -134,18 +106,27 @@ impl Machine {
           spare = memory.spare;
         } }
     {
-        let Registers { core, vec, words } = registers;
-        Machine {
+        let Registers {
             core,
             vec,
-            memory,
-            log: AccessLog::new(),
             words,
-            brk,
-            steps: 0,
-            ended: None,
-            failed: false,
-            saved,
+            mut shown,
+        } = registers;
+        shown.clear();
+        Machine {
+            running: Running {
+                memory,
+                core,
+                vec,
+                log: AccessLog::new(),
+                words,
+                brk,
+                steps: 0,
+                ended: None,
+                failed: false,
+                saved,
+            },
+            shown,
         }
     }
 
@@ -153,35 +134,35 @@ impl Machine {
     pub fn ended(&self) -> bool
         ensures { result ≡ has_ended self.now }
     {
-        self.ended.is_some() || self.failed
+        self.running.ended.is_some() || self.running.failed
     }
 
     /// How the machine ended. None exactly where neither an exit nor a trap ended it.
     pub fn ending(&self) -> Option<Ended>
         ensures { result ≡ self.now.parts.ended }
     {
-        self.ended
+        self.running.ended
     }
 
     /// The number of steps that were counted: each but those that trapped or failed.
     pub fn steps(&self) -> u64
         ensures { result ≡ self.now.parts.steps }
     {
-        self.steps
+        self.running.steps
     }
 
     /// The scalar registers.
     pub fn core(&self) -> &Core
         ensures { result.now ≡ self.now.parts.core }
     {
-        &self.core
+        &self.running.core
     }
 
     /// The vector registers, of the machine's vector length.
     pub fn vec(&self) -> &VecRegs
         ensures { result.now ≡ self.now.parts.vectors }
     {
-        &self.vec
+        &self.running.vec
     }
 
     /// The memory, with its marks.
@@ -189,7 +170,7 @@ impl Machine {
         ensures { result.now
             ≡ record { memory = self.now.parts.memory; marks = self.now.marks; spare = self.now.spare } }
     {
-        &self.memory
+        &self.running.memory
     }
 
     /// The elements that the last step loaded or stored, in order: their addresses and numbers of bytes. Empty before
@@ -197,167 +178,7 @@ impl Machine {
     pub fn accesses(&self) -> &[Access]
         ensures { result.now ≡ self.now.accesses }
     {
-        self.log.as_slice()
-    }
-
-    /// Ends by a trap, with no step counted.
-    #[cold]
-    #[inline(never)]
-    fn trap(&mut self, kind: TrapKind, address: u64) -> Progress
-        ensures parts { self.new.parts ≡ model.trapped self.old.parts kind address }
-        ensures accesses { self.new.accesses ≡ self.old.accesses }
-        ensures failed { self.new.failed ≡ self.old.failed }
-        ensures marks { self.new.marks ≡ self.old.marks }
-        ensures saved { self.new.saved ≡ self.old.saved }
-        ensures progress { result ≡ Progress.Trapped }
-    {
-        self.ended = Some(Ended::Trap(Trap { kind, address }));
-        Progress::Trapped
-    }
-
-    /// Goes on at an address, and counts the step.
-    pub(crate) fn go_on(&mut self, address: u64)
-        requires { self.old.parts.steps < 2 ^ 64 - 1 }
-        ensures parts { self.new.parts
-            ≡ went_on self.old.parts self.old.parts.core self.old.parts.vectors self.old.parts.memory address }
-        ensures accesses { self.new.accesses ≡ self.old.accesses }
-        ensures failed { self.new.failed ≡ self.old.failed }
-        ensures marks { self.new.marks ≡ self.old.marks }
-        ensures saved { self.new.saved ≡ self.old.saved }
-        ensures spare { self.new.spare ≡ self.old.spare }
-    {
-        self.core.set_pc(address);
-        self.steps += 1;
-    }
-
-    /// Goes on behind an instruction by its effect: there or where it branched, or by its trap. A call isn't made.
-    #[inline(always)]
-    fn leave_insn(&mut self, effect: Effect) -> Progress
-        requires { self.old.parts.steps < 2 ^ 64 - 1 }
-        ensures parts { self.new.parts ≡ left_by_effect effect self.old.parts }
-        ensures accesses { self.new.accesses ≡ self.old.accesses }
-        ensures failed { self.new.failed ≡ self.old.failed }
-        ensures marks { self.new.marks ≡ self.old.marks }
-        ensures saved { self.new.saved ≡ self.old.saved }
-        ensures progress { result ≡ progress_by effect }
-    {
-        match effect {
-            Effect::Next => {
-                let next = self.core.pc().wrapping_add(4);
-                self.go_on(next);
-                Progress::GoesOn
-            }
-            Effect::Branch(target) => {
-                self.go_on(target);
-                Progress::GoesOn
-            }
-            Effect::Trap(trap) => self.trap(trap.kind, trap.address),
-            Effect::Call => Progress::AtCall,
-        }
-    }
-
-    /// A step that makes no call. At a call nothing is changed but the number of spare frames, of which nothing is said.
-    #[inline(always)]
-    fn plain(&mut self) -> Progress
-        requires going { has_ended self.old ≡ false }
-        requires room { self.old.parts.steps < 2 ^ 64 - 1 }
-        requires clear { self.old.accesses ≡ [] }
-        ensures turn { MatchCall result ((input : List ℕ) → model.turn self.old.parts input ≡ call self.old.parts input)
-            ((input : List ℕ) → model.turn self.old.parts input ≡ quiet self.new.parts input) }
-        ensures kept { MatchCall result (self.new ≡ record self.old { spare = self.new.spare })
-            (self.new.failed ≡ false) }
-        ensures svc { result ≡ Progress.AtCall → is_at_call self.old.parts ≡ true }
-        ensures alone { MatchCall result ⊤ (makes_call self.old.parts ≡ false) }
-        ensures ended { EndsBy result self.new.parts }
-        ensures counted { result ≡ Progress.GoesOn → self.new.parts.steps ≡ self.old.parts.steps + 1 }
-        ensures accesses { self.new.accesses ≡ model.accesses self.old.parts }
-        ensures marks { self.new.marks ≡ self.old.marks }
-        ensures saved { self.new.saved ≡ self.old.saved }
-    {
-        let pc = self.core.pc();
-        if pc % 4 != 0 {
-            return self.trap(TrapKind::PcAlign, pc);
-        }
-        let word = match self.memory.load(pc, 4, Kind::Fetch) {
-            Err(denied) => return self.trap(TrapKind::Fetch, denied.address),
-            Ok(word) => word as u32,
-        };
-        if may_be_sve(word) {
-            return self.vector(word);
-        }
-        match decode_a64_word::<Machine>(word) {
-            None => self.trap(TrapKind::Undefined, pc),
-            Some(insn) => self.scalar(&insn),
-        }
-    }
-
-    /// Does an A64 instruction that makes no call. At a call nothing is changed, but that nothing is said of spare frames.
-    #[inline(always)]
-    fn scalar(&mut self, insn: &A64) -> Progress
-        requires going { has_ended self.old ≡ false }
-        requires room { self.old.parts.steps < 2 ^ 64 - 1 }
-        requires clear { self.old.accesses ≡ [] }
-        ensures turn { MatchCall result ((input : List ℕ)
-            → model.executed self.old.parts input (model.a64 (Some insn.now)) ≡ call self.old.parts input)
-            ((input : List ℕ)
-            → model.executed self.old.parts input (model.a64 (Some insn.now)) ≡ quiet self.new.parts input) }
-        ensures kept { MatchCall result (self.new ≡ record self.old { spare = self.new.spare })
-            (self.new.failed ≡ false) }
-        ensures svc { result ≡ Progress.AtCall → is_svc (model.a64 (Some insn.now)) ≡ true }
-        ensures alone { MatchCall result ⊤ (is_svc (model.a64 (Some insn.now)) ≡ false) }
-        ensures ended { EndsBy result self.new.parts }
-        ensures counted { result ≡ Progress.GoesOn → self.new.parts.steps ≡ self.old.parts.steps + 1 }
-        ensures accesses { self.new.accesses ≡ model.executed_accesses self.old.parts (model.a64 (Some insn.now)) }
-        ensures marks { self.new.marks ≡ self.old.marks }
-        ensures saved { self.new.saved ≡ self.old.saved }
-    {
-        let effect = perform_a64(
-            &mut *self.core,
-            &mut *self.vec,
-            &mut self.memory,
-            &mut self.log,
-            insn,
-        );
-        self.leave_insn(effect)
-    }
-
-    /// Does the instruction of a word that may be in a row of SVE. It isn't inlined, so that no form of SVE is in the
-    /// loop.
-    #[inline(never)]
-    fn vector(&mut self, word: u32) -> Progress
-        requires going { has_ended self.old ≡ false }
-        requires room { self.old.parts.steps < 2 ^ 64 - 1 }
-        requires clear { self.old.accesses ≡ [] }
-        requires word { field word 27 2 ≡ 0 }
-        ensures turn { MatchCall result
-            ((input : List ℕ) → model.executed self.old.parts input (model.decode word) ≡ call self.old.parts input)
-            ((input : List ℕ) → model.executed self.old.parts input (model.decode word) ≡ quiet self.new.parts input) }
-        ensures kept { MatchCall result (self.new ≡ record self.old { spare = self.new.spare })
-            (self.new.failed ≡ false) }
-        ensures svc { result ≡ Progress.AtCall → is_svc (model.decode word) ≡ true }
-        ensures alone { MatchCall result ⊤ (is_svc (model.decode word) ≡ false) }
-        ensures ended { EndsBy result self.new.parts }
-        ensures counted { result ≡ Progress.GoesOn → self.new.parts.steps ≡ self.old.parts.steps + 1 }
-        ensures accesses { self.new.accesses ≡ model.executed_accesses self.old.parts (model.decode word) }
-        ensures marks { self.new.marks ≡ self.old.marks }
-        ensures saved { self.new.saved ≡ self.old.saved }
-    {
-        match self.words.find(word) {
-            None => {
-                let pc = self.core.pc();
-                self.trap(TrapKind::Undefined, pc)
-            }
-            Some(insn) => {
-                let effect = perform_sve(
-                    &mut *self.core,
-                    &mut *self.vec,
-                    &mut self.memory,
-                    &mut self.log,
-                    insn,
-                );
-                self.leave_insn(effect)
-            }
-        }
+        self.shown.as_slice()
     }
 
     /// Takes one step: the word at the program counter is fetched and decoded, and its instruction is done. The marks
@@ -426,18 +247,9 @@ impl Machine {
         ensures going { MatchCall result (has_ended self.new ≡ false) ⊤ }
         ensures below { MatchCall result (self.new.parts.steps < until) ⊤ }
     {
-        // what is asked of the number is asked behind the step, so that no answer of it is kept to the next one
-        loop {
-            self.log.clear();
-            match self.plain() {
-                Progress::GoesOn => {}
-                Progress::Trapped => return Progress::Trapped,
-                Progress::AtCall => return Progress::AtCall,
-            }
-            if self.steps() >= until {
-                return Progress::GoesOn;
-            }
-        }
+        let progress = self.running.take_steps(until);
+        self.shown.set(&self.running.log);
+        progress
     }
 
     /// Takes steps until the next one makes a call, `until` steps are counted in all, or one ends the machine.
@@ -494,8 +306,8 @@ impl Machine {
                 numbers,
                 contexts,
                 turn,
-                &mut self.core,
-                &mut self.vec,
+                &mut self.running.core,
+                &mut self.running.vec,
             ) {
                 return Progress::GoesOn;
             }
@@ -517,8 +329,8 @@ impl Machine {
         ensures marks { self.new.marks ≡ self.old.marks }
         ensures saved { self.new.saved ≡ self.old.saved }
     {
-        let next = self.steps + 1;
-        self.advance(next)
+        let steps = self.steps();
+        self.advance(steps + 1)
     }
 
     /// Takes steps until the machine has ended or has counted `budget` steps in all, which is `Spent`.
@@ -571,7 +383,7 @@ impl Machine {
             → Puts (λ st. (runs.run st self.new.parts.steps).errors) self.old.parts (I.left input.old)
             (E.held errors.old) (E.held errors.new) false }
     {
-        while self.steps < budget {
+        while self.steps() < budget {
             match self.advance(budget) {
                 Progress::GoesOn => return RunEnd::Spent,
                 Progress::Trapped => return run_end_of(step_end(self.ending())),

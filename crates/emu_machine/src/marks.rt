@@ -64,7 +64,7 @@ impl Machine {
     pub fn limit(&self) -> u32
         ensures { result ≡ self.now.parts.memory.limit }
     {
-        self.memory.pages().limit()
+        self.running.memory.pages().limit()
     }
 
     /// The number of spare frames. In a machine with marks of which at most one isn't none, it can be marked.
@@ -73,14 +73,14 @@ impl Machine {
         ensures one_mark { 0 < len self.now.marks → count_by is_some self.now.marks ≤ 1
             → self.now.parts.memory.limit ≤ self.now.spare }
     {
-        self.memory.pages().spare()
+        self.running.memory.pages().spare()
     }
 
     /// The number of marks that aren't none.
     pub fn marked(&self) -> u32
         ensures { result ≡ count_by is_some self.now.marks }
     {
-        self.memory.pages().marked()
+        self.running.memory.pages().marked()
     }
 
     /// Makes mark `k` the machine as it is. It takes no spare frame.
@@ -97,8 +97,13 @@ impl Machine {
         ensures accesses { self.new.accesses ≡ self.old.accesses }
         ensures failed { self.new.failed ≡ self.old.failed }
     {
-        self.memory.pages_mut().mark(k);
-        self.saved[k as usize].set(&self.core, &self.vec, self.brk, self.steps);
+        self.running.memory.pages_mut().mark(k);
+        self.running.saved[k as usize].set(
+            &self.running.core,
+            &self.running.vec,
+            self.running.brk,
+            self.running.steps,
+        );
     }
 
     /// Makes mark `k` none.
@@ -111,7 +116,7 @@ impl Machine {
         ensures accesses { self.new.accesses ≡ self.old.accesses }
         ensures failed { self.new.failed ≡ self.old.failed }
     {
-        self.memory.pages_mut().drop_mark(k);
+        self.running.memory.pages_mut().drop_mark(k);
     }
 
     /// Makes the machine that of mark `k`, which hadn't ended, with the number of steps that it had counted. A machine
@@ -132,15 +137,16 @@ impl Machine {
             vec,
             brk,
             steps,
-        } = self.saved[k as usize].copy();
-        self.memory.pages_mut().restore(k);
-        *self.core = core;
-        *self.vec = vec;
-        self.brk = brk;
-        self.steps = steps;
-        self.ended = None;
-        self.failed = false;
-        self.log.clear();
+        } = self.running.saved[k as usize].copy();
+        self.running.memory.pages_mut().restore(k);
+        *self.running.core = core;
+        *self.running.vec = vec;
+        self.running.brk = brk;
+        self.running.steps = steps;
+        self.running.ended = None;
+        self.running.failed = false;
+        self.running.log.clear();
+        self.shown.clear();
     }
 }
 

@@ -1,19 +1,21 @@
-//! The registers of a machine before they are set, and what it remembers beside them, each in a box of its own.
+//! The registers of a machine before they are set, and what it remembers beside them, each in memory of its own.
 ghost use Rattle.std.specs.Prelude.{◌≡◌, IfOk};
 ghost use Rattle.emu_model.specs.State.{zero_core, zero_vectors};
 
 use core_regs::Core;
 use emu_model::Length;
+use guest_mem::AccessList;
 use insn_decode::DecodedWords;
 use std::alloc::{AllocError, Global};
 use vec_regs::VecRegs;
 
-/// The scalar and the vector registers, and the words that were decoded.
+/// The scalar and the vector registers, the words that were decoded, and room for the accesses of a step.
 #[derive(Drop)]
 pub(crate) struct Registers {
     pub(crate) core: Box<Core>,
     pub(crate) vec: Box<VecRegs>,
     pub(crate) words: DecodedWords,
+    pub(crate) shown: AccessList,
 }
 
 impl Registers {
@@ -26,6 +28,7 @@ impl Registers {
             core: Box::new(alloc, Core::new())?,
             vec: Box::new(alloc, VecRegs::new(length))?,
             words: DecodedWords::new(alloc)?,
+            shown: AccessList::new(alloc)?,
         })
     }
 }

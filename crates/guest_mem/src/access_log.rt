@@ -1,34 +1,44 @@
 //! The log of the accesses that an instruction makes, and the elements that one is about to load.
-ghost use Rattle.std.specs.Prelude.{◌≡◌, ◌<◌, ◌≤◌, ◌+◌, ◌*◌, [], ◌∷◌, ◌++◌, length};
+ghost use Rattle.std.specs.Prelude.{◌≡◌, ◌<◌, ◌≤◌, ◌+◌, ◌*◌, [], ◌∷◌, ◌++◌, IfOk, length};
+ghost use Rattle.std.specs.Vec.{vec_capacity, vec_len};
 ghost use Rattle.arrayvec.specs.ArrayVec.{array_vec_len};
 ghost use Rattle.emu_model.specs.Access.{address};
 ghost use Rattle.emu_model.specs.Lists.{each};
+ghost use Rattle.guest_mem.specs.Logs.{run_of};
 
 use arrayvec::ArrayVec;
 use emu_model::access::Access;
+use std::alloc::{AllocError, Global};
 use std::marker::Model;
 
 /// The accesses of one step, in order, lower first. 1,024 is the most that an instruction makes (`ld4b` at 2,048 bits).
-/// Contracts see it as they see an `ArrayVec`.
+/// Those of a run that comes first take a few stores whatever their number, and each other one has a cell. Contracts
+/// see it as they see an `ArrayVec`.
 #[derive(Drop)]
 pub struct AccessLog {
     cells: [Access; 1024],
-    len: usize,
+    // a run of accesses before those in the cells: so many, of so many bytes each, one behind the other from here on
+    base: u64,
+    bytes: u32,
+    write: bool,
+    count: u32,
+    // how many are in the cells; beside the run's number, so that one store empties both
+    len: u32,
 }
 
 impl Model for AccessLog {
-    ghost use Rattle.std.specs.Prelude.{◌≡◌, ◌≤◌, length, take};
+    ghost use Rattle.std.specs.Prelude.{◌≡◌, ◌≤◌, ◌+◌, ◌++◌, length, take};
     ghost use Rattle.arrayvec.specs.ArrayVec.{ArrayVec as Items, array_vec_code};
     ghost use Rattle.emu_model.specs.declared.access.Access.{Access};
-    ghost use Rattle.guest_mem.specs.Logs.{coded_access};
+    ghost use Rattle.guest_mem.specs.Logs.{coded_access, run_of};
 
     ghost Value = { Items Access };
 
     ghost coded = { array_vec_code coded_access };
 
-    ghost view = { λ a. record { items = take a.len a.cells } };
+    ghost view = { λ a. record { items = run_of a.base a.bytes a.count a.write ++ take a.len a.cells } };
 
-    ghost invariant = { λ a. (a.len ≤ 1024) × (length a.cells ≡ 1024) };
+    ghost invariant = { λ a. (a.count + a.len ≤ 1024) × (length a.cells ≡ 1024) };
 }
 
 impl AccessLog {
@@ -42,15 +52,19 @@ impl AccessLog {
                 bytes: 0,
                 write: false,
             }; 1024],
+            base: 0,
+            bytes: 0,
+            write: false,
+            count: 0,
             len: 0,
         }
     }
 
-    /// The accesses.
-    pub fn as_slice(&self) -> &[Access]
-        ensures { result.now ≡ self.now.items }
+    /// How many accesses.
+    pub fn len(&self) -> usize
+        ensures { result ≡ array_vec_len self.now }
     {
-        &self.cells[..self.len]
+        self.count as usize + self.len as usize
     }
 
     /// Forgets them all.
@@ -58,6 +72,7 @@ impl AccessLog {
         ensures { self.new.items ≡ [] }
     {
         let _ = &self.cells;
+        self.count = 0;
         self.len = 0;
     }
 
@@ -69,25 +84,125 @@ impl AccessLog {
         ensures len { array_vec_len self.new ≡ array_vec_len self.old + 1 }
     {
         let len = self.len;
-        self.cells[len] = access;
+        self.cells[len as usize] = access;
         self.len = len + 1;
     }
 
     /// Appends so many accesses of n bytes each, one behind the other. There must be room.
+    #[inline]
     pub fn push_run(&mut self, base: u64, n: u32, count: u32, write: bool)
         requires { array_vec_len self.old + count ≤ 1024 }
         ensures items { self.new.items ≡ self.old.items ++ each count
             (λ i. record { address = address (base + i * n); bytes = n; write = write }) }
         ensures len { array_vec_len self.new ≡ array_vec_len self.old + count }
     {
-        let first = self.len;
-        fill(
-            &mut self.cells[first..first + count as usize],
-            base,
-            n,
-            write,
+        if self.count + self.len == 0 {
+            self.base = base;
+            self.bytes = n;
+            self.write = write;
+            self.count = count;
+        } else {
+            let first = self.len as usize;
+            fill(
+                &mut self.cells[first..first + count as usize],
+                base,
+                n,
+                write,
+            );
+            self.len += count;
+        }
+    }
+}
+
+/// The accesses of a step, in order, as a slice. Contracts see it as they see an `ArrayVec`.
+#[derive(Drop)]
+pub struct AccessList {
+    // with room for as many as a log has
+    accesses: Vec<Access>,
+}
+
+impl Model for AccessList {
+    ghost use Rattle.std.specs.Prelude.{◌≤◌};
+    ghost use Rattle.std.specs.Vec.{vec_capacity};
+    ghost use Rattle.arrayvec.specs.ArrayVec.{ArrayVec as Items, array_vec_code};
+    ghost use Rattle.emu_model.specs.declared.access.Access.{Access};
+    ghost use Rattle.guest_mem.specs.Logs.{coded_access};
+
+    ghost Value = { Items Access };
+
+    ghost coded = { array_vec_code coded_access };
+
+    ghost view = { λ a. record { items = a.accesses.items } };
+
+    ghost invariant = { λ a. 1024 ≤ vec_capacity a.accesses };
+}
+
+impl AccessList {
+    /// No access. The only error is want of memory.
+    pub fn new(alloc: Global) -> Result<AccessList, AllocError>
+        ensures { IfOk result (λ list. list.items ≡ []) }
+    {
+        let accesses = Vec::with_capacity(alloc, 1024)?;
+        Ok(AccessList { accesses })
+    }
+
+    /// The accesses.
+    pub fn as_slice(&self) -> &[Access]
+        ensures { result.now ≡ self.now.items }
+    {
+        self.accesses.as_slice()
+    }
+
+    /// Forgets them all.
+    pub fn clear(&mut self)
+        ensures { self.new.items ≡ [] }
+    {
+        self.accesses.clear();
+    }
+
+    /// Becomes those of a log. It wants no memory.
+    #[inline(never)]
+    pub fn set(&mut self, log: &AccessLog)
+        ensures { self.new.items ≡ log.now.items }
+    {
+        self.accesses.clear();
+        put_run(
+            &mut self.accesses,
+            log.base,
+            log.bytes,
+            log.count,
+            log.write,
         );
-        self.len = first + count as usize;
+        put_all(&mut self.accesses, &log.cells[..log.len as usize]);
+    }
+}
+
+/// Appends so many accesses of n bytes each, one behind the other. There must be room.
+fn put_run(accesses: &mut Vec<Access>, base: u64, n: u32, count: u32, write: bool)
+    requires { vec_len accesses.old + count ≤ vec_capacity accesses.old }
+    ensures items { accesses.new.items ≡ accesses.old.items ++ run_of base n count write }
+    ensures len { vec_len accesses.new ≡ vec_len accesses.old + count }
+    ensures capacity { vec_capacity accesses.new ≡ vec_capacity accesses.old }
+{
+    let mut at = base;
+    for _i in 0..count {
+        accesses.push_reserved(Access {
+            address: at,
+            bytes: n,
+            write,
+        });
+        at = at.wrapping_add(u64::from(n));
+    }
+}
+
+/// Appends these. There must be room.
+fn put_all(accesses: &mut Vec<Access>, from: &[Access])
+    requires { vec_len accesses.old + length from.now ≤ vec_capacity accesses.old }
+    ensures items { accesses.new.items ≡ accesses.old.items ++ from.now }
+    ensures capacity { vec_capacity accesses.new ≡ vec_capacity accesses.old }
+{
+    for access in from {
+        accesses.push_reserved(*access);
     }
 }
 

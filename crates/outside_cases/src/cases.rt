@@ -60,7 +60,7 @@ fn step(state: &mut State, insn: &Insn) {
     let mut log = AccessLog::new();
     let (core, vec, memory) = (&mut state.core, &mut state.vec, &mut state.memory);
     let effect = perform(core, vec, memory, &mut log, insn);
-    state.accesses = Some(log.as_slice().len());
+    state.accesses = Some(log.len());
     go_on(state, effect);
 }
 
@@ -71,7 +71,7 @@ fn step_listed(state: &mut State, insn: &Insn) -> bool {
             let (core, vec, memory) = (&mut state.core, &mut state.vec, &mut state.memory);
             let mut log = AccessLog::new();
             let effect = load_listed(core, vec, memory, &mut log, insn);
-            state.accesses = Some(log.as_slice().len());
+            state.accesses = Some(log.len());
             go_on(state, effect);
             true
         }

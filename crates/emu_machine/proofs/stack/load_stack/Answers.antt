@@ -2,7 +2,7 @@ use Rattle.std.proofs.Common.{List, ℕ, ap, ◌∙◌, arith, map, string_bytes
 use Rattle.emu_model.specs.Access.{Memory}
 use Rattle.emu_model.specs.Pages.{is_over_limit, least_mapped, mapped, with_bytes}
 use Rattle.emu_system.specs.Image.{stack_page_count}
-use Rattle.emu_system.specs.Stack.{argument_bytes, arguments_at, first_stack_page, random_at, random_bytes, stack_pieces, stack_rights, start_words, word_bytes}
+use Rattle.emu_system.specs.Stack.{argument_bytes, arguments_at, first_stack_page, random_at, random_bytes, stack_pieces, read_write, start_words, word_bytes}
 use Rattle.elf_image.specs.Images.{seen_image}
 use Rattle.emu_system.specs.StackLaws.{few_bytes}
 use Rattle.emu_machine.proofs.Laid.{pieces_within}
@@ -22,9 +22,9 @@ returns-clause-pages c =
     let image = seen_image c.args.image.now in
     let words : List ℕ = word_bytes (start_words image args) in
     let bytes : List ℕ = argument_bytes args in
-    let blank : Memory = mapped old first_stack_page stack_page_count stack_rights in
+    let blank : Memory = mapped old first_stack_page stack_page_count read_write in
     let at = c.requires.layout in
-    has_pages old first_stack_page stack_page_count stack_rights (stack_pieces image args) c.put_start_words.new.pages.memory
+    has_pages old first_stack_page stack_page_count read_write (stack_pieces image args) c.put_start_words.new.pages.memory
     (pieces_within image args c.requires.arguments)
     (free_of (least_mapped old.pages first_stack_page stack_page_count) (is_over_limit old stack_page_count) c.requires.free)
     (c.put_start_words.ensures.bytes

@@ -4,6 +4,7 @@ use Rattle.guest_contexts.specs.declared.begin.Turn.{Turn}
 use Rattle.guest_contexts.specs.Begins.{begins_next}
 use Rattle.emu_machine.specs.Advances.{IsSpent}
 use Rattle.emu_machine.specs.declared.machine.Machine.TheInside.{Inside}
+use Rattle.emu_machine.specs.declared.running.Running.TheInside.{Inside as InRunning}
 use Rattle.emu_machine.specs.InTurns.{InTurn}
 use Rattle.emu_machine.specs.Machines.{MachineState, has_ended}
 use Rattle.emu_machine.proofs.InTurns.{registers_same}
@@ -11,7 +12,7 @@ use Rattle.emu_machine.proofs.Performed.{still_goes}
 use Rattle.emu_machine.proofs.machine.Machine.advance_in_turns.Goals as goal
 
 -- a machine that is open, as it is seen
-abbrev seen : Inside → MachineState
+abbrev seen : InRunning → MachineState
 seen i = record {
   parts = record { core = i.core.value; vectors = i.vec.value; memory = i.memory.memory; brk = i.brk; steps = i.steps; ended = i.ended };
   accesses = i.log.items;
@@ -39,9 +40,10 @@ pub returns-then-not-begin_next-clause-steps : goal.returns-then-not-begin_next-
 returns-then-not-begin_next-clause-steps c =
     let used = c.loop-contexts.invariant.used in
     let e = c.if-not-begin_next.ensures.turn in
-    let s : MachineState = seen c.self.inside in
+    let s : MachineState = seen c.self-inside.inside.0.0 in
+    let viewed : s ≡ c.take_steps.new.self = ap (λ (x : Inside). x.running) c.self-inside.view_is ∙ c.self.view_is in
     let same : record s { parts = record s.parts { core = c.begin_next.new.core.value; vectors = c.begin_next.new.vec.value } } ≡ c.take_steps.new.self =
-    registers_same s c.begin_next.new.core.value c.begin_next.new.vec.value (ap (λ (b : Box Core Global). b.value) e.1) (ap (λ (b : Box Vectors Global). b.value) e.2) ∙ c.self.view_is in
+    registers_same s c.begin_next.new.core.value c.begin_next.new.vec.value (ap (λ (b : Box Core Global). b.value) e.1) (ap (λ (b : Box Vectors Global). b.value) e.2) ∙ viewed in
     record {
       count = used.0;
       at = record { machine = c.loop-contexts.self; turn = c.loop-contexts.turn; contexts = c.loop-contexts.contexts };
@@ -64,19 +66,20 @@ returns-then-not-begin_next-clause-stopped c =
 pub loop-contexts-preserved : goal.loop-contexts-preserved
 loop-contexts-preserved c =
     let i = c.loop-contexts.invariant in
-    let s : MachineState = seen c.self.inside in
+    let s : MachineState = seen c.self-inside.inside.0.0 in
+    let viewed : s ≡ c.take_steps.new.self = ap (λ (x : Inside). x.running) c.self-inside.view_is ∙ c.self.view_is in
     let here : InTurn = record { machine = c.loop-contexts.self; turn = c.loop-contexts.turn; contexts = c.loop-contexts.contexts } in
     let spent : IsSpent c.loop-contexts.turn.until c.loop-contexts.self c.take_steps.new.self = c.in-GoesOn.ensures.steps in
-    let counted = ap (λ (x : MachineState). x.parts.steps) c.self.view_is ∙ spent.spent in
+    let counted = ap (λ (x : MachineState). x.parts.steps) viewed ∙ spent.spent in
     let begins = c.if-not-begin_next.ensures.turn in
     let later = begins.later in
     let most = begins.turn.most in
     let budget = begins.budget ∙ i.budget in
     record {
-      going = ap has_ended c.self.view_is ∙ still_goes c.take_steps.new.self spent.ahead.goes c.take_steps.ensures.failed;
+      going = ap has_ended viewed ∙ still_goes c.take_steps.new.self spent.ahead.goes c.take_steps.ensures.failed;
       below = omega (arith, counted, later);
-      marks = ap (λ (x : MachineState). x.marks) c.self.view_is ∙ c.take_steps.ensures.marks ∙ i.marks;
-      saved = ap (λ (x : MachineState). x.saved) c.self.view_is ∙ c.take_steps.ensures.saved ∙ i.saved;
+      marks = ap (λ (x : MachineState). x.marks) viewed ∙ c.take_steps.ensures.marks ∙ i.marks;
+      saved = ap (λ (x : MachineState). x.saved) viewed ∙ c.take_steps.ensures.saved ∙ i.saved;
       turn = λ _. begins.turn;
       count = begins.count ∙ i.count;
       budget = budget;
@@ -89,7 +92,7 @@ loop-contexts-preserved c =
             i.used.1,
             record {
               left = s;
-              spent = subst (λ (x : MachineState). IsSpent c.loop-contexts.turn.until c.loop-contexts.self x) (sym c.self.view_is) spent;
+              spent = subst (λ (x : MachineState). IsSpent c.loop-contexts.turn.until c.loop-contexts.self x) (sym viewed) spent;
               begins = begins;
               machine = refl;
             },

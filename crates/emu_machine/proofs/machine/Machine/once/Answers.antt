@@ -1,13 +1,12 @@
 use Rattle.std.proofs.Common.{◌≡◌, ◌+◌, is_none, true, ap, subst}
 use Rattle.emu_machine.specs.Advances.{Advances}
-use Rattle.emu_machine.specs.Machines.{MachineState}
 use Rattle.emu_machine.proofs.Advanced.{once_turn, once_kept, once_svc, once_ended, once_counted, once_accesses}
 use Rattle.emu_machine.proofs.Runs.{goes}
 use Rattle.emu_machine.proofs.machine.Machine.once.Goals.{After-advance}
 use Rattle.emu_machine.proofs.machine.Machine.once.Goals as goal
 
 advances : (c : After-advance) → Advances (c.args.self.now.parts.steps + 1) c.args.self.now c.advance.new.self c.advance.result
-advances c = subst (λ n. Advances n c.args.self.now c.advance.new.self c.advance.result) (ap (λ (s : MachineState). s.parts.steps + 1) c.self.view_is) c.advance.ensures.steps
+advances c = subst (λ n. Advances n c.args.self.now c.advance.new.self c.advance.result) (ap (λ n. n + 1) c.steps-steps.ensures) c.advance.ensures.steps
 
 going : (c : After-advance) → is_none c.args.self.now.parts.ended ≡ true
 going c = goes c.args.self.now.parts.ended c.args.self.now.failed c.requires.going

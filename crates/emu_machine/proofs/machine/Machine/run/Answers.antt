@@ -183,21 +183,21 @@ returns-in_default g c =
 
 pub returns-clause-state : goal.returns-clause-state
 returns-clause-state g c =
-    let steps = ap (λ (s : MachineState). s.parts.steps) c.self.view_is in
+    let steps = c.steps.ensures in
     (run_spends c.args.budget c.args.self.now.parts c.loop-self.self.parts _ _ _ _ _ _ c.loop-self.invariant.leads (omega (arith, steps))).state
 
 pub returns-clause-accesses : goal.returns-clause-accesses
 returns-clause-accesses g c =
-    let steps = ap (λ (s : MachineState). s.parts.steps) c.self.view_is in
+    let steps = c.steps.ensures in
     logs_as _ _ _ _ _ false false refl
     (λ _. logs_spent c.args.budget c.args.self.now.accesses c.loop-self.self.accesses c.args.self.now.parts c.loop-self.self.parts _ _ _ _ _ _ c.loop-self.invariant.leads c.loop-self.invariant.logs (omega (arith, steps)))
 
 pub returns-clause-output : goal.returns-clause-output
 returns-clause-output g c =
-    let steps = ap (λ (s : MachineState). s.parts.steps) c.self.view_is in
+    let steps = c.steps.ensures in
     (run_spends c.args.budget c.args.self.now.parts c.loop-self.self.parts _ _ _ _ _ _ c.loop-self.invariant.leads (omega (arith, steps))).output
 
 pub returns-clause-errors : goal.returns-clause-errors
 returns-clause-errors g c =
-    let steps = ap (λ (s : MachineState). s.parts.steps) c.self.view_is in
+    let steps = c.steps.ensures in
     (run_spends c.args.budget c.args.self.now.parts c.loop-self.self.parts _ _ _ _ _ _ c.loop-self.invariant.leads (omega (arith, steps))).errors

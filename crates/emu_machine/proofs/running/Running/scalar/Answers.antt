@@ -1,8 +1,8 @@
 use Rattle.emu_run.specs.declared.insn.Insn.TheVariants.{A64}
 use Rattle.std.proofs.Common.{Some, refl, ◌∙◌}
 use Rattle.emu_machine.proofs.Left.{HasDone, done_by, performed_as}
-use Rattle.emu_machine.proofs.machine.Machine.scalar.Goals.{After-leave_insn}
-use Rattle.emu_machine.proofs.machine.Machine.scalar.Goals as goal
+use Rattle.emu_machine.proofs.running.Running.scalar.Goals.{After-leave_insn}
+use Rattle.emu_machine.proofs.running.Running.scalar.Goals as goal
 
 done : (c : After-leave_insn) → HasDone (Some (A64 c.args.insn.now)) c.args.self.now c.leave_insn.new.self c.leave_insn.result
 done c =

@@ -1,10 +1,10 @@
 use Rattle.std.proofs.Common.{◌≡◌, ◌<◌, ◌-◌, false}
 use Rattle.emu_machine.specs.Advances.{IsAhead}
 use Rattle.emu_machine.specs.Machines.{has_ended}
-use Rattle.emu_machine.proofs.machine.Machine.take_steps.Given as goal
+use Rattle.emu_machine.proofs.running.Running.take_steps.Given as goal
 
-abbrev pub invariant-loop-self : goal.invariant-loop-self
-invariant-loop-self l = record {
+abbrev pub invariant-loop : goal.invariant-loop
+invariant-loop l = record {
   going : has_ended l.self ≡ false;
   below : l.self.parts.steps < l.until;
   marks : l.self.marks ≡ l.fn.self.marks;
@@ -12,5 +12,5 @@ invariant-loop-self l = record {
   ahead : IsAhead l.fn.self.parts l.self.parts l.fn.self.accesses l.self.accesses;
 }
 
-abbrev pub decreases-loop-self : goal.decreases-loop-self
-decreases-loop-self l = l.until - l.self.parts.steps
+abbrev pub decreases-loop : goal.decreases-loop
+decreases-loop l = l.until - l.self.parts.steps

@@ -3,8 +3,8 @@ use Rattle.emu_run.specs.declared.insn.Insn.{Insn}
 use Rattle.emu_run.specs.declared.insn.Insn.TheVariants.{Sve}
 use Rattle.emu_run.specs.Step.{decode}
 use Rattle.emu_machine.proofs.Left.{HasDone, done_by, performed_as}
-use Rattle.emu_machine.proofs.machine.Machine.vector.Goals.{After-leave_insn}
-use Rattle.emu_machine.proofs.machine.Machine.vector.Goals as goal
+use Rattle.emu_machine.proofs.running.Running.vector.Goals.{After-leave_insn}
+use Rattle.emu_machine.proofs.running.Running.vector.Goals as goal
 
 done : (c : After-leave_insn) → HasDone (decode c.args.word) c.args.self.now c.leave_insn.new.self c.leave_insn.result
 done c =

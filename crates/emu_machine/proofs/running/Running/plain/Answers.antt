@@ -6,14 +6,15 @@ use Rattle.emu_model.specs.declared.access.Kind.TheVariants.{Fetch}
 use Rattle.emu_model.specs.declared.trap.TrapKind.TheVariants.{PcAlign, Undefined, Fetch as TrapFetch}
 use Rattle.emu_model.specs.State.{Core}
 use Rattle.emu_run.specs.declared.insn.Insn.TheVariants.{A64}
-use Rattle.emu_run.specs.Step.{a64, decode, trapped}
+use Rattle.emu_run.specs.ByTable.{a64}
+use Rattle.emu_run.specs.Step.{decode, trapped}
 use Rattle.emu_system.specs.SystemCall.{quiet}
-use Rattle.emu_machine.specs.declared.machine.Machine.TheInside.{Inside}
+use Rattle.emu_machine.specs.declared.running.Running.TheInside.{Inside}
 use Rattle.emu_machine.specs.Machines.{MachineState}
 use Rattle.emu_machine.proofs.Left.{HasDone}
 use Rattle.emu_machine.proofs.Turns.{HasFetched, HasStepped, accesses_of_none, accesses_of_odd, accesses_of_refused, has_stepped, has_trapped, makes_no_row, makes_none, makes_refused, turn_of_none, turn_of_odd, turn_of_refused}
-use Rattle.emu_machine.proofs.machine.Machine.plain.Goals.{After-trap, After-trap-in-Err, After-trap-in-None, After-vector, After-scalar}
-use Rattle.emu_machine.proofs.machine.Machine.plain.Goals as goal
+use Rattle.emu_machine.proofs.running.Running.plain.Goals.{After-trap, After-trap-in-Err, After-trap-in-None, After-vector, After-scalar}
+use Rattle.emu_machine.proofs.running.Running.plain.Goals as goal
 
 -- a machine that is open, as it is seen with this memory
 abbrev seen : Inside → MarkedMemory → MachineState
