@@ -46,6 +46,14 @@ built() {
         -fno-pic "$@" -o "$scratch/$name" "$top/tests/failures/$source.c" || exit 2
 }
 
+# Compares a status and what is said with both: fails STATUS LINE BOTH
+fails() {
+    [ "$1 $2" = "$3" ] || {
+        bad=$((bad + 1))
+        echo "failures.sh: $1, and it says: $2" >&2
+    }
+}
+
 # Runs a file with a budget and compares the status and the line: says NAME STATUS PATTERN
 says() {
     count=$((count + 1))
@@ -79,7 +87,7 @@ says guard_below 139 'svemu: read from 0x[0-9a-f]*, 5 bytes below a guarded buff
 says break 139 'svemu: write to 0x[0-9a-f]*, .*, 10 bytes behind the break, at 0x[0-9a-f]*, main+0x[0-9a-f]* .*'
 says mapping 139 'svemu: write to 0x[0-9a-f]*, 7 bytes behind a mapping, at 0x[0-9a-f]*, main+0x[0-9a-f]* .*'
 says mapping_below 139 'svemu: write to 0x[0-9a-f]*, 7 bytes below a mapping, at 0x[0-9a-f]*, main+0x[0-9a-f]* .*'
-says clone 123 'svemu: x8 names the call clone, which is refused here: svemu threads runs a program with threads'
+says clone 123 'svemu: x8 names the call clone, which is refused here: --threads SCHEDULE runs a program with threads'
 says behind 139 'svemu: write to 0x[0-9a-f]*.*, 4901 bytes behind the end of table, at 0x[0-9a-f]*, main+0x[0-9a-f]* .*'
 says sp 135 'svemu: an access by SP, which is no multiple of 16, at 0x[0-9a-f]*, main+0x4 .*'
 says spin 123 'svemu: 1000000 steps are spent in spin.* (SVEMU_BUDGET gives more)'
@@ -133,13 +141,27 @@ line=$("$tool" run --quiet "$scratch/trap" 2>&1)
     echo "failures.sh: --quiet: $line" >&2
 }
 
-# what failed of the input, of the output and of memory
-fails() {
-    [ "$1 $2" = "$3" ] || {
-        bad=$((bad + 1))
-        echo "failures.sh: $1, and it says: $2" >&2
-    }
+# threads under a schedule, and the report in a file
+line=$("$tool" run --vl 128 --budget 10000 --threads "$top/examples/single_steps.schedule" --registers "$scratch/registers" "$top/examples/lost_update.elf" 2>&1)
+fails "$?" "$line" "0 number 4"
+head -n 1 "$scratch/registers" | grep -qx 'exit 0 after [0-9]* steps' && grep -qx 'thread 1' "$scratch/registers" || {
+    bad=$((bad + 1))
+    echo "failures.sh: the registers of threads" >&2
 }
+built stuck stuck
+line=$("$tool" run --threads "$top/examples/whole_turns.schedule" "$scratch/stuck" 2>&1)
+fails "$?" "$line" "119 svemu: no thread is ready, since each waits for another, after 14 steps"
+line=$("$tool" run --threads "$scratch/script" "$scratch/plain" 2>&1)
+fails "$?" "$line" "122 svemu: $scratch/script is no schedule: no turn at line 0"
+line=$("$tool" run --threads "$scratch/none" "$scratch/plain" 2>&1)
+fails "$?" "$line" "126 svemu: $scratch/none isn't there, or can't be read"
+line=$("$tool" run --registers "$scratch/none/registers" "$scratch/plain" 2>&1)
+fails "$?" "$line" "125 svemu: $scratch/none/registers can't be written"
+dd if=/dev/zero of="$scratch/long" bs=1 count=1 seek=67108864 2>/dev/null
+line=$("$tool" run "$scratch/long" 2>&1)
+fails "$?" "$line" "127 svemu: $scratch/long has more than 67,108,864 bytes"
+
+# what failed of the input and of the output
 line=$("$tool" run "$(printf '\377')" 2>&1)
 fails "$?" "$line" "118 svemu: a word of the command line isn't text"
 built reads reads

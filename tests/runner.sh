@@ -45,7 +45,7 @@ runner_passes_on() {
     run "$runner" --quiet --budget 5000 "$probe" spin
     ended "a spent budget that nobody is told of" 123 '' before
     run "$runner" --registers "$scratch/registers" --budget 5000 "$probe" spin
-    ended "a spent budget where registers are kept" 123 '' 'beforespent after 5000 steps\n'
+    ended_like "a spent budget where registers are kept" 123 'beforesvemu: 5000 steps are spent in 0x[0-9a-f]+.* \(SVEMU_BUDGET gives more\)'
     run "$runner" --registers "$scratch/registers" --quiet --budget 5000 "$probe" spin
     ended "where nobody is told" 123 '' before
     holds "its registers are kept" grep -qx 'spent after 5000 steps' "$scratch/registers"
@@ -58,6 +58,8 @@ runner_passes_on() {
     holds "the length of SVEMU_VL" grep -qx 'vl 640' "$scratch/registers"
     run "$runner" --registers "$scratch/registers" "$probe"
     holds "512 bits where nothing is said" grep -qx 'vl 512' "$scratch/registers"
+    run "$runner" --vl 128 --budget 10000 --threads examples/single_steps.schedule examples/lost_update.elf
+    ended "threads" 0 'number 4\n' ''
     run env SVEMU_BUDGET=7 "$runner" "$probe" spin
     ended_like "the budget of SVEMU_BUDGET" 123 'svemu: 7 steps are spent in .*'
     run env SVEMU_VL=640 SVEMU_BUDGET=7 "$runner" --vl 128 --budget 9 "$probe" spin
@@ -184,19 +186,19 @@ runner_refusals() {
     run "$runner" --length 128 "$probe"
     ended "an unknown option" 121 '' 'svemu: --length is no option of run: see svemu-tool --help\n'
     run "$runner" --registers "$scratch/registers" --length 128 "$probe"
-    ended "an unknown option beside registers" 121 '' 'svemu-runner: there is no option --length (--help lists them)\n'
+    ended "an unknown option beside registers" 121 '' 'svemu: --length is no option of run: see svemu-tool --help\n'
     run env SVEMU_TOOL="$scratch/nosuch" "$runner" "$probe"
     ended "no svemu-tool" 126 '' "svemu-runner: there is no program $scratch/nosuch (--help says where it is looked for)\n"
     run "$runner" --registers "$scratch/no/such" "$probe"
-    ended "registers that can't be written" 125 '' "svemu-runner: $scratch/no/such couldn't be written\n"
+    ended "registers that can't be written" 125 '' "svemu: $scratch/no/such can't be written\n"
     run env SVEMU="$scratch/nosuch" "$runner" "$probe"
     ended "no svemu" 126 '' "svemu-runner: there is no program $scratch/nosuch (--help says where it is looked for)\n"
-    run env TMPDIR="$scratch/nosuch" "$runner" --registers "$scratch/registers" "$probe"
+    run env SVEMU="$scratch/stand-in" TMPDIR="$scratch/nosuch" "$runner" --registers "$scratch/registers" p
     ended "no folder for the runner's files" 125 '' "svemu-runner: no folder could be made in $scratch/nosuch\n"
     run sh -c '"$1" "$2" >/dev/full' sh "$runner" "$probe"
     holds "an output that can't be written" [ "$status" -eq 125 ]
     run sh -c '"$1" --registers "$3" "$2" >/dev/full' sh "$runner" "$probe" "$scratch/registers"
-    ended "an output that can't be written, where registers are kept" 125 '' "svemu-runner: the output or the errors couldn't be written\n"
+    ended "an output that can't be written, where registers are kept" 125 '' "svemu: the output can't be written\n"
     run sh -c '"$1" "$2" 2>/dev/full' sh "$runner" "$probe"
     ended "errors that can't be passed on" 125 'to the output\n' ''
     input=$scratch
@@ -204,7 +206,7 @@ runner_refusals() {
     holds "an input that can't be read" [ "$status" -eq 124 ]
     run "$runner" --registers "$scratch/registers" "$probe" cat
     input=$scratch/empty
-    ended "an input that can't be read, where registers are kept" 124 '' "svemu-runner: the input couldn't be read\n"
+    ended "an input that can't be read, where registers are kept" 124 '' "svemu: the input can't be read\n"
     run "$runner" --help
     holds "help" grep -q '^usage: svemu-runner' "$scratch/output"
 }
@@ -269,6 +271,18 @@ over_lengths() {
     run "$lengths" "$scratch/vector_length.elf"
     holds "an ending at each length" awk '$2 != 8 * $4 && $2 != 2048 || !/ after 3 steps out 0 err 0 same$/ { bad = 1 } END { exit bad || NR != 16 }' "$scratch/output"
     holds "its status is 1 too" [ "$status" -eq 1 ]
+    # Of an svemu that goes on behind its first line, and then is killed within its second.
+    printf '#!/bin/sh\necho "vl 128 exit 0 after 1 steps out 0 err 0 same"\nread -r line\nprintf "vl 25"\nkill -s KILL "$$"\n' >"$scratch/stand-in"
+    chmod +x "$scratch/stand-in"
+    mkfifo "$scratch/going"
+    env SVEMU="$scratch/stand-in" timeout 120 "$lengths" "$probe" <"$scratch/going" >"$scratch/output" 2>"$scratch/errors" &
+    child=$!
+    exec 4>"$scratch/going"
+    holds "a line is shown as it comes" soon grep -qx 'vl 128 exit 0 after 1 steps out 0 err 0 same' "$scratch/output"
+    echo >&4
+    exec 4>&-
+    wait "$child"
+    holds "svemu is killed within a line" sh -c '[ "$1" -eq 137 ] && [ "$(tail -n 1 "$2")" = "vl 25" ]' sh "$?" "$scratch/output"
     run sh -c '"$1" "$2" >/dev/full' sh "$lengths" "$probe"
     ended "lines that can't be written" 125 '' ''
     cd "$scratch" || exit 1
@@ -278,6 +292,8 @@ over_lengths() {
     holds "by a link" awk '!/^vl [0-9]+ exit 3 after [0-9]+ steps out 14 err 14 same$/ { bad = 1 } END { exit bad || NR != 16 }' "$scratch/output"
     run "$lengths" "$scratch/nosuch"
     ended "a missing program at all lengths" 126 '' "svemu-lengths: $scratch/nosuch couldn't be read\n"
+    run "$lengths" "$scratch/empty"
+    ended "no program at all lengths" 122 '' "refused image TooShort\nsvemu-lengths: svemu-runner tells what $scratch/empty is\n"
     run env SVEMU_BUDGET=x "$lengths" "$probe"
     ended "a budget that is no number" 121 '' 'refused words BadNumber at 3\n'
     run "$lengths" --budget x "$probe"

@@ -344,7 +344,7 @@ schedules_refused() {
     ended "schedules of a missing program" 2 '' "svemu-schedules: $scratch/nosuch couldn't be read\n"
     echo text >"$scratch/text"
     run "$schedules" 5 "$scratch/text"
-    ended "schedules of what is no program" 2 '' 'svemu-schedules: svemu says: refused image TooShort\n'
+    ended "schedules of what is no program" 2 '' 'svemu-schedules: svemu says: refused image TooShort (svemu-runner tells what the file is)\n'
     run "$schedules" --keep "$scratch/text/folder" 5 examples/lost_update.elf
     holds "a folder that can't be" [ "$status" -eq 2 ]
     run sh -c '"$1" 5 "$2" >/dev/full' sh "$schedules" examples/lost_update.elf

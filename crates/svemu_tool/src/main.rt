@@ -1,5 +1,5 @@
-//! svemu-tool: runs a static AArch64 program with the Scalable Vector Extension as `svemu` does, and says in a line for a
-//! person why one didn't come to its exit; and says the families of words that are no instruction of `svemu`'s table.
+//! svemu-tool: runs a static AArch64 program with the Scalable Vector Extension as `svemu` does, and says in a line for
+//! a person why one didn't come to its exit; and says the families of words that are no instruction of `svemu`'s table.
 #![tactic(auto)]
 
 mod families;
@@ -12,11 +12,12 @@ use crate::families::{push_family, word_of};
 use crate::texts::{USAGE, VERSION};
 use io_gate::{FileImages, StdSink, StdSource, put_all};
 use std::alloc::{AllocError, Global};
-use std::env;
+use std::io::Write;
 use std::process::ExitCode;
+use std::{env, fs};
 use tool_counts::count_program;
 use tool_lines::{RunLine, ToolFault, ToolLine, Variables, counted_words, tool_line};
-use tool_run::{line_text, run_program};
+use tool_run::{file_text, line_text, run_program};
 
 /// The status where a word of the command line isn't text, or where the words can't be had.
 const WORDS_UNREADABLE: u8 = 118;
@@ -76,8 +77,13 @@ fn refuse(rt: &HostRuntime, words: &[String], fault: &ToolFault) -> u8 {
     }
 }
 
-/// Runs a program.
-fn run(rt: &HostRuntime, words: &[String], line: &RunLine) -> u8
+/// Runs a program, whose report goes to a writer where the line names a file for it; None where that failed.
+fn run_with<W: Write + Drop>(
+    rt: &HostRuntime,
+    words: &[String],
+    line: &RunLine,
+    report: W,
+) -> Option<u8>
     requires { HasRunPlaces (length words.now) line.now }
 {
     let variables = Variables {
@@ -89,7 +95,8 @@ fn run(rt: &HostRuntime, words: &[String], line: &RunLine) -> u8
     let mut input = StdSource::new(rt.stdin());
     let mut output = StdSink::new(rt.stdout());
     let mut errors = StdSink::new(rt.stderr());
-    run_program(
+    let mut registers = StdSink::new(report);
+    let told = run_program(
         rt.alloc(),
         words,
         line,
@@ -98,9 +105,44 @@ fn run(rt: &HostRuntime, words: &[String], line: &RunLine) -> u8
         &mut input,
         &mut output,
         &mut errors,
-    )
-    .ending
-    .status()
+        &mut registers,
+    );
+    if told.report_failed {
+        None
+    } else {
+        Some(told.ending.status())
+    }
+}
+
+/// Says that a file can't be written, by its name.
+fn unwritten(rt: &HostRuntime, name: &str) -> u8 {
+    match file_text(rt.alloc(), name, "can't be written") {
+        Ok(text) => write_error(rt, text.as_str(), WRITE_FAULT),
+        Err(_) => OUT_OF_MEMORY,
+    }
+}
+
+/// Runs a program, and writes its report to a file of this name.
+fn run_reported(rt: &HostRuntime, words: &[String], line: &RunLine, name: &str) -> u8
+    requires { HasRunPlaces (length words.now) line.now }
+{
+    let Ok(file) = fs::create(rt, name) else {
+        return unwritten(rt, name);
+    };
+    match run_with(rt, words, line, file) {
+        Some(status) => status,
+        None => unwritten(rt, name),
+    }
+}
+
+/// Runs a program.
+fn run(rt: &HostRuntime, words: &[String], line: &RunLine) -> u8
+    requires { HasRunPlaces (length words.now) line.now }
+{
+    match line.registers {
+        Some(place) => run_reported(rt, words, line, words[place].as_str()),
+        None => run_with(rt, words, line, rt.stderr()).unwrap_or(WRITE_FAULT),
+    }
 }
 
 /// Counts the words of a program: the line without its command is that of `svemu`.
@@ -171,12 +213,6 @@ fn families_of_input(rt: &HostRuntime) -> u8 {
 /// Does what the words of the command line say, and gives the status.
 fn obey(rt: &HostRuntime, words: &[String]) -> u8 {
     match tool_line(words) {
-        Ok(ToolLine::Run(line)) if line.registers.is_some() || line.threads.is_some() =>
-            write_error(
-                rt,
-                "svemu: --registers and --threads aren't there yet: svemu run and svemu threads have them\n",
-                REFUSED,
-            ),
         Ok(ToolLine::Run(line)) => run(rt, words, &line),
         Ok(ToolLine::Count) => count(rt, words),
         Ok(ToolLine::Help) => write_text(rt, USAGE),

@@ -13,6 +13,9 @@ its exit, a line behind its errors says why and where.
   --vl N             the vector length in bits, a multiple of 128 from 128 to 2048 (SVEMU_VL, else 512)
   --budget B         the greatest number of steps (SVEMU_BUDGET, else 10000000000)
   --pages P          the greatest number of mapped pages of 4 KiB (SVEMU_PAGES, else 16384)
+  --threads SCHEDULE the program's threads take turns as the file SCHEDULE says
+  --registers FILE   writes the line that says how the run ended, and the registers, to FILE
+  --quiet            no line behind the program's errors
   --                 no option stands behind it
 
 family says the family of each word, as 0x1e222820, that is no instruction of the table; without words those of the
@@ -21,9 +24,9 @@ lines of its input.
 count runs the program of FILE, and writes how often each of its instructions was executed, at one vector length or at
 each: a line for each address with its counts, and then how each run ended. What the program writes is dropped.
 
-status of run: the program's own; 128 and the number of the signal of a trap; 120 without memory; 121 a refused line; 122 a
-refused program; 123 the steps are spent; 124 or 125 the input or an output failed; 126 a file that can't be read; 127
-one that is too long.
+status of run: the program's own; 128 and the number of the signal of a trap; 119 no thread is ready; 120 without
+memory; 121 a refused line; 122 a refused program or schedule; 123 the steps are spent; 124 or 125 the input or an
+output failed; 126 a file that can't be read; 127 one that is too long.
 ";
 
 /// Which version the program is.

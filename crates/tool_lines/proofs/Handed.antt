@@ -1,5 +1,5 @@
 -- Words that `count` hands on.
-use Rattle.std.proofs.Common.{◌≡◌, ◌<◌, ◌≤◌, ℕ, ◌+◌, ◌-◌, ◌&&◌, Bool, true, false, cond, List, [], ◌∷◌, ◌++◌, codes, get_or, drop, drop-cons, take, length, Option, None, Some, sym, refl, ap, ◌∙◌, append_assoc, append-nil, length-drop, suc, add-one, arith, if◌then◌else◌}
+use Rattle.std.proofs.Common.{◌≡◌, ◌<◌, ◌≤◌, ℕ, ◌+◌, Bool, true, false, List, [], ◌∷◌, ◌++◌, codes, get_or, drop, drop-cons, take, length, Option, None, Some, sym, refl, ap, ◌∙◌, append_assoc, append-nil, length-drop, suc, add-one, arith, if◌then◌else◌}
 use Rattle.std.proofs.lemmas.List.{drop_all, length-take, drop-append-le}
 use Rattle.std.proofs.Math.Seq.{take-suc}
 use Rattle.std.specs.Str.{bytes_eq}

@@ -7,15 +7,15 @@ use Rattle.emu_model.specs.State.{Parts}
 use Rattle.emu_model.specs.declared.trap.Ended.{Ended}
 use Rattle.emu_model.specs.declared.trap.Ended.TheVariants.{Exit as Exited, Trap as Trapped}
 use Rattle.emu_system.specs.declared.image.Segment.{Segment}
-use Rattle.command_lines.specs.Outcome.{Files, ending_of}
+use Rattle.command_lines.specs.Outcome.{ending_of}
 use Rattle.command_lines.specs.declared.ending.Ending.{Ending}
 use Rattle.command_lines.specs.declared.ending.Ending.TheVariants.{Exit, ErrorsFault, OutOfMemory}
 use Rattle.commands.specs.Endings.{ended_by}
 use Rattle.commands.specs.Promises.{is_failure}
-use Rattle.commands.specs.Reading.{EndsUnread}
 use Rattle.commands.proofs.Causing.{not_failed}
-use Rattle.tool_sites.specs.Explanation.{explanation_alone, hinted_text}
-use Rattle.tool_run.specs.Tells.{AreSymbolsOf, IsExplained, IsSilentExit}
+use Rattle.tool_sites.specs.Explanation.{hinted_text}
+use Rattle.tool_run.specs.Stops.{alone_stop}
+use Rattle.tool_run.specs.Tells.{AreSymbolsOf, IsExplained, IsSilentExit, SeenStop, said_of}
 
 -- an ending that isn't an exit
 pub loud : (ending : Ending) (said : List ℕ) → ((code : ℕ) → ending ≡ Exit code → ⊥) → IsSilentExit ending said
@@ -29,7 +29,7 @@ exit_text symbols segments m (Some (Trapped t)) code is = cc
 
 -- nothing is said of a machine that ended by an exit
 pub explained_exit : (file : List ℕ) (segments : List Segment) (m : Parts) (said : List ℕ) (ending : Ending) → ending
-    ≡ ending_of m m.ended → IsExplained file segments m said → IsSilentExit ending said
+    ≡ ending_of m m.ended → IsExplained (alone_stop file segments m) said → IsSilentExit ending said
 explained_exit file segments m said ending is e code exit = e.is ∙ exit_text e.found segments m m.ended code (sym is ∙
     exit)
 
@@ -63,27 +63,22 @@ explained_other P Q said ending result x ok err fine failure other is = elim (ex
       | inr wanting ↦ other (sym wanting ∙ is)
     ]
 
-pub explained_silent : {T E : Type 0} (bytes : T → List ℕ) (said : Result T E) (file : List ℕ) (segments : List
-    Segment) (m : Parts) (ending result : Ending) (text : List ℕ)
-    → ending ≡ ending_of m m.ended → IfOk said (λ t. IsExplained file segments m (bytes t)) → IfOk said (λ t. (result
-    ≡ ending) × (text ≡ bytes t))
+-- where it is silent of an exit with the ending of the run, it is with the want of memory
+pub explained_silent : {T E : Type 0} (bytes : T → List ℕ) (said : Result T E) (stop : SeenStop) (ending result :
+    Ending) (text : List ℕ)
+    → ((t : List ℕ) → IsExplained stop t → IsSilentExit ending t) → IfOk said (λ t. IsExplained stop (bytes t)) → IfOk
+    said (λ t. (result ≡ ending) × (text ≡ bytes t))
     → IfErr said (λ _. (result ≡ OutOfMemory) × (text ≡ [])) → IsSilentExit result text
-explained_silent bytes (Ok t) file segments m ending result text is explained ok err code exit = ok.1 ∙ explained_exit
-    file segments m (bytes t) ending is explained code (sym ok.0 ∙ exit)
-explained_silent bytes (Err e) file segments m ending result text is explained ok err code exit = err.1
+explained_silent bytes (Ok t) stop ending result text silent explained ok err code exit = ok.1 ∙ silent (bytes t)
+    explained code (sym ok.0 ∙ exit)
+explained_silent bytes (Err e) stop ending result text silent explained ok err code exit = err.1
 
 -- ---- other endings
 
 pub is_other : (ending result x : Ending) → result ≡ ending → (ending ≡ x → ⊥) → result ≡ x → ⊥
 is_other ending result x by other is = other (sym by ∙ is)
 
--- an ending without the bytes of a file is no exit
-pub unread_no_exit : (told : Option Files) (name : List ℕ) (ending : Ending) (code : ℕ) → EndsUnread told name ending
-    → ending ≡ Exit code → ⊥
-unread_no_exit told name ending code unread is =
-    let no : EndsUnread told name (Exit code) = subst (λ (x : Ending). EndsUnread told name x) is unread in no
-
-rose_more : (a b d : ℕ) → a ≤ b → Rose b d → Rose a d
+pub rose_more : (a b d : ℕ) → a ≤ b → Rose b d → Rose a d
 rose_more a b d le rose = omega arith
 
 -- the count of the errors rose by the run and stayed so, or rose by what was put
@@ -103,13 +98,21 @@ hushed_exit true ending text said hush aloud silent code is = hush refl
 hushed_exit false ending text said hush aloud silent code is = aloud refl ∙ silent code is
 
 -- the text by the symbols of a file explains
-pub explained_by : {T E : Type 0} (bytes : T → List ℕ) (file : List ℕ) (segments : List Segment) (m : Parts) (found
-    read : List Symbol) (said : Result T E)
-    → read ≡ found → AreSymbolsOf file found → IfOk said (λ t. bytes t ≡ explanation_alone read segments m) → IfOk said (λ
-    t. IsExplained file segments m (bytes t))
-explained_by bytes file segments m found read (Ok t) same theirs is =
-    record { found = found; theirs = theirs; is = is ∙ ap (λ (xs : List Symbol). explanation_alone xs segments m) same }
-explained_by bytes file segments m found read (Err e) same theirs is = tt
+pub explained_by : {T E : Type 0} (bytes : T → List ℕ) (stop : SeenStop) (found read : List Symbol) (said : Result T E)
+    → read ≡ found → AreSymbolsOf stop.file found → IfOk said (λ t. bytes t ≡ said_of read stop) → IfOk said (λ t.
+    IsExplained stop (bytes t))
+explained_by bytes stop found read (Ok t) same theirs is =
+    record { found = found; theirs = theirs; is = is ∙ ap (λ (xs : List Symbol). said_of xs stop) same }
+explained_by bytes stop found read (Err e) same theirs is = tt
+
+-- the same of a line that is what is said
+pub explained_as : {T E : Type 0} (bytes : T → List ℕ) (stop : SeenStop) (found read : List Symbol) (line : List ℕ)
+    (said : Result T E)
+    → read ≡ found → AreSymbolsOf stop.file found → IfOk said (λ t. bytes t ≡ line) → line ≡ said_of read stop → IfOk
+    said (λ t. IsExplained stop (bytes t))
+explained_as bytes stop found read line (Ok t) same theirs is so =
+    record { found = found; theirs = theirs; is = is ∙ so ∙ ap (λ (xs : List Symbol). said_of xs stop) same }
+explained_as bytes stop found read line (Err e) same theirs is so = tt
 
 -- what is said of a failure isn't said of an exit
 pub failure_exit : (ending : Ending) (said text : List ℕ) → (is_failure ending ≡ false → text ≡ said) → IsSilentExit

@@ -1,5 +1,5 @@
 -- What a run comes to without its report, by the answer of its machine.
-use Rattle.std.proofs.Common.{◌≡◌, ℕ, ◌-◌, Bool, true, false, List, [], ◌++◌, Option, Some, None, Result, Ok, Err}
+use Rattle.std.proofs.Common.{◌≡◌, ℕ, ◌-◌, Bool, true, false, List, [], Option, Some, None, Result, Ok, Err}
 use Rattle.std.proofs.Common.{IfErr, IfOk, IfSome, refl, sym, ap, subst, ◌∙◌, append-nil}
 use Rattle.std.proofs.lemmas.Option.{IfSome_then}
 use Rattle.io_gate.specs.Pieces.{puts_nothing}
@@ -13,20 +13,24 @@ use Rattle.emu_run.specs.Run.{run}
 use Rattle.emu_run.specs.RunLaws.{IsRest, until_end_moves}
 use Rattle.emu_machine.specs.Ends.{Becomes, TakesWithin, Puts, run_end, is_broken_off}
 use Rattle.emu_machine.specs.declared.ends.RunEnd.{RunEnd}
-use Rattle.command_lines.specs.Outcome.{Outcome, Files, ending_of, refusal}
+use Rattle.command_lines.specs.Outcome.{Outcome, Files, ending_of, file_at, refusal}
 use Rattle.command_model.specs.CommandLine.{line}
 use Rattle.command_model.specs.declared.command_line.Line.{Line}
 use Rattle.command_model.specs.declared.command_line.WordsFault.{WordsFault}
 use Rattle.command_lines.specs.declared.ending.Ending.{Ending}
 use Rattle.command_lines.specs.declared.ending.Ending.TheVariants.{ImageRefused, OutOfMemory, WordsRefused}
-use Rattle.commands.specs.Endings.{ending_by, ended_by}
+use Rattle.commands.specs.Endings.{ending_by}
 use Rattle.commands.specs.Meets.{Now, now, Meets}
 use Rattle.commands.specs.Promises.{is_failure}
 use Rattle.commands.proofs.Meetings.{IsStop, Stopped, outcome_of_stop, broken_meets, line_meets, nothing_meets}
 use Rattle.commands.proofs.Meetings.{stopped_meets}
 use Rattle.commands.proofs.NamedFiles.{same_outcome, told_so}
 use Rattle.commands.proofs.RunEnds.{broken_is, ending_is}
-use Rattle.tool_run.specs.Unreported.{unreported, unreported_image, unreported_line, unreported_run}
+use Rattle.commands.specs.Programs.{arguments_of}
+use Rattle.commands.specs.declared.program.Program.{Program}
+use Rattle.tool_run.specs.Seconds.{of_image, of_second, program_line}
+use Rattle.tool_run.specs.Unreported.{unreported, unreported_from, unreported_line, unreported_over, unreported_run}
+use Rattle.tool_run.specs.Unreported.{with_read}
 use Rattle.tool_run.proofs.Tellings.{failed_meets}
 
 -- the state in which the run of a machine with this input stops
@@ -110,34 +114,49 @@ module _ (m n : Parts) (budget : ℕ) (end : RunEnd) (pc : ℕ) where
 
 -- ---- what is refused
 
+-- an image, or why there is none
+abbrev Loaded : Type 0
+Loaded = Result Image ElfFault
+
 -- a refusal of which svemu's line is left out
 pub refused_meets : (ending : Ending) (i o e : Option (List ℕ)) → is_failure ending ≡ false → Meets (λ _. Some
     (refusal ending [])) ending (now i o e) (now i o e)
 refused_meets ending i o e fine = let put : Result ℕ ℕ = Ok 0 in line_meets ending [] i o e e put fine (puts_nothing ℕ
     ℕ e 0)
 
-module _ (file : List ℕ) (args : List (List ℕ)) (bits budget pages : ℕ) (r : Result Image ElfFault) where
-  abbrev pub of_image : List ℕ → Option Outcome
-  of_image i = Some (unreported_image file args i bits budget pages r)
-
+module _ (second : Option ℕ) (text bytes : List ℕ) (words : List (List ℕ)) (p : Program) (r : Loaded) where
   pub refused_image : (fault : ElfFault) (i o e : Option (List ℕ)) (result : Ending) → Err fault ≡ r → result ≡
       ImageRefused fault
-      → Meets of_image result (now i o e) (now i o e)
+      → Meets (of_image second text bytes words p r) result (now i o e) (now i o e)
   refused_image fault i o e result is by =
-      subst (λ (x : Ending). Meets of_image x (now i o e) (now i o e)) (sym by)
-      (subst (λ (x : Result Image ElfFault). Meets (λ j. Some (unreported_image file args j bits budget pages x))
+      subst (λ (x : Ending). Meets (of_image second text bytes words p r) x (now i o e) (now i o e)) (sym by)
+      (subst (λ (x : Result Image ElfFault). Meets (of_image second text bytes words p x)
       (ImageRefused fault) (now i o e) (now i o e)) is
       (refused_meets (ImageRefused fault) i o e refl))
 
-  pub opened_image : (image : Image) (m : Parts) (old new : Now) (result : Ending) → Ok image ≡ r → m ≡ opening file
-      image args bits pages
-      → Meets (λ i. Some (unreported_run i (run (with_input m i) budget))) result old new → Meets of_image result old
-      new
+  pub opened_image : (image : Image) (m : Parts) (old new : Now) (result : Ending) → Ok image ≡ r → m ≡ opening bytes
+      image (arguments_of words p) p.length p.pages
+      → Meets (λ i. Some (unreported_from second text i p.budget m)) result old new → Meets (of_image second text bytes
+      words p r) result old new
   opened_image image m old new result is of meets =
-      subst (λ (x : Result Image ElfFault). Meets (λ i. Some (unreported_image file args i bits budget pages x))
-      result old new) is
-      (subst (λ (x : Parts). Meets (λ i. Some (unreported_run i (run (with_input x i) budget))) result old new) of
-      meets)
+      subst (λ (x : Result Image ElfFault). Meets (of_image second text bytes words p x) result old new) is
+      (subst (λ (x : Parts). Meets (λ i. Some (unreported_from second text i p.budget x)) result old new) of meets)
+
+-- a program with a second file, by its line
+program_over : (words : List (List ℕ)) (p : Program) (second : Option ℕ) (files : Files) (i : List ℕ)
+    → with_read (file_at words files p.file) (λ bytes. of_second second bytes words p files i) ≡ unreported_over words
+    (program_line p second) files i
+program_over words p None files i = refl
+program_over words p (Some place) files i = refl
+
+pub met_line : (words : List (List ℕ)) (p : Program) (second : Option ℕ) (told : Option Files) (result : Ending) (old
+    new : Now)
+    → IfSome told (λ files. Meets (λ i. with_read (file_at words files p.file) (λ bytes. of_second second bytes words p
+    files i)) result old new)
+    → IfSome told (λ files. Meets (unreported_over words (program_line p second) files) result old new)
+met_line words p second told result old new meets = IfSome_then told meets (λ files m. same_outcome (λ i. with_read
+    (file_at words files p.file) (λ bytes. of_second second bytes words p files i)) (unreported_over words
+    (program_line p second) files) result old new (program_over words p second files) m)
 
 -- a refused line
 pub refused_line : (words : List (List ℕ)) (told : Option Files) (fault : WordsFault) (i o e : Option (List ℕ))

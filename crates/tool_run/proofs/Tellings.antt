@@ -4,10 +4,10 @@ use Rattle.std.proofs.Common.{Result, Ok, Err, IfSome, MatchBool, cond, refl, sy
 use Rattle.std.proofs.Common.{append-nil, take-append-drop, arith}
 use Rattle.std.proofs.lemmas.Option.{IfSome_then}
 use Rattle.io_gate.specs.Pieces.{PutsAll}
-use Rattle.emu_model.specs.State.{IsPrefix}
 use Rattle.emu_run.specs.RunLaws.{prefix_refl}
 use Rattle.emu_system.specs.Gained.{Gains, GainedFirst}
 use Rattle.command_lines.specs.Outcome.{Outcome, Files, outcome_of_image, outcome_of_line, program_arguments}
+use Rattle.command_lines.specs.Outcome.{outcome_of_schedule, outcome_of_threads}
 use Rattle.command_lines.specs.Outcome.{result_of, with_file, file_at}
 use Rattle.command_lines.specs.declared.ending.Ending.{Ending}
 use Rattle.command_lines.specs.declared.ending.Ending.TheVariants.{ErrorsFault, OutOfMemory, TooLong}
@@ -27,7 +27,11 @@ use Rattle.commands.specs.Promises.{Loses, LostAtMost, Settles}
 use Rattle.commands.proofs.Meetings.{never, no_first, nothing_meets, told}
 use Rattle.commands.proofs.NamedFiles.{told_so}
 use Rattle.tool_run.specs.Tells.{GainedBoth, GainsBoth, Tells}
-use Rattle.tool_run.specs.Unreported.{unreported, unreported_image, unreported_line}
+use Rattle.tool_run.specs.Unreported.{unreported, unreported_image, unreported_line, unreported_schedule, with_read}
+use Rattle.emu_run.specs.Worlds.{World, opened}
+use Rattle.emu_system.specs.Start.{opening}
+use Rattle.guest_schedule.specs.Schedule.{schedule_of_file}
+use Rattle.guest_schedule.specs.declared.schedule.ScheduleFault.{ScheduleFault}
 
 -- ---- a failure in the place of an ending
 
@@ -121,24 +125,40 @@ pub strip : Option Outcome → Option Outcome
 strip None = None
 strip (Some o) = Some (record o { errors = [] })
 
-strip_cond : (b : Bool) (x : Option Outcome) (f g : Option Outcome) → strip f ≡ strip g → strip (cond b x f) ≡ strip
-    (cond b x g)
-strip_cond true x f g same = refl
-strip_cond false x f g same = same
+strip_cond : (b : Bool) (x y f g : Option Outcome) → strip x ≡ strip y → strip f ≡ strip g → strip (cond b x f) ≡ strip
+    (cond b y g)
+strip_cond true x y f g long same = long
+strip_cond false x y f g long same = same
 
 strip_file : (o : Option (List ℕ)) (f g : List ℕ → Option Outcome) → ((bytes : List ℕ) → strip (f bytes) ≡ strip (g
-    bytes)) → strip (with_file o f) ≡ strip (with_file o g)
+    bytes)) → strip (with_read o f) ≡ strip (with_file o g)
+unfolding strip
 strip_file None f g same = refl
-strip_file (Some file) f g same = strip_cond (nat_lt file_limit (length file)) (Some (refusal (TooLong file_limit)
-    (too_long_line file_limit))) (f file) (g file) (same file)
+strip_file (Some file) f g same = strip_cond (nat_lt file_limit (length file)) (Some (refusal (TooLong file_limit) []))
+    (Some (refusal (TooLong file_limit) (too_long_line file_limit))) (f file) (g file) refl (same file)
 
 strip_image : (file : List ℕ) (args : List (List ℕ)) (input : List ℕ) (bits budget pages : ℕ) (r : Result Image
     ElfFault)
-    → strip (Some (unreported_image file args input bits budget pages r)) ≡ strip (Some (outcome_of_image file args
-    input bits budget pages r))
+    → strip (Some (unreported_image None [] file args input bits budget pages r)) ≡ strip (Some (outcome_of_image file
+    args input bits budget pages r))
 unfolding strip
 strip_image file args input bits budget pages (Ok image) = refl
 strip_image file args input bits budget pages (Err fault) = refl
+
+strip_schedule : (input : List ℕ) (budget : ℕ) (w : World) (r : Result (List (ℕ × ℕ)) ScheduleFault)
+    → strip (Some (unreported_schedule input budget w r)) ≡ strip (Some (outcome_of_schedule input budget w r))
+unfolding strip
+strip_schedule input budget w (Ok turns) = refl
+strip_schedule input budget w (Err fault) = refl
+
+strip_threads : (place : ℕ) (text file : List ℕ) (args : List (List ℕ)) (input : List ℕ) (bits budget pages : ℕ) (r :
+    Result Image ElfFault)
+    → strip (Some (unreported_image (Some place) text file args input bits budget pages r)) ≡ strip (Some
+    (outcome_of_threads file text args input bits budget pages r))
+unfolding strip
+strip_threads place text file args input bits budget pages (Ok image) = strip_schedule input budget (opened (opening
+    file image args bits pages)) (schedule_of_file text)
+strip_threads place text file args input bits budget pages (Err fault) = refl
 
 strip_line : (words : List (List ℕ)) (files : Files) (input : List ℕ) (r : Result Line WordsFault)
     → strip (unreported_line words files input r) ≡ strip (outcome_of_line words files input r)
@@ -152,7 +172,9 @@ strip_line words files input (Ok (Dis file)) = refl
 strip_line words files input (Ok (Dbg file script args bits budget pages)) = refl
 strip_line words files input (Ok (Load number)) = refl
 strip_line words files input (Ok (Sweep file args budget pages)) = refl
-strip_line words files input (Ok (Threads file schedule args bits budget pages)) = refl
+strip_line words files input (Ok (Threads file schedule args bits budget pages)) =
+    strip_file (file_at words files file) _ _ (λ bytes. strip_file (file_at words files schedule) _ _ (λ text.
+    strip_threads schedule text bytes (program_arguments words file args) input bits budget pages (elf bytes pages)))
 
 ends_to : (o : Option Outcome) (e : Ending) → EndsAs o e → EndsAs (strip o) e
 unfolding strip

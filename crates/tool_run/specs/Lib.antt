@@ -1,3 +1,6 @@
-pub mod Explains
+pub mod Caused
+pub mod Seconds
+pub mod Still
+pub mod Stops
 pub mod Tells
 pub mod Unreported

@@ -1,11 +1,13 @@
 -- What a run of `svemu-tool` promises.
 use Rattle.std.specs.Prelude.{◌≡◌, ℕ, Bool, true, false, List, [], ◌++◌, filter, map, Option, Some, IfSome}
+use Rattle.std.specs.Prelude.{if◌then◌else◌}
 use Rattle.std.specs.List.Sorted.{IsPermutation}
 use Rattle.elf_symbols.specs.declared.Symbol.{Symbol}
 use Rattle.elf_symbols.specs.Order.{AreInOrder, stands_with}
 use Rattle.elf_symbols.specs.Symbols.{symbols, seen}
 use Rattle.emu_system.specs.declared.image.Segment.{Segment}
-use Rattle.tool_sites.specs.Explanation.{explanation_alone}
+use Rattle.tool_sites.specs.Explanation.{explanation, explanation_alone}
+use Rattle.tool_texts.specs.Explanations.{stuck_line}
 use Rattle.command_lines.specs.Outcome.{Outcome}
 use Rattle.command_lines.specs.declared.ending.Ending.{Ending}
 use Rattle.command_lines.specs.declared.ending.Ending.TheVariants.{Exit}
@@ -48,11 +50,28 @@ pub record AreSymbolsOf (file : List ℕ) (found : List Symbol) : Type 0 where
   pub sorted : AreInOrder found
   pub stable : (x : Symbol) → filter (stands_with x) (map seen found) ≡ filter (stands_with x) (symbols file)
 
--- what is said of a machine that stopped, by the symbols of its file and the segments of its image
-pub record IsExplained (file : List ℕ) (segments : List Segment) (m : Parts) (said : List ℕ) : Type 0 where
+-- what is seen of a run that stopped: the bytes of its file, the segments of its image, its machine, or that of the
+-- thread that took the last step, whether it ran alone, whether it stopped since none of its threads was ready, and its
+-- report
+pub record SeenStop : Type 0 where
+  pub file : List ℕ
+  pub segments : List Segment
+  pub parts : Parts
+  pub alone : Bool
+  pub stuck : Bool
+  pub report : List ℕ
+
+-- what is said of a stop, by symbols
+abbrev pub said_of : List Symbol → SeenStop → List ℕ
+said_of found stop =
+    if stop.alone then explanation_alone found stop.segments stop.parts
+    else (if stop.stuck then stuck_line [] stop.parts.steps else explanation found stop.segments stop.parts)
+
+-- what is said of a stop, by the symbols of its file
+pub record IsExplained (stop : SeenStop) (said : List ℕ) : Type 0 where
   pub found : List Symbol
-  pub theirs : AreSymbolsOf file found
-  pub is : said ≡ explanation_alone found segments m
+  pub theirs : AreSymbolsOf stop.file found
+  pub is : said ≡ said_of found stop
 
 -- nothing is said of an exit
 abbrev pub IsSilentExit : Ending → List ℕ → Type 0

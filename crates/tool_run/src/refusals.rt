@@ -1,6 +1,7 @@
 //! What is said of what is refused or failed: which line stands for which refusal no contract says.
 use command_lines::{WordsFault, WordsWhy};
 use emu_system::ElfFault;
+use guest_schedule::ScheduleFault;
 use std::alloc::{AllocError, Global};
 use tool_lines::{RunLine, ToolFault, ToolOption, ToolWhy};
 use tool_texts::{image_hint, push_file_line, push_value_line};
@@ -60,6 +61,16 @@ pub fn file_text(alloc: Global, name: &str, said: &str) -> Result<String, AllocE
     let mut text = String::new(alloc);
     push_file_line(&mut text, name, said)?;
     Ok(text)
+}
+
+/// What is said of a file that was refused as a schedule. Err is want of memory.
+pub fn schedule_text(
+    alloc: Global,
+    name: &str,
+    fault: ScheduleFault,
+) -> Result<String, AllocError> {
+    let said = format!(in alloc; "is no schedule: {fault}")?;
+    file_text(alloc, name, said.as_str())
 }
 
 /// The option or the variable that says a value, by the option's word.

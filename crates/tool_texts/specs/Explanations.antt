@@ -118,7 +118,7 @@ spent_line text stop =
 abbrev pub call_hint : List ℕ → List ℕ → List ℕ
 call_hint text call =
     ((text ++ codes "svemu: x8 names the call ") ++ call)
-    ++ (codes ", which is refused here: svemu threads runs a program with threads" ++ 10 ∷ [])
+    ++ (codes ", which is refused here: --threads SCHEDULE runs a program with threads" ++ 10 ∷ [])
 
 -- no thread is ready
 abbrev pub stuck_line : List ℕ → ℕ → List ℕ

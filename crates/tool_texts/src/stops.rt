@@ -111,5 +111,5 @@ pub fn push_call_hint(text: &mut String, call: &str) -> Result<(), AllocError>
 {
     text.push_str("svemu: x8 names the call ")?;
     text.push_str(call)?;
-    text.push_str(", which is refused here: svemu threads runs a program with threads\n")
+    text.push_str(", which is refused here: --threads SCHEDULE runs a program with threads\n")
 }

@@ -1,4 +1,4 @@
-use Rattle.std.proofs.Common.{◌∙◌, List, ℕ, map, string_bytes, sym, arith}
+use Rattle.std.proofs.Common.{◌∙◌, map, string_bytes, sym, arith}
 use Rattle.std.proofs.lemmas.List.{length-map}
 use Rattle.tool_lines.proofs.Handed.{none_here}
 use Rattle.tool_lines.proofs.counted.all_place.Goals as goal
