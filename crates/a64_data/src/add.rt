@@ -15,7 +15,7 @@ use core_regs::Core;
 use emu_bits::{Reg, U, extended};
 
 fn sets_flags(op: AddOp) -> bool
-    ensures { result ≡ table.sets_flags op }
+    ensures { result ≡ (table.kind_of op).0 }
 {
     match op {
         AddOp::Add | AddOp::Sub => false,
@@ -24,7 +24,7 @@ fn sets_flags(op: AddOp) -> bool
 }
 
 fn is_sub(op: AddOp) -> bool
-    ensures { result ≡ table.is_sub op }
+    ensures { result ≡ (table.kind_of op).1 }
 {
     match op {
         AddOp::Add | AddOp::Adds => false,

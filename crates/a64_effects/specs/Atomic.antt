@@ -1,4 +1,8 @@
--- Loads and stores of the same bytes as one step.
+-- Loads and stores of the same bytes as one step. From the Arm Architecture Reference Manual for A-profile (DDI 0487),
+-- C6.2 'Alphabetical list of A64 base instructions': the operations of the entries LDADD, LDCLR, LDEOR, LDSET, LDSMAX,
+-- LDSMIN, LDUMAX, LDUMIN, SWP and CAS, with the shared pseudocode MemAtomic and MemAtomicCompareAndSwap. That a refusal
+-- of the load comes before one of the store is what ESR_EL1.WnR tells of such an instruction; that a comparison which
+-- fails has to be allowed to write, too, is this project's own choice.
 use Rattle.std.specs.Prelude.{ℕ, ◌+◌, ◌*◌, ◌%◌, ◌^◌, Bool, true, false, if◌then◌else◌, [], ◌∷◌, Option, Some, None, max, min, bit_and, bit_or, bit_xor, int_le}
 use Rattle.a64_insn.specs.declared.ops.AtomicOp.{AtomicOp}
 use Rattle.a64_insn.specs.declared.ops.AtomicOp.TheVariants.{Ldadd, Ldclr, Ldeor, Ldset, Ldsmax, Ldsmin, Ldumax, Ldumin, Swp}
@@ -7,10 +11,9 @@ use Rattle.emu_bits.specs.Operations.{complement}
 use Rattle.emu_model.specs.declared.access.Access.{Access}
 use Rattle.emu_model.specs.declared.access.Kind.TheVariants.{Read as ReadKind, Write as WriteKind}
 use Rattle.emu_model.specs.declared.trap.TrapKind.TheVariants.{Read, Write}
-use Rattle.emu_model.specs.declared.trap.Effect.TheVariants.{Next}
 use Rattle.emu_model.specs.Access.{Memory, refused, stored, value}
 use Rattle.emu_model.specs.State.{Core, Vectors, read_x}
-use Rattle.emu_model.specs.Done.{Done, traps}
+use Rattle.emu_model.specs.Done.{Done, went_well, traps}
 
 -- the low n bytes of a register
 abbrev pub low_bytes : ℕ → Core → ℕ → ℕ
@@ -40,16 +43,18 @@ written_at a n = record { address = a; bytes = n; write = true }
 
 -- the new value is stored, if there is one
 abbrev pub exchanged : ℕ → ℕ → Option ℕ → Core → Vectors → Memory → Done
-exchanged a n None c w m = record { core = c; vectors = w; memory = m; accesses = read_at a n ∷ []; effect = Next }
-exchanged a n (Some x) c w m = record { core = c; vectors = w; memory = stored m a n x; accesses = read_at a n ∷ written_at a n ∷ []; effect = Next }
+exchanged a n None c v m = record (went_well c v m) { accesses = read_at a n ∷ [] }
+exchanged a n (Some x) c v m =
+    record (went_well c v (stored m a n x)) { accesses = read_at a n ∷ written_at a n ∷ [] }
 
 -- the bytes have to be readable, and then writable, whether or not they are written
 abbrev pub unless_refused : Option ℕ → Option ℕ → Core → Vectors → Memory → Done → Done
-unless_refused (Some a) written c w m d = traps c w m Read a
-unless_refused None (Some a) c w m d = traps c w m Write a
-unless_refused None None c w m d = d
+unless_refused (Some a) written c v m d = traps c v m Read a
+unless_refused None (Some a) c v m d = traps c v m Write a
+unless_refused None None c v m d = d
 
 -- n bytes at an address with their new value, if they get one, and the registers, both by the old value
 abbrev pub one_step : ℕ → ℕ → (ℕ → Option ℕ) → (ℕ → Core) → Core → Vectors → Memory → Done
-one_step a n new after c w m =
-    unless_refused (refused m a n ReadKind) (refused m a n WriteKind) c w m (exchanged a n (new (value m a n)) (after (value m a n)) w m)
+one_step a n new after c v m =
+    unless_refused (refused m a n ReadKind) (refused m a n WriteKind) c v m
+    (exchanged a n (new (value m a n)) (after (value m a n)) v m)

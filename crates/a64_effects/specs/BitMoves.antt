@@ -1,4 +1,7 @@
--- Copies of bits between general and vector registers, and immediates to vector registers.
+-- Copies of bits between general and vector registers, and immediates to vector registers. From the Arm Architecture
+-- Reference Manual for A-profile (DDI 0487), C7.2 'Alphabetical list of A64 Advanced SIMD and floating-point
+-- instructions': the operations of the entries FMOV (general), MOVI and MVNI, with the shared pseudocode
+-- AdvSIMDExpandImm.
 use Rattle.std.specs.Prelude.{ℕ, ◌+◌, ◌-◌, ◌*◌, ◌/◌, ◌%◌, ◌^◌, Bool, ◌&&◌, nat_lt, if◌then◌else◌}
 use Rattle.a64_insn.specs.declared.ops.FMoveOp.{FMoveOp}
 use Rattle.a64_insn.specs.declared.ops.FMoveOp.TheVariants.{WdSn, SdWn, XdDn, DdXn}
@@ -31,8 +34,8 @@ with_ones i s = i * 2 ^ s + (2 ^ s - 1)
 abbrev pub spread : ℕ → ℕ
 spread i = number_of_bytes 8 (λ k. 255 * (i / 2 ^ k % 2))
 
--- 64 bits of a byte i by cmode: 0, 2, 4, 6 shifted by 4·cmode in each 32 bits; 8, 10 shifted by 0 or 8 in each 16 bits; 12, 13
--- shifted by 8 or 16, ones below, in each 32 bits; 14 in each byte, or spread where op is set
+-- 64 bits of a byte i by cmode: 0, 2, 4, 6 shifted by 4·cmode in each 32 bits; 8, 10 shifted by 0 or 8 in each 16 bits;
+-- 12, 13 shifted by 8 or 16, ones below, in each 32 bits; 14 in each byte, or spread where op is set
 abbrev pub placed : Bool → ℕ → ℕ → ℕ
 placed op cmode i =
     if nat_lt cmode 8 then repeated 32 (i * 2 ^ (4 * cmode)) 2
@@ -45,5 +48,5 @@ abbrev pub move_value : Bool → ℕ → ℕ → ℕ
 move_value op cmode i = if op && nat_lt cmode 14 then complement 64 (placed op cmode i) else placed op cmode i
 
 -- the low 128 bits of a vector register, or 64 where q isn't set, and zeros above
-abbrev pub moved : Bool → ℕ → ℕ → Vectors → Vectors
-moved q x rd v = with_low (if q then 128 else 64) (repeated 64 x 2) rd v
+abbrev pub with_immediate : Bool → ℕ → ℕ → Vectors → Vectors
+with_immediate q x rd v = with_low (if q then 128 else 64) (repeated 64 x 2) rd v

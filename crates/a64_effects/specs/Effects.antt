@@ -1,4 +1,5 @@
--- What an A64 instruction makes of the registers and the memory, by its operation.
+-- What an A64 instruction makes of the registers and the memory, by its operation. The kinds of operations are this
+-- project's own; what an instruction does is from the entries of the Arm manual that the files below this one name.
 use Rattle.a64_insn.specs.declared.form.A64Form.{A64Form}
 use Rattle.emu_model.specs.Access.{Memory}
 use Rattle.emu_model.specs.Done.{Done, quietly, went_well, went_on_with}

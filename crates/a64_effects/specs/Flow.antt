@@ -1,4 +1,8 @@
--- Branches, exceptions, and the system's instructions.
+-- Branches, exceptions, and the system's instructions. From the Arm Architecture Reference Manual for A-profile
+-- (DDI 0487), C6.2 'Alphabetical list of A64 base instructions': the operations of the entries of branches, exceptions
+-- (SVC, BRK, HLT), MRS, MSR and barriers, with NZCV, TPIDR_EL0 and DCZID_EL0 as the manual describes these registers.
+-- That DC ZVA isn't allowed, that accesses are in order, and that an exception is a trap or a call of Linux is this
+-- project's own choice.
 use Rattle.std.specs.Prelude.{ℕ, ◌+◌, ◌*◌, ◌/◌, ◌%◌, ◌^◌, Bool, not, None, nat_eq, if◌then◌else◌, ℤ, pos, ◌+ℤ◌, ◌*ℤ◌}
 use Rattle.a64_insn.specs.declared.ops.BranchOp.{BranchOp}
 use Rattle.a64_insn.specs.declared.ops.BranchOp.TheVariants.{B, Bl}
@@ -59,8 +63,8 @@ branches_if taken a = if taken then Branch a else Next
 -- ---- the conditions of branches
 
 abbrev pub is_taken : CompareOp → ℕ → Bool
-is_taken Cbz v = nat_eq v 0
-is_taken Cbnz v = not (nat_eq v 0)
+is_taken Cbz x = nat_eq x 0
+is_taken Cbnz x = not (nat_eq x 0)
 
 -- the number of the bit that is tested: b5:b40
 abbrev pub tested_bit : Bool → ℕ → ℕ
@@ -68,7 +72,7 @@ tested_bit b5 b40 = 32 * bit b5 + b40
 
 -- the digit of place k in base 2
 abbrev pub digit : ℕ → ℕ → ℕ
-digit v k = v / 2 ^ k % 2
+digit x k = x / 2 ^ k % 2
 
 abbrev pub is_taken_by : TestOp → ℕ → Bool
 is_taken_by Tbz d = nat_eq d 0
@@ -87,8 +91,8 @@ system_value Nzcv c = number_of_flags c.flags
 system_value Dczid c = 16
 
 abbrev pub with_system_value : WriteSysOp → ℕ → Core → Core
-with_system_value WriteTpidr v c = record c { tpidr = v }
-with_system_value WriteNzcv v c = record c { flags = flags_of_number (v / 2 ^ 28 % 16) }
+with_system_value WriteTpidr x c = record c { tpidr = x }
+with_system_value WriteNzcv x c = record c { flags = flags_of_number (x / 2 ^ 28 % 16) }
 
 -- ---- exceptions and barriers
 

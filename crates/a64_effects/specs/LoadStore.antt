@@ -1,26 +1,31 @@
--- Loads and stores: what a row says of its access, and what an access leaves.
+-- Loads and stores: what a row says of its access, and what an access leaves. From the Arm Architecture Reference
+-- Manual for A-profile (DDI 0487), C6.2 'Alphabetical list of A64 base instructions', and of vector registers C7.2: the
+-- operations of the entries of loads and stores, with the shared pseudocode CheckSPAlignment,
+-- AArch64.SetExclusiveMonitors and AArch64.ExclusiveMonitorsPass. This project's own choice, where the manual leaves it
+-- open, is that accesses but exclusive, ordered and atomic ones may stand anywhere, that a monitor keeps one address
+-- and one size, and what an access has done that is refused in part.
 use Rattle.std.specs.Prelude.{ℕ, ◌+◌, ◌*◌, ◌%◌, ◌^◌, Bool, true, false, not, ◌&&◌, ◌||◌, List, [], ◌∷◌, Option, Some, None, nat_eq, nat_le, if◌then◌else◌, pos, ◌*ℤ◌}
+use Rattle.std.specs.Option.{option_map_or}
 use Rattle.a64_insn.specs.declared.ops.OrderedOp.{OrderedOp}
 use Rattle.a64_insn.specs.declared.ops.OrderedOp.TheVariants.{Stlr, Ldar}
 use Rattle.emu_bits.specs.Fields.{bit}
 use Rattle.emu_bits.specs.Numbers.{signed, sign_extended, extended}
 use Rattle.emu_model.specs.declared.access.Kind.TheVariants.{Read as ReadKind, Write as WriteKind}
 use Rattle.emu_model.specs.declared.trap.TrapKind.TheVariants.{SpAlign, AccessAlign, Read, Write}
-use Rattle.emu_model.specs.declared.trap.Effect.TheVariants.{Next, Trap}
 use Rattle.emu_model.specs.Access.{Memory, address, value}
 use Rattle.emu_model.specs.Lanes.{lane, read_z, with_low}
 use Rattle.emu_model.specs.State.{Core, Vectors, read_x, read_x_sp, with_x, with_x_sp}
 use Rattle.a64_effects.specs.declared.transfer.Transfer.{Transfer}
 use Rattle.a64_effects.specs.declared.transfer.Transfer.TheVariants.{Store, Load, LoadSigned, LoadSigned32, Prefetch, StoreVector, LoadVector}
-use Rattle.emu_model.specs.Done.{Done, Registers, traps}
+use Rattle.emu_model.specs.Done.{Done, Registers, leaves, traps, as_far}
 use Rattle.emu_model.specs.Elements.{Element, Reach, reach, with_stored, accesses_of}
 use Rattle.a64_effects.specs.Atomic.{one_step}
 use Rattle.a64_effects.specs.Flow.{offset}
 
 -- ---- what is moved
 
--- of a general register by size and opc: stores, loads with zeros above, loads with the sign to 64 bits (at size 3 a prefetch), and to
--- 32 bits
+-- of a general register by size and opc: stores, loads with zeros above, loads with the sign to 64 bits (at size 3 a
+-- prefetch), and to 32 bits
 abbrev pub general_transfer : ℕ → ℕ → Transfer
 general_transfer size opc =
     if nat_eq opc 0 then Store
@@ -34,11 +39,11 @@ vector_transfer opc = if nat_eq (opc % 2) 0 then StoreVector else LoadVector
 
 -- V tells which register it is
 abbrev pub transfer : Bool → ℕ → ℕ → Transfer
-transfer v size opc = if v then vector_transfer opc else general_transfer size opc
+transfer vector size opc = if vector then vector_transfer opc else general_transfer size opc
 
 -- 2^size bytes, and 16 of a vector register where opc is 2 or 3
 abbrev pub access_bytes : Bool → ℕ → ℕ → ℕ
-access_bytes v size opc = if v && nat_le 2 opc then 16 else 2 ^ size
+access_bytes vector size opc = if vector && nat_le 2 opc then 16 else 2 ^ size
 
 -- S, D and Q registers by opc
 abbrev pub vector_bytes : ℕ → ℕ
@@ -46,19 +51,20 @@ vector_bytes opc = if nat_eq opc 0 then 4 else (if nat_eq opc 1 then 8 else 16)
 
 -- of a literal by opc: ldr W, ldr X, ldrsw, prfm, and ldr of vector registers
 abbrev pub literal_transfer : Bool → ℕ → Transfer
-literal_transfer v opc = if v then LoadVector else (if nat_eq opc 2 then LoadSigned else (if nat_eq opc 3 then Prefetch else Load))
+literal_transfer vector opc =
+    if vector then LoadVector else (if nat_eq opc 2 then LoadSigned else (if nat_eq opc 3 then Prefetch else Load))
 
 abbrev pub literal_bytes : Bool → ℕ → ℕ
-literal_bytes v opc = if v then vector_bytes opc else (if nat_eq opc 1 then 8 else 4)
+literal_bytes vector opc = if vector then vector_bytes opc else (if nat_eq opc 1 then 8 else 4)
 
 -- of a pair by opc and L: W registers, ldpsw, X registers, and vector registers
 abbrev pub pair_transfer : Bool → ℕ → Bool → Transfer
-pair_transfer v opc l =
-    if v then (if l then LoadVector else StoreVector)
+pair_transfer vector opc l =
+    if vector then (if l then LoadVector else StoreVector)
     else (if l then (if nat_eq opc 1 then LoadSigned else Load) else Store)
 
 abbrev pub pair_bytes : Bool → ℕ → ℕ
-pair_bytes v opc = if v then vector_bytes opc else (if nat_eq opc 2 then 8 else 4)
+pair_bytes vector opc = if vector then vector_bytes opc else (if nat_eq opc 2 then 8 else 4)
 
 abbrev pub ordered_transfer : OrderedOp → Transfer
 ordered_transfer Stlr = Store
@@ -88,20 +94,20 @@ writes_back mode = nat_eq mode 1 || nat_eq mode 3
 
 -- ---- the elements
 
--- the register that is moved, and none by a prefetch
-abbrev pub moved : Transfer → ℕ → List ℕ
-moved Prefetch rt = []
-moved t rt = rt ∷ []
+-- the register that is loaded or stored, and none by a prefetch
+abbrev pub registers_of : Transfer → ℕ → List ℕ
+registers_of Prefetch rt = []
+registers_of t rt = rt ∷ []
 
 -- the exclusive monitor keeps this address and this size
 abbrev pub is_kept : Option (ℕ × ℕ) → ℕ → ℕ → Bool
-is_kept None a n = false
-is_kept (Some k) a n = nat_eq k.0 a && nat_eq k.1 n
+is_kept monitor a n = option_map_or (λ k. nat_eq k.0 a && nat_eq k.1 n) monitor false
 
 -- an element of n bytes for each register: the first at an address, and each other one behind the one before
 abbrev pub elements_from : List ℕ → ℕ → ℕ → List Element
 elements_from [] a n = []
-elements_from (r ∷ rs) a n = record { lane = 0; register = r; address = a; bytes = n } ∷ elements_from rs (address (a + n)) n
+elements_from (r ∷ rs) a n =
+    record { lane = 0; register = r; address = a; bytes = n } ∷ elements_from rs (address (a + n)) n
 
 -- ---- the tests before the access
 
@@ -126,9 +132,9 @@ misaligned is_aligned a n = if is_aligned then unless_multiple a n else None
 
 -- what a load of n bytes puts into its register
 abbrev pub loaded_value : Transfer → ℕ → ℕ → ℕ
-loaded_value LoadSigned n v = sign_extended 64 (8 * n) v
-loaded_value LoadSigned32 n v = sign_extended 32 (8 * n) v
-loaded_value t n v = v
+loaded_value LoadSigned n x = sign_extended 64 (8 * n) x
+loaded_value LoadSigned32 n x = sign_extended 32 (8 * n) x
+loaded_value t n x = x
 
 -- the element's register is a vector register
 abbrev pub is_vector : Transfer → Bool
@@ -136,11 +142,12 @@ is_vector StoreVector = true
 is_vector LoadVector = true
 is_vector t = false
 
--- the registers with n bytes of value x loaded to register rt: the low bytes of a vector register, with zeros above, or a general register
+-- the registers with n bytes of value x loaded to register rt: the low bytes of a vector register, with zeros above, or
+-- a general register
 abbrev pub with_element : Transfer → ℕ → ℕ → ℕ → Registers → Registers
 with_element t rt n x r =
-    if is_vector t then record { core = r.core; vectors = with_low (8 * n) x rt r.vectors }
-    else record { core = with_x r.core rt 64 (loaded_value t n x); vectors = r.vectors }
+    if is_vector t then leaves r.core (with_low (8 * n) x rt r.vectors)
+    else leaves (with_x r.core rt 64 (loaded_value t n x)) r.vectors
 
 -- the same of elements in order
 abbrev pub with_loaded : Transfer → Memory → List Element → Registers → Registers
@@ -149,7 +156,7 @@ with_loaded t m (e ∷ es) r = with_loaded t m es (with_element t e.register e.b
 
 -- what a store takes its bytes from: the low 128 bits of a vector register, or a general register
 abbrev pub stored_value : Transfer → Core → Vectors → ℕ → ℕ
-stored_value t c w rt = if is_vector t then lane 128 (read_z w rt) 0 else read_x c rt
+stored_value t c v rt = if is_vector t then lane 128 (read_z v rt) 0 else read_x c rt
 
 -- the registers as they are
 abbrev pub unchanged : Core → Core
@@ -171,38 +178,34 @@ abbrev pub after_exclusive : ℕ → Bool → Core → Core
 after_exclusive rs done c = record (with_x c rs 32 (bit (not done))) { monitor = None }
 
 -- a store that is refused has stored the elements before
-abbrev pub store_as_far : Transfer → Option ℕ → List Element → (Core → Core) → Core → Vectors → Memory → Done
-store_as_far t None es after c w m = record { core = after c; vectors = w; memory = with_stored (λ e. stored_value t c w e.register) es m; accesses = accesses_of true es; effect = Next }
-store_as_far t (Some a) es after c w m = record { core = c; vectors = w; memory = with_stored (λ e. stored_value t c w e.register) es m; accesses = accesses_of true es; effect = Trap (record { kind = Write; address = a }) }
+abbrev pub stored_to : Transfer → Reach → (Core → Core) → Core → Vectors → Memory → Done
+stored_to t r after c v m =
+    as_far r.stop Write (accesses_of true r.done) (leaves c v) (leaves (after c) v)
+    (with_stored (λ e. stored_value t c v e.register) r.done m)
 
--- a load that is done leaves these registers, and what comes behind
-abbrev pub went_with : Registers → (Core → Core) → List Element → Memory → Done
-went_with r after es m = record { core = after r.core; vectors = r.vectors; memory = m; accesses = accesses_of false es; effect = Next }
+-- what comes behind a load that is done
+abbrev pub behind_load : (Core → Core) → Registers → Registers
+behind_load after r = leaves (after r.core) r.vectors
 
 -- a load that is refused changes no register
-abbrev pub load_as_far : Transfer → Option ℕ → List Element → (Core → Core) → Core → Vectors → Memory → Done
-load_as_far t None es after c w m = went_with (with_loaded t m es (record { core = c; vectors = w })) after es m
-load_as_far t (Some a) es after c w m = record { core = c; vectors = w; memory = m; accesses = accesses_of false es; effect = Trap (record { kind = Read; address = a }) }
-
-abbrev pub stored_to : Transfer → Reach → (Core → Core) → Core → Vectors → Memory → Done
-stored_to t r after c w m = store_as_far t r.stop r.done after c w m
-
 abbrev pub loaded_to : Transfer → Reach → (Core → Core) → Core → Vectors → Memory → Done
-loaded_to t r after c w m = load_as_far t r.stop r.done after c w m
+loaded_to t r after c v m =
+    as_far r.stop Read (accesses_of false r.done) (leaves c v)
+    (behind_load after (with_loaded t m r.done (leaves c v))) m
 
 -- elements stored or loaded one after the other, and what comes after them
 abbrev pub transferred : Transfer → List Element → (Core → Core) → Core → Vectors → Memory → Done
-transferred Store es after c w m = stored_to Store (reach m WriteKind es) after c w m
-transferred StoreVector es after c w m = stored_to StoreVector (reach m WriteKind es) after c w m
-transferred t es after c w m = loaded_to t (reach m ReadKind es) after c w m
+transferred Store es after c v m = stored_to Store (reach m WriteKind es) after c v m
+transferred StoreVector es after c v m = stored_to StoreVector (reach m WriteKind es) after c v m
+transferred t es after c v m = loaded_to t (reach m ReadKind es) after c v m
 
 abbrev pub unless_misaligned : Option ℕ → Core → Vectors → Memory → Done → Done
-unless_misaligned (Some a) c w m d = traps c w m AccessAlign a
-unless_misaligned None c w m d = d
+unless_misaligned (Some a) c v m d = traps c v m AccessAlign a
+unless_misaligned None c v m d = d
 
 -- the tests in their order: the alignment of SP where it is the base, and that of the address
 abbrev pub tested : Bool → Option ℕ → Core → Vectors → Memory → Done → Done
-tested has at c w m d = if is_misaligned has c then traps c w m SpAlign c.sp else unless_misaligned at c w m d
+tested has at c v m d = if is_misaligned has c then traps c v m SpAlign c.sp else unless_misaligned at c v m d
 
 -- ---- the rows
 
@@ -224,7 +227,9 @@ pub record Transferring : Type 0 where
   pub behind : Core → Core
 
 abbrev pub transferred_by : Transferring → Core → Vectors → Memory → Done
-transferred_by r c w m = tested r.tests_sp (misaligned r.is_aligned r.address r.bytes) c w m (transferred r.transfer (elements_from r.registers r.address r.bytes) r.behind c w m)
+transferred_by r c v m =
+    tested r.tests_sp (misaligned r.is_aligned r.address r.bytes) c v m
+    (transferred r.transfer (elements_from r.registers r.address r.bytes) r.behind c v m)
 
 -- A row that loads and stores the same bytes as one step, by the registers before it.
 pub record Exchanging : Type 0 where
@@ -237,4 +242,5 @@ pub record Exchanging : Type 0 where
   pub behind : ℕ → Core
 
 abbrev pub exchanged_by : Exchanging → Core → Vectors → Memory → Done
-exchanged_by r c w m = tested r.tests_sp (unless_multiple r.address r.bytes) c w m (one_step r.address r.bytes r.new r.behind c w m)
+exchanged_by r c v m =
+    tested r.tests_sp (unless_multiple r.address r.bytes) c v m (one_step r.address r.bytes r.new r.behind c v m)

@@ -1,4 +1,7 @@
--- What instructions make of the values of scalar registers, and of the flags.
+-- What instructions make of the values of scalar registers, and of the flags. From the Arm Architecture Reference
+-- Manual for A-profile (DDI 0487), C6.2 'Alphabetical list of A64 base instructions': the operations of the entries of
+-- data processing, with the shared pseudocode of J1 (AddWithCarry, ShiftReg, ExtendReg, DecodeBitMasks,
+-- ConditionHolds).
 use Rattle.std.specs.Prelude.{ℕ, ◌+◌, ◌*◌, ◌/◌, ◌%◌, ◌^◌, Bool, true, false, bit_and, bit_or, bit_xor, if◌then◌else◌, ℤ, pos, ◌+ℤ◌, ◌*ℤ◌}
 use Rattle.a64_insn.specs.declared.ops.AdrOp.{AdrOp}
 use Rattle.a64_insn.specs.declared.ops.AdrOp.TheVariants.{Adr as AdrByte, Adrp}
@@ -63,19 +66,12 @@ adr_target Adrp pc i = unsigned_int (pos (pc / 4096 * 4096) +ℤ pos 4096 *ℤ i
 
 -- ---- sums
 
--- the names with s
-abbrev pub sets_flags : AddOp → Bool
-sets_flags Add = false
-sets_flags Adds = true
-sets_flags Sub = false
-sets_flags Subs = true
-
--- the names of differences
-abbrev pub is_sub : AddOp → Bool
-is_sub Add = false
-is_sub Adds = false
-is_sub Sub = true
-is_sub Subs = true
+-- whether a name sets the flags, and whether it is of a difference
+abbrev pub kind_of : AddOp → Bool × Bool
+kind_of Add = (false, false)
+kind_of Adds = (true, false)
+kind_of Sub = (false, true)
+kind_of Subs = (true, true)
 
 -- the second operand of a sum, or its complement in a difference
 abbrev pub addend : Bool → ℕ → ℕ → ℕ
@@ -88,7 +84,7 @@ after_sum sets w rd a b carry c = with_flags sets (flags_of_sum w a b carry) (wi
 
 -- an add is a + b, and a sub is a + NOT b + 1
 abbrev pub after_add : AddOp → ℕ → ℕ → ℕ → ℕ → Core → Core
-after_add op w rd a b c = after_sum (sets_flags op) w rd a (addend (is_sub op) w b) (is_sub op) c
+after_add op w rd a b c = after_sum (kind_of op).0 w rd a (addend (kind_of op).1 w b) (kind_of op).1 c
 
 -- the same, where Rd 31 is SP but in the forms with s
 abbrev pub after_add_sp : AddOp → ℕ → ℕ → ℕ → ℕ → Core → Core
@@ -112,7 +108,7 @@ after_add_carry Sbcs w rd a b c = after_sum true w rd a (complement w b) c.flags
 
 -- Rd is a value, and N and Z are its, where the flags are set
 abbrev pub after_logic : Bool → ℕ → ℕ → ℕ → Core → Core
-after_logic sets w rd v c = with_flags sets (flags_of_result w v) (with_x c rd w v)
+after_logic sets w rd x c = with_flags sets (flags_of_result w x) (with_x c rd w x)
 
 -- the second of each pair takes the complement of b
 abbrev pub after_logic_reg : LogicRegOp → ℕ → ℕ → ℕ → ℕ → Core → Core
@@ -135,20 +131,21 @@ after_logic_imm AndsImm w rd a m c = after_logic true w rd (bit_and a m) c
 -- ---- moves
 
 -- what a move of a 16-bit immediate to place s writes: NOT of it, it, or the old value with that field replaced
-abbrev pub moved : MoveWideOp → ℕ → ℕ → ℕ → ℕ → ℕ
-moved Movn w imm s old = complement w (lsl w imm s)
-moved Movz w imm s old = lsl w imm s
-moved Movk w imm s old = replaced old s 16 imm
+abbrev pub wide_moved : MoveWideOp → ℕ → ℕ → ℕ → ℕ → ℕ
+wide_moved Movn w imm s old = complement w (lsl w imm s)
+wide_moved Movz w imm s old = lsl w imm s
+wide_moved Movk w imm s old = replaced old s 16 imm
 
--- a field of n bits v moved to a place: the other bits are copies of its top bit above and 0 below, the old ones, or 0
+-- a field x of n bits moved to a place: the other bits are copies of its top bit above and 0 below, the old ones, or 0
 abbrev pub bitfield_moved : BitfieldOp → ℕ → ℕ → ℕ → ℕ → ℕ → ℕ
-bitfield_moved Sbfm w place n v old = sign_extended w n v * 2 ^ place
-bitfield_moved Bfm w place n v old = replaced old place n v
-bitfield_moved Ubfm w place n v old = v * 2 ^ place
+bitfield_moved Sbfm w place n x old = sign_extended w n x * 2 ^ place
+bitfield_moved Bfm w place n x old = replaced old place n x
+bitfield_moved Ubfm w place n x old = x * 2 ^ place
 
 -- Rd, with the n bits from a place on of Rn moved to another
 abbrev pub after_field : BitfieldOp → ℕ → ℕ → ℕ → ℕ → ℕ → ℕ → Core → Core
-after_field op w rn rd from n to c = with_x c rd w (bitfield_moved op w to n (field (operand w c rn) from n) (operand w c rd))
+after_field op w rn rd from n to c =
+    with_x c rd w (bitfield_moved op w to n (field (operand w c rn) from n) (operand w c rd))
 
 -- where s ≥ r, bits s:r of Rn go to place 0, else bits s:0 go to place w - r
 abbrev pub after_bitfield : BitfieldOp → ℕ → ℕ → ℕ → ℕ → ℕ → Core → Core
@@ -170,7 +167,8 @@ otherwise Csneg w b = difference w 0 b
 
 -- the flags of the compare where the condition holds, else those of a number
 abbrev pub after_compare : CondCompareOp → ℕ → ℕ → ℕ → ℕ → ℕ → Core → Core
-after_compare op w a b cond f c = record c { flags = if cond_holds (cond_of cond) c.flags then compared op w a b else flags_of_number f }
+after_compare op w a b cond f c =
+    record c { flags = if cond_holds (cond_of cond) c.flags then compared op w a b else flags_of_number f }
 
 -- ---- products and quotients
 

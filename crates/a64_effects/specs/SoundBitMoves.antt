@@ -11,7 +11,7 @@ use Rattle.emu_model.specs.State.{Core, Vectors, read_x}
 use Rattle.emu_model.specs.SoundState.{IsSoundCore, IsSoundVectors}
 use Rattle.emu_model.specs.Lanes.{lane, read_z}
 use Rattle.emu_model.specs.SoundLanes.{sound_low}
-use Rattle.a64_effects.specs.BitMoves.{copied, moved}
+use Rattle.a64_effects.specs.BitMoves.{copied, with_immediate}
 
 module _ (c : Core) (v : Vectors) (s : IsSoundCore c) (u : IsSoundVectors v) where
   pub copied_sound : (op : FMoveOp) (rn rd : ℕ) → IsSoundRegisters (copied op rn rd c v)
@@ -20,5 +20,5 @@ module _ (c : Core) (v : Vectors) (s : IsSoundCore c) (u : IsSoundVectors v) whe
   copied_sound XdDn rn rd = record { core = with_x_sound c rd 64 (lane 64 (read_z v rn) 0) (omega arith) s; vectors = u }
   copied_sound DdXn rn rd = record { core = s; vectors = sound_low 64 (read_x c rn) rd v u }
 
-  pub moved_sound : (q : Bool) (x rd : ℕ) → IsSoundRegisters (leaves c (moved q x rd v))
-  moved_sound q x rd = record { core = s; vectors = sound_low (if q then 128 else 64) (repeated 64 x 2) rd v u }
+  pub immediate_sound : (q : Bool) (x rd : ℕ) → IsSoundRegisters (leaves c (with_immediate q x rd v))
+  immediate_sound q x rd = record { core = s; vectors = sound_low (if q then 128 else 64) (repeated 64 x 2) rd v u }

@@ -3,21 +3,21 @@ use Rattle.std.specs.Prelude.{ℕ, ◌*◌, ◌%◌, Bool, true, false, not, Lis
 use Rattle.std.proofs.Common.{arith}
 use Rattle.emu_bits.specs.Fields.{bit}
 use Rattle.emu_model.specs.declared.access.Kind.TheVariants.{Read as ReadKind, Write as WriteKind}
-use Rattle.emu_model.specs.declared.trap.TrapKind.TheVariants.{SpAlign, AccessAlign}
+use Rattle.emu_model.specs.declared.trap.TrapKind.TheVariants.{SpAlign, AccessAlign, Read, Write}
 use Rattle.emu_model.specs.Access.{Memory, value}
 use Rattle.emu_model.specs.Sound.{with_x_sound, with_x_sp_sound, monitor_sound}
 use Rattle.emu_model.specs.State.{Core, Vectors, with_x}
 use Rattle.emu_model.specs.SoundState.{IsWord, IsSoundCore, IsSoundVectors, IsSoundMemory}
-use Rattle.emu_model.specs.Done.{Done, Registers, traps}
+use Rattle.emu_model.specs.Done.{Done, Registers, leaves, traps}
 use Rattle.emu_model.specs.Lanes.{with_low}
 use Rattle.emu_model.specs.SoundLanes.{sound_low}
-use Rattle.emu_model.specs.Elements.{Element, reach}
+use Rattle.emu_model.specs.Elements.{Element, Reach, reach, with_stored, accesses_of}
 use Rattle.emu_model.specs.SoundElements.{stop_is_word, with_stored_sound}
 use Rattle.a64_effects.specs.declared.transfer.Transfer.{Transfer}
 use Rattle.a64_effects.specs.declared.transfer.Transfer.TheVariants.{Store, Load, LoadSigned, LoadSigned32, Prefetch, StoreVector, LoadVector}
-use Rattle.a64_effects.specs.LoadStore.{Transferring, Exchanging, elements_from, is_misaligned, unless_multiple, misaligned, loaded_value, is_vector, with_element, with_loaded, stored_value, written_back, written_back_if, keeping, after_exclusive, store_as_far, went_with, load_as_far, stored_to, loaded_to, transferred, unless_misaligned, tested, transferred_by, exchanged_by}
+use Rattle.a64_effects.specs.LoadStore.{Transferring, Exchanging, elements_from, is_misaligned, unless_multiple, misaligned, loaded_value, is_vector, with_element, with_loaded, stored_value, written_back, written_back_if, keeping, after_exclusive, behind_load, stored_to, loaded_to, transferred, unless_misaligned, tested, transferred_by, exchanged_by}
 use Rattle.a64_effects.specs.Atomic.{one_step}
-use Rattle.emu_model.specs.SoundDone.{IsSoundDone, IsSoundRegisters, traps_sound}
+use Rattle.emu_model.specs.SoundDone.{IsSoundDone, IsSoundRegisters, traps_sound, as_far_sound}
 use Rattle.a64_effects.specs.SoundAtomic.{one_step_sound}
 
 -- ---- what is loaded
@@ -72,22 +72,21 @@ pub record IsSoundExchanging (r : Exchanging) : Type 0 where
 
 module _ (c : Core) (x : Vectors) (m : Memory) (s : IsSoundCore c) (y : IsSoundVectors x) (t : IsSoundMemory m) where
   module _ (after : Core → Core) (keeps : (d : Core) → IsSoundCore d → IsSoundCore (after d)) where
-    store_sound : (transfer : Transfer) (stop : Option ℕ) (es : List Element) → IfSome stop IsWord → IsSoundDone (store_as_far transfer stop es after c x m)
-    store_sound transfer None es w = record { core = keeps c s; vectors = y; memory = with_stored_sound (λ e. stored_value transfer c x e.register) es m t; effect = tt }
-    store_sound transfer (Some a) es w = record { core = s; vectors = y; memory = with_stored_sound (λ e. stored_value transfer c x e.register) es m t; effect = w }
-
-    went_sound : (r : Registers) (es : List Element) → IsSoundRegisters r → IsSoundDone (went_with r after es m)
-    went_sound r es u = record { core = keeps r.core u.core; vectors = u.vectors; memory = t; effect = tt }
-
-    load_sound : (transfer : Transfer) (stop : Option ℕ) (es : List Element) → IfSome stop IsWord → IsSoundDone (load_as_far transfer stop es after c x m)
-    load_sound transfer None es w = went_sound (with_loaded transfer m es (record { core = c; vectors = x })) es (with_loaded_sound transfer m es (record { core = c; vectors = x }) (record { core = s; vectors = y }))
-    load_sound transfer (Some a) es w = record { core = s; vectors = y; memory = t; effect = w }
-
     stored_far : (transfer : Transfer) (es : List Element) → IsSoundDone (stored_to transfer (reach m WriteKind es) after c x m)
-    stored_far transfer es = store_sound transfer (reach m WriteKind es).stop (reach m WriteKind es).done (stop_is_word m WriteKind es)
+    stored_far transfer es =
+        let far : Reach = reach m WriteKind es in
+        as_far_sound far.stop Write (accesses_of true far.done) (leaves c x) (leaves (after c) x) (with_stored (λ e. stored_value transfer c x e.register) far.done m)
+        (record { core = s; vectors = y }) (record { core = keeps c s; vectors = y }) (with_stored_sound (λ e. stored_value transfer c x e.register) far.done m t) (stop_is_word m WriteKind es)
+
+    behind_sound : (r : Registers) → IsSoundRegisters r → IsSoundRegisters (behind_load after r)
+    behind_sound r u = record { core = keeps r.core u.core; vectors = u.vectors }
 
     loaded_far : (transfer : Transfer) (es : List Element) → IsSoundDone (loaded_to transfer (reach m ReadKind es) after c x m)
-    loaded_far transfer es = load_sound transfer (reach m ReadKind es).stop (reach m ReadKind es).done (stop_is_word m ReadKind es)
+    loaded_far transfer es =
+        let far : Reach = reach m ReadKind es in
+        let r : Registers = with_loaded transfer m far.done (leaves c x) in
+        as_far_sound far.stop Read (accesses_of false far.done) (leaves c x) (behind_load after r) m
+        (record { core = s; vectors = y }) (behind_sound r (with_loaded_sound transfer m far.done (leaves c x) (record { core = s; vectors = y }))) t (stop_is_word m ReadKind es)
 
     transferred_sound : (transfer : Transfer) (es : List Element) → IsSoundDone (transferred transfer es after c x m)
     transferred_sound Store es = stored_far Store es

@@ -16,8 +16,8 @@ use Rattle.a64_effects.specs.BitMoves.{immediate, move_value}
 use Rattle.a64_effects.specs.Flow.{target, is_taken, tested_bit, digit, is_taken_by, system_value}
 use Rattle.a64_effects.specs.LoadStore.{near, pair_near, pair_bytes, writes_back, is_kept}
 use Rattle.a64_effects.specs.Operations.{Operation, computes, flows, transfers, exchanges, copies, operation_of}
-use Rattle.a64_effects.specs.Scalar.{operand, operand_sp, adr_offset, adr_target, shifted_12, moved, bitfield_moved, compared, otherwise, multiplied, multiplied_long, multiplied_high, of_two, of_one, rev_width, byte_reversed}
-use Rattle.a64_effects.specs.SoundBitMoves.{copied_sound, moved_sound}
+use Rattle.a64_effects.specs.Scalar.{operand, operand_sp, adr_offset, adr_target, shifted_12, wide_moved, bitfield_moved, compared, otherwise, multiplied, multiplied_long, multiplied_high, of_two, of_one, rev_width, byte_reversed}
+use Rattle.a64_effects.specs.SoundBitMoves.{copied_sound, immediate_sound}
 use Rattle.a64_effects.specs.SoundFlow.{offset_is_word, read_x_is_word, read_x_sp_is_word, barrier_sound, system_sound, branch_sound, branch_to_sound, branches_if_sound, excepted_sound}
 use Rattle.a64_effects.specs.SoundLoadStore.{IsSoundTransferring, IsSoundExchanging, written_back_sound, written_back_if_sound, keeping_sound, after_exclusive_sound, multiple_is_word}
 use Rattle.a64_effects.specs.SoundScalar.{width_in_word, rev_width_in_word, add_sound, add_sp_sound, add_carry_sound, logic_reg_sound, logic_imm_sound}
@@ -33,7 +33,7 @@ pub operation_sound : (form : A64Form) → IsSoundOperation (operation_of form)
 operation_sound (Adr op immlo immhi rd) = λ c s. with_x_sound c rd 64 (adr_target op c.pc (adr_offset immlo immhi)) (omega arith) s
 operation_sound (AddImm op sf sh imm rn rd) = λ c s. add_sp_sound (width_of sf) rd (width_in_word sf) c s op (operand_sp (width_of sf) c rn) (shifted_12 sh imm)
 operation_sound (LogicImm op sf n immr imms rn rd) = λ c s. logic_imm_sound (width_of sf) rd (width_in_word sf) c s op (operand (width_of sf) c rn) (unwrap_or (bitmask_of (width_of sf) (bit n) immr imms) 0)
-operation_sound (MoveWide op sf hw imm rd) = λ c s. with_x_sound c rd (width_of sf) (moved op (width_of sf) imm (16 * hw) (read_x c rd)) (width_in_word sf) s
+operation_sound (MoveWide op sf hw imm rd) = λ c s. with_x_sound c rd (width_of sf) (wide_moved op (width_of sf) imm (16 * hw) (read_x c rd)) (width_in_word sf) s
 operation_sound (Bitfield op sf n r s rn rd) = λ c t. with_x_sound c rd (width_of sf) (bitfield_moved op (width_of sf) (field_to (width_of sf) r s) (field_bits r s) (field (operand (width_of sf) c rn) (field_from r s) (field_bits r s)) (operand (width_of sf) c rd)) (width_in_word sf) t
 operation_sound (Extract sf n rm s rn rd) = λ c t. with_x_sound c rd (width_of sf) (extracted (width_of sf) (operand (width_of sf) c rn) (operand (width_of sf) c rm) s) (width_in_word sf) t
 operation_sound (LogicReg op sf shift rm amount rn rd) = λ c s. logic_reg_sound (width_of sf) rd (width_in_word sf) c s op (operand (width_of sf) c rn) (shifted (width_of sf) shift (operand (width_of sf) c rm) amount)
@@ -78,4 +78,4 @@ operation_sound (Ordered op size rn rt) = λ c s. record { address = multiple_is
 operation_sound (Atomic op size acquires releases rs rn rt) = λ c s. record { address = read_x_sp_is_word c rn s; behind = λ o. with_x_sound c rt 64 o (omega arith) s }
 operation_sound (CompareSwap size acquires releases rs rn rt) = λ c s. record { address = read_x_sp_is_word c rn s; behind = λ o. with_x_sound c rs 64 o (omega arith) s }
 operation_sound (FMove op rn rd) = λ c v s u. copied_sound c v s u op rn rd
-operation_sound (MoveImm q op abc cmode defgh rd) = λ c v s u. moved_sound c v s u q (move_value op cmode (immediate abc defgh)) rd
+operation_sound (MoveImm q op abc cmode defgh rd) = λ c v s u. immediate_sound c v s u q (move_value op cmode (immediate abc defgh)) rd

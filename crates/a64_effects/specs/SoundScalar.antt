@@ -17,7 +17,7 @@ use Rattle.emu_model.specs.State.{Core, with_x}
 use Rattle.emu_model.specs.SoundState.{IsSoundCore}
 use Rattle.emu_model.specs.Sound.{with_x_sound, with_x_sp_sound, flags_sound}
 use Rattle.emu_bits.specs.Operations.{complement, flags_of_result}
-use Rattle.a64_effects.specs.Scalar.{with_flags, sets_flags, is_sub, addend, after_sum, after_add, after_add_sp, after_add_carry, after_logic, after_logic_reg, after_logic_imm, rev_width}
+use Rattle.a64_effects.specs.Scalar.{with_flags, kind_of, addend, after_sum, after_add, after_add_sp, after_add_carry, after_logic, after_logic_reg, after_logic_imm, rev_width}
 
 -- ---- widths, of which none passes 64 bits
 
@@ -41,7 +41,7 @@ module _ (w rd : ℕ) (within : w ≤ 64) (c : Core) (s : IsSoundCore c) where
   sum_sound sets a b carry = with_flags_sound sets (flags_of_sum w a b carry) (with_x c rd w (sum_of w a b carry)) (with_x_sound c rd w (sum_of w a b carry) within s)
 
   pub add_sound : (op : AddOp) (a b : ℕ) → IsSoundCore (after_add op w rd a b c)
-  add_sound op a b = sum_sound (sets_flags op) a (addend (is_sub op) w b) (is_sub op)
+  add_sound op a b = sum_sound (kind_of op).0 a (addend (kind_of op).1 w b) (kind_of op).1
 
   pub add_sp_sound : (op : AddOp) (a b : ℕ) → IsSoundCore (after_add_sp op w rd a b c)
   add_sp_sound Add a b = with_x_sp_sound c rd w (sum_of w a b false) within s

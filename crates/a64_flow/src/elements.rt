@@ -122,7 +122,7 @@ pub(crate) fn single(
     requires size { IsLowSize (8 * n) }
     requires empty { log.old.items ≡ [] }
     ensures done { (after : CoreState → CoreState)
-        → table.transferred t (table.elements_from (table.moved t rt) address n) after core.old vec.old mem.old.memory
+        → table.transferred t (table.elements_from (table.registers_of t rt) address n) after core.old vec.old mem.old.memory
         ≡ followed_by after result core.new vec.new mem.new.memory log.new.items }
     ensures marks { mem.new.marks ≡ mem.old.marks }
 {

@@ -103,7 +103,7 @@ fn moved_rarely(
     requires empty { log.old.items ≡ [] }
     ensures done { result ≡ true → (after : CoreState → CoreState)
         → table.tested (table.has_sp t rn) None core.old vec.old mem.old.memory
-        (table.transferred t (table.elements_from (table.moved t rt) address n) after core.old vec.old mem.old.memory)
+        (table.transferred t (table.elements_from (table.registers_of t rt) address n) after core.old vec.old mem.old.memory)
         ≡ done_with after core.new vec.new mem.new.memory log.new.items }
     ensures core { result ≡ false → core.new ≡ core.old }
     ensures vectors { result ≡ false → vec.new ≡ vec.old }

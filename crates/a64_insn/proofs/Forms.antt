@@ -4,7 +4,7 @@ use Rattle.emu_bits.specs.Fields.{bit}
 use Rattle.emu_bits.specs.Rows.{form_of}
 use Rattle.a64_insn.specs.declared.form.A64Form.{A64Form}
 use Rattle.a64_insn.specs.declared.form.A64Form.TheVariants.{Adr, AddImm, LogicImm, MoveWide, Bitfield, Extract, LogicReg, AddReg, AddExt, AddCarry, CondReg, CondImm, Select, MulAdd, MulLong, MulHigh, TwoSource, OneSource, Rev, Branch, BranchCond, Compare, Test, BranchReg, Except, Hint, Barrier, ReadSys, WriteSys, LsUnsigned, LsUnscaled, LsPost, LsPre, LsReg, LsLiteral, Pair, StoreEx, LoadEx, Ordered, Atomic, CompareSwap, FMove, MoveImm}
-use Rattle.a64_insn.specs.Table.{lines_open}
+use Rattle.a64_insn.specs.Opened.{lines_open}
 use Rattle.a64_insn.specs.Rows.{row_of}
 use Rattle.a64_insn.specs.Names.{add_carry_named, add_named, adr_named, atomic_named, barrier_named, bitfield_named, branch_named, branch_reg_named, compare_named, cond_compare_named, except_named, f_move_named, load_ex_named, logic_imm_named, logic_reg_named, move_wide_named, mul_add_named, mul_high_named, mul_long_named, one_source_named, ordered_named, read_sys_named, rev_named, select_named, store_ex_named, test_named, two_source_named, write_sys_named}
 use Rattle.a64_insn.specs.Numbers.{add_carry_number, add_number, adr_number, atomic_number, barrier_number, bitfield_number, branch_number, branch_reg_number, compare_number, cond_compare_number, except_number, f_move_number, load_ex_number, logic_imm_number, logic_reg_number, move_wide_number, mul_add_number, mul_high_number, mul_long_number, one_source_number, ordered_number, read_sys_number, rev_number, select_number, store_ex_number, test_number, two_source_number, write_sys_number}

@@ -5,4 +5,5 @@ pub mod Flow
 pub mod Memory
 pub mod BitMoves
 pub mod Table
+pub mod Opened
 pub mod Rows

@@ -1,6 +1,9 @@
--- The table's lines of loads and stores.
+-- The table's lines of loads and stores. From the Arm Architecture Reference Manual for A-profile (DDI 0487), C4 'A64
+-- Instruction Set Encoding', 'Loads and Stores', and the encodings of the entries of C6.2 and C7.2; a condition leaves
+-- out what their decoding has as UNDEFINED, and what the manual has as CONSTRAINED UNPREDICTABLE, as it allows. A
+-- line's rows, its fields' order and its number are this project's own.
 use Rattle.std.specs.Prelude.{ℕ, ◌==◌, ◌&&◌, ◌||◌, Bool, cond, not, [], ◌∷◌, nat_lt}
-use Rattle.emu_bits.specs.Rows.{◌to◌, Line, value_at, flag_at, always, is_among}
+use Rattle.emu_bits.specs.Rows.{◌to◌, Line, is_among, line_of, line_if, of_three, of_four, of_six, of_eight}
 use Rattle.a64_insn.specs.declared.form.A64Form.{A64Form}
 use Rattle.a64_insn.specs.declared.form.A64Form.TheVariants.{LsUnsigned, LsUnscaled, LsPost, LsPre, LsReg, LsLiteral, Pair, StoreEx, LoadEx, Ordered, Atomic, CompareSwap}
 use Rattle.a64_insn.specs.Names.{atomic_named, load_ex_named, ordered_named, store_ex_named}
@@ -12,21 +15,13 @@ is_access size v opc = cond (v == 1) (nat_lt opc 2 || size == 0) (nat_lt opc 3 |
 
 -- `ldr`, `str` and their kinds, at `[Xn|SP{, #0}]`
 unfoldable pub ls_unsigned : Line A64Form
-ls_unsigned = record {
-  words = 0x39000000 ∷ [];
-  places = (31 to 30) ∷ (26 to 26) ∷ (23 to 22) ∷ (21 to 10) ∷ (9 to 5) ∷ (4 to 0) ∷ [];
-  holds = λ k vs. is_access (value_at vs 0) (value_at vs 1) (value_at vs 2);
-  form = λ k vs. LsUnsigned (value_at vs 0) (flag_at vs 1) (value_at vs 2) (value_at vs 3) (value_at vs 4) (value_at vs 5);
-}
+ls_unsigned = line_if (0x39000000 ∷ []) ((31 to 30) ∷ (26 to 26) ∷ (23 to 22) ∷ (21 to 10) ∷ (9 to 5) ∷ (4 to 0) ∷ [])
+    (λ k. of_six (λ size v opc imm12 rn rt. (is_access size v opc, LsUnsigned size (v == 1) opc imm12 rn rt)))
 
 -- `ldur`, `stur` and their kinds, at `[Xn|SP{, #0}]`
 unfoldable pub ls_unscaled : Line A64Form
-ls_unscaled = record {
-  words = 0x38000000 ∷ [];
-  places = (31 to 30) ∷ (26 to 26) ∷ (23 to 22) ∷ (20 to 12) ∷ (9 to 5) ∷ (4 to 0) ∷ [];
-  holds = λ k vs. is_access (value_at vs 0) (value_at vs 1) (value_at vs 2);
-  form = λ k vs. LsUnscaled (value_at vs 0) (flag_at vs 1) (value_at vs 2) (value_at vs 3) (value_at vs 4) (value_at vs 5);
-}
+ls_unscaled = line_if (0x38000000 ∷ []) ((31 to 30) ∷ (26 to 26) ∷ (23 to 22) ∷ (20 to 12) ∷ (9 to 5) ∷ (4 to 0) ∷ [])
+    (λ k. of_six (λ size v opc imm9 rn rt. (is_access size v opc, LsUnscaled size (v == 1) opc imm9 rn rt)))
 
 -- `prfm`, the hint that stands among the loads and stores
 unfoldable pub is_prefetch : ℕ → ℕ → ℕ → Bool
@@ -46,21 +41,13 @@ writeback_holds_for size v opc rn rt = is_access size v opc && (not (is_prefetch
 
 -- `ldr`, `str` and their kinds, at `[Xn|SP], #i`
 unfoldable pub ls_post : Line A64Form
-ls_post = record {
-  words = 0x38000400 ∷ [];
-  places = (31 to 30) ∷ (26 to 26) ∷ (23 to 22) ∷ (20 to 12) ∷ (9 to 5) ∷ (4 to 0) ∷ [];
-  holds = λ k vs. writeback_holds_for (value_at vs 0) (value_at vs 1) (value_at vs 2) (value_at vs 4) (value_at vs 5);
-  form = λ k vs. LsPost (value_at vs 0) (flag_at vs 1) (value_at vs 2) (value_at vs 3) (value_at vs 4) (value_at vs 5);
-}
+ls_post = line_if (0x38000400 ∷ []) ((31 to 30) ∷ (26 to 26) ∷ (23 to 22) ∷ (20 to 12) ∷ (9 to 5) ∷ (4 to 0) ∷ [])
+    (λ k. of_six (λ size v opc imm9 rn rt. (writeback_holds_for size v opc rn rt, LsPost size (v == 1) opc imm9 rn rt)))
 
 -- `ldr`, `str` and their kinds, at `[Xn|SP, #i]!`
 unfoldable pub ls_pre : Line A64Form
-ls_pre = record {
-  words = 0x38000C00 ∷ [];
-  places = (31 to 30) ∷ (26 to 26) ∷ (23 to 22) ∷ (20 to 12) ∷ (9 to 5) ∷ (4 to 0) ∷ [];
-  holds = λ k vs. writeback_holds_for (value_at vs 0) (value_at vs 1) (value_at vs 2) (value_at vs 4) (value_at vs 5);
-  form = λ k vs. LsPre (value_at vs 0) (flag_at vs 1) (value_at vs 2) (value_at vs 3) (value_at vs 4) (value_at vs 5);
-}
+ls_pre = line_if (0x38000C00 ∷ []) ((31 to 30) ∷ (26 to 26) ∷ (23 to 22) ∷ (20 to 12) ∷ (9 to 5) ∷ (4 to 0) ∷ [])
+    (λ k. of_six (λ size v opc imm9 rn rt. (writeback_holds_for size v opc rn rt, LsPre size (v == 1) opc imm9 rn rt)))
 
 -- an offset has 32 or 64 bits: uxtw, lsl, sxtw or sxtx
 unfoldable pub is_offset_extension : ℕ → Bool
@@ -72,12 +59,10 @@ ls_reg_holds_for size v opc ext = is_access size v opc && is_offset_extension ex
 
 -- `ldr`, `str` and their kinds, at `[Xn|SP, Rm, ext #a]`
 unfoldable pub ls_reg : Line A64Form
-ls_reg = record {
-  words = 0x38200800 ∷ [];
-  places = (31 to 30) ∷ (26 to 26) ∷ (23 to 22) ∷ (20 to 16) ∷ (15 to 13) ∷ (12 to 12) ∷ (9 to 5) ∷ (4 to 0) ∷ [];
-  holds = λ k vs. ls_reg_holds_for (value_at vs 0) (value_at vs 1) (value_at vs 2) (value_at vs 4);
-  form = λ k vs. LsReg (value_at vs 0) (flag_at vs 1) (value_at vs 2) (value_at vs 3) (value_at vs 4) (flag_at vs 5) (value_at vs 6) (value_at vs 7);
-}
+ls_reg = line_if (0x38200800 ∷ [])
+    ((31 to 30) ∷ (26 to 26) ∷ (23 to 22) ∷ (20 to 16) ∷ (15 to 13) ∷ (12 to 12) ∷ (9 to 5) ∷ (4 to 0) ∷ [])
+    (λ k. of_eight (λ size v opc rm ext s rn rt.
+    (ls_reg_holds_for size v opc ext, LsReg size (v == 1) opc rm ext (s == 1) rn rt)))
 
 -- `ldr` of 4 and 8 bytes, `ldrsw` and `prfm` of general registers, `ldr` of 4, 8 and 16 bytes of vector registers
 unfoldable pub ls_literal_holds_for : ℕ → ℕ → Bool
@@ -85,12 +70,8 @@ ls_literal_holds_for opc v = v == 0 || nat_lt opc 3
 
 -- `ldr`, `ldrsw`, `prfm Rt, target`
 unfoldable pub ls_literal : Line A64Form
-ls_literal = record {
-  words = 0x18000000 ∷ [];
-  places = (31 to 30) ∷ (26 to 26) ∷ (23 to 5) ∷ (4 to 0) ∷ [];
-  holds = λ k vs. ls_literal_holds_for (value_at vs 0) (value_at vs 1);
-  form = λ k vs. LsLiteral (value_at vs 0) (flag_at vs 1) (value_at vs 2) (value_at vs 3);
-}
+ls_literal = line_if (0x18000000 ∷ []) ((31 to 30) ∷ (26 to 26) ∷ (23 to 5) ∷ (4 to 0) ∷ [])
+    (λ k. of_four (λ opc v imm19 rt. (ls_literal_holds_for opc v, LsLiteral opc (v == 1) imm19 rt)))
 
 -- There are these pairs: opc is 0, 1 or 2, and 1 of general registers is `ldpsw`, which loads and has no mode 0.
 unfoldable pub is_pair : ℕ → ℕ → ℕ → ℕ → Bool
@@ -110,12 +91,10 @@ pair_holds_for opc v mode l rt2 rn rt = is_pair opc v mode l && (loads_two l rt2
 
 -- `ldp`, `stp`, `ldpsw`, `ldnp`, `stnp Rt, Rt2, place`
 unfoldable pub pair : Line A64Form
-pair = record {
-  words = 0x28000000 ∷ [];
-  places = (31 to 30) ∷ (26 to 26) ∷ (24 to 23) ∷ (22 to 22) ∷ (21 to 15) ∷ (14 to 10) ∷ (9 to 5) ∷ (4 to 0) ∷ [];
-  holds = λ k vs. pair_holds_for (value_at vs 0) (value_at vs 1) (value_at vs 2) (value_at vs 3) (value_at vs 5) (value_at vs 6) (value_at vs 7);
-  form = λ k vs. Pair (value_at vs 0) (flag_at vs 1) (value_at vs 2) (flag_at vs 3) (value_at vs 4) (value_at vs 5) (value_at vs 6) (value_at vs 7);
-}
+pair = line_if (0x28000000 ∷ [])
+    ((31 to 30) ∷ (26 to 26) ∷ (24 to 23) ∷ (22 to 22) ∷ (21 to 15) ∷ (14 to 10) ∷ (9 to 5) ∷ (4 to 0) ∷ [])
+    (λ k. of_eight (λ opc v mode l imm7 rt2 rn rt.
+    (pair_holds_for opc v mode l rt2 rn rt, Pair opc (v == 1) mode (l == 1) imm7 rt2 rn rt)))
 
 -- the register of the outcome isn't the one that is stored, nor the base
 unfoldable pub store_ex_holds_for : ℕ → ℕ → ℕ → Bool
@@ -123,45 +102,30 @@ store_ex_holds_for rs rn rt = not (rs == rt) && is_not_base rn rs
 
 -- `stxr`, `stlxr Ws, Rt, [Xn|SP]`
 unfoldable pub store_ex : Line A64Form
-store_ex = record {
-  words = 0x08007C00 ∷ 0x0800FC00 ∷ [];
-  places = (31 to 30) ∷ (20 to 16) ∷ (9 to 5) ∷ (4 to 0) ∷ [];
-  holds = λ k vs. store_ex_holds_for (value_at vs 1) (value_at vs 2) (value_at vs 3);
-  form = λ k vs. StoreEx (store_ex_named k) (value_at vs 0) (value_at vs 1) (value_at vs 2) (value_at vs 3);
-}
+store_ex = line_if (0x08007C00 ∷ 0x0800FC00 ∷ []) ((31 to 30) ∷ (20 to 16) ∷ (9 to 5) ∷ (4 to 0) ∷ [])
+    (λ k. of_four (λ size rs rn rt. (store_ex_holds_for rs rn rt, StoreEx (store_ex_named k) size rs rn rt)))
 
 -- `ldxr`, `ldaxr Rt, [Xn|SP]`
 unfoldable pub load_ex : Line A64Form
-load_ex = record {
-  words = 0x085F7C00 ∷ 0x085FFC00 ∷ [];
-  places = (31 to 30) ∷ (9 to 5) ∷ (4 to 0) ∷ [];
-  holds = always;
-  form = λ k vs. LoadEx (load_ex_named k) (value_at vs 0) (value_at vs 1) (value_at vs 2);
-}
+load_ex = line_of (0x085F7C00 ∷ 0x085FFC00 ∷ []) ((31 to 30) ∷ (9 to 5) ∷ (4 to 0) ∷ [])
+    (λ k. of_three (λ size rn rt. LoadEx (load_ex_named k) size rn rt))
 
 -- `stlr`, `ldar Rt, [Xn|SP]`
 unfoldable pub ordered : Line A64Form
-ordered = record {
-  words = 0x089FFC00 ∷ 0x08DFFC00 ∷ [];
-  places = (31 to 30) ∷ (9 to 5) ∷ (4 to 0) ∷ [];
-  holds = always;
-  form = λ k vs. Ordered (ordered_named k) (value_at vs 0) (value_at vs 1) (value_at vs 2);
-}
+ordered = line_of (0x089FFC00 ∷ 0x08DFFC00 ∷ []) ((31 to 30) ∷ (9 to 5) ∷ (4 to 0) ∷ [])
+    (λ k. of_three (λ size rn rt. Ordered (ordered_named k) size rn rt))
 
--- `ldadd`, `ldclr`, `ldeor`, `ldset`, `ldsmax`, `ldsmin`, `ldumax`, `ldumin`, `swp Rs, Rt, [Xn|SP]`: bit 23 acquires, bit 22 releases
+-- `ldadd`, `ldclr`, `ldeor`, `ldset`, `ldsmax`, `ldsmin`, `ldumax`, `ldumin`, `swp Rs, Rt, [Xn|SP]`: bit 23 acquires,
+-- bit 22 releases
 unfoldable pub atomic : Line A64Form
-atomic = record {
-  words = 0x38200000 ∷ 0x38201000 ∷ 0x38202000 ∷ 0x38203000 ∷ 0x38204000 ∷ 0x38205000 ∷ 0x38206000 ∷ 0x38207000 ∷ 0x38208000 ∷ [];
-  places = (31 to 30) ∷ (23 to 23) ∷ (22 to 22) ∷ (20 to 16) ∷ (9 to 5) ∷ (4 to 0) ∷ [];
-  holds = always;
-  form = λ k vs. Atomic (atomic_named k) (value_at vs 0) (value_at vs 1 == 1) (value_at vs 2 == 1) (value_at vs 3) (value_at vs 4) (value_at vs 5);
-}
+atomic =
+    line_of (0x38200000 ∷ 0x38201000 ∷ 0x38202000 ∷ 0x38203000 ∷ 0x38204000 ∷ 0x38205000 ∷ 0x38206000 ∷ 0x38207000
+    ∷ 0x38208000 ∷ [])
+    ((31 to 30) ∷ (23 to 23) ∷ (22 to 22) ∷ (20 to 16) ∷ (9 to 5) ∷ (4 to 0) ∷ [])
+    (λ k. of_six (λ size acquires releases rs rn rt.
+    Atomic (atomic_named k) size (acquires == 1) (releases == 1) rs rn rt))
 
 -- `cas Rs, Rt, [Xn|SP]`: bit 22 acquires, bit 15 releases
 unfoldable pub compare_swap : Line A64Form
-compare_swap = record {
-  words = 0x08A07C00 ∷ [];
-  places = (31 to 30) ∷ (22 to 22) ∷ (20 to 16) ∷ (15 to 15) ∷ (9 to 5) ∷ (4 to 0) ∷ [];
-  holds = always;
-  form = λ k vs. CompareSwap (value_at vs 0) (value_at vs 1 == 1) (value_at vs 3 == 1) (value_at vs 2) (value_at vs 4) (value_at vs 5);
-}
+compare_swap = line_of (0x08A07C00 ∷ []) ((31 to 30) ∷ (22 to 22) ∷ (20 to 16) ∷ (15 to 15) ∷ (9 to 5) ∷ (4 to 0) ∷ [])
+    (λ k. of_six (λ size acquires rs releases rn rt. CompareSwap size (acquires == 1) (releases == 1) rs rn rt))

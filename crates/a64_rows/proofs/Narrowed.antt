@@ -4,7 +4,8 @@ use Rattle.emu_bits.specs.Fields.{field}
 use Rattle.emu_bits.specs.Rows.{◌to◌, decode, row_in}
 use Rattle.emu_bits.proofs.Computed.{IsNoneOf}
 use Rattle.emu_bits.proofs.Encoding.{narrow_field, narrow_others, or_none}
-use Rattle.a64_insn.specs.Table.{a64_table, lines_open}
+use Rattle.a64_insn.specs.Table.{a64_table}
+use Rattle.a64_insn.specs.Opened.{lines_open}
 use Rattle.a64_insn.specs.Data.{adr, add_imm, logic_imm, move_wide, bitfield, extract, logic_reg, add_reg, add_ext, add_carry, cond_reg, cond_imm, select, mul_add, mul_long, mul_high, two_source, one_source, rev}
 use Rattle.a64_insn.specs.Flow.{branch, branch_cond, compare, test_branch, branch_reg, except, hint, barrier, read_sys, write_sys}
 use Rattle.a64_insn.specs.Memory.{ls_unsigned, ls_unscaled, ls_post, ls_pre, ls_reg, ls_literal, pair, store_ex, load_ex, ordered, atomic, compare_swap}

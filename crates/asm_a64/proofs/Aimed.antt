@@ -9,7 +9,7 @@ use Rattle.emu_bits.specs.Rows.{Place, ◌to◌, width, ones_at, outside, values
 use Rattle.emu_bits.specs.RowLaws.{line_at, IsRow}
 use Rattle.emu_bits.proofs.Encoding.{answer_of, fixed_field, and_over_or}
 use Rattle.text_model.specs.Slots.{bits_in, joined, address}
-use Rattle.text_model.specs.Told.{parted, Built, put_all}
+use Rattle.text_model.specs.Told.{parted, Built, all_bound}
 use Rattle.text_model.specs.Reading.{Pattern}
 use Rattle.text_model.specs.Text.{ones_of}
 use Rattle.text_model.specs.Aim.{Reach, reach_of, reach_bits, number_to, aimed}
@@ -19,7 +19,8 @@ use Rattle.text_model.proofs.Again.{pattern_at}
 use Rattle.text_model.proofs.Tables.{chosen_is}
 use Rattle.a64_insn.specs.declared.form.A64Form.{A64Form}
 use Rattle.a64_insn.specs.declared.form.A64Form.TheVariants.{Adr, Branch, BranchCond, Compare, Test, LsLiteral}
-use Rattle.a64_insn.specs.Table.{a64_table, lines_open}
+use Rattle.a64_insn.specs.Table.{a64_table}
+use Rattle.a64_insn.specs.Opened.{lines_open}
 use Rattle.a64_insn.specs.Rows.{row_of, line_number}
 use Rattle.a64_insn.specs.Data.{adr}
 use Rattle.a64_insn.specs.Flow.{branch, branch_cond, compare, test_branch}
@@ -29,7 +30,8 @@ use Rattle.a64_insn.specs.declared.lines.TheConstants as line
 use Rattle.a64_rows.proofs.Laws.{one_row}
 use Rattle.asm_a64.specs.Table.{line_texts}
 use Rattle.asm_a64.specs.Opened.{texts_open}
-use Rattle.asm_a64.specs.Law.{in_table, word_of, texts_of, reach_by, reach, unaimed_word}
+use Rattle.asm_a64.specs.Law.{in_table, word_of, texts_of, reach, unaimed_word}
+use Rattle.asm_a64.specs.LawOfTexts.{reach_by}
 use Rattle.asm_a64.proofs.Totals.{listed, in_row, held, has_text}
 
 -- ---- bits that stay
@@ -57,10 +59,10 @@ kept_row l k w x r e h n t =
 
 -- ---- a word that is aimed
 
-built_with : (w u : ℕ) (ps : List Place) → are_places ps ≡ true → (put_all (record { mask = 0; word = w }) (parted ps (joined ps u))).word ≡ bit_or w (bit_and u (masked 0 ps))
+built_with : (w u : ℕ) (ps : List Place) → are_places ps ≡ true → (all_bound (record { mask = 0; word = w }) (parted ps (joined ps u))).word ≡ bit_or w (bit_and u (masked 0 ps))
 built_with w u ps h =
     let start : record { mask = 0; word = w } ≡ with_bits w u 0 = ap (λ (x : ℕ). record { mask = 0; word = x }) (sym (nothing w u)) in
-    ap (λ (x : Built). (put_all x (parted ps (joined ps u))).word) start
+    ap (λ (x : Built). (all_bound x (parted ps (joined ps u))).word) start
     ∙ ap (λ (x : Built). x.word) (all_put w u 0 (parted ps (joined ps u)) (parted_so ps u h))
     ∙ ap (λ (qs : List Place). bit_or w (bit_and u (masked 0 qs))) (parts_told ps (joined ps u))
 
@@ -94,7 +96,7 @@ no_target (Some r) w pc t x h e = false≢true h
 record IsAimed (ps : List Place) (w x : ℕ) : Type 0 where
   pub number : ℕ
   pub small : number < 2 ^ bits_in ps
-  pub is : x ≡ (put_all (record { mask = 0; word = w }) (parted ps number)).word
+  pub is : x ≡ (all_bound (record { mask = 0; word = w }) (parted ps number)).word
 
 aimed_if : (b : Bool) (y x : ℕ) → (if b then Some y else None) ≡ Some x → x ≡ y
 aimed_if true y x h = cc
@@ -110,8 +112,8 @@ aimed_as ps (Some r) w pc t x h e =
     record {
       number = v;
       small = subst (λ (qs : List Place). v < 2 ^ bits_in qs) s l;
-      is = aimed_if (address r.by r.page (bits_in r.parts) v pc == t) (put_all (record { mask = 0; word = w }) (parted r.parts v)).word x e
-          ∙ ap (λ (qs : List Place). (put_all (record { mask = 0; word = w }) (parted qs v)).word) s;
+      is = aimed_if (address r.by r.page (bits_in r.parts) v pc == t) (all_bound (record { mask = 0; word = w }) (parted r.parts v)).word x e
+          ∙ ap (λ (qs : List Place). (all_bound (record { mask = 0; word = w }) (parted qs v)).word) s;
     }
 
 -- ---- the places of targets, line by line
@@ -198,7 +200,7 @@ module _ (f : A64Form) (row : IsRow (row_of f)) (pc t x : ℕ) (e : aimed (reach
       let a = aimed_as ps (reach f) (unaimed_word f) pc t x r e in
       let u = find a.number a.small in (
         u.0,
-        a.is ∙ ap (λ (n : ℕ). (put_all (record { mask = 0; word = unaimed_word f }) (parted ps n)).word) (sym u.1) ∙ built_with (unaimed_word f) u.0 ps h
+        a.is ∙ ap (λ (n : ℕ). (all_bound (record { mask = 0; word = unaimed_word f }) (parted ps n)).word) (sym u.1) ∙ built_with (unaimed_word f) u.0 ps h
             ∙ ap (λ (n : ℕ). bit_or (bit_and (word_of f) (2 ^ 32 - 1 - n)) (bit_and u.0 (masked 0 ps))) (bits_of ps (reach f) r),
       )
 

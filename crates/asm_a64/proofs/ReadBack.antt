@@ -4,6 +4,7 @@ use Rattle.std.proofs.lemmas.Bool.{cases_Bool, and_parts, and_from, eqb-true, fa
 use Rattle.std.proofs.lemmas.Nat.{and_mask, and_assoc, or_lt}
 use Rattle.std.proofs.Math.Nat.{mod-eq_of_lt}
 use Rattle.std.specs.Prelude.{is_some, unwrap_or}
+use Rattle.std.specs.Option.{option_map_or}
 use Rattle.emu_bits.specs.Bitmask.{bitmask_of, element_log}
 use Rattle.emu_bits.specs.Fields.{field, bit}
 use Rattle.emu_bits.specs.Rows.{Place, ◌to◌, width, ones_at, outside, values, fill, Line, Row, number_of, where_it_holds, row_in, is_among}
@@ -14,14 +15,15 @@ use Rattle.text_model.specs.declared.slots.Kind.TheVariants.{Bitmask}
 use Rattle.text_model.specs.Slots.{joined}
 use Rattle.text_model.specs.Reading.{Pattern, is_canonical, all_canonical}
 use Rattle.text_model.specs.ReadBack.{reads_text, destination_of, reached, unaimed}
-use Rattle.text_model.specs.Text.{chosen, text_by, text, shows, told_bits}
+use Rattle.text_model.specs.Text.{chosen, text, shows, told_bits}
 use Rattle.text_model.specs.Aim.{Reach, reach_of, reach_bits, aimed}
 use Rattle.text_model.specs.Writing.{flat}
 use Rattle.text_model.proofs.Again.{pattern_at}
 use Rattle.text_model.proofs.Tables.{chosen_is, all_plain, plain_at, plain_canonical, IsLegible, table_law}
 use Rattle.a64_insn.specs.declared.form.A64Form.{A64Form}
 use Rattle.a64_insn.specs.declared.form.A64Form.TheVariants.{Adr, LogicImm, Branch, BranchCond, Compare, Test, LsLiteral}
-use Rattle.a64_insn.specs.Table.{a64_table, lines_open}
+use Rattle.a64_insn.specs.Table.{a64_table}
+use Rattle.a64_insn.specs.Opened.{lines_open}
 use Rattle.a64_insn.specs.Rows.{row_of, line_number}
 use Rattle.a64_insn.specs.Data.{adr, logic_imm}
 use Rattle.a64_insn.specs.Flow.{branch, branch_cond, compare, test_branch}
@@ -37,7 +39,8 @@ use Rattle.a64_rows.proofs.Laws.{one_row}
 use Rattle.asm_a64.specs.Aliases.{aliases}
 use Rattle.asm_a64.specs.Table.{line_texts, a64_lines, a64_patterns}
 use Rattle.asm_a64.specs.Opened.{printed_patterns, texts_open}
-use Rattle.asm_a64.specs.Law.{in_table, word_of, texts_of, reach_by, reach, target_at, is_canonical_form, IsReadBack}
+use Rattle.asm_a64.specs.Law.{in_table, word_of, texts_of, reach}
+use Rattle.asm_a64.specs.LawOfTexts.{reach_by, target_at, is_canonical_form, IsReadBack}
 use Rattle.asm_a64.proofs.Legible.{readable, written, aimed_well, apart, reach_well}
 use Rattle.asm_a64.proofs.Totals.{listed, in_row, held, has_text}
 
@@ -227,7 +230,7 @@ module _ (w : ℕ) (h : has_bitmask (field w 31 1) (field w 22 1) (field w 16 6)
   mask_pattern (suc (suc (suc (suc (suc (suc (suc (suc n)))))))) p e s = absurd (cc)
 
 logic_imm_canonical : (f : A64Form) (p : Pattern) → IsRow (row_of f) → is_logic_imm f ≡ true → is_canonical_form f ≡ true → chosen (texts_of f) (word_of f) ≡ Some p → all_canonical p.slots (word_of f) ≡ true
-unfolding line_texts logic_imm
+unfolding line_texts data_lines flow_lines logic_imm
 logic_imm_canonical (LogicImm op sf n immr imms rn rd) p v i c e =
     let f : A64Form = LogicImm op sf n immr imms rn rd in
     let w : ℕ = word_of f in
@@ -278,7 +281,7 @@ read_back f pc v c h =
     let r = table_law in_table line_texts aliases (line_number f) p w pc legible t.1 small h (canonical f p v c t.1) there in
     let same : reach f ≡ reach_of p.slots = ap reach_by t.1 in
     record {
-      read = ap (λ (o : Option Pattern). reads_text in_table a64_patterns (text_by o w pc)) t.1
+      read = ap (λ (o : Option Pattern). reads_text in_table a64_patterns (option_map_or (λ p. text p w pc) o [])) t.1
           ∙ ap (λ (ps : List Pattern). reads_text in_table ps (text p w pc)) all_patterns ∙ r.read
           ∙ ap (λ (o : Option Reach). Ok (record { word = bit_and w (2 ^ 32 - 1 - reach_bits o); target = destination_of (reached o w pc) })) (sym same);
       aimed = λ (a : ℕ) (e : target_at f pc ≡ Some a).

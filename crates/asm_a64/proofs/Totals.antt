@@ -12,7 +12,8 @@ use Rattle.text_model.proofs.Tests.{is_total}
 use Rattle.text_model.proofs.Totals.{total}
 use Rattle.a64_insn.specs.declared.form.A64Form.{A64Form}
 use Rattle.a64_insn.specs.declared.form.A64Form.TheVariants.{Adr, Bitfield, Extract, LsUnsigned, LsUnscaled, LsPost, LsPre, LsReg, LsLiteral, Pair, MoveImm}
-use Rattle.a64_insn.specs.Table.{a64_table, lines_open}
+use Rattle.a64_insn.specs.Table.{a64_table}
+use Rattle.a64_insn.specs.Opened.{lines_open}
 use Rattle.a64_insn.specs.Rows.{row_of, line_number}
 use Rattle.a64_insn.specs.Data.{bitfield_holds_for, extract_holds_for}
 use Rattle.a64_insn.specs.Memory.{is_access, is_prefetch, is_offset_extension, ls_reg_holds_for, ls_literal_holds_for, is_pair, keeps_base, writeback_holds_for, pair_holds_for}
@@ -20,6 +21,8 @@ use Rattle.a64_insn.specs.BitMoves.{move_imm_holds_for}
 use Rattle.a64_insn.specs.declared.lines.TheConstants as line
 use Rattle.a64_rows.proofs.Laws.{sound, is_listed}
 use Rattle.asm_a64.specs.Law.{texts_of, word_of}
+use Rattle.asm_a64.specs.Data.{data_lines}
+use Rattle.asm_a64.specs.Flow.{flow_lines}
 use Rattle.asm_a64.specs.Table.{line_texts}
 use Rattle.asm_a64.specs.Opened.{texts_open}
 
@@ -112,7 +115,7 @@ abbrev choice : A64Form → Choice
 choice f = get_or choices (line_number f) (by [])
 
 lines_long : length line_texts ≡ line.LINES
-unfolding line_texts
+unfolding line_texts data_lines flow_lines
 lines_long = refl
 
 pub held : (f : A64Form) → IsRow (row_of f) → (row_of f).line.holds (row_of f).number (values (row_of f).line.places (word_of f)) ≡ true

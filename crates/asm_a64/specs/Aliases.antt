@@ -1,4 +1,7 @@
--- Other names of instructions, which are read and never printed.
+-- Other names of instructions, which are read and never printed. From the Arm Architecture Reference Manual for
+-- A-profile (DDI 0487), C6.2 'Alphabetical list of A64 base instructions': the entries of the aliases MOV, CMP, LSL
+-- (immediate), LSR (immediate), ASR (immediate), MUL and CSET, and those of NOP and RET. Which of them are read is this
+-- project's own choice.
 use Rattle.std.specs.Prelude.{ℕ, ◌+◌, ◌-◌, List, [], ◌∷◌, ◌++◌, codes}
 use Rattle.text_model.specs.declared.classes.Class.TheVariants.{W, X, Condition}
 use Rattle.text_model.specs.declared.slots.Parts.TheVariants.{At}

@@ -1,4 +1,6 @@
--- The texts of the table's lines of bit moves.
+-- The texts of the table's lines of bit moves. They are the assembler syntax of the entries FMOV (general), MOVI and
+-- MVNI of the Arm Architecture Reference Manual for A-profile (DDI 0487), C7.2 'Alphabetical list of A64 Advanced SIMD
+-- and floating-point instructions'.
 use Rattle.std.specs.Prelude.{ℕ, ◌+◌, List, [], ◌∷◌, ◌++◌, codes}
 use Rattle.text_model.specs.declared.classes.Class.{Class}
 use Rattle.text_model.specs.declared.classes.Class.TheVariants.{W, X, S, D, V2d, Shift, ShiftOnes}

@@ -1,4 +1,7 @@
--- The texts of the table's lines of branches, exceptions and system.
+-- The texts of the table's lines of branches, exceptions and system. They are the assembler syntax of the entries of
+-- branches, exceptions, barriers, HINT, MRS and MSR of the Arm Architecture Reference Manual for A-profile (DDI 0487),
+-- C6.2 'Alphabetical list of A64 base instructions'. Of the spellings of a condition these are this project's own
+-- choice.
 use Rattle.std.specs.Prelude.{ℕ, ◌+◌, List, [], ◌∷◌, codes}
 use Rattle.text_model.specs.declared.classes.Class.TheVariants.{TpidrEl0, Nzcv, DczidEl0}
 use Rattle.text_model.specs.declared.slots.Bits.{Bits}

@@ -1,7 +1,7 @@
 -- The texts of the table's lines of loads and stores: the assembler syntax of their entries in the Arm Architecture
 -- Reference Manual for A-profile (DDI 0487), C6.2 'Alphabetical list of A64 base instructions', and of vector registers
 -- in C7.2.
-use Rattle.std.specs.Prelude.{ℕ, ◌+◌, ◌^◌, List, [], ◌∷◌, ◌++◌, codes}
+use Rattle.std.specs.Prelude.{ℕ, ◌+◌, ◌^◌, List, [], ◌∷◌, ◌++◌, map, codes}
 use Rattle.emu_bits.specs.Rows.{Line}
 use Rattle.text_model.specs.declared.classes.Class.{Class}
 use Rattle.text_model.specs.declared.classes.Class.TheVariants.{W, X, B, H, S, D, Q, Shift, ExtendWord, ExtendDoubleword, Exclamation}
@@ -10,7 +10,7 @@ use Rattle.text_model.specs.declared.slots.Parts.TheVariants.{At}
 use Rattle.text_model.specs.declared.slots.Shape.TheVariants.{Only, Told}
 use Rattle.text_model.specs.declared.slots.Slot.{Slot}
 use Rattle.text_model.specs.Reading.{Pattern}
-use Rattle.text_model.specs.Writing.{◌to◌, plain, times, signed_times, always, of, one, then, counted, amount, perhaps, inside, bracketed, row, put_at, flat}
+use Rattle.text_model.specs.Writing.{◌to◌, field, times, signed_times, always, of, one, then, counted, amount, perhaps, inside, bracketed, row, put_at, flat}
 use Rattle.a64_insn.specs.Memory.{ls_unsigned, ls_unscaled, ls_post, ls_pre, ls_reg, ls_literal, pair, store_ex, load_ex, ordered, atomic, compare_swap}
 use Rattle.asm_a64.specs.Data.{w, x, rt, rn_sp, rm, imm12}
 use Rattle.asm_a64.specs.Flow.{jump, imm19}
@@ -28,7 +28,7 @@ pub record Access : Type 0 where
   pub register : Slot
   pub log : ℕ
 
--- the store `str` of a general register of so many bytes
+-- the store `str` of a general register, of 2 to the power of log bytes
 abbrev store : Slot → ℕ → Access
 store s log =
     record { first = codes "st"; rest = codes "r"; size = log; vector = 0; opc = 0; register = s; log = log }
@@ -37,7 +37,7 @@ store s log =
 abbrev with_load : Access → List Access
 with_load a = a ∷ record a { first = codes "ld"; opc = a.opc + 1 } ∷ []
 
--- a load from this size of element, with this name behind `ld` and this opc
+-- a load of 2 to the power of log bytes, with this name behind `ld` and this opc
 abbrev load_of : Slot → ℕ → List ℕ → ℕ → Access
 load_of s log rest opc = let a = store s log in record a { first = codes "ld"; rest = rest; opc = opc }
 
@@ -98,9 +98,8 @@ imm9 = counted (signed_times 1 (At (20 to 12)))
 
 -- a pattern for each access
 abbrev each : {F : Type 0} → Line F → ℕ → (Access → List ℕ) → (Access → List Slot) → List Access → List Pattern
-each l settled name place [] = []
-each l settled name place (a ∷ more) =
-    row l 0 (bits_of a + settled) (name a) (a.register ∷ then ∷ place a) ∷ each l settled name place more
+each l settled name place all =
+    map (λ a. row l 0 (bits_of a + settled) (name a) (a.register ∷ then ∷ place a)) all
 
 abbrev plain_name : Access → List ℕ
 plain_name a = a.first ++ a.rest
@@ -123,8 +122,8 @@ ls_pre_texts = each ls_pre 0 plain_name (λ a. pre_place imm9) accesses
 
 -- ---- offsets in registers
 
--- `[Xn|SP, Rm, ext]` and `[Xn|SP, Rm, ext #a]`: the bits 15 to 13 that the extension settles, its slots, and what
--- follows
+-- `[Xn|SP, Rm, ext]` and `[Xn|SP, Rm, ext #a]`: by the bits 15 to 13 that the extension settles, the slot of Rm, and
+-- the slots of the extension without an amount and before one
 abbrev offsets : ℕ → Slot → List Slot → List Slot → List (List Pattern)
 offsets settled m bare scaled =
     each ls_reg (put_at 13 settled) plain_name (λ a. bracketed (x rn_sp ∷ then ∷ m ∷ bare)) (prefetch ∷ accesses)
@@ -134,8 +133,8 @@ offsets settled m bare scaled =
 -- uxtw and sxtw, told apart by bit 15; lsl, which isn't written without its amount; sxtx
 unfoldable pub ls_reg_lines : List (List Pattern)
 ls_reg_lines =
-    offsets 2 (w rm) (then ∷ of (Only ExtendWord) (plain (15 to 15)) ∷ [])
-    (then ∷ of (Only ExtendWord) (plain (15 to 15)) ∷ [])
+    offsets 2 (w rm) (then ∷ of (Only ExtendWord) (field (15 to 15)) ∷ [])
+    (then ∷ of (Only ExtendWord) (field (15 to 15)) ∷ [])
     ++ (offsets 3 (x rm) [] (then ∷ one Shift ∷ [])
     ++ offsets 7 (x rm) (then ∷ of (Only ExtendDoubleword) (always 1) ∷ [])
     (then ∷ of (Only ExtendDoubleword) (always 1) ∷ []))
@@ -156,9 +155,9 @@ ls_literal_texts =
 
 -- ---- pairs
 
--- the bits of opc and V, the registers' class, the bytes of one
+-- two registers of a class, and the place
 abbrev pair_slots : Class → List Slot → List Slot
-pair_slots c place = let rt2 = plain (14 to 10) in of (Only c) rt ∷ then ∷ of (Only c) rt2 ∷ then ∷ place
+pair_slots c place = let rt2 = field (14 to 10) in of (Only c) rt ∷ then ∷ of (Only c) rt2 ∷ then ∷ place
 
 abbrev imm7 : ℕ → Slot
 imm7 n = counted (signed_times n (At (21 to 15)))
@@ -166,13 +165,15 @@ imm7 n = counted (signed_times n (At (21 to 15)))
 abbrev pair_row : ℕ → ℕ → List ℕ → List Slot → Pattern
 pair_row settled mode name ss = row pair 0 (settled + put_at 23 mode) name ss
 
--- the three modes that `stp` and `ldp` have, and that of `stnp` and `ldnp`
+-- the three modes that `stp`, `ldp` and `ldpsw` have, by the bits that are settled, the registers' class, and the bytes
+-- of one
 abbrev pair_modes : ℕ → List ℕ → Class → ℕ → List Pattern
 pair_modes settled name c n =
     pair_row settled 1 name (pair_slots c (post_place (imm7 n)))
     ∷ pair_row settled 2 name (pair_slots c (offset_place (imm7 n)))
     ∷ pair_row settled 3 name (pair_slots c (pre_place (imm7 n))) ∷ []
 
+-- these, and the mode of `stnp` and `ldnp`, by opc, V, the registers' class, and the bytes of one
 abbrev pairs : ℕ → ℕ → Class → ℕ → List Pattern
 pairs opc v c n =
     let bits = put_at 30 opc + put_at 26 v in
@@ -201,7 +202,7 @@ sized l k name first =
 
 unfoldable pub store_ex_texts : List Pattern
 store_ex_texts =
-    let rs = plain (20 to 16) in
+    let rs = field (20 to 16) in
     sized store_ex 0 (codes "stxr") (w rs ∷ then ∷ []) ++ sized store_ex 1 (codes "stlxr") (w rs ∷ then ∷ [])
 
 unfoldable pub load_ex_texts : List Pattern
@@ -214,7 +215,7 @@ ordered_texts = sized ordered 0 (codes "stlr") [] ++ sized ordered 1 (codes "lda
 
 -- a row with some bits settled at its sizes: bytes and halfwords by the name, words and doublewords by both registers
 abbrev two_sized : {F : Type 0} → Line F → ℕ → ℕ → List ℕ → List Pattern
-two_sized l k settled name = let rs = plain (20 to 16) in
+two_sized l k settled name = let rs = field (20 to 16) in
     row l k settled (name ++ codes "b") (w rs ∷ then ∷ w rt ∷ then ∷ place)
     ∷ row l k (put_at 30 1 + settled) (name ++ codes "h") (w rs ∷ then ∷ w rt ∷ then ∷ place)
     ∷ row l k (put_at 31 1 + settled) name
@@ -240,9 +241,13 @@ atomic_texts =
 unfoldable pub compare_swap_texts : List Pattern
 compare_swap_texts = orders compare_swap 0 22 15 (codes "cas")
 
--- the patterns of these lines, in the order of the table's, those of offsets in registers in six parts
-unfoldable pub memory_lines : List (List Pattern)
-memory_lines =
+-- the patterns of these lines, in the order of the table's, with those of offsets in registers
+abbrev pub memory_lines_with : List (List Pattern) → List (List Pattern)
+memory_lines_with offsets =
     ls_unsigned_texts ∷ ls_unscaled_texts ∷ ls_post_texts ∷ ls_pre_texts
-    ∷ (ls_reg_lines ++ (ls_literal_texts ∷ pair_texts ∷ store_ex_texts ∷ load_ex_texts ∷ ordered_texts ∷ atomic_texts
+    ∷ (offsets ++ (ls_literal_texts ∷ pair_texts ∷ store_ex_texts ∷ load_ex_texts ∷ ordered_texts ∷ atomic_texts
     ∷ compare_swap_texts ∷ []))
+
+-- the same, those of offsets in registers in six parts
+unfoldable pub memory_lines : List (List Pattern)
+memory_lines = memory_lines_with ls_reg_lines

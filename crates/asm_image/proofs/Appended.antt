@@ -1,10 +1,10 @@
 -- Bytes appended one after the other, as a file is written.
-use Rattle.std.proofs.Common.{◌≡◌, ℕ, ◌+◌, ◌-◌, ◌==◌, ◌&&◌, ◌≤◌, ◌∙◌, true, false, List, [], ◌++◌, append_assoc, Result, Ok, Err, is_ok, if◌then◌else◌, length, length-append, refl, sym, ap, arith}
+use Rattle.std.proofs.Common.{◌≡◌, ℕ, ◌+◌, ◌-◌, ◌==◌, ◌&&◌, ◌≤◌, ◌∙◌, true, false, List, [], ◌++◌, append_assoc, replicate, Result, Ok, Err, is_ok, if◌then◌else◌, length, length-append, refl, sym, ap, arith}
 use Rattle.std.specs.Prelude.{OnOk}
 use Rattle.std.proofs.lemmas.Bool.{cond-true, cond-false}
 use Rattle.std.proofs.lemmas.List.{length-replicate}
 use Rattle.emu_model.specs.Access.{page_size}
-use Rattle.listing_model.specs.File.{rounded, zeros, padded, elf_header, code_header, data_header, file_of}
+use Rattle.listing_model.specs.File.{rounded, padded, elf_header, code_header, data_header, file_of}
 
 -- two pieces behind a file
 pub two : (f g h b c : List ℕ) → g ≡ f ++ b → h ≡ g ++ c → h ≡ f ++ (b ++ c)
@@ -25,6 +25,9 @@ one_segment entry bss code values f0 f1 f2 f3 f4 t e0 e1 e2 e3 e4 =
     let headers : f2 ≡ elf_header entry 1 ++ code_header (length code) =
     e2 ∙ ap (λ (xs : List ℕ). xs ++ code_header (length code)) (e1 ∙ ap (λ (xs : List ℕ). xs ++ elf_header entry 1) e0) in
     e4 ∙ ap (λ (xs : List ℕ). xs ++ code) (e3 ∙ ap (padded page_size) headers) ∙ sym (cond-true (length values == 0 && bss == 0) _ _ t)
+
+abbrev pub zeros : ℕ → List ℕ
+zeros n = replicate n 0
 
 -- zeros behind the second of two pieces
 padded_behind : (m n : ℕ) (xs ys : List ℕ) → length xs ≡ m → padded (m + n) (xs ++ ys) ≡ xs ++ padded n ys

@@ -35,7 +35,8 @@ use Rattle.listing_model.specs.Faults.{Answers}
 use Rattle.listing_model.specs.File.{code_base, file_of}
 use Rattle.listing_model.specs.Image.{Contents, address_of, contents_of, entry_address, file_with, file_from, image_of}
 use Rattle.listing_model.specs.Layout.{Piece, bytes, aimed, address, mention, Placed, Labeled, Layout, empty_layout, size, is_data, laid_out, placed_line, at_line}
-use Rattle.listing_model.specs.LineOf.{named as statement_named, line_of, line_of_tokens, body_of, instruction, instruction_body, directive_body, with_label, colon}
+use Rattle.listing_model.specs.Bodies.{instruction_body, directive_body}
+use Rattle.listing_model.specs.LineOf.{named as statement_named, line_of, line_of_tokens, body_of, instruction, with_label, colon}
 use Rattle.listing_model.specs.Lines.{lines_of}
 use Rattle.listing_model.specs.Statements.{Statements}
 use Rattle.asm_tokens.specs.Layout.{is_sign}

@@ -1,5 +1,6 @@
 -- Holes filled one by one.
 use Rattle.std.proofs.Common.{◌≡◌, ℕ, zero, suc, ◌+◌, ◌<◌, ◌∙◌, cond, List, [], ◌∷◌, ◌++◌, append_assoc, append-nil, Option, Some, None, Result, Ok, Err, drop, take, get_or, length, length-append, refl, sym, ap, ap₂, subst, arith}
+use Rattle.std.specs.Prelude.{ok_or, option_map}
 use Rattle.asm_image.specs.declared.draft.Gap.{Gap}
 use Rattle.asm_image.specs.declared.draft.Gap.TheVariants.{Aim, Address, Mention}
 use Rattle.asm_image.specs.declared.draft.Hole.{Hole}
@@ -10,9 +11,10 @@ use Rattle.asm_tokens.specs.declared.target.Target.TheVariants as target
 use Rattle.byteorder.specs.Endian.{little_bytes}
 use Rattle.listing_model.specs.declared.fault.ListingFault.{ListingFault}
 use Rattle.listing_model.specs.declared.fault.ListingWhy.{ListingWhy}
+use Rattle.listing_model.specs.declared.fault.ListingWhy.TheVariants.{UnknownLabel, TooFar}
 use Rattle.listing_model.specs.declared.line.Section.{Section}
 use Rattle.listing_model.specs.declared.line.Section.TheVariants.{Code, Data}
-use Rattle.listing_model.specs.Image.{Contents, base, filled, aimed_at, aimed_word, address_bytes, mentioned, joined, contents_of}
+use Rattle.listing_model.specs.Image.{Contents, base, filled, aimed_at, joined, contents_of}
 use Rattle.listing_model.specs.Layout.{Piece, bytes, aimed, address, mention, Placed, is_data, size}
 use Rattle.listing_model.specs.Statements.{Statements}
 
@@ -37,7 +39,7 @@ joined_behind a b bs n Data (Ok c) =
 -- ---- what fills a piece has its size
 
 module _ {I : Type 0} (s : Statements I) where
-  word_size : (o : Option I) (bs : List ℕ) → aimed_word s o ≡ Ok bs → length bs ≡ 4
+  word_size : (o : Option I) (bs : List ℕ) → ok_or (option_map (λ (i : I). little_bytes 4 (s.word i)) o) TooFar ≡ Ok bs → length bs ≡ 4
   word_size None bs h = cc
   word_size (Some i) bs h = let e : little_bytes 4 (s.word i) ≡ bs = cc in sym (ap length e)
 
@@ -45,11 +47,11 @@ module _ {I : Type 0} (s : Statements I) where
   aimed_size i pc None bs h = cc
   aimed_size i pc (Some a) bs h = word_size (s.aimed i pc a) bs h
 
-  address_size : (o : Option ℕ) (bs : List ℕ) → address_bytes s o ≡ Ok bs → length bs ≡ 8
+  address_size : (o : Option ℕ) (bs : List ℕ) → ok_or (option_map (little_bytes 8) o) UnknownLabel ≡ Ok bs → length bs ≡ 8
   address_size None bs h = cc
   address_size (Some a) bs h = let e : little_bytes 8 a ≡ bs = cc in sym (ap length e)
 
-  mention_size : (o : Option ℕ) (bs : List ℕ) → mentioned s o ≡ Ok bs → length bs ≡ 0
+  mention_size : (o : Option ℕ) (bs : List ℕ) → ok_or (option_map (λ (a : ℕ). []) o) UnknownLabel ≡ Ok bs → length bs ≡ 0
   mention_size None bs h = cc
   mention_size (Some a) bs h = let e : [] ≡ bs = cc in sym (ap length e)
 

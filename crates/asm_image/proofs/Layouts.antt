@@ -1,6 +1,7 @@
 -- Layouts with pieces more, and drafts that hold them.
 use Rattle.std.proofs.Common.{◌≡◌, ℕ, ◌+◌, ◌^◌, ◌<◌, ◌≤◌, ◌∙◌, ◌||◌, nat_lt, Bool, true, false, cond, List, [], ◌∷◌, ◌++◌, append_assoc, append-nil, Option, Some, None, Result, Ok, Err, length, length-append, refl, sym, ap, ap₂, subst, arith, inl, inr}
 use Rattle.std.specs.Prelude.{sum_by, OnOk, IfErr}
+use Rattle.std.specs.Option.{option_or}
 use Rattle.std.proofs.lemmas.List.Sums.{sum_by-append, sum_by-cons}
 use Rattle.std.proofs.lemmas.Bool.{cond-true, cond-false, or_cases, or_from, or_left, or_right, lt-ltb, le-ltb, ltb-true}
 use Rattle.asm_image.specs.declared.draft.Draft.{Draft}
@@ -11,7 +12,7 @@ use Rattle.asm_image.specs.Draft.{drafted, in_code, in_data, drafted_code, draft
 use Rattle.listing_model.specs.declared.line.Body.{Body}
 use Rattle.listing_model.specs.declared.line.Section.{Section}
 use Rattle.listing_model.specs.declared.line.Section.TheVariants.{Code, Data}
-use Rattle.listing_model.specs.Layout.{Piece, bytes, aimed, address, mention, Placed, Layout, size, is_data, here, placed_from, pieces_of, section_after, bss_of, entry_of, first_of, is_too_large}
+use Rattle.listing_model.specs.Layout.{Piece, bytes, aimed, address, mention, Placed, Layout, size, is_data, here, placed_from, pieces_of, section_after, bss_of, entry_of, is_too_large}
 use Rattle.listing_model.specs.Statements.{Statements}
 
 -- ---- sums and choices
@@ -36,7 +37,7 @@ low_second : (b : Bool) (x m n : ℕ) → x + cond b m 0 ≤ x + cond b (m + n) 
 low_second true x m n = omega arith
 low_second false x m n = omega arith
 
-pub first_none : {A : Type 0} (o : Option A) → first_of o None ≡ o
+pub first_none : {A : Type 0} (o : Option A) → option_or o None ≡ o
 first_none None = refl
 first_none (Some x) = refl
 
@@ -251,7 +252,7 @@ module _ {I : Type 0} where
   plain_body s n l b h k e =
       let labels : l.labels ++ [] ≡ l.labels = append-nil l.labels in
       let bss : l.bss_size + bss_of b ≡ l.bss_size = omega arith in
-      let entry : first_of l.entry (entry_of b) ≡ l.entry = ap (first_of l.entry) e ∙ first_none l.entry in
+      let entry : option_or l.entry (entry_of b) ≡ l.entry = ap (option_or l.entry) e ∙ first_none l.entry in
       λ i. record (with_pieces n (pieces_of s b (here l)) l) { labels = labels i; section = h i; bss_size = bss i; entry = entry i }
 
   pub no_pieces : (n : ℕ) (l : Layout I) → with_pieces n [] l ≡ l

@@ -1,6 +1,7 @@
 -- The bodies of lines, put piece by piece.
 use Rattle.std.proofs.Common.{◌≡◌, ℕ, zero, suc, ◌+◌, ◌≤◌, ◌∙◌, Bool, true, false, cond, List, [], ◌∷◌, ◌++◌, append-nil, append_assoc, Option, Some, None, Result, Err, length, map, replicate, take, refl, sym, ap, ap₂, subst, arith}
 use Rattle.std.specs.Prelude.{OnOk, IfErr}
+use Rattle.std.specs.Option.{option_or}
 use Rattle.std.specs.Int.{byte_at, bytes_low_first}
 use Rattle.std.proofs.lemmas.List.{map-append}
 use Rattle.asm_image.specs.declared.draft.Draft.{Draft}
@@ -18,7 +19,7 @@ use Rattle.listing_model.specs.declared.line.Body.{Body}
 use Rattle.listing_model.specs.declared.line.Body.TheVariants as body
 use Rattle.listing_model.specs.declared.line.Section.{Section}
 use Rattle.listing_model.specs.declared.line.Section.TheVariants as section
-use Rattle.listing_model.specs.Layout.{Piece, bytes, aimed, address, mention, Layout, size, is_data, here, number_piece, pieces_of, section_after, bss_of, entry_of, first_of, is_too_large}
+use Rattle.listing_model.specs.Layout.{Piece, bytes, aimed, address, mention, Layout, size, is_data, here, number_piece, pieces_of, section_after, bss_of, entry_of, is_too_large}
 use Rattle.listing_model.specs.Statements.{Statements}
 
 -- the first bytes of a number
@@ -88,7 +89,7 @@ module _ {I : Type 0} where
     entry = is.entry ∙ first_entry l.entry;
   })
     where
-      first_entry : (o : Option (List ℕ)) → o ≡ first_of o None
+      first_entry : (o : Option (List ℕ)) → o ≡ option_or o None
       first_entry None = refl
       first_entry (Some x) = refl
 
@@ -107,7 +108,7 @@ module _ {I : Type 0} where
     entry = is.entry ∙ first_entry l.entry;
   })
     where
-      first_entry : (o : Option (List ℕ)) → o ≡ first_of o None
+      first_entry : (o : Option (List ℕ)) → o ≡ option_or o None
       first_entry None = refl
       first_entry (Some x) = refl
 
@@ -137,7 +138,7 @@ module _ {I : Type 0} where
       }) in
       let labels : l.labels ≡ l.labels ++ [] = sym (append-nil l.labels) in
       let bss : l.bss_size ≡ l.bss_size + 0 = omega arith in
-      let entry : Some name ≡ first_of l.entry (Some name) = ap (λ (o : Option (List ℕ)). first_of o (Some name)) (sym none ∙ is.entry) in
+      let entry : Some name ≡ option_or l.entry (Some name) = ap (λ (o : Option (List ℕ)). option_or o (Some name)) (sym none ∙ is.entry) in
       let same : with_pieces n (mention name ∷ []) l1 ≡ with_body s n l (body.Directive (directive.Entry name)) =
       λ i. record (with_pieces n (mention name ∷ []) l1) { labels = labels i; bss_size = bss i; entry = entry i } in
       subst (IsPut h r e) same (hole_put h n (mention name) (Mention name) f e l1 r is1 tt refl refl ok full)

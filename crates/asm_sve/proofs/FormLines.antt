@@ -2,10 +2,11 @@
 use Rattle.std.proofs.Common.{◌≡◌, ℕ, List, [], get_or, refl, ap}
 use Rattle.emu_bits.proofs.LineNumbers.{counted, number_of_form, numbers_of}
 use Rattle.sve_insn.specs.declared.lines.TheConstants.{LINES}
-use Rattle.sve_insn.specs.Table.{sve_table, lines_open}
+use Rattle.sve_insn.specs.Table.{sve_table}
+use Rattle.sve_insn.specs.Opened.{lines_open}
 use Rattle.sve_insn.specs.Rows.{line_number}
 use Rattle.asm_sve.specs.Table.{sve_lines}
-use Rattle.asm_sve.specs.Law.{TextsOfLines}
+use Rattle.asm_sve.specs.LawOfTexts.{TextsOfLines}
 
 in_order : (n : ℕ) (vs : List ℕ) → numbers_of line_number sve_table n vs ≡ counted 0 LINES
 unfolding lines_open sve_table

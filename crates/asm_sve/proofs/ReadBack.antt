@@ -1,13 +1,16 @@
 -- What reading the text of an instruction gives: computed over the table, and by the law of a table.
 use Rattle.asm_sve.specs.Table.{memory_texts, data_texts, move_texts, sve_lines, sve_patterns}
+use Rattle.asm_sve.specs.KindsOpened.{memory_texts_open, data_texts_open, move_texts_open}
 use Rattle.asm_sve.specs.Opened.{texts_open}
-use Rattle.sve_insn.specs.Table.{lines_open, sve_table}
+use Rattle.sve_insn.specs.Table.{sve_table}
+use Rattle.sve_insn.specs.Opened.{lines_open}
 use Rattle.sve_insn.specs.Rows.{row_of, line_number}
 use Rattle.std.proofs.Common.{◌≡◌, ℕ, zero, suc, ◌-◌, ◌*◌, ◌/◌, ◌%◌, ◌^◌, ◌<◌, ◌≤◌, ◌&&◌, Bool, true, false, Option, Some, None, Ok, List, [], ◌∷◌, get_or, bit_and, bit_or, nat_lt, nat_le, refl, sym, ap, ap₂, ◌∙◌, subst, arith, inl, inr, append-nil}
 use Rattle.std.proofs.lemmas.Bool.{cases_Bool, and_parts, and_from, false≢true, true≢false, leb-true, ltb-true}
 use Rattle.std.proofs.lemmas.Nat.{and_mask, or_lt}
 use Rattle.std.proofs.Math.Nat.{mod-eq_of_lt}
 use Rattle.std.specs.Prelude.{is_some, unwrap_or}
+use Rattle.std.specs.Option.{option_map_or}
 use Rattle.emu_bits.specs.Bitmask.{bitmask_of, element_log}
 use Rattle.emu_bits.specs.Fields.{field, bit}
 use Rattle.emu_bits.specs.Rows.{Place, ◌to◌, width, values, fill, Line, Row, row_in}
@@ -19,7 +22,7 @@ use Rattle.text_model.specs.declared.slots.Kind.TheVariants.{Bitmask}
 use Rattle.text_model.specs.Slots.{joined}
 use Rattle.text_model.specs.Reading.{Pattern, is_canonical, all_canonical}
 use Rattle.text_model.specs.ReadBack.{reads_text, destination_of, reached, unaimed}
-use Rattle.text_model.specs.Text.{chosen, text_by, text}
+use Rattle.text_model.specs.Text.{chosen, text}
 use Rattle.text_model.specs.Aim.{Reach, reach_of, reach_bits}
 use Rattle.text_model.specs.Writing.{flat}
 use Rattle.text_model.proofs.Again.{pattern_at}
@@ -32,7 +35,8 @@ use Rattle.sve_rows.proofs.Alone.{sound}
 use Rattle.sve_rows.proofs.Laws.{one_row}
 use Rattle.sve_rows.proofs.Listed.{listed}
 use Rattle.asm_sve.specs.Lanes.{bitmask_z_texts}
-use Rattle.asm_sve.specs.Law.{in_table, word_of, texts_of, is_canonical_form, IsReadBack}
+use Rattle.asm_sve.specs.Law.{in_table, word_of, texts_of}
+use Rattle.asm_sve.specs.LawOfTexts.{is_canonical_form, IsReadBack}
 use Rattle.asm_sve.proofs.Checked.{readable, written, aimed_well, apart, reach_well}
 use Rattle.asm_sve.proofs.Untargeted.{sve_reach}
 use Rattle.asm_sve.proofs.Shown.{IsShown, AreShown}
@@ -147,7 +151,7 @@ mask_pattern w (suc (suc (suc zero))) p c e = ap (λ (x : Pattern). all_canonica
 mask_pattern w (suc (suc (suc (suc n)))) p c e = absurd (cc)
 
 bitmask_canonical : (f : SveForm) (p : Pattern) → IsRow (row_of f) → is_bitmask f ≡ true → is_canonical_form f ≡ true → chosen (texts_of f) (word_of f) ≡ Some p → all_canonical p.slots (word_of f) ≡ true
-unfolding sve_lines memory_texts data_texts move_texts bitmask_z has_bitmask
+unfolding sve_lines memory_texts data_texts move_texts memory_texts_open data_texts_open move_texts_open bitmask_z has_bitmask
 bitmask_canonical (BitmaskZ op n immr imms zdn) p v i c e =
     let f : SveForm = BitmaskZ op n immr imms zdn in
     let w : ℕ = word_of f in
@@ -199,7 +203,7 @@ read_back f v c =
     let whole : unaimed p.slots w ≡ w = ap (λ (o : Option Reach). bit_and w (2 ^ 32 - 1 - reach_bits o)) n ∙ whole_word w small in
     let there : in_table (unaimed p.slots w) ≡ true = ap in_table whole ∙ in_table_itself f v in
     let r = table_law in_table sve_lines [] (line_number f) p w 0 legible t.1 small (omega arith) (canonical f p v c t.1) there in
-    ap (λ (o : Option Pattern). reads_text in_table (flat sve_lines) (text_by o w 0)) t.1
+    ap (λ (o : Option Pattern). reads_text in_table (flat sve_lines) (option_map_or (λ p. text p w 0) o [])) t.1
     ∙ ap (λ (ps : List Pattern). reads_text in_table ps (text p w 0)) (sym (append-nil (flat sve_lines)))
     ∙ r.read
     ∙ ap₂ (λ (x : ℕ) (o : Option Reach). Ok (record { word = x; target = destination_of (reached o w 0) })) whole n

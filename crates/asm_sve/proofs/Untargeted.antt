@@ -3,6 +3,7 @@ use Rattle.asm_sve.specs.Table.{sve_patterns}
 use Rattle.asm_sve.specs.Opened.{texts_open}
 use Rattle.std.proofs.Common.{◌≡◌, ℕ, zero, suc, ◌&&◌, if◌then◌else◌, Bool, true, false, not, Option, Some, None, Result, Ok, Err, List, [], ◌∷◌, refl, sym, ap, ◌∙◌, inl, inr}
 use Rattle.std.proofs.lemmas.Bool.{cases_Bool, and_parts, or_parts, not-true, true≢false}
+use Rattle.std.specs.Str.{bytes_eq}
 use Rattle.emu_bits.specs.Rows.{Place}
 use Rattle.text_model.specs.declared.slots.Kind.{Kind}
 use Rattle.text_model.specs.declared.slots.Kind.TheVariants.{Target}
@@ -11,7 +12,7 @@ use Rattle.text_model.specs.declared.slots.Item.{Item}
 use Rattle.text_model.specs.declared.slots.Refusal.{Refusal}
 use Rattle.text_model.specs.declared.slots.Refusal.TheVariants.{UnknownName, BadOperands, OutOfRange}
 use Rattle.text_model.specs.Slots.{places, items_in, all_fit}
-use Rattle.text_model.specs.Reading.{Pattern, Read, Operands, is_target, has_target, same_classes, same_values, same_name, all_canonical, word_told, judged, items_to_read, answer, best, reads}
+use Rattle.text_model.specs.Reading.{Pattern, Read, Operands, is_target, has_target, same_classes, same_values, all_canonical, word_told, judged, items_to_read, answer, best, reads}
 use Rattle.text_model.specs.Statement.{Statement, lowered, operands_of, last_target, items_of, with_target, reads_tokens}
 use Rattle.text_model.specs.Aim.{Reach, reach_or, reach_of}
 use Rattle.text_model.proofs.Again.{pattern_at}
@@ -61,7 +62,7 @@ unaimed_answer in_table p name o r n h =
     let is : List Item = items_to_read p o in
     let w : ℕ = word_told p is in
     let f = λ (b : Bool). if b then judged in_table p is w else Err UnknownName in
-    elim (cases_Bool (same_name name p.name)) [
+    elim (cases_Bool (bytes_eq name p.name)) [
       | inl e ↦ (let fine : Bool = same_values (items_in p.slots w) is && (all_fit p.slots w && (all_canonical p.slots w && in_table w)) in
           let g = good (same_classes (items_in p.slots w) is) fine (record { word = w; aimed = has_target p.slots }) r (sym (ap f e) ∙ h) in
           sym (ap (λ (x : Read). x.aimed) g) ∙ n)

@@ -1,4 +1,6 @@
--- The texts of loads and stores of consecutive elements.
+-- The texts of loads and stores of consecutive elements. They are the assembler syntax of the entries LD1, LDFF1,
+-- LDNF1, LDNT1, LD1R, LD1RQ, LD2 to LD4, ST1, STNT1, ST2 to ST4 (each by its letters), LDR and STR of the Arm
+-- Architecture Reference Manual for A-profile (DDI 0487), C8.2 'Alphabetical list of SVE instructions'.
 use Rattle.std.specs.Prelude.{ℕ, ◌+◌, ◌/◌, ◌%◌, ◌^◌, List, [], ◌∷◌, ◌++◌, codes}
 use Rattle.emu_bits.specs.Rows.{Line}
 use Rattle.sve_insn.specs.Memory.{load_imm, load_reg, load_ff, load_nf, load_nt_imm, load_nt_reg, load_quad_imm, load_quad_reg, load_many_imm, load_many_reg, load_one, load_z, load_p, store_imm, store_reg, store_nt_imm, store_nt_reg, store_many_imm, store_many_reg, store_z, store_p}
@@ -8,7 +10,7 @@ use Rattle.text_model.specs.declared.slots.Parts.TheVariants.{At, Two}
 use Rattle.text_model.specs.declared.slots.Shape.TheVariants.{Told}
 use Rattle.text_model.specs.declared.slots.Slot.{Slot}
 use Rattle.text_model.specs.Reading.{Pattern}
-use Rattle.text_model.specs.Writing.{◌to◌, plain, times, signed_times, of, counted, perhaps, inside, bracketed, braced, row, put_at}
+use Rattle.text_model.specs.Writing.{◌to◌, field, times, signed_times, of, counted, perhaps, inside, bracketed, braced, row, put_at}
 use Rattle.asm_sve.specs.Operands.{separated, all_sizes, z_class, letter, sized, pg, register, p_zeroing}
 use Rattle.asm_sve.specs.Places.{zt, loaded, stored, many, base, in_lengths, imm_place, reg_place}
 
@@ -132,7 +134,7 @@ store_many_reg_texts =
 abbrev pub store_lanes : {F : Type 0} → Line F → (ℕ → List Slot) → List Pattern
 store_lanes l place = sized all_sizes (λ m.
     row l 0 (put_at 23 m) (codes "st1" ++ letter m)
-    (separated (braced (of (Told (22 to 21) Lanes) (plain zt) ∷ []) ∷ register P pg ∷ place m ∷ [])) ∷ [])
+    (separated (braced (of (Told (22 to 21) Lanes) (field zt) ∷ []) ∷ register P pg ∷ place m ∷ [])) ∷ [])
 
 unfoldable pub store_imm_texts : List Pattern
 store_imm_texts = store_lanes store_imm (λ m. imm_place 1)

@@ -1,4 +1,6 @@
--- The texts of lines of folds and counts.
+-- The texts of lines of folds and counts. They are the assembler syntax of the entries of reductions (as SADDV), of
+-- element counts (as CNTB, INCB and SQINCB), ADDVL, ADDPL and RDVL of the Arm Architecture Reference Manual for
+-- A-profile (DDI 0487), C8.2 'Alphabetical list of SVE instructions'.
 use Rattle.std.specs.Prelude.{ℕ, ◌+◌, List, [], ◌∷◌, ◌++◌, codes}
 use Rattle.emu_bits.specs.Rows.{Line}
 use Rattle.sve_insn.specs.Folds.{reduce, count_elements, inc_x, inc_z, sat_x, sat_z, add_length, read_length}

@@ -1,4 +1,6 @@
--- The texts of gathers and scatters.
+-- The texts of gathers and scatters. They are the assembler syntax of the entries LD1, LDFF1 and ST1 (each by its
+-- letters) with vectors in their addresses of the Arm Architecture Reference Manual for A-profile (DDI 0487), C8.2
+-- 'Alphabetical list of SVE instructions'.
 use Rattle.std.specs.Prelude.{ℕ, ◌+◌, ◌^◌, List, [], ◌∷◌, ◌++◌, codes}
 use Rattle.emu_bits.specs.Rows.{Line}
 use Rattle.sve_insn.specs.Memory.{gather_sx, gather_sx_scaled, gather_dx, gather_dx_scaled, gather_d, gather_d_scaled, gather_sv, gather_dv, scatter_sx, scatter_sx_scaled, scatter_dx, scatter_dx_scaled, scatter_d, scatter_d_scaled, scatter_sv, scatter_dv}
@@ -9,7 +11,7 @@ use Rattle.text_model.specs.declared.slots.Parts.TheVariants.{At}
 use Rattle.text_model.specs.declared.slots.Shape.TheVariants.{Only}
 use Rattle.text_model.specs.declared.slots.Slot.{Slot}
 use Rattle.text_model.specs.Reading.{Pattern}
-use Rattle.text_model.specs.Writing.{◌to◌, plain, times, of, then, counted, amount, perhaps, inside, bracketed, row, put_at}
+use Rattle.text_model.specs.Writing.{◌to◌, field, times, of, then, counted, amount, perhaps, inside, bracketed, row, put_at}
 use Rattle.asm_sve.specs.Operands.{letter, sized, zn, zm}
 use Rattle.asm_sve.specs.Places.{loaded, stored, base, scaled}
 
@@ -18,17 +20,17 @@ use Rattle.asm_sve.specs.Places.{loaded, stored, base, scaled}
 -- [Xn|SP, Zm.T, uxtw], the extension by the field xs
 abbrev pub extended_place : Class → Bits → List Slot → List Slot
 extended_place lanes xs behind =
-    bracketed (base ∷ then ∷ of (Only lanes) (plain zm) ∷ then ∷ of (Only ExtendWord) (plain xs) ∷ behind)
+    bracketed (base ∷ then ∷ of (Only lanes) (field zm) ∷ then ∷ of (Only ExtendWord) (field xs) ∷ behind)
 
 -- [Xn|SP, Zm.d, lsl #s]
 abbrev pub doubleword_place : ℕ → List Slot
-doubleword_place s = bracketed (base ∷ then ∷ of (Only Zd) (plain zm) ∷ scaled s)
+doubleword_place s = bracketed (base ∷ then ∷ of (Only Zd) (field zm) ∷ scaled s)
 
 -- [Zn.T{, #0}], imm5 times the bytes of an element
 abbrev pub vector_place : Class → ℕ → List Slot
 vector_place lanes s =
     let imm5 = 20 to 16 in
-    bracketed (of (Only lanes) (plain zn) ∷ perhaps ∷ inside 0 (counted (times (2 ^ s) (At imm5))) ∷ [])
+    bracketed (of (Only lanes) (field zn) ∷ perhaps ∷ inside 0 (counted (times (2 ^ s) (At imm5))) ∷ [])
 
 -- ---- gathers
 

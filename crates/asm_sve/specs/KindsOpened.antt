@@ -1,5 +1,5 @@
 -- The texts of each kind of lines, opened with the lines for whatever goes over them.
-use Rattle.sve_insn.specs.Table.{memory_lines_open, data_lines_open, move_lines_open, predicate_lines_open}
+use Rattle.sve_insn.specs.Opened.{memory_lines_open, data_lines_open, move_lines_open, predicate_lines_open}
 use Rattle.asm_sve.specs.Contiguous.{load_imm_texts, load_reg_texts, load_ff_texts, load_nf_texts, load_nt_imm_texts, load_nt_reg_texts, load_quad_imm_texts, load_quad_reg_texts, load_many_imm_texts, load_many_reg_texts, load_one_texts, load_z_texts, load_p_texts, store_imm_texts, store_reg_texts, store_nt_imm_texts, store_nt_reg_texts, store_many_imm_texts, store_many_reg_texts, store_z_texts, store_p_texts}
 use Rattle.asm_sve.specs.Gathers.{gather_sx_texts, gather_sx_scaled_texts, gather_dx_texts, gather_dx_scaled_texts, gather_d_texts, gather_d_scaled_texts, gather_sv_texts, gather_dv_texts, scatter_sx_texts, scatter_sx_scaled_texts, scatter_dx_texts, scatter_dx_scaled_texts, scatter_d_texts, scatter_d_scaled_texts, scatter_sv_texts, scatter_dv_texts}
 use Rattle.asm_sve.specs.Lanes.{binary_texts, binary_wide_texts, shift_imm_texts, unary_texts, mul_add_z_texts, mul_add_d_texts, plain_texts, logic_z_texts, plain_wide_texts, plain_shift_texts, index_texts, dot_texts, dot_indexed_texts, wide_imm_texts, min_max_imm_texts, dup_imm_texts, bitmask_z_texts, copy_imm_texts, prefix_p_texts, prefix_texts, select_z_texts}

@@ -1,4 +1,6 @@
--- The texts of lines whose results are lane by lane.
+-- The texts of lines whose results are lane by lane. They are the assembler syntax of the entries of integer
+-- arithmetic, logic, shifts, moves and copies of the Arm Architecture Reference Manual for A-profile (DDI 0487), C8.2
+-- 'Alphabetical list of SVE instructions'.
 use Rattle.std.specs.Prelude.{ℕ, ◌+◌, ◌^◌, List, [], ◌∷◌, ◌++◌, get_or, codes}
 use Rattle.sve_insn.specs.Lanes.{binary, binary_wide, shift_imm, unary, mul_add_z, mul_add_d, plain, logic_z, plain_wide, plain_shift, index_z, dot, dot_indexed, wide_imm, min_max_imm, dup_imm, bitmask_z, copy_imm, prefix_p, prefix, select_z}
 use Rattle.text_model.specs.declared.classes.Class.TheVariants.{Z, Zb, Zh, Zs, Zd, P}

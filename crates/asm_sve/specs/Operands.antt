@@ -1,5 +1,7 @@
--- Operands of SVE instructions: a list of slots each, by the bits of the word where the table has them.
-use Rattle.std.specs.Prelude.{ℕ, List, [], ◌∷◌, ◌++◌, get_or, map, codes}
+-- Operands of SVE instructions: a list of slots each, by the bits of the word where the table has them. They are the
+-- assembler symbols of the entries of the Arm Architecture Reference Manual for A-profile (DDI 0487), C8.2
+-- 'Alphabetical list of SVE instructions'; that an operand is a list of slots is this project's own.
+use Rattle.std.specs.Prelude.{ℕ, List, [], ◌∷◌, ◌++◌, get_or, map, flat_map, codes}
 use Rattle.text_model.specs.declared.classes.Class.{Class}
 use Rattle.text_model.specs.declared.classes.Class.TheVariants.{Slash, Zb, Zh, Zs, Zd, Zq, P, Pb, Ph, Ps, Pd, Shift, Count, Times, Merging, Zeroing}
 use Rattle.text_model.specs.declared.classes.Group.{Group}
@@ -11,7 +13,7 @@ use Rattle.text_model.specs.declared.slots.Kind.TheVariants.{NamedCount, Unnamed
 use Rattle.text_model.specs.declared.slots.Codec.{Codec}
 use Rattle.text_model.specs.declared.slots.Slot.{Slot}
 use Rattle.text_model.specs.Reading.{Pattern}
-use Rattle.text_model.specs.Writing.{◌to◌, coded, plain, stack, times, signed_times, always, of, one, then, counted, bare, perhaps, inside, bracketed}
+use Rattle.text_model.specs.Writing.{◌to◌, coded, field, stack, times, signed_times, always, of, one, then, counted, bare, perhaps, inside, bracketed}
 
 -- operands with commas between
 abbrev pub separated : List (List Slot) → List Slot
@@ -44,8 +46,7 @@ ended e names = map (λ n. n ++ e) names
 
 -- the patterns of each of some sizes
 abbrev pub sized : List ℕ → (ℕ → List Pattern) → List Pattern
-sized [] patterns = []
-sized (s ∷ ss) patterns = patterns s ++ sized ss patterns
+sized ss patterns = flat_map patterns ss
 
 -- ---- fields, by their names in the forms; of those at several places all but one have their bits behind the name
 
@@ -101,23 +102,23 @@ imm8 = 12 to 5
 
 -- a register of a class
 abbrev pub register : Class → Bits → List Slot
-register c b = of (Only c) (plain b) ∷ []
+register c b = of (Only c) (field b) ∷ []
 
 -- a vector register with T
 abbrev pub z_at : Bits → List Slot
-z_at b = of (Told size Lanes) (plain b) ∷ []
+z_at b = of (Told size Lanes) (field b) ∷ []
 
 -- a vector register with lanes of which size tells another one
 abbrev pub z_by : Group → Bits → List Slot
-z_by g b = of (Shown size g) (plain b) ∷ []
+z_by g b = of (Shown size g) (field b) ∷ []
 
 -- a predicate with T
 abbrev pub p_at : Bits → List Slot
-p_at b = of (Told size Flags) (plain b) ∷ []
+p_at b = of (Told size Flags) (field b) ∷ []
 
 -- R: x where T is d, else w
 abbrev pub r_at : Bits → List Slot
-r_at b = of (Shown size GeneralOfLane) (plain b) ∷ []
+r_at b = of (Shown size GeneralOfLane) (field b) ∷ []
 
 -- R|SP
 abbrev pub r_sp_at : Bits → List Slot
@@ -125,20 +126,20 @@ r_sp_at b = of (Shown size GeneralOfLane) (stack b) ∷ []
 
 -- V: the b, h, s or d register by T
 abbrev pub v_at : Bits → List Slot
-v_at b = of (Shown size Scalar) (plain b) ∷ []
+v_at b = of (Shown size Scalar) (field b) ∷ []
 
 -- ---- governing predicates
 
 -- Pg/m and Pg/z at bits of the word
 abbrev pub p_merging : Bits → List Slot
-p_merging b = of (Only P) (plain b) ∷ one Slash ∷ one Merging ∷ []
+p_merging b = of (Only P) (field b) ∷ one Slash ∷ one Merging ∷ []
 
 abbrev pub p_zeroing : Bits → List Slot
-p_zeroing b = of (Only P) (plain b) ∷ one Slash ∷ one Zeroing ∷ []
+p_zeroing b = of (Only P) (field b) ∷ one Slash ∷ one Zeroing ∷ []
 
 -- Pg/z where the field m is 0, Pg/m where it is 1
 abbrev pub p_either : Bits → Bits → List Slot
-p_either b m = of (Only P) (plain b) ∷ one Slash ∷ of (Told m Predication) (always 0) ∷ []
+p_either b m = of (Only P) (field b) ∷ one Slash ∷ of (Told m Predication) (always 0) ∷ []
 
 -- ---- numbers
 

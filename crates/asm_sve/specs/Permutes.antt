@@ -1,4 +1,6 @@
--- The texts of lines of permutes.
+-- The texts of lines of permutes. They are the assembler syntax of the entries DUP, INSR, REV, SUNPKLO and its kin,
+-- TBL, ZIP1, UZP1, TRN1 and their kin, PUNPKLO, COMPACT, SPLICE, EXT, CPY, LASTA, CLASTA and their kin of the Arm
+-- Architecture Reference Manual for A-profile (DDI 0487), C8.2 'Alphabetical list of SVE instructions'.
 use Rattle.std.specs.Prelude.{ℕ, ◌+◌, ◌^◌, List, [], ◌∷◌, ◌++◌, get_or, codes}
 use Rattle.sve_insn.specs.Folds.{dup_reg, dup_lane, insert_scalar, rev_z, unpack, table_lookup, interleave, interleave_p, unpack_p, rev_p, compact, splice, ext, copy_reg, last_active, cond_last}
 use Rattle.text_model.specs.declared.classes.Class.TheVariants.{Zb, P, Pb, Ph}

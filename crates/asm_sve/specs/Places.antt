@@ -1,4 +1,6 @@
--- What loads and stores have in common: names by what is read or written, operands, places in memory.
+-- What loads and stores have in common: names by what is read or written, operands, places in memory. They are the
+-- assembler symbols of the entries of loads and stores of the Arm Architecture Reference Manual for A-profile
+-- (DDI 0487), C8.2 'Alphabetical list of SVE instructions'; that an operand is a list of slots is this project's own.
 use Rattle.std.specs.Prelude.{ℕ, zero, suc, ◌+◌, List, [], ◌∷◌}
 use Rattle.text_model.specs.declared.classes.Class.{Class}
 use Rattle.text_model.specs.declared.classes.Class.TheVariants.{X, P, Shift, Times, VectorLength}
@@ -7,7 +9,7 @@ use Rattle.text_model.specs.declared.slots.Parts.TheVariants.{At}
 use Rattle.text_model.specs.declared.slots.Shape.TheVariants.{Only}
 use Rattle.text_model.specs.declared.slots.Kind.TheVariants.{After}
 use Rattle.text_model.specs.declared.slots.Slot.{Slot}
-use Rattle.text_model.specs.Writing.{◌to◌, coded, plain, stack, signed_times, always, of, one, then, counted, amount, perhaps, inside, bracketed, braced}
+use Rattle.text_model.specs.Writing.{◌to◌, coded, field, stack, signed_times, always, of, one, then, counted, amount, perhaps, inside, bracketed, braced}
 use Rattle.asm_sve.specs.Operands.{separated, rn, rm, pg, register, p_zeroing}
 
 -- ---- operands
@@ -53,4 +55,4 @@ scaled (suc s) = then ∷ of (Only Shift) (always 0) ∷ amount (suc s) ∷ []
 
 -- [Xn|SP, Xm, lsl #s]
 abbrev pub reg_place : ℕ → List Slot
-reg_place s = bracketed (base ∷ then ∷ of (Only X) (plain rm) ∷ scaled s)
+reg_place s = bracketed (base ∷ then ∷ of (Only X) (field rm) ∷ scaled s)

@@ -1,4 +1,6 @@
--- The texts of lines of predicates.
+-- The texts of lines of predicates. They are the assembler syntax of the entries of compares, of logic, breaks and
+-- counts of predicates, of FFR and of loops (WHILELT and its kin, CTERMEQ) of the Arm Architecture Reference Manual for
+-- A-profile (DDI 0487), C8.2 'Alphabetical list of SVE instructions'.
 use Rattle.std.specs.Prelude.{ℕ, List, [], ◌∷◌, ◌++◌, codes}
 use Rattle.sve_insn.specs.Predicates.{cmp_vec, cmp_wide, cmp_u_imm, cmp_s_imm, logic_p, select_p, break_first, break_pair, break_next, ptest, first_active, next_active, ptrue, pfalse, read_ffr, read_ffr_all, write_ffr, count_p, inc_p, inc_p_z, while_compare, cterm}
 use Rattle.text_model.specs.declared.classes.Class.TheVariants.{X, Zd, P, Pb}
@@ -7,7 +9,7 @@ use Rattle.text_model.specs.declared.slots.Bits.{Bits}
 use Rattle.text_model.specs.declared.slots.Shape.TheVariants.{Told}
 use Rattle.text_model.specs.declared.slots.Slot.{Slot}
 use Rattle.text_model.specs.Reading.{Pattern}
-use Rattle.text_model.specs.Writing.{◌to◌, plain, of, then, perhaps, inside, row, rows, put_at}
+use Rattle.text_model.specs.Writing.{◌to◌, field, of, then, perhaps, inside, row, rows, put_at}
 use Rattle.asm_sve.specs.Operands.{separated, all_sizes, z_class, p_class, ended, sized, zdn, zn, zm, rd, rdn, rn, rm, pd, pn, pm, pg, pg_13_10, register, z_at, p_at, p_zeroing, p_either, unsigned_at, signed_at, named_pattern, pattern_number}
 
 -- Comparisons of vectors are written size by size: lanes of 64 bits have the operands of the wide ones.
@@ -137,7 +139,7 @@ inc_p_z_texts = let pm_8_5 = 8 to 5 in rows inc_p_z 0 0 steps (separated (z_at z
 
 -- R, x where this bit is 1, else w
 abbrev pub r_by : Bits → Bits → List Slot
-r_by sf b = of (Told sf General) (plain b) ∷ []
+r_by sf b = of (Told sf General) (field b) ∷ []
 
 unfoldable pub while_texts : List Pattern
 while_texts = rows while_compare 0 0 (codes "whilelt" ∷ codes "whilele" ∷ codes "whilelo" ∷ codes "whilels" ∷ [])

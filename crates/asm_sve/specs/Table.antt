@@ -9,12 +9,10 @@ use Rattle.asm_sve.specs.Gathers.{gather_sx_texts, gather_sx_scaled_texts, gathe
 use Rattle.asm_sve.specs.Lanes.{binary_texts, binary_wide_texts, shift_imm_texts, unary_texts, mul_add_z_texts, mul_add_d_texts, plain_texts, logic_z_texts, plain_wide_texts, plain_shift_texts, index_texts, dot_texts, dot_indexed_texts, wide_imm_texts, min_max_imm_texts, dup_imm_texts, bitmask_z_texts, copy_imm_texts, prefix_p_texts, prefix_texts, select_z_texts}
 use Rattle.asm_sve.specs.Folds.{reduce_texts, count_texts, inc_x_texts, inc_z_texts, sat_x_texts, sat_z_texts, add_length_texts, read_length_texts}
 use Rattle.asm_sve.specs.Permutes.{dup_reg_texts, dup_lane_texts, insert_texts, rev_z_texts, unpack_texts, table_texts, interleave_texts, interleave_p_texts, unpack_p_texts, rev_p_texts, compact_texts, splice_texts, ext_texts, copy_reg_texts, last_texts, cond_last_texts}
-use Rattle.asm_sve.specs.KindsOpened.{memory_texts_open, data_texts_open, move_texts_open, predicate_texts_open}
 use Rattle.asm_sve.specs.Predicates.{cmp_vec_texts, cmp_wide_texts, cmp_u_imm_texts, cmp_s_imm_texts, logic_p_texts, select_p_texts, break_first_texts, break_pair_texts, break_next_texts, ptest_texts, first_texts, next_texts, ptrue_texts, pfalse_texts, read_ffr_texts, read_ffr_all_texts, write_ffr_texts, count_p_texts, inc_p_texts, inc_p_z_texts, while_texts, cterm_texts}
 
 -- loads and stores
 unfoldable pub memory_texts : List (List Pattern)
-unfolding memory_texts_open
 memory_texts =
     load_z_texts ∷ load_p_texts ∷ store_z_texts ∷ gather_sx_texts ∷ gather_sx_scaled_texts ∷ store_reg_texts
     ∷ load_imm_texts ∷ load_reg_texts ∷ load_ff_texts ∷ load_nf_texts ∷ load_nt_imm_texts ∷ load_nt_reg_texts
@@ -26,7 +24,6 @@ memory_texts =
 
 -- results lane by lane, folds, counts
 unfoldable pub data_texts : List (List Pattern)
-unfolding data_texts_open
 data_texts =
     binary_texts ∷ binary_wide_texts ∷ shift_imm_texts ∷ unary_texts ∷ mul_add_z_texts ∷ mul_add_d_texts
     ∷ plain_texts ∷ logic_z_texts ∷ plain_wide_texts ∷ plain_shift_texts ∷ index_texts ∷ prefix_p_texts
@@ -35,7 +32,6 @@ data_texts =
 
 -- copies, selections, permutes
 unfoldable pub move_texts : List (List Pattern)
-unfolding move_texts_open
 move_texts =
     bitmask_z_texts ∷ copy_imm_texts ∷ select_z_texts ∷ dup_reg_texts ∷ dup_lane_texts ∷ insert_texts ∷ rev_z_texts
     ∷ unpack_texts ∷ table_texts ∷ interleave_texts ∷ interleave_p_texts ∷ unpack_p_texts ∷ rev_p_texts
@@ -43,7 +39,6 @@ move_texts =
 
 -- comparisons and predicates, and lanes with an immediate of 8 bits
 unfoldable pub predicate_texts : List (List Pattern)
-unfolding predicate_texts_open
 predicate_texts =
     cmp_vec_texts ∷ cmp_wide_texts ∷ cmp_u_imm_texts ∷ cmp_s_imm_texts ∷ logic_p_texts ∷ select_p_texts
     ∷ break_first_texts ∷ break_pair_texts ∷ break_next_texts ∷ ptest_texts ∷ first_texts ∷ next_texts

@@ -49,7 +49,8 @@ ghost use Rattle.sve_insn.specs.declared.form.SveForm.{SveForm};
 ghost use Rattle.sve_insn.specs.Rows.{row_of};
 ghost use Rattle.text_code.specs.Tables.{lines_of, patterns_of};
 ghost use Rattle.text_model.specs.Inverse.{AllTell};
-ghost use Rattle.asm_sve.specs.Law.{in_table, is_canonical_form, IsReadBack, TextsOfLines};
+ghost use Rattle.asm_sve.specs.Law.{in_table};
+ghost use Rattle.asm_sve.specs.LawOfTexts.{is_canonical_form, IsReadBack, TextsOfLines};
 ghost use Rattle.asm_sve.specs.Table.{data_texts, memory_texts, move_texts, predicate_texts, sve_lines, sve_patterns};
 
 use sve_insn::lines;

@@ -6,7 +6,7 @@ use Rattle.std.proofs.lemmas.Nat.{and_assoc}
 use lib.Bits.{and_self}
 use Rattle.emu_bits.specs.Rows.{Place, instruction}
 use Rattle.text_model.specs.Slots.{bits_in, address, all_fit}
-use Rattle.text_model.specs.Told.{parted, put_all}
+use Rattle.text_model.specs.Told.{parted, all_bound}
 use Rattle.text_model.specs.Reading.{Pattern}
 use Rattle.text_model.specs.Text.{chosen, shows}
 use Rattle.text_model.specs.Aim.{Reach, reach_of, reach_bits, number_to, aimed}
@@ -17,7 +17,8 @@ use Rattle.a64_insn.specs.declared.form.A64Form.TheVariants.{Adr, Branch, Branch
 use Rattle.a64_insn.specs.Table.{a64_table}
 use Rattle.a64_insn.specs.Rows.{line_number}
 use Rattle.a64_insn.specs.declared.lines.TheConstants as line
-use Rattle.asm_a64.specs.Law.{word_of, texts_of, reach_by, reach, unaimed_word, is_canonical_form}
+use Rattle.asm_a64.specs.Law.{word_of, texts_of, reach, unaimed_word}
+use Rattle.asm_a64.specs.LawOfTexts.{reach_by, is_canonical_form}
 use Rattle.asm_a64.specs.Table.{line_texts}
 use Rattle.asm_a64.specs.Opened.{texts_open}
 use Rattle.asm_text.specs.Targets.{may_have_target}
@@ -125,7 +126,7 @@ unfolding reach_places
 aimed_keeps None w pc t x m h c = absurd (cc)
 aimed_keeps (Some r) w pc t x m h c =
     let v : ℕ = number_to r pc t in
-    let y : ℕ = (put_all (record { mask = 0; word = w }) (parted r.parts v)).word in
+    let y : ℕ = (all_bound (record { mask = 0; word = w }) (parted r.parts v)).word in
     ap (λ (z : ℕ). bit_and z m) (aimed_if (address r.by r.page (bits_in r.parts) v pc == t) y x h) ∙ parts_keep (record { mask = 0; word = w }) r.parts v m c
 
 uncut : (w b m : ℕ) → bit_and b m ≡ m → bit_and (bit_and w b) m ≡ bit_and w m

@@ -16,7 +16,8 @@ use Rattle.a64_insn.specs.Table.{a64_table}
 use Rattle.a64_insn.specs.Rows.{line_number}
 use Rattle.a64_insn.specs.Data.{logic_imm}
 use Rattle.a64_insn.specs.declared.lines.TheConstants as line
-use Rattle.asm_a64.specs.Law.{in_table, is_canonical_form}
+use Rattle.asm_a64.specs.Law.{in_table}
+use Rattle.asm_a64.specs.LawOfTexts.{is_canonical_form}
 use Rattle.asm_a64.specs.Table.{a64_patterns}
 use Rattle.asm_text.proofs.Kept.{are_clear}
 use Rattle.asm_text.proofs.ReadBy.{IsReadBy, read_by}

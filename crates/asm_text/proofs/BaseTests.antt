@@ -7,7 +7,8 @@ use Rattle.asm_a64.specs.Flow.{flow_lines}
 use Rattle.asm_a64.specs.Memory.{memory_lines}
 use Rattle.asm_a64.specs.BitMoves.{last_lines}
 use Rattle.asm_a64.specs.Aliases.{aliases}
-use Rattle.a64_insn.specs.Table.{a64_table, lines_open}
+use Rattle.a64_insn.specs.Table.{a64_table}
+use Rattle.a64_insn.specs.Opened.{lines_open}
 use Rattle.a64_insn.specs.Rows.{line_number}
 use Rattle.a64_insn.specs.declared.lines.TheConstants as line
 use Rattle.asm_a64.specs.Table.{line_texts, a64_lines, a64_patterns}

@@ -1,15 +1,20 @@
 -- Arguments between commas: what stands before the first comma is one argument, or none.
 use Rattle.std.proofs.Common.{◌≡◌, ℕ, suc, ◌+◌, ◌-◌, ◌<◌, ◌≤◌, ◌==◌, ◌∙◌, Bool, true, false, not, cond, List, [], ◌∷◌, Option, Some, None, drop, take, get_or, length, length-drop, length-take, refl, sym, ap, ap₂, subst, arith, inl, inr}
-use Rattle.std.specs.Prelude.{option_map}
+use Rattle.std.specs.Prelude.{ℤ, option_map}
+use Rattle.std.specs.Option.{option_or}
 use Rattle.std.proofs.lemmas.Bool.{cases_Bool, cond-true, cond-false, cond_both, and_parts, not-false, eqb-true, eq-eqb, ne_eqb, false≢true, true≢false, cases_lt}
 use Rattle.std.proofs.lemmas.List.Splits.{slice_split_first}
 use Rattle.std.proofs.lemmas.List.{drop-drop, get_or-drop}
 use Rattle.std.proofs.lemmas.List.Sums.{fails_before_first, prefix_len-le-length, prefix_len_stops}
 use Rattle.std.specs.List.{after_first, position_or_len, prefix_len, slice_split, onto_first}
-use Rattle.listing_model.specs.Directives.{Argument, number, label, whole, label_argument, number_or, argument, is_label}
+use Rattle.listing_model.specs.Directives.{Argument, number, label, whole, label_argument, argument, is_label}
 use Rattle.asm_tokens.specs.Layout.{is_sign, comma, hash}
 use Rattle.asm_tokens.specs.Numbers.{Number, numeral, minus, plain_number, behind_minus, behind_hash, unsigned_number, signed_number, number_of, value}
 use Rattle.asm_text.specs.Leading.{leading, leading_label, leading_number, is_comma, part_of}
+
+-- a number, or another argument
+abbrev number_or : Option Argument → Option ℤ → Option Argument
+number_or other x = option_or (option_map number x) other
 
 -- ---- what stands before the first comma
 

@@ -11,7 +11,7 @@ use Rattle.text_model.specs.declared.slots.Shape.TheVariants.{Only, Told, Shown}
 use Rattle.text_model.specs.declared.slots.Slot.{Slot}
 use Rattle.text_model.specs.declared.slots.Item.{Item}
 use Rattle.text_model.specs.Slots.{places, bits_in}
-use Rattle.text_model.specs.Told.{Binding, class_tells, told, parted, codec_tells, slot_tells, Built, put, put_all, built}
+use Rattle.text_model.specs.Told.{Binding, class_tells, told, parted, codec_tells, slot_tells, Built, bound, all_bound, built}
 use Rattle.text_model.specs.Reading.{Pattern, word_told}
 use Rattle.text_model.specs.Text.{class_places, slot_places}
 use Rattle.text_model.proofs.Building.{places_of, put_both}
@@ -31,7 +31,7 @@ value_clear v m p h f a =
     ap (λ (x : ℕ). bit_and x m) (sym (lies_within v p h f)) ∙ and_assoc m (v * 2 ^ p.low) (ones_at p)
     ∙ ap (λ (x : ℕ). bit_and (v * 2 ^ p.low) x) a ∙ and_zero_r (v * 2 ^ p.low)
 
-put_keeps : (a : Built) (b : Binding) (m : ℕ) → is_clear m b.place ≡ true → bit_and (put a b).word m ≡ bit_and a.word m
+put_keeps : (a : Built) (b : Binding) (m : ℕ) → is_clear m b.place ≡ true → bit_and (bound a b).word m ≡ bit_and a.word m
 put_keeps a b m h =
     let h2 = and_parts (nat_le b.place.low b.place.high) (bit_and (ones_at b.place) m == 0) h in
     let v : ℕ = b.value % 2 ^ width b.place in
@@ -45,11 +45,11 @@ put_keeps a b m h =
       | inr e ↦ ap f e
     ]
 
-pub all_keep : (a : Built) (bs : List Binding) (m : ℕ) → are_clear m (places_of bs) ≡ true → bit_and (put_all a bs).word m ≡ bit_and a.word m
+pub all_keep : (a : Built) (bs : List Binding) (m : ℕ) → are_clear m (places_of bs) ≡ true → bit_and (all_bound a bs).word m ≡ bit_and a.word m
 all_keep a [] m h = refl
 all_keep a (b ∷ bs) m h =
     let h2 = and_parts (is_clear m b.place) (are_clear m (places_of bs)) h in
-    all_keep (put a b) bs m h2.1 ∙ put_keeps a b m h2.0
+    all_keep (bound a b) bs m h2.1 ∙ put_keeps a b m h2.0
 
 clear_both : (m : ℕ) (ps qs : List Place) → are_clear m (ps ++ qs) ≡ true → (are_clear m ps ≡ true) × (are_clear m qs ≡ true)
 clear_both m [] qs h = (refl, h)
@@ -58,20 +58,20 @@ clear_both m (p ∷ ps) qs h =
     let k = clear_both m ps qs h2.1 in
     (ap (λ (b : Bool). b && are_clear m ps) h2.0 ∙ k.0, k.1)
 
-class_keeps : (a : Built) (k : Shape) (c : Class) (m : ℕ) → are_clear m (class_places k) ≡ true → bit_and (put_all a (class_tells k c)).word m ≡ bit_and a.word m
+class_keeps : (a : Built) (k : Shape) (c : Class) (m : ℕ) → are_clear m (class_places k) ≡ true → bit_and (all_bound a (class_tells k c)).word m ≡ bit_and a.word m
 class_keeps a (Only d) c m h = refl
 class_keeps a (Told b g) c m h = all_keep a (class_tells (Told b g) c) m h
 class_keeps a (Shown b g) c m h = refl
 
-pub parts_keep : (a : Built) (ps : List Place) (v m : ℕ) → are_clear m ps ≡ true → bit_and (put_all a (parted ps v)).word m ≡ bit_and a.word m
+pub parts_keep : (a : Built) (ps : List Place) (v m : ℕ) → are_clear m ps ≡ true → bit_and (all_bound a (parted ps v)).word m ≡ bit_and a.word m
 parts_keep a ps v m h = all_keep a (parted ps v) m (ap (are_clear m) (parts_told ps v) ∙ h)
 
-slot_keeps : (a : Built) (s : Slot) (i : Item) (m : ℕ) → are_clear m (slot_places s) ≡ true → bit_and (put_all a (slot_tells s i)).word m ≡ bit_and a.word m
+slot_keeps : (a : Built) (s : Slot) (i : Item) (m : ℕ) → are_clear m (slot_places s) ≡ true → bit_and (all_bound a (slot_tells s i)).word m ≡ bit_and a.word m
 slot_keeps a s i m h =
     let h2 = clear_both m (class_places s.shape) (places s.codec.parts) h in
     let v : ℕ = told s.codec.kind (bits_in (places s.codec.parts)) i.value in
     ap (λ (x : Built). bit_and x.word m) (put_both a (class_tells s.shape i.class) (codec_tells s.codec i.value))
-    ∙ parts_keep (put_all a (class_tells s.shape i.class)) (places s.codec.parts) v m h2.1
+    ∙ parts_keep (all_bound a (class_tells s.shape i.class)) (places s.codec.parts) v m h2.1
     ∙ class_keeps a s.shape i.class m h2.0
 
 built_keeps : (a : Built) (ss : List Slot) (is : List Item) (m : ℕ) → are_clear m (all_places ss) ≡ true → bit_and (built a ss is).word m ≡ bit_and a.word m
@@ -79,7 +79,7 @@ built_keeps a [] is m h = refl
 built_keeps a (s ∷ ss) [] m h = refl
 built_keeps a (s ∷ ss) (i ∷ is) m h =
     let h2 = clear_both m (slot_places s) (all_places ss) h in
-    built_keeps (put_all a (slot_tells s i)) ss is m h2.1 ∙ slot_keeps a s i m h2.0
+    built_keeps (all_bound a (slot_tells s i)) ss is m h2.1 ∙ slot_keeps a s i m h2.0
 
 pub word_keeps : (p : Pattern) (is : List Item) (m : ℕ) → are_clear m (all_places p.slots) ≡ true → bit_and (word_told p is) m ≡ bit_and p.base m
 word_keeps p is m h = built_keeps (record { mask = 0; word = p.base }) p.slots is m h

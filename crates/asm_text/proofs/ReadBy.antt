@@ -2,11 +2,12 @@
 use Rattle.std.proofs.Common.{◌≡◌, ℕ, ◌&&◌, if◌then◌else◌, Bool, true, false, Option, None, Result, Ok, Err, List, [], ◌∷◌, refl, sym, ap, subst, ◌∙◌, ◌⊎◌, inl, inr}
 use Rattle.std.specs.Prelude.{IsSome}
 use Rattle.std.proofs.lemmas.Bool.{cases_Bool, and_parts, false≢true}
+use Rattle.std.specs.Str.{bytes_eq}
 use Rattle.text_model.specs.declared.slots.Item.{Item}
 use Rattle.text_model.specs.declared.slots.Refusal.{Refusal}
 use Rattle.text_model.specs.declared.slots.Refusal.TheVariants.{UnknownName, BadOperands, OutOfRange}
 use Rattle.text_model.specs.Slots.{items_in, all_fit}
-use Rattle.text_model.specs.Reading.{Pattern, Read, Operands, same_classes, same_values, same_name, all_canonical, has_target, word_told, judged, items_to_read, answer, best, reads}
+use Rattle.text_model.specs.Reading.{Pattern, Read, Operands, same_classes, same_values, all_canonical, has_target, word_told, judged, items_to_read, answer, best, reads}
 use Rattle.text_model.specs.Statement.{Destination, Statement, lowered, items_of, operands_of, last_target, with_target, reads_tokens}
 
 abbrev pub every : (Pattern → Bool) → List Pattern → Bool
@@ -49,7 +50,7 @@ answered : (in_table : ℕ → Bool) (test : Pattern → Bool) (p : Pattern) (na
 answered in_table test p name o r t h =
     let is : List Item = items_to_read p o in
     let f = λ (b : Bool). if b then judged in_table p is (word_told p is) else Err UnknownName in
-    elim (cases_Bool (same_name name p.name)) [
+    elim (cases_Bool (bytes_eq name p.name)) [
       | inl e ↦ judged_as in_table test p is r t (sym (ap f e) ∙ h)
       | inr e ↦ (let k = sym (ap f e) ∙ h in absurd (cc))
     ]

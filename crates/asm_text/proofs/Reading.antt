@@ -1,6 +1,6 @@
 -- Lists of arguments, one argument at a time.
 use Rattle.std.proofs.Common.{◌≡◌, ℕ, ◌*◌, ◌∙◌, Bool, true, false, List, [], ◌∷◌, ◌++◌, append_assoc, Option, Some, None, Ok, Err, drop, map, refl, sym, ap, ap₂, subst}
-use Rattle.std.specs.Prelude.{option_map, IfSome}
+use Rattle.std.specs.Prelude.{ok_or, option_map, IfSome}
 use Rattle.std.specs.Bool.{MatchBool}
 use Rattle.std.specs.List.{slice_split}
 use Rattle.asm_text.specs.declared.numbers.Numbers.{Numbers}
@@ -10,7 +10,7 @@ use Rattle.asm_text.specs.Stored.{AreStored, Adds, Keeps}
 use Rattle.asm_tokens.specs.declared.target.Target.{Target}
 use Rattle.listing_model.specs.declared.fault.ListingWhy.{ListingWhy}
 use Rattle.listing_model.specs.declared.fault.ListingWhy.TheVariants.{BadOperands, OutOfRange}
-use Rattle.listing_model.specs.Directives.{Argument, argument, arguments, all_some, with_first, stored, numbers, in_range}
+use Rattle.listing_model.specs.Directives.{Argument, argument, arguments, all_some, with_first, stored, numbers}
 use Rattle.asm_tokens.specs.Tokens.{tokens}
 
 -- these arguments in front of others
@@ -157,13 +157,13 @@ pub all_fit : (labels : Bool) (size : ℕ) (all : List (List ℕ)) (n : Numbers)
     → numbers size (arguments labels all) ≡ Ok n.items.items
 all_fit labels size all n h e =
     let P : Bool → Type 0 = λ b. MatchBool b (all_some (map (stored (8 * size)) h.read) ≡ Some n.items.items) (all_some (map (stored (8 * size)) h.read) ≡ None) in
-    ap (numbers size) h.is ∙ ap in_range (subst P e h.stored_are)
+    ap (numbers size) h.is ∙ ap (λ (o : Option (List Target)). ok_or o OutOfRange) (subst P e h.stored_are)
 
 pub not_all_fit : (labels : Bool) (size : ℕ) (all : List (List ℕ)) (n : Numbers) → AllRead labels size all n → n.fit ≡ false
     → numbers size (arguments labels all) ≡ Err OutOfRange
 not_all_fit labels size all n h e =
     let P : Bool → Type 0 = λ b. MatchBool b (all_some (map (stored (8 * size)) h.read) ≡ Some n.items.items) (all_some (map (stored (8 * size)) h.read) ≡ None) in
-    ap (numbers size) h.is ∙ ap in_range (subst P e h.stored_are)
+    ap (numbers size) h.is ∙ ap (λ (o : Option (List Target)). ok_or o OutOfRange) (subst P e h.stored_are)
 
 pub refused_list : (labels : Bool) (size : ℕ) (all : List (List ℕ)) (text : List ℕ) (start : ℕ) (n : Numbers) (o : Option ListingWhy)
     → SoFar labels size all (tokens (drop start text)) n

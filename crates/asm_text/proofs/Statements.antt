@@ -5,6 +5,7 @@ use Rattle.emu_bits.specs.Rows.{instruction}
 use Rattle.a64_insn.specs.declared.form.A64Form.{A64Form}
 use Rattle.a64_insn.specs.Table.{a64_table}
 use Rattle.asm_a64.specs.Law as base
+use Rattle.asm_a64.specs.LawOfTexts as base_again
 use Rattle.asm_a64.specs.Table.{a64_patterns}
 use Rattle.asm_a64.specs.declared.statements.A64Line.{A64Line}
 use Rattle.asm_a64.specs.Lines as base_lines
@@ -13,7 +14,8 @@ use Rattle.asm_tokens.specs.declared.target.Target.{Target}
 use Rattle.asm_tokens.specs.declared.target.Target.TheVariants.{Label, Address}
 use Rattle.emu_run.specs.declared.insn.Insn.{Insn}
 use Rattle.emu_run.specs.declared.insn.Insn.TheVariants.{A64, Sve}
-use Rattle.asm_text.specs.Statements.{with_target, either, reads, statements}
+use Rattle.asm_text.specs.Statements.{either, reads, statements}
+use Rattle.asm_text.specs.Targets.{with_target}
 use Rattle.asm_text.specs.Targets.{HasTarget}
 use Rattle.asm_text.specs.Canonical.{is_canonical}
 use Rattle.listing_model.specs.declared.directive.Directive.{Directive}
@@ -25,10 +27,12 @@ use Rattle.listing_model.specs.declared.line.Body.TheVariants.{Nothing, Plain, A
 use Rattle.listing_model.specs.declared.line.Line.{Line}
 use Rattle.listing_model.specs.Directives.{directive_named, directive_of, is_label}
 use Rattle.listing_model.specs.Faults.{Answers}
-use Rattle.listing_model.specs.LineOf.{colon, instruction_body, directive_body, named, body_of, with_label, line_of_tokens, line_of}
+use Rattle.listing_model.specs.Bodies.{instruction_body, directive_body}
+use Rattle.listing_model.specs.LineOf.{colon, named, body_of, with_label, line_of_tokens, line_of}
 use Rattle.sve_insn.specs.declared.form.SveForm.{SveForm}
 use Rattle.sve_insn.specs.Table.{sve_table}
 use Rattle.asm_sve.specs.Law as vectors
+use Rattle.asm_sve.specs.LawOfTexts as vectors_again
 use Rattle.asm_sve.specs.Table.{sve_patterns}
 use Rattle.text_model.specs.declared.slots.Refusal.{Refusal}
 use Rattle.text_model.specs.Statement.{Destination, to_label, Statement, reads_tokens}
@@ -58,21 +62,21 @@ said_targeted name rest l h t =
 
 -- ---- what is read is canonical
 
-with_base : (o : Option A64Form) (d : Option Destination) (p : Insn × Option Target) → with_target (option_map A64 o) d ≡ Ok p → ((f : A64Form) → o ≡ Some f → base.is_canonical_form f ≡ true)
+with_base : (o : Option A64Form) (d : Option Destination) (p : Insn × Option Target) → with_target (option_map A64 o) d ≡ Ok p → ((f : A64Form) → o ≡ Some f → base_again.is_canonical_form f ≡ true)
     → is_canonical p.0 ≡ true
 with_base None d p h c = absurd (cc)
 with_base (Some f) d p h c = let e : A64 f ≡ p.0 = cc in ap is_canonical (sym e) ∙ c f refl
 
-with_vector : (o : Option SveForm) (d : Option Destination) (p : Insn × Option Target) → with_target (option_map Sve o) d ≡ Ok p → ((f : SveForm) → o ≡ Some f → vectors.is_canonical_form f ≡ true)
+with_vector : (o : Option SveForm) (d : Option Destination) (p : Insn × Option Target) → with_target (option_map Sve o) d ≡ Ok p → ((f : SveForm) → o ≡ Some f → vectors_again.is_canonical_form f ≡ true)
     → is_canonical p.0 ≡ true
 with_vector None d p h c = absurd (cc)
 with_vector (Some f) d p h c = let e : Sve f ≡ p.0 = cc in ap is_canonical (sym e) ∙ c f refl
 
 abbrev BaseIsCanonical : Result Statement Refusal → Type 0
-BaseIsCanonical r = (s : Statement) (f : A64Form) → r ≡ Ok s → instruction a64_table s.word ≡ Some f → base.is_canonical_form f ≡ true
+BaseIsCanonical r = (s : Statement) (f : A64Form) → r ≡ Ok s → instruction a64_table s.word ≡ Some f → base_again.is_canonical_form f ≡ true
 
 abbrev VectorIsCanonical : Result Statement Refusal → Type 0
-VectorIsCanonical r = (s : Statement) (f : SveForm) → r ≡ Ok s → instruction sve_table s.word ≡ Some f → vectors.is_canonical_form f ≡ true
+VectorIsCanonical r = (s : Statement) (f : SveForm) → r ≡ Ok s → instruction sve_table s.word ≡ Some f → vectors_again.is_canonical_form f ≡ true
 
 either_canonical : (r g : Result Statement Refusal) (p : Insn × Option Target) → either r g ≡ Ok p → BaseIsCanonical r → VectorIsCanonical g → is_canonical p.0 ≡ true
 either_canonical (Ok s) g p h b v = with_base (instruction a64_table s.word) s.target p h (λ f e. b s f refl e)

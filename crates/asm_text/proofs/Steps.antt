@@ -5,7 +5,8 @@ use Rattle.std.proofs.lemmas.Bool.{and_parts, false≢true}
 use Rattle.emu_bits.specs.Rows.{instruction}
 use Rattle.a64_insn.specs.declared.form.A64Form.{A64Form}
 use Rattle.a64_insn.specs.Table.{a64_table}
-use Rattle.asm_a64.specs.Law.{word_of, reach_by, reach, unaimed_word}
+use Rattle.asm_a64.specs.Law.{word_of, reach, unaimed_word}
+use Rattle.asm_a64.specs.LawOfTexts.{reach_by}
 use Rattle.emu_run.specs.declared.insn.Insn.{Insn}
 use Rattle.emu_run.specs.declared.insn.Insn.TheVariants.{A64, Sve}
 use Rattle.asm_text.specs.Statements.{aimed_at}

@@ -27,7 +27,8 @@ use Rattle.a64_insn.specs.Data.{adr}
 use Rattle.a64_insn.specs.Flow.{branch, branch_cond, compare, test_branch}
 use Rattle.a64_insn.specs.Memory.{ls_literal, ls_literal_holds_for}
 use Rattle.a64_insn.specs.declared.lines.TheConstants as line
-use Rattle.asm_a64.specs.Law.{word_of, texts_of, reach_by, reach}
+use Rattle.asm_a64.specs.Law.{word_of, texts_of, reach}
+use Rattle.asm_a64.specs.LawOfTexts.{reach_by}
 use Rattle.asm_a64.proofs.Totals.{has_text}
 use Rattle.asm_text.proofs.Found.{IsFound, found, number_found}
 use Rattle.asm_text.proofs.BaseTests.{numbered, has_targets}

@@ -1,7 +1,8 @@
 -- What is computed over the SVE lines and their patterns.
 use Rattle.asm_sve.specs.Table.{sve_patterns}
 use Rattle.asm_sve.specs.Opened.{texts_open}
-use Rattle.sve_insn.specs.Table.{lines_open, memory_lines, data_lines, move_lines, predicate_lines, sve_table}
+use Rattle.sve_insn.specs.Table.{memory_lines, data_lines, move_lines, predicate_lines, sve_table}
+use Rattle.sve_insn.specs.Opened.{lines_open}
 use Rattle.sve_insn.specs.Rows.{line_number}
 use Rattle.std.proofs.Common.{◌≡◌, true, ◌++◌, refl}
 use Rattle.emu_bits.specs.Rows.{Place, ◌to◌}

@@ -14,7 +14,8 @@ use Rattle.sve_insn.specs.Table.{memory_lines, data_lines, move_lines, predicate
 use Rattle.sve_insn.specs.Rows.{line_number}
 use Rattle.sve_insn.specs.Lanes.{bitmask_z}
 use Rattle.sve_insn.specs.declared.lines.TheConstants.{BITMASK_Z}
-use Rattle.asm_sve.specs.Law.{in_table, is_canonical_form}
+use Rattle.asm_sve.specs.Law.{in_table}
+use Rattle.asm_sve.specs.LawOfTexts.{is_canonical_form}
 use Rattle.asm_sve.specs.Table.{sve_patterns}
 use Rattle.asm_text.proofs.ReadBy.{IsReadBy, read_by}
 use Rattle.asm_text.proofs.Found.{IsFound, found, number_found}

@@ -1,5 +1,6 @@
--- The words of a program as text: for each executable segment, in the order of the program headers, a line for each whole word of
--- its file bytes at an address that is a multiple of 4.
+-- The words of a program as text: for each executable segment, in the order of the program headers, a line for each
+-- whole word of its file bytes at an address that is a multiple of 4. The form of the lines is this project's own
+-- choice, as docs/MANUAL.md has it under "Reading code"; `.word` is that of GNU as's manual for AArch64.
 use Rattle.std.specs.Prelude.{ℕ, ◌+◌, ◌-◌, ◌*◌, ◌/◌, ◌%◌, List, ◌++◌, codes, drop, filter, flat_map, Option, Some, None}
 use Rattle.byteorder.specs.Endian.{little_number}
 use Rattle.emu_run.specs.declared.insn.Insn.{Insn}

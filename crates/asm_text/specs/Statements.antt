@@ -1,5 +1,6 @@
--- How statements are read, aimed and written, over the A64 and the SVE lines together.
-use Rattle.std.specs.Prelude.{ℕ, if◌then◌else◌, List, Option, Some, None, Result, Ok, Err, nat_lt, option_map, option_and_then}
+-- How statements are read, aimed and written, over the A64 and the SVE lines together. That a refusal of the two is the
+-- later one is this project's own choice, as docs/MANUAL.md has it under "Refused listings".
+use Rattle.std.specs.Prelude.{ℕ, List, Option, Some, None, Result, Ok, Err, ok_or, option_map, option_and_then}
 use Rattle.emu_bits.specs.Rows.{Line, instruction}
 use Rattle.a64_insn.specs.Table.{a64_table}
 use Rattle.asm_a64.specs.Law as base
@@ -18,19 +19,10 @@ use Rattle.asm_sve.specs.Table.{sve_patterns}
 use Rattle.text_model.specs.declared.slots.Refusal.{Refusal}
 use Rattle.text_model.specs.declared.slots.Refusal.TheVariants as refusal
 use Rattle.text_model.specs.Aim.{aimed}
+use Rattle.text_model.specs.Reading.{later}
 use Rattle.text_model.specs.Statement.{Destination, to_label, to_address, Statement, reads_tokens}
 
 -- ---- refusals
-
--- the place of a refusal in the order in which causes are looked for
-abbrev pub order : Refusal → ℕ
-order refusal.UnknownName = 0
-order refusal.BadOperands = 1
-order refusal.OutOfRange = 2
-
--- the one that stands later in that order
-abbrev pub later : Refusal → Refusal → Refusal
-later a b = if nat_lt (order a) (order b) then b else a
 
 abbrev pub why_of : Refusal → ListingWhy
 why_of refusal.UnknownName = why.UnknownName
@@ -44,13 +36,10 @@ target_of None = None
 target_of (Some (to_label name)) = Some (Label name)
 target_of (Some (to_address a)) = Some (Address a)
 
-abbrev pub with_target : Option Insn → Option Destination → Result (Insn × Option Target) ListingWhy
-with_target None t = Err why.OutOfRange
-with_target (Some i) t = Ok (i, target_of t)
-
 -- the instruction of a table that a statement's word is
 abbrev pub made : {F : Type 0} → (F → Insn) → List (Line F) → Statement → Result (Insn × Option Target) ListingWhy
-made insn table s = with_target (option_map insn (instruction table s.word)) s.target
+made insn table s =
+    ok_or (option_map (λ i. (i, target_of s.target)) (option_map insn (instruction table s.word))) why.OutOfRange
 
 -- What the A64 lines read, or else the SVE lines; where both refuse, the later of their refusals.
 abbrev pub either : Result Statement Refusal → Result Statement Refusal → Result (Insn × Option Target) ListingWhy
@@ -59,13 +48,15 @@ either (Err e) (Ok s) = made Sve sve_table s
 either (Err e) (Err g) = Err (why_of (later e g))
 
 abbrev pub reads : List ℕ → List (List ℕ) → Result (Insn × Option Target) ListingWhy
-reads name ts = either (reads_tokens base.in_table a64_patterns name ts) (reads_tokens vectors.in_table sve_patterns name ts)
+reads name ts =
+    either (reads_tokens base.in_table a64_patterns name ts) (reads_tokens vectors.in_table sve_patterns name ts)
 
 -- ---- targets
 
 -- the instruction at pc, aimed at an address; none where its field can't reach it
 abbrev pub aimed_at : Insn → ℕ → ℕ → Option Insn
-aimed_at (A64 f) pc t = option_map A64 (option_and_then (instruction a64_table) (aimed (base.reach f) (base.unaimed_word f) pc t))
+aimed_at (A64 f) pc t =
+    option_map A64 (option_and_then (instruction a64_table) (aimed (base.reach f) (base.unaimed_word f) pc t))
 aimed_at (Sve f) pc t = None
 
 -- ---- all of it

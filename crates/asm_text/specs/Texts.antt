@@ -1,4 +1,5 @@
--- The text of an instruction, over the A64 and the SVE lines together.
+-- The text of an instruction, over the A64 and the SVE lines together. It is this project's own choice of the texts
+-- that the Arm manual allows, as docs/MANUAL.md has it under "Reading code".
 use Rattle.std.specs.Prelude.{ℕ, List}
 use Rattle.asm_a64.specs.Law as base
 use Rattle.emu_run.specs.declared.insn.Insn.{Insn}

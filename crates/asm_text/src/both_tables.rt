@@ -1,8 +1,9 @@
 //! Both tables as one reader of instructions.
 ghost use Rattle.std.specs.Prelude.{◌≡◌, ◌≢◌};
-ghost use Rattle.asm_text.specs.Statements.{later, statements};
+ghost use Rattle.asm_text.specs.Statements.{statements};
 ghost use Rattle.asm_text.specs.Targets.{HasTarget};
 ghost use Rattle.text_code.specs.Faults.{fault_of};
+ghost use Rattle.text_model.specs.Reading.{later};
 ghost use Rattle.text_model.specs.declared.slots.Refusal.{Refusal};
 
 use crate::Instructions;

@@ -1,5 +1,5 @@
 //! Strings.
-ghost use Rattle.std.specs.Prelude.{◌≡◌, ◌+◌, ◌<◌, ◌≤◌, None, false, drop, length, IfErr, IfOk, IfSome, string_bytes};
+ghost use Rattle.std.specs.Prelude.{◌≡◌, ◌+◌, ◌<◌, ◌≤◌, None, false, drop, length, ok_or, IfErr, IfOk, IfSome, string_bytes};
 ghost use Rattle.std.specs.List.{prefix_len};
 ghost use Rattle.std.specs.Str.{IsCharBoundary};
 ghost use Rattle.listing_model.specs.Directives as directives;
@@ -69,7 +69,7 @@ fn add_part(token: &str, at: usize, out: &mut String) -> Result<Option<usize>, A
 
 /// The text of a string.
 fn string_text(alloc: Global, token: &str) -> Result<Name, AsmFault>
-    ensures { Answers result (directives.in_form (directives.string_text token.now)) }
+    ensures { Answers result (ok_or (directives.string_text token.now) ListingWhy.BadOperands) }
 {
     if !token.starts_with('"') {
         return Err(AsmFault::BadOperands);

@@ -4,7 +4,7 @@ use Rattle.std.proofs.lemmas.Bool.{cases_Bool, and_parts, or_parts, not-true, no
 use Rattle.std.proofs.lemmas.Bool.Decides.{nat_tests}
 use Rattle.std.specs.List.{list_all, prefix_len}
 use Rattle.asm_tokens.specs.Tokens.{is_word_byte, is_blank, is_continuation, begins_with, begins_comment, piece_length, tokens_behind, tokens, quote, slash, space, tab}
-use Rattle.asm_tokens.specs.Layout.{begins_word, is_sign, has_gap, put, laid, is_empty, comma, hash, open_brace}
+use Rattle.asm_tokens.specs.Layout.{begins_word, is_sign, has_gap, spaced, laid, is_empty, comma, hash, open_brace}
 use Rattle.asm_tokens.specs.AreTokens.{is_mark, is_token, are_tokens, ends, continues_character}
 
 pub behind : (n : ℕ) (cs : List ℕ) → tokens_behind n cs ≡ tokens (drop n cs)
@@ -159,13 +159,13 @@ plain_end false false = refl
 spaced_ends : (t y : List ℕ) → ends t (space ∷ y) ≡ true
 spaced_ends t y = plain_end (begins_word t) (is_sign slash t)
 
-put_ends : (t u y : List ℕ) → is_token t ≡ true → is_token u ≡ true → ends t (put (has_gap t u) (u ++ y)) ≡ true
+put_ends : (t u y : List ℕ) → is_token t ≡ true → is_token u ≡ true → ends t (spaced (has_gap t u) (u ++ y)) ≡ true
 put_ends t u y h k = elim (cases_Bool (has_gap t u)) [
-  | inl g ↦ ap (λ (b : Bool). ends t (put b (u ++ y))) g ∙ spaced_ends t (u ++ y)
-  | inr g ↦ ap (λ (b : Bool). ends t (put b (u ++ y))) g ∙ unspaced_ends t u y h k g
+  | inl g ↦ ap (λ (b : Bool). ends t (spaced b (u ++ y))) g ∙ spaced_ends t (u ++ y)
+  | inr g ↦ ap (λ (b : Bool). ends t (spaced b (u ++ y))) g ∙ unspaced_ends t u y h k g
 ]
 
-put_same : (b : Bool) (x : List ℕ) → tokens (put b x) ≡ tokens x
+put_same : (b : Bool) (x : List ℕ) → tokens (spaced b x) ≡ tokens x
 put_same true x = refl
 put_same false x = refl
 
@@ -173,5 +173,5 @@ pub split_again : (t : List ℕ) (ts : List (List ℕ)) → is_token t ≡ true 
 split_again t [] h k = one_token t [] h (plain_end (begins_word t) (is_sign slash t))
 split_again t (u ∷ us) h k =
     let k2 = and_parts (is_token u) (are_tokens us) k in
-    one_token t (put (has_gap t u) (u ++ laid u us)) h (put_ends t u (laid u us) h k2.0)
+    one_token t (spaced (has_gap t u) (u ++ laid u us)) h (put_ends t u (laid u us) h k2.0)
     ∙ ap (λ (ts : List (List ℕ)). t ∷ ts) (put_same (has_gap t u) (u ++ laid u us) ∙ split_again u us k2.0 k2.1)

@@ -1,4 +1,4 @@
--- Tokens laid out as a text, as instructions are printed.
+-- Tokens laid out as a text, as instructions are printed. Where spaces stand is this project's own choice.
 use Rattle.std.specs.Prelude.{ℕ, ◌==◌, ◌&&◌, ◌||◌, Bool, true, false, if◌then◌else◌, List, [], ◌∷◌, ◌++◌}
 use Rattle.asm_tokens.specs.Tokens.{is_word_byte, slash, space}
 
@@ -24,14 +24,17 @@ abbrev pub begins_word : List ℕ → Bool
 begins_word [] = false
 begins_word (c ∷ cs) = is_word_byte c
 
--- A space stands behind a comma, between a word and a word, `#` or `{`, and between two slashes, which would begin a comment.
+-- A space stands behind a comma, between a word and a word, `#` or `{`, and between two slashes, which would begin a
+-- comment.
 abbrev pub has_gap : List ℕ → List ℕ → Bool
-has_gap s t = is_sign comma s || ((begins_word s && (begins_word t || (is_sign hash t || is_sign open_brace t))) || (is_sign slash s && is_sign slash t))
+has_gap s t =
+    is_sign comma s || ((begins_word s && (begins_word t || (is_sign hash t || is_sign open_brace t)))
+    || (is_sign slash s && is_sign slash t))
 
-abbrev pub put : Bool → List ℕ → List ℕ
-put gap t = if gap then space ∷ t else t
+abbrev pub spaced : Bool → List ℕ → List ℕ
+spaced gap t = if gap then space ∷ t else t
 
 -- the text of tokens that stand behind a token s
 abbrev pub laid : List ℕ → List (List ℕ) → List ℕ
 laid s [] = []
-laid s (t ∷ ts) = put (has_gap s t) (t ++ laid t ts)
+laid s (t ∷ ts) = spaced (has_gap s t) (t ++ laid t ts)

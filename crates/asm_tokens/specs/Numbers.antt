@@ -1,5 +1,7 @@
--- Numbers of a listing: decimal, or hexadecimal behind `0x`, with an optional `-`, and an optional `#` before that. Leading zeros
--- are allowed.
+-- Numbers of a listing: decimal, or hexadecimal behind `0x`, with an optional `-`, and an optional `#` before that.
+-- Leading zeros are allowed. They are the decimal and hexadecimal integers of GNU as's manual, 'Constants', and `#` may
+-- be left out as in the Arm manual; all else is this project's own choice, as docs/MANUAL.md has it under "Labels,
+-- numbers and targets".
 use Rattle.std.specs.Prelude.{ℕ, ◌+◌, ◌-◌, ◌^◌, ◌==◌, ◌&&◌, Bool, true, false, if◌then◌else◌, List, [], ◌∷◌, Option, Some, None, drop, min, option_map, ℤ, pos, neg_ℤ}
 use Rattle.std.specs.Char.{is_digit, to_ascii_lowercase}
 use Rattle.std.specs.List.{list_all}
@@ -52,7 +54,8 @@ unsigned_number (t ∷ ts) = option_map plain_number (numeral t)
 
 abbrev pub signed_number : List (List ℕ) → Option Number
 signed_number [] = None
-signed_number (t ∷ ts) = if is_sign minus t then option_map behind_minus (unsigned_number ts) else unsigned_number (t ∷ ts)
+signed_number (t ∷ ts) =
+    if is_sign minus t then option_map behind_minus (unsigned_number ts) else unsigned_number (t ∷ ts)
 
 -- the number that tokens begin with
 abbrev pub number_of : List (List ℕ) → Option Number

@@ -1,5 +1,7 @@
--- Tokens of a line of a listing. A token is a string, a longest run of ASCII letters, digits, `_` and `.`, or one other character.
--- Spaces and tabs may stand between any two tokens, and `//` outside a string begins a comment.
+-- Tokens of a line of a listing. A token is a string, a longest run of ASCII letters, digits, `_` and `.`, or one other
+-- character. Spaces and tabs may stand between any two tokens, and `//` outside a string begins a comment. Comments are
+-- those of GNU as's manual for AArch64, 'Special Characters'; all else is this project's own choice, as docs/MANUAL.md
+-- has it under "Listings".
 use Rattle.std.specs.Prelude.{ℕ, zero, suc, ◌+◌, ◌-◌, ◌==◌, ◌&&◌, ◌||◌, Bool, true, false, if◌then◌else◌, List, [], ◌∷◌}
 use Rattle.std.specs.Prelude.{take, nat_le, nat_lt}
 use Rattle.std.specs.Char.{is_ascii_alphanumeric}
@@ -40,8 +42,8 @@ is_continuation c = nat_le 128 c && nat_lt c 192
 
 -- ---- the first token
 
--- Bytes of a string behind its opening quote, the closing one included. A character behind a backslash closes nothing; a string
--- that isn't closed goes on to the end.
+-- Bytes of a string behind its opening quote, the closing one included. A character behind a backslash closes nothing;
+-- a string that isn't closed goes on to the end.
 abbrev pub string_length : Bool → List ℕ → ℕ
 string_length escaped [] = 0
 string_length true (c ∷ cs) = 1 + string_length false cs

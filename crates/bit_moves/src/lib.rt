@@ -55,7 +55,7 @@ fn copy(core: &mut Core, vec: &mut VecRegs, op: FMoveOp, rn: Reg, rd: Reg)
 /// An immediate to the low 128 or 64 bits of a vector register.
 fn move_imm(vec: &mut VecRegs, q: bool, op: bool, abc: U<3>, cmode: U<4>, defgh: U<5>, rd: Reg)
     requires { move_imm_holds_for cmode ≡ true }
-    ensures { vec.new ≡ table.moved q (table.move_value op cmode (table.immediate abc defgh)) rd vec.old }
+    ensures { vec.new ≡ table.with_immediate q (table.move_value op cmode (table.immediate abc defgh)) rd vec.old }
 {
     let x = immediates::move_value(op, cmode, abc.get() * 32 + defgh.get());
     let twice = u128::from(x) * 0x1_0000_0000_0000_0001;

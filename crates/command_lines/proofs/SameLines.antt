@@ -13,6 +13,7 @@ use Rattle.std.proofs.lemmas.List.Folds.{find-append}
 use Rattle.emu_model.specs.Access.{most_mapped_pages}
 use Rattle.emu_model.specs.Lengths.{is_vector_length}
 use Rattle.emu_system.specs.Arguments.{first_too_long, first_with_zero, most_arguments}
+use Rattle.emu_system.specs.Image.{unless_fault}
 use Rattle.command_model.specs.declared.command_line.Command.{Command}
 use Rattle.command_model.specs.declared.command_line.Command.TheVariants.{Run, Asm, Dis, Dbg, Load, Sweep, Threads}
 use Rattle.command_model.specs.declared.command_line.Line.{Line}
@@ -23,7 +24,7 @@ use Rattle.command_model.specs.declared.command_line.WordsFault.{WordsFault}
 use Rattle.command_model.specs.declared.command_line.WordsWhy.{WordsWhy}
 use Rattle.command_model.specs.declared.command_line.WordsWhy.TheVariants.{TooManyWords, WordsTooLong, ZeroByte, UnknownCommand, Repeated, MissingValue, BadNumber, BadLength, OutOfRange, ExtraWord, MissingWord, MissingLength, MissingBudget}
 use Rattle.line_words.specs.Refusals.{and_then}
-use Rattle.command_model.specs.CommandLine.{ArgumentWord, OptionWord, PlainWord, Role, ValueWord, WordAt, named_command, decimal_of_word, fault_at, first_refusal, usage_of, is_argument, is_plain_word, is_value_of, accepted_line, line, line_of_command, line_of_words, first_missing, option_of, plain_words, why_refused, refused_or, role_behind, option_value, value_refusal, words_from}
+use Rattle.command_model.specs.CommandLine.{ArgumentWord, OptionWord, PlainWord, Role, ValueWord, WordAt, named_command, decimal_of_word, fault_at, first_refusal, usage_of, is_argument, is_plain_word, is_value_of, accepted_line, line, line_of_command, line_of_words, first_missing, option_of, plain_words, why_refused, role_behind, option_value, value_refusal, words_from}
 use Rattle.command_lines.specs.Scan.{Seen, checked_value, checked_word, end_of, given, is_option, line_said, nothing_seen, read_further, read_item, read_number, read_option, read_plain, read_value, read_word, read_words, refused, scanned_command, scanned_line, with_budget, with_machine, with_value, with_word}
 
 -- ---- what was seen, by the words so far
@@ -539,7 +540,7 @@ module _ (command : Command) (done : List WordAt) (place : ℕ) (word : List ℕ
 -- ---- behind the last word
 
 with_machine_said : (count : ℕ) (vl budget : Option ℕ) (said : ℕ → ℕ → Line)
-    → with_machine count vl budget said ≡ refused_or
+    → with_machine count vl budget said ≡ unless_fault
     (option_map (fault_at count) (cond (is_none vl) (Some MissingLength)
     (cond (is_none budget) (Some MissingBudget) None))) (Ok (said (unwrap_or vl 0) (unwrap_or budget 0)))
 with_machine_said count None budget said = refl
@@ -547,7 +548,7 @@ with_machine_said count (Some bits) None said = refl
 with_machine_said count (Some bits) (Some steps) said = refl
 
 with_budget_said : (count : ℕ) (budget : Option ℕ) (said : ℕ → Line)
-    → with_budget count budget said ≡ refused_or
+    → with_budget count budget said ≡ unless_fault
     (option_map (fault_at count) (cond (is_none budget) (Some MissingBudget) None)) (Ok (said (unwrap_or budget 0)))
 with_budget_said count None said = refl
 with_budget_said count (Some steps) said = refl
@@ -563,7 +564,7 @@ none_below_two n = grind (arith, nat_tests)
 
 -- what is first_missing but plain words, and the line
 abbrev Said : ℕ → Option WordsWhy → Line → Result Line WordsFault
-Said count why said = refused_or (option_map (fault_at count) why) (Ok said)
+Said count why said = unless_fault (option_map (fault_at count) why) (Ok said)
 
 one_plain : (count : ℕ) (words : List WordAt) (why : Option WordsWhy) (next : ℕ → Result Line WordsFault)
     (said : ℕ → Line) → ((file : ℕ) → next file ≡ Said count why (said file))
@@ -631,7 +632,7 @@ then_then (Err fault) next last = refl
 
 -- what the definitions say of words behind others
 abbrev Whole : Command → ℕ → List WordAt → List WordAt → Result Line WordsFault
-Whole command count done rest = refused_or (first_refusal command done rest)
+Whole command count done rest = unless_fault (first_refusal command done rest)
     (Said count (first_missing command (done ++ rest)) (accepted_line command count (done ++ rest)))
 
 nothing_left : (command : Command) (before : Role) (done : List WordAt) (count : ℕ) → Stands before done 0
@@ -650,13 +651,13 @@ step_by_step : (command : Command) (done : List WordAt) (w : WordAt) (rest : Lis
     → (Stands w.role (done ++ w ∷ []) left → Known (usage_of command).number (done ++ w ∷ [])
     → next (seen (usage_of command).number (done ++ w ∷ []) w.role) ≡ Whole command count (done ++ w ∷ []) rest)
     → Step (usage_of command).number w.role (done ++ w ∷ []) w.place left next answer why
-    → answer ≡ refused_or (option_or (option_map (fault_at w.place) why)
+    → answer ≡ unless_fault (option_or (option_map (fault_at w.place) why)
     (first_refusal command (done ++ w ∷ []) rest))
     (Said count (first_missing command (done ++ w ∷ rest)) (accepted_line command count (done ++ w ∷ rest)))
 step_by_step command done w rest count left next answer (Some why) later is = is
 step_by_step command done w rest count left next answer None later is =
     is.0 ∙ later is.1 is.2
-    ∙ ap (λ (ws : List WordAt). refused_or (first_refusal command (done ++ w ∷ []) rest)
+    ∙ ap (λ (ws : List WordAt). unless_fault (first_refusal command (done ++ w ∷ []) rest)
     (Said count (first_missing command ws) (accepted_line command count ws))) (append_assoc done (w ∷ []) rest)
 
 same_from : (command : Command) (before : Role) (done : List WordAt) (place count : ℕ) (words : List (List ℕ))
@@ -707,10 +708,10 @@ not_many n few = grind (arith, nat_tests)
 pub accepted_words : (words : List (List ℕ)) → length words ≤ most_arguments → None ≡ first_too_long words → None
     ≡ first_with_zero words → scanned_line words ≡ line words
 accepted_words words few short plain =
-    let zeros : Option ℕ → Result Line WordsFault = λ o. refused_or (option_map (λ place. fault_at place ZeroByte) o)
+    let zeros : Option ℕ → Result Line WordsFault = λ o. unless_fault (option_map (λ place. fault_at place ZeroByte) o)
     (line_of_words words) in
-    let long : Option ℕ → Result Line WordsFault = λ o. refused_or
+    let long : Option ℕ → Result Line WordsFault = λ o. unless_fault
     (option_map (λ place. fault_at place WordsTooLong) o) (zeros (first_with_zero words)) in
-    let many : Bool → Result Line WordsFault = λ b. refused_or
+    let many : Bool → Result Line WordsFault = λ b. unless_fault
     (cond b (Some (fault_at most_arguments TooManyWords)) None) (long (first_too_long words)) in
     same_line words ∙ ap zeros plain ∙ ap long short ∙ ap many (sym (not_many (length words) few))

@@ -11,7 +11,6 @@ use Rattle.command_model.specs.declared.command_line.Line.TheVariants.{Run, Asm,
 use Rattle.command_model.specs.CommandLine.{line}
 use Rattle.command_model.specs.Refusals.{words_line, image_line, listing_line, script_line, schedule_line, too_long_line}
 use Rattle.command_model.specs.WorldReports.{world_report}
-use Rattle.dbg_model.specs.SessionBack.{session_back}
 use Rattle.dbg_model.specs.Commands.{has_back}
 use Rattle.dbg_model.specs.declared.script.Command.{Command}
 use Rattle.dbg_model.specs.declared.script.ScriptFault.{ScriptFault}
@@ -81,6 +80,11 @@ with_file (Some file) next = with_bytes file next
 abbrev pub file_at : List (List ℕ) → Files → ℕ → Option (List ℕ)
 file_at words files place = get files (get_or words place [])
 
+-- an image's refusal, or what is done with the image
+abbrev pub with_image : Result Image ElfFault → (Image → Outcome) → Outcome
+with_image (Ok image) next = next image
+with_image (Err fault) next = refusal (ImageRefused fault) (image_line fault)
+
 -- ---- run
 
 -- how a machine that has stopped ended
@@ -98,11 +102,10 @@ outcome_of_run input st = record {
   taken = length input - length st.input;
 }
 
--- the run of an image with these arguments, or its refusal
+-- the run of an image with these arguments
 abbrev pub outcome_of_image : List ℕ → List (List ℕ) → List ℕ → ℕ → ℕ → ℕ → Result Image ElfFault → Outcome
-outcome_of_image file args input bits budget pages (Ok image) =
-    outcome_of_run input (run (with_input (opening file image args bits pages) input) budget)
-outcome_of_image file args input bits budget pages (Err fault) = refusal (ImageRefused fault) (image_line fault)
+outcome_of_image file args input bits budget pages image =
+    with_image image (λ i. outcome_of_run input (run (with_input (opening file i args bits pages) input) budget))
 
 -- the arguments of a program: the word that names its file, and the words from a place on
 abbrev pub program_arguments : List (List ℕ) → ℕ → ℕ → List (List ℕ)
@@ -121,10 +124,9 @@ outcome_of_listing (Err fault) = refusal (ListingRefused fault) (listing_line fa
 abbrev pub most_pages : ℕ
 most_pages = 4294967295
 
--- the words of an image, or its refusal
+-- the words of an image
 abbrev pub outcome_of_words : List ℕ → Result Image ElfFault → Outcome
-outcome_of_words file (Ok image) = written (dis_of file image)
-outcome_of_words file (Err fault) = refusal (ImageRefused fault) (image_line fault)
+outcome_of_words file image = with_image image (λ i. written (dis_of file i))
 
 -- ---- a command that reads its input to the end before anything is run
 
@@ -144,14 +146,10 @@ abbrev pub outcome_of_session : List ℕ → State → Outcome
 outcome_of_session input st =
     record { ending = Done; output = st.output; errors = st.errors; taken = length input - length st.input }
 
--- the same of a session that goes back, which has read the whole input
+-- the same of a session that goes back: it has read the whole input
 abbrev pub outcome_of_session_back : List Command → ℕ → Parts → List ℕ → Outcome
-outcome_of_session_back commands budget m input = record {
-  ending = Done;
-  output = (session_back commands budget (with_input m input)).output;
-  errors = (session_back commands budget (with_input m input)).errors;
-  taken = length input;
-}
+outcome_of_session_back commands budget m input =
+    record (outcome_of_session input (session commands budget (with_input m input))) { taken = length input }
 
 -- where no command goes back, the program takes what it reads
 abbrev pub outcome_of_commands : List ℕ → ℕ → Parts → List Command → Outcome
@@ -166,16 +164,14 @@ outcome_of_script input budget m (Err fault) = refusal (ScriptRefused fault) (sc
 
 -- an image's refusal comes before the script's
 abbrev pub outcome_of_debug : List ℕ → List ℕ → List (List ℕ) → List ℕ → ℕ → ℕ → ℕ → Result Image ElfFault → Outcome
-outcome_of_debug file script args input bits budget pages (Ok image) =
-    outcome_of_script input budget (opening file image args bits pages) (script_of_file script)
-outcome_of_debug file script args input bits budget pages (Err fault) = refusal (ImageRefused fault) (image_line fault)
+outcome_of_debug file script args input bits budget pages image =
+    with_image image (λ i. outcome_of_script input budget (opening file i args bits pages) (script_of_file script))
 
 -- ---- load
 
--- the lines of an image's sixteen runs, or its refusal
+-- the lines of an image's sixteen runs
 abbrev pub outcome_of_loaded : List ℕ → Result Image ElfFault → Outcome
-outcome_of_loaded file (Ok image) = written (load_text file image)
-outcome_of_loaded file (Err fault) = refusal (ImageRefused fault) (image_line fault)
+outcome_of_loaded file image = with_image image (λ i. written (load_text file i))
 
 -- the file that the listing makes, or the listing's refusal
 abbrev pub outcome_of_load : Result (List ℕ) ListingFault → Outcome
@@ -198,8 +194,8 @@ outcome_of_lengths file args input budget pages image =
 
 -- an image's refusal comes before the input is read
 abbrev pub outcome_of_swept : List ℕ → List (List ℕ) → List ℕ → ℕ → ℕ → Result Image ElfFault → Outcome
-outcome_of_swept file args input budget pages (Ok image) = outcome_of_lengths file args input budget pages image
-outcome_of_swept file args input budget pages (Err fault) = refusal (ImageRefused fault) (image_line fault)
+outcome_of_swept file args input budget pages image =
+    with_image image (outcome_of_lengths file args input budget pages)
 
 -- ---- threads
 
@@ -226,10 +222,9 @@ outcome_of_schedule input budget w (Err fault) = refusal (ScheduleRefused fault)
 
 -- an image's refusal comes before the schedule's
 abbrev pub outcome_of_threads : List ℕ → List ℕ → List (List ℕ) → List ℕ → ℕ → ℕ → ℕ → Result Image ElfFault → Outcome
-outcome_of_threads file schedule args input bits budget pages (Ok image) =
-    outcome_of_schedule input budget (opened (opening file image args bits pages)) (schedule_of_file schedule)
-outcome_of_threads file schedule args input bits budget pages (Err fault) =
-    refusal (ImageRefused fault) (image_line fault)
+outcome_of_threads file schedule args input bits budget pages image =
+    with_image image (λ i.
+    outcome_of_schedule input budget (opened (opening file i args bits pages)) (schedule_of_file schedule))
 
 -- ---- all commands
 

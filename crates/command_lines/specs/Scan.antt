@@ -19,9 +19,9 @@ use Rattle.command_model.specs.declared.command_line.WordsWhy.{WordsWhy}
 use Rattle.command_model.specs.declared.command_line.WordsWhy.TheVariants.{NoCommand, UnknownCommand, UnknownOption, Repeated, MissingValue, BadNumber, BadLength, OutOfRange, ExtraWord, MissingWord, MissingLength, MissingBudget}
 
 -- where the answer is Ok, `left` is what was to come of it, and else the refusal is
-abbrev pub Leaves : {T U E : Type 0} → Result T E → T → Result U E → Type 0
-Leaves expected left (Ok done) = expected ≡ Ok left
-Leaves expected left (Err refusal) = expected ≡ Err refusal
+abbrev pub ReadsAs : {T U E : Type 0} → Result T E → T → Result U E → Type 0
+ReadsAs expected left (Ok done) = expected ≡ Ok left
+ReadsAs expected left (Err refusal) = expected ≡ Err refusal
 
 abbrev pub refused : {T : Type 0} → WordsWhy → ℕ → Result T WordsFault
 refused why place = Err (fault_at place why)

@@ -20,7 +20,7 @@ ghost use Rattle.std.specs.Str.{bytes_eq};
 ghost use Rattle.emu_system.specs.Arguments.{most_arguments};
 ghost use Rattle.command_model.specs.CommandLine.{option_of, usage_of};
 ghost use Rattle.command_lines.specs.Scan.{
-  Leaves,
+  ReadsAs,
   checked_word,
   end_of,
   given,
@@ -156,7 +156,7 @@ impl Seen {
     /// Reads a word as the value of an option.
     fn read_value(&mut self, place: usize, option: OptionName, word: &str) -> Result<(), WordsFault>
         requires { place ≤ most_arguments }
-        ensures { Leaves (read_value self.old place option (checked_word option word.now)) self.new result }
+        ensures { ReadsAs (read_value self.old place option (checked_word option word.now)) self.new result }
     {
         match option {
             OptionName::Vl => self.length = Some(placed(length_of_word(word), place)?),
@@ -170,7 +170,7 @@ impl Seen {
     /// Reads a word in the form of an option.
     fn read_option(&mut self, command: Command, place: usize, word: &str) -> Result<(), WordsFault>
         requires { place ≤ most_arguments }
-        ensures { Leaves (read_option self.old place (option_of command word.now)) self.new result }
+        ensures { ReadsAs (read_option self.old place (option_of command word.now)) self.new result }
     {
         let Some(option) = option_of(command, word) else {
             return Err(fault(WordsWhy::UnknownOption, place));
@@ -185,7 +185,7 @@ impl Seen {
     /// Reads a plain word.
     fn read_plain(&mut self, command: Command, place: usize, word: &str) -> Result<(), WordsFault>
         requires { place ≤ most_arguments }
-        ensures { Leaves (read_plain command self.old place word.now) self.new result }
+        ensures { ReadsAs (read_plain command self.old place word.now) self.new result }
     {
         if self.plain.len() >= command.plain_words() {
             return Err(fault(WordsWhy::ExtraWord, place));
@@ -203,7 +203,7 @@ impl Seen {
     /// Reads `--`, an option or a plain word.
     fn read_item(&mut self, command: Command, place: usize, word: &str) -> Result<(), WordsFault>
         requires { place ≤ most_arguments }
-        ensures { Leaves (read_item command self.old place word.now) self.new result }
+        ensures { ReadsAs (read_item command self.old place word.now) self.new result }
     {
         if begins_arguments(command, word) {
             self.args = Some(place + 1);
@@ -219,7 +219,7 @@ impl Seen {
     /// Reads any word: behind `--` an argument, behind an option its value.
     fn read_word(&mut self, command: Command, place: usize, word: &str) -> Result<(), WordsFault>
         requires { place ≤ most_arguments }
-        ensures { Leaves (read_word command self.old place word.now) self.new result }
+        ensures { ReadsAs (read_word command self.old place word.now) self.new result }
     {
         if self.args.is_some() {
             return Ok(());

@@ -11,6 +11,7 @@ use Rattle.std.specs.Str.Parse.{digits_value}
 use Rattle.emu_model.specs.Access.{most_mapped_pages}
 use Rattle.emu_model.specs.Lengths.{is_vector_length}
 use Rattle.emu_system.specs.Arguments.{first_too_long, first_with_zero, most_arguments}
+use Rattle.emu_system.specs.Image.{unless_fault}
 use Rattle.command_model.specs.declared.command_line.Command.{Command}
 use Rattle.command_model.specs.declared.command_line.Command.TheVariants.{Run, Asm, Dis, Dbg, Load, Sweep, Threads}
 use Rattle.command_model.specs.declared.command_line.Line.{Line}
@@ -223,16 +224,11 @@ accepted_line Threads count ws =
 
 -- ---- the whole line, or the first refusal
 
--- a refusal, or what comes where there is none
-abbrev pub refused_or : Option WordsFault → Result Line WordsFault → Result Line WordsFault
-refused_or None next = next
-refused_or (Some fault) next = Err fault
-
 -- the words behind a command's name, in a line of so many words: refused from left to right, then what is missing
 abbrev pub line_of_command : Command → ℕ → List WordAt → Result Line WordsFault
 line_of_command command count words =
-    refused_or (first_refusal command [] words)
-    (refused_or (option_map (fault_at count) (first_missing command words)) (Ok (accepted_line command count words)))
+    unless_fault (first_refusal command [] words)
+    (unless_fault (option_map (fault_at count) (first_missing command words)) (Ok (accepted_line command count words)))
 
 -- the name of a command, which is no option itself, and the words behind it
 abbrev pub line_of_words : List (List ℕ) → Result Line WordsFault
@@ -244,6 +240,6 @@ line_of_words (name ∷ words) =
 -- too many words, too many bytes and a byte 0 come before all other refusals
 abbrev pub line : List (List ℕ) → Result Line WordsFault
 line words =
-    refused_or (if nat_lt most_arguments (length words) then Some (fault_at most_arguments TooManyWords) else None)
-    (refused_or (option_map (λ place. fault_at place WordsTooLong) (first_too_long words))
-    (refused_or (option_map (λ place. fault_at place ZeroByte) (first_with_zero words)) (line_of_words words)))
+    unless_fault (if nat_lt most_arguments (length words) then Some (fault_at most_arguments TooManyWords) else None)
+    (unless_fault (option_map (λ place. fault_at place WordsTooLong) (first_too_long words))
+    (unless_fault (option_map (λ place. fault_at place ZeroByte) (first_with_zero words)) (line_of_words words)))

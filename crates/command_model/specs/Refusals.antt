@@ -1,6 +1,6 @@
 -- The line of a refusal: what is refused, the name of the cause, and the place. From docs/MANUAL.md, "What you see";
 -- the names and the form of the lines are this project's own choice.
-use Rattle.std.specs.Prelude.{ℕ, List, [], ◌++◌, codes, Option, Some, None}
+use Rattle.std.specs.Prelude.{ℕ, List, ◌++◌, codes}
 use Rattle.std.specs.Fmt.{decimal}
 use Rattle.dbg_model.specs.declared.script.ScriptFault.{ScriptFault}
 use Rattle.dbg_model.specs.declared.script.ScriptWhy.{ScriptWhy}
@@ -38,45 +38,28 @@ words_name words.MissingBudget = codes "MissingBudget"
 
 -- ---- images: the name of a fault, and the index of its program header
 
-abbrev pub fault_name : ElfFault → List ℕ
-fault_name TooShort = codes "TooShort"
-fault_name BadMagic = codes "BadMagic"
-fault_name BadClass = codes "BadClass"
-fault_name BadData = codes "BadData"
-fault_name BadVersion = codes "BadVersion"
-fault_name BadType = codes "BadType"
-fault_name BadMachine = codes "BadMachine"
-fault_name BadHeaderSize = codes "BadHeaderSize"
-fault_name TooManySegments = codes "TooManySegments"
-fault_name HeadersOutside = codes "HeadersOutside"
-fault_name (Interpreter i) = codes "Interpreter"
-fault_name (SegmentOutside i) = codes "SegmentOutside"
-fault_name (FileOverMemory i) = codes "FileOverMemory"
-fault_name (AddressOutside i) = codes "AddressOutside"
-fault_name (NotCongruent i) = codes "NotCongruent"
-fault_name (Overlap i) = codes "Overlap"
-fault_name NoSegments = codes "NoSegments"
-fault_name TooManyPages = codes "TooManyPages"
+abbrev pub at_place : ℕ → List ℕ
+at_place place = codes " at " ++ decimal place
 
-abbrev pub fault_index : ElfFault → Option ℕ
-fault_index TooShort = None
-fault_index BadMagic = None
-fault_index BadClass = None
-fault_index BadData = None
-fault_index BadVersion = None
-fault_index BadType = None
-fault_index BadMachine = None
-fault_index BadHeaderSize = None
-fault_index TooManySegments = None
-fault_index HeadersOutside = None
-fault_index (Interpreter i) = Some i
-fault_index (SegmentOutside i) = Some i
-fault_index (FileOverMemory i) = Some i
-fault_index (AddressOutside i) = Some i
-fault_index (NotCongruent i) = Some i
-fault_index (Overlap i) = Some i
-fault_index NoSegments = None
-fault_index TooManyPages = None
+abbrev pub fault_text : ElfFault → List ℕ
+fault_text TooShort = codes "TooShort"
+fault_text BadMagic = codes "BadMagic"
+fault_text BadClass = codes "BadClass"
+fault_text BadData = codes "BadData"
+fault_text BadVersion = codes "BadVersion"
+fault_text BadType = codes "BadType"
+fault_text BadMachine = codes "BadMachine"
+fault_text BadHeaderSize = codes "BadHeaderSize"
+fault_text TooManySegments = codes "TooManySegments"
+fault_text HeadersOutside = codes "HeadersOutside"
+fault_text (Interpreter i) = codes "Interpreter" ++ at_place i
+fault_text (SegmentOutside i) = codes "SegmentOutside" ++ at_place i
+fault_text (FileOverMemory i) = codes "FileOverMemory" ++ at_place i
+fault_text (AddressOutside i) = codes "AddressOutside" ++ at_place i
+fault_text (NotCongruent i) = codes "NotCongruent" ++ at_place i
+fault_text (Overlap i) = codes "Overlap" ++ at_place i
+fault_text NoSegments = codes "NoSegments"
+fault_text TooManyPages = codes "TooManyPages"
 
 -- ---- listings, scripts and schedules
 
@@ -118,18 +101,11 @@ schedule_name schedule.NoTurn = codes "NoTurn"
 
 -- ---- the lines
 
-abbrev pub at_place : ℕ → List ℕ
-at_place place = codes " at " ++ decimal place
-
-abbrev pub at_index : Option ℕ → List ℕ
-at_index None = []
-at_index (Some i) = at_place i
-
 abbrev pub words_line : WordsFault → List ℕ
 words_line f = codes "refused words " ++ words_name f.why ++ at_place f.place ++ newline
 
 abbrev pub image_line : ElfFault → List ℕ
-image_line f = codes "refused image " ++ fault_name f ++ at_index (fault_index f) ++ newline
+image_line f = codes "refused image " ++ fault_text f ++ newline
 
 -- the place of a line, counted from 1; of a listing without code, and of a schedule without a turn, it is 0
 abbrev pub at_line : ℕ → List ℕ

@@ -9,7 +9,7 @@ use Rattle.emu_model.specs.declared.access.Kind.TheVariants.{Read as ToRead, Wri
 use Rattle.emu_model.specs.Access.{Memory}
 use Rattle.emu_model.specs.State.{Core, Parts, State}
 use Rattle.emu_run.specs.Run.{run, until_end}
-use Rattle.dbg_model.specs.Session.{session}
+use Rattle.dbg_model.specs.Forward.{session}
 use Rattle.emu_run.specs.Threads.{WorldState, threads}
 use Rattle.emu_run.specs.Threads.{with_input as world_with_input}
 use Rattle.emu_run.specs.Worlds.{World}
@@ -46,7 +46,8 @@ use Rattle.commands.proofs.RunEnds.{broken_is}
 use Rattle.commands.proofs.TwoFiles.{found_reads}
 use Rattle.commands.proofs.Worlds.{stops_whole}
 use Rattle.commands.specs.Reading.{EndsUnread, IsTooLong}
-use Rattle.commands.specs.Whole.{AtCall, HasPut, InRun, InSession, InWorld, Keeps, Undone, seen_by}
+use Rattle.commands.specs.Whole.{AtCall, HasPut, InRun, InWorld, Keeps, Undone, seen_by}
+use Rattle.commands.specs.Ahead.{InForward}
 use Rattle.commands.proofs.Causing.{ended_other, run_fails, run_reads, run_writes, unread_no_read, unread_no_write}
 use Rattle.commands.proofs.NamedFiles.{over, too_long, with_found, with_long, found_so}
 
@@ -274,10 +275,10 @@ module _ (m : Parts) (n : MachineState) (commands : List Command) (budget : ℕ)
   session_put bytes first steps = until_end (session (take first commands) budget (with_input m bytes)) steps
 
   session_in : (bytes : List ℕ) (put : State → List ℕ) (old new : Option (List ℕ)) (s : StandsWith put commands budget (with_input m bytes) n left old new)
-      → AtCall ending left (session_put bytes s.first s.steps) ⊎ ((s.steps ≡ 0) × (ending ≡ WriteFault)) → HasPut (InSession commands m budget ending left bytes) put old new
+      → AtCall ending left (session_put bytes s.first s.steps) ⊎ ((s.steps ≡ 0) × (ending ≡ WriteFault)) → HasPut (InForward commands m budget ending left bytes) put old new
   session_in bytes put old new s at = (session_put bytes s.first s.steps, (s.first, s.steps, refl, at), s.gained)
 
-  session_read : (bytes : List ℕ) (put : State → List ℕ) (old new : Option (List ℕ)) → ending ≡ ReadFault → StandsWith put commands budget (with_input m bytes) n left old new → HasPut (InSession commands m budget ending left bytes) put old new
+  session_read : (bytes : List ℕ) (put : State → List ℕ) (old new : Option (List ℕ)) → ending ≡ ReadFault → StandsWith put commands budget (with_input m bytes) n left old new → HasPut (InForward commands m budget ending left bytes) put old new
   session_read bytes put old new e s =
       let r : end ≡ sessions.ReadFault = session_reads end (sym by ∙ e) in
       let failed : n.failed ≡ true = failed_so n.failed end sessions.ReadFault r refl (λ e. cc) line in
@@ -285,12 +286,12 @@ module _ (m : Parts) (n : MachineState) (commands : List Command) (budget : ℕ)
 
   pub session_keeps : (f : List ℕ → Option Outcome) (told : Option (List ℕ))
       → ((end ≡ sessions.ReadFault) ⊎ (end ≡ sessions.ErrorsFault) → IfSome told (λ bytes. StandsWith (λ st. st.output) commands budget (with_input m bytes) n left o0 o1))
-      → ((end ≡ sessions.ReadFault) ⊎ (end ≡ sessions.WriteFault) → IfSome told (λ bytes. StandsWith (λ st. st.errors) commands budget (with_input m bytes) n left e0 e1)) → Keeps (InSession commands m budget ending left) f ending told o0 o1 e0 e1
+      → ((end ≡ sessions.ReadFault) ⊎ (end ≡ sessions.WriteFault) → IfSome told (λ bytes. StandsWith (λ st. st.errors) commands budget (with_input m bytes) n left e0 e1)) → Keeps (InForward commands m budget ending left) f ending told o0 o1 e0 e1
   session_keeps f None stands more = tt
   session_keeps f (Some bytes) stands more =
       let out : State → List ℕ = λ st. st.output in
       let err : State → List ℕ = λ st. st.errors in (
-        (λ fault. elim fault as (λ _. Written (InSession commands m budget ending left bytes) (f bytes) ending o0 o1) [
+        (λ fault. elim fault as (λ _. Written (InForward commands m budget ending left bytes) (f bytes) ending o0 o1) [
           | inl e ↦ inl (session_read bytes out o0 o1 e (stands (inl (session_reads end (sym by ∙ e)))))
           | inr e ↦
               let r : end ≡ sessions.ErrorsFault = session_errs end (sym by ∙ e) in
@@ -298,7 +299,7 @@ module _ (m : Parts) (n : MachineState) (commands : List Command) (budget : ℕ)
               let s : StandsWith out commands budget (with_input m bytes) n left o0 o1 = stands (inr r) in
               inl (session_in bytes out o0 o1 s (inl (as_ending ending ErrorsFault left (session_put bytes s.first s.steps) e (at_errors (session_put bytes s.first s.steps) n.parts left (s.kept failed) (goes failed) (errs r).names))))
         ]),
-        (λ fault. elim fault as (λ _. HasPut (InSession commands m budget ending left bytes) err e0 e1) [
+        (λ fault. elim fault as (λ _. HasPut (InForward commands m budget ending left bytes) err e0 e1) [
           | inl e ↦ session_read bytes err e0 e1 e (more (inl (session_reads end (sym by ∙ e))))
           | inr e ↦
               let r : end ≡ sessions.WriteFault = session_writes end (sym by ∙ e) in

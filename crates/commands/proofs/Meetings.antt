@@ -12,7 +12,7 @@ use Rattle.dbg_core.specs.Ends.{is_fault}
 use Rattle.dbg_core.specs.declared.ends.SessionEnd.{SessionEnd}
 use Rattle.dbg_core.specs.declared.ends.SessionEnd.TheVariants as sessions
 use Rattle.dbg_model.specs.declared.script.Command.{Command}
-use Rattle.dbg_model.specs.Session.{session}
+use Rattle.dbg_model.specs.Forward.{session}
 use Rattle.emu_run.specs.Run.{run}
 use Rattle.emu_run.specs.RunLaws.{IsRest, until_end_moves, prefix_refl, prefix_trans}
 use Rattle.command_lines.specs.declared.ending.Ending.{Ending}

@@ -2,7 +2,7 @@
 use Rattle.std.proofs.Common.{◌≡◌, ℕ, ◌-◌, List, Option, Some, None, refl, sym, subst}
 use Rattle.dbg_model.specs.declared.script.Command.{Command}
 use Rattle.dbg_model.specs.Reached.{IsReached, sessions_are_reached}
-use Rattle.dbg_model.specs.Session.{session}
+use Rattle.dbg_model.specs.Forward.{session}
 use Rattle.emu_model.specs.State.{Parts, State}
 use Rattle.emu_model.specs.declared.trap.Ended.{Ended}
 use Rattle.emu_model.specs.declared.trap.Ended.TheVariants.{Exit as Exited, Trap as Trapped}

@@ -4,10 +4,11 @@ use Rattle.std.proofs.lemmas.Option.{IfSome_then}
 use Rattle.io_gate.specs.Streams.{Causes, HasCause, Rose}
 use Rattle.io_gate.specs.Pieces.{PutsAll}
 use Rattle.command_model.specs.Refusals.{schedule_line}
-use Rattle.command_model.specs.WorldReports.{contexts_lines, stop_line, world_report}
+use Rattle.command_model.specs.WorldReports.{contexts_lines, stop_text, world_report}
 use Rattle.command_lines.specs.Outcome.{Outcome, ending_of_world, outcome_of_schedule, outcome_of_world}
 use Rattle.command_lines.specs.declared.ending.Ending.{Ending}
 use Rattle.command_lines.specs.declared.ending.Ending.TheVariants.{ScheduleRefused, ReadFault, WriteFault, ErrorsFault}
+use Rattle.emu_run.specs.Reports.{after_steps}
 use Rattle.emu_run.specs.RunLaws.{IsRest}
 use Rattle.line_words.specs.Reading.{IsErrorOf}
 use Rattle.guest_schedule.specs.Errors.{fault_in}
@@ -55,14 +56,14 @@ stop_of_end stops.Stuck = refl
 same_stop : (a b : WorldEnding) (r : Result WorldEnding Ending) → Ok a ≡ r → r ≡ Ok b → a ≡ b
 same_stop a b r p q = cc
 
-stop_is : (end : WorldEnd) (stop : WorldEnding) (w : World) → Ok stop ≡ stop_by end → end ≡ end_of_world w → stop ≡ ending w w.ended
+pub stop_is : (end : WorldEnd) (stop : WorldEnding) (w : World) → Ok stop ≡ stop_by end → end ≡ end_of_world w → stop ≡ ending w w.ended
 stop_is end stop w is ends = same_stop stop (ending w w.ended) (stop_by end) is (ap stop_by ends ∙ stop_of_end (ending w w.ended))
 
 -- one that was broken off ends with a failure
 same_fault : (a b : Ending) (r : Result WorldEnding Ending) → Err a ≡ r → r ≡ Err b → a ≡ b
 same_fault a b r p q = cc
 
-stops_broken : (end : WorldEnd) (fault : Ending) → Err fault ≡ stop_by end → (is_broken_off end ≡ true) × (is_failure fault ≡ true)
+pub stops_broken : (end : WorldEnd) (fault : Ending) → Err fault ≡ stop_by end → (is_broken_off end ≡ true) × (is_failure fault ≡ true)
 stops_broken (worlds.Exit code) fault is = cc
 stops_broken (worlds.Trap trap pc) fault is = cc
 stops_broken worlds.Spent fault is = cc
@@ -121,8 +122,8 @@ abbrev stopped_at : WorldState → Stopped
 stopped_at st = record { output = st.output; errors = st.errors; rest = st.input; text = world_report st.world; ending = ending_of_world (ending st.world st.world.ended) }
 
 -- the lines of a world that stopped so are its report
-report_is : (w : World) (stop : WorldEnding) → stop ≡ ending w w.ended → stop_line stop w.steps ++ contexts_lines w ≡ world_report w
-report_is w stop is = ap (λ (s : WorldEnding). stop_line s w.steps ++ contexts_lines w) is
+report_is : (w : World) (stop : WorldEnding) → stop ≡ ending w w.ended → (stop_text stop ++ after_steps w.steps) ++ contexts_lines w ≡ world_report w
+report_is w stop is = ap (λ (s : WorldEnding). (stop_text s ++ after_steps w.steps) ++ contexts_lines w) is
 
 module _ (turns : List (ℕ × ℕ)) (budget : ℕ) (m n : World) (end : WorldEnd) where
   abbrev last : List ℕ → WorldState
@@ -150,13 +151,13 @@ module _ (turns : List (ℕ × ℕ)) (budget : ℕ) (m n : World) (end : WorldEn
   pub reported_world : {T E : Type 0} (i0 i1 o0 o1 e0 e1 e2 : Option (List ℕ)) (stop : WorldEnding) (result : Ending) (put : Result T E) → Ok stop ≡ stop_by end
       → Becomes (threads turns budget) m n i0 i1 (is_broken_off end) → Puts (λ st. (threads turns budget st).output) m i0 o0 o1 (is_broken_off end)
       → Puts (λ st. (threads turns budget st).errors) m i0 e0 e1 (is_broken_off end)
-      → (is_broken_off end ≡ false → end ≡ end_of_world n) → PutsAll e1 e2 (stop_line stop n.steps ++ contexts_lines n) put → result ≡ ended_by put (ending_of_world stop)
+      → (is_broken_off end ≡ false → end ≡ end_of_world n) → PutsAll e1 e2 ((stop_text stop ++ after_steps n.steps) ++ contexts_lines n) put → result ≡ ended_by put (ending_of_world stop)
       → Meets (λ i. Some (outcome_of_world i (threads turns budget (with_input m i)))) result (now i0 o0 e0) (now i1 o1 e2)
   reported_world i0 i1 o0 o1 e0 e1 e2 stop result put is becomes outs errs ends puts by =
       let whole : is_broken_off end ≡ false = stops_whole end stop is in
       let of_world : stop ≡ ending n n.ended = stop_is end stop n is (ends whole) in
       subst (λ (r : Ending). Meets (λ i. Some (outcome_of_world i (threads turns budget (with_input m i)))) r (now i0 o0 e0) (now i1 o1 e2)) (sym by)
-      (stopped_meets (λ i. stopped_at (last i)) moves stops_so i0 i1 o0 o1 e0 e1 e2 (stop_line stop n.steps ++ contexts_lines n) (ending_of_world stop) put
+      (stopped_meets (λ i. stopped_at (last i)) moves stops_so i0 i1 o0 o1 e0 e1 e2 ((stop_text stop ++ after_steps n.steps) ++ contexts_lines n) (ending_of_world stop) put
       (IfSome_then i0 (subst (λ (b : Bool). Becomes (threads turns budget) m n i0 i1 b) whole becomes)
       (λ i b. (report_is n stop of_world ∙ ap world_report (b refl).0, ap ending_of_world (of_world ∙ ap (λ (x : World). ending x x.ended) (b refl).0), (b refl).1)))
       (subst (λ (b : Bool). Puts (λ st. (threads turns budget st).output) m i0 o0 o1 b) whole outs)

@@ -8,3 +8,4 @@ pub mod SecondFiles
 pub mod Sweeping
 pub mod Passing
 pub mod Whole
+pub mod Ahead

@@ -1,7 +1,8 @@
--- What a command line promises beside its outcome: which lines are refused, for which input an outcome counts, how a line may end, and how it ends
--- without its files.
-use Rattle.std.specs.Prelude.{◌≡◌, ◌⊎◌, ℕ, Bool, true, false, ◌||◌, nat_eq, List, [], get_or, Option, Some, None, Result, Ok, Err, MatchBool, MatchOption, MatchResult}
+-- What a command line promises beside its outcome: which lines are refused, for which input an outcome counts, how a
+-- line may end, and how it ends without its files. It is this project's own choice what to promise.
+use Rattle.std.specs.Prelude.{◌≡◌, ◌⊎◌, ℕ, Bool, true, false, ◌||◌, nat_eq, List, [], get_or, Option, Some, None, is_some, Result, Ok, Err, MatchBool, MatchOption, MatchResult}
 use Rattle.std.specs.FinMap.{get}
+use Rattle.std.specs.Option.{option_map_or}
 use Rattle.io_gate.specs.Images.{MissesNamed}
 use Rattle.command_lines.specs.Places.{file_named}
 use Rattle.command_model.specs.declared.command_line.Line.{Line}
@@ -30,13 +31,7 @@ takes_input (Err fault) = false
 
 -- the line names a file
 abbrev pub names_file : Result Line WordsFault → Bool
-names_file (Ok (Run file args bits budget pages)) = true
-names_file (Ok (Asm listing)) = true
-names_file (Ok (Dis file)) = true
-names_file (Ok (Dbg file script args bits budget pages)) = true
-names_file (Ok (Load number)) = false
-names_file (Ok (Sweep file args budget pages)) = true
-names_file (Ok (Threads file schedule args bits budget pages)) = true
+names_file (Ok l) = is_some (file_named [] l)
 names_file (Err fault) = false
 
 -- the line runs the program of a file at each length
@@ -59,8 +54,7 @@ abbrev pub text_goes_back : List ℕ → Bool
 text_goes_back text = script_goes_back (script_of_file text)
 
 abbrev pub file_goes_back : Option (List ℕ) → Bool
-file_goes_back None = false
-file_goes_back (Some text) = text_goes_back text
+file_goes_back file = option_map_or text_goes_back file false
 
 -- the input is read to its end before anything is run: by a sweep, and by a session that goes back
 abbrev pub reads_first : List (List ℕ) → Files → Result Line WordsFault → Bool
@@ -77,11 +71,13 @@ reads_first words files (Err fault) = false
 abbrev pub SettlesLine : List (List ℕ) → Files → Result Line WordsFault → Option Outcome → Ending → Type 0
 SettlesLine words files line = settles_by (reads_first words files line)
 
--- nothing is taken where memory is wanting: not of a sweep, and of a session only where the files are told and its script goes only forward
+-- the files are told, and the script of this name, if there is one, goes only forward
 abbrev pub IsForward : Option Files → List ℕ → Type 0
 IsForward None name = ⊥
 IsForward (Some files) name = file_goes_back (get files name) ≡ false
 
+-- nothing is taken where memory is wanting: not of a sweep, and of a session only where the files are told and its
+-- script goes only forward
 abbrev pub TakesLast : List (List ℕ) → Result Line WordsFault → Option Files → Type 0
 TakesLast words (Ok (Run file args bits budget pages)) told = Unit {0}
 TakesLast words (Ok (Asm listing)) told = Unit {0}
@@ -92,11 +88,13 @@ TakesLast words (Ok (Sweep file args budget pages)) told = ⊥
 TakesLast words (Ok (Threads file schedule args bits budget pages)) told = Unit {0}
 TakesLast words (Err fault) told = Unit {0}
 
--- the input is read to its end before anything is written: by a sweep, and by a session where the files are told and its script goes back
+-- the files are told, and the script of this name goes back
 abbrev pub IsBackward : Option Files → List ℕ → Type 0
 IsBackward None name = ⊥
 IsBackward (Some files) name = file_goes_back (get files name) ≡ true
 
+-- the input is read to its end before anything is written: by a sweep, and by a session where the files are told and
+-- its script goes back
 abbrev pub TakesFirst : List (List ℕ) → Result Line WordsFault → Option Files → Type 0
 TakesFirst words (Ok (Run file args bits budget pages)) told = ⊥
 TakesFirst words (Ok (Asm listing)) told = ⊥
@@ -107,13 +105,16 @@ TakesFirst words (Ok (Sweep file args budget pages)) told = Unit {0}
 TakesFirst words (Ok (Threads file schedule args bits budget pages)) told = ⊥
 TakesFirst words (Err fault) told = ⊥
 
--- the outcome of a line for these bytes counts: the line takes no input, or the input told them, or the outcome rests on none
+-- the outcome of a line for these bytes counts: the line takes no input, or the input told them, or the outcome rests
+-- on none
 abbrev pub IsOutcome : Result Line WordsFault → Option (List ℕ) → Option Outcome → List ℕ → Type 0
 IsOutcome line told outcome bytes = MatchBool (takes_input line) (CountsFor told outcome bytes) (Unit {0})
 
--- a refused line ends with its refusal, or with a fault of the errors; other lines don't end with one
+-- a refused line ends with its refusal, or with a fault of the errors; no other line ends with the refusal of a line
 abbrev pub RefusesLine : Result Line WordsFault → Ending → Type 0
-RefusesLine line ending = MatchResult line (λ _. (fault : WordsFault) → ending ≡ WordsRefused fault → ⊥) (λ fault. (ending ≡ WordsRefused fault) ⊎ (ending ≡ ErrorsFault))
+RefusesLine line ending =
+    MatchResult line (λ _. (fault : WordsFault) → ending ≡ WordsRefused fault → ⊥)
+    (λ fault. (ending ≡ WordsRefused fault) ⊎ (ending ≡ ErrorsFault))
 
 -- ---- how a line may end
 
@@ -186,8 +187,8 @@ abbrev pub MissesFirst : List (List ℕ) → Result Line WordsFault → Option F
 MissesFirst words (Ok l) told = MatchOption (file_named words l) ⊥ (MissesNamed told)
 MissesFirst words (Err fault) told = ⊥
 
--- a line that names a file that isn't there ends with a fault of the files; of `dbg` and `threads`, memory may be wanting for the
--- program's file before the script or the schedule is looked for
+-- a line that names a file that isn't there ends with a fault of the files; of `dbg` and `threads`, memory may be
+-- wanting for the program's file before the script or the schedule is looked for
 abbrev pub EndsMissing : Result Line WordsFault → Ending → Type 0
 EndsMissing (Ok (Dbg file script args bits budget pages)) ending = (ending ≡ FileFault) ⊎ (ending ≡ OutOfMemory)
 EndsMissing (Ok (Threads file schedule args bits budget pages)) ending = (ending ≡ FileFault) ⊎ (ending ≡ OutOfMemory)

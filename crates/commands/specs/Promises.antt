@@ -1,5 +1,6 @@
--- What a command promises: its result by the definitions, or, where something failed, nothing beyond it. Each fact rests on what the files told, and on
--- the input and the sinks that it names, where these tell their bytes.
+-- What a command promises: its result by the definitions, or, where something failed, nothing beyond it. Each fact
+-- rests on what the files told, and on the input and the sinks that it names, where these tell their bytes. It is this
+-- project's own choice what to promise.
 use Rattle.std.specs.Prelude.{◌≡◌, ◌≤◌, ℕ, Bool, true, false, nat_eq, List, [], drop, Option, Some, None, MatchBool, if◌then◌else◌}
 use Rattle.command_model.specs.Sweep.{stream_limit}
 use Rattle.command_lines.specs.Outcome.{Outcome, Files, file_limit}
@@ -15,7 +16,7 @@ is_failure ErrorsFault = true
 is_failure OutOfMemory = true
 is_failure ending = false
 
--- nothing is put on the errors at the end
+-- nothing is put on the errors at the end; where they fail that may be in the text at the end
 abbrev pub is_silent : Ending → Bool
 is_silent Done = true
 is_silent FileFault = true
@@ -24,7 +25,8 @@ is_silent WriteFault = true
 is_silent OutOfMemory = true
 is_silent ending = false
 
--- the line, a file, an image, a listing, a script or a schedule is refused; a stream that is too long isn't, since that rests on the input
+-- the line, a file, an image, a listing, a script or a schedule is refused; a stream that is too long isn't, since that
+-- rests on the input
 abbrev pub is_refusal : Ending → Bool
 is_refusal (WordsRefused fault) = true
 is_refusal (TooLong limit) = nat_eq limit file_limit
@@ -54,8 +56,8 @@ abbrev pub Settles : Option Outcome → Ending → Type 0
 Settles None ending = ⊥
 Settles (Some outcome) ending = settled_ending ending ≡ settled_ending outcome.ending
 
--- the ending of a command that reads its input to the end before anything is run, where it rests on no input: any but that the
--- command came to its end, or that a stream was too long for it
+-- the ending of a command that reads its input to the end before anything is run, where it rests on no input: any but
+-- that the command came to its end, or that a stream was too long for it
 abbrev pub settled_sweep : Ending → Option Ending
 settled_sweep Done = None
 settled_sweep (TooLong limit) = if nat_eq limit stream_limit then None else Some (TooLong limit)

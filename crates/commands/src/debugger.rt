@@ -8,7 +8,7 @@ ghost use Rattle.emu_system.specs.ArgumentLimits.{AreArguments};
 ghost use Rattle.emu_system.specs.Start.{with_input};
 ghost use Rattle.dbg_model.specs.Commands.{has_back};
 ghost use Rattle.dbg_model.specs.Script.{script_of_file};
-ghost use Rattle.dbg_model.specs.Session as model;
+ghost use Rattle.dbg_model.specs.Forward as model;
 ghost use Rattle.dbg_core.specs.Errors.{fault_in};
 ghost use Rattle.line_words.specs.Reading.{IsErrorOf};
 ghost use Rattle.command_lines.specs.Outcome.{
@@ -25,6 +25,7 @@ ghost use Rattle.commands.specs.Programs.{arguments_of, opening_of};
 ghost use Rattle.commands.specs.Promises.{settles_by};
 ghost use Rattle.commands.specs.Meets.{now, Meets, MeetsBy, MeetsSweep};
 ghost use Rattle.commands.specs.Sweeping.{ends_swept, Writes};
+ghost use Rattle.commands.specs.Ahead.{InForward};
 ghost use Rattle.commands.specs.Whole.{InSession, Keeps};
 ghost use Rattle.commands.specs.Passing.{InText};
 
@@ -101,7 +102,7 @@ fn debug_machine<I: Source, O: Sink, E: Sink>(
     ensures no_file { result ≢ Ending.FileFault }
     ensures no_memory { result ≢ Ending.OutOfMemory }
     ensures kind { ends_dbg result ≡ true }
-    ensures whole { Keeps (InSession script.now machine.old.parts budget result (I.left input.new))
+    ensures whole { Keeps (InForward script.now machine.old.parts budget result (I.left input.new))
         (λ i. Some (outcome_of_session i (model.session script.now budget (with_input machine.old.parts i)))) result
         (I.left input.old) (O.held output.old) (O.held output.new) (E.held errors.old) (E.held errors.new) }
 {
@@ -136,7 +137,7 @@ fn debug_forward<I: Source, O: Sink, E: Sink>(
     ensures memory_first { result ≡ Ending.OutOfMemory
         → (input.new ≡ input.old) × (output.new ≡ output.old) × (errors.new ≡ errors.old) }
     ensures kind { ends_dbg result ≡ true }
-    ensures whole { Keeps (InSession script.now
+    ensures whole { Keeps (InForward script.now
         (opening_of bytes.now (seen_image image.now) (map string_bytes words.now) program.now) program.now.budget
         result (I.left input.new))
         (λ i. Some (outcome_of_session i (model.session script.now program.now.budget (with_input

@@ -18,4 +18,5 @@ mod two_files;
 pub use files::file_bytes;
 pub use line::command;
 pub use program::{Program, open_machine};
-pub use run::{ending_of_run, is_failure};
+pub use run::{ending_of_run, is_failure, put_report};
+pub use threads::{ending_of_stop, put_world, schedule_of, stop_of};

@@ -54,7 +54,7 @@ fn put_machine<E: Sink>(machine: &Machine, errors: &mut E) -> Result<(), Failed>
 }
 
 /// Puts the line of a machine that has stopped, and its registers.
-fn put_report<E: Sink>(machine: &Machine, errors: &mut E) -> Result<(), Failed>
+pub fn put_report<E: Sink>(machine: &Machine, errors: &mut E) -> Result<(), Failed>
     ensures bytes { PutsAll (E.held errors.old) (E.held errors.new) (report machine.now.parts) result }
     ensures cause { HasCause (E.faults errors.old) (E.faults errors.new) result }
 {

@@ -24,10 +24,11 @@ ghost use Rattle.line_words.specs.Reading.{IsErrorOf};
 ghost use Rattle.guest_schedule.specs.Errors.{fault_in};
 ghost use Rattle.guest_schedule.specs.Schedule.{schedule_of_file};
 ghost use Rattle.guest_threads.specs.Ends.{has_ended};
+ghost use Rattle.emu_run.specs.Reports.{after_steps};
 ghost use Rattle.emu_run.specs.Threads.{with_input};
 ghost use Rattle.emu_run.specs.Threads as model;
 ghost use Rattle.emu_run.specs.Worlds.{opened};
-ghost use Rattle.command_model.specs.WorldReports.{contexts_lines, stop_line};
+ghost use Rattle.command_model.specs.WorldReports.{contexts_lines, stop_text};
 ghost use Rattle.command_lines.specs.Outcome.{ending_of_world, file_limit, outcome_of_schedule, outcome_of_world};
 ghost use Rattle.commands.specs.Endings.{stop_by};
 ghost use Rattle.commands.specs.Lines.{ends_threads};
@@ -50,7 +51,7 @@ use std::alloc::{AllocError, Global};
 use std::str;
 
 /// The schedule of a file's bytes. Err is its first refusal, or want of memory.
-fn schedule_of(alloc: Global, bytes: &[u8]) -> Result<Schedule, ScheduleError>
+pub fn schedule_of(alloc: Global, bytes: &[u8]) -> Result<Schedule, ScheduleError>
     requires { length bytes.now ≤ file_limit }
     ensures { MatchResult result
         (λ read. schedule_of_file bytes.now ≡ Ok read)
@@ -87,7 +88,7 @@ fn open_world(
 }
 
 /// How the run of a world stopped. Err is the ending of one that a stream broke off.
-fn stop_of(end: WorldEnd) -> Result<WorldEnding, Ending>
+pub fn stop_of(end: WorldEnd) -> Result<WorldEnding, Ending>
     ensures { result ≡ stop_by end }
 {
     match end {
@@ -102,7 +103,7 @@ fn stop_of(end: WorldEnd) -> Result<WorldEnding, Ending>
 }
 
 /// The ending of a world that stopped.
-fn ending_of_stop(stop: WorldEnding) -> Ending
+pub fn ending_of_stop(stop: WorldEnding) -> Ending
     ensures { result ≡ ending_of_world stop }
 {
     match stop {
@@ -115,7 +116,7 @@ fn ending_of_stop(stop: WorldEnding) -> Ending
 
 /// Puts the line of a world that stopped, with the steps of all its contexts.
 fn put_stop<E: Sink>(stop: WorldEnding, steps: u64, errors: &mut E) -> Result<(), Failed>
-    ensures bytes { PutsAll (E.held errors.old) (E.held errors.new) (stop_line stop steps) result }
+    ensures bytes { PutsAll (E.held errors.old) (E.held errors.new) (stop_text stop ++ after_steps steps) result }
     ensures cause { HasCause (E.faults errors.old) (E.faults errors.new) result }
 {
     match stop {
@@ -139,9 +140,9 @@ fn put_contexts<E: Sink>(world: &World, errors: &mut E) -> Result<(), Failed>
 }
 
 /// Puts the line of a world that stopped, and the registers of its contexts.
-fn put_world<E: Sink>(world: &World, stop: WorldEnding, errors: &mut E) -> Result<(), Failed>
+pub fn put_world<E: Sink>(world: &World, stop: WorldEnding, errors: &mut E) -> Result<(), Failed>
     ensures bytes { PutsAll (E.held errors.old) (E.held errors.new)
-        (stop_line stop world.now.world.steps ++ contexts_lines world.now.world) result }
+        ((stop_text stop ++ after_steps world.now.world.steps) ++ contexts_lines world.now.world) result }
     ensures cause { HasCause (E.faults errors.old) (E.faults errors.new) result }
 {
     put_stop(stop, world.steps(), errors)?;

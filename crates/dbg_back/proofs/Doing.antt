@@ -5,7 +5,7 @@ use Rattle.io_gate.specs.Pieces.{PutsAll}
 use Rattle.emu_model.specs.State.{Parts, State}
 use Rattle.emu_machine.specs.Machines.{MachineState}
 use Rattle.emu_report.proofs.Puts.{puts_equal}
-use Rattle.dbg_model.specs.SessionBack.{Course, put}
+use Rattle.dbg_model.specs.Session.{Course, printed}
 use Rattle.dbg_back.specs.declared.trail.Trail.{Trail}
 use Rattle.dbg_back.specs.Ends.{end_of_put, is_fault}
 use Rattle.dbg_back.specs.Walks.{CanWalk, Does, Gained, IsIn, IsWalk}
@@ -52,7 +52,7 @@ module _ (input : List ℕ) (m n u : MachineState) (t v w : Trail) (hp hq hu ep 
 
 -- ---- a line
 
-pub walk_put : (start : State) (input : List ℕ) (c : Course) (m : MachineState) (t : Trail) (text : Parts → List ℕ) → IsWalk start input c m t → IsWalk start input (put text c) m t
+pub walk_put : (start : State) (input : List ℕ) (c : Course) (m : MachineState) (t : Trail) (text : Parts → List ℕ) → IsWalk start input c m t → IsWalk start input (printed text c) m t
 walk_put start input c m t text h = record {
   here = record { parts = h.here.parts; failed = h.here.failed; left = h.here.left; within = h.here.within };
   on = record { count = h.on.count; parts = h.on.parts; input = h.on.input };
@@ -72,7 +72,7 @@ errs_stay None (Err failed) errs bytes g = tt
 errs_stay (Some h) (Err failed) errs bytes g = record { gained = bytes; is = g; first = ([], sym (append-nil bytes)) }
 
 pub does_put : (input : List ℕ) (m : MachineState) (t : Trail) (hp hq errs : Option (List ℕ)) (text : Parts → List ℕ) (line : Result (Unit {0}) Failed) → PutsAll hp hq (text m.parts) line
-    → Does (λ start. put text) input m m t t hp hq errs errs (is_fault (end_of_put line))
+    → Does (λ start. printed text) input m m t t hp hq errs errs (is_fault (end_of_put line))
 does_put input m t hp hq errs text line puts = record {
   walks = λ start c h fine. walk_put start input c m t text h;
   output = λ start c had h before.

@@ -11,13 +11,12 @@ use Rattle.emu_run.specs.Step.{accesses}
 use Rattle.emu_machine.specs.Machines.{MachineState}
 use Rattle.dbg_model.specs.declared.script.Stop.{Stop as Met}
 use Rattle.dbg_model.specs.declared.script.Stop.TheVariants.{AtWatch, AtBreak}
-use Rattle.dbg_model.specs.Session.{Points, point_met, is_touched, stop_line, watch_met}
+use Rattle.dbg_model.specs.Session.{Points, point_met, is_touched, stop_line, watch_met, Course, ended_line, go, walked, printed, stepped, stopped_or}
 use Rattle.dbg_core.specs.declared.points.Stop.{Stop}
 use Rattle.dbg_core.specs.declared.points.Stop.TheVariants.{Ended, Watch, Break, Spent}
 use Rattle.dbg_core.specs.Stops.{HasEnded, first_met, line_of_stop, met_or, spent_met}
 use Rattle.dbg_model.specs.CourseLaws.{moved_one}
-use Rattle.dbg_model.specs.SessionBack.{Course, ending_text, go, moved, put, stepped, stopped_or}
-use Rattle.dbg_model.specs.SessionBackEquations.{go-zero, moved-zero}
+use Rattle.dbg_model.specs.SessionEquations.{go-zero, walked-zero}
 use Rattle.dbg_back.specs.Walks.{IsIn, advanced, part_end}
 use Rattle.dbg_back.proofs.Courses.{Appends, appends_go, appends_put, go_one, go_over, stepped_counts}
 use Rattle.dbg_back.proofs.Running.{part_below}
@@ -39,7 +38,7 @@ one_step c going below =
       | false ↦ λ h. ap (λ (b : Bool). if b then min until c.top else until) h
     ] refl in
     let one : part_end c until - c.state.parts.steps ≡ 1 = omega (arith, ends) in
-    ap (moved c) one ∙ moved_one c 0 going ∙ moved-zero (stepped c)
+    ap (walked c) one ∙ moved_one c 0 going ∙ walked-zero (stepped c)
 
 -- ---- the tests behind it
 
@@ -142,7 +141,7 @@ module _ (points : Points) (budget : ℕ) (c : Course) (going : goes_on c.state 
   none_is (Some x) h = cc
 
   -- one does
-  pub go_stops : (stop : Stop) → first_met points budget (accesses c.state.parts) (stepped c).state.parts ≡ Some stop → go_at points budget c ≡ put (line_of_stop stop) (stepped c)
+  pub go_stops : (stop : Stop) → first_met points budget (accesses c.state.parts) (stepped c).state.parts ≡ Some stop → go_at points budget c ≡ printed (line_of_stop stop) (stepped c)
   go_stops Ended is =
       let over = (tested points budget (accesses c.state.parts) (stepped c).state.parts).ended is in
       go_met None (none_over points (accesses c.state.parts) (stepped c).state.parts over) ∙ go_over points (stepped c) (budget - (c.state.parts.steps + 1)) over
@@ -163,10 +162,10 @@ module _ (points : Points) (budget : ℕ) (c : Course) (going : goes_on c.state 
 
 -- ---- it has ended, or the budget is spent
 
-pub go_rests : (points : Points) (budget : ℕ) (c : Course) → budget ≤ c.state.parts.steps → go_at points budget c ≡ put ending_text c
+pub go_rests : (points : Points) (budget : ℕ) (c : Course) → budget ≤ c.state.parts.steps → go_at points budget c ≡ printed ended_line c
 go_rests points budget c over = let none : budget - c.state.parts.steps ≡ 0 = omega (arith, over) in ap (go points c) none ∙ go-zero points c
 
-pub go_ended : (points : Points) (budget : ℕ) (c : Course) → goes_on c.state ≡ false → go_at points budget c ≡ put ending_text c
+pub go_ended : (points : Points) (budget : ℕ) (c : Course) → goes_on c.state ≡ false → go_at points budget c ≡ printed ended_line c
 go_ended points budget c over = go_over points c (budget - c.state.parts.steps) over
 
 -- ---- the same of the machine

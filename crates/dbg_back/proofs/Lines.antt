@@ -3,13 +3,12 @@ use Rattle.std.proofs.Common.{◌≡◌, ℕ, refl}
 use Rattle.emu_model.specs.State.{State}
 use Rattle.dbg_model.specs.declared.script.Command.{Command}
 use Rattle.dbg_model.specs.declared.script.Command.TheVariants.{Step, Go, Break, Watch, Regs, Vl, Zreg, Preg, Ffr, Lanes, Mem, Back}
-use Rattle.dbg_model.specs.Session.{Points}
+use Rattle.dbg_model.specs.Session.{Points, Course, obeyed, printed}
 use Rattle.dbg_core.specs.Stops.{shown_behind}
-use Rattle.dbg_model.specs.SessionBack.{Course, obeyed, put}
 
 -- a command that doesn't move the machine
 pub shows : (command : Command) (points : Points) (budget : ℕ) → ((n : ℕ) → command ≡ Step n → ⊥) → (command ≡ Go → ⊥) → ((k : ℕ) → command ≡ Back k → ⊥) → (start : State) (c : Course)
-    → put (shown_behind command) c ≡ obeyed start command points budget c
+    → printed (shown_behind command) c ≡ obeyed start command points budget c
 shows (Step n) points budget no_step no_go no_back start c = absurd (no_step n refl)
 shows Go points budget no_step no_go no_back start c = absurd (no_go refl)
 shows (Break address) points budget no_step no_go no_back start c = refl

@@ -17,7 +17,7 @@ use Rattle.emu_run.specs.Steps.{until_end_added}
 use Rattle.dbg_model.specs.Reached.{until_end_counts}
 use Rattle.dbg_model.specs.CourseLaws.{IsOn, moved_below, moved_same, on_start, until_input, until_parts}
 use Rattle.dbg_model.specs.Limits.{until_end_limit}
-use Rattle.dbg_model.specs.SessionBack.{Course, back_to, begun, moved, moved_to}
+use Rattle.dbg_model.specs.Session.{Course, back_to, begun, walked, moved_to}
 use Rattle.dbg_back.specs.declared.trail.Trail.{Trail}
 use Rattle.dbg_back.specs.Walks.{AreMarks, IsIn, IsMark, IsTurned, IsWalk}
 use Rattle.dbg_back.proofs.Counts.{all_none}
@@ -260,7 +260,7 @@ walk_turned target start input c m n t v k within set_k before is marks saved fa
 
 -- steps from a mark on, up to the place to go back to
 pub steps_from : (start : State) (c : Course) (count target k : ℕ) → (until_end start count).parts.steps ≡ count → count ≤ target → target ≡ c.state.parts.steps - k → c.state.parts.steps ≤ c.top
-    → moved (record { state = moved_to (until_end start count) c.state; top = c.top }) (target - (until_end start count).parts.steps) ≡ back_to start k c
+    → walked (record { state = moved_to (until_end start count) c.state; top = c.top }) (target - (until_end start count).parts.steps) ≡ back_to start k c
 steps_from start c count target k counted before is below =
     let s : State = until_end start count in
     let d : Course = record { state = moved_to s c.state; top = c.top } in

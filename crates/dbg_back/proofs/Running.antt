@@ -19,7 +19,7 @@ use Rattle.emu_machine.specs.declared.ends.RunEnd.TheVariants as runs
 use Rattle.emu_machine.proofs.Composed.{from_nothing}
 use Rattle.emu_machine.proofs.Logs.{last_none, log_one}
 use Rattle.dbg_model.specs.CourseLaws.{moved_below, moved_beyond, on_same, on_until}
-use Rattle.dbg_model.specs.SessionBack.{Course, moved, moved_to}
+use Rattle.dbg_model.specs.Session.{Course, walked, moved_to}
 use Rattle.dbg_back.specs.declared.trail.Trail.{Trail}
 use Rattle.dbg_back.specs.Walks.{AreMarks, CanWalk, Does, Gained, IsIn, IsWalk, Runs, Stopped, advanced, part_end}
 use Rattle.dbg_back.proofs.Courses.{until_most}
@@ -139,7 +139,7 @@ same_marks start input m n t v marks saved steps places h =
 module _ (input : List ℕ) (m n : MachineState) (t v : Trail) (part : ℕ) (marks : n.marks ≡ m.marks) (saved : n.saved ≡ m.saved) (steps : v.steps ≡ t.steps) (places : v.places ≡ t.places) where
   -- up to the furthest count
   pub walk_below : (start : State) (c : Course) → IsWalk start input c m t → c.state.parts.steps ≤ part → part ≤ c.top → v.top ≡ t.top → IsIn (run c.state part) input n v.place
-      → IsWalk start input (moved c (part - c.state.parts.steps)) n v
+      → IsWalk start input (walked c (part - c.state.parts.steps)) n v
   walk_below start c w from to top here =
       let k : ℕ = part - c.state.parts.steps in
       let within : c.state.parts.steps + k ≤ c.top = omega (arith, from, to) in
@@ -155,7 +155,7 @@ module _ (input : List ℕ) (m n : MachineState) (t v : Trail) (part : ℕ) (mar
 
   -- from it on
   pub walk_beyond : (start : State) (c : Course) → IsWalk start input c m t → c.top ≡ c.state.parts.steps → v.top ≡ n.parts.steps → IsIn (run c.state part) input n v.place
-      → IsWalk start input (moved c (part - c.state.parts.steps)) n v
+      → IsWalk start input (walked c (part - c.state.parts.steps)) n v
   walk_beyond start c w at top here =
       let k : ℕ = part - c.state.parts.steps in
       rw (moved_beyond k c at) (record {

@@ -6,7 +6,7 @@ use Rattle.emu_run.specs.Run.{goes_on, run, until_end}
 use Rattle.emu_system.specs.Gained.{Gains}
 use Rattle.emu_machine.specs.Machines.{MachineState, Saved, saved_of}
 use Rattle.dbg_model.specs.CourseLaws.{IsOn}
-use Rattle.dbg_model.specs.SessionBack.{Course, moved, moved_to}
+use Rattle.dbg_model.specs.Session.{Course, walked, moved_to}
 use Rattle.dbg_back.specs.declared.trail.Trail.{Trail}
 
 -- ---- marks
@@ -94,4 +94,4 @@ abbrev pub part_end : Course → ℕ → ℕ
 part_end c until = if nat_lt c.state.parts.steps c.top then min until c.top else until
 
 abbrev pub advanced : ℕ → Course → Course
-advanced until c = moved c (part_end c until - c.state.parts.steps)
+advanced until c = walked c (part_end c until - c.state.parts.steps)

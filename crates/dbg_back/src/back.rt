@@ -4,7 +4,7 @@ ghost use Rattle.std.specs.Prelude.{Option, None, get_or, is_some, length as len
 ghost use Rattle.io_gate.specs.Streams.{Causes, HasCause};
 ghost use Rattle.io_gate.specs.Pieces.{PutsAll};
 ghost use Rattle.emu_run.specs.Reports.{address_text};
-ghost use Rattle.dbg_model.specs.SessionBack.{back_text, back_to, went_back};
+ghost use Rattle.dbg_model.specs.Session.{back_text, back_to, went_back};
 ghost use Rattle.dbg_back.specs.Ends.{is_fault};
 ghost use Rattle.dbg_back.specs.Walks.{CanWalk, Does, Turns};
 

@@ -3,7 +3,7 @@ ghost use Rattle.std.specs.Prelude.{◌≡◌, ◌≤◌, ◌<◌, ◌⊎◌, �
 ghost use Rattle.io_gate.specs.Streams.{Causes};
 ghost use Rattle.emu_run.specs.Step.{accesses};
 ghost use Rattle.emu_machine.specs.Machines.{has_ended};
-ghost use Rattle.dbg_model.specs.SessionBack as model;
+ghost use Rattle.dbg_model.specs.Session as model;
 ghost use Rattle.dbg_back.specs.Ends.{is_fault};
 ghost use Rattle.dbg_back.specs.Walks.{CanWalk, Does, Runs, Stopped, advanced};
 
@@ -98,7 +98,7 @@ pub fn move_to<O: Sink, E: Sink>(
     errors: &mut E,
 ) -> BackEnd
     requires walks { CanWalk input.now machine.old trail.old }
-    ensures does { Does (λ start c. model.moved c (target - c.state.parts.steps)) input.now machine.old machine.new
+    ensures does { Does (λ start c. model.walked c (target - c.state.parts.steps)) input.now machine.old machine.new
         trail.old trail.new (O.held output.old) (O.held output.new) (E.held errors.old) (E.held errors.new) (is_fault
         result) }
     ensures write_cause { Causes (result ≡ BackEnd.WriteFault) (O.faults output.old) (O.faults output.new) }
@@ -174,7 +174,7 @@ fn go_free<O: Sink, E: Sink>(
     errors: &mut E,
 ) -> BackEnd
     requires walks { CanWalk input.now machine.old trail.old }
-    ensures does { Does (λ start c. model.put model.ending_text (model.moved c (budget - c.state.parts.steps)))
+    ensures does { Does (λ start c. model.printed model.ended_line (model.walked c (budget - c.state.parts.steps)))
         input.now machine.old machine.new trail.old trail.new (O.held output.old) (O.held output.new) (E.held
         errors.old) (E.held errors.new) (is_fault result) }
     ensures write_cause { Causes (result ≡ BackEnd.WriteFault) (O.faults output.old) (O.faults output.new) }

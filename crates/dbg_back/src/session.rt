@@ -7,7 +7,7 @@ ghost use Rattle.emu_system.specs.Start.{with_input};
 ghost use Rattle.emu_machine.specs.Machines.{has_ended};
 ghost use Rattle.emu_model.specs.State.{State};
 ghost use Rattle.dbg_model.specs.ScriptLimits.{is_within};
-ghost use Rattle.dbg_model.specs.SessionBack as model;
+ghost use Rattle.dbg_model.specs.Session as model;
 ghost use Rattle.dbg_back.specs.Ends.{is_fault};
 ghost use Rattle.dbg_back.specs.Walks.{CanWalk, Does};
 
@@ -75,9 +75,9 @@ pub fn session_back<O: Sink, E: Sink>(
     requires steps { machine.old.parts.steps ≡ 0 }
     requires going { has_ended machine.old ≡ false }
     ensures output { IfSome (O.held output.old) (λ had. Gains (is_fault result) (O.held output.new) had
-        (model.session_back script.now budget (with_input machine.old.parts input.now)).output) }
+        (model.session script.now budget (with_input machine.old.parts input.now)).output) }
     ensures errors { IfSome (E.held errors.old) (λ had. Gains (is_fault result) (E.held errors.new) had
-        (model.session_back script.now budget (with_input machine.old.parts input.now)).errors) }
+        (model.session script.now budget (with_input machine.old.parts input.now)).errors) }
     ensures write_cause { Causes (result ≡ BackEnd.WriteFault) (O.faults output.old) (O.faults output.new) }
     ensures errors_cause { Causes (result ≡ BackEnd.ErrorsFault) (E.faults errors.old) (E.faults errors.new) }
 {

@@ -4,7 +4,7 @@ ghost use Rattle.std.specs.List.{count_by};
 ghost use Rattle.emu_model.specs.State.{State};
 ghost use Rattle.emu_system.specs.Start.{with_input};
 ghost use Rattle.emu_machine.specs.Machines.{has_ended};
-ghost use Rattle.dbg_model.specs.SessionBack.{Course, begun};
+ghost use Rattle.dbg_model.specs.Session.{Course, begun};
 ghost use Rattle.dbg_back.specs.Walks.{IsWalk};
 
 use crate::marks::free_mark;

@@ -11,8 +11,9 @@ use Rattle.emu_run.specs.Run.{goes_on, run}
 use Rattle.emu_run.specs.RunLaws.{Moves, moves_not}
 use Rattle.emu_machine.specs.Ends.{Becomes, Puts}
 use Rattle.dbg_model.specs.declared.script.Stop.{Stop}
-use Rattle.dbg_model.specs.Session.{Points, no_points, is_touched, point_met, watch_met, stop_line, stopped_or, go}
-use Rattle.dbg_model.specs.SessionEquations.{go-zero}
+use Rattle.dbg_model.specs.Session.{Points, no_points, is_touched, point_met, watch_met, stop_line}
+use Rattle.dbg_model.specs.Forward.{stopped_or, go}
+use Rattle.dbg_model.specs.ForwardEquations.{go-zero}
 use Rattle.dbg_core.specs.declared.ends.SessionEnd.{SessionEnd}
 use Rattle.dbg_core.specs.declared.ends.SessionEnd.TheVariants.{Done}
 use Rattle.dbg_core.specs.Ends.{Obeys, is_fault, end_of_put}

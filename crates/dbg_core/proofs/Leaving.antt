@@ -15,7 +15,7 @@ use Rattle.emu_machine.specs.declared.ends.StepEnd.{StepEnd}
 use Rattle.emu_machine.specs.declared.ends.StepEnd.TheVariants as steps
 use Rattle.dbg_core.specs.declared.ends.SessionEnd.{SessionEnd}
 use Rattle.dbg_core.specs.declared.ends.SessionEnd.TheVariants.{Done, WriteFault}
-use Rattle.dbg_core.specs.Ends.{Halts, Leaves, is_fault, end_of_run, end_of_step, end_of_put}
+use Rattle.dbg_core.specs.Ends.{Halts, LeavesMachine, is_fault, end_of_run, end_of_step, end_of_put}
 use Rattle.emu_machine.proofs.Composed.{Blind, from_nothing}
 use Rattle.dbg_core.proofs.Sessions.{prints}
 use Rattle.dbg_core.proofs.Obeying.{fault_of_run, last_run, last_step}
@@ -117,7 +117,7 @@ line_of_put (Ok done) fault = cc
 line_of_put (Err failed) fault = refl
 
 pub leaves_line : (f : State → State) (budget : ℕ) (old : Parts) (new : MachineState) (told left : Option (List ℕ)) (put : Result (Unit {0}) Failed) (end : SessionEnd) → end ≡ end_of_put put
-    → new.failed ≡ false → Becomes f old new.parts told left false → Leaves f budget old new told left end
+    → new.failed ≡ false → Becomes f old new.parts told left false → LeavesMachine f budget old new told left end
 leaves_line f budget old new told left put end is fine whole = record {
   whole = subst (λ (b : Bool). Becomes f old new.parts told left b) (sym fine) whole;
   halted = no_halt (λ bytes. Halts (with_input old bytes) new.parts left) told new.failed fine;
@@ -128,7 +128,7 @@ leaves_line f budget old new told left put end is fine whole = record {
 }
 
 -- nothing was done
-pub leaves_still : (f : State → State) (budget : ℕ) (now : MachineState) (told : Option (List ℕ)) → now.failed ≡ false → Becomes f now.parts now.parts told told false → Leaves f budget now.parts now told told Done
+pub leaves_still : (f : State → State) (budget : ℕ) (now : MachineState) (told : Option (List ℕ)) → now.failed ≡ false → Becomes f now.parts now.parts told told false → LeavesMachine f budget now.parts now told told Done
 leaves_still f budget now told fine whole = leaves_line f budget now.parts now told told (Ok tt) Done refl fine whole
 
 -- ---- a step was broken off
@@ -138,7 +138,7 @@ broken_whole f old new None left failed broken = tt
 broken_whole f old new (Some bytes) left failed broken = λ fine. never ((new ≡ (f (with_input old bytes)).parts) × (left ≡ Some (f (with_input old bytes)).input)) failed fine broken
 
 pub leaves_broken : (f : State → State) (budget : ℕ) (old : Parts) (new : MachineState) (told left : Option (List ℕ)) (end : SessionEnd) → new.failed ≡ true → IfSome told (λ bytes. new.failed ≡ true → Halts (with_input old bytes) new.parts left)
-    → (end ≡ WriteFault → MakesWrite new.parts 1) → new.parts.steps < budget → is_none new.parts.ended ≡ true → Leaves f budget old new told left end
+    → (end ≡ WriteFault → MakesWrite new.parts 1) → new.parts.steps < budget → is_none new.parts.ended ≡ true → LeavesMachine f budget old new told left end
 leaves_broken f budget old new told left end broken halted named below going = record {
   whole = broken_whole f old new.parts told left new.failed broken;
   halted = halted;
@@ -151,7 +151,7 @@ leaves_broken f budget old new told left end broken halted named below going = r
 -- by the step that wasn't done, of a machine that some steps led to
 pub leaves_step : (f : State → State) (budget : ℕ) (old p : Parts) (new : MachineState) (told left_p left_q : Option (List ℕ)) (r : StepEnd) (end : SessionEnd) → end ≡ end_of_step r → is_undone r ≡ true → new.failed ≡ is_undone r
     → IsAt old p told left_p → (is_undone r ≡ true → IsKept p new.parts left_p left_q) → (is_unput r ≡ true → new.parts ≡ p) → (r ≡ steps.WriteFault → MakesWrite p 1)
-    → p.steps < budget → is_none p.ended ≡ true → Leaves f budget old new told left_q end
+    → p.steps < budget → is_none p.ended ≡ true → LeavesMachine f budget old new told left_q end
 leaves_step f budget old p new told left_p left_q r end is undone failed here kept unput named below going =
     let k = kept undone in
     let same = ap (λ (m : Parts). m.steps) k.is in
@@ -172,7 +172,7 @@ pub leaves_run : (target : ℕ) (p : Parts) (new : MachineState) (told left : Op
     → Becomes (λ st. run st target) p new.parts told left (is_broken_off r)
     → IfSome told (λ bytes. is_broken_off r ≡ true → IsKept (run (with_input p bytes) new.parts.steps).parts new.parts (Some (run (with_input p bytes) new.parts.steps).input) left)
     → (r ≡ runs.WriteFault → MakesWrite new.parts 1) → (is_broken_off r ≡ true → new.parts.steps < target) → (is_broken_off r ≡ true → is_none new.parts.ended ≡ true)
-    → Leaves (λ st. run st target) target p new told left end
+    → LeavesMachine (λ st. run st target) target p new told left end
 leaves_run target p new told left r end is failed state kept named below going = record {
   whole = subst (λ (b : Bool). Becomes (λ st. run st target) p new.parts told left b) (sym failed) state;
   halted = run_halted p new.parts told left (is_broken_off r) new.failed failed kept;
@@ -186,11 +186,11 @@ leaves_run target p new told left r end is failed state kept named below going =
 
 module _ (f : State → State) (p : Parts) (m : MachineState) (told left : Option (List ℕ)) (end : SessionEnd) where
   -- with a line that wasn't put behind it
-  pub leaves_prints : (text : Parts → List ℕ) (budget : ℕ) → Leaves f budget p m told left end → Leaves (λ st. prints text (f st)) budget p m told left end
+  pub leaves_prints : (text : Parts → List ℕ) (budget : ℕ) → LeavesMachine f budget p m told left end → LeavesMachine (λ st. prints text (f st)) budget p m told left end
   leaves_prints text budget l = record { whole = l.whole; halted = l.halted; line = l.line; write_named = l.write_named; unspent = l.unspent; unended = l.unended }
 
   -- another function that makes the same, and more of a budget
-  pub leaves_same : (g : State → State) (budget more : ℕ) → budget ≤ more → ((input : List ℕ) → f (with_input p input) ≡ g (with_input p input)) → Leaves f budget p m told left end → Leaves g more p m told left end
+  pub leaves_same : (g : State → State) (budget more : ℕ) → budget ≤ more → ((input : List ℕ) → f (with_input p input) ≡ g (with_input p input)) → LeavesMachine f budget p m told left end → LeavesMachine g more p m told left end
   leaves_same g budget more within same l = record {
     whole = becomes_same f g p m.parts told left m.failed same l.whole;
     halted = l.halted;

@@ -14,7 +14,8 @@ use Rattle.emu_machine.specs.declared.ends.RunEnd.TheVariants as runs
 use Rattle.emu_machine.specs.declared.ends.StepEnd.{StepEnd}
 use Rattle.emu_machine.specs.declared.ends.StepEnd.TheVariants as steps
 use Rattle.dbg_model.specs.declared.script.Command.{Command}
-use Rattle.dbg_model.specs.Session.{Points, no_points, obeyed, session}
+use Rattle.dbg_model.specs.Session.{Points, no_points}
+use Rattle.dbg_model.specs.Forward.{obeyed, session}
 use Rattle.dbg_core.specs.declared.ends.SessionEnd.{SessionEnd}
 use Rattle.dbg_core.specs.declared.ends.SessionEnd.TheVariants.{Done, ReadFault, WriteFault, ErrorsFault}
 use Rattle.dbg_core.specs.Ends.{HaltsWith, Spares, StandsWith, is_fault, end_of_run, end_of_step, end_of_put}

@@ -12,7 +12,8 @@ use Rattle.dbg_model.specs.declared.script.Command.{Command}
 use Rattle.dbg_model.specs.declared.script.Command.TheVariants.{Step, Go, Break, Watch, Regs, Vl, Zreg, Preg, Ffr, Lanes, Mem, Back}
 use Rattle.dbg_model.specs.Commands.{is_break, is_watch}
 use Rattle.dbg_model.specs.ScriptLimits.{is_within}
-use Rattle.dbg_model.specs.Session.{Points, with_point, obeyed, obeyed_all, shown}
+use Rattle.dbg_model.specs.Session.{Points, with_point, shown}
+use Rattle.dbg_model.specs.Forward.{obeyed, obeyed_all}
 use Rattle.dbg_core.specs.declared.ends.SessionEnd.{SessionEnd}
 use Rattle.dbg_core.specs.declared.ends.SessionEnd.TheVariants.{Done}
 use Rattle.dbg_core.specs.Ends.{Obeys, TakesPoint, is_fault}

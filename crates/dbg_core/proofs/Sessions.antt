@@ -10,8 +10,9 @@ use Rattle.emu_run.specs.RunLaws.{rest_all, Moves, moves_not, moves_trans, prefi
 use Rattle.dbg_model.specs.declared.script.Command.{Command}
 use Rattle.dbg_model.specs.declared.script.Command.TheVariants.{Step, Go, Break, Watch, Regs, Vl, Zreg, Preg, Ffr, Lanes, Mem, Back}
 use Rattle.dbg_model.specs.declared.script.Stop.{Stop}
-use Rattle.dbg_model.specs.Session.{Points, no_points, with_point, is_touched, point_met, watch_met, shown, stop_line, printed, ending_printed, stepped_text, stepped, stopped_or, go, obeyed, obeyed_all}
-use Rattle.dbg_model.specs.SessionEquations.{go-zero, go-suc}
+use Rattle.dbg_model.specs.Session.{Points, no_points, with_point, is_touched, point_met, watch_met, shown, stop_line, stepped_text}
+use Rattle.dbg_model.specs.Forward.{printed, ending_printed, stepped, stopped_or, go, obeyed, obeyed_all}
+use Rattle.dbg_model.specs.ForwardEquations.{go-zero, go-suc}
 use Rattle.emu_machine.proofs.Composed.{Blind, Moving}
 use Rattle.emu_machine.proofs.Runs.{run_moving}
 

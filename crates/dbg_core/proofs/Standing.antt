@@ -10,9 +10,10 @@ use Rattle.emu_run.specs.RunLaws.{behind, run_behind}
 use Rattle.emu_machine.specs.Ends.{Becomes, IsKept}
 use Rattle.emu_machine.specs.Machines.{MachineState}
 use Rattle.dbg_model.specs.declared.script.Command.{Command}
-use Rattle.dbg_model.specs.Session.{Points, no_points, with_point, obeyed, obeyed_all, session}
+use Rattle.dbg_model.specs.Session.{Points, no_points, with_point}
+use Rattle.dbg_model.specs.Forward.{obeyed, obeyed_all, session}
 use Rattle.dbg_core.specs.declared.ends.SessionEnd.{SessionEnd}
-use Rattle.dbg_core.specs.Ends.{Halts, Leaves, StandsIn}
+use Rattle.dbg_core.specs.Ends.{Halts, LeavesMachine, StandsIn}
 use Rattle.emu_machine.proofs.Composed.{Blind, from_nothing}
 use Rattle.dbg_core.proofs.Sessions.{obeyed_blind}
 use Rattle.dbg_core.proofs.Leaving.{becomes_same, broken_whole, made_of, no_halt}
@@ -107,7 +108,7 @@ module _ (script : List Command) (k : ℕ) (command : Command) (is : slice_get s
         (made_behind (session (take k script) budget) (obeyed command points budget) old p q told left_p left_q (obeyed_blind command points budget) stood done)
 
     -- it was broken off
-    pub stands_broken : (new : MachineState) (left_q : Option (List ℕ)) (end : SessionEnd) → Leaves (obeyed command points budget) budget p new left_p left_q end → IfSome told (λ bytes. StandsIn script budget (with_input old bytes) new left_q)
+    pub stands_broken : (new : MachineState) (left_q : Option (List ℕ)) (end : SessionEnd) → LeavesMachine (obeyed command points budget) budget p new left_p left_q end → IfSome told (λ bytes. StandsIn script budget (with_input old bytes) new left_q)
     stands_broken new left_q end l =
         elim new.failed as (λ b. new.failed ≡ b → IfSome told (λ bytes. StandsIn script budget (with_input old bytes) new left_q)) [
           | true ↦ λ h.

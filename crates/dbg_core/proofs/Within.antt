@@ -1,5 +1,5 @@
 -- The numbers of a command that was read are in its ranges.
-use Rattle.std.proofs.Common.{◌≡◌, ℕ, ◌^◌, ◌-◌, Bool, true, false, ◌&&◌, List, [], get_or, Option, Some, None, Result, Ok, Err, nat_le, nat_lt, if◌then◌else◌, refl, subst, arith, codes}
+use Rattle.std.proofs.Common.{◌≡◌, ℕ, ◌^◌, ◌-◌, Bool, true, false, ◌&&◌, List, [], get_or, Option, Some, None, Result, Ok, Err, nat_le, nat_lt, if◌then◌else◌, refl, subst, sym, ◌∙◌, arith, codes}
 use Rattle.std.specs.Prelude.{slice_get, length}
 use Rattle.std.specs.Option.{option_map_or}
 use Rattle.std.specs.Str.{bytes_eq}
@@ -12,7 +12,8 @@ use Rattle.dbg_model.specs.declared.script.ScriptWhy.TheVariants.{MissingWord, B
 use Rattle.dbg_model.specs.ScriptLimits.{is_within}
 use Rattle.line_words.specs.Lines.{number_of_word}
 use Rattle.line_words.specs.Refusals.{and_then}
-use Rattle.dbg_model.specs.Script.{in_range, number_within, argument, size_argument, whole, step_of, break_of, watch_of, zreg_of, preg_of, lanes_of, mem_of, back_of, command_named, command_of, most_number}
+use Rattle.dbg_model.specs.Script.{in_range, number_within, argument, size_argument, whole, command_of, most_number}
+use Rattle.dbg_core.specs.Readers.{step_of, break_of, watch_of, zreg_of, preg_of, lanes_of, mem_of, back_of, command_named, named_law}
 
 -- an answer that keeps its ranges
 abbrev pub Keeps : Result Command ScriptWhy → Type 0
@@ -121,4 +122,4 @@ named_keeps name words =
     (either (bytes_eq name (codes "back")) _ _ (back_keeps words) (refuses UnknownCommand))))))))))))
 
 pub command_within : (words : List (List ℕ)) (c : Command) → command_of words ≡ Ok c → is_within c ≡ true
-command_within words c is = named_keeps (get_or words 0 []) words c is
+command_within words c is = named_keeps (get_or words 0 []) words c (sym (named_law words) ∙ is)

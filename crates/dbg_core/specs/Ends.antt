@@ -12,7 +12,8 @@ use Rattle.emu_machine.specs.declared.ends.StepEnd.{StepEnd}
 use Rattle.emu_machine.specs.declared.ends.StepEnd.TheVariants as steps
 use Rattle.dbg_model.specs.declared.script.Command.{Command}
 use Rattle.dbg_model.specs.declared.script.Command.TheVariants.{Break, Watch}
-use Rattle.dbg_model.specs.Session.{Points, session}
+use Rattle.dbg_model.specs.Session.{Points}
+use Rattle.dbg_model.specs.Forward.{session}
 use Rattle.dbg_core.specs.declared.ends.SessionEnd.{SessionEnd}
 use Rattle.dbg_core.specs.declared.ends.SessionEnd.TheVariants.{Done, ReadFault, WriteFault, ErrorsFault}
 
@@ -62,7 +63,7 @@ pub record Halts (start : State) (now : Parts) (left : Option (List ℕ)) : Type
 
 -- What a part of a session leaves of the machine: what f makes of it, unless a step was broken off, also where a line of the part couldn't be put. A
 -- step is broken off only within a budget, of a machine that goes on; where it was to write to the output, its call says so.
-pub record Leaves (f : State → State) (budget : ℕ) (old : Parts) (new : MachineState) (told left : Option (List ℕ)) (end : SessionEnd) : Type 0 where
+pub record LeavesMachine (f : State → State) (budget : ℕ) (old : Parts) (new : MachineState) (told left : Option (List ℕ)) (end : SessionEnd) : Type 0 where
   pub whole : Becomes f old new.parts told left new.failed
   pub halted : IfSome told (λ bytes. new.failed ≡ true → Halts (with_input old bytes) new.parts left)
   pub line : new.failed ≡ false → is_fault end ≡ true → end ≡ WriteFault

@@ -7,8 +7,8 @@ ghost use Rattle.emu_machine.specs.Machines.{MakesWrite};
 ghost use Rattle.emu_machine.specs.Ends.{Becomes, TakesWithin, Puts};
 ghost use Rattle.dbg_model.specs.Commands.{has_back};
 ghost use Rattle.dbg_model.specs.ScriptLimits.{is_within};
-ghost use Rattle.dbg_model.specs.Session as model;
-ghost use Rattle.dbg_core.specs.Ends.{Leaves, Obeys, Spares, StandsIn, StandsWith, is_fault};
+ghost use Rattle.dbg_model.specs.Forward as model;
+ghost use Rattle.dbg_core.specs.Ends.{LeavesMachine, Obeys, Spares, StandsIn, StandsWith, is_fault};
 
 use crate::ends::{SessionEnd, end_of_put};
 use crate::lines::put_shown;
@@ -41,7 +41,7 @@ fn obey<I: Source, O: Sink, E: Sink>(
     ensures obeys { Obeys (model.obeyed command.now points.now budget) machine.old.parts machine.new.parts
         (I.left input.old) (I.left input.new) (O.held output.old) (O.held output.new) (E.held errors.old)
         (E.held errors.new) result }
-    ensures leaves { Leaves (model.obeyed command.now points.now budget) budget machine.old.parts machine.new
+    ensures leaves { LeavesMachine (model.obeyed command.now points.now budget) budget machine.old.parts machine.new
         (I.left input.old) (I.left input.new) result }
     ensures spares { Spares (model.obeyed command.now points.now budget) machine.old.parts machine.new
         (I.left input.old) (I.left input.new) (O.held output.old) (O.held output.new) (E.held errors.old)

@@ -4,8 +4,9 @@ ghost use Rattle.io_gate.specs.Streams.{Causes};
 ghost use Rattle.linux_calls.specs.Names.{NamesRead};
 ghost use Rattle.emu_machine.specs.Machines.{MakesWrite};
 ghost use Rattle.emu_run.specs.Run.{run};
-ghost use Rattle.dbg_model.specs.Session.{go, no_points, stepped};
-ghost use Rattle.dbg_core.specs.Ends.{Leaves, Obeys, Spares, is_fault};
+ghost use Rattle.dbg_model.specs.Session.{no_points};
+ghost use Rattle.dbg_model.specs.Forward.{go, stepped};
+ghost use Rattle.dbg_core.specs.Ends.{LeavesMachine, Obeys, Spares, is_fault};
 
 use crate::ends::{SessionEnd, end_of_put, end_of_run, end_of_step};
 use crate::lines::{put_ending, put_met, put_stepped};
@@ -24,7 +25,7 @@ fn run_to<I: Source, O: Sink, E: Sink>(
     requires { machine.old.failed ≡ false }
     ensures obeys { Obeys (λ st. run st target) machine.old.parts machine.new.parts (I.left input.old)
         (I.left input.new) (O.held output.old) (O.held output.new) (E.held errors.old) (E.held errors.new) result }
-    ensures leaves { Leaves (λ st. run st target) target machine.old.parts machine.new (I.left input.old)
+    ensures leaves { LeavesMachine (λ st. run st target) target machine.old.parts machine.new (I.left input.old)
         (I.left input.new) result }
     ensures spares { Spares (λ st. run st target) machine.old.parts machine.new
         (I.left input.old) (I.left input.new) (O.held output.old) (O.held output.new) (E.held errors.old)
@@ -58,7 +59,7 @@ pub fn step<I: Source, O: Sink, E: Sink>(
     ensures obeys { Obeys (stepped (machine.old.parts.steps + n) budget) machine.old.parts machine.new.parts
         (I.left input.old) (I.left input.new) (O.held output.old) (O.held output.new) (E.held errors.old)
         (E.held errors.new) result }
-    ensures leaves { Leaves (stepped (machine.old.parts.steps + n) budget) budget machine.old.parts machine.new
+    ensures leaves { LeavesMachine (stepped (machine.old.parts.steps + n) budget) budget machine.old.parts machine.new
         (I.left input.old) (I.left input.new) result }
     ensures spares { Spares (stepped (machine.old.parts.steps + n) budget) machine.old.parts machine.new
         (I.left input.old) (I.left input.new) (O.held output.old) (O.held output.new) (E.held errors.old)
@@ -92,8 +93,8 @@ pub fn go<I: Source, O: Sink, E: Sink>(
     ensures obeys { Obeys (λ st. go points.now st (budget - st.parts.steps)) machine.old.parts machine.new.parts
         (I.left input.old) (I.left input.new) (O.held output.old) (O.held output.new) (E.held errors.old)
         (E.held errors.new) result }
-    ensures leaves { Leaves (λ st. go points.now st (budget - st.parts.steps)) budget machine.old.parts machine.new
-        (I.left input.old) (I.left input.new) result }
+    ensures leaves { LeavesMachine (λ st. go points.now st (budget - st.parts.steps)) budget
+        machine.old.parts machine.new (I.left input.old) (I.left input.new) result }
     ensures spares { Spares (λ st. go points.now st (budget - st.parts.steps)) machine.old.parts machine.new
         (I.left input.old) (I.left input.new) (O.held output.old) (O.held output.new) (E.held errors.old)
         (E.held errors.new) result }
@@ -123,8 +124,8 @@ fn go_free<I: Source, O: Sink, E: Sink>(
     ensures obeys { Obeys (λ st. go no_points st (budget - st.parts.steps)) machine.old.parts machine.new.parts
         (I.left input.old) (I.left input.new) (O.held output.old) (O.held output.new) (E.held errors.old)
         (E.held errors.new) result }
-    ensures leaves { Leaves (λ st. go no_points st (budget - st.parts.steps)) budget machine.old.parts machine.new
-        (I.left input.old) (I.left input.new) result }
+    ensures leaves { LeavesMachine (λ st. go no_points st (budget - st.parts.steps)) budget
+        machine.old.parts machine.new (I.left input.old) (I.left input.new) result }
     ensures spares { Spares (λ st. go no_points st (budget - st.parts.steps)) machine.old.parts machine.new
         (I.left input.old) (I.left input.new) (O.held output.old) (O.held output.new) (E.held errors.old)
         (E.held errors.new) result }
@@ -154,8 +155,8 @@ fn go_to_point<I: Source, O: Sink, E: Sink>(
     ensures obeys { Obeys (λ st. go points.now st (budget - st.parts.steps)) machine.old.parts machine.new.parts
         (I.left input.old) (I.left input.new) (O.held output.old) (O.held output.new) (E.held errors.old)
         (E.held errors.new) result }
-    ensures leaves { Leaves (λ st. go points.now st (budget - st.parts.steps)) budget machine.old.parts machine.new
-        (I.left input.old) (I.left input.new) result }
+    ensures leaves { LeavesMachine (λ st. go points.now st (budget - st.parts.steps)) budget
+        machine.old.parts machine.new (I.left input.old) (I.left input.new) result }
     ensures spares { Spares (λ st. go points.now st (budget - st.parts.steps)) machine.old.parts machine.new
         (I.left input.old) (I.left input.new) (O.held output.old) (O.held output.new) (E.held errors.old)
         (E.held errors.new) result }

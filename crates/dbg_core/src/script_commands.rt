@@ -1,16 +1,16 @@
 //! The command that the words of a line are.
 ghost use Rattle.std.specs.Prelude.{◌≡◌, ◌<◌, map, length, IfOk};
-ghost use Rattle.dbg_model.specs.Script.{
+ghost use Rattle.dbg_model.specs.Script.{command_of, whole};
+ghost use Rattle.dbg_core.specs.Readers.{
   back_of,
   break_of,
-  command_of,
+  command_named,
   lanes_of,
   later_command_named,
   mem_of,
   preg_of,
   step_of,
   watch_of,
-  whole,
   zreg_of,
 };
 
@@ -131,13 +131,10 @@ fn later_command_of(words: &[&str], name: &str) -> Result<Command, ScriptWhy>
     }
 }
 
-/// The command that a line's words are, of which there is at least one: UnknownCommand, then for each argument
-/// MissingWord, BadNumber and OutOfRange, then ExtraWord.
-pub fn command_of(words: &[&str]) -> Result<Command, ScriptWhy>
-    requires { 0 < length words.now }
-    ensures command { result ≡ command_of (map (λ word. word.now) words.now) }
+/// The command of words by their first.
+fn command_named(words: &[&str], name: &str) -> Result<Command, ScriptWhy>
+    ensures { result ≡ command_named name.now (map (λ word. word.now) words.now) }
 {
-    let name = words[0];
     if name == "step" {
         step_of(words)
     } else if name == "go" {
@@ -153,4 +150,14 @@ pub fn command_of(words: &[&str]) -> Result<Command, ScriptWhy>
     } else {
         later_command_of(words, name)
     }
+}
+
+/// The command that a line's words are, of which there is at least one: UnknownCommand, then for each argument
+/// MissingWord, BadNumber and OutOfRange, then ExtraWord.
+#[tactic(auto, using(crate::specs::Readers::named_law))]
+pub fn command_of(words: &[&str]) -> Result<Command, ScriptWhy>
+    requires { 0 < length words.now }
+    ensures command { result ≡ command_of (map (λ word. word.now) words.now) }
+{
+    command_named(words, words[0])
 }

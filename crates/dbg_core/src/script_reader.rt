@@ -1,10 +1,11 @@
 //! A script line by line.
 ghost use Rattle.std.specs.Prelude.{◌≡◌, ◌≤◌, MatchResult, length, map};
 ghost use Rattle.dbg_model.specs.Commands.{is_break, is_watch};
-ghost use Rattle.dbg_model.specs.Script.{at_line, is_full, is_skipped, read_line, read_lines, script};
+ghost use Rattle.dbg_model.specs.Script.{fault_at, has_no_command, is_full, read_line, script};
 ghost use Rattle.dbg_core.specs.Errors.{fault_in};
 ghost use Rattle.line_words.specs.Lines.{words};
 ghost use Rattle.line_words.specs.Reading.{IsErrorOf, Leaves};
+ghost use Rattle.line_words.specs.Refusals.{at_line, read_lines};
 
 use crate::script_commands::command_of;
 use dbg_model::{Command, Script, ScriptFault, ScriptWhy};
@@ -76,7 +77,7 @@ fn is_watch(command: &Command) -> bool
 /// Whether a line, which has these words, is skipped: it is a comment, or has no word.
 fn is_skipped(line: &str, found: &[&str]) -> bool
     requires { map (λ word. word.now) found.now ≡ words line.now }
-    ensures { result ≡ is_skipped line.now }
+    ensures { result ≡ has_no_command line.now }
 {
     line_words::is_comment(line) || found.is_empty()
 }
@@ -89,7 +90,7 @@ fn read_line(
     number: usize,
 ) -> Result<(), ScriptError>
     requires { number ≤ 10001 }
-    ensures { Leaves fault_in (at_line number (read_line script.old line.now)) script.new result }
+    ensures { Leaves fault_in (at_line fault_at number (read_line script.old line.now)) script.new result }
 {
     let words = line_words::words(alloc, line)?;
     if is_skipped(line, &words) {
@@ -109,7 +110,8 @@ fn read_line(
 /// Reads the lines one after the other behind the commands before them.
 fn read_lines(alloc: Global, lines: &[&str], script: &mut Script) -> Result<(), ScriptError>
     requires { length lines.now ≤ 10000 }
-    ensures { Leaves fault_in (read_lines script.old 1 (map (λ line. line.now) lines.now)) script.new result }
+    ensures { Leaves fault_in (read_lines fault_at read_line script.old 1 (map (λ line. line.now) lines.now))
+        script.new result }
 {
     for place in 0..lines.len() {
         read_line(alloc, script, line_words::text_at(lines, place), place + 1)?;

@@ -1,4 +1,5 @@
--- The commands of a script, and what a script keeps of them.
+-- The commands of a script, and what a script keeps of them. They are this project's own choice, as docs/MANUAL.md has
+-- them under "Debugging".
 use Rattle.std.specs.Prelude.{ℕ, Bool, true, false, List}
 use Rattle.std.specs.List.{list_any}
 use Rattle.dbg_model.specs.declared.script.Command.{Command}

@@ -20,9 +20,8 @@ use Rattle.dbg_model.specs.declared.script.Command.{Command}
 use Rattle.dbg_model.specs.declared.script.Command.TheVariants.{Step, Go, Break, Watch, Regs, Vl, Zreg, Preg, Ffr, Lanes, Mem, Back}
 use Rattle.dbg_model.specs.declared.script.Stop.{Stop}
 use Rattle.dbg_model.specs.Reached.{same_input, same_parts, same_seen}
-use Rattle.dbg_model.specs.Session.{Points, no_points, point_met, with_point, shown, stepped_text, stop_line}
-use Rattle.dbg_model.specs.SessionBack.{Course, begun, ending_text, go, moved, moved_to, obeyed, obeyed_all, put, session_back, stepped, stopped_or, went_back}
-use Rattle.dbg_model.specs.SessionBackEquations.{go-suc, go-zero, moved-suc, moved-zero}
+use Rattle.dbg_model.specs.Session.{Points, no_points, point_met, with_point, shown, stepped_text, stop_line, Course, begun, ended_line, go, walked, moved_to, obeyed, obeyed_all, printed, session, stepped, stopped_or, went_back}
+use Rattle.dbg_model.specs.SessionEquations.{go-suc, go-zero, walked-suc, walked-zero}
 
 -- ---- a step counts, or it ends the machine and puts nothing
 
@@ -144,34 +143,34 @@ stepped_input c = either_input (nat_lt c.top (step c.state).parts.steps) c
 
 -- ---- steps and then steps
 
-pub moved_one : (c : Course) (k : ℕ) → goes_on c.state ≡ true → moved c (suc k) ≡ moved (stepped c) k
-moved_one c k going = moved-suc c k ∙ ap (λ (b : Bool). if b then moved (stepped c) k else c) going
+pub moved_one : (c : Course) (k : ℕ) → goes_on c.state ≡ true → walked c (suc k) ≡ walked (stepped c) k
+moved_one c k going = walked-suc c k ∙ ap (λ (b : Bool). if b then walked (stepped c) k else c) going
 
-pub moved_over : (c : Course) (k : ℕ) → goes_on c.state ≡ false → moved c k ≡ c
-moved_over c zero over = moved-zero c
-moved_over c (suc k) over = moved-suc c k ∙ ap (λ (b : Bool). if b then moved (stepped c) k else c) over
+pub moved_over : (c : Course) (k : ℕ) → goes_on c.state ≡ false → walked c k ≡ c
+moved_over c zero over = walked-zero c
+moved_over c (suc k) over = walked-suc c k ∙ ap (λ (b : Bool). if b then walked (stepped c) k else c) over
 
-pub moved_added : (j k : ℕ) (c : Course) → moved c (j + k) ≡ moved (moved c j) k
-moved_added zero k c = ap (moved c) (zero-add k) ∙ ap (λ (d : Course). moved d k) (sym (moved-zero c))
+pub moved_added : (j k : ℕ) (c : Course) → walked c (j + k) ≡ walked (walked c j) k
+moved_added zero k c = ap (walked c) (zero-add k) ∙ ap (λ (d : Course). walked d k) (sym (walked-zero c))
 moved_added (suc j) k c =
-    elim (goes_on c.state) as (λ b. goes_on c.state ≡ b → moved c (suc j + k) ≡ moved (moved c (suc j)) k) [
+    elim (goes_on c.state) as (λ b. goes_on c.state ≡ b → walked c (suc j + k) ≡ walked (walked c (suc j)) k) [
       | true ↦ λ h.
           let e : suc j + k ≡ suc (j + k) = omega arith in
-          ap (moved c) e ∙ moved_one c (j + k) h ∙ moved_added j k (stepped c) ∙ ap (λ (d : Course). moved d k) (sym (moved_one c j h))
-      | false ↦ λ h. moved_over c (suc j + k) h ∙ sym (moved_over c k h) ∙ ap (λ (d : Course). moved d k) (sym (moved_over c (suc j) h))
+          ap (walked c) e ∙ moved_one c (j + k) h ∙ moved_added j k (stepped c) ∙ ap (λ (d : Course). walked d k) (sym (moved_one c j h))
+      | false ↦ λ h. moved_over c (suc j + k) h ∙ sym (moved_over c k h) ∙ ap (λ (d : Course). walked d k) (sym (moved_over c (suc j) h))
     ] refl
 
 -- from the furthest count on they are those of a run
-pub moved_beyond : (k : ℕ) (c : Course) → c.top ≡ c.state.parts.steps → moved c k ≡ record { state = until_end c.state k; top = (until_end c.state k).parts.steps }
+pub moved_beyond : (k : ℕ) (c : Course) → c.top ≡ c.state.parts.steps → walked c k ≡ record { state = until_end c.state k; top = (until_end c.state k).parts.steps }
 moved_beyond zero c at =
-    moved-zero c
+    walked-zero c
     ∙ ap (λ (n : ℕ). record { state = c.state; top = n }) at
     ∙ ap (λ (s : State). record { state = s; top = s.parts.steps }) (sym (until_end_none c.state))
 moved_beyond (suc k) c at =
-    elim (goes_on c.state) as (λ b. goes_on c.state ≡ b → moved c (suc k) ≡ record { state = until_end c.state (suc k); top = (until_end c.state (suc k)).parts.steps }) [
+    elim (goes_on c.state) as (λ b. goes_on c.state ≡ b → walked c (suc k) ≡ record { state = until_end c.state (suc k); top = (until_end c.state (suc k)).parts.steps }) [
       | true ↦ λ h.
           moved_one c k h
-          ∙ ap (λ (d : Course). moved d k) (stepped_beyond c at)
+          ∙ ap (λ (d : Course). walked d k) (stepped_beyond c at)
           ∙ moved_beyond k (record { state = step c.state; top = (step c.state).parts.steps }) refl
           ∙ ap (λ (s : State). record { state = s; top = s.parts.steps }) (sym (until_end_one c.state k h))
       | false ↦ λ h.
@@ -181,18 +180,18 @@ moved_beyond (suc k) c at =
     ] refl
 
 -- up to it they put nothing of the program
-pub moved_below : (k : ℕ) (c : Course) → c.state.parts.steps + k ≤ c.top → moved c k ≡ record { state = moved_to (until_end c.state k) c.state; top = c.top }
+pub moved_below : (k : ℕ) (c : Course) → c.state.parts.steps + k ≤ c.top → walked c k ≡ record { state = moved_to (until_end c.state k) c.state; top = c.top }
 moved_below zero c within =
-    moved-zero c ∙ ap (λ (s : State). record { state = moved_to s c.state; top = c.top }) (sym (until_end_none c.state))
+    walked-zero c ∙ ap (λ (s : State). record { state = moved_to s c.state; top = c.top }) (sym (until_end_none c.state))
 moved_below (suc k) c within =
-    elim (goes_on c.state) as (λ b. goes_on c.state ≡ b → moved c (suc k) ≡ record { state = moved_to (until_end c.state (suc k)) c.state; top = c.top }) [
+    elim (goes_on c.state) as (λ b. goes_on c.state ≡ b → walked c (suc k) ≡ record { state = moved_to (until_end c.state (suc k)) c.state; top = c.top }) [
       | true ↦ λ h.
           let next : State = moved_to (step c.state) c.state in
           let most = step_most c.state in
           let below : c.state.parts.steps < c.top = omega (arith, within) in
           let rest : next.parts.steps + k ≤ c.top = omega (arith, within, most) in
           moved_one c k h
-          ∙ ap (λ (d : Course). moved d k) (stepped_below c below)
+          ∙ ap (λ (d : Course). walked d k) (stepped_below c below)
           ∙ moved_below k (record { state = next; top = c.top }) rest
           ∙ ap (λ (s : State). record { state = s; top = c.top })
           (moved_same (until_end next k) (until_end (step c.state) k) c.state (until_parts next (step c.state) k refl refl) (until_input next (step c.state) k refl refl))
@@ -238,15 +237,15 @@ on_step start c going p =
     (stepped_input c ∙ ap (λ (s : State). s.input) (sym one))
     (on_until start c.state 1 p)
 
-pub on_moved : (start : State) (k : ℕ) (c : Course) → IsOn start c.state → IsOn start (moved c k).state
-on_moved start zero c p = rw (moved-zero c) p
+pub on_moved : (start : State) (k : ℕ) (c : Course) → IsOn start c.state → IsOn start (walked c k).state
+on_moved start zero c p = rw (walked-zero c) p
 on_moved start (suc k) c p =
-    elim (goes_on c.state) as (λ b. goes_on c.state ≡ b → IsOn start (moved c (suc k)).state) [
+    elim (goes_on c.state) as (λ b. goes_on c.state ≡ b → IsOn start (walked c (suc k)).state) [
       | true ↦ λ h. rw (moved_one c k h) (on_moved start k (stepped c) (on_step start c h p))
       | false ↦ λ h. rw (moved_over c (suc k) h) p
     ] refl
 
-pub on_put : (start : State) (text : Parts → List ℕ) (c : Course) → IsOn start c.state → IsOn start (put text c).state
+pub on_put : (start : State) (text : Parts → List ℕ) (c : Course) → IsOn start c.state → IsOn start (printed text c).state
 on_put start text c p = record { count = p.count; parts = p.parts; input = p.input }
 
 on_stop : (start : State) (stop : Option Stop) (c d : Course) → IsOn start c.state → IsOn start d.state → IsOn start (stopped_or stop c d).state
@@ -254,13 +253,13 @@ on_stop start None c d here there = there
 on_stop start (Some stop) c d here there = on_put start (stop_line stop) c here
 
 on_go : (start : State) (points : Points) (k : ℕ) (c : Course) → IsOn start c.state → IsOn start (go points c k).state
-on_go start points zero c p = rw (go-zero points c) (on_put start ending_text c p)
+on_go start points zero c p = rw (go-zero points c) (on_put start ended_line c p)
 on_go start points (suc k) c p =
-    rw (go-suc points c k) (elim (goes_on c.state) as (λ b. goes_on c.state ≡ b → IsOn start (if b then stopped_or (point_met points (accesses c.state.parts) (stepped c).state.parts) (stepped c) (go points (stepped c) k) else put ending_text c).state) [
+    rw (go-suc points c k) (elim (goes_on c.state) as (λ b. goes_on c.state ≡ b → IsOn start (if b then stopped_or (point_met points (accesses c.state.parts) (stepped c).state.parts) (stepped c) (go points (stepped c) k) else printed ended_line c).state) [
       | true ↦ λ h.
           let next = on_step start c h p in
           on_stop start (point_met points (accesses c.state.parts) (stepped c).state.parts) (stepped c) (go points (stepped c) k) next (on_go start points k (stepped c) next)
-      | false ↦ λ h. on_put start ending_text c p
+      | false ↦ λ h. on_put start ended_line c p
     ] refl)
 
 pub on_back : (start : State) (k : ℕ) (c : Course) → IsOn start (went_back start k c).state
@@ -268,7 +267,7 @@ on_back start k c = record { count = c.state.parts.steps - k; parts = refl; inpu
 
 pub on_obeyed : (start : State) (command : Command) (points : Points) (budget : ℕ) (c : Course) → IsOn start c.state → IsOn start (obeyed start command points budget c).state
 on_obeyed start (Step n) points budget c p =
-    on_put start (stepped_text (c.state.parts.steps + n)) (moved c (min (c.state.parts.steps + n) budget - c.state.parts.steps)) (on_moved start (min (c.state.parts.steps + n) budget - c.state.parts.steps) c p)
+    on_put start (stepped_text (c.state.parts.steps + n)) (walked c (min (c.state.parts.steps + n) budget - c.state.parts.steps)) (on_moved start (min (c.state.parts.steps + n) budget - c.state.parts.steps) c p)
 on_obeyed start Go points budget c p = on_go start points (budget - c.state.parts.steps) c p
 on_obeyed start (Break address) points budget c p = on_put start (shown (Break address)) c p
 on_obeyed start (Watch address count) points budget c p = on_put start (shown (Watch address count)) c p
@@ -286,5 +285,5 @@ on_all start [] points budget c p = p
 on_all start (command ∷ commands) points budget c p =
     on_all start commands (with_point command points) budget (obeyed start command points budget c) (on_obeyed start command points budget c p)
 
-pub sessions_are_on : (commands : List Command) (budget : ℕ) (start : State) → IsOn start (session_back commands budget start)
+pub sessions_are_on : (commands : List Command) (budget : ℕ) (start : State) → IsOn start (session commands budget start)
 sessions_are_on commands budget start = on_all start commands no_points budget (begun start) (on_start start)

@@ -1,10 +1,11 @@
 pub mod Commands
 pub mod ScriptLimits
-pub mod Reached
 pub mod Script
 pub mod Session
 pub mod SessionEquations
+pub mod Forward
+pub mod ForwardEquations
+pub mod Reached
 pub mod CourseLaws
+pub mod ForwardLaws
 pub mod Limits
-pub mod SessionBack
-pub mod SessionBackEquations

@@ -19,14 +19,14 @@ use Rattle.a64_effects.specs.declared.transfer.Transfer.{Transfer}
 use Rattle.a64_effects.specs.declared.transfer.Transfer.TheVariants.{Store, Load, LoadSigned, LoadSigned32, Prefetch, StoreVector, LoadVector}
 use Rattle.a64_effects.specs.Atomic.{exchanged, unless_refused, one_step}
 use Rattle.a64_effects.specs.Effects.{performed_by}
-use Rattle.a64_effects.specs.LoadStore.{Transferring, Exchanging, elements_from, is_misaligned as scalar_misaligned, load_as_far as scalar_load, misaligned, store_as_far as scalar_store, stored_value, tested, transferred, transferred_by, exchanged_by, unless_misaligned as scalar_unless, unless_multiple}
+use Rattle.a64_effects.specs.LoadStore.{Transferring, Exchanging, elements_from, is_misaligned as scalar_misaligned, loaded_to as scalar_loaded, misaligned, stored_to as scalar_stored, stored_value, tested, transferred, transferred_by, exchanged_by, unless_misaligned as scalar_unless, unless_multiple}
 use Rattle.a64_effects.specs.Operations.{Operation, computes, flows, transfers, exchanges, copies, operation_of}
-use Rattle.sve_effects.specs.FirstFault.{first_fault_row, first_refused, loaded_unless, never_traps}
+use Rattle.sve_effects.specs.FirstFault.{first_fault_row, first_refused, loaded_unless}
 use Rattle.sve_effects.specs.FirstFaultParts.{first_fault_loaded}
 use Rattle.sve_effects.specs.Row.{Row as VectorRow, done_by as vector_done_by, done_by_way}
 use Rattle.sve_effects.specs.Rows.{row as vector_row}
 use Rattle.sve_effects.specs.VectorElements.{MemoryRow, Way, Layout, elements_of, row_layout}
-use Rattle.sve_effects.specs.VectorLoadStore.{after_load, element_stored, has_sp_base, is_misaligned, load_as_far, load_row, store_as_far, store_row, unless_misaligned}
+use Rattle.sve_effects.specs.VectorLoadStore.{after_load, element_stored, has_sp_base, is_misaligned, load_row, loaded_to, store_row, stored_to, unless_misaligned}
 use Rattle.emu_system.specs.declared.system_call.CallName.{CallName}
 use Rattle.emu_system.specs.declared.system_call.CallName.TheVariants.{Ioctl, Read, Write, Readv, Writev, Prctl, Brk as BrkCall, Munmap, Mmap, Mprotect}
 use Rattle.emu_system.specs.declared.system_call.Errno.TheVariants.{EBADF, ENOMEM, EFAULT, EINVAL, ENOTTY}
@@ -67,11 +67,11 @@ module _ (c : Core) (w : Vectors) (m : Memory) where
 
   -- ---- A64 loads and stores
 
-  scalar_store_limit : (t : Transfer) (stop : Option ℕ) (es : List Element) (after : Core → Core) → Leaves (scalar_store t stop es after c w m)
+  scalar_store_limit : (t : Transfer) (stop : Option ℕ) (es : List Element) (after : Core → Core) → Leaves (scalar_stored t (record { done = es; stop = stop }) after c w m)
   scalar_store_limit t None es after = elements_limit (λ e. stored_value t c w e.register) es m
   scalar_store_limit t (Some a) es after = elements_limit (λ e. stored_value t c w e.register) es m
 
-  scalar_load_limit : (t : Transfer) (stop : Option ℕ) (es : List Element) (after : Core → Core) → Leaves (scalar_load t stop es after c w m)
+  scalar_load_limit : (t : Transfer) (stop : Option ℕ) (es : List Element) (after : Core → Core) → Leaves (scalar_loaded t (record { done = es; stop = stop }) after c w m)
   scalar_load_limit t None es after = refl
   scalar_load_limit t (Some a) es after = refl
 
@@ -124,11 +124,11 @@ module _ (c : Core) (w : Vectors) (m : Memory) where
 
   -- ---- SVE
 
-  load_limit : (stop : Option ℕ) (es : List Element) (after : Vectors) → Leaves (load_as_far stop es after c w m)
+  load_limit : (stop : Option ℕ) (es : List Element) (after : Vectors) → Leaves (loaded_to (record { done = es; stop = stop }) after c w m)
   load_limit None es after = refl
   load_limit (Some a) es after = refl
 
-  store_limit : (stop : Option ℕ) (es : List Element) (stores : Element → ℕ) → Leaves (store_as_far stop es stores c w m)
+  store_limit : (stop : Option ℕ) (es : List Element) (stores : Element → ℕ) → Leaves (stored_to (record { done = es; stop = stop }) stores c w m)
   store_limit None es stores = elements_limit stores es m
   store_limit (Some a) es stores = elements_limit stores es m
 
@@ -140,40 +140,34 @@ module _ (c : Core) (w : Vectors) (m : Memory) where
       let l : Layout = row_layout r c w in
       let far : Reach = reach m ReadKind (elements_of l) in
       let after : Vectors = after_load r.transfer r.width.is_signed l m w in
-      unless_limit (has_sp_base r.brackets) (elements_of l) (load_as_far far.stop far.done after c w m) (load_limit far.stop far.done after)
+      unless_limit (has_sp_base r.brackets) (elements_of l) (loaded_to far after c w m) (load_limit far.stop far.done after)
 
   store_row_limit : (r : MemoryRow) → Leaves (store_row r c w m)
   store_row_limit r =
       let l : Layout = row_layout r c w in
       let far : Reach = reach m WriteKind (elements_of l) in
       let stores : Element → ℕ = element_stored r.transfer l w in
-      unless_limit (has_sp_base r.brackets) (elements_of l) (store_as_far far.stop far.done stores c w m) (store_limit far.stop far.done stores)
+      unless_limit (has_sp_base r.brackets) (elements_of l) (stored_to far stores c w m) (store_limit far.stop far.done stores)
 
   loaded_unless_limit : (o : Option ℕ) (d : Done) → Leaves d → Leaves (loaded_unless o d c w m)
   loaded_unless_limit None d h = h
   loaded_unless_limit (Some a) d h = refl
 
-  first_fault_limit : (r : MemoryRow) (es : List Element) → Leaves (first_fault_row r es c w m)
-  first_fault_limit r es =
+  first_fault_limit : (never_traps : Bool) (r : MemoryRow) (es : List Element) → Leaves (first_fault_row never_traps r es c w m)
+  first_fault_limit never_traps r es =
       let d : Done = first_fault_loaded r.width.is_signed r.width.bits r.first es c w m in
-      let stop : Option ℕ = if never_traps r.way then None else first_refused m es in
+      let stop : Option ℕ = if never_traps then None else first_refused m es in
       unless_limit (has_sp_base r.brackets) es (loaded_unless stop d c w m) (loaded_unless_limit stop d refl)
 
   way_limit : (way : Way) (r : MemoryRow) → Leaves (done_by_way way r c w m)
   way_limit Way.loads r = load_row_limit r
   way_limit Way.stores r = store_row_limit r
-  way_limit (Way.gathers true) r = first_fault_limit r (elements_of (row_layout r c w))
-  way_limit (Way.gathers false) r = load_row_limit r
-  way_limit Way.scatters r = store_row_limit r
-  way_limit Way.first_faults r = first_fault_limit r (elements_of (row_layout r c w))
-  way_limit Way.non_faults r = first_fault_limit r (elements_of (row_layout r c w))
+  way_limit Way.first_faults r = first_fault_limit false r (elements_of (row_layout r c w))
+  way_limit Way.non_faults r = first_fault_limit true r (elements_of (row_layout r c w))
 
   vector_row_limit : (r : VectorRow) → Leaves (vector_done_by r c w m)
   vector_row_limit (VectorRow.by_lanes f) = refl
-  vector_row_limit (VectorRow.permutes f) = refl
-  vector_row_limit (VectorRow.counts f) = refl
-  vector_row_limit (VectorRow.folds f) = refl
-  vector_row_limit (VectorRow.predicates f) = refl
+  vector_row_limit (VectorRow.by_registers f) = refl
   vector_row_limit (VectorRow.memory r) = way_limit r.way r
 
   performed_limit : (i : Insn) → Leaves (performed i c w m)

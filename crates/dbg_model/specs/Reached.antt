@@ -10,8 +10,9 @@ use Rattle.emu_run.specs.Steps.{until_end_added}
 use Rattle.dbg_model.specs.declared.script.Command.{Command}
 use Rattle.dbg_model.specs.declared.script.Command.TheVariants.{Step, Go, Break, Watch, Regs, Vl, Zreg, Preg, Ffr, Lanes, Mem, Back}
 use Rattle.dbg_model.specs.declared.script.Stop.{Stop}
-use Rattle.dbg_model.specs.Session.{Points, no_points, with_point, point_met, printed, stopped_or, go, obeyed, obeyed_all, session, ending_printed}
-use Rattle.dbg_model.specs.SessionEquations.{go-zero, go-suc}
+use Rattle.dbg_model.specs.Session.{Points, no_points, with_point, point_met}
+use Rattle.dbg_model.specs.Forward.{printed, stopped_or, go, obeyed, obeyed_all, session, ending_printed}
+use Rattle.dbg_model.specs.ForwardEquations.{go-zero, go-suc}
 
 -- some number of steps, at most the limit, leads from one machine and its input to the other, with none past the machine's end
 pub record IsReached (limit : ℕ) (old new : State) : Type 0 where

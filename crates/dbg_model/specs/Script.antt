@@ -1,13 +1,16 @@
--- What the text of a debugger script says: its commands, or its first refusal. `script`, at the end, is the whole of it.
+-- What the text of a debugger script says: its commands, or its first refusal. `script`, at the end, is the whole of
+-- it. The commands and their refusals are this project's own choice, as docs/MANUAL.md has them under "Debugging" and
+-- "Refused scripts".
 --
 -- A line without a word and a comment are skipped. Each other line is a command.
 use Rattle.std.specs.Prelude.{ℕ, ◌+◌, ◌-◌, ◌^◌, Bool, false, ◌&&◌, ◌||◌, List, [], ◌∷◌, ◌++◌, length, get_or, count_by, codes, Result, Ok, Err, nat_eq, nat_lt, nat_le, if◌then◌else◌, slice_get}
+use Rattle.std.specs.List.{find}
 use Rattle.std.specs.Option.{option_map_or}
 use Rattle.std.specs.Str.{bytes_eq, is_utf8}
 use Rattle.emu_bits.specs.declared.flags.Esize.{Esize}
 use Rattle.emu_bits.specs.declared.flags.Esize.TheVariants.{B, H, S, D}
 use Rattle.line_words.specs.Lines.{lines, words, is_comment, number_of_word, line_of_bad_byte}
-use Rattle.line_words.specs.Refusals.{and_then}
+use Rattle.line_words.specs.Refusals.{and_then, read_lines}
 use Rattle.dbg_model.specs.declared.script.Command.{Command}
 use Rattle.dbg_model.specs.declared.script.Command.TheVariants.{Step, Go, Break, Watch, Regs, Vl, Zreg, Preg, Ffr, Lanes, Mem, Back}
 use Rattle.dbg_model.specs.declared.script.ScriptFault.{ScriptFault}
@@ -47,51 +50,45 @@ most_number = 2 ^ 64 - 1
 abbrev pub whole : List (List ℕ) → ℕ → Command → Result Command ScriptWhy
 whole words count command = if nat_lt count (length words) then Err ExtraWord else Ok command
 
-abbrev pub step_of : List (List ℕ) → Result Command ScriptWhy
-step_of words = and_then (argument words 1 1 most_number) (λ steps. whole words 2 (Step steps))
+-- a command with a number in a range
+abbrev pub with_number : ℕ → ℕ → (ℕ → Command) → List (List ℕ) → Result Command ScriptWhy
+with_number least most command words = and_then (argument words 1 least most) (λ n. whole words 2 (command n))
 
-abbrev pub break_of : List (List ℕ) → Result Command ScriptWhy
-break_of words = and_then (argument words 1 0 most_number) (λ address. whole words 2 (Break address))
+-- with an address up to a limit, and a number of bytes
+abbrev pub with_range : ℕ → (ℕ → ℕ → Command) → List (List ℕ) → Result Command ScriptWhy
+with_range most command words =
+    and_then (argument words 1 0 most) (λ address.
+    and_then (argument words 2 1 4096) (λ count. whole words 3 (command address count)))
 
-abbrev pub watch_of : List (List ℕ) → Result Command ScriptWhy
-watch_of words = and_then (argument words 1 0 most_number) (λ address. and_then (argument words 2 1 4096) (λ count. whole words 3 (Watch address count)))
+-- with a register, and the size of a lane
+abbrev pub with_size : (ℕ → Esize → Command) → List (List ℕ) → Result Command ScriptWhy
+with_size command words =
+    and_then (argument words 1 0 31) (λ k. and_then (size_argument words 2) (λ size. whole words 3 (command k size)))
 
-abbrev pub zreg_of : List (List ℕ) → Result Command ScriptWhy
-zreg_of words = and_then (argument words 1 0 31) (λ k. whole words 2 (Zreg k))
+abbrev pub by_itself : Command → List (List ℕ) → Result Command ScriptWhy
+by_itself command words = whole words 1 command
 
-abbrev pub preg_of : List (List ℕ) → Result Command ScriptWhy
-preg_of words = and_then (argument words 1 0 15) (λ k. whole words 2 (Preg k))
-
-abbrev pub lanes_of : List (List ℕ) → Result Command ScriptWhy
-lanes_of words = and_then (argument words 1 0 31) (λ k. and_then (size_argument words 2) (λ size. whole words 3 (Lanes k size)))
-
-abbrev pub mem_of : List (List ℕ) → Result Command ScriptWhy
-mem_of words = and_then (argument words 1 0 (2 ^ 47 - 1)) (λ address. and_then (argument words 2 1 4096) (λ count. whole words 3 (Mem address count)))
-
-abbrev pub back_of : List (List ℕ) → Result Command ScriptWhy
-back_of words = and_then (argument words 1 1 most_number) (λ steps. whole words 2 (Back steps))
-
--- a command that prints vector registers, predicates or memory, or that goes back
-abbrev pub later_command_named : List ℕ → List (List ℕ) → Result Command ScriptWhy
-later_command_named name words =
-    if bytes_eq name (codes "zreg") then zreg_of words
-    else (if bytes_eq name (codes "preg") then preg_of words
-    else (if bytes_eq name (codes "ffr") then whole words 1 Ffr
-    else (if bytes_eq name (codes "lanes") then lanes_of words
-    else (if bytes_eq name (codes "mem") then mem_of words
-    else (if bytes_eq name (codes "back") then back_of words else Err UnknownCommand)))))
-
-abbrev pub command_named : List ℕ → List (List ℕ) → Result Command ScriptWhy
-command_named name words =
-    if bytes_eq name (codes "step") then step_of words
-    else (if bytes_eq name (codes "go") then whole words 1 Go
-    else (if bytes_eq name (codes "break") then break_of words
-    else (if bytes_eq name (codes "watch") then watch_of words
-    else (if bytes_eq name (codes "regs") then whole words 1 Regs
-    else (if bytes_eq name (codes "vl") then whole words 1 Vl else later_command_named name words)))))
+-- what reads the words of a command, by its name
+abbrev pub readers : List (List ℕ × (List (List ℕ) → Result Command ScriptWhy))
+readers =
+    (codes "step", with_number 1 most_number Step)
+    ∷ (codes "go", by_itself Go)
+    ∷ (codes "break", with_number 0 most_number Break)
+    ∷ (codes "watch", with_range most_number Watch)
+    ∷ (codes "regs", by_itself Regs)
+    ∷ (codes "vl", by_itself Vl)
+    ∷ (codes "zreg", with_number 0 31 Zreg)
+    ∷ (codes "preg", with_number 0 15 Preg)
+    ∷ (codes "ffr", by_itself Ffr)
+    ∷ (codes "lanes", with_size Lanes)
+    ∷ (codes "mem", with_range (2 ^ 47 - 1) Mem)
+    ∷ (codes "back", with_number 1 most_number Back)
+    ∷ []
 
 abbrev pub command_of : List (List ℕ) → Result Command ScriptWhy
-command_of words = command_named (get_or words 0 []) words
+command_of words =
+    option_map_or (λ reader. reader.1 words) (find (λ reader. bytes_eq (get_or words 0 []) reader.0) readers)
+    (Err UnknownCommand)
 
 -- ---- the lines one after the other
 
@@ -104,30 +101,23 @@ is_full commands command = false
 abbrev pub followed : List Command → Command → Result (List Command) ScriptWhy
 followed commands command = if is_full commands command then Err TooMany else Ok (commands ++ command ∷ [])
 
-abbrev pub is_skipped : List ℕ → Bool
-is_skipped line = is_comment line || nat_eq (length (words line)) 0
+abbrev pub has_no_command : List ℕ → Bool
+has_no_command line = is_comment line || nat_eq (length (words line)) 0
 
 -- a line behind the commands of those before it
 abbrev pub read_line : List Command → List ℕ → Result (List Command) ScriptWhy
-read_line commands line = if is_skipped line then Ok commands else and_then (command_of (words line)) (followed commands)
+read_line commands line =
+    if has_no_command line then Ok commands else and_then (command_of (words line)) (followed commands)
 
-abbrev pub refused : {T : Type 0} → ScriptWhy → ℕ → Result T ScriptFault
-refused why number = Err (record { line = number; why = why })
-
--- a refusal in line `number`
-abbrev pub at_line : {T : Type 0} → ℕ → Result T ScriptWhy → Result T ScriptFault
-at_line number (Ok value) = Ok value
-at_line number (Err why) = refused why number
-
--- the lines from line `number` on
-abbrev pub read_lines : List Command → ℕ → List (List ℕ) → Result (List Command) ScriptFault
-read_lines commands number [] = Ok commands
-read_lines commands number (line ∷ lines) = and_then (at_line number (read_line commands line)) (λ more. read_lines more (number + 1) lines)
+abbrev pub fault_at : ScriptWhy → ℕ → ScriptFault
+fault_at why number = record { line = number; why = why }
 
 -- the script of a text
 abbrev pub script : List ℕ → Result (List Command) ScriptFault
-script text = if nat_lt 10000 (length (lines text)) then refused TooManyLines 10001 else read_lines [] 1 (lines text)
+script text =
+    if nat_lt 10000 (length (lines text)) then Err (fault_at TooManyLines 10001)
+    else read_lines fault_at read_line [] 1 (lines text)
 
 -- the script of a file, which is refused at the line of its first bad byte where it is no text
 abbrev pub script_of_file : List ℕ → Result (List Command) ScriptFault
-script_of_file bytes = if is_utf8 bytes then script bytes else refused NotUtf8 (line_of_bad_byte bytes)
+script_of_file bytes = if is_utf8 bytes then script bytes else Err (fault_at NotUtf8 (line_of_bad_byte bytes))

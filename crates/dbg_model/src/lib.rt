@@ -1,5 +1,5 @@
 //! The definitions of a debugger: what a script's text says, and what its commands make of a machine and print; and the
-//! plain types that they match on. And the definition of a session that may go back, with its laws.
+//! plain types that they match on; and laws of a session, which may go back.
 #![tactic(auto)]
 
 pub mod back_laws;

@@ -24,7 +24,8 @@ use Rattle.a64_insn.specs.declared.lines.TheConstants as line
 use Rattle.a64_rows.proofs.Laws.{one_row, form_back, word_again}
 use Rattle.asm_a64.specs.Table.{line_texts}
 use Rattle.asm_a64.specs.Opened.{texts_open}
-use Rattle.asm_a64.specs.Law.{word_of, texts_of, reach_by, reach, unaimed_word, target_at}
+use Rattle.asm_a64.specs.Law.{word_of, texts_of, reach, unaimed_word}
+use Rattle.asm_a64.specs.LawOfTexts.{reach_by, target_at}
 use Rattle.asm_a64.proofs.Totals.{listed, in_row, held}
 use Rattle.emu_run.specs.declared.insn.Insn.TheVariants.{A64}
 use Rattle.asm_text.specs.Statements.{aimed_at}

@@ -7,7 +7,8 @@ use Rattle.listing_model.specs.declared.directive.DirectiveName.{DirectiveName}
 use Rattle.listing_model.specs.declared.fault.ListingWhy.{ListingWhy}
 use Rattle.listing_model.specs.declared.fault.ListingWhy.TheVariants.{LongLine, BadLabel}
 use Rattle.listing_model.specs.Directives.{directive_named, is_label}
-use Rattle.listing_model.specs.LineOf.{instruction, instruction_body, named, body_of, with_label, line_of_tokens, line_of}
+use Rattle.listing_model.specs.Bodies.{instruction_body}
+use Rattle.listing_model.specs.LineOf.{instruction, named, body_of, with_label, line_of_tokens, line_of}
 use Rattle.listing_model.specs.Statements.{Statements}
 use Rattle.text_print.proofs.Tokens.{begins_with_colon}
 

@@ -8,14 +8,16 @@ use Rattle.text_model.specs.declared.slots.Slot.{Slot}
 use Rattle.text_model.specs.declared.slots.Item.{Item}
 use Rattle.text_model.specs.declared.slots.Refusal.{Refusal}
 use Rattle.text_model.specs.declared.slots.Refusal.TheVariants.{UnknownName, BadOperands, OutOfRange}
-use Rattle.text_model.specs.Classes.{class_number, same_class}
+use Rattle.text_model.specs.ClassNumbers.{class_number}
+use Rattle.text_model.specs.Classes.{same_class}
 use Rattle.text_model.specs.Slots.{class_in, items_in, all_fit}
-use Rattle.text_model.specs.Reading.{Pattern, Read, Operands, is_left_out, item_for, items_behind, filled, raised, same_classes, same_values, all_canonical, same_name, has_target, word_told, judged, items_to_read, answer, best, reads}
+use Rattle.text_model.specs.Reading.{Pattern, Read, Operands, is_left_out, item_for, items_behind, filled, raised, same_classes, same_values, all_canonical, has_target, word_told, judged, items_to_read, answer, best, reads}
 use Rattle.text_model.specs.Words.{item}
 use Rattle.text_model.specs.Statement.{Statement, is_address, untargeted, lowered, ends_in_label, items_of, operands_of, with_target, reads_tokens}
 use Rattle.text_model.proofs.Tests.{is_in, none_shared, classes_in}
 use Rattle.text_model.proofs.Unlike.{in_classes, not_shared, short, shorter, raised_class}
 use Rattle.std.proofs.lemmas.Slice.Eq.{bytes_eq-Decides}
+use Rattle.std.specs.Str.{bytes_eq}
 
 -- ---- the test
 
@@ -32,7 +34,7 @@ begin_apart (s ∷ ss) (t ∷ ts) =
     && (none_shared (classes_in s.shape) (classes_in t.shape) && (not (is_in (class_number Number) (classes_in s.shape)) && not (is_in (class_number Number) (classes_in t.shape))))
 
 abbrev pub starts_apart : Pattern → Pattern → Bool
-starts_apart p q = not (same_name p.name q.name) || begin_apart p.slots q.slots
+starts_apart p q = not (bytes_eq p.name q.name) || begin_apart p.slots q.slots
 
 abbrev pub starts_apart_from : Pattern → List Pattern → Bool
 starts_apart_from p [] = true
@@ -97,10 +99,10 @@ first_untargeted label (i ∷ j ∷ js) cs n h = h
 -- ---- the tables
 
 answered : (in_table : ℕ → Bool) (p : Pattern) (name : List ℕ) (o : Operands) (r : Read) → answer in_table p name o ≡ Ok r
-    → (same_name name p.name ≡ true) × (judged in_table p (items_to_read p o) (word_told p (items_to_read p o)) ≡ Ok r)
+    → (bytes_eq name p.name ≡ true) × (judged in_table p (items_to_read p o) (word_told p (items_to_read p o)) ≡ Ok r)
 answered in_table p name o r h =
     let f = λ (b : Bool). if b then judged in_table p (items_to_read p o) (word_told p (items_to_read p o)) else Err UnknownName in
-    elim (cases_Bool (same_name name p.name)) [
+    elim (cases_Bool (bytes_eq name p.name)) [
       | inl e ↦ (e, sym (ap f e) ∙ h)
       | inr e ↦ (let k = sym (ap f e) ∙ h in absurd (cc))
     ]
@@ -120,7 +122,7 @@ no_first : (is : List Item) (xs ys : List ℕ) → none_shared xs ys ≡ true �
 no_first [] xs ys n a b = false≢true a
 no_first (i ∷ is) xs ys n a b = false≢true (sym (not_shared xs ys (class_number i.class) n a) ∙ b)
 
-same : (s t : List ℕ) → same_name s t ≡ true → s ≡ t
+same : (s t : List ℕ) → bytes_eq s t ≡ true → s ≡ t
 same s t h = (bytes_eq-Decides s t).0 h
 
 module _ (in_one in_other : ℕ → Bool) (name : List ℕ) (label : Bool) (is : List Item) where
@@ -144,8 +146,8 @@ module _ (in_one in_other : ℕ → Bool) (name : List ℕ) (label : Bool) (is :
   apart_patterns p q r t b h k =
       let a = answered in_one p name operands r h in
       let c = answered in_other q name operands t k in
-      let e : same_name p.name q.name ≡ true = ap (λ (x : List ℕ). same_name x q.name) (sym (same name p.name a.0)) ∙ c.0 in
-      elim (or_cases (not (same_name p.name q.name)) (begin_apart p.slots q.slots) b) [
+      let e : bytes_eq p.name q.name ≡ true = ap (λ (x : List ℕ). bytes_eq x q.name) (sym (same name p.name a.0)) ∙ c.0 in
+      elim (or_cases (not (bytes_eq p.name q.name)) (begin_apart p.slots q.slots) b) [
         | inl n ↦ true≢false (sym e ∙ not-true _ n)
         | inr n ↦ apart_slots p q p.slots q.slots r t refl refl n a.1 c.1
       ]

@@ -1,4 +1,6 @@
--- The bitmask of the fields N, immr and imms: a run of ones, rotated within an element, and the element repeated.
+-- The bitmask of the fields N, immr and imms: a run of ones, rotated within an element, and the element repeated. It is
+-- the wmask of DecodeBitMasks of the shared pseudocode of the Arm Architecture Reference Manual for A-profile
+-- (DDI 0487), J1, for logical immediates; none is what that has as UNDEFINED.
 use Rattle.std.specs.Prelude.{ℕ, zero, suc, ◌+◌, ◌-◌, ◌*◌, ◌/◌, ◌%◌, ◌^◌, ◌==◌, ◌&&◌, ◌||◌, Bool, cond, Option, Some, None}
 
 -- v rotated right by r places within e bits

@@ -1,4 +1,4 @@
--- Fields of a word.
+-- Fields of a word. A field is `w<hi:lo>` of the Arm manual's pseudocode, of which a flag is a single bit.
 use Rattle.std.specs.Prelude.{ℕ, ◌/◌, ◌%◌, ◌^◌, Bool, true, false}
 
 -- the n bits of a word from the place lo on, as a number

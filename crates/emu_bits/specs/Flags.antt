@@ -1,4 +1,5 @@
--- Lane sizes, the number of the flags, and conditions on them.
+-- Lane sizes, the number of the flags, and conditions on them. From the Arm Architecture Reference Manual for A-profile
+-- (DDI 0487): ConditionHolds of J1 with the condition codes of C1.2, and the sizes B, H, S and D of C8.
 use Rattle.std.specs.Prelude.{ℕ, ◌/◌, ◌%◌, nat_eq, [], ◌∷◌, get_or, Bool, true, false, not, ◌&&◌}
 use Rattle.emu_bits.specs.declared.flags.Esize.{Esize}
 use Rattle.emu_bits.specs.declared.flags.Esize.TheVariants.{B, H, S, D}
@@ -15,7 +16,8 @@ size_of D = 64
 
 -- the flags of the number NZCV, N at the top
 abbrev pub flags_of_number : ℕ → Flags
-flags_of_number f = record { n = nat_eq (f / 8 % 2) 1; z = nat_eq (f / 4 % 2) 1; c = nat_eq (f / 2 % 2) 1; v = nat_eq (f % 2) 1 }
+flags_of_number f =
+    record { n = nat_eq (f / 8 % 2) 1; z = nat_eq (f / 4 % 2) 1; c = nat_eq (f / 2 % 2) 1; v = nat_eq (f % 2) 1 }
 
 -- the condition of a number below 16
 abbrev pub cond_of : ℕ → Cond

@@ -1,4 +1,6 @@
--- Numbers of b bits: read as unsigned and as signed, extensions, quotients, saturation, and sums with flags.
+-- Numbers of b bits: read as unsigned and as signed, extensions, quotients, saturation, and sums with flags. From the
+-- shared pseudocode of the Arm Architecture Reference Manual for A-profile (DDI 0487), J1: UInt, SInt, SignExtend,
+-- ZeroExtend, ExtendReg, SignedSatQ, UnsignedSatQ, RoundTowardsZero and AddWithCarry.
 use Rattle.std.specs.Prelude.{ℕ, ◌+◌, ◌-◌, ◌*◌, ◌%◌, ◌^◌, ◌==◌, ◌||◌, Bool, cond, if◌then◌else◌, nat_lt, nat_le, ℤ, pos, negsuc, ◌+ℤ◌, ◌-ℤ◌, neg_ℤ, int_lt, int_div, unsigned_abs}
 use Rattle.emu_bits.specs.declared.flags.Flags.{Flags}
 use Rattle.emu_bits.specs.Fields.{bit}

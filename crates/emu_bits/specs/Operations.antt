@@ -1,4 +1,7 @@
--- Operations on operands of w bits: complements, shifts, fields, products, quotients, and bits and bytes in another order.
+-- Operations on operands of w bits: complements, shifts, fields, products, quotients, and bits and bytes in another
+-- order. From the Arm Architecture Reference Manual for A-profile (DDI 0487): LSL, LSR, ASR, ROR, ShiftReg,
+-- CountLeadingZeroBits and CountLeadingSignBits of J1, and of C6.2 the entries EXTR, SBFM, BFM, UBFM, SMADDL, SMULH,
+-- UMULH, SDIV, UDIV, RBIT and REV.
 use Rattle.std.specs.Prelude.{ℕ, zero, suc, ◌+◌, ◌-◌, ◌*◌, ◌/◌, ◌%◌, ◌^◌, Bool, false, nat_eq, nat_le, if◌then◌else◌, ◌*ℤ◌}
 use Rattle.std.specs.Int.{int_shr}
 use Rattle.std.specs.Int.Count.{count_leading_zeros}
@@ -47,7 +50,9 @@ ror w a k = extracted w a a (k % w)
 
 -- the shift of a field: 0 lsl, 1 lsr, 2 asr, 3 ror
 abbrev pub shifted : ℕ → ℕ → ℕ → ℕ → ℕ
-shifted w shift a k = if nat_eq shift 0 then lsl w a k else (if nat_eq shift 1 then lsr a k else (if nat_eq shift 2 then asr w a k else ror w a k))
+shifted w shift a k =
+    if nat_eq shift 0 then lsl w a k
+    else (if nat_eq shift 1 then lsr a k else (if nat_eq shift 2 then asr w a k else ror w a k))
 
 -- ---- fields
 
@@ -55,7 +60,8 @@ shifted w shift a k = if nat_eq shift 0 then lsl w a k else (if nat_eq shift 1 t
 abbrev pub replaced : ℕ → ℕ → ℕ → ℕ → ℕ
 replaced a place n v = a % 2 ^ place + v * 2 ^ place + a / 2 ^ (place + n) * 2 ^ (place + n)
 
--- Of a bitfield move, where s ≥ r bits s:r go to place 0, else bits s:0 go to place w - r: the place that they come from,
+-- Of a bitfield move, where s ≥ r bits s:r go to place 0, else bits s:0 go to place w - r: the place that they come
+-- from,
 abbrev pub field_from : ℕ → ℕ → ℕ
 field_from r s = if nat_le r s then r else 0
 

@@ -1,4 +1,6 @@
--- A table of encodings: lines of rows, each row a base word with the places of its fields.
+-- A table of encodings: lines of rows, each row a base word with the places of its fields. This form of the encoding
+-- diagrams of the Arm Architecture Reference Manual for A-profile (DDI 0487), C4 'A64 Instruction Set Encoding' is this
+-- project's own.
 use Rattle.std.specs.Prelude.{ℕ, suc, ◌+◌, ◌-◌, ◌*◌, ◌^◌, ◌==◌, ◌||◌, Bool, true, false, cond, Option, Some, None, List, [], ◌∷◌, get_or, bit_and, bit_or}
 use Rattle.emu_bits.specs.Fields.{field}
 
@@ -31,12 +33,40 @@ abbrev pub values : List Place → ℕ → List ℕ
 values [] w = []
 values (p ∷ ps) w = field w p.low (width p) ∷ values ps w
 
--- the value of the field at a place in a list of values, as a number and as a flag
+-- the value of the field at a place in a list of values
 abbrev pub value_at : List ℕ → ℕ → ℕ
 value_at vs i = get_or vs i 0
 
-abbrev pub flag_at : List ℕ → ℕ → Bool
-flag_at vs i = value_at vs i == 1
+-- a function of so many numbers, of that many first values of a list in their order
+abbrev pub of_one : {A : Type 0} → (ℕ → A) → List ℕ → A
+of_one f vs = f (value_at vs 0)
+
+abbrev pub of_two : {A : Type 0} → (ℕ → ℕ → A) → List ℕ → A
+of_two f vs = f (value_at vs 0) (value_at vs 1)
+
+abbrev pub of_three : {A : Type 0} → (ℕ → ℕ → ℕ → A) → List ℕ → A
+of_three f vs = f (value_at vs 0) (value_at vs 1) (value_at vs 2)
+
+abbrev pub of_four : {A : Type 0} → (ℕ → ℕ → ℕ → ℕ → A) → List ℕ → A
+of_four f vs = f (value_at vs 0) (value_at vs 1) (value_at vs 2) (value_at vs 3)
+
+abbrev pub of_five : {A : Type 0} → (ℕ → ℕ → ℕ → ℕ → ℕ → A) → List ℕ → A
+of_five f vs = f (value_at vs 0) (value_at vs 1) (value_at vs 2) (value_at vs 3) (value_at vs 4)
+
+abbrev pub of_six : {A : Type 0} → (ℕ → ℕ → ℕ → ℕ → ℕ → ℕ → A) → List ℕ → A
+of_six f vs = f (value_at vs 0) (value_at vs 1) (value_at vs 2) (value_at vs 3) (value_at vs 4) (value_at vs 5)
+
+abbrev pub of_seven : {A : Type 0} → (ℕ → ℕ → ℕ → ℕ → ℕ → ℕ → ℕ → A) → List ℕ → A
+of_seven f vs = f (value_at vs 0) (value_at vs 1) (value_at vs 2) (value_at vs 3) (value_at vs 4) (value_at vs 5)
+    (value_at vs 6)
+
+abbrev pub of_eight : {A : Type 0} → (ℕ → ℕ → ℕ → ℕ → ℕ → ℕ → ℕ → ℕ → A) → List ℕ → A
+of_eight f vs = f (value_at vs 0) (value_at vs 1) (value_at vs 2) (value_at vs 3) (value_at vs 4) (value_at vs 5)
+    (value_at vs 6) (value_at vs 7)
+
+-- the name of a row by its number, of the names of a line in their order
+abbrev pub named : {A : Type 0} → A → List A → ℕ → A
+named first others k = get_or (first ∷ others) k first
 
 -- no condition
 abbrev pub always : ℕ → List ℕ → Bool
@@ -49,6 +79,15 @@ pub record Line (F : Type 0) : Type 0 where
   pub places : List Place
   pub holds : ℕ → List ℕ → Bool
   pub form : ℕ → List ℕ → F
+
+-- a line by its words, its places, and the form of a row by the values of its fields; and the same where a condition is
+-- given with the form
+abbrev pub line_of : {F : Type 0} → List ℕ → List Place → (ℕ → List ℕ → F) → Line F
+line_of words places form = record { words = words; places = places; holds = always; form = form }
+
+abbrev pub line_if : {F : Type 0} → List ℕ → List Place → (ℕ → List ℕ → Bool × F) → Line F
+line_if words places made =
+    record { words = words; places = places; holds = λ k vs. (made k vs).0; form = λ k vs. (made k vs).1 }
 
 -- An instruction as the table sees it: a line, the number of a row in it, and the values of its fields.
 pub record Row (F : Type 0) : Type 0 where
@@ -67,7 +106,8 @@ number_of w (x ∷ xs) = cond (w == x) (Some 0) (next (number_of w xs))
 
 abbrev pub where_it_holds : {F : Type 0} → Line F → ℕ → Option ℕ → Option (Row F)
 where_it_holds l w None = None
-where_it_holds l w (Some k) = cond (l.holds k (values l.places w)) (Some (record { line = l; number = k; values = values l.places w })) None
+where_it_holds l w (Some k) =
+    cond (l.holds k (values l.places w)) (Some (record { line = l; number = k; values = values l.places w })) None
 
 -- The row of a line that holds a word: outside of the fields the word is the base word, and the condition holds.
 abbrev pub row_in : {F : Type 0} → Line F → ℕ → Option (Row F)

@@ -10,7 +10,8 @@ use Rattle.emu_model.specs.declared.access.Rights.{Rights}
 use Rattle.emu_model.specs.Access.{Memory, Page, page_size}
 use Rattle.emu_model.specs.ByteMap.{IsByteMap}
 use Rattle.emu_model.specs.PageLaws.{among, none_among, get_mapped, get_unmapped, get_protected, with_rights}
-use Rattle.emu_model.specs.Pages.{is_among, mapped, unmapped, protected, page_peek, peeked, zeroed_page, zeros}
+use Rattle.emu_model.specs.Pages.{is_among, mapped, unmapped, protected, peeked, zeroed_page, zeros}
+use Rattle.emu_model.specs.ByPage.{page_peek}
 use Rattle.emu_model.specs.PageEquations.{zeros_is}
 use Rattle.emu_model.specs.Ranges.{IsSetInPages}
 use Rattle.emu_model.proofs.Keys.{tied, untied}

@@ -6,10 +6,11 @@ use Rattle.std.specs.Option.{unwrap_or}
 use Rattle.std.specs.Ordering.{nat_cmp, eq_by_cmp}
 use Rattle.std.specs.Cmp.{nat_cmp_total, unsigned_tied}
 use Rattle.std.specs.FinMap.{FinMap, get, insert, contains_key, get-insert}
-use Rattle.emu_model.specs.Access.{Memory, Page, page_of, page_byte, with_byte, pages_with_byte, page_with_byte, address, page_size}
+use Rattle.emu_model.specs.Access.{Memory, Page, page_of, with_byte, pages_with_byte, page_with_byte, address, page_size}
+use Rattle.emu_model.specs.ByPage.{page_byte, page_peek}
 use Rattle.emu_model.specs.AccessLaws.{peek_after, write_unmapped}
 use Rattle.emu_model.specs.ByteMap.{IsByteMap, put}
-use Rattle.emu_model.specs.Pages.{bytes_at, page_peek, peeked, with_bytes}
+use Rattle.emu_model.specs.Pages.{bytes_at, peeked, with_bytes}
 use Rattle.emu_model.specs.PageEquations.{bytes_at-zero, bytes_at-suc}
 use Rattle.emu_model.specs.SoundState.{IsSoundMemory}
 use Rattle.emu_model.specs.Ranges.{row, written_row}

@@ -1,4 +1,6 @@
--- Lanes of Z registers and fields of predicates: what is read of them, and what a write leaves.
+-- Lanes of Z registers and fields of predicates: what is read of them, and what a write leaves. From the shared
+-- pseudocode of the Arm Architecture Reference Manual for A-profile (DDI 0487), J1: Z, P, FFR, Elem, and V, a write to
+-- which clears the bits above it.
 use Rattle.std.specs.Prelude.{ℕ, ◌+◌, ◌*◌, ◌/◌, ◌%◌, ◌^◌, Bool, false, nat_eq, if◌then◌else◌, List, [], ◌∷◌, get_or, set, take, drop}
 use Rattle.emu_model.specs.Lists.{each}
 use Rattle.emu_model.specs.State.{Vectors}

@@ -1,2 +1,3 @@
 pub mod VectorLines
 pub mod WordDigits
+pub mod FaultNames

@@ -1,16 +1,12 @@
 //! The line of a run's ending, of a machine or of a world of contexts.
-ghost use Rattle.std.specs.Prelude.{◌≡◌, ◌≤◌, ◌+◌, ◌++◌, length};
+ghost use Rattle.std.specs.Prelude.{◌≡◌, ◌≤◌, ◌+◌, ◌++◌, codes, length};
 ghost use Rattle.io_gate.specs.Streams.{HasCause};
 ghost use Rattle.io_gate.specs.Pieces.{PutsAll};
-ghost use Rattle.command_model.specs.WorldReports.{stuck_line};
 ghost use Rattle.emu_run.specs.Reports.{
   address_text,
   after_steps,
-  exit_line,
   exit_text,
-  spent_line,
   spent_text,
-  trap_line,
   trap_text,
 };
 
@@ -21,7 +17,7 @@ use io_gate::{Failed, Sink};
 
 /// Puts the line of a program that ended by a call, as `exit 7 after 3 steps`.
 pub fn put_exit<S: Sink>(code: u8, steps: u64, sink: &mut S) -> Result<(), Failed>
-    ensures bytes { PutsAll (S.held sink.old) (S.held sink.new) (exit_line code steps) result }
+    ensures bytes { PutsAll (S.held sink.old) (S.held sink.new) (exit_text code ++ after_steps steps) result }
     ensures cause { HasCause (S.faults sink.old) (S.faults sink.new) result }
 {
     let mut text = Text::new();
@@ -33,7 +29,7 @@ pub fn put_exit<S: Sink>(code: u8, steps: u64, sink: &mut S) -> Result<(), Faile
 /// Puts the line of a program that trapped at the address `pc`, as
 /// `trap undefined 0x0000000000400000 at 0x0000000000400000 after 0 steps`.
 pub fn put_trap<S: Sink>(t: &Trap, pc: u64, steps: u64, sink: &mut S) -> Result<(), Failed>
-    ensures bytes { PutsAll (S.held sink.old) (S.held sink.new) (trap_line t.now pc steps) result }
+    ensures bytes { PutsAll (S.held sink.old) (S.held sink.new) (trap_text t.now pc ++ after_steps steps) result }
     ensures cause { HasCause (S.faults sink.old) (S.faults sink.new) result }
 {
     let mut text = Text::new();
@@ -44,7 +40,7 @@ pub fn put_trap<S: Sink>(t: &Trap, pc: u64, steps: u64, sink: &mut S) -> Result<
 
 /// Puts the line of a program whose budget is spent, as `spent after 2 steps`.
 pub fn put_spent<S: Sink>(steps: u64, sink: &mut S) -> Result<(), Failed>
-    ensures bytes { PutsAll (S.held sink.old) (S.held sink.new) (spent_line steps) result }
+    ensures bytes { PutsAll (S.held sink.old) (S.held sink.new) (spent_text ++ after_steps steps) result }
     ensures cause { HasCause (S.faults sink.old) (S.faults sink.new) result }
 {
     let mut text = Text::new();
@@ -55,7 +51,7 @@ pub fn put_spent<S: Sink>(steps: u64, sink: &mut S) -> Result<(), Failed>
 
 /// Puts the line of a program of which no context is ready, as `stuck after 6 steps`.
 pub fn put_stuck<S: Sink>(steps: u64, sink: &mut S) -> Result<(), Failed>
-    ensures bytes { PutsAll (S.held sink.old) (S.held sink.new) (stuck_line steps) result }
+    ensures bytes { PutsAll (S.held sink.old) (S.held sink.new) (codes "stuck" ++ after_steps steps) result }
     ensures cause { HasCause (S.faults sink.old) (S.faults sink.new) result }
 {
     let mut text = Text::new();

@@ -1,14 +1,8 @@
 //! The names of traps and of refusals as they are printed.
 ghost use Rattle.std.specs.Prelude.{◌≡◌, ◌≤◌, length};
 ghost use Rattle.emu_run.specs.Reports.{trap_name};
-ghost use Rattle.command_model.specs.Refusals.{
-  fault_index,
-  fault_name,
-  listing_name,
-  schedule_name,
-  script_name,
-  words_name,
-};
+ghost use Rattle.command_model.specs.Refusals.{listing_name, schedule_name, script_name, words_name};
+ghost use Rattle.emu_report.specs.FaultNames.{fault_index, fault_name};
 
 use command_model::WordsWhy;
 use dbg_model::ScriptWhy;

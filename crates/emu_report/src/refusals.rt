@@ -4,7 +4,6 @@ ghost use Rattle.io_gate.specs.Streams.{HasCause};
 ghost use Rattle.io_gate.specs.Pieces.{PutsAll};
 ghost use Rattle.emu_run.specs.Text.{newline};
 ghost use Rattle.command_model.specs.Refusals.{
-  at_index,
   at_line,
   at_place,
   image_line,
@@ -14,6 +13,7 @@ ghost use Rattle.command_model.specs.Refusals.{
   too_long_line,
   words_line,
 };
+ghost use Rattle.emu_report.specs.FaultNames.{at_index};
 
 use crate::names::{fault_index, fault_name, listing_name, schedule_name, script_name, words_name};
 use crate::text::Text;

@@ -7,6 +7,7 @@ pub mod Sound
 pub mod Step
 pub mod Text
 pub mod Steps
+pub mod ByTable
 pub mod Codes
 pub mod Living
 pub mod ThreadCall

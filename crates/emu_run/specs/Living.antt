@@ -10,10 +10,10 @@ use Rattle.emu_model.specs.declared.trap.Ended.TheVariants.{Exit as Exited}
 use Rattle.emu_model.specs.Access.{refused, stored}
 use Rattle.emu_model.specs.State.{Parts}
 use Rattle.emu_run.specs.Step.{accesses, turn}
-use Rattle.emu_system.specs.SystemCall.{argument, returned}
+use Rattle.emu_system.specs.SystemCall.{argument, error_answer, returned}
 use Rattle.emu_run.specs.declared.thread.Standing.{Standing}
 use Rattle.emu_run.specs.declared.thread.Standing.TheVariants.{Ready, Waiting, Gone}
-use Rattle.emu_run.specs.ThreadCall.{ThreadAction, fails, answers, starts, waits, wakes, clears, leaves, alone, action, all_gone, answered, cleared, error_answer, leave_made, parent_told, started, thread_id, with_gone}
+use Rattle.emu_run.specs.ThreadCall.{ThreadAction, fails, answers, starts, waits, wakes, clears, leaves, alone, action, all_gone, answered, cleared, leave_made, number_of, parent_told, started, thread_id, with_gone}
 use Rattle.emu_run.specs.Threads.{done_by, makes_call, one, stepped_alone, with_world}
 use Rattle.emu_run.specs.Worlds.{World, Context, context, no_context, apart, behind_accesses, is_gone, is_ready, is_standing_at, is_standing_gone, is_standing_ready, joined, others_behind, some_ready, taken_by_context, wake_count, waits_at, with_context, with_monitor, with_woken, without_monitors, woken, woken_context}
 
@@ -110,7 +110,7 @@ module _ (w : World) (k : ℕ) (input : List ℕ) (within : k < length w.context
   answered_living v s m long stays = apart_living v k (subst (λ (n : ℕ). k < n) (sym long) within) s m stays
 
   done_living : (a : ThreadAction) → IsLiving (done_by a w k input).world
-  done_living (fails e) = λ _. answered_living w Ready (returned (joined w (context w k)) (error_answer e)) refl refl
+  done_living (fails e) = λ _. answered_living w Ready (returned (joined w (context w k)) (error_answer (number_of e))) refl refl
   done_living (answers v) = λ _. answered_living w Ready (returned (joined w (context w k)) v) refl refl
   done_living starts = λ _.
       let told : World = parent_told w (context w k).core in

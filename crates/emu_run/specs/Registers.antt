@@ -1,4 +1,5 @@
--- The lines of the registers: a name, a space and the value.
+-- The lines of the registers: a name, a space and the value. The form of the lines is this project's own choice, as
+-- docs/MANUAL.md has it under "What you see".
 use Rattle.std.specs.Prelude.{ℕ, ◌+◌, ◌-◌, ◌*◌, ◌/◌, Bool, false, List, [], ◌∷◌, ◌++◌, length, get_or, flat_map, reverse, codes}
 use Rattle.std.specs.Fmt.{decimal}
 use Rattle.std.specs.List.{range_with_len}
@@ -34,7 +35,9 @@ byte_digits bytes = flat_map (hex 2) (reverse bytes)
 
 -- bits 4k to 4k + 3 as a number
 abbrev pub nibble : List Bool → ℕ → ℕ
-nibble bits k = bit (get_or bits (4 * k) false) + 2 * bit (get_or bits (4 * k + 1) false) + 4 * bit (get_or bits (4 * k + 2) false) + 8 * bit (get_or bits (4 * k + 3) false)
+nibble bits k =
+    bit (get_or bits (4 * k) false) + 2 * bit (get_or bits (4 * k + 1) false)
+    + 4 * bit (get_or bits (4 * k + 2) false) + 8 * bit (get_or bits (4 * k + 3) false)
 
 -- a digit for each four bits, the most significant first
 abbrev pub bit_digits : List Bool → List ℕ

@@ -1,4 +1,5 @@
--- What stands at the end of a run: one line on how the machine ended, and its registers.
+-- What stands at the end of a run: one line on how the machine ended, and its registers. The form of the lines is this
+-- project's own choice, as docs/MANUAL.md has it under "What you see" and "Traps".
 use Rattle.std.specs.Prelude.{ℕ, List, ◌++◌, codes, Option, Some, None}
 use Rattle.std.specs.Fmt.{decimal}
 use Rattle.emu_model.specs.declared.trap.Ended.{Ended}
@@ -33,7 +34,8 @@ abbrev pub exit_text : ℕ → List ℕ
 exit_text code = codes "exit " ++ decimal code
 
 abbrev pub trap_text : Trap → ℕ → List ℕ
-trap_text t pc = codes "trap " ++ trap_name t.kind ++ codes " " ++ address_text t.address ++ codes " at " ++ address_text pc
+trap_text t pc =
+    codes "trap " ++ trap_name t.kind ++ codes " " ++ address_text t.address ++ codes " at " ++ address_text pc
 
 abbrev pub spent_text : List ℕ
 spent_text = codes "spent"
@@ -45,19 +47,8 @@ ending_text m (Some (Exited code)) = exit_text code
 ending_text m (Some (Trapped t)) = trap_text t m.core.pc
 
 -- the same as a line, with the steps that were counted
-abbrev pub exit_line : ℕ → ℕ → List ℕ
-exit_line code steps = exit_text code ++ after_steps steps
-
-abbrev pub trap_line : Trap → ℕ → ℕ → List ℕ
-trap_line t pc steps = trap_text t pc ++ after_steps steps
-
-abbrev pub spent_line : ℕ → List ℕ
-spent_line steps = spent_text ++ after_steps steps
-
 abbrev pub ending_line : Parts → Option Ended → List ℕ
-ending_line m None = spent_line m.steps
-ending_line m (Some (Exited code)) = exit_line code m.steps
-ending_line m (Some (Trapped t)) = trap_line t m.core.pc m.steps
+ending_line m ended = ending_text m ended ++ after_steps m.steps
 
 -- that line, and the registers
 abbrev pub report : Parts → List ℕ

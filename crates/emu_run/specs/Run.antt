@@ -1,4 +1,5 @@
--- A run: steps until the machine has ended or has counted its budget.
+-- A run: steps until the machine has ended or has counted its budget. That steps are counted against a budget is this
+-- project's own choice, as docs/MANUAL.md has it under "Commands".
 use Rattle.std.specs.Prelude.{ℕ, zero, suc, ◌-◌, Bool, is_none, if◌then◌else◌}
 use Rattle.emu_model.specs.State.{State}
 use Rattle.emu_run.specs.Step.{step}
@@ -7,7 +8,7 @@ use Rattle.emu_run.specs.Step.{step}
 abbrev pub goes_on : State → Bool
 goes_on st = is_none st.parts.ended
 
--- the same, of a machine that stops at its end
+-- the machine k steps on, or at its end where that comes before
 unfoldable pub until_end : State → ℕ → State
 until_end st zero = st
 until_end st (suc k) = if goes_on st then until_end (step st) k else st

@@ -1,10 +1,11 @@
--- One step: the word at the program counter is fetched and decoded, and its instruction is done.
+-- One step: the word at the program counter is fetched and decoded, and its instruction is done. From the Arm
+-- Architecture Reference Manual for A-profile (DDI 0487): the alignment of PC by AArch64.CheckPCAlignment of J1, words
+-- by C4. That a step which traps isn't counted, and what counts as an access, are this project's own choice.
 use Rattle.std.specs.Prelude.{ℕ, ◌+◌, ◌%◌, List, [], ◌++◌, Option, Some, None, nat_eq, if◌then◌else◌}
+use Rattle.std.specs.Option.{option_map, option_or}
 use Rattle.emu_bits.specs.Rows.{instruction}
 use Rattle.a64_insn.specs.Table.{a64_table}
-use Rattle.a64_insn.specs.declared.form.A64Form.{A64Form}
 use Rattle.sve_insn.specs.Table.{sve_table}
-use Rattle.sve_insn.specs.declared.form.SveForm.{SveForm}
 use Rattle.emu_model.specs.declared.access.Access.{Access}
 use Rattle.emu_model.specs.declared.access.Kind.TheVariants.{Fetch as FetchKind}
 use Rattle.emu_model.specs.declared.trap.TrapKind.{TrapKind}
@@ -21,23 +22,9 @@ use Rattle.emu_system.specs.SystemCall.{Turn, quiet, went_on, call}
 use Rattle.emu_run.specs.declared.insn.Insn.{Insn}
 use Rattle.emu_run.specs.declared.insn.Insn.TheVariants.{A64, Sve}
 
--- the instruction of a word, where it is in a row
-abbrev pub a64 : Option A64Form → Option Insn
-a64 None = None
-a64 (Some form) = Some (A64 form)
-
-abbrev pub sve : Option SveForm → Option Insn
-sve None = None
-sve (Some form) = Some (Sve form)
-
--- the first of two instructions, where it is there, else the second
-abbrev pub first_of : Option Insn → Option Insn → Option Insn
-first_of None other = other
-first_of (Some insn) other = Some insn
-
--- No word is in a row of both tables.
+-- the instruction of a word, where it is in a row; no word is in a row of both tables
 abbrev pub decode : ℕ → Option Insn
-decode w = first_of (a64 (instruction a64_table w)) (sve (instruction sve_table w))
+decode word = option_or (option_map A64 (instruction a64_table word)) (option_map Sve (instruction sve_table word))
 
 -- what an instruction does
 abbrev pub performed : Insn → Core → Vectors → Memory → Done
@@ -53,7 +40,8 @@ abbrev pub finished : Parts → List ℕ → Core → Vectors → Memory → Eff
 finished m input c v memory Next = quiet (went_on m c v memory (address (c.pc + 4))) input
 finished m input c v memory (Branch a) = quiet (went_on m c v memory a) input
 finished m input c v memory Call = call m input
-finished m input c v memory (Trapping t) = quiet (trapped (record m { core = c; vectors = v; memory = memory }) t.kind t.address) input
+finished m input c v memory (Trapping t) =
+    quiet (trapped (record m { core = c; vectors = v; memory = memory }) t.kind t.address) input
 
 abbrev pub finish : Parts → List ℕ → Done → Turn
 finish m input d = finished m input d.core d.vectors d.memory d.effect
@@ -72,10 +60,11 @@ fetched m input None = executed m input (decode (value m.memory m.core.pc 4))
 -- what a step of a machine that hasn't ended makes of it and of its input, and what it puts
 abbrev pub turn : Parts → List ℕ → Turn
 turn m input =
-    if nat_eq (m.core.pc % 4) 0 then fetched m input (refused m.memory m.core.pc 4 FetchKind) else quiet (trapped m PcAlign m.core.pc) input
+    if nat_eq (m.core.pc % 4) 0 then fetched m input (refused m.memory m.core.pc 4 FetchKind)
+    else quiet (trapped m PcAlign m.core.pc) input
 
--- The accesses that a step makes to the elements of its instruction, in order. The fetch isn't one of them, nor is what a
--- call reads or writes, and a refused element isn't.
+-- The accesses that a step makes to the elements of its instruction, in order. The fetch isn't one of them, nor is what
+-- a call reads or writes, and a refused element isn't.
 abbrev pub executed_accesses : Parts → Option Insn → List Access
 executed_accesses m None = []
 executed_accesses m (Some i) = (performed i m.core m.vectors m.memory).accesses
@@ -89,7 +78,8 @@ accesses m = if nat_eq (m.core.pc % 4) 0 then fetched_accesses m (refused m.memo
 
 -- what is put comes behind what was written
 abbrev pub taken_by : State → Turn → State
-taken_by st t = record { parts = t.parts; input = t.input; output = st.output ++ t.output; errors = st.errors ++ t.errors }
+taken_by st t =
+    record { parts = t.parts; input = t.input; output = st.output ++ t.output; errors = st.errors ++ t.errors }
 
 -- one step of a machine that hasn't ended
 abbrev pub step : State → State

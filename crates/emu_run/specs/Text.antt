@@ -1,4 +1,4 @@
--- Numbers as text. A text is the list of its bytes, in ASCII.
+-- Numbers as text. A text is the list of its bytes, in ASCII. It is this project's own choice.
 use Rattle.std.specs.Prelude.{ℕ, ◌+◌, ◌-◌, ◌/◌, ◌%◌, ◌^◌, List, [], ◌∷◌, nat_lt, if◌then◌else◌}
 use Rattle.emu_model.specs.Lists.{each}
 

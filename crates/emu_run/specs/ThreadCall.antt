@@ -1,15 +1,16 @@
--- The calls that speak of contexts: their numbers are those of Linux on arm64, a call's number is the low 32 bits of x8, its arguments
--- are x0 to x4, and its answer goes to x0. The tests of a call are made in the order that is written here.
-use Rattle.std.specs.Prelude.{ℕ, ◌+◌, ◌-◌, ◌/◌, ◌%◌, ◌^◌, Bool, false, not, ◌||◌, ◌&&◌, bit_and, List, [], ◌∷◌, ◌++◌, length, replicate, Option, Some, is_some, nat_eq, nat_le, if◌then◌else◌}
+-- The calls that speak of contexts: their numbers are those of Linux on arm64, a call's number is the low 32 bits of
+-- x8, its arguments are x0 to x4, and its answer goes to x0. The tests of a call are made in the order that is written
+-- here. From Linux's clone(2), futex(2) with its FUTEX_WAIT and FUTEX_WAKE, set_tid_address(2), gettid(2) and _exit(2).
+-- The flags that are taken, the number of contexts, their ids and their order of waking are this project's own choice,
+-- as docs/MANUAL.md has them under "Calls".
+use Rattle.std.specs.Prelude.{ℕ, ◌+◌, ◌-◌, ◌%◌, ◌^◌, Bool, not, ◌||◌, ◌&&◌, bit_and, List, [], ◌∷◌, ◌++◌, length, Option, Some, is_some, nat_eq, nat_le, if◌then◌else◌}
 use Rattle.std.specs.List.{list_all}
 use Rattle.emu_model.specs.declared.access.Kind.TheVariants.{Read as ToRead, Write as ToWrite}
 use Rattle.emu_model.specs.declared.trap.Ended.{Ended}
 use Rattle.emu_model.specs.declared.trap.Ended.TheVariants.{Exit as Exited}
 use Rattle.emu_model.specs.Access.{Memory, refused, value, stored}
-use Rattle.emu_model.specs.Lists.{each}
-use Rattle.emu_model.specs.State.{Core, Vectors}
-use Rattle.emu_model.specs.Lanes.{read_z}
-use Rattle.emu_system.specs.SystemCall.{argument, number_of_call, returned}
+use Rattle.emu_model.specs.State.{Core}
+use Rattle.emu_system.specs.SystemCall.{argument, name_among, number_of_call, returned}
 use Rattle.emu_run.specs.declared.thread.Standing.TheVariants.{Ready, Waiting, Gone}
 use Rattle.emu_run.specs.declared.thread.ThreadCall.{ThreadCall}
 use Rattle.emu_run.specs.declared.thread.ThreadCall.TheVariants.{Clone, Futex, Exit, SetTidAddress, Gettid, Alone}
@@ -22,12 +23,8 @@ use Rattle.emu_run.specs.Worlds.{Context, World, context, is_gone, joined, with_
 abbrev pub thread_calls : List (ℕ × ThreadCall)
 thread_calls = (93, Exit) ∷ (96, SetTidAddress) ∷ (98, Futex) ∷ (178, Gettid) ∷ (220, Clone) ∷ []
 
-abbrev pub name_among : List (ℕ × ThreadCall) → ℕ → ThreadCall
-name_among [] number = Alone
-name_among (c ∷ cs) number = if nat_eq number c.0 then c.1 else name_among cs number
-
 abbrev pub thread_call : Core → ThreadCall
-thread_call c = name_among thread_calls (number_of_call c)
+thread_call c = name_among Alone thread_calls (number_of_call c)
 
 abbrev pub number_of : ThreadErrno → ℕ
 number_of EAGAIN = 11
@@ -37,8 +34,9 @@ number_of ENOSYS = 38
 
 -- ---- what a call comes to, once its tests are made
 
--- `starts` adds a context, `waits` lets the caller wait at an address, `wakes` wakes at most so many that wait at an address, `clears`
--- sets the caller's clear address, and `leaves` ends the caller; a call that is `alone` is that of a machine alone
+-- `starts` adds a context, `waits` lets the caller wait at an address, `wakes` wakes at most so many that wait at an
+-- address, `clears` sets the caller's clear address, and `leaves` ends the caller; a call that is `alone` is that of a
+-- machine alone
 pub data ThreadAction : Type 0 where
   fails : ThreadErrno → ThreadAction
   answers : ℕ → ThreadAction
@@ -55,7 +53,8 @@ thread_id k = k + 1
 
 -- ---- clone
 
--- CLONE_VM, FS, FILES, SIGHAND and THREAD are asked for; SYSVSEM, SETTLS, PARENT_SETTID, CHILD_CLEARTID and DETACHED may be
+-- CLONE_VM, FS, FILES, SIGHAND and THREAD are asked for; SYSVSEM, SETTLS, PARENT_SETTID, CHILD_CLEARTID and DETACHED
+-- may be
 abbrev pub needed_flags : ℕ
 needed_flags = 0x10F00
 
@@ -79,10 +78,11 @@ most_contexts = 64
 
 -- (flags, stack, parent, tls, clear)
 abbrev pub starting : Core → World → ThreadAction
-starting c w =
-    if not (has_flag needed_flags (argument c 0)) || not (nat_eq (bit_and (argument c 0) (2 ^ 64 - 1 - known_flags)) 0) then fails EINVAL
-    else (if nat_le most_contexts (length w.contexts) then fails EAGAIN
-    else (if sets_parent (argument c 0) && is_some (refused w.memory (argument c 2) 4 ToWrite) then fails EFAULT
+starting c world =
+    if not (has_flag needed_flags (argument c 0))
+    || not (nat_eq (bit_and (argument c 0) (2 ^ 64 - 1 - known_flags)) 0) then fails EINVAL
+    else (if nat_le most_contexts (length world.contexts) then fails EAGAIN
+    else (if sets_parent (argument c 0) && is_some (refused world.memory (argument c 2) 4 ToWrite) then fails EFAULT
     else starts))
 
 -- ---- futex
@@ -109,79 +109,80 @@ futex c m =
 -- ---- the calls, by the caller's registers, the world and the caller's number
 
 abbrev pub action_of : ThreadCall → Core → World → ℕ → ThreadAction
-action_of Clone c w k = starting c w
-action_of Futex c w k = futex c w.memory
-action_of Exit c w k = leaves
-action_of SetTidAddress c w k = clears (argument c 0)
-action_of Gettid c w k = answers (thread_id k)
-action_of Alone c w k = alone
+action_of Clone c world k = starting c world
+action_of Futex c world k = futex c world.memory
+action_of Exit c world k = leaves
+action_of SetTidAddress c world k = clears (argument c 0)
+action_of Gettid c world k = answers (thread_id k)
+action_of Alone c world k = alone
 
 abbrev pub action : World → ℕ → ThreadAction
-action w k = action_of (thread_call (context w k).core) (context w k).core w k
+action world k = action_of (thread_call (context world k).core) (context world k).core world k
 
 -- ---- what a call makes of a world
 
--- the call of context k returns, with this answer, and the context stands so
+-- the call of context k returns, with this answer, and the context is ready
 abbrev pub answered : World → ℕ → ℕ → World
-answered w k v = apart w k Ready (returned (joined w (context w k)) v)
+answered world k x = apart world k Ready (returned (joined world (context world k)) x)
 
-abbrev pub error_answer : ThreadErrno → ℕ
-error_answer e = 2 ^ 64 - number_of e
-
--- the new context has the caller's registers behind the call, but for these
+-- SP and the thread pointer, where the call gives them
 abbrev pub started_core : Core → ℕ → ℕ → ℕ → Core
 started_core c flags stack tls = record c {
   sp = if nat_eq stack 0 then c.sp else stack;
   tpidr = if sets_tls flags then tls else c.tpidr;
 }
 
--- the Z registers by their numbers, in the same length; the predicates and FFR are 0, as they are behind a call
-abbrev pub started_vectors : Vectors → Vectors
-started_vectors v = record v { z = each 32 (read_z v); p = replicate 16 (replicate (v.bits / 8) false); ffr = replicate (v.bits / 8) false }
-
+-- the new context has the caller's registers behind the call, which has cleared them, but for these
 abbrev pub started : World → Context → Core → Context
-started w caller c = record {
-  core = started_core (returned (joined w caller) 0).core (argument c 0) (argument c 1) (argument c 3);
-  vectors = started_vectors (returned (joined w caller) 0).vectors;
+started world caller c = record {
+  core = started_core (returned (joined world caller) 0).core (argument c 0) (argument c 1) (argument c 3);
+  vectors = (returned (joined world caller) 0).vectors;
   clear = if clears_child (argument c 0) then argument c 4 else 0;
   standing = Ready;
 }
 
 abbrev pub with_started : World → Context → World
-with_started w c = record w { contexts = w.contexts ++ c ∷ [] }
+with_started world c = record world { contexts = world.contexts ++ c ∷ [] }
 
 -- the parent's word is stored behind the test of its rights
 abbrev pub parent_told : World → Core → World
-parent_told w c = record w { memory = if sets_parent (argument c 0) then stored w.memory (argument c 2) 4 (thread_id (length w.contexts)) else w.memory }
+parent_told world c =
+    let told : Memory = stored world.memory (argument c 2) 4 (thread_id (length world.contexts)) in
+    record world { memory = if sets_parent (argument c 0) then told else world.memory }
 
 abbrev pub start_made : World → ℕ → World
-start_made w k =
-    with_started (answered (parent_told w (context w k).core) k (thread_id (length w.contexts))) (started w (context w k) (context w k).core)
+start_made world k =
+    with_started (answered (parent_told world (context world k).core) k (thread_id (length world.contexts)))
+    (started world (context world k) (context world k).core)
 
 abbrev pub wait_made : World → ℕ → ℕ → World
-wait_made w k a = apart w k (Waiting a) (returned (joined w (context w k)) 0)
+wait_made world k a = apart world k (Waiting a) (returned (joined world (context world k)) 0)
 
 abbrev pub wake_made : World → ℕ → ℕ → ℕ → World
-wake_made w k a n = answered (with_woken w a n) k (wake_count a n w.contexts)
+wake_made world k a n = answered (with_woken world a n) k (wake_count a n world.contexts)
 
 abbrev pub clear_made : World → ℕ → ℕ → World
-clear_made w k a = answered (with_context w k (record (context w k) { clear = a })) k (thread_id k)
+clear_made world k a = answered (with_context world k (record (context world k) { clear = a })) k (thread_id k)
 
 -- ---- exit
 
 -- 0 is stored at the clear address, and one context that waits there is ready
 abbrev pub cleared : World → ℕ → World
-cleared w a = if nat_eq a 0 || is_some (refused w.memory a 4 ToWrite) then w else with_woken (record w { memory = stored w.memory a 4 0 }) a 1
+cleared world a =
+    if nat_eq a 0 || is_some (refused world.memory a 4 ToWrite) then world
+    else with_woken (record world { memory = stored world.memory a 4 0 }) a 1
 
 abbrev pub with_gone : World → ℕ → World
-with_gone w k = with_context w k (record (context w k) { standing = Gone })
+with_gone world k = with_context world k (record (context world k) { standing = Gone })
 
 abbrev pub all_gone : World → Bool
-all_gone w = list_all is_gone w.contexts
+all_gone world = list_all is_gone world.contexts
 
 -- the last context that leaves ends the run with its code
 abbrev pub ended_by : World → ℕ → Option Ended
-ended_by w code = if all_gone w then Some (Exited code) else w.ended
+ended_by world code = if all_gone world then Some (Exited code) else world.ended
 
 abbrev pub leave_made : World → ℕ → World
-leave_made w k = record (cleared (with_gone w k) (context w k).clear) { steps = w.steps + 1; ended = ended_by (with_gone w k) (argument (context w k).core 0 % 256) }
+leave_made world k =
+    let ended : Option Ended = ended_by (with_gone world k) (argument (context world k).core 0 % 256) in
+    record (cleared (with_gone world k) (context world k).clear) { steps = world.steps + 1; ended = ended }

@@ -1,8 +1,9 @@
--- A run of a world under a schedule. `threads`, at the end, is the whole of it.
+-- A run of a world under a schedule. `threads`, at the end, is the whole of it. It is this project's own choice, as
+-- docs/MANUAL.md has it under "Threads" and "Schedules".
 --
--- A schedule is a list of turns, each the place of a context among those that are ready, and a number of steps. A turn stays with the
--- context that it began with, and ends with its last step or where its context waits or is gone. After the last turn the schedule
--- begins again.
+-- A schedule is a list of turns, each the place of a context among those that are ready, and a number of steps. A turn
+-- stays with the context that it began with, and ends with its last step or where its context waits or is gone. After
+-- the last turn the schedule begins again.
 use Rattle.std.specs.Prelude.{ℕ, zero, suc, ◌+◌, ◌-◌, ◌%◌, Bool, true, false, not, ◌||◌, ◌&&◌, List, [], ◌++◌, get_or, length, Option, Some, None, is_none, nat_eq, if◌then◌else◌}
 use Rattle.a64_insn.specs.declared.form.A64Form.TheVariants.{Except}
 use Rattle.a64_insn.specs.declared.ops.ExceptOp.TheVariants.{Svc}
@@ -14,12 +15,12 @@ use Rattle.emu_model.specs.State.{Parts}
 use Rattle.emu_run.specs.declared.insn.Insn.{Insn}
 use Rattle.emu_run.specs.declared.insn.Insn.TheVariants.{A64}
 use Rattle.emu_run.specs.Step.{accesses, decode, turn}
-use Rattle.emu_system.specs.SystemCall.{Turn}
+use Rattle.emu_system.specs.SystemCall.{Turn, error_answer}
 use Rattle.emu_run.specs.declared.thread.Place.{Place}
 use Rattle.emu_run.specs.declared.thread.Standing.TheVariants.{Ready}
 use Rattle.emu_run.specs.declared.thread.WorldEnding.{WorldEnding}
 use Rattle.emu_run.specs.declared.thread.WorldEnding.TheVariants.{Exit, Trap, Spent, Stuck}
-use Rattle.emu_run.specs.ThreadCall.{ThreadAction, fails, answers, starts, waits, wakes, clears, leaves, alone, action, answered, error_answer, start_made, wait_made, wake_made, clear_made, leave_made}
+use Rattle.emu_run.specs.ThreadCall.{ThreadAction, fails, answers, starts, waits, wakes, clears, leaves, alone, action, answered, number_of, start_made, wait_made, wake_made, clear_made, leave_made}
 use Rattle.emu_run.specs.Worlds.{World, context, is_ready, ready, some_ready, joined, apart, others_behind, without_monitors, taken_by_context}
 
 -- ---- one step of a context
@@ -32,25 +33,26 @@ pub record WorldTurn : Type 0 where
   pub errors : List ℕ
 
 abbrev pub quietly : World → List ℕ → WorldTurn
-quietly w input = record { world = w; input = input; output = []; errors = [] }
+quietly world input = record { world = world; input = input; output = []; errors = [] }
 
 -- the step of a machine alone
 abbrev pub taken_apart : World → ℕ → Turn → WorldTurn
-taken_apart w k t = record { world = apart w k Ready t.parts; input = t.input; output = t.output; errors = t.errors }
+taken_apart world k t =
+    record { world = apart world k Ready t.parts; input = t.input; output = t.output; errors = t.errors }
 
 abbrev pub stepped_alone : World → ℕ → List ℕ → WorldTurn
-stepped_alone w k input = taken_apart w k (turn (joined w (context w k)) input)
+stepped_alone world k input = taken_apart world k (turn (joined world (context world k)) input)
 
 -- the step of a call
 abbrev pub done_by : ThreadAction → World → ℕ → List ℕ → WorldTurn
-done_by (fails e) w k input = quietly (answered w k (error_answer e)) input
-done_by (answers v) w k input = quietly (answered w k v) input
-done_by starts w k input = quietly (start_made w k) input
-done_by (waits a) w k input = quietly (wait_made w k a) input
-done_by (wakes a n) w k input = quietly (wake_made w k a n) input
-done_by (clears a) w k input = quietly (clear_made w k a) input
-done_by leaves w k input = quietly (leave_made w k) input
-done_by alone w k input = stepped_alone w k input
+done_by (fails e) world k input = quietly (answered world k (error_answer (number_of e))) input
+done_by (answers x) world k input = quietly (answered world k x) input
+done_by starts world k input = quietly (start_made world k) input
+done_by (waits a) world k input = quietly (wait_made world k a) input
+done_by (wakes a n) world k input = quietly (wake_made world k a n) input
+done_by (clears a) world k input = quietly (clear_made world k a) input
+done_by leaves world k input = quietly (leave_made world k) input
+done_by alone world k input = stepped_alone world k input
 
 -- the word at the program counter can be fetched, and is svc
 abbrev pub is_svc : Option Insn → Bool
@@ -58,18 +60,21 @@ is_svc (Some (A64 (Except Svc imm16))) = true
 is_svc insn = false
 
 abbrev pub makes_call : Parts → Bool
-makes_call m = nat_eq (m.core.pc % 4) 0 && is_none (refused m.memory m.core.pc 4 Fetch) && is_svc (decode (value m.memory m.core.pc 4))
+makes_call m =
+    nat_eq (m.core.pc % 4) 0 && is_none (refused m.memory m.core.pc 4 Fetch)
+    && is_svc (decode (value m.memory m.core.pc 4))
 
--- a call empties all monitors, and any other step those of the other contexts that it writes to
 abbrev pub with_world : (World → World) → WorldTurn → WorldTurn
 with_world change t = record t { world = change t.world }
 
--- one step of context k, which is ready, of a world that hasn't ended
+-- one step of context k, which is ready, of a world that hasn't ended; a call empties all monitors, and any other step
+-- those of the other contexts that it writes to
 abbrev pub one : World → ℕ → List ℕ → WorldTurn
-one w k input =
-    if makes_call (joined w (context w k))
-    then with_world (λ v. taken_by_context k (without_monitors v)) (done_by (action w k) w k input)
-    else with_world (λ v. taken_by_context k (others_behind (accesses (joined w (context w k))) k v)) (stepped_alone w k input)
+one world k input =
+    if makes_call (joined world (context world k))
+    then with_world (λ left. taken_by_context k (without_monitors left)) (done_by (action world k) world k input)
+    else with_world (λ left. taken_by_context k (others_behind (accesses (joined world (context world k))) k left))
+    (stepped_alone world k input)
 
 -- ---- the schedule
 
@@ -81,22 +86,23 @@ turn_at schedule turn = get_or schedule turn (0, 1)
 
 -- the context of a place among those that are ready
 abbrev pub ready_at : World → ℕ → ℕ
-ready_at w place = get_or (ready w) (place % length (ready w)) 0
+ready_at world place = get_or (ready world) (place % length (ready world)) 0
 
 -- the context that takes the next step
 abbrev pub pick : World → List (ℕ × ℕ) → Place → ℕ
-pick w schedule p = if nat_eq p.used 0 then ready_at w (turn_at schedule p.turn).0 else p.held
+pick world schedule p = if nat_eq p.used 0 then ready_at world (turn_at schedule p.turn).0 else p.held
 
--- the place behind a step of context k that left this world
+-- a step of context k that left this world was the last one of its turn
 abbrev pub is_over : World → List (ℕ × ℕ) → Place → ℕ → Bool
-is_over w schedule p k = nat_eq (p.used + 1) (turn_at schedule p.turn).1 || not (is_ready (context w k))
+is_over world schedule p k = nat_eq (p.used + 1) (turn_at schedule p.turn).1 || not (is_ready (context world k))
 
 abbrev pub next_turn : List (ℕ × ℕ) → ℕ → ℕ
 next_turn schedule turn = if nat_eq (turn + 1) (length schedule) then 0 else turn + 1
 
+-- the place behind such a step: in the same turn, which stays with context k, or at the beginning of the next
 abbrev pub next_place : World → List (ℕ × ℕ) → Place → ℕ → Place
-next_place w schedule p k =
-    if is_over w schedule p k then record { turn = next_turn schedule p.turn; used = 0; held = 0 }
+next_place world schedule p k =
+    if is_over world schedule p k then record { turn = next_turn schedule p.turn; used = 0; held = 0 }
     else record { turn = p.turn; used = p.used + 1; held = k }
 
 -- ---- a run
@@ -110,21 +116,24 @@ pub record WorldState : Type 0 where
 
 -- what is put comes behind what was written
 abbrev pub taken_by : WorldState → WorldTurn → WorldState
-taken_by st t = record { world = t.world; input = t.input; output = st.output ++ t.output; errors = st.errors ++ t.errors }
+taken_by st t =
+    record { world = t.world; input = t.input; output = st.output ++ t.output; errors = st.errors ++ t.errors }
 
 abbrev pub stepped : WorldState → ℕ → WorldState
 stepped st k = taken_by st (one st.world k st.input)
 
 -- it hasn't ended, and a context is ready
 abbrev pub goes_on : World → Bool
-goes_on w = is_none w.ended && some_ready w
+goes_on world = is_none world.ended && some_ready world
 
 -- at most so many steps from a place of the schedule on
 unfoldable pub threads_from : List (ℕ × ℕ) → Place → WorldState → ℕ → WorldState
 threads_from schedule p st zero = st
 threads_from schedule p st (suc n) =
     if goes_on st.world
-    then threads_from schedule (next_place (stepped st (pick st.world schedule p)).world schedule p (pick st.world schedule p)) (stepped st (pick st.world schedule p)) n
+    then threads_from schedule
+    (next_place (stepped st (pick st.world schedule p)).world schedule p (pick st.world schedule p))
+    (stepped st (pick st.world schedule p)) n
     else st
 
 -- the run with a budget of steps, of which each counts one or ends the world
@@ -133,10 +142,10 @@ threads schedule budget st = threads_from schedule first_place st (budget - st.w
 
 -- how it ended; where no context is ready, a budget that is counted says nothing
 abbrev pub ending : World → Option Ended → WorldEnding
-ending w (Some (Exited code)) = Exit code
-ending w (Some (Trapped t)) = Trap t (context w w.last).core.pc
-ending w None = if some_ready w then Spent else Stuck
+ending world (Some (Exited code)) = Exit code
+ending world (Some (Trapped t)) = Trap t (context world world.last).core.pc
+ending world None = if some_ready world then Spent else Stuck
 
 -- a world that has written nothing yet, with its input
 abbrev pub with_input : World → List ℕ → WorldState
-with_input w input = record { world = w; input = input; output = []; errors = [] }
+with_input world input = record { world = world; input = input; output = []; errors = [] }

@@ -1,4 +1,7 @@
--- A world: what its contexts share, and the contexts, each with what it has of its own.
+-- A world: what its contexts share, and the contexts, each with what it has of its own. It is this project's own;
+-- monitors are those of the Arm Architecture Reference Manual for A-profile (DDI 0487), B2 'The AArch64 Application
+-- Level Memory Model', 'Synchronization and semaphores', and what empties them is this project's own choice, as
+-- docs/MANUAL.md has it under "Monitors".
 use Rattle.std.specs.Prelude.{ℕ, ◌+◌, ◌-◌, Bool, true, false, ◌&&◌, List, [], ◌∷◌, get_or, set, length, filter, map, min, count_by, Option, Some, None, nat_eq, nat_lt, if◌then◌else◌}
 use Rattle.std.specs.List.{list_any, range_with_len}
 use Rattle.emu_model.specs.declared.access.Access.{Access}
@@ -16,8 +19,8 @@ pub record Context : Type 0 where
   pub clear : ℕ
   pub standing : Standing
 
--- the number of a context is its place in the list; `steps` counts those of all, and context `last` took the last one, or context 0
--- where none was taken
+-- the number of a context is its place in the list; `steps` counts those of all, and context `last` took the last one,
+-- or context 0 where none was taken
 pub record World : Type 0 where
   pub memory : Memory
   pub brk : Break
@@ -30,7 +33,7 @@ abbrev pub no_context : Context
 no_context = record { core = zero_core; vectors = zero_vectors 128; clear = 0; standing = Gone }
 
 abbrev pub context : World → ℕ → Context
-context w k = get_or w.contexts k no_context
+context world k = get_or world.contexts k no_context
 
 -- context 0 alone, which has the registers of a machine
 abbrev pub opened : Parts → World
@@ -71,25 +74,35 @@ is_gone c = is_standing_gone c.standing
 
 -- the numbers of the contexts that are ready, in order
 abbrev pub ready : World → List ℕ
-ready w = filter (λ k. is_ready (context w k)) (range_with_len 0 (length w.contexts))
+ready world = filter (λ k. is_ready (context world k)) (range_with_len 0 (length world.contexts))
 
 abbrev pub some_ready : World → Bool
-some_ready w = list_any is_ready w.contexts
+some_ready world = list_any is_ready world.contexts
 
 -- ---- a machine is joined of what is shared and of a context, and taken apart again
 
 abbrev pub joined : World → Context → Parts
-joined w c = record { core = c.core; vectors = c.vectors; memory = w.memory; brk = w.brk; steps = w.steps; ended = w.ended }
+joined world c =
+    record {
+      core = c.core;
+      vectors = c.vectors;
+      memory = world.memory;
+      brk = world.brk;
+      steps = world.steps;
+      ended = world.ended;
+    }
 
 abbrev pub with_context : World → ℕ → Context → World
-with_context w k c = record w { contexts = set w.contexts k c }
+with_context world k c = record world { contexts = set world.contexts k c }
 
 abbrev pub sharing : World → Parts → World
-sharing w m = record { memory = m.memory; brk = m.brk; steps = m.steps; ended = m.ended; last = w.last; contexts = w.contexts }
+sharing world m = record world { memory = m.memory; brk = m.brk; steps = m.steps; ended = m.ended }
 
 -- context k stands so, and has the machine's registers
 abbrev pub apart : World → ℕ → Standing → Parts → World
-apart w k standing m = with_context (sharing w m) k (record (context w k) { core = m.core; vectors = m.vectors; standing = standing })
+apart world k standing m =
+    with_context (sharing world m) k
+    (record (context world k) { core = m.core; vectors = m.vectors; standing = standing })
 
 -- ---- waking
 
@@ -105,13 +118,14 @@ abbrev pub wake_count : ℕ → ℕ → List Context → ℕ
 wake_count a n cs = min n (count_by (waits_at a) cs)
 
 abbrev pub with_woken : World → ℕ → ℕ → World
-with_woken w a n = record w { contexts = woken a n w.contexts }
+with_woken world a n = record world { contexts = woken a n world.contexts }
 
 -- ---- monitors
 
 -- an access that wrote a byte of a monitor's
 abbrev pub wrote_to : ℕ × ℕ → Access → Bool
-wrote_to monitor access = access.write && (nat_lt access.address (monitor.0 + monitor.1) && nat_lt monitor.0 (access.address + access.bytes))
+wrote_to monitor access =
+    access.write && (nat_lt access.address (monitor.0 + monitor.1) && nat_lt monitor.0 (access.address + access.bytes))
 
 abbrev pub monitor_behind : List Access → Option (ℕ × ℕ) → Option (ℕ × ℕ)
 monitor_behind made None = None
@@ -125,10 +139,11 @@ behind_accesses made c = with_monitor (monitor_behind made c.core.monitor) c
 
 -- the monitors of all but context k, behind a step of it that made these accesses
 abbrev pub others_behind : List Access → ℕ → World → World
-others_behind made k w = record w { contexts = set (map (behind_accesses made) w.contexts) k (context w k) }
+others_behind made k world =
+    record world { contexts = set (map (behind_accesses made) world.contexts) k (context world k) }
 
 abbrev pub without_monitors : World → World
-without_monitors w = record w { contexts = map (with_monitor None) w.contexts }
+without_monitors world = record world { contexts = map (with_monitor None) world.contexts }
 
 abbrev pub taken_by_context : ℕ → World → World
-taken_by_context k w = record w { last = k }
+taken_by_context k world = record world { last = k }

@@ -2,10 +2,6 @@
 use Rattle.std.proofs.Common.{◌≡◌, ◌<◌, ◌≤◌, ◌⊎◌, ℕ, zero, suc, ◌+◌, List, [], ◌∷◌, length, get_or, set, inl, inr, refl, sym, ap, ◌∙◌, arith}
 use Rattle.std.proofs.lemmas.List.{get_or-set_same, get_or-set_other, length-set}
 use Rattle.emu_bits.specs.Fields.{field}
-use Rattle.std.proofs.lemmas.List.FromFn.{fill_by_all}
-use Rattle.emu_model.specs.State.{Vectors}
-use Rattle.emu_model.specs.Lanes.{read_z, with_z}
-use Rattle.emu_run.specs.ThreadCall.{started_vectors}
 
 -- as many elements, of which the first n are the same
 pub record AreCopied {X : Type 0} (n : ℕ) (xs ys : List X) (d : X) : Type 0 where
@@ -48,29 +44,6 @@ module _ {X : Type 0} (d : X) where
 -- the register of a number below 32
 pub at_number : (n : ℕ) → n < 32 → field n 0 5 ≡ n
 at_number n h = omega (arith, h)
-
--- ---- vector registers: the first n Z registers are those of the others, and all else is what a call leaves
-
-pub record IsCopiedTo (n : ℕ) (copy v : Vectors) : Type 0 where
-  pub rest : copy ≡ record (started_vectors v) { z = copy.z }
-  pub count : length copy.z ≡ 32
-  pub same : (k : ℕ) → k < n → get_or copy.z k [] ≡ read_z v k
-
-pub copied_more : (n r : ℕ) (copy v : Vectors) (bytes : List ℕ) → IsCopiedTo n copy v → r ≡ n → n < 32 → bytes ≡ read_z v r → IsCopiedTo (n + 1) (with_z copy r bytes) v
-copied_more n r copy v bytes c at h is = record {
-  rest = ap (λ (x : Vectors). record x { z = set copy.z r bytes }) c.rest;
-  count = length-set copy.z r bytes ∙ c.count;
-  same = λ k below.
-      elim (at_or_before k n below) [
-        | inl before ↦ get_or-set_other copy.z r k bytes [] (λ e. omega (arith, before, e, at)) ∙ c.same k before
-        | inr same ↦
-            ap (λ (j : ℕ). get_or (set copy.z r bytes) j []) (same ∙ sym at) ∙ get_or-set_same copy.z r bytes [] (let e = c.count in omega (arith, h, e, at)) ∙ is
-            ∙ ap (λ (j : ℕ). read_z v j) (at ∙ sym same)
-      ];
-}
-
-pub copied_all : (copy v : Vectors) → IsCopiedTo 32 copy v → copy ≡ started_vectors v
-copied_all copy v c = c.rest ∙ ap (λ (z : List (List ℕ)). record (started_vectors v) { z = z }) (fill_by_all (read_z v) copy.z 32 [] c.count c.same)
 
 pub at_number_below : (n : ℕ) → n < 8 → field n 0 5 ≡ n
 at_number_below n h = at_number n (omega (arith, h))

@@ -1,10 +1,8 @@
-//! Copies of registers, with which a context starts.
+//! A copy of the scalar registers, with which a context starts.
 ghost use Rattle.std.specs.Prelude.{◌≡◌};
-ghost use Rattle.emu_run.specs.ThreadCall.{started_vectors};
 
 use core_regs::Core;
 use emu_bits::Reg;
-use vec_regs::VecRegs;
 
 /// The same scalar registers once more.
 pub fn copy_core(core: &Core) -> Core
@@ -22,18 +20,5 @@ pub fn copy_core(core: &Core) -> Core
     copy.set_flags(core.flags());
     copy.set_tpidr(core.tpidr());
     copy.set_monitor(core.monitor());
-    copy
-}
-
-/// The vector registers that a context starts with, from those of its caller behind the call.
-pub fn copy_vectors(vec: &VecRegs) -> VecRegs
-    ensures { result ≡ started_vectors vec.now }
-{
-    let mut copy = VecRegs::new(vec.most());
-    copy.set_length(vec.length());
-    for number in 0..32u32 {
-        let r = Reg::at(number, 0);
-        copy.set_z_words(r, vec.z_words(r));
-    }
     copy
 }

@@ -12,7 +12,7 @@ mod turns;
 
 pub use begin::{Turn, begin_next, exchange, next_turn, turn_end};
 pub use context::{Context, Started};
-pub use copies::{copy_core, copy_vectors};
+pub use copies::copy_core;
 pub use monitors::{empty_monitors, is_some_watching, note_accesses};
 pub use numbers::{error_answer, thread_call};
 pub use room::{Spare, spares};

@@ -1,5 +1,6 @@
 //! The calls that speak of contexts, by their numbers.
 ghost use Rattle.std.specs.Prelude.{◌≡◌};
+ghost use Rattle.emu_system.specs.SystemCall.{error_answer};
 ghost use Rattle.emu_run.specs.ThreadCall as model;
 
 use core_regs::Core;
@@ -22,7 +23,7 @@ pub fn thread_call(core: &Core) -> ThreadCall
 
 /// What is answered where a call is refused.
 pub fn error_answer(error: ThreadErrno) -> u64
-    ensures { result ≡ model.error_answer error }
+    ensures { result ≡ error_answer (model.number_of error) }
 {
     let number = match error {
         ThreadErrno::EAGAIN => 11,

@@ -28,7 +28,8 @@ ghost use Rattle.std.specs.Prelude.{
 ghost use Rattle.std.specs.FinMap as map;
 ghost use Rattle.std.specs.List.{count_by};
 ghost use mathlib.Core.Option.{none};
-ghost use Rattle.emu_model.specs.Access.{gives, page_gives, page_size, most_mapped_pages};
+ghost use Rattle.emu_model.specs.Access.{gives, page_size, most_mapped_pages};
+ghost use Rattle.emu_model.specs.ByPage.{page_gives};
 ghost use Rattle.emu_model.specs.Marks.{fresh_marks};
 ghost use Rattle.std.specs.Borrow.{sem, follows_so, Lends, LendsSo, Array, u8 as byte};
 ghost use Rattle.guest_pages.specs.contracts.pages.Pages.{the_row};

@@ -21,7 +21,8 @@ ghost use Rattle.std.specs.Prelude.{
 ghost use Rattle.std.specs.List.{AllByRecursion, filter};
 ghost use Rattle.std.specs.Ordering.{nat_cmp};
 ghost use Rattle.std.specs.FinMap.{contains_key, find};
-ghost use Rattle.emu_model.specs.Access.{page_gives, page_size};
+ghost use Rattle.emu_model.specs.Access.{page_size};
+ghost use Rattle.emu_model.specs.ByPage.{page_gives};
 ghost use Rattle.emu_model.specs.Pages.{is_among, least_mapped, least_unmapped};
 ghost use Rattle.emu_model.specs.WithinPage.{page_with_bytes};
 ghost use Rattle.guest_pages.specs.Places.{

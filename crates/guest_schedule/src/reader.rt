@@ -2,8 +2,9 @@
 ghost use Rattle.std.specs.Prelude.{◌≡◌, ◌≤◌, [], ◌∷◌, ◌++◌, ◌≢◌, OnErr, OnOk, MatchResult, IsTrue, Ok, Err, length, map, true};
 ghost use Rattle.std.specs.List.{list_all};
 ghost use Rattle.line_words.specs.Reading.{IsErrorOf, Leaves};
+ghost use Rattle.line_words.specs.Refusals.{at_line, read_lines};
 ghost use Rattle.guest_schedule.specs.Errors.{fault_in};
-ghost use Rattle.guest_schedule.specs.Schedule.{at_line, is_skipped, read_line, read_lines, schedule, some_turns};
+ghost use Rattle.guest_schedule.specs.Schedule.{fault_at, has_no_turn, read_line, schedule, some_turns};
 ghost use Rattle.guest_schedule.specs.Turns.{has_steps};
 
 use crate::arguments::turn_of;
@@ -56,7 +57,7 @@ fn push(turns: &mut Vec<(u64, u64)>, turn: (u64, u64)) -> Result<(), AllocError>
 
 /// Whether a line is skipped: it is empty, or a comment.
 fn is_skipped(line: &str) -> bool
-    ensures { result ≡ is_skipped line.now }
+    ensures { result ≡ has_no_turn line.now }
 {
     line.is_empty() || is_comment(line)
 }
@@ -70,9 +71,10 @@ fn read_line(
 ) -> Result<(), ScheduleError>
     requires number { number ≤ 100001 }
     requires steps { IsTrue (list_all has_steps turns.old.items) }
-    ensures read { Leaves fault_in (at_line number (read_line turns.old.items line.now)) turns.new.items result }
+    ensures read { Leaves fault_in (at_line fault_at number (read_line turns.old.items line.now))
+        turns.new.items result }
     ensures steps { IsTrue (list_all has_steps turns.new.items) }
-    ensures skipped { is_skipped line.now ≡ true → result ≡ Ok tt }
+    ensures skipped { has_no_turn line.now ≡ true → result ≡ Ok tt }
 {
     if is_skipped(line) {
         return Ok(());
@@ -94,7 +96,8 @@ fn read_lines(
 ) -> Result<(), ScheduleError>
     requires count { length lines.now ≤ 100000 }
     requires steps { IsTrue (list_all has_steps turns.old.items) }
-    ensures read { Leaves fault_in (read_lines turns.old.items 1 (map (λ line. line.now) lines.now)) turns.new.items result }
+    ensures read { Leaves fault_in (read_lines fault_at read_line turns.old.items 1 (map (λ line. line.now) lines.now))
+        turns.new.items result }
     ensures steps { IsTrue (list_all has_steps turns.new.items) }
 {
     for place in 0..lines.len() {

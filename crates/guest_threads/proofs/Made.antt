@@ -7,7 +7,7 @@ use Rattle.emu_model.specs.declared.trap.Ended.{Ended}
 use Rattle.emu_model.specs.declared.trap.Ended.TheVariants.{Exit as Exited}
 use Rattle.emu_model.specs.Access.{Memory, refused, stored, value}
 use Rattle.emu_model.specs.State.{Core, Parts}
-use Rattle.emu_system.specs.SystemCall.{argument, returned}
+use Rattle.emu_system.specs.SystemCall.{argument, error_answer, returned}
 use Rattle.emu_machine.specs.declared.ends.StepEnd.{StepEnd}
 use Rattle.emu_machine.specs.declared.ends.StepEnd.TheVariants.{Going}
 use Rattle.emu_machine.specs.Ends.{step_end}
@@ -15,7 +15,7 @@ use Rattle.emu_run.specs.declared.thread.Standing.TheVariants.{Ready, Waiting, G
 use Rattle.emu_run.specs.declared.thread.ThreadErrno.{ThreadErrno}
 use Rattle.emu_run.specs.declared.thread.ThreadErrno.TheVariants.{EAGAIN, EFAULT, EINVAL, ENOSYS}
 use Rattle.emu_run.specs.declared.thread.ThreadCall.{ThreadCall}
-use Rattle.emu_run.specs.ThreadCall.{action, action_of, thread_call, started, started_core, started_vectors, clears_child, parent_told, with_started, starting, futex, waiting, operation, ThreadAction, fails, answers, starts, waits, wakes, clears, leaves, thread_id, answered, error_answer, wait_made, wake_made, clear_made, leave_made, start_made, cleared, with_gone, all_gone, ended_by}
+use Rattle.emu_run.specs.ThreadCall.{action, action_of, thread_call, started, started_core, clears_child, parent_told, with_started, starting, futex, waiting, operation, ThreadAction, fails, answers, starts, waits, wakes, clears, leaves, thread_id, answered, number_of, wait_made, wake_made, clear_made, leave_made, start_made, cleared, with_gone, all_gone, ended_by}
 use Rattle.emu_run.specs.Threads.{done_by, quietly}
 use Rattle.emu_run.specs.Worlds.{World, Context, context, no_context, joined, with_context, with_woken, wake_count}
 use Rattle.guest_contexts.proofs.Laid.{woken_ready}
@@ -68,7 +68,7 @@ cleared_last w a =
 abbrev started_by : World → Context → ℕ → ℕ → ℕ → ℕ → Context
 started_by w caller flags stack tls clear = record {
   core = started_core (returned (joined w caller) 0).core flags stack tls;
-  vectors = started_vectors (returned (joined w caller) 0).vectors;
+  vectors = (returned (joined w caller) 0).vectors;
   clear = if clears_child flags then clear else 0;
   standing = Ready;
 }
@@ -92,7 +92,7 @@ module _ (h : WorldHeld) (calling : IsCalling h) where
   pub made_answer : (v : ℕ) (new : WorldHeld) → new ≡ record h { world = answered h.world h.world.last v } → IsMade (answers v) h new Going
   made_answer v new is = made_by (answers v) h new Going (answered h.world h.world.last v) (λ input. refl) is refl goes_on
 
-  pub made_failure : (e : ThreadErrno) (v : ℕ) (new : WorldHeld) → v ≡ error_answer e → new ≡ record h { world = answered h.world h.world.last v } → IsMade (fails e) h new Going
+  pub made_failure : (e : ThreadErrno) (v : ℕ) (new : WorldHeld) → v ≡ error_answer (number_of e) → new ≡ record h { world = answered h.world h.world.last v } → IsMade (fails e) h new Going
   made_failure e v new same is =
       made_by (fails e) h new Going (answered h.world h.world.last v) (λ input. ap (λ (x : ℕ). quietly (answered h.world h.world.last x) input) (sym same)) is refl goes_on
 

@@ -4,8 +4,8 @@ use Rattle.emu_machine.specs.Machines.{MachineState}
 use Rattle.emu_run.specs.declared.thread.Standing.TheVariants.{Ready}
 use Rattle.emu_run.specs.Worlds.{World, Context, context, no_context}
 use Rattle.guest_contexts.specs.Laid.{with_machine, world_of}
-use Rattle.guest_contexts.proofs.Laid.{own_is, laid_length}
-use Rattle.guest_threads.specs.Ends.{WorldHeld}
+use Rattle.guest_contexts.proofs.Laid.{joined_is, own_is, laid_length}
+use Rattle.guest_threads.specs.Ends.{WorldHeld, last_machine}
 
 abbrev pub held : MachineState → ℕ → List Context → WorldHeld
 held s last cs = record { world = world_of s.parts last cs; failed = s.failed }
@@ -33,6 +33,9 @@ module _ (s : MachineState) (last : ℕ) (cs : List Context) (h : WorldHeld) (is
   -- the context whose registers the machine has
   pub own_seen : context h.world h.world.last ≡ with_machine (get_or cs last no_context) s.parts
   own_seen = ap (λ (x : WorldHeld). context x.world x.world.last) (sym is) ∙ own_is s.parts last cs within
+
+  pub machine_seen : s.parts ≡ last_machine h.world
+  machine_seen = sym (joined_is s.parts last cs within) ∙ ap (λ (x : WorldHeld). last_machine x.world) is
 
   pub core_seen : (context h.world h.world.last).core ≡ s.parts.core
   core_seen = ap (λ (c : Context). c.core) own_seen

@@ -2,6 +2,7 @@
 ghost use Rattle.std.specs.Prelude.{◌≡◌, ◌<◌, ◌≤◌, IfOk, is_some, length, true, false};
 ghost use Rattle.emu_machine.specs.Machines.{has_ended as machine_has_ended};
 ghost use Rattle.emu_run.specs.Worlds as worlds;
+ghost use Rattle.guest_threads.specs.Ends.{last_machine};
 
 use arrayvec::ArrayVec;
 use core_regs::Core;
@@ -118,6 +119,13 @@ impl Held {
         }
         let context = &self.contexts[k as usize];
         (&context.core, &context.vec)
+    }
+
+    /// The machine, with the registers of the context that took the last step.
+    pub(crate) fn machine(&self) -> &Machine
+        ensures { result.now.parts ≡ last_machine self.now.world }
+    {
+        &self.machine
     }
 
     /// Brings the registers of a context into the machine, and those that the machine had back to theirs.

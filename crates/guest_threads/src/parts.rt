@@ -16,8 +16,7 @@ use emu_bits::Reg;
 use emu_model::Kind;
 use emu_run::{Standing, ThreadCall};
 use guest_contexts::{
-    Started, are_all_gone, copy_core, copy_vectors, empty_monitors, ready, set_clear, stand,
-    thread_call, wake,
+    Started, are_all_gone, copy_core, empty_monitors, ready, set_clear, stand, thread_call, wake,
 };
 
 impl Held {
@@ -174,7 +173,7 @@ impl Held {
     {
         Started {
             core: started_core(self.machine.core(), flags, stack, tls),
-            vec: copy_vectors(self.machine.vec()),
+            vec: self.machine.vec().copy(),
             clear: if has_flag(0x20_0000, flags) { clear } else { 0 },
         }
     }

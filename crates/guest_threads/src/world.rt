@@ -85,6 +85,13 @@ impl World {
         self.held.context(k)
     }
 
+    /// The machine, with the registers of the context that took the last step, or of context 0 where none was taken.
+    pub fn machine(&self) -> &Machine
+        ensures { result.now.parts ≡ last_machine self.now.world }
+    {
+        self.held.machine()
+    }
+
     /// Takes the steps that a schedule names, until the world has ended, no context is ready, or `budget` steps are
     /// counted in all.
     ///

@@ -1,5 +1,6 @@
 -- Bits 28 to 27 tell the two tables apart.
-use Rattle.sve_insn.specs.Table.{lines_open, sve_table}
+use Rattle.sve_insn.specs.Table.{sve_table}
+use Rattle.sve_insn.specs.Opened.{lines_open}
 use Rattle.std.proofs.Common.{◌≡◌, ℕ, zero, suc, ◌⊎◌, inl, inr, refl, [], ◌∷◌, Option, Some, None, sym, ap, ◌∙◌, arith}
 use Rattle.emu_bits.specs.Fields.{field}
 use Rattle.emu_bits.specs.Rows.{◌to◌, Row, decode as decode_in, formed, instruction}
@@ -7,11 +8,14 @@ use Rattle.emu_bits.specs.RowLaws.{OneRow}
 use Rattle.emu_bits.proofs.Computed.{IsNoneOf}
 use Rattle.emu_bits.proofs.Encoding.{narrow_field, narrow_others}
 use Rattle.a64_insn.specs.declared.form.A64Form.{A64Form}
-use Rattle.a64_insn.specs.Table.{a64_table, lines_open as a64_lines_open}
+use Rattle.a64_insn.specs.Table.{a64_table}
+use Rattle.a64_insn.specs.Opened.{lines_open as a64_lines_open}
 use Rattle.sve_insn.specs.declared.form.SveForm.{SveForm}
 use Rattle.emu_run.specs.declared.insn.Insn.{Insn}
 use Rattle.emu_run.specs.declared.insn.Insn.TheVariants.{A64, Sve}
-use Rattle.emu_run.specs.Step.{a64, sve, first_of, decode}
+use Rattle.std.specs.Option.{option_or}
+use Rattle.emu_run.specs.ByTable.{a64, sve}
+use Rattle.emu_run.specs.Step.{decode}
 use Rattle.insn_decode.specs.OneRow.{OneRowOfAll}
 
 -- ---- which table a word may be in
@@ -38,22 +42,22 @@ sve_bits w r is =
 
 -- ---- the instruction of a word
 
-first_alone : (i : Option Insn) → first_of i None ≡ i
+first_alone : (i : Option Insn) → option_or i None ≡ i
 first_alone None = refl
 first_alone (Some i) = refl
 
 pub of_sve : (w : ℕ) → field w 27 2 ≡ 0 → sve (instruction sve_table w) ≡ decode w
-of_sve w e = ap (λ (r : Option (Row A64Form)). first_of (a64 (formed r)) (sve (instruction sve_table w))) (sym (no_a64 w e))
+of_sve w e = ap (λ (r : Option (Row A64Form)). option_or (a64 (formed r)) (sve (instruction sve_table w))) (sym (no_a64 w e))
 
 pub of_a64 : (w : ℕ) → IsNoneOf (field w 27 2) (0 ∷ []) → a64 (instruction a64_table w) ≡ decode w
 of_a64 w n =
     sym (first_alone (a64 (instruction a64_table w)))
-    ∙ ap (λ (r : Option (Row SveForm)). first_of (a64 (instruction a64_table w)) (sve (formed r))) (sym (no_sve w n))
+    ∙ ap (λ (r : Option (Row SveForm)). option_or (a64 (instruction a64_table w)) (sve (formed r))) (sym (no_sve w n))
 
 -- ---- the word of an instruction
 
 pub a64_again : (w : ℕ) (f : A64Form) → instruction a64_table w ≡ Some f → decode w ≡ Some (A64 f)
-a64_again w f is = ap (λ (o : Option A64Form). first_of (a64 o) (sve (instruction sve_table w))) is
+a64_again w f is = ap (λ (o : Option A64Form). option_or (a64 o) (sve (instruction sve_table w))) is
 
 pub sve_again : (w : ℕ) (r : Row SveForm) (f : SveForm) → decode_in sve_table w ≡ Some r → instruction sve_table w ≡ Some f → decode w ≡ Some (Sve f)
 sve_again w r f row is = sym (of_sve w (sve_bits w r row)) ∙ ap sve is

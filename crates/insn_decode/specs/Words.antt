@@ -1,4 +1,5 @@
--- The word of an instruction.
+-- The word of an instruction. Words are from the Arm Architecture Reference Manual for A-profile (DDI 0487), C4 'A64
+-- Instruction Set Encoding'; this way back from an instruction to its word is this project's own.
 use Rattle.std.specs.Prelude.{ℕ}
 use Rattle.emu_bits.specs.Rows.{encode}
 use Rattle.a64_insn.specs.Rows as base

@@ -10,6 +10,7 @@ mod remembered_words;
 
 ghost use Rattle.std.specs.Prelude.{◌≡◌, ◌↔◌, IfSome, IsTrue, Some};
 ghost use Rattle.emu_bits.specs.Fields.{field};
+ghost use Rattle.emu_run.specs.ByTable as row;
 ghost use Rattle.emu_run.specs.Step as model;
 ghost use Rattle.insn_decode.specs.OneRow.{OneRowOfAll};
 ghost use Rattle.insn_decode.specs.Words.{word_of};
@@ -55,7 +56,7 @@ pub fn may_be_sve(w: u32) -> bool
 #[inline(always)]
 pub fn decode_sve_word(w: u32) -> Option<Sve>
     requires { field w 27 2 ≡ 0 }
-    ensures table { model.sve result ≡ model.decode w }
+    ensures table { row.sve result ≡ model.decode w }
     ensures back { IfSome result (λ i. word_of (Insn.Sve i) ≡ w) }
 {
     decode_sve_here(w)
@@ -66,7 +67,7 @@ pub fn decode_sve_word(w: u32) -> Option<Sve>
 #[inline(always)]
 pub fn decode_a64_word<Site>(w: u32) -> Option<A64>
     requires { ¬ (field w 27 2 ≡ 0) }
-    ensures table { model.a64 result ≡ model.decode w }
+    ensures table { row.a64 result ≡ model.decode w }
     ensures back { IfSome result (λ i. word_of (Insn.A64 i) ≡ w) }
 {
     decode_a64_at::<Site>(w)

@@ -1,6 +1,7 @@
 //! The words that are remembered.
 ghost use Rattle.std.specs.Prelude.{◌≡◌, ◌<◌, option_map};
 ghost use Rattle.emu_bits.specs.Fields.{field};
+ghost use Rattle.emu_run.specs.ByTable.{sve};
 ghost use Rattle.emu_run.specs.Step as model;
 
 use crate::known::KnownWord;
@@ -34,7 +35,7 @@ impl DecodedWords {
     #[inline(always)]
     pub fn find(&mut self, word: u32) -> Option<&Sve>
         requires { field word 27 2 ≡ 0 }
-        ensures { model.sve (option_map (λ i. i.now) result) ≡ model.decode word }
+        ensures { sve (option_map (λ i. i.now) result) ≡ model.decode word }
     {
         let places = &mut *self.places;
         let known = &mut places[place_of(word)];

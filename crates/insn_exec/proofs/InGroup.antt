@@ -7,25 +7,24 @@ use Rattle.emu_model.specs.Done.{went_on_with}
 use Rattle.emu_model.specs.State.{Core, Vectors}
 use Rattle.sve_effects.specs.declared.groups.Group.{Group}
 use Rattle.sve_effects.specs.declared.groups.Group.TheVariants.{Lanes, Permutes, Counts, Folds, Predicates, Loads, Stores, Gathers, Scatters, FirstFaults}
-use Rattle.sve_effects.specs.Effects.{group_of, is_data, after_data, is_predicate, predicate, first_fault, is_contiguous_load, is_contiguous_store, is_gather, is_scatter, is_first_fault, same_group, registers_after}
-use Rattle.sve_effects.specs.Row.{Row}
-use Rattle.sve_effects.specs.Rows.{row, performed}
-use Rattle.sve_gather.proofs.InGroup.{as_in, done_in, row_done}
+use Rattle.sve_effects.specs.Effects.{group_of, is_data, after_data, is_predicate, predicate, first_fault, is_contiguous_load, is_contiguous_store, is_gather, is_scatter, is_first_fault, same_group}
+use Rattle.sve_effects.specs.Rows.{performed}
+use Rattle.sve_gather.proofs.InGroup.{as_in, done_in, form_done}
 
 -- the groups of the data rows
 abbrev is_data_group : Group → Bool
 is_data_group g = same_group Lanes g || (same_group Permutes g || (same_group Counts g || same_group Folds g))
 
-data_in : (c : Core) (v : Vectors) (m : Memory) (g : Group) (r : Row) → is_data_group g ≡ true → done_in c v m g r ≡ went_on_with (registers_after r c v) m
-data_in c v m Lanes r h = refl
-data_in c v m Permutes r h = refl
-data_in c v m Counts r h = refl
-data_in c v m Folds r h = refl
-data_in c v m g r h = absurd (both_ways false refl h)
+data_in : (c : Core) (v : Vectors) (m : Memory) (g : Group) (form : SveForm) → is_data_group g ≡ true → done_in c v m g form ≡ went_on_with (after_data form c v) m
+data_in c v m Lanes form h = refl
+data_in c v m Permutes form h = refl
+data_in c v m Counts form h = refl
+data_in c v m Folds form h = refl
+data_in c v m g form h = absurd (both_ways false refl h)
 
 module _ (form : SveForm) (c : Core) (v : Vectors) (m : Memory) where
   pub data_done : is_data form ≡ true → performed form c v m ≡ went_on_with (after_data form c v) m
-  data_done h = row_done c v m (row form) ∙ data_in c v m (group_of form) (row form) h
+  data_done h = form_done c v m form ∙ data_in c v m (group_of form) form h
 
   pub predicate_done : group_of form ≡ Predicates → performed form c v m ≡ went_on_with (predicate form c v) m
   predicate_done e = as_in form c v m Predicates e

@@ -1,4 +1,4 @@
--- What reading a file by its name gives.
+-- What reading a file by its name gives. It is this project's own choice what is asked of files.
 use Rattle.std.specs.Prelude.{◌≡◌, ◌≢◌, ℕ, List, length, Option, Some, None, Result, Ok, Err, IfSome, MatchResult, nat_le, if◌then◌else◌}
 use Rattle.std.specs.Option.{IsSomeAnd}
 use Rattle.std.specs.Ordering.{nat_cmp}
@@ -18,15 +18,15 @@ whole_file None limit = Err Missing
 whole_file (Some bytes) limit = if nat_le (length bytes) limit then Ok bytes else Err TooLong
 
 -- an error is the one that the file itself gives, but for a failure; memory may be wanting only where there is a file
-abbrev pub IsErrorOf : Result (List ℕ) ImagesError → ImagesError → Type 0
-IsErrorOf file Failed = Unit {0}
-IsErrorOf file Missing = file ≡ Err Missing
-IsErrorOf file TooLong = file ≡ Err TooLong
-IsErrorOf file OutOfMemory = file ≢ Err Missing
+abbrev pub MayFailWith : Result (List ℕ) ImagesError → ImagesError → Type 0
+MayFailWith file Failed = Unit {0}
+MayFailWith file Missing = file ≡ Err Missing
+MayFailWith file TooLong = file ≡ Err TooLong
+MayFailWith file OutOfMemory = file ≢ Err Missing
 
 -- the answer is what the file gives, unless reading failed or memory was wanting
 abbrev pub IsAnswerOf : Result (List ℕ) ImagesError → Result (Vec ℕ) ImagesError → Type 0
-IsAnswerOf file result = MatchResult result (λ bytes. file ≡ Ok bytes.items) (λ error. IsErrorOf file error)
+IsAnswerOf file result = MatchResult result (λ bytes. file ≡ Ok bytes.items) (λ error. MayFailWith file error)
 
 -- where the files are told: the answer is what the file of the name gives
 abbrev pub ReadsNamed : Option NamedFiles → List ℕ → ℕ → Result (Vec ℕ) ImagesError → Type 0

@@ -1,4 +1,6 @@
--- What a source gives and what a sink is given, and that a failure is counted, and a failure that was counted is answered.
+-- What a source gives and what a sink is given, and that a failure is counted, and a failure that was counted is
+-- answered. It is this project's own choice what is asked of streams; that a call may move fewer bytes than it is
+-- given, and at least one of some, is from Linux's read(2) and write(2).
 use Rattle.std.specs.Prelude.{◌≡◌, ◌<◌, ◌≤◌, ℕ, ◌+◌, ◌-◌, ◌^◌, min, List, [], ◌++◌, length, take, drop, Option, Some, Result, IfSome, MatchResult, OnOk, OnErr, IfOk}
 
 -- a count of faults is greater than before, or stands at its last value
@@ -21,9 +23,12 @@ pub record Causes (P : Type 0) (before now : ℕ) : Type 0 where
 abbrev pub TakesAtMost : {E : Type 0} → Result ℕ E → List ℕ → Type 0
 TakesAtMost result into = IfOk result (λ n. n ≤ length into)
 
--- where the source tells what is left: its first bytes are removed and stand first in the buffer, and none is removed by a failure
+-- where the source tells what is left: its first bytes are removed and stand first in the buffer, and none is removed
+-- by a failure
 abbrev pub TakesFirst : {E : Type 0} → Option (List ℕ) → Option (List ℕ) → List ℕ → Result ℕ E → Type 0
-TakesFirst old new into result = IfSome old (λ left. MatchResult result (λ n. (n ≤ length left) × (new ≡ Some (drop n left)) × (take n into ≡ take n left)) (λ _. new ≡ Some left))
+TakesFirst old new into result =
+    IfSome old (λ left. MatchResult result
+    (λ n. (n ≤ length left) × (new ≡ Some (drop n left)) × (take n into ≡ take n left)) (λ _. new ≡ Some left))
 
 -- where the source tells what is left: no bytes are taken only where none is left
 abbrev pub TakesSome : {E : Type 0} → Option (List ℕ) → Result ℕ E → Type 0
@@ -39,4 +44,5 @@ PutsSome result piece = IfOk result (λ n. (0 < n) × (n ≤ length piece))
 
 -- where the sink tells what it holds: the first bytes of the piece are appended, and none by a failure
 abbrev pub PutsPrefix : {E : Type 0} → Option (List ℕ) → Option (List ℕ) → List ℕ → Result ℕ E → Type 0
-PutsPrefix old new piece result = IfSome old (λ held. MatchResult result (λ n. new ≡ Some (held ++ take n piece)) (λ _. new ≡ Some held))
+PutsPrefix old new piece result =
+    IfSome old (λ held. MatchResult result (λ n. new ≡ Some (held ++ take n piece)) (λ _. new ≡ Some held))

@@ -1,16 +1,17 @@
 -- Active lanes, taken one after the other.
 use Rattle.std.proofs.Common.{◌≡◌, ◌≤◌, ◌+◌, ℕ, zero, suc, Bool, true, false, if◌then◌else◌, List, [], ◌∷◌, ◌++◌, length, refl, arith, add-one, length-append}
-use Rattle.lane_model.specs.FirstLast.{or_else, if_meets, first_where, last_where}
+use Rattle.lane_model.specs.FirstLast.{if_meets, first_where, last_where}
+use Rattle.std.specs.Option.{option_or}
 use Rattle.lane_model.specs.Permute.{active_lanes}
 
 -- one lane more
 pub active_lanes-more : (active : ℕ → Bool) (n : ℕ) → active_lanes active (n + 1) ≡ active_lanes active n ++ (if active n then n ∷ [] else [])
 active_lanes-more active n = rw add-one refl
 
-pub first_where-more : (n : ℕ) (test : ℕ → Bool) → first_where (n + 1) test ≡ or_else (first_where n test) (if_meets test n)
+pub first_where-more : (n : ℕ) (test : ℕ → Bool) → first_where (n + 1) test ≡ option_or (first_where n test) (if_meets test n)
 first_where-more n test = rw add-one refl
 
-pub last_where-more : (n : ℕ) (test : ℕ → Bool) → last_where (n + 1) test ≡ or_else (if_meets test n) (last_where n test)
+pub last_where-more : (n : ℕ) (test : ℕ → Bool) → last_where (n + 1) test ≡ option_or (if_meets test n) (last_where n test)
 last_where-more n test = rw add-one refl
 
 -- the active lanes are at most n, and each is below n

@@ -3,7 +3,8 @@ use Rattle.std.proofs.Common.{◌≡◌, ◌<◌, ◌+◌, ◌*◌, ◌/◌, ◌
 use Rattle.std.proofs.lemmas.Bool.Decides.{nat_tests}
 use Rattle.std.proofs.lemmas.List.FromFn.{fill_by_all, get_or-map-range_with_len, length-map-range_with_len}
 use Rattle.std.proofs.lemmas.Nat.{div-mul-add, mod-mul-add}
-use Rattle.lane_model.specs.Bits.{each_bit, field_bit, bit_of}
+use Rattle.lane_model.specs.Bits.{each_bit, field_bit}
+use Rattle.lane_model.specs.WordBits.{bit_of}
 
 -- ---- bits one by one
 

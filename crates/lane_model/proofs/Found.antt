@@ -1,14 +1,15 @@
 -- First and last places meet their tests.
 use Rattle.std.proofs.Common.{◌≡◌, ◌<◌, ℕ, zero, suc, Bool, true, false, Option, Some, None, IfSome, if◌then◌else◌, inl, inr, refl, ap, subst, ◌∙◌, arith}
 use Rattle.std.proofs.lemmas.Bool.{both_ways, cases_lt, cases_order, and_from, and_parts}
-use Rattle.lane_model.specs.FirstLast.{or_else, if_meets, first_where, last_where, all_below, answer_at}
-use Rattle.lane_model.specs.FirstLastLaws.{IsFirstWhere, IsLastWhere}
+use Rattle.std.specs.Option.{option_or}
+use Rattle.lane_model.specs.FirstLast.{if_meets, first_where, last_where, all_below}
+use Rattle.lane_model.specs.FirstLastLaws.{IsFirstWhere, IsLastWhere, answer_at}
 
 -- what holds below n and at n holds below n + 1
 below_suc : (P : ℕ → Type 0) (n : ℕ) → ((j : ℕ) → j < n → P j) → P n → (j : ℕ) → j < suc n → P j
 below_suc P n below here j h = elim (cases_lt j n) [ inl q ↦ below j q | inr q ↦ let e : n ≡ j = omega arith in subst P e here ]
 
-first_more : (n : ℕ) (test : ℕ → Bool) (found : Option ℕ) (b : Bool) → IsFirstWhere n test found → test n ≡ b → IsFirstWhere (suc n) test (or_else found (if b then Some n else None))
+first_more : (n : ℕ) (test : ℕ → Bool) (found : Option ℕ) (b : Bool) → IsFirstWhere n test found → test n ≡ b → IsFirstWhere (suc n) test (option_or found (if b then Some n else None))
 first_more n test (Some k) b h e = record { within = let w : k < n = h.within in omega arith; meets = h.meets; before = h.before }
 first_more n test None true h e = record { within = omega arith; meets = e; before = h }
 first_more n test None false h e = below_suc (λ j. test j ≡ false) n h e
@@ -17,7 +18,7 @@ pub first_found : (n : ℕ) (test : ℕ → Bool) → IsFirstWhere n test (first
 first_found zero test = λ j h. absurd (omega arith)
 first_found (suc n) test = first_more n test (first_where n test) (test n) (first_found n test) refl
 
-last_more : (n : ℕ) (test : ℕ → Bool) (found : Option ℕ) (b : Bool) → IsLastWhere n test found → test n ≡ b → IsLastWhere (suc n) test (or_else (if b then Some n else None) found)
+last_more : (n : ℕ) (test : ℕ → Bool) (found : Option ℕ) (b : Bool) → IsLastWhere n test found → test n ≡ b → IsLastWhere (suc n) test (option_or (if b then Some n else None) found)
 last_more n test found true h e = record { within = omega arith; meets = e; behind = λ j p q. absurd (omega arith) }
 last_more n test (Some k) false h e = record {
   within = let w : k < n = h.within in omega arith;
@@ -66,14 +67,14 @@ last_is n test found h = same_last n test (last_where n test) found (last_found 
 pub first_same : (n : ℕ) (s t : ℕ → Bool) → ((k : ℕ) → k < n → s k ≡ t k) → first_where n s ≡ first_where n t
 first_same zero s t h = refl
 first_same (suc n) s t h =
-    ap (λ (o : Option ℕ). or_else o (if_meets s n)) (first_same n s t (λ k q. h k (omega arith)))
-    ∙ ap (λ b. or_else (first_where n t) (if b then Some n else None)) (h n (omega arith))
+    ap (λ (o : Option ℕ). option_or o (if_meets s n)) (first_same n s t (λ k q. h k (omega arith)))
+    ∙ ap (λ b. option_or (first_where n t) (if b then Some n else None)) (h n (omega arith))
 
 pub last_same : (n : ℕ) (s t : ℕ → Bool) → ((k : ℕ) → k < n → s k ≡ t k) → last_where n s ≡ last_where n t
 last_same zero s t h = refl
 last_same (suc n) s t h =
-    ap (λ (o : Option ℕ). or_else (if_meets s n) o) (last_same n s t (λ k q. h k (omega arith)))
-    ∙ ap (λ b. or_else (if b then Some n else None) (last_where n t)) (h n (omega arith))
+    ap (λ (o : Option ℕ). option_or (if_meets s n) o) (last_same n s t (λ k q. h k (omega arith)))
+    ∙ ap (λ b. option_or (if b then Some n else None) (last_where n t)) (h n (omega arith))
 
 -- ---- what comes of a place
 

@@ -1,9 +1,10 @@
--- Lists of bits: bits one by one, fields of them for lanes, and the bits of words.
+-- Lists of bits: bits one by one, and fields of them for lanes. From the Arm Architecture Reference
+-- Manual for A-profile (DDI 0487), B1 'The AArch64 Application Level Programmers' Model', SVE predicate registers, and
+-- ActivePredicateElement of J1.
 --
--- A lane of e bits has the field of e / 8 bits from bit k * e / 8 on, and is set, or active, where the lowest of them is 1; the
--- others are never looked at.
-use Rattle.std.specs.Prelude.{◌≡◌, ◌≤◌, ℕ, ◌*◌, ◌/◌, ◌%◌, Bool, false, nat_eq, if◌then◌else◌, List, map, get_or}
-use Rattle.std.specs.Int.{bit_at}
+-- A lane of e bits has the field of e / 8 bits from bit k * e / 8 on, and is set, or active, where the lowest of them
+-- is 1; the others are never looked at.
+use Rattle.std.specs.Prelude.{ℕ, ◌*◌, ◌/◌, ◌%◌, Bool, false, nat_eq, if◌then◌else◌, List, map, get_or}
 use Rattle.std.specs.List.{range_with_len}
 
 -- bit k
@@ -31,17 +32,3 @@ field_bit w f j = if nat_eq (j % w) 0 then f (j / w) else false
 -- m bits in fields for lanes of e bits
 abbrev pub fields : ℕ → ℕ → (ℕ → Bool) → List Bool
 fields e m f = each_bit m (field_bit (e / 8) f)
-
--- ---- words of 64 bits
-
--- bit j of words
-abbrev pub bit_of : List ℕ → ℕ → Bool
-bit_of words j = nat_eq (bit_at (get_or words (j / 64) 0) (j % 64)) 1
-
--- their first n bits
-abbrev pub bits_of : ℕ → List ℕ → List Bool
-bits_of n words = each_bit n (bit_of words)
-
--- 0 from bit n on
-abbrev pub AreClearFrom : ℕ → List ℕ → Type 0
-AreClearFrom n words = (j : ℕ) → n ≤ j → bit_of words j ≡ false

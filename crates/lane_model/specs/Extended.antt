@@ -1,4 +1,5 @@
--- Numbers of lanes, extended.
+-- Numbers of lanes, extended. From the shared pseudocode of the Arm Architecture Reference Manual for A-profile
+-- (DDI 0487), J1: SignExtend and ZeroExtend.
 use Rattle.std.specs.Prelude.{ℕ, Bool, if◌then◌else◌}
 use Rattle.emu_bits.specs.Numbers.{sign_extended}
 

@@ -2,6 +2,7 @@ pub use Rattle.emu_bits.specs.Fields
 pub use Rattle.emu_bits.specs.Flags
 pub use Rattle.emu_bits.specs.Numbers
 pub mod Bits
+pub mod WordBits
 pub mod Extended
 pub mod FirstLast
 pub mod FirstLastLaws

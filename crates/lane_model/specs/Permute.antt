@@ -1,5 +1,7 @@
--- Permutes by places: where lane k of a result of n lanes comes from. Lanes are of a Z register, fields of a predicate, or items
--- of a list.
+-- Permutes by places: where lane k of a result of n lanes comes from. Lanes are of a Z register, fields of a predicate,
+-- or items of a list. From the Arm Architecture Reference Manual for A-profile (DDI 0487), C8.2 'Alphabetical list of
+-- SVE instructions': the operations of the entries ZIP1, UZP1, TRN1 and their kin, EXT, REV, INSR, DUP, TBL, SUNPKLO
+-- and its kin, PUNPKLO, CPY, COMPACT, SPLICE, LASTA and LASTB. That a permute is said by places is this project's own.
 use Rattle.std.specs.Prelude.{ℕ, zero, suc, ◌+◌, ◌-◌, ◌*◌, ◌/◌, ◌%◌, Bool, true, false, nat_eq, nat_lt, if◌then◌else◌, List, [], ◌∷◌, ◌++◌, length, get_or, Option, Some, None}
 use Rattle.emu_bits.specs.Fields.{bit}
 use Rattle.lane_model.specs.FirstLast.{first_where, last_where}
@@ -70,7 +72,8 @@ active_lanes active (suc n) = active_lanes active n ++ (if active n then n ∷ [
 
 -- the active lanes in order, and 0 behind them
 abbrev pub compact_place : (ℕ → Bool) → ℕ → ℕ → Place
-compact_place active n k = if nat_lt k (length (active_lanes active n)) then FirstLane (get_or (active_lanes active n) k 0) else Zero
+compact_place active n k =
+    if nat_lt k (length (active_lanes active n)) then FirstLane (get_or (active_lanes active n) k 0) else Zero
 
 -- `count` lanes from `from` on, then the second source from its lane 0 on
 abbrev pub spliced : ℕ → ℕ → ℕ → Place
@@ -87,8 +90,8 @@ splice_place active n k = splice_between (first_where n active) (last_where n ac
 
 -- ---- a single lane
 
--- lasta, `after`: the lane after the last active one, lane 0 after lane n - 1 or where none is active; lastb: the last active
--- lane, or lane n - 1 where none is
+-- lasta, `after`: the lane after the last active one, lane 0 after lane n - 1 or where none is active; lastb: the last
+-- active lane, or lane n - 1 where none is
 abbrev pub lane_by_last : Bool → ℕ → Option ℕ → ℕ
 lane_by_last true n (Some k) = if nat_lt (k + 1) n then k + 1 else 0
 lane_by_last true n None = 0

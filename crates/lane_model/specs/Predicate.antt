@@ -1,8 +1,12 @@
--- What SVE instructions make of predicates.
+-- What SVE instructions make of predicates. From the Arm Architecture Reference Manual for A-profile (DDI 0487), C8.2
+-- 'Alphabetical list of SVE instructions': the operations of the entries on predicates (AND to ORN and SEL, BRKA to
+-- BRKN, PFIRST, PNEXT, PTRUE, WHILELT and its kin, CNTP), with the shared pseudocode PredTest, FirstActive, LastActive
+-- and NoneActive.
 --
--- A predicate has m bits, the lowest first, and a lane of e bits has the field of e / 8 of them from bit k * e / 8 on. Of operands
--- g says which lanes are active, a and b are sources, and old is what the destination had.
+-- A predicate has m bits, the lowest first, and a lane of e bits has the field of e / 8 of them from bit k * e / 8 on.
+-- Of operands g says which lanes are active, a and b are sources, and old is what the destination had.
 use Rattle.std.specs.Prelude.{ℕ, suc, ◌+◌, Bool, true, false, not, ◌&&◌, ◌||◌, nat_eq, nat_lt, nat_le, int_lt, int_le, if◌then◌else◌, List, Option, Some, None, is_none}
+use Rattle.std.specs.Option.{option_map_or}
 use Rattle.emu_bits.specs.declared.flags.Flags.{Flags}
 use Rattle.emu_bits.specs.Numbers.{signed, unsigned}
 use Rattle.lane_model.specs.Bits.{is_set, each_bit, lanes_of, lane_is_set, fields}
@@ -10,19 +14,17 @@ use Rattle.lane_model.specs.declared.predicates.LogicOp.{LogicOp}
 use Rattle.lane_model.specs.declared.predicates.LogicOp.TheVariants.{And, Bic, Eor, Orr, Orn, Nor, Nand, Sel}
 use Rattle.lane_model.specs.declared.predicates.WhileTest.{WhileTest}
 use Rattle.lane_model.specs.declared.predicates.WhileTest.TheVariants.{Lt, Le, Lo, Ls}
-use Rattle.lane_model.specs.FirstLast.{first_where, last_where, all_below, count_where, answer_at}
+use Rattle.lane_model.specs.FirstLast.{first_where, last_where, all_below, count_where}
 
 -- ---- places
 
 -- k is the place
 abbrev pub is_at : Option ℕ → ℕ → Bool
-is_at None k = false
-is_at (Some j) k = nat_eq k j
+is_at place k = option_map_or (nat_eq k) place false
 
 -- k is behind the place, or there is none
 abbrev pub is_behind : Option ℕ → ℕ → Bool
-is_behind None k = true
-is_behind (Some j) k = nat_lt j k
+is_behind place k = option_map_or (λ j. nat_lt j k) place true
 
 -- k is before the place, or it is the place and that counts, or there is none
 abbrev pub is_upto : Bool → Option ℕ → ℕ → Bool
@@ -33,20 +35,21 @@ is_upto inclusive (Some j) k = if inclusive then nat_le k j else nat_lt k j
 abbrev pub first_set : ℕ → (ℕ → Bool) → (ℕ → Bool) → Option ℕ
 first_set n g a = first_where n (λ k. g k && a k)
 
--- whether the first active of n lanes is set: FirstActive(g, a)
+-- whether the first active of n lanes is set, false where none is active: FirstActive(g, a)
 abbrev pub first_is_set : ℕ → (ℕ → Bool) → (ℕ → Bool) → Bool
-first_is_set n g a = answer_at (first_where n g) a
+first_is_set n g a = option_map_or a (first_where n g) false
 
 -- whether the last one is: LastActive(g, a)
 abbrev pub last_is_set : ℕ → (ℕ → Bool) → (ℕ → Bool) → Bool
-last_is_set n g a = answer_at (last_where n g) a
+last_is_set n g a = option_map_or a (last_where n g) false
 
 -- ---- the predicate test
 
--- PredTest of n lanes: N is whether the first active lane is set, Z whether no active lane is, C whether the last active lane
--- isn't, and V is 0
+-- PredTest of n lanes: N is whether the first active lane is set, Z whether no active lane is, C whether the last
+-- active lane isn't, and V is 0
 abbrev pub test_flags : ℕ → (ℕ → Bool) → (ℕ → Bool) → Flags
-test_flags n g a = record { n = first_is_set n g a; z = is_none (first_set n g a); c = not (last_is_set n g a); v = false }
+test_flags n g a =
+    record { n = first_is_set n g a; z = is_none (first_set n g a); c = not (last_is_set n g a); v = false }
 
 -- PredTest(g, a, e)
 abbrev pub pred_test : ℕ → ℕ → List Bool → List Bool → Flags
@@ -76,11 +79,13 @@ unbroken inclusive m g a k = is_upto inclusive (first_set m (is_set g) (is_set a
 
 -- brka (inclusive) and brkb: the active bits up to the break are 1; inactive bits are as before (keep), or 0
 abbrev pub broken : Bool → Bool → ℕ → List Bool → List Bool → List Bool → List Bool
-broken inclusive keep m g a old = each_bit m (λ k. if is_set g k then unbroken inclusive m g a k else (keep && is_set old k))
+broken inclusive keep m g a old =
+    each_bit m (λ k. if is_set g k then unbroken inclusive m g a k else (keep && is_set old k))
 
 -- brkpa (inclusive) and brkpb: the same with b, where a is set at the last active bit; else 0
 abbrev pub broken_pair : Bool → ℕ → List Bool → List Bool → List Bool → List Bool
-broken_pair inclusive m g a b = each_bit m (λ k. last_is_set m (is_set g) (is_set a) && (is_set g k && unbroken inclusive m g b k))
+broken_pair inclusive m g a b =
+    each_bit m (λ k. last_is_set m (is_set g) (is_set a) && (is_set g k && unbroken inclusive m g b k))
 
 -- brkn: as before, where a is set at the last active bit; else 0
 abbrev pub broken_next : ℕ → List Bool → List Bool → List Bool → List Bool
@@ -94,7 +99,8 @@ with_first m g old = each_bit m (λ k. is_at (first_where m (is_set g)) k || is_
 
 -- pnext: the first active lane behind the last set lane, alone
 abbrev pub next_lane : ℕ → ℕ → List Bool → List Bool → Option ℕ
-next_lane e m g old = first_where (lanes_of e m) (λ k. lane_is_set e g k && is_behind (last_where (lanes_of e m) (lane_is_set e old)) k)
+next_lane e m g old =
+    first_where (lanes_of e m) (λ k. lane_is_set e g k && is_behind (last_where (lanes_of e m) (lane_is_set e old)) k)
 
 abbrev pub only_next : ℕ → ℕ → List Bool → List Bool → List Bool
 only_next e m g old = fields e m (is_at (next_lane e m g old))

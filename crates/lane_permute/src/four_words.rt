@@ -16,7 +16,7 @@ ghost use Rattle.std.specs.Prelude.{
   get_or,
   if◌then◌else◌,
 };
-ghost use Rattle.lane_model.specs.Bits.{bit_of};
+ghost use Rattle.lane_model.specs.WordBits.{bit_of};
 ghost use Rattle.lane_permute.specs.Places.{IsField, is_one, zipped, every_second, joined, transposed, reversed};
 
 use crate::exchanges::{apart, backwards, in_turn};

@@ -1,4 +1,4 @@
--- What is left behind a call that reads a part of a text: of a schedule or of a script.
+-- What is left behind a call that reads a part of a text: of a schedule or of a script. It is this project's own.
 --
 -- The call's error holds a fault where the text is refused, and none where memory was wanting.
 use Rattle.std.specs.Prelude.{◌≡◌, Option, Some, None, Result, Ok, Err}

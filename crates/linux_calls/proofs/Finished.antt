@@ -9,7 +9,7 @@ use Rattle.emu_model.specs.Writes.{after_call}
 use Rattle.emu_system.specs.declared.system_call.CallName.{CallName}
 use Rattle.emu_system.specs.declared.system_call.Errno.{Errno}
 use Rattle.emu_system.specs.declared.system_call.Range.{Range}
-use Rattle.emu_system.specs.SystemCall.{Action, fails, answers, maps, moves_break, sets_length, takes, puts, exits, Turn, action_of, answered_core, done_by, error_answer, filled, gathered, quiet, returned_in, total}
+use Rattle.emu_system.specs.SystemCall.{Action, fails, answers, maps, moves_break, sets_length, takes, puts, exits, Turn, action_of, answered_core, done_by, error_answer, filled, gathered, number_of, quiet, returned_in, total}
 use Rattle.linux_calls.specs.declared.end.CallEnd.{CallEnd}
 use Rattle.linux_calls.specs.declared.end.CallEnd.TheVariants.{Returned, Exit, ReadFault, WriteFault, ErrorsFault}
 use Rattle.linux_calls.specs.declared.reply.Reply.{Reply}
@@ -105,7 +105,7 @@ module _ (c : Core) (v : Vectors) (m : Memory) (b : Break) (told ho he : Option 
         reply_of r s ce is = ce ∙ ap (λ (r : Reply). answered_core c (value_of r)) is
 
         pub done_still : (a : Action) (r : Reply) → HasDone a m b m' b' r → c' ≡ answered_core c (value_of r) → IsDone a old new si so se Returned
-        done_still (fails x) r h ce = quietly (fails x) v.bits (error_answer x) m b (λ bytes. refl) refl (λ P f. f) vectors (reply_of r (Error x) ce h.0) h.1 h.2
+        done_still (fails x) r h ce = quietly (fails x) v.bits (error_answer (number_of x)) m b (λ bytes. refl) refl (λ P f. f) vectors (reply_of r (Error x) ce h.0) h.1 h.2
         done_still (answers x) r h ce = quietly (answers x) v.bits x m b (λ bytes. refl) refl (λ P f. f) vectors (reply_of r (Answer x) ce h.0) h.1 h.2
         done_still (maps memory x) r h ce = quietly (maps memory x) v.bits x memory b (λ bytes. refl) refl (λ P f. f) vectors (reply_of r (Answer x) ce h.0) h.1 h.2
         done_still (moves_break memory to) r h ce = quietly (moves_break memory to) v.bits to memory (record { start = b.start; now = to }) (λ bytes. refl) refl (λ P f. f) vectors (reply_of r (Answer to) ce h.0) h.1 h.2

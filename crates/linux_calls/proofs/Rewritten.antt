@@ -8,7 +8,8 @@ use Rattle.std.specs.Ordering.{nat_cmp, eq_by_cmp}
 use Rattle.std.specs.Cmp.{nat_cmp_total, unsigned_tied}
 use Rattle.std.specs.FinMap.{get, insert, get-insert}
 use Rattle.emu_model.specs.declared.access.Kind.{Kind}
-use Rattle.emu_model.specs.Access.{Memory, Page, address, page_of, page_byte, byte_at, with_byte, pages_with_byte, page_with_byte, page_gives, allowed, refused, page_size}
+use Rattle.emu_model.specs.Access.{Memory, Page, address, page_of, byte_at, with_byte, pages_with_byte, page_with_byte, allowed, refused, page_size}
+use Rattle.emu_model.specs.ByPage.{page_byte, page_gives}
 use Rattle.emu_model.specs.AccessEquations.{refused-zero, refused-suc}
 use Rattle.emu_model.specs.AccessLaws.{write_unmapped, with_bytes_split, bytes_split, length_bytes_at}
 use Rattle.emu_model.specs.Pages.{bytes_at, with_bytes}

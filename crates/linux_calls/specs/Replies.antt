@@ -2,14 +2,14 @@
 use Rattle.std.specs.Prelude.{◌≡◌, ◌≤◌, ℕ, List, Option, Some, IfSome, drop, length, min}
 use Rattle.emu_model.specs.declared.program_break.Break.{Break}
 use Rattle.emu_model.specs.Access.{Memory}
-use Rattle.emu_system.specs.SystemCall.{Action, fails, answers, maps, moves_break, sets_length, takes, puts, exits, error_answer, filled, total}
+use Rattle.emu_system.specs.SystemCall.{Action, fails, answers, maps, moves_break, sets_length, takes, puts, exits, error_answer, filled, number_of, total}
 use Rattle.linux_calls.specs.declared.reply.Reply.{Reply}
 use Rattle.linux_calls.specs.declared.reply.Reply.TheVariants.{Answer, Error}
 use Rattle.linux_calls.specs.Taken.{Takes}
 
 abbrev pub value_of : Reply → ℕ
 value_of (Answer v) = v
-value_of (Error e) = error_answer e
+value_of (Error e) = error_answer (number_of e)
 
 -- what a call came to that replied so, and did nothing else
 abbrev pub replied : Reply → Action

@@ -1,9 +1,14 @@
--- Directives and their arguments.
-use Rattle.std.specs.Prelude.{ℕ, ◌-◌, ◌*◌, ◌%◌, ◌^◌, ◌==◌, ◌&&◌, ◌||◌, Bool, true, false, if◌then◌else◌, List, [], ◌∷◌, Option, Some, None, Result, Ok, Err, ℤ, pos, negsuc, codes, length, map, nat_lt, option_map}
+-- Directives and their arguments. `.data`, `.byte`, `.word`, `.quad`, `.ascii` and `.zero` are those of GNU as's
+-- manual, 'Assembler Directives', `.half` is its `.hword`, and the four escapes are of its strings. `.code`, `.bss`,
+-- `.entry` and `.align`, which counts bytes, and all limits are this project's own choice, as docs/MANUAL.md has them
+-- under "Directives".
+use Rattle.std.specs.Prelude.{ℕ, ◌-◌, ◌*◌, ◌%◌, ◌^◌, ◌==◌, ◌&&◌, ◌||◌, Bool, true, false, if◌then◌else◌, List, [], ◌∷◌, Option, Some, None, Result, Ok, Err, ℤ, pos, negsuc, codes, length, map, nat_lt, ok_or, option_map, option_and_then}
 use Rattle.std.specs.Char.{is_ascii_alphabetic, is_ascii_alphanumeric}
 use Rattle.std.specs.List.{list_all, slice_split}
+use Rattle.std.specs.Option.{option_or}
 use Rattle.std.specs.Str.{str_eq_ignore_ascii_case}
 use Rattle.asm_tokens.specs.declared.target.Target.{Target}
+use Rattle.line_words.specs.Refusals.{and_then}
 use Rattle.asm_tokens.specs.declared.target.Target.TheVariants.{Label, Address}
 use Rattle.listing_model.specs.declared.directive.Directive.{Directive}
 use Rattle.listing_model.specs.declared.directive.Directive.TheVariants as directive
@@ -24,8 +29,10 @@ first_named name (d ∷ ds) = if str_eq_ignore_ascii_case name d.0 then Some d.1
 -- the directive of a name, which has any case
 abbrev pub directive_named : List ℕ → Option DirectiveName
 directive_named name = first_named name (
-    (codes ".code", Code) ∷ (codes ".data", Data) ∷ (codes ".byte", Byte) ∷ (codes ".half", Half) ∷ (codes ".word", Word) ∷ (codes ".quad", Quad)
-    ∷ (codes ".ascii", Ascii) ∷ (codes ".zero", Zero) ∷ (codes ".align", Align) ∷ (codes ".bss", Bss) ∷ (codes ".entry", Entry) ∷ [])
+    (codes ".code", Code) ∷ (codes ".data", Data)
+    ∷ (codes ".byte", Byte) ∷ (codes ".half", Half) ∷ (codes ".word", Word) ∷ (codes ".quad", Quad)
+    ∷ (codes ".ascii", Ascii) ∷ (codes ".zero", Zero) ∷ (codes ".align", Align)
+    ∷ (codes ".bss", Bss) ∷ (codes ".entry", Entry) ∷ [])
 
 abbrev pub begins_label : ℕ → Bool
 begins_label c = is_ascii_alphabetic c || c == underscore
@@ -42,8 +49,7 @@ is_label (c ∷ cs) = begins_label c && list_all is_label_byte cs
 
 -- the number that n tokens write, all of them
 abbrev pub whole : ℕ → Option Number → Option ℤ
-whole n None = None
-whole n (Some x) = if x.count == n then Some (value x) else None
+whole n x = option_and_then (λ x. if x.count == n then Some (value x) else None) x
 
 abbrev pub whole_number : List (List ℕ) → Option ℤ
 whole_number ts = whole (length ts) (number_of ts)
@@ -69,22 +75,16 @@ abbrev pub no_argument : Directive → List (List ℕ) → Result Directive List
 no_argument d [] = Ok d
 no_argument d (t ∷ ts) = Err BadOperands
 
-abbrev pub in_range : {A : Type 0} → Option A → Result A ListingWhy
-in_range None = Err OutOfRange
-in_range (Some x) = Ok x
-
 -- one number, no less than 0 and below a limit
 abbrev pub one_natural : ℕ → Option ℤ → Result ℕ ListingWhy
-one_natural limit None = Err BadOperands
-one_natural limit (Some x) = in_range (natural_below limit x)
+one_natural limit x = and_then (ok_or x BadOperands) (λ x. ok_or (natural_below limit x) OutOfRange)
 
 -- a power of two up to 4,096, which are the divisors of 4,096
 abbrev pub is_alignment : ℕ → Bool
 is_alignment n = nat_lt 0 n && 4096 % n == 0
 
 abbrev pub alignment : Result ℕ ListingWhy → Result ℕ ListingWhy
-alignment (Err e) = Err e
-alignment (Ok n) = if is_alignment n then Ok n else Err OutOfRange
+alignment n = and_then n (λ n. if is_alignment n then Ok n else Err OutOfRange)
 
 -- one label
 abbrev pub one_label : List (List ℕ) → Result (List ℕ) ListingWhy
@@ -104,17 +104,11 @@ label_argument (t ∷ []) = if is_label t then Some (label t) else None
 label_argument (t ∷ u ∷ us) = None
 
 -- a number, or a label where labels are taken
-abbrev pub number_or : Option Argument → Option ℤ → Option Argument
-number_or other None = other
-number_or other (Some x) = Some (number x)
-
 abbrev pub argument : Bool → List (List ℕ) → Option Argument
-argument labels ts = number_or (if labels then label_argument ts else None) (whole_number ts)
+argument labels ts = option_or (option_map number (whole_number ts)) (if labels then label_argument ts else None)
 
 abbrev pub with_first : {A : Type 0} → Option A → Option (List A) → Option (List A)
-with_first None rest = None
-with_first (Some x) None = None
-with_first (Some x) (Some xs) = Some (x ∷ xs)
+with_first x rest = option_and_then (λ x. option_map (λ xs. x ∷ xs) rest) x
 
 abbrev pub all_some : {A : Type 0} → List (Option A) → Option (List A)
 all_some [] = Some []
@@ -134,8 +128,8 @@ stored b (label n) = Some (Label n)
 
 -- numbers of so many bytes each
 abbrev pub numbers : ℕ → Option (List Argument) → Result (List Target) ListingWhy
-numbers size None = Err BadOperands
-numbers size (Some xs) = in_range (all_some (map (stored (8 * size)) xs))
+numbers size xs =
+    and_then (ok_or xs BadOperands) (λ xs. ok_or (all_some (map (stored (8 * size)) xs)) OutOfRange)
 
 -- ---- strings
 
@@ -159,21 +153,16 @@ abbrev pub string_text : List ℕ → Option (List ℕ)
 string_text [] = None
 string_text (c ∷ cs) = if c == quote then contents false cs else None
 
-abbrev pub in_form : {A : Type 0} → Option A → Result A ListingWhy
-in_form None = Err BadOperands
-in_form (Some x) = Ok x
-
 -- the text of one string
 abbrev pub one_string : List (List ℕ) → Result (List ℕ) ListingWhy
 one_string [] = Err BadOperands
-one_string (t ∷ []) = in_form (string_text t)
+one_string (t ∷ []) = ok_or (string_text t) BadOperands
 one_string (t ∷ u ∷ us) = Err BadOperands
 
 -- ---- a directive
 
 abbrev pub with_argument : {A : Type 0} → (A → Directive) → Result A ListingWhy → Result Directive ListingWhy
-with_argument d (Err e) = Err e
-with_argument d (Ok x) = Ok (d x)
+with_argument d x = and_then x (λ x. Ok (d x))
 
 -- the directive of a name and of the tokens behind it
 abbrev pub directive_of : DirectiveName → List (List ℕ) → Result Directive ListingWhy

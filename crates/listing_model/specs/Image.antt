@@ -1,7 +1,9 @@
--- What a listing makes: the file, or the first refusal.
-use Rattle.std.specs.Prelude.{ℕ, ◌+◌, ◌==◌, if◌then◌else◌, List, [], ◌∷◌, ◌++◌, Option, Some, None, Result, Ok, Err, length, nat_lt, option_map, option_and_then, unwrap_or}
+-- What a listing makes: the file, or the first refusal. The order of the refusals is this project's own choice, as
+-- docs/MANUAL.md has it under "Refused listings".
+use Rattle.std.specs.Prelude.{ℕ, ◌+◌, ◌==◌, if◌then◌else◌, List, [], ◌∷◌, ◌++◌, Option, Some, Result, Ok, Err, length, nat_lt, ok_or, option_map, option_and_then, unwrap_or}
 use Rattle.std.specs.Str.{is_utf8}
 use Rattle.byteorder.specs.Endian.{little_bytes}
+use Rattle.line_words.specs.Refusals.{and_then}
 use Rattle.asm_tokens.specs.declared.target.Target.TheVariants.{Label, Address}
 use Rattle.listing_model.specs.declared.fault.ListingFault.{ListingFault}
 use Rattle.listing_model.specs.declared.fault.ListingWhy.{ListingWhy}
@@ -30,30 +32,18 @@ address_of code_size ls n = option_map (label_address code_size) (label_named n 
 -- ---- pieces with the addresses of labels filled in
 
 module _ {I : Type 0} (s : Statements I) where
-  abbrev pub aimed_word : Option I → Result (List ℕ) ListingWhy
-  aimed_word None = Err TooFar
-  aimed_word (Some i) = Ok (little_bytes 4 (s.word i))
-
   -- an instruction at an address, aimed at another
   abbrev pub aimed_at : I → ℕ → Option ℕ → Result (List ℕ) ListingWhy
-  aimed_at i pc None = Err UnknownLabel
-  aimed_at i pc (Some a) = aimed_word (s.aimed i pc a)
-
-  abbrev pub address_bytes : Option ℕ → Result (List ℕ) ListingWhy
-  address_bytes None = Err UnknownLabel
-  address_bytes (Some a) = Ok (little_bytes 8 a)
-
-  abbrev pub mentioned : Option ℕ → Result (List ℕ) ListingWhy
-  mentioned None = Err UnknownLabel
-  mentioned (Some a) = Ok []
+  aimed_at i pc a =
+      and_then (ok_or a UnknownLabel) (λ a. ok_or (option_map (λ j. little_bytes 4 (s.word j)) (s.aimed i pc a)) TooFar)
 
   -- the bytes of a piece at an address, where labels have these addresses
   abbrev pub filled : (List ℕ → Option ℕ) → ℕ → Piece I → Result (List ℕ) ListingWhy
   filled labels pc (bytes bs) = Ok bs
   filled labels pc (aimed i (Address a)) = aimed_at i pc (Some a)
   filled labels pc (aimed i (Label n)) = aimed_at i pc (labels n)
-  filled labels pc (address n) = address_bytes (labels n)
-  filled labels pc (mention n) = mentioned (labels n)
+  filled labels pc (address n) = ok_or (option_map (little_bytes 8) (labels n)) UnknownLabel
+  filled labels pc (mention n) = ok_or (option_map (λ a. []) (labels n)) UnknownLabel
 
 -- ---- the bytes of all pieces
 
@@ -67,7 +57,8 @@ in_front section.Code bs c = record c { code = bs ++ c.code }
 in_front section.Data bs c = record c { values = bs ++ c.values }
 
 -- a piece of line n in front of others: a refusal of the first comes first
-abbrev pub joined : ℕ → Section → Result (List ℕ) ListingWhy → Result Contents ListingFault → Result Contents ListingFault
+abbrev pub joined : ℕ → Section → Result (List ℕ) ListingWhy
+    → Result Contents ListingFault → Result Contents ListingFault
 joined n t (Err e) r = Err (record { line = n; why = e })
 joined n t (Ok bs) (Err e) = Err e
 joined n t (Ok bs) (Ok c) = Ok (in_front t bs c)
@@ -76,21 +67,21 @@ module _ {I : Type 0} (s : Statements I) where
   abbrev pub contents_of : ℕ → (List ℕ → Option ℕ) → List (Placed I) → Result Contents ListingFault
   contents_of code_size labels [] = Ok (record { code = []; values = [] })
   contents_of code_size labels (p ∷ ps) =
-      joined p.line p.section (filled s labels (base code_size p.section + p.place) p.piece) (contents_of code_size labels ps)
+      joined p.line p.section (filled s labels (base code_size p.section + p.place) p.piece)
+      (contents_of code_size labels ps)
 
   -- the address of the entry, or of the first instruction where none is named
   abbrev pub entry_address : Layout I → ℕ
   entry_address l = unwrap_or (option_and_then (address_of l.code_size l.labels) l.entry) code_base
 
   abbrev pub file_with : Layout I → Result Contents ListingFault → Result (List ℕ) ListingFault
-  file_with l (Err e) = Err e
-  file_with l (Ok c) =
-      if length c.code == 0 then Err (record { line = 0; why = NoCode })
-      else Ok (file_of (entry_address l) c.code c.values l.bss_size)
+  file_with l contents =
+      and_then contents (λ c. if length c.code == 0 then Err (record { line = 0; why = NoCode })
+      else Ok (file_of (entry_address l) c.code c.values l.bss_size))
 
   abbrev pub file_from : Result (Layout I) ListingFault → Result (List ℕ) ListingFault
-  file_from (Err e) = Err e
-  file_from (Ok l) = file_with l (contents_of l.code_size (address_of l.code_size l.labels) l.pieces)
+  file_from layout =
+      and_then layout (λ l. file_with l (contents_of l.code_size (address_of l.code_size l.labels) l.pieces))
 
   -- what the text of a listing makes
   abbrev pub image_of : List ℕ → Result (List ℕ) ListingFault
@@ -100,4 +91,5 @@ module _ {I : Type 0} (s : Statements I) where
 
   -- what the bytes of a listing make
   abbrev pub image_of_bytes : List ℕ → Result (List ℕ) ListingFault
-  image_of_bytes listing = if is_utf8 listing then image_of listing else Err (record { line = bad_line listing; why = NotUtf8 })
+  image_of_bytes listing =
+      if is_utf8 listing then image_of listing else Err (record { line = bad_line listing; why = NotUtf8 })

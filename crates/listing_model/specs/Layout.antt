@@ -1,8 +1,11 @@
--- Where the lines of a listing stand, and the first of them that can't stand where it would.
-use Rattle.std.specs.Prelude.{ℕ, ◌+◌, ◌-◌, ◌%◌, ◌^◌, ◌==◌, ◌&&◌, ◌||◌, not, Bool, true, false, if◌then◌else◌, List, [], ◌∷◌, ◌++◌, Option, Some, None, Result, Ok, Err, length, map, nat_lt, replicate, sum_by, is_some}
+-- Where the lines of a listing stand, and the first of them that can't stand where it would. It is this project's own
+-- choice, as docs/MANUAL.md has it under "Directives" and "Refused listings".
+use Rattle.std.specs.Prelude.{ℕ, ◌+◌, ◌-◌, ◌%◌, ◌^◌, ◌==◌, ◌&&◌, ◌||◌, not, Bool, true, false, if◌then◌else◌, List, [], ◌∷◌, ◌++◌, Option, Some, None, Result, Ok, Err, length, map, nat_lt, replicate, sum_by, is_some, find}
+use Rattle.std.specs.Option.{option_map_or, option_or}
 use Rattle.std.specs.Str.{bytes_eq}
 use Rattle.byteorder.specs.Endian.{little_bytes}
 use Rattle.asm_tokens.specs.declared.target.Target.{Target}
+use Rattle.line_words.specs.Refusals.{and_then}
 use Rattle.asm_tokens.specs.declared.target.Target.TheVariants.{Label, Address}
 use Rattle.listing_model.specs.declared.directive.Directive.{Directive}
 use Rattle.listing_model.specs.declared.directive.Directive.TheVariants.{Code, Data, Numbers, Ascii, Zero, Align, Bss, Entry}
@@ -13,7 +16,7 @@ use Rattle.listing_model.specs.declared.line.Body.{Body}
 use Rattle.listing_model.specs.declared.line.Body.TheVariants as body
 use Rattle.listing_model.specs.declared.line.Line.{Line}
 use Rattle.listing_model.specs.declared.line.Section.{Section}
-use Rattle.listing_model.specs.declared.line.Section.TheVariants as section
+use Rattle.listing_model.specs.declared.line.Section.TheVariants.{Code as InCode, Data as InData}
 use Rattle.listing_model.specs.LineOf.{line_of}
 use Rattle.listing_model.specs.Statements.{Statements}
 
@@ -42,8 +45,8 @@ pub record Labeled : Type 0 where
   pub section : Section
   pub place : ℕ
 
--- what some lines leave: their pieces and labels in order, the section of the next line, bytes of code, of data, and of memory
--- behind the data, and the entry's label
+-- what some lines leave: their pieces and labels in order, the section of the next line, bytes of code, of data, and of
+-- memory behind the data, and the entry's label
 pub record Layout (I : Type 0) : Type 0 where
   pub pieces : List (Placed I)
   pub labels : List Labeled
@@ -54,12 +57,12 @@ pub record Layout (I : Type 0) : Type 0 where
   pub entry : Option (List ℕ)
 
 abbrev pub empty_layout : {I : Type 0} → Layout I
-empty_layout = record { pieces = []; labels = []; section = section.Code; code_size = 0; data_size = 0; bss_size = 0; entry = None }
+empty_layout =
+    record { pieces = []; labels = []; section = InCode; code_size = 0; data_size = 0; bss_size = 0; entry = None }
 
 -- the first label of a name
 abbrev pub label_named : List ℕ → List Labeled → Option Labeled
-label_named n [] = None
-label_named n (l ∷ ls) = if bytes_eq n l.name then Some l else label_named n ls
+label_named n ls = find (λ l. bytes_eq n l.name) ls
 
 -- ---- pieces
 
@@ -99,13 +102,14 @@ pieces_of s (body.Directive d) place = directive_pieces d place
 -- pieces of a line one behind the other, the first at a place
 abbrev pub placed_from : {I : Type 0} → ℕ → Section → ℕ → List (Piece I) → List (Placed I)
 placed_from n s place [] = []
-placed_from n s place (p ∷ ps) = record { line = n; section = s; place = place; piece = p } ∷ placed_from n s (place + size p) ps
+placed_from n s place (p ∷ ps) =
+    record { line = n; section = s; place = place; piece = p } ∷ placed_from n s (place + size p) ps
 
 -- ---- what a line changes
 
 abbrev pub section_after : {I : Type 0} → Section → Body I → Section
-section_after s (body.Directive Code) = section.Code
-section_after s (body.Directive Data) = section.Data
+section_after s (body.Directive Code) = InCode
+section_after s (body.Directive Data) = InData
 section_after s b = s
 
 abbrev pub bss_of : {I : Type 0} → Body I → ℕ
@@ -123,8 +127,8 @@ is_instruction (body.Aimed i t) = true
 is_instruction (body.Directive d) = false
 
 abbrev pub is_data : Section → Bool
-is_data section.Code = false
-is_data section.Data = true
+is_data InCode = false
+is_data InData = true
 
 -- where the next byte of the section stands in it
 abbrev pub here : {I : Type 0} → Layout I → ℕ
@@ -133,10 +137,6 @@ here l = if is_data l.section then l.data_size else l.code_size
 abbrev pub label_at : {I : Type 0} → Option (List ℕ) → Layout I → List Labeled
 label_at None l = []
 label_at (Some n) l = record { name = n; section = l.section; place = here l } ∷ []
-
-abbrev pub first_of : {A : Type 0} → Option A → Option A → Option A
-first_of None o = o
-first_of (Some x) o = Some x
 
 -- the layout with line n more: its label and its pieces stand at the next byte of the section so far
 abbrev pub with_line : {I : Type 0} → Statements I → ℕ → Layout I → Line I → Layout I
@@ -150,14 +150,13 @@ with_line s n l line =
       code_size = l.code_size + (if is_data l.section then 0 else more);
       data_size = l.data_size + (if is_data l.section then more else 0);
       bss_size = l.bss_size + bss_of line.body;
-      entry = first_of l.entry (entry_of line.body);
+      entry = option_or l.entry (entry_of line.body);
     }
 
 -- ---- refusals
 
 abbrev pub is_twice : Option (List ℕ) → List Labeled → Bool
-is_twice None ls = false
-is_twice (Some n) ls = is_some (label_named n ls)
+is_twice n ls = option_map_or (λ n. is_some (label_named n ls)) n false
 
 -- why a line can't stand behind a layout
 abbrev pub misplaced : {I : Type 0} → Layout I → Line I → Option ListingWhy
@@ -186,8 +185,7 @@ at_line n (Ok x) = Ok x
 
 module _ {I : Type 0} (s : Statements I) where
   abbrev pub placed_line : ℕ → Layout I → Result (Line I) ListingWhy → Result (Layout I) ListingWhy
-  placed_line n l (Err e) = Err e
-  placed_line n l (Ok line) = unless_misplaced (misplaced l line) (with_line s n l line)
+  placed_line n l line = and_then line (λ line. unless_misplaced (misplaced l line) (with_line s n l line))
 
   -- the lines from line n on behind a layout, up to the first that is refused
   abbrev pub laid_out : ℕ → Result (Layout I) ListingFault → List (List ℕ) → Result (Layout I) ListingFault

@@ -2,6 +2,7 @@ pub mod Lines
 pub mod Statements
 pub mod Directives
 pub mod LineOf
+pub mod Bodies
 pub mod Layout
 pub mod File
 pub mod Image

@@ -1,7 +1,9 @@
--- What a line says.
+-- What a line says. A label and its colon are as in GNU as's manual, 'Labels'; all else is this project's own choice,
+-- as docs/MANUAL.md has it under "Listings".
 use Rattle.std.specs.Prelude.{ℕ, if◌then◌else◌, List, [], ◌∷◌, Option, Some, None, Result, Ok, Err, length, nat_lt}
+use Rattle.std.specs.Option.{option_map_or}
 use Rattle.asm_tokens.specs.declared.target.Target.{Target}
-use Rattle.listing_model.specs.declared.directive.Directive.{Directive}
+use Rattle.line_words.specs.Refusals.{and_then}
 use Rattle.listing_model.specs.declared.directive.DirectiveName.{DirectiveName}
 use Rattle.listing_model.specs.declared.fault.ListingWhy.{ListingWhy}
 use Rattle.listing_model.specs.declared.fault.ListingWhy.TheVariants.{LongLine, BadLabel}
@@ -18,29 +20,19 @@ colon = 58
 
 module _ {I : Type 0} (s : Statements I) where
   abbrev pub instruction : I → Option Target → Body I
-  instruction i None = body.Plain i
-  instruction i (Some t) = body.Aimed i t
-
-  abbrev pub instruction_body : Result (I × Option Target) ListingWhy → Result (Body I) ListingWhy
-  instruction_body (Err e) = Err e
-  instruction_body (Ok p) = Ok (instruction p.0 p.1)
-
-  abbrev pub directive_body : Result Directive ListingWhy → Result (Body I) ListingWhy
-  directive_body (Err e) = Err e
-  directive_body (Ok d) = Ok (body.Directive d)
+  instruction i t = option_map_or (body.Aimed i) t (body.Plain i)
 
   -- a statement of a name: a directive, or else an instruction
   abbrev pub named : Option DirectiveName → List ℕ → List (List ℕ) → Result (Body I) ListingWhy
-  named None name ts = instruction_body (s.reads name ts)
-  named (Some d) name ts = directive_body (directive_of d ts)
+  named None name ts = and_then (s.reads name ts) (λ p. Ok (instruction p.0 p.1))
+  named (Some d) name ts = and_then (directive_of d ts) (λ d. Ok (body.Directive d))
 
   abbrev pub body_of : List (List ℕ) → Result (Body I) ListingWhy
   body_of [] = Ok body.Nothing
   body_of (t ∷ ts) = named (directive_named t) t ts
 
   abbrev pub with_label : Option (List ℕ) → Result (Body I) ListingWhy → Result (Line I) ListingWhy
-  with_label l (Err e) = Err e
-  with_label l (Ok b) = Ok (record { label = l; body = b })
+  with_label l b = and_then b (λ b. Ok (record { label = l; body = b }))
 
   -- a label is a first token with a colon behind it
   abbrev pub line_of_tokens : List (List ℕ) → Result (Line I) ListingWhy

@@ -1,4 +1,4 @@
--- The lines of a listing.
+-- The lines of a listing. They are this project's own choice, as docs/MANUAL.md has them under "Listings".
 use Rattle.std.specs.Prelude.{ℕ, ◌+◌, ◌==◌, if◌then◌else◌, List, [], ◌∷◌, count_by, take}
 use Rattle.std.specs.List.{onto_first}
 use Rattle.std.specs.Str.Lossy.{utf8_valid_len}

@@ -17,7 +17,8 @@ ghost use Rattle.std.specs.Prelude.{
   ⊤,
 };
 ghost use Rattle.std.specs.FinMap as map;
-ghost use Rattle.emu_model.specs.Access.{page_gives, page_size};
+ghost use Rattle.emu_model.specs.Access.{page_size};
+ghost use Rattle.emu_model.specs.ByPage.{page_gives};
 ghost use Rattle.emu_model.specs.Pages.{free_run, least_unmapped, mapped, protected, unmapped, with_bytes};
 ghost use Rattle.emu_model.specs.SoundState.{IsSoundMemory};
 ghost use Rattle.guest_pages.specs.MapFault.{map_fault, protect_answer};

@@ -24,7 +24,8 @@ ghost use Rattle.std.specs.Prelude.{
 ghost use Rattle.std.specs.List.{AllByRecursion, filter};
 ghost use Rattle.std.specs.Ordering.{nat_cmp};
 ghost use Rattle.std.specs.FinMap.{contains_key, find};
-ghost use Rattle.emu_model.specs.Access.{page_gives, page_size};
+ghost use Rattle.emu_model.specs.Access.{page_size};
+ghost use Rattle.emu_model.specs.ByPage.{page_gives};
 ghost use Rattle.emu_model.specs.Pages.{free_run, is_among, is_free, least_mapped, least_unmapped, zeros};
 ghost use Rattle.emu_model.specs.SoundState.{AreBytes};
 ghost use Rattle.emu_model.specs.WithinPage.{overwritten, page_with_bytes};

@@ -8,7 +8,8 @@ use Rattle.emu_bits.specs.declared.flags.Flags.{Flags}
 use Rattle.lane_model.specs.Bits.{each_bit, field_bit, lane_is_set, lanes_of}
 use Rattle.lane_model.proofs.Bits.{at_start, get_or-each_bit}
 use Rattle.lane_model.proofs.Found.{first_found, first_is, last_is, first_same, last_same, answer_same, last_within}
-use Rattle.lane_model.specs.FirstLast.{first_where, last_where, answer_at}
+use Rattle.lane_model.specs.FirstLast.{first_where, last_where}
+use Rattle.lane_model.specs.FirstLastLaws.{answer_at}
 use Rattle.lane_model.specs.Predicate.{first_set, test_flags, pred_test}
 use Rattle.pred_bits.proofs.Fields.{lane_within, some_bits}
 use Rattle.pred_bits.proofs.LaneWords.{first_within}

@@ -5,7 +5,8 @@ use Rattle.std.proofs.lemmas.List.FromFn.{fill_by_all}
 use Rattle.lane_model.specs.Bits.{each_bit, field_bit, is_set, lane_is_set, lanes_of}
 use Rattle.lane_model.proofs.Bits.{each_bit_same}
 use Rattle.lane_model.proofs.Found.{first_same, last_same, answer_same, last_within}
-use Rattle.lane_model.specs.FirstLast.{first_where, last_where, answer_at}
+use Rattle.lane_model.specs.FirstLast.{first_where, last_where}
+use Rattle.lane_model.specs.FirstLastLaws.{answer_at}
 use Rattle.lane_model.specs.Predicate.{first_set, last_is_set}
 
 pub byte_lanes : (m : ℕ) → lanes_of 8 m ≡ m

@@ -7,7 +7,8 @@ use Rattle.std.proofs.lemmas.Bool.{lt-ltb, le-ltb}
 use Rattle.std.proofs.lemmas.Nat.{pow_pos, mod-pow-add, mod-mul-add, ones_cat, ones-le, le-div}
 use Rattle.std.proofs.lemmas.Nat.Bits.{bit_at-lt}
 use Rattle.emu_bits.specs.Fields.{bit}
-use Rattle.lane_model.specs.Bits.{bit_of, field_bit}
+use Rattle.lane_model.specs.Bits.{field_bit}
+use Rattle.lane_model.specs.WordBits.{bit_of}
 use Rattle.lane_model.proofs.Bits.{at_start, between}
 use Rattle.lane_model.specs.FirstLast.{count_where}
 use Rattle.pred_bits.proofs.Made.{bit_in, bit_placed}

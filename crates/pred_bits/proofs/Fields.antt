@@ -4,7 +4,8 @@ use Rattle.std.proofs.lemmas.Bool.{cases_lt, lt-ltb, le-ltb, and_right, eqb-true
 use Rattle.emu_bits.specs.Flags.{size_of}
 use Rattle.emu_bits.specs.declared.flags.Esize.{Esize}
 use Rattle.emu_bits.specs.declared.flags.Esize.TheVariants.{B, H, S, D}
-use Rattle.lane_model.specs.Bits.{AreClearFrom, bit_of, bits_of, each_bit, field_bit, lanes_of}
+use Rattle.lane_model.specs.Bits.{each_bit, field_bit, lanes_of}
+use Rattle.lane_model.specs.WordBits.{AreClearFrom, bit_of, bits_of}
 use Rattle.lane_model.proofs.Bits.{each_bit_same}
 use Rattle.lane_model.specs.Predicate.{lanes_below}
 use Rattle.pred_bits.proofs.Made.{clear_from, bits_are}

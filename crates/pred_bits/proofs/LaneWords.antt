@@ -5,11 +5,12 @@ use Rattle.std.proofs.lemmas.Bool.{cases_lt, cases_eq, lt-ltb, le-ltb, and_parts
 use Rattle.std.proofs.lemmas.Bool.Decides.{nat_tests}
 use Rattle.std.proofs.lemmas.Nat.{div-add-mod', div-mul-add}
 use Rattle.emu_bits.specs.declared.flags.Flags.{Flags}
-use Rattle.lane_model.specs.Bits.{AreClearFrom, bit_of, field_bit}
+use Rattle.lane_model.specs.Bits.{field_bit}
+use Rattle.lane_model.specs.WordBits.{AreClearFrom, bit_of}
 use Rattle.lane_model.proofs.Bits.{at_start, between}
 use Rattle.lane_model.proofs.Found.{first_found, first_is, first_same, last_found, last_is, last_same}
-use Rattle.lane_model.specs.FirstLast.{first_where, last_where, answer_at}
-use Rattle.lane_model.specs.FirstLastLaws.{IsFirstWhere, IsLastWhere}
+use Rattle.lane_model.specs.FirstLast.{first_where, last_where}
+use Rattle.lane_model.specs.FirstLastLaws.{IsFirstWhere, IsLastWhere, answer_at}
 use Rattle.lane_model.specs.Predicate.{test_flags}
 use Rattle.pred_bits.specs.LaneBits.{among, lane_at, places_tested}
 

@@ -1,7 +1,8 @@
 -- Logical operations on the words of predicates.
 use Rattle.std.proofs.Common.{◌≡◌, ◌<◌, ◌≤◌, ◌/◌, ◌%◌, ℕ, Bool, false, List, length, inl, inr, refl, sym, ap, ◌∙◌, arith}
 use Rattle.std.proofs.lemmas.Bool.{cases_lt}
-use Rattle.lane_model.specs.Bits.{AreClearFrom, bit_of, bits_of, each_bit, is_set}
+use Rattle.lane_model.specs.Bits.{each_bit, is_set}
+use Rattle.lane_model.specs.WordBits.{AreClearFrom, bit_of, bits_of}
 use Rattle.lane_model.proofs.Bits.{each_bit_same}
 use Rattle.lane_model.specs.declared.predicates.LogicOp.{LogicOp}
 use Rattle.lane_model.specs.declared.predicates.LogicOp.TheVariants.{And, Bic, Eor, Orr, Orn, Nor, Nand, Sel}

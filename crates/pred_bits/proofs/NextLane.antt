@@ -5,7 +5,8 @@ use Rattle.std.proofs.Math.Nat.{mul-le-mul_right}
 use Rattle.std.proofs.lemmas.Bool.{cases_lt, cases_eq, lt-ltb, le-ltb, and_parts}
 use Rattle.std.proofs.lemmas.List.{get_or-replicate}
 use Rattle.std.proofs.lemmas.Nat.{div-add-mod'}
-use Rattle.lane_model.specs.Bits.{bit_of, field_bit}
+use Rattle.lane_model.specs.Bits.{field_bit}
+use Rattle.lane_model.specs.WordBits.{bit_of}
 use Rattle.lane_model.proofs.Bits.{at_start, between, zero_bit}
 use Rattle.lane_model.proofs.Found.{first_found, first_is, first_same, last_found}
 use Rattle.lane_model.specs.FirstLast.{first_where, last_where}

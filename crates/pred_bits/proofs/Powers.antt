@@ -5,7 +5,8 @@ use Rattle.std.proofs.Math.Pow.{pow-lt, pow_mono}
 use Rattle.std.proofs.lemmas.Bool.{le-leb, lt-leb}
 use Rattle.std.proofs.lemmas.Nat.{leading_top}
 use Rattle.lane_model.proofs.Found.{last_is}
-use Rattle.lane_model.specs.Pattern.{power_of, greatest_power}
+use Rattle.std.specs.Option.{option_map_or}
+use Rattle.lane_model.specs.Pattern.{greatest_power}
 
 below_power : (k : ℕ) → k < 2 ^ k
 below_power zero = omega arith
@@ -16,7 +17,7 @@ below_power (suc k) =
 
 greatest_is : (n k : ℕ) → 2 ^ k ≤ n → n < 2 ^ (k + 1) → greatest_power n ≡ 2 ^ k
 greatest_is n k most next =
-    ap power_of (last_is n (λ j. nat_le (2 ^ j) n) (Some k) (record {
+    ap (λ place. option_map_or (λ j. 2 ^ j) place 0) (last_is n (λ j. nat_le (2 ^ j) n) (Some k) (record {
       within = let h : k < 2 ^ k = below_power k in omega arith;
       meets = le-leb (2 ^ k) n most;
       behind = λ j p q. let grows : 2 ^ (k + 1) ≤ 2 ^ j = pow_mono {i = k + 1} {j = j} (omega arith) in lt-leb (2 ^ j) n (omega arith);

@@ -5,7 +5,7 @@ use Rattle.std.proofs.lemmas.Bool.{cases_eq}
 use Rattle.std.proofs.lemmas.List.{length-set, length-replicate, get_or-replicate, get_or-set_same, get_or-set_other}
 use Rattle.std.proofs.lemmas.List.FromFn.{fill_by_all}
 use Rattle.std.proofs.lemmas.Nat.{div-add-mod'}
-use Rattle.lane_model.specs.Bits.{AreClearFrom, bit_of, bits_of}
+use Rattle.lane_model.specs.WordBits.{AreClearFrom, bit_of, bits_of}
 use Rattle.lane_model.proofs.Bits.{get_or-each_bit, length-each_bit, zero_bit}
 
 -- ---- reads

@@ -2,7 +2,8 @@
 use Rattle.std.specs.Prelude.{ℕ, ◌+◌, ◌-◌, ◌/◌, ◌^◌, Bool, true, false, not, ◌&&◌, nat_lt, Option, Some, None, is_none}
 use Rattle.emu_bits.specs.Numbers.{unsigned}
 use Rattle.emu_bits.specs.declared.flags.Flags.{Flags}
-use Rattle.lane_model.specs.FirstLast.{first_where, last_where, answer_at}
+use Rattle.lane_model.specs.FirstLast.{first_where, last_where}
+use Rattle.lane_model.specs.FirstLastLaws.{answer_at}
 use Rattle.lane_model.specs.declared.predicates.WhileTest.{WhileTest}
 use Rattle.lane_model.specs.declared.predicates.WhileTest.TheVariants.{Lt, Le, Lo, Ls}
 

@@ -1,6 +1,6 @@
 -- What the words of a predicate show.
 use Rattle.std.specs.Prelude.{◌≡◌, ◌≤◌, Bool, List, length}
-use Rattle.lane_model.specs.Bits.{AreClearFrom, bits_of}
+use Rattle.lane_model.specs.WordBits.{AreClearFrom, bits_of}
 use Rattle.pred_bits.specs.declared.PredBits.TheInside.{Inside}
 
 abbrev pub shown : Inside → List Bool

@@ -20,7 +20,8 @@ ghost use Rattle.std.specs.Prelude.{
   nat_lt,
 };
 ghost use Rattle.emu_bits.specs.Flags.{size_of};
-ghost use Rattle.lane_model.specs.Bits.{bit_of, each_bit, field_bit, lane_is_set, lanes_of};
+ghost use Rattle.lane_model.specs.Bits.{each_bit, field_bit, lane_is_set, lanes_of};
+ghost use Rattle.lane_model.specs.WordBits.{bit_of};
 ghost use Rattle.lane_model.specs.FirstLast.{first_where, all_below};
 ghost use Rattle.lane_model.specs.Predicate as model;
 ghost use Rattle.lane_model.specs.Predicate.{only_next, while_lanes, while_holds, count_lanes};

@@ -12,7 +12,8 @@ mod whole;
 
 ghost use Rattle.std.specs.Prelude.{◌≡◌, ◌<◌, ◌≤◌, ◌*◌, ◌/◌, true, false, length, get_or, set, replicate};
 ghost use Rattle.emu_bits.specs.Flags.{size_of};
-ghost use Rattle.lane_model.specs.Bits.{AreClearFrom, bits_of, lane_is_set, lanes_of};
+ghost use Rattle.lane_model.specs.Bits.{lane_is_set, lanes_of};
+ghost use Rattle.lane_model.specs.WordBits.{AreClearFrom, bits_of};
 
 use emu_bits::Esize;
 pub use lane_model::predicates::{LogicOp, WhileTest};

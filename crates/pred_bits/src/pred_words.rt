@@ -23,8 +23,9 @@ ghost use Rattle.std.specs.Prelude.{
 };
 ghost use Rattle.std.specs.Int.{bit_at};
 ghost use Rattle.emu_bits.specs.Flags.{size_of};
-ghost use Rattle.lane_model.specs.Bits.{bit_of};
-ghost use Rattle.lane_model.specs.FirstLast.{first_where, last_where, count_where, answer_at};
+ghost use Rattle.lane_model.specs.WordBits.{bit_of};
+ghost use Rattle.lane_model.specs.FirstLast.{first_where, last_where, count_where};
+ghost use Rattle.lane_model.specs.FirstLastLaws.{answer_at};
 ghost use Rattle.lane_model.specs.Predicate.{logic_bit, is_at, is_behind};
 ghost use Rattle.pred_bits.specs.LaneBits.{places_tested};
 

@@ -12,7 +12,7 @@ use Rattle.lane_model.specs.declared.places.Place.{Place}
 use Rattle.lane_model.specs.declared.places.Place.TheVariants.{FirstLane, SecondLane, Scalar, Zero}
 use Rattle.sve_effects.specs.LaneLoop.{is_active}
 use Rattle.lane_model.specs.Permute.{taken, zip_place, uzp_place, trn_place}
-use Rattle.sve_effects.specs.PermuteRows.{moved_fields, after_unpack_p, is_high_p}
+use Rattle.sve_effects.specs.PermuteRows.{with_p_places, after_unpack_p, is_high_p}
 use Rattle.sve_effects.specs.PermuteRows as model
 use Rattle.sve_insn.specs.declared.ops.UnpackPOp.{UnpackPOp}
 use Rattle.pred_permutes.specs.Fields.{bit_of_field}
@@ -182,7 +182,7 @@ whole_field f j =
 pub fields_written : (e bits pn pm pd : ℕ) (place : ℕ → ℕ → Place) (v : Vectors) (a b r : List ℕ) → IsLaneSize e → bits ≡ v.bits / 8
     → read_p v pn ≡ bits_of (v.bits / 8) a → AreClearFrom (v.bits / 8) a → read_p v pm ≡ bits_of (v.bits / 8) b → AreClearFrom (v.bits / 8) b
     → ((j : ℕ) → j < bits → bit_of r j ≡ taken (bit_of_field (e / 8) (j % (e / 8)) a) (bit_of_field (e / 8) (j % (e / 8)) b) false false (place (bits / (e / 8)) (j / (e / 8))))
-    → with_p v pd (bits_of (v.bits / 8) r) ≡ moved_fields e (place (v.bits / e)) pn pm pd v
+    → with_p v pd (bits_of (v.bits / 8) r) ≡ with_p_places e (place (v.bits / e)) pn pm pd v
 fields_written e bits pn pm pd place v a b r size count is_a clear_a is_b clear_b is =
     ap (with_p v pd) (each_same (v.bits / 8) (bit_of r) (field_bit 1 f) false at) where
       f : ℕ → Bool

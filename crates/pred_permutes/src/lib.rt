@@ -83,7 +83,7 @@ fn interleaved_words(op: InterleaveOp, w: u32, bits: u32, a: &[u64; 4], b: &[u64
 /// Writes the fields of pn and pm for lanes of e bits to pd, each where the name puts it.
 pub fn interleaved(vec: &mut VecRegs, op: InterleaveOp, e: u32, pn: Pred, pm: Pred, pd: Pred)
     requires { IsLaneSize e }
-    ensures { vec.new ≡ model.moved_fields e (interleave_place op (vec.old.bits / e)) pn pm pd vec.old }
+    ensures { vec.new ≡ model.with_p_places e (interleave_place op (vec.old.bits / e)) pn pm pd vec.old }
 {
     let bits = vec.length().bits() / 8;
     let words = interleaved_words(op, e / 8, bits, vec.p_words(pn), vec.p_words(pm));
@@ -93,7 +93,7 @@ pub fn interleaved(vec: &mut VecRegs, op: InterleaveOp, e: u32, pn: Pred, pm: Pr
 /// Writes the fields of pn for lanes of e bits to pd in reverse order.
 pub fn reversed(vec: &mut VecRegs, e: u32, pn: Pred, pd: Pred)
     requires { IsLaneSize e }
-    ensures { vec.new ≡ model.moved_fields e (rev_place (vec.old.bits / e)) pn pn pd vec.old }
+    ensures { vec.new ≡ model.with_p_places e (rev_place (vec.old.bits / e)) pn pn pd vec.old }
 {
     let bits = vec.length().bits() / 8;
     let words = rev(vec.p_words(pn), e / 8, bits);

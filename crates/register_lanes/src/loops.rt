@@ -48,7 +48,7 @@ fn fill_in_place<T: Quad<W>, L: Local + Chunks<T, W>, const W: usize>(
     zd: Reg,
     lanes: &L,
 )
-    ensures { vec.new ≡ model.plain T.BITS (L.Gives.value lanes.now T.BITS vec.old) zd vec.old }
+    ensures { vec.new ≡ model.every_lane T.BITS (L.Gives.value lanes.now T.BITS vec.old) zd vec.old }
 {
     let count = vec.length().bits() / 128;
     if count % 4 == 0 && W <= 4 {
@@ -65,7 +65,7 @@ fn fill_one_by_one<T: Quad<W>, L: Local + Chunks<T, W>, const W: usize>(
     zd: Reg,
     lanes: &L,
 )
-    ensures { vec.new ≡ model.plain T.BITS (L.Gives.value lanes.now T.BITS vec.old) zd vec.old }
+    ensures { vec.new ≡ model.every_lane T.BITS (L.Gives.value lanes.now T.BITS vec.old) zd vec.old }
 {
     let count = vec.length().bits() / 128;
     let _words = vec.z_words(zd);
@@ -82,7 +82,7 @@ fn fill_by_fours<T: Quad<W>, L: Local + Chunks<T, W>, const W: usize>(
     lanes: &L,
 )
     requires { vec.old.bits / 128 % 4 ≡ 0 }
-    ensures { vec.new ≡ model.plain T.BITS (L.Gives.value lanes.now T.BITS vec.old) zd vec.old }
+    ensures { vec.new ≡ model.every_lane T.BITS (L.Gives.value lanes.now T.BITS vec.old) zd vec.old }
 {
     let count = vec.length().bits() / 128;
     let _words = vec.z_words(zd);
@@ -164,7 +164,7 @@ pub fn plain<L: Local + Chunks<u8, 16> + Chunks<u16, 8> + Chunks<u32, 4> + Chunk
     lanes: &L,
 )
     requires { IsLaneSize e }
-    ensures { vec.new ≡ model.plain e (L.Gives.value lanes.now e vec.old) zd vec.old }
+    ensures { vec.new ≡ model.every_lane e (L.Gives.value lanes.now e vec.old) zd vec.old }
 {
     match e {
         8 => fill_in_place::<u8, L, 16>(vec, zd, lanes),
@@ -183,7 +183,7 @@ pub fn permuted<L: Chunks<u8, 16> + Chunks<u16, 8> + Chunks<u32, 4> + Chunks<u64
     lanes: &L,
 )
     requires { IsLaneSize e }
-    ensures { vec.new ≡ model.plain e (L.Gives.value lanes.now e vec.old) zd vec.old }
+    ensures { vec.new ≡ model.every_lane e (L.Gives.value lanes.now e vec.old) zd vec.old }
 {
     let _length = vec.length();
     let mut words = [0; 32];

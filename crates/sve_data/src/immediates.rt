@@ -5,7 +5,6 @@ ghost use Rattle.sve_effects.specs.Effects as effects;
 ghost use Rattle.sve_data.specs.Groups.{is_immediate};
 
 use crate::fields::{lane_immediate, wide_unsigned};
-use crate::names::min_max_signed;
 use crate::operations::plain_number;
 use core_regs::Core;
 use emu_bits::{Reg, U};
@@ -77,13 +76,14 @@ fn min_max_imm(core: &Core, vec: &mut VecRegs, op: MinMaxImmOp, size: U<2>, imm8
     ensures { vec.new ≡ effects.vector_data (SveForm.MinMaxImm op size imm8 zdn) core.now vec.old }
 {
     let e = lane_bits(size);
-    let n = lane_immediate(min_max_signed(op), e, imm8);
+    let signed = lane_immediate(true, e, imm8);
+    let unsigned = lane_immediate(false, e, imm8);
     match op {
-        MinMaxImmOp::Smax => plain_number(vec, e, zdn, zdn, n, Smax),
-        MinMaxImmOp::Smin => plain_number(vec, e, zdn, zdn, n, Smin),
-        MinMaxImmOp::Mul => plain_number(vec, e, zdn, zdn, n, Mul),
-        MinMaxImmOp::Umax => plain_number(vec, e, zdn, zdn, n, Umax),
-        MinMaxImmOp::Umin => plain_number(vec, e, zdn, zdn, n, Umin),
+        MinMaxImmOp::Smax => plain_number(vec, e, zdn, zdn, signed, Smax),
+        MinMaxImmOp::Smin => plain_number(vec, e, zdn, zdn, signed, Smin),
+        MinMaxImmOp::Mul => plain_number(vec, e, zdn, zdn, signed, Mul),
+        MinMaxImmOp::Umax => plain_number(vec, e, zdn, zdn, unsigned, Umax),
+        MinMaxImmOp::Umin => plain_number(vec, e, zdn, zdn, unsigned, Umin),
     }
 }
 

@@ -23,7 +23,8 @@ use vec_regs::VecRegs;
 #[inline(always)]
 pub fn plain_two<F: LaneWise2 + Drop>(vec: &mut VecRegs, e: u32, zd: Reg, zn: Reg, zm: Reg, op: F)
     requires { IsLaneSize e }
-    ensures { vec.new ≡ model.plain e (λ k. F.entry op e (lane_of e vec.old zn k) (lane_of e vec.old zm k)) zd vec.old }
+    ensures { vec.new
+        ≡ model.every_lane e (λ k. F.entry op e (lane_of e vec.old zn k) (lane_of e vec.old zm k)) zd vec.old }
 {
     plain(vec, e, zd, &Map2 { op, zn, zm });
 }
@@ -39,7 +40,8 @@ pub fn plain_two_apart<F: LaneWise2 + Drop>(
     op: F,
 )
     requires { IsLaneSize e }
-    ensures { vec.new ≡ model.plain e (λ k. F.entry op e (lane_of e vec.old zn k) (lane_of e vec.old zm k)) zd vec.old }
+    ensures { vec.new
+        ≡ model.every_lane e (λ k. F.entry op e (lane_of e vec.old zn k) (lane_of e vec.old zm k)) zd vec.old }
 {
     plain_two(vec, e, zd, zn, zm, op);
 }
@@ -93,7 +95,7 @@ pub fn plain_covered<F: LaneWise2 + Copy>(
 )
     requires { IsLaneSize e }
     ensures { vec.new
-        ≡ model.plain e (λ k. F.entry op e (lane_of e vec.old zn k) (covering_lane e vec.old zm k)) zd vec.old }
+        ≡ model.every_lane e (λ k. F.entry op e (lane_of e vec.old zn k) (covering_lane e vec.old zm k)) zd vec.old }
 {
     plain(vec, e, zd, &Covered { op, zn, zm });
 }
@@ -129,7 +131,7 @@ pub fn plain_indexed<F: LaneWise3 + Drop>(
 )
     requires size { IsLaneSize e }
     requires within { i < 128 / e }
-    ensures { vec.new ≡ model.plain e (λ k. F.entry op e (lane_of e vec.old zda k) (lane_of e vec.old zn k)
+    ensures { vec.new ≡ model.every_lane e (λ k. F.entry op e (lane_of e vec.old zda k) (lane_of e vec.old zn k)
         (lane_of e vec.old zm (indexed_lane e i k))) zda vec.old }
 {
     let za = zda;
@@ -140,7 +142,7 @@ pub fn plain_indexed<F: LaneWise3 + Drop>(
 #[inline(never)]
 pub fn plain_number<F: LaneWise2 + Drop>(vec: &mut VecRegs, e: u32, zd: Reg, zn: Reg, n: u64, op: F)
     requires { IsLaneSize e }
-    ensures { vec.new ≡ model.plain e (λ k. F.entry op e (lane_of e vec.old zn k) n) zd vec.old }
+    ensures { vec.new ≡ model.every_lane e (λ k. F.entry op e (lane_of e vec.old zn k) n) zd vec.old }
 {
     let op = WithNumber { op, n };
     plain(vec, e, zd, &Map1 { op, zn });

@@ -1,4 +1,7 @@
--- Counts of lanes by a pattern, added to registers and lanes or subtracted, and multiples of the vector length.
+-- Counts of lanes by a pattern, added to registers and lanes or subtracted, and multiples of the vector length. From
+-- the Arm Architecture Reference Manual for A-profile (DDI 0487), C8.2 'Alphabetical list of SVE instructions': the
+-- operations of the entries CNTB, INCB, DECB, SQINCB, UQINCB, SQDECB, UQDECB and their kin, ADDVL, ADDPL and RDVL, with
+-- the shared pseudocode DecodePredCount and SatQ.
 use Rattle.std.specs.Prelude.{ℕ, ◌+◌, ◌*◌, ◌/◌, ◌%◌, ◌^◌, Bool, true, false, ℤ, pos, ◌*ℤ◌}
 use Rattle.sve_insn.specs.declared.ops.IncOp.{IncOp}
 use Rattle.sve_insn.specs.declared.ops.IncOp.TheVariants.{Inc, Dec}
@@ -26,23 +29,16 @@ abbrev pub inc_lane_op : IncOp → LaneOp
 inc_lane_op Inc = Add
 inc_lane_op Dec = Sub
 
--- the same, saturating
-abbrev pub sat_lane_op : SatOp → LaneOp
-sat_lane_op Sqinc = SqaddAmount
-sat_lane_op Uqinc = Uqadd
-sat_lane_op Sqdec = SqsubAmount
-sat_lane_op Uqdec = Uqsub
-
--- the names with sq
-abbrev pub saturates_signed : SatOp → Bool
-saturates_signed Sqinc = true
-saturates_signed Uqinc = false
-saturates_signed Sqdec = true
-saturates_signed Uqdec = false
+-- the same, saturating, and whether it is of signed numbers
+abbrev pub saturating : SatOp → LaneOp × Bool
+saturating Sqinc = (SqaddAmount, true)
+saturating Uqinc = (Uqadd, false)
+saturating Sqdec = (SqsubAmount, true)
+saturating Uqdec = (Uqsub, false)
 
 -- the low w bits of a register and a count, saturating at w bits; the result is extended to 64 bits, by its sign for sq
 abbrev pub sat_counted : SatOp → ℕ → ℕ → ℕ → ℕ
-sat_counted op w x count = extended_by (saturates_signed op) 64 w (lane_op (sat_lane_op op) w (x % 2 ^ w) count)
+sat_counted op w x count = extended_by (saturating op).1 64 w (lane_op (saturating op).0 w (x % 2 ^ w) count)
 
 -- ---- multiples of the vector length
 

@@ -10,11 +10,13 @@ use Rattle.sve_effects.specs.FirstFault.{cleared_from, element_at, first_cleared
 
 -- lane k of the result, by the new FFR: 0 from the first lane on whose bit is 0
 abbrev pub first_fault_lane : Bool → ℕ → Memory → List Element → List Bool → ℕ → ℕ → ℕ
-first_fault_lane is_signed e m es ffr n k = if is_before (first_cleared e ffr n) k then loaded_from is_signed e m (element_at es k) else 0
+first_fault_lane is_signed e m es ffr n k =
+    if is_before (first_cleared e ffr n) k then loaded_from is_signed e m (element_at es k) else 0
 
 -- the result in register zt, and the new FFR
 abbrev pub with_first_fault : Bool → ℕ → ℕ → Memory → List Element → List Bool → Vectors → Vectors
-with_first_fault is_signed e zt m es ffr v = with_ffr (with_lanes e (first_fault_lane is_signed e m es ffr (v.bits / e)) zt v) ffr
+with_first_fault is_signed e zt m es ffr v =
+    with_ffr (with_lanes e (first_fault_lane is_signed e m es ffr (v.bits / e)) zt v) ffr
 
 -- the load of these elements into lanes of e bits of register zt
 abbrev pub first_fault_loaded : Bool → ℕ → ℕ → List Element → Core → Vectors → Memory → Done

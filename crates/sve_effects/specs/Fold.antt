@@ -1,4 +1,6 @@
--- Folds over the active lanes of a register, in the order of lanes.
+-- Folds over the active lanes of a register, in the order of lanes. From the Arm Architecture Reference Manual for
+-- A-profile (DDI 0487), C8.2 'Alphabetical list of SVE instructions': the operations of the entries SADDV, UADDV,
+-- SMAXV, UMAXV, SMINV, UMINV, ORV, EORV and ANDV.
 use Rattle.std.specs.Prelude.{ℕ, ◌-◌, ◌^◌}
 use Rattle.sve_insn.specs.declared.ops.ReduceOp.{ReduceOp}
 use Rattle.sve_insn.specs.declared.ops.ReduceOp.TheVariants.{Saddv, Uaddv, Smaxv, Umaxv, Sminv, Uminv, Orv, Eorv, Andv}

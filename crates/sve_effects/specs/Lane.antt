@@ -1,4 +1,7 @@
--- What SVE instructions make of lanes of e bits: exact over the whole numbers, then modulo 2^e.
+-- What SVE instructions make of lanes of e bits: exact over the whole numbers, then modulo 2^e. From the Arm
+-- Architecture Reference Manual for A-profile (DDI 0487), C8.2 'Alphabetical list of SVE instructions': what the
+-- operation of each entry makes of one element, with the shared pseudocode SInt, UInt, SignedSatQ, UnsignedSatQ,
+-- BitCount, CountLeadingZeroBits and CountLeadingSignBits. Names of functions are this project's own.
 use Rattle.std.specs.Prelude.{ℕ, zero, suc, ◌+◌, ◌-◌, ◌*◌, ◌/◌, ◌^◌, max, min, Bool, true, false, not, nat_eq, nat_lt, nat_le, if◌then◌else◌, bit_and, bit_or, bit_xor, count_ones, ℤ, pos, neg_ℤ, ◌+ℤ◌, ◌-ℤ◌, ◌*ℤ◌, int_lt, int_le, unsigned_abs}
 use Rattle.std.specs.Int.{int_max, int_min, int_shr}
 use Rattle.emu_bits.specs.Fields.{bit, field}
@@ -22,8 +25,6 @@ use Rattle.sve_insn.specs.declared.ops.LogicZOp.{LogicZOp}
 use Rattle.sve_insn.specs.declared.ops.LogicZOp.TheVariants as logic_names
 use Rattle.sve_insn.specs.declared.ops.DotOp.{DotOp}
 use Rattle.sve_insn.specs.declared.ops.DotOp.TheVariants as dot_names
-use Rattle.sve_insn.specs.declared.ops.DotIndexedOp.{DotIndexedOp}
-use Rattle.sve_insn.specs.declared.ops.DotIndexedOp.TheVariants as dot_indexed_names
 use Rattle.sve_insn.specs.declared.ops.WideImmOp.{WideImmOp}
 use Rattle.sve_insn.specs.declared.ops.WideImmOp.TheVariants as wide_imm_names
 use Rattle.sve_insn.specs.declared.ops.MinMaxImmOp.{MinMaxImmOp}
@@ -52,7 +53,8 @@ saturated_unsigned e z = unsigned_int (saturated z (pos 0) (pos (2 ^ e - 1))) e
 
 -- ---- functions of two operands
 
--- Operands a and b; b is the amount of a shift, any unsigned number: from e on, lsl and lsr give 0 and asr copies of the sign.
+-- Operands a and b; b is the amount of a shift, any unsigned number: from e on, lsl and lsr give 0 and asr copies of
+-- the sign.
 abbrev pub lane_op : LaneOp → ℕ → ℕ → ℕ → ℕ
 lane_op Add e a b = unsigned (a + b) e
 lane_op Sub e a b = unsigned_int (pos a -ℤ pos b) e
@@ -81,10 +83,6 @@ lane_op Sqsub e a b = saturated_signed e (signed a e -ℤ signed b e)
 lane_op Uqsub e a b = saturated_unsigned e (pos a -ℤ pos b)
 lane_op SqaddAmount e a b = saturated_signed e (signed a e +ℤ pos b)
 lane_op SqsubAmount e a b = saturated_signed e (signed a e -ℤ pos b)
-
--- the same, with the operands exchanged where that is said
-abbrev pub lane_op_by : Bool → LaneOp → ℕ → ℕ → ℕ → ℕ
-lane_op_by exchanged op e a b = if exchanged then lane_op op e b a else lane_op op e a b
 
 -- ---- comparisons
 
@@ -144,18 +142,13 @@ multiply_add e c a b = unsigned (c + a * b) e
 abbrev pub multiply_subtract : ℕ → ℕ → ℕ → ℕ → ℕ
 multiply_subtract e c a b = unsigned_int (pos c -ℤ pos (a * b)) e
 
--- whether a name subtracts
-abbrev pub subtracts_z : MulAddZOp → Bool
-subtracts_z mul_add_z_names.Mla = false
-subtracts_z mul_add_z_names.Mls = true
+abbrev pub multiply_z : MulAddZOp → ℕ → ℕ → ℕ → ℕ → ℕ
+multiply_z mul_add_z_names.Mla e c a b = multiply_add e c a b
+multiply_z mul_add_z_names.Mls e c a b = multiply_subtract e c a b
 
-abbrev pub subtracts_d : MulAddDOp → Bool
-subtracts_d mul_add_d_names.Mad = false
-subtracts_d mul_add_d_names.Msb = true
-
--- c ± a·b
-abbrev pub multiply_by : Bool → ℕ → ℕ → ℕ → ℕ → ℕ
-multiply_by subtracts e c a b = if subtracts then multiply_subtract e c a b else multiply_add e c a b
+abbrev pub multiply_d : MulAddDOp → ℕ → ℕ → ℕ → ℕ → ℕ
+multiply_d mul_add_d_names.Mad e c a b = multiply_add e c a b
+multiply_d mul_add_d_names.Msb e c a b = multiply_subtract e c a b
 
 -- ---- dot products
 
@@ -173,58 +166,45 @@ quarter_product is_signed e a b j = quarter is_signed e a j *ℤ quarter is_sign
 
 -- c plus the sum of the products of the four quarters of a and b
 abbrev pub dot_product : Bool → ℕ → ℕ → ℕ → ℕ → ℕ
-dot_product is_signed e c a b = unsigned_int (pos c +ℤ (quarter_product is_signed e a b 0 +ℤ quarter_product is_signed e a b 1 +ℤ quarter_product is_signed e a b 2 +ℤ quarter_product is_signed e a b 3)) e
+dot_product is_signed e c a b =
+    unsigned_int (pos c +ℤ (quarter_product is_signed e a b 0 +ℤ quarter_product is_signed e a b 1
+    +ℤ quarter_product is_signed e a b 2 +ℤ quarter_product is_signed e a b 3)) e
 
 -- whether a name reads the quarters as signed
 abbrev pub dot_signed : DotOp → Bool
 dot_signed dot_names.Sdot = true
 dot_signed dot_names.Udot = false
 
-abbrev pub dot_indexed_signed : DotIndexedOp → Bool
-dot_indexed_signed dot_indexed_names.SdotS = true
-dot_indexed_signed dot_indexed_names.UdotS = false
-dot_indexed_signed dot_indexed_names.SdotD = true
-dot_indexed_signed dot_indexed_names.UdotD = false
-
 -- ---- names to functions
 
-abbrev pub binary_lane_op : BinaryOp → LaneOp
-binary_lane_op binary_names.Add = Add
-binary_lane_op binary_names.Sub = Sub
-binary_lane_op binary_names.Subr = Sub
-binary_lane_op binary_names.Smax = Smax
-binary_lane_op binary_names.Umax = Umax
-binary_lane_op binary_names.Smin = Smin
-binary_lane_op binary_names.Umin = Umin
-binary_lane_op binary_names.Sabd = Sabd
-binary_lane_op binary_names.Uabd = Uabd
-binary_lane_op binary_names.Mul = Mul
-binary_lane_op binary_names.Smulh = Smulh
-binary_lane_op binary_names.Umulh = Umulh
-binary_lane_op binary_names.Sdiv = Sdiv
-binary_lane_op binary_names.Udiv = Udiv
-binary_lane_op binary_names.Sdivr = Sdiv
-binary_lane_op binary_names.Udivr = Udiv
-binary_lane_op binary_names.Orr = Orr
-binary_lane_op binary_names.Eor = Eor
-binary_lane_op binary_names.And = And
-binary_lane_op binary_names.Bic = Bic
-binary_lane_op binary_names.Asr = Asr
-binary_lane_op binary_names.Lsr = Lsr
-binary_lane_op binary_names.Lsl = Lsl
-binary_lane_op binary_names.Asrr = Asr
-binary_lane_op binary_names.Lsrr = Lsr
-binary_lane_op binary_names.Lslr = Lsl
-
--- the names that take their operands in the other order
-abbrev pub binary_exchanged : BinaryOp → Bool
-binary_exchanged binary_names.Subr = true
-binary_exchanged binary_names.Sdivr = true
-binary_exchanged binary_names.Udivr = true
-binary_exchanged binary_names.Asrr = true
-binary_exchanged binary_names.Lsrr = true
-binary_exchanged binary_names.Lslr = true
-binary_exchanged op = false
+-- the names with r take their operands in the other order
+abbrev pub binary : BinaryOp → ℕ → ℕ → ℕ → ℕ
+binary binary_names.Add e a b = lane_op Add e a b
+binary binary_names.Sub e a b = lane_op Sub e a b
+binary binary_names.Subr e a b = lane_op Sub e b a
+binary binary_names.Smax e a b = lane_op Smax e a b
+binary binary_names.Umax e a b = lane_op Umax e a b
+binary binary_names.Smin e a b = lane_op Smin e a b
+binary binary_names.Umin e a b = lane_op Umin e a b
+binary binary_names.Sabd e a b = lane_op Sabd e a b
+binary binary_names.Uabd e a b = lane_op Uabd e a b
+binary binary_names.Mul e a b = lane_op Mul e a b
+binary binary_names.Smulh e a b = lane_op Smulh e a b
+binary binary_names.Umulh e a b = lane_op Umulh e a b
+binary binary_names.Sdiv e a b = lane_op Sdiv e a b
+binary binary_names.Udiv e a b = lane_op Udiv e a b
+binary binary_names.Sdivr e a b = lane_op Sdiv e b a
+binary binary_names.Udivr e a b = lane_op Udiv e b a
+binary binary_names.Orr e a b = lane_op Orr e a b
+binary binary_names.Eor e a b = lane_op Eor e a b
+binary binary_names.And e a b = lane_op And e a b
+binary binary_names.Bic e a b = lane_op Bic e a b
+binary binary_names.Asr e a b = lane_op Asr e a b
+binary binary_names.Lsr e a b = lane_op Lsr e a b
+binary binary_names.Lsl e a b = lane_op Lsl e a b
+binary binary_names.Asrr e a b = lane_op Asr e b a
+binary binary_names.Lsrr e a b = lane_op Lsr e b a
+binary binary_names.Lslr e a b = lane_op Lsl e b a
 
 abbrev pub shift_lane_op : ShiftOp → LaneOp
 shift_lane_op shift_names.Asr = Asr
@@ -251,35 +231,23 @@ logic_lane_op logic_names.Orr = Orr
 logic_lane_op logic_names.Eor = Eor
 logic_lane_op logic_names.Bic = Bic
 
--- an immediate is the unsigned number that it is, also beside a signed lane
-abbrev pub wide_imm_lane_op : WideImmOp → LaneOp
-wide_imm_lane_op wide_imm_names.Add = Add
-wide_imm_lane_op wide_imm_names.Sub = Sub
-wide_imm_lane_op wide_imm_names.Subr = Sub
-wide_imm_lane_op wide_imm_names.Sqadd = SqaddAmount
-wide_imm_lane_op wide_imm_names.Uqadd = Uqadd
-wide_imm_lane_op wide_imm_names.Sqsub = SqsubAmount
-wide_imm_lane_op wide_imm_names.Uqsub = Uqsub
+-- an immediate is the unsigned number that it is, also beside a signed lane; subr takes the operands in the other order
+abbrev pub wide_imm : WideImmOp → ℕ → ℕ → ℕ → ℕ
+wide_imm wide_imm_names.Add e a b = lane_op Add e a b
+wide_imm wide_imm_names.Sub e a b = lane_op Sub e a b
+wide_imm wide_imm_names.Subr e a b = lane_op Sub e b a
+wide_imm wide_imm_names.Sqadd e a b = lane_op SqaddAmount e a b
+wide_imm wide_imm_names.Uqadd e a b = lane_op Uqadd e a b
+wide_imm wide_imm_names.Sqsub e a b = lane_op SqsubAmount e a b
+wide_imm wide_imm_names.Uqsub e a b = lane_op Uqsub e a b
 
--- the name that takes its operands in the other order
-abbrev pub wide_imm_exchanged : WideImmOp → Bool
-wide_imm_exchanged wide_imm_names.Subr = true
-wide_imm_exchanged op = false
-
-abbrev pub min_max_lane_op : MinMaxImmOp → LaneOp
-min_max_lane_op min_max_names.Smax = Smax
-min_max_lane_op min_max_names.Smin = Smin
-min_max_lane_op min_max_names.Mul = Mul
-min_max_lane_op min_max_names.Umax = Umax
-min_max_lane_op min_max_names.Umin = Umin
-
--- the names whose immediate is signed
-abbrev pub min_max_signed : MinMaxImmOp → Bool
-min_max_signed min_max_names.Smax = true
-min_max_signed min_max_names.Smin = true
-min_max_signed min_max_names.Mul = true
-min_max_signed min_max_names.Umax = false
-min_max_signed min_max_names.Umin = false
+-- an immediate of 8 bits is signed, but beside umax and umin
+abbrev pub min_max : MinMaxImmOp → ℕ → ℕ → ℕ → ℕ
+min_max min_max_names.Smax e a imm8 = lane_op Smax e a (sign_extended e 8 imm8)
+min_max min_max_names.Smin e a imm8 = lane_op Smin e a (sign_extended e 8 imm8)
+min_max min_max_names.Mul e a imm8 = lane_op Mul e a (sign_extended e 8 imm8)
+min_max min_max_names.Umax e a imm8 = lane_op Umax e a imm8
+min_max min_max_names.Umin e a imm8 = lane_op Umin e a imm8
 
 -- a lane and a bitmask; dupm puts the bitmask in the lane
 abbrev pub bitmask_lane_op : BitmaskZOp → ℕ → ℕ → ℕ

@@ -1,4 +1,6 @@
--- The loops over lanes: lane k of what they write is given by k alone.
+-- The loops over lanes: lane k of what they write is given by k alone. From the Arm Architecture Reference Manual for
+-- A-profile (DDI 0487), C8.2 'Alphabetical list of SVE instructions': the loops over elements that the operations of
+-- its entries share, with the shared pseudocode Elem and ActivePredicateElement.
 use Rattle.std.specs.Prelude.{ℕ, zero, suc, ◌*◌, ◌/◌, ◌^◌, Bool, if◌then◌else◌}
 use Rattle.emu_model.specs.State.{Vectors}
 use Rattle.emu_model.specs.Active.{active}
@@ -24,9 +26,9 @@ is_active e v pg k = active e (read_p v pg) k
 
 -- ---- loops
 
--- plain: each lane k of register zd is f k
-abbrev pub plain : ℕ → (ℕ → ℕ) → ℕ → Vectors → Vectors
-plain e f zd v = with_lanes e f zd v
+-- each lane k of register zd is f k
+abbrev pub every_lane : ℕ → (ℕ → ℕ) → ℕ → Vectors → Vectors
+every_lane e f zd v = with_lanes e f zd v
 
 -- merging: an inactive lane keeps its value
 abbrev pub merging : ℕ → ℕ → (ℕ → ℕ) → ℕ → Vectors → Vectors
@@ -36,10 +38,12 @@ merging e pg f zd v = with_lanes e (λ k. if is_active e v pg k then f k else la
 abbrev pub zeroing : ℕ → ℕ → (ℕ → ℕ) → ℕ → Vectors → Vectors
 zeroing e pg f zd v = with_lanes e (λ k. if is_active e v pg k then f k else 0) zd v
 
--- fold: what the active ones of the first n lanes make of a start, in the order of lanes; f takes the value so far and the lane
+-- fold: what the active ones of the first n lanes make of a start, in the order of lanes; f takes the value so far and
+-- the lane
 unfoldable pub folded : (ℕ → Bool) → (ℕ → ℕ → ℕ) → ℕ → (ℕ → ℕ) → ℕ → ℕ
 folded is_on f start value zero = start
-folded is_on f start value (suc n) = if is_on n then f (folded is_on f start value n) (value n) else folded is_on f start value n
+folded is_on f start value (suc n) =
+    if is_on n then f (folded is_on f start value n) (value n) else folded is_on f start value n
 
 -- the same over all active lanes of register zn
 abbrev pub folding : ℕ → ℕ → (ℕ → ℕ → ℕ) → ℕ → ℕ → Vectors → ℕ

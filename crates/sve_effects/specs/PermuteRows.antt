@@ -1,4 +1,7 @@
--- What the permutes of lanes and of predicate fields do, and copies of scalars to lanes and of lanes to scalars.
+-- What the permutes of lanes and of predicate fields do, and copies of scalars to lanes and of lanes to scalars. From
+-- the Arm Architecture Reference Manual for A-profile (DDI 0487), C8.2 'Alphabetical list of SVE instructions': the
+-- operations of the entries of permutes (DUP, INSR, REV, SUNPKLO, TBL, ZIP1, PUNPKLO, COMPACT, SPLICE, EXT, CPY, LASTA,
+-- CLASTA and their kin), with the shared pseudocode LastActiveElement.
 use Rattle.std.specs.Prelude.{ℕ, ◌+◌, ◌*◌, ◌/◌, ◌%◌, ◌^◌, Bool, true, false, nat_eq, if◌then◌else◌, List, get_or, is_some, unwrap_or}
 use Rattle.sve_insn.specs.declared.ops.InterleaveOp.{InterleaveOp}
 use Rattle.sve_insn.specs.declared.ops.InterleaveOp.TheVariants.{Zip1, Zip2, Uzp1, Uzp2, Trn1, Trn2}
@@ -30,18 +33,20 @@ abbrev pub lanes : ℕ → Vectors → ℕ
 lanes e v = v.bits / e
 
 -- lane k of e bits of Zd is what place k names, of Zn, Zm and a scalar
-abbrev pub moved : ℕ → (ℕ → Place) → ℕ → ℕ → ℕ → ℕ → Vectors → Vectors
-moved e place zn zm scalar zd v = with_lanes e (λ k. taken (lane_of e v zn) (lane_of e v zm) scalar 0 (place k)) zd v
+abbrev pub with_places : ℕ → (ℕ → Place) → ℕ → ℕ → ℕ → ℕ → Vectors → Vectors
+with_places e place zn zm scalar zd v =
+    with_lanes e (λ k. taken (lane_of e v zn) (lane_of e v zm) scalar 0 (place k)) zd v
 
 -- bit i of field k of w bits
 abbrev pub bit_of_field : ℕ → ℕ → List Bool → ℕ → Bool
 bit_of_field w i bits k = get_or bits (k * w + i) false
 
 -- field k of e / 8 bits of Pd is the whole field that place k names, of Pn and Pm
-abbrev pub moved_fields : ℕ → (ℕ → Place) → ℕ → ℕ → ℕ → Vectors → Vectors
-moved_fields e place pn pm pd v =
+abbrev pub with_p_places : ℕ → (ℕ → Place) → ℕ → ℕ → ℕ → Vectors → Vectors
+with_p_places e place pn pm pd v =
     let w : ℕ = e / 8 in
-    with_fields 8 (λ j. taken (bit_of_field w (j % w) (read_p v pn)) (bit_of_field w (j % w) (read_p v pm)) false false (place (j / w))) pd v
+    with_fields 8 (λ j. taken
+    (bit_of_field w (j % w) (read_p v pn)) (bit_of_field w (j % w) (read_p v pm)) false false (place (j / w))) pd v
 
 -- ---- names
 
@@ -55,19 +60,12 @@ abbrev pub copy_scalar : CopyRegOp → ℕ → ℕ → Core → Vectors → ℕ
 copy_scalar CpyR e rn c v = read_x_sp c rn
 copy_scalar CpyV e rn c v = lane_of e v rn 0
 
--- the names with hi
-abbrev pub is_high : UnpackOp → Bool
-is_high Sunpklo = false
-is_high Sunpkhi = true
-is_high Uunpklo = false
-is_high Uunpkhi = true
-
--- the names with s before them
-abbrev pub is_signed : UnpackOp → Bool
-is_signed Sunpklo = true
-is_signed Sunpkhi = true
-is_signed Uunpklo = false
-is_signed Uunpkhi = false
+-- whether a name is of the high half, as those with hi are, and whether its lanes are signed, as those with s are
+abbrev pub unpacks : UnpackOp → Bool × Bool
+unpacks Sunpklo = (false, true)
+unpacks Sunpkhi = (true, true)
+unpacks Uunpklo = (false, false)
+unpacks Uunpkhi = (true, false)
 
 -- the names with 1 are of the first halves, or of the even lanes; those with 2 of the others
 abbrev pub interleave_place : InterleaveOp → ℕ → ℕ → Place
@@ -98,13 +96,6 @@ dup_index imm2 tsz = (imm2 * 32 + tsz) / 2 ^ (lowest_bit tsz + 1)
 
 -- ---- single lanes
 
--- the names with a: the lane after the last active one
-abbrev pub is_after : LastOp → Bool
-is_after LastaR = true
-is_after LastbR = false
-is_after LastaV = true
-is_after LastbV = false
-
 -- whether one of n lanes is active
 abbrev pub any_active : (ℕ → Bool) → ℕ → Bool
 any_active active n = is_some (last_where n active)
@@ -115,18 +106,21 @@ last_value after e pg zn v = lane_of e v zn (last_lane after (is_active e v pg) 
 
 -- the same where a lane is active, else another number
 abbrev pub last_value_or : ℕ → Bool → ℕ → ℕ → ℕ → Vectors → ℕ
-last_value_or other after e pg zn v = if any_active (is_active e v pg) (lanes e v) then last_value after e pg zn v else other
+last_value_or other after e pg zn v =
+    if any_active (is_active e v pg) (lanes e v) then last_value after e pg zn v else other
 
 -- ---- the rows
 
--- the lane to a general register, with zeros above, or to a vector register
-abbrev pub after_last : LastOp → ℕ → ℕ → ℕ → Core → Vectors → Registers
-after_last LastaR e x rd c v = leaves (with_x c rd 64 x) v
-after_last LastbR e x rd c v = leaves (with_x c rd 64 x) v
-after_last LastaV e x rd c v = leaves c (with_low e x rd v)
-after_last LastbV e x rd c v = leaves c (with_low e x rd v)
+-- a lane to a general register, with zeros above, or to a vector register; for the names with a, that after the last
+-- active one
+abbrev pub after_last : LastOp → ℕ → ℕ → ℕ → ℕ → Core → Vectors → Registers
+after_last LastaR e pg zn rd c v = leaves (with_x c rd 64 (last_value true e pg zn v)) v
+after_last LastbR e pg zn rd c v = leaves (with_x c rd 64 (last_value false e pg zn v)) v
+after_last LastaV e pg zn vd c v = leaves c (with_low e (last_value true e pg zn v) vd v)
+after_last LastbV e pg zn vd c v = leaves c (with_low e (last_value false e pg zn v) vd v)
 
--- the same where a lane is active; where none is, a scalar's register gets its own low e bits, and a register of lanes stays
+-- the same where a lane is active; where none is, a scalar's register gets its own low e bits, and a register of lanes
+-- stays
 abbrev pub cond_last_x : Bool → ℕ → ℕ → ℕ → ℕ → Core → Vectors → Registers
 cond_last_x after e pg zm rdn c v = leaves (with_x c rdn 64 (last_value_or (read_x c rdn % 2 ^ e) after e pg zm v)) v
 
@@ -134,7 +128,9 @@ abbrev pub cond_last_low : Bool → ℕ → ℕ → ℕ → ℕ → Core → Vec
 cond_last_low after e pg zm vdn c v = leaves c (with_low e (last_value_or (lane_of e v vdn 0) after e pg zm v) vdn v)
 
 abbrev pub cond_last_lanes : Bool → ℕ → ℕ → ℕ → ℕ → Core → Vectors → Registers
-cond_last_lanes after e pg zm zdn c v = leaves c (if any_active (is_active e v pg) (lanes e v) then with_lanes e (λ k. last_value after e pg zm v) zdn v else v)
+cond_last_lanes after e pg zm zdn c v =
+    leaves c (if any_active (is_active e v pg) (lanes e v) then with_lanes e (λ k. last_value after e pg zm v) zdn v
+    else v)
 
 abbrev pub after_cond_last : CondLastOp → ℕ → ℕ → ℕ → ℕ → Core → Vectors → Registers
 after_cond_last ClastaR e pg zm rdn c v = cond_last_x true e pg zm rdn c v
@@ -146,8 +142,12 @@ after_cond_last ClastbZ e pg zm zdn c v = cond_last_lanes false e pg zm zdn c v
 
 -- the lanes of half the size, extended
 abbrev pub after_unpack : UnpackOp → ℕ → ℕ → ℕ → Vectors → Vectors
-after_unpack op e zn zd v = with_lanes e (λ k. extended_by (is_signed op) e (e / 2) (taken (lane_of (e / 2) v zn) (lane_of (e / 2) v zn) 0 0 (half_place (is_high op) (lanes e v) k))) zd v
+after_unpack op e zn zd v =
+    with_lanes e (λ k. extended_by (unpacks op).1 e (e / 2)
+    (taken (lane_of (e / 2) v zn) (lane_of (e / 2) v zn) 0 0 (half_place (unpacks op).0 (lanes e v) k))) zd v
 
 -- field k of 2 bits has bit k of the half of Pn as its lowest bit, and 0 above
 abbrev pub after_unpack_p : UnpackPOp → ℕ → ℕ → Vectors → Vectors
-after_unpack_p op pn pd v = with_fields 16 (λ k. taken (is_active 8 v pn) (is_active 8 v pn) false false (half_place (is_high_p op) (lanes 16 v) k)) pd v
+after_unpack_p op pn pd v =
+    with_fields 16 (λ k.
+    taken (is_active 8 v pn) (is_active 8 v pn) false false (half_place (is_high_p op) (lanes 16 v) k)) pd v

@@ -1,4 +1,8 @@
--- What each SVE instruction on predicates leaves of the registers: compares, logic, breaks, loops, counts, and FFR.
+-- Parts of the SVE instructions that make predicates and flags: compares, logic, breaks, loops, counts, and FFR.
+-- From the Arm Architecture Reference Manual for A-profile (DDI 0487), C8.2 'Alphabetical list of SVE instructions':
+-- the operations of the entries of compares, of logic, breaks and counts of predicates, of FFR and of loops (WHILELT
+-- and its kin, CTERMEQ), with the shared pseudocode PredTest. That WRFFR writes any predicate as it is, also one that
+-- has a 1 above a 0, is this project's own choice where the manual leaves it open.
 use Rattle.std.specs.Prelude.{ℕ, ◌/◌, ◌%◌, ◌^◌, Bool, true, false, not, ◌&&◌, nat_eq, if◌then◌else◌, List}
 use Rattle.sve_insn.specs.declared.ops.BreakOp.{BreakOp}
 use Rattle.sve_insn.specs.declared.ops.BreakOp.TheVariants.{Brka, Brkb}
@@ -59,8 +63,12 @@ abbrev pub after_test : Bool → ℕ → ℕ → List Bool → List Bool → Cor
 after_test sets e m g result c = if sets then record c { flags = pred_test e m g result } else c
 
 -- a result in predicate pd, with the flags of PredTest(g, result, e), where they are set
-abbrev pub put : Bool → ℕ → List Bool → ℕ → List Bool → Core → Vectors → Registers
-put sets e g pd result c v = leaves (after_test sets e (predicate_bits v) g result c) (with_p v pd result)
+abbrev pub with_result : Bool → ℕ → List Bool → ℕ → List Bool → Core → Vectors → Registers
+with_result sets e g pd result c v = leaves (after_test sets e (predicate_bits v) g result c) (with_p v pd result)
+
+-- the same, where they are set
+abbrev pub with_result_and_flags : ℕ → List Bool → ℕ → List Bool → Core → Vectors → Registers
+with_result_and_flags e g pd result c v = with_result true e g pd result c v
 
 -- ---- compares
 
@@ -111,8 +119,8 @@ abbrev pub compared : ℕ → ℕ → (ℕ → Bool) → Vectors → List Bool
 compared e pg test v = fields e (predicate_bits v) (λ k. if is_active e v pg k then test k else false)
 
 -- they are the result, and the flags are those of PredTest(pg, result, e)
-abbrev pub put_compared : ℕ → ℕ → ℕ → (ℕ → Bool) → Core → Vectors → Registers
-put_compared e pg pd test c v = put true e (read_p v pg) pd (compared e pg test v) c v
+abbrev pub with_compared : ℕ → ℕ → ℕ → (ℕ → Bool) → Core → Vectors → Registers
+with_compared e pg pd test c v = with_result_and_flags e (read_p v pg) pd (compared e pg test v) c v
 
 -- ---- names
 
@@ -165,7 +173,8 @@ abbrev pub set_lanes_of : ℕ → ℕ → Vectors → ℕ
 set_lanes_of e p v = count_lanes e (predicate_bits v) (read_p v p) (read_p v p)
 
 abbrev pub while_result : WhileOp → ℕ → Bool → ℕ → ℕ → Core → Vectors → List Bool
-while_result op e sf rn rm c v = while_lanes (while_of op) (width_of sf) (read_x c rn) (read_x c rm) e (predicate_bits v)
+while_result op e sf rn rm c v =
+    while_lanes (while_of op) (width_of sf) (read_x c rn) (read_x c rm) e (predicate_bits v)
 
 -- whether a loop ends: the low w bits are equal, or differ
 abbrev pub terminates : CtermOp → ℕ → ℕ → ℕ → Bool

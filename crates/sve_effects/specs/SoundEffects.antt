@@ -7,29 +7,23 @@ use Rattle.emu_model.specs.SoundDone.{IsSoundDone, IsSoundRegisters, went_on_sou
 use Rattle.emu_model.specs.State.{Core, Vectors}
 use Rattle.emu_model.specs.SoundState.{IsSoundCore, IsSoundVectors, IsSoundMemory}
 use Rattle.sve_effects.specs.Rows.{performed}
-use Rattle.sve_effects.specs.Row.{Row, by_lanes, permutes, counts, folds, predicates, memory, done_by_way, done_by}
+use Rattle.sve_effects.specs.Row.{Row, by_lanes, by_registers, memory, done_by_way, done_by}
 use Rattle.sve_effects.specs.Effects.{registers_after}
 use Rattle.sve_effects.specs.Rows.{row}
 use Rattle.sve_effects.specs.SoundRows.{registers_sound}
 use Rattle.sve_effects.specs.SoundVectorMemory.{load_row_sound, store_row_sound, first_fault_row_sound}
-use Rattle.sve_effects.specs.VectorElements.{MemoryRow, Way, loads, stores, gathers, scatters, first_faults, non_faults, elements_of, row_layout}
+use Rattle.sve_effects.specs.VectorElements.{MemoryRow, Way, loads, stores, first_faults, non_faults, elements_of, row_layout}
 
 module _ (c : Core) (v : Vectors) (m : Memory) (s : IsSoundCore c) (u : IsSoundVectors v) (t : IsSoundMemory m) where
   way_sound : (way : Way) (r : MemoryRow) → IsSoundDone (done_by_way way r c v m)
   way_sound loads r = load_row_sound c v m s u t r
   way_sound stores r = store_row_sound c v m s u t r
-  way_sound (gathers true) r = first_fault_row_sound c v m s u t r (elements_of (row_layout r c v))
-  way_sound (gathers false) r = load_row_sound c v m s u t r
-  way_sound scatters r = store_row_sound c v m s u t r
-  way_sound first_faults r = first_fault_row_sound c v m s u t r (elements_of (row_layout r c v))
-  way_sound non_faults r = first_fault_row_sound c v m s u t r (elements_of (row_layout r c v))
+  way_sound first_faults r = first_fault_row_sound c v m s u t false r (elements_of (row_layout r c v))
+  way_sound non_faults r = first_fault_row_sound c v m s u t true r (elements_of (row_layout r c v))
 
   row_sound : (r : Row) → IsSoundRegisters (registers_after r c v) → IsSoundDone (done_by r c v m)
   row_sound (by_lanes f) h = went_on_sound (leaves c (f c v)) m h t
-  row_sound (permutes f) h = went_on_sound (f c v) m h t
-  row_sound (counts f) h = went_on_sound (f c v) m h t
-  row_sound (folds f) h = went_on_sound (f c v) m h t
-  row_sound (predicates f) h = went_on_sound (f c v) m h t
+  row_sound (by_registers f) h = went_on_sound (f c v) m h t
   row_sound (memory r) h = way_sound r.way r
 
 pub performed_sound : (form : SveForm) (c : Core) (v : Vectors) (m : Memory) → IsSoundCore c → IsSoundVectors v → IsSoundMemory m → IsSoundDone (performed form c v m)

@@ -2,10 +2,10 @@
 use Rattle.std.specs.Prelude.{ℕ, zero, suc, ◌*◌, ◌/◌, ◌%◌, Bool, true, false, List, [], ◌∷◌, length, Option, Some, None, IfSome, if◌then◌else◌}
 use Rattle.std.proofs.Common.{◌∙◌}
 use Rattle.emu_model.specs.declared.access.Kind.TheVariants.{Read as ReadKind, Write as WriteKind}
-use Rattle.emu_model.specs.declared.trap.TrapKind.TheVariants.{Read, SpAlign}
+use Rattle.emu_model.specs.declared.trap.TrapKind.TheVariants.{Read, Write, SpAlign}
 use Rattle.emu_model.specs.Access.{Memory, value}
-use Rattle.emu_model.specs.Done.{Done, traps}
-use Rattle.emu_model.specs.Elements.{Element, reach}
+use Rattle.emu_model.specs.Done.{Done, as_far, leaves, traps}
+use Rattle.emu_model.specs.Elements.{Element, accesses_of, reach, with_stored}
 use Rattle.emu_model.specs.Lists.{each}
 use Rattle.emu_model.specs.ListLaws.{length-each}
 use Rattle.emu_model.specs.Sound.{refused_is_word}
@@ -16,11 +16,11 @@ use Rattle.emu_model.specs.SoundState.{IsWord, HasLength, IsSoundCore, IsSoundVe
 use Rattle.emu_model.specs.SoundLanes.{sound_lanes, sound_p, sound_ffr_bits}
 use Rattle.emu_model.specs.Lanes.{with_lanes}
 use Rattle.sve_effects.specs.Lane.{extended_by}
-use Rattle.sve_effects.specs.FirstFault.{cleared_from, first_suppressed, never_traps, first_refused, loaded_unless, first_fault_row}
+use Rattle.sve_effects.specs.FirstFault.{cleared_from, first_suppressed, first_refused, loaded_unless, first_fault_row}
 use Rattle.sve_effects.specs.FirstFaultParts.{first_fault_lane, with_first_fault, first_fault_loaded}
 use Rattle.sve_effects.specs.LaneLoop.{is_active}
 use Rattle.sve_effects.specs.VectorElements.{MemoryRow, Transfer, each_active, repeated, replicated, whole_z, whole_p, Layout, register_at, row_layout, elements_of}
-use Rattle.sve_effects.specs.VectorLoadStore.{loaded_lane, with_loaded, after_load, has_sp_base, is_misaligned, element_stored, load_as_far, store_as_far, unless_misaligned, loaded_to, stored_to, load_row, store_row}
+use Rattle.sve_effects.specs.VectorLoadStore.{loaded_lane, with_loaded, after_load, has_sp_base, is_misaligned, element_stored, unless_misaligned, loaded_to, stored_to, load_row, store_row}
 
 -- ---- what is loaded
 
@@ -39,11 +39,11 @@ after_load_sound whole_p is_signed l m v s = sound_p (each (v.bits / 8) _) l.reg
 -- ---- the rows
 
 module _ (c : Core) (v : Vectors) (m : Memory) (s : IsSoundCore c) (u : IsSoundVectors v) (t : IsSoundMemory m) where
-  load_sound : (stop : Option ℕ) (es : List Element) (after : Vectors) → IfSome stop IsWord → IsSoundVectors after → IsSoundDone (load_as_far stop es after c v m)
+  load_sound : (stop : Option ℕ) (es : List Element) (after : Vectors) → IfSome stop IsWord → IsSoundVectors after → IsSoundDone (as_far stop Read (accesses_of false es) (leaves c v) (leaves c after) m)
   load_sound None es after w x = record { core = s; vectors = x; memory = t; effect = tt }
   load_sound (Some a) es after w x = record { core = s; vectors = u; memory = t; effect = w }
 
-  store_sound : (stop : Option ℕ) (es : List Element) (stores : Element → ℕ) → IfSome stop IsWord → IsSoundDone (store_as_far stop es stores c v m)
+  store_sound : (stop : Option ℕ) (es : List Element) (stores : Element → ℕ) → IfSome stop IsWord → IsSoundDone (as_far stop Write (accesses_of true es) (leaves c v) (leaves c v) (with_stored stores es m))
   store_sound None es stores w = record { core = s; vectors = u; memory = with_stored_sound stores es m t; effect = tt }
   store_sound (Some a) es stores w = record { core = s; vectors = u; memory = with_stored_sound stores es m t; effect = w }
 
@@ -97,7 +97,7 @@ module _ (c : Core) (v : Vectors) (m : Memory) (s : IsSoundCore c) (u : IsSoundV
     effect = tt;
   }
 
-  pub first_fault_row_sound : (row : MemoryRow) (es : List Element) → IsSoundDone (first_fault_row row es c v m)
-  first_fault_row_sound row es =
+  pub first_fault_row_sound : (never_traps : Bool) (row : MemoryRow) (es : List Element) → IsSoundDone (first_fault_row never_traps row es c v m)
+  first_fault_row_sound never_traps row es =
       unless_sound (has_sp_base row.brackets) es _
-      (loaded_unless_sound _ (first_fault_loaded row.width.is_signed row.width.bits row.first es c v m) (trap_is_word (never_traps row.way) es) (first_fault_loaded_sound row.width.is_signed row.width.bits row.first es))
+      (loaded_unless_sound _ (first_fault_loaded row.width.is_signed row.width.bits row.first es c v m) (trap_is_word never_traps es) (first_fault_loaded_sound row.width.is_signed row.width.bits row.first es))

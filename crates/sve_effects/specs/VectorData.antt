@@ -1,5 +1,8 @@
--- What each SVE instruction that works lane by lane leaves of the vector registers.
-use Rattle.std.specs.Prelude.{ℕ, ◌+◌, ◌-◌, ◌*◌, ◌/◌, ◌^◌, Bool, if◌then◌else◌, unwrap_or, ℤ, pos, ◌*ℤ◌}
+-- Parts of the SVE instructions that work lane by lane: immediates and their shifts, indices, dot products with one
+-- lane of each 128 bits, and copies. From the Arm Architecture Reference Manual for A-profile (DDI 0487), C8.2
+-- 'Alphabetical list of SVE instructions': the entries of integer arithmetic, shifts, moves and copies, of which these
+-- are the parts that decode immediates and indices.
+use Rattle.std.specs.Prelude.{ℕ, ◌+◌, ◌-◌, ◌*◌, ◌/◌, ◌^◌, Bool, true, false, if◌then◌else◌, unwrap_or, ℤ, pos, ◌*ℤ◌}
 use Rattle.sve_insn.specs.declared.ops.IndexOp.{IndexOp}
 use Rattle.sve_insn.specs.declared.ops.IndexOp.TheVariants.{ImmImm, RegImm, ImmReg, RegReg}
 use Rattle.sve_insn.specs.declared.ops.DotIndexedOp.{DotIndexedOp}
@@ -10,7 +13,7 @@ use Rattle.emu_bits.specs.Bitmask.{highest_set}
 use Rattle.emu_bits.specs.Numbers.{signed, unsigned_int}
 use Rattle.emu_model.specs.State.{Core, Vectors, read_x}
 use Rattle.sve_effects.specs.Lane.{lane_op, dot_product}
-use Rattle.sve_effects.specs.LaneLoop.{lane_bits, lane_of, plain, merging, zeroing}
+use Rattle.sve_effects.specs.LaneLoop.{lane_bits, lane_of, every_lane, merging, zeroing}
 
 -- ---- immediate shifts
 
@@ -56,19 +59,17 @@ index_step RegReg c y = pos (read_x c y)
 
 -- ---- dot products with one lane of each 128 bits
 
--- the bits of the lanes of a name
-abbrev pub dot_indexed_bits : DotIndexedOp → ℕ
-dot_indexed_bits SdotS = 32
-dot_indexed_bits UdotS = 32
-dot_indexed_bits SdotD = 64
-dot_indexed_bits UdotD = 64
+-- of a name: the bits of its lanes; those of Zm in the field i:Zm; and whether quarters of lanes are signed
+pub record DotIndexed : Type 0 where
+  pub bits : ℕ
+  pub zm_bits : ℕ
+  pub is_signed : Bool
 
--- i:Zm, with Zm in 3 bits for lanes of 32 bits, and in 4 for lanes of 64
-abbrev pub dot_indexed_zm_bits : DotIndexedOp → ℕ
-dot_indexed_zm_bits SdotS = 3
-dot_indexed_zm_bits UdotS = 3
-dot_indexed_zm_bits SdotD = 4
-dot_indexed_zm_bits UdotD = 4
+abbrev pub dot_of : DotIndexedOp → DotIndexed
+dot_of SdotS = record { bits = 32; zm_bits = 3; is_signed = true }
+dot_of UdotS = record { bits = 32; zm_bits = 3; is_signed = false }
+dot_of SdotD = record { bits = 64; zm_bits = 4; is_signed = true }
+dot_of UdotD = record { bits = 64; zm_bits = 4; is_signed = false }
 
 -- lane i of the 128 bits that lane k of e bits is in
 abbrev pub indexed_lane : ℕ → ℕ → ℕ → ℕ
@@ -76,7 +77,9 @@ indexed_lane e i k = k / (128 / e) * (128 / e) + i
 
 -- lane k of e bits, with lane i of the same 128 bits of Zm
 abbrev pub dot_indexed : Bool → ℕ → ℕ → ℕ → ℕ → ℕ → Vectors → Vectors
-dot_indexed is_signed e i zm zn zda v = plain e (λ k. dot_product is_signed e (lane_of e v zda k) (lane_of e v zn k) (lane_of e v zm (indexed_lane e i k))) zda v
+dot_indexed is_signed e i zm zn zda v =
+    every_lane e (λ k.
+    dot_product is_signed e (lane_of e v zda k) (lane_of e v zn k) (lane_of e v zm (indexed_lane e i k))) zda v
 
 -- ---- copies
 

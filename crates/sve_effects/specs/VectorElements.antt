@@ -1,5 +1,8 @@
--- What SVE loads and stores say of their elements: which lanes have one, for which registers, and where it is in memory.
-use Rattle.std.specs.Prelude.{ℕ, zero, suc, ◌+◌, ◌*◌, ◌/◌, ◌%◌, Bool, true, false, List, [], ◌∷◌, ◌++◌, get_or, if◌then◌else◌, ℤ, pos, ◌+ℤ◌, ◌*ℤ◌, ◌^◌}
+-- What SVE loads and stores say of their elements: which lanes have one, for which registers, and where it is in
+-- memory. From the Arm Architecture Reference Manual for A-profile (DDI 0487), C8.2 'Alphabetical list of SVE
+-- instructions': the operations of the entries of loads and stores, with their addresses. The order of the elements is
+-- this project's own choice where the manual leaves it open.
+use Rattle.std.specs.Prelude.{ℕ, zero, suc, ◌+◌, ◌*◌, ◌/◌, ◌%◌, Bool, true, false, not, List, [], ◌∷◌, ◌++◌, get_or, if◌then◌else◌, ℤ, pos, ◌+ℤ◌, ◌*ℤ◌, ◌^◌}
 use Rattle.sve_insn.specs.declared.ops.LoadManyOp.{LoadManyOp}
 use Rattle.sve_insn.specs.declared.ops.LoadManyOp.TheVariants.{Ld2, Ld3, Ld4}
 use Rattle.sve_insn.specs.declared.ops.StoreManyOp.{StoreManyOp}
@@ -15,14 +18,16 @@ use Rattle.lane_model.specs.Predicate.{is_at}
 
 -- ---- what a row says of its elements
 
--- which access it is; a gather is first-faulting where its bit ff is 1
+-- which access it is
 pub data Way : Type 0 where
   loads : Way
   stores : Way
-  gathers : Bool → Way
-  scatters : Way
   first_faults : Way
   non_faults : Way
+
+-- a gather, which is first-faulting where its bit ff is 1
+abbrev pub gathering : Bool → Way
+gathering ff = if ff then first_faults else loads
 
 -- the bits of a lane, the bytes of its element, and whether a load extends the element's sign
 pub record Width : Type 0 where
@@ -55,10 +60,10 @@ pub data Offset : Type 0 where
   single : ℕ → Offset
   -- #imm9, mul vl, of a whole register
   whole : ℕ → Offset
-  -- Zm.T, uxtw, or sxtw where true; and scaled where true
-  words : Bool → ℕ → Bool → Offset
-  -- Zm.d, and scaled where true
-  doublewords : ℕ → Bool → Offset
+  -- Zm.T, uxtw #scale, or sxtw where true
+  words : Bool → ℕ → ℕ → Offset
+  -- Zm.d, lsl #scale
+  doublewords : ℕ → ℕ → Offset
 
 -- [Xn|SP, an offset], or [Zn.T, #imm5]
 pub data Brackets : Type 0 where
@@ -76,8 +81,8 @@ pub record MemoryRow : Type 0 where
 
 -- ---- a layout of elements
 
--- Of the first `lanes` lanes, of `bits` bits each, those that are on have an element of `bytes` bytes for each of `registers`
--- registers from number `register` on; `address` is that of lane k and the j-th of the registers.
+-- Of the first `lanes` lanes, of `bits` bits each, those that are on have an element of `bytes` bytes for each of
+-- `registers` registers from number `register` on; `address` is that of lane k and the j-th of the registers.
 pub record Layout : Type 0 where
   pub bits : ℕ
   pub bytes : ℕ
@@ -93,7 +98,8 @@ register_at l j = (l.register + j) % 32
 
 -- the elements of lane k, in order of registers
 abbrev pub lane_elements : Layout → ℕ → List Element
-lane_elements l k = each l.registers (λ j. record { lane = k; register = register_at l j; address = l.address k j; bytes = l.bytes })
+lane_elements l k =
+    each l.registers (λ j. record { lane = k; register = register_at l j; address = l.address k j; bytes = l.bytes })
 
 -- those of the first n lanes, in order of lanes
 unfoldable pub elements_below : Layout → ℕ → List Element
@@ -113,7 +119,9 @@ abbrev pub dtype_bits : ℕ → ℕ
 dtype_bits dtype = get_or (8 ∷ 16 ∷ 32 ∷ 64 ∷ 64 ∷ 16 ∷ 32 ∷ 64 ∷ 64 ∷ 32 ∷ 32 ∷ 64 ∷ 64 ∷ 32 ∷ 16 ∷ 64 ∷ []) dtype 64
 
 abbrev pub dtype_signed : ℕ → Bool
-dtype_signed dtype = get_or (false ∷ false ∷ false ∷ false ∷ true ∷ false ∷ false ∷ false ∷ true ∷ true ∷ false ∷ false ∷ true ∷ true ∷ true ∷ false ∷ []) dtype false
+dtype_signed dtype =
+    get_or (false ∷ false ∷ false ∷ false ∷ true ∷ false ∷ false ∷ false
+    ∷ true ∷ true ∷ false ∷ false ∷ true ∷ true ∷ true ∷ false ∷ []) dtype false
 
 -- how many registers a structure has
 abbrev pub load_registers : LoadManyOp → ℕ
@@ -129,9 +137,17 @@ store_registers St4 = 4
 abbrev pub by_dtype : ℕ → Width
 by_dtype dtype = record { bits = dtype_bits dtype; bytes = dtype_bytes dtype; is_signed = dtype_signed dtype }
 
--- an element of 2 to the power of msz bytes, which fills its lane
+-- an element of 2 to the power of msz bytes in a lane of so many bits, extended by its sign where u is false, else by 0
+abbrev pub extending : ℕ → ℕ → Bool → Width
+extending bits msz u = record { bits = bits; bytes = 2 ^ msz; is_signed = not u }
+
+-- the same extended by 0 in a load, and of a store the low bytes of the lane
+abbrev pub part_of : ℕ → ℕ → Width
+part_of bits msz = record { bits = bits; bytes = 2 ^ msz; is_signed = false }
+
+-- an element that fills its lane
 abbrev pub filling : ℕ → Width
-filling msz = record { bits = lane_bits msz; bytes = 2 ^ msz; is_signed = false }
+filling msz = part_of (lane_bits msz) msz
 
 -- a whole register goes byte by byte
 abbrev pub single_bytes : Width
@@ -151,10 +167,6 @@ base_and_register c rn rm n = address (read_x_sp c rn + read_x c rm * n)
 abbrev pub word_offset : Bool → ℕ → ℕ
 word_offset xs x = if xs then sign_extended 64 32 x else unsigned x 32
 
--- the lanes of an offset count bytes, or elements of n bytes where it is scaled
-abbrev pub scale : Bool → ℕ → ℕ
-scale is_scaled n = if is_scaled then n else 1
-
 -- ---- the layout of a row
 
 -- the lanes that may have an element
@@ -173,21 +185,26 @@ lane_is_on (replicated pg) e v = is_at (first_where (v.bits / e) (is_active e v 
 lane_is_on whole_z e v = λ k. true
 lane_is_on whole_p e v = λ k. true
 
--- the address for lane k and the j-th of the registers, where elements follow one another lane by lane, and within a lane register by register
+-- the address for lane k and the j-th of the registers, where elements follow one another lane by lane, and within a
+-- lane register by register
 abbrev pub following : MemoryRow → ℕ → ℕ → ℕ → ℕ
 following r base k j = address (base + (k * r.registers + j) * r.width.bytes)
 
 -- the same by what stands behind Xn|SP
 abbrev pub offset_address : Offset → MemoryRow → ℕ → Core → Vectors → ℕ → ℕ → ℕ
-offset_address (lengths imm4) r rn c v = following r (base_and_count c rn (signed imm4 4) (r.registers * lane_count r.transfer r.width.bits v * r.width.bytes))
+offset_address (lengths imm4) r rn c v =
+    following r
+    (base_and_count c rn (signed imm4 4) (r.registers * lane_count r.transfer r.width.bits v * r.width.bytes))
 offset_address (quadwords imm4) r rn c v = following r (base_and_count c rn (signed imm4 4) 16)
 offset_address (register rm) r rn c v = following r (base_and_register c rn rm r.width.bytes)
 offset_address (single imm6) r rn c v = λ k j. base_and_count c rn (pos imm6) r.width.bytes
-offset_address (whole imm9) r rn c v = λ k j. address (base_and_count c rn (signed imm9 9) (lane_count r.transfer r.width.bits v) + k)
-offset_address (words is_signed zm is_scaled) r rn c v = λ k j. address (read_x_sp c rn + word_offset is_signed (lane_of r.width.bits v zm k) * scale is_scaled r.width.bytes)
-offset_address (doublewords zm is_scaled) r rn c v = λ k j. address (read_x_sp c rn + lane_of 64 v zm k * scale is_scaled r.width.bytes)
+offset_address (whole imm9) r rn c v = λ k j.
+    address (base_and_count c rn (signed imm9 9) (lane_count r.transfer r.width.bits v) + k)
+offset_address (words is_signed zm scale) r rn c v = λ k j.
+    address (read_x_sp c rn + word_offset is_signed (lane_of r.width.bits v zm k) * 2 ^ scale)
+offset_address (doublewords zm scale) r rn c v = λ k j. address (read_x_sp c rn + lane_of 64 v zm k * 2 ^ scale)
 
--- the lanes of Zn, unsigned, and imm5 elements on
+-- the same by the brackets: of [Zn.T, #imm5] the lanes of Zn, unsigned, and imm5 elements on
 abbrev pub element_address : Brackets → MemoryRow → Core → Vectors → ℕ → ℕ → ℕ
 element_address (scalar rn offset) r c v = offset_address offset r rn c v
 element_address (vector zn imm5) r c v = λ k j. address (lane_of r.width.bits v zn k + imm5 * r.width.bytes)

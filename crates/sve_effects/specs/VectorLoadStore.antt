@@ -1,12 +1,14 @@
--- What SVE loads and stores leave, but for the first-faulting and non-faulting ones.
-use Rattle.std.specs.Prelude.{ℕ, zero, suc, ◌+◌, ◌*◌, ◌/◌, ◌%◌, ◌^◌, Bool, true, false, not, ◌&&◌, List, [], ◌∷◌, get_or, Option, Some, None, nat_eq, if◌then◌else◌}
+-- What SVE loads and stores leave, but for the first-faulting and non-faulting ones. From the Arm Architecture
+-- Reference Manual for A-profile (DDI 0487), C8.2 'Alphabetical list of SVE instructions': the operations of the
+-- entries of loads and stores, with the shared pseudocode CheckSPAlignment. What an access that is refused in part has
+-- done is this project's own choice where the manual leaves it open.
+use Rattle.std.specs.Prelude.{ℕ, zero, suc, ◌+◌, ◌*◌, ◌/◌, ◌%◌, ◌^◌, Bool, true, false, not, ◌&&◌, List, [], ◌∷◌, get_or, nat_eq, if◌then◌else◌}
 use Rattle.emu_bits.specs.Fields.{bit}
 use Rattle.emu_bits.specs.Operations.{number_of_bits}
 use Rattle.emu_model.specs.declared.access.Kind.TheVariants.{Read as ReadKind, Write as WriteKind}
-use Rattle.emu_model.specs.declared.trap.Effect.TheVariants.{Next, Trap}
 use Rattle.emu_model.specs.declared.trap.TrapKind.TheVariants.{Read, Write, SpAlign}
 use Rattle.emu_model.specs.Access.{Memory, value}
-use Rattle.emu_model.specs.Done.{Done, traps}
+use Rattle.emu_model.specs.Done.{Done, as_far, leaves, traps}
 use Rattle.emu_model.specs.Elements.{Element, Reach, reach, with_stored, accesses_of}
 use Rattle.emu_model.specs.Lists.{each}
 use Rattle.emu_model.specs.State.{Core, Vectors}
@@ -19,12 +21,14 @@ use Rattle.sve_effects.specs.VectorElements.{MemoryRow, Transfer, each_active, r
 
 -- what lane k of the j-th register gets: its element, extended, and 0 where it has none
 abbrev pub loaded_lane : Bool → Layout → Memory → ℕ → ℕ → ℕ
-loaded_lane is_signed l m j k = if l.is_on k then extended_by is_signed l.bits (8 * l.bytes) (value m (l.address k j) l.bytes) else 0
+loaded_lane is_signed l m j k =
+    if l.is_on k then extended_by is_signed l.bits (8 * l.bytes) (value m (l.address k j) l.bytes) else 0
 
 -- the first n registers of a layout with their lanes loaded
 unfoldable pub with_loaded : Bool → Layout → Memory → ℕ → Vectors → Vectors
 with_loaded is_signed l m zero v = v
-with_loaded is_signed l m (suc n) v = with_lanes l.bits (loaded_lane is_signed l m n) (register_at l n) (with_loaded is_signed l m n v)
+with_loaded is_signed l m (suc n) v =
+    with_lanes l.bits (loaded_lane is_signed l m n) (register_at l n) (with_loaded is_signed l m n v)
 
 -- ld1rq: the first 128 bits, repeated in each 128 bits
 abbrev pub with_repeated : Layout → Memory → Vectors → Vectors
@@ -32,11 +36,14 @@ with_repeated l m v = with_lanes l.bits (λ k. loaded_lane false l m 0 (k % l.la
 
 -- ld1r: the one element in each active lane
 abbrev pub with_replicated : Bool → ℕ → Layout → Memory → Vectors → Vectors
-with_replicated is_signed pg l m v = with_lanes l.bits (λ k. if is_active l.bits v pg k then extended_by is_signed l.bits (8 * l.bytes) (value m (l.address k 0) l.bytes) else 0) l.register v
+with_replicated is_signed pg l m v =
+    with_lanes l.bits (λ k. if is_active l.bits v pg k
+    then extended_by is_signed l.bits (8 * l.bytes) (value m (l.address k 0) l.bytes) else 0) l.register v
 
 -- ldr of a predicate: bit j is bit j % 8 of its byte j / 8
 abbrev pub with_loaded_bits : Layout → Memory → Vectors → Vectors
-with_loaded_bits l m v = with_p v l.register (each (v.bits / 8) (λ j. nat_eq (value m (l.address (j / 8) 0) 1 / 2 ^ (j % 8) % 2) 1))
+with_loaded_bits l m v =
+    with_p v l.register (each (v.bits / 8) (λ j. nat_eq (value m (l.address (j / 8) 0) 1 / 2 ^ (j % 8) % 2) 1))
 
 -- by what of the registers the elements are
 abbrev pub after_load : Transfer → Bool → Layout → Memory → Vectors → Vectors
@@ -70,7 +77,7 @@ abbrev pub has_sp_base : Brackets → Bool
 has_sp_base (scalar rn offset) = nat_eq rn 31
 has_sp_base (vector zn imm5) = false
 
--- the alignment of SP is tested where there is an element
+-- the alignment of SP is tested where there is an element; where there is none the manual leaves it open
 abbrev pub tests_sp : Bool → List Element → Bool
 tests_sp has_base [] = false
 tests_sp has_base (e ∷ es) = has_base
@@ -81,20 +88,13 @@ is_misaligned has_base es c = tests_sp has_base es && not (nat_eq (c.sp % 16) 0)
 -- ---- what is left
 
 -- a load that is refused changes no register
-abbrev pub load_as_far : Option ℕ → List Element → Vectors → Core → Vectors → Memory → Done
-load_as_far None es after c v m = record { core = c; vectors = after; memory = m; accesses = accesses_of false es; effect = Next }
-load_as_far (Some a) es after c v m = record { core = c; vectors = v; memory = m; accesses = accesses_of false es; effect = Trap (record { kind = Read; address = a }) }
+abbrev pub loaded_to : Reach → Vectors → Core → Vectors → Memory → Done
+loaded_to r after c v m = as_far r.stop Read (accesses_of false r.done) (leaves c v) (leaves c after) m
 
 -- a store that is refused has stored the elements before
-abbrev pub store_as_far : Option ℕ → List Element → (Element → ℕ) → Core → Vectors → Memory → Done
-store_as_far None es stores c v m = record { core = c; vectors = v; memory = with_stored stores es m; accesses = accesses_of true es; effect = Next }
-store_as_far (Some a) es stores c v m = record { core = c; vectors = v; memory = with_stored stores es m; accesses = accesses_of true es; effect = Trap (record { kind = Write; address = a }) }
-
-abbrev pub loaded_to : Reach → Vectors → Core → Vectors → Memory → Done
-loaded_to r after c v m = load_as_far r.stop r.done after c v m
-
 abbrev pub stored_to : Reach → (Element → ℕ) → Core → Vectors → Memory → Done
-stored_to r stores c v m = store_as_far r.stop r.done stores c v m
+stored_to r stores c v m =
+    as_far r.stop Write (accesses_of true r.done) (leaves c v) (leaves c v) (with_stored stores r.done m)
 
 abbrev pub unless_misaligned : Bool → List Element → Core → Vectors → Memory → Done → Done
 unless_misaligned has_base es c v m d = if is_misaligned has_base es c then traps c v m SpAlign c.sp else d
@@ -104,9 +104,11 @@ unless_misaligned has_base es c v m d = if is_misaligned has_base es c then trap
 abbrev pub load_row : MemoryRow → Core → Vectors → Memory → Done
 load_row r c v m =
     let l : Layout = row_layout r c v in
-    unless_misaligned (has_sp_base r.brackets) (elements_of l) c v m (loaded_to (reach m ReadKind (elements_of l)) (after_load r.transfer r.width.is_signed l m v) c v m)
+    unless_misaligned (has_sp_base r.brackets) (elements_of l) c v m
+    (loaded_to (reach m ReadKind (elements_of l)) (after_load r.transfer r.width.is_signed l m v) c v m)
 
 abbrev pub store_row : MemoryRow → Core → Vectors → Memory → Done
 store_row r c v m =
     let l : Layout = row_layout r c v in
-    unless_misaligned (has_sp_base r.brackets) (elements_of l) c v m (stored_to (reach m WriteKind (elements_of l)) (element_stored r.transfer l v) c v m)
+    unless_misaligned (has_sp_base r.brackets) (elements_of l) c v m
+    (stored_to (reach m WriteKind (elements_of l)) (element_stored r.transfer l v) c v m)

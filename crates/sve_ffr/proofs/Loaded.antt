@@ -15,7 +15,7 @@ use Rattle.emu_model.specs.State.{Core, Vectors}
 use Rattle.emu_model.specs.Lanes.{with_ffr, with_lanes}
 use Rattle.sve_effects.specs.FirstFault.{element_at, first_suppressed, unsuppressed, first_refused, cleared_from, first_cleared, is_before, loaded_from, loaded_unless}
 use Rattle.sve_effects.specs.FirstFaultParts.{with_first_fault, first_fault_loaded}
-use Rattle.sve_effects.specs.FirstLast.{or_else}
+use Rattle.std.specs.Option.{option_or}
 use Rattle.sve_effects.specs.VectorLoadStore.{tests_sp, is_misaligned}
 use Rattle.element_loops.specs.Listed.{listed, listed_at}
 use Rattle.sve_ffr.specs.declared.row.Row.{Row}
@@ -36,7 +36,7 @@ first_is r list m h = ap (first_refused m) (rest_more r list 0 h)
 
 -- ---- all lanes
 
-or_else_none : (o : Option ℕ) → or_else o None ≡ o
+or_else_none : (o : Option ℕ) → option_or o None ≡ o
 or_else_none None = refl
 or_else_none (Some k) = refl
 
@@ -53,7 +53,7 @@ module _ (r e : ℕ) (list : ElementList) (v w next : Vectors) (m now : Memory) 
       let es : List Element = listed r list in
       let left : rest_of r list t.next ≡ [] = nothing_left (rest_of r list t.next) (v.bits / e) taken.ascending in
       let suppressed : t.suppressed ≡ first_suppressed m (listed r list)
-      = sym (or_else_none t.suppressed) ∙ ap (λ (es : List Element). or_else t.suppressed (first_suppressed m es)) (sym left) ∙ taken.suppressed in
+      = sym (or_else_none t.suppressed) ∙ ap (λ (es : List Element). option_or t.suppressed (first_suppressed m es)) (sym left) ∙ taken.suppressed in
       let logged : log ≡ accesses_of false (unsuppressed m (listed r list))
       = sym (append-nil log) ∙ ap (λ (es : List Element). log ++ accesses_of false (unsuppressed m es)) (sym left) ∙ taken.logged in
       let is : w ≡ with_ffr v (cleared_from e (first_suppressed m (listed r list)) v.ffr) = cleared ∙ ap (λ (o : Option ℕ). with_ffr v (cleared_from e o v.ffr)) suppressed in

@@ -10,7 +10,7 @@ use Rattle.emu_model.specs.Access.{Memory, refused, value}
 use Rattle.emu_model.specs.Elements.{Element, accesses_of}
 use Rattle.sve_effects.specs.Lane.{extended_by}
 use Rattle.sve_effects.specs.FirstFault.{element_at, first_suppressed, is_refused, unsuppressed}
-use Rattle.sve_effects.specs.FirstLast.{or_else}
+use Rattle.std.specs.Option.{option_or}
 use Rattle.element_loops.proofs.Writes.{push_each}
 use Rattle.element_loops.specs.Listed.{listed, listed_at}
 use Rattle.sve_ffr.specs.declared.taking.Taken.{Taken}
@@ -46,7 +46,7 @@ rest_more r list i h =
     ap (listed_at r list.bytes) (drop-cons list.lanes.items i (0, 0) h)
     ∙ ap (λ n. element_of r list i ∷ rest_of r list n) (sym (add-one i))
 
-or_else_later : (s : Option ℕ) (k : ℕ) (o : Option ℕ) → or_else (or_else s (Some k)) o ≡ or_else s (Some k)
+or_else_later : (s : Option ℕ) (k : ℕ) (o : Option ℕ) → option_or (option_or s (Some k)) o ≡ option_or s (Some k)
 or_else_later None k o = refl
 or_else_later (Some q) k o = refl
 
@@ -60,7 +60,7 @@ module _ (r e n : ℕ) (list : ElementList) (m : Memory) (k : ℕ) (t after : Ta
         rest = λ j le. h.rest j (omega arith) ∙ ap (λ i. element_at (rest_of r list i) j) (sym next);
         ascending = subst (λ i. AreFrom (k + 1) n (lanes_of (rest_of r list i))) (sym next) from;
         logged = ap (λ i. log ++ accesses_of false (unsuppressed m (rest_of r list i))) next ∙ h.logged;
-        suppressed = ap (λ (o : Option ℕ). or_else o (first_suppressed m (rest_of r list after.next))) suppressed ∙ ap (λ i. or_else t.suppressed (first_suppressed m (rest_of r list i))) next ∙ h.suppressed;
+        suppressed = ap (λ (o : Option ℕ). option_or o (first_suppressed m (rest_of r list after.next))) suppressed ∙ ap (λ i. option_or t.suppressed (first_suppressed m (rest_of r list i))) next ∙ h.suppressed;
         room = let room : length log ≤ k = h.room in omega arith;
       }
 
@@ -109,15 +109,15 @@ module _ (r e n : ℕ) (list : ElementList) (m : Memory) (k : ℕ) (t after : Ta
               ∙ ap (λ (l : List Access). l ++ accesses_of false (unsuppressed m rest)) logged
               ∙ append_assoc log (record { address = q.address; bytes = list.bytes; write = false } ∷ []) (accesses_of false (unsuppressed m rest))
               ∙ ap (λ (es : List Element). log ++ accesses_of false es) (sym kept) ∙ h.logged;
-          suppressed = ap (λ (o : Option ℕ). or_else o (first_suppressed m (rest_of r list after.next))) suppressed
-              ∙ ap (λ i. or_else t.suppressed (first_suppressed m (rest_of r list i))) next ∙ ap (or_else t.suppressed) (sym first) ∙ h.suppressed;
+          suppressed = ap (λ (o : Option ℕ). option_or o (first_suppressed m (rest_of r list after.next))) suppressed
+              ∙ ap (λ i. option_or t.suppressed (first_suppressed m (rest_of r list i))) next ∙ ap (option_or t.suppressed) (sym first) ∙ h.suppressed;
           room = let room : length log ≤ k = h.room in
               let one : length after_log ≡ length log + 1 = ap (λ (l : List Access). length l) logged ∙ length-append log (record { address = q.address; bytes = list.bytes; write = false } ∷ []) in
               omega arith;
         }
 
     pub take_refused : (after_log : List Access) (a : ℕ) → refused m (element_of r list t.next).address list.bytes Read ≡ Some a
-        → after.next ≡ t.next + 1 → after.suppressed ≡ or_else t.suppressed (Some k) → after.values.items ≡ t.values.items ++ 0 ∷ [] → after_log ≡ log → AreTaken r e n list m (k + 1) after after_log
+        → after.next ≡ t.next + 1 → after.suppressed ≡ option_or t.suppressed (Some k) → after.values.items ≡ t.values.items ++ 0 ∷ [] → after_log ≡ log → AreTaken r e n list m (k + 1) after after_log
     take_refused after_log a denied next suppressed values logged =
         let q : Element = element_of r list t.next in
         let rest : List Element = rest_of r list (t.next + 1) in
@@ -133,8 +133,8 @@ module _ (r e n : ℕ) (list : ElementList) (m : Memory) (k : ℕ) (t after : Ta
           logged = ap (λ i. after_log ++ accesses_of false (unsuppressed m (rest_of r list i))) next
               ∙ ap (λ (l : List Access). l ++ accesses_of false (unsuppressed m rest)) logged
               ∙ ap (λ (es : List Element). log ++ accesses_of false es) (sym kept) ∙ h.logged;
-          suppressed = ap (λ (o : Option ℕ). or_else o (first_suppressed m (rest_of r list after.next))) suppressed
-              ∙ or_else_later t.suppressed k (first_suppressed m (rest_of r list after.next)) ∙ ap (or_else t.suppressed) (sym first) ∙ h.suppressed;
+          suppressed = ap (λ (o : Option ℕ). option_or o (first_suppressed m (rest_of r list after.next))) suppressed
+              ∙ or_else_later t.suppressed k (first_suppressed m (rest_of r list after.next)) ∙ ap (option_or t.suppressed) (sym first) ∙ h.suppressed;
           room = let room : length log ≤ k = h.room in
               let none : length after_log ≡ length log = ap (λ (l : List Access). length l) logged in
               omega arith;

@@ -5,8 +5,8 @@ use Rattle.emu_model.specs.Access.{Memory}
 use Rattle.emu_model.specs.Done.{Done}
 use Rattle.emu_model.specs.Elements.{Element}
 use Rattle.emu_model.specs.State.{Core, Vectors}
-use Rattle.sve_effects.specs.Effects.{memory_row}
-use Rattle.sve_effects.specs.FirstFault.{first_refused, loaded_unless, never_traps}
+use Rattle.sve_effects.specs.Effects.{is_non_fault, memory_row}
+use Rattle.sve_effects.specs.FirstFault.{first_refused, loaded_unless}
 use Rattle.sve_effects.specs.FirstFaultParts.{first_fault_loaded}
 use Rattle.sve_effects.specs.VectorElements.{MemoryRow}
 use Rattle.sve_effects.specs.VectorLoadStore.{has_sp_base, unless_misaligned}
@@ -15,7 +15,7 @@ use Rattle.sve_ffr.specs.declared.row.Row.{Row}
 abbrev pub row_of : SveForm → Row
 row_of form =
     let r : MemoryRow = memory_row form in
-    record { bits = r.width.bits; bytes = r.width.bytes; register = r.first; has_sp_base = has_sp_base r.brackets; is_non_fault = never_traps r.way }
+    record { bits = r.width.bits; bytes = r.width.bytes; register = r.first; has_sp_base = has_sp_base r.brackets; is_non_fault = is_non_fault form }
 
 -- the load of some elements by a row
 abbrev pub first_fault_by : Row → Bool → List Element → Core → Vectors → Memory → Done

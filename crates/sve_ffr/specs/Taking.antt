@@ -7,7 +7,7 @@ use Rattle.emu_model.specs.Elements.{Element, accesses_of}
 use Rattle.emu_model.specs.Lists.{each}
 use Rattle.sve_effects.specs.Lane.{extended_by}
 use Rattle.sve_effects.specs.FirstFault.{element_at, first_suppressed, is_refused, unsuppressed}
-use Rattle.sve_effects.specs.FirstLast.{or_else}
+use Rattle.std.specs.Option.{option_or}
 use Rattle.element_loops.specs.Listed.{listed, listed_at}
 use Rattle.sve_ffr.specs.declared.taking.Taken.{Taken}
 
@@ -43,5 +43,5 @@ pub record AreTaken (r e n : ℕ) (list : ElementList) (m : Memory) (k : ℕ) (t
   pub rest : (j : ℕ) → k ≤ j → element_at (listed r list) j ≡ element_at (rest_of r list t.next) j
   pub ascending : AreFrom k n (lanes_of (rest_of r list t.next))
   pub logged : log ++ accesses_of false (unsuppressed m (rest_of r list t.next)) ≡ accesses_of false (unsuppressed m (listed r list))
-  pub suppressed : or_else t.suppressed (first_suppressed m (rest_of r list t.next)) ≡ first_suppressed m (listed r list)
+  pub suppressed : option_or t.suppressed (first_suppressed m (rest_of r list t.next)) ≡ first_suppressed m (listed r list)
   pub room : length log ≤ k

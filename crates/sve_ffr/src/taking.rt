@@ -2,7 +2,7 @@
 ghost use Rattle.std.specs.Prelude.{◌≡◌, ◌≤◌, ◌<◌, ◌+◌, ℕ, [], Some, true};
 ghost use Rattle.arrayvec.specs.ArrayVec.{array_vec_len};
 ghost use Rattle.emu_model.specs.LaneSizes.{IsLaneSize};
-ghost use Rattle.sve_effects.specs.FirstLast.{or_else};
+ghost use Rattle.std.specs.Option.{option_or};
 ghost use Rattle.element_loops.specs.Listed.{listed};
 ghost use Rattle.sve_ffr.specs.Taking.{AreFrom, AreTaken, lanes_of, rest_of, starts_at};
 
@@ -33,7 +33,7 @@ fn is_next(list: &ElementList, next: usize, k: u32) -> bool
 
 /// The first of the lane that was found before and of lane k.
 fn first_of(found: Option<u32>, k: u32) -> Option<u32>
-    ensures { result ≡ or_else found (Some k) }
+    ensures { result ≡ option_or found (Some k) }
 {
     match found {
         Some(before) => Some(before),

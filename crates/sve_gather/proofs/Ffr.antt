@@ -6,7 +6,8 @@ use Rattle.emu_model.specs.Active.{active}
 use Rattle.emu_model.specs.LaneSizes.{IsLaneSize}
 use Rattle.vec_regs.specs.Words.{bits_of}
 use Rattle.sve_effects.specs.FirstFault.{first_cleared}
-use Rattle.sve_effects.specs.FirstLast.{first_where, or_else, if_meets}
+use Rattle.sve_effects.specs.FirstLast.{first_where, if_meets}
+use Rattle.std.specs.Option.{option_or}
 use Rattle.active_lanes.specs.Kept.{keeps}
 use Rattle.active_lanes.proofs.FieldBits.{eight, field_is, full1}
 
@@ -46,7 +47,7 @@ all_bits words ffr n k is room full j h =
 none_where : (n : ℕ) (test : ℕ → Bool) → ((k : ℕ) → k < n → test k ≡ false) → first_where n test ≡ None
 none_where zero test h = refl
 none_where (suc n) test h =
-    ap (λ (o : Option ℕ). or_else o (if_meets test n)) (none_where n test (λ k b. h k (omega arith)))
+    ap (λ (o : Option ℕ). option_or o (if_meets test n)) (none_where n test (λ k b. h k (omega arith)))
     ∙ ap (λ (b : Bool). if b then Some n else None) (h n (omega arith))
 
 lane_within : (e bits k : ℕ) → IsLaneSize e → IsVectorLength bits → k < bits / e → k * (e / 8) < bits / 8

@@ -1,5 +1,5 @@
 -- A form is the form of its row.
-use Rattle.sve_insn.specs.Table.{lines_open}
+use Rattle.sve_insn.specs.Opened.{lines_open}
 use Rattle.sve_insn.specs.Rows.{row_of}
 use Rattle.std.proofs.Common.{◌≡◌, Bool, true, false, refl, ap, ◌∙◌, ◌==◌}
 use Rattle.emu_bits.specs.Fields.{bit}

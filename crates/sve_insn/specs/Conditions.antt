@@ -1,4 +1,6 @@
--- The lines' conditions: functions of a row's number in its line (k) and of fields.
+-- The lines' conditions: functions of a row's number in its line (k) and of fields. From the Arm Architecture Reference
+-- Manual for A-profile (DDI 0487), C8.2 'Alphabetical list of SVE instructions': a condition leaves out what the
+-- decoding of an entry has as UNDEFINED, and what C4 has as unallocated.
 use Rattle.std.specs.Prelude.{ℕ, ◌==◌, ◌&&◌, ◌||◌, Bool, cond, not, [], ◌∷◌, nat_lt, nat_le, is_some}
 use Rattle.emu_bits.specs.Bitmask.{bitmask_of}
 use Rattle.emu_bits.specs.Rows.{is_among}
@@ -27,10 +29,12 @@ binary_holds_for k size = is_word_or_doubleword size || not (is_among k (12 ∷ 
 unfoldable pub has_tsz : ℕ → ℕ → Bool
 has_tsz tszh tszl = not (tszh == 0) || not (tszl == 0)
 
--- The least size of lanes: a part that is extended or reversed is shorter than the lane. It has 8 bits in sxtb, uxtb and revb,
--- 16 in sxth, uxth and revh, 32 in sxtw, uxtw and revw.
+-- The least size of lanes: a part that is extended or reversed is shorter than the lane. It has 8 bits in sxtb, uxtb
+-- and revb, 16 in sxth, uxth and revh, 32 in sxtw, uxtw and revw.
 unfoldable pub unary_least_size : ℕ → ℕ
-unary_least_size k = cond (is_among k (0 ∷ 1 ∷ 13 ∷ [])) 1 (cond (is_among k (2 ∷ 3 ∷ 14 ∷ [])) 2 (cond (is_among k (4 ∷ 5 ∷ 15 ∷ [])) 3 0))
+unary_least_size k =
+    cond (is_among k (0 ∷ 1 ∷ 13 ∷ [])) 1
+    (cond (is_among k (2 ∷ 3 ∷ 14 ∷ [])) 2 (cond (is_among k (4 ∷ 5 ∷ 15 ∷ [])) 3 0))
 
 -- Lanes have the least size of the name, or a greater one.
 unfoldable pub unary_holds_for : ℕ → ℕ → Bool

@@ -6,6 +6,7 @@ pub mod Folds
 pub mod Predicates
 pub mod Memory
 pub mod Table
+pub mod Opened
 pub mod Rows
 pub mod Seen
 pub mod Lines

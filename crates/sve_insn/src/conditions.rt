@@ -34,7 +34,7 @@ use emu_bits::{Pred, Reg, U, bitmask, condition_of};
 
 /// Whether a form meets its line's condition. It is inlined where a form is made, so that just its own line's condition
 /// is tested.
-#[tactic(auto, unfolding(crate::specs::Table::lines_open))]
+#[tactic(auto, unfolding(crate::specs::Opened::lines_open))]
 #[inline(always)]
 pub fn meets(form: &SveForm) -> bool
     ensures { result ≡ meets_form form.now }

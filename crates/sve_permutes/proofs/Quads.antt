@@ -7,7 +7,7 @@ use Rattle.emu_model.specs.State.{Vectors}
 use Rattle.lane_model.specs.declared.places.Place.TheVariants.{FirstLane, Zero}
 use Rattle.sve_effects.specs.LaneLoop.{lane_of}
 use Rattle.sve_effects.specs.Permute.{taken, indexed_place}
-use Rattle.sve_effects.specs.PermuteRows.{moved}
+use Rattle.sve_effects.specs.PermuteRows.{with_places}
 use Rattle.emu_model.specs.Lanes.{number, lane, read_z, with_z, byte_in, with_lanes}
 use Rattle.emu_model.specs.ListLaws.{each_same}
 use Rattle.vec_regs.proofs.Low.{low_is}
@@ -55,16 +55,16 @@ module _ (i zn zd : ℕ) (v : Vectors) where
   quads x = with_lanes 128 (λ k. x) zd v
 
   by_test : (b : Bool) (x : ℕ) → nat_lt i (v.bits / 128) ≡ b → taken (lane_of 128 v zn) (lane_of 128 v zn) 0 0 (if b then FirstLane i else Zero) ≡ x
-      → quads x ≡ moved 128 (λ k. indexed_place i (v.bits / 128)) zn zn 0 zd v
+      → quads x ≡ with_places 128 (λ k. indexed_place i (v.bits / 128)) zn zn 0 zd v
   by_test b x t e = ap quads (sym e ∙ ap (λ b. taken (lane_of 128 v zn) (lane_of 128 v zn) 0 0 (if b then FirstLane i else Zero)) (sym t))
 
   pub quad_there : (w : Vectors) (low high : ℕ) → i < v.bits / 128 → low < 2 ^ 64 → low ≡ lane_of 64 v zn (2 * i) → high ≡ lane_of 64 v zn (2 * i + 1)
-      → w ≡ with_lanes 64 (λ k. if nat_eq (k % 2) 0 then low else high) zd v → w ≡ moved 128 (λ k. indexed_place i (v.bits / 128)) zn zn 0 zd v
+      → w ≡ with_lanes 64 (λ k. if nat_eq (k % 2) 0 then low else high) zd v → w ≡ with_places 128 (λ k. indexed_place i (v.bits / 128)) zn zn 0 zd v
   quad_there w low high h small e d is =
       is ∙ quad_written low high small zd v
       ∙ by_test true (low + 2 ^ 64 * high) (grind (arith, nat_tests)) (quad_read (read_z v zn) i ∙ ap (λ l. l + 2 ^ 64 * lane_of 64 v zn (2 * i + 1)) (sym e) ∙ ap (λ m. low + 2 ^ 64 * m) (sym d))
 
-  pub quad_none : (w : Vectors) → v.bits / 128 ≤ i → w ≡ with_lanes 64 (λ k. if nat_eq (k % 2) 0 then 0 else 0) zd v → w ≡ moved 128 (λ k. indexed_place i (v.bits / 128)) zn zn 0 zd v
+  pub quad_none : (w : Vectors) → v.bits / 128 ≤ i → w ≡ with_lanes 64 (λ k. if nat_eq (k % 2) 0 then 0 else 0) zd v → w ≡ with_places 128 (λ k. indexed_place i (v.bits / 128)) zn zn 0 zd v
   quad_none w h is =
       let small : 0 < 2 ^ 64 = omega arith in
       is ∙ quad_written 0 0 small zd v ∙ by_test false 0 (grind (arith, nat_tests)) refl

@@ -15,7 +15,8 @@ use vec_regs::VecRegs;
 /// Writes the active lanes of zn to zd in order, and 0 behind them.
 pub(crate) fn compacted(vec: &mut VecRegs, e: u32, pg: Pred, zn: Reg, zd: Reg)
     requires { IsLaneSize e }
-    ensures { vec.new ≡ model.moved e (compact_place (is_active e vec.old pg) (vec.old.bits / e)) zn zn 0 zd vec.old }
+    ensures { vec.new
+        ≡ model.with_places e (compact_place (is_active e vec.old pg) (vec.old.bits / e)) zn zn 0 zd vec.old }
 {
     match e {
         8 => compacted_lanes::<u8, 256>(vec, pg, zn, zd),
@@ -29,7 +30,8 @@ pub(crate) fn compacted(vec: &mut VecRegs, e: u32, pg: Pred, zn: Reg, zd: Reg)
 #[tactic(auto, using(crate::proofs::CopiedLanes::spliced_is))]
 pub(crate) fn spliced(vec: &mut VecRegs, e: u32, pg: Pred, zm: Reg, zdn: Reg)
     requires { IsLaneSize e }
-    ensures { vec.new ≡ model.moved e (splice_place (is_active e vec.old pg) (vec.old.bits / e)) zdn zm 0 zdn vec.old }
+    ensures { vec.new
+        ≡ model.with_places e (splice_place (is_active e vec.old pg) (vec.old.bits / e)) zdn zm 0 zdn vec.old }
 {
     let (from, count) = run_of(vec, e, pg);
     match e {

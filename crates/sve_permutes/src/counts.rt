@@ -165,7 +165,7 @@ fn count_of(vec: &VecRegs, size: U<2>, imm4: U<4>, pattern: U<5>) -> u64
 #[inline(always)]
 fn counted_lanes<F: LaneWise2 + Drop>(vec: &mut VecRegs, e: u32, zdn: Reg, count: u64, op: F)
     requires { IsLaneSize e }
-    ensures { vec.new ≡ loops.plain e (λ k. F.entry op e (lane_of e vec.old zdn k) count) zdn vec.old }
+    ensures { vec.new ≡ loops.every_lane e (λ k. F.entry op e (lane_of e vec.old zdn k) count) zdn vec.old }
 {
     let op = WithNumber { op, n: count };
     plain(vec, e, zdn, &Map1 { op, zn: zdn });
@@ -213,7 +213,7 @@ fn inc_lane_op(op: IncOp) -> LaneOp
 }
 
 fn sat_lane_op(op: SatOp) -> LaneOp
-    ensures { result ≡ table.sat_lane_op op }
+    ensures { result ≡ (table.saturating op).0 }
 {
     match op {
         SatOp::Sqinc => LaneOp::SqaddAmount,
@@ -224,7 +224,7 @@ fn sat_lane_op(op: SatOp) -> LaneOp
 }
 
 fn saturates_signed(op: SatOp) -> bool
-    ensures { result ≡ table.saturates_signed op }
+    ensures { result ≡ (table.saturating op).1 }
 {
     matches!(op, SatOp::Sqinc | SatOp::Sqdec)
 }

@@ -51,7 +51,7 @@ fn lowest_bit(tsz: u32) -> u32
 /// Lane i of 8 to 64 bits in each lane, or 0.
 fn dup(vec: &mut VecRegs, e: u32, i: u32, zn: Reg, zd: Reg)
     requires { IsLaneSize e }
-    ensures { vec.new ≡ table.moved e (λ k. indexed_place i (vec.old.bits / e)) zn zn 0 zd vec.old }
+    ensures { vec.new ≡ table.with_places e (λ k. indexed_place i (vec.old.bits / e)) zn zn 0 zd vec.old }
 {
     let x = indexed(vec, e, zn, u64::from(i));
     filled(vec, e, x, zd);
@@ -60,7 +60,7 @@ fn dup(vec: &mut VecRegs, e: u32, i: u32, zn: Reg, zd: Reg)
 /// Lane i of 128 bits in each lane, or 0: two lanes of 64 bits in turn.
 #[tactic(auto, using(crate::proofs::Quads::quad_rules))]
 fn dup_quad(vec: &mut VecRegs, i: u32, zn: Reg, zd: Reg)
-    ensures { vec.new ≡ table.moved 128 (λ k. indexed_place i (vec.old.bits / 128)) zn zn 0 zd vec.old }
+    ensures { vec.new ≡ table.with_places 128 (λ k. indexed_place i (vec.old.bits / 128)) zn zn 0 zd vec.old }
 {
     if i < vec.length().bits() / 128 {
         let low = vec.lane(zn, 64, 2 * i);

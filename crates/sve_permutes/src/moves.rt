@@ -34,7 +34,7 @@ pub(crate) fn indexed(vec: &VecRegs, e: u32, zn: Reg, i: u64) -> u64
 #[tactic(auto, using(crate::proofs::CopiedLanes::copied_is))]
 pub(crate) fn copied(vec: &mut VecRegs, e: u32, pg: Pred, scalar: u64, zd: Reg)
     requires { IsLaneSize e }
-    ensures { vec.new ≡ model.moved e (copy_place (is_active e vec.old pg)) zd zd scalar zd vec.old }
+    ensures { vec.new ≡ model.with_places e (copy_place (is_active e vec.old pg)) zd zd scalar zd vec.old }
 {
     merging(vec, e, pg, zd, Number { n: scalar });
 }

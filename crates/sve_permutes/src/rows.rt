@@ -84,7 +84,7 @@ pub(crate) fn interleave(
 #[inline(always)]
 fn zip(vec: &mut VecRegs, second: bool, e: u32, zn: Reg, zm: Reg, zd: Reg)
     requires { IsLaneSize e }
-    ensures { vec.new ≡ model.moved e (zip_place second (vec.old.bits / e)) zn zm 0 zd vec.old }
+    ensures { vec.new ≡ model.with_places e (zip_place second (vec.old.bits / e)) zn zm 0 zd vec.old }
 {
     permuted(vec, e, zd, &Zipped { second, zn, zm });
 }
@@ -93,7 +93,7 @@ fn zip(vec: &mut VecRegs, second: bool, e: u32, zn: Reg, zm: Reg, zd: Reg)
 #[inline(always)]
 fn unzip(vec: &mut VecRegs, second: bool, e: u32, zn: Reg, zm: Reg, zd: Reg)
     requires { IsLaneSize e }
-    ensures { vec.new ≡ model.moved e (uzp_place second (vec.old.bits / e)) zn zm 0 zd vec.old }
+    ensures { vec.new ≡ model.with_places e (uzp_place second (vec.old.bits / e)) zn zm 0 zd vec.old }
 {
     permuted(vec, e, zd, &Unzipped { second, zn, zm });
 }
@@ -102,7 +102,7 @@ fn unzip(vec: &mut VecRegs, second: bool, e: u32, zn: Reg, zm: Reg, zd: Reg)
 #[inline(always)]
 fn transpose(vec: &mut VecRegs, second: bool, e: u32, zn: Reg, zm: Reg, zd: Reg)
     requires { IsLaneSize e }
-    ensures { vec.new ≡ model.moved e (trn_place second) zn zm 0 zd vec.old }
+    ensures { vec.new ≡ model.with_places e (trn_place second) zn zm 0 zd vec.old }
 {
     permuted(vec, e, zd, &Transposed { second, zn, zm });
 }

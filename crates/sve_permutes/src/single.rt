@@ -30,10 +30,18 @@ pub(crate) fn last(
     ensures vectors { vec.new ≡ (effects.across (SveForm.Last op size pg zn rd) core.old vec.old).vectors }
 {
     let e = lane_bits(size);
-    let x = last_value(vec, e, is_after(op), pg.register(), zn);
+    let pg = pg.register();
     match op {
-        LastOp::LastaR | LastOp::LastbR => core.set_x(rd, 64, x),
-        LastOp::LastaV | LastOp::LastbV => set_low_lane(vec, e, rd, x),
+        LastOp::LastaR => core.set_x(rd, 64, last_value(vec, e, true, pg, zn)),
+        LastOp::LastbR => core.set_x(rd, 64, last_value(vec, e, false, pg, zn)),
+        LastOp::LastaV => {
+            let x = last_value(vec, e, true, pg, zn);
+            set_low_lane(vec, e, rd, x);
+        }
+        LastOp::LastbV => {
+            let x = last_value(vec, e, false, pg, zn);
+            set_low_lane(vec, e, rd, x);
+        }
     }
 }
 
@@ -130,10 +138,4 @@ pub(crate) fn set_low_lane(vec: &mut VecRegs, e: u32, r: Reg, x: u64)
     ensures { vec.new ≡ with_low e x r vec.old }
 {
     vec.set_low(r, e, u128::from(x));
-}
-
-fn is_after(op: LastOp) -> bool
-    ensures { result ≡ table.is_after op }
-{
-    matches!(op, LastOp::LastaR | LastOp::LastaV)
 }

@@ -74,7 +74,7 @@ pub(crate) fn spliced_lanes<T: Lane, const N: usize>(
     requires whole { N * T.BITS ≡ 2048 }
     requires few { N ≤ 256 }
     requires run { from + count ≤ vec.old.bits / T.BITS }
-    ensures { vec.new ≡ model.moved T.BITS (spliced from count) zdn zm 0 zdn vec.old }
+    ensures { vec.new ≡ model.with_places T.BITS (spliced from count) zdn zm 0 zdn vec.old }
 {
     let n = (vec.length().bits() / T::BITS) as usize;
     let a: [T; N] = lanes_in(vec, zdn);
@@ -95,7 +95,8 @@ pub(crate) fn compacted_lanes<T: Lane, const N: usize>(
     requires whole { N * T.BITS ≡ 2048 }
     requires few { N ≤ 256 }
     ensures { vec.new
-        ≡ model.moved T.BITS (compact_place (is_active T.BITS vec.old pg) (vec.old.bits / T.BITS)) zn zn 0 zd vec.old }
+        ≡ model.with_places T.BITS (compact_place (is_active T.BITS vec.old pg) (vec.old.bits / T.BITS)) zn zn 0 zd
+        vec.old }
 {
     let n = (vec.length().bits() / T::BITS) as usize;
     let mask: [bool; N] = flags_in(vec, T::BITS, pg);
@@ -128,13 +129,13 @@ pub(crate) fn widened_lanes<T: Lane, H: Lane, const N: usize, const M: usize>(
 }
 
 fn is_high(op: UnpackOp) -> bool
-    ensures { result ≡ model.is_high op }
+    ensures { result ≡ (model.unpacks op).0 }
 {
     matches!(op, UnpackOp::Sunpkhi | UnpackOp::Uunpkhi)
 }
 
 fn is_signed(op: UnpackOp) -> bool
-    ensures { result ≡ model.is_signed op }
+    ensures { result ≡ (model.unpacks op).1 }
 {
     matches!(op, UnpackOp::Sunpklo | UnpackOp::Sunpkhi)
 }

@@ -20,7 +20,7 @@ use vec_regs::VecRegs;
 pub(crate) fn table(vec: &mut VecRegs, e: u32, zm: Reg, zn: Reg, zd: Reg)
     requires { IsLaneSize e }
     ensures { vec.new
-        ≡ model.moved e (λ k. indexed_place (lane_of e vec.old zm k) (vec.old.bits / e)) zn zn 0 zd vec.old }
+        ≡ model.with_places e (λ k. indexed_place (lane_of e vec.old zm k) (vec.old.bits / e)) zn zn 0 zd vec.old }
 {
     match e {
         8 => looked_up::<u8, 16, 256>(vec, zm, zn, zd),
@@ -40,7 +40,7 @@ fn looked_up<T: Quad<W>, const W: usize, const N: usize>(
     requires whole { N * T.BITS ≡ 2048 }
     requires few { N ≤ 256 }
     requires width { W ≤ 16 }
-    ensures { vec.new ≡ model.moved T.BITS
+    ensures { vec.new ≡ model.with_places T.BITS
         (λ k. indexed_place (lane_of T.BITS vec.old zm k) (vec.old.bits / T.BITS)) zn zn 0 zd vec.old }
 {
     let _length = vec.length();

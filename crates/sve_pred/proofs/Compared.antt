@@ -14,7 +14,7 @@ use Rattle.sve_effects.specs.declared.lane_functions.LaneTest.{LaneTest}
 use Rattle.lane_model.specs.declared.predicates.LogicOp.TheVariants.{And}
 use Rattle.sve_effects.specs.Lane.{lane_test}
 use Rattle.sve_effects.specs.Predicate.{logic}
-use Rattle.sve_effects.specs.PredicateRows.{put_compared, is_unsigned}
+use Rattle.sve_effects.specs.PredicateRows.{with_compared, is_unsigned}
 use Rattle.sve_pred.specs.Compares.{answer, told, IsTold, IsOfLane}
 use Rattle.sve_pred.specs.declared.compares.Operand.{Operand}
 use Rattle.sve_pred.specs.declared.compares.Operand.TheVariants.{Lane, Covering, Number}
@@ -62,11 +62,11 @@ module _ (e m : ℕ) (g : List Bool) (words : List ℕ) (told answer : ℕ → B
 -- ---- the same operands
 
 pub same_compared : (e pg pn pd zn : ℕ) (t u : LaneTest) (a b : Operand) (c : Core) (v : Vectors) → pg ≡ pn → t ≡ u → a ≡ b
-    → put_compared e pg pd (answer t e v zn a) c v ≡ put_compared e pn pd (answer u e v zn b) c v
+    → with_compared e pg pd (answer t e v zn a) c v ≡ with_compared e pn pd (answer u e v zn b) c v
 same_compared e pg pn pd zn t u a b c v g s o =
-    ap (λ (p : ℕ). put_compared e p pd (answer t e v zn a) c v) g
-    ∙ ap (λ (s : LaneTest). put_compared e pn pd (answer s e v zn a) c v) s
-    ∙ ap (λ (o : Operand). put_compared e pn pd (answer u e v zn o) c v) o
+    ap (λ (p : ℕ). with_compared e p pd (answer t e v zn a) c v) g
+    ∙ ap (λ (s : LaneTest). with_compared e pn pd (answer s e v zn a) c v) s
+    ∙ ap (λ (o : Operand). with_compared e pn pd (answer u e v zn o) c v) o
 
 pub same_told : (e f zn : ℕ) (t u : LaneTest) (a b : Operand) (v : Vectors) (words : List ℕ) → e ≡ f → t ≡ u → a ≡ b → IsTold e t v zn a words → IsTold f u v zn b words
 same_told e f zn t u a b v words p q r h =

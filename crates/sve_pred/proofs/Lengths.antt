@@ -14,6 +14,11 @@ use Rattle.sve_effects.specs.Bits.{lanes_of}
 pub length_given : (p : List Bool) (m n : ℕ) (f : ℕ → Bool) → p ≡ each m f → m ≡ n → length p ≡ n
 length_given p m n f e s = ap length e ∙ length-each m f ∙ s
 
+-- what is made of two predicates, as they are read
+pub of_two : (made : ℕ → List Bool → List Bool → List Bool) (p g a : List Bool) (n : ℕ) (g' a' : List Bool) → p ≡ made (length g) g a → length g ≡ n → g ≡ g' → a ≡ a' → p ≡ made n g' a'
+of_two made p g a n g' a' is count r s =
+    is ∙ ap (λ (k : ℕ). made k g a) count ∙ ap (λ (x : List Bool). made n x a) r ∙ ap (λ (x : List Bool). made n g' x) s
+
 -- what is made of three predicates, as they are read
 pub of_three : (made : ℕ → List Bool → List Bool → List Bool → List Bool) (p g a b : List Bool) (n : ℕ) (g' a' b' : List Bool) → p ≡ made (length g) g a b → length g ≡ n → g ≡ g' → a ≡ a' → b ≡ b' → p ≡ made n g' a' b'
 of_three made p g a b n g' a' b' is count r s t =

@@ -5,7 +5,7 @@ ghost use Rattle.emu_bits.specs.Numbers.{sign_extended};
 ghost use Rattle.sve_effects.specs.LaneLoop.{lane_bits};
 ghost use Rattle.sve_effects.specs.Effects.{predicate};
 ghost use Rattle.sve_effects.specs.PredicateRows as table;
-ghost use Rattle.sve_effects.specs.PredicateRows.{predicate_bits, put_compared};
+ghost use Rattle.sve_effects.specs.PredicateRows.{predicate_bits, with_compared};
 ghost use Rattle.sve_effects.specs.PredicateRows.{vector_test, wide_test, unsigned_test, signed_test};
 ghost use Rattle.sve_insn.specs.declared.form.SveForm.TheVariants as form;
 ghost use Rattle.sve_pred.specs.Compares as model;
@@ -254,9 +254,9 @@ fn compare(
 )
     requires fits { model.IsOfLane (lane_bits size) operand.now }
     requires told { model.IsTold (lane_bits size) test vec.old zn operand.now words.now }
-    ensures registers { core.new ≡ (put_compared (lane_bits size) pg pd
+    ensures registers { core.new ≡ (with_compared (lane_bits size) pg pd
         (model.answer test (lane_bits size) vec.old zn operand.now) core.old vec.old).core }
-    ensures vectors { vec.new ≡ (put_compared (lane_bits size) pg pd
+    ensures vectors { vec.new ≡ (with_compared (lane_bits size) pg pd
         (model.answer test (lane_bits size) vec.old zn operand.now) core.old vec.old).vectors }
 {
     let bits = compared_lanes(vec, test, size, pg, zn, operand, words);

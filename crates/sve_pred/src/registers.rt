@@ -2,7 +2,7 @@
 ghost use Rattle.std.specs.Prelude.{◌≡◌, ◌≤◌, true, length};
 ghost use Rattle.emu_bits.specs.Flags.{size_of};
 ghost use Rattle.sve_effects.specs.LaneLoop.{lane_bits};
-ghost use Rattle.sve_effects.specs.PredicateRows.{predicate_bits, after_test, put, ones};
+ghost use Rattle.sve_effects.specs.PredicateRows.{predicate_bits, after_test, with_result, ones};
 ghost use Rattle.emu_model.specs.Lanes.{read_p, with_p, with_ffr};
 
 use core_regs::Core;
@@ -71,8 +71,8 @@ pub fn set_test(core: &mut Core, g: &PredBits, outcome: &PredBits, e: Esize)
 #[inline(never)]
 fn put_tested(core: &mut Core, vec: &mut VecRegs, pg: Pred, pd: Pred, outcome: &PredBits)
     requires { length outcome.now ≡ predicate_bits vec.old }
-    ensures registers { core.new ≡ (put true 8 (read_p vec.old pg) pd outcome.now core.old vec.old).core }
-    ensures vectors { vec.new ≡ (put true 8 (read_p vec.old pg) pd outcome.now core.old vec.old).vectors }
+    ensures registers { core.new ≡ (with_result true 8 (read_p vec.old pg) pd outcome.now core.old vec.old).core }
+    ensures vectors { vec.new ≡ (with_result true 8 (read_p vec.old pg) pd outcome.now core.old vec.old).vectors }
 {
     set_test(core, &read(vec, pg), outcome, Esize::B);
     write(vec, pd, outcome);
@@ -82,8 +82,8 @@ fn put_tested(core: &mut Core, vec: &mut VecRegs, pg: Pred, pd: Pred, outcome: &
 #[inline(always)]
 pub fn put(core: &mut Core, vec: &mut VecRegs, sets: bool, pg: Pred, pd: Pred, outcome: &PredBits)
     requires { length outcome.now ≡ predicate_bits vec.old }
-    ensures registers { core.new ≡ (put sets 8 (read_p vec.old pg) pd outcome.now core.old vec.old).core }
-    ensures vectors { vec.new ≡ (put sets 8 (read_p vec.old pg) pd outcome.now core.old vec.old).vectors }
+    ensures registers { core.new ≡ (with_result sets 8 (read_p vec.old pg) pd outcome.now core.old vec.old).core }
+    ensures vectors { vec.new ≡ (with_result sets 8 (read_p vec.old pg) pd outcome.now core.old vec.old).vectors }
 {
     if sets {
         put_tested(core, vec, pg, pd, outcome);

@@ -1,7 +1,8 @@
 -- No word is in two lines. Bits outside of the fields tell all lines apart but five pairs: a load of a whole register stands where an
 -- element would have 64 bits in two gathers, and a store of a Z register where an element would be longer than its lane in a store.
 -- These differ by the lines' conditions.
-use Rattle.sve_insn.specs.Table.{lines_open, sve_table, memory_lines, data_lines, move_lines, predicate_lines}
+use Rattle.sve_insn.specs.Table.{sve_table, memory_lines, data_lines, move_lines, predicate_lines}
+use Rattle.sve_insn.specs.Opened.{lines_open}
 use Rattle.std.proofs.Common.{drop, ◌≡◌, ℕ, true, refl, List, ◌∷◌, ◌∙◌, ap, sym, not, ◌==◌, ◌||◌, ◌/◌, ◌%◌, ◌^◌, nat_le, arith}
 use lib.Pow.{shr-shr}
 use Rattle.std.proofs.lemmas.Bool.{false≢true, leb-true}

@@ -1,5 +1,6 @@
 -- Which lines are left where some bits of a word are known.
-use Rattle.sve_insn.specs.Table.{lines_open, data_lines}
+use Rattle.sve_insn.specs.Table.{data_lines}
+use Rattle.sve_insn.specs.Opened.{lines_open}
 use Rattle.std.proofs.Common.{◌≡◌, ℕ, refl, [], ◌∷◌, ◌∙◌}
 use Rattle.emu_bits.specs.Fields.{field}
 use Rattle.emu_bits.specs.Rows.{◌to◌, decode, row_in}

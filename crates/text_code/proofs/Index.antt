@@ -5,9 +5,10 @@ use Rattle.std.proofs.lemmas.Slice.Eq.{bytes_eq-Decides}
 use Rattle.std.specs.Cmp.Lexicographic.{slice_cmp}
 use Rattle.std.specs.List.Sorted.{IsBinarySearchResult, IsSearchInRange}
 use Rattle.std.specs.Ordering.{nat_cmp, is_lt}
+use Rattle.std.specs.Str.{bytes_eq}
 use Rattle.text_code.specs.declared.patterns.Spot.{Spot}
 use Rattle.text_code.specs.declared.patterns.Name.{Name}
-use Rattle.text_model.specs.Reading.{Pattern, same_name}
+use Rattle.text_model.specs.Reading.{Pattern}
 use Rattle.text_model.specs.Writing.{flat}
 use Rattle.text_code.specs.Reads.{with_name, at_spots, are_spots}
 use Rattle.text_code.specs.Names.{Named, names_of, spots_named, are_ascending, are_short, is_searchable, given_patterns, own_patterns, is_known, all_known, all_spots, IsIndex}
@@ -15,7 +16,7 @@ use Rattle.text_code.proofs.Search.{find_by, order, are_ascending as ascending_b
 
 -- ---- a name of the index
 
-same : (s t : List ℕ) → same_name s t ≡ true → s ≡ t
+same : (s t : List ℕ) → bytes_eq s t ≡ true → s ≡ t
 same s t h = (bytes_eq-Decides s t).0 h
 
 first_of : (x y : List Pattern) (xs ys : List (List Pattern)) → x ∷ xs ≡ y ∷ ys → x ≡ y
@@ -29,7 +30,7 @@ known : (pss : List (List Pattern)) (ps : List Pattern) (ns : List Named) (s : L
 known pss ps [] s g k = absurd (false≢true k)
 known pss ps (n ∷ ns) s g k =
     let f = λ (b : Bool). at_spots pss (if b then n.spots else spots_named ns s) in
-    elim (cases_Bool (same_name s n.name)) [
+    elim (cases_Bool (bytes_eq s n.name)) [
       | inl e ↦ ap f e ∙ first_of _ _ _ _ g ∙ ap (λ (t : List ℕ). with_name t ps) (sym (same s n.name e))
       | inr e ↦ ap f e ∙ known pss ps ns s (rest_of _ _ _ _ g) (sym (ap (λ (b : Bool). if b then true else is_known ns s) e) ∙ k)
     ]
@@ -38,7 +39,7 @@ known pss ps (n ∷ ns) s g k =
 
 no_spots : (ns : List Named) (s : List ℕ) → is_known ns s ≡ false → spots_named ns s ≡ []
 no_spots [] s k = refl
-no_spots (n ∷ ns) s k = elim (cases_Bool (same_name s n.name)) [
+no_spots (n ∷ ns) s k = elim (cases_Bool (bytes_eq s n.name)) [
   | inl e ↦ absurd (false≢true (sym k ∙ ap (λ (b : Bool). if b then true else is_known ns s) e))
   | inr e ↦ ap (λ (b : Bool). if b then n.spots else spots_named ns s) e ∙ no_spots ns s (sym (ap (λ (b : Bool). if b then true else is_known ns s) e) ∙ k)
 ]
@@ -47,7 +48,7 @@ no_patterns : (ns : List Named) (ps : List Pattern) (s : List ℕ) → all_known
 no_patterns ns [] s a k = refl
 no_patterns ns (p ∷ ps) s a k =
     let a2 = and_parts (is_known ns p.name) (all_known ns ps) a in
-    elim (cases_Bool (same_name s p.name)) [
+    elim (cases_Bool (bytes_eq s p.name)) [
       | inl e ↦ absurd (false≢true (sym k ∙ ap (is_known ns) (same s p.name e) ∙ a2.0))
       | inr e ↦ ap (λ (b : Bool). if b then p ∷ with_name s ps else with_name s ps) e ∙ no_patterns ns ps s a2.1 k
     ]
@@ -63,7 +64,7 @@ spots_there : (ns : List Named) (pss : List (List Pattern)) (s : List ℕ) → a
 spots_there [] pss s h = refl
 spots_there (n ∷ ns) pss s h =
     let h2 = and_parts (are_spots pss n.spots) (all_spots pss ns) h in
-    elim (cases_Bool (same_name s n.name)) [
+    elim (cases_Bool (bytes_eq s n.name)) [
       | inl e ↦ ap (λ (b : Bool). are_spots pss (if b then n.spots else spots_named ns s)) e ∙ h2.0
       | inr e ↦ ap (λ (b : Bool). are_spots pss (if b then n.spots else spots_named ns s)) e ∙ spots_there ns pss s h2.1
     ]
@@ -82,7 +83,7 @@ spots_or_none (Some n) = n.spots.now
 
 same_spots : (ns : List Name) (s : List ℕ) → spots_named (names_of ns) s ≡ spots_or_none (find_by name_text ns s)
 same_spots [] s = refl
-same_spots (n ∷ ns) s = elim (cases_Bool (same_name s n.name.now)) [
+same_spots (n ∷ ns) s = elim (cases_Bool (bytes_eq s n.name.now)) [
   | inl e ↦ ap (λ (b : Bool). if b then n.spots.now else spots_named (names_of ns) s) e ∙ sym (ap (λ (b : Bool). spots_or_none (if b then Some n else find_by name_text ns s)) e)
   | inr e ↦ ap (λ (b : Bool). if b then n.spots.now else spots_named (names_of ns) s) e ∙ same_spots ns s
       ∙ sym (ap (λ (b : Bool). spots_or_none (if b then Some n else find_by name_text ns s)) e)
@@ -104,8 +105,8 @@ looked_up_name ns s (Err i) h l b =
     let f = searched name_text ns s (Err i) (same_ascending ns ∙ (and_parts _ (are_short (names_of ns)) h).0) l b in
     same_spots ns s ∙ ap spots_or_none f
 
-too_long : (s t : List ℕ) → length t < length s → same_name s t ≡ false
-too_long s t h = elim (cases_Bool (same_name s t)) [
+too_long : (s t : List ℕ) → length t < length s → bytes_eq s t ≡ false
+too_long s t h = elim (cases_Bool (bytes_eq s t)) [
   | inl e ↦ (let l : length s ≡ length t = ap length (same s t e) in absurd (omega (arith, h, l)))
   | inr e ↦ e
 ]

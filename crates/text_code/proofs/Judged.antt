@@ -7,7 +7,7 @@ use Rattle.text_model.specs.declared.slots.Refusal.{Refusal}
 use Rattle.text_model.specs.declared.slots.Refusal.TheVariants.{BadOperands, OutOfRange}
 use Rattle.text_model.specs.Slots.{class_in, items_in}
 use Rattle.text_model.specs.Classes.{same_class}
-use Rattle.text_model.specs.Told.{Built, built, put_all, slot_tells}
+use Rattle.text_model.specs.Told.{Built, built, all_bound, slot_tells}
 use Rattle.text_model.specs.Reading.{same_classes}
 use Rattle.text_code.specs.Judging.{verdict, is_shown, are_shown}
 use Rattle.text_code.proofs.Steps.{none_left, some_next, judged_step, other_class}
@@ -26,7 +26,7 @@ module _ (left more : List Slot) (next rest : List Item) (s : Slot) (i : Item) (
       ∙ ap (λ (b : Bool). verdict_of more rest w b) (sym e)
 
 module _ (left more : List Slot) (next rest : List Item) (s : Slot) (i : Item) (l : left ≡ s ∷ more) where
-  pub told_on : (a b c : Built) → next ≡ i ∷ rest → c ≡ built a left next → b ≡ put_all a (slot_tells s i) → c ≡ built b more rest
+  pub told_on : (a b c : Built) → next ≡ i ∷ rest → c ≡ built a left next → b ≡ all_bound a (slot_tells s i) → c ≡ built b more rest
   told_on a b c n h e = h ∙ ap₂ (built a) l n ∙ ap (λ (x : Built). built x more rest) (sym e)
 
 pub lacks_item : (left more : List Slot) (next : List Item) (s : Slot) (w : ℕ) (fine : Bool) (r : Result (Unit {0}) Refusal) → left ≡ s ∷ more → r ≡ verdict_of left next w fine → length next ≡ 0

@@ -8,10 +8,11 @@ use Rattle.std.specs.List.Sorted.{IsBinarySearchResult, IsSearchInRange}
 use Rattle.std.specs.Ordering.{nat_cmp, is_lt}
 use Rattle.std.specs.Str.{bytes_eq}
 use Rattle.std.specs.Char.{is_ascii_digit, digit_value, to_ascii_lowercase}
+use Rattle.std.specs.Option.{option_and_then, unwrap_or}
 use Rattle.text_model.specs.declared.classes.Class.TheVariants.{Unknown}
 use Rattle.text_model.specs.declared.slots.Item.{Item}
 use Rattle.text_model.specs.Words as words
-use Rattle.text_model.specs.Words.{word_item, families, dictionary, Numbered, two_or_one, numbered, register_in, register_by, register, word_in, register_or_word, classed}
+use Rattle.text_model.specs.Words.{word_item, families, dictionary, Numbered, two_or_one, numbered, register_in, register, word_in, classed}
 use Rattle.text_model.specs.Statement.{lowered}
 use Rattle.text_code.specs.declared.dictionary.Word.{Word}
 use Rattle.text_code.specs.Tables.{words_of}
@@ -108,10 +109,10 @@ rest_long c d cs h = elim (cases_Bool (is_ascii_digit d && not (c == 48))) [
   | inr e ↦ subst (λ (b : Bool). 4 < length (by_digits b c d cs).rest) (sym e) (omega arith)
 ]
 
-no_numbered : (l c d : ℕ) (cs : List ℕ) → 4 < length cs → register_by l (numbered (c ∷ d ∷ cs)) ≡ None
+no_numbered : (l c d : ℕ) (cs : List ℕ) → 4 < length cs → option_and_then (register_in families l) (numbered (c ∷ d ∷ cs)) ≡ None
 no_numbered l c d cs h = elim (cases_Bool (is_ascii_digit c)) [
-  | inl e ↦ ap (λ (b : Bool). register_by l (if b then Some (two_or_one c d cs) else None)) e ∙ no_register families l (two_or_one c d cs) short_families (rest_long c d cs h)
-  | inr e ↦ ap (λ (b : Bool). register_by l (if b then Some (two_or_one c d cs) else None)) e
+  | inl e ↦ ap (λ (b : Bool). option_and_then (register_in families l) (if b then Some (two_or_one c d cs) else None)) e ∙ no_register families l (two_or_one c d cs) short_families (rest_long c d cs h)
+  | inr e ↦ ap (λ (b : Bool). option_and_then (register_in families l) (if b then Some (two_or_one c d cs) else None)) e
 ]
 
 no_register_token : (t : List ℕ) → 12 < length t → register t ≡ None
@@ -125,4 +126,4 @@ pub long_token : (t : List ℕ) → 12 < length t → classed (lowered t) ≡ wo
 long_token t h =
     let e : length (lowered t) ≡ length t = length-map t to_ascii_lowercase in
     let l : 12 < length (lowered t) = omega (arith, e, h) in
-    ap (λ (o : Option Item). register_or_word o (lowered t)) (no_register_token (lowered t) l) ∙ no_word dictionary (lowered t) short_words l
+    ap (λ (o : Option Item). unwrap_or o (word_in dictionary (lowered t))) (no_register_token (lowered t) l) ∙ no_word dictionary (lowered t) short_words l

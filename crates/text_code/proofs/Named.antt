@@ -1,12 +1,13 @@
 -- Reading by all patterns of a table is reading by those of the name.
 use Rattle.std.proofs.Common.{◌≡◌, ℕ, ◌+◌, ◌<◌, ◌≤◌, int_eq, ◌&&◌, if◌then◌else◌, Bool, true, false, Result, Ok, Err, List, [], ◌∷◌, length, refl, sym, ap, ap₂, ◌∙◌, arith, inl, inr, length-append}
 use Rattle.std.proofs.lemmas.Bool.{cases_Bool, and_parts, and_right, false≢true, leb-true}
+use Rattle.std.specs.Str.{bytes_eq}
 use Rattle.text_model.specs.declared.slots.Slot.{Slot}
 use Rattle.text_model.specs.declared.slots.Item.{Item}
 use Rattle.text_model.specs.declared.slots.Refusal.{Refusal}
 use Rattle.text_model.specs.declared.slots.Refusal.TheVariants.{UnknownName, BadOperands, OutOfRange}
 use Rattle.text_model.specs.Slots.{places, joined, value_in, items_in, fits, all_fit}
-use Rattle.text_model.specs.Reading.{Pattern, Read, Operands, is_left_out, item_for, items_behind, filled, same_classes, same_values, same_name, is_canonical, all_canonical, word_told, has_target, judged, items_to_read, later, best, reads}
+use Rattle.text_model.specs.Reading.{Pattern, Read, Operands, is_left_out, item_for, items_behind, filled, same_classes, same_values, is_canonical, all_canonical, word_told, has_target, judged, items_to_read, later, best, reads}
 use Rattle.text_model.specs.Statement.{untargeted}
 use Rattle.text_code.specs.Judging.{verdict, are_shown, answer_to}
 use Rattle.text_code.specs.Reads.{with_name, all_sound, answer_named, reads_named, asked_of}
@@ -66,7 +67,7 @@ reads_same in_table (p ∷ ps) name o =
     let a : Result Read Refusal = answer_named in_table p o in
     let f = λ (b : Bool). best (if b then a else Err UnknownName) (reads in_table ps name o) in
     let g = λ (b : Bool). reads_named in_table (if b then p ∷ with_name name ps else with_name name ps) o in
-    elim (cases_Bool (same_name name p.name)) [
+    elim (cases_Bool (bytes_eq name p.name)) [
       | inl e ↦ ap f e ∙ ap (best a) (reads_same in_table ps name o) ∙ ap g (sym e)
       | inr e ↦ ap f e ∙ no_worse (reads in_table ps name o) ∙ reads_same in_table ps name o ∙ ap g (sym e)
     ]

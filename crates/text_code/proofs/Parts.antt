@@ -1,7 +1,7 @@
 -- Names looked up in parts of an index.
 use Rattle.std.proofs.Common.{◌≡◌, ℕ, if◌then◌else◌, Bool, true, List, [], ◌∷◌, ◌++◌, length, nat_lt, refl, sym, ap, ◌∙◌, inl, inr}
 use Rattle.std.proofs.lemmas.Bool.{cases_Bool, and_parts, and_from, false≢true}
-use Rattle.text_model.specs.Reading.{same_name}
+use Rattle.std.specs.Str.{bytes_eq}
 use Rattle.text_code.specs.declared.patterns.Spot.{Spot}
 use Rattle.text_code.specs.Names.{Named, spots_named}
 use Rattle.text_code.specs.Parts.{are_found, or_spots}
@@ -16,7 +16,7 @@ spots_of_both (n ∷ ns) ms s h =
     let h2 = and_parts (nat_lt 0 (length n.spots)) (are_found ns) h in
     let f = λ (b : Bool). if b then n.spots else spots_named (ns ++ ms) s in
     let g = λ (b : Bool). or_spots (if b then n.spots else spots_named ns s) (spots_named ms s) in
-    elim (cases_Bool (same_name s n.name)) [
+    elim (cases_Bool (bytes_eq s n.name)) [
       | inl e ↦ ap f e ∙ sym (some_spots n.spots (spots_named ms s) h2.0) ∙ ap g (sym e)
       | inr e ↦ ap f e ∙ spots_of_both ns ms s h2.1 ∙ ap g (sym e)
     ]

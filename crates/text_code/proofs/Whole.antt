@@ -3,13 +3,14 @@ use Rattle.std.proofs.Common.{◌≡◌, ℕ, zero, suc, ◌-◌, ◌%◌, ◌^�
 use Rattle.std.proofs.lemmas.Bool.{and_parts, and_from, ltb-true}
 use Rattle.std.specs.List.{slice_get}
 use Rattle.std.specs.Prelude.{slice_range, is_some}
+use Rattle.std.specs.Option.{option_map_or}
 use Rattle.asm_tokens.specs.Tokens.{tokens}
 use Rattle.text_model.specs.declared.slots.Item.{Item}
 use Rattle.text_model.specs.declared.slots.Slot.{Slot}
 use Rattle.text_model.specs.declared.slots.Refusal.{Refusal}
 use Rattle.text_model.specs.declared.slots.Refusal.TheVariants.{UnknownName, BadOperands, OutOfRange}
 use Rattle.text_model.specs.Reading.{Pattern, Read, Operands, has_target, later, best}
-use Rattle.text_model.specs.Statement.{items_of, untargeted, is_label, last_of, is_label_at, ends_in_label, to_label, to_address, destination, last_target, with_target, lowered, operands_of, reads_tokens}
+use Rattle.text_model.specs.Statement.{items_of, untargeted, is_label, last_of, ends_in_label, to_label, to_address, destination, last_target, with_target, lowered, operands_of, reads_tokens}
 use Rattle.text_model.specs.Writing.{flat}
 use Rattle.asm_tokens.specs.declared.token.Token.{Token}
 use Rattle.text_code.specs.declared.patterns.Spot.{Spot}
@@ -136,10 +137,10 @@ to_last_label : (text : List ℕ) (t : Token) (o : Option Item) → IsLastLabel 
 to_last_label text t None l = ap (λ (q : Option (List ℕ)). destination q None) l.is
 to_last_label text t (Some i) l =
     let s : List ℕ = slice_range text t.from t.to in
-    let b : is_label s ≡ true = sym (ap is_label_at l.is) ∙ l.ends in
+    let b : is_label s ≡ true = sym (ap (λ (q : Option (List ℕ)). option_map_or is_label q false) l.is) ∙ l.ends in
     ap (λ (q : Option (List ℕ)). destination q (Some i)) l.is ∙ ap (λ (c : Bool). Some (if c then to_label s else to_address (unsigned_abs i.value % 2 ^ 64))) b
 
-to_last_item : (text : List ℕ) (x : Option (List ℕ)) (o : Option Item) → is_label_at x ≡ false → (x ≡ None → o ≡ None) → destination x o ≡ aim_of text (aim_at None o)
+to_last_item : (text : List ℕ) (x : Option (List ℕ)) (o : Option Item) → option_map_or is_label x false ≡ false → (x ≡ None → o ≡ None) → destination x o ≡ aim_of text (aim_at None o)
 to_last_item text None o h k = ap (λ (q : Option Item). aim_of text (aim_at None q)) (sym (k refl))
 to_last_item text (Some s) None h k = refl
 to_last_item text (Some s) (Some i) h k = ap (λ (c : Bool). Some (if c then to_label s else to_address (unsigned_abs i.value % 2 ^ 64))) h

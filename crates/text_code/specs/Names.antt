@@ -2,9 +2,10 @@
 use Rattle.std.specs.Prelude.{◌≡◌, ℕ, ◌&&◌, Bool, true, false, if◌then◌else◌, List, [], ◌∷◌, length, nat_le}
 use Rattle.std.specs.Cmp.Lexicographic.{slice_cmp}
 use Rattle.std.specs.Ordering.{nat_cmp, is_lt}
+use Rattle.std.specs.Str.{bytes_eq}
 use Rattle.text_code.specs.declared.patterns.Spot.{Spot}
 use Rattle.text_code.specs.declared.patterns.Name.{Name}
-use Rattle.text_model.specs.Reading.{Pattern, same_name}
+use Rattle.text_model.specs.Reading.{Pattern}
 use Rattle.text_model.specs.Writing.{flat}
 use Rattle.text_code.specs.Reads.{with_name, at_spots, are_spots}
 
@@ -20,7 +21,7 @@ names_of (n ∷ ns) = record { name = n.name.now; spots = n.spots.now } ∷ name
 -- where the patterns of a name stand
 abbrev pub spots_named : List Named → List ℕ → List Spot
 spots_named [] s = []
-spots_named (n ∷ ns) s = if same_name s n.name then n.spots else spots_named ns s
+spots_named (n ∷ ns) s = if bytes_eq s n.name then n.spots else spots_named ns s
 
 -- each name is before the next by its bytes, and no name is longer than 12 of them
 abbrev pub are_ascending : List Named → Bool
@@ -46,7 +47,7 @@ own_patterns ps (n ∷ ns) = with_name n.name ps ∷ own_patterns ps ns
 
 abbrev pub is_known : List Named → List ℕ → Bool
 is_known [] s = false
-is_known (n ∷ ns) s = if same_name s n.name then true else is_known ns s
+is_known (n ∷ ns) s = if bytes_eq s n.name then true else is_known ns s
 
 abbrev pub all_known : List Named → List Pattern → Bool
 all_known ns [] = true

@@ -2,10 +2,11 @@
 -- project's own.
 use Rattle.std.specs.Prelude.{ℕ, ◌%◌, ◌^◌, unsigned_abs, ◌≤◌, ◌&&◌, Bool, true, if◌then◌else◌, Option, Some, None, Result, Ok, Err, List, [], ◌∷◌, get_or, length, nat_lt, slice_range}
 use Rattle.std.specs.Str.{IsCharBoundary}
+use Rattle.std.specs.Str.{bytes_eq}
 use Rattle.text_model.specs.declared.slots.Item.{Item}
 use Rattle.text_model.specs.declared.slots.Refusal.{Refusal}
 use Rattle.text_model.specs.declared.slots.Refusal.TheVariants.{UnknownName, OutOfRange}
-use Rattle.text_model.specs.Reading.{Pattern, Read, Operands, same_name, word_told, judged, items_to_read, best}
+use Rattle.text_model.specs.Reading.{Pattern, Read, Operands, word_told, judged, items_to_read, best}
 use Rattle.text_model.specs.Statement.{Destination, to_label, to_address, Statement}
 use Rattle.asm_tokens.specs.declared.token.Token.{Token}
 use Rattle.text_code.specs.declared.patterns.Spot.{Spot}
@@ -17,7 +18,7 @@ use Rattle.text_code.specs.Sound.{are_sound, are_few}
 -- the patterns of a name
 abbrev pub with_name : List ℕ → List Pattern → List Pattern
 with_name n [] = []
-with_name n (p ∷ ps) = if same_name n p.name then p ∷ with_name n ps else with_name n ps
+with_name n (p ∷ ps) = if bytes_eq n p.name then p ∷ with_name n ps else with_name n ps
 
 abbrev pub no_pattern : Pattern
 no_pattern = record { name = []; base = 0; slots = [] }

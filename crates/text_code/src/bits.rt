@@ -2,7 +2,7 @@
 ghost use Rattle.std.specs.Prelude.{◌≡◌, ◌<◌, ◌≤◌, ◌^◌, true};
 ghost use Rattle.emu_bits.specs.Rows.{width, ones_at};
 ghost use Rattle.text_model.specs.Slots.{place_of, places, at_place, bits_in, joined};
-ghost use Rattle.text_model.specs.Told.{Binding, parted, put as put_binding, put_all};
+ghost use Rattle.text_model.specs.Told.{Binding, parted, bound, all_bound};
 ghost use Rattle.text_code.specs.Sound.{are_in_word, are_parts};
 ghost use Rattle.text_code.specs.Tables.{built_of};
 
@@ -82,7 +82,7 @@ impl Built {
     /// With a number told at these bits, unless they have been told before.
     pub fn with(self, b: Bits, value: u128) -> Self
         requires { are_in_word b ≡ true }
-        ensures { built_of result ≡ put_binding (built_of self) (record { place = place_of b; value = value }) }
+        ensures { built_of result ≡ bound (built_of self) (record { place = place_of b; value = value }) }
     {
         let ones = ones(b);
         if self.mask & ones != 0 {
@@ -98,7 +98,7 @@ impl Built {
     /// With a number told at its parts.
     pub fn with_parts(self, parts: Parts, value: u128) -> Self
         requires { are_parts parts ≡ true }
-        ensures { built_of result ≡ put_all (built_of self) (parted (places parts) value) }
+        ensures { built_of result ≡ all_bound (built_of self) (parted (places parts) value) }
     {
         match parts {
             Parts::Nowhere => self,

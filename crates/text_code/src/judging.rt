@@ -1,7 +1,7 @@
 //! What a pattern makes of a statement's items.
 ghost use Rattle.std.specs.Prelude.{◌≡◌, ◌≤◌, ◌&&◌, [], true, length};
 ghost use Rattle.text_model.specs.Slots.{items_in};
-ghost use Rattle.text_model.specs.Told.{built, slot_tells, put_all};
+ghost use Rattle.text_model.specs.Told.{built, slot_tells, all_bound};
 ghost use Rattle.text_model.specs.Reading.{is_target, has_target, same_classes};
 ghost use Rattle.text_code.specs.Sound.{is_sound, are_sound};
 ghost use Rattle.text_code.specs.Tables.{built_of};
@@ -16,7 +16,7 @@ use text_model::{Item, Kind, Refusal, Shape, Slot};
 /// With what a slot's item tells.
 fn told_by(built: Built, slot: Slot, item: Item) -> Built
     requires { is_sound slot ≡ true }
-    ensures { built_of result ≡ put_all (built_of built) (slot_tells slot item) }
+    ensures { built_of result ≡ all_bound (built_of built) (slot_tells slot item) }
 {
     let built = match slot.shape {
         Shape::Told(b, group) => built.with(b, u128::from(place_in(group, item.class))),

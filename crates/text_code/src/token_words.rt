@@ -2,7 +2,7 @@
 ghost use Rattle.std.specs.Prelude.{◌≡◌, ◌<◌, length, None, Some, MatchOption, ◌==◌, ◌&&◌, nat_lt};
 ghost use Rattle.std.specs.Cmp.Lexicographic.{slice_cmp};
 ghost use Rattle.std.specs.Ordering.{nat_cmp};
-ghost use Rattle.text_model.specs.Reading.{same_name};
+ghost use Rattle.std.specs.Str.{bytes_eq};
 ghost use Rattle.text_model.specs.Statement.{lowered};
 ghost use Rattle.text_model.specs.Words.{Numbered, numbered, register_in, dictionary, word_in, register, classed};
 ghost use Rattle.text_code.specs.Tables.{families_of};
@@ -46,7 +46,7 @@ fn numbered(bytes: &[u8]) -> Option<(u8, &[u8])>
 /// Whether a family has a register of this letter, number and suffix.
 fn is_of(family: &Family, letter: u8, number: u8, suffix: &[u8]) -> bool
     ensures { result ≡ (letter == family.now.letter
-        && (same_name suffix.now family.now.suffix.now && nat_lt number family.now.count)) }
+        && (bytes_eq suffix.now family.now.suffix.now && nat_lt number family.now.count)) }
 {
     letter == family.letter && suffix == family.suffix.as_bytes() && number < family.count
 }

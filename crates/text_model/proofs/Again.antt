@@ -1,11 +1,12 @@
 -- What a pattern shows is read as the word, over any patterns that are readable and apart.
 use Rattle.std.proofs.Common.{◌≡◌, ℕ, zero, suc, ◌&&◌, ◌||◌, if◌then◌else◌, Bool, true, false, not, Option, Some, None, Result, Ok, Err, List, [], ◌∷◌, sym, ap, ap₂, ◌∙◌, inl, inr, ◌⊎◌}
 use Rattle.std.proofs.lemmas.Bool.{cases_Bool, and_parts}
+use Rattle.std.specs.Str.{bytes_eq}
 use Rattle.text_model.specs.declared.slots.Item.{Item}
 use Rattle.text_model.specs.declared.slots.Refusal.{Refusal}
 use Rattle.text_model.specs.declared.slots.Refusal.TheVariants.{UnknownName, BadOperands, OutOfRange}
 use Rattle.text_model.specs.Slots.{items_in, all_fit}
-use Rattle.text_model.specs.Reading.{Pattern, Read, Operands, filled, same_classes, same_values, same_name, all_canonical, word_told, has_target, judged, items_to_read, answer, best, reads}
+use Rattle.text_model.specs.Reading.{Pattern, Read, Operands, filled, same_classes, same_values, all_canonical, word_told, has_target, judged, items_to_read, answer, best, reads}
 use Rattle.text_model.proofs.Tests.{are_good, is_readable, are_unlike, retargeted, is_apart, is_apart_from, all_apart, all_readable}
 use Rattle.text_model.proofs.Own.{own_name, all_kept, IsShown, read_own}
 use Rattle.text_model.proofs.Unlike.{Shaped, unlike}
@@ -51,7 +52,7 @@ other p q w in_table o h a =
     let is : List Item = items_to_read p o in
     let f = λ (b : Bool). if b then judged in_table p is (word_told p is) else Err UnknownName in
     let rest : Bool = are_unlike false p.slots q.slots && (not (has_target p.slots) || are_unlike false p.slots (retargeted q.slots)) in
-    elim (cases_Bool (same_name q.name p.name)) [
+    elim (cases_Bool (bytes_eq q.name p.name)) [
       | inl e ↦ (
         BadOperands,
         ap f e ∙ refused p in_table is (word_told p is)

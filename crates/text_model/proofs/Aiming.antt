@@ -4,7 +4,7 @@ use Rattle.std.proofs.lemmas.Bool.{cases_Bool, and_parts, eqb-true, eq-eqb, ltb-
 use Rattle.std.proofs.Math.Nat.{mod-eq_of_lt, mul-div_cancel, add-mul-mod_self_right, mul-add, mod-eq-sub-div-mul, mul-lt-mul_of_pos_right}
 use Rattle.emu_bits.specs.Rows.{Place}
 use Rattle.text_model.specs.Slots.{bits_in, joined, is_low, address}
-use Rattle.text_model.specs.Told.{parted, Built, put_all}
+use Rattle.text_model.specs.Told.{parted, Built, all_bound}
 use Rattle.text_model.specs.Text.{ones_of}
 use Rattle.text_model.specs.Aim.{Reach, reach_bits, aimed}
 use Rattle.text_model.specs.ReadBack.{reached}
@@ -103,12 +103,12 @@ aimed_back r w pc h l p =
     let a : ℕ = address r.by r.page b v pc in
     let m : ℕ = ones_of r.parts in
     let w0 : ℕ = bit_and w (2 ^ 32 - 1 - m) in
-    let f = λ (x : ℕ). if address r.by r.page b x pc == a then Some (put_all (record { mask = 0; word = w0 }) (parted r.parts x)).word else None in
+    let f = λ (x : ℕ). if address r.by r.page b x pc == a then Some (all_bound (record { mask = 0; word = w0 }) (parted r.parts x)).word else None in
     let start : record { mask = 0; word = w0 } ≡ with_bits w0 w 0 = ap (λ (x : ℕ). record { mask = 0; word = x }) (sym (nothing w0 w)) in
     ap f (number_back r.by r.page b v pc h1.0 (joined_small r.parts w) p)
-    ∙ ap (λ (t : Bool). if t then Some (put_all (record { mask = 0; word = w0 }) (parted r.parts v)).word else None) (eq-eqb a a refl)
+    ∙ ap (λ (t : Bool). if t then Some (all_bound (record { mask = 0; word = w0 }) (parted r.parts v)).word else None) (eq-eqb a a refl)
     ∙ ap (λ (x : ℕ). Some x)
-    (ap (λ (x : Built). (put_all x (parted r.parts v)).word) start
+    (ap (λ (x : Built). (all_bound x (parted r.parts v)).word) start
     ∙ ap (λ (x : Built). x.word) (all_put w0 w 0 (parted r.parts v) (parted_so r.parts w h2.0))
     ∙ ap (λ (ps : List Place). bit_or w0 (bit_and w (masked 0 ps))) (parts_told r.parts v)
     ∙ ap (λ (x : ℕ). bit_or w0 (bit_and w x)) (eqb-true _ _ h3.0)

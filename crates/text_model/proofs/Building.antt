@@ -7,7 +7,7 @@ use lib.Bits.{and_zero_r, or_zero_r}
 use Rattle.emu_bits.specs.Rows.{Place, width, ones_at}
 use Rattle.emu_bits.proofs.Encoding.{taken, or_assoc, and_over_or}
 use Rattle.text_model.specs.Slots.{at_place, bits_in, joined}
-use Rattle.text_model.specs.Told.{Binding, parted, Built, put, put_all}
+use Rattle.text_model.specs.Told.{Binding, parted, Built, bound, all_bound}
 
 -- ---- bindings that are so
 
@@ -80,7 +80,7 @@ places_of (b ∷ bs) = b.place ∷ places_of bs
 abbrev pub with_bits : ℕ → ℕ → ℕ → Built
 with_bits base w m = record { mask = m; word = bit_or base (bit_and w m) }
 
-one_more : (base w m : ℕ) (b : Binding) → IsSo w b → put (with_bits base w m) b ≡ with_bits base w (if bit_and m (ones_at b.place) == 0 then bit_or m (ones_at b.place) else m)
+one_more : (base w m : ℕ) (b : Binding) → IsSo w b → bound (with_bits base w m) b ≡ with_bits base w (if bit_and m (ones_at b.place) == 0 then bit_or m (ones_at b.place) else m)
 one_more base w m b h =
     let o : ℕ = ones_at b.place in
     let a : ℕ = bit_or (bit_or base (bit_and w m)) (b.value % 2 ^ width b.place * 2 ^ b.place.low) in
@@ -96,15 +96,15 @@ one_more base w m b h =
           ∙ ap (λ (t : Bool). with_bits base w (if t then bit_or m o else m)) (sym e)
     ]
 
-pub all_put : (base w m : ℕ) (bs : List Binding) → AreSo w bs → put_all (with_bits base w m) bs ≡ with_bits base w (masked m (places_of bs))
+pub all_put : (base w m : ℕ) (bs : List Binding) → AreSo w bs → all_bound (with_bits base w m) bs ≡ with_bits base w (masked m (places_of bs))
 all_put base w m [] h = refl
 all_put base w m (b ∷ bs) h =
-    ap (λ (t : Built). put_all t bs) (one_more base w m b h.0)
+    ap (λ (t : Built). all_bound t bs) (one_more base w m b h.0)
     ∙ all_put base w (if bit_and m (ones_at b.place) == 0 then bit_or m (ones_at b.place) else m) bs h.1
 
-pub put_both : (a : Built) (bs cs : List Binding) → put_all a (bs ++ cs) ≡ put_all (put_all a bs) cs
+pub put_both : (a : Built) (bs cs : List Binding) → all_bound a (bs ++ cs) ≡ all_bound (all_bound a bs) cs
 put_both a [] cs = refl
-put_both a (b ∷ bs) cs = put_both (put a b) bs cs
+put_both a (b ∷ bs) cs = put_both (bound a b) bs cs
 
 -- a word has its bits outside of a mask and those at it
 pub whole : (w base m : ℕ) → w < 2 ^ 32 → bit_or (2 ^ 32 - 1 - m) m ≡ 2 ^ 32 - 1 → bit_and w (2 ^ 32 - 1 - m) ≡ base → bit_or base (bit_and w m) ≡ w

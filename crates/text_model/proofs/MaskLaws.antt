@@ -5,11 +5,12 @@ use Rattle.std.proofs.lemmas.Bool.{cases_Bool, cases_lt, and_from, or_cases, eqb
 use Rattle.std.proofs.lemmas.Nat.{pow_pos}
 use Rattle.std.proofs.Math.Nat.{mod-eq_of_lt}
 use Rattle.std.specs.Prelude.{is_some, unwrap_or, find}
+use Rattle.std.specs.Option.{option_map_or}
 use Rattle.std.specs.List.{range_with_len}
 use Rattle.emu_bits.specs.Bitmask.{bitmask_of, with_elements, element_log, is_refused, rotated, repeated}
 use Rattle.emu_bits.proofs.AllBelow.{all_below, each_below}
 use Rattle.text_model.specs.declared.slots.Kind.TheVariants.{Bitmask}
-use Rattle.text_model.specs.Masks.{bitmask_at, is_some_of, bitmask_fields}
+use Rattle.text_model.specs.Masks.{bitmask_at, bitmask_fields}
 use Rattle.text_model.specs.Reading.{is_canonical}
 
 -- ---- the fields of a number
@@ -109,6 +110,10 @@ reduced_least v =
     let p : 0 < n = size_some (v / 4096) (v % 64) in
     let l : v / 64 % 64 % n ≤ v / 64 % 64 = omega (arith, p) in
     omega (arith, parts v, l)
+
+-- there is a number, and it is m
+abbrev is_some_of : Option ℕ → ℕ → Bool
+is_some_of o m = option_map_or (λ x. x == m) o false
 
 pub given_is : (o : Option ℕ) (m : ℕ) → is_some_of o m ≡ true → o ≡ Some m
 given_is None m h = absurd (false≢true h)

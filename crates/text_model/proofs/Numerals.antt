@@ -3,7 +3,7 @@ use Rattle.std.proofs.Common.{◌≡◌, ℕ, ◌-◌, ◌^◌, ◌<◌, ◌≤�
 use Rattle.std.proofs.lemmas.Bool.{and_parts, and_from, and_right, and_left, ne_eqb, lt-ltb}
 use Rattle.std.proofs.lemmas.Fmt.{digits_is_IsNumeral}
 use Rattle.std.specs.Prelude.{option_map}
-use Rattle.std.specs.Fmt.{digits}
+use Rattle.std.specs.Fmt.{decimal, digits}
 use Rattle.std.specs.Char.{digit_value, is_digit, to_ascii_lowercase}
 use Rattle.std.specs.List.{list_all}
 use Rattle.std.specs.Str.Parse.{digits_value, IsNumeral, AllDigits}
@@ -14,7 +14,7 @@ use Rattle.asm_tokens.specs.Numbers as numbers
 use Rattle.text_model.specs.declared.classes.Class.TheVariants.{Number}
 use Rattle.text_model.specs.Words.{item}
 use Rattle.text_model.specs.Statement.{item_by, more_tokens, items_behind}
-use Rattle.text_model.specs.Text.{decimal, hexadecimal}
+use Rattle.text_model.specs.Text.{hexadecimal}
 
 -- A token that is a number.
 pub record IsNumber (t : List ℕ) (n : ℕ) : Type 0 where

@@ -4,6 +4,7 @@ use Rattle.std.proofs.lemmas.Bool.{and_parts, and_from, eqb-true, eq-eqb, false�
 use Rattle.std.proofs.lemmas.Slice.Eq.{bytes_eq-Decides}
 use Rattle.std.proofs.Math.Nat.{mod-eq_of_lt}
 use Rattle.std.proofs.lemmas.Int.{ints}
+use Rattle.std.specs.Str.{bytes_eq}
 use Rattle.emu_bits.specs.Rows.{Place, width, ones_at}
 use Rattle.emu_bits.proofs.AllBelow.{each_below}
 use Rattle.text_model.specs.declared.classes.Class.{Class}
@@ -18,10 +19,10 @@ use Rattle.text_model.specs.declared.slots.Need.TheVariants.{Must, Begins, Insid
 use Rattle.text_model.specs.declared.slots.Slot.{Slot}
 use Rattle.text_model.specs.declared.slots.Item.{Item}
 use Rattle.text_model.specs.declared.slots.Refusal.TheVariants.{BadOperands, OutOfRange}
-use Rattle.text_model.specs.Classes.{class_number}
+use Rattle.text_model.specs.ClassNumbers.{class_number}
 use Rattle.text_model.specs.Slots.{place_of, places, at_place, bits_in, joined, classes_of, class_at, class_in, shown, value_in, item_in, items_in, has_class, can_show, fits, all_fit}
 use Rattle.text_model.specs.Told.{Binding, class_tells, index_of, told, parted, codec_tells, slot_tells, Built, built}
-use Rattle.text_model.specs.Reading.{Pattern, is_left_out, raised, item_for, items_behind, filled, same_classes, same_values, same_name, is_canonical, all_canonical, word_told, has_target, judged}
+use Rattle.text_model.specs.Reading.{Pattern, is_left_out, raised, item_for, items_behind, filled, same_classes, same_values, is_canonical, all_canonical, word_told, has_target, judged}
 use Rattle.text_model.specs.Text.{class_places, slot_places, told_bits, shows}
 use Rattle.text_model.proofs.Tests.{is_good_shape, is_good_kind, is_good_need, is_good_style, is_good, are_good, all_places, is_readable}
 use Rattle.text_model.proofs.KindLaws.{is_unaimed, kind_law, not_negative}
@@ -164,7 +165,7 @@ own_values : (is : List Item) → same_values is is ≡ true
 own_values [] = refl
 own_values (i ∷ is) = and_from _ _ (self_integer i.value) (own_values is)
 
-pub own_name : (s : List ℕ) → same_name s s ≡ true
+pub own_name : (s : List ℕ) → bytes_eq s s ≡ true
 own_name s = (bytes_eq-Decides s s).1 refl
 
 -- A word that a pattern shows and reads again.

@@ -10,7 +10,7 @@ use Rattle.asm_tokens.specs.Numbers as numbers
 use Rattle.asm_tokens.specs.Numbers.{minus, numeral}
 use Rattle.text_model.specs.declared.classes.Class.{Class}
 use Rattle.text_model.specs.declared.classes.Class.TheVariants.{Unknown, Number, Comma, Slash, OpenBracket, CloseBracket, OpenBrace, CloseBrace, Exclamation, W, X, B, H, S, D, Q, V8b, V16b, V4h, V8h, V2s, V4s, V2d, Z, Zb, Zh, Zs, Zd, Zq, P, Pb, Ph, Ps, Pd, Shift, ShiftOnes, ExtendByte, ExtendHalfword, ExtendWord, ExtendDoubleword, Condition, Count, Times, VectorLength, Merging, Zeroing, TpidrEl0, Nzcv, DczidEl0}
-use Rattle.text_model.specs.Classes.{class_number}
+use Rattle.text_model.specs.ClassNumbers.{class_number}
 use Rattle.text_model.specs.Slots.{is_named}
 use Rattle.text_model.specs.declared.slots.Item.{Item}
 use Rattle.text_model.specs.Words.{dictionary, item, word_item, spelled, classed}

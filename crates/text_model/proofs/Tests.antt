@@ -1,5 +1,6 @@
 -- What is computed over patterns, for the laws of a table.
 use Rattle.std.proofs.Common.{ℕ, ◌+◌, ◌-◌, ◌*◌, ◌/◌, ◌%◌, ◌^◌, ◌==◌, ◌&&◌, ◌||◌, if◌then◌else◌, Bool, true, false, not, Option, Some, None, List, [], ◌∷◌, ◌++◌, length, bit_and, bit_or, nat_lt, nat_le}
+use Rattle.std.specs.Str.{bytes_eq}
 use Rattle.emu_bits.specs.Rows.{Place, width, ones_at, ones_in, outside, Line}
 use Rattle.emu_bits.proofs.Computed.{are_apart}
 use Rattle.emu_bits.proofs.AllBelow.{all_below}
@@ -18,9 +19,10 @@ use Rattle.text_model.specs.declared.slots.Kind.{Kind}
 use Rattle.text_model.specs.declared.slots.Kind.TheVariants.{Fixed, Plain, Stack, After, NamedCount, UnnamedCount, Scaled, Falling, Signed, Target, Bitmask, Spread, LeftShift, Inverted}
 use Rattle.text_model.specs.Slots.{place_of, classes_of, class_at, places, bits_in}
 use Rattle.text_model.specs.Told.{index_of}
-use Rattle.text_model.specs.Reading.{Pattern, is_left_out, same_name, is_target, has_target}
+use Rattle.text_model.specs.Reading.{Pattern, is_left_out, is_target, has_target}
 use Rattle.text_model.specs.Text.{ones_of, slot_places, told_bits, chosen}
-use Rattle.text_model.specs.Classes.{class_number, same_class}
+use Rattle.text_model.specs.ClassNumbers.{class_number}
+use Rattle.text_model.specs.Classes.{same_class}
 use Rattle.text_model.specs.Statement.{lowered}
 use Rattle.text_model.specs.Aim.{Reach, reach_of, reach_bits}
 use Rattle.asm_tokens.specs.AreTokens.{is_token}
@@ -144,7 +146,7 @@ retargeted (s ∷ t ∷ ts) = s ∷ retargeted (t ∷ ts)
 
 -- The first pattern doesn't read what the second shows.
 abbrev pub is_apart : Pattern → Pattern → Bool
-is_apart p q = not (same_name q.name p.name) || (are_unlike false p.slots q.slots && (not (has_target p.slots) || are_unlike false p.slots (retargeted q.slots)))
+is_apart p q = not (bytes_eq q.name p.name) || (are_unlike false p.slots q.slots && (not (has_target p.slots) || are_unlike false p.slots (retargeted q.slots)))
 
 abbrev pub is_apart_from : Pattern → List Pattern → Bool
 is_apart_from p [] = true
@@ -232,7 +234,7 @@ are_written (s ∷ ss) = is_written s && are_written ss
 
 abbrev pub all_written : List Pattern → Bool
 all_written [] = true
-all_written (p ∷ ps) = ((is_token p.name && same_name (lowered p.name) p.name) && are_written p.slots) && all_written ps
+all_written (p ∷ ps) = ((is_token p.name && bytes_eq (lowered p.name) p.name) && are_written p.slots) && all_written ps
 
 -- ---- targets
 

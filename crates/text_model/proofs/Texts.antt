@@ -3,6 +3,7 @@ use Rattle.std.proofs.Common.{◌≡◌, ℕ, zero, suc, ◌-◌, ◌%◌, ◌^�
 use Rattle.std.proofs.lemmas.Bool.{cases_Bool, and_parts, or_parts, and_from, not-true, eqb-true, false≢true, true≢false}
 use Rattle.std.proofs.lemmas.Slice.Eq.{bytes_eq-Decides}
 use Rattle.std.proofs.lemmas.List.Folds.{list_all-append}
+use Rattle.std.specs.Str.{bytes_eq}
 use Rattle.asm_tokens.specs.AreTokens.{is_token, are_tokens}
 use Rattle.asm_tokens.proofs.Split.{split_again}
 use Rattle.emu_bits.specs.Rows.{Place}
@@ -17,7 +18,7 @@ use Rattle.text_model.specs.declared.slots.Style.TheVariants.{Address}
 use Rattle.text_model.specs.declared.slots.Slot.{Slot}
 use Rattle.text_model.specs.declared.slots.Item.{Item}
 use Rattle.text_model.specs.Slots.{class_in, places, joined, bits_in, fits, all_fit, address}
-use Rattle.text_model.specs.Reading.{Pattern, Operands, is_target, has_target, reads, same_name}
+use Rattle.text_model.specs.Reading.{Pattern, Operands, is_target, has_target, reads}
 use Rattle.text_model.specs.Words.{item}
 use Rattle.text_model.specs.Text.{hexadecimal, item_tokens, printed, printed_item, slot_tokens, text, told_bits}
 use Rattle.text_model.specs.Statement.{Destination, to_label, to_address, lowered, items_behind, is_label, last_of, destination, last_target, Statement, with_target, operands_of, ends_in_label, untargeted}
@@ -157,7 +158,7 @@ pub record AreLegible (ps : List Pattern) : Type 0 where
 
 record Fine (p : Pattern) : Type 0 where
   pub name : is_token p.name ≡ true
-  pub lower : same_name (lowered p.name) p.name ≡ true
+  pub lower : bytes_eq (lowered p.name) p.name ≡ true
   pub good : are_good p.slots ≡ true
   pub written : are_written p.slots ≡ true
   pub aimed : is_aimed_well p ≡ true
@@ -169,16 +170,16 @@ fine_at : (ps : List Pattern) (n : ℕ) (p : Pattern) → all_readable ps ≡ tr
 fine_at [] n p r w a e = absurd (cc)
 fine_at (q ∷ qs) zero p r w a e =
     let r2 = and_parts (is_readable q) (all_readable qs) r in
-    let w2 = and_parts ((is_token q.name && same_name (lowered q.name) q.name) && are_written q.slots) (all_written qs) w in
-    let w3 = and_parts (is_token q.name && same_name (lowered q.name) q.name) (are_written q.slots) w2.0 in
-    let w4 = and_parts (is_token q.name) (same_name (lowered q.name) q.name) w3.0 in
+    let w2 = and_parts ((is_token q.name && bytes_eq (lowered q.name) q.name) && are_written q.slots) (all_written qs) w in
+    let w3 = and_parts (is_token q.name && bytes_eq (lowered q.name) q.name) (are_written q.slots) w2.0 in
+    let w4 = and_parts (is_token q.name) (bytes_eq (lowered q.name) q.name) w3.0 in
     let a2 = and_parts (is_aimed_well q) (all_aimed_well qs) a in
     subst Fine (some_is q p e) (record { name = w4.0; lower = w4.1; good = (and_parts (are_good q.slots) _ r2.0).0; written = w3.1; aimed = a2.0 })
 fine_at (q ∷ qs) (suc n) p r w a e =
-    fine_at qs n p (and_parts (is_readable q) (all_readable qs) r).1 (and_parts ((is_token q.name && same_name (lowered q.name) q.name) && are_written q.slots) (all_written qs) w).1
+    fine_at qs n p (and_parts (is_readable q) (all_readable qs) r).1 (and_parts ((is_token q.name && bytes_eq (lowered q.name) q.name) && are_written q.slots) (all_written qs) w).1
     (and_parts (is_aimed_well q) (all_aimed_well qs) a).1 e
 
-same_names : (s t : List ℕ) → same_name s t ≡ true → s ≡ t
+same_names : (s t : List ℕ) → bytes_eq s t ≡ true → s ≡ t
 same_names s t h = (bytes_eq-Decides s t).0 h
 
 -- What a text of a word is read as: the word with the bits of its target 0, and the address that the text shows.

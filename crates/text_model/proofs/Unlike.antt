@@ -14,7 +14,8 @@ use Rattle.text_model.specs.declared.slots.Need.{Need}
 use Rattle.text_model.specs.declared.slots.Need.TheVariants.{Must, Begins, Inside}
 use Rattle.text_model.specs.declared.slots.Slot.{Slot}
 use Rattle.text_model.specs.declared.slots.Item.{Item}
-use Rattle.text_model.specs.Classes.{class_number, same_class}
+use Rattle.text_model.specs.ClassNumbers.{class_number}
+use Rattle.text_model.specs.Classes.{same_class}
 use Rattle.text_model.specs.Slots.{place_of, at_place, classes_of, class_at, class_in, items_in}
 use Rattle.text_model.specs.Reading.{is_left_out, raised, item_for, items_behind, filled, same_classes}
 use Rattle.text_model.proofs.Own.{self}

@@ -15,10 +15,11 @@ use Rattle.text_model.specs.declared.slots.Style.{Style}
 use Rattle.text_model.specs.declared.slots.Style.TheVariants.{Word, Counted, Bare, Hexadecimal, Address}
 use Rattle.text_model.specs.declared.slots.Slot.{Slot}
 use Rattle.text_model.specs.declared.slots.Item.{Item}
-use Rattle.text_model.specs.Classes.{class_number}
+use Rattle.text_model.specs.ClassNumbers.{class_number}
 use Rattle.text_model.specs.Slots.{place_of, places, at_place, bits_in, joined, classes_of, class_at, class_in, is_low, inverse, shown, is_named, has_class, can_show, fits}
 use Rattle.text_model.specs.Words.{item, word_item, spelled}
-use Rattle.text_model.specs.Text.{decimal, hexadecimal, item_tokens, printed, printed_item}
+use Rattle.std.specs.Fmt.{decimal}
+use Rattle.text_model.specs.Text.{hexadecimal, item_tokens, printed, printed_item}
 use Rattle.text_model.specs.Statement.{items_behind}
 use Rattle.text_model.proofs.Numerals.{IsNumber, decimal_is, hexadecimal_is, bare_items, hash_items, minus_items}
 use Rattle.text_model.proofs.Spelling.{size_of, same_number, IsWord, spelled_is, word_items}

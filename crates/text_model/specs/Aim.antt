@@ -2,12 +2,13 @@
 -- entries of the Arm Architecture Reference Manual for A-profile (DDI 0487), C6, with a label: `PC + offset`, and for
 -- ADRP the same of 4 KiB pages.
 use Rattle.std.specs.Prelude.{ℕ, ◌+◌, ◌-◌, ◌/◌, ◌%◌, ◌^◌, ◌==◌, if◌then◌else◌, Option, Some, None, List, [], ◌∷◌}
+use Rattle.std.specs.Option.{option_and_then, option_map_or}
 use Rattle.emu_bits.specs.Rows.{Place}
 use Rattle.text_model.specs.declared.slots.Kind.{Kind}
 use Rattle.text_model.specs.declared.slots.Kind.TheVariants.{Target}
 use Rattle.text_model.specs.declared.slots.Slot.{Slot}
 use Rattle.text_model.specs.Slots.{places, bits_in, address}
-use Rattle.text_model.specs.Told.{parted, put_all}
+use Rattle.text_model.specs.Told.{parted, all_bound}
 use Rattle.text_model.specs.Text.{ones_of}
 
 -- how a target is shown: the address `by` times the signed number at places, behind the instruction's address, which is
@@ -27,8 +28,7 @@ reach_of [] = None
 reach_of (s ∷ ss) = reach_or s.codec.kind (places s.codec.parts) (reach_of ss)
 
 abbrev pub reach_bits : Option Reach → ℕ
-reach_bits None = 0
-reach_bits (Some r) = ones_of r.parts
+reach_bits r = option_map_or (λ r. ones_of r.parts) r 0
 
 -- the number of b bits that reaches an address, if one does
 abbrev pub number_to : Reach → ℕ → ℕ → ℕ
@@ -38,9 +38,8 @@ abbrev pub aimed_by : Reach → ℕ → ℕ → ℕ → Option ℕ
 aimed_by r w pc t =
     let v = number_to r pc t in
     if address r.by r.page (bits_in r.parts) v pc == t
-    then Some (put_all (record { mask = 0; word = w }) (parted r.parts v)).word else None
+    then Some (all_bound (record { mask = 0; word = w }) (parted r.parts v)).word else None
 
 -- A word of which the bits of its target are 0, aimed at an address; none where its field can't reach it.
 abbrev pub aimed : Option Reach → ℕ → ℕ → ℕ → Option ℕ
-aimed None w pc t = None
-aimed (Some r) w pc t = aimed_by r w pc t
+aimed r w pc t = option_and_then (λ r. aimed_by r w pc t) r

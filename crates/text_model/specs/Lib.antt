@@ -1,4 +1,5 @@
 pub mod Classes
+pub mod ClassNumbers
 pub mod Masks
 pub mod Slots
 pub mod Told

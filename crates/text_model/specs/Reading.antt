@@ -6,8 +6,10 @@
 -- isn't written so, or the word isn't in the table. That instructions are texts of slots is this project's own; the
 -- texts are the assembler syntax of the entries of the Arm Architecture Reference Manual for A-profile (DDI 0487), C6
 -- to C8.
-use Rattle.std.specs.Prelude.{ℕ, ◌-◌, ◌/◌, ◌%◌, ◌^◌, pos, ◌+ℤ◌, unsigned_abs, ◌&&◌, ◌||◌, Bool, true, false, not, if◌then◌else◌, Result, Ok, Err, List, [], ◌∷◌, ◌++◌, nat_lt, nat_le, unwrap_or, is_some}
+use Rattle.std.specs.Prelude.{ℕ, ◌-◌, ◌/◌, ◌%◌, ◌^◌, pos, ◌+ℤ◌, unsigned_abs, ◌&&◌, Bool, true, false, not, if◌then◌else◌, Result, Ok, Err, List, [], ◌∷◌, ◌++◌, nat_lt, nat_le, unwrap_or, is_some}
+use Rattle.std.specs.Cmp.Lexicographic.{pointwise}
 use Rattle.std.specs.Int.{is_negative}
+use Rattle.std.specs.List.{list_all, list_any}
 use Rattle.std.specs.Ordering.{int_eq}
 use Rattle.std.specs.Str.{bytes_eq}
 use Rattle.emu_bits.specs.Bitmask.{element_log}
@@ -76,19 +78,10 @@ filled out (s ∷ ss) is = let o = is_left_out s.need out is in item_for o s is 
 -- ---- one pattern
 
 abbrev pub same_classes : List Item → List Item → Bool
-same_classes [] [] = true
-same_classes [] (j ∷ js) = false
-same_classes (i ∷ is) [] = false
-same_classes (i ∷ is) (j ∷ js) = same_class i.class j.class && same_classes is js
+same_classes is js = pointwise (λ i j. same_class i.class j.class) is js
 
 abbrev pub same_values : List Item → List Item → Bool
-same_values [] [] = true
-same_values [] (j ∷ js) = false
-same_values (i ∷ is) [] = false
-same_values (i ∷ is) (j ∷ js) = int_eq i.value j.value && same_values is js
-
-abbrev pub same_name : List ℕ → List ℕ → Bool
-same_name s t = bytes_eq s t
+same_values is js = pointwise (λ i j. int_eq i.value j.value) is js
 
 -- bits of the element that a bitmask's fields N and imms repeat
 abbrev pub element_size : ℕ → ℕ
@@ -102,8 +95,7 @@ is_canonical Inverted v = nat_lt v 14
 is_canonical k v = true
 
 abbrev pub all_canonical : List Slot → ℕ → Bool
-all_canonical [] w = true
-all_canonical (s ∷ ss) w = is_canonical s.codec.kind (joined (places s.codec.parts) w) && all_canonical ss w
+all_canonical ss w = list_all (λ s. is_canonical s.codec.kind (joined (places s.codec.parts) w)) ss
 
 -- the word that the items of a statement tell
 abbrev pub word_told : Pattern → List Item → ℕ
@@ -119,8 +111,7 @@ is_target (Target n g) = true
 is_target k = false
 
 abbrev pub has_target : List Slot → Bool
-has_target [] = false
-has_target (s ∷ ss) = is_target s.codec.kind || has_target ss
+has_target ss = list_any (λ s. is_target s.codec.kind) ss
 
 -- The items are those that a pattern shows of a word; then the word is read, if it is in the table.
 abbrev pub judged : (ℕ → Bool) → Pattern → List Item → ℕ → Result Read Refusal
@@ -142,7 +133,7 @@ items_to_read p o = filled false p.slots (if has_target p.slots then o.untargete
 -- what a pattern makes of a statement
 abbrev pub answer : (ℕ → Bool) → Pattern → List ℕ → Operands → Result Read Refusal
 answer in_table p name o =
-    if same_name name p.name then (let is = items_to_read p o in judged in_table p is (word_told p is))
+    if bytes_eq name p.name then (let is = items_to_read p o in judged in_table p is (word_told p is))
     else Err UnknownName
 
 -- ---- all patterns

@@ -1,7 +1,8 @@
 -- What a slot shows of a word: an item, which is a class and an integer. The kinds are those of the tables 'Assembler
 -- Symbols' of the entries of the Arm Architecture Reference Manual for A-profile (DDI 0487), C6 to C8, each said by the
 -- bits of its fields; that a text is a row of slots is this project's own.
-use Rattle.std.specs.Prelude.{ℕ, zero, suc, ◌+◌, ◌-◌, ◌*◌, ◌/◌, ◌%◌, ◌^◌, ℤ, pos, neg_ℤ, ◌==◌, ◌&&◌, ◌||◌, Bool, true, if◌then◌else◌, List, [], ◌∷◌, length, get_or, nat_lt, nat_le, unwrap_or}
+use Rattle.std.specs.Prelude.{ℕ, zero, suc, ◌+◌, ◌-◌, ◌*◌, ◌/◌, ◌%◌, ◌^◌, ℤ, pos, neg_ℤ, ◌==◌, ◌&&◌, ◌||◌, Bool, true, if◌then◌else◌, List, [], ◌∷◌, length, map, get_or, nat_lt, nat_le, unwrap_or}
+use Rattle.std.specs.List.{list_all}
 use Rattle.emu_bits.specs.Fields.{field}
 use Rattle.emu_bits.specs.Rows.{Place, ◌to◌, width}
 use Rattle.text_model.specs.declared.classes.Class.{Class}
@@ -74,7 +75,7 @@ class_in (Shown b g) w = class_at g (at_place (place_of b) w)
 
 -- ---- the value
 
--- a number of b bits is negative where its highest bit is 1
+-- the highest bit of a number of b bits is 0; where it is 1, a signed number is negative
 abbrev pub is_low : ℕ → ℕ → Bool
 is_low b v = nat_lt v (2 ^ (b - 1))
 
@@ -105,7 +106,8 @@ shown Spread b v = pos (spread 8 v)
 shown (LeftShift w) b v = pos (w - 1 - v % 64)
 shown Inverted b v = pos (inverse v)
 
--- the address that a target of v, a number of b bits, is, where the instruction stands at pc
+-- the address that a target of v, a number of b bits, is, where the instruction stands at pc: v is signed and counts n
+-- bytes, from pc rounded down to a multiple of g on
 abbrev pub address : ℕ → ℕ → ℕ → ℕ → ℕ → ℕ
 address n g b v pc = (pc - pc % g + (if is_low b v then n * v else 2 ^ 64 - n * (2 ^ b - v))) % 2 ^ 64
 
@@ -118,8 +120,7 @@ abbrev pub item_in : Slot → ℕ → Item
 item_in s w = record { class = class_in s.shape w; value = value_in s.codec w }
 
 abbrev pub items_in : List Slot → ℕ → List Item
-items_in [] w = []
-items_in (s ∷ ss) w = item_in s w ∷ items_in ss w
+items_in ss w = map (λ s. item_in s w) ss
 
 -- ---- what a slot can't show
 
@@ -147,5 +148,4 @@ abbrev pub fits : Slot → ℕ → Bool
 fits s w = has_class s.shape w && can_show s.codec.kind (joined (places s.codec.parts) w)
 
 abbrev pub all_fit : List Slot → ℕ → Bool
-all_fit [] w = true
-all_fit (s ∷ ss) w = fits s w && all_fit ss w
+all_fit ss w = list_all (λ s. fits s w) ss

@@ -1,6 +1,7 @@
 -- A statement's tokens as items, and what a table's patterns make of them. What a label is, and that a target is the
 -- last item, is this project's own.
 use Rattle.std.specs.Prelude.{ℕ, zero, suc, ◌-◌, ◌%◌, ◌^◌, ◌==◌, ◌&&◌, ◌||◌, Bool, false, not, if◌then◌else◌, Option, Some, None, Result, Ok, Err, List, [], ◌∷◌, nat_lt, map, pos, unsigned_abs}
+use Rattle.std.specs.Option.{option_map_or}
 use Rattle.std.specs.Char.{is_ascii_digit, to_ascii_lowercase}
 use Rattle.std.specs.Int.{is_negative}
 use Rattle.std.specs.List.{list_all}
@@ -25,8 +26,7 @@ item_by None t = classed (lowered t)
 
 -- how many tokens it has behind the first
 abbrev pub more_tokens : Option numbers.Number → ℕ
-more_tokens (Some n) = n.count - 1
-more_tokens None = 0
+more_tokens n = option_map_or (λ n. n.count - 1) n 0
 
 -- the items behind the first n tokens
 abbrev pub items_behind : ℕ → List (List ℕ) → List Item
@@ -50,12 +50,8 @@ last_of [] = None
 last_of (x ∷ []) = Some x
 last_of (x ∷ y ∷ ys) = last_of (y ∷ ys)
 
-abbrev pub is_label_at : Option (List ℕ) → Bool
-is_label_at None = false
-is_label_at (Some t) = is_label t
-
 abbrev pub ends_in_label : List (List ℕ) → Bool
-ends_in_label ts = is_label_at (last_of ts)
+ends_in_label ts = option_map_or is_label (last_of ts) false
 
 -- a number from 0 to 2^64 - 1
 abbrev pub is_address : Item → Bool

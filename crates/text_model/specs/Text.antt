@@ -1,7 +1,8 @@
 -- The text of an instruction: its pattern's name and the tokens of its slots, laid out. Which of the ways of writing
 -- that the Arm manual allows is printed is this project's own.
-use Rattle.std.specs.Prelude.{ℕ, ◌-◌, ◌^◌, ℤ, pos, unsigned_abs, ◌==◌, ◌&&◌, Bool, false, if◌then◌else◌, Option, Some, None, List, [], ◌∷◌, ◌++◌, bit_and, bit_or}
-use Rattle.std.specs.Fmt.{digits}
+use Rattle.std.specs.Prelude.{ℕ, ◌-◌, ◌^◌, ℤ, pos, unsigned_abs, ◌==◌, ◌&&◌, Bool, false, if◌then◌else◌, Option, Some, None, List, [], ◌∷◌, ◌++◌, bit_and, bit_or, flat_map}
+use Rattle.std.specs.Option.{option_map_or}
+use Rattle.std.specs.Fmt.{decimal, digits}
 use Rattle.std.specs.Int.{is_negative}
 use Rattle.emu_bits.specs.Rows.{Place, ones_at}
 use Rattle.asm_tokens.specs.Layout.{laid, hash}
@@ -19,9 +20,6 @@ use Rattle.text_model.specs.Reading.{Pattern}
 use Rattle.text_model.specs.Words.{spelled}
 
 -- ---- tokens
-
-abbrev pub decimal : ℕ → List ℕ
-decimal n = digits 10 false n
 
 -- `0x` and hexadecimal
 abbrev pub hexadecimal : ℕ → List ℕ
@@ -48,8 +46,7 @@ printed_item s w pc =
     record { class = class_in s.shape w; value = printed s.codec.kind (bits_in ps) (joined ps w) pc }
 
 abbrev pub slot_tokens : List Slot → ℕ → ℕ → List (List ℕ)
-slot_tokens [] w pc = []
-slot_tokens (s ∷ ss) w pc = item_tokens s.style (printed_item s w pc) ++ slot_tokens ss w pc
+slot_tokens ss w pc = flat_map (λ s. item_tokens s.style (printed_item s w pc)) ss
 
 -- the text that a pattern gives of a word
 abbrev pub text : Pattern → ℕ → ℕ → List ℕ
@@ -84,10 +81,6 @@ abbrev pub chosen : List Pattern → ℕ → Option Pattern
 chosen [] w = None
 chosen (p ∷ ps) w = if shows p w then Some p else chosen ps w
 
-abbrev pub text_by : Option Pattern → ℕ → ℕ → List ℕ
-text_by None w pc = []
-text_by (Some p) w pc = text p w pc
-
 -- The text of a word of a line with these patterns, where it stands at pc.
 abbrev pub text_of : List Pattern → ℕ → ℕ → List ℕ
-text_of ps w pc = text_by (chosen ps w) w pc
+text_of ps w pc = option_map_or (λ p. text p w pc) (chosen ps w) []

@@ -30,7 +30,7 @@ class_tells (Only c) x = []
 class_tells (Told b g) x = record { place = place_of b; value = index_of 0 x (classes_of g) } ∷ []
 class_tells (Shown b g) x = []
 
--- the bits of a number of which each eighth stands for eight
+-- the number of k bits whose bit j is the lowest one of byte j of m
 abbrev pub gathered : ℕ → ℕ → ℕ
 gathered zero m = 0
 gathered (suc k) m = m % 2 + 2 * gathered k (m / 256)
@@ -55,7 +55,8 @@ told_of Inverted b negative m = inverse m
 abbrev pub told : Kind → ℕ → ℤ → ℕ
 told k b z = told_of k b (is_negative z) (unsigned_abs z)
 
--- a number's parts, as the highest bits of it first
+-- what each of some places has of a number, the first place its highest bits; of each value the low bits count, as many
+-- as the place has
 abbrev pub parted : List Place → ℕ → List Binding
 parted [] v = []
 parted (p ∷ ps) v = record { place = p; value = v / 2 ^ bits_in ps } ∷ parted ps v
@@ -73,21 +74,21 @@ pub record Built : Type 0 where
   pub mask : ℕ
   pub word : ℕ
 
--- What a place has is put in, unless it has been told before.
-abbrev pub put : Built → Binding → Built
-put a b = if bit_and a.mask (ones_at b.place) == 0
+-- What a place has is bound in, unless it has been told before.
+abbrev pub bound : Built → Binding → Built
+bound a b = if bit_and a.mask (ones_at b.place) == 0
     then record {
       mask = bit_or a.mask (ones_at b.place);
       word = bit_or a.word (b.value % 2 ^ width b.place * 2 ^ b.place.low);
     }
     else a
 
-abbrev pub put_all : Built → List Binding → Built
-put_all a [] = a
-put_all a (b ∷ bs) = put_all (put a b) bs
+abbrev pub all_bound : Built → List Binding → Built
+all_bound a [] = a
+all_bound a (b ∷ bs) = all_bound (bound a b) bs
 
 -- the same of all items
 abbrev pub built : Built → List Slot → List Item → Built
 built a [] is = a
 built a (s ∷ ss) [] = a
-built a (s ∷ ss) (i ∷ is) = built (put_all a (slot_tells s i)) ss is
+built a (s ∷ ss) (i ∷ is) = built (all_bound a (slot_tells s i)) ss is

@@ -2,13 +2,13 @@
 -- are those of the Arm Architecture Reference Manual for A-profile (DDI 0487), C1.2 'Structure of the A64 assembler
 -- language', of the condition codes (cc and cs for lo and hs, vc and vs), and of the patterns of SVE's predicate
 -- counts.
-use Rattle.std.specs.Prelude.{ℕ, ◌+◌, ◌*◌, ◌/◌, ◌%◌, ◌==◌, ◌&&◌, not, if◌then◌else◌, Option, Some, None, List, [], ◌∷◌, ◌++◌, nat_lt, codes, ℤ, pos}
+use Rattle.std.specs.Prelude.{ℕ, ◌+◌, ◌*◌, ◌/◌, ◌%◌, ◌==◌, ◌&&◌, not, if◌then◌else◌, Option, Some, None, List, [], ◌∷◌, ◌++◌, nat_lt, codes, ℤ, pos, option_and_then, unwrap_or}
 use Rattle.std.specs.Char.{is_ascii_digit, digit_value}
+use Rattle.std.specs.Str.{bytes_eq}
 use Rattle.text_model.specs.declared.classes.Class.{Class}
 use Rattle.text_model.specs.declared.classes.Class.TheVariants.{Unknown, Comma, Slash, OpenBracket, CloseBracket, OpenBrace, CloseBrace, Exclamation, W, X, B, H, S, D, Q, V8b, V16b, V4h, V8h, V2s, V4s, V2d, Z, Zb, Zh, Zs, Zd, Zq, P, Pb, Ph, Ps, Pd, Shift, ShiftOnes, ExtendByte, ExtendHalfword, ExtendWord, ExtendDoubleword, Condition, Count, Times, VectorLength, Merging, Zeroing, TpidrEl0, Nzcv, DczidEl0}
 use Rattle.text_model.specs.declared.slots.Item.{Item}
 use Rattle.text_model.specs.Classes.{same_class}
-use Rattle.text_model.specs.Reading.{same_name}
 
 abbrev pub item : Class → ℤ → Item
 item c z = record { class = c; value = z }
@@ -129,26 +129,18 @@ numbered (c ∷ d ∷ cs) = if is_ascii_digit c then Some (two_or_one c d cs) el
 abbrev pub register_in : List Family → ℕ → Numbered → Option Item
 register_in [] l n = None
 register_in (f ∷ fs) l n =
-    if l == f.letter && (same_name n.rest f.suffix && nat_lt n.value f.count) then Some (word_item f.class n.value)
+    if l == f.letter && (bytes_eq n.rest f.suffix && nat_lt n.value f.count) then Some (word_item f.class n.value)
     else register_in fs l n
-
-abbrev pub register_by : ℕ → Option Numbered → Option Item
-register_by l None = None
-register_by l (Some n) = register_in families l n
 
 -- the register that a token is
 abbrev pub register : List ℕ → Option Item
 register [] = None
-register (l ∷ cs) = register_by l (numbered cs)
+register (l ∷ cs) = option_and_then (register_in families l) (numbered cs)
 
 abbrev pub word_in : List Word → List ℕ → Item
 word_in [] t = word_item Unknown 0
-word_in (w ∷ ws) t = if same_name t w.text then word_item w.class w.value else word_in ws t
-
-abbrev pub register_or_word : Option Item → List ℕ → Item
-register_or_word None t = word_in dictionary t
-register_or_word (Some i) t = i
+word_in (w ∷ ws) t = if bytes_eq t w.text then word_item w.class w.value else word_in ws t
 
 -- The item that a token in lower case is: a register, else a word.
 abbrev pub classed : List ℕ → Item
-classed t = register_or_word (register t) t
+classed t = unwrap_or (register t) (word_in dictionary t)

@@ -1,5 +1,5 @@
 -- Words for writing the patterns of a table. They are this project's own.
-use Rattle.std.specs.Prelude.{ℕ, ◌+◌, ◌*◌, ◌^◌, List, [], ◌∷◌, ◌++◌, get_or, bit_or}
+use Rattle.std.specs.Prelude.{ℕ, ◌+◌, ◌*◌, ◌^◌, List, [], ◌∷◌, ◌++◌, get_or, bit_or, flat_map}
 use Rattle.emu_bits.specs.Rows.{Line}
 use Rattle.text_model.specs.declared.classes.Class.{Class}
 use Rattle.text_model.specs.declared.classes.Class.TheVariants.{Number, Comma, OpenBracket, CloseBracket, OpenBrace, CloseBrace}
@@ -28,8 +28,8 @@ high to low = record { high = high; low = low }
 abbrev pub coded : Kind → Parts → Codec
 coded k p = record { kind = k; parts = p }
 
-abbrev pub plain : Bits → Codec
-plain b = coded Plain (At b)
+abbrev pub field : Bits → Codec
+field b = coded Plain (At b)
 
 -- a register of which 31 is the stack pointer
 abbrev pub stack : Bits → Codec
@@ -120,8 +120,7 @@ rows l k settled (n ∷ ns) ss = row l k settled n ss ∷ rows l (k + 1) settled
 
 -- all patterns of some lines
 abbrev pub flat : List (List Pattern) → List Pattern
-flat [] = []
-flat (ps ∷ pss) = ps ++ flat pss
+flat pss = flat_map (λ ps. ps) pss
 
 -- a number put at a place, as the bits that a name settles
 abbrev pub put_at : ℕ → ℕ → ℕ

@@ -76,7 +76,7 @@ pub enum Class {
 
 impl Class {
     ghost use Rattle.std.specs.Prelude.{◌≡◌};
-    ghost use Rattle.text_model.specs.Classes.{class_number};
+    ghost use Rattle.text_model.specs.ClassNumbers.{class_number};
 
     /// The place of this class in the order of all, from 0 on.
     pub fn number(self) -> u8

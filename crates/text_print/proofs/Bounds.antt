@@ -3,7 +3,7 @@ use Rattle.std.proofs.Common.{◌≡◌, ℕ, zero, suc, ◌+◌, ◌-◌, ◌*�
 use Rattle.std.proofs.lemmas.Bool.{cases_Bool, and_parts, or_cases, or_right, or_left, eqb-true, ltb-true, false≢true}
 use Rattle.std.proofs.Math.Nat.{pow-suc}
 use Rattle.std.specs.Prelude.{unwrap_or}
-use Rattle.std.specs.Fmt.{digits}
+use Rattle.std.specs.Fmt.{decimal, digits}
 use Rattle.std.specs.Int.{is_negative}
 use Rattle.asm_tokens.specs.Layout.{hash}
 use Rattle.asm_tokens.specs.Numbers.{minus}
@@ -22,7 +22,7 @@ use Rattle.text_model.specs.Masks.{bitmask_at}
 use Rattle.text_model.specs.Slots.{place_of, places, at_place, bits_in, joined, classes_of, class_in, is_low, spread, shown}
 use Rattle.text_model.specs.Words as words
 use Rattle.text_model.specs.Words.{Family, dictionary, families, two_digits, spelled_word, spelled_in, spelled}
-use Rattle.text_model.specs.Text.{decimal, item_tokens, printed, printed_item}
+use Rattle.text_model.specs.Text.{item_tokens, printed, printed_item}
 use Rattle.text_model.proofs.Building.{joined_small}
 use Rattle.text_model.proofs.KindLaws.{minus_size, bitmask_small}
 use Rattle.text_model.proofs.Unlike.{some_class}

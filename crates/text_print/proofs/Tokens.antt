@@ -2,7 +2,7 @@
 use Rattle.std.proofs.Common.{◌≡◌, ℕ, unsigned_abs, ◌+◌, ◌≤◌, ◌==◌, ◌&&◌, if◌then◌else◌, Bool, true, false, not, List, [], ◌∷◌, ◌++◌, length, nat_lt, nat_le, refl, sym, ap, ◌∙◌, arith, length-append, inl, inr}
 use Rattle.std.proofs.lemmas.Bool.{cases_Bool, and_parts, and_from, and_left, not-true, leb-true, false≢true}
 use Rattle.std.proofs.lemmas.List.Folds.{list_all-append}
-use Rattle.asm_tokens.specs.Layout.{is_sign, is_empty, put, laid}
+use Rattle.asm_tokens.specs.Layout.{is_sign, is_empty, spaced, laid}
 use Rattle.asm_tokens.specs.AreTokens.{is_token, are_tokens}
 use Rattle.asm_tokens.specs.Tokens.{tokens}
 use Rattle.asm_tokens.proofs.Split.{split_again}
@@ -110,7 +110,7 @@ slots_no_colon (s ∷ ss) w pc h = item_no_colon s.style (printed_item s w pc) (
 
 -- ---- the length
 
-put_length : (g : Bool) (t : List ℕ) → length (put g t) ≤ 1 + length t
+put_length : (g : Bool) (t : List ℕ) → length (spaced g t) ≤ 1 + length t
 put_length true t = omega arith
 put_length false t = omega arith
 
@@ -119,7 +119,7 @@ laid_length e [] = omega arith
 laid_length e (t ∷ ts) =
     let r : length (laid_behind (edge_of t) ts) ≤ room_of ts = laid_length (edge_of t) ts in
     let a : length (t ++ laid_behind (edge_of t) ts) ≡ length t + length (laid_behind (edge_of t) ts) = length-append t (laid_behind (edge_of t) ts) in
-    let p : length (put (has_gap e (edge_of t)) (t ++ laid_behind (edge_of t) ts)) ≤ 1 + length (t ++ laid_behind (edge_of t) ts) = put_length (has_gap e (edge_of t)) (t ++ laid_behind (edge_of t) ts) in
+    let p : length (spaced (has_gap e (edge_of t)) (t ++ laid_behind (edge_of t) ts)) ≤ 1 + length (t ++ laid_behind (edge_of t) ts) = put_length (has_gap e (edge_of t)) (t ++ laid_behind (edge_of t) ts) in
     omega (arith, r, a, p)
 
 room_both : (ts us : List (List ℕ)) → room_of (ts ++ us) ≡ room_of ts + room_of us

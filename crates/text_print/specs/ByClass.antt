@@ -4,7 +4,8 @@ use denote.Ref.{Bor}
 use Rattle.text_code.specs.declared.dictionary.Family as code
 use Rattle.text_code.specs.declared.dictionary.Word as code_word
 use Rattle.text_model.specs.declared.classes.Class.{Class}
-use Rattle.text_model.specs.Classes.{class_number, same_class}
+use Rattle.text_model.specs.ClassNumbers.{class_number}
+use Rattle.text_model.specs.Classes.{same_class}
 use Rattle.text_model.specs.Words.{Family, Word, dictionary, two_digits, spelled_word}
 use Rattle.text_print.specs.declared.by_class.TheConstants.{NONE, FAMILIES, ROWS, PLACES}
 use Rattle.text_print.specs.Room.{is_short_family}

@@ -1,9 +1,9 @@
 -- Tokens laid out one after the other, by what stands between each and the next.
 use Rattle.std.specs.Prelude.{◌&&◌, ◌||◌, Bool, if◌then◌else◌, ℕ, List, [], ◌∷◌, ◌++◌}
-use Rattle.asm_tokens.specs.Layout.{comma, hash, open_brace, is_sign, begins_word, put}
+use Rattle.asm_tokens.specs.Layout.{comma, hash, open_brace, is_sign, begins_word, spaced}
 use Rattle.asm_tokens.specs.Numbers.{minus}
 use Rattle.asm_tokens.specs.Tokens.{slash}
-use Rattle.text_model.specs.Text.{decimal}
+use Rattle.std.specs.Fmt.{decimal}
 use Rattle.text_print.specs.declared.edges.Edge.{Edge}
 
 -- what a token is, as far as the spaces beside it go
@@ -23,7 +23,7 @@ has_gap s t = s.comma || ((s.word && (t.word || t.opens)) || (s.slash && t.slash
 -- the text of tokens behind a token of this edge
 abbrev pub laid_behind : Edge → List (List ℕ) → List ℕ
 laid_behind e [] = []
-laid_behind e (t ∷ ts) = put (has_gap e (edge_of t)) (t ++ laid_behind (edge_of t) ts)
+laid_behind e (t ∷ ts) = spaced (has_gap e (edge_of t)) (t ++ laid_behind (edge_of t) ts)
 
 -- the edge of the last of some tokens, or of the one before them
 abbrev pub last_edge : Edge → List (List ℕ) → Edge

@@ -1,7 +1,7 @@
 //! Tokens of numbers.
 ghost use Rattle.std.specs.Prelude.{◌≡◌, ◌+◌, ◌<◌, ◌≤◌, false, [], ◌∷◌, ◌++◌, length};
-ghost use Rattle.std.specs.Fmt.{digits, digit_glyph};
-ghost use Rattle.text_model.specs.Text.{decimal, hexadecimal};
+ghost use Rattle.std.specs.Fmt.{decimal, digits, digit_glyph};
+ghost use Rattle.text_model.specs.Text.{hexadecimal};
 
 use arrayvec::ArrayString;
 

@@ -1,8 +1,9 @@
 //! Instructions printed.
 ghost use Rattle.std.specs.Prelude.{◌≡◌, ◌+◌, ◌<◌, ◌≤◌, ◌^◌, unsigned_abs, true, false, [], ◌∷◌, ◌++◌, length};
-ghost use Rattle.asm_tokens.specs.Layout.{put};
+ghost use Rattle.asm_tokens.specs.Layout.{spaced};
 ghost use Rattle.asm_tokens.specs.Numbers.{minus};
-ghost use Rattle.text_model.specs.Text.{decimal, item_tokens, slot_tokens, text, chosen, text_of};
+ghost use Rattle.std.specs.Fmt.{decimal};
+ghost use Rattle.text_model.specs.Text.{item_tokens, slot_tokens, text, chosen, text_of};
 ghost use Rattle.text_code.specs.Reads.{all_lines_sound};
 ghost use Rattle.text_code.specs.Sound.{are_sound};
 ghost use Rattle.text_code.specs.Tables.{pattern_of, pattern_at};
@@ -20,7 +21,7 @@ use text_model::{Item, Slot, Style};
 /// Appends a token, and says what its edge is.
 fn put_token(out: &mut ArrayString<96>, last: Edge, token: &str) -> Edge
     requires { length out.old.bytes + (1 + length token.now) ≤ 96 }
-    ensures text { out.new.bytes ≡ out.old.bytes ++ put (has_gap last (edge_of token.now)) token.now }
+    ensures text { out.new.bytes ≡ out.old.bytes ++ spaced (has_gap last (edge_of token.now)) token.now }
     ensures edge { result ≡ edge_of token.now }
     ensures len { length out.new.bytes ≤ length out.old.bytes + (1 + length token.now) }
 {

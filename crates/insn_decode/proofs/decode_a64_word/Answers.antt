@@ -1,5 +1,5 @@
 use Rattle.std.proofs.Common.{ap, ◌∙◌}
-use Rattle.emu_run.specs.Step.{a64}
+use Rattle.emu_run.specs.ByTable.{a64}
 use Rattle.insn_decode.proofs.Tables.{of_a64}
 use Rattle.insn_decode.proofs.decode_a64_word.Goals as goal
 

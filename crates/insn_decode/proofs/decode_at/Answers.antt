@@ -1,5 +1,5 @@
 use Rattle.std.proofs.Common.{◌≡◌, ◌∙◌, rules}
-use Rattle.emu_run.specs.Step.{a64, sve}
+use Rattle.emu_run.specs.ByTable.{a64, sve}
 use Rattle.insn_decode.proofs.decode_at.Goals as goal
 
 pub returns-then-may_be_sve-clause-table : goal.returns-then-may_be_sve-clause-table

@@ -1,5 +1,5 @@
 use Rattle.std.proofs.Common.{ap, ◌∙◌}
-use Rattle.emu_run.specs.Step.{sve}
+use Rattle.emu_run.specs.ByTable.{sve}
 use Rattle.insn_decode.proofs.Tables.{of_sve}
 use Rattle.insn_decode.proofs.decode_sve_word.Goals as goal
 

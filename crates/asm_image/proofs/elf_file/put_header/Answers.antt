@@ -1,6 +1,5 @@
 use Rattle.std.proofs.Common.{◌≡◌, ◌++◌, ℕ, List}
-use Rattle.listing_model.specs.File.{zeros}
-use Rattle.asm_image.proofs.Appended.{if_ok, two}
+use Rattle.asm_image.proofs.Appended.{if_ok, two, zeros}
 use Rattle.asm_image.proofs.elf_file.put_header.Goals as goal
 
 pub returns : goal.returns

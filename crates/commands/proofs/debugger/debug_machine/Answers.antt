@@ -1,5 +1,5 @@
 use Rattle.std.proofs.Common.{Some, sym, subst, ◌≡◌, true}
-use Rattle.dbg_model.specs.Session.{session}
+use Rattle.dbg_model.specs.Forward.{session}
 use Rattle.emu_system.specs.Start.{with_input}
 use Rattle.command_lines.specs.Outcome.{outcome_of_session}
 use Rattle.command_lines.specs.declared.ending.Ending.{Ending}

@@ -1,6 +1,6 @@
 use Rattle.std.proofs.Common.{◌≡◌, ◌≤◌, ◌-◌, ap, subst, arith}
 use Rattle.emu_model.specs.State.{Parts}
-use Rattle.dbg_model.specs.SessionBack.{Course}
+use Rattle.dbg_model.specs.Session.{Course}
 use Rattle.dbg_back.specs.Walks.{IsWalk}
 use Rattle.dbg_back.proofs.Marking.{steps_from}
 use Rattle.dbg_back.proofs.Streams.{dropped_fine}

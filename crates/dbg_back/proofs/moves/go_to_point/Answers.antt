@@ -4,11 +4,10 @@ use Rattle.emu_model.specs.State.{Parts, State}
 use Rattle.emu_run.specs.Run.{goes_on}
 use Rattle.emu_run.specs.Step.{accesses}
 use Rattle.emu_machine.specs.Machines.{MachineState, has_ended}
-use Rattle.dbg_model.specs.Session.{Points}
+use Rattle.dbg_model.specs.Session.{Points, Course, ended_line, printed, stepped}
 use Rattle.dbg_core.specs.declared.points.Stop.{Stop}
 use Rattle.dbg_core.specs.Stops.{first_met, line_of_stop}
 use Rattle.dbg_core.proofs.Obeying.{causes_later, going_by, not_ended, over_by}
-use Rattle.dbg_model.specs.SessionBack.{Course, ending_text, put, stepped}
 use Rattle.dbg_back.specs.declared.ends.BackEnd.TheVariants.{Done, WriteFault, ErrorsFault}
 use Rattle.dbg_back.specs.declared.trail.Trail.{Trail}
 use Rattle.dbg_back.specs.Ends.{end_of_put, is_fault}
@@ -80,8 +79,8 @@ module _ (points : Points) (budget until : ℕ) (input : List ℕ) (m : MachineS
     pub goes_at : IsWalk start input (advanced until c) n v → None ≡ first_met points budget n.accesses n.parts → go_at points budget c ≡ go_at points budget (advanced until c)
     goes_at there met = go_goes points budget c goes under (met_of None there met) ∙ ap (go_at points budget) (sym one)
 
-    pub stops_at : (stop : Stop) → IsWalk start input (advanced until c) n v → Some stop ≡ first_met points budget n.accesses n.parts → go_at points budget c ≡ put (line_of_stop stop) (advanced until c)
-    stops_at stop there met = go_stops points budget c goes under stop (met_of (Some stop) there met) ∙ ap (put (line_of_stop stop)) (sym one)
+    pub stops_at : (stop : Stop) → IsWalk start input (advanced until c) n v → Some stop ≡ first_met points budget n.accesses n.parts → go_at points budget c ≡ printed (line_of_stop stop) (advanced until c)
+    stops_at stop there met = go_stops points budget c goes under stop (met_of (Some stop) there met) ∙ ap (printed (line_of_stop stop)) (sym one)
 
 pub put_stop-requires : goal.put_stop-requires
 put_stop-requires g c = has_ended_by c.in-Some.stop c.args.points.now c.args.budget c.advance.new.machine.accesses c.advance.new.machine.parts (sym c.met.ensures ∙ c.in-Some.is)
@@ -148,15 +147,15 @@ returns-in-Some g c =
     let is = c.end_of_put.ensures in
     let kept = leads_kept f f input c.args.machine.now c.walk.machine c.args.trail.now c.walk.trail
     (g.O.Sink.held c.args.output.now) (g.O.Sink.held c.walk.output) (g.E.Sink.held c.args.errors.now) (g.E.Sink.held c.walk.errors) c.walk.invariant.leads m t c.keep.ensures.walks in
-    let last : Does (λ start course. put (line_of_stop stop) (advanced until course)) input m n t v (g.O.Sink.held c.walk.output) (g.O.Sink.held c.put_stop.new.output) (g.E.Sink.held c.walk.errors) (g.E.Sink.held c.advance.new.errors) (is_fault (end_of_put line)) =
+    let last : Does (λ start course. printed (line_of_stop stop) (advanced until course)) input m n t v (g.O.Sink.held c.walk.output) (g.O.Sink.held c.put_stop.new.output) (g.E.Sink.held c.walk.errors) (g.E.Sink.held c.advance.new.errors) (is_fault (end_of_put line)) =
     does_then input m n n t v v (g.O.Sink.held c.walk.output) (g.O.Sink.held c.advance.new.output) (g.O.Sink.held c.put_stop.new.output) (g.E.Sink.held c.walk.errors) (g.E.Sink.held c.advance.new.errors) (g.E.Sink.held c.advance.new.errors)
-    (λ start. advanced until) (λ start. put (line_of_stop stop)) (is_fault (end_of_put line)) d
+    (λ start. advanced until) (λ start. printed (line_of_stop stop)) (is_fault (end_of_put line)) d
     (does_put input n v (g.O.Sink.held c.advance.new.output) (g.O.Sink.held c.put_stop.new.output) (g.E.Sink.held c.advance.new.errors) (line_of_stop stop) line c.put_stop.ensures.bytes) in
     record {
       does = does_when input c.args.machine.now n c.args.trail.now v (g.O.Sink.held c.args.output.now) (g.O.Sink.held c.put_stop.new.output) (g.E.Sink.held c.args.errors.now) (g.E.Sink.held c.advance.new.errors) f (is_fault (end_of_put line)) (is_fault c.end_of_put.result) (ap is_fault (sym is))
           (leads_end f f input c.args.machine.now m c.args.trail.now t
           (g.O.Sink.held c.args.output.now) (g.O.Sink.held c.walk.output) (g.E.Sink.held c.args.errors.now) (g.E.Sink.held c.walk.errors) kept n v (g.O.Sink.held c.put_stop.new.output) (g.E.Sink.held c.advance.new.errors) (is_fault (end_of_put line))
-          (does_as input m n t v (g.O.Sink.held c.walk.output) (g.O.Sink.held c.put_stop.new.output) (g.E.Sink.held c.walk.errors) (g.E.Sink.held c.advance.new.errors) (λ start course. put (line_of_stop stop) (advanced until course)) f (is_fault (end_of_put line))
+          (does_as input m n t v (g.O.Sink.held c.walk.output) (g.O.Sink.held c.put_stop.new.output) (g.E.Sink.held c.walk.errors) (g.E.Sink.held c.advance.new.errors) (λ start course. printed (line_of_stop stop) (advanced until course)) f (is_fault (end_of_put line))
           (λ start course w. sym (stops_at c.args.points.now c.args.budget until input m t c.keep.ensures.going before one start course w n v made stop (d.walks start course w refl) (sym c.in-Some.is ∙ c.met.ensures))) last));
       write_cause = put_write line c.end_of_put.result is _ _ _ (c.in-Done.ensures.write_cause.kept (λ (h : Done ≡ WriteFault). cc) ∙ c.walk.invariant.write) c.put_stop.ensures.cause;
       errors_cause = put_errs line c.end_of_put.result is _ _ (c.in-Done.ensures.errors_cause.kept (λ (h : Done ≡ ErrorsFault). cc) ∙ c.walk.invariant.errors);
@@ -191,8 +190,8 @@ returns-in_default g c =
     }
 
 -- it has ended, or there is no step left
-rests : (points : Points) (budget : ℕ) (start : State) (input : List ℕ) (c : Course) (m : MachineState) (t : Trail) → (has_ended m ≡ true) ⊎ (budget ≤ m.parts.steps) → IsWalk start input c m t → put ending_text c ≡ go_at points budget c
-rests points budget start input c m t over w = elim over as (λ _. put ending_text c ≡ go_at points budget c) [
+rests : (points : Points) (budget : ℕ) (start : State) (input : List ℕ) (c : Course) (m : MachineState) (t : Trail) → (has_ended m ≡ true) ⊎ (budget ≤ m.parts.steps) → IsWalk start input c m t → printed ended_line c ≡ go_at points budget c
+rests points budget start input c m t over w = elim over as (λ _. printed ended_line c ≡ go_at points budget c) [
   | inl ended ↦ sym (go_ended points budget c (ap (λ (p : Parts). is_none p.ended) (sym w.here.parts) ∙ over_by m w.here.failed ended))
   | inr counted ↦ let same = ap (λ (p : Parts). p.steps) w.here.parts in sym (go_rests points budget c (omega (arith, counted, same)))
 ]
@@ -209,9 +208,9 @@ returns g c =
       does = does_when input c.args.machine.now m c.args.trail.now t (g.O.Sink.held c.args.output.now) (g.O.Sink.held c.put_ending.new.sink) (g.E.Sink.held c.args.errors.now) (g.E.Sink.held c.walk.errors) f (is_fault (end_of_put line)) (is_fault c.end_of_put-2.result) (ap is_fault (sym is))
           (leads_end f f input c.args.machine.now m c.args.trail.now t
           (g.O.Sink.held c.args.output.now) (g.O.Sink.held c.walk.output) (g.E.Sink.held c.args.errors.now) (g.E.Sink.held c.walk.errors) c.walk.invariant.leads m t (g.O.Sink.held c.put_ending.new.sink) (g.E.Sink.held c.walk.errors) (is_fault (end_of_put line))
-          (does_as input m m t t (g.O.Sink.held c.walk.output) (g.O.Sink.held c.put_ending.new.sink) (g.E.Sink.held c.walk.errors) (g.E.Sink.held c.walk.errors) (λ start. put ending_text) f (is_fault (end_of_put line))
+          (does_as input m m t t (g.O.Sink.held c.walk.output) (g.O.Sink.held c.put_ending.new.sink) (g.E.Sink.held c.walk.errors) (g.E.Sink.held c.walk.errors) (λ start. printed ended_line) f (is_fault (end_of_put line))
           (λ start course w. rests c.args.points.now c.args.budget start input course m t (c.is_below.ensures.over c.walk-test.false) w)
-          (does_put input m t (g.O.Sink.held c.walk.output) (g.O.Sink.held c.put_ending.new.sink) (g.E.Sink.held c.walk.errors) ending_text line c.put_ending.ensures.bytes)));
+          (does_put input m t (g.O.Sink.held c.walk.output) (g.O.Sink.held c.put_ending.new.sink) (g.E.Sink.held c.walk.errors) ended_line line c.put_ending.ensures.bytes)));
       write_cause = put_write line c.end_of_put-2.result is _ _ _ c.walk.invariant.write c.put_ending.ensures.cause;
       errors_cause = put_errs line c.end_of_put-2.result is _ _ c.walk.invariant.errors;
     }

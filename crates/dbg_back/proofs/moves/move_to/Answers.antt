@@ -3,7 +3,7 @@ use Rattle.emu_model.specs.State.{Parts, State}
 use Rattle.emu_machine.specs.Machines.{MachineState, has_ended}
 use Rattle.dbg_core.proofs.Obeying.{causes_later, causes_none, over_by}
 use Rattle.dbg_model.specs.CourseLaws.{moved_over}
-use Rattle.dbg_model.specs.SessionBack.{Course, moved}
+use Rattle.dbg_model.specs.Session.{Course, walked}
 use Rattle.dbg_back.specs.declared.ends.BackEnd.TheVariants.{Done, WriteFault, ErrorsFault}
 use Rattle.dbg_back.specs.declared.trail.Trail.{Trail}
 use Rattle.dbg_back.specs.Ends.{is_fault}
@@ -15,7 +15,7 @@ use Rattle.dbg_back.proofs.Streams.{not_done}
 use Rattle.dbg_back.proofs.moves.move_to.Goals as goal
 
 abbrev to_target : ℕ → State → Course → Course
-to_target target start c = moved c (target - c.state.parts.steps)
+to_target target start c = walked c (target - c.state.parts.steps)
 
 pub walk-init : goal.walk-init
 walk-init g c = record {
@@ -52,7 +52,7 @@ advance-requires g c =
     }
 
 -- the steps of a part, and then the others
-split : (target until : ℕ) (c : Course) → c.state.parts.steps < until → c.state.parts.steps ≤ c.top → until ≤ target → moved c (target - c.state.parts.steps) ≡ moved (advanced until c) (target - (advanced until c).state.parts.steps)
+split : (target until : ℕ) (c : Course) → c.state.parts.steps < until → c.state.parts.steps ≤ c.top → until ≤ target → walked c (target - c.state.parts.steps) ≡ walked (advanced until c) (target - (advanced until c).state.parts.steps)
 split target until c before below within =
     let b = part_bounds c until before below in
     let most = b.1 in
@@ -126,8 +126,8 @@ returns-in_default g c =
     }
 
 -- it has ended, or there is no step left
-rests : (target : ℕ) (start : State) (input : List ℕ) (c : Course) (m : MachineState) (t : Trail) → (has_ended m ≡ true) ⊎ (target ≤ m.parts.steps) → IsWalk start input c m t → c ≡ moved c (target - c.state.parts.steps)
-rests target start input c m t over w = elim over as (λ _. c ≡ moved c (target - c.state.parts.steps)) [
+rests : (target : ℕ) (start : State) (input : List ℕ) (c : Course) (m : MachineState) (t : Trail) → (has_ended m ≡ true) ⊎ (target ≤ m.parts.steps) → IsWalk start input c m t → c ≡ walked c (target - c.state.parts.steps)
+rests target start input c m t over w = elim over as (λ _. c ≡ walked c (target - c.state.parts.steps)) [
   | inl ended ↦ sym (moved_over c (target - c.state.parts.steps) (ap (λ (p : Parts). is_none p.ended) (sym w.here.parts) ∙ over_by m w.here.failed ended))
   | inr counted ↦ let same = ap (λ (p : Parts). p.steps) w.here.parts in sym (moved_done target c (omega (arith, counted, same)))
 ]

@@ -1,7 +1,6 @@
 use Rattle.std.proofs.Common.{◌≡◌, ℕ, ◌+◌, ◌-◌, min, true, sym, ap, ◌∙◌, arith}
 use Rattle.emu_model.specs.State.{Parts, State}
-use Rattle.dbg_model.specs.Session.{stepped_text}
-use Rattle.dbg_model.specs.SessionBack.{Course, moved, put, steps_taken}
+use Rattle.dbg_model.specs.Session.{stepped_text, Course, walked, printed, steps_taken}
 use Rattle.dbg_back.specs.declared.ends.BackEnd.TheVariants.{Done, WriteFault, ErrorsFault}
 use Rattle.dbg_back.specs.Ends.{end_of_put, is_fault}
 use Rattle.dbg_back.proofs.Courses.{appends_put}
@@ -10,10 +9,10 @@ use Rattle.dbg_back.proofs.Streams.{not_done, put_errs, put_write}
 use Rattle.dbg_back.proofs.moves.step.Goals as goal
 
 abbrev to_target : ℕ → State → Course → Course
-to_target target start c = moved c (target - c.state.parts.steps)
+to_target target start c = walked c (target - c.state.parts.steps)
 
 abbrev with_line : ℕ → ℕ → State → Course → Course
-with_line count target start c = put (stepped_text count) (to_target target start c)
+with_line count target start c = printed (stepped_text count) (to_target target start c)
 
 taken_as : (s n target budget : ℕ) (start : State) (c : Course) → s ≡ c.state.parts.steps → target ≡ min (s + n) budget → with_line (s + n) target start c ≡ steps_taken n budget c
 taken_as s n target budget start c same is =
@@ -40,7 +39,7 @@ returns-in-Done g c =
           (λ start course w. taken_as s c.args.n target c.args.budget start course (steps ∙ ap (λ (p : Parts). p.steps) w.here.parts) at)
           (does_when input m n t v (g.O.Sink.held c.args.output.now) (g.O.Sink.held c.put_stepped.new.sink) (g.E.Sink.held c.args.errors.now) (g.E.Sink.held c.move_to.new.errors) (with_line (s + c.args.n) target) (is_fault (end_of_put line)) (is_fault c.end_of_put.result) (ap is_fault (sym is))
           (does_then input m n n t v v (g.O.Sink.held c.args.output.now) (g.O.Sink.held c.move_to.new.output) (g.O.Sink.held c.put_stepped.new.sink) (g.E.Sink.held c.args.errors.now) (g.E.Sink.held c.move_to.new.errors) (g.E.Sink.held c.move_to.new.errors)
-          (to_target target) (λ start. put (stepped_text (s + c.args.n))) (is_fault (end_of_put line)) c.in-Done.ensures.does
+          (to_target target) (λ start. printed (stepped_text (s + c.args.n))) (is_fault (end_of_put line)) c.in-Done.ensures.does
           (does_put input n v (g.O.Sink.held c.move_to.new.output) (g.O.Sink.held c.put_stepped.new.sink) (g.E.Sink.held c.move_to.new.errors) (stepped_text (s + c.args.n)) line c.put_stepped.ensures.bytes)));
       write_cause = put_write line c.end_of_put.result is _ _ _ (c.in-Done.ensures.write_cause.kept (λ (h : Done ≡ WriteFault). cc)) c.put_stepped.ensures.cause;
       errors_cause = put_errs line c.end_of_put.result is _ _ (c.in-Done.ensures.errors_cause.kept (λ (h : Done ≡ ErrorsFault). cc));

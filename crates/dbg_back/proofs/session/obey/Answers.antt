@@ -1,6 +1,6 @@
 use Rattle.std.proofs.Common.{refl, sym, ap}
 use Rattle.dbg_model.specs.declared.script.Command.{Command}
-use Rattle.dbg_model.specs.SessionBack.{obeyed, put}
+use Rattle.dbg_model.specs.Session.{obeyed, printed}
 use Rattle.dbg_core.specs.Stops.{shown_behind}
 use Rattle.dbg_back.specs.Ends.{end_of_put, is_fault}
 use Rattle.dbg_back.proofs.Doing.{does_as, does_put, does_when}
@@ -17,7 +17,7 @@ returns-in_default g c =
     let is = c.end_of_put.ensures in
     record {
       does = does_when c.args.input.now m m t t _ _ _ _ (λ start. obeyed start command c.args.points.now c.args.budget) (is_fault (end_of_put line)) (is_fault c.end_of_put.result) (ap is_fault (sym is))
-          (does_as c.args.input.now m m t t _ _ _ _ (λ start. put (shown_behind command)) (λ start. obeyed start command c.args.points.now c.args.budget) (is_fault (end_of_put line))
+          (does_as c.args.input.now m m t t _ _ _ _ (λ start. printed (shown_behind command)) (λ start. obeyed start command c.args.points.now c.args.budget) (is_fault (end_of_put line))
           (λ start course w. shows command c.args.points.now c.args.budget c.in_default.not-Step c.in_default.not-Go c.in_default.not-Back start course)
           (does_put c.args.input.now m t (g.O.Sink.held c.args.output.now) (g.O.Sink.held c.show.new.output) (g.E.Sink.held c.args.errors.now) (shown_behind command) line c.show.ensures.bytes));
       write_cause = put_write line c.end_of_put.result is _ _ _ refl c.show.ensures.cause;

@@ -5,10 +5,9 @@ use Rattle.emu_model.specs.State.{State}
 use Rattle.emu_system.specs.Start.{with_input}
 use Rattle.dbg_model.specs.declared.script.Command.{Command}
 use Rattle.dbg_model.specs.Commands.{is_break, is_watch}
-use Rattle.dbg_model.specs.Session.{Points, with_point, no_points}
+use Rattle.dbg_model.specs.Session.{Points, with_point, no_points, Course, begun, obeyed, obeyed_all}
 use Rattle.dbg_core.proofs.Obeying.{causes_later, causes_none}
 use Rattle.dbg_core.proofs.Scripts.{breaks_at, command_in, next_command, room_at, watches_at}
-use Rattle.dbg_model.specs.SessionBack.{Course, begun, obeyed, obeyed_all}
 use Rattle.dbg_back.specs.declared.ends.BackEnd.TheVariants.{Done, WriteFault, ErrorsFault}
 use Rattle.dbg_back.specs.Ends.{is_fault}
 use Rattle.dbg_back.specs.Walks.{Does}

@@ -1,7 +1,6 @@
 use Rattle.std.proofs.Common.{◌≡◌, ◌≤◌, ◌+◌, drop, length, count_by}
 use Rattle.dbg_model.specs.Commands.{is_break, is_watch}
-use Rattle.dbg_model.specs.Session.{no_points}
-use Rattle.dbg_model.specs.SessionBack.{obeyed_all}
+use Rattle.dbg_model.specs.Session.{no_points, obeyed_all}
 use Rattle.dbg_back.proofs.Doing.{Leads}
 use Rattle.dbg_back.proofs.session.session_back.Given as goal
 

@@ -1,7 +1,8 @@
 use Rattle.std.proofs.Common.{false, refl, ap}
 use Rattle.emu_model.specs.State.{State}
 use Rattle.emu_system.specs.Start.{with_input}
-use Rattle.dbg_model.specs.Session.{obeyed, shown}
+use Rattle.dbg_model.specs.Session.{shown}
+use Rattle.dbg_model.specs.Forward.{obeyed}
 use Rattle.dbg_core.specs.Ends.{end_of_put}
 use Rattle.dbg_core.proofs.Sessions.{prints}
 use Rattle.dbg_core.proofs.Obeying.{obeys_as, obeys_same, obeys_put, put_read, put_write, put_errs, no_read, no_errs}

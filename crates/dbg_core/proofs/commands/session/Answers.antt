@@ -2,7 +2,8 @@ use Rattle.std.proofs.Common.{◌≡◌, ◌<◌, ◌≤◌, ◌+◌, true, List
 use Rattle.std.specs.Prelude.{slice_get}
 use Rattle.dbg_model.specs.declared.script.Command.{Command}
 use Rattle.dbg_model.specs.Commands.{is_break, is_watch}
-use Rattle.dbg_model.specs.Session.{Points, obeyed, obeyed_all, session}
+use Rattle.dbg_model.specs.Session.{Points}
+use Rattle.dbg_model.specs.Forward.{obeyed, obeyed_all, session}
 use Rattle.dbg_core.specs.declared.ends.SessionEnd.TheVariants.{Done, ReadFault, WriteFault, ErrorsFault}
 use Rattle.dbg_core.specs.Ends.{is_fault}
 use Rattle.emu_machine.proofs.Composed.{Leads, comes_still, leads_start}

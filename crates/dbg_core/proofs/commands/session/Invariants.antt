@@ -1,7 +1,8 @@
 use Rattle.std.proofs.Common.{◌≡◌, ◌≤◌, ◌+◌, false, drop, take, length, count_by}
 use Rattle.emu_machine.specs.Ends.{Becomes}
 use Rattle.dbg_model.specs.Commands.{is_break, is_watch}
-use Rattle.dbg_model.specs.Session.{no_points, obeyed_all, session}
+use Rattle.dbg_model.specs.Session.{no_points}
+use Rattle.dbg_model.specs.Forward.{obeyed_all, session}
 use Rattle.emu_machine.proofs.Composed.{Comes, Leads}
 use Rattle.dbg_core.proofs.Standing.{points_all}
 use Rattle.dbg_core.proofs.commands.session.Given as goal

@@ -1,7 +1,8 @@
 use Rattle.std.proofs.Common.{◌≡◌, ◌-◌, Bool, sym, ap, subst, arith}
 use Rattle.std.specs.Bool.{OnTrue}
 use Rattle.emu_system.specs.Start.{with_input}
-use Rattle.dbg_model.specs.Session.{Points, go, no_points}
+use Rattle.dbg_model.specs.Session.{Points, no_points}
+use Rattle.dbg_model.specs.Forward.{go}
 use Rattle.dbg_core.proofs.Going.{go_at}
 use Rattle.dbg_core.proofs.Obeying.{obeys_same}
 use Rattle.dbg_core.proofs.Leaving.{leaves_same}

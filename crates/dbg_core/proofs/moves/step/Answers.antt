@@ -2,7 +2,8 @@ use Rattle.std.proofs.Common.{◌≡◌, ◌≤◌, ℕ, ◌+◌, min, false, ap
 use Rattle.emu_model.specs.State.{State}
 use Rattle.emu_system.specs.Start.{with_input}
 use Rattle.emu_run.specs.Run.{run}
-use Rattle.dbg_model.specs.Session.{stepped, stepped_text}
+use Rattle.dbg_model.specs.Session.{stepped_text}
+use Rattle.dbg_model.specs.Forward.{stepped}
 use Rattle.dbg_core.specs.declared.ends.SessionEnd.TheVariants.{Done, ReadFault, WriteFault, ErrorsFault}
 use Rattle.dbg_core.specs.Ends.{end_of_put}
 use Rattle.emu_machine.proofs.Runs.{run_moving}

@@ -1,6 +1,6 @@
 use Rattle.std.proofs.Common.{sym, ap, ◌∙◌}
 use Rattle.emu_model.specs.declared.access.Kind.TheVariants.{Fetch}
-use Rattle.emu_model.specs.Access.{page_gives}
+use Rattle.emu_model.specs.ByPage.{page_gives}
 use Rattle.guest_pages.proofs.Ordered.{find_is}
 use Rattle.guest_pages.proofs.places.search_code.Goals as goal
 

@@ -1,5 +1,5 @@
 use Rattle.std.proofs.Common.{◌+◌, ◌*◌, ◌&&◌, nat_lt, get_or, refl, arith}
-use Rattle.lane_model.specs.Bits.{bit_of}
+use Rattle.lane_model.specs.WordBits.{bit_of}
 use Rattle.lane_permute.specs.Places.{every_second}
 use Rattle.lane_permute.proofs.FourWords.{four, seconds_word, none_past, empty_word}
 use Rattle.lane_permute.proofs.four_words.every_second_field.Goals as goal

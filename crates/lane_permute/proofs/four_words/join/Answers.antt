@@ -1,5 +1,5 @@
 use Rattle.std.proofs.Common.{◌-◌, get_or, bit_or, refl, arith}
-use Rattle.lane_model.specs.Bits.{bit_of}
+use Rattle.lane_model.specs.WordBits.{bit_of}
 use Rattle.lane_permute.specs.Places.{joined}
 use Rattle.lane_permute.proofs.FourWords.{four, join_bit, join_past}
 use Rattle.lane_permute.proofs.four_words.join.Goals as goal

@@ -1,5 +1,5 @@
 use Rattle.std.proofs.Common.{◌+◌, ◌-◌, ◌∷◌, [], ap, ◌∙◌, arith}
-use Rattle.lane_model.specs.Bits.{bit_of}
+use Rattle.lane_model.specs.WordBits.{bit_of}
 use Rattle.lane_permute.proofs.FourWords.{four, rev_bit, rev_above, rev_past, moved_up}
 use Rattle.lane_permute.proofs.four_words.rev.Goals as goal
 

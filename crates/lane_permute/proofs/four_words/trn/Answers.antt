@@ -1,5 +1,5 @@
 use Rattle.std.proofs.Common.{get_or, refl, arith}
-use Rattle.lane_model.specs.Bits.{bit_of}
+use Rattle.lane_model.specs.WordBits.{bit_of}
 use Rattle.lane_permute.specs.Places.{transposed}
 use Rattle.lane_permute.proofs.FourWords.{four, trn_word, trn_past}
 use Rattle.lane_permute.proofs.four_words.trn.Goals as goal

@@ -1,5 +1,5 @@
 use Rattle.std.proofs.Common.{◌&&◌, nat_lt, get_or, refl, arith}
-use Rattle.lane_model.specs.Bits.{bit_of}
+use Rattle.lane_model.specs.WordBits.{bit_of}
 use Rattle.lane_permute.specs.Places.{reversed}
 use Rattle.lane_permute.proofs.FourWords.{four, turned_word, none_past}
 use Rattle.lane_permute.proofs.four_words.turned.Goals as goal

@@ -1,5 +1,5 @@
 use Rattle.std.proofs.Common.{◌≡◌, ◌≤◌, ◌/◌, ◌∙◌, ℕ, false, [], ◌∷◌, arith}
-use Rattle.lane_model.specs.Bits.{bit_of}
+use Rattle.lane_model.specs.WordBits.{bit_of}
 use Rattle.lane_permute.specs.Places.{every_second, joined}
 use Rattle.lane_permute.proofs.FourWords.{one_word, uzp_end}
 use Rattle.lane_permute.proofs.four_words.uzp.Goals as goal

@@ -1,5 +1,5 @@
 use Rattle.std.proofs.Common.{◌∙◌, arith}
-use Rattle.lane_model.specs.Bits.{bit_of}
+use Rattle.lane_model.specs.WordBits.{bit_of}
 use Rattle.lane_permute.specs.Places.{every_second}
 use Rattle.lane_permute.proofs.FourWords.{halves_end, uzp_bit, uzp_above, none_past}
 use Rattle.lane_permute.proofs.four_words.uzp_words.Goals as goal

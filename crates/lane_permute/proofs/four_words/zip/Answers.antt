@@ -1,5 +1,5 @@
 use Rattle.std.proofs.Common.{◌&&◌, nat_lt}
-use Rattle.lane_model.specs.Bits.{bit_of}
+use Rattle.lane_model.specs.WordBits.{bit_of}
 use Rattle.lane_permute.specs.Places.{zipped}
 use Rattle.lane_permute.proofs.FourWords.{one_word, none_past}
 use Rattle.lane_permute.proofs.four_words.zip.Goals as goal

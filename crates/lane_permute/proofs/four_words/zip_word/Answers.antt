@@ -1,5 +1,5 @@
 use Rattle.std.proofs.Common.{◌/◌, ◌^◌, ◌&&◌, ◌∙◌, sym, ap, get_or, nat_lt, refl, arith}
-use Rattle.lane_model.specs.Bits.{bit_of}
+use Rattle.lane_model.specs.WordBits.{bit_of}
 use Rattle.lane_permute.specs.Places.{zipped}
 use Rattle.lane_permute.proofs.FourWords.{zip_bit, zero_bit, none_past, shifted_bit}
 use Rattle.lane_permute.proofs.four_words.zip_word.Goals as goal

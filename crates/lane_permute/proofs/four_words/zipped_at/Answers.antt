@@ -1,5 +1,5 @@
 use Rattle.std.proofs.Common.{◌+◌, ◌*◌, arith}
-use Rattle.lane_model.specs.Bits.{bit_of}
+use Rattle.lane_model.specs.WordBits.{bit_of}
 use Rattle.lane_permute.specs.Places.{zipped}
 use Rattle.lane_permute.proofs.FourWords.{zip_part, zip_none}
 use Rattle.lane_permute.proofs.four_words.zipped_at.Goals as goal

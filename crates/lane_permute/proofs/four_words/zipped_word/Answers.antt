@@ -1,5 +1,5 @@
 use Rattle.std.proofs.Common.{arith}
-use Rattle.lane_model.specs.Bits.{bit_of}
+use Rattle.lane_model.specs.WordBits.{bit_of}
 use Rattle.lane_permute.proofs.FourWords.{zip_bit}
 use Rattle.lane_permute.proofs.four_words.zipped_word.Goals as goal
 

@@ -1,6 +1,6 @@
 use Rattle.std.proofs.Common.{sym, ap, ◌∙◌}
 use Rattle.emu_model.specs.declared.access.Kind.TheVariants.{Write}
-use Rattle.emu_model.specs.Access.{page_gives}
+use Rattle.emu_model.specs.ByPage.{page_gives}
 use Rattle.plain_pages.proofs.Ordered.{find_is}
 use Rattle.plain_pages.proofs.slots.store_slot.Goals as goal
 

@@ -1,6 +1,7 @@
 use Rattle.std.proofs.Common.{◌≤◌, ◌*◌, ◌/◌, ◌&&◌, ℕ, Bool, length, sym, subst, arith}
 use Rattle.emu_bits.specs.Flags.{size_of}
-use Rattle.lane_model.specs.Bits.{bit_of, lane_is_set, lanes_of}
+use Rattle.lane_model.specs.Bits.{lane_is_set, lanes_of}
+use Rattle.lane_model.specs.WordBits.{bit_of}
 use Rattle.lane_model.proofs.Found.{first_found, first_is}
 use Rattle.lane_model.specs.FirstLastLaws.{IsFirstWhere}
 use Rattle.pred_bits.proofs.Fields.{some_bits, lanes_room}

@@ -1,6 +1,7 @@
 use Rattle.std.proofs.Common.{◌≤◌, ◌*◌, ◌/◌, length, ◌∙◌, arith}
 use Rattle.emu_bits.specs.Flags.{size_of}
-use Rattle.lane_model.specs.Bits.{bit_of, lane_is_set, lanes_of}
+use Rattle.lane_model.specs.Bits.{lane_is_set, lanes_of}
+use Rattle.lane_model.specs.WordBits.{bit_of}
 use Rattle.pred_bits.proofs.Fields.{some_bits, lanes_room}
 use Rattle.pred_bits.proofs.LaneWords.{last_answer}
 use Rattle.pred_bits.proofs.lanes.last_is_set.Goals as goal

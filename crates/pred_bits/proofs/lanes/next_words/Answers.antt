@@ -1,7 +1,8 @@
 use Rattle.std.proofs.Common.{◌≡◌, ◌≤◌, ◌*◌, ◌/◌, ◌&&◌, ℕ, Bool, nat_lt, Option, length, ap, subst, ◌∙◌, arith}
 use Rattle.std.proofs.lemmas.Nat.{div-add-mod'}
 use Rattle.emu_bits.specs.Flags.{size_of}
-use Rattle.lane_model.specs.Bits.{bit_of, bits_of, field_bit, lane_is_set, lanes_of}
+use Rattle.lane_model.specs.Bits.{field_bit, lane_is_set, lanes_of}
+use Rattle.lane_model.specs.WordBits.{bit_of, bits_of}
 use Rattle.lane_model.proofs.Bits.{each_bit_same}
 use Rattle.lane_model.specs.Predicate.{is_at, is_behind, next_lane, only_next}
 use Rattle.lane_model.specs.FirstLast.{last_where}

@@ -1,6 +1,7 @@
 use Rattle.std.proofs.Common.{◌≡◌, ◌<◌, ◌≤◌, ◌*◌, ◌/◌, ◌%◌, ◌&&◌, ℕ, Bool, nat_eq, length, sym, ap, ◌∙◌, arith}
 use Rattle.emu_bits.specs.Flags.{size_of}
-use Rattle.lane_model.specs.Bits.{bit_of, field_bit, lane_is_set, lanes_of}
+use Rattle.lane_model.specs.Bits.{field_bit, lane_is_set, lanes_of}
+use Rattle.lane_model.specs.WordBits.{bit_of}
 use Rattle.pred_bits.specs.LaneBits.{among}
 use Rattle.pred_bits.proofs.Fields.{some_bits, lanes_room, lane_within}
 use Rattle.pred_bits.proofs.LaneWords.{set_among, tested}

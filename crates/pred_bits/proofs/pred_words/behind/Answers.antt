@@ -1,5 +1,5 @@
 use Rattle.std.proofs.Common.{◌&&◌, sym, ap, ◌∙◌, Option, ℕ}
-use Rattle.lane_model.specs.Bits.{bit_of}
+use Rattle.lane_model.specs.WordBits.{bit_of}
 use Rattle.lane_model.specs.Predicate.{is_behind}
 use Rattle.pred_bits.proofs.LaneWords.{and_true}
 use Rattle.pred_bits.proofs.pred_words.behind.Goals as goal

@@ -2,7 +2,7 @@ use Rattle.std.proofs.Common.{◌≡◌, ◌<◌, ◌≤◌, ◌+◌, ◌-◌, �
 use Rattle.std.proofs.Math.Nat.{pow-suc}
 use Rattle.std.proofs.Math.Pow.{pow_mono}
 use Rattle.std.proofs.lemmas.Bool.{and_left}
-use Rattle.lane_model.specs.Bits.{bit_of}
+use Rattle.lane_model.specs.WordBits.{bit_of}
 use Rattle.pred_bits.proofs.Made.{bit_placed, bit_past, made_all}
 use Rattle.pred_bits.proofs.WordMasks.{behind_bit}
 use Rattle.pred_bits.proofs.pred_words.behind_place.Goals as goal

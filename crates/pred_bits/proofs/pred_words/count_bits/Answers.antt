@@ -1,6 +1,6 @@
 use Rattle.std.proofs.Common.{◌≡◌, ◌≤◌, ◌<◌, ◌*◌, ◌^◌, get_or, ap, ◌∙◌, arith}
 use Rattle.std.specs.Int.RustNames.{count_ones}
-use Rattle.lane_model.specs.Bits.{bit_of}
+use Rattle.lane_model.specs.WordBits.{bit_of}
 use Rattle.lane_model.specs.FirstLast.{count_where}
 use Rattle.pred_bits.proofs.Counted.{word_counted, word_few, counts_more}
 use Rattle.pred_bits.proofs.pred_words.count_bits.Goals as goal

@@ -1,5 +1,5 @@
 use Rattle.std.proofs.Common.{◌≡◌, ◌≤◌, ◌*◌}
-use Rattle.lane_model.specs.Bits.{bit_of}
+use Rattle.lane_model.specs.WordBits.{bit_of}
 use Rattle.lane_model.specs.FirstLast.{count_where}
 use Rattle.pred_bits.proofs.pred_words.count_bits.Given as goal
 

@@ -1,7 +1,7 @@
 use Rattle.std.proofs.Common.{◌+◌, ◌*◌, Some, None, w64, get_or, refl, sym, inl, inr, arith}
 use Rattle.std.specs.Int.{trailing_zeros}
 use Rattle.std.proofs.lemmas.Bool.{cases_lt}
-use Rattle.lane_model.specs.Bits.{bit_of}
+use Rattle.lane_model.specs.WordBits.{bit_of}
 use Rattle.lane_model.proofs.Found.{first_is}
 use Rattle.pred_bits.proofs.Places.{zero_word, first_found}
 use Rattle.pred_bits.proofs.pred_words.first_bit.Goals as goal

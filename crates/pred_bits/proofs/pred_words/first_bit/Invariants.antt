@@ -1,5 +1,5 @@
 use Rattle.std.proofs.Common.{◌≡◌, ◌<◌, ◌*◌, ℕ, false}
-use Rattle.lane_model.specs.Bits.{bit_of}
+use Rattle.lane_model.specs.WordBits.{bit_of}
 use Rattle.pred_bits.proofs.pred_words.first_bit.Given as goal
 
 abbrev pub invariant-loop-i : goal.invariant-loop-i

@@ -2,9 +2,9 @@ use Rattle.std.proofs.Common.{◌+◌, ◌*◌, ℕ, Option, Some, None, w64, ge
 use Rattle.std.specs.Int.{trailing_zeros}
 use Rattle.std.proofs.lemmas.Bool.{cases_lt}
 use Rattle.std.proofs.lemmas.Nat.Bits.{bit_at-trailing_zeros}
-use Rattle.lane_model.specs.Bits.{bit_of}
+use Rattle.lane_model.specs.WordBits.{bit_of}
 use Rattle.lane_model.proofs.Found.{first_is}
-use Rattle.lane_model.specs.FirstLast.{answer_at}
+use Rattle.lane_model.specs.FirstLastLaws.{answer_at}
 use Rattle.pred_bits.proofs.Made.{bit_placed}
 use Rattle.pred_bits.proofs.Places.{zero_word, first_found}
 use Rattle.pred_bits.proofs.pred_words.first_is_in.Goals as goal

@@ -1,7 +1,7 @@
 use Rattle.std.proofs.Common.{◌+◌, ◌-◌, ◌*◌, Some, None, w64, get_or, refl, sym, inl, inr, arith}
 use Rattle.std.specs.Int.{leading_zeros}
 use Rattle.std.proofs.lemmas.Bool.{cases_lt}
-use Rattle.lane_model.specs.Bits.{bit_of}
+use Rattle.lane_model.specs.WordBits.{bit_of}
 use Rattle.lane_model.proofs.Found.{last_is}
 use Rattle.pred_bits.proofs.Places.{zero_word, last_found}
 use Rattle.pred_bits.proofs.pred_words.last_bit.Goals as goal

@@ -1,9 +1,9 @@
 use Rattle.std.proofs.Common.{◌+◌, ◌-◌, ◌*◌, ℕ, Option, Some, None, w64, get_or, refl, sym, ap, inl, inr, ◌∙◌, arith}
 use Rattle.std.specs.Int.{leading_zeros}
 use Rattle.std.proofs.lemmas.Bool.{cases_lt}
-use Rattle.lane_model.specs.Bits.{bit_of}
+use Rattle.lane_model.specs.WordBits.{bit_of}
 use Rattle.lane_model.proofs.Found.{last_is}
-use Rattle.lane_model.specs.FirstLast.{answer_at}
+use Rattle.lane_model.specs.FirstLastLaws.{answer_at}
 use Rattle.pred_bits.proofs.Made.{bit_placed}
 use Rattle.pred_bits.proofs.Places.{zero_word, last_found}
 use Rattle.pred_bits.proofs.pred_words.last_is_in.Goals as goal

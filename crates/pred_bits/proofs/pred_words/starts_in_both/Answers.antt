@@ -2,7 +2,7 @@ use Rattle.std.proofs.Common.{◌<◌, ◌+◌, ◌*◌, ◌/◌, ◌%◌, ◌&&
 use Rattle.std.proofs.lemmas.Bool.{and_left, and_right}
 use Rattle.std.proofs.lemmas.List.{length-set}
 use Rattle.emu_bits.specs.Flags.{size_of}
-use Rattle.lane_model.specs.Bits.{bit_of}
+use Rattle.lane_model.specs.WordBits.{bit_of}
 use Rattle.pred_bits.proofs.Made.{bit_in, bit_placed, bit_past, made_more, made_all}
 use Rattle.pred_bits.proofs.WordBits.{and_bit}
 use Rattle.pred_bits.proofs.WordMasks.{start_and}

@@ -1,7 +1,7 @@
 use Rattle.std.proofs.Common.{◌≡◌, ◌≤◌, ◌+◌, ◌*◌, ◌/◌, ◌%◌, ◌&&◌, ℕ, Bool, false, [], ◌∷◌, nat_eq, get_or, bit_and, refl, ap₂, sym, ◌∙◌, arith}
 use Rattle.std.proofs.lemmas.Bool.{and_left, and_right}
 use Rattle.emu_bits.specs.Flags.{size_of}
-use Rattle.lane_model.specs.Bits.{bit_of}
+use Rattle.lane_model.specs.WordBits.{bit_of}
 use Rattle.pred_bits.proofs.Made.{bit_placed, made_all}
 use Rattle.pred_bits.proofs.WordBits.{and_bit}
 use Rattle.pred_bits.proofs.WordMasks.{start_and, first_of_four}

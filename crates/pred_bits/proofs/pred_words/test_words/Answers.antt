@@ -1,7 +1,8 @@
 use Rattle.std.proofs.Common.{ℕ, Bool, false, not, Option, is_none, ap, ◌∙◌}
 use Rattle.emu_bits.specs.declared.flags.Flags.{Flags}
-use Rattle.lane_model.specs.Bits.{bit_of}
-use Rattle.lane_model.specs.FirstLast.{first_where, answer_at}
+use Rattle.lane_model.specs.WordBits.{bit_of}
+use Rattle.lane_model.specs.FirstLast.{first_where}
+use Rattle.lane_model.specs.FirstLastLaws.{answer_at}
 use Rattle.pred_bits.proofs.AllActive.{none_is}
 use Rattle.pred_bits.proofs.pred_words.test_words.Goals as goal
 

@@ -1,6 +1,6 @@
 use Rattle.std.proofs.Common.{◌≡◌, ◌<◌, length, sym, subst, ◌∙◌, arith}
 use Rattle.std.proofs.lemmas.List.{length-set}
-use Rattle.lane_model.specs.Bits.{AreClearFrom}
+use Rattle.lane_model.specs.WordBits.{AreClearFrom}
 use Rattle.lane_model.specs.Predicate.{logic_bit}
 use Rattle.pred_bits.proofs.LogicWords.{logic_above, logic_shown}
 use Rattle.pred_bits.proofs.Made.{bit_in, made_more}

@@ -2,7 +2,7 @@ use Rattle.std.proofs.Common.{◌≤◌, ◌+◌, ◌/◌, ◌∙◌, ℕ, ap, s
 use Rattle.lane_model.specs.declared.places.Place.{Place}
 use Rattle.sve_effects.specs.LaneLoop.{is_active}
 use Rattle.sve_effects.specs.Permute.{spliced, splice_place}
-use Rattle.sve_effects.specs.PermuteRows.{moved}
+use Rattle.sve_effects.specs.PermuteRows.{with_places}
 use Rattle.sve_permutes.proofs.CopiedLanes.{spliced_is}
 use Rattle.sve_permutes.proofs.active.spliced.Goals as goal
 
@@ -14,7 +14,7 @@ returns-in-8 c =
     let v = c.args.vec.now in
     let e = c.args.e in
     let run : ℕ → Place = spliced c.run_of-from.result.0 c.run_of-from.result.1 in
-    c.spliced_lanes.ensures ∙ ap (λ e. moved e run c.args.zdn c.args.zm 0 c.args.zdn v) (sym c.in-8.is)
+    c.spliced_lanes.ensures ∙ ap (λ e. with_places e run c.args.zdn c.args.zm 0 c.args.zdn v) (sym c.in-8.is)
     ∙ spliced_is e c.args.zdn c.args.zm c.args.zdn v run (splice_place (is_active e v c.args.pg) (v.bits / e)) c.run_of-from.ensures.places
 
 pub spliced_lanes-requires-in-16-clause-run : goal.spliced_lanes-requires-in-16-clause-run
@@ -25,7 +25,7 @@ returns-in-16 c =
     let v = c.args.vec.now in
     let e = c.args.e in
     let run : ℕ → Place = spliced c.run_of-from.result.0 c.run_of-from.result.1 in
-    c.spliced_lanes-in-16.ensures ∙ ap (λ e. moved e run c.args.zdn c.args.zm 0 c.args.zdn v) (sym c.in-16.is)
+    c.spliced_lanes-in-16.ensures ∙ ap (λ e. with_places e run c.args.zdn c.args.zm 0 c.args.zdn v) (sym c.in-16.is)
     ∙ spliced_is e c.args.zdn c.args.zm c.args.zdn v run (splice_place (is_active e v c.args.pg) (v.bits / e)) c.run_of-from.ensures.places
 
 pub spliced_lanes-requires-in-32-clause-run : goal.spliced_lanes-requires-in-32-clause-run
@@ -36,5 +36,5 @@ returns-in-32 c =
     let v = c.args.vec.now in
     let e = c.args.e in
     let run : ℕ → Place = spliced c.run_of-from.result.0 c.run_of-from.result.1 in
-    c.spliced_lanes-in-32.ensures ∙ ap (λ e. moved e run c.args.zdn c.args.zm 0 c.args.zdn v) (sym c.in-32.is)
+    c.spliced_lanes-in-32.ensures ∙ ap (λ e. with_places e run c.args.zdn c.args.zm 0 c.args.zdn v) (sym c.in-32.is)
     ∙ spliced_is e c.args.zdn c.args.zm c.args.zdn v run (splice_place (is_active e v c.args.pg) (v.bits / e)) c.run_of-from.ensures.places

@@ -4,7 +4,7 @@ use Rattle.lane_permute.specs.Slices.{number_at}
 use Rattle.sve_effects.specs.Lane.{extended_by}
 use Rattle.sve_effects.specs.LaneLoop.{lane_of}
 use Rattle.sve_effects.specs.Permute.{taken, half_place}
-use Rattle.sve_effects.specs.PermuteRows.{is_high, is_signed}
+use Rattle.sve_effects.specs.PermuteRows.{unpacks}
 use Rattle.sve_permutes.proofs.LaneArrays.{cut_lanes, half_lanes, lanes_few, extended_mod}
 use Rattle.sve_permutes.proofs.slices.widened_lanes.Goals as goal
 
@@ -15,8 +15,8 @@ returns g c =
     let f = g.H.Lane.number in
     let v = c.args.vec.now in
     let a : ℕ → ℕ = lane_of h v c.args.zn in
-    let s : Bool = is_signed c.args.op in
-    let hi : ℕ = bit (is_high c.args.op) in
+    let s : Bool = (unpacks c.args.op).1 in
+    let hi : ℕ = bit (unpacks c.args.op).0 in
     let n = v.bits / e in
     let lanes = c.lanes_in-a.result in
     let bits : g.T.Lane.BITS ≡ 2 * g.H.Lane.BITS = c.requires.bits in
@@ -28,7 +28,7 @@ returns g c =
     let twice = half_lanes e h v.bits g.met.H.Lane.width c.length.ensures.length bits in
     let none : (k : ℕ) → 2 * m ≤ k → a k ≡ 0
     = λ k b. let past : v.bits / h ≤ k = subst (λ x. x ≤ k) (ap (λ x. 2 * x) same ∙ sym twice) b in c.lanes_in-a.ensures.above k past in
-    c.set_lanes.ensures (λ k. extended_by s e (e / 2) (taken (lane_of (e / 2) v c.args.zn) (lane_of (e / 2) v c.args.zn) 0 0 (half_place (is_high c.args.op) n k)))
+    c.set_lanes.ensures (λ k. extended_by s e (e / 2) (taken (lane_of (e / 2) v c.args.zn) (lane_of (e / 2) v c.args.zn) 0 0 (half_place (unpacks c.args.op).0 n k)))
     (λ k b.
     let within : k < length c.split_at_mut-front.result.0.now = omega arith in
     let cut = cut_lanes f (2 * m) lanes a h c.lanes_in-a.ensures.lanes none (hi * n + k) in

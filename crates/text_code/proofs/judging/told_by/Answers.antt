@@ -4,7 +4,7 @@ use Rattle.std.specs.Int.{w128}
 use Rattle.std.specs.Prelude.{FitsSigned}
 use Rattle.text_model.specs.declared.slots.Shape.{Shape}
 use Rattle.text_model.specs.Slots.{place_of, places, bits_in}
-use Rattle.text_model.specs.Told.{Built, class_tells, codec_tells, told, parted, put, put_all}
+use Rattle.text_model.specs.Told.{Built, class_tells, codec_tells, told, parted, bound, all_bound}
 use Rattle.text_code.specs.Tables.{built_of}
 use Rattle.text_code.proofs.Parted.{told_both, no_class}
 use Rattle.text_code.proofs.Slots.{parts_sound, narrow, kind_sound, told_in_word}
@@ -32,17 +32,17 @@ returns c =
     let class = c.args.item.class in
     let shape : Shape = c.args.slot.shape in
     let codec = c.args.slot.codec in
-    let classed : built_of c.match-slot.built ≡ put_all a (class_tells c.args.slot.shape c.args.item.class)
+    let classed : built_of c.match-slot.built ≡ all_bound a (class_tells c.args.slot.shape c.args.item.class)
     = elim c.match-slot.branch [
       | in-Told w ↦
           ap built_of w.built-is ∙ w.with-built.ensures
-          ∙ ap (λ (n : ℕ). put a (record { place = place_of w.in-Told.b; value = n })) (w.from.ensures ∙ w.place_in.ensures)
-          ∙ ap (λ (s : Shape). put_all a (class_tells s class)) (sym w.in-Told.is)
-      | in_default w ↦ ap built_of w.built-is ∙ ap (put_all a) (sym (no_class shape class w.in_default.not-Told))
+          ∙ ap (λ (n : ℕ). bound a (record { place = place_of w.in-Told.b; value = n })) (w.from.ensures ∙ w.place_in.ensures)
+          ∙ ap (λ (s : Shape). all_bound a (class_tells s class)) (sym w.in-Told.is)
+      | in_default w ↦ ap built_of w.built-is ∙ ap (all_bound a) (sym (no_class shape class w.in_default.not-Told))
     ] in
     let f : FitsSigned w128 c.args.item.value = search rules in
     let e : to_z w128 (of_z w128 c.args.item.value) ≡ c.args.item.value = to_z-of_z w128 c.args.item.value f in
     let value : c.told.result ≡ told codec.kind (bits_in (places codec.parts)) c.args.item.value = c.told.ensures ∙ ap₂ (λ (n : ℕ) (z : ℤ). told codec.kind n z) c.width_of.ensures.value e in
     c.with_parts.ensures
-    ∙ ap₂ (λ (b : Built) (n : ℕ). put_all b (parted (places codec.parts) n)) classed value
+    ∙ ap₂ (λ (b : Built) (n : ℕ). all_bound b (parted (places codec.parts) n)) classed value
     ∙ sym (told_both a (class_tells shape class) (codec_tells codec c.args.item.value))

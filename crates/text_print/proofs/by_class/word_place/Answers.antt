@@ -1,6 +1,6 @@
 use Rattle.std.proofs.Common.{ℕ, ◌+◌, ◌≤◌, length, get_or, sym, ◌∙◌, arith}
 use Rattle.std.proofs.Math.ListN.{get_or-eq_default}
-use Rattle.text_model.specs.Classes.{class_number}
+use Rattle.text_model.specs.ClassNumbers.{class_number}
 use Rattle.text_print.specs.declared.by_class.TheConstants.{NONE, ROWS, PLACES}
 use Rattle.text_print.proofs.by_class.word_place.Goals as goal
 

@@ -1,7 +1,8 @@
 use Rattle.std.proofs.Common.{◌≡◌, ℕ, List, Some, refl, sym, ap, ◌∙◌}
 use Rattle.std.specs.FinMap.{find, get}
 use Rattle.std.specs.Ordering.{nat_cmp}
-use Rattle.emu_model.specs.Access.{Memory, page_gives}
+use Rattle.emu_model.specs.Access.{Memory}
+use Rattle.emu_model.specs.ByPage.{page_gives}
 use Rattle.emu_model.specs.Marks.{MarkedMemory}
 use Rattle.emu_model.specs.declared.access.Kind.TheVariants.{Fetch}
 use Rattle.page_list.specs.Entries.{IsFetched}

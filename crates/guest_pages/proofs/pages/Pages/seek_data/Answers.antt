@@ -1,6 +1,7 @@
 use Rattle.std.proofs.Common.{Some, refl, sym, ap, ◌∙◌}
 use Rattle.std.specs.FinMap.{get}
-use Rattle.emu_model.specs.Access.{gives, page_gives}
+use Rattle.emu_model.specs.Access.{gives}
+use Rattle.emu_model.specs.ByPage.{page_gives}
 use Rattle.emu_model.specs.Marks.{MarkedMemory}
 use Rattle.guest_pages.proofs.Maps.{get_is}
 use Rattle.guest_pages.proofs.Ordered.{find_is}

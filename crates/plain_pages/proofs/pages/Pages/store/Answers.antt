@@ -3,7 +3,8 @@ use Rattle.std.specs.FinMap.{get, find}
 use Rattle.std.specs.Ordering.{nat_cmp}
 use Rattle.std.specs.Vec.{with_items}
 use Rattle.emu_model.specs.declared.access.Kind.TheVariants.{Write}
-use Rattle.emu_model.specs.Access.{Memory, page_gives, page_size}
+use Rattle.emu_model.specs.Access.{Memory, page_size}
+use Rattle.emu_model.specs.ByPage.{page_gives}
 use Rattle.emu_model.specs.Pages.{with_bytes}
 use Rattle.emu_model.specs.WithinPage.{page_with_bytes}
 use Rattle.plain_pages.specs.declared.slots.Slot.{Slot}
