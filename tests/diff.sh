@@ -68,18 +68,35 @@ parts_in() {
         "$scratch/output"
 }
 
+# The command of a line of svemu-diff as a shell takes it, its page on the output in place of the browser's.
+drawn_as_told() {
+    printf '%s\n' "${1#*: }" | sed 's/ --open / /' >"$scratch/copied"
+    run sh -eu "$scratch/copied"
+    holds "the command that is told" [ "$status" -eq 0 ]
+}
+
+# The command by the name that calls svemu-lanes: alone where the PATH has it, by the folder where it hasn't; with the
+# limits and the words that were given, quoted.
+as_others_call_it() {
+    cp "$scratch/parting/parting.elf" "$scratch/parting/it's.elf"
+    run env PATH="$top/tools:$PATH" svemu-diff --vl 384 --beside 512 --budget 5000 "$scratch/parting/it's.elf" trap
+    holds "svemu-lanes by the PATH" sh -c 'tail -n 1 "$1" | grep -q "^draw [a-z ]*: svemu-lanes --open .* --budget 5000 .*it.*s.elf.* trap$"' sh "$scratch/output"
+    run env PATH="$top/tools:$PATH" sh -c "$(tail -n 1 "$scratch/output" | sed 's/^[^:]*: //; s/ --open / /')"
+    holds "its page" sh -c '[ "$1" -eq 0 ] && grep -q "<title>it.*s.elf at 384 bits" "$2"' sh "$status" "$scratch/output"
+    run sh -c 'cd tools && ./svemu-diff --vl 384 --beside 512 "$1" trap' sh "$scratch/parting/parting.elf"
+    holds "svemu-lanes in this folder" sh -c 'tail -n 1 "$1" | grep -q "^draw [a-z ]*: \./svemu-lanes --open "' sh "$scratch/output"
+}
+
 # The call that svemu-diff names in its last line, drawn as that line says; a call that there isn't, and a function.
 drawn_call() {
     run "$diff_tool" "$scratch/parting/last_step.elf"
     named=$(tail -n 1 "$scratch/output")
     holds "the call is named for svemu-lanes" sh -c 'printf "%s\n" "$1" | grep -Eqx "$2"' sh "$named" \
-        'svemu-lanes --in last_step --call [0-9]+ --vl 128 --beside [0-9]+ draws it'
-    # shellcheck disable=SC2046,SC2086 # words
-    set -- $named
-    run "$top/tools/svemu-lanes" "$2" "$3" "$4" "$5" "$6" "$7" "$8" "$9" "$scratch/parting/last_step.elf"
-    holds "it is drawn" sh -c '[ "$1" -eq 0 ] && grep -q "<title>last_step.elf at $2 and $3 bits, call $4 of last_step" "$5"' sh \
-        "$status" "$7" "$9" "$5" "$scratch/output"
-    holds "by both lengths" sh -c 'grep -q "st1w {z0.s}" "$1" && [ "$(wc -c <"$1")" -lt 3000000 ]' sh "$scratch/output"
+        "draw it: $lanes --open --in last_step --call [0-9]+ --vl 128 --beside [0-9]+ $scratch/parting/last_step.elf"
+    drawn_as_told "$named"
+    holds "it is drawn by both lengths" sh -c 'grep -q "<title>last_step.elf at 128 and [0-9]* bits, call [0-9]* of last_step" "$1" &&
+        grep -q "st1w {z0.s}" "$1" && [ "$(wc -c <"$1")" -lt 3000000 ]' sh "$scratch/output"
+    as_others_call_it
     run "$top/tools/svemu-lanes" --in last_step --call 99 --vl 128 "$scratch/parting/last_step.elf"
     ended_like "a call that there isn't" 2 'svemu-lanes: .*last_step.*'
     run "$top/tools/svemu-lanes" --from last_step+0x4 --steps 3 "$scratch/parting/last_step.elf"
@@ -98,7 +115,7 @@ sum_that_parts() {
     holds "lost sums: the call" grep -Eqx '256 and 512 bits part in call 1 of sum \(of main\+0x[0-9a-f]+\)' "$scratch/output"
     holds "lost sums: the answers" grep -qx 'it answers 000000000007a314 in x0 at 256, 000000000003d95c at 512 bits' "$scratch/output"
     holds "lost sums: its step" grep -Eqx 'at 512 bits it was written in step [0-9]+, .* at sum\+0x[0-9a-f]+ \(lost_sums.c:[0-9]+\)' "$scratch/output"
-    holds "lost sums: the page" grep -qx 'svemu-lanes --in sum --call 1 --vl 256 --beside 512 draws it' "$scratch/output"
+    holds "lost sums: the page" grep -qx "draw it: $lanes --open --in sum --call 1 --vl 256 --beside 512 $scratch/parting/lost_sums.elf" "$scratch/output"
     call_beside_another
     run "$diff_tool" --vl 256 --beside 512 --in put_number "$scratch/parting/lost_sums.elf"
     holds "lost sums without the sum's call" [ "$status" -eq 1 ]
@@ -185,12 +202,10 @@ where_it_traps() {
         NR == 2 { bad = bad || !/^at 128 bits it ends by trap read 0x8 after [0-9]+ steps, in call 1 of main \(of _start\+0x8\)$/ }
         NR == 3 { bad = bad || !/^by ldr w[0-9]+, .* at main\+0x[0-9a-f]+ \(parting\.c:[0-9]+\)$/ }
         NR == 4 { bad = bad || !/^what to do: .What you see. of docs\/MANUAL\.md has it below .trap read.$/ }
-        NR == 5 { bad = bad || !/^svemu-lanes --in main --call 1 --vl 128 draws it$/ }
+        NR == 5 { bad = bad || !/^draw it: .*svemu-lanes --open --in main --call 1 --vl 128 .*parting\.elf null$/ }
         END { exit bad || NR != 5 }' "$scratch/output"
     holds "its status" [ "$status" -eq 1 ]
-    # shellcheck disable=SC2046 # words
-    set -- $(tail -n 1 "$scratch/output")
-    run "$lanes" "$2" "$3" "$4" "$5" "$6" "$7" "$parting" null
+    drawn_as_told "$(tail -n 1 "$scratch/output")"
     holds "the steps before it are drawn" sh -c '[ "$1" -eq 0 ] && grep -q "trap read 0x0*8 " "$2"' sh "$status" "$scratch/output"
     run "$diff_tool" --vl 384 --beside 512 "$parting" trap
     holds "a trap at two lengths" sh -c '[ "$1" -eq 1 ] && sed -n 1p "$2" | grep -qx "$3" && grep -Eq "$4" "$2" && grep -q "$5" "$2"' \
@@ -221,12 +236,15 @@ what_a_test_found() {
     holds "a test that fails at all lengths" awk '
         NR == 1 { bad = $0 != "the test fails at all sixteen lengths" }
         NR == 2 { bad = bad || !/^at 128 bits no_saturation parts: n 2, guarded at its end, alignment 14, element 0: wanted ff, got 23$/ }
-        NR == 4 { bad = bad || $0 != "svemu-lanes --in no_saturation --call 5 --vl 128 draws it" }
+        NR == 4 { bad = bad || !/^draw it: .*svemu-lanes --open --in no_saturation --call 5 --vl 128 .*no_saturation\.elf$/ }
         END { exit bad || NR != 4 }' "$scratch/output"
     run "$diff_tool" --test "$scratch/tested/last_step.elf"
     holds "a test that fails at some" sh -c 'sed -n 1p "$1" | grep -qx "the test fails at 640 to 2048 bits"' sh "$scratch/output"
+    run "$diff_tool" "$scratch/tested/last_step.elf"
+    holds "what --test is for" sh -c '[ "$1" -eq 1 ] && head -n 1 "$2" | grep -q "^a kernel.s test by kernel_test.h .*: with --test "' sh \
+        "$status" "$scratch/output"
     run "$diff_tool" "$scratch/tested/full_predicate.elf"
-    holds "the call that traps is named for svemu-lanes" sh -c 'tail -n 1 "$1" | grep -qx "svemu-lanes --in full_predicate --call 3 --vl 128 draws it"' sh "$scratch/output"
+    holds "the call that traps is named for svemu-lanes" sh -c 'tail -n 1 "$1" | grep -q "^draw it: .* --in full_predicate --call 3 --vl 128 "' sh "$scratch/output"
     holds "an over-read of a guarded buffer" sh -c '[ "$1" -eq 1 ] && grep -Eqx "$3" "$2" && grep -q "^what to do: .*Over-reads" "$2"' \
         sh "$status" "$scratch/output" '0x[0-9a-f]+000 is 1 byte behind the end of a guarded buffer of 4 bytes'
     run "$diff_tool" --test --vl 256 "$scratch/tested/prefix_sum.elf"

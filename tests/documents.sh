@@ -152,8 +152,8 @@ reading_is_quoted() {
 another name in a quotation@s/^    merging e pg f zd v = /    zeroing e pg f zd v = /@hasn't this line there: zeroing
 a line that is left out@/^        let q . Option/d@hasn't this line there:     let ffr
 lines in another order@/^    lane e bytes k = /{h;d;};/^    byte_in /G@hasn't this line there: lane e bytes k
-another indentation@s/^      places = (23/     places = (23/@hasn't this line there:  places = (23
-a wrapped line that is cut off@/^        first = zt; transfer/d@hasn't this line there: row (LoadFf
+another indentation@s/^        ((23 to/       ((23 to/@hasn't this line there:    ((23 to
+two lines as one@s/^    row (Binary .*/& \\/@hasn't this line there: row (Binary
 another file above a block@s/^\(What a call comes to.*\)SystemCall.antt/\1Start.antt/@Start.antt hasn't this line there
 a file that there isn't@s/SystemCall.antt/SystemCalls.antt/@there is no file crates/emu_system/specs/SystemCalls.antt
 no file above a block@s/^And the bytes, in .*/And the bytes:/@no file of crates/ is named

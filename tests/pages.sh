@@ -94,7 +94,7 @@ TEXT
     holds "a curve of a guest that does otherwise at each length" [ "$status" -eq 0 ]
     holds "it says where" grep -q 'parts from that at 128 bits at 256, .* and 2048 bits. The program ends otherwise than at 128 bits at 768, 1024, ' "$scratch/output"
     cp "$scratch/output" "$scratch/page.html"
-    opens "it in Chromium" curves.py "$scratch/by_length.elf"
+    opens "the curve of what traps in Chromium" curves.py "$scratch/by_length.elf"
     run env SVEMU_BUDGET=15 SVEMU_VL=99 "$curve" "$scratch/by_length.elf"
     holds "a budget ends the runs, and the length of a run is none of a curve" sh -c '[ "$1" -eq 0 ] && [ "$(grep -o "\"how\":\"spent\"" "$2" | wc -l)" -eq 15 ]' \
         sh "$status" "$scratch/output"
@@ -154,7 +154,7 @@ curve_refusals() {
     refused "a curve of one length" "there is no option --vl \(--help lists them\)" --vl 256 "$probe"
     refused "a bad budget" "--budget wants a number from 0 to 18446744073709551615, not x" --budget x "$probe"
     refused "no file for a curve" ".*/nosuch couldn't be read" "$scratch/nosuch"
-    refused "no image for a curve" "svemu says: refused image TooShort" "$scratch/empty"
+    refused "no image for a curve" "svemu says: refused image TooShort \(svemu-runner tells what the file is\)" "$scratch/empty"
     before=$SVEMU
     for change in 's/^vl 384 exit 0 after 1367/vl 384 exit 0 after 1368/' 's/parts at 4$/parts at 5/' 's/^\(vl 512 .*\) out 11/\1 out 12/' 's/^\(vl 128 .*\) err 0/\1 err 1/'; do
         sweeping "\"$before\" \"\$@\" | sed '$change'"
@@ -197,7 +197,7 @@ page_refusals() {
     refused "a place that isn't reached" "the program ends before: exit 0 after 97 steps" --vl 128 --from 0x400000 examples/strlen.elf
     refused "a bad watch" "--watch wants a place and a number of bytes with a comma between, not 4" --watch 4 "$probe"
     refused "no such file" ".*/nosuch couldn't be read" "$scratch/nosuch"
-    refused "no image" "svemu says: refused image TooShort" "$scratch/empty"
+    refused "no image" "svemu says: refused image TooShort \(svemu-runner tells what the file is\)" "$scratch/empty"
     run env SVEMU="$scratch/nosuch" "$lanes" "$probe"
     ended_like "no svemu" 2 "svemu-lanes: there is no program .*/nosuch \(--help says where it is looked for\)"
     run sh -c '"$1" --vl 128 "$2" >/dev/full' sh "$lanes" "$probe"

@@ -97,7 +97,10 @@ told_part() {
     part_line="$part_title: $((passed - $1)) passed"
     [ "$failed" -eq "$2" ] || part_line="$part_line, $((failed - $2)) failed"
     [ "$skipped" -eq "$3" ] || part_line="$part_line, $((skipped - $3)) skipped"
-    echo "$part_line, $(($(date +%s) - part_began)) seconds"
+    part_seconds=$(($(date +%s) - part_began))
+    seconds=seconds
+    [ "$part_seconds" -ne 1 ] || seconds=second
+    echo "$part_line, $part_seconds $seconds"
 }
 
 # Whether a command succeeds.
@@ -153,6 +156,30 @@ examples() {
     done
 }
 
+# README's commands for a program of one's own, as they stand there, by this compiler; and the tools that want symbols.
+own_kernel() {
+    rm -rf "$scratch/own"
+    mkdir -p "$scratch/own/bin"
+    ln -s "$top/tools" "$scratch/own"
+    cp -R examples "$scratch/own"
+    # In the place of a browser.
+    ln -s "$(command -v true)" "$scratch/own/bin/xdg-open"
+    awk '/This builds and runs a copy of an example:$/ { near = 1; next } near && /^    / { within = 1; print substr($0, 5); next }
+        within { exit }' README.md | sed '/^apt install/d' >"$scratch/commands"
+    [ "$1" != clang ] || sed -i 's/^[^#]*# or: //' "$scratch/commands"
+    cd "$scratch/own" || exit 1
+    run env SVEMU_TOOL="$tool" sh -eu "$scratch/commands"
+    holds "a program of one's own by $1" sh -c '[ "$1" -eq 0 ] && grep -qx "dot_product agrees" "$2" &&
+        [ "$(grep -cE "^vl [0-9]+ exit 0 after [0-9]+ steps out 38 err 0 same$" "$2")" -eq 16 ]' sh "$status" "$scratch/output"
+    if ! lacks "symbols of a program of one's own" python3; then
+        run tools/svemu-diff made/mine.elf
+        ended "its lengths don't part" 0 'the output and the ending are the same at all sixteen lengths\n' ''
+        run env PATH="$scratch/own/bin:$PATH" XDG_CACHE_HOME="$scratch/own/cache" SVEMU="$built" SVEMU_TOOL="$tool" tools/svemu-cover --open made/mine.elf
+        holds "what ran of it is drawn" sh -c 'cat "$3"; [ "$1" -eq 0 ] && grep -q "dot_product" "$2"/cache/svemu/pages/*.html' sh "$status" "$scratch/own" "$scratch/errors"
+    fi
+    cd "$top" || exit 1
+}
+
 builds() {
     for compiler in aarch64-linux-gnu-gcc clang; do
         case $compiler in
@@ -168,12 +195,7 @@ builds() {
             clang) holds "examples built by clang" make -C "$scratch/examples" CC=clang CXX=clang++ ;;
             *) holds "examples built by $compiler" make -C "$scratch/examples" ;;
         esac
-        if [ "$compiler" != clang ]; then
-            mkdir -p "$scratch/made" && cp examples/dot_product.c "$scratch/made/mine.c"
-            holds "a program in the folder above" make -C "$scratch/examples" ../made/mine.elf
-            run "$runner" "$scratch/made/mine.elf"
-            ended "it runs" 0 "$(cat examples/dot_product.out)\n" ''
-        fi
+        own_kernel "$compiler"
         examples "$scratch/examples" "built by $compiler:"
         threaded "$scratch/examples" "built by $compiler:"
         structures "$scratch/examples" "built by $compiler:"
@@ -279,6 +301,12 @@ installation() {
     installed_example
     run make uninstall PREFIX="$prefix"
     holds "make uninstall" sh -c '[ "$1" -eq 0 ] && [ -z "$(find "$2" ! -type d)" ]' sh "$status" "$prefix"
+    # As README has it.
+    shown=$(sed -n 's/.*`\(make install PREFIX=[^`]*\)`.*/\1/p' README.md)
+    run env HOME="$scratch/home" sh -c "$shown"' PROGRAM="$0" TOOL="$1"' "$built" "$tool"
+    holds "README's $shown" sh -c '[ "$1" -eq 0 ] && [ -x "$2/.local/bin/svemu-runner" ]' sh "$status" "$scratch/home"
+    run env HOME="$scratch/home" sh -c "$(printf '%s\n' "$shown" | sed 's/install/uninstall/')"
+    holds "and uninstall with its PREFIX" sh -c '[ "$1" -eq 0 ] && [ -z "$(find "$2" ! -type d)" ]' sh "$status" "$scratch/home"
 }
 
 manual_page() {

@@ -92,9 +92,15 @@ def drawn(run, step, calls, frame):
         name = run.program.functions[frame.function][0]
         begun = next(event.step for event in calls.events if event.kind == "entry" and event.frame == frame)
         if names.count(name) == 1 and step - begun <= CALL_DRAWN:
-            return f"svemu-lanes --in {name} --call {frame.number} --vl {run.vl} draws it"
+            return drawn_call(run, name, frame.number)
     after = max(0, step - DRAWN)
-    return f"svemu-lanes --vl {run.vl} --after {after} --steps {step - after + 1} draws the steps before it"
+    page = run.lanes("--vl", str(run.vl), "--after", str(after), "--steps", str(step - after + 1))
+    return f"draw the steps before it: {page}"
+
+
+def drawn_call(run, name, number, *words):
+    """The line with the command that draws a call of a function."""
+    return f"draw it: {run.lanes('--in', name, '--call', str(number), '--vl', str(run.vl), *words)}"
 
 
 def failing_lengths(run):
@@ -148,8 +154,7 @@ class Test:
         told = f"at {self.run.vl} bits {self.said(name)}"
         frame, begin, end = self.call(name)
         inside = f", in {told_call(self.program, frame)}"
-        return [told, *self.written(begin, end, inside),
-                f"svemu-lanes --in {name} --call {frame.number} --vl {self.run.vl} draws it"]
+        return [told, *self.written(begin, end, inside), drawn_call(self.run, name, frame.number)]
 
     def said(self, name):
         """The test's own line."""

@@ -4,6 +4,7 @@ import bisect
 import json
 import os
 import re
+import shlex
 import shutil
 import subprocess
 import sys
@@ -148,6 +149,7 @@ class Run:
             raise Failure(f"--vl wants a multiple of 128 from 128 to 2048, not {self.vl}")
         self.budget = limit("--budget", "SVEMU_BUDGET", "10000000000", 0, 2**64 - 1)
         self.pages = limit("--pages", "SVEMU_PAGES", "", 1, 1048576)
+        self.chosen = [word for name in self.LIMITS if given[name] for word in (name, given[name][-1])]
         self.file = "./" + program if program.startswith("--") else program
         self.arguments = ["--", *arguments] if arguments else []
         self.svemu = find_svemu()
@@ -174,11 +176,17 @@ class Run:
             return Failure(f"{name} couldn't be read")
         if said[-1:] == [f"too long {STREAM_BYTES}"]:
             return Failure(f"the input, or what the program writes at one of the lengths, has more than {STREAM_BYTES} bytes")
-        return Failure(WHY.get(done.returncode) or (f"svemu says: {said[-1]}" if said else f"svemu ended with {done.returncode}"))
+        more = " (svemu-runner tells what the file is)" if said[-1:] and said[-1].startswith("refused image ") else ""
+        told = f"svemu says: {said[-1]}{more}" if said else f"svemu ended with {done.returncode}"
+        return Failure(WHY.get(done.returncode) or told)
 
     def limits(self, budget=None):
         """The words that limit a run."""
         return ["--budget", str(self.budget if budget is None else budget)] + (["--pages", str(self.pages)] if self.pages else [])
+
+    def lanes(self, *words):
+        """The command that draws a page of this program by svemu-lanes, as it is copied to a shell."""
+        return shlex.join([beside_tool("svemu-lanes"), "--open", *words, *self.chosen, self.file, *self.arguments[1:]])
 
     def session(self, script, budget=None):
         """What a session of the debugger shows, between what the program writes."""
@@ -195,6 +203,14 @@ class Run:
         places = {b"%016x" % address for address in addresses}
         lines = self.call("dis", self.file).splitlines()
         return {int(line[:16], 16): line[26:].decode() for line in lines if line[:16] in places}
+
+
+def beside_tool(name):
+    """A tool by the name that calls it here: its own where the PATH has it, else in the folder by which this one was called."""
+    folders = os.path.dirname(sys.argv[0]) or ".", os.path.dirname(os.path.realpath(__file__))
+    files = [file for file in (os.path.join(folder, name) for folder in folders) if os.path.isfile(file)]
+    known = shutil.which(name)
+    return name if not files or known and os.path.samefile(known, files[0]) else files[0]
 
 
 def find_svemu():

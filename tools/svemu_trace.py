@@ -103,7 +103,7 @@ class Trace:
             self.clears[thread] = first
         if number in (READ, WRITE) and answer < 2**63:
             some = [Access(second, answer, number == WRITE, number == READ)] if answer else []
-            return some, f"{'reads' if number == READ else 'writes'} {answer} bytes", True
+            return some, f"{'reads' if number == READ else 'writes'} {amount(answer, 'byte', 'bytes')}", True
         return [], f"system call {number}", True
 
     def place(self, address):
