@@ -56,6 +56,15 @@ pub rose_put : {T E : Type 0} (a b : ℕ) (failed : Bool) (put : Result T E) →
 rose_put a b failed (Ok done) by has is = let t : false ≡ true = sym by ∙ is in absurd cc
 rose_put a b failed (Err fault) by has is = has.failed
 
+-- ---- a machine that ran alone, where no second file is named
+
+pub stopped_alone : (P : SeenStop → Type 0) (second : Option ℕ) (text file : List ℕ) (segments : List Segment)
+    (budget : ℕ) (m : Parts) (left : Option (List ℕ)) (ending : Ending) → second ≡ None
+    → IfSome left (λ i. HasStopped ending → P (alone_stop file segments (run (with_input m i) budget).parts))
+    → IfSome left (λ i. HasStopped ending → StopsFrom P second text file segments budget m i)
+stopped_alone P None text file segments budget m left ending is told = told
+stopped_alone P (Some place) text file segments budget m left ending is told = absurd (cc)
+
 -- ---- a run
 
 pub told_run : {T E : Type 0} (Q : E → Type 0) (bytes : T → List ℕ) (said : Result T E) (file : List ℕ) (segments :
