@@ -22,7 +22,8 @@
 //     TEST_FOLD2(kernel, reference, T, A, B)    T kernel(const A *a, const B *b, unsigned long n)
 //     TEST_UPDATE(kernel, reference, T)         void kernel(T *data, unsigned long n)
 //
-// The kernel is the name of a function, which is called by its address, so it stays a function of its own. In a program
+// The kernel is the name of a function, which is called by its address, so it stays a function of its own. In C++ it
+// may be an instance of a template, in brackets: TEST_MAP((twice<int, 2>), (plain<int, 2>), int, int). In a program
 // with symbols `svemu-diff --test` tells which step wrote the number that is wrong: the first difference is kept under
 // the symbol kernel_test_difference.
 //
@@ -343,10 +344,17 @@ static inline struct kernel_test new_test(const char *name, unsigned long kernel
     return test;
 }
 
+// The type of a kernel's address. An instance of a template has none for g++ before it is taken.
+#ifdef __cplusplus
+#define KERNEL_TYPE(kernel) auto
+#else
+#define KERNEL_TYPE(kernel) __typeof__(&kernel)
+#endif
+
 // The five tests: 0 where all calls agree, else 1. The kernel is called by its address, which the compiler doesn't know.
 #define TEST_CALLS(kernel, out_size, a_size, b_size, folds, updates, REFERENCE, KERNEL) \
     __extension__({ \
-        __typeof__(&kernel) kernel_ = &kernel; \
+        KERNEL_TYPE(kernel) kernel_ = &kernel; \
         __asm__("" : "+r"(kernel_)); \
         struct kernel_test test_ = new_test(#kernel, (unsigned long)kernel_, out_size, a_size, b_size, folds, updates); \
         while (next_call(&test_)) { \
