@@ -306,7 +306,7 @@ installation() {
     run env HOME="$scratch/home" sh -c "$shown"' PROGRAM="$0" TOOL="$1"' "$built" "$tool"
     holds "README's $shown" sh -c '[ "$1" -eq 0 ] && [ -x "$2/.local/bin/svemu-runner" ]' sh "$status" "$scratch/home"
     run env HOME="$scratch/home" sh -c "$(printf '%s\n' "$shown" | sed 's/install/uninstall/')"
-    holds "and uninstall with its PREFIX" sh -c '[ "$1" -eq 0 ] && [ -z "$(find "$2" ! -type d)" ]' sh "$status" "$scratch/home"
+    holds "and uninstall with its PREFIX" sh -c '[ "$1" -eq 0 ] && [ -z "$(find "$2" ! -type d)" ]' sh "$status" "$scratch/home/.local"
 }
 
 manual_page() {
