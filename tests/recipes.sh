@@ -87,6 +87,16 @@ first_program() {
     holds "a first program by $1 runs" awk 'NR == 1 ? $0 != "sum 500500" : !/^vl [0-9]+ exit 0 after [0-9]+ steps out 11 err 0 same$/ { bad = 1 } END { exit bad || NR != 17 }' "$scratch/output"
 }
 
+# The block below a line, run in the folder of the recipe before, writes what the page has.
+answers_as_the_page() {
+    ! lacks "$1" python3 || return 0
+    block "$2" >"$scratch/commands"
+    cd "$scratch/recipe" || exit 1
+    run env SVEMU_TOP="$checkout" sh -eu "$scratch/commands"
+    cd "$top" || exit 1
+    as_the_page_has "$1" "$2"
+}
+
 # An over-read, which nothing shows but a guarded buffer.
 reading_behind_the_end() {
     recipe over-reads "Read behind the end, and behind a guarded end:" over.c
@@ -94,12 +104,7 @@ reading_behind_the_end() {
         NR <= 16 && / exit 0 after .* same$/ { passed++ }
         NR > 16 && / trap read 0x[0-9a-f]*000 at / { trapped++ }
         END { exit NR != 32 || passed != 16 || trapped != 16 }' "$scratch/output"
-    ! lacks "where an over-read is" python3 || return 0
-    block "Ask where it reads:" >"$scratch/commands"
-    cd "$scratch/recipe" || exit 1
-    run env SVEMU_TOP="$checkout" sh -eu "$scratch/commands"
-    cd "$top" || exit 1
-    as_the_page_has "where an over-read is" "Ask where it reads:"
+    answers_as_the_page "where an over-read is" "Ask where it reads:"
 }
 
 # Whether the last run ended with 1 and what it wrote is what the page has behind this line; of another gcc than the
@@ -120,12 +125,7 @@ testing_a_kernel() {
     block_behind "The right one writes" >"$scratch/wanted"
     holds "a kernel's test at all lengths" sh -c '[ "$(head -n 16 "$1" | grep -c " exit 0 after .* same$")" -eq 16 ]' sh "$scratch/output"
     holds "a kernel's bug is told" sh -c 'tail -n +17 "$1" | cmp -s - "$2"' sh "$scratch/output" "$scratch/wanted"
-    ! lacks "which step made a kernel's test fail" python3 || return 0
-    block 'Ask which step it was:' >"$scratch/commands"
-    cd "$scratch/recipe" || exit 1
-    run env SVEMU_TOP="$checkout" sh -eu "$scratch/commands"
-    cd "$top" || exit 1
-    as_the_page_has "which step made a kernel's test fail" "Ask which step it was:"
+    answers_as_the_page "which step made a kernel's test fail" "Ask which step it was:"
 }
 
 # Prints the lines that are set in behind the line that begins so.
