@@ -9,10 +9,10 @@ PROGRAM =
 TOOL =
 TO = $(DESTDIR)$(PREFIX)
 
-# Tools in Python stand in lib/svemu beside their modules and the program, and in bin/ by links.
+# Tools in Python stand in lib/svemu beside their modules and the programs, svemu-tool by a link, and in bin/ by links.
 SCRIPTS = svemu-runner svemu-filter svemu-lengths
 TOOLS = svemu-lanes svemu-curve svemu-cover svemu-diff svemu-schedules
-MODULES = svemu_pages.py svemu_program.py svemu_calls.py svemu_turns.py svemu_accesses.py svemu_trace.py svemu_failing.py
+MODULES = svemu_pages.py svemu_steps.py svemu_aliases.py svemu_lanes_page.py svemu_program.py svemu_calls.py svemu_turns.py svemu_accesses.py svemu_trace.py svemu_failing.py
 GUESTS = start.S guest.h threads.h kernel_test.h
 
 # The shell reads both as they are, whatever quotes they have.
@@ -28,23 +28,28 @@ install:
 	install -m 755 $(SCRIPTS:%=tools/%) "$$TO/bin"
 	install -m 755 $(TOOLS:%=tools/%) "$$TO/lib/svemu"
 	install -m 644 $(MODULES:%=tools/%) "$$TO/lib/svemu"
+	ln -sf ../../bin/svemu-tool "$$TO/lib/svemu/svemu-tool"
 	for tool in $(TOOLS); do ln -sf "../lib/svemu/$$tool" "$$TO/bin/$$tool" || exit 1; done
 	install -m 644 $(GUESTS:%=examples/%) "$$TO/share/svemu"
 	install -m 644 docs/svemu.1 docs/svemu-tool.1 "$$TO/share/man/man1"
 
 uninstall:
 	for file in svemu svemu-tool $(SCRIPTS) $(TOOLS); do rm -f "$$TO/bin/$$file" || exit 1; done
-	for file in svemu help version $(TOOLS) $(MODULES); do rm -f "$$TO/lib/svemu/$$file" || exit 1; done
+	for file in svemu svemu-tool help version $(TOOLS) $(MODULES); do rm -f "$$TO/lib/svemu/$$file" || exit 1; done
 	for file in $(GUESTS); do rm -f "$$TO/share/svemu/$$file" || exit 1; done
 	rm -f "$$TO/share/man/man1/svemu.1" "$$TO/share/man/man1/svemu-tool.1"
 	for folder in lib share; do [ ! -d "$$TO/$$folder/svemu" ] || rmdir "$$TO/$$folder/svemu" || exit 1; done
 
-# With the kit the whole gate, without it the tests that need none.
+# The tests that need no proof and no kit, part by part with their seconds.
 check:
-	@if command -v rt >/dev/null; then \
-		echo "make check: the whole gate by the kit, .ci/run" && .ci/run; \
-	else \
-		echo "make check: the tests that need no kit, tests/tools.sh (the kit's rt isn't in the PATH)" && sh tests/tools.sh; \
-	fi
+	@echo "make check: the tests that need no proof, part by part, in some eight minutes (make gate proves everything, too)"
+	@sh tests/tools.sh
 
-.PHONY: install uninstall check
+# The whole gate: every proof, and then these tests. It wants the Rattle kit's own rt, and no other program of that name.
+gate:
+	@case $$(rt version 2>/dev/null) in \
+		rattle-kit-*) echo "make gate: every proof, which takes an hour or more where none is kept, and then the tests of make check" && .ci/run ;; \
+		*) echo "make gate: the proofs want the Rattle kit, whose command rt isn't in the PATH (README says what it is); make check has the tests that need none" >&2; exit 1 ;; \
+	esac
+
+.PHONY: install uninstall check gate

@@ -11,7 +11,7 @@ import subprocess
 import sys
 import tempfile
 
-KEYS = {"ArrowRight": 39, "ArrowLeft": 37, "ArrowDown": 40, "ArrowUp": 38, "Home": 36, "End": 35, "PageDown": 34, "PageUp": 33, "l": 76, "n": 78}
+KEYS = {"ArrowRight": 39, "ArrowLeft": 37, "ArrowDown": 40, "ArrowUp": 38, "Home": 36, "End": 35, "PageDown": 34, "PageUp": 33, "l": 76, "m": 77, "n": 78, "u": 85}
 
 
 def find_chromium():

@@ -8,7 +8,22 @@ curve=$top/tools/svemu-curve
 
 covered() {
     lacks "what ran over the lengths" aarch64-linux-gnu-gcc || covered_tail
+    covered_stripped
     covered_refusals
+}
+
+# A program that is stripped, whose functions the output of nm names.
+covered_stripped() {
+    run "$cover" --symbols examples/lost_sums.symbols --text - examples/lost_sums.elf
+    holds "a stripped program by the output of nm" [ "$status" -eq 0 ]
+    holds "its functions" [ "$(grep -Ec '^(main|_start|put_text): [0-9]+ of [0-9]+ instructions ran at each length' "$scratch/output")" -eq 3 ]
+    holds "its kernel ran at each length" grep -Eq '^[0-9a-f]{16} #{16} +16-250  ld1w ' "$scratch/output"
+    run "$cover" --symbols examples/lost_sums.symbols examples/lost_sums.elf
+    cp "$scratch/output" "$scratch/page.html"
+    lacks "its page in Chromium, too" chromium || holds "its page in Chromium, too" env SVEMU_TOOL="$tool" timeout 120 \
+        python3 tests/coverage.py "$scratch/page.html" examples/lost_sums.elf all
+    run "$cover" --symbols "$scratch/empty" examples/lost_sums.elf
+    ended_like "no output of nm" 2 'svemu-cover: .*/empty has no line of nm that names code'
 }
 
 # A loop over 192 numbers of 32 bits: its tail runs where the lanes don't divide them.

@@ -124,6 +124,8 @@ sum_that_parts() {
     ended "lengths that don't part" 0 "128 and 256 bits don't part\n" ''
     run "$diff_tool" --in nosuch "$scratch/parting/lost_sums.elf"
     ended "no such function" 2 '' 'svemu-diff: no function is named nosuch\n'
+    run "$diff_tool" --in put_num "$scratch/parting/lost_sums.elf"
+    ended "a part of a function's name" 2 '' 'svemu-diff: no function is named put_num; there is put_number\n'
 }
 
 # The page that svemu-diff names: its rows are the steps of the call at either length, and steps in one row stand at one
@@ -132,9 +134,11 @@ call_beside_another() {
     run "$lanes" --in sum --call 1 --vl 256 --beside 512 "$scratch/parting/lost_sums.elf"
     holds "the page of a call at two lengths" [ "$status" -eq 0 ]
     cp "$scratch/output" "$scratch/page.html"
-    holds "its rows" python3 -c 'import json, re, sys
-data = json.loads(re.search("id=\"data\">(.*)</script>", open(sys.argv[1]).read())[1])
-left, right = (side["rows"] for side in data["sides"])
+    holds "its rows" python3 -c 'import sys
+sys.path.insert(0, "tests")
+from pages import data_of
+data = data_of(sys.argv[1])
+left, right = ([row | side["code"][row["c"]] for row in side["rows"]] for side in data["sides"])
 assert [side["vl"] for side in data["sides"]] == [256, 512]
 for k, rows in enumerate((left, right)):
     assert [pair[k] for pair in data["pairs"] if pair[k] is not None] == list(range(len(rows)))

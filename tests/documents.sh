@@ -20,15 +20,17 @@ documents() {
     reading_is_quoted
     crates_are_told
     links_lead_somewhere
+    runner_says_so
     blocks_are_run
     tree=$scratch/tree
     mkdir "$tree"
     ln -s "$top"/* "$tree"
-    rm "$tree/svemu"
+    rm "$tree/svemu" "$tree/svemu-tool"
     rm -f "$tree/made"
     # What the script at the top answers itself it answers here, too.
     printf '#!/bin/sh\ncase $1 in --*) exec "%s/svemu" "$@" ;; esac\nexec "$SVEMU" "$@"\n' "$top" >"$tree/svemu"
-    chmod +x "$tree/svemu"
+    printf '#!/bin/sh\nexec "%s" "$@"\n' "$tool" >"$tree/svemu-tool"
+    chmod +x "$tree/svemu" "$tree/svemu-tool"
     for document in README.md docs/MANUAL.md docs/READING.md examples/README.md; do
         samples=$scratch/samples
         rm -rf "$samples"
@@ -66,6 +68,25 @@ links_lead_somewhere() {
             done
     done >"$scratch/lost"
     holds "links lead somewhere" sh -c 'cat "$1"; [ ! -s "$1" ]' sh "$scratch/lost"
+}
+
+# The first words of the runner's lines that the manual lists are those of the sources, and each fault of a file that
+# these tell is in the list.
+runner_says_so() {
+    awk '/^### What you see of the runner$/ { within = 1; next } /^#/ { within = 0 } within && /^\| `/ { split($0, cells, "|"); print cells[2] }' \
+        docs/MANUAL.md | tr '`' '\n' | sed -n 's/^svemu: //p; s/^\.\. //p' |
+        sed 's/^FILE //; s/^NAME //; s/^WORD //; s/^N steps are //; s/ *0x.*//; s/^is .VALUE.: //; s/ \.\.$//; s/^HLT$/the instruction &/; s/^the [io][a-z]*put //; s/ clone$//' |
+        sort -u >"$scratch/listed"
+    cat crates/tool_texts/src/*.rt crates/tool_sites/src/*.rt crates/tool_run/src/*.rt crates/svemu_tool/src/*.rt >"$scratch/sources"
+    holds "the manual lists the runner's lines" [ "$(wc -l <"$scratch/listed")" -ge 30 ]
+    while read -r words; do
+        holds "the runner says: $words" grep -Fq -e "$words" "$scratch/sources"
+    done <"$scratch/listed"
+    sed -n 's/.*"\(is\|has\|needs\) \([-a-z0-9A-Z]* [-a-z0-9A-Z]*\).*/\1 \2/p' crates/tool_texts/src/refusals.rt | sort -u >"$scratch/faults"
+    holds "there are faults of files" [ "$(wc -l <"$scratch/faults")" -ge 15 ]
+    while read -r words; do
+        holds "the manual lists: $words" grep -Eq -e "^\\| .svemu: .*(FILE|\.\.) $words" docs/MANUAL.md
+    done <"$scratch/faults"
 }
 
 # Every command that TESTING_YOUR_CODE shows in a block is run by tests/recipes.sh, which names the line above it, but

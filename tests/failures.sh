@@ -41,6 +41,7 @@ bare() {
 built() {
     name=$1
     source=${2%_below}
+    source=${source%_one}
     shift 2
     "$gcc" -O1 -march=armv8-a+sve -nostdlib -ffreestanding -fno-stack-protector -Wl,--build-id=none -static -no-pie \
         -fno-pic "$@" -o "$scratch/$name" "$top/tests/failures/$source.c" || exit 2
@@ -73,16 +74,17 @@ for name in float simd stack null_read null_write null_call behind sp spin no_ex
 done
 says plain 0 ''
 says float 132 'svemu: undefined word 0x[0-9a-f]* (floating point: build without it, or see TESTING_YOUR_CODE) at 0x[0-9a-f]*, dot_product.* (called from main+0x[0-9a-f]*), after [0-9]* steps'
-says simd 132 'svemu: undefined word 0x[0-9a-f]* (Advanced SIMD: keep compilers from it .*) at 0x[0-9a-f]*, fill.*, after [0-9]* steps'
+says simd 132 'svemu: undefined word 0x[0-9a-f]* (Advanced SIMD: build with the flags of TESTING_YOUR_CODE; for builtins, intrinsics and assembly see What leaves the table) at 0x[0-9a-f]*, fill.*, after [0-9]* steps'
 says stack 139 'svemu: write to 0x7fffffe[0-9a-f]*, [0-9]* bytes below the stack, at 0x[0-9a-f]*, deeper+0x[0-9a-f]* (called from deeper+0x[0-9a-f]*), after [0-9]* steps'
 says null_read 139 'svemu: read from 0x8, in page 0 (a null pointer), at 0x[0-9a-f]*, main+0x[0-9a-f]* .*'
 says null_write 139 'svemu: write to 0x0, in page 0 (a null pointer), at 0x[0-9a-f]*, main+0x[0-9a-f]* .*'
 says null_call 139 'svemu: fetch from 0x0: a call of a null pointer from main+0x[0-9a-f]* (x30), after [0-9]* steps'
-for at in 'guard -DBELOW=0' 'guard_below -DBELOW=1' 'mapping -DPLACE=16384+6' 'mapping_below -DPLACE=-7' break clone; do
+for at in 'guard -DBELOW=0' 'guard_one -DBELOW=0 -DBEHIND=100' 'guard_below -DBELOW=1' 'mapping -DPLACE=16384+6' 'mapping_below -DPLACE=-7' break clone; do
     # shellcheck disable=SC2086 # words
     built ${at%% *} $at
 done
 says guard 139 'svemu: read from 0x[0-9a-f]*, 3 bytes behind the end of a guarded buffer of 100 bytes, at 0x[0-9a-f]*, main+0x[0-9a-f]* .*'
+says guard_one 139 'svemu: read from 0x[0-9a-f]*, 1 byte behind the end of a guarded buffer of 100 bytes, at 0x[0-9a-f]*, main+0x[0-9a-f]* .*'
 says guard_below 139 'svemu: read from 0x[0-9a-f]*, 5 bytes below a guarded buffer of 100 bytes, at 0x[0-9a-f]*, main+0x[0-9a-f]* .*'
 says break 139 'svemu: write to 0x[0-9a-f]*, .*, 10 bytes behind the break, at 0x[0-9a-f]*, main+0x[0-9a-f]* .*'
 says mapping 139 'svemu: write to 0x[0-9a-f]*, 7 bytes behind a mapping, at 0x[0-9a-f]*, main+0x[0-9a-f]* .*'
@@ -109,7 +111,7 @@ if "$gcc" -no-pie -o "$scratch/dynamic" "$scratch/host.c" 2>/dev/null; then
 fi
 printf '#include <stdio.h>\nint main(void) { printf("%%d\\n", 3); return 0; }\n' >"$scratch/printf.c"
 if "$gcc" -O1 -static -no-pie -o "$scratch/printf" "$scratch/printf.c" 2>/dev/null; then
-    says printf 132 'svemu: undefined word 0x[0-9a-f]* (Advanced SIMD: keep compilers from it .*) at 0x[0-9a-f]*, .* (called from .*), after [0-9]* steps'
+    says printf 132 'svemu: undefined word 0x[0-9a-f]* (Advanced SIMD: build with the flags of TESTING_YOUR_CODE; for builtins, intrinsics and assembly see What leaves the table) at 0x[0-9a-f]*, .* (called from .*), after [0-9]* steps'
 fi
 if [ "$(uname -m)" = x86_64 ] && cc -o "$scratch/x86" "$scratch/host.c" 2>/dev/null; then
     says x86 122 "svemu: .*/x86 is an x86-64 program: built by the host's compiler?"
@@ -118,6 +120,13 @@ printf '#!/bin/sh\n' >"$scratch/script"
 says script 122 'svemu: .*/script is no ELF file'
 says none 126 "svemu: .*/none isn't there, or can't be read"
 says . 126 "svemu: .*/. isn't there, or can't be read"
+
+# one step, and no more
+line=$("$tool" run --budget 1 "$scratch/plain" 2>&1)
+[ "$line" = "svemu: 1 step is spent in _start+0x4 (SVEMU_BUDGET gives more)" ] || {
+    bad=$((bad + 1))
+    echo "failures.sh: one step: $line" >&2
+}
 
 # values and words
 line=$(SVEMU_VL=100 "$tool" run "$scratch/plain" 2>&1)

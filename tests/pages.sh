@@ -35,9 +35,103 @@ drawn_pages() {
     done
 }
 
+# Whether a page is looked at in this way in Chromium without an error: a long one, one of two lengths, or one on paper.
+looked_at() {
+    name=$1
+    shift
+    lacks "$name" chromium || holds "$name" timeout 300 python3 tests/pages.py "$@"
+}
+
 # What the page of the last run has of the step with this number: the JSON of its row.
 row() {
-    sed 's/{"n":/\n{"n":/g' "$scratch/output" | grep "^{\"n\":$1,"
+    python3 tests/pages.py --data "$scratch/output" | grep "^{\"n\":$1,"
+}
+
+# The instructions of the page of the last run, as JSON.
+instructions() {
+    python3 tests/pages.py --data "$scratch/output" | grep '^{"pc":'
+}
+
+# A loop of five vectors over 60,000 words that are alike to none, at two lengths and by 5,000 steps.
+long_pages() {
+    lacks "pages of a kernel" aarch64-linux-gnu-gcc && return
+    cat >"$scratch/mix.c" <<'TEXT'
+#include "guest.h"
+#include <arm_sve.h>
+static unsigned in[60000], out[60000], many[300000];
+__attribute__((noinline)) void mix(unsigned *to, const unsigned *from, long n) {
+    for (long i = 0; i < n; i += svcntw()) {
+        svbool_t some = svwhilelt_b32(i, n);
+        svuint32_t x = svmul_x(some, svld1(some, from + i), 2654435761u);
+        x = svadd_x(some, sveor_x(some, x, svlsr_x(some, x, 15)), svld1(some, to + i));
+        svst1(some, to + i, x);
+    }
+}
+__attribute__((noinline)) void turn(unsigned *to, long n) {
+    for (long i = 0; i < n; i += 4 * svcntw()) {
+        svuint32x4_t x = svld4(svptrue_b32(), to + i);
+        svst4(svptrue_b32(), to + i, svcreate4(svget4(x, 3), svget4(x, 2), svget4(x, 1), svget4(x, 0)));
+    }
+}
+int main(void) {
+    unsigned s = 1;
+    for (int i = 0; i < 300000; i++) {
+        s = s * 1664525u + 1013904223u;
+        many[i] = s ^ s >> 15;
+    }
+    for (int i = 0; i < 60000; i++) {
+        s = s * 1664525u + 1013904223u;
+        in[i] = s;
+        out[i] = s >> 7 ^ s << 3;
+    }
+    mix(out, in, 40);
+    mix(out, in, 60000);
+    turn(many, 290000);
+    return 0;
+}
+TEXT
+    holds "a kernel" aarch64-linux-gnu-gcc -O2 -march=armv8-a+sve -ffreestanding -nostdlib -static -fno-pic -no-pie -fno-stack-protector \
+        -Iexamples -o "$scratch/mix.elf" examples/start.S "$scratch/mix.c"
+    for vl in 512 2048; do
+        run "$lanes" --vl "$vl" --in mix --call 2 "$scratch/mix.elf"
+        holds "a page of 5,000 steps at $vl" [ "$status" -eq 0 ]
+        cp "$scratch/output" "$scratch/page.html"
+        holds "it says what is left of the call" sh -c 'python3 tests/pages.py --data "$1" | grep -Eq "^.\"the call has [0-9]+ more steps: --after 5000 draws them\".$"' sh "$scratch/page.html"
+        looked_at "a page of 5,000 steps at $vl in Chromium" --long "$scratch/page.html"
+        run "$lanes" --vl "$vl" --in mix --call 2 --steps 240 "$scratch/mix.elf"
+        cp "$scratch/output" "$scratch/page.html"
+        looked_at "a page at $vl on paper" --paper "$scratch/page.html"
+    done
+    # Of what can't be compressed a page has fewer steps, and says so.
+    run "$lanes" --vl 2048 --from turn --steps 5000 "$scratch/mix.elf"
+    cp "$scratch/output" "$scratch/page.html"
+    holds "a page that is full" sh -c '[ "$(wc -c <"$1")" -le 3000000 ] &&
+        python3 tests/pages.py --data "$1" | grep -Eqx "..the page is full: --after 4[0-9]+ draws what follows.."' sh "$scratch/page.html"
+    looked_at "a page that is compressed in Chromium" --packed "$scratch/page.html"
+    run "$lanes" --vl 256 --beside 640 --in mix "$scratch/mix.elf"
+    holds "a call at two lengths" [ "$status" -eq 0 ]
+    cp "$scratch/output" "$scratch/page.html"
+    looked_at "a call at two lengths in Chromium" --rows "$scratch/page.html"
+    looked_at "a call at two lengths on paper" --paper "$scratch/page.html"
+    run "$lanes" --vl 512 --beside 640 --in mix --call 2 "$scratch/mix.elf"
+    ended_like "a long call beside another" 2 "svemu-lanes: at 512 bits the call has [0-9]+ steps, and 20000 are the most beside another length"
+}
+
+# Two lengths without a call: steps in the same call of a function at one address stand side by side.
+two_lengths() {
+    run "$lanes" --vl 512 --beside 640 --steps 400 examples/lost_sums.elf
+    holds "a run at two lengths" [ "$status" -eq 0 ]
+    cp "$scratch/output" "$scratch/page.html"
+    holds "its rows" python3 -c 'import sys
+sys.path.insert(0, "tests")
+from pages import data_of
+data = data_of(sys.argv[1])
+left, right = data["sides"]
+assert (left["vl"], right["vl"], len(data["pairs"])) == (512, 640, 400)
+both = [(left["rows"][i], right["rows"][j]) for i, j in data["pairs"] if i is not None and j is not None]
+assert len(both) > 300 and all(left["code"][one["c"]]["pc"] == right["code"][other["c"]]["pc"] for one, other in both)
+assert data["more"] == []' "$scratch/page.html"
+    looked_at "a run at two lengths in Chromium" --rows "$scratch/page.html"
 }
 
 page_notes() {
@@ -45,6 +139,7 @@ page_notes() {
     holds "a page of the whole probe" [ "$status" -eq 0 ]
     holds "it has what was written" grep -q 'writes 14 bytes: to the output\\\\n' "$scratch/output"
     holds "and how it ended" grep -Eq '"exit 3 after [0-9]+ steps"' "$scratch/output"
+    holds "aliases stand beside the texts" sh -c 'printf "%s\n" "$1" | grep -q "\"text\":\"movz w0, #3, lsl #0\",\"alias\":\"mov w0, #3\""' sh "$(instructions)"
     run "$SVEMU" asm examples/lane_sum.s
     cp "$scratch/output" "$scratch/lane_sum.elf"
     run "$lanes" --vl 256 --watch 0x401028,4 --show z1.s "$scratch/lane_sum.elf"
@@ -55,7 +150,12 @@ page_notes() {
     run "$lanes" --vl 256 --budget 5 "$scratch/lane_sum.elf"
     holds "a budget ends the steps" sh -c '[ -z "$2" ] && case $1 in *"spent after 5 steps"*) ;; *) exit 1 ;; esac' sh "$(row 5)" "$(row 6)"
     run "$lanes" --vl 384 --symbols examples/lost_sums.symbols --from put_text --steps 1 examples/lost_sums.elf
-    holds "a label" sh -c 'case $1 in *"\"at\":\"put_text\""*) ;; *) exit 1 ;; esac' sh "$(sed 's/{"n":/\n{"n":/g' "$scratch/output")"
+    holds "a label" sh -c 'case $1 in *"\"at\":\"put_text\""*) ;; *) exit 1 ;; esac' sh "$(instructions)"
+    run "$SVEMU" asm examples/overrun.s
+    cp "$scratch/output" "$scratch/overrun.elf"
+    run "$lanes" --vl 256 --steps 5000 "$scratch/overrun.elf"
+    holds "a page that ends by a trap" [ "$status" -eq 0 ]
+    holds "the step that trapped is its last" sh -c 'python3 tests/pages.py --data "$1" | tail -n 1 | grep -Eq "\"trap [a-z]+ 0x[0-9a-f]+ at 0x[0-9a-f]+ after [0-9]+ steps\""' sh "$scratch/output"
 }
 
 # The pages over the lengths: those of the examples, and that of a guest which does otherwise from length to length.
@@ -119,10 +219,10 @@ opened_pages() {
         holds "$page stands in the cache" sh -c 'case $1 in "$2"/svemu/pages/strlen.elf-*.html) ;; *) false ;; esac' sh "$file" "$cache"
         run env PATH="$scratch/opening:$PATH" XDG_CACHE_HOME="$cache" OPENED="$scratch/opened" ENDS=3 "$drawer" --budget 1000 --open examples/strlen.elf
         holds "$page is told where it can't be opened" sh -c '[ "$1" -eq 0 ] && [ "$(cat "$2")" = "$3" ]' sh "$status" "$scratch/output" "$file"
-        run env PATH="$scratch/alone" SVEMU="$built" XDG_CACHE_HOME="$cache" "$python" "$drawer" --open examples/strlen.elf
+        run env PATH="$scratch/alone" SVEMU="$built" SVEMU_TOOL="$tool" XDG_CACHE_HOME="$cache" "$python" "$drawer" --open examples/strlen.elf
         holds "$page is told where there is no xdg-open" sh -c '[ "$1" -eq 0 ] && [ "$(cat "$2")" = "$3" ]' sh "$status" "$scratch/output" "$file"
         holds "$page: nothing else is left" [ "$(find "$cache/svemu/pages" -name "${file##*/}*" | wc -l)" -eq 1 ]
-        run env SVEMU="$built" XDG_CACHE_HOME="$scratch/empty" "$drawer" --open examples/strlen.elf
+        run env SVEMU="$built" SVEMU_TOOL="$tool" XDG_CACHE_HOME="$scratch/empty" "$drawer" --open examples/strlen.elf
         ended_like "$page without a cache" 2 "${drawer##*/}: the page couldn't be written: .*"
         run "$drawer" --budget 1000 examples/strlen.elf --open
         holds "$page: behind the program it is an argument" grep -q '^<!DOCTYPE html>' "$scratch/output"
@@ -189,7 +289,6 @@ page_refusals() {
     refused "no symbols" ".*/empty has no line of nm that names code" --symbols "$scratch/empty" "$probe"
     refused "too many steps" "--steps wants a number from 1 to 5000, not 5001" --steps 5001 "$probe"
     refused "a call of nothing" "--call wants --in SYMBOL beside it" --call 2 "$probe"
-    refused "a length beside nothing" "--beside wants --in SYMBOL beside it" --beside 256 "$probe"
     refused "a call from a place" "--in and --from aren't given together" --in main --from 0x400000 "$probe"
     refused "no length beside" "--beside wants a multiple of 128 from 128 to 2048, not 200" --in main --beside 200 "$probe"
     refused "a length beside itself" "--vl and --beside are both 256" --in main --vl 256 --beside 256 "$probe"
@@ -197,9 +296,13 @@ page_refusals() {
     refused "a place that isn't reached" "the program ends before: exit 0 after 97 steps" --vl 128 --from 0x400000 examples/strlen.elf
     refused "a bad watch" "--watch wants a place and a number of bytes with a comma between, not 4" --watch 4 "$probe"
     refused "no such file" ".*/nosuch couldn't be read" "$scratch/nosuch"
-    refused "no image" "svemu says: refused image TooShort \(svemu-runner tells what the file is\)" "$scratch/empty"
-    run env SVEMU="$scratch/nosuch" "$lanes" "$probe"
-    ended_like "no svemu" 2 "svemu-lanes: there is no program .*/nosuch \(--help says where it is looked for\)"
+    refused "no image" "svemu-tool says: .*/empty is no ELF file" "$scratch/empty"
+    printf '#!/bin/sh\necho "svemu: trace is no command: see svemu-tool --help" >&2\nexit 121\n' >"$scratch/no_trace"
+    chmod +x "$scratch/no_trace"
+    run env SVEMU_TOOL="$scratch/no_trace" "$lanes" "$probe"
+    ended_like "an older svemu-tool" 2 "svemu-lanes: this svemu-tool has no command trace: that of this tool's release or checkout has it"
+    run env SVEMU_TOOL="$scratch/nosuch" "$lanes" "$probe"
+    ended_like "no svemu-tool" 2 "svemu-lanes: there is no program .*/nosuch \(--help says where it is looked for\)"
     run sh -c '"$1" --vl 128 "$2" >/dev/full' sh "$lanes" "$probe"
     ended_like "a full disk" 2 "svemu-lanes: the page couldn't be written: No space left on device"
     run "$lanes" --help
@@ -209,6 +312,10 @@ page_refusals() {
 if ! lacks pages python3; then
     drawn_pages
     page_notes
+    long_pages
+    two_lengths
+    lacks "aliases of instructions" aarch64-linux-gnu-gcc aarch64-linux-gnu-objdump ||
+        holds "aliases of instructions" python3 tests/aliases.py "$SVEMU" examples/*.elf crates/command_cases/data/*.elf
     page_refusals
     run "$curve" --help
     holds "the curve's help" sh -c '[ "$1" -eq 0 ] && grep -q "^usage: svemu-curve " "$2"' sh "$status" "$scratch/output"

@@ -44,7 +44,7 @@ recipes() {
     checkout_of_links
     gcc=$(command -v aarch64-linux-gnu-gcc)
     if [ -z "$gcc" ]; then
-        for name in "a first program by gcc" "reading a trap" over-reads "a kernel's test" "trying schedules" make CMake lit; do
+        for name in "a first program by gcc" "reading a trap" over-reads "a kernel's test" "trying schedules" make CMake; do
             lacks "$name" aarch64-linux-gnu-gcc
         done
     else
@@ -60,8 +60,8 @@ recipes() {
         trying_schedules
         make_recipe
         cmake_recipe
-        lit_recipe
     fi
+    lit_recipe
     scaled_by_a_class
     if ! lacks Highway aarch64-linux-gnu-g++; then
         if [ -f /usr/include/hwy/highway.h ]; then
@@ -180,6 +180,8 @@ five_minutes() {
     holds "the planted bug by $1" sh -c '[ "$1" -eq 1 ] && [ "$(grep -c "same$" "$2")" -eq 1 ] &&
         [ "$(grep -cE "^vl [0-9]+ exit 1 after [0-9]+ steps out 9 err 0 parts at 6$" "$2")" -eq 15 ]' sh "$status" "$scratch/output"
     cd "$top" || exit 1
+    block_behind "Behind the sixteen lines stands one more" >"$scratch/wanted"
+    holds "the planted bug's line by $1" cmp "$scratch/errors" "$scratch/wanted"
 }
 
 # Of the program that was built last: which svemu it is that runs it, and that it has no instruction on V registers.
@@ -211,6 +213,26 @@ seeing_what_ran() {
     cd "$top" || exit 1
     holds "seeing what ran" sh -c '[ "$1" -eq 0 ] && grep -q "<title>What ran of sum.elf from 128 to 2048 bits<" "$2/ran.html" && grep -q "^main: " "$2/ran.txt" && grep -q "^TN:vl_2048" "$2/ran.info" && grep -q "^events: VL128 " "$2/ran.callgrind"' \
         sh "$status" "$scratch/recipe"
+    checking_in_ci
+}
+
+# A build server's check, as it stands there, of the kernel and of one with a bug.
+checking_in_ci() {
+    block "\`check.sh\`:" >"$scratch/recipe/check.sh"
+    block "Check the kernel as a build server does:" >"$scratch/commands"
+    for change in '' 's/i += svcntw()/i += 16/'; do
+        cp "$scratch/recipe/sum.c" "$scratch/sum.c"
+        sed -i "$change" "$scratch/recipe/sum.c"
+        cd "$scratch/recipe" || exit 1
+        run env SVEMU_TOP="$checkout" SVEMU_TOOL="$tool" sh -eu "$scratch/commands"
+        cd "$top" || exit 1
+        cp "$scratch/sum.c" "$scratch/recipe/sum.c"
+        if [ -z "$change" ]; then
+            holds "a check in CI" sh -c '[ "$1" -eq 0 ] && grep -q "<title>What ran of ci.elf from 128 to 2048 bits<" "$2/ci.html" && grep -q "^TN:vl_2048" "$2/ci.info"' sh "$status" "$scratch/recipe"
+        else
+            holds "a check in CI of a kernel with a bug" [ "$status" -eq 1 ]
+        fi
+    done
 }
 
 # Of the program that was built last.
@@ -317,7 +339,7 @@ make_recipe() {
         sed -i 's/sum == 15150/sum != 15150/' "$scratch/recipe/scaled.cc"
         run env SVEMU_TOP="$checkout" make -k -C "$scratch/recipe" check lengths
         holds "make with a wrong program" sh -c '[ "$1" -eq 2 ] &&
-            grep -q "^svemu-lengths: at 128 bits it ends by exit 1, and not by exit 0$" "$2"' sh "$status" "$scratch/errors"
+            grep -q "^svemu-lengths: scaled.elf: at 128 bits it ends by exit 1, and not by exit 0$" "$2"' sh "$status" "$scratch/errors"
     fi
     if ! lacks "make by clang" clang clang++ ld.lld; then
         recipe "make by clang" "Run with make, by clang:" Makefile sum.c scaled.cc
@@ -365,12 +387,26 @@ lit_recipe() {
     PATH=$scratch/bin:${check%/*}:$PATH
     # By another lit than the page's as the page says of one in the PATH.
     [ -f /usr/lib/llvm-14/build/utils/lit/lit.py ] || edited='s,^/[^ ]*/lit\.py ,lit ,'
-    recipe lit "Run with lit, as Debian has it:" checked/lit.cfg.py checked/lanes.c
+    if ! lacks "lit" aarch64-linux-gnu-g++; then
+        checked_by_lit lit "Run with lit, as Debian has it:"
+        sed 's/svcntd()) /svcntw()) /; s/== svcntd()/== svcntw()/' "$scratch/recipe/checked/lanes.c" >"$scratch/wrong.c"
+        cp "$scratch/wrong.c" "$scratch/recipe/checked/lanes.c"
+        run env SVEMU_TOP="$checkout" lit "$scratch/recipe/checked"
+        holds "lit with a wrong program" sh -c "[ $status -ne 0 ] && grep -Eq 'Failed *: *1|Unexpected Failures *: *1' '$scratch/output'"
+    fi
+    if ! lacks "lit by clang" clang clang++ ld.lld; then
+        checked_by_lit "lit by clang" "Run with lit, by clang:"
+        sed 's/2 [*] lanes/4 * lanes/' "$scratch/recipe/checked/lanes_of_types.cc" >"$scratch/wrong.cc"
+        cp "$scratch/wrong.cc" "$scratch/recipe/checked/lanes_of_types.cc"
+        run env SVEMU_TOP="$checkout" lit --param by=clang "$scratch/recipe/checked"
+        holds "lit by clang with a wrong program" sh -c "[ $status -ne 0 ] && grep -Eq 'Failed *: *1|Unexpected Failures *: *1' '$scratch/output'"
+    fi
     edited=
-    holds lit sh -c "[ $status -eq 0 ] && grep -Eq 'Passed *: *1|Expected Passes *: *1' '$scratch/output'"
-    sed 's/svcntd()) /svcntw()) /; s/== svcntd()/== svcntw()/' "$scratch/recipe/checked/lanes.c" >"$scratch/wrong.c"
-    cp "$scratch/wrong.c" "$scratch/recipe/checked/lanes.c"
-    run env SVEMU_TOP="$checkout" lit "$scratch/recipe/checked"
-    holds "lit with a wrong program" sh -c "[ $status -ne 0 ] && grep -Eq 'Failed *: *1|Unexpected Failures *: *1' '$scratch/output'"
     PATH=$before
+}
+
+# Both tests of lit pass.
+checked_by_lit() {
+    recipe "$1" "$2" checked/lit.cfg.py checked/lanes.c checked/lanes_of_types.cc
+    holds "$1" sh -c "[ $status -eq 0 ] && grep -Eq 'Passed *: *2|Expected Passes *: *2' '$scratch/output'"
 }

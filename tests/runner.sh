@@ -246,7 +246,7 @@ over_lengths() {
     sed -E 's/^vl ([0-9]+) exit 0 after [0-9]+ steps out 11 err 0 /\1 /' "$scratch/output" >"$scratch/got"
     holds "a bug at some lengths" cmp "$scratch/got" "$scratch/wanted"
     holds "its status is 1" [ "$status" -eq 1 ]
-    holds "the first length that fails" grep -qx 'svemu-lengths: at 384 bits its output parts from that at 128 bits at byte 4' "$scratch/errors"
+    holds "the first length that fails" grep -qx 'svemu-lengths: examples/lost_sums.elf: at 384 bits its output parts from that at 128 bits at byte 4' "$scratch/errors"
     printf 12345 >"$scratch/input"
     input=$scratch/input
     run "$lengths" "$probe" cat
@@ -256,13 +256,13 @@ over_lengths() {
     run "$lengths" "$probe" trap
     holds "traps, and bytes on standard error" awk '!/^vl [0-9]+ trap undefined 0x[0-9a-f]+ at 0x[0-9a-f]+ after [0-9]+ steps out 0 err 6 same$/ { bad = 1 } END { exit bad || NR != 16 }' "$scratch/output"
     holds "their status is 1" [ "$status" -eq 1 ]
-    holds "the length of the first trap" grep -qE '^svemu-lengths: at 128 bits it ends by trap undefined 0x[0-9a-f]+ at 0x[0-9a-f]+, and not by exit 0$' "$scratch/errors"
+    holds "the length of the first trap" grep -qE "^svemu-lengths: $probe: at 128 bits it ends by trap undefined 0x[0-9a-f]+ at 0x[0-9a-f]+, and not by exit 0\$" "$scratch/errors"
     run "$lengths" --budget 5000 "$probe" spin
     holds "a spent budget at each length" [ "$status" -eq 1 ]
-    holds "its line" grep -qx 'svemu-lengths: at 128 bits it ends by spent, and not by exit 0' "$scratch/errors"
+    holds "its line" grep -qx "svemu-lengths: $probe: at 128 bits it ends by spent, and not by exit 0" "$scratch/errors"
     run "$lengths" "$probe"
     holds "a status that isn't wanted" [ "$status" -eq 1 ]
-    holds "the line of that" grep -qx 'svemu-lengths: at 128 bits it ends by exit 3, and not by exit 0' "$scratch/errors"
+    holds "the line of that" grep -qx "svemu-lengths: $probe: at 128 bits it ends by exit 3, and not by exit 0" "$scratch/errors"
     run "$lengths" --status 3 "$probe"
     holds "a status that is wanted" [ "$status" -eq 0 ]
     holds "no line of that" [ ! -s "$scratch/errors" ]
@@ -295,9 +295,9 @@ over_lengths() {
     run "$lengths" "$scratch/empty"
     ended "no program at all lengths" 122 '' "refused image TooShort\nsvemu-lengths: svemu-runner tells what $scratch/empty is\n"
     run env SVEMU_BUDGET=x "$lengths" "$probe"
-    ended "a budget that is no number" 121 '' 'refused words BadNumber at 3\n'
-    run "$lengths" --budget x "$probe"
-    ended "another that is none" 121 '' 'refused words BadNumber at 3\n'
+    ended "a budget that is no number" 121 '' "refused words BadNumber at 3\nsvemu-lengths: svemu was given: sweep $probe --budget x\n"
+    run "$lengths" --budget 5 --pages x "$probe"
+    ended "pages that are none" 121 '' "refused words BadNumber at 5\nsvemu-lengths: svemu was given: sweep $probe --budget 5 --pages x\n"
     run "$lengths" --status 256 "$probe"
     ended "a status past 255" 121 '' "svemu-lengths: --status is '256': it may be 0 to 255\n"
     run "$lengths" --length 128 "$probe"

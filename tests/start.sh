@@ -49,7 +49,7 @@ esac
 KIT
     printf '#!/bin/sh\ncp "$4" "$3"\n' >"$scratch/kit/toolchain/bin/clang"
     chmod +x "$scratch/kit/bin/rt" "$scratch/kit/toolchain/bin/clang"
-    echo "stand-in-kit 1" >"$scratch/kit/version"
+    echo "rattle-kit-0 stand-in" >"$scratch/kit/version"
     echo 121 >"$scratch/kit/refusal"
     echo 0 >"$scratch/kit/ends"
 }
@@ -116,7 +116,7 @@ svemu.txt' ]"
 }
 
 start_without_kit() {
-    says_on_terminal "a first start" 'svemu: runs the program of dist/, proved with stand-in-kit 1' a
+    says_on_terminal "a first start" 'svemu: runs the program of dist/, proved with rattle-kit-0 stand-in' a
     bare ./svemu --clean
     bare ./svemu a 'b c'
     ended "a first start" 5 'first: a b c\n' ''
@@ -135,7 +135,7 @@ start_without_kit() {
     wanted=$(cd "$checkout" && { printf 'low:\nsvemu: low\n' && sha256sum crates/low/src/lib.rt crates/svemu/src/main.rt; } | LC_ALL=C sort | sha256sum)
     holds "the checksum of the sources" [ "$sum" = "${wanted%% *}" ]
     bare ./svemu --version
-    ended "the version" 0 "svemu 0.1.0, sources $(printf %.12s "$sum"), proved with stand-in-kit 1\n" ''
+    ended "the version" 0 "svemu 0.1.0, sources $(printf %.12s "$sum"), proved with rattle-kit-0 stand-in\n" ''
     bare ./svemu --help
     holds "help" grep -qx '       ./svemu --build .*' "$scratch/output"
 }
@@ -250,7 +250,7 @@ start_builds() {
     ended "what was built is run, with no kit" 5 'second: a\n' ''
     holds "the libraries stay, and no work beside them" sh -c "cd '$scratch'/cache/svemu/*/crates/low/out && [ \"\$(ls)\" = rlib ]"
     with_kit ./svemu --version
-    holds "the version of what was built" grep -qx 'svemu 0.1.0, sources [0-9a-f]\{12\}, proved with stand-in-kit 1' "$scratch/output"
+    holds "the version of what was built" grep -qx 'svemu 0.1.0, sources [0-9a-f]\{12\}, proved with rattle-kit-0 stand-in' "$scratch/output"
     echo first >"$checkout/crates/svemu/src/main.rt"
     with_kit ./svemu a
     ended "sources of dist/ again, newer than what was built" 5 'first: a\n' ''
@@ -296,6 +296,12 @@ start_refusals() {
     asks_where "a machine that dist/ has no program for" "svemu: dist/ has no program for $(uname -sm)"
     rm -r "$checkout/dist"
     asks_where "no dist/" 'svemu: there is no dist/svemu.txt'
+    # Another program of the name of the kit's is never asked to build.
+    mkdir -p "$scratch/another"
+    printf '#!/bin/sh\necho "rt 5.0.3, a tracker"\n' >"$scratch/another/rt"
+    chmod +x "$scratch/another/rt"
+    bare env PATH="$scratch/another:$no_kit" ./svemu a
+    ended_like "another rt" 1 "svemu: there is no dist/svemu.txt; a build needs the Rattle kit, whose command rt isn't in the PATH .*"
     cp -R "$kept" "$checkout/dist"
     cd "$checkout" || exit 1
     run env -u SVEMU PATH="$no_kit" XDG_CACHE_HOME=/dev/null ./svemu a
@@ -308,15 +314,15 @@ release_checks() {
     ended "dist/ of these sources" 0 'dist/ is of these sources\n' ''
     with_kit sh -c 'rt ci >ci; tools/release --compare'
     ended "dist/ is what was built" 0 'dist/ has the programs that were built, byte for byte\n' ''
-    echo "stand-in-kit 2" >"$scratch/kit/version"
+    echo "rattle-kit-1 stand-in" >"$scratch/kit/version"
     echo 0 >"$checkout/cases-end"
     with_kit tools/release --compare
-    ended "another kit's does what the cases have" 0 "dist/ is by another kit (stand-in-kit 1), and does what the stored runs have\n" ''
+    ended "another kit's does what the cases have" 0 "dist/ is by another kit (rattle-kit-0 stand-in), and does what the stored runs have\n" ''
     holds "by the program of dist/" sh -c "gzip -dc '$checkout/dist/svemu-x86_64.gz' | cmp - '$checkout/cases-of'"
     echo 1 >"$checkout/cases-end"
     with_kit tools/release --compare
     ended "another kit's doesn't" 1 '' "tools/release: the program of dist/, by another kit, doesn't do what the stored runs have\n"
-    echo "stand-in-kit 1" >"$scratch/kit/version"
+    echo "rattle-kit-0 stand-in" >"$scratch/kit/version"
     echo '# other' >>"$checkout/crates/svemu/out/svemu"
     with_kit tools/release --compare
     holds "dist/ isn't what was built of the same sources" sh -c "[ $status -eq 1 ] && grep -q \"^tools/release: dist/ isn't the program that was built\" '$scratch/errors'"
@@ -336,10 +342,10 @@ release_checks() {
 gate_ends() {
     ! lacks "the gate's script" bash || return 0
     took='rt ci took [0-9.]* minutes of the clock and [0-9.]* minutes of the processors'
-    with_kit make -s check
+    with_kit make -s gate
     sed "s/^$took\$/took/" "$scratch/output" >"$scratch/gate"
     cat >"$scratch/wanted" <<'END'
-make check: the whole gate by the kit, .ci/run
+make gate: every proof, which takes an hour or more where none is kept, and then the tests of make check
 rt: low is kept: an earlier run
 rt: svemu proved
 rt: svemu: its tests proved
@@ -349,7 +355,7 @@ crates proved anew: 1; kept from earlier runs: 1
 dist/ has the programs that were built, byte for byte
 tools pass
 END
-    holds "the gate, by make check" sh -c "[ $status -eq 0 ] && diff '$scratch/gate' '$scratch/wanted'"
+    holds "the gate, by make gate" sh -c "[ $status -eq 0 ] && diff '$scratch/gate' '$scratch/wanted'"
     echo 1 >"$scratch/kit/ends"
     with_kit .ci/run
     echo 0 >"$scratch/kit/ends"
@@ -367,8 +373,16 @@ END
     cp "$scratch/packed" "$checkout/dist/svemu-x86_64.gz"
     cp "$scratch/text" "$checkout/dist/svemu.txt"
     rm -r "$checkout/crates/svemu/out"
-    bare make -s check
-    ended "make check without the kit" 0 "make check: the tests that need no kit, tests/tools.sh (the kit's rt isn't in the PATH)\ntools pass\n" ''
+    wants="make gate: the proofs want the Rattle kit, whose command rt isn't in the PATH (README says what it is); make check has the tests that need none"
+    bare make -s gate
+    holds "no gate without the kit" sh -c '[ "$1" -eq 2 ] && [ ! -s "$2" ] && [ "$(head -n 1 "$3")" = "$4" ]' sh "$status" "$scratch/output" "$scratch/errors" "$wants"
+    # Another program of that name is no kit.
+    bare env PATH="$scratch/another:$no_kit" make -s gate
+    holds "no gate by another rt" sh -c '[ "$1" -eq 2 ] && [ ! -s "$2" ] && [ "$(head -n 1 "$3")" = "$4" ]' sh "$status" "$scratch/output" "$scratch/errors" "$wants"
+    bare env PATH="$scratch/another:$no_kit" make -s check
+    ended "make check beside another rt" 0 'make check: the tests that need no proof, part by part, in some eight minutes (make gate proves everything, too)\ntools pass\n' ''
+    with_kit make -s check
+    ended "make check with the kit" 0 'make check: the tests that need no proof, part by part, in some eight minutes (make gate proves everything, too)\ntools pass\n' ''
 }
 
 install_without_kit() {

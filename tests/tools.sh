@@ -226,6 +226,8 @@ installed_tools() {
     ! lacks "the installed tools" python3 || return 0
     run env -u SVEMU "$prefix/bin/svemu-lanes" --vl 256 examples/lost_sums.elf
     holds "the installed svemu-lanes" sh -c '[ "$1" -eq 0 ] && grep -q "<html" "$2"' sh "$status" "$scratch/output"
+    run env -u SVEMU "$prefix/bin/svemu-cover" --symbols examples/lost_sums.symbols examples/lost_sums.elf
+    holds "the installed svemu-cover" sh -c '[ "$1" -eq 0 ] && grep -q "<html" "$2"' sh "$status" "$scratch/output"
     run env -u SVEMU "$prefix/bin/svemu-curve" examples/lost_sums.elf
     holds "the installed svemu-curve" sh -c '[ "$1" -eq 0 ] && grep -q "<html" "$2"' sh "$status" "$scratch/output"
     run env -u SVEMU "$prefix/bin/svemu-schedules" 3 examples/treiber_stack.elf
@@ -522,6 +524,30 @@ counts_of_words() {
     holds "counts of words" python3 tests/counts.py "$tool" "$@"
 }
 
+# The lines of the steps of these programs are those of `count`, `dis` and `run`, and stand where QEMU's steps do.
+traces_of_steps() {
+    tool=${SVEMU_TOOL:-$top/crates/svemu_tool/out/svemu_tool}
+    if [ ! -x "$tool" ]; then
+        skip "traces of steps" "svemu-tool isn't built here: rt ci does it"
+        return
+    fi
+    ! lacks "traces of steps" python3 || return 0
+    set --
+    for name in gathers lanes spills strings structures; do
+        set -- "$@" "crates/command_cases/data/$name.elf"
+    done
+    for name in lost_sums memcpy positives set_length strlen; do
+        set -- "$@" "examples/$name.elf"
+    done
+    # One with symbols, whose functions may be asked for by name.
+    if ! lacks "traces by symbols" aarch64-linux-gnu-gcc; then
+        holds "a program with symbols" aarch64-linux-gnu-gcc -O2 -march=armv8-a+sve -ffreestanding -nostdlib -static -Iexamples \
+            -o "$scratch/named.elf" examples/start.S tests/covered/tail.c
+        set -- "$@" "$scratch/named.elf"
+    fi
+    holds "traces of steps" python3 tests/traces.py "$SVEMU" "$tool" "$@"
+}
+
 . tests/start.sh
 . tests/runner.sh
 . tests/recipes.sh
@@ -569,6 +595,7 @@ if [ "$failed" -eq 0 ]; then
     part "the recipes" recipes
     part "families of words" families_of_words
     part "counts of words" counts_of_words
+    part "traces of steps" traces_of_steps
     part "kernels and guarded buffers" kernel_tests
     part "where two lengths part" where_lengths_part
     part "what ran over the lengths" covered

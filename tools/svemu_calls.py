@@ -306,18 +306,5 @@ def size_of_store(text):
     return {"w": 4, "x": 8, "s": 4, "d": 8, "b": 1, "h": 2}.get(operands[:1], 1)
 
 
-def call_of(run, program, name, number):
-    """A call of a function: the count of steps at its entry, and behind its return. None for this where it doesn't
-    return before the run ends."""
-    PROGRESS.tell(f"looking for call {number} of {name} at {run.vl} bits")
-    events = Calls(run, program, program.named([name]), True).events
-    entry = next((event for event in events if event.kind == "entry" and event.frame.number == number), None)
-    if entry is None:
-        count = max((event.frame.number for event in events if event.kind == "entry"), default=0)
-        raise Failure(f"at {run.vl} bits {name} is called {times(count, 'time')}, so there is no call {number}")
-    back = next((event.step for event in events if event.kind == "return" and event.frame == entry.frame), None)
-    return entry.step, back
-
-
 def times(count, word):
     return f"{count} {word}{'' if count == 1 else 's'}"

@@ -1,6 +1,8 @@
 """What the tools in Python share: words of a command line, svemu and its sessions, and the frame of a page."""
 
+import base64
 import bisect
+import functools
 import json
 import os
 import re
@@ -9,6 +11,7 @@ import shutil
 import subprocess
 import sys
 import tempfile
+import zlib
 
 # A script of svemu's debugger has no more lines.
 SCRIPT_LINES = 10000
@@ -22,6 +25,9 @@ ENDING = rb"(?:exit \d+|trap [-a-z]+ 0x[0-9a-f]+ at 0x[0-9a-f]+|spent)"
 # A line by which `step` or `go` say where they stopped: what stopped them, the steps since the start and the program
 # counter; or how the program ended, and the steps.
 STOP = re.compile(rb"(?:(step|break|watch \d+) after (\d+) steps at 0x([0-9a-f]{16})|(" + ENDING + rb" after (\d+) steps))\n")
+
+# A line by which `nm`, or with its size `nm -S`, names code.
+NM = re.compile(r"([0-9a-fA-F]+)(?: ([0-9a-fA-F]+))? [TtWwi] (\S+)")
 
 WHY = {118: "a word isn't text", 120: "there is no memory", 124: "the input couldn't be read",
        125: "svemu couldn't write", 127: "the program has more than 67108864 bytes"}
@@ -133,12 +139,12 @@ def length(name, text):
 
 
 class Run:
-    """A program with its arguments, its whole input and its limits, and the svemu that runs it."""
+    """A program with its arguments, its whole input and its limits, and the svemu that runs it, or the svemu-tool."""
 
     LIMITS = ("--budget", "--pages")
     OPTIONS = ("--vl", *LIMITS)
 
-    def __init__(self, given, program, arguments):
+    def __init__(self, given, program, arguments, by_tool=False):
         def limit(name, variable, usual, least, most):
             text = given[name][-1] if given[name] else os.environ.get(variable) or usual
             return text and number(name, text, least, most)
@@ -152,8 +158,16 @@ class Run:
         self.chosen = [word for name in self.LIMITS if given[name] for word in (name, given[name][-1])]
         self.file = "./" + program if program.startswith("--") else program
         self.arguments = ["--", *arguments] if arguments else []
-        self.svemu = find_svemu()
+        if by_tool:
+            self.tool = find_tool()
+        else:
+            self.svemu = find_svemu()
         self.input = b"" if sys.stdin is None or sys.stdin.isatty() else sys.stdin.buffer.read()
+
+    @functools.cached_property
+    def svemu(self):
+        """Of a tool that goes by svemu-tool, looked for once it is called for."""
+        return find_svemu()
 
     def ended(self, *words, given=b""):
         """A call of svemu that came to its end: its status, its output and its errors."""
@@ -226,6 +240,21 @@ def find_svemu():
     return program_of(found)
 
 
+def find_tool():
+    """svemu-tool, where svemu-runner finds it."""
+    if os.environ.get("SVEMU_TOOL"):
+        found = shutil.which(os.environ["SVEMU_TOOL"])
+    else:
+        tools = os.path.dirname(os.path.realpath(__file__))
+        beside = [os.path.join(tools, "svemu-tool"), os.path.join(tools, "..", "svemu-tool")]
+        svemu = shutil.which(os.environ.get("SVEMU", "")) if os.environ.get("SVEMU") else None
+        beside = [os.path.join(os.path.dirname(svemu), "svemu-tool")] if svemu else beside
+        found = next((file for file in beside if os.path.isfile(file) and os.access(file, os.X_OK)), shutil.which("svemu-tool"))
+    if found is None:
+        raise Failure(f"there is no program {os.environ.get('SVEMU_TOOL') or 'svemu-tool'} (--help says where it is looked for)")
+    return program_of(found)
+
+
 def program_of(found):
     """The program that the script svemu of a checkout runs, so that many runs look once whether a source was touched; else
     the file itself, and the script where there is no program yet."""
@@ -239,6 +268,21 @@ def program_of(found):
     return program if named.returncode == 0 and os.access(program, os.X_OK) else found
 
 
+def code_of_nm(name):
+    """The addresses, names and sizes of code that a file with the output of `nm` or `nm -S` has, by address; 0 where no
+    size is told."""
+    try:
+        with open(name, encoding="utf-8", errors="replace") as file:
+            lines = file.read().splitlines()
+    except OSError as error:
+        raise Failure(f"{name} couldn't be read: {error.strerror}") from None
+    found = [NM.fullmatch(line.strip()) for line in lines]
+    places = [(int(line[1], 16), line[3], int(line[2] or "0", 16)) for line in found if line]
+    if not places:
+        raise Failure(f"{name} has no line of nm that names code")
+    return sorted(places, key=lambda place: place[0])
+
+
 class Symbols:
     """The names of code in the output of nm; where no file of it is named, the labels that the program's own file has, by
     address, and its objects."""
@@ -247,19 +291,7 @@ class Symbols:
         self.places, self.objects = sorted((address, known[0]) for address, known in labels.items()), objects
         if name is None:
             return
-        self.places, self.objects = [], {}
-        try:
-            with open(name, encoding="utf-8", errors="replace") as file:
-                lines = file.read().splitlines()
-        except OSError as error:
-            raise Failure(f"{name} couldn't be read: {error.strerror}") from None
-        for line in lines:
-            parts = line.split()
-            if len(parts) == 3 and re.fullmatch("[0-9a-fA-F]+", parts[0]) and parts[1] in "TtWwi":
-                self.places.append((int(parts[0], 16), parts[2]))
-        if not self.places:
-            raise Failure(f"{name} has no line of nm that names code")
-        self.places.sort(key=lambda place: place[0])
+        self.places, self.objects = [(address, known) for address, known, _ in code_of_nm(name)], {}
 
     def address(self, name):
         for address, other in (*self.places, *((address, known[0]) for address, known in self.objects.items())):
@@ -280,9 +312,12 @@ class Symbols:
         return name if at == address else f"{name}+{address - at:#x}"
 
 
-def page(title, style, body, data, script):
-    """A page that needs nothing but itself."""
+def page(title, style, body, data, script, plain=None):
+    """A page that needs nothing but itself. Where a number of bytes is given, data that have more are held as a text of
+    them, compressed by zlib and in base64."""
     held = json.dumps(data, separators=(",", ":")).replace("<", "\\u003c")
+    if plain is not None and len(held) > plain:
+        held = f'"{base64.b64encode(zlib.compress(held.encode(), 9)).decode()}"'
     parts = {"TITLE": escape(title), "STYLE": STYLE + style, "BODY": body, "DATA": held, "SCRIPT": script}
     return re.sub(r"\b(TITLE|STYLE|BODY|DATA|SCRIPT)\b", lambda name: parts[name[0]], FRAME)
 

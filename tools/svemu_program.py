@@ -6,7 +6,7 @@ import shutil
 import struct
 import subprocess
 
-from svemu_pages import Failure
+from svemu_pages import Failure, code_of_nm
 
 PAGE = 4096
 
@@ -62,8 +62,13 @@ class Image:
         found = {address for address, (name, _) in self.functions.items() if not names or name in names}
         for name in names:
             if name not in {known for known, _ in self.functions.values()}:
-                raise Failure(f"no function is named {name}")
+                raise Failure(f"no function is named {name}" + self.with_it(name))
         return found
+
+    def with_it(self, name):
+        """Tells functions that have a name in theirs, as those of C++ have."""
+        near = sorted({known for known, _ in self.functions.values() if name in known})
+        return f"; there is {', '.join(near[:3])}{' and more' if len(near) > 3 else ''}" if near else ""
 
     def label(self, address):
         """A place of the code by the function at or below it."""
@@ -79,7 +84,7 @@ class Image:
 
     def line(self, address):
         """The file and line of an instruction, with a blank before, where addr2line knows them; else nothing."""
-        for tool in ("aarch64-linux-gnu-addr2line", "llvm-addr2line", "addr2line"):
+        for tool in ("llvm-addr2line", "aarch64-linux-gnu-addr2line", "addr2line"):
             if shutil.which(tool):
                 done = subprocess.run([tool, "-s", "-e", self.file, f"{address:#x}"], capture_output=True, check=False)
                 found = re.match(r"([^?\n:][^\n:]*:[1-9]\d*)", done.stdout.decode(errors="replace"))
@@ -89,10 +94,14 @@ class Image:
 
 
 class Program(Image):
-    """An executable with symbols of functions, and its instructions."""
+    """An executable with symbols of functions, its own or those of a file with the output of nm, and its instructions."""
 
-    def __init__(self, run):
+    def __init__(self, run, symbols=None):
         super().__init__(run.file)
+        if symbols is not None:
+            self.functions = {address: (name, size) for address, name, size in reversed(code_of_nm(symbols))}
+            self.labels = dict(self.functions)
+            self.starts = sorted(self.labels)
         if not self.functions:
             raise Failure(f"{run.file} has no symbols of functions: build it without -s, and don't strip it")
         lines = run.call("dis", run.file).splitlines()

@@ -1,8 +1,13 @@
-// A read three bytes behind the end of a guarded buffer of 100 bytes, or five below one: as BELOW says.
+// A read three bytes behind the end of a guarded buffer of 100 bytes, or as many as BEHIND says, or five below one: as
+// BELOW says.
 #include "../../examples/guest.h"
 #include "start.h"
 
-volatile long behind = 102;
+#ifndef BEHIND
+#define BEHIND 102
+#endif
+
+volatile long behind = BEHIND;
 volatile long before = -5;
 volatile int below = BELOW;
 

@@ -127,5 +127,5 @@ atomic =
 
 -- `cas Rs, Rt, [Xn|SP]`: bit 22 acquires, bit 15 releases
 unfoldable pub compare_swap : Line A64Form
-compare_swap = line_of (0x08A07C00 ∷ []) ((31 to 30) ∷ (22 to 22) ∷ (20 to 16) ∷ (15 to 15) ∷ (9 to 5) ∷ (4 to 0) ∷ [])
-    (λ k. of_six (λ size acquires rs releases rn rt. CompareSwap size (acquires == 1) (releases == 1) rs rn rt))
+compare_swap = line_of (0x08A07C00 ∷ []) ((31 to 30) ∷ (22 to 22) ∷ (15 to 15) ∷ (20 to 16) ∷ (9 to 5) ∷ (4 to 0) ∷ [])
+    (λ k. of_six (λ size acquires releases rs rn rt. CompareSwap size (acquires == 1) (releases == 1) rs rn rt))

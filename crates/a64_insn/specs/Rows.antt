@@ -54,7 +54,7 @@ row_of (StoreEx op size rs rn rt) = record { line = store_ex; number = store_ex_
 row_of (LoadEx op size rn rt) = record { line = load_ex; number = load_ex_number op; values = size ∷ rn ∷ rt ∷ [] }
 row_of (Ordered op size rn rt) = record { line = ordered; number = ordered_number op; values = size ∷ rn ∷ rt ∷ [] }
 row_of (Atomic op size acquires releases rs rn rt) = record { line = atomic; number = atomic_number op; values = size ∷ bit acquires ∷ bit releases ∷ rs ∷ rn ∷ rt ∷ [] }
-row_of (CompareSwap size acquires releases rs rn rt) = record { line = compare_swap; number = 0; values = size ∷ bit acquires ∷ rs ∷ bit releases ∷ rn ∷ rt ∷ [] }
+row_of (CompareSwap size acquires releases rs rn rt) = record { line = compare_swap; number = 0; values = size ∷ bit acquires ∷ bit releases ∷ rs ∷ rn ∷ rt ∷ [] }
 row_of (FMove op rn rd) = record { line = f_move; number = f_move_number op; values = rn ∷ rd ∷ [] }
 row_of (MoveImm q op abc cmode defgh rd) = record { line = move_imm; number = 0; values = bit q ∷ bit op ∷ abc ∷ cmode ∷ defgh ∷ rd ∷ [] }
 

@@ -12,8 +12,8 @@ use crate::ops::{
 use emu_bits::{Reg, U};
 use std::marker::Model;
 
-/// An instruction's form: the line of the table and the raw bits of its fields, highest first, but that bit 15 of
-/// `CompareSwap` stands behind bit 22. `sf` is true at 64 bits.
+/// An instruction's form: the line of the table and the raw bits of its fields, in the line's order: highest first, but
+/// that bit 15 of `CompareSwap` stands behind bit 22. `sf` is true at 64 bits.
 #[derive(Clone, Copy)]
 pub enum A64Form {
     /// `adr`, `adrp Xd, target`: an address near PC; immhi:immlo is signed, in bytes or in pages of 4,096 bytes.

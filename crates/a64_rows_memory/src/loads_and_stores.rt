@@ -450,8 +450,8 @@ pub fn compare_swap_bits(
     Word { bits: 0x08a0_7c00 }
         .number(size, 30)
         .flag(acquires, 22)
-        .reg(rs, 16)
         .flag(releases, 15)
+        .reg(rs, 16)
         .reg(rn, 5)
         .reg(rt, 0)
         .bits

@@ -8,7 +8,7 @@ use Rattle.emu_bits.specs.Fields.{field}
 use Rattle.emu_bits.specs.Rows.{Place, ◌to◌, width, ones_at, outside, values, Line, Row, number_of, where_it_holds, row_in, is_among}
 use Rattle.emu_bits.specs.RowLaws.{line_at, IsRow}
 use Rattle.emu_bits.proofs.Encoding.{answer_of, fixed_field, and_over_or}
-use Rattle.text_model.specs.Slots.{bits_in, joined, address}
+use Rattle.text_model.specs.Slots.{bits_in, joined, target_address}
 use Rattle.text_model.specs.Told.{parted, Built, all_bound}
 use Rattle.text_model.specs.Reading.{Pattern}
 use Rattle.text_model.specs.Text.{ones_of}
@@ -112,7 +112,7 @@ aimed_as ps (Some r) w pc t x h e =
     record {
       number = v;
       small = subst (λ (qs : List Place). v < 2 ^ bits_in qs) s l;
-      is = aimed_if (address r.by r.page (bits_in r.parts) v pc == t) (all_bound (record { mask = 0; word = w }) (parted r.parts v)).word x e
+      is = aimed_if (target_address r.by r.page (bits_in r.parts) v pc == t) (all_bound (record { mask = 0; word = w }) (parted r.parts v)).word x e
           ∙ ap (λ (qs : List Place). (all_bound (record { mask = 0; word = w }) (parted qs v)).word) s;
     }
 

@@ -11,7 +11,7 @@ use Rattle.text_model.specs.declared.slots.Kind.TheVariants.{Bitmask}
 use Rattle.text_model.specs.declared.slots.Codec.{Codec}
 use Rattle.text_model.specs.declared.slots.Slot.{Slot}
 use Rattle.text_model.specs.Reading.{Pattern}
-use Rattle.text_model.specs.Writing.{◌to◌, field, stack, times, coded, of, one, then, counted, hexadecimal, target, perhaps, inside, row, rows, put_at}
+use Rattle.text_model.specs.Writing.{◌to◌, bits, stack, times, coded, of, one, then, counted, hexadecimal, target, perhaps, inside, row, rows, put_at}
 use Rattle.a64_insn.specs.Data.{adr, add_imm, logic_imm, move_wide, bitfield, extract, logic_reg, add_reg, add_ext, add_carry, cond_reg, cond_imm, select, mul_add, mul_long, mul_high, two_source, one_source, rev}
 
 -- ---- operands
@@ -28,19 +28,19 @@ x c = of (Only X) c
 
 -- registers, by their fields' names in the forms
 abbrev pub rd : Codec
-rd = field (4 to 0)
+rd = bits (4 to 0)
 
 abbrev pub rt : Codec
-rt = field (4 to 0)
+rt = bits (4 to 0)
 
 abbrev pub rn : Codec
-rn = field (9 to 5)
+rn = bits (9 to 5)
 
 abbrev pub rm : Codec
-rm = field (20 to 16)
+rm = bits (20 to 16)
 
 abbrev pub ra : Codec
-ra = field (14 to 10)
+ra = bits (14 to 10)
 
 -- Rd|SP and Rn|SP
 abbrev pub rd_sp : Codec
@@ -135,7 +135,7 @@ extract_texts = extract_at 0 (Only W) ∷ extract_at sf_and_n (Only X) ∷ []
 abbrev shifted_slots : List Slot
 shifted_slots =
     let shift = 23 to 22 in let amount = 15 to 10 in
-    r rd ∷ then ∷ r rn ∷ then ∷ r rm ∷ perhaps ∷ inside 0 (of (Only Shift) (field shift))
+    r rd ∷ then ∷ r rn ∷ then ∷ r rm ∷ perhaps ∷ inside 0 (of (Only Shift) (bits shift))
     ∷ inside 0 (counted (times 1 (At amount))) ∷ []
 
 unfoldable pub logic_reg_texts : List Pattern
@@ -154,11 +154,11 @@ extended m e = let a = 12 to 10 in m ∷ then ∷ e ∷ counted (times 1 (At a))
 abbrev add_ext_as : ℕ → List ℕ → Codec → List Pattern
 add_ext_as k name d =
     row add_ext k 0 name (w d ∷ then ∷ w rn_sp ∷ then
-    ∷ extended (w rm) (of (Told (14 to 13) Extend) (field (15 to 15))))
+    ∷ extended (w rm) (of (Told (14 to 13) Extend) (bits (15 to 15))))
     ∷ row add_ext k sf name (x d ∷ then ∷ x rn_sp ∷ then
-    ∷ extended (w rm) (of (Told (14 to 13) NarrowExtend) (field (15 to 15))))
+    ∷ extended (w rm) (of (Told (14 to 13) NarrowExtend) (bits (15 to 15))))
     ∷ row add_ext k (sf + put_at 13 3) name
-    (x d ∷ then ∷ x rn_sp ∷ then ∷ extended (x rm) (of (Only ExtendDoubleword) (field (15 to 15)))) ∷ []
+    (x d ∷ then ∷ x rn_sp ∷ then ∷ extended (x rm) (of (Only ExtendDoubleword) (bits (15 to 15)))) ∷ []
 
 unfoldable pub add_ext_texts : List Pattern
 add_ext_texts =
@@ -175,7 +175,7 @@ add_carry_texts = rows add_carry 0 0 (codes "adc" ∷ codes "adcs" ∷ codes "sb
 -- `ccmn`, `ccmp Rn, y, #f, cond`
 abbrev cond_slots : Slot → List Slot
 cond_slots y =
-    let f = 3 to 0 in r rn ∷ then ∷ y ∷ then ∷ counted (times 1 (At f)) ∷ then ∷ of (Only Condition) (field cond) ∷ []
+    let f = 3 to 0 in r rn ∷ then ∷ y ∷ then ∷ counted (times 1 (At f)) ∷ then ∷ of (Only Condition) (bits cond) ∷ []
 
 unfoldable pub cond_reg_texts : List Pattern
 cond_reg_texts = rows cond_reg 0 0 (codes "ccmn" ∷ codes "ccmp" ∷ []) (cond_slots (r rm))
@@ -187,7 +187,7 @@ cond_imm_texts =
 unfoldable pub select_texts : List Pattern
 select_texts =
     rows select 0 0 (codes "csel" ∷ codes "csinc" ∷ codes "csinv" ∷ codes "csneg" ∷ [])
-    (three ++ (then ∷ of (Only Condition) (field cond) ∷ []))
+    (three ++ (then ∷ of (Only Condition) (bits cond) ∷ []))
 
 unfoldable pub mul_add_texts : List Pattern
 mul_add_texts = rows mul_add 0 0 (codes "madd" ∷ codes "msub" ∷ []) (three ++ (then ∷ r ra ∷ []))

@@ -10,7 +10,7 @@ use Rattle.text_model.specs.declared.slots.Parts.TheVariants.{At}
 use Rattle.text_model.specs.declared.slots.Shape.TheVariants.{Only, Told}
 use Rattle.text_model.specs.declared.slots.Slot.{Slot}
 use Rattle.text_model.specs.Reading.{Pattern}
-use Rattle.text_model.specs.Writing.{◌to◌, field, times, signed_times, always, of, one, then, counted, amount, perhaps, inside, bracketed, row, put_at, flat}
+use Rattle.text_model.specs.Writing.{◌to◌, bits, times, signed_times, always, of, one, then, counted, amount, perhaps, inside, bracketed, row, put_at, flat}
 use Rattle.a64_insn.specs.Memory.{ls_unsigned, ls_unscaled, ls_post, ls_pre, ls_reg, ls_literal, pair, store_ex, load_ex, ordered, atomic, compare_swap}
 use Rattle.asm_a64.specs.Data.{w, x, rt, rn_sp, rm, imm12}
 use Rattle.asm_a64.specs.Flow.{jump, imm19}
@@ -97,8 +97,8 @@ abbrev imm9 : Slot
 imm9 = counted (signed_times 1 (At (20 to 12)))
 
 -- a pattern for each access
-abbrev each : {F : Type 0} → Line F → ℕ → (Access → List ℕ) → (Access → List Slot) → List Access → List Pattern
-each l settled name place all =
+abbrev patterns : {F : Type 0} → Line F → ℕ → (Access → List ℕ) → (Access → List Slot) → List Access → List Pattern
+patterns l settled name place all =
     map (λ a. row l 0 (bits_of a + settled) (name a) (a.register ∷ then ∷ place a)) all
 
 abbrev plain_name : Access → List ℕ
@@ -109,16 +109,16 @@ unscaled_name a = a.first ++ (codes "u" ++ a.rest)
 
 unfoldable pub ls_unsigned_texts : List Pattern
 ls_unsigned_texts =
-    each ls_unsigned 0 plain_name (λ a. offset_place (counted (times (2 ^ a.log) (At imm12)))) (prefetch ∷ accesses)
+    patterns ls_unsigned 0 plain_name (λ a. offset_place (counted (times (2 ^ a.log) (At imm12)))) (prefetch ∷ accesses)
 
 unfoldable pub ls_unscaled_texts : List Pattern
-ls_unscaled_texts = each ls_unscaled 0 unscaled_name (λ a. offset_place imm9) (prefetch ∷ accesses)
+ls_unscaled_texts = patterns ls_unscaled 0 unscaled_name (λ a. offset_place imm9) (prefetch ∷ accesses)
 
 unfoldable pub ls_post_texts : List Pattern
-ls_post_texts = each ls_post 0 plain_name (λ a. post_place imm9) accesses
+ls_post_texts = patterns ls_post 0 plain_name (λ a. post_place imm9) accesses
 
 unfoldable pub ls_pre_texts : List Pattern
-ls_pre_texts = each ls_pre 0 plain_name (λ a. pre_place imm9) accesses
+ls_pre_texts = patterns ls_pre 0 plain_name (λ a. pre_place imm9) accesses
 
 -- ---- offsets in registers
 
@@ -126,15 +126,15 @@ ls_pre_texts = each ls_pre 0 plain_name (λ a. pre_place imm9) accesses
 -- the slots of the extension without an amount and before one
 abbrev offsets : ℕ → Slot → List Slot → List Slot → List (List Pattern)
 offsets settled m bare scaled =
-    each ls_reg (put_at 13 settled) plain_name (λ a. bracketed (x rn_sp ∷ then ∷ m ∷ bare)) (prefetch ∷ accesses)
-    ∷ each ls_reg (put_at 13 settled + put_at 12 1) plain_name
+    patterns ls_reg (put_at 13 settled) plain_name (λ a. bracketed (x rn_sp ∷ then ∷ m ∷ bare)) (prefetch ∷ accesses)
+    ∷ patterns ls_reg (put_at 13 settled + put_at 12 1) plain_name
     (λ a. bracketed (x rn_sp ∷ then ∷ m ∷ (scaled ++ (amount a.log ∷ [])))) (prefetch ∷ accesses) ∷ []
 
 -- uxtw and sxtw, told apart by bit 15; lsl, which isn't written without its amount; sxtx
 unfoldable pub ls_reg_lines : List (List Pattern)
 ls_reg_lines =
-    offsets 2 (w rm) (then ∷ of (Only ExtendWord) (field (15 to 15)) ∷ [])
-    (then ∷ of (Only ExtendWord) (field (15 to 15)) ∷ [])
+    offsets 2 (w rm) (then ∷ of (Only ExtendWord) (bits (15 to 15)) ∷ [])
+    (then ∷ of (Only ExtendWord) (bits (15 to 15)) ∷ [])
     ++ (offsets 3 (x rm) [] (then ∷ one Shift ∷ [])
     ++ offsets 7 (x rm) (then ∷ of (Only ExtendDoubleword) (always 1) ∷ [])
     (then ∷ of (Only ExtendDoubleword) (always 1) ∷ []))
@@ -157,7 +157,7 @@ ls_literal_texts =
 
 -- two registers of a class, and the place
 abbrev pair_slots : Class → List Slot → List Slot
-pair_slots c place = let rt2 = field (14 to 10) in of (Only c) rt ∷ then ∷ of (Only c) rt2 ∷ then ∷ place
+pair_slots c place = let rt2 = bits (14 to 10) in of (Only c) rt ∷ then ∷ of (Only c) rt2 ∷ then ∷ place
 
 abbrev imm7 : ℕ → Slot
 imm7 n = counted (signed_times n (At (21 to 15)))
@@ -176,11 +176,11 @@ pair_modes settled name c n =
 -- these, and the mode of `stnp` and `ldnp`, by opc, V, the registers' class, and the bytes of one
 abbrev pairs : ℕ → ℕ → Class → ℕ → List Pattern
 pairs opc v c n =
-    let bits = put_at 30 opc + put_at 26 v in
+    let settled = put_at 30 opc + put_at 26 v in
     let load = put_at 22 1 in
-    pair_modes bits (codes "stp") c n ++ (pair_modes (bits + load) (codes "ldp") c n
-    ++ (pair_row bits 0 (codes "stnp") (pair_slots c (offset_place (imm7 n)))
-    ∷ pair_row (bits + load) 0 (codes "ldnp") (pair_slots c (offset_place (imm7 n))) ∷ []))
+    pair_modes settled (codes "stp") c n ++ (pair_modes (settled + load) (codes "ldp") c n
+    ++ (pair_row settled 0 (codes "stnp") (pair_slots c (offset_place (imm7 n)))
+    ∷ pair_row (settled + load) 0 (codes "ldnp") (pair_slots c (offset_place (imm7 n))) ∷ []))
 
 unfoldable pub pair_texts : List Pattern
 pair_texts =
@@ -202,7 +202,7 @@ sized l k name first =
 
 unfoldable pub store_ex_texts : List Pattern
 store_ex_texts =
-    let rs = field (20 to 16) in
+    let rs = bits (20 to 16) in
     sized store_ex 0 (codes "stxr") (w rs ∷ then ∷ []) ++ sized store_ex 1 (codes "stlxr") (w rs ∷ then ∷ [])
 
 unfoldable pub load_ex_texts : List Pattern
@@ -215,7 +215,7 @@ ordered_texts = sized ordered 0 (codes "stlr") [] ++ sized ordered 1 (codes "lda
 
 -- a row with some bits settled at its sizes: bytes and halfwords by the name, words and doublewords by both registers
 abbrev two_sized : {F : Type 0} → Line F → ℕ → ℕ → List ℕ → List Pattern
-two_sized l k settled name = let rs = field (20 to 16) in
+two_sized l k settled name = let rs = bits (20 to 16) in
     row l k settled (name ++ codes "b") (w rs ∷ then ∷ w rt ∷ then ∷ place)
     ∷ row l k (put_at 30 1 + settled) (name ++ codes "h") (w rs ∷ then ∷ w rt ∷ then ∷ place)
     ∷ row l k (put_at 31 1 + settled) name

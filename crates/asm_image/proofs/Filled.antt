@@ -14,7 +14,7 @@ use Rattle.listing_model.specs.declared.fault.ListingWhy.{ListingWhy}
 use Rattle.listing_model.specs.declared.fault.ListingWhy.TheVariants.{UnknownLabel, TooFar}
 use Rattle.listing_model.specs.declared.line.Section.{Section}
 use Rattle.listing_model.specs.declared.line.Section.TheVariants.{Code, Data}
-use Rattle.listing_model.specs.Image.{Contents, base, filled, aimed_at, joined, contents_of}
+use Rattle.listing_model.specs.Image.{Contents, base, piece_bytes, aimed_at, piece_before, contents_of}
 use Rattle.listing_model.specs.Layout.{Piece, bytes, aimed, address, mention, Placed, is_data, size}
 use Rattle.listing_model.specs.Statements.{Statements}
 
@@ -29,7 +29,7 @@ behind_nothing (Err e) = refl
 behind_nothing (Ok c) = refl
 
 joined_behind : (a b bs : List ℕ) (n : ℕ) (t : Section) (r : Result Contents ListingFault)
-    → behind a b (joined n t (Ok bs) r) ≡ behind (a ++ in_code t bs) (b ++ in_data t bs) r
+    → behind a b (piece_before n t (Ok bs) r) ≡ behind (a ++ in_code t bs) (b ++ in_data t bs) r
 joined_behind a b bs n t (Err e) = refl
 joined_behind a b bs n Code (Ok c) =
     ap₂ (λ (x y : List ℕ). Ok (record { code = x; values = y })) (sym (append_assoc a bs c.code)) (ap (λ (x : List ℕ). x ++ c.values) (sym (append-nil b)))
@@ -55,7 +55,7 @@ module _ {I : Type 0} (s : Statements I) where
   mention_size None bs h = cc
   mention_size (Some a) bs h = let e : [] ≡ bs = cc in sym (ap length e)
 
-  pub filled_size : (labels : List ℕ → Option ℕ) (pc : ℕ) (p : Piece I) (bs : List ℕ) → filled s labels pc p ≡ Ok bs → length bs ≡ size p
+  pub filled_size : (labels : List ℕ → Option ℕ) (pc : ℕ) (p : Piece I) (bs : List ℕ) → piece_bytes s labels pc p ≡ Ok bs → length bs ≡ size p
   filled_size labels pc (bytes xs) bs h = let e : xs ≡ bs = cc in sym (ap length e)
   filled_size labels pc (aimed i (target.Address a)) bs h = aimed_size i pc (Some a) bs h
   filled_size labels pc (aimed i (target.Label n)) bs h = aimed_size i pc (labels n) bs h
@@ -171,9 +171,9 @@ module _ {I : Type 0} (s : Statements I) (code_size : ℕ) (labels : List ℕ �
           let order : InOrder (length (a ++ in_code t bs)) (length (b ++ in_data t bs)) qs =
           subst (λ (m : ℕ). InOrder m (length (b ++ in_data t bs)) qs) code_length
           (subst (λ (n : ℕ). InOrder (length a + cond (is_data t) 0 (size q.piece)) n qs) data_length o.1) in
-          let known : filled s labels (base code_size t + q.place) q.piece ≡ Ok bs = ap (filled s labels (base code_size t + q.place)) e in
+          let known : piece_bytes s labels (base code_size t + q.place) q.piece ≡ Ok bs = ap (piece_bytes s labels (base code_size t + q.place)) e in
           go (a ++ in_code t bs) (b ++ in_data t bs) code_more values_more no_hole order
-          (r ∙ ap (λ (x : Result (List ℕ) ListingWhy). behind a b (joined q.line t x (contents_of s code_size labels qs))) known
+          (r ∙ ap (λ (x : Result (List ℕ) ListingWhy). behind a b (piece_before q.line t x (contents_of s code_size labels qs))) known
           ∙ joined_behind a b bs q.line t (contents_of s code_size labels qs))
       by (aimed i u) e go = an_open (Aim i u) (ap (holes q) e)
       by (address n) e go = an_open (Address n) (ap (holes q) e)
@@ -199,19 +199,19 @@ module _ {I : Type 0} (s : Statements I) (code_size : ℕ) (labels : List ℕ �
 
   -- what fills the hole fills the piece
   same_filling : (g : Hole I) (gs : List (Hole I)) (code values : List ℕ) (h : AtHole g gs code values)
-      → filled s labels (base code_size h.p.section + h.p.place) h.p.piece ≡ filled s labels (base code_size g.place.section + g.place.at) (piece_of g.gap)
+      → piece_bytes s labels (base code_size h.p.section + h.p.place) h.p.piece ≡ piece_bytes s labels (base code_size g.place.section + g.place.at) (piece_of g.gap)
   same_filling g gs code values h =
       let is = piece_is g gs code values h in
-      ap₂ (λ (pc : ℕ) (x : Piece I). filled s labels pc x)
+      ap₂ (λ (pc : ℕ) (x : Piece I). piece_bytes s labels pc x)
       (ap₂ (λ (t : Section) (n : ℕ). base code_size t + n) is.2 is.3) is.0
 
   pub refused : (g : Hole I) (gs : List (Hole I)) (code values : List ℕ) (f : ListingFault) → Progress (g ∷ gs) code values → f.line ≡ g.line
-      → filled s labels (base code_size g.place.section + g.place.at) (piece_of g.gap) ≡ Err f.why → contents_of s code_size labels ps ≡ Err f
+      → piece_bytes s labels (base code_size g.place.section + g.place.at) (piece_of g.gap) ≡ Err f.why → contents_of s code_size labels ps ≡ Err f
   refused g gs code values f h l e =
       let w = at_hole g gs code values h in
       let is = piece_is g gs code values w in
       w.result
-      ∙ ap (λ (x : Result (List ℕ) ListingWhy). behind w.a w.b (joined w.p.line w.p.section x (contents_of s code_size labels w.rest))) (same_filling g gs code values w ∙ e)
+      ∙ ap (λ (x : Result (List ℕ) ListingWhy). behind w.a w.b (piece_before w.p.line w.p.section x (contents_of s code_size labels w.rest))) (same_filling g gs code values w ∙ e)
       ∙ ap (λ (n : ℕ). Err (record { line = n; why = f.why })) (is.1 ∙ sym l)
 
   -- ---- the hole is filled
@@ -227,7 +227,7 @@ module _ {I : Type 0} (s : Statements I) (code_size : ℕ) (labels : List ℕ �
   over_data Data b z x bs place n h k = over_seam b z x bs place h k ∙ sym (append_assoc b bs x)
 
   pub goes_on : (g : Hole I) (gs : List (Hole I)) (code values code_after values_after bs : List ℕ) → Progress (g ∷ gs) code values
-      → filled s labels (base code_size g.place.section + g.place.at) (piece_of g.gap) ≡ Ok bs
+      → piece_bytes s labels (base code_size g.place.section + g.place.at) (piece_of g.gap) ≡ Ok bs
       → code_after ≡ cond (is_data g.place.section) code (put_at code g.place.at bs)
       → values_after ≡ cond (is_data g.place.section) (put_at values g.place.at bs) values
       → Progress gs code_after values_after
@@ -235,7 +235,7 @@ module _ {I : Type 0} (s : Statements I) (code_size : ℕ) (labels : List ℕ �
       let w = at_hole g gs code values h in
       let is = piece_is g gs code values w in
       let t : Section = w.p.section in
-      let same : filled s labels (base code_size t + w.p.place) w.p.piece ≡ Ok bs = same_filling g gs code values w ∙ e in
+      let same : piece_bytes s labels (base code_size t + w.p.place) w.p.piece ≡ Ok bs = same_filling g gs code values w ∙ e in
       let bytes_size : length bs ≡ size w.p.piece = filled_size s labels (base code_size t + w.p.place) w.p.piece bs same in
       let z_size : length bs ≡ length (drafted w.p.piece) = bytes_size ∙ sym (drafted_size w.p.piece) in
       let code_length : length w.a + cond (is_data t) 0 (size w.p.piece) ≡ length (w.a ++ in_code t bs) =
@@ -258,7 +258,7 @@ module _ {I : Type 0} (s : Statements I) (code_size : ℕ) (labels : List ℕ �
         in_order = subst (λ (m : ℕ). InOrder m (length (w.b ++ in_data t bs)) w.rest) code_length
             (subst (λ (n : ℕ). InOrder (length w.a + cond (is_data t) 0 (size w.p.piece)) n w.rest) data_length w.in_order);
         result = w.result
-            ∙ ap (λ (x : Result (List ℕ) ListingWhy). behind w.a w.b (joined w.p.line t x (contents_of s code_size labels w.rest))) same
+            ∙ ap (λ (x : Result (List ℕ) ListingWhy). behind w.a w.b (piece_before w.p.line t x (contents_of s code_size labels w.rest))) same
             ∙ joined_behind w.a w.b bs w.p.line t (contents_of s code_size labels w.rest);
       }
 
@@ -274,9 +274,9 @@ module _ {I : Type 0} (s : Statements I) (code_size : ℕ) (labels : List ℕ �
           → behind a b (contents_of s code_size labels (q ∷ qs)) ≡ Ok (record { code = a ++ drafted_code (q ∷ qs); values = b ++ drafted_data (q ∷ qs) })
       by (bytes bs) e go =
           let t : Section = q.section in
-          let known : filled s labels (base code_size t + q.place) q.piece ≡ Ok bs = ap (filled s labels (base code_size t + q.place)) e in
+          let known : piece_bytes s labels (base code_size t + q.place) q.piece ≡ Ok bs = ap (piece_bytes s labels (base code_size t + q.place)) e in
           let no_hole : [] ≡ holes_of qs = h ∙ ap (λ (x : Piece I). holes q x ++ holes_of qs) e in
-          ap (λ (x : Result (List ℕ) ListingWhy). behind a b (joined q.line t x (contents_of s code_size labels qs))) known
+          ap (λ (x : Result (List ℕ) ListingWhy). behind a b (piece_before q.line t x (contents_of s code_size labels qs))) known
           ∙ joined_behind a b bs q.line t (contents_of s code_size labels qs)
           ∙ go (a ++ in_code t bs) (b ++ in_data t bs) no_hole
           ∙ ap₂ (λ (x y : List ℕ). Ok (record { code = x; values = y }))

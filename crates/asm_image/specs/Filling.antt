@@ -11,7 +11,7 @@ use Rattle.asm_tokens.specs.declared.target.Target.TheVariants as target
 use Rattle.listing_model.specs.declared.fault.ListingFault.{ListingFault}
 use Rattle.listing_model.specs.declared.fault.ListingWhy.{ListingWhy}
 use Rattle.listing_model.specs.declared.fault.ListingWhy.TheVariants.{UnknownLabel}
-use Rattle.listing_model.specs.Image.{Contents, address_of, base, filled}
+use Rattle.listing_model.specs.Image.{Contents, address_of, base, piece_bytes}
 use Rattle.asm_image.specs.Draft.{drafted_code, drafted_data, holes_of, InOrder}
 use Rattle.listing_model.specs.Layout.{Piece, aimed, address, mention, Placed, Labeled, is_data, size}
 use Rattle.listing_model.specs.Statements.{Statements}
@@ -63,7 +63,7 @@ AllAimable has_target (h ∷ hs) = IsAimableGap has_target h.gap × AllAimable h
 
 -- what fills a hole
 abbrev pub filling_of : {I : Type 0} → Statements I → ℕ → List Labeled → Hole I → Result (List ℕ) ListingWhy
-filling_of s code_size labels h = filled s (address_of code_size labels) (base code_size h.place.section + h.place.at) (piece_of h.gap)
+filling_of s code_size labels h = piece_bytes s (address_of code_size labels) (base code_size h.place.section + h.place.at) (piece_of h.gap)
 
 -- a hole is filled in its section, and nothing else has changed
 pub record Fills {I : Type 0} (s : Statements I) (labels : List Labeled) (h : Hole I) (code values code_after values_after : List ℕ) : Type 0 where

@@ -16,7 +16,7 @@ ghost use Rattle.asm_image.specs.Filling.{
   target_of,
 };
 ghost use Rattle.listing_model.specs.File.{rounded};
-ghost use Rattle.listing_model.specs.Image.{address_of, base, contents_of, filled};
+ghost use Rattle.listing_model.specs.Image.{address_of, base, contents_of, piece_bytes};
 ghost use Rattle.listing_model.specs.Layout.{Placed};
 
 use crate::draft::{Gap, Hole};
@@ -98,7 +98,7 @@ fn gap_patch<T: Instructions>(
 ) -> Result<Patch, ListingWhy>
     requires small { code_size ≤ 2 ^ 24 }
     requires aimable { IsAimableGap T.has_target gap.now }
-    ensures { IsPatch result (filled T.statements (address_of code_size labels.now) pc (piece_of gap.now)) }
+    ensures { IsPatch result (piece_bytes T.statements (address_of code_size labels.now) pc (piece_of gap.now)) }
 {
     match gap {
         Gap::Aim(insn, target) => {

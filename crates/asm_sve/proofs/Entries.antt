@@ -3,6 +3,7 @@ use Rattle.std.specs.Prelude.{◌≡◌, ℕ, Bool, true, refl, List, [], ◌∷
 use Rattle.emu_bits.specs.Rows.{Place, Line, ◌to◌, values, value_at}
 use Rattle.sve_insn.specs.declared.form.SveForm.{SveForm}
 use Rattle.text_model.specs.Reading.{Pattern}
+use Rattle.sve_insn.specs.Names.{write_ffr_named}
 use Rattle.sve_insn.specs.Conditions.{extends_to_doubleword, extends_to_word, gather_scaled_doubleword_holds_for, gather_scaled_word_holds_for, gather_word_holds_for, is_halfword_or_word, is_no_byte, is_no_doubleword, has_tsz, has_lane_size, write_ffr_holds_for}
 use Rattle.sve_insn.specs.Folds.{reduce, count_elements, inc_x, inc_z, sat_x, sat_z, add_length, read_length, dup_reg, dup_lane, insert_scalar, rev_z, unpack, table_lookup, interleave, interleave_p, unpack_p, rev_p, compact, splice, ext, copy_reg, last_active, cond_last}
 use Rattle.sve_insn.specs.Lanes.{binary, binary_wide, shift_imm, unary, mul_add_z, mul_add_d, plain, logic_z, plain_wide, plain_shift, index_z, prefix_p, prefix, dot, dot_indexed, bitmask_z, copy_imm, select_z, wide_imm, min_max_imm, dup_imm}
@@ -169,7 +170,7 @@ predicate_entries =
     ∷ always read_ffr_texts read_ffr []
     ∷ always read_ffr_all_texts read_ffr_all []
     ∷ where_it_holds write_ffr_texts write_ffr ((8 to 5) ∷ [])
-    (λ k vs. write_ffr_holds_for k (value_at vs 0)) (λ k w h. h)
+    (λ k vs. write_ffr_holds_for (write_ffr_named k) (value_at vs 0)) (λ k w h. h)
     ∷ always count_p_texts count_p []
     ∷ always inc_p_texts inc_p []
     ∷ always inc_p_z_texts inc_p_z []

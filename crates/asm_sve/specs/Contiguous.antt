@@ -10,7 +10,7 @@ use Rattle.text_model.specs.declared.slots.Parts.TheVariants.{At, Two}
 use Rattle.text_model.specs.declared.slots.Shape.TheVariants.{Told}
 use Rattle.text_model.specs.declared.slots.Slot.{Slot}
 use Rattle.text_model.specs.Reading.{Pattern}
-use Rattle.text_model.specs.Writing.{◌to◌, field, times, signed_times, of, counted, perhaps, inside, bracketed, braced, row, put_at}
+use Rattle.text_model.specs.Writing.{◌to◌, bits, times, signed_times, of, counted, perhaps, inside, bracketed, braced, row, put_at}
 use Rattle.asm_sve.specs.Operands.{separated, all_sizes, z_class, letter, sized, pg, register, p_zeroing}
 use Rattle.asm_sve.specs.Places.{zt, loaded, stored, many, base, in_lengths, imm_place, reg_place}
 
@@ -35,10 +35,10 @@ by_dtype =
 
 -- a pattern for each of some, where the bits of a dtype and the place are given, dtype counted from k on
 abbrev pub loads : {F : Type 0} → Line F → List ℕ → (ℕ → ℕ) → (ℕ → List Slot) → ℕ → List Loaded → List Pattern
-loads l name bits place k [] = []
-loads l name bits place k (d ∷ ds) =
-    row l 0 (bits k) (name ++ d.letters) (loaded (z_class d.lane) (place d.element))
-    ∷ loads l name bits place (k + 1) ds
+loads l name settled place k [] = []
+loads l name settled place k (d ∷ ds) =
+    row l 0 (settled k) (name ++ d.letters) (loaded (z_class d.lane) (place d.element))
+    ∷ loads l name settled place (k + 1) ds
 
 unfoldable pub load_imm_texts : List Pattern
 load_imm_texts = loads load_imm (codes "ld1") (put_at 21) (λ e. imm_place 1) 0 by_dtype
@@ -134,7 +134,7 @@ store_many_reg_texts =
 abbrev pub store_lanes : {F : Type 0} → Line F → (ℕ → List Slot) → List Pattern
 store_lanes l place = sized all_sizes (λ m.
     row l 0 (put_at 23 m) (codes "st1" ++ letter m)
-    (separated (braced (of (Told (22 to 21) Lanes) (field zt) ∷ []) ∷ register P pg ∷ place m ∷ [])) ∷ [])
+    (separated (braced (of (Told (22 to 21) Lanes) (bits zt) ∷ []) ∷ register P pg ∷ place m ∷ [])) ∷ [])
 
 unfoldable pub store_imm_texts : List Pattern
 store_imm_texts = store_lanes store_imm (λ m. imm_place 1)

@@ -11,7 +11,7 @@ use Rattle.text_model.specs.declared.slots.Parts.TheVariants.{At}
 use Rattle.text_model.specs.declared.slots.Shape.TheVariants.{Only}
 use Rattle.text_model.specs.declared.slots.Slot.{Slot}
 use Rattle.text_model.specs.Reading.{Pattern}
-use Rattle.text_model.specs.Writing.{◌to◌, field, times, of, then, counted, amount, perhaps, inside, bracketed, row, put_at}
+use Rattle.text_model.specs.Writing.{◌to◌, bits, times, of, then, counted, amount, perhaps, inside, bracketed, row, put_at}
 use Rattle.asm_sve.specs.Operands.{letter, sized, zn, zm}
 use Rattle.asm_sve.specs.Places.{loaded, stored, base, scaled}
 
@@ -20,17 +20,17 @@ use Rattle.asm_sve.specs.Places.{loaded, stored, base, scaled}
 -- [Xn|SP, Zm.T, uxtw], the extension by the field xs
 abbrev pub extended_place : Class → Bits → List Slot → List Slot
 extended_place lanes xs behind =
-    bracketed (base ∷ then ∷ of (Only lanes) (field zm) ∷ then ∷ of (Only ExtendWord) (field xs) ∷ behind)
+    bracketed (base ∷ then ∷ of (Only lanes) (bits zm) ∷ then ∷ of (Only ExtendWord) (bits xs) ∷ behind)
 
 -- [Xn|SP, Zm.d, lsl #s]
 abbrev pub doubleword_place : ℕ → List Slot
-doubleword_place s = bracketed (base ∷ then ∷ of (Only Zd) (field zm) ∷ scaled s)
+doubleword_place s = bracketed (base ∷ then ∷ of (Only Zd) (bits zm) ∷ scaled s)
 
 -- [Zn.T{, #0}], imm5 times the bytes of an element
 abbrev pub vector_place : Class → ℕ → List Slot
 vector_place lanes s =
     let imm5 = 20 to 16 in
-    bracketed (of (Only lanes) (field zn) ∷ perhaps ∷ inside 0 (counted (times (2 ^ s) (At imm5))) ∷ [])
+    bracketed (of (Only lanes) (bits zn) ∷ perhaps ∷ inside 0 (counted (times (2 ^ s) (At imm5))) ∷ [])
 
 -- ---- gathers
 
@@ -40,17 +40,17 @@ pub record Gathered : Type 0 where
   pub element : ℕ
   pub unsigned : ℕ
 
-abbrev gathered : List ℕ → ℕ → ℕ → Gathered
-gathered l e u = record { letters = l; element = e; unsigned = u }
+abbrev gather_of : List ℕ → ℕ → ℕ → Gathered
+gather_of l e u = record { letters = l; element = e; unsigned = u }
 
 abbrev pub of_bytes : List Gathered
-of_bytes = gathered (codes "b") 0 1 ∷ gathered (codes "sb") 0 0 ∷ []
+of_bytes = gather_of (codes "b") 0 1 ∷ gather_of (codes "sb") 0 0 ∷ []
 
 abbrev pub scaled_words : List Gathered
-scaled_words = gathered (codes "h") 1 1 ∷ gathered (codes "w") 2 1 ∷ gathered (codes "sh") 1 0 ∷ []
+scaled_words = gather_of (codes "h") 1 1 ∷ gather_of (codes "w") 2 1 ∷ gather_of (codes "sh") 1 0 ∷ []
 
 abbrev pub scaled_doublewords : List Gathered
-scaled_doublewords = scaled_words ++ (gathered (codes "d") 3 1 ∷ gathered (codes "sw") 2 0 ∷ [])
+scaled_doublewords = scaled_words ++ (gather_of (codes "d") 3 1 ∷ gather_of (codes "sw") 2 0 ∷ [])
 
 -- U stands at bit 14, and ff, which is 1 in ldff1, at bit 13
 abbrev pub gathers_named : {F : Type 0} → Line F → List ℕ → ℕ → Class → (ℕ → List Slot) → List Gathered → List Pattern

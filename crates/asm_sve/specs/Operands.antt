@@ -13,7 +13,7 @@ use Rattle.text_model.specs.declared.slots.Kind.TheVariants.{NamedCount, Unnamed
 use Rattle.text_model.specs.declared.slots.Codec.{Codec}
 use Rattle.text_model.specs.declared.slots.Slot.{Slot}
 use Rattle.text_model.specs.Reading.{Pattern}
-use Rattle.text_model.specs.Writing.{◌to◌, coded, field, stack, times, signed_times, always, of, one, then, counted, bare, perhaps, inside, bracketed}
+use Rattle.text_model.specs.Writing.{◌to◌, coded, bits, stack, times, signed_times, always, of, one, then, counted, bare, perhaps, inside, bracketed}
 
 -- operands with commas between
 abbrev pub separated : List (List Slot) → List Slot
@@ -102,23 +102,23 @@ imm8 = 12 to 5
 
 -- a register of a class
 abbrev pub register : Class → Bits → List Slot
-register c b = of (Only c) (field b) ∷ []
+register c b = of (Only c) (bits b) ∷ []
 
 -- a vector register with T
 abbrev pub z_at : Bits → List Slot
-z_at b = of (Told size Lanes) (field b) ∷ []
+z_at b = of (Told size Lanes) (bits b) ∷ []
 
 -- a vector register with lanes of which size tells another one
 abbrev pub z_by : Group → Bits → List Slot
-z_by g b = of (Shown size g) (field b) ∷ []
+z_by g b = of (Shown size g) (bits b) ∷ []
 
 -- a predicate with T
 abbrev pub p_at : Bits → List Slot
-p_at b = of (Told size Flags) (field b) ∷ []
+p_at b = of (Told size Flags) (bits b) ∷ []
 
 -- R: x where T is d, else w
 abbrev pub r_at : Bits → List Slot
-r_at b = of (Shown size GeneralOfLane) (field b) ∷ []
+r_at b = of (Shown size GeneralOfLane) (bits b) ∷ []
 
 -- R|SP
 abbrev pub r_sp_at : Bits → List Slot
@@ -126,32 +126,32 @@ r_sp_at b = of (Shown size GeneralOfLane) (stack b) ∷ []
 
 -- V: the b, h, s or d register by T
 abbrev pub v_at : Bits → List Slot
-v_at b = of (Shown size Scalar) (field b) ∷ []
+v_at b = of (Shown size Scalar) (bits b) ∷ []
 
 -- ---- governing predicates
 
 -- Pg/m and Pg/z at bits of the word
 abbrev pub p_merging : Bits → List Slot
-p_merging b = of (Only P) (field b) ∷ one Slash ∷ one Merging ∷ []
+p_merging b = of (Only P) (bits b) ∷ one Slash ∷ one Merging ∷ []
 
 abbrev pub p_zeroing : Bits → List Slot
-p_zeroing b = of (Only P) (field b) ∷ one Slash ∷ one Zeroing ∷ []
+p_zeroing b = of (Only P) (bits b) ∷ one Slash ∷ one Zeroing ∷ []
 
 -- Pg/z where the field m is 0, Pg/m where it is 1
 abbrev pub p_either : Bits → Bits → List Slot
-p_either b m = of (Only P) (field b) ∷ one Slash ∷ of (Told m Predication) (always 0) ∷ []
+p_either b m = of (Only P) (bits b) ∷ one Slash ∷ of (Told m Predication) (always 0) ∷ []
 
 -- ---- numbers
 
 -- #i
-abbrev pub number_of : Codec → List Slot
-number_of c = counted c ∷ []
+abbrev pub immediate_slots : Codec → List Slot
+immediate_slots c = counted c ∷ []
 
 abbrev pub unsigned_at : Bits → List Slot
-unsigned_at b = number_of (times 1 (At b))
+unsigned_at b = immediate_slots (times 1 (At b))
 
 abbrev pub signed_at : Bits → List Slot
-signed_at b = number_of (signed_times 1 (At b))
+signed_at b = immediate_slots (signed_times 1 (At b))
 
 -- #i{, lsl #0}, where sh is lsl #8
 abbrev pub shifted : Codec → List Slot

@@ -9,7 +9,7 @@ use Rattle.text_model.specs.declared.slots.Parts.{Parts}
 use Rattle.text_model.specs.declared.slots.Parts.TheVariants.{Nowhere, At, Two}
 use Rattle.text_model.specs.Reading.{Pattern}
 use Rattle.text_model.specs.Writing.{◌to◌, times, braced, row, rows}
-use Rattle.asm_sve.specs.Operands.{separated, z_class, sized, zd, zdn, zn, zm, zm_9_5, rd, rn, pd, pn, pm, pg, register, z_at, z_by, p_at, r_at, r_sp_at, v_at, p_merging, number_of, index}
+use Rattle.asm_sve.specs.Operands.{separated, z_class, sized, zd, zdn, zn, zm, zm_9_5, rd, rn, pd, pn, pm, pg, register, z_at, z_by, p_at, r_at, r_sp_at, v_at, p_merging, immediate_slots, index}
 
 unfoldable pub dup_reg_texts : List Pattern
 dup_reg_texts = row dup_reg 0 0 (codes "dup") (separated (z_at zd ∷ r_sp_at rn ∷ [])) ∷ []
@@ -67,8 +67,8 @@ splice_texts = row splice 0 0 (codes "splice") (separated (z_at zdn ∷ register
 
 unfoldable pub ext_texts : List Pattern
 ext_texts = row ext 0 0 (codes "ext")
-    (separated (register Zb zdn ∷ register Zb zdn ∷ register Zb zm_9_5 ∷ number_of (times 1 (Two (20 to 16) (12 to 10)))
-    ∷ [])) ∷ []
+    (separated (register Zb zdn ∷ register Zb zdn ∷ register Zb zm_9_5
+    ∷ immediate_slots (times 1 (Two (20 to 16) (12 to 10))) ∷ [])) ∷ []
 
 unfoldable pub copy_reg_texts : List Pattern
 copy_reg_texts =

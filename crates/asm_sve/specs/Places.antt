@@ -9,7 +9,7 @@ use Rattle.text_model.specs.declared.slots.Parts.TheVariants.{At}
 use Rattle.text_model.specs.declared.slots.Shape.TheVariants.{Only}
 use Rattle.text_model.specs.declared.slots.Kind.TheVariants.{After}
 use Rattle.text_model.specs.declared.slots.Slot.{Slot}
-use Rattle.text_model.specs.Writing.{◌to◌, coded, field, stack, signed_times, always, of, one, then, counted, amount, perhaps, inside, bracketed, braced}
+use Rattle.text_model.specs.Writing.{◌to◌, coded, bits, stack, signed_times, always, of, one, then, counted, amount, perhaps, inside, bracketed, braced}
 use Rattle.asm_sve.specs.Operands.{separated, rn, rm, pg, register, p_zeroing}
 
 -- ---- operands
@@ -55,4 +55,4 @@ scaled (suc s) = then ∷ of (Only Shift) (always 0) ∷ amount (suc s) ∷ []
 
 -- [Xn|SP, Xm, lsl #s]
 abbrev pub reg_place : ℕ → List Slot
-reg_place s = bracketed (base ∷ then ∷ of (Only X) (field rm) ∷ scaled s)
+reg_place s = bracketed (base ∷ then ∷ of (Only X) (bits rm) ∷ scaled s)

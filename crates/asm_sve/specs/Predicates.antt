@@ -9,7 +9,7 @@ use Rattle.text_model.specs.declared.slots.Bits.{Bits}
 use Rattle.text_model.specs.declared.slots.Shape.TheVariants.{Told}
 use Rattle.text_model.specs.declared.slots.Slot.{Slot}
 use Rattle.text_model.specs.Reading.{Pattern}
-use Rattle.text_model.specs.Writing.{◌to◌, field, of, then, perhaps, inside, row, rows, put_at}
+use Rattle.text_model.specs.Writing.{◌to◌, bits, of, then, perhaps, inside, row, rows, put_at}
 use Rattle.asm_sve.specs.Operands.{separated, all_sizes, z_class, p_class, ended, sized, zdn, zn, zm, rd, rdn, rn, rm, pd, pn, pm, pg, pg_13_10, register, z_at, p_at, p_zeroing, p_either, unsigned_at, signed_at, named_pattern, pattern_number}
 
 -- Comparisons of vectors are written size by size: lanes of 64 bits have the operands of the wide ones.
@@ -139,7 +139,7 @@ inc_p_z_texts = let pm_8_5 = 8 to 5 in rows inc_p_z 0 0 steps (separated (z_at z
 
 -- R, x where this bit is 1, else w
 abbrev pub r_by : Bits → Bits → List Slot
-r_by sf b = of (Told sf General) (field b) ∷ []
+r_by sf b = of (Told sf General) (bits b) ∷ []
 
 unfoldable pub while_texts : List Pattern
 while_texts = rows while_compare 0 0 (codes "whilelt" ∷ codes "whilele" ∷ codes "whilelo" ∷ codes "whilels" ∷ [])

@@ -5,7 +5,7 @@ use Rattle.std.proofs.lemmas.Bool.{cases_Bool, and_parts, not-true, eqb-true, fa
 use Rattle.std.proofs.lemmas.Nat.{and_assoc}
 use lib.Bits.{and_self}
 use Rattle.emu_bits.specs.Rows.{Place, instruction}
-use Rattle.text_model.specs.Slots.{bits_in, address, all_fit}
+use Rattle.text_model.specs.Slots.{bits_in, target_address, all_fit}
 use Rattle.text_model.specs.Told.{parted, all_bound}
 use Rattle.text_model.specs.Reading.{Pattern}
 use Rattle.text_model.specs.Text.{chosen, shows}
@@ -127,7 +127,7 @@ aimed_keeps None w pc t x m h c = absurd (cc)
 aimed_keeps (Some r) w pc t x m h c =
     let v : ℕ = number_to r pc t in
     let y : ℕ = (all_bound (record { mask = 0; word = w }) (parted r.parts v)).word in
-    ap (λ (z : ℕ). bit_and z m) (aimed_if (address r.by r.page (bits_in r.parts) v pc == t) y x h) ∙ parts_keep (record { mask = 0; word = w }) r.parts v m c
+    ap (λ (z : ℕ). bit_and z m) (aimed_if (target_address r.by r.page (bits_in r.parts) v pc == t) y x h) ∙ parts_keep (record { mask = 0; word = w }) r.parts v m c
 
 uncut : (w b m : ℕ) → bit_and b m ≡ m → bit_and (bit_and w b) m ≡ bit_and w m
 uncut w b m h = and_assoc m w b ∙ ap (bit_and w) h

@@ -109,7 +109,7 @@ outcome_of_image file args input bits budget pages image =
 
 -- the arguments of a program: the word that names its file, and the words from a place on
 abbrev pub program_arguments : List (List ℕ) → ℕ → ℕ → List (List ℕ)
-program_arguments words file args = get_or words file [] ∷ drop args words
+program_arguments words file_place args_place = get_or words file_place [] ∷ drop args_place words
 
 -- ---- asm
 
@@ -230,23 +230,26 @@ outcome_of_threads file schedule args input bits budget pages image =
 
 abbrev pub outcome_of_line : List (List ℕ) → Files → List ℕ → Result Line WordsFault → Option Outcome
 outcome_of_line words files input (Err fault) = Some (refusal (WordsRefused fault) (words_line fault))
-outcome_of_line words files input (Ok (Run file args bits budget pages)) =
-    with_file (file_at words files file) (λ bytes.
-    Some (outcome_of_image bytes (program_arguments words file args) input bits budget pages (elf bytes pages)))
-outcome_of_line words files input (Ok (Asm listing)) =
-    with_file (file_at words files listing) (λ bytes. Some (outcome_of_listing (image_of_bytes statements bytes)))
-outcome_of_line words files input (Ok (Dis file)) =
-    with_file (file_at words files file) (λ bytes. Some (outcome_of_words bytes (elf bytes most_pages)))
-outcome_of_line words files input (Ok (Dbg file script args bits budget pages)) =
-    with_file (file_at words files file) (λ bytes. with_file (file_at words files script) (λ text.
-    Some (outcome_of_debug bytes text (program_arguments words file args) input bits budget pages (elf bytes pages))))
+outcome_of_line words files input (Ok (Run file_place args_place bits budget pages)) =
+    with_file (file_at words files file_place) (λ bytes.
+    Some (outcome_of_image bytes (program_arguments words file_place args_place) input bits budget pages
+    (elf bytes pages)))
+outcome_of_line words files input (Ok (Asm listing_place)) =
+    with_file (file_at words files listing_place) (λ bytes. Some (outcome_of_listing (image_of_bytes statements bytes)))
+outcome_of_line words files input (Ok (Dis file_place)) =
+    with_file (file_at words files file_place) (λ bytes. Some (outcome_of_words bytes (elf bytes most_pages)))
+outcome_of_line words files input (Ok (Dbg file_place script_place args_place bits budget pages)) =
+    with_file (file_at words files file_place) (λ bytes. with_file (file_at words files script_place) (λ text.
+    Some (outcome_of_debug bytes text (program_arguments words file_place args_place) input bits budget pages
+    (elf bytes pages))))
 outcome_of_line words files input (Ok (Load number)) = Some (outcome_of_load (image_of statements (listing number)))
-outcome_of_line words files input (Ok (SweepLine file args budget pages)) =
-    with_file (file_at words files file) (λ bytes.
-    Some (outcome_of_swept bytes (program_arguments words file args) input budget pages (elf bytes pages)))
-outcome_of_line words files input (Ok (ThreadsLine file schedule args bits budget pages)) =
-    with_file (file_at words files file) (λ bytes. with_file (file_at words files schedule) (λ text.
-    Some (outcome_of_threads bytes text (program_arguments words file args) input bits budget pages (elf bytes pages))))
+outcome_of_line words files input (Ok (SweepLine file_place args_place budget pages)) =
+    with_file (file_at words files file_place) (λ bytes.
+    Some (outcome_of_swept bytes (program_arguments words file_place args_place) input budget pages (elf bytes pages)))
+outcome_of_line words files input (Ok (ThreadsLine file_place schedule_place args_place bits budget pages)) =
+    with_file (file_at words files file_place) (λ bytes. with_file (file_at words files schedule_place) (λ text.
+    Some (outcome_of_threads bytes text (program_arguments words file_place args_place) input bits budget pages
+    (elf bytes pages))))
 
 -- the result of a command line over these files and this input; none where it names a file that there isn't
 abbrev pub result_of : List (List ℕ) → Files → List ℕ → Option Outcome

@@ -14,7 +14,7 @@ use Rattle.emu_run.specs.Threads.{WorldState, threads}
 use Rattle.emu_run.specs.Threads.{with_input as world_with_input}
 use Rattle.emu_run.specs.Worlds.{World}
 use Rattle.emu_system.specs.Start.{with_input}
-use Rattle.emu_system.specs.SystemCall.{Action, fails, answers, takes, puts, action, action_of, argument, buffer, call_name, cut_to, entries, file_of, is_denied, is_sink, is_too_long, most_bytes, name_of_call, number_of_call, with_buffer, with_entries, with_vector}
+use Rattle.emu_system.specs.SystemCall.{Action, fails, answers, takes, puts, action, action_of, call_argument, buffer, call_name, cut_to, entries, file_of, is_denied, is_sink, is_too_long, most_bytes, name_of_call, number_of_call, with_buffer, with_entries, with_vector}
 use Rattle.emu_system.specs.declared.system_call.CallName.{CallName}
 use Rattle.emu_system.specs.declared.system_call.CallName.TheVariants.{Read, Write, Readv, Writev}
 use Rattle.emu_system.specs.declared.system_call.Errno.{Errno}
@@ -119,7 +119,7 @@ choice P false x y p q = q
 module _ (P : Action → Type 0) (fail : (e : Errno) → P (fails e)) (none : P (answers 0)) (moves : List Range → Action) (move : (ranges : List Range) → P (moves ranges)) (kind : Kind) (c : Core) (m : Memory) where
   buffered : P (with_buffer kind moves c m)
   buffered =
-      choice P (nat_eq (argument c 2) 0) (answers 0) _ none
+      choice P (nat_eq (call_argument c 2) 0) (answers 0) _ none
       (choice P (is_denied m kind (buffer c)) (fails EFAULT) (moves (buffer c ∷ [])) (fail EFAULT) (move (buffer c ∷ [])))
 
   entered : (ranges : List Range) → P (with_entries kind moves ranges m)
@@ -129,9 +129,9 @@ module _ (P : Action → Type 0) (fail : (e : Errno) → P (fails e)) (none : P 
 
   vectored : P (with_vector kind moves c m)
   vectored =
-      choice P (nat_lt 1024 (argument c 2)) (fails EINVAL) _ (fail EINVAL)
-      (choice P (is_denied m ToRead (record { address = argument c 1; length = 16 * argument c 2 })) (fails EFAULT) (with_entries kind moves (entries m (argument c 1) (argument c 2)) m) (fail EFAULT)
-      (entered (entries m (argument c 1) (argument c 2))))
+      choice P (nat_lt 1024 (call_argument c 2)) (fails EINVAL) _ (fail EINVAL)
+      (choice P (is_denied m ToRead (record { address = call_argument c 1; length = 16 * call_argument c 2 })) (fails EFAULT) (with_entries kind moves (entries m (call_argument c 1) (call_argument c 2)) m) (fail EFAULT)
+      (entered (entries m (call_argument c 1) (call_argument c 2))))
 
 -- by the number of the call
 named : (P : Action → Type 0) (m : Parts) (name : CallName) → name_of_call m.core ≡ name → P (action_of name m.core m.vectors m.memory m.brk) → P (action m)
@@ -269,20 +269,28 @@ either true step line = inl (step refl)
 either false step line = inr (line refl)
 
 module _ (m : Parts) (n : MachineState) (commands : List Command) (budget : ℕ) (end : SessionEnd) (ending : Ending) (left o0 o1 e0 e1 : Option (List ℕ)) (by : ending ≡ ending_of_session end)
-    (line : n.failed ≡ false → is_fault end ≡ true → end ≡ sessions.WriteFault) (goes : n.failed ≡ true → is_none n.parts.ended ≡ true)
+    (line : n.failed ≡ false → is_fault end ≡ true → end ≡ sessions.WriteFault) (goes : n.failed ≡ true → is_none n.parts.ended ≡ true) (below : n.failed ≡ true → n.parts.steps < budget)
     (reads : end ≡ sessions.ReadFault → NamesRead n.parts.core) (writes : n.failed ≡ true → end ≡ sessions.WriteFault → MakesWrite n.parts 1) (errs : end ≡ sessions.ErrorsFault → MakesWrite n.parts 2) where
   abbrev session_put : List ℕ → ℕ → ℕ → State
   session_put bytes first steps = until_end (session (take first commands) budget (with_input m bytes)) steps
 
+  -- at a call, within the budget
+  abbrev SessionAt : List ℕ → ℕ → ℕ → Type 0
+  SessionAt bytes first steps = (within : (session_put bytes first steps).parts.steps < budget) × AtCall ending left (session_put bytes first steps)
+
+  session_within : (bytes : List ℕ) (put : State → List ℕ) (old new : Option (List ℕ)) (s : StandsWith put commands budget (with_input m bytes) n left old new)
+      → n.failed ≡ true → (session_put bytes s.first s.steps).parts.steps < budget
+  session_within bytes put old new s failed = subst (λ (x : ℕ). x < budget) (ap (λ (p : Parts). p.steps) (s.kept failed).is) (below failed)
+
   session_in : (bytes : List ℕ) (put : State → List ℕ) (old new : Option (List ℕ)) (s : StandsWith put commands budget (with_input m bytes) n left old new)
-      → AtCall ending left (session_put bytes s.first s.steps) ⊎ ((s.steps ≡ 0) × (ending ≡ WriteFault)) → HasPut (InForward commands m budget ending left bytes) put old new
+      → SessionAt bytes s.first s.steps ⊎ ((s.steps ≡ 0) × (ending ≡ WriteFault)) → HasPut (InForward commands m budget ending left bytes) put old new
   session_in bytes put old new s at = (session_put bytes s.first s.steps, (s.first, s.steps, refl, at), s.gained)
 
   session_read : (bytes : List ℕ) (put : State → List ℕ) (old new : Option (List ℕ)) → ending ≡ ReadFault → StandsWith put commands budget (with_input m bytes) n left old new → HasPut (InForward commands m budget ending left bytes) put old new
   session_read bytes put old new e s =
       let r : end ≡ sessions.ReadFault = session_reads end (sym by ∙ e) in
       let failed : n.failed ≡ true = failed_so n.failed end sessions.ReadFault r refl (λ e. cc) line in
-      session_in bytes put old new s (inl (as_ending ending ReadFault left (session_put bytes s.first s.steps) e (at_read (session_put bytes s.first s.steps) n.parts left (s.kept failed) (goes failed) (reads r))))
+      session_in bytes put old new s (inl (session_within bytes put old new s failed, as_ending ending ReadFault left (session_put bytes s.first s.steps) e (at_read (session_put bytes s.first s.steps) n.parts left (s.kept failed) (goes failed) (reads r))))
 
   pub session_keeps : (f : List ℕ → Option Outcome) (told : Option (List ℕ))
       → ((end ≡ sessions.ReadFault) ⊎ (end ≡ sessions.ErrorsFault) → IfSome told (λ bytes. StandsWith (λ st. st.output) commands budget (with_input m bytes) n left o0 o1))
@@ -297,7 +305,7 @@ module _ (m : Parts) (n : MachineState) (commands : List Command) (budget : ℕ)
               let r : end ≡ sessions.ErrorsFault = session_errs end (sym by ∙ e) in
               let failed : n.failed ≡ true = failed_so n.failed end sessions.ErrorsFault r refl (λ e. cc) line in
               let s : StandsWith out commands budget (with_input m bytes) n left o0 o1 = stands (inr r) in
-              inl (session_in bytes out o0 o1 s (inl (as_ending ending ErrorsFault left (session_put bytes s.first s.steps) e (at_errors (session_put bytes s.first s.steps) n.parts left (s.kept failed) (goes failed) (errs r).names))))
+              inl (session_in bytes out o0 o1 s (inl (session_within bytes out o0 o1 s failed, as_ending ending ErrorsFault left (session_put bytes s.first s.steps) e (at_errors (session_put bytes s.first s.steps) n.parts left (s.kept failed) (goes failed) (errs r).names))))
         ]),
         (λ fault. elim fault as (λ _. HasPut (InForward commands m budget ending left bytes) err e0 e1) [
           | inl e ↦ session_read bytes err e0 e1 e (more (inl (session_reads end (sym by ∙ e))))
@@ -306,7 +314,7 @@ module _ (m : Parts) (n : MachineState) (commands : List Command) (budget : ℕ)
               let s : StandsWith err commands budget (with_input m bytes) n left e0 e1 = more (inr r) in
               session_in bytes err e0 e1 s
               (either n.failed
-              (λ failed. as_ending ending WriteFault left (session_put bytes s.first s.steps) e (at_write (session_put bytes s.first s.steps) n.parts left (s.kept failed) (goes failed) (writes failed r).names))
+              (λ failed. let at : SessionAt bytes s.first s.steps = (session_within bytes err e0 e1 s failed, as_ending ending WriteFault left (session_put bytes s.first s.steps) e (at_write (session_put bytes s.first s.steps) n.parts left (s.kept failed) (goes failed) (writes failed r).names)) in at)
               (λ none. ((s.whole none).0, e)))
         ]),
       )

@@ -27,7 +27,7 @@ use Rattle.commands.specs.Endings.{ended_by, ending_of_back}
 use Rattle.commands.specs.Ahead.{InForward}
 use Rattle.commands.specs.Lines.{script_goes_back}
 use Rattle.commands.specs.Whole.{InSession}
-use Rattle.commands.specs.Promises.{is_refusal, settled_sweep, settles_by}
+use Rattle.commands.specs.Promises.{is_refusal, settled_reader, settles_by}
 use Rattle.commands.specs.Meets.{Now, now, Meets, MeetsBy, MeetsSweep}
 use Rattle.commands.specs.Sweeping.{ends_swept, Writes}
 use Rattle.commands.proofs.Meetings.{line_meets, never}
@@ -128,7 +128,7 @@ back_wrote commands budget m opened input o0 o1 e0 e1 end result same by outs er
 pub back_takes : (commands : List Command) (budget : ℕ) (m : Parts) (i : List ℕ) → (outcome_of_session_back commands budget m i).taken ≡ length i
 back_takes commands budget m i = refl
 
-pub back_settles : (commands : List Command) (budget : ℕ) (m : Parts) (i : List ℕ) → settled_sweep (outcome_of_session_back commands budget m i).ending ≡ None
+pub back_settles : (commands : List Command) (budget : ℕ) (m : Parts) (i : List ℕ) → settled_reader (outcome_of_session_back commands budget m i).ending ≡ None
 back_settles commands budget m i = refl
 
 pub back_accepts : (commands : List Command) (budget : ℕ) (m : Parts) (i : List ℕ) → is_refusal (outcome_of_session_back commands budget m i).ending ≡ false

@@ -7,7 +7,7 @@ use Rattle.command_lines.specs.Outcome.{Outcome, Files, file_limit}
 use Rattle.command_lines.specs.declared.ending.Ending.{Ending}
 use Rattle.command_lines.specs.declared.ending.Ending.TheVariants.{Exit, Trap, Spent, Stuck, Done, WordsRefused, ImageRefused, ListingRefused, ScriptRefused, ScheduleRefused, TooLong}
 use Rattle.commands.specs.Lines.{stops_any}
-use Rattle.commands.specs.Promises.{is_failure, is_refusal, rests_on_none, settled_ending, settled_sweep, settles_by, EndsAs, Settles, SettlesSweep}
+use Rattle.commands.specs.Promises.{is_failure, is_refusal, rests_on_none, settled_ending, settled_reader, settles_by, EndsAs, Settles, SettlesReader}
 use Rattle.commands.specs.Meets.{Meets, MeetsBy, Now}
 use Rattle.commands.proofs.Meetings.{never, nothing_meets}
 
@@ -31,9 +31,9 @@ at_limit : (limit : ℕ) → nat_eq limit file_limit ≡ true → limit ≡ file
 at_limit limit e = grind (arith, nat_tests)
 
 -- nor is it that of a command that read its input
-refusal_swept : (e : Ending) → is_refusal e ≡ true → settled_sweep e ≡ Some e
+refusal_swept : (e : Ending) → is_refusal e ≡ true → settled_reader e ≡ Some e
 refusal_swept (WordsRefused fault) is = refl
-refusal_swept (TooLong limit) is = subst (λ (n : ℕ). settled_sweep (TooLong n) ≡ Some (TooLong n)) (sym (at_limit limit is)) refl
+refusal_swept (TooLong limit) is = subst (λ (n : ℕ). settled_reader (TooLong n) ≡ Some (TooLong n)) (sym (at_limit limit is)) refl
 refusal_swept (ImageRefused fault) is = refl
 refusal_swept (ListingRefused fault) is = refl
 refusal_swept (ScriptRefused fault) is = refl
@@ -48,7 +48,7 @@ ends_so Spent r is = cc
 ends_so Stuck r is = cc
 ends_so e r is = cc
 
-swept_so : (e r : Ending) → settled_sweep e ≡ Some r → e ≡ r
+swept_so : (e r : Ending) → settled_reader e ≡ Some r → e ≡ r
 swept_so Done r is = cc
 swept_so (TooLong limit) r is = cond_some (nat_eq limit stream_limit) (TooLong limit) r is
 swept_so e r is = cc
@@ -65,16 +65,16 @@ rests_ends false (Some outcome) ending none settles = ends_so ending outcome.end
 refused_settles : (b : Bool) (o : Option Outcome) (ending : Ending) → rests_on_none o ≡ true → Settles o ending → settles_by b o ending
 refused_settles false o ending none settles = settles
 refused_settles true None ending none settles = settles
-refused_settles true (Some outcome) ending none settles = ap settled_sweep (ends_so ending outcome.ending (settles ∙ refusal_is outcome.ending none))
+refused_settles true (Some outcome) ending none settles = ap settled_reader (ends_so ending outcome.ending (settles ∙ refusal_is outcome.ending none))
 
-file_settles : (limit : ℕ) (ending : Ending) → limit ≡ file_limit → Some (TooLong limit) ≡ settled_ending ending → settled_sweep (TooLong limit) ≡ settled_sweep ending
+file_settles : (limit : ℕ) (ending : Ending) → limit ≡ file_limit → Some (TooLong limit) ≡ settled_ending ending → settled_reader (TooLong limit) ≡ settled_reader ending
 file_settles limit (Exit code) at same = cc
 file_settles limit (Trap trap pc) at same = cc
 file_settles limit Spent at same = cc
 file_settles limit Stuck at same = cc
-file_settles limit ending at same = let e : TooLong limit ≡ ending = cc in ap settled_sweep e
+file_settles limit ending at same = let e : TooLong limit ≡ ending = cc in ap settled_reader e
 
-unread_settles : (o : Option Outcome) (ending : Ending) → stops_any ending ≡ true → is_failure ending ≡ false → Settles o ending → SettlesSweep o ending
+unread_settles : (o : Option Outcome) (ending : Ending) → stops_any ending ≡ true → is_failure ending ≡ false → Settles o ending → SettlesReader o ending
 unread_settles None ending kind fine settles = settles
 unread_settles (Some outcome) (TooLong limit) kind fine settles = file_settles limit outcome.ending (at_limit limit kind) settles
 unread_settles (Some outcome) ending kind fine settles = cc

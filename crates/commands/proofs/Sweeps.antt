@@ -12,7 +12,7 @@ use Rattle.command_lines.specs.Outcome.{Outcome, outcome_of_lengths, outcome_of_
 use Rattle.command_lines.specs.declared.ending.Ending.{Ending}
 use Rattle.command_lines.specs.declared.ending.Ending.TheVariants.{Done, ImageRefused, TooLong, ErrorsFault}
 use Rattle.commands.specs.Endings.{ended_by}
-use Rattle.commands.specs.Promises.{is_failure, is_refusal, settled_sweep}
+use Rattle.commands.specs.Promises.{is_failure, is_refusal, settled_reader}
 use Rattle.commands.specs.Meets.{now, MeetsSweep, Now}
 use Rattle.commands.specs.Sweeping.{Writes}
 use Rattle.commands.proofs.Meetings.{line_meets, never, no_first, none_gained}
@@ -65,8 +65,8 @@ taken_is s = elim (fits s) as (λ b. (cond b (record { ending = Done; output = s
   | false ↦ refl
 ]
 
-sweep_settled : (s : Sweep) → settled_sweep (outcome_of_sweep s).ending ≡ None
-sweep_settled s = elim (fits s) as (λ b. settled_sweep (cond b (record { ending = Done; output = sweep_text s; errors = []; taken = length s.input }) (too_long_stream (text_before s) (length s.input))).ending ≡ None) [
+sweep_settled : (s : Sweep) → settled_reader (outcome_of_sweep s).ending ≡ None
+sweep_settled s = elim (fits s) as (λ b. settled_reader (cond b (record { ending = Done; output = sweep_text s; errors = []; taken = length s.input }) (too_long_stream (text_before s) (length s.input))).ending ≡ None) [
   | true ↦ refl
   | false ↦ refl
 ]
@@ -92,7 +92,7 @@ module _ (file : List ℕ) (args : List (List ℕ)) (budget pages : ℕ) (image 
   pub takes_all : (i : List ℕ) → (lines_over i).taken ≡ length i
   takes_all i = taken_is (over_input i)
 
-  pub settles_as : (i : List ℕ) → settled_sweep (lines_over i).ending ≡ None
+  pub settles_as : (i : List ℕ) → settled_reader (lines_over i).ending ≡ None
   settles_as i = sweep_settled (over_input i)
 
   pub accepts_it : (i : List ℕ) → is_refusal (lines_over i).ending ≡ false

@@ -17,7 +17,7 @@ use Rattle.command_lines.specs.Outcome.{Outcome, over_whole, too_long_stream}
 use Rattle.command_lines.specs.declared.ending.Ending.{Ending}
 use Rattle.command_lines.specs.declared.ending.Ending.TheVariants.{Done, TooLong, ErrorsFault}
 use Rattle.commands.specs.Endings.{ended_by}
-use Rattle.commands.specs.Promises.{is_failure, is_refusal, settled_sweep, CountsFor, Loses}
+use Rattle.commands.specs.Promises.{is_failure, is_refusal, settled_reader, CountsFor, Loses}
 use Rattle.commands.specs.Meets.{now, MeetsSweep}
 use Rattle.commands.specs.Sweeping.{ends_swept, Writes}
 use Rattle.commands.proofs.Meetings.{at_told, loses_within, never, no_first, none_gained, told}
@@ -29,7 +29,7 @@ told_with (Some xs) p = p xs refl
 
 -- ---- the ending of a command that read its input
 
-settled_swept : (ending : Ending) → ends_swept ending ≡ true → is_failure ending ≡ false → settled_sweep ending ≡ None
+settled_swept : (ending : Ending) → ends_swept ending ≡ true → is_failure ending ≡ false → settled_reader ending ≡ None
 settled_swept Done kind fine = refl
 settled_swept (TooLong limit) kind fine = ap (λ b. cond b None (Some (TooLong limit))) kind
 settled_swept ending kind fine = cc
@@ -66,7 +66,7 @@ beyond : (n : ℕ) → stream_limit + 1 ≤ n → nat_lt stream_limit n ≡ true
 beyond n le = grind (arith, nat_tests)
 
 -- what comes of an input that isn't too long: all of it is taken, and the ending is that of a command that read it
-module _ (over : List ℕ → Outcome) (taken_is : (i : List ℕ) → (over i).taken ≡ length i) (over_settled : (i : List ℕ) → settled_sweep (over i).ending ≡ None)
+module _ (over : List ℕ → Outcome) (taken_is : (i : List ℕ) → (over i).taken ≡ length i) (over_settled : (i : List ℕ) → settled_reader (over i).ending ≡ None)
     (over_accepts : (i : List ℕ) → is_refusal (over i).ending ≡ false) where
   abbrev of_input : List ℕ → Outcome
   of_input i = over_whole over i
@@ -77,8 +77,8 @@ module _ (over : List ℕ → Outcome) (taken_is : (i : List ℕ) → (over i).t
   long : (i : List ℕ) → stream_limit + 1 ≤ length i → of_input i ≡ too_long_stream [] (stream_limit + 1)
   long i le = ap (λ (b : Bool). cond b (too_long_stream [] (stream_limit + 1)) (over i)) (beyond (length i) le)
 
-  input_settled : (i : List ℕ) → settled_sweep (of_input i).ending ≡ None
-  input_settled i = elim (nat_lt stream_limit (length i)) as (λ b. settled_sweep (cond b (too_long_stream [] (stream_limit + 1)) (over i)).ending ≡ None) [
+  input_settled : (i : List ℕ) → settled_reader (of_input i).ending ≡ None
+  input_settled i = elim (nat_lt stream_limit (length i)) as (λ b. settled_reader (cond b (too_long_stream [] (stream_limit + 1)) (over i)).ending ≡ None) [
     | true ↦ refl
     | false ↦ over_settled i
   ]

@@ -3,7 +3,7 @@ use Rattle.std.specs.Prelude.{◌≡◌, ℕ, false, List, Option, IfSome, Resul
 use Rattle.emu_system.specs.Gained.{Gains}
 use Rattle.command_lines.specs.Outcome.{Outcome, Files}
 use Rattle.command_lines.specs.declared.ending.Ending.{Ending}
-use Rattle.commands.specs.Promises.{is_failure, EndsAs, Settles, SettlesSweep, output_of, errors_of, taken_of, Loses, CountsFor}
+use Rattle.commands.specs.Promises.{is_failure, EndsAs, Settles, SettlesReader, output_of, errors_of, taken_of, Loses, CountsFor}
 use Rattle.commands.specs.Lines.{SettlesLine}
 use Rattle.command_model.specs.declared.command_line.Line.{Line}
 use Rattle.command_model.specs.declared.command_line.WordsFault.{WordsFault}
@@ -33,7 +33,7 @@ Meets outcome ending old new = MeetsBy Settles outcome ending old new
 
 -- and so is one that isn't that of a sweep
 abbrev pub MeetsSweep : (List ℕ → Option Outcome) → Ending → Now → Now → Type 0
-MeetsSweep outcome ending old new = MeetsBy SettlesSweep outcome ending old new
+MeetsSweep outcome ending old new = MeetsBy SettlesReader outcome ending old new
 
 abbrev pub MeetsLine : List (List ℕ) → Files → Result Line WordsFault → (List ℕ → Option Outcome) → Ending → Now → Now → Type 0
 MeetsLine words files line outcome ending old new = MeetsBy (SettlesLine words files line) outcome ending old new

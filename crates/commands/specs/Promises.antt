@@ -58,19 +58,19 @@ Settles (Some outcome) ending = settled_ending ending ≡ settled_ending outcome
 
 -- the ending of a command that reads its input to the end before anything is run, where it rests on no input: any but
 -- that the command came to its end, or that a stream was too long for it
-abbrev pub settled_sweep : Ending → Option Ending
-settled_sweep Done = None
-settled_sweep (TooLong limit) = if nat_eq limit stream_limit then None else Some (TooLong limit)
-settled_sweep ending = Some ending
+abbrev pub settled_reader : Ending → Option Ending
+settled_reader Done = None
+settled_reader (TooLong limit) = if nat_eq limit stream_limit then None else Some (TooLong limit)
+settled_reader ending = Some ending
 
 -- the command ends as its outcome says, or both end as such a command does that read its input
-abbrev pub SettlesSweep : Option Outcome → Ending → Type 0
-SettlesSweep None ending = ⊥
-SettlesSweep (Some outcome) ending = settled_sweep ending ≡ settled_sweep outcome.ending
+abbrev pub SettlesReader : Option Outcome → Ending → Type 0
+SettlesReader None ending = ⊥
+SettlesReader (Some outcome) ending = settled_reader ending ≡ settled_reader outcome.ending
 
 -- by whether the input is read so
 abbrev pub settles_by : Bool → Option Outcome → Ending → Type 0
-settles_by true = SettlesSweep
+settles_by true = SettlesReader
 settles_by false = Settles
 
 -- the outcome rests on no input: there is none, or it is a refusal

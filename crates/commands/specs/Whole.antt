@@ -14,7 +14,7 @@ use Rattle.emu_model.specs.State.{Parts, State}
 use Rattle.emu_run.specs.Run.{run, until_end}
 use Rattle.emu_run.specs.Threads.{WorldState, threads}
 use Rattle.emu_run.specs.Threads.{with_input as world_with_input}
-use Rattle.emu_run.specs.Worlds.{World, context, joined, opened}
+use Rattle.emu_run.specs.Worlds.{World, context, parts_with, opened}
 use Rattle.emu_system.specs.Image.{elf}
 use Rattle.emu_system.specs.Start.{opening, with_input}
 use Rattle.emu_system.specs.SystemCall.{Action, takes, puts, action, total}
@@ -37,26 +37,26 @@ AtCall ending left st = (is_none st.parts.ended ≡ true) × Undone ending (acti
 
 -- behind so many steps of a run
 abbrev pub InRun : Parts → ℕ → Ending → Option (List ℕ) → List ℕ → State → Type 0
-InRun m budget ending left input st =
-    (n : ℕ) × (within : n < budget) × (st ≡ run (with_input m input) n) × AtCall ending left st
+InRun parts budget ending left input st =
+    (n : ℕ) × (within : n < budget) × (st ≡ run (with_input parts input) n) × AtCall ending left st
 
--- behind the first commands of a session, and so many steps; or just behind these commands, where a line of the session
--- couldn't be put
+-- behind the first commands of a session, and so many steps, which the budget bounds as a whole; or just behind these
+-- commands, where a line of the session couldn't be put
 abbrev pub InSession : List Command → Parts → ℕ → Ending → Option (List ℕ) → List ℕ → State → Type 0
-InSession commands m budget ending left input st =
-    (first : ℕ) × (n : ℕ) × (st ≡ until_end (session (take first commands) budget (with_input m input)) n)
-    × (AtCall ending left st ⊎ ((n ≡ 0) × (ending ≡ WriteFault)))
+InSession commands parts budget ending left input st =
+    (first : ℕ) × (n : ℕ) × (st ≡ until_end (session (take first commands) budget (with_input parts input)) n)
+    × (((within : st.parts.steps < budget) × AtCall ending left st) ⊎ ((n ≡ 0) × (ending ≡ WriteFault)))
 
 -- the state of a world, as context k has it
 abbrev pub seen_by : ℕ → WorldState → State
 seen_by k st =
-    let parts : Parts = joined st.world (context st.world k) in
+    let parts : Parts = parts_with st.world (context st.world k) in
     record { parts = parts; input = st.input; output = st.output; errors = st.errors }
 
 -- behind so many steps of a world, as one of its contexts has it
 abbrev pub InWorld : List (ℕ × ℕ) → World → ℕ → Ending → Option (List ℕ) → List ℕ → State → Type 0
-InWorld turns w budget ending left input st =
-    (n : ℕ) × (within : n < budget) × (k : ℕ) × (st ≡ seen_by k (threads turns n (world_with_input w input)))
+InWorld turns world budget ending left input st =
+    (n : ℕ) × (within : n < budget) × (k : ℕ) × (st ≡ seen_by k (threads turns n (world_with_input world input)))
     × AtCall ending left st
 
 -- of a line over these files

@@ -9,7 +9,7 @@ use Rattle.emu_run.specs.RunLaws.{Moves, prefix_refl, prefix_trans, step_moves, 
 use Rattle.dbg_model.specs.declared.script.Command.{Command}
 use Rattle.dbg_model.specs.declared.script.Command.TheVariants.{Step, Go, Break, Watch, Regs, Vl, Zreg, Preg, Ffr, Lanes, Mem, Back}
 use Rattle.dbg_model.specs.declared.script.Stop.{Stop}
-use Rattle.dbg_model.specs.Session.{Points, no_points, is_touched, point_met, with_point, shown, stepped_text, stop_line, watch_met, Course, back_text, ended_line, go, walked, moved_to, obeyed, obeyed_all, printed, stepped, stopped_or}
+use Rattle.dbg_model.specs.Session.{Points, no_points, is_touched, point_met, with_point, command_text, stepped_text, stop_line, watch_met, Course, back_text, ended_line, go, walked, moved_to, obeyed, obeyed_all, printed, stepped, stopped_or}
 use Rattle.dbg_model.specs.CourseLaws.{moved_added, moved_one, moved_over, step_most, stepped_parts, turn_counts}
 use Rattle.dbg_model.specs.SessionEquations.{go-suc, go-zero, walked-zero}
 
@@ -65,15 +65,15 @@ appends_obeyed start (Step n) points budget c =
     let k : ℕ = min (c.state.parts.steps + n) budget - c.state.parts.steps in
     appends_trans c (walked c k) (obeyed start (Step n) points budget c) (appends_moved k c) (appends_put (stepped_text (c.state.parts.steps + n)) (walked c k))
 appends_obeyed start Go points budget c = appends_go points (budget - c.state.parts.steps) c
-appends_obeyed start (Break address) points budget c = appends_put (shown (Break address)) c
-appends_obeyed start (Watch address count) points budget c = appends_put (shown (Watch address count)) c
-appends_obeyed start Regs points budget c = appends_put (shown Regs) c
-appends_obeyed start Vl points budget c = appends_put (shown Vl) c
-appends_obeyed start (Zreg k) points budget c = appends_put (shown (Zreg k)) c
-appends_obeyed start (Preg k) points budget c = appends_put (shown (Preg k)) c
-appends_obeyed start Ffr points budget c = appends_put (shown Ffr) c
-appends_obeyed start (Lanes k size) points budget c = appends_put (shown (Lanes k size)) c
-appends_obeyed start (Mem address count) points budget c = appends_put (shown (Mem address count)) c
+appends_obeyed start (Break address) points budget c = appends_put (command_text (Break address)) c
+appends_obeyed start (Watch address count) points budget c = appends_put (command_text (Watch address count)) c
+appends_obeyed start Regs points budget c = appends_put (command_text Regs) c
+appends_obeyed start Vl points budget c = appends_put (command_text Vl) c
+appends_obeyed start (Zreg k) points budget c = appends_put (command_text (Zreg k)) c
+appends_obeyed start (Preg k) points budget c = appends_put (command_text (Preg k)) c
+appends_obeyed start Ffr points budget c = appends_put (command_text Ffr) c
+appends_obeyed start (Lanes k size) points budget c = appends_put (command_text (Lanes k size)) c
+appends_obeyed start (Mem address count) points budget c = appends_put (command_text (Mem address count)) c
 appends_obeyed start (Back k) points budget c = record { output = (back_text (until_end start (c.state.parts.steps - k)).parts, refl); errors = prefix_refl c.state.errors }
 
 pub appends_all : (start : State) (commands : List Command) (points : Points) (budget : ℕ) (c : Course) → Appends c (obeyed_all start commands points budget c)

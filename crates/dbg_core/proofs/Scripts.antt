@@ -12,7 +12,7 @@ use Rattle.dbg_model.specs.declared.script.Command.{Command}
 use Rattle.dbg_model.specs.declared.script.Command.TheVariants.{Step, Go, Break, Watch, Regs, Vl, Zreg, Preg, Ffr, Lanes, Mem, Back}
 use Rattle.dbg_model.specs.Commands.{is_break, is_watch}
 use Rattle.dbg_model.specs.ScriptLimits.{is_within}
-use Rattle.dbg_model.specs.Session.{Points, with_point, shown}
+use Rattle.dbg_model.specs.Session.{Points, with_point, command_text}
 use Rattle.dbg_model.specs.Forward.{obeyed, obeyed_all}
 use Rattle.dbg_core.specs.declared.ends.SessionEnd.{SessionEnd}
 use Rattle.dbg_core.specs.declared.ends.SessionEnd.TheVariants.{Done}
@@ -162,7 +162,7 @@ all_done f script k points budget old p told left_p ho hp eo ep over led =
     commands_done f points budget old p told left_p ho hp eo ep (subst (λ (cs : List Command). Leads f (obeyed_all cs points budget) old p told left_p ho hp eo ep) (drop_all k script over) led)
 
 -- a command that doesn't move the machine
-pub shows : (command : Command) (points : Points) (budget : ℕ) → ((n : ℕ) → command ≡ Step n → ⊥) → (command ≡ Go → ⊥) → (st : State) → prints (shown command) st ≡ obeyed command points budget st
+pub shows : (command : Command) (points : Points) (budget : ℕ) → ((n : ℕ) → command ≡ Step n → ⊥) → (command ≡ Go → ⊥) → (st : State) → prints (command_text command) st ≡ obeyed command points budget st
 shows (Step n) points budget no_step no_go st = absurd (no_step n refl)
 shows Go points budget no_step no_go st = absurd (no_go refl)
 shows (Break address) points budget no_step no_go st = refl

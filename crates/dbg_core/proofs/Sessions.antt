@@ -10,7 +10,7 @@ use Rattle.emu_run.specs.RunLaws.{rest_all, Moves, moves_not, moves_trans, prefi
 use Rattle.dbg_model.specs.declared.script.Command.{Command}
 use Rattle.dbg_model.specs.declared.script.Command.TheVariants.{Step, Go, Break, Watch, Regs, Vl, Zreg, Preg, Ffr, Lanes, Mem, Back}
 use Rattle.dbg_model.specs.declared.script.Stop.{Stop}
-use Rattle.dbg_model.specs.Session.{Points, no_points, with_point, is_touched, point_met, watch_met, shown, stop_line, stepped_text}
+use Rattle.dbg_model.specs.Session.{Points, no_points, with_point, is_touched, point_met, watch_met, command_text, stop_line, stepped_text}
 use Rattle.dbg_model.specs.Forward.{printed, ending_printed, stepped, stopped_or, go, obeyed, obeyed_all}
 use Rattle.dbg_model.specs.ForwardEquations.{go-zero, go-suc}
 use Rattle.emu_machine.proofs.Composed.{Blind, Moving}
@@ -106,30 +106,30 @@ go_free (suc k) st =
 pub obeyed_blind : (command : Command) (points : Points) (budget : ℕ) → Blind (obeyed command points budget)
 obeyed_blind (Step n) points budget o e st = stepped_blind (st.parts.steps + n) budget o e st
 obeyed_blind Go points budget o e st = go_blind points (budget - st.parts.steps) o e st
-obeyed_blind (Break address) points budget o e st = prints_blind (shown (Break address)) o e st
-obeyed_blind (Watch address count) points budget o e st = prints_blind (shown (Watch address count)) o e st
-obeyed_blind Regs points budget o e st = prints_blind (shown Regs) o e st
-obeyed_blind Vl points budget o e st = prints_blind (shown Vl) o e st
-obeyed_blind (Zreg k) points budget o e st = prints_blind (shown (Zreg k)) o e st
-obeyed_blind (Preg k) points budget o e st = prints_blind (shown (Preg k)) o e st
-obeyed_blind Ffr points budget o e st = prints_blind (shown Ffr) o e st
-obeyed_blind (Lanes k size) points budget o e st = prints_blind (shown (Lanes k size)) o e st
-obeyed_blind (Mem address count) points budget o e st = prints_blind (shown (Mem address count)) o e st
-obeyed_blind (Back k) points budget o e st = prints_blind (shown (Back k)) o e st
+obeyed_blind (Break address) points budget o e st = prints_blind (command_text (Break address)) o e st
+obeyed_blind (Watch address count) points budget o e st = prints_blind (command_text (Watch address count)) o e st
+obeyed_blind Regs points budget o e st = prints_blind (command_text Regs) o e st
+obeyed_blind Vl points budget o e st = prints_blind (command_text Vl) o e st
+obeyed_blind (Zreg k) points budget o e st = prints_blind (command_text (Zreg k)) o e st
+obeyed_blind (Preg k) points budget o e st = prints_blind (command_text (Preg k)) o e st
+obeyed_blind Ffr points budget o e st = prints_blind (command_text Ffr) o e st
+obeyed_blind (Lanes k size) points budget o e st = prints_blind (command_text (Lanes k size)) o e st
+obeyed_blind (Mem address count) points budget o e st = prints_blind (command_text (Mem address count)) o e st
+obeyed_blind (Back k) points budget o e st = prints_blind (command_text (Back k)) o e st
 
 pub obeyed_moving : (command : Command) (points : Points) (budget : ℕ) → Moving (obeyed command points budget)
 obeyed_moving (Step n) points budget st = stepped_moving (st.parts.steps + n) budget st
 obeyed_moving Go points budget st = go_moves points (budget - st.parts.steps) st
-obeyed_moving (Break address) points budget st = prints_moving (shown (Break address)) st
-obeyed_moving (Watch address count) points budget st = prints_moving (shown (Watch address count)) st
-obeyed_moving Regs points budget st = prints_moving (shown Regs) st
-obeyed_moving Vl points budget st = prints_moving (shown Vl) st
-obeyed_moving (Zreg k) points budget st = prints_moving (shown (Zreg k)) st
-obeyed_moving (Preg k) points budget st = prints_moving (shown (Preg k)) st
-obeyed_moving Ffr points budget st = prints_moving (shown Ffr) st
-obeyed_moving (Lanes k size) points budget st = prints_moving (shown (Lanes k size)) st
-obeyed_moving (Mem address count) points budget st = prints_moving (shown (Mem address count)) st
-obeyed_moving (Back k) points budget st = prints_moving (shown (Back k)) st
+obeyed_moving (Break address) points budget st = prints_moving (command_text (Break address)) st
+obeyed_moving (Watch address count) points budget st = prints_moving (command_text (Watch address count)) st
+obeyed_moving Regs points budget st = prints_moving (command_text Regs) st
+obeyed_moving Vl points budget st = prints_moving (command_text Vl) st
+obeyed_moving (Zreg k) points budget st = prints_moving (command_text (Zreg k)) st
+obeyed_moving (Preg k) points budget st = prints_moving (command_text (Preg k)) st
+obeyed_moving Ffr points budget st = prints_moving (command_text Ffr) st
+obeyed_moving (Lanes k size) points budget st = prints_moving (command_text (Lanes k size)) st
+obeyed_moving (Mem address count) points budget st = prints_moving (command_text (Mem address count)) st
+obeyed_moving (Back k) points budget st = prints_moving (command_text (Back k)) st
 
 pub all_blind : (commands : List Command) (points : Points) (budget : ℕ) → Blind (obeyed_all commands points budget)
 all_blind [] points budget o e st = refl

@@ -12,7 +12,7 @@ use Rattle.dbg_model.specs.declared.script.ScriptWhy.TheVariants.{MissingWord, B
 use Rattle.dbg_model.specs.ScriptLimits.{is_within}
 use Rattle.line_words.specs.Lines.{number_of_word}
 use Rattle.line_words.specs.Refusals.{and_then}
-use Rattle.dbg_model.specs.Script.{in_range, number_within, argument, size_argument, whole, command_of, most_number}
+use Rattle.dbg_model.specs.Script.{in_range, number_within, number_argument, size_argument, complete, command_of, most_number}
 use Rattle.dbg_core.specs.Readers.{step_of, break_of, watch_of, zreg_of, preg_of, lanes_of, mem_of, back_of, command_named, named_law}
 
 -- an answer that keeps its ranges
@@ -26,7 +26,7 @@ either : (b : Bool) (r s : Result Command ScriptWhy) → Keeps r → Keeps s →
 either true r s p q = p
 either false r s p q = q
 
-keeps_whole : (words : List (List ℕ)) (count : ℕ) (command : Command) → is_within command ≡ true → Keeps (whole words count command)
+keeps_whole : (words : List (List ℕ)) (count : ℕ) (command : Command) → is_within command ≡ true → Keeps (complete words count command)
 keeps_whole words count command h =
     either (nat_lt count (length words)) (Err ExtraWord) (Ok command) (refuses ExtraWord) (λ c is. let e : command ≡ c = cc in subst (λ (x : Command). is_within x ≡ true) e h)
 
@@ -50,7 +50,7 @@ word_range : (least most : ℕ) (o : Option (List ℕ)) → HasRange least most 
 word_range least most None n is = cc
 word_range least most (Some word) n is = number_range least most (number_of_word word) n is
 
-argument_range : (words : List (List ℕ)) (place least most : ℕ) → HasRange least most (argument words place least most)
+argument_range : (words : List (List ℕ)) (place least most : ℕ) → HasRange least most (number_argument words place least most)
 argument_range words place least most = word_range least most (slice_get words place)
 
 -- what follows a number in its range
@@ -76,35 +76,35 @@ both_true a b p q = rw (p, q) refl
 
 step_keeps : (words : List (List ℕ)) → Keeps (step_of words)
 step_keeps words =
-    then_keeps 1 most_number (argument words 1 1 most_number) _ (argument_range words 1 1 most_number) (λ n h. keeps_whole words 2 (Step n) (first_true (nat_le 1 n) (nat_le n most_number) h))
+    then_keeps 1 most_number (number_argument words 1 1 most_number) _ (argument_range words 1 1 most_number) (λ n h. keeps_whole words 2 (Step n) (first_true (nat_le 1 n) (nat_le n most_number) h))
 
 break_keeps : (words : List (List ℕ)) → Keeps (break_of words)
-break_keeps words = then_keeps 0 most_number (argument words 1 0 most_number) _ (argument_range words 1 0 most_number) (λ n h. keeps_whole words 2 (Break n) refl)
+break_keeps words = then_keeps 0 most_number (number_argument words 1 0 most_number) _ (argument_range words 1 0 most_number) (λ n h. keeps_whole words 2 (Break n) refl)
 
 watch_keeps : (words : List (List ℕ)) → Keeps (watch_of words)
 watch_keeps words =
-    then_keeps 0 most_number (argument words 1 0 most_number) _ (argument_range words 1 0 most_number) (λ address _.
-    then_keeps 1 4096 (argument words 2 1 4096) _ (argument_range words 2 1 4096) (λ count h. keeps_whole words 3 (Watch address count) h))
+    then_keeps 0 most_number (number_argument words 1 0 most_number) _ (argument_range words 1 0 most_number) (λ address _.
+    then_keeps 1 4096 (number_argument words 2 1 4096) _ (argument_range words 2 1 4096) (λ count h. keeps_whole words 3 (Watch address count) h))
 
 zreg_keeps : (words : List (List ℕ)) → Keeps (zreg_of words)
-zreg_keeps words = then_keeps 0 31 (argument words 1 0 31) _ (argument_range words 1 0 31) (λ k h. keeps_whole words 2 (Zreg k) refl)
+zreg_keeps words = then_keeps 0 31 (number_argument words 1 0 31) _ (argument_range words 1 0 31) (λ k h. keeps_whole words 2 (Zreg k) refl)
 
 preg_keeps : (words : List (List ℕ)) → Keeps (preg_of words)
-preg_keeps words = then_keeps 0 15 (argument words 1 0 15) _ (argument_range words 1 0 15) (λ k h. keeps_whole words 2 (Preg k) refl)
+preg_keeps words = then_keeps 0 15 (number_argument words 1 0 15) _ (argument_range words 1 0 15) (λ k h. keeps_whole words 2 (Preg k) refl)
 
 lanes_keeps : (words : List (List ℕ)) → Keeps (lanes_of words)
 lanes_keeps words =
-    then_keeps 0 31 (argument words 1 0 31) _ (argument_range words 1 0 31) (λ k h. size_keeps (size_argument words 2) _ (λ size. keeps_whole words 3 (Lanes k size) refl))
+    then_keeps 0 31 (number_argument words 1 0 31) _ (argument_range words 1 0 31) (λ k h. size_keeps (size_argument words 2) _ (λ size. keeps_whole words 3 (Lanes k size) refl))
 
 mem_keeps : (words : List (List ℕ)) → Keeps (mem_of words)
 mem_keeps words =
-    then_keeps 0 (2 ^ 47 - 1) (argument words 1 0 (2 ^ 47 - 1)) _ (argument_range words 1 0 (2 ^ 47 - 1)) (λ address below.
-    then_keeps 1 4096 (argument words 2 1 4096) _ (argument_range words 2 1 4096) (λ count h.
+    then_keeps 0 (2 ^ 47 - 1) (number_argument words 1 0 (2 ^ 47 - 1)) _ (argument_range words 1 0 (2 ^ 47 - 1)) (λ address below.
+    then_keeps 1 4096 (number_argument words 2 1 4096) _ (argument_range words 2 1 4096) (λ count h.
     keeps_whole words 3 (Mem address count) (both_true (nat_lt address (2 ^ 47)) (nat_le 1 count && nat_le count 4096) (below_is address below) h)))
 
 back_keeps : (words : List (List ℕ)) → Keeps (back_of words)
 back_keeps words =
-    then_keeps 1 most_number (argument words 1 1 most_number) _ (argument_range words 1 1 most_number) (λ n h. keeps_whole words 2 (Back n) (first_true (nat_le 1 n) (nat_le n most_number) h))
+    then_keeps 1 most_number (number_argument words 1 1 most_number) _ (argument_range words 1 1 most_number) (λ n h. keeps_whole words 2 (Back n) (first_true (nat_le 1 n) (nat_le n most_number) h))
 
 named_keeps : (name : List ℕ) (words : List (List ℕ)) → Keeps (command_named name words)
 named_keeps name words =

@@ -9,43 +9,43 @@ use Rattle.dbg_model.specs.declared.script.Command.{Command}
 use Rattle.dbg_model.specs.declared.script.Command.TheVariants.{Step, Go, Break, Watch, Regs, Vl, Zreg, Preg, Ffr, Lanes, Mem, Back}
 use Rattle.dbg_model.specs.declared.script.ScriptWhy.{ScriptWhy}
 use Rattle.dbg_model.specs.declared.script.ScriptWhy.TheVariants.{UnknownCommand}
-use Rattle.dbg_model.specs.Script.{argument, command_of, most_number, readers, size_argument, whole}
+use Rattle.dbg_model.specs.Script.{number_argument, command_of, most_number, readers, size_argument, complete}
 
 abbrev pub step_of : List (List ℕ) → Result Command ScriptWhy
-step_of words = and_then (argument words 1 1 most_number) (λ steps. whole words 2 (Step steps))
+step_of words = and_then (number_argument words 1 1 most_number) (λ steps. complete words 2 (Step steps))
 
 abbrev pub break_of : List (List ℕ) → Result Command ScriptWhy
-break_of words = and_then (argument words 1 0 most_number) (λ address. whole words 2 (Break address))
+break_of words = and_then (number_argument words 1 0 most_number) (λ address. complete words 2 (Break address))
 
 abbrev pub watch_of : List (List ℕ) → Result Command ScriptWhy
 watch_of words =
-    and_then (argument words 1 0 most_number) (λ address.
-    and_then (argument words 2 1 4096) (λ count. whole words 3 (Watch address count)))
+    and_then (number_argument words 1 0 most_number) (λ address.
+    and_then (number_argument words 2 1 4096) (λ count. complete words 3 (Watch address count)))
 
 abbrev pub zreg_of : List (List ℕ) → Result Command ScriptWhy
-zreg_of words = and_then (argument words 1 0 31) (λ k. whole words 2 (Zreg k))
+zreg_of words = and_then (number_argument words 1 0 31) (λ k. complete words 2 (Zreg k))
 
 abbrev pub preg_of : List (List ℕ) → Result Command ScriptWhy
-preg_of words = and_then (argument words 1 0 15) (λ k. whole words 2 (Preg k))
+preg_of words = and_then (number_argument words 1 0 15) (λ k. complete words 2 (Preg k))
 
 abbrev pub lanes_of : List (List ℕ) → Result Command ScriptWhy
 lanes_of words =
-    and_then (argument words 1 0 31) (λ k. and_then (size_argument words 2) (λ size. whole words 3 (Lanes k size)))
+    and_then (number_argument words 1 0 31) (λ k. and_then (size_argument words 2) (λ size. complete words 3 (Lanes k size)))
 
 abbrev pub mem_of : List (List ℕ) → Result Command ScriptWhy
 mem_of words =
-    and_then (argument words 1 0 (2 ^ 47 - 1)) (λ address.
-    and_then (argument words 2 1 4096) (λ count. whole words 3 (Mem address count)))
+    and_then (number_argument words 1 0 (2 ^ 47 - 1)) (λ address.
+    and_then (number_argument words 2 1 4096) (λ count. complete words 3 (Mem address count)))
 
 abbrev pub back_of : List (List ℕ) → Result Command ScriptWhy
-back_of words = and_then (argument words 1 1 most_number) (λ steps. whole words 2 (Back steps))
+back_of words = and_then (number_argument words 1 1 most_number) (λ steps. complete words 2 (Back steps))
 
 -- a command that prints vector registers, predicates or memory, or that goes back
 abbrev pub later_command_named : List ℕ → List (List ℕ) → Result Command ScriptWhy
 later_command_named name words =
     if bytes_eq name (codes "zreg") then zreg_of words
     else (if bytes_eq name (codes "preg") then preg_of words
-    else (if bytes_eq name (codes "ffr") then whole words 1 Ffr
+    else (if bytes_eq name (codes "ffr") then complete words 1 Ffr
     else (if bytes_eq name (codes "lanes") then lanes_of words
     else (if bytes_eq name (codes "mem") then mem_of words
     else (if bytes_eq name (codes "back") then back_of words else Err UnknownCommand)))))
@@ -53,11 +53,11 @@ later_command_named name words =
 abbrev pub command_named : List ℕ → List (List ℕ) → Result Command ScriptWhy
 command_named name words =
     if bytes_eq name (codes "step") then step_of words
-    else (if bytes_eq name (codes "go") then whole words 1 Go
+    else (if bytes_eq name (codes "go") then complete words 1 Go
     else (if bytes_eq name (codes "break") then break_of words
     else (if bytes_eq name (codes "watch") then watch_of words
-    else (if bytes_eq name (codes "regs") then whole words 1 Regs
-    else (if bytes_eq name (codes "vl") then whole words 1 Vl else later_command_named name words)))))
+    else (if bytes_eq name (codes "regs") then complete words 1 Regs
+    else (if bytes_eq name (codes "vl") then complete words 1 Vl else later_command_named name words)))))
 
 -- ---- the first reader of a name
 

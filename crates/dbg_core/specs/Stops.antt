@@ -7,7 +7,7 @@ use Rattle.dbg_model.specs.declared.script.Command.{Command}
 use Rattle.dbg_model.specs.declared.script.Command.TheVariants.{Step}
 use Rattle.dbg_model.specs.declared.script.Stop.{Stop as Met}
 use Rattle.dbg_model.specs.declared.script.Stop.TheVariants.{AtWatch, AtBreak}
-use Rattle.dbg_model.specs.Session.{Points, break_line, point_met, shown, step_line, watch_line}
+use Rattle.dbg_model.specs.Session.{Points, break_line, point_met, command_text, step_line, watch_line}
 use Rattle.dbg_core.specs.declared.points.Stop.{Stop}
 use Rattle.dbg_core.specs.declared.points.Stop.TheVariants.{Ended, Watch, Break, Spent}
 
@@ -40,4 +40,4 @@ line_of_stop Spent m = ending_line m None
 -- what a command prints of a machine that counted each of its steps
 abbrev pub shown_behind : Command → Parts → List ℕ
 shown_behind (Step n) m = step_line m.steps m.core.pc
-shown_behind command m = shown command m
+shown_behind command m = command_text command m

@@ -5,7 +5,7 @@ ghost use Rattle.io_gate.specs.Pieces.{PutsAll};
 ghost use Rattle.emu_run.specs.Reports.{ending_line};
 ghost use Rattle.emu_run.specs.Registers.{scalar_lines};
 ghost use Rattle.dbg_model.specs.ScriptLimits.{is_within};
-ghost use Rattle.dbg_model.specs.Session.{lanes_line, length_line, shown, stepped_text, stop_line};
+ghost use Rattle.dbg_model.specs.Session.{lanes_line, length_line, command_text, stepped_text, stop_line};
 ghost use Rattle.dbg_core.specs.Stops.{HasEnded, line_of_stop, shown_behind};
 
 use crate::points::Stop;
@@ -115,7 +115,7 @@ fn put_machine_lanes<S: Sink>(
 /// Puts what a command shows of a machine that it doesn't move.
 pub fn put_shown<S: Sink>(command: &Command, machine: &Machine, sink: &mut S) -> Result<(), Failed>
     requires { IsTrue (is_within command.now) }
-    ensures bytes { PutsAll (S.held sink.old) (S.held sink.new) (shown command.now machine.now.parts) result }
+    ensures bytes { PutsAll (S.held sink.old) (S.held sink.new) (command_text command.now machine.now.parts) result }
     ensures cause { HasCause (S.faults sink.old) (S.faults sink.new) result }
 {
     match command {

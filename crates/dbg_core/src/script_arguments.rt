@@ -1,6 +1,6 @@
 //! The words of a line as arguments of its command.
 ghost use Rattle.std.specs.Prelude.{◌≡◌, map};
-ghost use Rattle.dbg_model.specs.Script.{argument, in_range, number_within, size_argument, size_of_word};
+ghost use Rattle.dbg_model.specs.Script.{number_argument, in_range, number_within, size_argument, size_of_word};
 
 use dbg_model::ScriptWhy;
 use emu_bits::Esize;
@@ -29,7 +29,7 @@ fn number_within(least: u64, most: u64, word: &str) -> Result<u64, ScriptWhy>
 
 /// The word at a place as a number in a range: MissingWord, then BadNumber, then OutOfRange.
 pub fn argument(words: &[&str], place: usize, least: u64, most: u64) -> Result<u64, ScriptWhy>
-    ensures { result ≡ argument (map (λ word. word.now) words.now) place least most }
+    ensures { result ≡ number_argument (map (λ word. word.now) words.now) place least most }
 {
     match words.get(place) {
         None => Err(ScriptWhy::MissingWord),

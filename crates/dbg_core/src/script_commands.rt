@@ -1,6 +1,6 @@
 //! The command that the words of a line are.
 ghost use Rattle.std.specs.Prelude.{◌≡◌, ◌<◌, map, length, IfOk};
-ghost use Rattle.dbg_model.specs.Script.{command_of, whole};
+ghost use Rattle.dbg_model.specs.Script.{command_of, complete};
 ghost use Rattle.dbg_core.specs.Readers.{
   back_of,
   break_of,
@@ -26,7 +26,7 @@ const MOST_ADDRESS: u64 = 0x7FFF_FFFF_FFFF;
 
 /// A command of so many words, or ExtraWord where there are more.
 fn whole(words: &[&str], count: usize, command: Command) -> Result<Command, ScriptWhy>
-    ensures command { result ≡ whole (map (λ word. word.now) words.now) count command }
+    ensures command { result ≡ complete (map (λ word. word.now) words.now) count command }
     ensures same { IfOk result (λ c. c ≡ command) }
 {
     if words.len() > count {

@@ -10,9 +10,9 @@ use Rattle.emu_model.specs.declared.trap.Effect.TheVariants.{Next, Branch, Call,
 use Rattle.emu_model.specs.Access.{Memory, refused, value}
 use Rattle.emu_model.specs.Done.{Done}
 use Rattle.emu_model.specs.State.{Core, Vectors, Parts, State}
-use Rattle.emu_system.specs.SystemCall.{Action, fails, answers, maps, moves_break, sets_length, takes, puts, exits, Turn, action, done_by, quiet}
+use Rattle.emu_system.specs.SystemCall.{Action, fails, answers, maps, moves_break, sets_length, takes, puts, exits, Stepped, action, call_done, quiet}
 use Rattle.emu_run.specs.declared.insn.Insn.{Insn}
-use Rattle.emu_run.specs.Step.{accesses, decode, executed, fetched, finished, performed, step, trapped, turn}
+use Rattle.emu_run.specs.Step.{accesses, decode, executed, fetched, finished, performed, step, trapped, step_from}
 use Rattle.emu_run.specs.Run.{goes_on, until_end}
 use Rattle.emu_run.specs.RunLaws.{until_end_none, until_end_one, until_end_over}
 use Rattle.emu_run.specs.Steps.{until_end_added}
@@ -20,21 +20,21 @@ use Rattle.dbg_model.specs.declared.script.Command.{Command}
 use Rattle.dbg_model.specs.declared.script.Command.TheVariants.{Step, Go, Break, Watch, Regs, Vl, Zreg, Preg, Ffr, Lanes, Mem, Back}
 use Rattle.dbg_model.specs.declared.script.Stop.{Stop}
 use Rattle.dbg_model.specs.Reached.{same_input, same_parts, same_seen}
-use Rattle.dbg_model.specs.Session.{Points, no_points, point_met, with_point, shown, stepped_text, stop_line, Course, begun, ended_line, go, walked, moved_to, obeyed, obeyed_all, printed, session, stepped, stopped_or, went_back}
+use Rattle.dbg_model.specs.Session.{Points, no_points, point_met, with_point, command_text, stepped_text, stop_line, Course, begun, ended_line, go, walked, moved_to, obeyed, obeyed_all, printed, session, stepped, stopped_or, went_back}
 use Rattle.dbg_model.specs.SessionEquations.{go-suc, go-zero, walked-suc, walked-zero}
 
 -- ---- a step counts, or it ends the machine and puts nothing
 
-pub record IsUncounted (m : Parts) (t : Turn) : Type 0 where
+pub record IsUncounted (m : Parts) (t : Stepped) : Type 0 where
   pub steps : t.parts.steps ≡ m.steps
   pub output : t.output ≡ []
   pub errors : t.errors ≡ []
   pub ended : is_none t.parts.ended ≡ false
 
-abbrev pub CountsOrNot : Parts → Turn → Type 0
+abbrev pub CountsOrNot : Parts → Stepped → Type 0
 CountsOrNot m t = (t.parts.steps ≡ m.steps + 1) ⊎ IsUncounted m t
 
-done_counts : (a : Action) (m : Parts) (input : List ℕ) → CountsOrNot m (done_by a m input)
+done_counts : (a : Action) (m : Parts) (input : List ℕ) → CountsOrNot m (call_done a m input)
 done_counts (fails e) m input = inl refl
 done_counts (answers v) m input = inl refl
 done_counts (maps memory v) m input = inl refl
@@ -60,7 +60,7 @@ fetched_counts : (m : Parts) (input : List ℕ) (o : Option ℕ) → CountsOrNot
 fetched_counts m input (Some a) = inr (record { steps = refl; output = refl; errors = refl; ended = refl })
 fetched_counts m input None = executed_counts m input (decode (value m.memory m.core.pc 4))
 
-pub turn_counts : (m : Parts) (input : List ℕ) → CountsOrNot m (turn m input)
+pub turn_counts : (m : Parts) (input : List ℕ) → CountsOrNot m (step_from m input)
 turn_counts m input =
     elim (nat_eq (m.core.pc % 4) 0) as (λ b. CountsOrNot m (if b then fetched m input (refused m.memory m.core.pc 4 FetchKind) else quiet (trapped m PcAlign m.core.pc) input)) [
       | true ↦ fetched_counts m input (refused m.memory m.core.pc 4 FetchKind)
@@ -104,7 +104,7 @@ either_step b c = if b then record { state = step c.state; top = (step c.state).
 -- from the furthest count on
 pub stepped_beyond : (c : Course) → c.top ≡ c.state.parts.steps → stepped c ≡ record { state = step c.state; top = (step c.state).parts.steps }
 stepped_beyond c at =
-    let t : Turn = turn c.state.parts c.state.input in
+    let t : Stepped = step_from c.state.parts c.state.input in
     elim (turn_counts c.state.parts c.state.input) as (λ _. stepped c ≡ record { state = step c.state; top = (step c.state).parts.steps }) [
       | inl one ↦
           let beyond : nat_lt c.top (step c.state).parts.steps ≡ true = grind (arith, nat_tests, at, one) in
@@ -269,15 +269,15 @@ pub on_obeyed : (start : State) (command : Command) (points : Points) (budget : 
 on_obeyed start (Step n) points budget c p =
     on_put start (stepped_text (c.state.parts.steps + n)) (walked c (min (c.state.parts.steps + n) budget - c.state.parts.steps)) (on_moved start (min (c.state.parts.steps + n) budget - c.state.parts.steps) c p)
 on_obeyed start Go points budget c p = on_go start points (budget - c.state.parts.steps) c p
-on_obeyed start (Break address) points budget c p = on_put start (shown (Break address)) c p
-on_obeyed start (Watch address count) points budget c p = on_put start (shown (Watch address count)) c p
-on_obeyed start Regs points budget c p = on_put start (shown Regs) c p
-on_obeyed start Vl points budget c p = on_put start (shown Vl) c p
-on_obeyed start (Zreg k) points budget c p = on_put start (shown (Zreg k)) c p
-on_obeyed start (Preg k) points budget c p = on_put start (shown (Preg k)) c p
-on_obeyed start Ffr points budget c p = on_put start (shown Ffr) c p
-on_obeyed start (Lanes k size) points budget c p = on_put start (shown (Lanes k size)) c p
-on_obeyed start (Mem address count) points budget c p = on_put start (shown (Mem address count)) c p
+on_obeyed start (Break address) points budget c p = on_put start (command_text (Break address)) c p
+on_obeyed start (Watch address count) points budget c p = on_put start (command_text (Watch address count)) c p
+on_obeyed start Regs points budget c p = on_put start (command_text Regs) c p
+on_obeyed start Vl points budget c p = on_put start (command_text Vl) c p
+on_obeyed start (Zreg k) points budget c p = on_put start (command_text (Zreg k)) c p
+on_obeyed start (Preg k) points budget c p = on_put start (command_text (Preg k)) c p
+on_obeyed start Ffr points budget c p = on_put start (command_text Ffr) c p
+on_obeyed start (Lanes k size) points budget c p = on_put start (command_text (Lanes k size)) c p
+on_obeyed start (Mem address count) points budget c p = on_put start (command_text (Mem address count)) c p
 on_obeyed start (Back k) points budget c p = on_back start k c
 
 on_all : (start : State) (commands : List Command) (points : Points) (budget : ℕ) (c : Course) → IsOn start c.state → IsOn start (obeyed_all start commands points budget c).state

@@ -8,7 +8,7 @@ use Rattle.emu_run.specs.Run.{goes_on, run}
 use Rattle.dbg_model.specs.declared.script.Command.{Command}
 use Rattle.dbg_model.specs.declared.script.Command.TheVariants.{Step, Go}
 use Rattle.dbg_model.specs.declared.script.Stop.{Stop}
-use Rattle.dbg_model.specs.Session.{Points, no_points, with_point, point_met, shown, stepped_text, stop_line}
+use Rattle.dbg_model.specs.Session.{Points, no_points, with_point, point_met, command_text, stepped_text, stop_line}
 
 -- ---- what a command makes of a machine
 
@@ -39,7 +39,7 @@ go points st (suc k) =
 abbrev pub obeyed : Command → Points → ℕ → State → State
 obeyed (Step n) points budget st = stepped (st.parts.steps + n) budget st
 obeyed Go points budget st = go points st (budget - st.parts.steps)
-obeyed command points budget st = printed (shown command st.parts) st
+obeyed command points budget st = printed (command_text command st.parts) st
 
 -- ---- the commands one after the other
 

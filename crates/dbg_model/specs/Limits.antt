@@ -31,10 +31,10 @@ use Rattle.emu_system.specs.declared.system_call.CallName.{CallName}
 use Rattle.emu_system.specs.declared.system_call.CallName.TheVariants.{Ioctl, Read, Write, Readv, Writev, Prctl, Brk as BrkCall, Munmap, Mmap, Mprotect}
 use Rattle.emu_system.specs.declared.system_call.Errno.TheVariants.{EBADF, ENOMEM, EFAULT, EINVAL, ENOTTY}
 use Rattle.emu_system.specs.declared.system_call.Range.{Range}
-use Rattle.emu_system.specs.SystemCall.{Action, fails, answers, maps, moves_break, sets_length, takes, puts, exits, action, action_of, argument, buffer, call, cut_to, done_by, entries, file_of, filled, grown_break, has_room, highest, is_beyond, is_denied, is_length_in_bytes, is_page, is_private_and_anonymous, is_sink, is_too_long, mapping, mapping_at, most_bytes, moved_break, name_of_call, pages_for, protection, quiet, rights_of, setting_length, shrunk_break, unmapping, vector_length, with_buffer, with_entries, with_vector}
+use Rattle.emu_system.specs.SystemCall.{Action, fails, answers, maps, moves_break, sets_length, takes, puts, exits, action, action_of, call_argument, buffer, call, cut_to, call_done, entries, file_of, with_ranges, grown_break, has_room, highest, is_beyond, is_denied, is_length_in_bytes, is_page, is_private_and_anonymous, is_sink, is_too_long, mapping, mapping_at, most_bytes, moved_break, name_of_call, pages_for, protection, quiet, rights_of, setting_length, shrunk_break, unmapping, vector_length, with_buffer, with_entries, with_vector}
 use Rattle.emu_run.specs.declared.insn.Insn.{Insn}
 use Rattle.emu_run.specs.declared.insn.Insn.TheVariants.{A64, Sve}
-use Rattle.emu_run.specs.Step.{decode, executed, fetched, finished, performed, step, trapped, turn}
+use Rattle.emu_run.specs.Step.{decode, executed, fetched, finished, performed, step, trapped, step_from}
 use Rattle.emu_run.specs.Run.{goes_on, until_end}
 use Rattle.emu_run.specs.RunLaws.{until_end_none, until_end_one, until_end_over}
 
@@ -52,7 +52,7 @@ elements_limit : (v : Element → ℕ) (es : List Element) (m : Memory) → (wit
 elements_limit v [] m = refl
 elements_limit v (e ∷ es) m = elements_limit v es (stored m e.address e.bytes (v e)) ∙ stored_limit m e.address e.bytes (v e)
 
-filled_limit : (m : Memory) (rs : List Range) (bytes : List ℕ) → (filled m rs bytes).limit ≡ m.limit
+filled_limit : (m : Memory) (rs : List Range) (bytes : List ℕ) → (with_ranges m rs bytes).limit ≡ m.limit
 filled_limit m [] bytes = refl
 filled_limit m (r ∷ rs) bytes =
     filled_limit (with_bytes m r.address (take r.length bytes)) rs (drop r.length bytes) ∙ bytes_limit m r.address (take r.length bytes)
@@ -139,14 +139,14 @@ module _ (c : Core) (w : Vectors) (m : Memory) where
   load_row_limit r =
       let l : Layout = row_layout r c w in
       let far : Reach = reach m ReadKind (elements_of l) in
-      let after : Vectors = after_load r.transfer r.width.is_signed l m w in
+      let after : Vectors = after_load r.choice r.width.is_signed l m w in
       unless_limit (has_sp_base r.brackets) (elements_of l) (loaded_to far after c w m) (load_limit far.stop far.done after)
 
   store_row_limit : (r : MemoryRow) → Leaves (store_row r c w m)
   store_row_limit r =
       let l : Layout = row_layout r c w in
       let far : Reach = reach m WriteKind (elements_of l) in
-      let stores : Element → ℕ = element_stored r.transfer l w in
+      let stores : Element → ℕ = element_stored r.choice l w in
       unless_limit (has_sp_base r.brackets) (elements_of l) (stored_to far stores c w m) (store_limit far.stop far.done stores)
 
   loaded_unless_limit : (o : Option ℕ) (d : Done) → Leaves d → Leaves (loaded_unless o d c w m)
@@ -194,7 +194,7 @@ both n false p q h k = k
 module _ (m : Memory) where
   buffer_limit : (kind : Kind) (moves : List Range → Action) (c : Core) → ((rs : List Range) → HasLimit m.limit (moves rs)) → HasLimit m.limit (with_buffer kind moves c m)
   buffer_limit kind moves c h =
-      both m.limit (nat_eq (argument c 2) 0) (answers 0) (if is_denied m kind (buffer c) then fails EFAULT else moves (buffer c ∷ [])) tt
+      both m.limit (nat_eq (call_argument c 2) 0) (answers 0) (if is_denied m kind (buffer c) then fails EFAULT else moves (buffer c ∷ [])) tt
       (both m.limit (is_denied m kind (buffer c)) (fails EFAULT) (moves (buffer c ∷ [])) tt (h (buffer c ∷ [])))
 
   entries_limit : (kind : Kind) (moves : List Range → Action) (rs : List Range) → ((rs : List Range) → HasLimit m.limit (moves rs)) → HasLimit m.limit (with_entries kind moves rs m)
@@ -204,9 +204,9 @@ module _ (m : Memory) where
 
   vector_limit : (kind : Kind) (moves : List Range → Action) (c : Core) → ((rs : List Range) → HasLimit m.limit (moves rs)) → HasLimit m.limit (with_vector kind moves c m)
   vector_limit kind moves c h =
-      let r : Range = record { address = argument c 1; length = 16 * argument c 2 } in
-      let rs : List Range = entries m (argument c 1) (argument c 2) in
-      both m.limit (nat_lt 1024 (argument c 2)) (fails EINVAL) (if is_denied m ReadKind r then fails EFAULT else with_entries kind moves rs m) tt
+      let r : Range = record { address = call_argument c 1; length = 16 * call_argument c 2 } in
+      let rs : List Range = entries m (call_argument c 1) (call_argument c 2) in
+      both m.limit (nat_lt 1024 (call_argument c 2)) (fails EINVAL) (if is_denied m ReadKind r then fails EFAULT else with_entries kind moves rs m) tt
       (both m.limit (is_denied m ReadKind r) (fails EFAULT) (with_entries kind moves rs m) tt (entries_limit kind moves rs h))
 
   break_limit : (brk : Break) (to : ℕ) → HasLimit m.limit (moved_break m brk to)
@@ -245,17 +245,17 @@ module _ (m : Memory) where
   action_limit Write c v brk = both m.limit (is_sink (file_of c)) (with_buffer ReadKind (puts (file_of c)) c m) (fails EBADF) (buffer_limit ReadKind (puts (file_of c)) c (λ rs. tt)) tt
   action_limit Readv c v brk = both m.limit (nat_eq (file_of c) 0) (with_vector WriteKind takes c m) (fails EBADF) (vector_limit WriteKind takes c (λ rs. tt)) tt
   action_limit Writev c v brk = both m.limit (is_sink (file_of c)) (with_vector ReadKind (puts (file_of c)) c m) (fails EBADF) (vector_limit ReadKind (puts (file_of c)) c (λ rs. tt)) tt
-  action_limit Prctl c v brk = setting_limit v (argument c 0) (argument c 1)
-  action_limit BrkCall c v brk = break_limit brk (argument c 0)
-  action_limit Munmap c v brk = unmapping_limit (argument c 0) (argument c 1)
-  action_limit Mmap c v brk = mapping_limit (argument c 1) (argument c 2) (argument c 3)
-  action_limit Mprotect c v brk = protection_limit (argument c 0) (argument c 1) (argument c 2)
+  action_limit Prctl c v brk = setting_limit v (call_argument c 0) (call_argument c 1)
+  action_limit BrkCall c v brk = break_limit brk (call_argument c 0)
+  action_limit Munmap c v brk = unmapping_limit (call_argument c 0) (call_argument c 1)
+  action_limit Mmap c v brk = mapping_limit (call_argument c 1) (call_argument c 2) (call_argument c 3)
+  action_limit Mprotect c v brk = protection_limit (call_argument c 0) (call_argument c 1) (call_argument c 2)
   action_limit name c v brk = tt
 
 -- ---- steps
 
 module _ (m : Parts) (input : List ℕ) where
-  done_limit : (a : Action) → HasLimit m.memory.limit a → (done_by a m input).parts.memory.limit ≡ m.memory.limit
+  done_limit : (a : Action) → HasLimit m.memory.limit a → (call_done a m input).parts.memory.limit ≡ m.memory.limit
   done_limit (fails e) h = refl
   done_limit (answers v) h = refl
   done_limit (maps memory v) h = h
@@ -284,7 +284,7 @@ module _ (m : Parts) (input : List ℕ) where
   fetched_limit (Some a) = refl
   fetched_limit None = executed_limit (decode (value m.memory m.core.pc 4))
 
-  turn_limit : (turn m input).parts.memory.limit ≡ m.memory.limit
+  turn_limit : (step_from m input).parts.memory.limit ≡ m.memory.limit
   turn_limit =
       elim (nat_eq (m.core.pc % 4) 0) as (λ b. (if b then fetched m input (refused m.memory m.core.pc 4 FetchKind) else quiet (trapped m PcAlign m.core.pc) input).parts.memory.limit ≡ m.memory.limit) [
         | true ↦ fetched_limit (refused m.memory m.core.pc 4 FetchKind)

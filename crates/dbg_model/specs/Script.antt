@@ -27,8 +27,9 @@ abbrev pub number_within : ℕ → ℕ → List ℕ → Result ℕ ScriptWhy
 number_within least most word = option_map_or (in_range least most) (number_of_word word) (Err BadNumber)
 
 -- the word at a place as a number
-abbrev pub argument : List (List ℕ) → ℕ → ℕ → ℕ → Result ℕ ScriptWhy
-argument words place least most = option_map_or (number_within least most) (slice_get words place) (Err MissingWord)
+abbrev pub number_argument : List (List ℕ) → ℕ → ℕ → ℕ → Result ℕ ScriptWhy
+number_argument words place least most =
+    option_map_or (number_within least most) (slice_get words place) (Err MissingWord)
 
 -- the letter of a lane's size
 abbrev pub size_of_word : List ℕ → Result Esize ScriptWhy
@@ -47,26 +48,27 @@ abbrev pub most_number : ℕ
 most_number = 2 ^ 64 - 1
 
 -- a command that has so many words
-abbrev pub whole : List (List ℕ) → ℕ → Command → Result Command ScriptWhy
-whole words count command = if nat_lt count (length words) then Err ExtraWord else Ok command
+abbrev pub complete : List (List ℕ) → ℕ → Command → Result Command ScriptWhy
+complete words count command = if nat_lt count (length words) then Err ExtraWord else Ok command
 
 -- a command with a number in a range
 abbrev pub with_number : ℕ → ℕ → (ℕ → Command) → List (List ℕ) → Result Command ScriptWhy
-with_number least most command words = and_then (argument words 1 least most) (λ n. whole words 2 (command n))
+with_number least most command words = and_then (number_argument words 1 least most) (λ n. complete words 2 (command n))
 
 -- with an address up to a limit, and a number of bytes
 abbrev pub with_range : ℕ → (ℕ → ℕ → Command) → List (List ℕ) → Result Command ScriptWhy
 with_range most command words =
-    and_then (argument words 1 0 most) (λ address.
-    and_then (argument words 2 1 4096) (λ count. whole words 3 (command address count)))
+    and_then (number_argument words 1 0 most) (λ address.
+    and_then (number_argument words 2 1 4096) (λ count. complete words 3 (command address count)))
 
 -- with a register, and the size of a lane
 abbrev pub with_size : (ℕ → Esize → Command) → List (List ℕ) → Result Command ScriptWhy
 with_size command words =
-    and_then (argument words 1 0 31) (λ k. and_then (size_argument words 2) (λ size. whole words 3 (command k size)))
+    and_then (number_argument words 1 0 31) (λ k.
+    and_then (size_argument words 2) (λ size. complete words 3 (command k size)))
 
 abbrev pub by_itself : Command → List (List ℕ) → Result Command ScriptWhy
-by_itself command words = whole words 1 command
+by_itself command words = complete words 1 command
 
 -- what reads the words of a command, by its name
 abbrev pub readers : List (List ℕ × (List (List ℕ) → Result Command ScriptWhy))

@@ -71,15 +71,15 @@ abbrev pub memory_lines : Memory → ℕ → ℕ → List ℕ
 memory_lines m address count =
     lines_of ((count + 15) / 16) (λ k. memory_line m (address + 16 * k) (min 16 (count - 16 * k)))
 
-abbrev pub shown : Command → Parts → List ℕ
-shown Regs m = scalar_lines m.core m.vectors.bits
-shown Vl m = length_line m.vectors
-shown (Zreg k) m = z_line m.vectors k
-shown (Preg k) m = p_line m.vectors k
-shown Ffr m = ffr_line m.vectors
-shown (Lanes k size) m = lanes_line m.vectors k size
-shown (Mem address count) m = memory_lines m.memory address count
-shown command m = []
+abbrev pub command_text : Command → Parts → List ℕ
+command_text Regs parts = scalar_lines parts.core parts.vectors.bits
+command_text Vl parts = length_line parts.vectors
+command_text (Zreg k) parts = z_line parts.vectors k
+command_text (Preg k) parts = p_line parts.vectors k
+command_text Ffr parts = ffr_line parts.vectors
+command_text (Lanes k size) parts = lanes_line parts.vectors k size
+command_text (Mem address count) parts = memory_lines parts.memory address count
+command_text command parts = []
 
 -- ---- breaks and watches
 
@@ -120,8 +120,8 @@ abbrev pub break_line : ℕ → ℕ → List ℕ
 break_line steps pc = codes "break" ++ behind_steps steps pc
 
 abbrev pub stop_line : Stop → Parts → List ℕ
-stop_line (AtWatch k) m = watch_line k m.steps m.core.pc
-stop_line AtBreak m = break_line m.steps m.core.pc
+stop_line (AtWatch k) parts = watch_line k parts.steps parts.core.pc
+stop_line AtBreak parts = break_line parts.steps parts.core.pc
 
 -- a break, where the program counter stands on one
 abbrev pub break_met : Points → ℕ → Option Stop
@@ -134,8 +134,8 @@ watch_met points pc None = break_met points pc
 
 -- what stops a machine that goes on behind a step that made these accesses
 abbrev pub point_met : Points → List Access → Parts → Option Stop
-point_met points made m =
-    if is_none m.ended then watch_met points m.core.pc (position (is_touched made) points.watches) else None
+point_met points made parts =
+    if is_none parts.ended then watch_met points parts.core.pc (position (is_touched made) points.watches) else None
 
 -- ---- how far a session has come
 
@@ -170,7 +170,7 @@ walked c (suc k) = if goes_on c.state then walked (stepped c) k else c
 
 -- how the machine ended, or that its budget is spent
 abbrev pub ended_line : Parts → List ℕ
-ended_line m = ending_line m m.ended
+ended_line parts = ending_line parts parts.ended
 
 -- where a point was met its line, else what comes of going on
 abbrev pub stopped_or : Option Stop → Course → Course → Course
@@ -190,7 +190,7 @@ go points c (suc k) =
 -- ---- commands
 
 abbrev pub back_text : Parts → List ℕ
-back_text m = codes "back to " ++ decimal m.steps ++ codes " steps at " ++ address_text m.core.pc ++ newline
+back_text parts = codes "back to " ++ decimal parts.steps ++ codes " steps at " ++ address_text parts.core.pc ++ newline
 
 -- the machine of the run from the start where it has counted k steps fewer, or the start where there were no more
 abbrev pub back_to : State → ℕ → Course → Course
@@ -201,8 +201,9 @@ went_back start k c = printed back_text (back_to start k c)
 
 -- the step counted `target` steps, and the machine goes on
 abbrev pub stepped_text : ℕ → Parts → List ℕ
-stepped_text target m =
-    if nat_eq m.steps target && is_none m.ended then step_line m.steps m.core.pc else ending_line m m.ended
+stepped_text target parts =
+    if nat_eq parts.steps target && is_none parts.ended then step_line parts.steps parts.core.pc
+    else ending_line parts parts.ended
 
 -- n steps within the budget, and that they were counted, or how the machine ended before
 abbrev pub steps_taken : ℕ → ℕ → Course → Course
@@ -214,7 +215,7 @@ abbrev pub obeyed : State → Command → Points → ℕ → Course → Course
 obeyed start (Step n) points budget c = steps_taken n budget c
 obeyed start Go points budget c = go points c (budget - c.state.parts.steps)
 obeyed start (Back k) points budget c = went_back start k c
-obeyed start command points budget c = printed (shown command) c
+obeyed start command points budget c = printed (command_text command) c
 
 -- the commands one after the other
 abbrev pub obeyed_all : State → List Command → Points → ℕ → Course → Course

@@ -4,8 +4,8 @@ use Rattle.std.proofs.Common.{◌≡◌, ◌<◌, ◌≤◌, ℕ, suc, ◌+◌, 
 use Rattle.emu_model.specs.declared.access.Access.{Access}
 use Rattle.emu_model.specs.State.{Parts, State}
 use Rattle.emu_system.specs.Start.{with_input}
-use Rattle.emu_system.specs.SystemCall.{Turn, call, quiet}
-use Rattle.emu_run.specs.Step.{accesses, step, turn}
+use Rattle.emu_system.specs.SystemCall.{Stepped, call, quiet}
+use Rattle.emu_run.specs.Step.{accesses, step, step_from}
 use Rattle.emu_run.specs.Run.{run, until_end}
 use Rattle.emu_run.specs.RunLaws.{behind, run_after_turn, run_one, run_spent, until_end_none}
 use Rattle.io_gate.specs.Streams.{Causes}
@@ -25,7 +25,7 @@ use Rattle.emu_machine.proofs.Stands.{Stands}
 pub ahead_start : (old : Parts) (log : List Access) → is_none old.ended ≡ true → IsAhead old old log log
 ahead_start old log goes = record { alone = (0, refl); goes = goes; after = omega arith; first = λ e. refl; leads = λ b input h. refl; logs = λ b input h. refl }
 
-pub ahead_on : (old p q : Parts) (before log : List Access) → IsAhead old p before log → makes_call p ≡ false → ((input : List ℕ) → turn p input ≡ quiet q input) → q.steps ≡ p.steps + 1 → is_none q.ended ≡ true
+pub ahead_on : (old p q : Parts) (before log : List Access) → IsAhead old p before log → makes_call p ≡ false → ((input : List ℕ) → step_from p input ≡ quiet q input) → q.steps ≡ p.steps + 1 → is_none q.ended ≡ true
     → IsAhead old q before (accesses p)
 ahead_on old p q before log a calls turns counted goes =
     let from = a.after in
@@ -38,13 +38,13 @@ ahead_on old p q before log a calls turns counted goes =
       leads = λ b input h.
           let below : p.steps < b = omega (arith, counted, h) in
           a.leads b input (omega (arith, below))
-          ∙ run_after_turn p input b a.goes below (ap (λ (t : Turn). t.parts.steps) (turns input) ∙ counted)
-          ∙ ap (λ (t : Turn). behind t.output t.errors (run (with_input t.parts t.input) b)) (turns input);
+          ∙ run_after_turn p input b a.goes below (ap (λ (t : Stepped). t.parts.steps) (turns input) ∙ counted)
+          ∙ ap (λ (t : Stepped). behind t.output t.errors (run (with_input t.parts t.input) b)) (turns input);
       logs = λ b input h.
           let below : p.steps < b = omega (arith, counted, h) in
           a.logs b input (omega (arith, below))
           ∙ log_one log p input b a.goes below
-          ∙ ap (λ (t : Turn). last_accesses (accesses p) t.parts t.input (b - (p.steps + 1))) (turns input)
+          ∙ ap (λ (t : Stepped). last_accesses (accesses p) t.parts t.input (b - (p.steps + 1))) (turns input)
           ∙ ap (λ n. last_accesses (accesses p) q input (b - n)) (sym counted);
     }
 
@@ -57,7 +57,7 @@ module _ (m new : MachineState) where
   last_same : (d : IsLast (m.parts.steps + 1) m new) → d.at ≡ m.parts
   last_same d = let from = d.ahead.after in let below = d.below in d.ahead.first (omega (arith, from, below))
 
-  spent_turn : is_none m.parts.ended ≡ true → IsSpent (m.parts.steps + 1) m new → (input : List ℕ) → turn m.parts input ≡ quiet new.parts input
+  spent_turn : is_none m.parts.ended ≡ true → IsSpent (m.parts.steps + 1) m new → (input : List ℕ) → step_from m.parts input ≡ quiet new.parts input
   spent_turn going d input =
       let b : ℕ = m.parts.steps + 1 in
       let s = d.spent in
@@ -72,24 +72,24 @@ module _ (m new : MachineState) where
       let b : ℕ = m.parts.steps + 1 in
       let s = d.spent in
       let none : b - (m.parts.steps + 1) ≡ 0 = omega arith in
-      let t : Turn = turn m.parts [] in
+      let t : Stepped = step_from m.parts [] in
       sym (log_spent new.accesses new.parts [] b (omega (arith, s)))
       ∙ sym (d.ahead.logs b [] (omega (arith, s)))
       ∙ log_one m.accesses m.parts [] b going (omega arith)
       ∙ ap (λ n. last_accesses (accesses m.parts) t.parts t.input n) none
       ∙ last_none (accesses m.parts) t.parts t.input
 
-  last_turn : IsLast (m.parts.steps + 1) m new → (input : List ℕ) → turn m.parts input ≡ quiet new.parts input
-  last_turn d input = subst (λ (x : Parts). turn x input ≡ quiet new.parts input) (last_same d) (d.turns input)
+  last_turn : IsLast (m.parts.steps + 1) m new → (input : List ℕ) → step_from m.parts input ≡ quiet new.parts input
+  last_turn d input = subst (λ (x : Parts). step_from x input ≡ quiet new.parts input) (last_same d) (d.turns input)
 
   last_accesses_of : IsLast (m.parts.steps + 1) m new → new.accesses ≡ accesses m.parts
   last_accesses_of d = d.accesses ∙ ap accesses (last_same d)
 
   pub once_turn : (r : Progress) → is_none m.parts.ended ≡ true → Advances (m.parts.steps + 1) m new r
-      → MatchCall r ((input : List ℕ) → turn m.parts input ≡ call m.parts input) ((input : List ℕ) → turn m.parts input ≡ quiet new.parts input)
+      → MatchCall r ((input : List ℕ) → step_from m.parts input ≡ call m.parts input) ((input : List ℕ) → step_from m.parts input ≡ quiet new.parts input)
   once_turn GoesOn going d = spent_turn going d
   once_turn Trapped going d = last_turn d
-  once_turn AtCall going d = λ input. subst (λ (x : Parts). turn x input ≡ call x input) (asked_same d) (d.calls input)
+  once_turn AtCall going d = λ input. subst (λ (x : Parts). step_from x input ≡ call x input) (asked_same d) (d.calls input)
 
   pub once_kept : (r : Progress) → Advances (m.parts.steps + 1) m new r → MatchCall r (new.parts ≡ m.parts) ⊤
   once_kept GoesOn d = tt
@@ -118,10 +118,10 @@ module _ (m new : MachineState) where
 
 -- what it makes of the machine where it makes no call
 module _ (r : Progress) (m n : Parts) (other : r ≡ AtCall → ⊥) where
-  pub turned : MatchCall r ((input : List ℕ) → turn m input ≡ call m input) ((input : List ℕ) → turn m input ≡ quiet n input) → (input : List ℕ) → turn m input ≡ quiet n input
+  pub turned : MatchCall r ((input : List ℕ) → step_from m input ≡ call m input) ((input : List ℕ) → step_from m input ≡ quiet n input) → (input : List ℕ) → step_from m input ≡ quiet n input
   turned is = by_progress r other is
     where
-      by_progress : (x : Progress) → (x ≡ AtCall → ⊥) → MatchCall x ((input : List ℕ) → turn m input ≡ call m input) ((input : List ℕ) → turn m input ≡ quiet n input) → (input : List ℕ) → turn m input ≡ quiet n input
+      by_progress : (x : Progress) → (x ≡ AtCall → ⊥) → MatchCall x ((input : List ℕ) → step_from m input ≡ call m input) ((input : List ℕ) → step_from m input ≡ quiet n input) → (input : List ℕ) → step_from m input ≡ quiet n input
       by_progress GoesOn apart h = h
       by_progress Trapped apart h = h
       by_progress AtCall apart h = absurd (apart refl)

@@ -6,7 +6,7 @@ use Rattle.emu_model.specs.declared.trap.Ended.{Ended}
 use Rattle.emu_model.specs.Access.{Memory}
 use Rattle.emu_model.specs.State.{Core, Vectors, Parts}
 use Rattle.emu_system.specs.Start.{with_input}
-use Rattle.emu_system.specs.SystemCall.{Action, fails, answers, maps, moves_break, sets_length, takes, puts, exits, action, call, done_by, total}
+use Rattle.emu_system.specs.SystemCall.{Action, fails, answers, maps, moves_break, sets_length, takes, puts, exits, action, call, call_done, total}
 use Rattle.linux_calls.specs.declared.end.CallEnd.{CallEnd}
 use Rattle.linux_calls.specs.declared.end.CallEnd.TheVariants.{Returned, Exit, ReadFault, WriteFault, ErrorsFault}
 use Rattle.linux_calls.specs.Ends.{OfInput, Stores, behind, caller, does_take, end_of, is_fault, is_put_fault}
@@ -28,7 +28,7 @@ without_steps p = caller p.core p.vectors p.memory p.brk
 
 -- ---- what it puts
 
-same_output : (a : Action) (p : Parts) (bytes : List ℕ) → (done_by a (without_steps p) bytes).output ≡ (done_by a p bytes).output
+same_output : (a : Action) (p : Parts) (bytes : List ℕ) → (call_done a (without_steps p) bytes).output ≡ (call_done a p bytes).output
 same_output (fails e) p bytes = refl
 same_output (answers v) p bytes = refl
 same_output (maps memory v) p bytes = refl
@@ -38,7 +38,7 @@ same_output (takes ranges) p bytes = refl
 same_output (puts file ranges) p bytes = refl
 same_output (exits code) p bytes = refl
 
-same_errors : (a : Action) (p : Parts) (bytes : List ℕ) → (done_by a (without_steps p) bytes).errors ≡ (done_by a p bytes).errors
+same_errors : (a : Action) (p : Parts) (bytes : List ℕ) → (call_done a (without_steps p) bytes).errors ≡ (call_done a p bytes).errors
 same_errors (fails e) p bytes = refl
 same_errors (answers v) p bytes = refl
 same_errors (maps memory v) p bytes = refl
@@ -48,7 +48,7 @@ same_errors (takes ranges) p bytes = refl
 same_errors (puts file ranges) p bytes = refl
 same_errors (exits code) p bytes = refl
 
-same_input : (a : Action) (p : Parts) (bytes : List ℕ) → (done_by a (without_steps p) bytes).input ≡ (done_by a p bytes).input
+same_input : (a : Action) (p : Parts) (bytes : List ℕ) → (call_done a (without_steps p) bytes).input ≡ (call_done a p bytes).input
 same_input (fails e) p bytes = refl
 same_input (answers v) p bytes = refl
 same_input (maps memory v) p bytes = refl
@@ -75,7 +75,7 @@ left_counted ReadFault m done = let no : true ≡ false = done in cc
 left_counted WriteFault m done = let no : true ≡ false = done in cc
 left_counted ErrorsFault m done = let no : true ≡ false = done in cc
 
-done_counted : (a : Action) (m : Parts) (bytes : List ℕ) → counted m.steps (done_by a (without_steps m) bytes).parts ≡ (done_by a (record m { ended = None }) bytes).parts
+done_counted : (a : Action) (m : Parts) (bytes : List ℕ) → counted m.steps (call_done a (without_steps m) bytes).parts ≡ (call_done a (record m { ended = None }) bytes).parts
 done_counted (fails e) m bytes = refl
 done_counted (answers v) m bytes = refl
 done_counted (maps memory v) m bytes = refl
@@ -85,7 +85,7 @@ done_counted (takes ranges) m bytes = refl
 done_counted (puts file ranges) m bytes = refl
 done_counted (exits code) m bytes = refl
 
-ends_as : (a : Action) (m : Parts) (bytes : List ℕ) → m.ended ≡ None → step_by (end_of a) ≡ step_end (done_by a m bytes).parts.ended
+ends_as : (a : Action) (m : Parts) (bytes : List ℕ) → m.ended ≡ None → step_by (end_of a) ≡ step_end (call_done a m bytes).parts.ended
 ends_as (fails e) m bytes none = ap step_end (sym none)
 ends_as (answers v) m bytes none = ap step_end (sym none)
 ends_as (maps memory v) m bytes none = ap step_end (sym none)
@@ -273,7 +273,7 @@ module _ (end : CallEnd) (r : StepEnd) (p q : Parts) (is : r ≡ step_by end) (s
   -- ---- what it takes: no more than its action does
 
   within : (a : Action) (bytes : List ℕ) (now : Memory) (left : Option (List ℕ)) → Stores a p.memory now (Some bytes) left → (does_take a ≡ false → left ≡ Some bytes)
-      → LeftOf bytes (length (done_by a p bytes).input) left
+      → LeftOf bytes (length (call_done a p bytes).input) left
   within (takes ranges) bytes now left (count, few, t) kept = record {
     taken = count;
     most =

@@ -14,7 +14,7 @@ use Rattle.emu_model.specs.Access.{Memory, Page, page_size}
 use Rattle.emu_model.specs.Lists.{each}
 use Rattle.emu_model.specs.ListLaws.{length-each, get_or-each}
 use Rattle.emu_model.specs.PageLaws.{get_mapped, is_in, among}
-use Rattle.emu_model.specs.Pages.{is_among, mapped, with_bytes, zeros, zeroed_page, least_mapped}
+use Rattle.emu_model.specs.Pages.{is_page_in, mapped, with_bytes, zeros, zeroed_page, least_mapped}
 use Rattle.emu_model.specs.PageEquations.{zeros_is, least_mapped-suc}
 use Rattle.emu_system.specs.declared.image.Segment.{Segment}
 use Rattle.emu_system.specs.Image.{Image, first_page, page_count, stack_page_count}
@@ -105,24 +105,24 @@ module _ (rights : Rights) (p : Piece) (ps : List Piece) (q : ℕ) where
       ap (λ r. record { rights = r; bytes = page.bytes }) same ∙ ap (λ (l : List ℕ). record { rights = rights; bytes = l }) bytes ∙ sym (page_among_is rights (p ∷ ps) q)
 
   -- a page of the range, and one that isn't
-  by_page : (first count : ℕ) (t : Bool) (old : Option Page) → IsWithin first count p → is_among first count q ≡ t
+  by_page : (first count : ℕ) (t : Bool) (old : Option Page) → IsWithin first count p → is_page_in first count q ≡ t
       → map_page (λ x. patched q x p.at p.bytes) (cond t (Some (page_among rights ps q)) old) ≡ cond t (Some (page_among rights (p ∷ ps) q)) old
   by_page first count true old within is = ap (λ (x : Page). Some x) one_more
   by_page first count false None within is = refl
   by_page first count false (Some x) within is = ap (λ (x : Page). Some x) (far_patched p.bytes q x p.at (λ a from to same.
       let low = within.low in
       let high = within.high in
-      let in_it : is_among first count q ≡ true = among first count q (omega (arith, same)) (omega (arith, same)) in
+      let in_it : is_page_in first count q ≡ true = among first count q (omega (arith, same)) (omega (arith, same)) in
       let bad : true ≡ false = sym in_it ∙ is in cc))
 
 module _ (old : Memory) (first count : ℕ) (rights : Rights) where
   get_pieces : (ps : List Piece) (q : ℕ) → AllByRecursion (IsWithin first count) ps
-      → get (with_pieces (mapped old first count rights) ps).pages q ≡ cond (is_among first count q) (Some (page_among rights ps q)) (get old.pages q)
-  get_pieces [] q within = get_mapped old.pages first count rights q ∙ ap (λ (p : Page). cond (is_among first count q) (Some p) (get old.pages q)) (zeroed rights q)
+      → get (with_pieces (mapped old first count rights) ps).pages q ≡ cond (is_page_in first count q) (Some (page_among rights ps q)) (get old.pages q)
+  get_pieces [] q within = get_mapped old.pages first count rights q ∙ ap (λ (p : Page). cond (is_page_in first count q) (Some p) (get old.pages q)) (zeroed rights q)
   get_pieces (p ∷ ps) q (here, others) =
       get_written p.bytes (with_pieces (mapped old first count rights) ps) p.at q here.word
       ∙ ap (λ o. map_page (λ x. patched q x p.at p.bytes) o) (get_pieces ps q others)
-      ∙ by_page rights p ps q first count (is_among first count q) (get old.pages q) here refl
+      ∙ by_page rights p ps q first count (is_page_in first count q) (get old.pages q) here refl
 
   limit_of_pieces : (ps : List Piece) → (with_pieces (mapped old first count rights) ps).limit ≡ old.limit
   limit_of_pieces [] = refl
@@ -151,8 +151,8 @@ entries_more es first count page old new is has =
     same_map nat_cmp_total nat_cmp-IsAntisymmetric _ _ (λ q.
     let before : get old.pages q ≡ find nat_cmp q es = ap (λ p. get p q) is ∙ get-from_entries nat_cmp_total es q in
     has.pages q
-    ∙ one_of_two (is_among first count q) (get old.pages q) (page q) (has.free q)
-    ∙ ap (λ o. option_or o (cond (is_among first count q) (Some (page q)) None)) before
+    ∙ one_of_two (is_page_in first count q) (get old.pages q) (page q) (has.free q)
+    ∙ ap (λ o. option_or o (cond (is_page_in first count q) (Some (page q)) None)) before
     ∙ ap (λ o. option_or (find nat_cmp q es) o) (sym (find_numbered page q count first))
     ∙ sym (find_both es more q)
     ∙ sym (get-from_entries nat_cmp_total (es ++ more) q))

@@ -2,8 +2,8 @@
 use Rattle.std.proofs.Common.{◌≡◌, ◌<◌, ◌≤◌, ℕ, zero, suc, ◌+◌, ◌-◌, Bool, true, false, List, Option, Some, None, is_none, IfSome, if◌then◌else◌, refl, sym, ap, subst, ◌∙◌, arith}
 use Rattle.emu_model.specs.declared.access.Access.{Access}
 use Rattle.emu_model.specs.State.{Parts}
-use Rattle.emu_system.specs.SystemCall.{Turn}
-use Rattle.emu_run.specs.Step.{accesses, step, turn}
+use Rattle.emu_system.specs.SystemCall.{Stepped}
+use Rattle.emu_run.specs.Step.{accesses, step, step_from}
 use Rattle.emu_machine.specs.Accesses.{last_accesses, run_accesses}
 use Rattle.emu_machine.proofs.Runs.{LeadsRun, LedRun, Ran, ran_at}
 
@@ -14,17 +14,17 @@ unfolding last_accesses
 last_none l m input = refl
 
 last_one : (l : List Access) (m : Parts) (input : List ℕ) (k : ℕ) → is_none m.ended ≡ true
-    → last_accesses l m input (suc k) ≡ last_accesses (accesses m) (turn m input).parts (turn m input).input k
+    → last_accesses l m input (suc k) ≡ last_accesses (accesses m) (step_from m input).parts (step_from m input).input k
 unfolding last_accesses
-last_one l m input k going = ap (λ (b : Bool). if b then last_accesses (accesses m) (turn m input).parts (turn m input).input k else l) going
+last_one l m input k going = ap (λ (b : Bool). if b then last_accesses (accesses m) (step_from m input).parts (step_from m input).input k else l) going
 
 last_over : (l : List Access) (m : Parts) (input : List ℕ) (k : ℕ) → is_none m.ended ≡ false → last_accesses l m input k ≡ l
 unfolding last_accesses
 last_over l m input zero over = refl
-last_over l m input (suc k) over = ap (λ (b : Bool). if b then last_accesses (accesses m) (turn m input).parts (turn m input).input k else l) over
+last_over l m input (suc k) over = ap (λ (b : Bool). if b then last_accesses (accesses m) (step_from m input).parts (step_from m input).input k else l) over
 
 pub log_one : (l : List Access) (m : Parts) (input : List ℕ) (budget : ℕ) → is_none m.ended ≡ true → m.steps < budget
-    → run_accesses l m input budget ≡ last_accesses (accesses m) (turn m input).parts (turn m input).input (budget - (m.steps + 1))
+    → run_accesses l m input budget ≡ last_accesses (accesses m) (step_from m input).parts (step_from m input).input (budget - (m.steps + 1))
 log_one l m input budget going below = let e : budget - m.steps ≡ suc (budget - (m.steps + 1)) = omega arith in rw e (last_one l m input _ going)
 
 pub log_spent : (l : List Access) (m : Parts) (input : List ℕ) (budget : ℕ) → budget ≤ m.steps → run_accesses l m input budget ≡ l
@@ -57,7 +57,7 @@ module _ (budget : ℕ) (before log : List Access) (old p : Parts) (left_p ho hp
         → Logs budget before old told log p left_p → q.steps ≡ p.steps + 1 → Logs budget before old told (accesses p) q left_q
     logs_on None led r logs counted = tt
     logs_on (Some bytes) led r logs counted =
-        let t : Turn = turn p led.input in
+        let t : Stepped = step_from p led.input in
         let d = (ran_at step p q led.input left_p left_q hp hq ep eq false led.left r).state refl in
         let steps : p.steps + 1 ≡ t.parts.steps = sym counted ∙ ap (λ (x : Parts). x.steps) d.0 in
         let whole : run_accesses before old bytes budget ≡ run_accesses (accesses p) t.parts t.input budget =
@@ -70,7 +70,7 @@ module _ (budget : ℕ) (before log : List Access) (old p : Parts) (left_p ho hp
         → Logs budget before old told log p left_p → is_none q.ended ≡ false → IfSome told (λ bytes. accesses p ≡ run_accesses before old bytes budget)
     logs_end None led r logs over = tt
     logs_end (Some bytes) led r logs over =
-        let t : Turn = turn p led.input in
+        let t : Stepped = step_from p led.input in
         let d = (ran_at step p q led.input left_p left_q hp hq ep eq false led.left r).state refl in
         let ended : is_none t.parts.ended ≡ false = ap (λ (x : Parts). is_none x.ended) (sym d.0) ∙ over in
         sym (logs_at bytes led logs ∙ log_one log p led.input budget going below ∙ last_over (accesses p) t.parts t.input (budget - (p.steps + 1)) ended)

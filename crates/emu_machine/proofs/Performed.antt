@@ -159,14 +159,14 @@ module _ (c : Core) (v : Vectors) (m : Memory) where
   load_row_is_other r =
       let l = row_layout r c v in
       let far = reach m ReadKind (elements_of l) in
-      let after = memory_rows.after_load r.transfer r.width.is_signed l m v in
+      let after = memory_rows.after_load r.choice r.width.is_signed l m v in
       unless_sp_is_other (memory_rows.has_sp_base r.brackets) (elements_of l) (memory_rows.loaded_to far after c v m) (vector_loaded_is_other far.stop far.done after)
 
   store_row_is_other : (r : MemoryRow) → IsOther (memory_rows.store_row r c v m).effect
   store_row_is_other r =
       let l = row_layout r c v in
       let far = reach m WriteKind (elements_of l) in
-      let stores = memory_rows.element_stored r.transfer l v in
+      let stores = memory_rows.element_stored r.choice l v in
       unless_sp_is_other (memory_rows.has_sp_base r.brackets) (elements_of l) (memory_rows.stored_to far stores c v m) (vector_stored_is_other far.stop far.done stores)
 
   loaded_unless_is_other : (o : Option ℕ) (d : Done) → IsOther d.effect → IsOther (loaded_unless o d c v m).effect

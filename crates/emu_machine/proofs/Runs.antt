@@ -4,8 +4,8 @@ use Rattle.emu_model.specs.declared.trap.Ended.{Ended}
 use Rattle.emu_model.specs.declared.trap.Ended.TheVariants.{Exit, Trap}
 use Rattle.emu_model.specs.State.{Parts, State}
 use Rattle.emu_system.specs.Start.{with_input}
-use Rattle.emu_system.specs.SystemCall.{Turn, action, call, quiet}
-use Rattle.emu_run.specs.Step.{step, taken_by, turn}
+use Rattle.emu_system.specs.SystemCall.{Stepped, action, call, quiet}
+use Rattle.emu_run.specs.Step.{step, taken_by, step_from}
 use Rattle.emu_run.specs.Run.{run}
 use Rattle.emu_run.specs.RunLaws.{moves_not, step_moves, until_end_moves, run_moves, run_on, run_ended, run_spent, run_behind}
 use Rattle.emu_machine.specs.declared.ends.StepEnd.{StepEnd}
@@ -58,17 +58,17 @@ module _ (p q : Parts) (told left ho hn eo en : Option (List ℕ)) (b : Bool) wh
   comes_step c is s i o e = comes_by step p q told left ho hn eo en b c is s i (told_puts (λ st. (step st).output) p told ho hn b o) (told_puts (λ st. (step st).errors) p told eo en b e)
 
 -- a step that makes a call puts what the call puts
-module _ (m p : Parts) (held_old held_new : Option (List ℕ)) (b : Bool) (same : p ≡ m) (is : (input : List ℕ) → turn m input ≡ call m input) where
+module _ (m p : Parts) (held_old held_new : Option (List ℕ)) (b : Bool) (same : p ≡ m) (is : (input : List ℕ) → step_from m input ≡ call m input) where
   pub puts_by_call : PutsAlways (λ st. (call_made st).output) p held_old held_new b → PutsAlways (λ st. (step st).output) m held_old held_new b
-  puts_by_call h bytes = subst (λ (out : List ℕ). IfSome held_old (λ had. Gains b held_new had out)) (ap (λ (x : Parts). (call x bytes).output) same ∙ ap (λ (t : Turn). t.output) (sym (is bytes))) (h bytes)
+  puts_by_call h bytes = subst (λ (out : List ℕ). IfSome held_old (λ had. Gains b held_new had out)) (ap (λ (x : Parts). (call x bytes).output) same ∙ ap (λ (t : Stepped). t.output) (sym (is bytes))) (h bytes)
 
   pub puts_errors_by_call : PutsAlways (λ st. (call_made st).errors) p held_old held_new b → PutsAlways (λ st. (step st).errors) m held_old held_new b
-  puts_errors_by_call h bytes = subst (λ (out : List ℕ). IfSome held_old (λ had. Gains b held_new had out)) (ap (λ (x : Parts). (call x bytes).errors) same ∙ ap (λ (t : Turn). t.errors) (sym (is bytes))) (h bytes)
+  puts_errors_by_call h bytes = subst (λ (out : List ℕ). IfSome held_old (λ had. Gains b held_new had out)) (ap (λ (x : Parts). (call x bytes).errors) same ∙ ap (λ (t : Stepped). t.errors) (sym (is bytes))) (h bytes)
 
 -- and leaves what the call leaves, and ends as it ends
-module _ (m p : Parts) (b : Bool) (same : p ≡ m) (is : (input : List ℕ) → turn m input ≡ call m input) where
+module _ (m p : Parts) (b : Bool) (same : p ≡ m) (is : (input : List ℕ) → step_from m input ≡ call m input) where
   stepped_by_call : (bytes : List ℕ) → call_made (with_input p bytes) ≡ step (with_input m bytes)
-  stepped_by_call bytes = ap (λ (x : Parts). call_made (with_input x bytes)) same ∙ ap (λ (t : Turn). taken_by (with_input m bytes) t) (sym (is bytes))
+  stepped_by_call bytes = ap (λ (x : Parts). call_made (with_input x bytes)) same ∙ ap (λ (t : Stepped). taken_by (with_input m bytes) t) (sym (is bytes))
 
   pub becomes_by_call : (new : Parts) (told left : Option (List ℕ)) → Becomes call_made p new told left b → Becomes step m new told left b
   becomes_by_call new None left h = tt
@@ -79,14 +79,14 @@ module _ (m p : Parts) (b : Bool) (same : p ≡ m) (is : (input : List ℕ) → 
   takes_by_call (Some bytes) left h = λ broken. subst (λ (s : State). LeftOf bytes (length s.input) left) (stepped_by_call bytes) (h broken)
 
   pub ends_by_call : (bytes : List ℕ) (r : StepEnd) → (b ≡ false → r ≡ step_end (call_made (with_input p bytes)).parts.ended) → b ≡ false → r ≡ step_end (step (with_input m bytes)).parts.ended
-  ends_by_call bytes r h fine = h fine ∙ ap (λ (x : Parts). step_end (call x bytes).parts.ended) same ∙ ap (λ (t : Turn). step_end t.parts.ended) (sym (is bytes))
+  ends_by_call bytes r h fine = h fine ∙ ap (λ (x : Parts). step_end (call x bytes).parts.ended) same ∙ ap (λ (t : Stepped). step_end t.parts.ended) (sym (is bytes))
 
   pub made_by_call : (told : Option (List ℕ)) (new : Parts) → is_at_call m ≡ true → OfInput (action p) told (λ bytes. b ≡ false → new ≡ (call_made (with_input p bytes)).parts)
       → OfStep m told (λ bytes. b ≡ false → new ≡ (step (with_input m bytes)).parts)
   made_by_call told new at h =
       let P : List ℕ → Type 0 = λ bytes. b ≡ false → new ≡ (call_made (with_input p bytes)).parts in
       let Q : List ℕ → Type 0 = λ bytes. b ≡ false → new ≡ (step (with_input m bytes)).parts in
-      let by : (bytes : List ℕ) → P bytes → Q bytes = λ bytes made fine. made fine ∙ ap (λ (x : Parts). (call x bytes).parts) same ∙ ap (λ (t : Turn). t.parts) (sym (is bytes)) in
+      let by : (bytes : List ℕ) → P bytes → Q bytes = λ bytes made fine. made fine ∙ ap (λ (x : Parts). (call x bytes).parts) same ∙ ap (λ (t : Stepped). t.parts) (sym (is bytes)) in
       subst (λ (c : Bool). MatchBool c (OfInput (action m) told Q) ((bytes : List ℕ) → Q bytes)) (sym at)
       (subst (λ (x : Parts). OfInput (action x) told Q) same (of_each (action p) told P Q by h))
 
@@ -99,16 +99,16 @@ of_any m told P f = by_place (is_at_call m)
     by_place true = of_all (action m) told P f
     by_place false = f
 
-pub quietly_made : (m q : Parts) (told : Option (List ℕ)) (b : Bool) → ((input : List ℕ) → turn m input ≡ quiet q input) → OfStep m told (λ bytes. b ≡ false → q ≡ (step (with_input m bytes)).parts)
-quietly_made m q told b is = of_any m told (λ bytes. b ≡ false → q ≡ (step (with_input m bytes)).parts) (λ bytes _. ap (λ (t : Turn). t.parts) (sym (is bytes)))
+pub quietly_made : (m q : Parts) (told : Option (List ℕ)) (b : Bool) → ((input : List ℕ) → step_from m input ≡ quiet q input) → OfStep m told (λ bytes. b ≡ false → q ≡ (step (with_input m bytes)).parts)
+quietly_made m q told b is = of_any m told (λ bytes. b ≡ false → q ≡ (step (with_input m bytes)).parts) (λ bytes _. ap (λ (t : Stepped). t.parts) (sym (is bytes)))
 
-pub quietly_ran : (m q : Parts) (told held errs : Option (List ℕ)) (b : Bool) → ((input : List ℕ) → turn m input ≡ quiet q input) → Ran step m q told told held held errs errs b
+pub quietly_ran : (m q : Parts) (told held errs : Option (List ℕ)) (b : Bool) → ((input : List ℕ) → step_from m input ≡ quiet q input) → Ran step m q told told held held errs errs b
 quietly_ran m q None held errs b is = record { state = tt; input = tt; output = tt; errors = tt }
 quietly_ran m q (Some bytes) held errs b is = record {
-  state = λ _. (ap (λ (t : Turn). t.parts) (sym (is bytes)), ap (λ (t : Turn). Some t.input) (sym (is bytes)));
+  state = λ _. (ap (λ (t : Stepped). t.parts) (sym (is bytes)), ap (λ (t : Stepped). Some t.input) (sym (is bytes)));
   input = λ _. record { taken = 0; most = omega arith; is = refl };
-  output = rw (ap (λ (t : Turn). t.output) (is bytes)) (gains_none b held);
-  errors = rw (ap (λ (t : Turn). t.errors) (is bytes)) (gains_none b errs);
+  output = rw (ap (λ (t : Stepped). t.output) (is bytes)) (gains_none b held);
+  errors = rw (ap (λ (t : Stepped). t.errors) (is bytes)) (gains_none b errs);
 }
 
 -- ---- a run, step after step

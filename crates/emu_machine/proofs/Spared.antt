@@ -9,7 +9,7 @@ use Rattle.emu_model.specs.Access.{Memory}
 use Rattle.emu_model.specs.State.{Core, Parts}
 use Rattle.emu_system.specs.declared.system_call.Errno.TheVariants.{EBADF, EFAULT, EINVAL}
 use Rattle.emu_system.specs.declared.system_call.Range.{Range}
-use Rattle.emu_system.specs.SystemCall.{Action, answers, argument, action, action_of, buffer, call_name, cut_to, entries, fails, file_of, is_denied, is_sink, is_too_long, most_bytes, puts, takes, with_buffer, with_entries, with_vector}
+use Rattle.emu_system.specs.SystemCall.{Action, answers, call_argument, action, action_of, buffer, call_name, cut_to, entries, fails, file_of, is_denied, is_sink, is_too_long, most_bytes, puts, takes, with_buffer, with_entries, with_vector}
 use Rattle.linux_calls.specs.Ends.{does_put}
 use Rattle.linux_calls.specs.Names.{NamesRead, NamesWrite}
 use Rattle.emu_run.specs.Run.{run}
@@ -34,7 +34,7 @@ chosen file false x y p q = q
 module _ (file : ℕ) (kind : Kind) (moves : List Range → Action) (none : (ranges : List Range) → does_put file (moves ranges) ≡ false) (m : Memory) where
   by_buffer : (c : Core) → does_put file (with_buffer kind moves c m) ≡ false
   by_buffer c =
-      chosen file (nat_eq (argument c 2) 0) (answers 0) (if is_denied m kind (buffer c) then fails EFAULT else moves (buffer c ∷ [])) refl
+      chosen file (nat_eq (call_argument c 2) 0) (answers 0) (if is_denied m kind (buffer c) then fails EFAULT else moves (buffer c ∷ [])) refl
       (chosen file (is_denied m kind (buffer c)) (fails EFAULT) (moves (buffer c ∷ [])) refl (none (buffer c ∷ [])))
 
   by_entries : (ranges : List Range) → does_put file (with_entries kind moves ranges m) ≡ false
@@ -44,10 +44,10 @@ module _ (file : ℕ) (kind : Kind) (moves : List Range → Action) (none : (ran
 
   by_vector : (c : Core) → does_put file (with_vector kind moves c m) ≡ false
   by_vector c =
-      chosen file (nat_lt 1024 (argument c 2)) (fails EINVAL)
-      (if is_denied m ToRead (record { address = argument c 1; length = 16 * argument c 2 }) then fails EFAULT else with_entries kind moves (entries m (argument c 1) (argument c 2)) m) refl
-      (chosen file (is_denied m ToRead (record { address = argument c 1; length = 16 * argument c 2 })) (fails EFAULT) (with_entries kind moves (entries m (argument c 1) (argument c 2)) m) refl
-      (by_entries (entries m (argument c 1) (argument c 2))))
+      chosen file (nat_lt 1024 (call_argument c 2)) (fails EINVAL)
+      (if is_denied m ToRead (record { address = call_argument c 1; length = 16 * call_argument c 2 }) then fails EFAULT else with_entries kind moves (entries m (call_argument c 1) (call_argument c 2)) m) refl
+      (chosen file (is_denied m ToRead (record { address = call_argument c 1; length = 16 * call_argument c 2 })) (fails EFAULT) (with_entries kind moves (entries m (call_argument c 1) (call_argument c 2)) m) refl
+      (by_entries (entries m (call_argument c 1) (call_argument c 2))))
 
 module _ (file : ℕ) (p : Parts) where
   abbrev PutsNone : ℕ → Type 0

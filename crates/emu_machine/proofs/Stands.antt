@@ -2,8 +2,8 @@
 use Rattle.std.proofs.Common.{◌≡◌, ◌≤◌, ℕ, ◌+◌, Bool, true, false, List, Option, Some, None, is_none, IfSome, refl, sym, ap, subst, ◌∙◌, arith}
 use Rattle.emu_model.specs.State.{Parts, State}
 use Rattle.emu_system.specs.Start.{with_input}
-use Rattle.emu_system.specs.SystemCall.{Turn}
-use Rattle.emu_run.specs.Step.{step, turn}
+use Rattle.emu_system.specs.SystemCall.{Stepped}
+use Rattle.emu_run.specs.Step.{step, step_from}
 use Rattle.emu_run.specs.Run.{run}
 use Rattle.emu_run.specs.RunLaws.{run_after_turn, run_spent}
 use Rattle.emu_machine.specs.Ends.{IsKept}
@@ -32,7 +32,7 @@ module _ (budget : ℕ) (old p : Parts) (left_p ho hp eo ep : Option (List ℕ))
       → is_none p.ended ≡ true → q.steps ≡ p.steps + 1 → Stands old told p left_p → Stands old told q left_q
   stands_on q left_q hq eq None led r going counted stands = tt
   stands_on q left_q hq eq (Some bytes) led r going counted stands =
-      let t : Turn = turn p led.input in
+      let t : Stepped = step_from p led.input in
       let d = (ran_at step p q led.input left_p left_q hp hq ep eq false led.left r).state refl in
       let steps : t.parts.steps ≡ p.steps + 1 = ap (λ (x : Parts). x.steps) (sym d.0) ∙ counted in
       let now : StandsAt old bytes q t.input = λ b h.

@@ -14,7 +14,7 @@ use Rattle.emu_model.specs.LoadsAndStores.{done_unless}
 use Rattle.emu_model.specs.State.{Parts}
 use Rattle.emu_run.specs.declared.insn.Insn.{Insn}
 use Rattle.emu_run.specs.declared.insn.Insn.TheVariants.{A64}
-use Rattle.emu_run.specs.Step.{accesses, decode, executed, executed_accesses, fetched, fetched_accesses, trapped, turn}
+use Rattle.emu_run.specs.Step.{accesses, decode, executed, executed_accesses, fetched, fetched_accesses, trapped, step_from}
 use Rattle.emu_system.specs.SystemCall.{call, quiet}
 use Rattle.emu_machine.specs.Advances.{EndsBy, MatchCall}
 use Rattle.emu_machine.specs.declared.ends.Progress.{Progress}
@@ -38,7 +38,7 @@ module _ (m : Parts) (word : ℕ) (has : HasFetched m word) where
   fetched_word = done_is (refused m.memory m.core.pc 4 Fetch) Fetch word (value m.memory m.core.pc 4) has.done
 
   -- a turn does the instruction of the word
-  pub turn_executes : (input : List ℕ) → turn m input ≡ executed m input (decode word)
+  pub turn_executes : (input : List ℕ) → step_from m input ≡ executed m input (decode word)
   turn_executes input =
       ap (λ (b : Bool). if b then fetched m input (refused m.memory m.core.pc 4 Fetch) else quiet (trapped m PcAlign m.core.pc) input) (eq-eqb (m.core.pc % 4) 0 has.aligned)
       ∙ ap (λ (o : Option ℕ). fetched m input o) fetched_word.0
@@ -79,9 +79,9 @@ alone_as Trapped a b same h = sym same ∙ h
 alone_as AtCall a b same h = tt
 
 -- a turn that does an instruction leaves what the instruction leaves
-pub executed_as : (r : Progress) (insn : Option Insn) (m n p : Parts) → n ≡ m → ((input : List ℕ) → turn m input ≡ executed m input insn)
+pub executed_as : (r : Progress) (insn : Option Insn) (m n p : Parts) → n ≡ m → ((input : List ℕ) → step_from m input ≡ executed m input insn)
     → MatchCall r ((input : List ℕ) → executed n input insn ≡ call n input) ((input : List ℕ) → executed n input insn ≡ quiet p input)
-    → MatchCall r ((input : List ℕ) → turn m input ≡ call m input) ((input : List ℕ) → turn m input ≡ quiet p input)
+    → MatchCall r ((input : List ℕ) → step_from m input ≡ call m input) ((input : List ℕ) → step_from m input ≡ quiet p input)
 executed_as GoesOn insn m n p same turns is = λ input. turns input ∙ ap (λ (x : Parts). executed x input insn) (sym same) ∙ is input
 executed_as Trapped insn m n p same turns is = λ input. turns input ∙ ap (λ (x : Parts). executed x input insn) (sym same) ∙ is input
 executed_as AtCall insn m n p same turns is = λ input. turns input ∙ ap (λ (x : Parts). executed x input insn) (sym same) ∙ is input ∙ ap (λ (x : Parts). call x input) same
@@ -107,7 +107,7 @@ call_none m is = by_fetch (nat_eq (m.core.pc % 4) 0) (refused m.memory m.core.pc
 
 -- what a step that makes no call makes of a machine
 pub record HasStepped (old new : MachineState) (r : Progress) : Type 0 where
-  pub turn : MatchCall r ((input : List ℕ) → turn old.parts input ≡ call old.parts input) ((input : List ℕ) → turn old.parts input ≡ quiet new.parts input)
+  pub turn : MatchCall r ((input : List ℕ) → step_from old.parts input ≡ call old.parts input) ((input : List ℕ) → step_from old.parts input ≡ quiet new.parts input)
   pub kept : MatchCall r (new ≡ record old { spare = new.spare }) (new.failed ≡ false)
   pub svc : r ≡ AtCall → is_at_call old.parts ≡ true
   pub alone : MatchCall r ⊤ (makes_call old.parts ≡ false)
@@ -120,7 +120,7 @@ pub record HasStepped (old new : MachineState) (r : Progress) : Type 0 where
 -- `at` is the machine as it traps
 pub has_trapped : (old at new : MachineState) (r : Progress) (kind : TrapKind) (a : ℕ) → at ≡ old → has_ended old ≡ false → old.accesses ≡ [] → r ≡ Trapped
     → new.parts ≡ trapped at.parts kind a → new.accesses ≡ at.accesses → new.failed ≡ at.failed → new.marks ≡ at.marks → new.saved ≡ at.saved
-    → makes_call old.parts ≡ false → ((input : List ℕ) → turn old.parts input ≡ quiet (trapped old.parts kind a) input) → accesses old.parts ≡ [] → HasStepped old new r
+    → makes_call old.parts ≡ false → ((input : List ℕ) → step_from old.parts input ≡ quiet (trapped old.parts kind a) input) → accesses old.parts ≡ [] → HasStepped old new r
 has_trapped old at new r kind a same going clear is parts log failed marks saved alone turns none =
     let left : new.parts ≡ trapped old.parts kind a = parts ∙ ap (λ (s : MachineState). trapped s.parts kind a) same in
     subst (λ (x : Progress). HasStepped old new x) (sym is) (record {
@@ -137,7 +137,7 @@ has_trapped old at new r kind a same going clear is parts log failed marks saved
 
 -- the program counter isn't a multiple of 4
 module _ (m : Parts) (odd : m.core.pc % 4 ≡ 0 → ⊥) where
-  pub turn_of_odd : (input : List ℕ) → turn m input ≡ quiet (trapped m PcAlign m.core.pc) input
+  pub turn_of_odd : (input : List ℕ) → step_from m input ≡ quiet (trapped m PcAlign m.core.pc) input
   turn_of_odd input = ap (λ (b : Bool). if b then fetched m input (refused m.memory m.core.pc 4 Fetch) else quiet (trapped m PcAlign m.core.pc) input) (ne_eqb (m.core.pc % 4) 0 odd)
 
   pub accesses_of_odd : accesses m ≡ []
@@ -149,7 +149,7 @@ denied_is None y d is = cc
 denied_is (Some a) y d is = cc
 
 module _ (m : Parts) (d : Denied) (aligned : m.core.pc % 4 ≡ 0) (is : Err d ≡ done_unless (refused m.memory m.core.pc 4 Fetch) Fetch (value m.memory m.core.pc 4)) where
-  pub turn_of_refused : (input : List ℕ) → turn m input ≡ quiet (trapped m TrapFetch d.address) input
+  pub turn_of_refused : (input : List ℕ) → step_from m input ≡ quiet (trapped m TrapFetch d.address) input
   turn_of_refused input =
       ap (λ (b : Bool). if b then fetched m input (refused m.memory m.core.pc 4 Fetch) else quiet (trapped m PcAlign m.core.pc) input) (eq-eqb (m.core.pc % 4) 0 aligned)
       ∙ ap (λ (o : Option ℕ). fetched m input o) (denied_is (refused m.memory m.core.pc 4 Fetch) (value m.memory m.core.pc 4) d is)
@@ -161,7 +161,7 @@ module _ (m : Parts) (d : Denied) (aligned : m.core.pc % 4 ≡ 0) (is : Err d �
 
 -- the word is in no row
 module _ (m : Parts) (word : ℕ) (has : HasFetched m word) (none : decode word ≡ None) where
-  pub turn_of_none : (input : List ℕ) → turn m input ≡ quiet (trapped m Undefined m.core.pc) input
+  pub turn_of_none : (input : List ℕ) → step_from m input ≡ quiet (trapped m Undefined m.core.pc) input
   turn_of_none input = turn_executes m word has input ∙ ap (λ (i : Option Insn). executed m input i) none
 
   pub accesses_of_none : accesses m ≡ []

@@ -8,7 +8,7 @@ use Rattle.emu_model.specs.State.{Parts}
 use Rattle.emu_system.specs.Start.{with_input}
 use Rattle.emu_system.specs.SystemCall.{call, quiet, went_on}
 use Rattle.emu_run.specs.Run.{run}
-use Rattle.emu_run.specs.Step.{accesses, trapped, turn}
+use Rattle.emu_run.specs.Step.{accesses, trapped, step_from}
 use Rattle.emu_machine.specs.Accesses.{run_accesses}
 use Rattle.emu_machine.specs.declared.ends.Progress.{Progress}
 use Rattle.emu_machine.specs.declared.ends.Progress.TheVariants.{GoesOn, Trapped, AtCall}
@@ -46,7 +46,7 @@ left_by_effect Call m = m
 -- a step that makes no call makes `now` of `old`, which goes on
 pub record IsAlone (old now : Parts) : Type 0 where
   pub calls : makes_call old ≡ false
-  pub turns : (input : List ℕ) → turn old input ≡ quiet now input
+  pub turns : (input : List ℕ) → step_from old input ≡ quiet now input
   pub goes : is_none now.ended ≡ true
   pub counted : now.steps ≡ old.steps + 1
 
@@ -78,7 +78,7 @@ pub record IsLast (budget : ℕ) (old new : MachineState) : Type 0 where
   pub ahead : IsAhead old.parts at old.accesses log
   pub below : at.steps < budget
   pub alone : makes_call at ≡ false
-  pub turns : (input : List ℕ) → turn at input ≡ quiet new.parts input
+  pub turns : (input : List ℕ) → step_from at input ≡ quiet new.parts input
   pub accesses : new.accesses ≡ accesses at
   pub ended : is_none new.parts.ended ≡ false
 
@@ -88,7 +88,7 @@ pub record AsksCall (budget : ℕ) (old new : MachineState) : Type 0 where
   pub ahead : IsAhead old.parts new.parts old.accesses log
   pub below : new.parts.steps < budget
   pub clear : new.accesses ≡ accesses new.parts
-  pub calls : (input : List ℕ) → turn new.parts input ≡ call new.parts input
+  pub calls : (input : List ℕ) → step_from new.parts input ≡ call new.parts input
   pub svc : is_at_call new.parts ≡ true
 
 abbrev pub Advances : ℕ → MachineState → MachineState → Progress → Type 0

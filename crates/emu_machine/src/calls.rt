@@ -25,7 +25,8 @@ use io_gate::{Sink, Source};
 use linux_calls::{CallEnd, call};
 
 impl Machine {
-    /// Makes the call whose number is in x8.
+    /// Makes the call whose number is in x8. It isn't inlined, so that a single step that makes none pays for none.
+    #[inline(never)]
     pub(crate) fn call<I: Source, O: Sink, E: Sink>(
         &mut self,
         input: &mut I,

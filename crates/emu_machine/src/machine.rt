@@ -52,7 +52,7 @@ use crate::running::Running;
 use crate::saved::Saved;
 use core_regs::Core;
 use emu_model::{Break, Ended};
-use guest_contexts::{Context, Turn, begin_next};
+use guest_contexts::{Context, Turn};
 use guest_mem::{Access, AccessList, AccessLog, Mem};
 use io_gate::{Sink, Source};
 use std::marker::Model;
@@ -234,24 +234,6 @@ impl Machine {
         }
     }
 
-    /// Takes steps until the next one makes a call, `until` steps are counted in all, or one ends the machine. It is
-    /// compiled into its one caller.
-    #[inline(always)]
-    fn take_steps(&mut self, until: u64) -> Progress
-        requires going { has_ended self.old ≡ false }
-        requires within { self.old.parts.steps < until }
-        ensures steps { Advances until self.old self.new result }
-        ensures failed { self.new.failed ≡ false }
-        ensures marks { self.new.marks ≡ self.old.marks }
-        ensures saved { self.new.saved ≡ self.old.saved }
-        ensures going { MatchCall result (has_ended self.new ≡ false) ⊤ }
-        ensures below { MatchCall result (self.new.parts.steps < until) ⊤ }
-    {
-        let progress = self.running.take_steps(until);
-        self.shown.set(&self.running.log);
-        progress
-    }
-
     /// Takes steps until the next one makes a call, `until` steps are counted in all, or one ends the machine.
     pub fn advance(&mut self, until: u64) -> Progress
         requires going { has_ended self.old ≡ false }
@@ -295,31 +277,17 @@ impl Machine {
         ensures going { MatchCall result (has_ended self.new ≡ false) ⊤ }
         ensures below { MatchCall result (self.new.parts.steps < turn.new.until) ⊤ }
     {
-        loop {
-            match self.take_steps(turn.until) {
-                Progress::GoesOn => {}
-                Progress::Trapped => return Progress::Trapped,
-                Progress::AtCall => return Progress::AtCall,
-            }
-            if !begin_next(
-                schedule,
-                numbers,
-                contexts,
-                turn,
-                &mut self.running.core,
-                &mut self.running.vec,
-            ) {
-                return Progress::GoesOn;
-            }
-        }
+        let progress = self.running.take_turns(schedule, numbers, contexts, turn);
+        self.shown.set(&self.running.log);
+        progress
     }
 
     /// A step that makes no call, with the log emptied. At a call nothing else is changed.
     fn once(&mut self) -> Progress
         requires going { has_ended self.old ≡ false }
         requires room { self.old.parts.steps < 2 ^ 64 - 1 }
-        ensures turn { MatchCall result ((input : List ℕ) → model.turn self.old.parts input ≡ call self.old.parts input)
-            ((input : List ℕ) → model.turn self.old.parts input ≡ quiet self.new.parts input) }
+        ensures turn { MatchCall result ((input : List ℕ) → model.step_from self.old.parts input ≡ call self.old.parts input)
+            ((input : List ℕ) → model.step_from self.old.parts input ≡ quiet self.new.parts input) }
         ensures kept { MatchCall result (self.new.parts ≡ self.old.parts) ⊤ }
         ensures svc { result ≡ Progress.AtCall → is_at_call self.old.parts ≡ true }
         ensures ended { EndsBy result self.new.parts }

@@ -1,11 +1,13 @@
 //! What a step works on: the machine as it runs, and its step.
-ghost use Rattle.std.specs.Prelude.{◌≡◌, ◌<◌, ◌+◌, ◌-◌, ◌^◌, List, [], ℕ, ⊤, Some, None, true, false};
+ghost use Rattle.std.specs.Prelude.{◌≡◌, ◌<◌, ◌+◌, ◌-◌, ◌^◌, List, [], ℕ, ⊤, Some, None, true, false, length};
 ghost use Rattle.emu_bits.specs.Fields.{field};
 ghost use Rattle.emu_model.specs.SoundState.{IsSoundBreak};
 ghost use Rattle.emu_run.specs.ByTable.{a64};
 ghost use Rattle.emu_run.specs.Step as model;
 ghost use Rattle.emu_system.specs.SystemCall.{call, quiet, went_on};
 ghost use Rattle.emu_machine.specs.Advances.{Advances, EndsBy, MatchCall, left_by_effect, progress_by};
+ghost use Rattle.emu_machine.specs.InTurns.{AdvancesInTurns, turn_of};
+ghost use Rattle.guest_contexts.specs.Begins.{IsTurn, begins_next};
 ghost use Rattle.emu_machine.specs.Machines.{has_ended, is_at_call, is_svc, makes_call};
 
 use crate::ends::Progress;
@@ -13,6 +15,7 @@ use crate::saved::Saved;
 use a64_insn::A64;
 use core_regs::{Core, Effect};
 use emu_model::{Break, Ended, Kind, Trap, TrapKind};
+use guest_contexts::{Context, Turn, begin_next};
 use guest_mem::{AccessLog, Mem};
 use insn_decode::{DecodedWords, decode_a64_word, may_be_sve};
 use insn_exec::{perform_a64, perform_sve};
@@ -130,8 +133,8 @@ impl Running {
         requires going { has_ended self.old ≡ false }
         requires room { self.old.parts.steps < 2 ^ 64 - 1 }
         requires clear { self.old.accesses ≡ [] }
-        ensures turn { MatchCall result ((input : List ℕ) → model.turn self.old.parts input ≡ call self.old.parts input)
-            ((input : List ℕ) → model.turn self.old.parts input ≡ quiet self.new.parts input) }
+        ensures turn { MatchCall result ((input : List ℕ) → model.step_from self.old.parts input ≡ call self.old.parts input)
+            ((input : List ℕ) → model.step_from self.old.parts input ≡ quiet self.new.parts input) }
         ensures kept { MatchCall result (self.new ≡ record self.old { spare = self.new.spare })
             (self.new.failed ≡ false) }
         ensures svc { result ≡ Progress.AtCall → is_at_call self.old.parts ≡ true }
@@ -251,6 +254,51 @@ impl Running {
                 Progress::AtCall => return Progress::AtCall,
             }
             if self.steps >= until {
+                return Progress::GoesOn;
+            }
+        }
+    }
+
+    /// Takes steps under a schedule, turn after turn: until the next one makes a call, one ends the machine, or a turn
+    /// is used up and the next one isn't begun. It is compiled into its one caller.
+    #[inline(always)]
+    pub(crate) fn take_turns(
+        &mut self,
+        schedule: &[(u64, u64)],
+        numbers: &[usize],
+        contexts: &mut [Context],
+        turn: &mut Turn,
+    ) -> Progress
+        requires going { has_ended self.old ≡ false }
+        requires within { self.old.parts.steps < turn.old.until }
+        requires turn { 0 < length schedule.now → IsTurn schedule.now numbers.now contexts.old turn.old }
+        ensures steps { AdvancesInTurns schedule.now numbers.now
+            (record { machine = self.old; turn = turn.old; contexts = contexts.old })
+            (record { machine = self.new; turn = turn.new; contexts = contexts.new }) result }
+        ensures stopped { result ≡ Progress.GoesOn → begins_next schedule.now numbers.now
+            (turn_of (record { machine = self.new; turn = turn.new; contexts = contexts.new })) ≡ false }
+        ensures turn { 0 < length schedule.now → IsTurn schedule.now numbers.now contexts.new turn.new }
+        ensures count { length contexts.new ≡ length contexts.old }
+        ensures failed { self.new.failed ≡ false }
+        ensures marks { self.new.marks ≡ self.old.marks }
+        ensures saved { self.new.saved ≡ self.old.saved }
+        ensures going { MatchCall result (has_ended self.new ≡ false) ⊤ }
+        ensures below { MatchCall result (self.new.parts.steps < turn.new.until) ⊤ }
+    {
+        loop {
+            match self.take_steps(turn.until) {
+                Progress::GoesOn => {}
+                Progress::Trapped => return Progress::Trapped,
+                Progress::AtCall => return Progress::AtCall,
+            }
+            if !begin_next(
+                schedule,
+                numbers,
+                contexts,
+                turn,
+                &mut self.core,
+                &mut self.vec,
+            ) {
                 return Progress::GoesOn;
             }
         }

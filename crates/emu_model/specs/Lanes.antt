@@ -1,7 +1,8 @@
 -- Lanes of Z registers and fields of predicates: what is read of them, and what a write leaves. From the shared
 -- pseudocode of the Arm Architecture Reference Manual for A-profile (DDI 0487), J1: Z, P, FFR, Elem, and V, a write to
 -- which clears the bits above it.
-use Rattle.std.specs.Prelude.{ℕ, ◌+◌, ◌*◌, ◌/◌, ◌%◌, ◌^◌, Bool, false, nat_eq, if◌then◌else◌, List, [], ◌∷◌, get_or, set, take, drop}
+use Rattle.std.specs.Prelude.{ℕ, ◌+◌, ◌*◌, ◌/◌, ◌%◌, ◌^◌, Bool, List, [], ◌∷◌, get_or, set, take, drop}
+pub use Rattle.lane_model.specs.Bits.{field_bit}
 use Rattle.emu_model.specs.Lists.{each}
 use Rattle.emu_model.specs.State.{Vectors}
 
@@ -48,10 +49,6 @@ abbrev pub with_low : ℕ → ℕ → ℕ → Vectors → Vectors
 with_low bits x zd v = with_z v zd (each (v.bits / 8) (λ j. x % 2 ^ bits / 2 ^ (8 * j) % 256))
 
 -- ---- fields of a predicate: e / 8 bits for a lane of e bits
-
--- bit j of fields of w bits: field k has f k as its lowest bit, and zeros above
-abbrev pub field_bit : ℕ → (ℕ → Bool) → ℕ → Bool
-field_bit w f j = if nat_eq (j % w) 0 then f (j / w) else false
 
 -- each field k of predicate pd has f k as its lowest bit, and zeros above
 abbrev pub with_fields : ℕ → (ℕ → Bool) → ℕ → Vectors → Vectors

@@ -6,7 +6,7 @@ use Rattle.std.specs.Ordering.{nat_cmp}
 use Rattle.std.specs.FinMap.{FinMap, get}
 use Rattle.emu_model.specs.Access.{address, page_size}
 use Rattle.emu_model.specs.ByteMap.{put}
-use Rattle.emu_model.specs.Pages.{is_among}
+use Rattle.emu_model.specs.Pages.{is_page_in}
 
 -- the bytes of the map at the n addresses from a on, and 0 where it has none
 abbrev pub row : FinMap nat_cmp ℕ → ℕ → ℕ → List ℕ
@@ -19,4 +19,4 @@ written_row bytes a (x ∷ xs) = written_row (put bytes (address a) x) (a + 1) x
 
 -- the new map has `what` at each address of `count` pages from page `first` on, and at any other what the old one has
 abbrev pub IsSetInPages : ℕ → ℕ → Option ℕ → FinMap nat_cmp ℕ → FinMap nat_cmp ℕ → Type 0
-IsSetInPages first count what old new = (a : ℕ) → get new a ≡ (if is_among first count (a / page_size) then what else get old a)
+IsSetInPages first count what old new = (a : ℕ) → get new a ≡ (if is_page_in first count (a / page_size) then what else get old a)

@@ -9,13 +9,13 @@ use Rattle.emu_model.specs.declared.access.Kind.TheVariants.{Write as ToWrite}
 use Rattle.emu_model.specs.declared.trap.Ended.TheVariants.{Exit as Exited}
 use Rattle.emu_model.specs.Access.{refused, stored}
 use Rattle.emu_model.specs.State.{Parts}
-use Rattle.emu_run.specs.Step.{accesses, turn}
-use Rattle.emu_system.specs.SystemCall.{argument, error_answer, returned}
+use Rattle.emu_run.specs.Step.{accesses, step_from}
+use Rattle.emu_system.specs.SystemCall.{call_argument, error_answer, returned}
 use Rattle.emu_run.specs.declared.thread.Standing.{Standing}
 use Rattle.emu_run.specs.declared.thread.Standing.TheVariants.{Ready, Waiting, Gone}
-use Rattle.emu_run.specs.ThreadCall.{ThreadAction, fails, answers, starts, waits, wakes, clears, leaves, alone, action, all_gone, answered, cleared, leave_made, number_of, parent_told, started, thread_id, with_gone}
-use Rattle.emu_run.specs.Threads.{done_by, makes_call, one, stepped_alone, with_world}
-use Rattle.emu_run.specs.Worlds.{World, Context, context, no_context, apart, behind_accesses, is_gone, is_ready, is_standing_at, is_standing_gone, is_standing_ready, joined, others_behind, some_ready, taken_by_context, wake_count, waits_at, with_context, with_monitor, with_woken, without_monitors, woken, woken_context}
+use Rattle.emu_run.specs.ThreadCall.{ThreadAction, fails, answers, starts, waits, wakes, clears, leaves, alone, action, all_gone, answered, cleared, leave_made, error_number, parent_told, started, thread_id, with_gone}
+use Rattle.emu_run.specs.Threads.{thread_call_done, makes_call, one, stepped_alone, with_world}
+use Rattle.emu_run.specs.Worlds.{World, Context, context, no_context, apart, behind_accesses, is_gone, is_ready, is_standing_at, is_standing_gone, is_standing_ready, parts_with, others_behind, some_ready, taken_by_context, wake_count, waits_at, with_context, with_monitor, with_woken, without_monitors, woken, woken_context}
 
 abbrev pub is_standing_waiting : Standing → Bool
 is_standing_waiting Ready = false
@@ -84,7 +84,7 @@ cleared_gone w a =
 left_living : (w : World) (k : ℕ) → IsLiving (leave_made w k)
 left_living w k =
     let g : World = with_gone w k in
-    elim (all_gone g) as (λ b. all_gone g ≡ b → is_none (if b then Some (Exited (argument (context w k).core 0 % 256)) else g.ended) ≡ true → all_gone (cleared g (context w k).clear) ≡ false) [
+    elim (all_gone g) as (λ b. all_gone g ≡ b → is_none (if b then Some (Exited (call_argument (context w k).core 0 % 256)) else g.ended) ≡ true → all_gone (cleared g (context w k).clear) ≡ false) [
       | true ↦ λ all h. cc
       | false ↦ λ some h. cleared_gone g (context w k).clear ∙ some
     ] refl
@@ -109,35 +109,35 @@ module _ (w : World) (k : ℕ) (input : List ℕ) (within : k < length w.context
   answered_living : (v : World) (s : Standing) (m : Parts) → length v.contexts ≡ length w.contexts → is_standing_gone s ≡ false → all_gone (apart v k s m) ≡ false
   answered_living v s m long stays = apart_living v k (subst (λ (n : ℕ). k < n) (sym long) within) s m stays
 
-  done_living : (a : ThreadAction) → IsLiving (done_by a w k input).world
-  done_living (fails e) = λ _. answered_living w Ready (returned (joined w (context w k)) (error_answer (number_of e))) refl refl
-  done_living (answers v) = λ _. answered_living w Ready (returned (joined w (context w k)) v) refl refl
+  done_living : (a : ThreadAction) → IsLiving (thread_call_done a w k input).world
+  done_living (fails e) = λ _. answered_living w Ready (returned (parts_with w (context w k)) (error_answer (error_number e))) refl refl
+  done_living (answers v) = λ _. answered_living w Ready (returned (parts_with w (context w k)) v) refl refl
   done_living starts = λ _.
       let told : World = parent_told w (context w k).core in
       let id : ℕ = thread_id (length w.contexts) in
       list_all-append is_gone (answered told k id).contexts (started w (context w k) (context w k).core ∷ [])
-      ∙ ap (λ (b : Bool). b && list_all is_gone (started w (context w k) (context w k).core ∷ [])) (answered_living told Ready (returned (joined told (context told k)) id) refl refl)
-  done_living (waits a) = λ _. answered_living w (Waiting a) (returned (joined w (context w k)) 0) refl refl
+      ∙ ap (λ (b : Bool). b && list_all is_gone (started w (context w k) (context w k).core ∷ [])) (answered_living told Ready (returned (parts_with told (context told k)) id) refl refl)
+  done_living (waits a) = λ _. answered_living w (Waiting a) (returned (parts_with w (context w k)) 0) refl refl
   done_living (wakes a n) = λ _.
       let woke : World = with_woken w a n in
-      answered_living woke Ready (returned (joined woke (context woke k)) (wake_count a n w.contexts)) (woken_length a n w.contexts) refl
+      answered_living woke Ready (returned (parts_with woke (context woke k)) (wake_count a n w.contexts)) (woken_length a n w.contexts) refl
   done_living (clears a) = λ _.
       let changed : Context = record (context w k) { clear = a } in
       let cleared_so : World = with_context w k changed in
-      answered_living cleared_so Ready (returned (joined cleared_so (context cleared_so k)) (thread_id k)) (length-set w.contexts k changed) refl
+      answered_living cleared_so Ready (returned (parts_with cleared_so (context cleared_so k)) (thread_id k)) (length-set w.contexts k changed) refl
   done_living leaves = left_living w k
-  done_living alone = λ _. answered_living w Ready (turn (joined w (context w k)) input).parts refl refl
+  done_living alone = λ _. answered_living w Ready (step_from (parts_with w (context w k)) input).parts refl refl
 
   -- the step of a context, whatever it is
   pub one_living : IsLiving (one w k input).world
   one_living =
-      let m : Parts = (turn (joined w (context w k)) input).parts in
+      let m : Parts = (step_from (parts_with w (context w k)) input).parts in
       let v : World = apart w k Ready m in
       let own : Context = record (context w k) { core = m.core; vectors = m.vectors; standing = Ready } in
       let long : length v.contexts ≡ length w.contexts = length-set w.contexts k own in
-      elim (makes_call (joined w (context w k))) as (λ b. IsLiving (if b then with_world (λ u. taken_by_context k (without_monitors u)) (done_by (action w k) w k input) else with_world (λ u. taken_by_context k (others_behind (accesses (joined w (context w k))) k u)) (stepped_alone w k input)).world) [
-        | true ↦ emptied_living (done_by (action w k) w k input).world (done_living (action w k))
-        | false ↦ λ _. noted_living v k (subst (λ (n : ℕ). k < n) (sym long) within) (accesses (joined w (context w k))) (ap is_gone (get_or-set_same w.contexts k own no_context within))
+      elim (makes_call (parts_with w (context w k))) as (λ b. IsLiving (if b then with_world (λ u. taken_by_context k (without_monitors u)) (thread_call_done (action w k) w k input) else with_world (λ u. taken_by_context k (others_behind (accesses (parts_with w (context w k))) k u)) (stepped_alone w k input)).world) [
+        | true ↦ emptied_living (thread_call_done (action w k) w k input).world (done_living (action w k))
+        | false ↦ λ _. noted_living v k (subst (λ (n : ℕ). k < n) (sym long) within) (accesses (parts_with w (context w k))) (ap is_gone (get_or-set_same w.contexts k own no_context within))
       ]
 
 -- ---- where no context is ready, and not all are gone, one waits

@@ -19,7 +19,7 @@ numbered kind k = kind ++ decimal k
 
 -- a 64-bit value has 16 hexadecimal digits
 abbrev pub word_line : List ℕ → ℕ → List ℕ
-word_line name v = register_line name (hex 16 v)
+word_line name number = register_line name (hex 16 number)
 
 -- the lines of registers 0 to n - 1 of a kind
 abbrev pub lines_of : ℕ → (ℕ → List ℕ) → List ℕ
@@ -62,4 +62,4 @@ vector_lines v =
 
 -- all registers of a machine
 abbrev pub register_lines : Parts → List ℕ
-register_lines m = scalar_lines m.core m.vectors.bits ++ vector_lines m.vectors
+register_lines parts = scalar_lines parts.core parts.vectors.bits ++ vector_lines parts.vectors

@@ -42,14 +42,14 @@ spent_text = codes "spent"
 
 -- of one that has stopped; where it hasn't ended its budget is spent
 abbrev pub ending_text : Parts → Option Ended → List ℕ
-ending_text m None = spent_text
-ending_text m (Some (Exited code)) = exit_text code
-ending_text m (Some (Trapped t)) = trap_text t m.core.pc
+ending_text parts None = spent_text
+ending_text parts (Some (Exited code)) = exit_text code
+ending_text parts (Some (Trapped t)) = trap_text t parts.core.pc
 
 -- the same as a line, with the steps that were counted
 abbrev pub ending_line : Parts → Option Ended → List ℕ
-ending_line m ended = ending_text m ended ++ after_steps m.steps
+ending_line parts ended = ending_text parts ended ++ after_steps parts.steps
 
 -- that line, and the registers
 abbrev pub report : Parts → List ℕ
-report m = ending_line m m.ended ++ register_lines m
+report parts = ending_line parts parts.ended ++ register_lines parts

@@ -10,9 +10,9 @@ use Rattle.emu_model.specs.Access.{Memory, refused, value}
 use Rattle.emu_model.specs.State.{Core, Vectors, Parts, State, IsPrefix}
 use Rattle.emu_system.specs.Start.{with_input}
 use Rattle.emu_run.specs.declared.insn.Insn.{Insn}
-use Rattle.emu_system.specs.SystemCall.{Action, fails, answers, maps, moves_break, sets_length, takes, puts, exits, Turn, quiet, total, done_by, action}
+use Rattle.emu_system.specs.SystemCall.{Action, fails, answers, maps, moves_break, sets_length, takes, puts, exits, Stepped, quiet, total, call_done, action}
 use Rattle.emu_model.specs.Done.{Done}
-use Rattle.emu_run.specs.Step.{decode, performed, trapped, finished, undefined, executed, fetched, turn, taken_by, step}
+use Rattle.emu_run.specs.Step.{decode, performed, trapped, finished, undefined, executed, fetched, step_from, taken_by, step}
 use Rattle.emu_run.specs.Run.{goes_on, until_end, run}
 
 -- ---- the equations of a run
@@ -65,11 +65,11 @@ rest_trans xs ys zs p q = record {
   is = q.is ∙ ap (λ (l : List ℕ). drop q.taken l) p.is ∙ drop-drop q.taken p.taken xs;
 }
 
-pub record IsTurn (m : Parts) (input : List ℕ) (t : Turn) : Type 0 where
+pub record IsTurn (m : Parts) (input : List ℕ) (t : Stepped) : Type 0 where
   pub counts : CountsOrEnds m t.parts
   pub takes : IsRest input t.input
 
-done_turns : (a : Action) (m : Parts) (input : List ℕ) → IsTurn m input (done_by a m input)
+done_turns : (a : Action) (m : Parts) (input : List ℕ) → IsTurn m input (call_done a m input)
 done_turns (fails e) m input = record { counts = inr refl; takes = rest_all input }
 done_turns (answers v) m input = record { counts = inr refl; takes = rest_all input }
 done_turns (maps memory v) m input = record { counts = inr refl; takes = rest_all input }
@@ -98,7 +98,7 @@ fetched_turns : (m : Parts) (input : List ℕ) (o : Option ℕ) → IsTurn m inp
 fetched_turns m input (Some a) = record { counts = inl refl; takes = rest_all input }
 fetched_turns m input None = executed_turns m input (decode (value m.memory m.core.pc 4))
 
-pub turn_turns : (m : Parts) (input : List ℕ) → IsTurn m input (turn m input)
+pub turn_turns : (m : Parts) (input : List ℕ) → IsTurn m input (step_from m input)
 turn_turns m input =
     elim (nat_eq (m.core.pc % 4) 0) as (λ b. IsTurn m input (if b then fetched m input (refused m.memory m.core.pc 4 FetchKind) else quiet (trapped m PcAlign m.core.pc) input)) [
       | true ↦ fetched_turns m input (refused m.memory m.core.pc 4 FetchKind)
@@ -132,7 +132,7 @@ moves_trans a b c p q = record {
 }
 
 pub step_moves : (st : State) → Moves st (step st)
-step_moves st = let t : Turn = turn st.parts st.input in record { input = (turn_turns st.parts st.input).takes; output = (t.output, refl); errors = (t.errors, refl) }
+step_moves st = let t : Stepped = step_from st.parts st.input in record { input = (turn_turns st.parts st.input).takes; output = (t.output, refl); errors = (t.errors, refl) }
 
 pub until_end_moves : (st : State) (k : ℕ) → Moves st (until_end st k)
 until_end_moves st zero = rw (until_end_none st) (moves_not st)
@@ -152,11 +152,11 @@ run_moves st budget h below = rw (run_one st budget h below) (until_end_moves (s
 abbrev pub behind : List ℕ → List ℕ → State → State
 behind output errors st = record st { output = output ++ st.output; errors = errors ++ st.errors }
 
-taken_behind : (o e : List ℕ) (st : State) (t : Turn) → taken_by (behind o e st) t ≡ behind o e (taken_by st t)
+taken_behind : (o e : List ℕ) (st : State) (t : Stepped) → taken_by (behind o e st) t ≡ behind o e (taken_by st t)
 taken_behind o e st t = simp append_assoc
 
 pub step_behind : (o e : List ℕ) (st : State) → step (behind o e st) ≡ behind o e (step st)
-step_behind o e st = taken_behind o e st (turn st.parts st.input)
+step_behind o e st = taken_behind o e st (step_from st.parts st.input)
 
 pub until_end_behind : (o e : List ℕ) (st : State) (k : ℕ) → until_end (behind o e st) k ≡ behind o e (until_end st k)
 until_end_behind o e st zero = until_end_none (behind o e st) ∙ ap (λ (s : State). behind o e s) (sym (until_end_none st))
@@ -171,13 +171,13 @@ pub run_behind : (o e : List ℕ) (st : State) (budget : ℕ) → run (behind o 
 run_behind o e st budget = until_end_behind o e st (budget - st.parts.steps)
 
 -- what a step of a machine that has written nothing leaves
-pub step_of_turn : (m : Parts) (input : List ℕ) → step (with_input m input) ≡ behind (turn m input).output (turn m input).errors (with_input (turn m input).parts (turn m input).input)
-step_of_turn m input = let t : Turn = turn m input in simp append-nil
+pub step_of_turn : (m : Parts) (input : List ℕ) → step (with_input m input) ≡ behind (step_from m input).output (step_from m input).errors (with_input (step_from m input).parts (step_from m input).input)
+step_of_turn m input = let t : Stepped = step_from m input in simp append-nil
 
 -- a run whose first step counts
-pub run_after_turn : (m : Parts) (input : List ℕ) (budget : ℕ) → is_none m.ended ≡ true → m.steps < budget → (turn m input).parts.steps ≡ m.steps + 1
-    → run (with_input m input) budget ≡ behind (turn m input).output (turn m input).errors (run (with_input (turn m input).parts (turn m input).input) budget)
+pub run_after_turn : (m : Parts) (input : List ℕ) (budget : ℕ) → is_none m.ended ≡ true → m.steps < budget → (step_from m input).parts.steps ≡ m.steps + 1
+    → run (with_input m input) budget ≡ behind (step_from m input).output (step_from m input).errors (run (with_input (step_from m input).parts (step_from m input).input) budget)
 run_after_turn m input budget going below counted =
     run_on (with_input m input) budget going below counted
     ∙ ap (λ (s : State). run s budget) (step_of_turn m input)
-    ∙ run_behind (turn m input).output (turn m input).errors (with_input (turn m input).parts (turn m input).input) budget
+    ∙ run_behind (step_from m input).output (step_from m input).errors (with_input (step_from m input).parts (step_from m input).input) budget

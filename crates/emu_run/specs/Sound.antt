@@ -17,8 +17,8 @@ use Rattle.emu_model.specs.SoundDone.{IsSoundEffect, IsSoundDone}
 use Rattle.a64_effects.specs.SoundEffects.{performed_sound as a64_sound}
 use Rattle.sve_effects.specs.SoundEffects.{performed_sound as sve_sound}
 use Rattle.emu_system.specs.SoundCall.{IsSoundTurn, quiet_sound, went_on_sound, call_sound}
-use Rattle.emu_system.specs.SystemCall.{Turn, quiet, went_on}
-use Rattle.emu_run.specs.Step.{decode, performed, trapped, finished, undefined, executed, fetched, turn, taken_by, step}
+use Rattle.emu_system.specs.SystemCall.{Stepped, quiet, went_on}
+use Rattle.emu_run.specs.Step.{decode, performed, trapped, finished, undefined, executed, fetched, step_from, taken_by, step}
 
 -- ---- what an instruction leaves
 
@@ -56,7 +56,7 @@ fetched_sound : (m : Parts) (input : List ℕ) (o : Option ℕ) → IfSome o IsW
 fetched_sound m input (Some a) w s bytes = quiet_sound (trapped m Fetch a) input (trapped_sound m Fetch a s w) bytes
 fetched_sound m input None w s bytes = executed_sound m input (decode (value m.memory m.core.pc 4)) s bytes
 
-turn_sound : (m : Parts) (input : List ℕ) → IsSoundParts m → AreBytes input → IsSoundTurn (turn m input)
+turn_sound : (m : Parts) (input : List ℕ) → IsSoundParts m → AreBytes input → IsSoundTurn (step_from m input)
 turn_sound m input s bytes =
     let o : Option ℕ = refused m.memory m.core.pc 4 FetchKind in
     elim (nat_eq (m.core.pc % 4) 0) as (λ b. IsSoundTurn (if b then fetched m input o else quiet (trapped m PcAlign m.core.pc) input)) [
@@ -64,8 +64,8 @@ turn_sound m input s bytes =
       | false ↦ quiet_sound (trapped m PcAlign m.core.pc) input (trapped_sound m PcAlign m.core.pc s s.core.pc) bytes
     ]
 
-taken_sound : (st : State) (t : Turn) → IsSound st → IsSoundTurn t → IsSound (taken_by st t)
+taken_sound : (st : State) (t : Stepped) → IsSound st → IsSoundTurn t → IsSound (taken_by st t)
 taken_sound st t s u = record { parts = u.parts; input = u.input; output = all_append IsByte st.output t.output s.output u.output; errors = all_append IsByte st.errors t.errors s.errors u.errors }
 
 pub step_sound : (st : State) → IsSound st → IsSound (step st)
-step_sound st s = taken_sound st (turn st.parts st.input) s (turn_sound st.parts st.input s.parts s.input)
+step_sound st s = taken_sound st (step_from st.parts st.input) s (turn_sound st.parts st.input s.parts s.input)

@@ -18,7 +18,7 @@ use Rattle.emu_model.specs.State.{Core, Vectors, Parts, State}
 use Rattle.emu_model.specs.Done.{Done}
 use Rattle.a64_effects.specs.Effects as a64_effects
 use Rattle.sve_effects.specs.Rows as sve_effects
-use Rattle.emu_system.specs.SystemCall.{Turn, quiet, went_on, call}
+use Rattle.emu_system.specs.SystemCall.{Stepped, quiet, went_on, call}
 use Rattle.emu_run.specs.declared.insn.Insn.{Insn}
 use Rattle.emu_run.specs.declared.insn.Insn.TheVariants.{A64, Sve}
 
@@ -33,54 +33,56 @@ performed (Sve form) c v m = sve_effects.performed form c v m
 
 -- ends by a trap, with no step counted
 abbrev pub trapped : Parts → TrapKind → ℕ → Parts
-trapped m kind a = record m { ended = Some (Trapped (record { kind = kind; address = a })) }
+trapped parts kind a = record parts { ended = Some (Trapped (record { kind = kind; address = a })) }
 
 -- goes on behind the instruction or where it branched, makes its call, or traps
-abbrev pub finished : Parts → List ℕ → Core → Vectors → Memory → Effect → Turn
-finished m input c v memory Next = quiet (went_on m c v memory (address (c.pc + 4))) input
-finished m input c v memory (Branch a) = quiet (went_on m c v memory a) input
-finished m input c v memory Call = call m input
-finished m input c v memory (Trapping t) =
-    quiet (trapped (record m { core = c; vectors = v; memory = memory }) t.kind t.address) input
+abbrev pub finished : Parts → List ℕ → Core → Vectors → Memory → Effect → Stepped
+finished parts input c v m Next = quiet (went_on parts c v m (address (c.pc + 4))) input
+finished parts input c v m (Branch a) = quiet (went_on parts c v m a) input
+finished parts input c v m Call = call parts input
+finished parts input c v m (Trapping t) =
+    quiet (trapped (record parts { core = c; vectors = v; memory = m }) t.kind t.address) input
 
-abbrev pub finish : Parts → List ℕ → Done → Turn
-finish m input d = finished m input d.core d.vectors d.memory d.effect
+abbrev pub finish : Parts → List ℕ → Done → Stepped
+finish parts input d = finished parts input d.core d.vectors d.memory d.effect
 
-abbrev pub undefined : Parts → List ℕ → Turn
-undefined m input = quiet (trapped m Undefined m.core.pc) input
+abbrev pub undefined : Parts → List ℕ → Stepped
+undefined parts input = quiet (trapped parts Undefined parts.core.pc) input
 
-abbrev pub executed : Parts → List ℕ → Option Insn → Turn
-executed m input None = undefined m input
-executed m input (Some i) = finish m input (performed i m.core m.vectors m.memory)
+abbrev pub executed : Parts → List ℕ → Option Insn → Stepped
+executed parts input None = undefined parts input
+executed parts input (Some i) = finish parts input (performed i parts.core parts.vectors parts.memory)
 
-abbrev pub fetched : Parts → List ℕ → Option ℕ → Turn
-fetched m input (Some a) = quiet (trapped m Fetch a) input
-fetched m input None = executed m input (decode (value m.memory m.core.pc 4))
+abbrev pub fetched : Parts → List ℕ → Option ℕ → Stepped
+fetched parts input (Some a) = quiet (trapped parts Fetch a) input
+fetched parts input None = executed parts input (decode (value parts.memory parts.core.pc 4))
 
 -- what a step of a machine that hasn't ended makes of it and of its input, and what it puts
-abbrev pub turn : Parts → List ℕ → Turn
-turn m input =
-    if nat_eq (m.core.pc % 4) 0 then fetched m input (refused m.memory m.core.pc 4 FetchKind)
-    else quiet (trapped m PcAlign m.core.pc) input
+abbrev pub step_from : Parts → List ℕ → Stepped
+step_from parts input =
+    if nat_eq (parts.core.pc % 4) 0 then fetched parts input (refused parts.memory parts.core.pc 4 FetchKind)
+    else quiet (trapped parts PcAlign parts.core.pc) input
 
 -- The accesses that a step makes to the elements of its instruction, in order. The fetch isn't one of them, nor is what
 -- a call reads or writes, and a refused element isn't.
 abbrev pub executed_accesses : Parts → Option Insn → List Access
-executed_accesses m None = []
-executed_accesses m (Some i) = (performed i m.core m.vectors m.memory).accesses
+executed_accesses parts None = []
+executed_accesses parts (Some i) = (performed i parts.core parts.vectors parts.memory).accesses
 
 abbrev pub fetched_accesses : Parts → Option ℕ → List Access
-fetched_accesses m (Some a) = []
-fetched_accesses m None = executed_accesses m (decode (value m.memory m.core.pc 4))
+fetched_accesses parts (Some a) = []
+fetched_accesses parts None = executed_accesses parts (decode (value parts.memory parts.core.pc 4))
 
 abbrev pub accesses : Parts → List Access
-accesses m = if nat_eq (m.core.pc % 4) 0 then fetched_accesses m (refused m.memory m.core.pc 4 FetchKind) else []
+accesses parts =
+    if nat_eq (parts.core.pc % 4) 0 then fetched_accesses parts (refused parts.memory parts.core.pc 4 FetchKind)
+    else []
 
 -- what is put comes behind what was written
-abbrev pub taken_by : State → Turn → State
+abbrev pub taken_by : State → Stepped → State
 taken_by st t =
     record { parts = t.parts; input = t.input; output = st.output ++ t.output; errors = st.errors ++ t.errors }
 
 -- one step of a machine that hasn't ended
 abbrev pub step : State → State
-step st = taken_by st (turn st.parts st.input)
+step st = taken_by st (step_from st.parts st.input)

@@ -6,9 +6,9 @@ use Rattle.emu_model.specs.Lists.{each}
 abbrev pub hex_digit : ℕ → ℕ
 hex_digit d = if nat_lt d 10 then 48 + d else 87 + d
 
--- n hexadecimal digits of v, the most significant first
+-- n hexadecimal digits of a number, the most significant first
 abbrev pub hex : ℕ → ℕ → List ℕ
-hex n v = each n (λ k. hex_digit (v / 16 ^ (n - 1 - k) % 16))
+hex n number = each n (λ k. hex_digit (number / 16 ^ (n - 1 - k) % 16))
 
 abbrev pub space : List ℕ
 space = 32 ∷ []

@@ -10,13 +10,13 @@ use Rattle.emu_model.specs.declared.trap.Ended.{Ended}
 use Rattle.emu_model.specs.declared.trap.Ended.TheVariants.{Exit as Exited}
 use Rattle.emu_model.specs.Access.{Memory, refused, value, stored}
 use Rattle.emu_model.specs.State.{Core}
-use Rattle.emu_system.specs.SystemCall.{argument, name_among, number_of_call, returned}
+use Rattle.emu_system.specs.SystemCall.{call_argument, name_among, number_of_call, returned}
 use Rattle.emu_run.specs.declared.thread.Standing.TheVariants.{Ready, Waiting, Gone}
 use Rattle.emu_run.specs.declared.thread.ThreadCall.{ThreadCall}
 use Rattle.emu_run.specs.declared.thread.ThreadCall.TheVariants.{Clone, Futex, Exit, SetTidAddress, Gettid, Alone}
 use Rattle.emu_run.specs.declared.thread.ThreadErrno.{ThreadErrno}
 use Rattle.emu_run.specs.declared.thread.ThreadErrno.TheVariants.{EAGAIN, EFAULT, EINVAL, ENOSYS}
-use Rattle.emu_run.specs.Worlds.{Context, World, context, is_gone, joined, with_context, apart, with_woken, wake_count}
+use Rattle.emu_run.specs.Worlds.{Context, World, context, is_gone, parts_with, with_context, apart, with_woken, wake_count}
 
 -- ---- names and numbers
 
@@ -26,11 +26,11 @@ thread_calls = (93, Exit) ∷ (96, SetTidAddress) ∷ (98, Futex) ∷ (178, Gett
 abbrev pub thread_call : Core → ThreadCall
 thread_call c = name_among Alone thread_calls (number_of_call c)
 
-abbrev pub number_of : ThreadErrno → ℕ
-number_of EAGAIN = 11
-number_of EFAULT = 14
-number_of EINVAL = 22
-number_of ENOSYS = 38
+abbrev pub error_number : ThreadErrno → ℕ
+error_number EAGAIN = 11
+error_number EFAULT = 14
+error_number EINVAL = 22
+error_number ENOSYS = 38
 
 -- ---- what a call comes to, once its tests are made
 
@@ -79,10 +79,11 @@ most_contexts = 64
 -- (flags, stack, parent, tls, clear)
 abbrev pub starting : Core → World → ThreadAction
 starting c world =
-    if not (has_flag needed_flags (argument c 0))
-    || not (nat_eq (bit_and (argument c 0) (2 ^ 64 - 1 - known_flags)) 0) then fails EINVAL
+    if not (has_flag needed_flags (call_argument c 0))
+    || not (nat_eq (bit_and (call_argument c 0) (2 ^ 64 - 1 - known_flags)) 0) then fails EINVAL
     else (if nat_le most_contexts (length world.contexts) then fails EAGAIN
-    else (if sets_parent (argument c 0) && is_some (refused world.memory (argument c 2) 4 ToWrite) then fails EFAULT
+    else (if sets_parent (call_argument c 0) && is_some (refused world.memory (call_argument c 2) 4 ToWrite)
+    then fails EFAULT
     else starts))
 
 -- ---- futex
@@ -94,17 +95,17 @@ operation op = bit_and (op % 2 ^ 32) (2 ^ 32 - 1 - 128)
 -- (address, operation, value, timeout)
 abbrev pub waiting : Core → Memory → ThreadAction
 waiting c m =
-    if is_some (refused m (argument c 0) 4 ToRead) then fails EFAULT
-    else (if not (nat_eq (argument c 3) 0) then fails ENOSYS
-    else (if not (nat_eq (value m (argument c 0) 4) (argument c 2 % 2 ^ 32)) then fails EAGAIN
-    else waits (argument c 0)))
+    if is_some (refused m (call_argument c 0) 4 ToRead) then fails EFAULT
+    else (if not (nat_eq (call_argument c 3) 0) then fails ENOSYS
+    else (if not (nat_eq (value m (call_argument c 0) 4) (call_argument c 2 % 2 ^ 32)) then fails EAGAIN
+    else waits (call_argument c 0)))
 
 abbrev pub futex : Core → Memory → ThreadAction
 futex c m =
-    if not (nat_eq (operation (argument c 1)) 0 || nat_eq (operation (argument c 1)) 1) then fails ENOSYS
-    else (if not (nat_eq (argument c 0 % 4) 0) then fails EINVAL
-    else (if nat_eq (operation (argument c 1)) 0 then waiting c m
-    else wakes (argument c 0) (argument c 2 % 2 ^ 32)))
+    if not (nat_eq (operation (call_argument c 1)) 0 || nat_eq (operation (call_argument c 1)) 1) then fails ENOSYS
+    else (if not (nat_eq (call_argument c 0 % 4) 0) then fails EINVAL
+    else (if nat_eq (operation (call_argument c 1)) 0 then waiting c m
+    else wakes (call_argument c 0) (call_argument c 2 % 2 ^ 32)))
 
 -- ---- the calls, by the caller's registers, the world and the caller's number
 
@@ -112,7 +113,7 @@ abbrev pub action_of : ThreadCall → Core → World → ℕ → ThreadAction
 action_of Clone c world k = starting c world
 action_of Futex c world k = futex c world.memory
 action_of Exit c world k = leaves
-action_of SetTidAddress c world k = clears (argument c 0)
+action_of SetTidAddress c world k = clears (call_argument c 0)
 action_of Gettid c world k = answers (thread_id k)
 action_of Alone c world k = alone
 
@@ -123,7 +124,7 @@ action world k = action_of (thread_call (context world k).core) (context world k
 
 -- the call of context k returns, with this answer, and the context is ready
 abbrev pub answered : World → ℕ → ℕ → World
-answered world k x = apart world k Ready (returned (joined world (context world k)) x)
+answered world k x = apart world k Ready (returned (parts_with world (context world k)) x)
 
 -- SP and the thread pointer, where the call gives them
 abbrev pub started_core : Core → ℕ → ℕ → ℕ → Core
@@ -135,9 +136,10 @@ started_core c flags stack tls = record c {
 -- the new context has the caller's registers behind the call, which has cleared them, but for these
 abbrev pub started : World → Context → Core → Context
 started world caller c = record {
-  core = started_core (returned (joined world caller) 0).core (argument c 0) (argument c 1) (argument c 3);
-  vectors = (returned (joined world caller) 0).vectors;
-  clear = if clears_child (argument c 0) then argument c 4 else 0;
+  core = started_core (returned (parts_with world caller) 0).core
+      (call_argument c 0) (call_argument c 1) (call_argument c 3);
+  vectors = (returned (parts_with world caller) 0).vectors;
+  clear = if clears_child (call_argument c 0) then call_argument c 4 else 0;
   standing = Ready;
 }
 
@@ -147,8 +149,8 @@ with_started world c = record world { contexts = world.contexts ++ c ∷ [] }
 -- the parent's word is stored behind the test of its rights
 abbrev pub parent_told : World → Core → World
 parent_told world c =
-    let told : Memory = stored world.memory (argument c 2) 4 (thread_id (length world.contexts)) in
-    record world { memory = if sets_parent (argument c 0) then told else world.memory }
+    let told : Memory = stored world.memory (call_argument c 2) 4 (thread_id (length world.contexts)) in
+    record world { memory = if sets_parent (call_argument c 0) then told else world.memory }
 
 abbrev pub start_made : World → ℕ → World
 start_made world k =
@@ -156,7 +158,7 @@ start_made world k =
     (started world (context world k) (context world k).core)
 
 abbrev pub wait_made : World → ℕ → ℕ → World
-wait_made world k a = apart world k (Waiting a) (returned (joined world (context world k)) 0)
+wait_made world k a = apart world k (Waiting a) (returned (parts_with world (context world k)) 0)
 
 abbrev pub wake_made : World → ℕ → ℕ → ℕ → World
 wake_made world k a n = answered (with_woken world a n) k (wake_count a n world.contexts)
@@ -184,5 +186,5 @@ ended_by world code = if all_gone world then Some (Exited code) else world.ended
 
 abbrev pub leave_made : World → ℕ → World
 leave_made world k =
-    let ended : Option Ended = ended_by (with_gone world k) (argument (context world k).core 0 % 256) in
+    let ended : Option Ended = ended_by (with_gone world k) (call_argument (context world k).core 0 % 256) in
     record (cleared (with_gone world k) (context world k).clear) { steps = world.steps + 1; ended = ended }

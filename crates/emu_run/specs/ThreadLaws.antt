@@ -4,17 +4,17 @@ use Rattle.std.proofs.Common.{inl, inr, refl, ap, sym, ◌∙◌, append_assoc, 
 use Rattle.emu_model.specs.State.{IsPrefix}
 use Rattle.emu_run.specs.RunLaws.{IsRest, rest_all, rest_trans, prefix_refl, prefix_trans, turn_turns}
 use Rattle.emu_run.specs.Step.{accesses}
-use Rattle.emu_run.specs.declared.thread.Place.{Place}
+use Rattle.emu_run.specs.declared.thread.SchedulePlace.{SchedulePlace}
 use Rattle.emu_run.specs.ThreadCall.{ThreadAction, fails, answers, starts, waits, wakes, clears, leaves, alone, action}
-use Rattle.emu_run.specs.Worlds.{World, context, some_ready, joined, others_behind, without_monitors, taken_by_context}
-use Rattle.emu_run.specs.Threads.{WorldTurn, WorldState, first_place, stepped_alone, done_by, makes_call, with_world, one, pick, next_place, taken_by, stepped, goes_on, threads_from, threads}
+use Rattle.emu_run.specs.Worlds.{World, context, some_ready, parts_with, others_behind, without_monitors, taken_by_context}
+use Rattle.emu_run.specs.Threads.{WorldStepped, WorldState, first_place, stepped_alone, thread_call_done, makes_call, with_world, one, pick, next_place, taken_by, stepped, goes_on, threads_from, threads}
 
 -- the equations, for proofs
-pub threads_from-zero : (schedule : List (ℕ × ℕ)) (p : Place) (st : WorldState) → threads_from schedule p st 0 ≡ st
+pub threads_from-zero : (schedule : List (ℕ × ℕ)) (p : SchedulePlace) (st : WorldState) → threads_from schedule p st 0 ≡ st
 unfolding threads_from
 threads_from-zero schedule p st = refl
 
-pub threads_from-suc : (schedule : List (ℕ × ℕ)) (p : Place) (st : WorldState) (n : ℕ) → threads_from schedule p st (suc n)
+pub threads_from-suc : (schedule : List (ℕ × ℕ)) (p : SchedulePlace) (st : WorldState) (n : ℕ) → threads_from schedule p st (suc n)
     ≡ (if goes_on st.world
     then threads_from schedule (next_place (stepped st (pick st.world schedule p)).world schedule p (pick st.world schedule p)) (stepped st (pick st.world schedule p)) n
     else st)
@@ -26,14 +26,14 @@ threads_from-suc schedule p st n = refl
 abbrev pub CountsOrEnds : World → World → Type 0
 CountsOrEnds old new = (is_none new.ended ≡ false) ⊎ (new.steps ≡ old.steps + 1)
 
-pub record IsWorldTurn (w : World) (input : List ℕ) (t : WorldTurn) : Type 0 where
+pub record IsWorldTurn (w : World) (input : List ℕ) (t : WorldStepped) : Type 0 where
   pub counts : CountsOrEnds w t.world
   pub takes : IsRest input t.input
 
 alone_turns : (w : World) (k : ℕ) (input : List ℕ) → IsWorldTurn w input (stepped_alone w k input)
-alone_turns w k input = let t = turn_turns (joined w (context w k)) input in record { counts = t.counts; takes = t.takes }
+alone_turns w k input = let t = turn_turns (parts_with w (context w k)) input in record { counts = t.counts; takes = t.takes }
 
-done_turns : (a : ThreadAction) (w : World) (k : ℕ) (input : List ℕ) → IsWorldTurn w input (done_by a w k input)
+done_turns : (a : ThreadAction) (w : World) (k : ℕ) (input : List ℕ) → IsWorldTurn w input (thread_call_done a w k input)
 done_turns (fails e) w k input = record { counts = inr refl; takes = rest_all input }
 done_turns (answers v) w k input = record { counts = inr refl; takes = rest_all input }
 done_turns starts w k input = record { counts = inr refl; takes = rest_all input }
@@ -45,7 +45,7 @@ done_turns alone w k input = alone_turns w k input
 
 pub one_turns : (w : World) (k : ℕ) (input : List ℕ) → IsWorldTurn w input (one w k input)
 one_turns w k input =
-    elim (makes_call (joined w (context w k))) as (λ b. IsWorldTurn w input (if b then with_world (λ v. taken_by_context k (without_monitors v)) (done_by (action w k) w k input) else with_world (λ v. taken_by_context k (others_behind (accesses (joined w (context w k))) k v)) (stepped_alone w k input))) [
+    elim (makes_call (parts_with w (context w k))) as (λ b. IsWorldTurn w input (if b then with_world (λ v. taken_by_context k (without_monitors v)) (thread_call_done (action w k) w k input) else with_world (λ v. taken_by_context k (others_behind (accesses (parts_with w (context w k))) k v)) (stepped_alone w k input))) [
       | true ↦ let t = done_turns (action w k) w k input in record { counts = t.counts; takes = t.takes }
       | false ↦ let t = alone_turns w k input in record { counts = t.counts; takes = t.takes }
     ]
@@ -68,49 +68,49 @@ moves_trans a b c p q = record {
 }
 
 pub stepped_moves : (st : WorldState) (k : ℕ) → Moves st (stepped st k)
-stepped_moves st k = let t : WorldTurn = one st.world k st.input in record { input = (one_turns st.world k st.input).takes; output = (t.output, refl); errors = (t.errors, refl) }
+stepped_moves st k = let t : WorldStepped = one st.world k st.input in record { input = (one_turns st.world k st.input).takes; output = (t.output, refl); errors = (t.errors, refl) }
 
 -- ---- the equations of a run
 
 module _ (schedule : List (ℕ × ℕ)) where
   -- the place behind the step that is next
-  abbrev pub place_behind : Place → WorldState → Place
+  abbrev pub place_behind : SchedulePlace → WorldState → SchedulePlace
   place_behind p st = next_place (stepped st (pick st.world schedule p)).world schedule p (pick st.world schedule p)
 
-  pub from_one : (p : Place) (st : WorldState) (n : ℕ) → goes_on st.world ≡ true
+  pub from_one : (p : SchedulePlace) (st : WorldState) (n : ℕ) → goes_on st.world ≡ true
       → threads_from schedule p st (suc n) ≡ threads_from schedule (place_behind p st) (stepped st (pick st.world schedule p)) n
   from_one p st n h =
       threads_from-suc schedule p st n ∙ ap (λ (b : Bool). if b then threads_from schedule (place_behind p st) (stepped st (pick st.world schedule p)) n else st) h
 
-  pub from_over : (p : Place) (st : WorldState) (n : ℕ) → goes_on st.world ≡ false → threads_from schedule p st n ≡ st
+  pub from_over : (p : SchedulePlace) (st : WorldState) (n : ℕ) → goes_on st.world ≡ false → threads_from schedule p st n ≡ st
   from_over p st zero h = threads_from-zero schedule p st
   from_over p st (suc n) h =
       threads_from-suc schedule p st n ∙ ap (λ (b : Bool). if b then threads_from schedule (place_behind p st) (stepped st (pick st.world schedule p)) n else st) h
 
   -- what remains of a run, by its place
-  abbrev pub rest_of : ℕ → Place → WorldState → WorldState
+  abbrev pub rest_of : ℕ → SchedulePlace → WorldState → WorldState
   rest_of budget p st = threads_from schedule p st (budget - st.world.steps)
 
-  pub rest_one : (budget : ℕ) (p : Place) (st : WorldState) → goes_on st.world ≡ true → st.world.steps < budget
+  pub rest_one : (budget : ℕ) (p : SchedulePlace) (st : WorldState) → goes_on st.world ≡ true → st.world.steps < budget
       → rest_of budget p st ≡ threads_from schedule (place_behind p st) (stepped st (pick st.world schedule p)) (budget - (st.world.steps + 1))
   rest_one budget p st h below = let e : budget - st.world.steps ≡ suc (budget - (st.world.steps + 1)) = omega arith in rw e (from_one p st _ h)
 
   -- a step that counted
-  pub rest_on : (budget : ℕ) (p : Place) (st : WorldState) → goes_on st.world ≡ true → st.world.steps < budget
+  pub rest_on : (budget : ℕ) (p : SchedulePlace) (st : WorldState) → goes_on st.world ≡ true → st.world.steps < budget
       → (stepped st (pick st.world schedule p)).world.steps ≡ st.world.steps + 1 → rest_of budget p st ≡ rest_of budget (place_behind p st) (stepped st (pick st.world schedule p))
   rest_on budget p st h below e = rest_one budget p st h below ∙ ap (λ n. threads_from schedule (place_behind p st) (stepped st (pick st.world schedule p)) (budget - n)) (sym e)
 
   -- a step behind which the world doesn't go on
-  pub rest_ended : (budget : ℕ) (p : Place) (st : WorldState) → goes_on st.world ≡ true → st.world.steps < budget
+  pub rest_ended : (budget : ℕ) (p : SchedulePlace) (st : WorldState) → goes_on st.world ≡ true → st.world.steps < budget
       → goes_on (stepped st (pick st.world schedule p)).world ≡ false → rest_of budget p st ≡ stepped st (pick st.world schedule p)
   rest_ended budget p st h below e = rest_one budget p st h below ∙ from_over (place_behind p st) (stepped st (pick st.world schedule p)) _ e
 
-  pub rest_spent : (budget : ℕ) (p : Place) (st : WorldState) → budget ≤ st.world.steps → rest_of budget p st ≡ st
+  pub rest_spent : (budget : ℕ) (p : SchedulePlace) (st : WorldState) → budget ≤ st.world.steps → rest_of budget p st ≡ st
   rest_spent budget p st h = let e : budget - st.world.steps ≡ 0 = omega arith in rw e (threads_from-zero schedule p st)
 
   -- ---- a run moves on, and doesn't look at what was written
 
-  pub from_moves : (n : ℕ) (p : Place) (st : WorldState) → Moves st (threads_from schedule p st n)
+  pub from_moves : (n : ℕ) (p : SchedulePlace) (st : WorldState) → Moves st (threads_from schedule p st n)
   from_moves zero p st = rw (threads_from-zero schedule p st) (moves_not st)
   from_moves (suc n) p st =
       elim (goes_on st.world) as (λ b. goes_on st.world ≡ b → Moves st (threads_from schedule p st (suc n))) [
@@ -118,7 +118,7 @@ module _ (schedule : List (ℕ × ℕ)) where
         | false ↦ λ e. rw (from_over p st (suc n) e) (moves_not st)
       ] refl
 
-  pub rest_moves : (budget : ℕ) (p : Place) (st : WorldState) → goes_on st.world ≡ true → st.world.steps < budget
+  pub rest_moves : (budget : ℕ) (p : SchedulePlace) (st : WorldState) → goes_on st.world ≡ true → st.world.steps < budget
       → Moves (stepped st (pick st.world schedule p)) (rest_of budget p st)
   rest_moves budget p st h below = rw (rest_one budget p st h below) (from_moves (budget - (st.world.steps + 1)) (place_behind p st) (stepped st (pick st.world schedule p)))
 
@@ -126,13 +126,13 @@ module _ (schedule : List (ℕ × ℕ)) where
 abbrev pub behind : List ℕ → List ℕ → WorldState → WorldState
 behind output errors st = record st { output = output ++ st.output; errors = errors ++ st.errors }
 
-taken_behind : (o e : List ℕ) (st : WorldState) (t : WorldTurn) → taken_by (behind o e st) t ≡ behind o e (taken_by st t)
+taken_behind : (o e : List ℕ) (st : WorldState) (t : WorldStepped) → taken_by (behind o e st) t ≡ behind o e (taken_by st t)
 taken_behind o e st t = simp append_assoc
 
 pub stepped_behind : (o e : List ℕ) (st : WorldState) (k : ℕ) → stepped (behind o e st) k ≡ behind o e (stepped st k)
 stepped_behind o e st k = taken_behind o e st (one st.world k st.input)
 
-pub from_behind : (schedule : List (ℕ × ℕ)) (o e : List ℕ) (n : ℕ) (p : Place) (st : WorldState) → threads_from schedule p (behind o e st) n ≡ behind o e (threads_from schedule p st n)
+pub from_behind : (schedule : List (ℕ × ℕ)) (o e : List ℕ) (n : ℕ) (p : SchedulePlace) (st : WorldState) → threads_from schedule p (behind o e st) n ≡ behind o e (threads_from schedule p st n)
 from_behind schedule o e zero p st = threads_from-zero schedule p (behind o e st) ∙ ap (λ (s : WorldState). behind o e s) (sym (threads_from-zero schedule p st))
 from_behind schedule o e (suc n) p st =
     elim (goes_on st.world) as (λ b. goes_on st.world ≡ b → threads_from schedule p (behind o e st) (suc n) ≡ behind o e (threads_from schedule p st (suc n))) [
@@ -144,7 +144,7 @@ from_behind schedule o e (suc n) p st =
       | false ↦ λ h. from_over schedule p (behind o e st) (suc n) h ∙ ap (λ (s : WorldState). behind o e s) (sym (from_over schedule p st (suc n) h))
     ] refl
 
-pub rest_behind : (schedule : List (ℕ × ℕ)) (budget : ℕ) (p : Place) (o e : List ℕ) (st : WorldState) → rest_of schedule budget p (behind o e st) ≡ behind o e (rest_of schedule budget p st)
+pub rest_behind : (schedule : List (ℕ × ℕ)) (budget : ℕ) (p : SchedulePlace) (o e : List ℕ) (st : WorldState) → rest_of schedule budget p (behind o e st) ≡ behind o e (rest_of schedule budget p st)
 rest_behind schedule budget p o e st = from_behind schedule o e (budget - st.world.steps) p st
 
 -- ---- where a run stops
@@ -153,7 +153,7 @@ rest_behind schedule budget p o e st = from_behind schedule o e (budget - st.wor
 abbrev pub HasStopped : ℕ → WorldState → Type 0
 HasStopped budget st = (goes_on st.world ≡ false) ⊎ (st.world.steps ≡ budget)
 
-from_stops : (schedule : List (ℕ × ℕ)) (n budget : ℕ) (p : Place) (st : WorldState) → st.world.steps + n ≡ budget → HasStopped budget (threads_from schedule p st n)
+from_stops : (schedule : List (ℕ × ℕ)) (n budget : ℕ) (p : SchedulePlace) (st : WorldState) → st.world.steps + n ≡ budget → HasStopped budget (threads_from schedule p st n)
 from_stops schedule zero budget p st e = rw (threads_from-zero schedule p st) (inr (omega arith))
 from_stops schedule (suc n) budget p st e =
     let k : ℕ = pick st.world schedule p in

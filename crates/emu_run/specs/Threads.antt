@@ -14,45 +14,45 @@ use Rattle.emu_model.specs.Access.{refused, value}
 use Rattle.emu_model.specs.State.{Parts}
 use Rattle.emu_run.specs.declared.insn.Insn.{Insn}
 use Rattle.emu_run.specs.declared.insn.Insn.TheVariants.{A64}
-use Rattle.emu_run.specs.Step.{accesses, decode, turn}
-use Rattle.emu_system.specs.SystemCall.{Turn, error_answer}
-use Rattle.emu_run.specs.declared.thread.Place.{Place}
+use Rattle.emu_run.specs.Step.{accesses, decode, step_from}
+use Rattle.emu_system.specs.SystemCall.{Stepped, error_answer}
+use Rattle.emu_run.specs.declared.thread.SchedulePlace.{SchedulePlace}
 use Rattle.emu_run.specs.declared.thread.Standing.TheVariants.{Ready}
 use Rattle.emu_run.specs.declared.thread.WorldEnding.{WorldEnding}
 use Rattle.emu_run.specs.declared.thread.WorldEnding.TheVariants.{Exit, Trap, Spent, Stuck}
-use Rattle.emu_run.specs.ThreadCall.{ThreadAction, fails, answers, starts, waits, wakes, clears, leaves, alone, action, answered, number_of, start_made, wait_made, wake_made, clear_made, leave_made}
-use Rattle.emu_run.specs.Worlds.{World, context, is_ready, ready, some_ready, joined, apart, others_behind, without_monitors, taken_by_context}
+use Rattle.emu_run.specs.ThreadCall.{ThreadAction, fails, answers, starts, waits, wakes, clears, leaves, alone, action, answered, error_number, start_made, wait_made, wake_made, clear_made, leave_made}
+use Rattle.emu_run.specs.Worlds.{World, context, is_ready, ready, some_ready, parts_with, apart, others_behind, without_monitors, taken_by_context}
 
 -- ---- one step of a context
 
 -- what a step makes of the world and of the input, and what it puts
-pub record WorldTurn : Type 0 where
+pub record WorldStepped : Type 0 where
   pub world : World
   pub input : List ℕ
   pub output : List ℕ
   pub errors : List ℕ
 
-abbrev pub quietly : World → List ℕ → WorldTurn
+abbrev pub quietly : World → List ℕ → WorldStepped
 quietly world input = record { world = world; input = input; output = []; errors = [] }
 
 -- the step of a machine alone
-abbrev pub taken_apart : World → ℕ → Turn → WorldTurn
+abbrev pub taken_apart : World → ℕ → Stepped → WorldStepped
 taken_apart world k t =
     record { world = apart world k Ready t.parts; input = t.input; output = t.output; errors = t.errors }
 
-abbrev pub stepped_alone : World → ℕ → List ℕ → WorldTurn
-stepped_alone world k input = taken_apart world k (turn (joined world (context world k)) input)
+abbrev pub stepped_alone : World → ℕ → List ℕ → WorldStepped
+stepped_alone world k input = taken_apart world k (step_from (parts_with world (context world k)) input)
 
 -- the step of a call
-abbrev pub done_by : ThreadAction → World → ℕ → List ℕ → WorldTurn
-done_by (fails e) world k input = quietly (answered world k (error_answer (number_of e))) input
-done_by (answers x) world k input = quietly (answered world k x) input
-done_by starts world k input = quietly (start_made world k) input
-done_by (waits a) world k input = quietly (wait_made world k a) input
-done_by (wakes a n) world k input = quietly (wake_made world k a n) input
-done_by (clears a) world k input = quietly (clear_made world k a) input
-done_by leaves world k input = quietly (leave_made world k) input
-done_by alone world k input = stepped_alone world k input
+abbrev pub thread_call_done : ThreadAction → World → ℕ → List ℕ → WorldStepped
+thread_call_done (fails e) world k input = quietly (answered world k (error_answer (error_number e))) input
+thread_call_done (answers x) world k input = quietly (answered world k x) input
+thread_call_done starts world k input = quietly (start_made world k) input
+thread_call_done (waits a) world k input = quietly (wait_made world k a) input
+thread_call_done (wakes a n) world k input = quietly (wake_made world k a n) input
+thread_call_done (clears a) world k input = quietly (clear_made world k a) input
+thread_call_done leaves world k input = quietly (leave_made world k) input
+thread_call_done alone world k input = stepped_alone world k input
 
 -- the word at the program counter can be fetched, and is svc
 abbrev pub is_svc : Option Insn → Bool
@@ -60,25 +60,26 @@ is_svc (Some (A64 (Except Svc imm16))) = true
 is_svc insn = false
 
 abbrev pub makes_call : Parts → Bool
-makes_call m =
-    nat_eq (m.core.pc % 4) 0 && is_none (refused m.memory m.core.pc 4 Fetch)
-    && is_svc (decode (value m.memory m.core.pc 4))
+makes_call parts =
+    nat_eq (parts.core.pc % 4) 0 && is_none (refused parts.memory parts.core.pc 4 Fetch)
+    && is_svc (decode (value parts.memory parts.core.pc 4))
 
-abbrev pub with_world : (World → World) → WorldTurn → WorldTurn
+abbrev pub with_world : (World → World) → WorldStepped → WorldStepped
 with_world change t = record t { world = change t.world }
 
 -- one step of context k, which is ready, of a world that hasn't ended; a call empties all monitors, and any other step
 -- those of the other contexts that it writes to
-abbrev pub one : World → ℕ → List ℕ → WorldTurn
+abbrev pub one : World → ℕ → List ℕ → WorldStepped
 one world k input =
-    if makes_call (joined world (context world k))
-    then with_world (λ left. taken_by_context k (without_monitors left)) (done_by (action world k) world k input)
-    else with_world (λ left. taken_by_context k (others_behind (accesses (joined world (context world k))) k left))
+    if makes_call (parts_with world (context world k))
+    then with_world (λ left. taken_by_context k (without_monitors left))
+    (thread_call_done (action world k) world k input)
+    else with_world (λ left. taken_by_context k (others_behind (accesses (parts_with world (context world k))) k left))
     (stepped_alone world k input)
 
 -- ---- the schedule
 
-abbrev pub first_place : Place
+abbrev pub first_place : SchedulePlace
 first_place = record { turn = 0; used = 0; held = 0 }
 
 abbrev pub turn_at : List (ℕ × ℕ) → ℕ → ℕ × ℕ
@@ -89,18 +90,18 @@ abbrev pub ready_at : World → ℕ → ℕ
 ready_at world place = get_or (ready world) (place % length (ready world)) 0
 
 -- the context that takes the next step
-abbrev pub pick : World → List (ℕ × ℕ) → Place → ℕ
+abbrev pub pick : World → List (ℕ × ℕ) → SchedulePlace → ℕ
 pick world schedule p = if nat_eq p.used 0 then ready_at world (turn_at schedule p.turn).0 else p.held
 
 -- a step of context k that left this world was the last one of its turn
-abbrev pub is_over : World → List (ℕ × ℕ) → Place → ℕ → Bool
+abbrev pub is_over : World → List (ℕ × ℕ) → SchedulePlace → ℕ → Bool
 is_over world schedule p k = nat_eq (p.used + 1) (turn_at schedule p.turn).1 || not (is_ready (context world k))
 
 abbrev pub next_turn : List (ℕ × ℕ) → ℕ → ℕ
 next_turn schedule turn = if nat_eq (turn + 1) (length schedule) then 0 else turn + 1
 
 -- the place behind such a step: in the same turn, which stays with context k, or at the beginning of the next
-abbrev pub next_place : World → List (ℕ × ℕ) → Place → ℕ → Place
+abbrev pub next_place : World → List (ℕ × ℕ) → SchedulePlace → ℕ → SchedulePlace
 next_place world schedule p k =
     if is_over world schedule p k then record { turn = next_turn schedule p.turn; used = 0; held = 0 }
     else record { turn = p.turn; used = p.used + 1; held = k }
@@ -115,7 +116,7 @@ pub record WorldState : Type 0 where
   pub errors : List ℕ
 
 -- what is put comes behind what was written
-abbrev pub taken_by : WorldState → WorldTurn → WorldState
+abbrev pub taken_by : WorldState → WorldStepped → WorldState
 taken_by st t =
     record { world = t.world; input = t.input; output = st.output ++ t.output; errors = st.errors ++ t.errors }
 
@@ -127,7 +128,7 @@ abbrev pub goes_on : World → Bool
 goes_on world = is_none world.ended && some_ready world
 
 -- at most so many steps from a place of the schedule on
-unfoldable pub threads_from : List (ℕ × ℕ) → Place → WorldState → ℕ → WorldState
+unfoldable pub threads_from : List (ℕ × ℕ) → SchedulePlace → WorldState → ℕ → WorldState
 threads_from schedule p st zero = st
 threads_from schedule p st (suc n) =
     if goes_on st.world

@@ -37,13 +37,13 @@ context world k = get_or world.contexts k no_context
 
 -- context 0 alone, which has the registers of a machine
 abbrev pub opened : Parts → World
-opened m = record {
-  memory = m.memory;
-  brk = m.brk;
-  steps = m.steps;
-  ended = m.ended;
+opened parts = record {
+  memory = parts.memory;
+  brk = parts.brk;
+  steps = parts.steps;
+  ended = parts.ended;
   last = 0;
-  contexts = record { core = m.core; vectors = m.vectors; clear = 0; standing = Ready } ∷ [];
+  contexts = record { core = parts.core; vectors = parts.vectors; clear = 0; standing = Ready } ∷ [];
 }
 
 -- ---- how contexts stand
@@ -81,8 +81,8 @@ some_ready world = list_any is_ready world.contexts
 
 -- ---- a machine is joined of what is shared and of a context, and taken apart again
 
-abbrev pub joined : World → Context → Parts
-joined world c =
+abbrev pub parts_with : World → Context → Parts
+parts_with world c =
     record {
       core = c.core;
       vectors = c.vectors;
@@ -96,13 +96,13 @@ abbrev pub with_context : World → ℕ → Context → World
 with_context world k c = record world { contexts = set world.contexts k c }
 
 abbrev pub sharing : World → Parts → World
-sharing world m = record world { memory = m.memory; brk = m.brk; steps = m.steps; ended = m.ended }
+sharing world parts = record world { memory = parts.memory; brk = parts.brk; steps = parts.steps; ended = parts.ended }
 
 -- context k stands so, and has the machine's registers
 abbrev pub apart : World → ℕ → Standing → Parts → World
-apart world k standing m =
-    with_context (sharing world m) k
-    (record (context world k) { core = m.core; vectors = m.vectors; standing = standing })
+apart world k standing parts =
+    with_context (sharing world parts) k
+    (record (context world k) { core = parts.core; vectors = parts.vectors; standing = standing })
 
 -- ---- waking
 

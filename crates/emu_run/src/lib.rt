@@ -8,4 +8,4 @@ pub mod thread;
 pub mod thread_laws;
 
 pub use insn::Insn;
-pub use thread::{Place, Standing, ThreadCall, ThreadErrno, WorldEnding};
+pub use thread::{SchedulePlace, Standing, ThreadCall, ThreadErrno, WorldEnding};

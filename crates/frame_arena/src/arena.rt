@@ -263,7 +263,19 @@ impl FrameArena {
         ensures bytes { result.now ≡ take count (drop at (bytes_of self.old.live f.now)) }
         ensures length { length result.now ≡ count }
     {
-        self.slots[f.number as usize].part_mut(at, count)
+        self.part_at_mut(f.number(), at, count)
+    }
+
+    /// The same by the frame's number.
+    #[inline(always)]
+    pub fn part_at_mut(&mut self, number: u32, at: usize, count: usize) -> &mut [u8]
+        requires sole { IsSole self.old number }
+        requires within { at + count ≤ frame_size }
+        ensures* writes_back { sem 𝓛 (LendsPart self.entry number at result) }
+        ensures bytes { result.now ≡ take count (drop at (bytes_of self.old.live number)) }
+        ensures length { length result.now ≡ count }
+    {
+        self.slots[number as usize].part_mut(at, count)
     }
 }
 

@@ -10,7 +10,7 @@ use Rattle.emu_system.specs.SystemCall.{returned}
 use Rattle.emu_run.specs.declared.thread.Standing.{Standing}
 use Rattle.emu_run.specs.declared.thread.Standing.TheVariants.{Ready}
 use Rattle.emu_run.specs.ThreadCall.{answered, with_started}
-use Rattle.emu_run.specs.Worlds.{Context, context, no_context, is_ready, is_gone, waits_at, ready, joined, apart, with_context, taken_by_context, woken, woken_context, with_woken, wake_count, with_monitor, monitor_behind, behind_accesses, others_behind, without_monitors}
+use Rattle.emu_run.specs.Worlds.{Context, context, no_context, is_ready, is_gone, waits_at, ready, parts_with, apart, with_context, taken_by_context, woken, woken_context, with_woken, wake_count, with_monitor, monitor_behind, behind_accesses, others_behind, without_monitors}
 use Rattle.guest_contexts.specs.Laid.{with_machine, laid, world_of}
 use Rattle.guest_contexts.specs.Standings.{has_monitor, ready_among}
 use Rattle.guest_contexts.proofs.Lists.{count_same, same_at, same_any, same_all, filter_same, set_pushed, get_pushed}
@@ -87,8 +87,8 @@ module _ (m : Parts) (last : ℕ) (cs : List Context) (within : last < length cs
   own_is = get_or-set_same cs last (with_machine (get_or cs last no_context) m) no_context within
 
   -- joined with what is shared it is the machine
-  pub joined_is : joined (world_of m last cs) (context (world_of m last cs) last) ≡ m
-  joined_is = ap (λ (c : Context). joined (world_of m last cs) c) own_is
+  pub joined_is : parts_with (world_of m last cs) (context (world_of m last cs) last) ≡ m
+  joined_is = ap (λ (c : Context). parts_with (world_of m last cs) c) own_is
 
   pub standing_is : (context (world_of m last cs) last).standing ≡ (get_or cs last no_context).standing
   standing_is = ap (λ (c : Context). c.standing) own_is

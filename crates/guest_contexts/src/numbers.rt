@@ -23,7 +23,7 @@ pub fn thread_call(core: &Core) -> ThreadCall
 
 /// What is answered where a call is refused.
 pub fn error_answer(error: ThreadErrno) -> u64
-    ensures { result ≡ error_answer (model.number_of error) }
+    ensures { result ≡ error_answer (model.error_number error) }
 {
     let number = match error {
         ThreadErrno::EAGAIN => 11,

@@ -160,9 +160,25 @@ impl AccessList {
         self.accesses.clear();
     }
 
-    /// Becomes those of a log. It wants no memory.
-    #[inline(never)]
+    /// Becomes those of a log. It wants no memory. None, or one, is set where it is called.
+    #[inline(always)]
     pub fn set(&mut self, log: &AccessLog)
+        ensures { self.new.items ≡ log.now.items }
+    {
+        // first what most steps have; both numbers are one word of the host
+        if log.count == 0 && log.len == 0 {
+            self.accesses.clear();
+        } else if log.count == 0 && log.len == 1 {
+            self.accesses.clear();
+            self.accesses.push_reserved(log.cells[0]);
+        } else {
+            self.set_all(log);
+        }
+    }
+
+    /// Becomes those of a log.
+    #[inline(never)]
+    fn set_all(&mut self, log: &AccessLog)
         ensures { self.new.items ≡ log.now.items }
     {
         self.accesses.clear();

@@ -28,7 +28,7 @@ ghost use Rattle.std.specs.Prelude.{
 ghost use Rattle.std.specs.FinMap as map;
 ghost use Rattle.std.specs.List.{count_by};
 ghost use mathlib.Core.Option.{none};
-ghost use Rattle.emu_model.specs.Access.{gives, page_size, most_mapped_pages};
+ghost use Rattle.emu_model.specs.Access.{page_size, most_mapped_pages};
 ghost use Rattle.emu_model.specs.ByPage.{page_gives};
 ghost use Rattle.emu_model.specs.Marks.{fresh_marks};
 ghost use Rattle.std.specs.Borrow.{sem, follows_so, Lends, LendsSo, Array, u8 as byte};
@@ -42,8 +42,8 @@ ghost use Rattle.guest_pages.specs.Open.{IsOpen};
 use crate::cache::Cache;
 use crate::gaps::free_run;
 use crate::places::{
-    cached_place, is_mapped, look_up, mapped_place, protect_pages, remove_pages, search_code,
-    store_page, taken, unmapped_page, write_page,
+    allows, cached_place, is_mapped, look_up, place_to_write, protect_pages, remove_pages,
+    search_for, store_page, taken, unmapped_page, write_page,
 };
 use emu_model::{Kind, PAGE_BYTES, Rights};
 pub use page_list::OutOfMemory;
@@ -154,7 +154,8 @@ impl Pages {
     {
         match kind {
             Kind::Fetch => self.seek_code(page),
-            Kind::Read | Kind::Write => self.seek_data(page, kind),
+            Kind::Read => self.seek_read(page),
+            Kind::Write => self.seek_data(page, kind),
         }
     }
 
@@ -191,7 +192,25 @@ impl Pages {
         if self.list.is_code(page) {
             return Some(self.list.code(page));
         }
-        match search_code(&mut self.list, &mut self.cache, page) {
+        match search_for(&mut self.list, &mut self.cache, page, Kind::Fetch) {
+            None => None,
+            Some(i) => Some(self.list.bytes(i)),
+        }
+    }
+
+    /// The bytes of a page that may be read, likewise.
+    #[inline(always)]
+    fn seek_read(&mut self, page: u64) -> Option<&[u8]>
+        ensures* unchanged { sem 𝓛
+            (follows_so the_row the_row self.entry.ghost_name none (λ _ _. ⊤) (λ m. m ≡ self.old)) }
+        ensures found { MatchOption result (page_gives (map.get self.old.memory.pages page) Kind.Read ≡ false)
+            (λ s. IsOpen (map.get self.old.memory.pages page) Kind.Read s.now) }
+        ensures whole { MatchOption result ⊤ (λ s. length s.now ≡ page_size) }
+    {
+        if self.list.is_read(page) {
+            return Some(self.list.read(page));
+        }
+        match search_for(&mut self.list, &mut self.cache, page, Kind::Read) {
             None => None,
             Some(i) => Some(self.list.bytes(i)),
         }
@@ -239,8 +258,25 @@ impl Pages {
         ensures value { result.now ≡ bytes_at self.old.memory (page * page_size + at) count }
         ensures length { length result.now ≡ count }
     {
-        let i = mapped_place(&self.list, &mut self.cache, page);
+        if self.list.is_written(page) {
+            return self.list.part_at_hand(page, at, count, spare);
+        }
+        let i = place_to_write(&mut self.list, &mut self.cache, page);
         self.list.part_mut(i, at, count, spare)
+    }
+
+    /// Whether a page may be written.
+    #[inline(always)]
+    pub fn may_write(&self, page: u64) -> bool
+        ensures { result ≡ page_gives (map.get self.now.memory.pages page) Kind.Write }
+    {
+        if self.list.is_written(page) {
+            return true;
+        }
+        match self.find(page) {
+            None => false,
+            Some((rights, _)) => rights.w,
+        }
     }
 
     /// Maps `count` pages from page `first` on, with these rights and their bytes 0. `Taken` has the least of them that
@@ -411,17 +447,5 @@ impl Pages {
     {
         self.list.restore(k as usize);
         self.cache = Cache::empty();
-    }
-}
-
-/// Whether rights allow an access.
-#[inline(always)]
-pub fn allows(rights: Rights, kind: Kind) -> bool
-    ensures { result ≡ gives rights kind }
-{
-    match kind {
-        Kind::Read => rights.r,
-        Kind::Write => rights.w,
-        Kind::Fetch => rights.x,
     }
 }

@@ -21,9 +21,9 @@ ghost use Rattle.std.specs.Prelude.{
 ghost use Rattle.std.specs.List.{AllByRecursion, filter};
 ghost use Rattle.std.specs.Ordering.{nat_cmp};
 ghost use Rattle.std.specs.FinMap.{contains_key, find};
-ghost use Rattle.emu_model.specs.Access.{page_size};
+ghost use Rattle.emu_model.specs.Access.{gives, page_size};
 ghost use Rattle.emu_model.specs.ByPage.{page_gives};
-ghost use Rattle.emu_model.specs.Pages.{is_among, least_mapped, least_unmapped};
+ghost use Rattle.emu_model.specs.Pages.{is_page_in, least_mapped, least_unmapped};
 ghost use Rattle.emu_model.specs.WithinPage.{page_with_bytes};
 ghost use Rattle.guest_pages.specs.Places.{
   IsAscending,
@@ -103,14 +103,26 @@ fn search(list: &PageList, cache: &mut Cache, page: u64) -> Option<usize>
     }
 }
 
-/// The place of a page that may be fetched from. The page that is found is kept at hand.
+/// Whether rights allow an access.
+#[inline(always)]
+pub fn allows(rights: Rights, kind: Kind) -> bool
+    ensures { result ≡ gives rights kind }
+{
+    match kind {
+        Kind::Read => rights.r,
+        Kind::Write => rights.w,
+        Kind::Fetch => rights.x,
+    }
+}
+
+/// The place of a page that has the right for `kind`. The page that is found is kept at hand for it.
 #[inline(never)]
-pub fn search_code(list: &mut PageList, cache: &mut Cache, page: u64) -> Option<usize>
+pub fn search_for(list: &mut PageList, cache: &mut Cache, page: u64, kind: Kind) -> Option<usize>
     requires ascending { IsAscending list.old.pages }
     requires right { IsRight list.old.pages cache.old }
-    ensures place { MatchOption result (page_gives (find nat_cmp page list.old.pages) Kind.Fetch ≡ false)
+    ensures place { MatchOption result (page_gives (find nat_cmp page list.old.pages) kind ≡ false)
         (IsAt list.old.pages page) }
-    ensures allowed { IfSome result (λ i. (entry_at list.old.pages i).1.rights.x ≡ true) }
+    ensures allowed { IfSome result (λ i. gives (entry_at list.old.pages i).1.rights kind ≡ true) }
     ensures pages { list.new.pages ≡ list.old.pages }
     ensures limit { list.new.limit ≡ list.old.limit }
     ensures marks { list.new.marks ≡ list.old.marks }
@@ -118,8 +130,8 @@ pub fn search_code(list: &mut PageList, cache: &mut Cache, page: u64) -> Option<
     ensures right { IsRight list.old.pages cache.new }
 {
     match look_up(list, cache, page) {
-        Some(i) if list.rights(i).x => {
-            list.hold_code(i);
+        Some(i) if allows(list.rights(i), kind) => {
+            list.hold(i, kind);
             Some(i)
         }
         _ => None,
@@ -138,6 +150,25 @@ pub fn mapped_place(list: &PageList, cache: &mut Cache, page: u64) -> usize
         Some(i) => i,
         None => unreachable!(),
     }
+}
+
+/// The same. The page is kept at hand to be written, if it may be.
+#[inline(never)]
+pub fn place_to_write(list: &mut PageList, cache: &mut Cache, page: u64) -> usize
+    requires ascending { IsAscending list.old.pages }
+    requires right { IsRight list.old.pages cache.old }
+    requires mapped { IsTrue (contains_key (pages_of list.old.pages) page) }
+    ensures place { IsAt list.old.pages page result }
+    ensures pages { list.new.pages ≡ list.old.pages }
+    ensures limit { list.new.limit ≡ list.old.limit }
+    ensures marks { list.new.marks ≡ list.old.marks }
+    ensures right { IsRight list.old.pages cache.new }
+{
+    let i = mapped_place(list, cache, page);
+    if list.rights(i).w {
+        list.hold(i, Kind::Write);
+    }
+    i
 }
 
 /// The least of `count` pages from page `first` on that is mapped, with the place of `first`.
@@ -191,8 +222,29 @@ pub fn store_page(
     ensures marks { list.new.marks ≡ list.old.marks }
     ensures right { IsRight list.new.pages cache.new }
 {
+    if list.is_written(page) {
+        list.write_at_hand(page, at, bytes);
+        return true;
+    }
+    store_found(list, cache, page, at, bytes)
+}
+
+/// The same where the page isn't at hand. It is from now on, if it has a frame of its own already.
+#[inline(never)]
+fn store_found(list: &mut PageList, cache: &mut Cache, page: u64, at: usize, bytes: &[u8]) -> bool
+    requires ascending { IsAscending list.old.pages }
+    requires right { IsRight list.old.pages cache.old }
+    requires within { at + length bytes.now ≤ page_size }
+    ensures allowed { result ≡ page_gives (find nat_cmp page list.old.pages) Kind.Write }
+    ensures pages { list.new.pages
+        ≡ (if result then changed (page_with_bytes at bytes.now) page list.old.pages else list.old.pages) }
+    ensures limit { list.new.limit ≡ list.old.limit }
+    ensures marks { list.new.marks ≡ list.old.marks }
+    ensures right { IsRight list.new.pages cache.new }
+{
     match look_up(list, cache, page) {
         Some(i) if list.rights(i).w => {
+            list.hold(i, Kind::Write);
             list.write(i, at, bytes);
             true
         }
@@ -204,7 +256,7 @@ pub fn store_page(
 pub fn remove_pages(list: &mut PageList, first: u64, count: u64)
     requires ascending { IsAscending list.old.pages }
     requires ends { first + count ≤ 2 ^ 35 }
-    ensures pages { list.new.pages ≡ filter (λ e. not (is_among first count e.0)) list.old.pages }
+    ensures pages { list.new.pages ≡ filter (λ e. not (is_page_in first count e.0)) list.old.pages }
     ensures limit { list.new.limit ≡ list.old.limit }
     ensures marks { list.new.marks ≡ list.old.marks }
 {

@@ -1,7 +1,7 @@
 -- Quiet steps of a schedule, one after the other, in a run of a world.
 use Rattle.std.proofs.Common.{◌≡◌, ◌<◌, ◌≤◌, ℕ, zero, suc, ◌+◌, ◌-◌, Bool, true, false, ◌&&◌, List, Option, is_none, is_some, Some, None, refl, sym, ap, subst, ◌∙◌, arith, ◌||◌}
 use Rattle.emu_model.specs.declared.trap.Ended.{Ended}
-use Rattle.emu_run.specs.declared.thread.Place.{Place}
+use Rattle.emu_run.specs.declared.thread.SchedulePlace.{SchedulePlace}
 use Rattle.emu_run.specs.Living.{IsLiving, stays_living}
 use Rattle.emu_machine.specs.declared.ends.StepEnd.TheVariants.{Going}
 use Rattle.emu_run.specs.Threads.{goes_on, next_place, stepped, threads, turn_at}
@@ -28,36 +28,36 @@ going_by h goes fine = going_of h.world.ended h.failed goes fine
 
 module _ (schedule : List (ℕ × ℕ)) where
   -- what a quiet step brings on is brought on by many
-  pub followed_by : (budget : ℕ) (P : Place → World → Type 0) → BringsOn schedule budget P → (n : ℕ) (p q : Place) (w v : World)
+  pub followed_by : (budget : ℕ) (P : SchedulePlace → World → Type 0) → BringsOn schedule budget P → (n : ℕ) (p q : SchedulePlace) (w v : World)
       → AreFollowed n schedule p w q v → P p w → is_none w.ended ≡ true → v.steps ≤ budget → P q v × (is_none v.ended ≡ true)
   followed_by budget P on zero p q w v (place, world) holds goes most =
-      (subst (λ (x : World). P q x) (sym world) (subst (λ (x : Place). P x w) (sym place) holds), ap (λ (x : World). is_none x.ended) world ∙ goes)
+      (subst (λ (x : World). P q x) (sym world) (subst (λ (x : SchedulePlace). P x w) (sym place) holds), ap (λ (x : World). is_none x.ended) world ∙ goes)
   followed_by budget P on (suc n) p q w v (o, u, (so_far, f)) holds goes most =
       let counted = f.quiet.counted in
       let r = followed_by budget P on n p o w u so_far holds goes (omega (arith, counted, most)) in
       (on o q u v r.0 f r.1 (omega (arith, counted, most)), f.quiet.goes)
 
   -- steps behind steps
-  pub followed_then : (m n : ℕ) (p o q : Place) (w u v : World) → AreFollowed n schedule p w o u → AreFollowed m schedule o u q v → (k : ℕ) × AreFollowed k schedule p w q v
+  pub followed_then : (m n : ℕ) (p o q : SchedulePlace) (w u v : World) → AreFollowed n schedule p w o u → AreFollowed m schedule o u q v → (k : ℕ) × AreFollowed k schedule p w q v
   followed_then zero n p o q w u v first (place, world) =
-      (n, subst (λ (x : World). AreFollowed n schedule p w q x) (sym world) (subst (λ (x : Place). AreFollowed n schedule p w x u) (sym place) first))
+      (n, subst (λ (x : World). AreFollowed n schedule p w q x) (sym world) (subst (λ (x : SchedulePlace). AreFollowed n schedule p w x u) (sym place) first))
   followed_then (suc m) n p o q w u v first (a, x, (so_far, f)) =
       let r = followed_then m n p o a w u x first so_far in
       (suc r.0, (a, x, (r.1, f)))
 
-  pub followed_after : (n : ℕ) (p q : Place) (w v : World) → AreFollowed n schedule p w q v → w.steps ≤ v.steps
+  pub followed_after : (n : ℕ) (p q : SchedulePlace) (w v : World) → AreFollowed n schedule p w q v → w.steps ≤ v.steps
   followed_after zero p q w v (place, world) = let e = ap (λ (x : World). x.steps) world in omega (arith, e)
   followed_after (suc n) p q w v (o, u, (so_far, f)) = let e = followed_after n p o w u so_far in let counted = f.quiet.counted in omega (arith, e, counted)
 
   -- a world behind them has a context that isn't gone
-  pub followed_lives : (n : ℕ) (p q : Place) (w v : World) → AreFollowed n schedule p w q v → IsLiving w → IsLiving v
+  pub followed_lives : (n : ℕ) (p q : SchedulePlace) (w v : World) → AreFollowed n schedule p w q v → IsLiving w → IsLiving v
   followed_lives zero p q w v (place, world) living = subst (λ (x : World). IsLiving x) (sym world) living
   followed_lives (suc n) p q w v (o, u, (so_far, f)) living = λ _. stays_living v f.context f.quiet.at.within (ap is_standing_gone f.quiet.at.ready)
 
 -- ---- in a run
 
 module _ (schedule : List (ℕ × ℕ)) (budget : ℕ) (old : World) (told left ho hp eo ep : Option (List ℕ)) where
-  pub record Reached (place : Place) (now : World) : Type 0 where
+  pub record Reached (place : SchedulePlace) (now : World) : Type 0 where
     pub leads : LeadsRun schedule budget place old now told left ho hp eo ep
     pub stands : Stands schedule old told place now left
     pub any : LeadsAny schedule place old now told left ho hp eo ep
@@ -70,19 +70,19 @@ module _ (schedule : List (ℕ × ℕ)) (budget : ℕ) (old : World) (told left 
       let on : goes_on w ≡ true = goes_ready w k goes f.at in
       let next : next_place v schedule p k ≡ q = sym f.next in
       record {
-        leads = subst (λ (x : Place). LeadsRun schedule budget x old v told left ho hp eo ep) next
+        leads = subst (λ (x : SchedulePlace). LeadsRun schedule budget x old v told left ho hp eo ep) next
             (run_counts schedule budget p old w v told left left ho hp hp eo ep ep r.leads on below k f.picked f.quiet.counted ran);
-        stands = subst (λ (x : Place). Stands schedule old told x v left) next
+        stands = subst (λ (x : SchedulePlace). Stands schedule old told x v left) next
             (stands_on schedule budget p old w left ho hp eo ep v k left hp ep told r.leads ran on f.picked f.quiet.counted r.stands);
         any = λ b h.
             let counted = f.quiet.counted in
             let before : w.steps < b = omega (arith, counted, h) in
-            subst (λ (x : Place). LeadsRun schedule b x old v told left ho hp eo ep) next
+            subst (λ (x : SchedulePlace). LeadsRun schedule b x old v told left ho hp eo ep) next
             (run_counts schedule b p old w v told left left ho hp hp eo ep ep (r.any b (omega (arith, before))) on before k f.picked f.quiet.counted ran);
       }
 
   -- the step behind quiet ones ended the world
-  pub ran_over : (p : Place) (w v : World) → Reached p w → is_none w.ended ≡ true → FollowsToEnd schedule budget p w v → Ran (λ s. threads schedule budget s) old v told left ho hp eo ep false
+  pub ran_over : (p : SchedulePlace) (w v : World) → Reached p w → is_none w.ended ≡ true → FollowsToEnd schedule budget p w v → Ran (λ s. threads schedule budget s) old v told left ho hp eo ep false
   ran_over p w v r goes d =
       let k : ℕ = d.context in
       let below = d.below in
@@ -92,7 +92,7 @@ module _ (schedule : List (ℕ × ℕ)) (budget : ℕ) (old : World) (told left 
       run_stops schedule budget d.place old d.at v told left left ho hp hp eo ep ep here.0.leads (goes_ready d.at k d.goes d.ready) below k d.picked false ran (λ _. stops v d.ended)
 
 -- steps of a context, from a place of the schedule
-module _ (schedule : List (ℕ × ℕ)) (budget : ℕ) (old : World) (told left ho hp eo ep : Option (List ℕ)) (place : Place) (k until : ℕ) (p : World) (reached : Reached schedule budget old told left ho hp eo ep place p)
+module _ (schedule : List (ℕ × ℕ)) (budget : ℕ) (old : World) (told left ho hp eo ep : Option (List ℕ)) (place : SchedulePlace) (k until : ℕ) (p : World) (reached : Reached schedule budget old told left ho hp eo ep place p)
     (goes : is_none p.ended ≡ true) (picked : IsPicked p schedule place k) (within : until ≤ budget) (turn : until + place.used ≤ p.steps + (turn_at schedule place.turn).1) where
   -- before the last of them
   pub before_end : (n : ℕ) (at : World) → AreQuiet n k p at → at.steps < until
@@ -103,7 +103,7 @@ module _ (schedule : List (ℕ × ℕ)) (budget : ℕ) (old : World) (told left 
       (record { holds = reached; picked = picked.is; at = picked.at; goes = goes }) quiet (omega (arith, near, turn, taken)) (omega (arith, near, within))
 
   -- behind it, where it goes on
-  pub reached_behind : (left_q hq eq : Option (List ℕ)) (q : World) (used : ℕ) (next : Place) → TakesSteps k until p q Going left left_q hp hq ep eq → used + p.steps ≡ place.used + q.steps
+  pub reached_behind : (left_q hq eq : Option (List ℕ)) (q : World) (used : ℕ) (next : SchedulePlace) → TakesSteps k until p q Going left left_q hp hq ep eq → used + p.steps ≡ place.used + q.steps
       → next ≡ next_place q schedule (place_at place.turn (used - 1) k) k → Reached schedule budget old told left_q ho hq eo eq next q
   reached_behind left_q hq eq q used next t is gone =
       let at : World = t.at in
@@ -114,16 +114,16 @@ module _ (schedule : List (ℕ × ℕ)) (budget : ℕ) (old : World) (told left 
       let ran : Ran (λ st. stepped st k) at q left left_q hp hq ep eq false = ran_step k at q left left_q hp hq ep eq false t.state t.input t.output t.errors in
       let counted : q.steps ≡ at.steps + 1 = t.counted refl in
       let below : at.steps < budget = omega (arith, near, within) in
-      let here : Place = moved place k t.count in
+      let here : SchedulePlace = moved place k t.count in
       let last : place_at place.turn (used - 1) k ≡ place_at place.turn (place.used + t.count) k = ap (λ (n : ℕ). place_at place.turn n k) (omega (arith, is, counted, taken)) in
       let to : next_place q schedule here k ≡ next = next_moved q schedule place k t.count (place_at place.turn (used - 1) k) last ∙ sym gone in
       record {
-        leads = subst (λ (x : Place). LeadsRun schedule budget x old q told left_q ho hq eo eq) to
+        leads = subst (λ (x : SchedulePlace). LeadsRun schedule budget x old q told left_q ho hq eo eq) to
             (run_counts schedule budget here old at q told left left_q ho hp hq eo ep eq stood.holds.leads on below k stood.picked counted ran);
-        stands = subst (λ (x : Place). Stands schedule old told x q left_q) to
+        stands = subst (λ (x : SchedulePlace). Stands schedule old told x q left_q) to
             (stands_on schedule budget here old at left ho hp eo ep q k left_q hq eq told stood.holds.leads ran on stood.picked counted stood.holds.stands);
         any = λ b h.
             let before : at.steps < b = omega (arith, counted, h) in
-            subst (λ (x : Place). LeadsRun schedule b x old q told left_q ho hq eo eq) to
+            subst (λ (x : SchedulePlace). LeadsRun schedule b x old q told left_q ho hq eo eq) to
             (run_counts schedule b here old at q told left left_q ho hp hq eo ep eq (stood.holds.any b (omega (arith, before))) on before k stood.picked counted ran);
       }

@@ -15,7 +15,7 @@ use Rattle.guest_contexts.specs.Standings.{AreReady, has_monitor}
 use Rattle.guest_schedule.specs.Turns.{IsSchedule}
 use Rattle.guest_contexts.proofs.Begins.{has_one, turn_is}
 use Rattle.guest_contexts.proofs.Laid.{laid_length, standing_is}
-use Rattle.emu_run.specs.declared.thread.Place.{Place}
+use Rattle.emu_run.specs.declared.thread.SchedulePlace.{SchedulePlace}
 use Rattle.emu_run.specs.declared.thread.Standing.TheVariants.{Ready}
 use Rattle.emu_run.specs.Threads.{next_turn, turn_at}
 use Rattle.emu_run.specs.Worlds.{World, Context, context, no_context, taken_by_context}
@@ -28,7 +28,7 @@ use Rattle.guest_threads.proofs.Views.{held as held_of, last_is, world_is}
 use Rattle.guest_threads.proofs.Quiet.{alone_quiet, none_taken, one_quiet, quiet_steps}
 use Rattle.guest_threads.proofs.WholeTurns.{begins_at, turn_ends, turn_stays, turn_whole, turn_within}
 
-module _ (schedule : List (ℕ × ℕ)) (numbers : List ℕ) (budget : ℕ) (p : Place) (w : World) where
+module _ (schedule : List (ℕ × ℕ)) (numbers : List ℕ) (budget : ℕ) (p : SchedulePlace) (w : World) where
   -- a turn begins, with what the steps of the schedule before it made of the world
   pub record Begun (a : InTurn) : Type 0 where
     pub before : World
@@ -67,7 +67,7 @@ module _ (schedule : List (ℕ × ℕ)) (numbers : List ℕ) (budget : ℕ) (p :
         (λ same. omega (arith, same, spent, is, one))
 
     -- steps behind those before it
-    on_from : (q : Place) (v : World) → FollowsOn schedule budget (place_at a.turn.place 0 0) b.before q v → FollowsOn schedule budget p w q v
+    on_from : (q : SchedulePlace) (v : World) → FollowsOn schedule budget (place_at a.turn.place 0 0) b.before q v → FollowsOn schedule budget p w q v
     on_from q v d =
         let r = followed_then schedule d.count b.follows.0 p (place_at a.turn.place 0 0) q w b.before v b.follows.1 d.followed in
         record { count = r.0; followed = r.1; goes = d.goes; most = d.most; placed = d.placed }
@@ -159,7 +159,7 @@ module _ (schedule : List (ℕ × ℕ)) (numbers : List ℕ) (budget : ℕ) (p :
       let laid_here : world_of m.parts k cs ≡ taken_by_context k w =
       ap (λ (l : List Context). world_of m.parts k l) list ∙ ap (λ (i : ℕ). world_of m.parts i items) (sym own) ∙ there in
       begun_first (record { machine = m; turn = record { place = p.turn; context = k; before = last; until = until; budget = budget }; contexts = cs }) from
-      (subst (λ (x : World). is_none x.ended ≡ true) same (unended h.world.ended h.failed going)) (subst (λ (x : Place). IsPicked w schedule x k) (sym from) picked) laid_here (sym is_last) inside
+      (subst (λ (x : World). is_none x.ended ≡ true) same (unended h.world.ended h.failed going)) (subst (λ (x : SchedulePlace). IsPicked w schedule x k) (sym from) picked) laid_here (sym is_last) inside
       (record {
         turns = turns;
         place = placed;
@@ -226,7 +226,7 @@ module _ (schedule : List (ℕ × ℕ)) (numbers : List ℕ) (budget : ℕ) (p :
     stops_within placed = record { place = placed; before = s.inside; begun = let is = s.until in omega (arith, is); on = let is = s.until in let after = s.after in omega (arith, is, after) }
 
     -- the place that is answered, and the world that is left
-    pub stops_at : (q : Place) (h new : WorldHeld) → h.world ≡ left_by x → q.turn ≡ x.turn.place → q.used ≡ x.machine.parts.steps - (x.turn.until - (turn_at schedule x.turn.place).1)
+    pub stops_at : (q : SchedulePlace) (h new : WorldHeld) → h.world ≡ left_by x → q.turn ≡ x.turn.place → q.used ≡ x.machine.parts.steps - (x.turn.until - (turn_at schedule x.turn.place).1)
         → q.held ≡ (if nat_eq q.used 0 then 0 else x.turn.context) → new ≡ (if nat_eq q.used 0 then record h { world = taken_by_context x.turn.before h.world } else h)
         → FollowsOn schedule budget p w q new.world
     stops_at q h new here turn used held left =
@@ -242,7 +242,7 @@ module _ (schedule : List (ℕ × ℕ)) (numbers : List ℕ) (budget : ℕ) (p :
               let back : new.world ≡ s.before =
               ap (λ (y : WorldHeld). y.world) left ∙ ap (λ (b : Bool). (if b then record h { world = taken_by_context x.turn.before h.world } else h).world) e
               ∙ ap (λ (y : World). taken_by_context x.turn.before y) (here ∙ s.still (omega (arith, begun, none, after))) ∙ ap (λ (n : ℕ). taken_by_context n s.before) (sym s.last) in
-              subst (λ (y : World). FollowsOn schedule budget p w q y) (sym back) (subst (λ (o : Place). FollowsOn schedule budget p w o s.before) there s.from)
+              subst (λ (y : World). FollowsOn schedule budget p w q y) (sym back) (subst (λ (o : SchedulePlace). FollowsOn schedule budget p w o s.before) there s.from)
           | false ↦ λ e.
               let some = eqb-false q.used 0 e in
               let context : q.held ≡ x.turn.context = held ∙ ap (λ (b : Bool). if b then 0 else x.turn.context) e in
@@ -250,5 +250,5 @@ module _ (schedule : List (ℕ × ℕ)) (numbers : List ℕ) (budget : ℕ) (p :
               let same : new.world ≡ left_by x =
               ap (λ (y : WorldHeld). y.world) left ∙ ap (λ (b : Bool). (if b then record h { world = taken_by_context x.turn.before h.world } else h).world) e ∙ here in
               subst (λ (y : World). FollowsOn schedule budget p w q y) (sym same)
-              (subst (λ (o : Place). FollowsOn schedule budget p w o (left_by x)) there (s.on q.used (λ none. omega (arith, begun, none, some)) begun))
+              (subst (λ (o : SchedulePlace). FollowsOn schedule budget p w o (left_by x)) there (s.on q.used (λ none. omega (arith, begun, none, some)) begun))
         ] refl

@@ -7,7 +7,7 @@ use Rattle.emu_model.specs.declared.trap.Ended.{Ended}
 use Rattle.emu_model.specs.declared.trap.Ended.TheVariants.{Exit as Exited}
 use Rattle.emu_model.specs.Access.{Memory, refused, stored, value}
 use Rattle.emu_model.specs.State.{Core, Parts}
-use Rattle.emu_system.specs.SystemCall.{argument, error_answer, returned}
+use Rattle.emu_system.specs.SystemCall.{call_argument, error_answer, returned}
 use Rattle.emu_machine.specs.declared.ends.StepEnd.{StepEnd}
 use Rattle.emu_machine.specs.declared.ends.StepEnd.TheVariants.{Going}
 use Rattle.emu_machine.specs.Ends.{step_end}
@@ -15,9 +15,9 @@ use Rattle.emu_run.specs.declared.thread.Standing.TheVariants.{Ready, Waiting, G
 use Rattle.emu_run.specs.declared.thread.ThreadErrno.{ThreadErrno}
 use Rattle.emu_run.specs.declared.thread.ThreadErrno.TheVariants.{EAGAIN, EFAULT, EINVAL, ENOSYS}
 use Rattle.emu_run.specs.declared.thread.ThreadCall.{ThreadCall}
-use Rattle.emu_run.specs.ThreadCall.{action, action_of, thread_call, started, started_core, clears_child, parent_told, with_started, starting, futex, waiting, operation, ThreadAction, fails, answers, starts, waits, wakes, clears, leaves, thread_id, answered, number_of, wait_made, wake_made, clear_made, leave_made, start_made, cleared, with_gone, all_gone, ended_by}
-use Rattle.emu_run.specs.Threads.{done_by, quietly}
-use Rattle.emu_run.specs.Worlds.{World, Context, context, no_context, joined, with_context, with_woken, wake_count}
+use Rattle.emu_run.specs.ThreadCall.{action, action_of, thread_call, started, started_core, clears_child, parent_told, with_started, starting, futex, waiting, operation, ThreadAction, fails, answers, starts, waits, wakes, clears, leaves, thread_id, answered, error_number, wait_made, wake_made, clear_made, leave_made, start_made, cleared, with_gone, all_gone, ended_by}
+use Rattle.emu_run.specs.Threads.{thread_call_done, quietly}
+use Rattle.emu_run.specs.Worlds.{World, Context, context, no_context, parts_with, with_context, with_woken, wake_count}
 use Rattle.guest_contexts.proofs.Laid.{woken_ready}
 use Rattle.emu_run.specs.Living.{woken_length}
 use Rattle.emu_machine.specs.Contexts.{ended_with}
@@ -40,7 +40,7 @@ pub unfailed_of : (h : WorldHeld) → has_ended h ≡ false → h.failed ≡ fal
 unfailed_of h going = unfailed_by h.world.ended h.failed going
 
 -- an action that is no step of a machine alone, by the world that it leaves
-pub made_by : (a : ThreadAction) (old new : WorldHeld) (end : StepEnd) (w : World) → ((input : List ℕ) → done_by a old.world old.world.last input ≡ quietly w input)
+pub made_by : (a : ThreadAction) (old new : WorldHeld) (end : StepEnd) (w : World) → ((input : List ℕ) → thread_call_done a old.world old.world.last input ≡ quietly w input)
     → new ≡ record old { world = w } → w.last ≡ old.world.last → end ≡ step_end w.ended → IsMade a old new end
 made_by a old new end w done is last ends = record {
   last = ap (λ (x : WorldHeld). x.world.last) is ∙ last;
@@ -67,8 +67,8 @@ cleared_last w a =
 -- a context that is started, with these in place of its caller's arguments
 abbrev started_by : World → Context → ℕ → ℕ → ℕ → ℕ → Context
 started_by w caller flags stack tls clear = record {
-  core = started_core (returned (joined w caller) 0).core flags stack tls;
-  vectors = (returned (joined w caller) 0).vectors;
+  core = started_core (returned (parts_with w caller) 0).core flags stack tls;
+  vectors = (returned (parts_with w caller) 0).vectors;
   clear = if clears_child flags then clear else 0;
   standing = Ready;
 }
@@ -77,10 +77,10 @@ started_is : (w : World) (k id : ℕ) → k < length w.contexts → (flags stack
     → started_context (context (answered (parent_told w (context w k).core) k id) k) flags stack tls clear ≡ started_by w (context w k) flags stack tls clear
 started_is w k id within flags stack tls clear =
     let c : Context = context w k in
-    let r : Parts = returned (joined (parent_told w c.core) c) id in
+    let r : Parts = returned (parts_with (parent_told w c.core) c) id in
     let behind : Context = record c { core = r.core; vectors = r.vectors; standing = Ready } in
     ap (λ (d : Context). started_context d flags stack tls clear) (get_or-set_same w.contexts k behind no_context within)
-    ∙ ap (λ (x : List ℕ). record (started_by w c flags stack tls clear) { core = started_core (record (returned (joined w c) 0).core { x = x }) flags stack tls }) (set-set c.core.x 0 (id % 2 ^ 64) 0)
+    ∙ ap (λ (x : List ℕ). record (started_by w c flags stack tls clear) { core = started_core (record (returned (parts_with w c) 0).core { x = x }) flags stack tls }) (set-set c.core.x 0 (id % 2 ^ 64) 0)
 
 module _ (h : WorldHeld) (calling : IsCalling h) where
   none : h.world.ended ≡ None
@@ -92,7 +92,7 @@ module _ (h : WorldHeld) (calling : IsCalling h) where
   pub made_answer : (v : ℕ) (new : WorldHeld) → new ≡ record h { world = answered h.world h.world.last v } → IsMade (answers v) h new Going
   made_answer v new is = made_by (answers v) h new Going (answered h.world h.world.last v) (λ input. refl) is refl goes_on
 
-  pub made_failure : (e : ThreadErrno) (v : ℕ) (new : WorldHeld) → v ≡ error_answer (number_of e) → new ≡ record h { world = answered h.world h.world.last v } → IsMade (fails e) h new Going
+  pub made_failure : (e : ThreadErrno) (v : ℕ) (new : WorldHeld) → v ≡ error_answer (error_number e) → new ≡ record h { world = answered h.world h.world.last v } → IsMade (fails e) h new Going
   made_failure e v new same is =
       made_by (fails e) h new Going (answered h.world h.world.last v) (λ input. ap (λ (x : ℕ). quietly (answered h.world h.world.last x) input) (sym same)) is refl goes_on
 
@@ -103,7 +103,7 @@ module _ (h : WorldHeld) (calling : IsCalling h) where
   made_wait a mid new is stands =
       let w : World = h.world in
       let k : ℕ = w.last in
-      let c : Context = record (context w k) { core = (returned (joined w (context w k)) 0).core; vectors = (returned (joined w (context w k)) 0).vectors; standing = Ready } in
+      let c : Context = record (context w k) { core = (returned (parts_with w (context w k)) 0).core; vectors = (returned (parts_with w (context w k)) 0).vectors; standing = Ready } in
       made_by (waits a) h new Going (wait_made w k a) (λ input. refl) (
       stands
       ∙ ap (λ (x : WorldHeld). record x { world = with_context x.world x.world.last (record (context x.world x.world.last) { standing = Waiting a }) }) is
@@ -153,7 +153,7 @@ module _ (h : WorldHeld) (calling : IsCalling h) where
   pub made_leave : (code : Option ℕ) (end : StepEnd) (one two new : WorldHeld) → one ≡ record h { world = with_gone h.world h.world.last }
       → two ≡ record one { world = cleared one.world (context one.world one.world.last).clear }
       → new ≡ record two { world = record two.world { steps = two.world.steps + 1; ended = ended_with code two.world.ended } }
-      → ended_with code None ≡ ended_by (with_gone h.world h.world.last) (argument (context h.world h.world.last).core 0 % 256)
+      → ended_with code None ≡ ended_by (with_gone h.world h.world.last) (call_argument (context h.world h.world.last).core 0 % 256)
       → end ≡ step_end (ended_with code None) → IsMade leaves h new end
   made_leave code end one two new gone clear counted by ends =
       let w : World = h.world in
@@ -162,7 +162,7 @@ module _ (h : WorldHeld) (calling : IsCalling h) where
       let a : ℕ = (context w k).clear in
       let kept = cleared_kept g a in
       let same : (context g k).clear ≡ a = ap (λ (c : Context). c.clear) (get_or-set_same w.contexts k (record (context w k) { standing = Gone }) no_context calling.within) in
-      let ended : ended_with code (cleared g a).ended ≡ ended_by g (argument (context w k).core 0 % 256) =
+      let ended : ended_with code (cleared g a).ended ≡ ended_by g (call_argument (context w k).core 0 % 256) =
       ap (λ (e : Option Ended). ended_with code e) (kept.1 ∙ none) ∙ by in
       made_by leaves h new end (leave_made w k) (λ input. refl)
       (counted
@@ -193,7 +193,7 @@ module _ (h : WorldHeld) (calling : IsCalling h) where
   told_calling one is = subst (λ (x : WorldHeld). IsCalling x) (sym is) (record { going = calling.going; room = calling.room; within = calling.within; ready = calling.ready })
 
   pub made_start : (id flags stack tls clear : ℕ) (one two new : WorldHeld) (c : Context) → id ≡ thread_id (length h.world.contexts)
-      → flags ≡ argument (context h.world h.world.last).core 0 → stack ≡ argument (context h.world h.world.last).core 1 → tls ≡ argument (context h.world h.world.last).core 3 → clear ≡ argument (context h.world h.world.last).core 4
+      → flags ≡ call_argument (context h.world h.world.last).core 0 → stack ≡ call_argument (context h.world h.world.last).core 1 → tls ≡ call_argument (context h.world h.world.last).core 3 → clear ≡ call_argument (context h.world h.world.last).core 4
       → one ≡ record h { world = parent_told h.world (context h.world h.world.last).core } → two ≡ record one { world = answered one.world one.world.last id }
       → c ≡ started_context (context two.world two.world.last) flags stack tls clear → new ≡ record two { world = with_started two.world c }
       → IsMade starts h new Going
@@ -209,9 +209,9 @@ module _ (h : WorldHeld) (calling : IsCalling h) where
       ∙ ap (λ (x : WorldHeld). started_context (context x.world x.world.last) flags stack tls clear) two_is
       ∙ started_is w k (thread_id (length w.contexts)) calling.within flags stack tls clear
       ∙ ap (λ (n : ℕ). started_by w caller n stack tls clear) f
-      ∙ ap (λ (n : ℕ). started_by w caller (argument caller.core 0) n tls clear) s
-      ∙ ap (λ (n : ℕ). started_by w caller (argument caller.core 0) (argument caller.core 1) n clear) t
-      ∙ ap (λ (n : ℕ). started_by w caller (argument caller.core 0) (argument caller.core 1) (argument caller.core 3) n) a in
+      ∙ ap (λ (n : ℕ). started_by w caller (call_argument caller.core 0) n tls clear) s
+      ∙ ap (λ (n : ℕ). started_by w caller (call_argument caller.core 0) (call_argument caller.core 1) n clear) t
+      ∙ ap (λ (n : ℕ). started_by w caller (call_argument caller.core 0) (call_argument caller.core 1) (call_argument caller.core 3) n) a in
       made_by starts h new Going (start_made w k) (λ input. refl)
       (add
       ∙ ap (λ (x : WorldHeld). record x { world = with_started x.world c }) two_is
@@ -230,16 +230,16 @@ other : {A : Type 0} (b : Bool) (x y : A) → b ≡ false → (if b then x else 
 other {A} b x y h = ap (λ (c : Bool). if c then x else y) h
 
 module _ (c : Core) (w : World) where
-  pub starting_unknown : are_unknown (argument c 0) ≡ true → starting c w ≡ fails EINVAL
+  pub starting_unknown : are_unknown (call_argument c 0) ≡ true → starting c w ≡ fails EINVAL
   starting_unknown h = chosen _ _ _ h
 
-  pub starting_full : are_unknown (argument c 0) ≡ false → 64 ≤ length w.contexts → starting c w ≡ fails EAGAIN
+  pub starting_full : are_unknown (call_argument c 0) ≡ false → 64 ≤ length w.contexts → starting c w ≡ fails EAGAIN
   starting_full h full = other _ _ _ h ∙ chosen _ _ _ (le-leb 64 (length w.contexts) full)
 
-  pub starting_refused : are_unknown (argument c 0) ≡ false → length w.contexts < 64 → is_parent_refused c w ≡ true → starting c w ≡ fails EFAULT
+  pub starting_refused : are_unknown (call_argument c 0) ≡ false → length w.contexts < 64 → is_parent_refused c w ≡ true → starting c w ≡ fails EFAULT
   starting_refused h room refused_so = other _ _ _ h ∙ other _ _ _ (lt-leb 64 (length w.contexts) room) ∙ chosen _ _ _ refused_so
 
-  pub starting_starts : are_unknown (argument c 0) ≡ false → length w.contexts < 64 → is_parent_refused c w ≡ false → starting c w ≡ starts
+  pub starting_starts : are_unknown (call_argument c 0) ≡ false → length w.contexts < 64 → is_parent_refused c w ≡ false → starting c w ≡ starts
   starting_starts h room told = other _ _ _ h ∙ other _ _ _ (lt-leb 64 (length w.contexts) room) ∙ other _ _ _ told
 
 -- the action of a call by its name
@@ -264,30 +264,30 @@ is_no_other : (a b : ℕ) → a ≡ b → not (nat_eq a b) ≡ false
 is_no_other a b h = ap not (eq-eqb a b h)
 
 module _ (c : Core) (m : Memory) where
-  pub futex_unknown : 1 < operation (argument c 1) → futex c m ≡ fails ENOSYS
-  futex_unknown h = chosen _ _ _ (many (operation (argument c 1)) h)
+  pub futex_unknown : 1 < operation (call_argument c 1) → futex c m ≡ fails ENOSYS
+  futex_unknown h = chosen _ _ _ (many (operation (call_argument c 1)) h)
 
-  pub futex_unaligned : operation (argument c 1) ≤ 1 → (argument c 0 % 4 ≡ 0 → ⊥) → futex c m ≡ fails EINVAL
-  futex_unaligned h off = other _ _ _ (few (operation (argument c 1)) h) ∙ chosen _ _ _ (is_not (argument c 0 % 4) 0 off)
+  pub futex_unaligned : operation (call_argument c 1) ≤ 1 → (call_argument c 0 % 4 ≡ 0 → ⊥) → futex c m ≡ fails EINVAL
+  futex_unaligned h off = other _ _ _ (few (operation (call_argument c 1)) h) ∙ chosen _ _ _ (is_not (call_argument c 0 % 4) 0 off)
 
-  pub futex_waits : operation (argument c 1) ≡ 0 → argument c 0 % 4 ≡ 0 → futex c m ≡ waiting c m
+  pub futex_waits : operation (call_argument c 1) ≡ 0 → call_argument c 0 % 4 ≡ 0 → futex c m ≡ waiting c m
   futex_waits h on =
-      other _ _ _ (few (operation (argument c 1)) (omega (arith, h))) ∙ other _ _ _ (is_no_other (argument c 0 % 4) 0 on)
-      ∙ chosen _ _ _ (eq-eqb (operation (argument c 1)) 0 h)
+      other _ _ _ (few (operation (call_argument c 1)) (omega (arith, h))) ∙ other _ _ _ (is_no_other (call_argument c 0 % 4) 0 on)
+      ∙ chosen _ _ _ (eq-eqb (operation (call_argument c 1)) 0 h)
 
-  pub futex_wakes : operation (argument c 1) ≤ 1 → (operation (argument c 1) ≡ 0 → ⊥) → argument c 0 % 4 ≡ 0 → futex c m ≡ wakes (argument c 0) (argument c 2 % 2 ^ 32)
+  pub futex_wakes : operation (call_argument c 1) ≤ 1 → (operation (call_argument c 1) ≡ 0 → ⊥) → call_argument c 0 % 4 ≡ 0 → futex c m ≡ wakes (call_argument c 0) (call_argument c 2 % 2 ^ 32)
   futex_wakes h some on =
-      other _ _ _ (few (operation (argument c 1)) h) ∙ other _ _ _ (is_no_other (argument c 0 % 4) 0 on)
-      ∙ other _ _ _ (ne_eqb (operation (argument c 1)) 0 some)
+      other _ _ _ (few (operation (call_argument c 1)) h) ∙ other _ _ _ (is_no_other (call_argument c 0 % 4) 0 on)
+      ∙ other _ _ _ (ne_eqb (operation (call_argument c 1)) 0 some)
 
-  pub waiting_refused : is_some (refused m (argument c 0) 4 ToRead) ≡ true → waiting c m ≡ fails EFAULT
+  pub waiting_refused : is_some (refused m (call_argument c 0) 4 ToRead) ≡ true → waiting c m ≡ fails EFAULT
   waiting_refused h = chosen _ _ _ h
 
-  pub waiting_timed : is_some (refused m (argument c 0) 4 ToRead) ≡ false → (argument c 3 ≡ 0 → ⊥) → waiting c m ≡ fails ENOSYS
-  waiting_timed h some = other _ _ _ h ∙ chosen _ _ _ (is_not (argument c 3) 0 some)
+  pub waiting_timed : is_some (refused m (call_argument c 0) 4 ToRead) ≡ false → (call_argument c 3 ≡ 0 → ⊥) → waiting c m ≡ fails ENOSYS
+  waiting_timed h some = other _ _ _ h ∙ chosen _ _ _ (is_not (call_argument c 3) 0 some)
 
-  pub waiting_changed : is_some (refused m (argument c 0) 4 ToRead) ≡ false → argument c 3 ≡ 0 → (value m (argument c 0) 4 ≡ argument c 2 % 2 ^ 32 → ⊥) → waiting c m ≡ fails EAGAIN
-  waiting_changed h none differs = other _ _ _ h ∙ other _ _ _ (is_no_other (argument c 3) 0 none) ∙ chosen _ _ _ (is_not _ _ differs)
+  pub waiting_changed : is_some (refused m (call_argument c 0) 4 ToRead) ≡ false → call_argument c 3 ≡ 0 → (value m (call_argument c 0) 4 ≡ call_argument c 2 % 2 ^ 32 → ⊥) → waiting c m ≡ fails EAGAIN
+  waiting_changed h none differs = other _ _ _ h ∙ other _ _ _ (is_no_other (call_argument c 3) 0 none) ∙ chosen _ _ _ (is_not _ _ differs)
 
-  pub waiting_waits : is_some (refused m (argument c 0) 4 ToRead) ≡ false → argument c 3 ≡ 0 → value m (argument c 0) 4 ≡ argument c 2 % 2 ^ 32 → waiting c m ≡ waits (argument c 0)
-  waiting_waits h none same = other _ _ _ h ∙ other _ _ _ (is_no_other (argument c 3) 0 none) ∙ other _ _ _ (is_no_other _ _ same)
+  pub waiting_waits : is_some (refused m (call_argument c 0) 4 ToRead) ≡ false → call_argument c 3 ≡ 0 → value m (call_argument c 0) 4 ≡ call_argument c 2 % 2 ^ 32 → waiting c m ≡ waits (call_argument c 0)
+  waiting_waits h none same = other _ _ _ h ∙ other _ _ _ (is_no_other (call_argument c 3) 0 none) ∙ other _ _ _ (is_no_other _ _ same)

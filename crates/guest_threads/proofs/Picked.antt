@@ -4,7 +4,7 @@ use Rattle.std.specs.List.{All, list_all, list_any}
 use Rattle.std.proofs.lemmas.Bool.{eq-eqb, false_from_ne_true, ne_eqb, or_right}
 use Rattle.std.proofs.lemmas.List.Folds.{list_any_at}
 use Rattle.emu_model.specs.State.{Parts}
-use Rattle.emu_run.specs.declared.thread.Place.{Place}
+use Rattle.emu_run.specs.declared.thread.SchedulePlace.{SchedulePlace}
 use Rattle.emu_run.specs.declared.thread.Standing.{Standing}
 use Rattle.emu_run.specs.declared.thread.Standing.TheVariants.{Ready, Waiting, Gone}
 use Rattle.emu_model.specs.declared.trap.Ended.{Ended}
@@ -34,7 +34,7 @@ ready_here m last cs k within h = record {
 pub some_by : (w : World) (k : ℕ) → IsReadyAt w k → some_ready w ≡ true
 some_by w k at = list_any_at is_ready w.contexts k no_context at.within (ap is_standing_ready at.ready)
 
-pub picked_held : (w : World) (schedule : List (ℕ × ℕ)) (p : Place) → IsPlace w schedule p → (p.used ≡ 0 → ⊥) → IsPicked w schedule p p.held
+pub picked_held : (w : World) (schedule : List (ℕ × ℕ)) (p : SchedulePlace) → IsPlace w schedule p → (p.used ≡ 0 → ⊥) → IsPicked w schedule p p.held
 picked_held w schedule p placed used =
     let off : nat_eq p.used 0 ≡ false = ne_eqb p.used 0 used in
     record {
@@ -48,7 +48,7 @@ pub picked_none : (m : Parts) (last : ℕ) (cs : List Context) (numbers : List �
 picked_none m last cs numbers some none = some_ready_same m last cs ∙ false_from_ne_true (list_any is_ready cs) (λ h. let e = some h in omega (arith, e, none))
 
 -- the one at a place
-pub picked_at : (m : Parts) (last : ℕ) (cs : List Context) (schedule : List (ℕ × ℕ)) (p : Place) (numbers : List ℕ) (at k : ℕ) → numbers ≡ ready_among cs → All (IsReadyIn cs) numbers
+pub picked_at : (m : Parts) (last : ℕ) (cs : List Context) (schedule : List (ℕ × ℕ)) (p : SchedulePlace) (numbers : List ℕ) (at k : ℕ) → numbers ≡ ready_among cs → All (IsReadyIn cs) numbers
     → p.used ≡ 0 → p.turn < length schedule → at ≡ (get_or schedule p.turn (0, 0)).0 % length numbers → at < length numbers → k ≡ get_or numbers at 0 → IsPicked (world_of m last cs) schedule p k
 picked_at m last cs schedule p numbers at k are each used within is_at below here =
     let w : World = world_of m last cs in
@@ -76,11 +76,11 @@ stuck_of w none h = sym (ap (λ (e : Option Ended). world_end (ending w e)) none
 
 -- ---- the place behind a step
 
-abbrev pub place_at : ℕ → ℕ → ℕ → Place
+abbrev pub place_at : ℕ → ℕ → ℕ → SchedulePlace
 place_at turn used held = record { turn = turn; used = used; held = held }
 
 -- whether the turn is over
-pub is_over_by : (w : World) (schedule : List (ℕ × ℕ)) (p : Place) (k : ℕ) → (p.used + 1 ≡ (turn_at schedule p.turn).1) ⊎ (is_ready (context w k) ≡ false) → is_over w schedule p k ≡ true
+pub is_over_by : (w : World) (schedule : List (ℕ × ℕ)) (p : SchedulePlace) (k : ℕ) → (p.used + 1 ≡ (turn_at schedule p.turn).1) ⊎ (is_ready (context w k) ≡ false) → is_over w schedule p k ≡ true
 is_over_by w schedule p k (inl last) = ap (λ (b : Bool). b || not (is_ready (context w k))) (eq-eqb (p.used + 1) (turn_at schedule p.turn).1 last)
 is_over_by w schedule p k (inr gone) = ap (λ (b : Bool). nat_eq (p.used + 1) (turn_at schedule p.turn).1 || not b) gone ∙ or_right (nat_eq (p.used + 1) (turn_at schedule p.turn).1) true refl
 
@@ -90,13 +90,13 @@ pub over_behind : (w : World) (schedule : List (ℕ × ℕ)) (turn used k : ℕ)
 over_behind w schedule turn used k some (inl last) = inl (omega (arith, some, last))
 over_behind w schedule turn used k some (inr gone) = inr gone
 
-pub goes_over : (w : World) (schedule : List (ℕ × ℕ)) (p : Place) (k t : ℕ) → (p.used + 1 ≡ (turn_at schedule p.turn).1) ⊎ (is_ready (context w k) ≡ false) → t ≡ next_turn schedule p.turn
+pub goes_over : (w : World) (schedule : List (ℕ × ℕ)) (p : SchedulePlace) (k t : ℕ) → (p.used + 1 ≡ (turn_at schedule p.turn).1) ⊎ (is_ready (context w k) ≡ false) → t ≡ next_turn schedule p.turn
     → place_at t 0 0 ≡ next_place w schedule p k
 goes_over w schedule p k t over is =
     ap (λ (n : ℕ). place_at n 0 0) is
     ∙ sym (ap (λ (b : Bool). if b then place_at (next_turn schedule p.turn) 0 0 else place_at p.turn (p.used + 1) k) (is_over_by w schedule p k over))
 
-pub stays_on : (w : World) (schedule : List (ℕ × ℕ)) (p : Place) (k : ℕ) → (p.used + 1 ≡ (turn_at schedule p.turn).1 → ⊥) → is_ready (context w k) ≡ true
+pub stays_on : (w : World) (schedule : List (ℕ × ℕ)) (p : SchedulePlace) (k : ℕ) → (p.used + 1 ≡ (turn_at schedule p.turn).1 → ⊥) → is_ready (context w k) ≡ true
     → place_at p.turn (p.used + 1) k ≡ next_place w schedule p k
 stays_on w schedule p k more ready_so =
     let on : is_over w schedule p k ≡ false =

@@ -11,8 +11,8 @@ use Rattle.emu_model.specs.Access.{refused, value}
 use Rattle.emu_model.specs.State.{Parts}
 use Rattle.emu_run.specs.declared.insn.Insn.{Insn}
 use Rattle.emu_run.specs.declared.insn.Insn.TheVariants.{A64}
-use Rattle.emu_run.specs.Step.{accesses, decode, turn}
-use Rattle.emu_system.specs.SystemCall.{Turn, quiet}
+use Rattle.emu_run.specs.Step.{accesses, decode, step_from}
+use Rattle.emu_system.specs.SystemCall.{Stepped, quiet}
 use Rattle.emu_machine.specs.Advances.{Advances, AreAlone, AsksCall, IsAlone, IsLast, IsSpent}
 use Rattle.emu_machine.specs.declared.ends.Progress.{Progress}
 use Rattle.emu_machine.specs.declared.ends.Progress.TheVariants.{GoesOn, AtCall, Trapped as HasTrapped}
@@ -28,8 +28,8 @@ use Rattle.guest_contexts.proofs.Laid.{joined_is, laid_length, noted_is, standin
 use Rattle.emu_run.specs.declared.thread.Standing.TheVariants.{Ready}
 use Rattle.emu_run.specs.Living.{IsLiving, stays_living}
 use Rattle.emu_run.specs.ThreadCall.{action}
-use Rattle.emu_run.specs.Threads.{WorldTurn, done_by, is_svc, makes_call, one, quietly, stepped, stepped_alone, taken_apart, taken_by, with_world, with_input}
-use Rattle.emu_run.specs.Worlds.{World, Context, context, is_standing_gone, joined, no_context, others_behind, taken_by_context, without_monitors}
+use Rattle.emu_run.specs.Threads.{WorldStepped, thread_call_done, is_svc, makes_call, one, quietly, stepped, stepped_alone, taken_apart, taken_by, with_world, with_input}
+use Rattle.emu_run.specs.Worlds.{World, Context, context, is_standing_gone, parts_with, no_context, others_behind, taken_by_context, without_monitors}
 use Rattle.guest_threads.specs.Ends.{WorldHeld, has_ended, Becomes, IsKept, PutsAlways, TakesWithin}
 use Rattle.guest_threads.specs.Quiet.{AdvancesOn, AdvancesToEnd, AreQuiet, IsQuiet, TakesSteps, has_trapped}
 use Rattle.guest_threads.specs.Steps.{noted}
@@ -49,17 +49,17 @@ makes_same m = ap (λ (b : Bool). nat_eq (m.core.pc % 4) 0 && is_none (refused m
 -- ---- steps of a machine, as those of the context whose registers it has
 
 module _ (last : ℕ) (cs : List Context) (within : last < length cs) (ready : (get_or cs last no_context).standing ≡ Ready) (free : list_any has_monitor cs ≡ false) where
-  pub one_quiet : (p q : Parts) → machine.makes_call p ≡ false → ((input : List ℕ) → turn p input ≡ quiet q input) → (input : List ℕ) → one (world_of p last cs) last input ≡ quietly (world_of q last cs) input
+  pub one_quiet : (p q : Parts) → machine.makes_call p ≡ false → ((input : List ℕ) → step_from p input ≡ quiet q input) → (input : List ℕ) → one (world_of p last cs) last input ≡ quietly (world_of q last cs) input
   one_quiet p q none turns input =
       let w : World = world_of p last cs in
-      let same : joined w (context w last) ≡ p = joined_is p last cs within in
-      let calls : false ≡ makes_call (joined w (context w last)) = sym (ap (λ (m : Parts). makes_call m) same ∙ makes_same p ∙ none) in
-      let turned : turn (joined w (context w last)) input ≡ quiet q input = ap (λ (m : Parts). turn m input) same ∙ turns input in
-      let made : List Access = accesses (joined w (context w last)) in
+      let same : parts_with w (context w last) ≡ p = joined_is p last cs within in
+      let calls : false ≡ makes_call (parts_with w (context w last)) = sym (ap (λ (m : Parts). makes_call m) same ∙ makes_same p ∙ none) in
+      let turned : step_from (parts_with w (context w last)) input ≡ quiet q input = ap (λ (m : Parts). step_from m input) same ∙ turns input in
+      let made : List Access = accesses (parts_with w (context w last)) in
       let left : others_behind made last (world_of q last cs) ≡ world_of q last cs =
       sym (noted_is q last cs within made) ∙ ap (λ (l : List Context). world_of q last l) (unwatched made cs free) in
       one_alone w last false calls (λ (h : false ≡ true). cc) input
-      ∙ ap (λ (t : Turn). with_world (noted false w last) (taken_apart w last t)) turned
+      ∙ ap (λ (t : Stepped). with_world (noted false w last) (taken_apart w last t)) turned
       ∙ ap (λ (v : World). quietly (noted false w last v) input) (sym (stepped_is p last cs within q (standing_is p last cs within ∙ ready)))
       ∙ ap (λ (v : World). quietly (taken_by_context last v) input) left
 
@@ -197,7 +197,7 @@ module _ (k : ℕ) (w : World) where
   -- and so the first one is any step
   module _ (until : ℕ) (v q : World) (brought : v ≡ taken_by_context k w) (below : w.steps < until) (end : StepEnd) (told left ho hn eo en : Option (List ℕ)) where
     same_step : (bytes : List ℕ) → stepped (with_input v bytes) k ≡ stepped (with_input w bytes) k
-    same_step bytes = ap (λ (x : World). stepped (with_input x bytes) k) brought ∙ ap (λ (t : WorldTurn). taken_by (with_input w bytes) t) (one_last w k bytes)
+    same_step bytes = ap (λ (x : World). stepped (with_input x bytes) k) brought ∙ ap (λ (t : WorldStepped). taken_by (with_input w bytes) t) (one_last w k bytes)
 
     pub takes_one : Becomes (λ st. stepped st k) v q told left (is_undone end) → TakesWithin (λ st. stepped st k) v told left (is_undone end)
         → PutsAlways (λ st. (stepped st k).output) v ho hn (is_undone end) → PutsAlways (λ st. (stepped st k).errors) v eo en (is_undone end)
@@ -251,13 +251,13 @@ module _ (h : WorldHeld) (k until : ℕ) (b x : WorldHeld) (r : Bool) (is : b �
 -- the context of the last step
 one_is_last : (w : World) (k : ℕ) (input : List ℕ) → (one w k input).world.last ≡ k
 one_is_last w k input =
-    elim (makes_call (joined w (context w k))) as (λ b. (if b then with_world (λ v. taken_by_context k (without_monitors v)) (done_by (action w k) w k input) else with_world (λ v. taken_by_context k (others_behind (accesses (joined w (context w k))) k v)) (stepped_alone w k input)).world.last ≡ k) [
+    elim (makes_call (parts_with w (context w k))) as (λ b. (if b then with_world (λ v. taken_by_context k (without_monitors v)) (thread_call_done (action w k) w k input) else with_world (λ v. taken_by_context k (others_behind (accesses (parts_with w (context w k))) k v)) (stepped_alone w k input)).world.last ≡ k) [
       | true ↦ refl
       | false ↦ refl
     ]
 
 quietly_last : (w v : World) (k : ℕ) → ((input : List ℕ) → one w k input ≡ quietly v input) → v.last ≡ k
-quietly_last w v k is = sym (ap (λ (t : WorldTurn). t.world.last) (is [])) ∙ one_is_last w k []
+quietly_last w v k is = sym (ap (λ (t : WorldStepped). t.world.last) (is [])) ∙ one_is_last w k []
 
 pub quiet_last : (n k : ℕ) (w v : World) → AreQuiet n k w v → w.last ≡ k → v.last ≡ k
 quiet_last zero k w v same last = ap (λ (x : World). x.last) same ∙ last

@@ -6,7 +6,7 @@ use Rattle.emu_machine.specs.declared.ends.StepEnd.{StepEnd}
 use Rattle.emu_machine.specs.declared.ends.StepEnd.TheVariants.{Going, Exit as StepExit, Trap as StepTrap, ReadFault, WriteFault, ErrorsFault}
 use Rattle.emu_machine.specs.Ends.{step_end, is_undone}
 use Rattle.io_gate.specs.Streams.{Causes, Rose}
-use Rattle.emu_run.specs.declared.thread.Place.{Place}
+use Rattle.emu_run.specs.declared.thread.SchedulePlace.{SchedulePlace}
 use Rattle.emu_run.specs.declared.thread.WorldEnding.TheVariants.{Spent as IsSpent, Stuck as IsStuck}
 use Rattle.emu_run.specs.Living.{IsLiving, some_waits}
 use Rattle.emu_run.specs.Worlds.{World, some_ready}
@@ -57,11 +57,11 @@ pub stepped_moving : (k : ℕ) → Moving (λ st. stepped st k)
 stepped_moving k st = stepped_moves st k
 
 -- what remains of a run ends as the whole does
-abbrev pub LeadsRun : List (ℕ × ℕ) → ℕ → Place → World → World → Option (List ℕ) → Option (List ℕ) → Option (List ℕ) → Option (List ℕ) → Option (List ℕ) → Option (List ℕ) → Type 0
+abbrev pub LeadsRun : List (ℕ × ℕ) → ℕ → SchedulePlace → World → World → Option (List ℕ) → Option (List ℕ) → Option (List ℕ) → Option (List ℕ) → Option (List ℕ) → Option (List ℕ) → Type 0
 LeadsRun schedule budget place old now told left held_old held_now errs_old errs_now =
     Leads (λ s. threads schedule budget s) (λ s. rest_of schedule budget place s) old now told left held_old held_now errs_old errs_now
 
-module _ (schedule : List (ℕ × ℕ)) (budget : ℕ) (place : Place) where
+module _ (schedule : List (ℕ × ℕ)) (budget : ℕ) (place : SchedulePlace) where
   rest_blind : Blind (λ s. rest_of schedule budget place s)
   rest_blind o e st = rest_behind schedule budget place o e st
 
@@ -69,14 +69,14 @@ module _ (schedule : List (ℕ × ℕ)) (budget : ℕ) (place : Place) where
   rest_moving st = from_moves schedule (budget - st.world.steps) place st
 
 -- what remains of a run, by a step that counts
-pub one_on : (schedule : List (ℕ × ℕ)) (budget : ℕ) (place : Place) (p q : World) (k : ℕ) (input : List ℕ) → goes_on p ≡ true → p.steps < budget → k ≡ pick p schedule place → q.steps ≡ p.steps + 1
+pub one_on : (schedule : List (ℕ × ℕ)) (budget : ℕ) (place : SchedulePlace) (p q : World) (k : ℕ) (input : List ℕ) → goes_on p ≡ true → p.steps < budget → k ≡ pick p schedule place → q.steps ≡ p.steps + 1
     → q ≡ (stepped (with_input p input) k).world → rest_of schedule budget place (with_input p input) ≡ rest_of schedule budget (next_place q schedule place k) (stepped (with_input p input) k)
 one_on schedule budget place p q k input going below picked counted is =
     subst (λ (n : ℕ). (q ≡ (stepped (with_input p input) n).world → rest_of schedule budget place (with_input p input) ≡ rest_of schedule budget (next_place q schedule place n) (stepped (with_input p input) n))) (sym picked)
     (λ same. rest_on schedule budget place (with_input p input) going below (ap (λ (w : World). w.steps) (sym same) ∙ counted)
     ∙ ap (λ (w : World). rest_of schedule budget (next_place w schedule place (pick p schedule place)) (stepped (with_input p input) (pick p schedule place))) (sym same)) is
 
-module _ (schedule : List (ℕ × ℕ)) (budget : ℕ) (place : Place) (old p q : World) (told left_p left_q ho hp hq eo ep eq : Option (List ℕ)) (led : LeadsRun schedule budget place old p told left_p ho hp eo ep) (going : goes_on p ≡ true) (below : p.steps < budget) (k : ℕ) (picked : k ≡ pick p schedule place) where
+module _ (schedule : List (ℕ × ℕ)) (budget : ℕ) (place : SchedulePlace) (old p q : World) (told left_p left_q ho hp hq eo ep eq : Option (List ℕ)) (led : LeadsRun schedule budget place old p told left_p ho hp eo ep) (going : goes_on p ≡ true) (below : p.steps < budget) (k : ℕ) (picked : k ≡ pick p schedule place) where
   -- the step counted
   pub run_counts : q.steps ≡ p.steps + 1 → Ran (λ st. stepped st k) p q left_p left_q hp hq ep eq false → LeadsRun schedule budget (next_place q schedule place k) old q told left_q ho hq eo eq
   run_counts counted r =
@@ -111,7 +111,7 @@ module _ (schedule : List (ℕ × ℕ)) (budget : ℕ) (place : Place) (old p q 
   run_stops true r over = run_breaks r
 
 -- nothing remains: the budget is spent, or the world doesn't go on
-module _ (schedule : List (ℕ × ℕ)) (budget : ℕ) (place : Place) (old p : World) (told left ho hp eo ep : Option (List ℕ)) (led : LeadsRun schedule budget place old p told left ho hp eo ep) where
+module _ (schedule : List (ℕ × ℕ)) (budget : ℕ) (place : SchedulePlace) (old p : World) (told left ho hp eo ep : Option (List ℕ)) (led : LeadsRun schedule budget place old p told left ho hp eo ep) where
   remains_none : ((input : List ℕ) → rest_of schedule budget place (with_input p input) ≡ with_input p input) → Ran (λ s. threads schedule budget s) old p told left ho hp eo ep false
   remains_none none =
       ran_of (λ s. threads schedule budget s) old p told left ho hp eo ep false

@@ -1,7 +1,7 @@
 -- A run of a world, step after step: with any budget that isn't counted yet, what remains leaves the world and the input that the
 -- whole leaves.
 use Rattle.std.proofs.Common.{◌≡◌, ◌≤◌, ℕ, ◌+◌, Bool, true, false, List, Option, Some, None, IfSome, refl, sym, ap, subst, ◌∙◌, arith}
-use Rattle.emu_run.specs.declared.thread.Place.{Place}
+use Rattle.emu_run.specs.declared.thread.SchedulePlace.{SchedulePlace}
 use Rattle.emu_run.specs.Worlds.{World}
 use Rattle.emu_run.specs.Threads.{WorldState, first_place, goes_on, next_place, pick, stepped, threads, with_input}
 use Rattle.emu_run.specs.ThreadLaws.{rest_behind, rest_of, rest_spent}
@@ -14,17 +14,17 @@ abbrev seen : WorldState → World × List ℕ
 seen s = (s.world, s.input)
 
 module _ (schedule : List (ℕ × ℕ)) where
-  abbrev pub StandsAt : World → List ℕ → Place → World → List ℕ → Type 0
+  abbrev pub StandsAt : World → List ℕ → SchedulePlace → World → List ℕ → Type 0
   StandsAt old bytes place now input = (b : ℕ) → now.steps ≤ b → seen (threads schedule b (with_input old bytes)) ≡ seen (rest_of schedule b place (with_input now input))
 
-  abbrev pub Stands : World → Option (List ℕ) → Place → World → Option (List ℕ) → Type 0
+  abbrev pub Stands : World → Option (List ℕ) → SchedulePlace → World → Option (List ℕ) → Type 0
   Stands old told place now left = IfSome told (λ bytes. IfSome left (λ input. StandsAt old bytes place now input))
 
   pub stands_start : (old : World) (told : Option (List ℕ)) → Stands old told first_place old told
   stands_start old None = tt
   stands_start old (Some bytes) = λ b h. refl
 
-  module _ (budget : ℕ) (place : Place) (old p : World) (left_p ho hp eo ep : Option (List ℕ)) where
+  module _ (budget : ℕ) (place : SchedulePlace) (old p : World) (left_p ho hp eo ep : Option (List ℕ)) where
     abbrev LedRun : List ℕ → Type 0
     LedRun bytes = Led (λ s. threads schedule budget s) (λ s. rest_of schedule budget place s) old p bytes left_p ho hp eo ep
 
@@ -39,7 +39,7 @@ module _ (schedule : List (ℕ × ℕ)) where
     stands_on q k left_q hq eq (Some bytes) led r going picked counted stands =
         let s : WorldState = stepped (with_input p led.input) k in
         let d = (ran_at (λ st. stepped st k) p q led.input left_p left_q hp hq ep eq false led.left r).state refl in
-        let next : Place = next_place q schedule place k in
+        let next : SchedulePlace = next_place q schedule place k in
         let now : StandsAt old bytes next q s.input = λ b h.
         stands_at bytes led stands b (omega (arith, counted, h))
         ∙ ap seen (one_on schedule b place p q k led.input going (omega (arith, counted, h)) picked counted d.0)

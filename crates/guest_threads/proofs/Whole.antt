@@ -4,7 +4,7 @@ use Rattle.emu_machine.specs.declared.ends.StepEnd.{StepEnd}
 use Rattle.emu_machine.specs.declared.ends.StepEnd.TheVariants.{Going, ReadFault, WriteFault, ErrorsFault}
 use Rattle.emu_machine.proofs.Advanced.{not_both}
 use Rattle.emu_machine.proofs.Spared.{each_way, either}
-use Rattle.emu_run.specs.declared.thread.Place.{Place}
+use Rattle.emu_run.specs.declared.thread.SchedulePlace.{SchedulePlace}
 use Rattle.emu_run.specs.Threads.{first_place, threads}
 use Rattle.emu_run.specs.Worlds.{World}
 use Rattle.guest_threads.specs.declared.ends.WorldEnd.{WorldEnd}
@@ -35,7 +35,7 @@ module _ (w : World) (r : StepEnd) (other : r ≡ Going → ⊥) (x : WorldEnd) 
 
 -- ---- a run, step after step, whatever its budget
 
-abbrev pub LeadsAny : List (ℕ × ℕ) → Place → World → World → Option (List ℕ) → Option (List ℕ) → Option (List ℕ) → Option (List ℕ) → Option (List ℕ) → Option (List ℕ) → Type 0
+abbrev pub LeadsAny : List (ℕ × ℕ) → SchedulePlace → World → World → Option (List ℕ) → Option (List ℕ) → Option (List ℕ) → Option (List ℕ) → Option (List ℕ) → Option (List ℕ) → Type 0
 LeadsAny schedule place old now told left held_old held_now errs_old errs_now =
     (budget : ℕ) → now.steps ≤ budget → LeadsRun schedule budget place old now told left held_old held_now errs_old errs_now
 
@@ -44,7 +44,7 @@ module _ (schedule : List (ℕ × ℕ)) (old : World) where
   any_start told held errs budget h = leads_start (λ s. threads schedule budget s) old told held errs
 
   -- the next step left a sink as it was
-  module _ (place : Place) (p q : World) (told left ho hp eo ep : Option (List ℕ)) (any : LeadsAny schedule place old p told left ho hp eo ep) (same : q.steps ≡ p.steps) where
+  module _ (place : SchedulePlace) (p q : World) (told left ho hp eo ep : Option (List ℕ)) (any : LeadsAny schedule place old p told left ho hp eo ep) (same : q.steps ≡ p.steps) where
     there : Ran (λ s. threads schedule p.steps s) old p told left ho hp eo ep false
     there = run_spends schedule p.steps place old p told left ho hp eo ep (any p.steps (omega arith)) (omega arith)
 

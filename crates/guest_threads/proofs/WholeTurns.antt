@@ -3,7 +3,7 @@ use Rattle.std.proofs.Common.{◌≡◌, ◌<◌, ◌≤◌, inl, ℕ, zero, suc
 use Rattle.std.proofs.lemmas.Bool.{eqb-false}
 use Rattle.std.specs.List.{list_all}
 use Rattle.guest_schedule.specs.Turns.{has_steps}
-use Rattle.emu_run.specs.declared.thread.Place.{Place}
+use Rattle.emu_run.specs.declared.thread.SchedulePlace.{SchedulePlace}
 use Rattle.emu_run.specs.Threads.{next_place, next_turn, turn_at}
 use Rattle.emu_run.specs.Worlds.{World, taken_by_context}
 use Rattle.guest_threads.specs.Ends.{IsPicked}
@@ -13,15 +13,15 @@ use Rattle.guest_threads.proofs.Quiet.{before_last, from_brought, quiet_steps}
 use Rattle.guest_threads.proofs.Stood.{Stood, moved, moved_turn, moved_used, stood_on}
 
 -- a place at the beginning of a turn
-pub begins_at : (p : Place) → p.used ≡ 0 → p.held ≡ 0 → place_at p.turn 0 0 ≡ p
+pub begins_at : (p : SchedulePlace) → p.used ≡ 0 → p.held ≡ 0 → place_at p.turn 0 0 ≡ p
 begins_at p used held = ap (λ (n : ℕ). place_at p.turn n 0) (sym used) ∙ ap (λ (n : ℕ). place_at p.turn p.used n) (sym held)
 
-held_by : (t u n k : ℕ) (b : Bool) (p : Place) → p ≡ (if b then place_at t 0 0 else place_at u (n + 1) k) → p.used ≡ 0 → p.held ≡ 0
-held_by t u n k true p is used = ap (λ (x : Place). x.held) is
-held_by t u n k false p is used = let e = ap (λ (x : Place). x.used) is in absurd (omega (arith, e, used))
+held_by : (t u n k : ℕ) (b : Bool) (p : SchedulePlace) → p ≡ (if b then place_at t 0 0 else place_at u (n + 1) k) → p.used ≡ 0 → p.held ≡ 0
+held_by t u n k true p is used = ap (λ (x : SchedulePlace). x.held) is
+held_by t u n k false p is used = let e = ap (λ (x : SchedulePlace). x.used) is in absurd (omega (arith, e, used))
 
 -- and so is each place behind a step of which no step is used
-pub begins_behind : (w : World) (schedule : List (ℕ × ℕ)) (p q : Place) (k : ℕ) → q ≡ next_place w schedule p k → q.used ≡ 0 → q.held ≡ 0
+pub begins_behind : (w : World) (schedule : List (ℕ × ℕ)) (p q : SchedulePlace) (k : ℕ) → q ≡ next_place w schedule p k → q.used ≡ 0 → q.held ≡ 0
 begins_behind w schedule p q k is used = held_by (next_turn schedule p.turn) p.turn p.used k _ q is used
 
 pub next_within : (schedule : List (ℕ × ℕ)) (t : ℕ) → t < length schedule → next_turn schedule t < length schedule
@@ -39,10 +39,10 @@ turn_stays schedule turn w budget goes all within most = record { count = 0; fol
 module _ (schedule : List (ℕ × ℕ)) (turn : ℕ) (w : World) (budget until k : ℕ) (picked : IsPicked w schedule (place_at turn 0 0) k) (goes : is_none w.ended ≡ true)
     (all : list_all has_steps schedule ≡ true) (within : turn < length schedule) (is_until : until ≡ w.steps + (turn_at schedule turn).1) (most : until ≤ budget) where
   -- steps of the schedule from there
-  abbrev Comes : Place → World → Type 0
+  abbrev Comes : SchedulePlace → World → Type 0
   Comes p u = (n : ℕ) × AreFollowed n schedule (place_at turn 0 0) w p u
 
-  comes_on : (p q : Place) (x v : World) → Comes p x → IsFollowed schedule p x q v → is_none x.ended ≡ true → x.steps < budget → Comes q v
+  comes_on : (p q : SchedulePlace) (x v : World) → Comes p x → IsFollowed schedule p x q v → is_none x.ended ≡ true → x.steps < budget → Comes q v
   comes_on p q x v c f on below = (suc c.0, (p, x, (c.1, f)))
 
   -- so many steps of the turn, which isn't used up behind them
@@ -80,7 +80,7 @@ module _ (schedule : List (ℕ × ℕ)) (turn : ℕ) (w : World) (budget until k
       let so_far : AreQuiet n k w u = r.1.0 in
       let s : IsQuiet k u v = r.1.1 in
       let counted = s.counted in
-      let p : Place = moved (place_at turn 0 0) k n in
+      let p : SchedulePlace = moved (place_at turn 0 0) k n in
       let stood = in_turn n u so_far (omega (arith, counted, spent)) in
       let steps = quiet_steps n k w u so_far in
       let same : p.turn ≡ turn = moved_turn (place_at turn 0 0) k n in

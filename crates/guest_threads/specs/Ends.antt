@@ -14,9 +14,9 @@ use Rattle.emu_machine.specs.Ends.{LeftOf}
 use Rattle.linux_calls.specs.Ends.{Stores}
 use Rattle.emu_run.specs.declared.thread.WorldEnding.{WorldEnding}
 use Rattle.emu_run.specs.declared.thread.WorldEnding.TheVariants.{Exit as Exited, Trap as Trapped, Spent as IsSpent, Stuck as IsStuck}
-use Rattle.emu_run.specs.declared.thread.Place.{Place}
+use Rattle.emu_run.specs.declared.thread.SchedulePlace.{SchedulePlace}
 use Rattle.emu_run.specs.declared.thread.Standing.TheVariants.{Ready}
-use Rattle.emu_run.specs.Worlds.{World, Context, context, joined, some_ready}
+use Rattle.emu_run.specs.Worlds.{World, Context, context, parts_with, some_ready}
 use Rattle.emu_run.specs.Living.{some_waiting}
 use Rattle.emu_run.specs.Threads.{WorldState, ending, pick, turn_at, with_input}
 use Rattle.guest_threads.specs.declared.ends.WorldEnd.{WorldEnd}
@@ -74,7 +74,7 @@ is_broken_off ErrorsFault = true
 
 -- the machine of the context that took the last step
 abbrev pub last_machine : World → Parts
-last_machine w = joined w (context w w.last)
+last_machine w = parts_with w (context w w.last)
 
 -- no context is ready, and one waits
 pub record AllWait (w : World) : Type 0 where
@@ -89,13 +89,13 @@ pub record IsReadyAt (w : World) (k : ℕ) : Type 0 where
   pub ready : (context w k).standing ≡ Ready
 
 -- a turn isn't over, and where it has begun its context is ready
-pub record IsPlace (w : World) (schedule : List (ℕ × ℕ)) (p : Place) : Type 0 where
+pub record IsPlace (w : World) (schedule : List (ℕ × ℕ)) (p : SchedulePlace) : Type 0 where
   pub turn : p.turn < length schedule
   pub used : p.used < (turn_at schedule p.turn).1
   pub held : nat_eq p.used 0 ≡ false → IsReadyAt w p.held
 
 -- the context takes the next step
-pub record IsPicked (w : World) (schedule : List (ℕ × ℕ)) (p : Place) (k : ℕ) : Type 0 where
+pub record IsPicked (w : World) (schedule : List (ℕ × ℕ)) (p : SchedulePlace) (k : ℕ) : Type 0 where
   pub is : k ≡ pick w schedule p
   pub at : IsReadyAt w k
   pub some : some_ready w ≡ true
@@ -103,7 +103,7 @@ pub record IsPicked (w : World) (schedule : List (ℕ × ℕ)) (p : Place) (k : 
 -- a world whose last step, of context k, wasn't done stands before the call that it made, and the bytes that were taken are stored
 pub record IsKept (old new : World) (k : ℕ) (told left : Option (List ℕ)) : Type 0 where
   pub is : new ≡ record old { memory = new.memory; last = k }
-  pub stored : Stores (action (joined old (context old k))) old.memory new.memory told left
+  pub stored : Stores (action (parts_with old (context old k))) old.memory new.memory told left
 
 -- the same of a world that stood so, and whose context of the step is now the last
 abbrev pub IsKeptAt : WorldState → World → Option (List ℕ) → Type 0

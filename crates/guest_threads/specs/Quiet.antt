@@ -5,7 +5,7 @@ use Rattle.emu_machine.specs.declared.ends.Progress.TheVariants.{GoesOn, Trapped
 use Rattle.emu_machine.specs.declared.ends.StepEnd.{StepEnd}
 use Rattle.emu_machine.specs.declared.ends.StepEnd.TheVariants.{Going}
 use Rattle.emu_machine.specs.Ends.{is_undone, step_end}
-use Rattle.emu_run.specs.declared.thread.Place.{Place}
+use Rattle.emu_run.specs.declared.thread.SchedulePlace.{SchedulePlace}
 use Rattle.guest_contexts.specs.declared.begin.Turn.{Turn}
 use Rattle.emu_run.specs.Threads.{next_place, one, pick, quietly, stepped, turn_at}
 use Rattle.emu_run.specs.Worlds.{World}
@@ -48,7 +48,7 @@ has_trapped AtCall = false
 -- ---- steps of a schedule
 
 -- the step of a place of the schedule is quiet, and the next one is of place q
-pub record IsFollowed (schedule : List (ℕ × ℕ)) (p : Place) (w : World) (q : Place) (v : World) : Type 0 where
+pub record IsFollowed (schedule : List (ℕ × ℕ)) (p : SchedulePlace) (w : World) (q : SchedulePlace) (v : World) : Type 0 where
   pub context : ℕ
   pub picked : context ≡ pick w schedule p
   pub at : IsReadyAt w context
@@ -56,12 +56,12 @@ pub record IsFollowed (schedule : List (ℕ × ℕ)) (p : Place) (w : World) (q 
   pub next : q ≡ next_place v schedule p context
 
 -- and so do so many follow each other
-abbrev pub AreFollowed : ℕ → List (ℕ × ℕ) → Place → World → Place → World → Type 0
+abbrev pub AreFollowed : ℕ → List (ℕ × ℕ) → SchedulePlace → World → SchedulePlace → World → Type 0
 AreFollowed zero schedule p w q v = (q ≡ p) × (v ≡ w)
-AreFollowed (suc n) schedule p w q v = (o : Place) × (u : World) × (AreFollowed n schedule p w o u × IsFollowed schedule o u q v)
+AreFollowed (suc n) schedule p w q v = (o : SchedulePlace) × (u : World) × (AreFollowed n schedule p w o u × IsFollowed schedule o u q v)
 
 -- some do, and the world goes on
-pub record FollowsOn (schedule : List (ℕ × ℕ)) (budget : ℕ) (p : Place) (w : World) (q : Place) (v : World) : Type 0 where
+pub record FollowsOn (schedule : List (ℕ × ℕ)) (budget : ℕ) (p : SchedulePlace) (w : World) (q : SchedulePlace) (v : World) : Type 0 where
   pub count : ℕ
   pub followed : AreFollowed count schedule p w q v
   pub goes : is_none v.ended ≡ true
@@ -69,9 +69,9 @@ pub record FollowsOn (schedule : List (ℕ × ℕ)) (budget : ℕ) (p : Place) (
   pub placed : IsPlace v schedule q
 
 -- the one behind them ends the world
-pub record FollowsToEnd (schedule : List (ℕ × ℕ)) (budget : ℕ) (p : Place) (w v : World) : Type 0 where
+pub record FollowsToEnd (schedule : List (ℕ × ℕ)) (budget : ℕ) (p : SchedulePlace) (w v : World) : Type 0 where
   pub count : ℕ
-  pub place : Place
+  pub place : SchedulePlace
   pub at : World
   pub followed : AreFollowed count schedule p w place at
   pub context : ℕ

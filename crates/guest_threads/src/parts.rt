@@ -4,7 +4,7 @@ ghost use Rattle.std.specs.Prelude.{◌≡◌, ◌<◌, ◌≤◌, ◌+◌, ◌-
 ghost use Rattle.emu_machine.specs.Contexts.{ended_with};
 ghost use Rattle.emu_model.specs.Access.{refused, value};
 ghost use Rattle.emu_model.specs.LoadsAndStores.{after_store};
-ghost use Rattle.emu_system.specs.SystemCall.{argument as argument_of};
+ghost use Rattle.emu_system.specs.SystemCall.{call_argument as argument_of};
 ghost use Rattle.guest_threads.specs.Calls.{IsCalling};
 ghost use Rattle.guest_threads.specs.Started.{started_context};
 ghost use Rattle.emu_run.specs.ThreadCall as model;

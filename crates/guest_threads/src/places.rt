@@ -6,12 +6,17 @@ ghost use Rattle.emu_run.specs.Threads as model;
 ghost use Rattle.emu_run.specs.Worlds as worlds;
 
 use crate::held::Held;
-use emu_run::Place;
+use emu_run::SchedulePlace;
 use guest_contexts::{next_turn, place_among};
 
 /// The number of steps that are counted in all when the turn of a place, or the budget, is used up.
 #[inline(always)]
-pub(crate) fn turn_until(turns: &[(u64, u64)], place: &Place, steps: u64, budget: u64) -> u64
+pub(crate) fn turn_until(
+    turns: &[(u64, u64)],
+    place: &SchedulePlace,
+    steps: u64,
+    budget: u64,
+) -> u64
     requires turn { place.now.turn < length turns.now }
     requires used { place.now.used < (model.turn_at turns.now place.now.turn).1 }
     requires below { steps < budget }
@@ -40,7 +45,7 @@ pub(crate) fn used_behind(used: u64, before: u64, after: u64) -> u64
 impl Held {
     /// The context that takes the next step. None exactly where no context is ready.
     #[inline(always)]
-    pub(crate) fn pick(&self, turns: &[(u64, u64)], place: &Place) -> Option<usize>
+    pub(crate) fn pick(&self, turns: &[(u64, u64)], place: &SchedulePlace) -> Option<usize>
         requires { IsPlace self.now.world turns.now place.now }
         ensures { MatchOption result (worlds.some_ready self.now.world ≡ false)
             (λ k. IsPicked self.now.world turns.now place.now k) }
@@ -57,7 +62,13 @@ impl Held {
 
     /// The place behind steps of a context, by which so many of its turn are used up.
     #[inline(always)]
-    pub(crate) fn next_place(&self, turns: &[(u64, u64)], turn: usize, used: u64, k: usize) -> Place
+    pub(crate) fn next_place(
+        &self,
+        turns: &[(u64, u64)],
+        turn: usize,
+        used: u64,
+        k: usize,
+    ) -> SchedulePlace
         requires turn { turn < length turns.now }
         requires some { 0 < used }
         requires most { used ≤ (model.turn_at turns.now turn).1 }
@@ -68,13 +79,13 @@ impl Held {
         ensures is_place { IsPlace self.now.world turns.now result }
     {
         if self.is_over(turns, turn, used, k) {
-            return Place {
+            return SchedulePlace {
                 turn: next_turn(turns, turn),
                 used: 0,
                 held: 0,
             };
         }
-        Place {
+        SchedulePlace {
             turn,
             used,
             held: k,

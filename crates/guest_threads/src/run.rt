@@ -24,7 +24,7 @@ use crate::held::Held;
 use crate::places::{turn_until, used_behind};
 use crate::went::Went;
 use emu_machine::{Ended, StepEnd};
-use emu_run::Place;
+use emu_run::SchedulePlace;
 use guest_contexts::{Rest, rest_of};
 use io_gate::{Sink, Source};
 
@@ -73,7 +73,7 @@ impl Held {
             → Puts (λ st. (model.threads schedule.now self.new.world.steps st).errors) self.old.world
             (I.left input.old) (E.held errors.old) (E.held errors.new) false }
     {
-        let mut place = Place {
+        let mut place = SchedulePlace {
             turn: 0,
             used: 0,
             held: 0,

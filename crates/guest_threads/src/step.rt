@@ -129,7 +129,7 @@ impl Held {
     /// Whether the next step of the context whose registers the machine has makes a call.
     fn is_calling(&mut self) -> bool
         ensures call { result
-            ≡ model.makes_call (worlds.joined self.old.world (worlds.context self.old.world self.old.world.last)) }
+            ≡ model.makes_call (worlds.parts_with self.old.world (worlds.context self.old.world self.old.world.last)) }
         ensures unchanged { self.new ≡ self.old }
     {
         makes_call(&mut self.machine)

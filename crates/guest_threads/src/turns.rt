@@ -8,7 +8,7 @@ ghost use Rattle.emu_run.specs.Worlds as worlds;
 
 use crate::held::Held;
 use emu_machine::Progress;
-use emu_run::Place;
+use emu_run::SchedulePlace;
 use guest_contexts::{Turn, next_turn, turn_end};
 
 impl Held {
@@ -19,9 +19,9 @@ impl Held {
     pub(crate) fn take_turns(
         &mut self,
         turns: &[(u64, u64)],
-        from: Place,
+        from: SchedulePlace,
         budget: u64,
-    ) -> Option<Place>
+    ) -> Option<SchedulePlace>
         requires going { has_ended self.old ≡ false }
         requires within { self.old.world.steps ≤ budget }
         requires place { IsPlace self.old.world turns.now from }
@@ -59,7 +59,7 @@ impl Held {
         self.last = turn.context;
         match progress {
             Progress::Trapped => None,
-            Progress::GoesOn => Some(Place {
+            Progress::GoesOn => Some(SchedulePlace {
                 turn: next_turn(turns, turn.place),
                 used: 0,
                 held: 0,
@@ -70,7 +70,7 @@ impl Held {
 
     /// The place of the next step, which isn't taken here, in a turn that has begun. Where none of its steps was taken
     /// the registers are again those of the context of the last one.
-    fn stop_within(&mut self, turns: &[(u64, u64)], turn: &Turn) -> Place
+    fn stop_within(&mut self, turns: &[(u64, u64)], turn: &Turn) -> SchedulePlace
         requires { StopsWithin turns.now turn.now self.old.world }
         ensures turn { result.turn ≡ turn.now.place }
         ensures used { result.used
@@ -85,7 +85,7 @@ impl Held {
         if used == 0 {
             self.bring(turn.before);
         }
-        Place {
+        SchedulePlace {
             turn: turn.place,
             used,
             held: if used == 0 { 0 } else { turn.context },

@@ -3,19 +3,20 @@ use Rattle.std.proofs.Common.{◌≡◌, ◌<◌, ◌+◌, ◌*◌, ◌/◌, ◌
 use Rattle.std.proofs.lemmas.Bool.Decides.{nat_tests}
 use Rattle.std.proofs.lemmas.List.FromFn.{fill_by_all, get_or-map-range_with_len, length-map-range_with_len}
 use Rattle.std.proofs.lemmas.Nat.{div-mul-add, mod-mul-add}
-use Rattle.lane_model.specs.Bits.{each_bit, field_bit}
+use Rattle.lane_model.specs.Bits.{field_bit}
+use Rattle.lane_model.specs.Lists.{each}
 use Rattle.lane_model.specs.WordBits.{bit_of}
 
 -- ---- bits one by one
 
-pub length-each_bit : (n : ℕ) (f : ℕ → Bool) → length (each_bit n f) ≡ n
+pub length-each_bit : (n : ℕ) (f : ℕ → Bool) → length (each n f) ≡ n
 length-each_bit n f = length-map-range_with_len f 0 n
 
-pub get_or-each_bit : (n : ℕ) (f : ℕ → Bool) (i : ℕ) (d : Bool) → i < n → get_or (each_bit n f) i d ≡ f i
+pub get_or-each_bit : (n : ℕ) (f : ℕ → Bool) (i : ℕ) (d : Bool) → i < n → get_or (each n f) i d ≡ f i
 get_or-each_bit n f i d h = get_or-map-range_with_len f 0 n i i d h (omega arith)
 
-pub each_bit_same : (n : ℕ) (f g : ℕ → Bool) → ((j : ℕ) → j < n → f j ≡ g j) → each_bit n f ≡ each_bit n g
-each_bit_same n f g h = fill_by_all g (each_bit n f) n false (length-each_bit n f) (λ k b. get_or-each_bit n f k false b ∙ h k b)
+pub each_bit_same : (n : ℕ) (f g : ℕ → Bool) → ((j : ℕ) → j < n → f j ≡ g j) → each n f ≡ each n g
+each_bit_same n f g h = fill_by_all g (each n f) n false (length-each_bit n f) (λ k b. get_or-each_bit n f k false b ∙ h k b)
 
 -- ---- fields
 

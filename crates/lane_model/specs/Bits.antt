@@ -4,16 +4,12 @@
 --
 -- A lane of e bits has the field of e / 8 bits from bit k * e / 8 on, and is set, or active, where the lowest of them
 -- is 1; the others are never looked at.
-use Rattle.std.specs.Prelude.{ℕ, ◌*◌, ◌/◌, ◌%◌, Bool, false, nat_eq, if◌then◌else◌, List, map, get_or}
-use Rattle.std.specs.List.{range_with_len}
+use Rattle.std.specs.Prelude.{ℕ, ◌*◌, ◌/◌, ◌%◌, Bool, false, nat_eq, if◌then◌else◌, List, get_or}
+use Rattle.lane_model.specs.Lists.{each}
 
 -- bit k
 abbrev pub is_set : List Bool → ℕ → Bool
 is_set p k = get_or p k false
-
--- m bits: f 0, f 1, ..
-abbrev pub each_bit : ℕ → (ℕ → Bool) → List Bool
-each_bit m f = map f (range_with_len 0 m)
 
 -- ---- lanes
 
@@ -22,8 +18,8 @@ abbrev pub lanes_of : ℕ → ℕ → ℕ
 lanes_of e m = m / (e / 8)
 
 -- lane k of e bits: ActivePredicateElement(p, k, e)
-abbrev pub lane_is_set : ℕ → List Bool → ℕ → Bool
-lane_is_set e p k = is_set p (k * (e / 8))
+abbrev pub active : ℕ → List Bool → ℕ → Bool
+active e p k = is_set p (k * (e / 8))
 
 -- bit j of fields of w bits: field k has f k as its lowest bit, and zeros above
 abbrev pub field_bit : ℕ → (ℕ → Bool) → ℕ → Bool
@@ -31,4 +27,4 @@ field_bit w f j = if nat_eq (j % w) 0 then f (j / w) else false
 
 -- m bits in fields for lanes of e bits
 abbrev pub fields : ℕ → ℕ → (ℕ → Bool) → List Bool
-fields e m f = each_bit m (field_bit (e / 8) f)
+fields e m f = each m (field_bit (e / 8) f)

@@ -1,6 +1,7 @@
 pub use Rattle.emu_bits.specs.Fields
 pub use Rattle.emu_bits.specs.Flags
 pub use Rattle.emu_bits.specs.Numbers
+pub mod Lists
 pub mod Bits
 pub mod WordBits
 pub mod Extended

@@ -5,11 +5,11 @@
 use Rattle.std.specs.Prelude.{ℕ, zero, suc, ◌+◌, ◌-◌, ◌*◌, ◌/◌, ◌%◌, Bool, true, false, nat_eq, nat_lt, if◌then◌else◌, List, [], ◌∷◌, ◌++◌, length, get_or, Option, Some, None}
 use Rattle.emu_bits.specs.Fields.{bit}
 use Rattle.lane_model.specs.FirstLast.{first_where, last_where}
-use Rattle.lane_model.specs.declared.places.Place.{Place}
-use Rattle.lane_model.specs.declared.places.Place.TheVariants.{FirstLane, SecondLane, Scalar, Zero}
+use Rattle.lane_model.specs.declared.places.LaneSource.{LaneSource}
+use Rattle.lane_model.specs.declared.places.LaneSource.TheVariants.{FirstLane, SecondLane, Scalar, Zero}
 
 -- what a place names, of two sources that are given lane by lane, of a scalar source, and of 0
-abbrev pub taken : {A : Type 0} → (ℕ → A) → (ℕ → A) → A → A → Place → A
+abbrev pub taken : {A : Type 0} → (ℕ → A) → (ℕ → A) → A → A → LaneSource → A
 taken a b scalar none (FirstLane j) = a j
 taken a b scalar none (SecondLane j) = b j
 taken a b scalar none Scalar = scalar
@@ -18,51 +18,51 @@ taken a b scalar none Zero = none
 -- ---- two sources
 
 -- lane j of the first source followed by the second
-abbrev pub joined : ℕ → ℕ → Place
-joined n j = if nat_lt j n then FirstLane j else SecondLane (j - n)
+abbrev pub concatenated : ℕ → ℕ → LaneSource
+concatenated n j = if nat_lt j n then FirstLane j else SecondLane (j - n)
 
 -- an even lane is of the first source, an odd lane of the second
-abbrev pub in_turn : ℕ → ℕ → Place
+abbrev pub in_turn : ℕ → ℕ → LaneSource
 in_turn k j = if nat_eq (k % 2) 0 then FirstLane j else SecondLane j
 
 -- lanes 2j and 2j + 1 are lane j of the first and of the second source, in zip2 from j = n / 2 on
-abbrev pub zip_place : Bool → ℕ → ℕ → Place
+abbrev pub zip_place : Bool → ℕ → ℕ → LaneSource
 zip_place second n k = in_turn k (bit second * (n / 2) + k / 2)
 
 -- lane 2k of both sources one after the other, in uzp2 lane 2k + 1
-abbrev pub uzp_place : Bool → ℕ → ℕ → Place
-uzp_place second n k = joined n (2 * k + bit second)
+abbrev pub uzp_place : Bool → ℕ → ℕ → LaneSource
+uzp_place second n k = concatenated n (2 * k + bit second)
 
 -- lanes 2j and 2j + 1 are lane 2j of the first and of the second source, in trn2 lane 2j + 1
-abbrev pub trn_place : Bool → ℕ → Place
+abbrev pub trn_place : Bool → ℕ → LaneSource
 trn_place second k = in_turn k (2 * (k / 2) + bit second)
 
 -- from lane `from` on of both sources one after the other; `from` is 0 where it is n or more
-abbrev pub ext_place : ℕ → ℕ → ℕ → Place
-ext_place from n k = joined n ((if nat_lt from n then from else 0) + k)
+abbrev pub ext_place : ℕ → ℕ → ℕ → LaneSource
+ext_place from n k = concatenated n ((if nat_lt from n then from else 0) + k)
 
 -- ---- one source
 
 -- in reverse order
-abbrev pub rev_place : ℕ → ℕ → Place
+abbrev pub rev_place : ℕ → ℕ → LaneSource
 rev_place n k = FirstLane (n - 1 - k)
 
 -- lanes move up by one, and lane 0 is the scalar
-abbrev pub insr_place : ℕ → Place
+abbrev pub insr_place : ℕ → LaneSource
 insr_place k = if nat_eq k 0 then Scalar else FirstLane (k - 1)
 
 -- lane i, and 0 where there is none
-abbrev pub indexed_place : ℕ → ℕ → Place
+abbrev pub indexed_place : ℕ → ℕ → LaneSource
 indexed_place i n = if nat_lt i n then FirstLane i else Zero
 
 -- a source of 2n lanes of half the size: its low half, or its high half
-abbrev pub half_place : Bool → ℕ → ℕ → Place
+abbrev pub half_place : Bool → ℕ → ℕ → LaneSource
 half_place high n k = FirstLane (bit high * n + k)
 
 -- ---- by active lanes, where `active k` tells whether lane k is active
 
 -- the scalar in active lanes; the others stay
-abbrev pub copy_place : (ℕ → Bool) → ℕ → Place
+abbrev pub copy_place : (ℕ → Bool) → ℕ → LaneSource
 copy_place active k = if active k then Scalar else FirstLane k
 
 -- the active lanes of n, in order
@@ -71,21 +71,21 @@ active_lanes active zero = []
 active_lanes active (suc n) = active_lanes active n ++ (if active n then n ∷ [] else [])
 
 -- the active lanes in order, and 0 behind them
-abbrev pub compact_place : (ℕ → Bool) → ℕ → ℕ → Place
+abbrev pub compact_place : (ℕ → Bool) → ℕ → ℕ → LaneSource
 compact_place active n k =
     if nat_lt k (length (active_lanes active n)) then FirstLane (get_or (active_lanes active n) k 0) else Zero
 
 -- `count` lanes from `from` on, then the second source from its lane 0 on
-abbrev pub spliced : ℕ → ℕ → ℕ → Place
+abbrev pub spliced : ℕ → ℕ → ℕ → LaneSource
 spliced from count k = if nat_lt k count then FirstLane (from + k) else SecondLane (k - count)
 
 -- from the first active lane to the last, all between, then the second source; this alone where no lane is active
-abbrev pub splice_between : Option ℕ → Option ℕ → ℕ → Place
+abbrev pub splice_between : Option ℕ → Option ℕ → ℕ → LaneSource
 splice_between (Some from) (Some to) k = spliced from (to + 1 - from) k
 splice_between (Some from) None k = SecondLane k
 splice_between None to k = SecondLane k
 
-abbrev pub splice_place : (ℕ → Bool) → ℕ → ℕ → Place
+abbrev pub splice_place : (ℕ → Bool) → ℕ → ℕ → LaneSource
 splice_place active n k = splice_between (first_where n active) (last_where n active) k
 
 -- ---- a single lane

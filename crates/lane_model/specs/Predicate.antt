@@ -9,7 +9,8 @@ use Rattle.std.specs.Prelude.{ℕ, suc, ◌+◌, Bool, true, false, not, ◌&&�
 use Rattle.std.specs.Option.{option_map_or}
 use Rattle.emu_bits.specs.declared.flags.Flags.{Flags}
 use Rattle.emu_bits.specs.Numbers.{signed, unsigned}
-use Rattle.lane_model.specs.Bits.{is_set, each_bit, lanes_of, lane_is_set, fields}
+use Rattle.lane_model.specs.Bits.{is_set, lanes_of, active, fields}
+use Rattle.lane_model.specs.Lists.{each}
 use Rattle.lane_model.specs.declared.predicates.LogicOp.{LogicOp}
 use Rattle.lane_model.specs.declared.predicates.LogicOp.TheVariants.{And, Bic, Eor, Orr, Orn, Nor, Nand, Sel}
 use Rattle.lane_model.specs.declared.predicates.WhileTest.{WhileTest}
@@ -53,7 +54,7 @@ test_flags n g a =
 
 -- PredTest(g, a, e)
 abbrev pub pred_test : ℕ → ℕ → List Bool → List Bool → Flags
-pred_test e m g a = test_flags (lanes_of e m) (lane_is_set e g) (lane_is_set e a)
+pred_test e m g a = test_flags (lanes_of e m) (active e g) (active e a)
 
 -- ---- logical operations
 
@@ -69,7 +70,7 @@ logic_bit Nand g a b = g && not (a && b)
 logic_bit Sel g a b = if g then a else b
 
 abbrev pub logic : LogicOp → ℕ → List Bool → List Bool → List Bool → List Bool
-logic op m g a b = each_bit m (λ k. logic_bit op (is_set g k) (is_set a k) (is_set b k))
+logic op m g a b = each m (λ k. logic_bit op (is_set g k) (is_set a k) (is_set b k))
 
 -- ---- breaks
 
@@ -80,27 +81,27 @@ unbroken inclusive m g a k = is_upto inclusive (first_set m (is_set g) (is_set a
 -- brka (inclusive) and brkb: the active bits up to the break are 1; inactive bits are as before (keep), or 0
 abbrev pub broken : Bool → Bool → ℕ → List Bool → List Bool → List Bool → List Bool
 broken inclusive keep m g a old =
-    each_bit m (λ k. if is_set g k then unbroken inclusive m g a k else (keep && is_set old k))
+    each m (λ k. if is_set g k then unbroken inclusive m g a k else (keep && is_set old k))
 
 -- brkpa (inclusive) and brkpb: the same with b, where a is set at the last active bit; else 0
 abbrev pub broken_pair : Bool → ℕ → List Bool → List Bool → List Bool → List Bool
 broken_pair inclusive m g a b =
-    each_bit m (λ k. last_is_set m (is_set g) (is_set a) && (is_set g k && unbroken inclusive m g b k))
+    each m (λ k. last_is_set m (is_set g) (is_set a) && (is_set g k && unbroken inclusive m g b k))
 
 -- brkn: as before, where a is set at the last active bit; else 0
 abbrev pub broken_next : ℕ → List Bool → List Bool → List Bool → List Bool
-broken_next m g a old = each_bit m (λ k. last_is_set m (is_set g) (is_set a) && is_set old k)
+broken_next m g a old = each m (λ k. last_is_set m (is_set g) (is_set a) && is_set old k)
 
 -- ---- first and next
 
 -- pfirst: as before, and the first active bit is 1
 abbrev pub with_first : ℕ → List Bool → List Bool → List Bool
-with_first m g old = each_bit m (λ k. is_at (first_where m (is_set g)) k || is_set old k)
+with_first m g old = each m (λ k. is_at (first_where m (is_set g)) k || is_set old k)
 
 -- pnext: the first active lane behind the last set lane, alone
 abbrev pub next_lane : ℕ → ℕ → List Bool → List Bool → Option ℕ
 next_lane e m g old =
-    first_where (lanes_of e m) (λ k. lane_is_set e g k && is_behind (last_where (lanes_of e m) (lane_is_set e old)) k)
+    first_where (lanes_of e m) (λ k. active e g k && is_behind (last_where (lanes_of e m) (active e old)) k)
 
 abbrev pub only_next : ℕ → ℕ → List Bool → List Bool → List Bool
 only_next e m g old = fields e m (is_at (next_lane e m g old))
@@ -124,4 +125,4 @@ while_lanes test w a b e m = fields e m (λ k. all_below (suc k) (λ j. while_ho
 
 -- cntp: how many lanes are active and set
 abbrev pub count_lanes : ℕ → ℕ → List Bool → List Bool → ℕ
-count_lanes e m g a = count_where (lanes_of e m) (λ k. lane_is_set e g k && lane_is_set e a k)
+count_lanes e m g a = count_where (lanes_of e m) (λ k. active e g k && active e a k)

@@ -6,5 +6,5 @@
 pub mod places;
 pub mod predicates;
 
-pub use places::Place;
+pub use places::LaneSource;
 pub use predicates::{LogicOp, WhileTest};

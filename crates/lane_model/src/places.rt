@@ -2,7 +2,7 @@
 
 /// What stands in a lane of a result. Lanes are of a Z register, fields of a predicate, or items of a list.
 #[derive(Clone, Copy)]
-pub enum Place {
+pub enum LaneSource {
     /// A lane of the first source.
     FirstLane(usize),
     /// A lane of the second source.

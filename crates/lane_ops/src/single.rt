@@ -13,7 +13,7 @@ use sve_insn::UnaryOp;
 pub struct Sxtb;
 
 impl LaneWise1 for Sxtb {
-    ghost entry = { λ _ e a. table.unary UnaryOp.Sxtb e a };
+    ghost entry = { λ _ e a. table.unary_lane UnaryOp.Sxtb e a };
 
     #[inline(always)]
     fn one<T: Lane>(&self, a: T) -> T {
@@ -26,7 +26,7 @@ impl LaneWise1 for Sxtb {
 pub struct Uxtb;
 
 impl LaneWise1 for Uxtb {
-    ghost entry = { λ _ e a. table.unary UnaryOp.Uxtb e a };
+    ghost entry = { λ _ e a. table.unary_lane UnaryOp.Uxtb e a };
 
     #[inline(always)]
     fn one<T: Lane>(&self, a: T) -> T {
@@ -39,7 +39,7 @@ impl LaneWise1 for Uxtb {
 pub struct Sxth;
 
 impl LaneWise1 for Sxth {
-    ghost entry = { λ _ e a. table.unary UnaryOp.Sxth e a };
+    ghost entry = { λ _ e a. table.unary_lane UnaryOp.Sxth e a };
 
     #[inline(always)]
     fn one<T: Lane>(&self, a: T) -> T {
@@ -52,7 +52,7 @@ impl LaneWise1 for Sxth {
 pub struct Uxth;
 
 impl LaneWise1 for Uxth {
-    ghost entry = { λ _ e a. table.unary UnaryOp.Uxth e a };
+    ghost entry = { λ _ e a. table.unary_lane UnaryOp.Uxth e a };
 
     #[inline(always)]
     fn one<T: Lane>(&self, a: T) -> T {
@@ -65,7 +65,7 @@ impl LaneWise1 for Uxth {
 pub struct Sxtw;
 
 impl LaneWise1 for Sxtw {
-    ghost entry = { λ _ e a. table.unary UnaryOp.Sxtw e a };
+    ghost entry = { λ _ e a. table.unary_lane UnaryOp.Sxtw e a };
 
     #[inline(always)]
     fn one<T: Lane>(&self, a: T) -> T {
@@ -78,7 +78,7 @@ impl LaneWise1 for Sxtw {
 pub struct Uxtw;
 
 impl LaneWise1 for Uxtw {
-    ghost entry = { λ _ e a. table.unary UnaryOp.Uxtw e a };
+    ghost entry = { λ _ e a. table.unary_lane UnaryOp.Uxtw e a };
 
     #[inline(always)]
     fn one<T: Lane>(&self, a: T) -> T {
@@ -91,7 +91,7 @@ impl LaneWise1 for Uxtw {
 pub struct Abs;
 
 impl LaneWise1 for Abs {
-    ghost entry = { λ _ e a. table.unary UnaryOp.Abs e a };
+    ghost entry = { λ _ e a. table.unary_lane UnaryOp.Abs e a };
 
     #[inline(always)]
     fn one<T: Lane>(&self, a: T) -> T {
@@ -104,7 +104,7 @@ impl LaneWise1 for Abs {
 pub struct Neg;
 
 impl LaneWise1 for Neg {
-    ghost entry = { λ _ e a. table.unary UnaryOp.Neg e a };
+    ghost entry = { λ _ e a. table.unary_lane UnaryOp.Neg e a };
 
     #[inline(always)]
     fn one<T: Lane>(&self, a: T) -> T {
@@ -117,7 +117,7 @@ impl LaneWise1 for Neg {
 pub struct Cls;
 
 impl LaneWise1 for Cls {
-    ghost entry = { λ _ e a. table.unary UnaryOp.Cls e a };
+    ghost entry = { λ _ e a. table.unary_lane UnaryOp.Cls e a };
 
     #[inline(always)]
     fn one<T: Lane>(&self, a: T) -> T {
@@ -130,7 +130,7 @@ impl LaneWise1 for Cls {
 pub struct Clz;
 
 impl LaneWise1 for Clz {
-    ghost entry = { λ _ e a. table.unary UnaryOp.Clz e a };
+    ghost entry = { λ _ e a. table.unary_lane UnaryOp.Clz e a };
 
     #[inline(always)]
     fn one<T: Lane>(&self, a: T) -> T {
@@ -143,7 +143,7 @@ impl LaneWise1 for Clz {
 pub struct Cnt;
 
 impl LaneWise1 for Cnt {
-    ghost entry = { λ _ e a. table.unary UnaryOp.Cnt e a };
+    ghost entry = { λ _ e a. table.unary_lane UnaryOp.Cnt e a };
 
     #[inline(always)]
     fn one<T: Lane>(&self, a: T) -> T {
@@ -156,7 +156,7 @@ impl LaneWise1 for Cnt {
 pub struct Cnot;
 
 impl LaneWise1 for Cnot {
-    ghost entry = { λ _ e a. table.unary UnaryOp.Cnot e a };
+    ghost entry = { λ _ e a. table.unary_lane UnaryOp.Cnot e a };
 
     #[inline(always)]
     fn one<T: Lane>(&self, a: T) -> T {
@@ -169,7 +169,7 @@ impl LaneWise1 for Cnot {
 pub struct Not;
 
 impl LaneWise1 for Not {
-    ghost entry = { λ _ e a. table.unary UnaryOp.Not e a };
+    ghost entry = { λ _ e a. table.unary_lane UnaryOp.Not e a };
 
     #[inline(always)]
     fn one<T: Lane>(&self, a: T) -> T {
@@ -182,7 +182,7 @@ impl LaneWise1 for Not {
 pub struct Revb;
 
 impl LaneWise1 for Revb {
-    ghost entry = { λ _ e a. table.unary UnaryOp.Revb e a };
+    ghost entry = { λ _ e a. table.unary_lane UnaryOp.Revb e a };
 
     #[inline(always)]
     fn one<T: Lane>(&self, a: T) -> T {
@@ -195,7 +195,7 @@ impl LaneWise1 for Revb {
 pub struct Revh;
 
 impl LaneWise1 for Revh {
-    ghost entry = { λ _ e a. table.unary UnaryOp.Revh e a };
+    ghost entry = { λ _ e a. table.unary_lane UnaryOp.Revh e a };
 
     #[inline(always)]
     fn one<T: Lane>(&self, a: T) -> T {
@@ -208,7 +208,7 @@ impl LaneWise1 for Revh {
 pub struct Revw;
 
 impl LaneWise1 for Revw {
-    ghost entry = { λ _ e a. table.unary UnaryOp.Revw e a };
+    ghost entry = { λ _ e a. table.unary_lane UnaryOp.Revw e a };
 
     #[inline(always)]
     fn one<T: Lane>(&self, a: T) -> T {
@@ -221,7 +221,7 @@ impl LaneWise1 for Revw {
 pub struct Rbit;
 
 impl LaneWise1 for Rbit {
-    ghost entry = { λ _ e a. table.unary UnaryOp.Rbit e a };
+    ghost entry = { λ _ e a. table.unary_lane UnaryOp.Rbit e a };
 
     #[inline(always)]
     fn one<T: Lane>(&self, a: T) -> T {

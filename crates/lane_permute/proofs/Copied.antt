@@ -3,8 +3,8 @@ use Rattle.std.proofs.Common.{◌≡◌, ◌<◌, ◌≤◌, ◌+◌, ◌-◌, �
 use Rattle.std.proofs.lemmas.Bool.Decides.{nat_tests}
 use Rattle.std.proofs.lemmas.List.{take-map, drop-map, map-append, length-map, length-take, length-drop, get_or-take, get_or-drop, get_or-append_right}
 use Rattle.std.proofs.Math.ListN.{get_or-append}
-use Rattle.lane_model.specs.declared.places.Place.TheVariants.{FirstLane, SecondLane, Scalar}
-use Rattle.lane_model.specs.Permute.{taken, joined, spliced, insr_place}
+use Rattle.lane_model.specs.declared.places.LaneSource.TheVariants.{FirstLane, SecondLane, Scalar}
+use Rattle.lane_model.specs.Permute.{taken, concatenated, spliced, insr_place}
 use Rattle.lane_permute.specs.Slices.{number_at}
 
 -- ---- numbers
@@ -52,7 +52,7 @@ module _ {T : Type 0} (f : T → ℕ) where
 
   -- as many lanes of two sources one after the other as each has
   pub window_is : (a b above out : List T) (from n : ℕ) → length a ≡ n → length b ≡ n → from ≤ n → out ≡ take n (drop from (a ++ (b ++ above)))
-      → (k : ℕ) → k < n → number_at f out k ≡ taken (number_at f a) (number_at f b) 0 0 (joined n (from + k))
+      → (k : ℕ) → k < n → number_at f out k ≡ taken (number_at f a) (number_at f b) 0 0 (concatenated n (from + k))
   window_is a b above out from n count_a count_b room is k h =
       let all : map f (a ++ (b ++ above)) ≡ map f a ++ (map f b ++ map f above)
       = map-append f a (b ++ above) ∙ ap (λ (x : List ℕ). map f a ++ x) (map-append f b above) in
@@ -92,7 +92,7 @@ module _ {T : Type 0} (f : T → ℕ) where
       ∙ ap (λ t. taken (number_at f a) (number_at f a) (f low) 0 (if t then Scalar else FirstLane (suc k - 1))) (sym test)
 
 -- from lane `from` on of both sources one after the other: a run up to the end of the first
-pub joined_run : (a b : ℕ → ℕ) (n from k : ℕ) → from ≤ n → taken a b 0 0 (spliced from (n - from) k) ≡ taken a b 0 0 (joined n (from + k))
+pub joined_run : (a b : ℕ → ℕ) (n from k : ℕ) → from ≤ n → taken a b 0 0 (spliced from (n - from) k) ≡ taken a b 0 0 (concatenated n (from + k))
 joined_run a b n from k h = by_test (nat_lt k (n - from)) (nat_lt (from + k) n) refl refl where
   by_test : (t s : Bool) → nat_lt k (n - from) ≡ t → nat_lt (from + k) n ≡ s
       → taken a b 0 0 (if t then FirstLane (from + k) else SecondLane (k - (n - from))) ≡ taken a b 0 0 (if s then FirstLane (from + k) else SecondLane (from + k - n))

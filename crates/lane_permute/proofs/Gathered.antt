@@ -3,7 +3,7 @@ use Rattle.std.proofs.Common.{◌≡◌, ◌<◌, ◌+◌, ℕ, Bool, true, fals
 use Rattle.std.proofs.lemmas.Bool.Decides.{nat_tests}
 use Rattle.std.proofs.Math.ListN.{get_or-append}
 use Rattle.std.proofs.Math.Seq.{get_or-append_seam}
-use Rattle.lane_model.specs.declared.places.Place.TheVariants.{FirstLane, Zero}
+use Rattle.lane_model.specs.declared.places.LaneSource.TheVariants.{FirstLane, Zero}
 use Rattle.lane_model.specs.Permute.{taken, active_lanes, compact_place}
 use Rattle.lane_model.proofs.ActiveLanes.{active_lanes-more}
 use Rattle.lane_permute.specs.Slices.{number_at, HasLanes}

@@ -1,8 +1,8 @@
 -- What the places of permutes of two sources name.
 use Rattle.std.proofs.Common.{◌≡◌, ◌<◌, ◌≤◌, ◌+◌, ◌-◌, ◌*◌, ◌%◌, ℕ, true, false, nat_eq, nat_lt, if◌then◌else◌, ap, ◌∙◌, arith}
 use Rattle.std.proofs.lemmas.Bool.Decides.{nat_tests}
-use Rattle.lane_model.specs.declared.places.Place.TheVariants.{FirstLane, SecondLane}
-use Rattle.lane_model.specs.Permute.{taken, in_turn, joined}
+use Rattle.lane_model.specs.declared.places.LaneSource.TheVariants.{FirstLane, SecondLane}
+use Rattle.lane_model.specs.Permute.{taken, in_turn, concatenated}
 
 module _ (a b : ℕ → ℕ) (scalar : ℕ) where
   pub turn_even : (k m : ℕ) → k % 2 ≡ 0 → taken a b scalar 0 (in_turn k m) ≡ a m
@@ -18,8 +18,8 @@ module _ (a b : ℕ → ℕ) (scalar : ℕ) where
   pub turn_second : (j m n : ℕ) → m ≡ n → taken a b scalar 0 (in_turn (2 * j + 1) m) ≡ b n
   turn_second j m n e = turn_odd (2 * j + 1) m (omega arith) ∙ ap b e
 
-  pub joined_first : (n m k : ℕ) → m < n → m ≡ k → taken a b scalar 0 (joined n m) ≡ a k
+  pub joined_first : (n m k : ℕ) → m < n → m ≡ k → taken a b scalar 0 (concatenated n m) ≡ a k
   joined_first n m k h e = let t : nat_lt m n ≡ true = grind (arith, nat_tests) in ap (λ t. taken a b scalar 0 (if t then FirstLane m else SecondLane (m - n))) t ∙ ap a e
 
-  pub joined_second : (n m k : ℕ) → n ≤ m → m - n ≡ k → taken a b scalar 0 (joined n m) ≡ b k
+  pub joined_second : (n m k : ℕ) → n ≤ m → m - n ≡ k → taken a b scalar 0 (concatenated n m) ≡ b k
   joined_second n m k h e = let t : nat_lt m n ≡ false = grind (arith, nat_tests) in ap (λ t. taken a b scalar 0 (if t then FirstLane m else SecondLane (m - n))) t ∙ ap b e

@@ -1,7 +1,7 @@
 //! Permutes that take lanes of two sources in turn, and those that take every other lane of both.
 ghost use Rattle.std.specs.Prelude.{◌≡◌, ◌≤◌, ◌%◌, ◌/◌, ◌+◌, ◌*◌, length};
 ghost use Rattle.lane_model.specs.Fields.{bit};
-ghost use Rattle.lane_model.specs.Permute.{in_turn, joined, zip_place, uzp_place, trn_place};
+ghost use Rattle.lane_model.specs.Permute.{in_turn, concatenated, zip_place, uzp_place, trn_place};
 ghost use Rattle.lane_permute.specs.Slices.{IsPermuted, number_at};
 
 use lane_pack::Lane;
@@ -88,7 +88,7 @@ fn every_other<T: Lane>(a: &[T], b: &[T], odd: usize, out: &mut [T])
     requires odd { odd ≤ 1 }
     requires first { length a.now ≡ length out.old }
     requires second { length b.now ≡ length out.old }
-    ensures { IsPermuted T.number a.now b.now 0 (λ k. joined (length out.old) (2 * k + odd)) out.new }
+    ensures { IsPermuted T.number a.now b.now 0 (λ k. concatenated (length out.old) (2 * k + odd)) out.new }
 {
     let n = out.len();
     let front = count_of(n, odd);

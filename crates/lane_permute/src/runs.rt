@@ -1,6 +1,6 @@
 //! Permutes that keep runs of lanes together.
 ghost use Rattle.std.specs.Prelude.{◌≡◌, ◌<◌, ◌≤◌, ◌+◌, ℕ, length};
-ghost use Rattle.lane_model.specs.Permute.{taken, joined, ext_place, insr_place};
+ghost use Rattle.lane_model.specs.Permute.{taken, concatenated, ext_place, insr_place};
 ghost use Rattle.lane_model.specs.Permute as model;
 ghost use Rattle.lane_permute.specs.Slices.{IsPermuted, number_at};
 
@@ -39,7 +39,7 @@ pub fn window<T: Lane, const W: usize>(a: &[T; W], b: &[T; W], from: usize) -> [
     requires few { W ≤ 16 }
     requires within { from ≤ W }
     ensures { (k : ℕ) → k < W → number_at T.number result k
-        ≡ taken (number_at T.number a.now) (number_at T.number b.now) 0 0 (joined W (from + k)) }
+        ≡ taken (number_at T.number a.now) (number_at T.number b.now) 0 0 (concatenated W (from + k)) }
 {
     let mut both = [T::from_u64(0); 32];
     let (first, rest) = both.split_at_mut(W);

@@ -6,7 +6,7 @@ use Rattle.emu_model.specs.Access.{Memory}
 use Rattle.emu_model.specs.State.{Core}
 use Rattle.emu_system.specs.declared.system_call.Errno.TheVariants.{EBADF}
 use Rattle.emu_system.specs.declared.system_call.Range.{Range}
-use Rattle.emu_system.specs.SystemCall.{Action, fails, takes, file_of, filled, total}
+use Rattle.emu_system.specs.SystemCall.{Action, fails, takes, file_of, with_ranges, total}
 use Rattle.linux_calls.specs.declared.reply.Reply.{Reply}
 use Rattle.linux_calls.specs.declared.reply.Reply.TheVariants.{Answer, Error}
 use Rattle.linux_calls.specs.Replies.{HasDone, HasTaken, replied}
@@ -27,16 +27,16 @@ taken_nothing (Answer v) a m now told left untouched is same same_stream = subst
 taken_nothing (Error e) a m now told left untouched is same same_stream = subst (λ (a : Action). HasTaken a m now told left untouched (Error e)) is (refl, same, same_stream)
 
 -- no more is stored than there is room for
-filled_all : (rs : List Range) (m : Memory) (bytes : List ℕ) → filled m rs (take (total rs) bytes) ≡ filled m rs bytes
-filled_all rs m bytes = sym (ap (λ rs. filled m rs bytes) (sym (append-nil rs)) ∙ filled_split rs [] m bytes)
+filled_all : (rs : List Range) (m : Memory) (bytes : List ℕ) → with_ranges m rs (take (total rs) bytes) ≡ with_ranges m rs bytes
+filled_all rs m bytes = sym (ap (λ rs. with_ranges m rs bytes) (sym (append-nil rs)) ∙ filled_split rs [] m bytes)
 
-pub taken_whole : {E : Type 0} (rs : List Range) (m now : Memory) (n : ℕ) (told left : Option (List ℕ)) (untouched : Type 0) → Took {E = E} (total rs) (filled m rs) now told left (Ok n) → IfSome told (λ bytes. n ≡ min (total rs) (length bytes)) → HasTaken (takes rs) m now told left untouched (Answer n)
+pub taken_whole : {E : Type 0} (rs : List Range) (m now : Memory) (n : ℕ) (told left : Option (List ℕ)) (untouched : Type 0) → Took {E = E} (total rs) (with_ranges m rs) now told left (Ok n) → IfSome told (λ bytes. n ≡ min (total rs) (length bytes)) → HasTaken (takes rs) m now told left untouched (Answer n)
 taken_whole rs m now n None left untouched t all = tt
 taken_whole rs m now n (Some bytes) left untouched t all =
     let count : t.count ≡ min (total rs) (length bytes) = sym t.answer ∙ all in (
       ap Answer all,
       t.takes.memory
-          ∙ ap (λ (l : List ℕ). filled m rs l) (t.takes.first.0 ∙ ap (λ k. take k bytes) count ∙ take_min (total rs) bytes)
+          ∙ ap (λ (l : List ℕ). with_ranges m rs l) (t.takes.first.0 ∙ ap (λ k. take k bytes) count ∙ take_min (total rs) bytes)
           ∙ filled_all rs m bytes,
       t.takes.first.1 ∙ ap (λ k. Some (drop k bytes)) count ∙ ap Some (drop_min (total rs) bytes),
     )

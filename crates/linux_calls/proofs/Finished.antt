@@ -9,7 +9,7 @@ use Rattle.emu_model.specs.Writes.{after_call}
 use Rattle.emu_system.specs.declared.system_call.CallName.{CallName}
 use Rattle.emu_system.specs.declared.system_call.Errno.{Errno}
 use Rattle.emu_system.specs.declared.system_call.Range.{Range}
-use Rattle.emu_system.specs.SystemCall.{Action, fails, answers, maps, moves_break, sets_length, takes, puts, exits, Turn, action_of, answered_core, done_by, error_answer, filled, gathered, number_of, quiet, returned_in, total}
+use Rattle.emu_system.specs.SystemCall.{Action, fails, answers, maps, moves_break, sets_length, takes, puts, exits, Stepped, action_of, answered_core, call_done, error_answer, with_ranges, range_bytes, error_number, quiet, returned_in, total}
 use Rattle.linux_calls.specs.declared.end.CallEnd.{CallEnd}
 use Rattle.linux_calls.specs.declared.end.CallEnd.TheVariants.{Returned, Exit, ReadFault, WriteFault, ErrorsFault}
 use Rattle.linux_calls.specs.declared.reply.Reply.{Reply}
@@ -74,18 +74,18 @@ module _ (c : Core) (v : Vectors) (m : Memory) (b : Break) (told ho he : Option 
       left_is = subst (λ (l : Option (List ℕ)). IfSome told (λ bytes. l ≡ Some bytes)) (sym same_left) (still_left told)
 
       -- in this length, with this answer, memory and break
-      module _ (a : Action) (bits x : ℕ) (m2 : Memory) (b2 : Break) (is : (bytes : List ℕ) → done_by a (caller c v m b) bytes ≡ quiet (returned_in bits (record (caller c v m b) { memory = m2; brk = b2 }) x) bytes)
+      module _ (a : Action) (bits x : ℕ) (m2 : Memory) (b2 : Break) (is : (bytes : List ℕ) → call_done a (caller c v m b) bytes ≡ quiet (returned_in bits (record (caller c v m b) { memory = m2; brk = b2 }) x) bytes)
           (ends : Returned ≡ end_of a) (any : (P : List ℕ → Type 0) → ((bytes : List ℕ) → P bytes) → OfInput a told P) (vectors : v' ≡ cleared bits v) (ce : c' ≡ answered_core c x) (me : m' ≡ m2) (be : b' ≡ b2) where
-        left_of : (t : Option (List ℕ)) → IfSome t (λ bytes. left ≡ Some bytes) → IfSome t (λ bytes. false ≡ false → left ≡ Some (done_by a (caller c v m b) bytes).input)
+        left_of : (t : Option (List ℕ)) → IfSome t (λ bytes. left ≡ Some bytes) → IfSome t (λ bytes. false ≡ false → left ≡ Some (call_done a (caller c v m b) bytes).input)
         left_of None h = tt
-        left_of (Some bytes) h = λ _. h ∙ ap (λ (t : Turn). Some t.input) (sym (is bytes))
+        left_of (Some bytes) h = λ _. h ∙ ap (λ (t : Stepped). Some t.input) (sym (is bytes))
 
         quietly : IsDone a old new si so se Returned
         quietly = record {
-          state = any (λ bytes. false ≡ false → behind Returned c' v' m' b' ≡ (done_by a (caller c v m b) bytes).parts) (λ bytes _. state_of bits x m2 b2 vectors ce me be ∙ ap (λ (t : Turn). t.parts) (sym (is bytes)));
+          state = any (λ bytes. false ≡ false → behind Returned c' v' m' b' ≡ (call_done a (caller c v m b) bytes).parts) (λ bytes _. state_of bits x m2 b2 vectors ce me be ∙ ap (λ (t : Stepped). t.parts) (sym (is bytes)));
           input = left_of told left_is;
-          output = λ bytes. subst (λ (t : Turn). IfSome ho (λ had. Gains false ho' had t.output)) (sym (is bytes)) (nothing_gained ho ho' false same_written);
-          errors = λ bytes. subst (λ (t : Turn). IfSome he (λ had. Gains false he' had t.errors)) (sym (is bytes)) (nothing_gained he he' false same_told);
+          output = λ bytes. subst (λ (t : Stepped). IfSome ho (λ had. Gains false ho' had t.output)) (sym (is bytes)) (nothing_gained ho ho' false same_written);
+          errors = λ bytes. subst (λ (t : Stepped). IfSome he (λ had. Gains false he' had t.errors)) (sym (is bytes)) (nothing_gained he he' false same_told);
           end = λ _. ends;
           sound = sound;
           kept = no_fault _;
@@ -105,7 +105,7 @@ module _ (c : Core) (v : Vectors) (m : Memory) (b : Break) (told ho he : Option 
         reply_of r s ce is = ce ∙ ap (λ (r : Reply). answered_core c (value_of r)) is
 
         pub done_still : (a : Action) (r : Reply) → HasDone a m b m' b' r → c' ≡ answered_core c (value_of r) → IsDone a old new si so se Returned
-        done_still (fails x) r h ce = quietly (fails x) v.bits (error_answer (number_of x)) m b (λ bytes. refl) refl (λ P f. f) vectors (reply_of r (Error x) ce h.0) h.1 h.2
+        done_still (fails x) r h ce = quietly (fails x) v.bits (error_answer (error_number x)) m b (λ bytes. refl) refl (λ P f. f) vectors (reply_of r (Error x) ce h.0) h.1 h.2
         done_still (answers x) r h ce = quietly (answers x) v.bits x m b (λ bytes. refl) refl (λ P f. f) vectors (reply_of r (Answer x) ce h.0) h.1 h.2
         done_still (maps memory x) r h ce = quietly (maps memory x) v.bits x memory b (λ bytes. refl) refl (λ P f. f) vectors (reply_of r (Answer x) ce h.0) h.1 h.2
         done_still (moves_break memory to) r h ce = quietly (moves_break memory to) v.bits to memory (record { start = b.start; now = to }) (λ bytes. refl) refl (λ P f. f) vectors (reply_of r (Answer to) ce h.0) h.1 h.2
@@ -125,12 +125,12 @@ module _ (c : Core) (v : Vectors) (m : Memory) (b : Break) (told ho he : Option 
         of_reply : (a : Action) (r : Reply) → (a ≡ replied r) × (m' ≡ m) × si → c' ≡ answered_core c (value_of r) → IsDone a old new si so se Returned
         of_reply a r h ce = done_replied (keeps h.2) same_written same_told h.2 o e vectors a r h.0 h.1 same ce
 
-        taken_state : (ranges : List Range) (r : Reply) (t : Option (List ℕ)) → IfSome t (λ bytes. (r ≡ Answer (min (total ranges) (length bytes))) × (m' ≡ filled m ranges bytes) × (left ≡ Some (drop (total ranges) bytes))) → c' ≡ answered_core c (value_of r)
-            → IfSome t (λ bytes. false ≡ false → behind Returned c' v' m' b' ≡ (done_by (takes ranges) (caller c v m b) bytes).parts)
+        taken_state : (ranges : List Range) (r : Reply) (t : Option (List ℕ)) → IfSome t (λ bytes. (r ≡ Answer (min (total ranges) (length bytes))) × (m' ≡ with_ranges m ranges bytes) × (left ≡ Some (drop (total ranges) bytes))) → c' ≡ answered_core c (value_of r)
+            → IfSome t (λ bytes. false ≡ false → behind Returned c' v' m' b' ≡ (call_done (takes ranges) (caller c v m b) bytes).parts)
         taken_state ranges r None h ce = tt
-        taken_state ranges r (Some bytes) h ce = λ _. state_of v.bits (min (total ranges) (length bytes)) (filled m ranges bytes) b vectors (ce ∙ ap (λ (r : Reply). answered_core c (value_of r)) h.0) h.1 same
+        taken_state ranges r (Some bytes) h ce = λ _. state_of v.bits (min (total ranges) (length bytes)) (with_ranges m ranges bytes) b vectors (ce ∙ ap (λ (r : Reply). answered_core c (value_of r)) h.0) h.1 same
 
-        taken_left : (ranges : List Range) (r : Reply) (t : Option (List ℕ)) → IfSome t (λ bytes. (r ≡ Answer (min (total ranges) (length bytes))) × (m' ≡ filled m ranges bytes) × (left ≡ Some (drop (total ranges) bytes)))
+        taken_left : (ranges : List Range) (r : Reply) (t : Option (List ℕ)) → IfSome t (λ bytes. (r ≡ Answer (min (total ranges) (length bytes))) × (m' ≡ with_ranges m ranges bytes) × (left ≡ Some (drop (total ranges) bytes)))
             → IfSome t (λ bytes. false ≡ false → left ≡ Some (drop (total ranges) bytes))
         taken_left ranges r None h = tt
         taken_left ranges r (Some bytes) h = λ _. h.2
@@ -170,8 +170,8 @@ module _ (c : Core) (v : Vectors) (m : Memory) (b : Break) (told ho he : Option 
         done_written (puts file ranges) r h ce = record {
           state = λ bytes _. state_of v.bits (total ranges) m b vectors (ce ∙ ap (λ (r : Reply). answered_core c (value_of r)) h.replied) stays same;
           input = put_left told (subst (λ (l : Option (List ℕ)). IfSome told (λ bytes. l ≡ Some bytes)) (sym same_left) (still_left told));
-          output = λ bytes. gained_by (nat_eq file 1) false ho ho' (gathered m ranges) so keeps_output h.output;
-          errors = λ bytes. gained_by (nat_eq file 2) false he he' (gathered m ranges) se keeps_errors h.errors;
+          output = λ bytes. gained_by (nat_eq file 1) false ho ho' (range_bytes m ranges) so keeps_output h.output;
+          errors = λ bytes. gained_by (nat_eq file 2) false he he' (range_bytes m ranges) se keeps_errors h.errors;
           end = λ _. refl;
           sound = sound;
           kept = no_fault _;
@@ -233,8 +233,8 @@ module _ (c : Core) (v : Vectors) (m : Memory) (b : Break) (told ho he : Option 
         record {
           state = λ bytes. is_broken end _ is;
           input = of_some told _ (λ bytes. is_broken end _ is);
-          output = λ bytes. by_fault (λ b. IfSome ho (λ had. Gains b ho' had (if nat_eq file 1 then gathered m ranges else []))) end is (gained_by (nat_eq file 1) true ho ho' (gathered m ranges) so keeps_output h.output);
-          errors = λ bytes. by_fault (λ b. IfSome he (λ had. Gains b he' had (if nat_eq file 2 then gathered m ranges else []))) end is (gained_by (nat_eq file 2) true he he' (gathered m ranges) se keeps_errors h.errors);
+          output = λ bytes. by_fault (λ b. IfSome ho (λ had. Gains b ho' had (if nat_eq file 1 then range_bytes m ranges else []))) end is (gained_by (nat_eq file 1) true ho ho' (range_bytes m ranges) so keeps_output h.output);
+          errors = λ bytes. by_fault (λ b. IfSome he (λ had. Gains b he' had (if nat_eq file 2 then range_bytes m ranges else []))) end is (gained_by (nat_eq file 2) true he he' (range_bytes m ranges) se keeps_errors h.errors);
           end = is_broken end _ is;
           sound = sound;
           kept = λ _. (refl, refl, refl);

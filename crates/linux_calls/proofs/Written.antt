@@ -4,7 +4,7 @@ use Rattle.emu_model.specs.Access.{Memory}
 use Rattle.emu_model.specs.State.{Core}
 use Rattle.emu_system.specs.declared.system_call.Errno.TheVariants.{EBADF}
 use Rattle.emu_system.specs.declared.system_call.Range.{Range}
-use Rattle.emu_system.specs.SystemCall.{Action, fails, puts, file_of, gathered, is_sink}
+use Rattle.emu_system.specs.SystemCall.{Action, fails, puts, file_of, range_bytes, is_sink}
 use Rattle.linux_calls.specs.declared.reply.Reply.{Reply}
 use Rattle.linux_calls.specs.declared.reply.Reply.TheVariants.{Answer, Error}
 use Rattle.emu_system.specs.Gained.{Gains}
@@ -30,6 +30,6 @@ gained_first None now bytes p = tt
 gained_first (Some had) now bytes p = put_first now had bytes p
 
 -- a sink that failed
-pub put_broken : (file to : ℕ) (ranges : List Range) (m : Memory) (held now : Option (List ℕ)) (untouched : Type 0) → nat_eq to file ≡ true → IfSome held (λ had. (n : ℕ) × (now ≡ Some (had ++ take n (gathered m ranges)))) → PutsTo file (puts to ranges) m held now untouched true
+pub put_broken : (file to : ℕ) (ranges : List Range) (m : Memory) (held now : Option (List ℕ)) (untouched : Type 0) → nat_eq to file ≡ true → IfSome held (λ had. (n : ℕ) × (now ≡ Some (had ++ take n (range_bytes m ranges)))) → PutsTo file (puts to ranges) m held now untouched true
 put_broken file to ranges m held now untouched is p =
-    subst (λ (b : Bool). MatchBool b (IfSome held (λ had. Gains true now had (gathered m ranges))) untouched) (sym is) (gained_first held now (gathered m ranges) p)
+    subst (λ (b : Bool). MatchBool b (IfSome held (λ had. Gains true now had (range_bytes m ranges))) untouched) (sym is) (gained_first held now (range_bytes m ranges) p)

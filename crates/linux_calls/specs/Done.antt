@@ -5,7 +5,7 @@ use Rattle.emu_model.specs.declared.program_break.Break.{Break}
 use Rattle.emu_model.specs.Access.{Memory}
 use Rattle.emu_model.specs.State.{Core, Vectors, Parts}
 use Rattle.emu_model.specs.SoundState.{IsSoundBreak}
-use Rattle.emu_system.specs.SystemCall.{Action, done_by}
+use Rattle.emu_system.specs.SystemCall.{Action, call_done}
 use Rattle.linux_calls.specs.declared.end.CallEnd.{CallEnd}
 use Rattle.linux_calls.specs.declared.end.CallEnd.TheVariants.{ReadFault, WriteFault, ErrorsFault}
 use Rattle.linux_calls.specs.Ends.{OfInput, Stores, behind, caller, does_put, does_take, end_of, is_fault, is_put_fault}
@@ -26,10 +26,10 @@ abbrev pub caller_of : Around → Parts
 caller_of a = caller a.core a.vectors a.memory a.brk
 
 pub record IsDone (action : Action) (old new : Around) (same_input same_output same_errors : Type 0) (call_end : CallEnd) : Type 0 where
-  pub state : OfInput action old.left (λ bytes. is_fault call_end ≡ false → behind call_end new.core new.vectors new.memory new.brk ≡ (done_by action (caller_of old) bytes).parts)
-  pub input : IfSome old.left (λ bytes. is_fault call_end ≡ false → new.left ≡ Some (done_by action (caller_of old) bytes).input)
-  pub output : (bytes : List ℕ) → IfSome old.output (λ had. Gains (is_fault call_end) new.output had (done_by action (caller_of old) bytes).output)
-  pub errors : (bytes : List ℕ) → IfSome old.errors (λ had. Gains (is_fault call_end) new.errors had (done_by action (caller_of old) bytes).errors)
+  pub state : OfInput action old.left (λ bytes. is_fault call_end ≡ false → behind call_end new.core new.vectors new.memory new.brk ≡ (call_done action (caller_of old) bytes).parts)
+  pub input : IfSome old.left (λ bytes. is_fault call_end ≡ false → new.left ≡ Some (call_done action (caller_of old) bytes).input)
+  pub output : (bytes : List ℕ) → IfSome old.output (λ had. Gains (is_fault call_end) new.output had (call_done action (caller_of old) bytes).output)
+  pub errors : (bytes : List ℕ) → IfSome old.errors (λ had. Gains (is_fault call_end) new.errors had (call_done action (caller_of old) bytes).errors)
   pub end : is_fault call_end ≡ false → call_end ≡ end_of action
   pub sound : IsSoundBreak new.brk
   pub kept : is_fault call_end ≡ true → (new.core ≡ old.core) × (new.vectors ≡ old.vectors) × (new.brk ≡ old.brk)

@@ -2,7 +2,7 @@
 use Rattle.std.specs.Prelude.{◌≡◌, ℕ, Bool, nat_eq, if◌then◌else◌, List, Option, IfSome, Result, IfOk, IfErr, is_err, MatchBool}
 use Rattle.emu_model.specs.Access.{Memory}
 use Rattle.emu_system.specs.Gained.{Gains}
-use Rattle.emu_system.specs.SystemCall.{Action, puts, gathered, total}
+use Rattle.emu_system.specs.SystemCall.{Action, puts, range_bytes, total}
 use Rattle.linux_calls.specs.declared.end.CallEnd.{CallEnd}
 use Rattle.linux_calls.specs.declared.end.CallEnd.TheVariants.{WriteFault, ErrorsFault}
 use Rattle.linux_calls.specs.declared.reply.Reply.{Reply}
@@ -11,7 +11,7 @@ use Rattle.linux_calls.specs.Replies.{replied}
 
 -- where it tells what it held, the sink of a file gained the bytes that go there; any other is as it was
 abbrev pub PutsTo : ℕ → Action → Memory → Option (List ℕ) → Option (List ℕ) → Type 0 → Bool → Type 0
-PutsTo file (puts to ranges) m held now untouched broken = MatchBool (nat_eq to file) (IfSome held (λ had. Gains broken now had (gathered m ranges))) untouched
+PutsTo file (puts to ranges) m held now untouched broken = MatchBool (nat_eq to file) (IfSome held (λ had. Gains broken now had (range_bytes m ranges))) untouched
 PutsTo file action m held now untouched broken = untouched
 
 -- the number of all bytes is answered

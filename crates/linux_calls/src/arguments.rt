@@ -10,7 +10,7 @@ use emu_system::CallName;
 /// The argument in register x0 to x7.
 pub fn argument(core: &Core, number: u32) -> u64
     requires { number < 8 }
-    ensures { result ≡ model.argument core.now number }
+    ensures { result ≡ model.call_argument core.now number }
 {
     core.x(Reg::at(number, 0))
 }

@@ -3,7 +3,7 @@ ghost use Rattle.std.specs.Prelude.{◌≡◌, ◌≤◌, min, length, not, fals
 ghost use Rattle.std.specs.List.{list_any};
 ghost use Rattle.io_gate.specs.Streams.{HasCause};
 ghost use Rattle.io_gate.specs.Pieces.{PutsAll};
-ghost use Rattle.emu_system.specs.SystemCall.{filled, gathered, is_denied, total};
+ghost use Rattle.emu_system.specs.SystemCall.{with_ranges, range_bytes, is_denied, total};
 ghost use Rattle.linux_calls.specs.Taken.{Took};
 
 use crate::ranges::{is_allowed, put_range, take_range};
@@ -30,7 +30,7 @@ pub fn are_allowed(mem: &mut Mem, ranges: &[Range], kind: Kind) -> bool
 pub fn put_ranges<S: Sink>(mem: &mut Mem, ranges: &[Range], sink: &mut S) -> Result<(), Failed>
     requires few { total ranges.now ≤ 0x7FFFF000 }
     requires readable { list_any (is_denied mem.old.memory Kind.Read) ranges.now ≡ false }
-    ensures bytes { PutsAll (S.held sink.old) (S.held sink.new) (gathered mem.old.memory ranges.now) result }
+    ensures bytes { PutsAll (S.held sink.old) (S.held sink.new) (range_bytes mem.old.memory ranges.now) result }
     ensures cause { HasCause (S.faults sink.old) (S.faults sink.new) result }
     ensures unchanged { mem.new ≡ mem.old }
 {
@@ -48,7 +48,7 @@ pub fn take_ranges<S: Source>(
 ) -> Result<u64, Failed>
     requires few { total ranges.now ≤ 0x7FFFF000 }
     requires writable { list_any (is_denied mem.old.memory Kind.Write) ranges.now ≡ false }
-    ensures took { Took (total ranges.now) (filled mem.old.memory ranges.now) mem.new.memory (S.left source.old)
+    ensures took { Took (total ranges.now) (with_ranges mem.old.memory ranges.now) mem.new.memory (S.left source.old)
         (S.left source.new) result }
     ensures all { IfOk result (λ n. IfSome (S.left source.old) (λ bytes. n ≡ min (total ranges.now) (length bytes))) }
     ensures marks { mem.new.marks ≡ mem.old.marks }

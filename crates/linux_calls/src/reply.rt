@@ -25,7 +25,7 @@ impl Reply {
 }
 
 fn number_of(error: Errno) -> u64
-    ensures { result ≡ model.number_of error }
+    ensures { result ≡ model.error_number error }
 {
     match error {
         Errno::EBADF => 9,

@@ -38,12 +38,12 @@ module _ {I : Type 0} (s : Statements I) where
       and_then (ok_or a UnknownLabel) (λ a. ok_or (option_map (λ j. little_bytes 4 (s.word j)) (s.aimed i pc a)) TooFar)
 
   -- the bytes of a piece at an address, where labels have these addresses
-  abbrev pub filled : (List ℕ → Option ℕ) → ℕ → Piece I → Result (List ℕ) ListingWhy
-  filled labels pc (bytes bs) = Ok bs
-  filled labels pc (aimed i (Address a)) = aimed_at i pc (Some a)
-  filled labels pc (aimed i (Label n)) = aimed_at i pc (labels n)
-  filled labels pc (address n) = ok_or (option_map (little_bytes 8) (labels n)) UnknownLabel
-  filled labels pc (mention n) = ok_or (option_map (λ a. []) (labels n)) UnknownLabel
+  abbrev pub piece_bytes : (List ℕ → Option ℕ) → ℕ → Piece I → Result (List ℕ) ListingWhy
+  piece_bytes labels pc (bytes bs) = Ok bs
+  piece_bytes labels pc (aimed i (Address a)) = aimed_at i pc (Some a)
+  piece_bytes labels pc (aimed i (Label n)) = aimed_at i pc (labels n)
+  piece_bytes labels pc (address n) = ok_or (option_map (little_bytes 8) (labels n)) UnknownLabel
+  piece_bytes labels pc (mention n) = ok_or (option_map (λ a. []) (labels n)) UnknownLabel
 
 -- ---- the bytes of all pieces
 
@@ -57,17 +57,17 @@ in_front section.Code bs c = record c { code = bs ++ c.code }
 in_front section.Data bs c = record c { values = bs ++ c.values }
 
 -- a piece of line n in front of others: a refusal of the first comes first
-abbrev pub joined : ℕ → Section → Result (List ℕ) ListingWhy
+abbrev pub piece_before : ℕ → Section → Result (List ℕ) ListingWhy
     → Result Contents ListingFault → Result Contents ListingFault
-joined n t (Err e) r = Err (record { line = n; why = e })
-joined n t (Ok bs) (Err e) = Err e
-joined n t (Ok bs) (Ok c) = Ok (in_front t bs c)
+piece_before n t (Err e) r = Err (record { line = n; why = e })
+piece_before n t (Ok bs) (Err e) = Err e
+piece_before n t (Ok bs) (Ok c) = Ok (in_front t bs c)
 
 module _ {I : Type 0} (s : Statements I) where
   abbrev pub contents_of : ℕ → (List ℕ → Option ℕ) → List (Placed I) → Result Contents ListingFault
   contents_of code_size labels [] = Ok (record { code = []; values = [] })
   contents_of code_size labels (p ∷ ps) =
-      joined p.line p.section (filled s labels (base code_size p.section + p.place) p.piece)
+      piece_before p.line p.section (piece_bytes s labels (base code_size p.section + p.place) p.piece)
       (contents_of code_size labels ps)
 
   -- the address of the entry, or of the first instruction where none is named

@@ -3,6 +3,7 @@ pub mod Codes
 pub mod Emptied
 pub mod Held
 pub mod Lists
+pub mod Parts
 pub mod Search
 pub mod Shared
 pub mod Marks

@@ -1,14 +1,18 @@
 -- What a list of slots stands for, by the bytes of the blocks in use, and how often blocks are named.
-use Rattle.std.specs.Prelude.{◌≡◌, ◌≤◌, ◌<◌, ◌^◌, if◌then◌else◌, ℕ, zero, suc, ◌+◌, ◌*◌, ◌==◌, Bool, true, false, ◌&&◌, not, List, [], ◌∷◌, map, length, get_or, Option, Some, None}
+use Rattle.std.specs.Prelude.{◌≡◌, ◌≤◌, ◌<◌, ◌^◌, if◌then◌else◌, ℕ, zero, suc, ◌+◌, ◌*◌, ◌==◌, Bool, true, false, ◌&&◌, not, List, [], ◌∷◌, map, length, get_or, set, Option, Some, None}
 use Rattle.std.specs.List.{sum_by, AllByRecursion}
 use Rattle.std.specs.Vec.{vec_capacity}
-use Rattle.emu_model.specs.Access.{page_size, most_mapped_pages}
+use Rattle.emu_model.specs.Access.{gives, page_size, most_mapped_pages}
 use Rattle.emu_model.specs.Pages.{zeros}
+use Rattle.emu_model.specs.declared.access.Kind.{Kind}
+use Rattle.emu_model.specs.declared.access.Kind.TheVariants.{Fetch, Read, Write}
 use Rattle.emu_model.specs.declared.access.Rights.{Rights}
 use Rattle.frame_arena.specs.Frames.{Frames, Live, bytes_of, count_of, given, shared, zeroed}
 use Rattle.page_list.specs.Bytes.{as_bytes}
-use Rattle.page_list.specs.Entries.{Entry, Listed, no_page}
+use Rattle.page_list.specs.Entries.{AtHand, Entry, Listed, is_held, line_of, lines, no_page}
 use Rattle.page_list.specs.declared.code.CodePage.{CodePage}
+use Rattle.page_list.specs.declared.hand.Hand.{Hand}
+use Rattle.page_list.specs.declared.hand.Lines.{Lines}
 use Rattle.page_list.specs.declared.slots.Slot.{Slot}
 use Rattle.page_list.specs.declared.slots.Hold.{Hold}
 use Rattle.page_list.specs.declared.slots.Hold.TheVariants.{Bare, Own, Shared}
@@ -161,8 +165,11 @@ marks_in live marks = map (mark_in live) marks
 abbrev pub marked : ℕ → List Mark → ℕ
 marked f marks = sum_by (λ (m : Mark). holders f m.slots.items) marks
 
+abbrev pub hand_of : Hand → AtHand
+hand_of h = record { code = h.code.number; reads = h.reads.value.pages; writes = h.writes.value.pages; places = h.writes.value.places }
+
 abbrev pub listed : Inside → Listed
-listed a = record { pages = entries_in a.arena.live a.slots.items; limit = a.limit; code = a.code.number; marks = marks_in a.arena.live a.marks.items; spare = a.arena.spare }
+listed a = record { pages = entries_in a.arena.live a.slots.items; limit = a.limit; hand = hand_of a.hand; marks = marks_in a.arena.live a.marks.items; spare = a.arena.spare }
 
 -- a mark has room, one that isn't set is empty, and its slots say of no block that they alone name it
 pub record IsMark (limit : ℕ) (m : Mark) : Type 0 where
@@ -177,20 +184,49 @@ pub record HasMarks (total limit : ℕ) (marks : List Mark) : Type 0 where
   pub frames : total ≡ 3 * limit
   pub few : limit ≤ most_mapped_pages
 
--- the page at place i may be fetched from, and it and its frame have these numbers
-pub record IsCodeAt (slots : List Slot) (code : CodePage) (i : ℕ) : Type 0 where
-  pub within : i < length slots
-  pub number : (slot_at slots i).number ≡ code.number
-  pub allowed : (slot_at slots i).rights.x ≡ true
-  pub frame : frame_at slots i ≡ Some code.frame
+-- a page that is held for this kind of access has a frame of its own
+abbrev pub needs_own : Kind → Bool
+needs_own Read = false
+needs_own Write = true
+needs_own Fetch = false
 
--- the page at hand, if there is one, has a place
+-- the page at place i gives the right, has this number and this frame, or none, and one that is held for writes has a frame
+-- of its own
+pub record IsHeldAt (slots : List Slot) (kind : Kind) (page : ℕ) (frame : Option ℕ) (i : ℕ) : Type 0 where
+  pub within : i < length slots
+  pub number : (slot_at slots i).number ≡ page
+  pub allowed : gives (slot_at slots i).rights kind ≡ true
+  pub frame_is : frame_at slots i ≡ frame
+  pub own : needs_own kind ≡ true → is_own (slot_at slots i) ≡ true
+
+-- the page at hand for fetches, if there is one, has a place
 abbrev pub IsCode : List Slot → CodePage → Type 0
-IsCode slots code = code.number < no_page → (i : ℕ) × IsCodeAt slots code i
+IsCode slots code = code.number < no_page → (i : ℕ) × IsHeldAt slots Fetch code.number (Some code.frame) i
+
+-- each page in the lines is at its place, but for lines that have a page of another line
+abbrev pub AreLines : List Slot → Kind → Lines → Type 0
+AreLines slots kind l = (k : ℕ) → k < lines → line_of (get_or l.pages k 0) ≡ k → IsHeldAt slots kind (get_or l.pages k 0) (get_or l.frames k None) (get_or l.places k 0)
+
+pub record AreAtHand (slots : List Slot) (hand : Hand) : Type 0 where
+  pub code : IsCode slots hand.code
+  pub reads : AreLines slots Read hand.reads.value
+  pub writes : AreLines slots Write hand.writes.value
 
 -- the page at hand where a page gets the frame f: the same page, with that frame where it is that page
 abbrev pub code_after : CodePage → Slot → ℕ → CodePage
 code_after code s f = if s.number == code.number && s.rights.x then record { number = code.number; frame = f } else code
+
+-- the lines with a page, its frame and its place in its line
+abbrev pub with_line : Lines → ℕ → Option ℕ → ℕ → Lines
+with_line l page frame place = record { pages = set l.pages (line_of page) page; frames = set l.frames (line_of page) frame; places = set l.places (line_of page) place }
+
+-- the lines with the line of a page empty
+abbrev pub without_line : Lines → ℕ → Lines
+without_line l page = record l { pages = set l.pages (line_of page) (line_of page + 1) }
+
+-- the lines where the page at a place gets the frame f: the same pages, and its line has that frame where it has the page
+abbrev pub lines_after : Lines → ℕ → ℕ → ℕ → Lines
+lines_after l page place f = if is_held l.pages page && (get_or l.places (line_of page) 0 == place) then record l { frames = set l.frames (line_of page) (Some f) } else l
 
 pub record IsKept (a : Inside) : Type 0 where
   pub counts : (f : ℕ) → count_of a.arena.live f ≡ holders f a.slots.items + marked f a.marks.items
@@ -199,6 +235,6 @@ pub record IsKept (a : Inside) : Type 0 where
   pub room : a.limit ≤ vec_capacity a.slots
   pub most : length a.slots.items ≤ a.limit
   pub narrow : a.limit < 2 ^ 32
-  pub code : IsCode a.slots.items a.code
+  pub hand : AreAtHand a.slots.items a.hand
   pub marks : AllByRecursion (IsMark a.limit) a.marks.items
   pub object : 0 < length a.marks.items → HasMarks a.arena.total a.limit a.marks.items

@@ -24,27 +24,32 @@ ghost use Rattle.std.specs.Prelude.{
   IsTrue,
 };
 ghost use Rattle.std.specs.List.{AllByRecursion, count_by};
-ghost use Rattle.emu_model.specs.Access.{page_size, most_mapped_pages};
+ghost use Rattle.emu_model.specs.Access.{gives, page_size, most_mapped_pages};
 ghost use Rattle.emu_model.specs.WithinPage.{page_with_bytes};
 ghost use Rattle.page_list.specs.Entries.{
   IsAscending,
   IsAtHand,
   IsBelow,
-  IsFetched,
   IsFrom,
+  IsGiven,
+  IsGivenAt,
   changed_at,
   entry_at,
-  no_page,
+  is_held,
+  nothing_at_hand,
   page_with_rights,
+  place_at_hand,
   zeroed_entries,
 };
 
-use crate::code::{CodePage, NO_CODE, NO_PAGE};
+use crate::code::NO_PAGE;
+use crate::hand::Hand;
 use crate::slots::{
-    Mark, Slot, clear_mark, code_of, ensure_own, fill_mark, move_back, move_to_end, own_frame,
-    page_bytes, pop_all, pop_every, push_all, share_all, told_bytes,
+    Mark, Slot, clear_mark, code_of, ensure_own, fill_mark, frame_bytes, frame_number, has_own,
+    move_back, move_to_end, own_frame, page_bytes, pop_all, pop_every, push_all, share_all,
+    told_bytes, told_frame,
 };
-use emu_model::Rights;
+use emu_model::{Kind, Rights};
 use frame_arena::{FrameArena, OutOfMemory};
 use std::alloc::Global;
 use std::marker::Model;
@@ -55,7 +60,7 @@ pub struct PageList {
     slots: Vec<Slot>,
     arena: FrameArena,
     limit: u32,
-    code: CodePage,
+    hand: Hand,
     // none, or sixteen
     marks: Vec<Mark>,
 }
@@ -80,15 +85,16 @@ impl PageList {
     /// No pages, with room for `limit` of them. No later call takes memory.
     pub fn new(alloc: Global, limit: u32) -> Result<PageList, OutOfMemory>
         ensures { IfOk result
-            (λ l. l ≡ record { pages = []; limit = limit; code = no_page; marks = []; spare = limit }) }
+            (λ l. l ≡ record { pages = []; limit = limit; hand = nothing_at_hand; marks = []; spare = limit }) }
     {
         let slots = Vec::with_capacity(alloc, limit as usize)?;
         let arena = FrameArena::new(alloc, limit)?;
+        let hand = Hand::empty(alloc)?;
         Ok(PageList {
             slots,
             arena,
             limit,
-            code: NO_CODE,
+            hand,
             marks: Vec::new(alloc),
         })
     }
@@ -143,21 +149,124 @@ impl PageList {
     pub fn is_code(&self, page: u64) -> bool
         ensures { IsTrue result ↔ IsAtHand self.now page }
     {
-        self.code.number == page && page != NO_PAGE
+        self.hand.code.number == page && page != NO_PAGE
     }
 
     /// The 4,096 bytes of a page that is at hand.
     #[inline(always)]
     pub fn code(&self, page: u64) -> &[u8]
         requires { IsAtHand self.now page }
-        ensures fetched { IsFetched self.now.pages page result.now }
+        ensures given { IsGiven self.now.pages Kind.Fetch page result.now }
         ensures length { length result.now ≡ page_size }
     {
-        told_bytes(self.arena.bytes_at(self.code.frame))
+        told_bytes(self.arena.bytes_at(self.hand.code.frame))
     }
 
-    /// Keeps the page at place `i`, which may be fetched from, at hand, where it has a frame.
-    pub fn hold_code(&mut self, i: usize)
+    /// Whether a page is at hand, to be read.
+    #[inline(always)]
+    pub fn is_read(&self, page: u64) -> bool
+        ensures { result ≡ is_held self.now.hand.reads page }
+    {
+        self.hand.reads.has(page)
+    }
+
+    /// The 4,096 bytes of a page that is at hand.
+    #[inline(always)]
+    pub fn read(&self, page: u64) -> &[u8]
+        requires { is_held self.now.hand.reads page ≡ true }
+        ensures given { IsGiven self.now.pages Kind.Read page result.now }
+        ensures length { length result.now ≡ page_size }
+    {
+        frame_bytes(&self.arena, self.hand.reads.frame(page))
+    }
+
+    /// Whether a page is at hand, to be written.
+    #[inline(always)]
+    pub fn is_written(&self, page: u64) -> bool
+        ensures held { result ≡ is_held self.now.hand.writes page }
+        ensures given { IsTrue result → IsGivenAt self.now.pages Kind.Write page (place_at_hand self.now.hand page) }
+    {
+        self.hand.writes.has(page)
+    }
+
+    /// `count` bytes of a page that is at hand, from place `at` on, for writing, and sets `spare` to the number of frames
+    /// that are spare.
+    #[inline(always)]
+    pub fn part_at_hand(&mut self, page: u64, at: usize, count: usize, spare: &mut u32) -> &mut [u8]
+        requires held { is_held self.old.hand.writes page ≡ true }
+        requires within { at + count ≤ page_size }
+        ensures* writes_back { sem 𝓛 (LendsPart self.entry spare.new (place_at_hand self.old.hand page) at result) }
+        ensures bytes { result.now
+            ≡ take count (drop at (entry_at self.old.pages (place_at_hand self.old.hand page)).1.bytes) }
+        ensures length { length result.now ≡ count }
+    {
+        let number = told_frame(self.hand.writes.frame(page));
+        // for its clause: what the frame has are bytes
+        let _bytes = told_bytes(self.arena.bytes_at(number));
+        *spare = self.arena.spare();
+        self.arena.part_at_mut(number, at, count)
+    }
+
+    /// Replaces the bytes of a page that is at hand from place `at` on.
+    #[inline(always)]
+    pub fn write_at_hand(&mut self, page: u64, at: usize, bytes: &[u8])
+        requires held { is_held self.old.hand.writes page ≡ true }
+        requires within { at + length bytes.now ≤ page_size }
+        ensures pages { self.new.pages
+            ≡ changed_at (page_with_bytes at bytes.now) (place_at_hand self.old.hand page) self.old.pages }
+        ensures limit { self.new.limit ≡ self.old.limit }
+        ensures marks { self.new.marks ≡ self.old.marks }
+    {
+        let bytes = told_bytes(bytes);
+        let mut spare = 0;
+        self.part_at_hand(page, at, bytes.len(), &mut spare)
+            .copy_from_slice(bytes);
+    }
+
+    /// Keeps the page at place `i`, which gives the right for `kind`, at hand for it. One that is fetched from is kept
+    /// where it has a frame, and one that is written where it has a frame of its own.
+    pub fn hold(&mut self, i: usize, kind: Kind)
+        requires place { i < length self.old.pages }
+        requires allowed { gives (entry_at self.old.pages i).1.rights kind ≡ true }
+        ensures pages { self.new.pages ≡ self.old.pages }
+        ensures limit { self.new.limit ≡ self.old.limit }
+        ensures marks { self.new.marks ≡ self.old.marks }
+        ensures spare { self.new.spare ≡ self.old.spare }
+    {
+        match kind {
+            Kind::Fetch => self.hold_code(i),
+            Kind::Read => self.hold_read(i),
+            Kind::Write => self.hold_write(i),
+        }
+    }
+
+    fn hold_read(&mut self, i: usize)
+        requires place { i < length self.old.pages }
+        requires allowed { (entry_at self.old.pages i).1.rights.r ≡ true }
+        ensures pages { self.new.pages ≡ self.old.pages }
+        ensures limit { self.new.limit ≡ self.old.limit }
+        ensures marks { self.new.marks ≡ self.old.marks }
+        ensures spare { self.new.spare ≡ self.old.spare }
+    {
+        let slot = &self.slots[i];
+        self.hand.reads.set(slot.number, frame_number(slot), i);
+    }
+
+    fn hold_write(&mut self, i: usize)
+        requires place { i < length self.old.pages }
+        requires allowed { (entry_at self.old.pages i).1.rights.w ≡ true }
+        ensures pages { self.new.pages ≡ self.old.pages }
+        ensures limit { self.new.limit ≡ self.old.limit }
+        ensures marks { self.new.marks ≡ self.old.marks }
+        ensures spare { self.new.spare ≡ self.old.spare }
+    {
+        if has_own(&self.slots, i) {
+            let slot = &self.slots[i];
+            self.hand.writes.set(slot.number, frame_number(slot), i);
+        }
+    }
+
+    fn hold_code(&mut self, i: usize)
         requires place { i < length self.old.pages }
         requires allowed { (entry_at self.old.pages i).1.rights.x ≡ true }
         ensures pages { self.new.pages ≡ self.old.pages }
@@ -166,7 +275,7 @@ impl PageList {
         ensures spare { self.new.spare ≡ self.old.spare }
     {
         if let Some(code) = code_of(&self.slots[i]) {
-            self.code = code;
+            self.hand.code = code;
         }
     }
 
@@ -178,7 +287,7 @@ impl PageList {
         ensures marks { self.new.marks ≡ self.old.marks }
         ensures spare { self.new.spare ≡ self.old.spare }
     {
-        self.code = NO_CODE;
+        self.hand.drop_page(self.slots[i].number);
         self.slots[i].rights = rights;
     }
 
@@ -192,7 +301,7 @@ impl PageList {
         ensures bytes { result.now ≡ take count (drop at (entry_at self.old.pages i).1.bytes) }
         ensures length { length result.now ≡ count }
     {
-        ensure_own(&mut self.slots, &mut self.arena, &mut self.code, i);
+        ensure_own(&mut self.slots, &mut self.arena, &mut self.hand, i);
         // for its clause: what the frame has are bytes
         let _bytes = told_bytes(self.arena.bytes(own_frame(&self.slots, i)));
         *spare = self.arena.spare();
@@ -234,7 +343,7 @@ impl PageList {
         ensures limit { self.new.limit ≡ self.old.limit }
         ensures marks { self.new.marks ≡ self.old.marks }
     {
-        self.code = NO_CODE;
+        self.hand.clear();
         push_all(&mut self.slots, first, count, rights);
         move_back(&mut self.slots, at, count as usize);
     }
@@ -246,7 +355,7 @@ impl PageList {
         ensures limit { self.new.limit ≡ self.old.limit }
         ensures marks { self.new.marks ≡ self.old.marks }
     {
-        self.code = NO_CODE;
+        self.hand.clear();
         move_to_end(&mut self.slots, at, count);
         pop_all(&mut self.slots, &mut self.arena, count);
     }
@@ -255,10 +364,11 @@ impl PageList {
     pub fn with_marks(alloc: Global, limit: u32) -> Result<PageList, OutOfMemory>
         requires { limit ≤ most_mapped_pages }
         ensures { IfOk result (λ l. l
-            ≡ record { pages = []; limit = limit; code = no_page; marks = replicate 16 None; spare = 3 * limit }) }
+            ≡ record { pages = []; limit = limit; hand = nothing_at_hand; marks = replicate 16 None; spare = 3 * limit }) }
     {
         let slots = Vec::with_capacity(alloc, limit as usize)?;
         let arena = FrameArena::new(alloc, 3 * limit)?;
+        let hand = Hand::empty(alloc)?;
         let mut marks = Vec::with_capacity(alloc, 16)?;
         for _turn in 0..16u32 {
             marks.push_reserved(Mark {
@@ -270,7 +380,7 @@ impl PageList {
             slots,
             arena,
             limit,
-            code: NO_CODE,
+            hand,
             marks,
         })
     }
@@ -324,7 +434,7 @@ impl PageList {
         ensures marks { self.new.marks ≡ set self.old.marks k (Some self.old.pages) }
         ensures spare { self.new.spare ≡ self.old.spare }
     {
-        self.code = NO_CODE;
+        self.hand.clear();
         fill_mark(&mut self.slots, &mut self.marks[k], &mut self.arena);
     }
 
@@ -348,7 +458,7 @@ impl PageList {
         ensures limit { self.new.limit ≡ self.old.limit }
         ensures marks { self.new.marks ≡ self.old.marks }
     {
-        self.code = NO_CODE;
+        self.hand.clear();
         pop_every(&mut self.slots, &mut self.arena);
         share_all(&mut self.marks[k].slots, &mut self.slots, &mut self.arena);
         // for its clauses

@@ -32,12 +32,12 @@ ghost use Rattle.frame_arena.specs.Frames.{IsLive, Takes, bytes_of, count_of};
 ghost use Rattle.page_list.specs.declared.slots.Slot.{Slot};
 ghost use Rattle.page_list.specs.declared.slots.Hold.TheVariants.{Own};
 ghost use Rattle.page_list.specs.Slots.{
+  AreAtHand,
   AreBeside,
   AreHeld,
   AreOwn,
   Changes,
   HasRoom,
-  IsCode,
   block_bytes,
   bytes_in,
   code_after,
@@ -45,6 +45,7 @@ ghost use Rattle.page_list.specs.Slots.{
   entries_in,
   frame_at,
   given_if,
+  hand_of,
   hold_frame,
   holders,
   is_own,
@@ -61,6 +62,7 @@ ghost use Rattle.page_list.specs.Slots.{
 };
 
 use crate::code::CodePage;
+use crate::hand::Hand;
 use emu_model::{PAGE_BYTES, Rights};
 use frame_arena::{Frame, FrameArena};
 use std::mem;
@@ -125,9 +127,22 @@ pub(crate) fn page_bytes<'a>(slot: &'a Slot, arena: &'a FrameArena) -> &'a [u8]
     }
 }
 
+/// The 4,096 bytes of a page that has this frame, or none.
+#[inline(always)]
+pub(crate) fn frame_bytes(arena: &FrameArena, frame: Option<u32>) -> &[u8]
+    requires { IfSome frame (λ f. IsLive arena.now f) }
+    ensures bytes { result.now ≡ bytes_in arena.now.live frame }
+    ensures length { length result.now ≡ page_size }
+{
+    match frame {
+        Some(number) => told_bytes(arena.bytes_at(number)),
+        None => zero_bytes(),
+    }
+}
+
 /// Whether the slot at place `i` says that its frame alone names its block.
 #[inline(always)]
-fn has_own(slots: &Vec<Slot>, i: usize) -> bool
+pub(crate) fn has_own(slots: &Vec<Slot>, i: usize) -> bool
     requires { i < length slots.now.items }
     ensures { result ≡ is_own (slot_at slots.now.items i) }
 {
@@ -247,6 +262,29 @@ fn as_shared(hold: Hold) -> Hold
     }
 }
 
+/// The number of a page's frame, if it has one.
+pub(crate) fn frame_number(slot: &Slot) -> Option<u32>
+    ensures { result ≡ hold_frame slot.now.hold }
+{
+    match &slot.hold {
+        Hold::Own(frame) => Some(frame.number()),
+        Hold::Shared(frame) => Some(frame.number()),
+        Hold::Bare => None,
+    }
+}
+
+/// The frame of a page that has one.
+#[inline(always)]
+pub(crate) fn told_frame(frame: Option<u32>) -> u32
+    requires { IsSome frame }
+    ensures { frame ≡ Some result }
+{
+    match frame {
+        Some(number) => number,
+        None => unreachable!(),
+    }
+}
+
 /// The numbers of a page and its frame, where it has one.
 pub(crate) fn code_of(slot: &Slot) -> Option<CodePage>
     ensures { result ≡ option_map (λ f. record { number = slot.now.number; frame = f }) (hold_frame slot.now.hold) }
@@ -265,7 +303,7 @@ pub(crate) fn code_of(slot: &Slot) -> Option<CodePage>
 }
 
 /// The page at hand where the page of a slot gets another frame.
-fn code_with(code: CodePage, slot: &Slot, frame: &Frame) -> CodePage
+pub(crate) fn code_with(code: CodePage, slot: &Slot, frame: &Frame) -> CodePage
     ensures { result ≡ code_after code slot.now frame.now }
 {
     if slot.number == code.number && slot.rights.x {
@@ -279,7 +317,7 @@ fn code_with(code: CodePage, slot: &Slot, frame: &Frame) -> CodePage
 }
 
 /// Gives the page at place `i` a block of its own in the place of none, or of one that others name too.
-fn replace_frame(slots: &mut Vec<Slot>, arena: &mut FrameArena, code: &mut CodePage, i: usize)
+fn replace_frame(slots: &mut Vec<Slot>, arena: &mut FrameArena, hand: &mut Hand, i: usize)
     requires place { i < length slots.old.items }
     requires shared { is_sole arena.old.live (frame_at slots.old.items i) ≡ false }
     requires room { length slots.old.items ≤ arena.old.spare + sole_in arena.old.live slots.old.items }
@@ -287,8 +325,8 @@ fn replace_frame(slots: &mut Vec<Slot>, arena: &mut FrameArena, code: &mut CodeP
     requires own { AreOwn arena.old.live slots.old.items }
     ensures entries { entries_in arena.new.live slots.new.items ≡ entries_in arena.old.live slots.old.items }
     ensures here { is_own (slot_at slots.new.items i) ≡ true }
-    ensures number { code.new.number ≡ code.old.number }
-    ensures code { IsCode slots.old.items code.old → IsCode slots.new.items code.new }
+    ensures hand { hand_of hand.new ≡ hand_of hand.old }
+    ensures at_hand { AreAtHand slots.old.items hand.old → AreAtHand slots.new.items hand.new }
     ensures changes { Changes arena.old arena.new slots.old.items slots.new.items }
     ensures own { AreOwn arena.new.live slots.new.items }
     ensures room { arena.old.spare + sole_in arena.old.live slots.old.items
@@ -297,7 +335,7 @@ fn replace_frame(slots: &mut Vec<Slot>, arena: &mut FrameArena, code: &mut CodeP
     ensures capacity { vec_capacity slots.new ≡ vec_capacity slots.old }
 {
     let frame = new_frame(arena, &slots[i].hold);
-    *code = code_with(*code, &slots[i], &frame);
+    hand.turn(&slots[i], i, &frame);
     let old = put_frame(slots, i, frame);
     give_if(arena, old);
 }
@@ -305,15 +343,15 @@ fn replace_frame(slots: &mut Vec<Slot>, arena: &mut FrameArena, code: &mut CodeP
 /// Gives the page at place `i` a block that it alone names.
 #[cold]
 #[inline(never)]
-fn make_own(slots: &mut Vec<Slot>, arena: &mut FrameArena, code: &mut CodePage, i: usize)
+fn make_own(slots: &mut Vec<Slot>, arena: &mut FrameArena, hand: &mut Hand, i: usize)
     requires place { i < length slots.old.items }
     requires room { length slots.old.items ≤ arena.old.spare + sole_in arena.old.live slots.old.items }
     requires held { AreHeld arena.old.live slots.old.items }
     requires own { AreOwn arena.old.live slots.old.items }
     ensures entries { entries_in arena.new.live slots.new.items ≡ entries_in arena.old.live slots.old.items }
     ensures here { is_own (slot_at slots.new.items i) ≡ true }
-    ensures number { code.new.number ≡ code.old.number }
-    ensures code { IsCode slots.old.items code.old → IsCode slots.new.items code.new }
+    ensures hand { hand_of hand.new ≡ hand_of hand.old }
+    ensures at_hand { AreAtHand slots.old.items hand.old → AreAtHand slots.new.items hand.new }
     ensures changes { Changes arena.old arena.new slots.old.items slots.new.items }
     ensures own { AreOwn arena.new.live slots.new.items }
     ensures room { arena.old.spare + sole_in arena.old.live slots.old.items
@@ -324,18 +362,13 @@ fn make_own(slots: &mut Vec<Slot>, arena: &mut FrameArena, code: &mut CodePage, 
     if has_sole(slots, arena, i) {
         own_again(slots, i);
     } else {
-        replace_frame(slots, arena, code, i);
+        replace_frame(slots, arena, hand, i);
     }
 }
 
 /// Gives the page at place `i` a block that it alone names, unless its slot says that it has one.
 #[inline(always)]
-pub(crate) fn ensure_own(
-    slots: &mut Vec<Slot>,
-    arena: &mut FrameArena,
-    code: &mut CodePage,
-    i: usize,
-)
+pub(crate) fn ensure_own(slots: &mut Vec<Slot>, arena: &mut FrameArena, hand: &mut Hand, i: usize)
     requires place { i < length slots.old.items }
     requires room { length slots.old.items ≤ arena.old.spare + sole_in arena.old.live slots.old.items }
     requires held { AreHeld arena.old.live slots.old.items }
@@ -343,8 +376,8 @@ pub(crate) fn ensure_own(
     ensures entries { entries_in arena.new.live slots.new.items ≡ entries_in arena.old.live slots.old.items }
     ensures here { is_own (slot_at slots.new.items i) ≡ true }
     ensures sole { is_sole arena.new.live (frame_at slots.new.items i) ≡ true }
-    ensures number { code.new.number ≡ code.old.number }
-    ensures code { IsCode slots.old.items code.old → IsCode slots.new.items code.new }
+    ensures hand { hand_of hand.new ≡ hand_of hand.old }
+    ensures at_hand { AreAtHand slots.old.items hand.old → AreAtHand slots.new.items hand.new }
     ensures changes { Changes arena.old arena.new slots.old.items slots.new.items }
     ensures own { AreOwn arena.new.live slots.new.items }
     ensures room { arena.old.spare + sole_in arena.old.live slots.old.items
@@ -353,7 +386,7 @@ pub(crate) fn ensure_own(
     ensures capacity { vec_capacity slots.new ≡ vec_capacity slots.old }
 {
     if !has_own(slots, i) {
-        make_own(slots, arena, code, i);
+        make_own(slots, arena, hand, i);
     }
 }
 

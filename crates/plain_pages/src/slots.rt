@@ -26,7 +26,7 @@ ghost use Rattle.std.specs.Ordering.{nat_cmp};
 ghost use Rattle.std.specs.FinMap.{contains_key, find};
 ghost use Rattle.emu_model.specs.Access.{page_size};
 ghost use Rattle.emu_model.specs.ByPage.{page_gives};
-ghost use Rattle.emu_model.specs.Pages.{free_run, is_among, is_free, least_mapped, least_unmapped, zeros};
+ghost use Rattle.emu_model.specs.Pages.{free_run, is_page_in, is_free, least_mapped, least_unmapped, zeros};
 ghost use Rattle.emu_model.specs.SoundState.{AreBytes};
 ghost use Rattle.emu_model.specs.WithinPage.{overwritten, page_with_bytes};
 ghost use Rattle.plain_pages.specs.Slots.{
@@ -209,7 +209,7 @@ pub fn insert_slots(
 /// Takes away the slots of `count` pages from page `first` on.
 pub fn remove_slots(slots: &mut Vec<Slot>, first: u64, count: u64)
     requires { first + count ≤ 2 ^ 35 }
-    ensures { entries_of slots.new.items ≡ filter (λ e. not (is_among first count e.0)) (entries_of slots.old.items) }
+    ensures { entries_of slots.new.items ≡ filter (λ e. not (is_page_in first count e.0)) (entries_of slots.old.items) }
 {
     let end = first + count;
     slots.retain(

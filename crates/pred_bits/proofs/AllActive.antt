@@ -5,7 +5,8 @@ use Rattle.std.proofs.lemmas.Bool.Decides.{nat_tests}
 use Rattle.emu_bits.specs.Flags.{size_of}
 use Rattle.emu_bits.specs.declared.flags.Esize.{Esize}
 use Rattle.emu_bits.specs.declared.flags.Flags.{Flags}
-use Rattle.lane_model.specs.Bits.{each_bit, field_bit, lane_is_set, lanes_of}
+use Rattle.lane_model.specs.Bits.{field_bit, active, lanes_of}
+use Rattle.lane_model.specs.Lists.{each}
 use Rattle.lane_model.proofs.Bits.{at_start, get_or-each_bit}
 use Rattle.lane_model.proofs.Found.{first_found, first_is, last_is, first_same, last_same, answer_same, last_within}
 use Rattle.lane_model.specs.FirstLast.{first_where, last_where}
@@ -15,33 +16,33 @@ use Rattle.pred_bits.proofs.Fields.{lane_within, some_bits}
 use Rattle.pred_bits.proofs.LaneWords.{first_within}
 
 module _ (e : Esize) (m : ℕ) (a : List Bool) (some : 0 < lanes_of (size_of e) m) where
-  all_on : (k : ℕ) → k < lanes_of (size_of e) m → lane_is_set (size_of e) (each_bit m (λ k. true)) k ≡ true
+  all_on : (k : ℕ) → k < lanes_of (size_of e) m → active (size_of e) (each m (λ k. true)) k ≡ true
   all_on k h = get_or-each_bit m (λ k. true) (k * (size_of e / 8)) false (lane_within e k m h)
 
-  first_of_all : first_where (lanes_of (size_of e) m) (lane_is_set (size_of e) (each_bit m (λ k. true))) ≡ Some 0
-  first_of_all = first_is (lanes_of (size_of e) m) (lane_is_set (size_of e) (each_bit m (λ k. true))) (Some 0) (record { within = some; meets = all_on 0 some; before = λ j h. absurd (omega arith) })
+  first_of_all : first_where (lanes_of (size_of e) m) (active (size_of e) (each m (λ k. true))) ≡ Some 0
+  first_of_all = first_is (lanes_of (size_of e) m) (active (size_of e) (each m (λ k. true))) (Some 0) (record { within = some; meets = all_on 0 some; before = λ j h. absurd (omega arith) })
 
-  last_of_all : last_where (lanes_of (size_of e) m) (lane_is_set (size_of e) (each_bit m (λ k. true))) ≡ Some (lanes_of (size_of e) m - 1)
+  last_of_all : last_where (lanes_of (size_of e) m) (active (size_of e) (each m (λ k. true))) ≡ Some (lanes_of (size_of e) m - 1)
   last_of_all =
       let within : lanes_of (size_of e) m - 1 < lanes_of (size_of e) m = omega arith in
-      last_is (lanes_of (size_of e) m) (lane_is_set (size_of e) (each_bit m (λ k. true))) (Some (lanes_of (size_of e) m - 1))
+      last_is (lanes_of (size_of e) m) (active (size_of e) (each m (λ k. true))) (Some (lanes_of (size_of e) m - 1))
       (record { within = within; meets = all_on (lanes_of (size_of e) m - 1) within; behind = λ j p q. absurd (omega arith) })
 
   doubled : (x : Bool) → (x && x) ≡ x
   doubled true = refl
   doubled false = refl
 
-  set_of_all : first_set (lanes_of (size_of e) m) (lane_is_set (size_of e) a) (lane_is_set (size_of e) a) ≡ first_set (lanes_of (size_of e) m) (lane_is_set (size_of e) (each_bit m (λ k. true))) (lane_is_set (size_of e) a)
-  set_of_all = first_same (lanes_of (size_of e) m) _ _ (λ k h. doubled (lane_is_set (size_of e) a k) ∙ sym (ap (λ t. t && lane_is_set (size_of e) a k) (all_on k h)))
+  set_of_all : first_set (lanes_of (size_of e) m) (active (size_of e) a) (active (size_of e) a) ≡ first_set (lanes_of (size_of e) m) (active (size_of e) (each m (λ k. true))) (active (size_of e) a)
+  set_of_all = first_same (lanes_of (size_of e) m) _ _ (λ k h. doubled (active (size_of e) a k) ∙ sym (ap (λ t. t && active (size_of e) a k) (all_on k h)))
 
-  pub all_tested : (n z c : Bool) → n ≡ lane_is_set (size_of e) a 0 → z ≡ is_none (first_set (lanes_of (size_of e) m) (lane_is_set (size_of e) a) (lane_is_set (size_of e) a)) → c ≡ not (lane_is_set (size_of e) a (lanes_of (size_of e) m - 1))
-      → (let f : Flags = record { n = n; z = z; c = c; v = false } in f) ≡ pred_test (size_of e) m (each_bit m (λ k. true)) a
+  pub all_tested : (n z c : Bool) → n ≡ active (size_of e) a 0 → z ≡ is_none (first_set (lanes_of (size_of e) m) (active (size_of e) a) (active (size_of e) a)) → c ≡ not (active (size_of e) a (lanes_of (size_of e) m - 1))
+      → (let f : Flags = record { n = n; z = z; c = c; v = false } in f) ≡ pred_test (size_of e) m (each m (λ k. true)) a
   all_tested n z c is_n is_z is_c =
       let flags : Bool → Bool → Bool → Flags = λ n z c. record { n = n; z = z; c = c; v = false } in
-      ap (λ n. flags n z c) (is_n ∙ sym (ap (λ (o : Option ℕ). answer_at o (lane_is_set (size_of e) a)) first_of_all))
-      ∙ ap (λ z. flags (answer_at (first_where (lanes_of (size_of e) m) (lane_is_set (size_of e) (each_bit m (λ k. true)))) (lane_is_set (size_of e) a)) z c) (is_z ∙ ap (λ (o : Option ℕ). is_none o) set_of_all)
-      ∙ ap (λ c. flags (answer_at (first_where (lanes_of (size_of e) m) (lane_is_set (size_of e) (each_bit m (λ k. true)))) (lane_is_set (size_of e) a)) (is_none (first_set (lanes_of (size_of e) m) (lane_is_set (size_of e) (each_bit m (λ k. true))) (lane_is_set (size_of e) a))) c)
-      (is_c ∙ sym (ap (λ (o : Option ℕ). not (answer_at o (lane_is_set (size_of e) a))) last_of_all))
+      ap (λ n. flags n z c) (is_n ∙ sym (ap (λ (o : Option ℕ). answer_at o (active (size_of e) a)) first_of_all))
+      ∙ ap (λ z. flags (answer_at (first_where (lanes_of (size_of e) m) (active (size_of e) (each m (λ k. true)))) (active (size_of e) a)) z c) (is_z ∙ ap (λ (o : Option ℕ). is_none o) set_of_all)
+      ∙ ap (λ c. flags (answer_at (first_where (lanes_of (size_of e) m) (active (size_of e) (each m (λ k. true)))) (active (size_of e) a)) (is_none (first_set (lanes_of (size_of e) m) (active (size_of e) (each m (λ k. true))) (active (size_of e) a))) c)
+      (is_c ∙ sym (ap (λ (o : Option ℕ). not (answer_at o (active (size_of e) a))) last_of_all))
 
 pub none_is : (o : Option ℕ) (b : Bool) → is_some o ≡ not b → b ≡ is_none o
 none_is None true e = refl
@@ -102,8 +103,8 @@ flags_same n g a h b same_g same_a =
     ∙ ap (λ z. flags (answer_at (first_where n h) b) (is_none (first_where n (λ k. h k && b k))) (not z)) last
 
 -- lanes of fields, and of all ones
-pub field_active : (e : Esize) (m k : ℕ) (f : ℕ → Bool) → k < lanes_of (size_of e) m → lane_is_set (size_of e) (each_bit m (field_bit (size_of e / 8) f)) k ≡ f k
+pub field_active : (e : Esize) (m k : ℕ) (f : ℕ → Bool) → k < lanes_of (size_of e) m → active (size_of e) (each m (field_bit (size_of e / 8) f)) k ≡ f k
 field_active e m k f h = get_or-each_bit m (field_bit (size_of e / 8) f) (k * (size_of e / 8)) false (lane_within e k m h) ∙ at_start k (size_of e / 8) f (some_bits e)
 
-pub one_active : (e : Esize) (m k : ℕ) → k < lanes_of (size_of e) m → lane_is_set (size_of e) (each_bit m (λ k. true)) k ≡ true
+pub one_active : (e : Esize) (m k : ℕ) → k < lanes_of (size_of e) m → active (size_of e) (each m (λ k. true)) k ≡ true
 one_active e m k h = get_or-each_bit m (λ k. true) (k * (size_of e / 8)) false (lane_within e k m h)

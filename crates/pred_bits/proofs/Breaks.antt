@@ -4,7 +4,8 @@ use Rattle.std.proofs.lemmas.Bool.{cases_eq}
 use Rattle.std.proofs.lemmas.Bool.Decides.{nat_tests}
 use Rattle.std.proofs.lemmas.List.{length-set, get_or-set_same, get_or-set_other}
 use Rattle.std.proofs.lemmas.List.FromFn.{fill_by_all}
-use Rattle.lane_model.specs.Bits.{each_bit, is_set, lane_is_set, lanes_of}
+use Rattle.lane_model.specs.Bits.{is_set, active, lanes_of}
+use Rattle.lane_model.specs.Lists.{each}
 use Rattle.lane_model.proofs.Bits.{each_bit_same, get_or-each_bit}
 use Rattle.lane_model.specs.declared.predicates.LogicOp.TheVariants.{And, Sel}
 use Rattle.lane_model.specs.FirstLast.{first_where}
@@ -13,22 +14,22 @@ use Rattle.pred_bits.proofs.Bytes.{first_byte, first_set_byte, last_set_byte, ea
 
 -- ---- brka, brkb
 
-part_is : (inclusive : Bool) (m n : ℕ) (g a : List Bool) (place : Option ℕ) → place ≡ first_set (lanes_of 8 m) (lane_is_set 8 g) (lane_is_set 8 a) → m ≡ n → each_bit n (is_upto inclusive place) ≡ each_bit m (unbroken inclusive m g a)
+part_is : (inclusive : Bool) (m n : ℕ) (g a : List Bool) (place : Option ℕ) → place ≡ first_set (lanes_of 8 m) (active 8 g) (active 8 a) → m ≡ n → each n (is_upto inclusive place) ≡ each m (unbroken inclusive m g a)
 part_is inclusive m n g a place e s =
-    ap (λ (o : Option ℕ). each_bit n (is_upto inclusive o)) (e ∙ first_set_byte m g a) ∙ ap (λ i. each_bit i (unbroken inclusive m g a)) (sym s)
+    ap (λ (o : Option ℕ). each n (is_upto inclusive o)) (e ∙ first_set_byte m g a) ∙ ap (λ i. each i (unbroken inclusive m g a)) (sym s)
 
 both : (g x : Bool) → (g && (x && x)) ≡ (if g then x else false)
 both true true = refl
 both true false = refl
 both false x = refl
 
-kept : (m : ℕ) (g old : List Bool) (f : ℕ → Bool) → logic Sel m g (each_bit m f) old ≡ each_bit m (λ k. if is_set g k then f k else (true && is_set old k))
+kept : (m : ℕ) (g old : List Bool) (f : ℕ → Bool) → logic Sel m g (each m f) old ≡ each m (λ k. if is_set g k then f k else (true && is_set old k))
 kept m g old f = each_bit_same m _ _ (λ k h. ap (λ b. if is_set g k then b else is_set old k) (get_or-each_bit m f k false h))
 
-cut : (m : ℕ) (g old : List Bool) (f : ℕ → Bool) → logic And m g (each_bit m f) (each_bit m f) ≡ each_bit m (λ k. if is_set g k then f k else (false && is_set old k))
+cut : (m : ℕ) (g old : List Bool) (f : ℕ → Bool) → logic And m g (each m f) (each m f) ≡ each m (λ k. if is_set g k then f k else (false && is_set old k))
 cut m g old f = each_bit_same m _ _ (λ k h. ap (λ b. is_set g k && (b && b)) (get_or-each_bit m f k false h) ∙ both (is_set g k) (f k))
 
-module _ (inclusive : Bool) (m n : ℕ) (g a old part : List Bool) (place : Option ℕ) (found : place ≡ first_set (lanes_of 8 m) (lane_is_set 8 g) (lane_is_set 8 a)) (same : m ≡ n) (is : part ≡ each_bit n (is_upto inclusive place)) where
+module _ (inclusive : Bool) (m n : ℕ) (g a old part : List Bool) (place : Option ℕ) (found : place ≡ first_set (lanes_of 8 m) (active 8 g) (active 8 a)) (same : m ≡ n) (is : part ≡ each n (is_upto inclusive place)) where
   pub broken_kept : logic Sel m g part old ≡ broken inclusive true m g a old
   broken_kept = ap (λ (p : List Bool). logic Sel m g p old) (is ∙ part_is inclusive m n g a place found same) ∙ kept m g old (unbroken inclusive m g a)
 
@@ -37,7 +38,7 @@ module _ (inclusive : Bool) (m n : ℕ) (g a old part : List Bool) (place : Opti
 
 -- ---- brkpa, brkpb, brkn
 
-module _ (m : ℕ) (g a : List Bool) (last : Bool) (is : last ≡ last_is_set (lanes_of 8 m) (lane_is_set 8 g) (lane_is_set 8 a)) where
+module _ (m : ℕ) (g a : List Bool) (last : Bool) (is : last ≡ last_is_set (lanes_of 8 m) (active 8 g) (active 8 a)) where
   last_bit : last ≡ last_is_set m (is_set g) (is_set a)
   last_bit = is ∙ last_set_byte m g a
 
@@ -48,20 +49,20 @@ module _ (m : ℕ) (g a : List Bool) (last : Bool) (is : last ≡ last_is_set (l
   pub pair_goes_on : (inclusive : Bool) (b : List Bool) → last ≡ true → broken inclusive false m g b b ≡ broken_pair inclusive m g a b
   pair_goes_on inclusive b e =
       each_bit_same m _ _ (λ k h. chosen (is_set g k) (unbroken inclusive m g b k))
-      ∙ ap (λ t. each_bit m (λ k. t && (is_set g k && unbroken inclusive m g b k))) (sym e ∙ last_bit)
+      ∙ ap (λ t. each m (λ k. t && (is_set g k && unbroken inclusive m g b k))) (sym e ∙ last_bit)
 
   pub pair_stops : (inclusive : Bool) (b : List Bool) → last ≡ false → replicate m false ≡ broken_pair inclusive m g a b
-  pair_stops inclusive b e = all_clear m (λ k. false) (λ k h. refl) ∙ ap (λ t. each_bit m (λ k. t && (is_set g k && unbroken inclusive m g b k))) (sym e ∙ last_bit)
+  pair_stops inclusive b e = all_clear m (λ k. false) (λ k h. refl) ∙ ap (λ t. each m (λ k. t && (is_set g k && unbroken inclusive m g b k))) (sym e ∙ last_bit)
 
   pub next_goes_on : (old : List Bool) → length old ≡ m → last ≡ true → old ≡ broken_next m g a old
-  next_goes_on old count e = each_again m old count ∙ ap (λ t. each_bit m (λ k. t && is_set old k)) (sym e ∙ last_bit)
+  next_goes_on old count e = each_again m old count ∙ ap (λ t. each m (λ k. t && is_set old k)) (sym e ∙ last_bit)
 
   pub next_stops : (old : List Bool) → last ≡ false → replicate m false ≡ broken_next m g a old
-  next_stops old e = all_clear m (λ k. false) (λ k h. refl) ∙ ap (λ t. each_bit m (λ k. t && is_set old k)) (sym e ∙ last_bit)
+  next_stops old e = all_clear m (λ k. false) (λ k h. refl) ∙ ap (λ t. each m (λ k. t && is_set old k)) (sym e ∙ last_bit)
 
 -- ---- pfirst
 
-module _ (m : ℕ) (g old : List Bool) (count : length old ≡ m) (place : Option ℕ) (is : place ≡ first_where (lanes_of 8 m) (lane_is_set 8 g)) where
+module _ (m : ℕ) (g old : List Bool) (count : length old ≡ m) (place : Option ℕ) (is : place ≡ first_where (lanes_of 8 m) (active 8 g)) where
   first_bit : place ≡ first_where m (is_set g)
   first_bit = is ∙ first_byte m g
 
@@ -82,7 +83,7 @@ module _ (m : ℕ) (g old : List Bool) (count : length old ≡ m) (place : Optio
   pub first_written : (k : ℕ) → place ≡ Some k → k < m → set old k true ≡ with_first m g old
   first_written k e within =
       fill_by_all (λ j. nat_eq j k || is_set old j) (set old k true) m false (length-set old k true ∙ count) (written k within)
-      ∙ ap (λ (o : Option ℕ). each_bit m (λ j. is_at o j || is_set old j)) (sym e ∙ first_bit)
+      ∙ ap (λ (o : Option ℕ). each m (λ j. is_at o j || is_set old j)) (sym e ∙ first_bit)
 
   pub none_written : place ≡ None → old ≡ with_first m g old
-  none_written e = each_again m old count ∙ ap (λ (o : Option ℕ). each_bit m (λ j. is_at o j || is_set old j)) (sym e ∙ first_bit)
+  none_written e = each_again m old count ∙ ap (λ (o : Option ℕ). each m (λ j. is_at o j || is_set old j)) (sym e ∙ first_bit)

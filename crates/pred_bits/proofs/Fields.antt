@@ -4,7 +4,8 @@ use Rattle.std.proofs.lemmas.Bool.{cases_lt, lt-ltb, le-ltb, and_right, eqb-true
 use Rattle.emu_bits.specs.Flags.{size_of}
 use Rattle.emu_bits.specs.declared.flags.Esize.{Esize}
 use Rattle.emu_bits.specs.declared.flags.Esize.TheVariants.{B, H, S, D}
-use Rattle.lane_model.specs.Bits.{each_bit, field_bit, lanes_of}
+use Rattle.lane_model.specs.Bits.{field_bit, lanes_of}
+use Rattle.lane_model.specs.Lists.{each}
 use Rattle.lane_model.specs.WordBits.{AreClearFrom, bit_of, bits_of}
 use Rattle.lane_model.proofs.Bits.{each_bit_same}
 use Rattle.lane_model.specs.Predicate.{lanes_below}
@@ -43,7 +44,7 @@ bit_within D i m whole h = omega arith
 field_same : (w : ℕ) (f g : ℕ → Bool) (i : ℕ) → f (i / w) ≡ g (i / w) → field_bit w f i ≡ field_bit w g i
 field_same w f g i e = ap (λ b. if nat_eq (i % w) 0 then b else false) e
 
-pub fields_same : (e : Esize) (m : ℕ) (f g : ℕ → Bool) → m % (size_of e / 8) ≡ 0 → ((k : ℕ) → k < lanes_of (size_of e) m → f k ≡ g k) → each_bit m (field_bit (size_of e / 8) f) ≡ each_bit m (field_bit (size_of e / 8) g)
+pub fields_same : (e : Esize) (m : ℕ) (f g : ℕ → Bool) → m % (size_of e / 8) ≡ 0 → ((k : ℕ) → k < lanes_of (size_of e) m → f k ≡ g k) → each m (field_bit (size_of e / 8) f) ≡ each m (field_bit (size_of e / 8) g)
 fields_same e m f g whole h = each_bit_same m (field_bit (size_of e / 8) f) (field_bit (size_of e / 8) g) (λ i q. field_same (size_of e / 8) f g i (h (i / (size_of e / 8)) (bit_within e i m whole q)))
 
 -- ---- the lanes below a number

@@ -1,7 +1,8 @@
 -- Logical operations on the words of predicates.
 use Rattle.std.proofs.Common.{◌≡◌, ◌<◌, ◌≤◌, ◌/◌, ◌%◌, ℕ, Bool, false, List, length, inl, inr, refl, sym, ap, ◌∙◌, arith}
 use Rattle.std.proofs.lemmas.Bool.{cases_lt}
-use Rattle.lane_model.specs.Bits.{each_bit, is_set}
+use Rattle.lane_model.specs.Bits.{is_set}
+use Rattle.lane_model.specs.Lists.{each}
 use Rattle.lane_model.specs.WordBits.{AreClearFrom, bit_of, bits_of}
 use Rattle.lane_model.proofs.Bits.{each_bit_same}
 use Rattle.lane_model.specs.declared.predicates.LogicOp.{LogicOp}
@@ -44,4 +45,4 @@ module _ (op : LogicOp) (words gs os bs : List ℕ) (count : length words ≡ 4)
       let kb : k < length b = omega arith in
       bit_is k (omega arith)
       ∙ three (bit_of gs k) (bit_of os k) (bit_of bs k) (is_set g k) (is_set a k) (is_set b k) (sym (get_shown n gs g k eg kg)) (sym (get_shown na os a k ea ka)) (sym (get_shown nb bs b k eb kb)))
-      ∙ ap (λ m. each_bit m (λ k. logic_bit op (is_set g k) (is_set a k) (is_set b k))) (sym lg)
+      ∙ ap (λ m. each m (λ k. logic_bit op (is_set g k) (is_set a k) (is_set b k))) (sym lg)

@@ -3,7 +3,7 @@ use Rattle.std.proofs.Common.{◌≡◌, ◌≢◌, ◌<◌, ◌≤◌, ◌+◌,
 use Rattle.std.specs.Int.{bit_at}
 use Rattle.std.proofs.lemmas.Bool.{cases_lt}
 use Rattle.std.proofs.lemmas.List.{get_or_past, get_or-set_same, get_or-set_other}
-use Rattle.lane_model.specs.Bits.{each_bit}
+use Rattle.lane_model.specs.Lists.{each}
 use Rattle.lane_model.specs.WordBits.{AreClearFrom, bit_of, bits_of}
 use Rattle.lane_model.proofs.Bits.{each_bit_same}
 
@@ -50,5 +50,5 @@ module _ (words : List ℕ) (f : ℕ → Bool) (count : length words ≡ 4) (don
 pub clear_from : (words : List ℕ) (n : ℕ) (f : ℕ → Bool) → ((b : ℕ) → bit_of words b ≡ f b) → ((b : ℕ) → n ≤ b → f b ≡ false) → AreClearFrom n words
 clear_from words n f is past b le = is b ∙ past b le
 
-pub bits_are : (words : List ℕ) (n : ℕ) (f g : ℕ → Bool) → ((b : ℕ) → bit_of words b ≡ f b) → ((b : ℕ) → b < n → f b ≡ g b) → bits_of n words ≡ each_bit n g
+pub bits_are : (words : List ℕ) (n : ℕ) (f g : ℕ → Bool) → ((b : ℕ) → bit_of words b ≡ f b) → ((b : ℕ) → b < n → f b ≡ g b) → bits_of n words ≡ each n g
 bits_are words n f g is same = each_bit_same n (bit_of words) g (λ b h. is b ∙ same b h)

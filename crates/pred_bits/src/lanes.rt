@@ -20,7 +20,8 @@ ghost use Rattle.std.specs.Prelude.{
   nat_lt,
 };
 ghost use Rattle.emu_bits.specs.Flags.{size_of};
-ghost use Rattle.lane_model.specs.Bits.{each_bit, field_bit, lane_is_set, lanes_of};
+ghost use Rattle.lane_model.specs.Bits.{field_bit, active, lanes_of};
+ghost use Rattle.lane_model.specs.Lists.{each};
 ghost use Rattle.lane_model.specs.WordBits.{bit_of};
 ghost use Rattle.lane_model.specs.FirstLast.{first_where, all_below};
 ghost use Rattle.lane_model.specs.Predicate as model;
@@ -43,7 +44,7 @@ fn whole_lane_words(g: &PredBits, a: &PredBits, e: Esize) -> [u64; 4]
     requires same { length a.now ≡ length g.now }
     requires whole { length g.now % (size_of e / 8) ≡ 0 }
     ensures { (b : ℕ) → bit_of result b ≡ field_bit (size_of e / 8) (among (lanes_of (size_of e) (length g.now))
-        (λ k. lane_is_set (size_of e) g.now k && lane_is_set (size_of e) a.now k)) b }
+        (λ k. active (size_of e) g.now k && active (size_of e) a.now k)) b }
 {
     starts_in_both(&g.words, &a.words, e)
 }
@@ -55,7 +56,7 @@ fn first_lane_words(g: &PredBits, a: &PredBits, e: Esize) -> [u64; 4]
     requires whole { length g.now % (size_of e / 8) ≡ 0 }
     requires few { length g.now ≤ 64 }
     ensures { (b : ℕ) → bit_of result b ≡ field_bit (size_of e / 8) (among (lanes_of (size_of e) (length g.now))
-        (λ k. lane_is_set (size_of e) g.now k && lane_is_set (size_of e) a.now k)) b }
+        (λ k. active (size_of e) g.now k && active (size_of e) a.now k)) b }
 {
     starts_in_first(&g.words, &a.words, e)
 }
@@ -65,7 +66,7 @@ fn first_lane_words(g: &PredBits, a: &PredBits, e: Esize) -> [u64; 4]
 fn lane_words(g: &PredBits, a: &PredBits, e: Esize) -> [u64; 4]
     requires { length a.now ≡ length g.now }
     ensures { (b : ℕ) → bit_of result b ≡ field_bit (size_of e / 8) (among (lanes_of (size_of e) (length g.now))
-        (λ k. lane_is_set (size_of e) g.now k && lane_is_set (size_of e) a.now k)) b }
+        (λ k. active (size_of e) g.now k && active (size_of e) a.now k)) b }
 {
     let words = starts_in_both(&g.words, &a.words, e);
     let rest = g.bits % (e.bits() / 8);
@@ -94,8 +95,8 @@ fn lane_at(place: Option<u32>, e: Esize) -> Option<u32>
 pub(crate) fn first_set(g: &PredBits, a: &PredBits, e: Esize) -> Option<u32>
     requires { length a.now ≡ length g.now }
     ensures value { result
-        ≡ model.first_set (lanes_of (size_of e) (length g.now)) (lane_is_set (size_of e) g.now)
-        (lane_is_set (size_of e) a.now) }
+        ≡ model.first_set (lanes_of (size_of e) (length g.now)) (active (size_of e) g.now)
+        (active (size_of e) a.now) }
     ensures within { IfSome result (λ k. k < lanes_of (size_of e) (length g.now)) }
 {
     let _bits = g.bits();
@@ -105,7 +106,7 @@ pub(crate) fn first_set(g: &PredBits, a: &PredBits, e: Esize) -> Option<u32>
 /// The first active lane.
 #[inline(always)]
 pub(crate) fn first_lane(g: &PredBits, e: Esize) -> Option<u32>
-    ensures value { result ≡ first_where (lanes_of (size_of e) (length g.now)) (lane_is_set (size_of e) g.now) }
+    ensures value { result ≡ first_where (lanes_of (size_of e) (length g.now)) (active (size_of e) g.now) }
     ensures within { IfSome result (λ k. k < lanes_of (size_of e) (length g.now)) }
 {
     first_set(g, g, e)
@@ -115,8 +116,8 @@ pub(crate) fn first_lane(g: &PredBits, e: Esize) -> Option<u32>
 #[inline(always)]
 pub(crate) fn last_is_set(g: &PredBits, a: &PredBits, e: Esize) -> bool
     requires { length a.now ≡ length g.now }
-    ensures { result ≡ model.last_is_set (lanes_of (size_of e) (length g.now)) (lane_is_set (size_of e) g.now)
-        (lane_is_set (size_of e) a.now) }
+    ensures { result ≡ model.last_is_set (lanes_of (size_of e) (length g.now)) (active (size_of e) g.now)
+        (active (size_of e) a.now) }
 {
     let _bits = g.bits();
     let on = lane_words(g, g, e);
@@ -149,10 +150,10 @@ fn next_words(
 ) -> (PredBits, Flags)
     requires same { length before.now ≡ length g.now }
     requires on { (b : ℕ) → bit_of on.now b ≡ field_bit (size_of e / 8) (among (lanes_of (size_of e) (length g.now))
-        (λ k. lane_is_set (size_of e) g.now k && lane_is_set (size_of e) g.now k)) b }
+        (λ k. active (size_of e) g.now k && active (size_of e) g.now k)) b }
     requires set { (b : ℕ)
         → bit_of set.now b ≡ field_bit (size_of e / 8) (among (lanes_of (size_of e) (length before.now))
-        (λ k. lane_is_set (size_of e) before.now k && lane_is_set (size_of e) before.now k)) b }
+        (λ k. active (size_of e) before.now k && active (size_of e) before.now k)) b }
     ensures lane { result.0 ≡ only_next (size_of e) (length g.now) g.now before.now }
     ensures flags { result.1
         ≡ model.pred_test (size_of e) (length g.now) g.now (only_next (size_of e) (length g.now) g.now before.now) }
@@ -336,7 +337,7 @@ pub fn while_tested(
     requires whole { bits % (size_of e / 8) ≡ 0 }
     requires some { 0 < lanes_of (size_of e) bits }
     ensures lanes { result.0 ≡ while_lanes test width from to (size_of e) bits }
-    ensures flags { result.1 ≡ model.pred_test (size_of e) bits (each_bit bits (λ k. true))
+    ensures flags { result.1 ≡ model.pred_test (size_of e) bits (each bits (λ k. true))
         (while_lanes test width from to (size_of e) bits) }
 {
     let lanes = bits / (e.bits() / 8);
@@ -348,7 +349,7 @@ pub fn while_tested(
 #[inline(always)]
 pub fn test_all(a: &PredBits, e: Esize) -> Flags
     requires { 0 < lanes_of (size_of e) (length a.now) }
-    ensures { result ≡ model.pred_test (size_of e) (length a.now) (each_bit (length a.now) (λ k. true)) a.now }
+    ensures { result ≡ model.pred_test (size_of e) (length a.now) (each (length a.now) (λ k. true)) a.now }
 {
     Flags {
         n: a.lane(e, 0),

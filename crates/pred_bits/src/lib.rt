@@ -12,7 +12,7 @@ mod whole;
 
 ghost use Rattle.std.specs.Prelude.{◌≡◌, ◌<◌, ◌≤◌, ◌*◌, ◌/◌, true, false, length, get_or, set, replicate};
 ghost use Rattle.emu_bits.specs.Flags.{size_of};
-ghost use Rattle.lane_model.specs.Bits.{lane_is_set, lanes_of};
+ghost use Rattle.lane_model.specs.Bits.{active, lanes_of};
 ghost use Rattle.lane_model.specs.WordBits.{AreClearFrom, bits_of};
 
 use emu_bits::Esize;
@@ -117,7 +117,7 @@ impl PredBits {
     /// Whether lane k is active, or set.
     pub fn lane(&self, e: Esize, k: u32) -> bool
         requires { k < lanes_of (size_of e) (length self.now) }
-        ensures { result ≡ lane_is_set (size_of e) self.now k }
+        ensures { result ≡ active (size_of e) self.now k }
     {
         let _bits = self.bits();
         self.get(k * (e.bits() / 8))

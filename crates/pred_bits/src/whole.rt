@@ -1,6 +1,6 @@
 //! Logical operations, a word at a time, and breaks.
 ghost use Rattle.std.specs.Prelude.{◌≡◌, ◌≤◌, ◌<◌, ℕ, true, nat_lt, length, IfSome};
-ghost use Rattle.lane_model.specs.Bits.{each_bit};
+ghost use Rattle.lane_model.specs.Lists.{each};
 ghost use Rattle.lane_model.specs.Predicate as model;
 ghost use Rattle.lane_model.specs.Predicate.{is_upto, broken, broken_pair, broken_next, with_first};
 
@@ -42,7 +42,7 @@ fn limit(inclusive: bool, place: Option<u32>, bits: u32) -> u32
 fn upto(inclusive: bool, place: Option<u32>, bits: u32) -> PredBits
     requires few { bits ≤ 256 }
     requires within { IfSome place (λ k. k < bits) }
-    ensures { result ≡ each_bit bits (is_upto inclusive place) }
+    ensures { result ≡ each bits (is_upto inclusive place) }
 {
     lanes_below(limit(inclusive, place, bits), Esize::B, bits)
 }
@@ -51,7 +51,7 @@ fn upto(inclusive: bool, place: Option<u32>, bits: u32) -> PredBits
 #[inline(always)]
 pub fn ones(bits: u32) -> PredBits
     requires { bits ≤ 256 }
-    ensures { result ≡ each_bit bits (λ k. true) }
+    ensures { result ≡ each bits (λ k. true) }
 {
     upto(false, None, bits)
 }

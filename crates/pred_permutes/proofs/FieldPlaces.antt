@@ -8,8 +8,8 @@ use Rattle.emu_model.specs.ListLaws.{length-each, get_or-each, each_same}
 use Rattle.emu_model.specs.State.{Vectors}
 use Rattle.lane_permute.specs.Places.{IsField, zipped, every_second, joined, transposed}
 use Rattle.lane_permute.proofs.FourWords.{trn_end}
-use Rattle.lane_model.specs.declared.places.Place.{Place}
-use Rattle.lane_model.specs.declared.places.Place.TheVariants.{FirstLane, SecondLane, Scalar, Zero}
+use Rattle.lane_model.specs.declared.places.LaneSource.{LaneSource}
+use Rattle.lane_model.specs.declared.places.LaneSource.TheVariants.{FirstLane, SecondLane, Scalar, Zero}
 use Rattle.sve_effects.specs.LaneLoop.{is_active}
 use Rattle.lane_model.specs.Permute.{taken, zip_place, uzp_place, trn_place}
 use Rattle.sve_effects.specs.PermuteRows.{with_p_places, after_unpack_p, is_high_p}
@@ -167,7 +167,7 @@ word_bit n k p words is clear = ap (λ (p : List Bool). get_or p k false) is ∙
       get_or_past (bits_of n words) k false past ∙ sym (clear k h)
 ]
 
-taken_same : (a b x y : ℕ → Bool) → ((k : ℕ) → x k ≡ a k) → ((k : ℕ) → y k ≡ b k) → (p : Place) → taken a b false false p ≡ taken x y false false p
+taken_same : (a b x y : ℕ → Bool) → ((k : ℕ) → x k ≡ a k) → ((k : ℕ) → y k ≡ b k) → (p : LaneSource) → taken a b false false p ≡ taken x y false false p
 taken_same a b x y first second (FirstLane k) = sym (first k)
 taken_same a b x y first second (SecondLane k) = sym (second k)
 taken_same a b x y first second Scalar = refl
@@ -179,7 +179,7 @@ whole_field f j =
     let place : j ≡ j * 1 = omega arith in
     ap (field_bit 1 f) place ∙ at_start j 1 f some
 
-pub fields_written : (e bits pn pm pd : ℕ) (place : ℕ → ℕ → Place) (v : Vectors) (a b r : List ℕ) → IsLaneSize e → bits ≡ v.bits / 8
+pub fields_written : (e bits pn pm pd : ℕ) (place : ℕ → ℕ → LaneSource) (v : Vectors) (a b r : List ℕ) → IsLaneSize e → bits ≡ v.bits / 8
     → read_p v pn ≡ bits_of (v.bits / 8) a → AreClearFrom (v.bits / 8) a → read_p v pm ≡ bits_of (v.bits / 8) b → AreClearFrom (v.bits / 8) b
     → ((j : ℕ) → j < bits → bit_of r j ≡ taken (bit_of_field (e / 8) (j % (e / 8)) a) (bit_of_field (e / 8) (j % (e / 8)) b) false false (place (bits / (e / 8)) (j / (e / 8))))
     → with_p v pd (bits_of (v.bits / 8) r) ≡ with_p_places e (place (v.bits / e)) pn pm pd v

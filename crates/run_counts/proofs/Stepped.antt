@@ -10,12 +10,12 @@ use Rattle.emu_model.specs.declared.trap.Trap.{Trap as Cause}
 use Rattle.emu_model.specs.Access.{Memory, refused, value}
 use Rattle.emu_model.specs.State.{Core, Vectors, Parts, State}
 use Rattle.emu_model.specs.Done.{Done}
-use Rattle.emu_system.specs.SystemCall.{Action, fails, answers, maps, moves_break, sets_length, takes, puts, exits, Turn, quiet, done_by, action}
+use Rattle.emu_system.specs.SystemCall.{Action, fails, answers, maps, moves_break, sets_length, takes, puts, exits, Stepped, quiet, call_done, action}
 use Rattle.emu_run.specs.declared.insn.Insn.{Insn}
-use Rattle.emu_run.specs.Step.{decode, performed, trapped, finished, undefined, executed, fetched, turn, step}
+use Rattle.emu_run.specs.Step.{decode, performed, trapped, finished, undefined, executed, fetched, step_from, step}
 
 -- of a machine that goes on
-record CountsBy (m : Parts) (t : Turn) : Type 0 where
+record CountsBy (m : Parts) (t : Stepped) : Type 0 where
   pub exits : (code : ℕ) → t.parts.ended ≡ Some (Exit code) → t.parts.steps ≡ m.steps + 1
   pub traps : (x : Cause) → t.parts.ended ≡ Some (Trap x) → t.parts.steps ≡ m.steps
 
@@ -28,7 +28,7 @@ trap_exits A x code h = cc
 exit_traps : (A : Type 0) (x : Cause) (code : ℕ) → Some (Exit code) ≡ Some (Trap x) → A
 exit_traps A x code h = cc
 
-done_counts : (a : Action) (m : Parts) (input : List ℕ) → m.ended ≡ None → CountsBy m (done_by a m input)
+done_counts : (a : Action) (m : Parts) (input : List ℕ) → m.ended ≡ None → CountsBy m (call_done a m input)
 done_counts (fails e) m input none = record { exits = λ _ _. refl; traps = λ x h. goes_trapping (m.steps + 1 ≡ m.steps) m x none h }
 done_counts (answers v) m input none = record { exits = λ _ _. refl; traps = λ x h. goes_trapping (m.steps + 1 ≡ m.steps) m x none h }
 done_counts (maps memory v) m input none = record { exits = λ _ _. refl; traps = λ x h. goes_trapping (m.steps + 1 ≡ m.steps) m x none h }
@@ -57,7 +57,7 @@ fetched_counts : (m : Parts) (input : List ℕ) (o : Option ℕ) → m.ended ≡
 fetched_counts m input (Some a) none = record { exits = λ code h. trap_exits (m.steps ≡ m.steps + 1) _ code h; traps = λ _ _. refl }
 fetched_counts m input None none = executed_counts m input (decode (value m.memory m.core.pc 4)) none
 
-turn_counts : (m : Parts) (input : List ℕ) → m.ended ≡ None → CountsBy m (turn m input)
+turn_counts : (m : Parts) (input : List ℕ) → m.ended ≡ None → CountsBy m (step_from m input)
 turn_counts m input none =
     elim (nat_eq (m.core.pc % 4) 0) as (λ b. CountsBy m (if b then fetched m input (refused m.memory m.core.pc 4 FetchKind) else quiet (trapped m PcAlign m.core.pc) input)) [
       | true ↦ fetched_counts m input (refused m.memory m.core.pc 4 FetchKind) none

@@ -3,7 +3,6 @@ ghost use Rattle.std.specs.Prelude.{◌≡◌, true};
 ghost use Rattle.sve_insn.specs.declared.form.SveForm.{SveForm};
 ghost use Rattle.sve_effects.specs.VectorData as table;
 ghost use Rattle.sve_effects.specs.Effects as effects;
-ghost use Rattle.sve_data.specs.Groups.{is_copy};
 ghost use Rattle.emu_model.specs.LaneSizes.{IsLaneSize};
 
 use crate::fields::wide_signed;
@@ -11,43 +10,8 @@ use core_regs::Core;
 use emu_bits::{Pred, PredLow, Reg, U};
 use register_lanes::{Chunks, LaneOf, Local, Number, Select, merging, plain, zeroing};
 use sve_effects::lane_bits;
-use sve_insn::{Sve, SveForm};
+use sve_insn::Sve;
 use vec_regs::VecRegs;
-
-/// Does a copy.
-#[inline(always)]
-pub(crate) fn exec(core: &Core, vec: &mut VecRegs, i: &Sve)
-    requires { is_copy i.now ≡ true }
-    ensures { vec.new ≡ effects.vector_data i.now core.now vec.old }
-{
-    match *i.form() {
-        SveForm::DupImm { size, sh, imm8, zd } => dup_imm(core, vec, size, sh, imm8, zd),
-        SveForm::CopyImm {
-            size,
-            pg,
-            m,
-            sh,
-            imm8,
-            zd,
-        } => copy_imm(core, vec, size, pg, m, sh, imm8, zd),
-        SveForm::PrefixP {
-            size,
-            m,
-            pg,
-            zn,
-            zd,
-        } => prefix_p(core, vec, size, m, pg, zn, zd),
-        SveForm::Prefix { zn, zd } => prefix(core, vec, zn, zd),
-        SveForm::SelectZ {
-            size,
-            zm,
-            pg,
-            zn,
-            zd,
-        } => select(core, vec, size, zm, pg, zn, zd),
-        _ => {}
-    }
-}
 
 /// Writes the active lanes; the others keep their value where `merges` is set (/m), else they are 0 (/z).
 fn copied<L: Local + Chunks<u8, 16> + Chunks<u16, 8> + Chunks<u32, 4> + Chunks<u64, 2> + Drop>(
@@ -68,7 +32,9 @@ fn copied<L: Local + Chunks<u8, 16> + Chunks<u16, 8> + Chunks<u32, 4> + Chunks<u
     }
 }
 
-fn dup_imm(core: &Core, vec: &mut VecRegs, size: U<2>, sh: bool, imm8: U<8>, zd: Reg)
+/// `dup` of a signed immediate of 8 bits, which `sh` shifts by 8.
+#[inline(never)]
+pub(crate) fn dup_imm(core: &Core, vec: &mut VecRegs, size: U<2>, sh: bool, imm8: U<8>, zd: Reg)
     ensures { vec.new ≡ effects.vector_data (SveForm.DupImm size sh imm8 zd) core.now vec.old }
 {
     let e = lane_bits(size);
@@ -76,7 +42,9 @@ fn dup_imm(core: &Core, vec: &mut VecRegs, size: U<2>, sh: bool, imm8: U<8>, zd:
     plain(vec, e, zd, &Number { n });
 }
 
-fn copy_imm(
+/// `cpy` of a signed immediate to active lanes; the others are kept where `m` is set (/m), else 0.
+#[inline(never)]
+pub(crate) fn copy_imm(
     core: &Core,
     vec: &mut VecRegs,
     size: U<2>,
@@ -93,20 +61,42 @@ fn copy_imm(
     copied(vec, m, e, pg, zd, Number { n });
 }
 
-fn prefix_p(core: &Core, vec: &mut VecRegs, size: U<2>, m: bool, pg: PredLow, zn: Reg, zd: Reg)
+/// `movprfx` under a predicate: active lanes are copied; the others are kept where `m` is set (/m), else 0.
+#[inline(never)]
+pub(crate) fn prefix_p(
+    core: &Core,
+    vec: &mut VecRegs,
+    size: U<2>,
+    m: bool,
+    pg: PredLow,
+    zn: Reg,
+    zd: Reg,
+)
     ensures { vec.new ≡ effects.vector_data (SveForm.PrefixP size m pg zn zd) core.now vec.old }
 {
     let lanes = LaneOf { r: zn };
     copied(vec, m, lane_bits(size), pg.register(), zd, lanes);
 }
 
-fn prefix(core: &Core, vec: &mut VecRegs, zn: Reg, zd: Reg)
+/// `movprfx` of a whole vector.
+#[inline(never)]
+pub(crate) fn prefix(core: &Core, vec: &mut VecRegs, zn: Reg, zd: Reg)
     ensures { vec.new ≡ effects.vector_data (SveForm.Prefix zn zd) core.now vec.old }
 {
     plain(vec, 64, zd, &LaneOf { r: zn });
 }
 
-fn select(core: &Core, vec: &mut VecRegs, size: U<2>, zm: Reg, pg: Pred, zn: Reg, zd: Reg)
+/// `sel`: lanes of zn where active, else of zm.
+#[inline(never)]
+pub(crate) fn select(
+    core: &Core,
+    vec: &mut VecRegs,
+    size: U<2>,
+    zm: Reg,
+    pg: Pred,
+    zn: Reg,
+    zd: Reg,
+)
     ensures { vec.new ≡ effects.vector_data (SveForm.SelectZ size zm pg zn zd) core.now vec.old }
 {
     let lanes = Select { pg, zn, zm };

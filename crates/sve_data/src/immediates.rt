@@ -2,7 +2,6 @@
 ghost use Rattle.std.specs.Prelude.{◌≡◌, true};
 ghost use Rattle.sve_insn.specs.declared.form.SveForm.{SveForm};
 ghost use Rattle.sve_effects.specs.Effects as effects;
-ghost use Rattle.sve_data.specs.Groups.{is_immediate};
 
 use crate::fields::{lane_immediate, wide_unsigned};
 use crate::operations::plain_number;
@@ -14,41 +13,13 @@ use lane_ops::{
 };
 use register_lanes::{Number, plain};
 use sve_effects::lane_bits;
-use sve_insn::{BitmaskZOp, MinMaxImmOp, Sve, SveForm, WideImmOp};
+use sve_insn::{BitmaskZOp, MinMaxImmOp, WideImmOp};
 use vec_regs::VecRegs;
 
-/// Does an operation with an immediate.
-#[inline(always)]
-pub(crate) fn exec(core: &Core, vec: &mut VecRegs, i: &Sve)
-    requires { is_immediate i.now ≡ true }
-    ensures { vec.new ≡ effects.vector_data i.now core.now vec.old }
-{
-    match *i.form() {
-        SveForm::WideImm {
-            op,
-            size,
-            sh,
-            imm8,
-            zdn,
-        } => wide_imm(core, vec, op, size, sh, imm8, zdn),
-        SveForm::MinMaxImm {
-            op,
-            size,
-            imm8,
-            zdn,
-        } => min_max_imm(core, vec, op, size, imm8, zdn),
-        SveForm::BitmaskZ {
-            op,
-            n,
-            immr,
-            imms,
-            zdn,
-        } => bitmask(core, vec, op, n, immr, imms, zdn),
-        _ => {}
-    }
-}
-
-fn wide_imm(
+/// `add`, `sub`, `subr`, `sqadd`, `uqadd`, `sqsub`, `uqsub` of all lanes and an unsigned immediate of 8 bits, which
+/// `sh` shifts by 8.
+#[inline(never)]
+pub(crate) fn wide_imm(
     core: &Core,
     vec: &mut VecRegs,
     op: WideImmOp,
@@ -72,7 +43,16 @@ fn wide_imm(
     }
 }
 
-fn min_max_imm(core: &Core, vec: &mut VecRegs, op: MinMaxImmOp, size: U<2>, imm8: U<8>, zdn: Reg)
+/// `smax`, `smin`, `mul`, `umax`, `umin` of all lanes and an immediate of 8 bits.
+#[inline(never)]
+pub(crate) fn min_max_imm(
+    core: &Core,
+    vec: &mut VecRegs,
+    op: MinMaxImmOp,
+    size: U<2>,
+    imm8: U<8>,
+    zdn: Reg,
+)
     ensures { vec.new ≡ effects.vector_data (SveForm.MinMaxImm op size imm8 zdn) core.now vec.old }
 {
     let e = lane_bits(size);
@@ -87,7 +67,9 @@ fn min_max_imm(core: &Core, vec: &mut VecRegs, op: MinMaxImmOp, size: U<2>, imm8
     }
 }
 
-fn bitmask(
+/// `orr`, `eor`, `and` of a vector and a bitmask immediate of 64 bits; `dupm`, which puts it into each lane.
+#[inline(never)]
+pub(crate) fn bitmask(
     core: &Core,
     vec: &mut VecRegs,
     op: BitmaskZOp,

@@ -2,7 +2,6 @@
 ghost use Rattle.std.specs.Prelude.{◌≡◌, true};
 ghost use Rattle.sve_insn.specs.declared.form.SveForm.{SveForm};
 ghost use Rattle.sve_effects.specs.Effects as effects;
-ghost use Rattle.sve_data.specs.Groups.{is_merging};
 
 use crate::fields::{shift_amount, shift_bits, tsz_of};
 use crate::names::shift_imm_lane_op;
@@ -15,50 +14,21 @@ use lane_ops::{
     Sxtw, Uabd, Udiv, Udivr, Umax, Umin, Umulh, Uxtb, Uxth, Uxtw,
 };
 use sve_effects::lane_bits;
-use sve_insn::{BinaryOp, ShiftImmOp, ShiftOp, Sve, SveForm, UnaryOp};
+use sve_insn::{BinaryOp, ShiftImmOp, ShiftOp, UnaryOp};
 use vec_regs::VecRegs;
 
-/// Does a merging operation.
-#[inline(always)]
-pub(crate) fn exec(core: &Core, vec: &mut VecRegs, i: &Sve)
-    requires { is_merging i.now ≡ true }
-    ensures { vec.new ≡ effects.vector_data i.now core.now vec.old }
-{
-    match *i.form() {
-        SveForm::Binary {
-            op,
-            size,
-            pg,
-            zm,
-            zdn,
-        } => binary(core, vec, op, size, pg, zm, zdn),
-        SveForm::BinaryWide {
-            op,
-            size,
-            pg,
-            zm,
-            zdn,
-        } => binary_wide(core, vec, op, size, pg, zm, zdn),
-        SveForm::ShiftImm {
-            op,
-            tszh,
-            pg,
-            tszl,
-            imm3,
-            zdn,
-        } => shift_imm(core, vec, op, tszh, pg, tszl, imm3, zdn),
-        SveForm::Unary {
-            op,
-            size,
-            pg,
-            zn,
-            zd,
-        } => unary(core, vec, op, size, pg, zn, zd),
-        _ => {}
-    }
-}
-
-fn binary(core: &Core, vec: &mut VecRegs, op: BinaryOp, size: U<2>, pg: PredLow, zm: Reg, zdn: Reg)
+/// `add`, `sub`, `smax` and the other operations of two vectors under a predicate: active lanes of zdn have the
+/// result of their old value and the lane of zm, the others keep theirs. Lanes have 8, 16, 32 or 64 bits, by `size`.
+#[inline(never)]
+pub(crate) fn binary(
+    core: &Core,
+    vec: &mut VecRegs,
+    op: BinaryOp,
+    size: U<2>,
+    pg: PredLow,
+    zm: Reg,
+    zdn: Reg,
+)
     ensures { vec.new ≡ effects.vector_data (SveForm.Binary op size pg zm zdn) core.now vec.old }
 {
     let e = lane_bits(size);
@@ -93,7 +63,9 @@ fn binary(core: &Core, vec: &mut VecRegs, op: BinaryOp, size: U<2>, pg: PredLow,
     }
 }
 
-fn binary_wide(
+/// `asr`, `lsr`, `lsl` of active lanes by the 64-bit lane of zm that covers each; the others keep their value.
+#[inline(never)]
+pub(crate) fn binary_wide(
     core: &Core,
     vec: &mut VecRegs,
     op: ShiftOp,
@@ -113,7 +85,10 @@ fn binary_wide(
     }
 }
 
-fn shift_imm(
+/// `asr`, `lsr`, `lsl`, `asrd` of active lanes by an immediate; the others keep their value. The highest set bit of
+/// tszh:tszl gives the size of lanes.
+#[inline(never)]
+pub(crate) fn shift_imm(
     core: &Core,
     vec: &mut VecRegs,
     op: ShiftImmOp,
@@ -137,7 +112,18 @@ fn shift_imm(
     }
 }
 
-fn unary(core: &Core, vec: &mut VecRegs, op: UnaryOp, size: U<2>, pg: PredLow, zn: Reg, zd: Reg)
+/// `sxtb`, `abs`, `clz`, `revb` and the other operations of one vector under a predicate: active lanes of zd have the
+/// result, the others keep their value.
+#[inline(never)]
+pub(crate) fn unary(
+    core: &Core,
+    vec: &mut VecRegs,
+    op: UnaryOp,
+    size: U<2>,
+    pg: PredLow,
+    zn: Reg,
+    zd: Reg,
+)
     ensures { vec.new ≡ effects.vector_data (SveForm.Unary op size pg zn zd) core.now vec.old }
 {
     let e = lane_bits(size);

@@ -4,7 +4,6 @@ ghost use Rattle.sve_insn.specs.declared.form.SveForm.{SveForm};
 ghost use Rattle.emu_model.specs.LaneSizes.{IsLaneSize};
 ghost use Rattle.sve_effects.specs.VectorData as table;
 ghost use Rattle.sve_effects.specs.Effects as effects;
-ghost use Rattle.sve_data.specs.Groups.{is_product};
 
 use crate::names::dot_indexed_signed;
 use crate::operations::{merging_three, plain_indexed};
@@ -13,46 +12,12 @@ use emu_bits::{PredLow, Reg, U};
 use lane_ops::{Mad, Mla, Mls, Msb, Sdot, Udot};
 use register_lanes::{Map3, plain};
 use sve_effects::lane_bits;
-use sve_insn::{DotIndexedOp, DotOp, MulAddDOp, MulAddZOp, Sve, SveForm};
+use sve_insn::{DotIndexedOp, DotOp, MulAddDOp, MulAddZOp};
 use vec_regs::VecRegs;
 
-/// Adds products to lanes, or subtracts them.
-#[tactic(auto, unfolding(sve_insn::specs::Lanes::dot))]
-#[inline(always)]
-pub(crate) fn exec(core: &Core, vec: &mut VecRegs, i: &Sve)
-    requires { is_product i.now ≡ true }
-    ensures { vec.new ≡ effects.vector_data i.now core.now vec.old }
-{
-    match *i.form() {
-        SveForm::MulAddZ {
-            op,
-            size,
-            zm,
-            pg,
-            zn,
-            zda,
-        } => mul_add_z(core, vec, op, size, zm, pg, zn, zda),
-        SveForm::MulAddD {
-            op,
-            size,
-            zm,
-            pg,
-            za,
-            zdn,
-        } => mul_add_d(core, vec, op, size, zm, pg, za, zdn),
-        SveForm::Dot {
-            op,
-            size,
-            zm,
-            zn,
-            zda,
-        } => dot(core, vec, op, size, zm, zn, zda),
-        SveForm::DotIndexed { op, i_zm, zn, zda } => dot_indexed(core, vec, op, i_zm, zn, zda),
-        _ => {}
-    }
-}
-
-fn mul_add_z(
+/// `mla`, `mls`: where active, the product of zn and zm is added to zda, or subtracted from it.
+#[inline(never)]
+pub(crate) fn mul_add_z(
     core: &Core,
     vec: &mut VecRegs,
     op: MulAddZOp,
@@ -72,7 +37,9 @@ fn mul_add_z(
     }
 }
 
-fn mul_add_d(
+/// `mad`, `msb`: where active, the product of zdn and zm is added to za, or subtracted from it.
+#[inline(never)]
+pub(crate) fn mul_add_d(
     core: &Core,
     vec: &mut VecRegs,
     op: MulAddDOp,
@@ -92,7 +59,9 @@ fn mul_add_d(
     }
 }
 
-fn dot(core: &Core, vec: &mut VecRegs, op: DotOp, size: U<2>, zm: Reg, zn: Reg, zda: Reg)
+/// `sdot`, `udot`: the sum of the products of the four quarters of lanes of 32 or 64 bits, added to zda.
+#[inline(never)]
+pub(crate) fn dot(core: &Core, vec: &mut VecRegs, op: DotOp, size: U<2>, zm: Reg, zn: Reg, zda: Reg)
     ensures { vec.new ≡ effects.vector_data (SveForm.Dot op size zm zn zda) core.now vec.old }
 {
     let e = lane_bits(size);
@@ -109,7 +78,16 @@ fn dot(core: &Core, vec: &mut VecRegs, op: DotOp, size: U<2>, zm: Reg, zn: Reg, 
     }
 }
 
-fn dot_indexed(core: &Core, vec: &mut VecRegs, op: DotIndexedOp, i_zm: U<5>, zn: Reg, zda: Reg)
+/// `sdot`, `udot` with the quarters of one lane of the same 128 bits of zm, which `i_zm` names with its register.
+#[inline(never)]
+pub(crate) fn dot_indexed(
+    core: &Core,
+    vec: &mut VecRegs,
+    op: DotIndexedOp,
+    i_zm: U<5>,
+    zn: Reg,
+    zda: Reg,
+)
     ensures { vec.new ≡ effects.vector_data (SveForm.DotIndexed op i_zm zn zda) core.now vec.old }
 {
     let n = i_zm.get();
@@ -128,7 +106,7 @@ fn dot_indexed(core: &Core, vec: &mut VecRegs, op: DotIndexedOp, i_zm: U<5>, zn:
 fn dot_with_lane(vec: &mut VecRegs, is_signed: bool, e: u32, i: u32, zm: Reg, zn: Reg, zda: Reg)
     requires size { IsLaneSize e }
     requires within { i < 128 / e }
-    ensures { vec.new ≡ table.dot_indexed is_signed e i zm zn zda vec.old }
+    ensures { vec.new ≡ table.dot_indexed_lanes is_signed e i zm zn zda vec.old }
 {
     if is_signed {
         plain_indexed(vec, e, zda, zn, zm, i, Sdot);

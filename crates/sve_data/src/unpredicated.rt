@@ -2,7 +2,6 @@
 ghost use Rattle.std.specs.Prelude.{◌≡◌, true};
 ghost use Rattle.sve_insn.specs.declared.form.SveForm.{SveForm};
 ghost use Rattle.sve_effects.specs.Effects as effects;
-ghost use Rattle.sve_data.specs.Groups.{is_plain};
 
 use crate::fields::{shift_amount, shift_bits, tsz_of};
 use crate::names::shift_lane_op;
@@ -11,44 +10,20 @@ use core_regs::Core;
 use emu_bits::{Reg, U};
 use lane_ops::{Add, And, Asr, Bic, Eor, Lsl, Lsr, Orr, Sqadd, Sqsub, Sub, Uqadd, Uqsub};
 use sve_effects::lane_bits;
-use sve_insn::{LogicZOp, PlainOp, ShiftOp, Sve, SveForm};
+use sve_insn::{LogicZOp, PlainOp, ShiftOp};
 use vec_regs::VecRegs;
 
-/// Does an operation of all lanes.
-#[inline(always)]
-pub(crate) fn exec(core: &Core, vec: &mut VecRegs, i: &Sve)
-    requires { is_plain i.now ≡ true }
-    ensures { vec.new ≡ effects.vector_data i.now core.now vec.old }
-{
-    match *i.form() {
-        SveForm::Plain {
-            op,
-            size,
-            zm,
-            zn,
-            zd,
-        } => sum(core, vec, op, size, zm, zn, zd),
-        SveForm::LogicZ { op, zm, zn, zd } => logic(core, vec, op, zm, zn, zd),
-        SveForm::PlainWide {
-            op,
-            size,
-            zm,
-            zn,
-            zd,
-        } => shift_wide(core, vec, op, size, zm, zn, zd),
-        SveForm::PlainShift {
-            op,
-            tszh,
-            tszl,
-            imm3,
-            zn,
-            zd,
-        } => shift_imm(core, vec, op, tszh, tszl, imm3, zn, zd),
-        _ => {}
-    }
-}
-
-fn sum(core: &Core, vec: &mut VecRegs, op: PlainOp, size: U<2>, zm: Reg, zn: Reg, zd: Reg)
+/// `add`, `sub`, `sqadd`, `uqadd`, `sqsub`, `uqsub` of all lanes of two vectors.
+#[inline(never)]
+pub(crate) fn sum(
+    core: &Core,
+    vec: &mut VecRegs,
+    op: PlainOp,
+    size: U<2>,
+    zm: Reg,
+    zn: Reg,
+    zd: Reg,
+)
     ensures { vec.new ≡ effects.vector_data (SveForm.Plain op size zm zn zd) core.now vec.old }
 {
     match op {
@@ -61,7 +36,9 @@ fn sum(core: &Core, vec: &mut VecRegs, op: PlainOp, size: U<2>, zm: Reg, zn: Reg
     }
 }
 
-fn logic(core: &Core, vec: &mut VecRegs, op: LogicZOp, zm: Reg, zn: Reg, zd: Reg)
+/// `and`, `orr`, `eor`, `bic` of two vectors.
+#[inline(never)]
+pub(crate) fn logic(core: &Core, vec: &mut VecRegs, op: LogicZOp, zm: Reg, zn: Reg, zd: Reg)
     ensures { vec.new ≡ effects.vector_data (SveForm.LogicZ op zm zn zd) core.now vec.old }
 {
     match op {
@@ -72,7 +49,17 @@ fn logic(core: &Core, vec: &mut VecRegs, op: LogicZOp, zm: Reg, zn: Reg, zd: Reg
     }
 }
 
-fn shift_wide(core: &Core, vec: &mut VecRegs, op: ShiftOp, size: U<2>, zm: Reg, zn: Reg, zd: Reg)
+/// `asr`, `lsr`, `lsl` of all lanes by the 64-bit lane of zm that covers each.
+#[inline(never)]
+pub(crate) fn shift_wide(
+    core: &Core,
+    vec: &mut VecRegs,
+    op: ShiftOp,
+    size: U<2>,
+    zm: Reg,
+    zn: Reg,
+    zd: Reg,
+)
     ensures { vec.new ≡ effects.vector_data (SveForm.PlainWide op size zm zn zd) core.now vec.old }
 {
     let e = lane_bits(size);
@@ -83,7 +70,9 @@ fn shift_wide(core: &Core, vec: &mut VecRegs, op: ShiftOp, size: U<2>, zm: Reg, 
     }
 }
 
-fn shift_imm(
+/// `asr`, `lsr`, `lsl` of all lanes by an immediate. The highest set bit of tszh:tszl gives the size of lanes.
+#[inline(never)]
+pub(crate) fn shift_imm(
     core: &Core,
     vec: &mut VecRegs,
     op: ShiftOp,

@@ -11,7 +11,7 @@ use Rattle.sve_effects.specs.declared.groups.Group.TheVariants.{Lanes, Permutes,
 use Rattle.sve_effects.specs.FirstFault.{first_fault_row}
 use Rattle.sve_effects.specs.Row.{Row, by_lanes, by_registers, memory}
 use Rattle.sve_effects.specs.Rows.{row}
-use Rattle.sve_effects.specs.VectorElements.{MemoryRow, Layout, elements_of, row_layout, loads, whole, whole_z, scalar, single_bytes}
+use Rattle.sve_effects.specs.VectorElements.{MemoryRow, Layout, elements_of, row_layout, loads, whole_lengths, whole_z, scalar, single_bytes}
 use Rattle.sve_effects.specs.VectorLoadStore.{load_row, store_row}
 
 -- ---- of rows
@@ -23,8 +23,8 @@ no_elements = record {
   width = single_bytes;
   registers = 0;
   first = 0;
-  transfer = whole_z;
-  brackets = scalar 0 (whole 0);
+  choice = whole_z;
+  brackets = scalar 0 (whole_lengths 0);
 }
 
 -- the registers after a row that reaches no memory

@@ -113,24 +113,24 @@ number_of_parts p (suc n) f = number_of_parts p n f + f n * 2 ^ (p * n)
 abbrev pub reversed_parts : ℕ → ℕ → ℕ → ℕ
 reversed_parts p e a = number_of_parts p (e / p) (λ j. field a (p * (e / p - 1 - j)) p)
 
-abbrev pub unary : UnaryOp → ℕ → ℕ → ℕ
-unary unary_names.Sxtb e a = sign_extended e 8 a
-unary unary_names.Uxtb e a = zero_extended e 8 a
-unary unary_names.Sxth e a = sign_extended e 16 a
-unary unary_names.Uxth e a = zero_extended e 16 a
-unary unary_names.Sxtw e a = sign_extended e 32 a
-unary unary_names.Uxtw e a = zero_extended e 32 a
-unary unary_names.Abs e a = unsigned (unsigned_abs (signed a e)) e
-unary unary_names.Neg e a = unsigned_int (neg_ℤ (pos a)) e
-unary unary_names.Cls e a = leading_copies e a
-unary unary_names.Clz e a = leading_zeros e a
-unary unary_names.Cnt e a = count_ones a
-unary unary_names.Cnot e a = bit (nat_eq a 0)
-unary unary_names.Not e a = complement e a
-unary unary_names.Revb e a = reversed_parts 8 e a
-unary unary_names.Revh e a = reversed_parts 16 e a
-unary unary_names.Revw e a = reversed_parts 32 e a
-unary unary_names.Rbit e a = reversed_bits e a
+abbrev pub unary_lane : UnaryOp → ℕ → ℕ → ℕ
+unary_lane unary_names.Sxtb e a = sign_extended e 8 a
+unary_lane unary_names.Uxtb e a = zero_extended e 8 a
+unary_lane unary_names.Sxth e a = sign_extended e 16 a
+unary_lane unary_names.Uxth e a = zero_extended e 16 a
+unary_lane unary_names.Sxtw e a = sign_extended e 32 a
+unary_lane unary_names.Uxtw e a = zero_extended e 32 a
+unary_lane unary_names.Abs e a = unsigned (unsigned_abs (signed a e)) e
+unary_lane unary_names.Neg e a = unsigned_int (neg_ℤ (pos a)) e
+unary_lane unary_names.Cls e a = leading_copies e a
+unary_lane unary_names.Clz e a = leading_zeros e a
+unary_lane unary_names.Cnt e a = count_ones a
+unary_lane unary_names.Cnot e a = bit (nat_eq a 0)
+unary_lane unary_names.Not e a = complement e a
+unary_lane unary_names.Revb e a = reversed_parts 8 e a
+unary_lane unary_names.Revh e a = reversed_parts 16 e a
+unary_lane unary_names.Revw e a = reversed_parts 32 e a
+unary_lane unary_names.Rbit e a = reversed_bits e a
 
 -- ---- products added and subtracted
 
@@ -178,33 +178,33 @@ dot_signed dot_names.Udot = false
 -- ---- names to functions
 
 -- the names with r take their operands in the other order
-abbrev pub binary : BinaryOp → ℕ → ℕ → ℕ → ℕ
-binary binary_names.Add e a b = lane_op Add e a b
-binary binary_names.Sub e a b = lane_op Sub e a b
-binary binary_names.Subr e a b = lane_op Sub e b a
-binary binary_names.Smax e a b = lane_op Smax e a b
-binary binary_names.Umax e a b = lane_op Umax e a b
-binary binary_names.Smin e a b = lane_op Smin e a b
-binary binary_names.Umin e a b = lane_op Umin e a b
-binary binary_names.Sabd e a b = lane_op Sabd e a b
-binary binary_names.Uabd e a b = lane_op Uabd e a b
-binary binary_names.Mul e a b = lane_op Mul e a b
-binary binary_names.Smulh e a b = lane_op Smulh e a b
-binary binary_names.Umulh e a b = lane_op Umulh e a b
-binary binary_names.Sdiv e a b = lane_op Sdiv e a b
-binary binary_names.Udiv e a b = lane_op Udiv e a b
-binary binary_names.Sdivr e a b = lane_op Sdiv e b a
-binary binary_names.Udivr e a b = lane_op Udiv e b a
-binary binary_names.Orr e a b = lane_op Orr e a b
-binary binary_names.Eor e a b = lane_op Eor e a b
-binary binary_names.And e a b = lane_op And e a b
-binary binary_names.Bic e a b = lane_op Bic e a b
-binary binary_names.Asr e a b = lane_op Asr e a b
-binary binary_names.Lsr e a b = lane_op Lsr e a b
-binary binary_names.Lsl e a b = lane_op Lsl e a b
-binary binary_names.Asrr e a b = lane_op Asr e b a
-binary binary_names.Lsrr e a b = lane_op Lsr e b a
-binary binary_names.Lslr e a b = lane_op Lsl e b a
+abbrev pub binary_lane : BinaryOp → ℕ → ℕ → ℕ → ℕ
+binary_lane binary_names.Add e a b = lane_op Add e a b
+binary_lane binary_names.Sub e a b = lane_op Sub e a b
+binary_lane binary_names.Subr e a b = lane_op Sub e b a
+binary_lane binary_names.Smax e a b = lane_op Smax e a b
+binary_lane binary_names.Umax e a b = lane_op Umax e a b
+binary_lane binary_names.Smin e a b = lane_op Smin e a b
+binary_lane binary_names.Umin e a b = lane_op Umin e a b
+binary_lane binary_names.Sabd e a b = lane_op Sabd e a b
+binary_lane binary_names.Uabd e a b = lane_op Uabd e a b
+binary_lane binary_names.Mul e a b = lane_op Mul e a b
+binary_lane binary_names.Smulh e a b = lane_op Smulh e a b
+binary_lane binary_names.Umulh e a b = lane_op Umulh e a b
+binary_lane binary_names.Sdiv e a b = lane_op Sdiv e a b
+binary_lane binary_names.Udiv e a b = lane_op Udiv e a b
+binary_lane binary_names.Sdivr e a b = lane_op Sdiv e b a
+binary_lane binary_names.Udivr e a b = lane_op Udiv e b a
+binary_lane binary_names.Orr e a b = lane_op Orr e a b
+binary_lane binary_names.Eor e a b = lane_op Eor e a b
+binary_lane binary_names.And e a b = lane_op And e a b
+binary_lane binary_names.Bic e a b = lane_op Bic e a b
+binary_lane binary_names.Asr e a b = lane_op Asr e a b
+binary_lane binary_names.Lsr e a b = lane_op Lsr e a b
+binary_lane binary_names.Lsl e a b = lane_op Lsl e a b
+binary_lane binary_names.Asrr e a b = lane_op Asr e b a
+binary_lane binary_names.Lsrr e a b = lane_op Lsr e b a
+binary_lane binary_names.Lslr e a b = lane_op Lsl e b a
 
 abbrev pub shift_lane_op : ShiftOp → LaneOp
 shift_lane_op shift_names.Asr = Asr
@@ -232,14 +232,14 @@ logic_lane_op logic_names.Eor = Eor
 logic_lane_op logic_names.Bic = Bic
 
 -- an immediate is the unsigned number that it is, also beside a signed lane; subr takes the operands in the other order
-abbrev pub wide_imm : WideImmOp → ℕ → ℕ → ℕ → ℕ
-wide_imm wide_imm_names.Add e a b = lane_op Add e a b
-wide_imm wide_imm_names.Sub e a b = lane_op Sub e a b
-wide_imm wide_imm_names.Subr e a b = lane_op Sub e b a
-wide_imm wide_imm_names.Sqadd e a b = lane_op SqaddAmount e a b
-wide_imm wide_imm_names.Uqadd e a b = lane_op Uqadd e a b
-wide_imm wide_imm_names.Sqsub e a b = lane_op SqsubAmount e a b
-wide_imm wide_imm_names.Uqsub e a b = lane_op Uqsub e a b
+abbrev pub wide_imm_lane : WideImmOp → ℕ → ℕ → ℕ → ℕ
+wide_imm_lane wide_imm_names.Add e a b = lane_op Add e a b
+wide_imm_lane wide_imm_names.Sub e a b = lane_op Sub e a b
+wide_imm_lane wide_imm_names.Subr e a b = lane_op Sub e b a
+wide_imm_lane wide_imm_names.Sqadd e a b = lane_op SqaddAmount e a b
+wide_imm_lane wide_imm_names.Uqadd e a b = lane_op Uqadd e a b
+wide_imm_lane wide_imm_names.Sqsub e a b = lane_op SqsubAmount e a b
+wide_imm_lane wide_imm_names.Uqsub e a b = lane_op Uqsub e a b
 
 -- an immediate of 8 bits is signed, but beside umax and umin
 abbrev pub min_max : MinMaxImmOp → ℕ → ℕ → ℕ → ℕ
@@ -251,7 +251,7 @@ min_max min_max_names.Umin e a imm8 = lane_op Umin e a imm8
 
 -- a lane and a bitmask; dupm puts the bitmask in the lane
 abbrev pub bitmask_lane_op : BitmaskZOp → ℕ → ℕ → ℕ
-bitmask_lane_op bitmask_names.Orr a m = lane_op Orr 64 a m
-bitmask_lane_op bitmask_names.Eor a m = lane_op Eor 64 a m
-bitmask_lane_op bitmask_names.And a m = lane_op And 64 a m
-bitmask_lane_op bitmask_names.Dupm a m = m
+bitmask_lane_op bitmask_names.Orr a b = lane_op Orr 64 a b
+bitmask_lane_op bitmask_names.Eor a b = lane_op Eor 64 a b
+bitmask_lane_op bitmask_names.And a b = lane_op And 64 a b
+bitmask_lane_op bitmask_names.Dupm a b = b

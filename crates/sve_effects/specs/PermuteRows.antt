@@ -23,7 +23,7 @@ use Rattle.sve_effects.specs.Lane.{extended_by}
 use Rattle.sve_effects.specs.LaneLoop.{lane_bits, lane_of, is_active}
 use Rattle.lane_model.specs.FirstLast.{first_where, last_where}
 use Rattle.emu_model.specs.Lanes.{read_p, with_lanes, with_low, with_fields}
-use Rattle.lane_model.specs.declared.places.Place.{Place}
+use Rattle.lane_model.specs.declared.places.LaneSource.{LaneSource}
 use Rattle.lane_model.specs.Permute.{taken, zip_place, uzp_place, trn_place, half_place, last_lane}
 
 -- ---- lanes and fields by places
@@ -33,7 +33,7 @@ abbrev pub lanes : ℕ → Vectors → ℕ
 lanes e v = v.bits / e
 
 -- lane k of e bits of Zd is what place k names, of Zn, Zm and a scalar
-abbrev pub with_places : ℕ → (ℕ → Place) → ℕ → ℕ → ℕ → ℕ → Vectors → Vectors
+abbrev pub with_places : ℕ → (ℕ → LaneSource) → ℕ → ℕ → ℕ → ℕ → Vectors → Vectors
 with_places e place zn zm scalar zd v =
     with_lanes e (λ k. taken (lane_of e v zn) (lane_of e v zm) scalar 0 (place k)) zd v
 
@@ -42,7 +42,7 @@ abbrev pub bit_of_field : ℕ → ℕ → List Bool → ℕ → Bool
 bit_of_field w i bits k = get_or bits (k * w + i) false
 
 -- field k of e / 8 bits of Pd is the whole field that place k names, of Pn and Pm
-abbrev pub with_p_places : ℕ → (ℕ → Place) → ℕ → ℕ → ℕ → Vectors → Vectors
+abbrev pub with_p_places : ℕ → (ℕ → LaneSource) → ℕ → ℕ → ℕ → Vectors → Vectors
 with_p_places e place pn pm pd v =
     let w : ℕ = e / 8 in
     with_fields 8 (λ j. taken
@@ -68,7 +68,7 @@ unpacks Uunpklo = (false, false)
 unpacks Uunpkhi = (true, false)
 
 -- the names with 1 are of the first halves, or of the even lanes; those with 2 of the others
-abbrev pub interleave_place : InterleaveOp → ℕ → ℕ → Place
+abbrev pub interleave_place : InterleaveOp → ℕ → ℕ → LaneSource
 interleave_place Zip1 n k = zip_place false n k
 interleave_place Zip2 n k = zip_place true n k
 interleave_place Uzp1 n k = uzp_place false n k

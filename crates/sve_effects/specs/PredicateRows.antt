@@ -56,11 +56,11 @@ predicate_bits v = v.bits / 8
 
 -- all ones
 abbrev pub ones : ℕ → List Bool
-ones m = each m (λ k. true)
+ones n = each n (λ k. true)
 
 -- the flags of PredTest(g, result, e), where they are set
 abbrev pub after_test : Bool → ℕ → ℕ → List Bool → List Bool → Core → Core
-after_test sets e m g result c = if sets then record c { flags = pred_test e m g result } else c
+after_test sets e n g result c = if sets then record c { flags = pred_test e n g result } else c
 
 -- a result in predicate pd, with the flags of PredTest(g, result, e), where they are set
 abbrev pub with_result : Bool → ℕ → List Bool → ℕ → List Bool → Core → Vectors → Registers

@@ -12,10 +12,10 @@ use Rattle.emu_model.specs.Done.{leaves, Done}
 use Rattle.emu_model.specs.State.{read_x, read_x_sp, with_x, with_x_sp, Core, Vectors}
 use Rattle.emu_model.specs.Access.{Memory}
 use Rattle.emu_model.specs.Lanes.{read_p, with_p, with_ffr, with_lanes}
-use Rattle.lane_model.specs.declared.places.Place.TheVariants.{Scalar}
+use Rattle.lane_model.specs.declared.places.LaneSource.TheVariants.{Scalar}
 use Rattle.lane_model.specs.declared.predicates.LogicOp.TheVariants.{And, Sel}
 use Rattle.sve_effects.specs.Counts.{count_of, inc_lane_op, saturating, sat_counted, length_of, multiple}
-use Rattle.sve_effects.specs.Lane.{lane_op, lane_test, unary, multiply_z, multiply_d, dot_product, dot_signed, binary, shift_lane_op, shift_imm_lane_op, plain_lane_op, logic_lane_op, wide_imm, min_max, bitmask_lane_op, extended_by}
+use Rattle.sve_effects.specs.Lane.{lane_op, lane_test, unary_lane, multiply_z, multiply_d, dot_product, dot_signed, binary_lane, shift_lane_op, shift_imm_lane_op, plain_lane_op, logic_lane_op, wide_imm_lane, min_max, bitmask_lane_op, extended_by}
 use Rattle.sve_effects.specs.LaneLoop.{lane_bits, lane_of, covering_lane, is_active, every_lane, merging}
 use Rattle.sve_effects.specs.Fold.{reduced}
 use Rattle.lane_model.specs.Pattern.{pattern_count}
@@ -24,19 +24,19 @@ use Rattle.sve_effects.specs.PermuteRows.{interleave_place, lanes, with_places, 
 use Rattle.lane_model.specs.Predicate.{logic, broken, broken_pair, broken_next, with_first, only_next, lanes_below, count_lanes}
 use Rattle.sve_effects.specs.PredicateRows.{predicate_bits, ones, after_test, with_result, with_result_and_flags, with_compared, vector_test, wide_test, unsigned_test, signed_test, is_unsigned, logic_of, break_after, pair_after, ptrue_flags, read_ffr_flags, written_ffr, counted_by, set_lanes_of, while_result, terminates, termination_flags}
 use Rattle.sve_effects.specs.Row.{Row, by_lanes, by_registers, memory, done_by}
-use Rattle.sve_effects.specs.VectorData.{tsz_of, shift_bits, shifted_by, wide_unsigned, wide_signed, index_start, index_step, dot_of, dot_indexed, copied}
-use Rattle.sve_effects.specs.VectorElements.{Brackets, loads, stores, first_faults, non_faults, gathering, each_active, repeated, replicated, whole_z, whole_p, scalar, vector, lengths, quadwords, register, single, whole, words, doublewords, load_registers, store_registers, by_dtype, filling, single_bytes, extending, part_of, MemoryRow, Offset, Transfer, Way, Width}
+use Rattle.sve_effects.specs.VectorData.{tsz_of, shift_bits, shifted_by, wide_unsigned, wide_signed, index_start, index_step, dot_of, dot_indexed_lanes, copied}
+use Rattle.sve_effects.specs.VectorElements.{Brackets, loads, stores, first_faults, non_faults, gathering, each_active, each_repeated, replicated, whole_z, whole_p, scalar, vector, lengths, quadwords, by_register, single, whole_lengths, words, doublewords, load_registers, store_registers, by_dtype, full_width, single_bytes, extending, part_of, MemoryRow, Offset, LaneChoice, Way, Width}
 
 -- ---- loads and stores
 
 -- the elements of one register
-abbrev pub one_register : Way → Width → ℕ → Transfer → Brackets → MemoryRow
-one_register way width first transfer brackets = record {
+abbrev pub one_register : Way → Width → ℕ → LaneChoice → Brackets → MemoryRow
+one_register way width first choice brackets = record {
   way = way;
   width = width;
   registers = 1;
   first = first;
-  transfer = transfer;
+  choice = choice;
   brackets = brackets;
 }
 
@@ -49,8 +49,8 @@ abbrev pub from_vector : Way → Width → ℕ → ℕ → ℕ → ℕ → Memor
 from_vector way width zt pg zn imm5 = one_register way width zt (each_active pg) (vector zn imm5)
 
 -- a whole register, byte by byte
-abbrev pub whole_register : Way → ℕ → Transfer → ℕ → ℕ → MemoryRow
-whole_register way first transfer rn imm9 = one_register way single_bytes first transfer (scalar rn (whole imm9))
+abbrev pub whole_register : Way → ℕ → LaneChoice → ℕ → ℕ → MemoryRow
+whole_register way first choice rn imm9 = one_register way single_bytes first choice (scalar rn (whole_lengths imm9))
 
 -- ---- lanes and bits of predicates
 
@@ -75,12 +75,13 @@ bitwise sets pg pd f = by_registers (λ c v. with_result sets 8 (read_p v pg) pd
 
 -- The values of all operands are those before the instruction.
 abbrev pub row : SveForm → Row
-row (Binary op size pg zm zdn) = lanewise size (λ e z c v. merging e pg (λ k. binary op e (z zdn k) (z zm k)) zdn v)
+row (Binary op size pg zm zdn) = lanewise size (λ e z c v.
+    merging e pg (λ k. binary_lane op e (z zdn k) (z zm k)) zdn v)
 row (BinaryWide op size pg zm zdn) = lanewise size (λ e z c v.
     merging e pg (λ k. lane_op (shift_lane_op op) e (z zdn k) (covering_lane e v zm k)) zdn v)
 row (ShiftImm op tszh pg tszl imm3 zdn) = by_lanes (λ c v.
     let tsz = tsz_of tszh tszl in merging (shift_bits tsz) pg (shifted_by (shift_imm_lane_op op) tsz imm3 zdn v) zdn v)
-row (Unary op size pg zn zd) = lanewise size (λ e z c v. merging e pg (λ k. unary op e (z zn k)) zd v)
+row (Unary op size pg zn zd) = lanewise size (λ e z c v. merging e pg (λ k. unary_lane op e (z zn k)) zd v)
 row (MulAddZ op size zm pg zn zda) = lanewise size (λ e z c v.
     merging e pg (λ k. multiply_z op e (z zda k) (z zn k) (z zm k)) zda v)
 row (MulAddD op size zm pg za zdn) = lanewise size (λ e z c v.
@@ -99,16 +100,17 @@ row (Dot op size zm zn zda) = lanewise size (λ e z c v.
     every_lane e (λ k. dot_product (dot_signed op) e (z zda k) (z zn k) (z zm k)) zda v)
 row (DotIndexed op i_zm zn zda) = by_lanes (λ c v.
     let dot = dot_of op in
-    dot_indexed dot.is_signed dot.bits (i_zm / 2 ^ dot.zm_bits) (i_zm % 2 ^ dot.zm_bits) zn zda v)
+    dot_indexed_lanes dot.is_signed dot.bits (i_zm / 2 ^ dot.zm_bits) (i_zm % 2 ^ dot.zm_bits) zn zda v)
 row (WideImm op size sh imm8 zdn) = lanewise size (λ e z c v.
-    every_lane e (λ k. wide_imm op e (z zdn k) (wide_unsigned sh imm8)) zdn v)
+    every_lane e (λ k. wide_imm_lane op e (z zdn k) (wide_unsigned sh imm8)) zdn v)
 row (MinMaxImm op size imm8 zdn) = lanewise size (λ e z c v. every_lane e (λ k. min_max op e (z zdn k) imm8) zdn v)
 row (DupImm size sh imm8 zd) = lanewise size (λ e z c v. every_lane e (λ k. wide_signed e sh imm8) zd v)
 -- each instruction of the row has a bitmask
 row (BitmaskZ op n immr imms zdn) = by_lanes (λ c v.
     every_lane 64 (λ k. bitmask_lane_op op (lane_of 64 v zdn k) (unwrap_or (bitmask_of 64 (bit n) immr imms) 0)) zdn v)
-row (CopyImm size pg m sh imm8 zd) = lanewise size (λ e z c v. copied m e pg (λ k. wide_signed e sh imm8) zd v)
-row (PrefixP size m pg zn zd) = lanewise size (λ e z c v. copied m e pg (z zn) zd v)
+row (CopyImm size pg merges sh imm8 zd) = lanewise size (λ e z c v.
+    copied merges e pg (λ k. wide_signed e sh imm8) zd v)
+row (PrefixP size merges pg zn zd) = lanewise size (λ e z c v. copied merges e pg (z zn) zd v)
 row (Prefix zn zd) = by_lanes (λ c v. every_lane 64 (lane_of 64 v zn) zd v)
 row (SelectZ size zm pg zn zd) = lanewise size (λ e z c v.
     every_lane e (λ k. if is_active e v pg k then z zn k else z zm k) zd v)
@@ -158,7 +160,7 @@ row (CmpSImm op size imm5 pg zn pd) = compares size pg pd (λ e z v k.
     lane_test (signed_test op) e (z zn k) (sign_extended e 5 imm5))
 row (LogicP op s pm pg pn pd) = bitwise s pg pd (λ n p. logic (logic_of op) n (p pg) (p pn) (p pm))
 row (SelectP pm pg pn pd) = bitwise false pg pd (λ n p. logic Sel n (p pg) (p pn) (p pm))
-row (Break op s pg pn m pd) = bitwise s pg pd (λ n p. broken (break_after op) m n (p pg) (p pn) (p pd))
+row (Break op s pg pn merges pd) = bitwise s pg pd (λ n p. broken (break_after op) merges n (p pg) (p pn) (p pd))
 row (BreakPair op s pm pg pn pd) = bitwise s pg pd (λ n p. broken_pair (pair_after op) n (p pg) (p pn) (p pm))
 -- of the breaks, brkn alone has its flags by the test of all bits, also of those that aren't active
 row (BreakNext s pg pn pdm) = by_registers (λ c v.
@@ -189,32 +191,32 @@ row (While op size rm sf rn pd) = by_registers (λ c v.
 row (Cterm op sf rm rn) = by_registers (λ c v.
     leaves (record c { flags = termination_flags (terminates op (width_of sf) (read_x c rn) (read_x c rm)) c.flags }) v)
 row (LoadImm dtype imm4 pg rn zt) = memory (from_base loads (by_dtype dtype) zt pg rn (lengths imm4))
-row (LoadReg dtype rm pg rn zt) = memory (from_base loads (by_dtype dtype) zt pg rn (register rm))
-row (LoadFf dtype rm pg rn zt) = memory (from_base first_faults (by_dtype dtype) zt pg rn (register rm))
+row (LoadReg dtype rm pg rn zt) = memory (from_base loads (by_dtype dtype) zt pg rn (by_register rm))
+row (LoadFf dtype rm pg rn zt) = memory (from_base first_faults (by_dtype dtype) zt pg rn (by_register rm))
 row (LoadNf dtype imm4 pg rn zt) = memory (from_base non_faults (by_dtype dtype) zt pg rn (lengths imm4))
-row (LoadNtImm msz imm4 pg rn zt) = memory (from_base loads (filling msz) zt pg rn (lengths imm4))
-row (LoadNtReg msz rm pg rn zt) = memory (from_base loads (filling msz) zt pg rn (register rm))
+row (LoadNtImm msz imm4 pg rn zt) = memory (from_base loads (full_width msz) zt pg rn (lengths imm4))
+row (LoadNtReg msz rm pg rn zt) = memory (from_base loads (full_width msz) zt pg rn (by_register rm))
 row (LoadQuadImm msz imm4 pg rn zt) =
-    memory (record (from_base loads (filling msz) zt pg rn (quadwords imm4)) { transfer = repeated pg })
+    memory (record (from_base loads (full_width msz) zt pg rn (quadwords imm4)) { choice = each_repeated pg })
 row (LoadQuadReg msz rm pg rn zt) =
-    memory (record (from_base loads (filling msz) zt pg rn (register rm)) { transfer = repeated pg })
+    memory (record (from_base loads (full_width msz) zt pg rn (by_register rm)) { choice = each_repeated pg })
 row (LoadManyImm op msz imm4 pg rn zt) =
-    memory (record (from_base loads (filling msz) zt pg rn (lengths imm4)) { registers = load_registers op })
+    memory (record (from_base loads (full_width msz) zt pg rn (lengths imm4)) { registers = load_registers op })
 row (LoadManyReg op msz rm pg rn zt) =
-    memory (record (from_base loads (filling msz) zt pg rn (register rm)) { registers = load_registers op })
+    memory (record (from_base loads (full_width msz) zt pg rn (by_register rm)) { registers = load_registers op })
 row (LoadOne dtypeh imm6 dtypel pg rn zt) =
     memory (record (from_base loads (by_dtype (dtypeh * 4 + dtypel)) zt pg rn (single imm6))
-    { transfer = replicated pg })
+    { choice = replicated pg })
 row (LoadZ imm9h imm9l rn zt) = memory (whole_register loads zt whole_z rn (imm9h * 8 + imm9l))
 row (LoadP imm9h imm9l rn pt) = memory (whole_register loads pt whole_p rn (imm9h * 8 + imm9l))
 row (StoreImm msz size imm4 pg rn zt) = memory (from_base stores (part_of (lane_bits size) msz) zt pg rn (lengths imm4))
-row (StoreReg msz size rm pg rn zt) = memory (from_base stores (part_of (lane_bits size) msz) zt pg rn (register rm))
-row (StoreNtImm msz imm4 pg rn zt) = memory (from_base stores (filling msz) zt pg rn (lengths imm4))
-row (StoreNtReg msz rm pg rn zt) = memory (from_base stores (filling msz) zt pg rn (register rm))
+row (StoreReg msz size rm pg rn zt) = memory (from_base stores (part_of (lane_bits size) msz) zt pg rn (by_register rm))
+row (StoreNtImm msz imm4 pg rn zt) = memory (from_base stores (full_width msz) zt pg rn (lengths imm4))
+row (StoreNtReg msz rm pg rn zt) = memory (from_base stores (full_width msz) zt pg rn (by_register rm))
 row (StoreManyImm op msz imm4 pg rn zt) =
-    memory (record (from_base stores (filling msz) zt pg rn (lengths imm4)) { registers = store_registers op })
+    memory (record (from_base stores (full_width msz) zt pg rn (lengths imm4)) { registers = store_registers op })
 row (StoreManyReg op msz rm pg rn zt) =
-    memory (record (from_base stores (filling msz) zt pg rn (register rm)) { registers = store_registers op })
+    memory (record (from_base stores (full_width msz) zt pg rn (by_register rm)) { registers = store_registers op })
 row (StoreZ imm9h imm9l rn zt) = memory (whole_register stores zt whole_z rn (imm9h * 8 + imm9l))
 row (StoreP imm9h imm9l rn pt) = memory (whole_register stores pt whole_p rn (imm9h * 8 + imm9l))
 row (GatherSx msz xs zm u ff pg rn zt) = memory (from_base (gathering ff) (extending 32 msz u) zt pg rn (words xs zm 0))

@@ -22,16 +22,16 @@ use Rattle.emu_model.specs.State.{Core, Vectors, read_x, read_x_sp, with_x}
 use Rattle.emu_model.specs.SoundState.{IsSoundVectors, IsSoundCore, HasLength}
 use Rattle.sve_effects.specs.Counts.{count_of, inc_lane_op, saturating, sat_counted, length_of, multiple}
 use Rattle.sve_effects.specs.Effects.{after_data}
-use Rattle.sve_effects.specs.Lane.{unary, multiply_z, multiply_d, dot_product, dot_signed, binary, shift_lane_op, shift_imm_lane_op, plain_lane_op, logic_lane_op, wide_imm, min_max, bitmask_lane_op, extended_by, lane_op}
+use Rattle.sve_effects.specs.Lane.{unary_lane, multiply_z, multiply_d, dot_product, dot_signed, binary_lane, shift_lane_op, shift_imm_lane_op, plain_lane_op, logic_lane_op, wide_imm_lane, min_max, bitmask_lane_op, extended_by, lane_op}
 use Rattle.sve_effects.specs.LaneLoop.{lane_bits, lane_of, covering_lane, is_active, every_lane, merging, zeroing, folding}
 use Rattle.sve_effects.specs.Fold.{reduce_step, reduce_start, reduce_bits}
 use Rattle.lane_model.specs.Permute.{taken, ext_place, rev_place, insr_place, indexed_place, half_place, copy_place, compact_place, splice_place}
 use Rattle.sve_effects.specs.PermuteRows.{interleave_place, lanes, with_places, bit_of_field, with_p_places, insert_scalar, copy_scalar, unpacks, is_high_p, dup_bits, dup_index, any_active, last_value, last_value_or, after_last, after_cond_last}
 use Rattle.lane_model.specs.Predicate.{pred_test, count_lanes}
 use Rattle.sve_effects.specs.PredicateRows.{predicate_bits, after_test, with_result, counted_by, set_lanes_of, terminates, termination_flags, written_ffr}
-use Rattle.sve_effects.specs.VectorData.{tsz_of, shift_bits, shifted_by, wide_unsigned, wide_signed, index_start, index_step, dot_of, indexed_lane, dot_indexed, copied}
-use Rattle.lane_model.specs.declared.places.Place.{Place}
-use Rattle.lane_model.specs.declared.places.Place.TheVariants.{Scalar}
+use Rattle.sve_effects.specs.VectorData.{tsz_of, shift_bits, shifted_by, wide_unsigned, wide_signed, index_start, index_step, dot_of, indexed_lane, dot_indexed_lanes, copied}
+use Rattle.lane_model.specs.declared.places.LaneSource.{LaneSource}
+use Rattle.lane_model.specs.declared.places.LaneSource.TheVariants.{Scalar}
 use Rattle.emu_model.specs.Lanes.{read_p, with_lanes, with_low}
 use Rattle.emu_model.specs.SoundLanes.{sound_lanes, sound_low, sound_fields, sound_p, sound_ffr_bits}
 
@@ -48,7 +48,7 @@ copied_sound : (m : Bool) (e pg : ℕ) (f : ℕ → ℕ) (zd : ℕ) (v : Vectors
 copied_sound true e pg f zd v s = merging_sound e pg f zd v s
 copied_sound false e pg f zd v s = zeroing_sound e pg f zd v s
 
-dot_indexed_sound : (is_signed : Bool) (e i zm zn zda : ℕ) (v : Vectors) → IsSoundVectors v → IsSoundVectors (dot_indexed is_signed e i zm zn zda v)
+dot_indexed_sound : (is_signed : Bool) (e i zm zn zda : ℕ) (v : Vectors) → IsSoundVectors v → IsSoundVectors (dot_indexed_lanes is_signed e i zm zn zda v)
 dot_indexed_sound is_signed e i zm zn zda v s = plain_sound e (λ k. dot_product is_signed e (lane_of e v zda k) (lane_of e v zn k) (lane_of e v zm (indexed_lane e i k))) zda v s
 
 -- ---- FFR
@@ -60,10 +60,10 @@ written_ffr_length Wrffr pn v = length-each (predicate_bits v) _
 -- ---- the rows
 
 module _ (c : Core) (v : Vectors) (s : IsSoundCore c) (u : IsSoundVectors v) where
-  moved_sound : (e : ℕ) (place : ℕ → Place) (zn zm scalar zd : ℕ) → IsSoundRegisters (record { core = c; vectors = with_places e place zn zm scalar zd v })
+  moved_sound : (e : ℕ) (place : ℕ → LaneSource) (zn zm scalar zd : ℕ) → IsSoundRegisters (record { core = c; vectors = with_places e place zn zm scalar zd v })
   moved_sound e place zn zm scalar zd = record { core = s; vectors = sound_lanes e (λ k. taken (lane_of e v zn) (lane_of e v zm) scalar 0 (place k)) zd v u }
 
-  moved_fields_sound : (e : ℕ) (place : ℕ → Place) (pn pm pd : ℕ) → IsSoundRegisters (record { core = c; vectors = with_p_places e place pn pm pd v })
+  moved_fields_sound : (e : ℕ) (place : ℕ → LaneSource) (pn pm pd : ℕ) → IsSoundRegisters (record { core = c; vectors = with_p_places e place pn pm pd v })
   moved_fields_sound e place pn pm pd =
       let w : ℕ = e / 8 in
       record { core = s; vectors = sound_fields 8 (λ j. taken (bit_of_field w (j % w) (read_p v pn)) (bit_of_field w (j % w) (read_p v pm)) false false (place (j / w))) pd v u }
@@ -103,10 +103,10 @@ module _ (c : Core) (v : Vectors) (s : IsSoundCore c) (u : IsSoundVectors v) whe
   put_sound sets e g pd f = record { core = after_test_sound sets e g (each (predicate_bits v) f); vectors = sound_p (each (predicate_bits v) f) pd v (length-each (predicate_bits v) f) u }
 
   pub registers_sound : (form : SveForm) → IsSoundRegisters (after_data form c v)
-  registers_sound (Binary op size pg zm zdn) = let e = lane_bits size in let a = lane_of e v zdn in let b = lane_of e v zm in record { core = s; vectors = merging_sound e pg (λ k. binary op e (a k) (b k)) zdn v u }
+  registers_sound (Binary op size pg zm zdn) = let e = lane_bits size in let a = lane_of e v zdn in let b = lane_of e v zm in record { core = s; vectors = merging_sound e pg (λ k. binary_lane op e (a k) (b k)) zdn v u }
   registers_sound (BinaryWide op size pg zm zdn) = let e = lane_bits size in let a = lane_of e v zdn in let b = covering_lane e v zm in record { core = s; vectors = merging_sound e pg (λ k. lane_op (shift_lane_op op) e (a k) (b k)) zdn v u }
   registers_sound (ShiftImm op tszh pg tszl imm3 zdn) = let tsz = tsz_of tszh tszl in record { core = s; vectors = merging_sound (shift_bits tsz) pg (shifted_by (shift_imm_lane_op op) tsz imm3 zdn v) zdn v u }
-  registers_sound (Unary op size pg zn zd) = let e = lane_bits size in let a = lane_of e v zn in record { core = s; vectors = merging_sound e pg (λ k. unary op e (a k)) zd v u }
+  registers_sound (Unary op size pg zn zd) = let e = lane_bits size in let a = lane_of e v zn in record { core = s; vectors = merging_sound e pg (λ k. unary_lane op e (a k)) zd v u }
   registers_sound (MulAddZ op size zm pg zn zda) = let e = lane_bits size in let sum = lane_of e v zda in let a = lane_of e v zn in let b = lane_of e v zm in record { core = s; vectors = merging_sound e pg (λ k. multiply_z op e (sum k) (a k) (b k)) zda v u }
   registers_sound (MulAddD op size zm pg za zdn) = let e = lane_bits size in let sum = lane_of e v za in let a = lane_of e v zdn in let b = lane_of e v zm in record { core = s; vectors = merging_sound e pg (λ k. multiply_d op e (sum k) (a k) (b k)) zdn v u }
   registers_sound (Plain op size zm zn zd) = let e = lane_bits size in let a = lane_of e v zn in let b = lane_of e v zm in record { core = s; vectors = plain_sound e (λ k. lane_op (plain_lane_op op) e (a k) (b k)) zd v u }
@@ -116,7 +116,7 @@ module _ (c : Core) (v : Vectors) (s : IsSoundCore c) (u : IsSoundVectors v) whe
   registers_sound (Index op size y x zd) = let e = lane_bits size in record { core = s; vectors = plain_sound e (λ k. unsigned_int (index_start op c x +ℤ pos k *ℤ index_step op c y) e) zd v u }
   registers_sound (Dot op size zm zn zda) = let e = lane_bits size in let sum = lane_of e v zda in let a = lane_of e v zn in let b = lane_of e v zm in record { core = s; vectors = plain_sound e (λ k. dot_product (dot_signed op) e (sum k) (a k) (b k)) zda v u }
   registers_sound (DotIndexed op i_zm zn zda) = let dot = dot_of op in record { core = s; vectors = dot_indexed_sound dot.is_signed dot.bits (i_zm / 2 ^ dot.zm_bits) (i_zm % 2 ^ dot.zm_bits) zn zda v u }
-  registers_sound (WideImm op size sh imm8 zdn) = let e = lane_bits size in let a = lane_of e v zdn in record { core = s; vectors = plain_sound e (λ k. wide_imm op e (a k) (wide_unsigned sh imm8)) zdn v u }
+  registers_sound (WideImm op size sh imm8 zdn) = let e = lane_bits size in let a = lane_of e v zdn in record { core = s; vectors = plain_sound e (λ k. wide_imm_lane op e (a k) (wide_unsigned sh imm8)) zdn v u }
   registers_sound (MinMaxImm op size imm8 zdn) = let e = lane_bits size in let a = lane_of e v zdn in record { core = s; vectors = plain_sound e (λ k. min_max op e (a k) imm8) zdn v u }
   registers_sound (DupImm size sh imm8 zd) = let e = lane_bits size in record { core = s; vectors = plain_sound e (λ k. wide_signed e sh imm8) zd v u }
   registers_sound (BitmaskZ op n immr imms zdn) = let a = lane_of 64 v zdn in record { core = s; vectors = plain_sound 64 (λ k. bitmask_lane_op op (a k) (unwrap_or (bitmask_of 64 (bit n) immr imms) 0)) zdn v u }

@@ -19,7 +19,7 @@ use Rattle.sve_effects.specs.Lane.{extended_by}
 use Rattle.sve_effects.specs.FirstFault.{cleared_from, first_suppressed, first_refused, loaded_unless, first_fault_row}
 use Rattle.sve_effects.specs.FirstFaultParts.{first_fault_lane, with_first_fault, first_fault_loaded}
 use Rattle.sve_effects.specs.LaneLoop.{is_active}
-use Rattle.sve_effects.specs.VectorElements.{MemoryRow, Transfer, each_active, repeated, replicated, whole_z, whole_p, Layout, register_at, row_layout, elements_of}
+use Rattle.sve_effects.specs.VectorElements.{MemoryRow, LaneChoice, each_active, each_repeated, replicated, whole_z, whole_p, Layout, register_at, row_layout, elements_of}
 use Rattle.sve_effects.specs.VectorLoadStore.{loaded_lane, with_loaded, after_load, has_sp_base, is_misaligned, element_stored, unless_misaligned, loaded_to, stored_to, load_row, store_row}
 
 -- ---- what is loaded
@@ -29,9 +29,9 @@ unfolding with_loaded
 with_loaded_sound is_signed l m zero v s = s
 with_loaded_sound is_signed l m (suc n) v s = sound_lanes l.bits (loaded_lane is_signed l m n) (register_at l n) (with_loaded is_signed l m n v) (with_loaded_sound is_signed l m n v s)
 
-after_load_sound : (transfer : Transfer) (is_signed : Bool) (l : Layout) (m : Memory) (v : Vectors) → IsSoundVectors v → IsSoundVectors (after_load transfer is_signed l m v)
+after_load_sound : (choice : LaneChoice) (is_signed : Bool) (l : Layout) (m : Memory) (v : Vectors) → IsSoundVectors v → IsSoundVectors (after_load choice is_signed l m v)
 after_load_sound (each_active pg) is_signed l m v s = with_loaded_sound is_signed l m l.registers v s
-after_load_sound (repeated pg) is_signed l m v s = sound_lanes l.bits (λ k. loaded_lane false l m 0 (k % l.lanes)) l.register v s
+after_load_sound (each_repeated pg) is_signed l m v s = sound_lanes l.bits (λ k. loaded_lane false l m 0 (k % l.lanes)) l.register v s
 after_load_sound (replicated pg) is_signed l m v s = sound_lanes l.bits (λ k. if is_active l.bits v pg k then extended_by is_signed l.bits (8 * l.bytes) (value m (l.address k 0) l.bytes) else 0) l.register v s
 after_load_sound whole_z is_signed l m v s = with_loaded_sound is_signed l m l.registers v s
 after_load_sound whole_p is_signed l m v s = sound_p (each (v.bits / 8) _) l.register v (length-each (v.bits / 8) _) s
@@ -57,16 +57,16 @@ module _ (c : Core) (v : Vectors) (m : Memory) (s : IsSoundCore c) (u : IsSoundV
   load_row_sound row =
       let l : Layout = row_layout row c v in
       let r = reach m ReadKind (elements_of l) in
-      let after : Vectors = after_load row.transfer row.width.is_signed l m v in
+      let after : Vectors = after_load row.choice row.width.is_signed l m v in
       unless_sound (has_sp_base row.brackets) (elements_of l) (loaded_to r after c v m)
-      (load_sound r.stop r.done after (stop_is_word m ReadKind (elements_of l)) (after_load_sound row.transfer row.width.is_signed l m v u))
+      (load_sound r.stop r.done after (stop_is_word m ReadKind (elements_of l)) (after_load_sound row.choice row.width.is_signed l m v u))
 
   pub store_row_sound : (row : MemoryRow) → IsSoundDone (store_row row c v m)
   store_row_sound row =
       let l : Layout = row_layout row c v in
       let r = reach m WriteKind (elements_of l) in
-      unless_sound (has_sp_base row.brackets) (elements_of l) (stored_to r (element_stored row.transfer l v) c v m)
-      (store_sound r.stop r.done (element_stored row.transfer l v) (stop_is_word m WriteKind (elements_of l)))
+      unless_sound (has_sp_base row.brackets) (elements_of l) (stored_to r (element_stored row.choice l v) c v m)
+      (store_sound r.stop r.done (element_stored row.choice l v) (stop_is_word m WriteKind (elements_of l)))
 
   -- ---- first-faulting and non-faulting loads
 

@@ -76,13 +76,13 @@ abbrev pub indexed_lane : ℕ → ℕ → ℕ → ℕ
 indexed_lane e i k = k / (128 / e) * (128 / e) + i
 
 -- lane k of e bits, with lane i of the same 128 bits of Zm
-abbrev pub dot_indexed : Bool → ℕ → ℕ → ℕ → ℕ → ℕ → Vectors → Vectors
-dot_indexed is_signed e i zm zn zda v =
+abbrev pub dot_indexed_lanes : Bool → ℕ → ℕ → ℕ → ℕ → ℕ → Vectors → Vectors
+dot_indexed_lanes is_signed e i zm zn zda v =
     every_lane e (λ k.
     dot_product is_signed e (lane_of e v zda k) (lane_of e v zn k) (lane_of e v zm (indexed_lane e i k))) zda v
 
 -- ---- copies
 
--- active lanes are copied; the others keep their value where m is true (/m), else they are 0 (/z)
+-- active lanes are copied; the others keep their value where `merges` is true (/m), else they are 0 (/z)
 abbrev pub copied : Bool → ℕ → ℕ → (ℕ → ℕ) → ℕ → Vectors → Vectors
-copied m e pg f zd v = if m then merging e pg f zd v else zeroing e pg f zd v
+copied merges e pg f zd v = if merges then merging e pg f zd v else zeroing e pg f zd v

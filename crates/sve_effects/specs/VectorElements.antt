@@ -36,17 +36,17 @@ pub record Width : Type 0 where
   pub is_signed : Bool
 
 -- which lanes have an element, and what of the registers it is
-pub data Transfer : Type 0 where
+pub data LaneChoice : Type 0 where
   -- each active lane its own
-  each_active : ℕ → Transfer
+  each_active : ℕ → LaneChoice
   -- each active one of the first 128 bits, which are then repeated
-  repeated : ℕ → Transfer
+  each_repeated : ℕ → LaneChoice
   -- the first active one, and its element is then in each active lane
-  replicated : ℕ → Transfer
+  replicated : ℕ → LaneChoice
   -- each byte of a Z register
-  whole_z : Transfer
+  whole_z : LaneChoice
   -- each eight bits of a predicate
-  whole_p : Transfer
+  whole_p : LaneChoice
 
 -- what stands behind Xn|SP in brackets
 pub data Offset : Type 0 where
@@ -55,11 +55,11 @@ pub data Offset : Type 0 where
   -- #imm4 of 16 bytes
   quadwords : ℕ → Offset
   -- Xm, lsl #s
-  register : ℕ → Offset
+  by_register : ℕ → Offset
   -- #imm6, of the one element
   single : ℕ → Offset
   -- #imm9, mul vl, of a whole register
-  whole : ℕ → Offset
+  whole_lengths : ℕ → Offset
   -- Zm.T, uxtw #scale, or sxtw where true
   words : Bool → ℕ → ℕ → Offset
   -- Zm.d, lsl #scale
@@ -76,7 +76,7 @@ pub record MemoryRow : Type 0 where
   pub width : Width
   pub registers : ℕ
   pub first : ℕ
-  pub transfer : Transfer
+  pub choice : LaneChoice
   pub brackets : Brackets
 
 -- ---- a layout of elements
@@ -146,8 +146,8 @@ abbrev pub part_of : ℕ → ℕ → Width
 part_of bits msz = record { bits = bits; bytes = 2 ^ msz; is_signed = false }
 
 -- an element that fills its lane
-abbrev pub filling : ℕ → Width
-filling msz = part_of (lane_bits msz) msz
+abbrev pub full_width : ℕ → Width
+full_width msz = part_of (lane_bits msz) msz
 
 -- a whole register goes byte by byte
 abbrev pub single_bytes : Width
@@ -170,17 +170,17 @@ word_offset xs x = if xs then sign_extended 64 32 x else unsigned x 32
 -- ---- the layout of a row
 
 -- the lanes that may have an element
-abbrev pub lane_count : Transfer → ℕ → Vectors → ℕ
+abbrev pub lane_count : LaneChoice → ℕ → Vectors → ℕ
 lane_count (each_active pg) e v = v.bits / e
-lane_count (repeated pg) e v = 128 / e
+lane_count (each_repeated pg) e v = 128 / e
 lane_count (replicated pg) e v = v.bits / e
 lane_count whole_z e v = v.bits / 8
 lane_count whole_p e v = v.bits / 64
 
 -- those of them that have one
-abbrev pub lane_is_on : Transfer → ℕ → Vectors → ℕ → Bool
+abbrev pub lane_is_on : LaneChoice → ℕ → Vectors → ℕ → Bool
 lane_is_on (each_active pg) e v = is_active e v pg
-lane_is_on (repeated pg) e v = is_active e v pg
+lane_is_on (each_repeated pg) e v = is_active e v pg
 lane_is_on (replicated pg) e v = is_at (first_where (v.bits / e) (is_active e v pg))
 lane_is_on whole_z e v = λ k. true
 lane_is_on whole_p e v = λ k. true
@@ -194,12 +194,12 @@ following r base k j = address (base + (k * r.registers + j) * r.width.bytes)
 abbrev pub offset_address : Offset → MemoryRow → ℕ → Core → Vectors → ℕ → ℕ → ℕ
 offset_address (lengths imm4) r rn c v =
     following r
-    (base_and_count c rn (signed imm4 4) (r.registers * lane_count r.transfer r.width.bits v * r.width.bytes))
+    (base_and_count c rn (signed imm4 4) (r.registers * lane_count r.choice r.width.bits v * r.width.bytes))
 offset_address (quadwords imm4) r rn c v = following r (base_and_count c rn (signed imm4 4) 16)
-offset_address (register rm) r rn c v = following r (base_and_register c rn rm r.width.bytes)
+offset_address (by_register rm) r rn c v = following r (base_and_register c rn rm r.width.bytes)
 offset_address (single imm6) r rn c v = λ k j. base_and_count c rn (pos imm6) r.width.bytes
-offset_address (whole imm9) r rn c v = λ k j.
-    address (base_and_count c rn (signed imm9 9) (lane_count r.transfer r.width.bits v) + k)
+offset_address (whole_lengths imm9) r rn c v = λ k j.
+    address (base_and_count c rn (signed imm9 9) (lane_count r.choice r.width.bits v) + k)
 offset_address (words is_signed zm scale) r rn c v = λ k j.
     address (read_x_sp c rn + word_offset is_signed (lane_of r.width.bits v zm k) * 2 ^ scale)
 offset_address (doublewords zm scale) r rn c v = λ k j. address (read_x_sp c rn + lane_of 64 v zm k * 2 ^ scale)
@@ -213,9 +213,9 @@ abbrev pub row_layout : MemoryRow → Core → Vectors → Layout
 row_layout r c v = record {
   bits = r.width.bits;
   bytes = r.width.bytes;
-  lanes = lane_count r.transfer r.width.bits v;
+  lanes = lane_count r.choice r.width.bits v;
   registers = r.registers;
   register = r.first;
-  is_on = lane_is_on r.transfer r.width.bits v;
+  is_on = lane_is_on r.choice r.width.bits v;
   address = element_address r.brackets r c v;
 }

@@ -15,7 +15,7 @@ use Rattle.emu_model.specs.State.{Core, Vectors}
 use Rattle.emu_model.specs.Lanes.{lane, read_z, read_p, with_lanes, with_p}
 use Rattle.sve_effects.specs.Lane.{extended_by}
 use Rattle.sve_effects.specs.LaneLoop.{is_active}
-use Rattle.sve_effects.specs.VectorElements.{MemoryRow, Transfer, each_active, repeated, replicated, whole_z, whole_p, Brackets, scalar, vector, Layout, register_at, elements_of, row_layout}
+use Rattle.sve_effects.specs.VectorElements.{MemoryRow, LaneChoice, each_active, each_repeated, replicated, whole_z, whole_p, Brackets, scalar, vector, Layout, register_at, elements_of, row_layout}
 
 -- ---- what is loaded
 
@@ -46,9 +46,9 @@ with_loaded_bits l m v =
     with_p v l.register (each (v.bits / 8) (λ j. nat_eq (value m (l.address (j / 8) 0) 1 / 2 ^ (j % 8) % 2) 1))
 
 -- by what of the registers the elements are
-abbrev pub after_load : Transfer → Bool → Layout → Memory → Vectors → Vectors
+abbrev pub after_load : LaneChoice → Bool → Layout → Memory → Vectors → Vectors
 after_load (each_active pg) is_signed l m v = with_loaded is_signed l m l.registers v
-after_load (repeated pg) is_signed l m v = with_repeated l m v
+after_load (each_repeated pg) is_signed l m v = with_repeated l m v
 after_load (replicated pg) is_signed l m v = with_replicated is_signed pg l m v
 after_load whole_z is_signed l m v = with_loaded is_signed l m l.registers v
 after_load whole_p is_signed l m v = with_loaded_bits l m v
@@ -63,9 +63,9 @@ lane_stored l v e = lane l.bits (read_z v e.register) e.lane
 abbrev pub bits_stored : Vectors → Element → ℕ
 bits_stored v e = number_of_bits 8 (λ j. bit (get_or (read_p v e.register) (8 * e.lane + j) false))
 
-abbrev pub element_stored : Transfer → Layout → Vectors → Element → ℕ
+abbrev pub element_stored : LaneChoice → Layout → Vectors → Element → ℕ
 element_stored (each_active pg) l v e = lane_stored l v e
-element_stored (repeated pg) l v e = lane_stored l v e
+element_stored (each_repeated pg) l v e = lane_stored l v e
 element_stored (replicated pg) l v e = lane_stored l v e
 element_stored whole_z l v e = lane_stored l v e
 element_stored whole_p l v e = bits_stored v e
@@ -93,8 +93,8 @@ loaded_to r after c v m = as_far r.stop Read (accesses_of false r.done) (leaves 
 
 -- a store that is refused has stored the elements before
 abbrev pub stored_to : Reach → (Element → ℕ) → Core → Vectors → Memory → Done
-stored_to r stores c v m =
-    as_far r.stop Write (accesses_of true r.done) (leaves c v) (leaves c v) (with_stored stores r.done m)
+stored_to r value_of c v m =
+    as_far r.stop Write (accesses_of true r.done) (leaves c v) (leaves c v) (with_stored value_of r.done m)
 
 abbrev pub unless_misaligned : Bool → List Element → Core → Vectors → Memory → Done → Done
 unless_misaligned has_base es c v m d = if is_misaligned has_base es c then traps c v m SpAlign c.sp else d
@@ -105,10 +105,10 @@ abbrev pub load_row : MemoryRow → Core → Vectors → Memory → Done
 load_row r c v m =
     let l : Layout = row_layout r c v in
     unless_misaligned (has_sp_base r.brackets) (elements_of l) c v m
-    (loaded_to (reach m ReadKind (elements_of l)) (after_load r.transfer r.width.is_signed l m v) c v m)
+    (loaded_to (reach m ReadKind (elements_of l)) (after_load r.choice r.width.is_signed l m v) c v m)
 
 abbrev pub store_row : MemoryRow → Core → Vectors → Memory → Done
 store_row r c v m =
     let l : Layout = row_layout r c v in
     unless_misaligned (has_sp_base r.brackets) (elements_of l) c v m
-    (stored_to (reach m WriteKind (elements_of l)) (element_stored r.transfer l v) c v m)
+    (stored_to (reach m WriteKind (elements_of l)) (element_stored r.choice l v) c v m)

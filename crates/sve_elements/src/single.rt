@@ -118,7 +118,7 @@ fn reversed_bits(e: u32, a: u64) -> u64
 pub fn unary(op: UnaryOp, e: u32, a: u64) -> u64
     requires size { IsLaneSize e }
     requires within { a < 2 ^ e }
-    ensures value { result ≡ table.unary op e a }
+    ensures value { result ≡ table.unary_lane op e a }
     ensures small { result < 2 ^ e }
 {
     match op {

@@ -1,9 +1,16 @@
--- The lines' conditions: functions of a row's number in its line (k) and of fields. From the Arm Architecture Reference
+-- The lines' conditions: functions of a row's name and of fields. From the Arm Architecture Reference
 -- Manual for A-profile (DDI 0487), C8.2 'Alphabetical list of SVE instructions': a condition leaves out what the
 -- decoding of an entry has as UNDEFINED, and what C4 has as unallocated.
-use Rattle.std.specs.Prelude.{ℕ, ◌==◌, ◌&&◌, ◌||◌, Bool, cond, not, [], ◌∷◌, nat_lt, nat_le, is_some}
+use Rattle.std.specs.Prelude.{ℕ, ◌==◌, ◌&&◌, ◌||◌, Bool, true, false, not, nat_lt, nat_le, is_some}
 use Rattle.emu_bits.specs.Bitmask.{bitmask_of}
-use Rattle.emu_bits.specs.Rows.{is_among}
+use Rattle.sve_insn.specs.declared.ops.BinaryOp.{BinaryOp}
+use Rattle.sve_insn.specs.declared.ops.BinaryOp.TheVariants as binary
+use Rattle.sve_insn.specs.declared.ops.ReduceOp.{ReduceOp}
+use Rattle.sve_insn.specs.declared.ops.ReduceOp.TheVariants as reduce
+use Rattle.sve_insn.specs.declared.ops.UnaryOp.{UnaryOp}
+use Rattle.sve_insn.specs.declared.ops.UnaryOp.TheVariants as unary
+use Rattle.sve_insn.specs.declared.ops.WriteFfrOp.{WriteFfrOp}
+use Rattle.sve_insn.specs.declared.ops.WriteFfrOp.TheVariants as write_ffr
 
 -- Lanes or elements of memory aren't bytes: their size, 0 b, 1 h, 2 s or 3 d, isn't 0.
 unfoldable pub is_no_byte : ℕ → Bool
@@ -21,24 +28,37 @@ is_word_or_doubleword size = nat_le 2 size
 unfoldable pub is_halfword_or_word : ℕ → Bool
 is_halfword_or_word size = size == 1 || size == 2
 
--- sdiv, udiv, sdivr and udivr have lanes of 32 or 64 bits.
-unfoldable pub binary_holds_for : ℕ → ℕ → Bool
-binary_holds_for k size = is_word_or_doubleword size || not (is_among k (12 ∷ 13 ∷ 14 ∷ 15 ∷ []))
+abbrev is_division : BinaryOp → Bool
+is_division binary.Sdiv = true
+is_division binary.Udiv = true
+is_division binary.Sdivr = true
+is_division binary.Udivr = true
+is_division op = false
+
+-- Divisions have lanes of 32 or 64 bits.
+unfoldable pub binary_holds_for : BinaryOp → ℕ → Bool
+binary_holds_for op size = is_word_or_doubleword size || not (is_division op)
 
 -- The size of lanes that tszh:tszl gives isn't missing: it isn't 0.
 unfoldable pub has_tsz : ℕ → ℕ → Bool
 has_tsz tszh tszl = not (tszh == 0) || not (tszl == 0)
 
--- The least size of lanes: a part that is extended or reversed is shorter than the lane. It has 8 bits in sxtb, uxtb
--- and revb, 16 in sxth, uxth and revh, 32 in sxtw, uxtw and revw.
-unfoldable pub unary_least_size : ℕ → ℕ
-unary_least_size k =
-    cond (is_among k (0 ∷ 1 ∷ 13 ∷ [])) 1
-    (cond (is_among k (2 ∷ 3 ∷ 14 ∷ [])) 2 (cond (is_among k (4 ∷ 5 ∷ 15 ∷ [])) 3 0))
+-- The least size of lanes: a part that is extended or reversed, of 8, 16 or 32 bits, is shorter than the lane.
+unfoldable pub unary_least_size : UnaryOp → ℕ
+unary_least_size unary.Sxtb = 1
+unary_least_size unary.Uxtb = 1
+unary_least_size unary.Revb = 1
+unary_least_size unary.Sxth = 2
+unary_least_size unary.Uxth = 2
+unary_least_size unary.Revh = 2
+unary_least_size unary.Sxtw = 3
+unary_least_size unary.Uxtw = 3
+unary_least_size unary.Revw = 3
+unary_least_size op = 0
 
 -- Lanes have the least size of the name, or a greater one.
-unfoldable pub unary_holds_for : ℕ → ℕ → Bool
-unary_holds_for k size = nat_le (unary_least_size k) size
+unfoldable pub unary_holds_for : UnaryOp → ℕ → Bool
+unary_holds_for op size = nat_le (unary_least_size op) size
 
 -- An immediate isn't shifted by 8 in lanes of bytes.
 unfoldable pub shifts_no_byte : ℕ → ℕ → Bool
@@ -49,8 +69,9 @@ unfoldable pub has_bitmask : ℕ → ℕ → ℕ → Bool
 has_bitmask n immr imms = is_some (bitmask_of 64 n immr imms)
 
 -- saddv has no lanes of 64 bits.
-unfoldable pub reduce_holds_for : ℕ → ℕ → Bool
-reduce_holds_for k size = is_no_doubleword size || not (k == 0)
+unfoldable pub reduce_holds_for : ReduceOp → ℕ → Bool
+reduce_holds_for reduce.Saddv size = is_no_doubleword size
+reduce_holds_for op size = true
 
 -- A bit of tsz, the lowest that is set, gives the size of lanes.
 unfoldable pub has_lane_size : ℕ → Bool
@@ -61,8 +82,9 @@ unfoldable pub break_first_holds_for : ℕ → ℕ → Bool
 break_first_holds_for s m = s == 0 || m == 0
 
 -- setffr has 0 in the place of Pn.
-unfoldable pub write_ffr_holds_for : ℕ → ℕ → Bool
-write_ffr_holds_for k pn = pn == 0 || not (k == 0)
+unfoldable pub write_ffr_holds_for : WriteFfrOp → ℕ → Bool
+write_ffr_holds_for write_ffr.Setffr pn = pn == 0
+write_ffr_holds_for write_ffr.Wrffr pn = true
 
 -- An offset is in a register, whose number isn't 31.
 unfoldable pub is_register : ℕ → Bool

@@ -14,7 +14,7 @@ reduce =
     line_if (0x04002000 ∷ 0x04012000 ∷ 0x04082000 ∷ 0x04092000 ∷ 0x040A2000 ∷ 0x040B2000 ∷ 0x04182000 ∷ 0x04192000
     ∷ 0x041A2000 ∷ [])
     ((23 to 22) ∷ (12 to 10) ∷ (9 to 5) ∷ (4 to 0) ∷ [])
-    (λ k. of_four (λ size pg zn vd. (reduce_holds_for k size, Reduce (reduce_named k) size pg zn vd)))
+    (λ k. of_four (λ size pg zn vd. (reduce_holds_for (reduce_named k) size, Reduce (reduce_named k) size pg zn vd)))
 
 -- `cntb Xd{, all, mul #1}` and with h, w, d by size
 unfoldable pub count_elements : Line SveForm

@@ -17,7 +17,7 @@ binary =
     ∷ 0x04190000 ∷ 0x041A0000 ∷ 0x041B0000 ∷ 0x04108000 ∷ 0x04118000 ∷ 0x04138000 ∷ 0x04148000 ∷ 0x04158000
     ∷ 0x04178000 ∷ [])
     ((23 to 22) ∷ (12 to 10) ∷ (9 to 5) ∷ (4 to 0) ∷ [])
-    (λ k. of_four (λ size pg zm zdn. (binary_holds_for k size, Binary (binary_named k) size pg zm zdn)))
+    (λ k. of_four (λ size pg zm zdn. (binary_holds_for (binary_named k) size, Binary (binary_named k) size pg zm zdn)))
 
 -- `asr`, `lsr`, `lsl Zdn.T, Pg/m, Zdn.T, Zm.d`
 unfoldable pub binary_wide : Line SveForm
@@ -38,7 +38,7 @@ unary =
     ∷ 0x0418A000 ∷ 0x0419A000 ∷ 0x041AA000 ∷ 0x041BA000 ∷ 0x041EA000 ∷ 0x05248000 ∷ 0x05258000 ∷ 0x05268000
     ∷ 0x05278000 ∷ [])
     ((23 to 22) ∷ (12 to 10) ∷ (9 to 5) ∷ (4 to 0) ∷ [])
-    (λ k. of_four (λ size pg zn zd. (unary_holds_for k size, Unary (unary_named k) size pg zn zd)))
+    (λ k. of_four (λ size pg zn zd. (unary_holds_for (unary_named k) size, Unary (unary_named k) size pg zn zd)))
 
 -- `mla`, `mls Zda.T, Pg/m, Zn.T, Zm.T`
 unfoldable pub mul_add_z : Line SveForm

@@ -94,7 +94,7 @@ read_ffr_all = line_of (0x2519F000 ∷ []) ((3 to 0) ∷ []) (λ k. of_one (λ p
 -- `setffr`, `wrffr Pn.b`
 unfoldable pub write_ffr : Line SveForm
 write_ffr = line_if (0x252C9000 ∷ 0x25289000 ∷ []) ((8 to 5) ∷ [])
-    (λ k. of_one (λ pn. (write_ffr_holds_for k pn, WriteFfr (write_ffr_named k) pn)))
+    (λ k. of_one (λ pn. (write_ffr_holds_for (write_ffr_named k) pn, WriteFfr (write_ffr_named k) pn)))
 
 -- `cntp Xd, Pg, Pn.T`
 unfoldable pub count_p : Line SveForm

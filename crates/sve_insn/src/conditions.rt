@@ -1,6 +1,7 @@
 //! The lines' conditions.
 ghost use Rattle.std.specs.Prelude.{◌≡◌};
 ghost use Rattle.emu_bits.specs.Fields.{bit};
+ghost use Rattle.sve_insn.specs.Names.{binary_named, reduce_named, unary_named, write_ffr_named};
 ghost use Rattle.sve_insn.specs.Numbers.{binary_number, reduce_number, unary_number, write_ffr_number};
 ghost use Rattle.sve_insn.specs.Conditions.{
   is_no_byte,
@@ -99,7 +100,7 @@ fn is_halfword_or_word(size: U<2>) -> bool
 
 #[tactic(auto, unfolding(crate::specs::Conditions::binary_holds_for))]
 fn binary_holds(op: BinaryOp, size: U<2>) -> bool
-    ensures { result ≡ binary_holds_for (binary_number op) size }
+    ensures { result ≡ binary_holds_for (binary_named (binary_number op)) size }
 {
     is_word_or_doubleword(size)
         || !matches!(
@@ -119,7 +120,7 @@ fn has_tsz(tszh: U<2>, tszl: U<2>) -> bool
 /// The least size of lanes: a part that is extended or reversed is shorter than the lane.
 #[tactic(auto, unfolding(crate::specs::Conditions::unary_least_size))]
 fn unary_least_size(op: UnaryOp) -> u32
-    ensures { result ≡ unary_least_size (unary_number op) }
+    ensures { result ≡ unary_least_size (unary_named (unary_number op)) }
 {
     match op {
         UnaryOp::Sxtb | UnaryOp::Uxtb | UnaryOp::Revb => 1,
@@ -131,7 +132,7 @@ fn unary_least_size(op: UnaryOp) -> u32
 
 #[tactic(auto, unfolding(crate::specs::Conditions::unary_holds_for))]
 fn unary_holds(op: UnaryOp, size: U<2>) -> bool
-    ensures { result ≡ unary_holds_for (unary_number op) size }
+    ensures { result ≡ unary_holds_for (unary_named (unary_number op)) size }
 {
     size.get() >= unary_least_size(op)
 }
@@ -154,7 +155,7 @@ fn has_bitmask(n: bool, immr: U<6>, imms: U<6>) -> bool
 
 #[tactic(auto, unfolding(crate::specs::Conditions::reduce_holds_for))]
 fn reduce_holds(op: ReduceOp, size: U<2>) -> bool
-    ensures { result ≡ reduce_holds_for (reduce_number op) size }
+    ensures { result ≡ reduce_holds_for (reduce_named (reduce_number op)) size }
 {
     is_no_doubleword(size) || !matches!(op, ReduceOp::Saddv)
 }
@@ -176,7 +177,7 @@ fn break_first_holds(s: bool, m: bool) -> bool
 
 #[tactic(auto, unfolding(crate::specs::Conditions::write_ffr_holds_for))]
 fn write_ffr_holds(op: WriteFfrOp, pn: Pred) -> bool
-    ensures { result ≡ write_ffr_holds_for (write_ffr_number op) pn }
+    ensures { result ≡ write_ffr_holds_for (write_ffr_named (write_ffr_number op)) pn }
 {
     pn.get() == 0 || !matches!(op, WriteFfrOp::Setffr)
 }

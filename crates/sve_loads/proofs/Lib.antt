@@ -1,1 +1,2 @@
 pub mod InGroup
+mod AtOnce

@@ -94,6 +94,10 @@ p_plan imm9h imm9l rn pt c v = record {
 abbrev pub dtype_shape : ℕ → Shape
 dtype_shape dtype = record { bits = dtype_bits dtype; bytes = dtype_bytes dtype; registers = 1; is_signed = dtype_signed dtype }
 
+-- elements that fill lanes of e bits, of one register
+abbrev pub filled_shape : ℕ → Shape
+filled_shape e = record { bits = e; bytes = e / 8; registers = 1; is_signed = false }
+
 abbrev pub size_shape : ℕ → ℕ → ℕ → Shape
 size_shape size msz registers = record { bits = lane_bits size; bytes = 2 ^ msz; registers = registers; is_signed = false }
 

@@ -3,6 +3,7 @@
 //! refused.
 #![tactic(auto)]
 
+mod at_once;
 mod bases;
 mod plans;
 mod rows;
@@ -72,6 +73,9 @@ fn load(core: &Core, vec: &mut VecRegs, mem: &mut Mem, log: &mut AccessLog, i: &
         ≡ record { core = core.now; vectors = vec.new; memory = m; accesses = log.new.items; effect = result } }
     ensures marks { mem.new.marks ≡ mem.old.marks }
 {
+    if at_once::load(core, vec, mem, log, i) {
+        return Effect::Next;
+    }
     let plan = rows::load_plan(core, vec, i);
     element_loops::load(&plan, core, vec, mem, log)
 }
@@ -86,6 +90,9 @@ fn store(core: &Core, vec: &VecRegs, mem: &mut Mem, log: &mut AccessLog, i: &Sve
         ≡ record { core = core.now; vectors = vec.now; memory = m; accesses = log.new.items; effect = result } }
     ensures marks { mem.new.marks ≡ mem.old.marks }
 {
+    if at_once::store(core, vec, mem, log, i) {
+        return Effect::Next;
+    }
     let plan = rows::store_plan(core, vec, i);
     element_loops::store(&plan, core, vec, mem, log)
 }

@@ -5,8 +5,8 @@ use Rattle.std.proofs.lemmas.Bool.Decides.{nat_tests}
 use Rattle.std.proofs.lemmas.Nat.{div-add-mod', div_below}
 use Rattle.emu_bits.specs.Fields.{bit}
 use Rattle.emu_model.specs.SoundState.{IsVectorLength}
-use Rattle.lane_model.specs.declared.places.Place.TheVariants.{FirstLane, SecondLane, Scalar}
-use Rattle.sve_effects.specs.Permute.{taken, in_turn, joined, zip_place, uzp_place, trn_place, insr_place}
+use Rattle.lane_model.specs.declared.places.LaneSource.TheVariants.{FirstLane, SecondLane, Scalar}
+use Rattle.sve_effects.specs.Permute.{taken, in_turn, concatenated, zip_place, uzp_place, trn_place, insr_place}
 use Rattle.emu_model.specs.LaneSizes.{IsLaneSize}
 
 pub bit_small : (b : Bool) → bit b ≤ 1
@@ -136,7 +136,7 @@ module _ (v x y : ℕ → ℕ) (m : ℕ) where
         ys (2 * j + bit second - w) room ∙ ap (λ u. v u % m) spot
 
   pub ext_chunk : (w i start j : ℕ) → ((t : ℕ) → t < w → x t ≡ v ((i + start / w) * w + t) % m) → ((t : ℕ) → t < w → y t ≡ v ((i + start / w + 1) * w + t) % m) → j < w
-      → taken x y 0 0 (joined w (start % w + j)) ≡ v (start + (i * w + j)) % m
+      → taken x y 0 0 (concatenated w (start % w + j)) ≡ v (start + (i * w + j)) % m
   ext_chunk w i start j xs ys within = by_test (nat_lt (start % w + j) w) refl where
     all : start / w * w + start % w ≡ start
     all = div-add-mod' start w
@@ -154,10 +154,10 @@ module _ (v x y : ℕ → ℕ) (m : ℕ) where
         ys (start % w + j - w) room ∙ ap (λ u. v u % m) spot
 
 module _ (a b : ℕ → ℕ) where
-  pub joined_low : (n k : ℕ) → k < n → a k ≡ taken a b 0 0 (joined n k)
+  pub joined_low : (n k : ℕ) → k < n → a k ≡ taken a b 0 0 (concatenated n k)
   joined_low n k h = let t : true ≡ nat_lt k n = grind (arith, nat_tests) in ap (λ t. taken a b 0 0 (if t then FirstLane k else SecondLane (k - n))) t
 
-  pub joined_high : (n k u : ℕ) → n ≤ k → u ≡ k - n → b u ≡ taken a b 0 0 (joined n k)
+  pub joined_high : (n k u : ℕ) → n ≤ k → u ≡ k - n → b u ≡ taken a b 0 0 (concatenated n k)
   joined_high n k u h e = let t : false ≡ nat_lt k n = grind (arith, nat_tests) in ap b e ∙ ap (λ t. taken a b 0 0 (if t then FirstLane k else SecondLane (k - n))) t
 
 -- lane t of the at-th w lanes, of two sources of q times w

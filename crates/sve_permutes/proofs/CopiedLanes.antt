@@ -2,8 +2,8 @@
 use Rattle.std.proofs.Common.{◌≡◌, ◌/◌, ◌%◌, ◌*◌, ◌^◌, ◌∙◌, ℕ, Bool, true, false, if◌then◌else◌, refl, ap, ap₂}
 use Rattle.emu_model.specs.ListLaws.{each_same}
 use Rattle.emu_model.specs.State.{Vectors}
-use Rattle.lane_model.specs.declared.places.Place.{Place}
-use Rattle.lane_model.specs.declared.places.Place.TheVariants.{FirstLane, Scalar}
+use Rattle.lane_model.specs.declared.places.LaneSource.{LaneSource}
+use Rattle.lane_model.specs.declared.places.LaneSource.TheVariants.{FirstLane, Scalar}
 use Rattle.sve_effects.specs.declared.lane_functions.LaneOp.{LaneOp}
 use Rattle.sve_effects.specs.Lane.{lane_op}
 use Rattle.sve_effects.specs.LaneLoop.{lane_of, is_active, merging, every_lane}
@@ -23,7 +23,7 @@ copied_is e pg scalar zd v =
       by_test false k = refl
 
 -- the same places
-pub spliced_is : (e zn zm zd : ℕ) (v : Vectors) (p q : ℕ → Place) → ((k : ℕ) → p k ≡ q k) → with_places e p zn zm 0 zd v ≡ with_places e q zn zm 0 zd v
+pub spliced_is : (e zn zm zd : ℕ) (v : Vectors) (p q : ℕ → LaneSource) → ((k : ℕ) → p k ≡ q k) → with_places e p zn zm 0 zd v ≡ with_places e q zn zm 0 zd v
 spliced_is e zn zm zd v p q is = same_lanes e (λ k. taken (lane_of e v zn) (lane_of e v zm) 0 0 (p k)) (λ k. taken (lane_of e v zn) (lane_of e v zm) 0 0 (q k)) zd v (λ k. ap (taken (lane_of e v zn) (lane_of e v zm) 0 0) (is k))
 
 -- an operation on each lane and a count

@@ -19,8 +19,8 @@ use Rattle.register_lanes.proofs.PairLanes.{lane_read_small}
 use Rattle.lane_pack.specs.Bits.{lane_in}
 use Rattle.lane_model.specs.Bits.{is_set}
 use Rattle.lane_permute.specs.Slices.{number_at}
-use Rattle.lane_model.specs.declared.places.Place.{Place}
-use Rattle.lane_model.specs.declared.places.Place.TheVariants.{FirstLane, SecondLane, Scalar, Zero}
+use Rattle.lane_model.specs.declared.places.LaneSource.{LaneSource}
+use Rattle.lane_model.specs.declared.places.LaneSource.TheVariants.{FirstLane, SecondLane, Scalar, Zero}
 use Rattle.sve_effects.specs.Lane.{extended_by}
 use Rattle.sve_effects.specs.Permute.{taken, indexed_place}
 use Rattle.emu_model.specs.Lanes.{number, lane}
@@ -94,7 +94,7 @@ lane_in_is e bits k bytes words size l is above = elim (cases_lt k (bits / e)) [
 
 -- ---- what places name
 
-pub taken_mod : (a b x y : ℕ → ℕ) (e : ℕ) → ((k : ℕ) → x k ≡ a k % 2 ^ e) → ((k : ℕ) → y k ≡ b k % 2 ^ e) → (p : Place) → taken x y 0 0 p ≡ taken a b 0 0 p % 2 ^ e
+pub taken_mod : (a b x y : ℕ → ℕ) (e : ℕ) → ((k : ℕ) → x k ≡ a k % 2 ^ e) → ((k : ℕ) → y k ≡ b k % 2 ^ e) → (p : LaneSource) → taken x y 0 0 p ≡ taken a b 0 0 p % 2 ^ e
 taken_mod a b x y e xs ys (FirstLane j) = xs j
 taken_mod a b x y e xs ys (SecondLane j) = ys j
 taken_mod a b x y e xs ys Scalar = none_mod e
@@ -121,7 +121,7 @@ module _ {T : Type 0} (f : T → ℕ) where
   ]
 
   -- a permute of the first lanes of two registers
-  pub permuted_mod : (e n m long : ℕ) (xs ys out : List T) (a b : ℕ → ℕ) (place : ℕ → ℕ → Place) → m ≡ n → long ≡ n
+  pub permuted_mod : (e n m long : ℕ) (xs ys out : List T) (a b : ℕ → ℕ) (place : ℕ → ℕ → LaneSource) → m ≡ n → long ≡ n
       → ((k : ℕ) → number_at f xs k ≡ a k % 2 ^ e) → ((k : ℕ) → n ≤ k → a k ≡ 0) → ((k : ℕ) → number_at f ys k ≡ b k % 2 ^ e) → ((k : ℕ) → n ≤ k → b k ≡ 0)
       → length out ≡ n → ((k : ℕ) → k < length out → number_at f out k ≡ taken (number_at f (take m xs)) (number_at f (take m ys)) 0 0 (place long k))
       → (k : ℕ) → k < n → number_at f out k ≡ taken a b 0 0 (place n k) % 2 ^ e

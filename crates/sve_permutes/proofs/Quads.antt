@@ -4,7 +4,7 @@ use Rattle.std.proofs.lemmas.Bool.Decides.{nat_tests}
 use Rattle.std.proofs.lemmas.List.{drop-drop}
 use Rattle.std.proofs.lemmas.Nat.{shr-shr}
 use Rattle.emu_model.specs.State.{Vectors}
-use Rattle.lane_model.specs.declared.places.Place.TheVariants.{FirstLane, Zero}
+use Rattle.lane_model.specs.declared.places.LaneSource.TheVariants.{FirstLane, Zero}
 use Rattle.sve_effects.specs.LaneLoop.{lane_of}
 use Rattle.sve_effects.specs.Permute.{taken, indexed_place}
 use Rattle.sve_effects.specs.PermuteRows.{with_places}

@@ -19,7 +19,7 @@ ghost use Rattle.emu_bits.specs.Fields.{bit};
 ghost use Rattle.sve_effects.specs.LaneLoop.{lane_of};
 ghost use Rattle.sve_effects.specs.Permute.{
   taken,
-  joined,
+  concatenated,
   zip_place,
   uzp_place,
   trn_place,
@@ -221,7 +221,7 @@ fn joined_quad<T: Quad<W>, const W: usize>(vec: &VecRegs, zn: Reg, zm: Reg, at: 
     requires within { at < 2 * (vec.now.bits / 128) }
     requires width { W ≤ 16 }
     ensures { (t : ℕ) → t < W → get_or (map T.number result) t 0 ≡ taken (lane_of T.BITS vec.now zn)
-        (lane_of T.BITS vec.now zm) 0 0 (joined (vec.now.bits / T.BITS) (at * W + t)) % 2 ^ T.BITS }
+        (lane_of T.BITS vec.now zm) 0 0 (concatenated (vec.now.bits / T.BITS) (at * W + t)) % 2 ^ T.BITS }
 {
     let quads = vec.length().bits() / 128;
     if at < quads {

@@ -2,10 +2,10 @@
 ghost use Rattle.std.specs.Prelude.{◌≡◌, ◌≤◌, ◌⊎◌, true};
 ghost use Rattle.sve_insn.specs.declared.form.SveForm.{SveForm};
 ghost use Rattle.sve_effects.specs.Counts as table;
+ghost use Rattle.sve_effects.specs.Lane.{lane_op};
 ghost use Rattle.sve_effects.specs.Effects as effects;
 ghost use Rattle.sve_effects.specs.LaneLoop as loops;
 ghost use Rattle.sve_effects.specs.LaneLoop.{lane_of};
-ghost use Rattle.sve_permutes.specs.Groups.{is_count_of_lanes};
 ghost use Rattle.emu_model.specs.LaneSizes.{IsLaneSize};
 
 use core_regs::Core;
@@ -16,85 +16,85 @@ use pred_bits::pattern_count;
 use register_lanes::{Map1, plain};
 use sve_effects::{LaneOp, lane_bits};
 use sve_elements::apply;
-use sve_insn::{AddLengthOp, IncOp, SatOp, Sve, SveForm};
+use sve_insn::{AddLengthOp, IncOp, SatOp};
 use vec_regs::VecRegs;
 
-/// Does a count, or a multiple of the vector length.
-#[inline(always)]
-pub(crate) fn exec(core: &mut Core, vec: &mut VecRegs, i: &Sve)
-    requires { effects.is_count i.now ≡ true }
-    ensures core { core.new ≡ (effects.across i.now core.old vec.old).core }
-    ensures vectors { vec.new ≡ (effects.across i.now core.old vec.old).vectors }
+/// The pattern of all lanes.
+const ALL_LANES: u32 = 31;
+
+/// `cntb`, `cnth`, `cntw`, `cntd`: imm4 + 1 times the lanes that a pattern names.
+#[inline(never)]
+pub(crate) fn count(core: &mut Core, vec: &VecRegs, size: U<2>, imm4: U<4>, pattern: U<5>, rd: Reg)
+    ensures core { core.new ≡ (effects.across (SveForm.Count size imm4 pattern rd) core.old vec.now).core }
+    ensures vectors { vec.now ≡ (effects.across (SveForm.Count size imm4 pattern rd) core.old vec.now).vectors }
 {
-    match *i.form() {
-        SveForm::Count {
-            size,
-            imm4,
-            pattern,
-            rd,
-        } => count(core, vec, size, imm4, pattern, rd),
-        SveForm::IncX {
-            op,
-            size,
-            imm4,
-            pattern,
-            rdn,
-        } => inc_x(core, vec, op, size, imm4, pattern, rdn),
-        SveForm::SatX {
-            op,
-            size,
-            sf,
-            imm4,
-            pattern,
-            rdn,
-        } => sat_x(core, vec, op, size, sf, imm4, pattern, rdn),
-        SveForm::AddLength { op, rn, imm6, rd } => add_length(core, vec, op, rn, imm6, rd),
-        SveForm::ReadLength { imm6, rd } => read_length(core, vec, imm6, rd),
-        _ => of_lanes(core, vec, i),
+    if pattern.get() == ALL_LANES {
+        core.set_x(rd, 64, count_of_all(vec, size, imm4, pattern));
+    } else {
+        count_by_pattern(core, vec, size, imm4, pattern, rd);
     }
 }
 
-/// Does a count on the lanes of a vector register.
-#[inline(always)]
-fn of_lanes(core: &Core, vec: &mut VecRegs, i: &Sve)
-    requires { is_count_of_lanes i.now ≡ true }
-    ensures { vec.new ≡ (effects.across i.now core.now vec.old).vectors }
-{
-    match *i.form() {
-        SveForm::IncZ {
-            op,
-            size,
-            imm4,
-            pattern,
-            zdn,
-        } => inc_z(core, vec, op, size, imm4, pattern, zdn),
-        SveForm::SatZ {
-            op,
-            size,
-            imm4,
-            pattern,
-            zdn,
-        } => sat_z(core, vec, op, size, imm4, pattern, zdn),
-        _ => {}
-    }
-}
-
-fn count(core: &mut Core, vec: &VecRegs, size: U<2>, imm4: U<4>, pattern: U<5>, rd: Reg)
+/// The same by any pattern. In code of its own, since few instructions name another one than that of all lanes.
+#[inline(never)]
+fn count_by_pattern(core: &mut Core, vec: &VecRegs, size: U<2>, imm4: U<4>, pattern: U<5>, rd: Reg)
     ensures core { core.new ≡ (effects.across (SveForm.Count size imm4 pattern rd) core.old vec.now).core }
     ensures vectors { vec.now ≡ (effects.across (SveForm.Count size imm4 pattern rd) core.old vec.now).vectors }
 {
     core.set_x(rd, 64, count_of(vec, size, imm4, pattern));
 }
 
-fn inc_x(core: &mut Core, vec: &VecRegs, op: IncOp, size: U<2>, imm4: U<4>, pattern: U<5>, rdn: Reg)
+/// `incb`, `decb` and those of `h`, `w`, `d`: that number added to a general register, or subtracted from it.
+#[inline(never)]
+pub(crate) fn inc_x(
+    core: &mut Core,
+    vec: &VecRegs,
+    op: IncOp,
+    size: U<2>,
+    imm4: U<4>,
+    pattern: U<5>,
+    rdn: Reg,
+)
+    ensures core { core.new ≡ (effects.across (SveForm.IncX op size imm4 pattern rdn) core.old vec.now).core }
+    ensures vectors { vec.now ≡ (effects.across (SveForm.IncX op size imm4 pattern rdn) core.old vec.now).vectors }
+{
+    if pattern.get() == ALL_LANES {
+        let count = count_of_all(vec, size, imm4, pattern);
+        core.set_x(rdn, 64, inc_counted(op, core.x(rdn), count));
+    } else {
+        inc_by_pattern(core, vec, op, size, imm4, pattern, rdn);
+    }
+}
+
+/// The same by any pattern, in code of its own.
+#[inline(never)]
+fn inc_by_pattern(
+    core: &mut Core,
+    vec: &VecRegs,
+    op: IncOp,
+    size: U<2>,
+    imm4: U<4>,
+    pattern: U<5>,
+    rdn: Reg,
+)
     ensures core { core.new ≡ (effects.across (SveForm.IncX op size imm4 pattern rdn) core.old vec.now).core }
     ensures vectors { vec.now ≡ (effects.across (SveForm.IncX op size imm4 pattern rdn) core.old vec.now).vectors }
 {
     let count = count_of(vec, size, imm4, pattern);
-    core.set_x(rdn, 64, apply(inc_lane_op(op), 64, core.x(rdn), count));
+    core.set_x(rdn, 64, inc_counted(op, core.x(rdn), count));
 }
 
-fn inc_z(core: &Core, vec: &mut VecRegs, op: IncOp, size: U<2>, imm4: U<4>, pattern: U<5>, zdn: Reg)
+/// `inch`, `dech` and those of `w`, `d`: that number added to each lane of a vector, or subtracted from it.
+#[inline(never)]
+pub(crate) fn inc_z(
+    core: &Core,
+    vec: &mut VecRegs,
+    op: IncOp,
+    size: U<2>,
+    imm4: U<4>,
+    pattern: U<5>,
+    zdn: Reg,
+)
     ensures { vec.new ≡ (effects.across (SveForm.IncZ op size imm4 pattern zdn) core.now vec.old).vectors }
 {
     let e = lane_bits(size);
@@ -105,7 +105,10 @@ fn inc_z(core: &Core, vec: &mut VecRegs, op: IncOp, size: U<2>, imm4: U<4>, patt
     }
 }
 
-fn sat_x(
+/// `sqincb`, `uqincb`, `sqdecb`, `uqdecb` and those of `h`, `w`, `d` of a general register, saturating at 64 bits, or
+/// at 32 where `sf` is not set.
+#[inline(never)]
+pub(crate) fn sat_x(
     core: &mut Core,
     vec: &VecRegs,
     op: SatOp,
@@ -123,7 +126,17 @@ fn sat_x(
     core.set_x(rdn, 64, sat_counted(op, w, core.x(rdn), count));
 }
 
-fn sat_z(core: &Core, vec: &mut VecRegs, op: SatOp, size: U<2>, imm4: U<4>, pattern: U<5>, zdn: Reg)
+/// `sqinch`, `uqinch`, `sqdech`, `uqdech` and those of `w`, `d` of each lane of a vector, saturating.
+#[inline(never)]
+pub(crate) fn sat_z(
+    core: &Core,
+    vec: &mut VecRegs,
+    op: SatOp,
+    size: U<2>,
+    imm4: U<4>,
+    pattern: U<5>,
+    zdn: Reg,
+)
     ensures { vec.new ≡ (effects.across (SveForm.SatZ op size imm4 pattern zdn) core.now vec.old).vectors }
 {
     let e = lane_bits(size);
@@ -136,7 +149,16 @@ fn sat_z(core: &Core, vec: &mut VecRegs, op: SatOp, size: U<2>, imm4: U<4>, patt
     }
 }
 
-fn add_length(core: &mut Core, vec: &VecRegs, op: AddLengthOp, rn: Reg, imm6: U<6>, rd: Reg)
+/// `addvl`, `addpl`: a register and the signed imm6 times the bytes of a vector register, or of a predicate register.
+#[inline(never)]
+pub(crate) fn add_length(
+    core: &mut Core,
+    vec: &VecRegs,
+    op: AddLengthOp,
+    rn: Reg,
+    imm6: U<6>,
+    rd: Reg,
+)
     ensures core { core.new ≡ (effects.across (SveForm.AddLength op rn imm6 rd) core.old vec.now).core }
     ensures vectors { vec.now ≡ (effects.across (SveForm.AddLength op rn imm6 rd) core.old vec.now).vectors }
 {
@@ -144,7 +166,9 @@ fn add_length(core: &mut Core, vec: &VecRegs, op: AddLengthOp, rn: Reg, imm6: U<
     core.set_x_sp(rd, 64, core.x_sp(rn).wrapping_add_signed(by));
 }
 
-fn read_length(core: &mut Core, vec: &VecRegs, imm6: U<6>, rd: Reg)
+/// `rdvl`: the signed imm6 times the bytes of a vector register.
+#[inline(never)]
+pub(crate) fn read_length(core: &mut Core, vec: &VecRegs, imm6: U<6>, rd: Reg)
     ensures core { core.new ≡ (effects.across (SveForm.ReadLength imm6 rd) core.old vec.now).core }
     ensures vectors { vec.now ≡ (effects.across (SveForm.ReadLength imm6 rd) core.old vec.now).vectors }
 {
@@ -161,6 +185,16 @@ fn count_of(vec: &VecRegs, size: U<2>, imm4: U<4>, pattern: U<5>) -> u64
     u64::from(pattern_count(pattern, n)) * u64::from(imm4.get() + 1)
 }
 
+/// The same of the pattern of all lanes.
+#[inline(always)]
+fn count_of_all(vec: &VecRegs, size: U<2>, imm4: U<4>, pattern: U<5>) -> u64
+    requires { pattern ≡ 31 }
+    ensures { result ≡ table.count_of size imm4 pattern vec.now }
+{
+    let n = vec.length().bits() / lane_bits(size);
+    u64::from(n) * u64::from(imm4.get() + 1)
+}
+
 /// Writes what an operation makes of each lane of zdn and a count to it.
 #[inline(always)]
 fn counted_lanes<F: LaneWise2 + Drop>(vec: &mut VecRegs, e: u32, zdn: Reg, count: u64, op: F)
@@ -169,6 +203,17 @@ fn counted_lanes<F: LaneWise2 + Drop>(vec: &mut VecRegs, e: u32, zdn: Reg, count
 {
     let op = WithNumber { op, n: count };
     plain(vec, e, zdn, &Map1 { op, zn: zdn });
+}
+
+/// A number of 64 bits with a count added or subtracted.
+#[inline(always)]
+fn inc_counted(op: IncOp, x: u64, count: u64) -> u64
+    ensures { result ≡ lane_op (table.inc_lane_op op) 64 x count }
+{
+    match op {
+        IncOp::Inc => x.wrapping_add(count),
+        IncOp::Dec => x.wrapping_sub(count),
+    }
 }
 
 /// The low w bits of a number and a count, saturating, and extended to 64 bits.
@@ -200,15 +245,6 @@ fn length_of(vec: &VecRegs, op: AddLengthOp) -> u32
     match op {
         AddLengthOp::Addvl => vec.length().bits() / 8,
         AddLengthOp::Addpl => vec.length().bits() / 64,
-    }
-}
-
-fn inc_lane_op(op: IncOp) -> LaneOp
-    ensures { result ≡ table.inc_lane_op op }
-{
-    match op {
-        IncOp::Inc => LaneOp::Add,
-        IncOp::Dec => LaneOp::Sub,
     }
 }
 

@@ -16,6 +16,7 @@ use register_lanes::permuted;
 use vec_regs::VecRegs;
 
 /// Does a dup of a lane of 8 to 128 bits.
+#[inline(never)]
 pub(crate) fn dup_lane(core: &Core, vec: &mut VecRegs, imm2: U<2>, tsz: U<5>, zn: Reg, zd: Reg)
     ensures { vec.new ≡ (effects.across (SveForm.DupLane imm2 tsz zn zd) core.now vec.old).vectors }
 {

@@ -14,6 +14,9 @@ use sve_effects::lane_bits;
 use sve_insn::ReduceOp;
 use vec_regs::VecRegs;
 
+/// `saddv`, `uaddv`, `smaxv` and the other folds of active lanes to one number, in the low bits of vd with zeros
+/// above.
+#[inline(never)]
 pub(crate) fn reduce(
     core: &Core,
     vec: &mut VecRegs,

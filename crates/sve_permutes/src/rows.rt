@@ -19,12 +19,16 @@ use sve_effects::lane_bits;
 use sve_insn::{CopyRegOp, InsertOp, InterleaveOp, UnpackOp, UnpackPOp};
 use vec_regs::VecRegs;
 
+/// `dup` of a general register, or of SP.
+#[inline(never)]
 pub(crate) fn dup_reg(core: &Core, vec: &mut VecRegs, size: U<2>, rn: Reg, zd: Reg)
     ensures { vec.new ≡ (effects.across (SveForm.DupReg size rn zd) core.now vec.old).vectors }
 {
     moves::filled(vec, lane_bits(size), core.x_sp(rn), zd);
 }
 
+/// `insr`: lanes move up by one, and lane 0 is the source, a general or a vector register as `op` says.
+#[inline(never)]
 pub(crate) fn insert(core: &Core, vec: &mut VecRegs, op: InsertOp, size: U<2>, src: Reg, zdn: Reg)
     ensures { vec.new ≡ (effects.across (SveForm.Insert op size src zdn) core.now vec.old).vectors }
 {
@@ -33,13 +37,17 @@ pub(crate) fn insert(core: &Core, vec: &mut VecRegs, op: InsertOp, size: U<2>, s
     permuted(vec, e, zdn, &Inserted { scalar, zn: zdn });
 }
 
+/// `rev` of the lanes of a vector.
+#[inline(never)]
 pub(crate) fn rev_z(core: &Core, vec: &mut VecRegs, size: U<2>, zn: Reg, zd: Reg)
     ensures { vec.new ≡ (effects.across (SveForm.RevZ size zn zd) core.now vec.old).vectors }
 {
     permuted(vec, lane_bits(size), zd, &Reversed { zn });
 }
 
+/// `sunpklo`, `sunpkhi`, `uunpklo`, `uunpkhi`: lanes of half the size, extended; none has 8 bits.
 #[tactic(auto, unfolding(sve_insn::specs::Conditions::is_no_byte))]
+#[inline(never)]
 pub(crate) fn unpack(core: &Core, vec: &mut VecRegs, op: UnpackOp, size: U<2>, zn: Reg, zd: Reg)
     requires { is_no_byte size ≡ true }
     ensures { vec.new ≡ (effects.across (SveForm.Unpack op size zn zd) core.now vec.old).vectors }
@@ -52,12 +60,16 @@ pub(crate) fn unpack(core: &Core, vec: &mut VecRegs, op: UnpackOp, size: U<2>, z
     }
 }
 
+/// `tbl`: the lanes of zn that the lanes of zm number, 0 where there is none.
+#[inline(never)]
 pub(crate) fn lookup(core: &Core, vec: &mut VecRegs, size: U<2>, zm: Reg, zn: Reg, zd: Reg)
     ensures { vec.new ≡ (effects.across (SveForm.Table size zm zn zd) core.now vec.old).vectors }
 {
     table(vec, lane_bits(size), zm, zn, zd);
 }
 
+/// `zip1`, `zip2`, `uzp1`, `uzp2`, `trn1`, `trn2` of two vectors.
+#[inline(never)]
 pub(crate) fn interleave(
     core: &Core,
     vec: &mut VecRegs,
@@ -107,6 +119,8 @@ fn transpose(vec: &mut VecRegs, second: bool, e: u32, zn: Reg, zm: Reg, zd: Reg)
     permuted(vec, e, zd, &Transposed { second, zn, zm });
 }
 
+/// `zip1`, `zip2`, `uzp1`, `uzp2`, `trn1`, `trn2` of two predicates.
+#[inline(never)]
 pub(crate) fn interleave_p(
     core: &Core,
     vec: &mut VecRegs,
@@ -121,30 +135,40 @@ pub(crate) fn interleave_p(
     pred_permutes::interleaved(vec, op, lane_bits(size), pn, pm, pd);
 }
 
+/// `punpklo`, `punpkhi`: the bits of the low or the high half, each to an even place.
+#[inline(never)]
 pub(crate) fn unpack_p(core: &Core, vec: &mut VecRegs, op: UnpackPOp, pn: Pred, pd: Pred)
     ensures { vec.new ≡ (effects.across (SveForm.UnpackP op pn pd) core.now vec.old).vectors }
 {
     pred_permutes::unpacked(vec, op, pn, pd);
 }
 
+/// `rev` of the fields of a predicate.
+#[inline(never)]
 pub(crate) fn rev_p(core: &Core, vec: &mut VecRegs, size: U<2>, pn: Pred, pd: Pred)
     ensures { vec.new ≡ (effects.across (SveForm.RevP size pn pd) core.now vec.old).vectors }
 {
     pred_permutes::reversed(vec, lane_bits(size), pn, pd);
 }
 
+/// `compact`: the active lanes, one behind the other from lane 0 on, and zeros above; of 32 and 64 bits.
+#[inline(never)]
 pub(crate) fn compact(core: &Core, vec: &mut VecRegs, size: U<2>, pg: PredLow, zn: Reg, zd: Reg)
     ensures { vec.new ≡ (effects.across (SveForm.Compact size pg zn zd) core.now vec.old).vectors }
 {
     active::compacted(vec, lane_bits(size), pg.register(), zn, zd);
 }
 
+/// `splice`: the lanes of zdn from the first to the last active one, and behind them those of zm from lane 0 on.
+#[inline(never)]
 pub(crate) fn splice(core: &Core, vec: &mut VecRegs, size: U<2>, pg: PredLow, zm: Reg, zdn: Reg)
     ensures { vec.new ≡ (effects.across (SveForm.Splice size pg zm zdn) core.now vec.old).vectors }
 {
     active::spliced(vec, lane_bits(size), pg.register(), zm, zdn);
 }
 
+/// `ext`: the bytes of zdn from a place on, and behind them those of zm.
+#[inline(never)]
 pub(crate) fn ext(core: &Core, vec: &mut VecRegs, imm8h: U<5>, imm8l: U<3>, zm: Reg, zdn: Reg)
     ensures { vec.new ≡ (effects.across (SveForm.Ext imm8h imm8l zm zdn) core.now vec.old).vectors }
 {
@@ -152,6 +176,8 @@ pub(crate) fn ext(core: &Core, vec: &mut VecRegs, imm8h: U<5>, imm8l: U<3>, zm: 
     permuted(vec, 8, zdn, &Extracted { from, zn: zdn, zm });
 }
 
+/// `cpy` of a register to active lanes; the others keep their value.
+#[inline(never)]
 pub(crate) fn copy_reg(
     core: &Core,
     vec: &mut VecRegs,

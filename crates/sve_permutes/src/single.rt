@@ -17,6 +17,9 @@ use sve_effects::lane_bits;
 use sve_insn::{CondLastOp, LastOp};
 use vec_regs::VecRegs;
 
+/// `lasta`, `lastb`: the lane behind the last active one, or that one, to a general register, or to the low bits of a
+/// vector register with zeros above.
+#[inline(never)]
 pub(crate) fn last(
     core: &mut Core,
     vec: &mut VecRegs,
@@ -45,6 +48,8 @@ pub(crate) fn last(
     }
 }
 
+/// `clasta`, `clastb`: the same where a lane is active; else the destination is kept.
+#[inline(never)]
 pub(crate) fn cond_last(
     core: &mut Core,
     vec: &mut VecRegs,

@@ -1,3 +1,2 @@
 pub mod Compares
-pub mod Groups
 pub mod Patterns

@@ -5,14 +5,13 @@ ghost use Rattle.sve_effects.specs.Predicate as model;
 ghost use Rattle.sve_effects.specs.PredicateRows.{predicate_bits, logic_of, break_after, pair_after};
 ghost use Rattle.sve_effects.specs.Effects.{predicate};
 ghost use Rattle.sve_insn.specs.declared.form.SveForm.TheVariants as form;
-ghost use Rattle.sve_pred.specs.Groups.{is_by_bits};
 ghost use Rattle.emu_model.specs.Lanes.{read_p, with_p};
 
 use crate::registers::{put, read, test_all_bits, write};
 use core_regs::Core;
 use emu_bits::Pred;
 use pred_bits::{LogicOp, PredBits, brk, brkn, brkp};
-use sve_insn::{BreakOp, BreakPairOp, LogicPOp, Sve, SveForm};
+use sve_insn::{BreakOp, BreakPairOp, LogicPOp};
 use vec_regs::VecRegs;
 
 /// The operation of a name.
@@ -48,6 +47,7 @@ fn logic_bits(vec: &VecRegs, op: LogicPOp, pm: Pred, pg: Pred, pn: Pred) -> Pred
 }
 
 /// `and`, `bic`, `eor`, `orr`, `orn`, `nor`, `nand` under a predicate.
+#[inline(never)]
 pub fn logic(
     core: &mut Core,
     vec: &mut VecRegs,
@@ -67,6 +67,7 @@ pub fn logic(
 
 /// `sel`.
 #[tactic(auto, using(crate::proofs::Lengths::length_given))]
+#[inline(never)]
 pub fn select(vec: &mut VecRegs, pm: Pred, pg: Pred, pn: Pred, pd: Pred)
     ensures { vec.new ≡ with_p vec.old pd
         (model.logic LogicOp.Sel (predicate_bits vec.old) (read_p vec.old pg) (read_p vec.old pn) (read_p vec.old pm)) }
@@ -104,6 +105,7 @@ fn broken_bits(vec: &VecRegs, op: BreakOp, pg: Pred, pn: Pred, m: bool, pd: Pred
 }
 
 /// `brka`, `brkb`.
+#[inline(never)]
 pub fn break_first(
     core: &mut Core,
     vec: &mut VecRegs,
@@ -149,6 +151,7 @@ fn pair_bits(vec: &VecRegs, op: BreakPairOp, pm: Pred, pg: Pred, pn: Pred) -> Pr
 }
 
 /// `brkpa`, `brkpb`.
+#[inline(never)]
 pub fn break_pair(
     core: &mut Core,
     vec: &mut VecRegs,
@@ -168,6 +171,7 @@ pub fn break_pair(
 
 /// `brkn`: its flags are by the test of all bits.
 #[tactic(auto, using(crate::proofs::Lengths::length_given))]
+#[inline(never)]
 pub fn break_next(core: &mut Core, vec: &mut VecRegs, s: bool, pg: Pred, pn: Pred, pdm: Pred)
     ensures registers { core.new ≡ (predicate (form.BreakNext s pg pn pdm) core.old vec.old).core }
     ensures vectors { vec.new ≡ (predicate (form.BreakNext s pg pn pdm) core.old vec.old).vectors }
@@ -176,42 +180,4 @@ pub fn break_next(core: &mut Core, vec: &mut VecRegs, s: bool, pg: Pred, pn: Pre
     let result = brkn(&read(vec, pg), &read(vec, pn), &read(vec, pdm));
     test_all_bits(core, s, &result);
     write(vec, pdm, &result);
-}
-
-/// Does an instruction of these rows.
-#[inline(always)]
-pub fn exec(core: &mut Core, vec: &mut VecRegs, i: &Sve)
-    requires { is_by_bits i.now ≡ true }
-    ensures registers { core.new ≡ (predicate i.now core.old vec.old).core }
-    ensures vectors { vec.new ≡ (predicate i.now core.old vec.old).vectors }
-{
-    match *i.form() {
-        SveForm::LogicP {
-            op,
-            s,
-            pm,
-            pg,
-            pn,
-            pd,
-        } => logic(core, vec, op, s, pm, pg, pn, pd),
-        SveForm::SelectP { pm, pg, pn, pd } => select(vec, pm, pg, pn, pd),
-        SveForm::Break {
-            op,
-            s,
-            pg,
-            pn,
-            m,
-            pd,
-        } => break_first(core, vec, op, s, pg, pn, m, pd),
-        SveForm::BreakPair {
-            op,
-            s,
-            pm,
-            pg,
-            pn,
-            pd,
-        } => break_pair(core, vec, op, s, pm, pg, pn, pd),
-        SveForm::BreakNext { s, pg, pn, pdm } => break_next(core, vec, s, pg, pn, pdm),
-        _ => {}
-    }
 }

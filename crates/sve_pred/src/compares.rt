@@ -10,7 +10,6 @@ ghost use Rattle.sve_effects.specs.PredicateRows.{vector_test, wide_test, unsign
 ghost use Rattle.sve_insn.specs.declared.form.SveForm.TheVariants as form;
 ghost use Rattle.sve_pred.specs.Compares as model;
 ghost use Rattle.sve_pred.specs.declared.compares.Operand.TheVariants as second;
-ghost use Rattle.sve_pred.specs.Groups.{is_compare};
 ghost use Rattle.emu_model.specs.LaneSizes.{IsLaneSize};
 
 use crate::registers::{bits, esize, read, set_test_lanes, write};
@@ -21,7 +20,7 @@ use lane_tests::told::{Compared, ComparedNumber, ComparedWide, told};
 use pred_bits::{LogicOp, PredBits};
 use sve_effects::lane_bits;
 use sve_elements::LaneTest;
-use sve_insn::{CmpSImmOp, CmpUImmOp, CmpVecOp, CmpWideOp, Sve, SveForm};
+use sve_insn::{CmpSImmOp, CmpUImmOp, CmpVecOp, CmpWideOp};
 use vec_regs::VecRegs;
 
 /// The test of a name, of two lanes.
@@ -265,6 +264,7 @@ fn compare(
 }
 
 /// Compares of two registers' lanes.
+#[inline(never)]
 pub fn vectors(
     core: &mut Core,
     vec: &mut VecRegs,
@@ -293,6 +293,7 @@ pub fn vectors(
 }
 
 /// Compares with the 64-bit lanes of a register.
+#[inline(never)]
 pub fn wide(
     core: &mut Core,
     vec: &mut VecRegs,
@@ -330,6 +331,7 @@ fn unsigned_immediate(imm7: U<7>) -> u64
 }
 
 /// Compares with an unsigned immediate.
+#[inline(never)]
 pub fn unsigned(
     core: &mut Core,
     vec: &mut VecRegs,
@@ -368,6 +370,7 @@ fn immediate(size: U<2>, imm5: U<5>) -> u64
 }
 
 /// Compares with a signed immediate.
+#[inline(never)]
 pub fn signed(
     core: &mut Core,
     vec: &mut VecRegs,
@@ -394,48 +397,4 @@ pub fn signed(
         &words,
         pd,
     );
-}
-
-/// Does an instruction of these rows.
-#[inline(always)]
-pub fn exec(core: &mut Core, vec: &mut VecRegs, i: &Sve)
-    requires { is_compare i.now ≡ true }
-    ensures registers { core.new ≡ (predicate i.now core.old vec.old).core }
-    ensures vectors { vec.new ≡ (predicate i.now core.old vec.old).vectors }
-{
-    match *i.form() {
-        SveForm::CmpVec {
-            op,
-            size,
-            zm,
-            pg,
-            zn,
-            pd,
-        } => vectors(core, vec, op, size, zm, pg, zn, pd),
-        SveForm::CmpWide {
-            op,
-            size,
-            zm,
-            pg,
-            zn,
-            pd,
-        } => wide(core, vec, op, size, zm, pg, zn, pd),
-        SveForm::CmpUImm {
-            op,
-            size,
-            imm7,
-            pg,
-            zn,
-            pd,
-        } => unsigned(core, vec, op, size, imm7, pg, zn, pd),
-        SveForm::CmpSImm {
-            op,
-            size,
-            imm5,
-            pg,
-            zn,
-            pd,
-        } => signed(core, vec, op, size, imm5, pg, zn, pd),
-        _ => {}
-    }
 }

@@ -19,7 +19,6 @@ ghost use Rattle.sve_effects.specs.PredicateRows.{
 ghost use Rattle.sve_effects.specs.Pattern.{pattern_count};
 ghost use Rattle.sve_effects.specs.Predicate.{only_next, lanes_below, pred_test};
 ghost use Rattle.sve_insn.specs.declared.form.SveForm.TheVariants as form;
-ghost use Rattle.sve_pred.specs.Groups.{is_by_lanes};
 ghost use Rattle.sve_pred.specs.Patterns as model;
 ghost use Rattle.emu_model.specs.Lanes.{read_p, with_p, with_lanes};
 ghost use Rattle.emu_model.specs.LaneSizes.{IsLaneSize};
@@ -34,7 +33,7 @@ use pred_bits::{
 };
 use register_lanes::{Map1, plain};
 use sve_elements::{LaneOp, apply};
-use sve_insn::{CtermOp, IncPOp, PtrueOp, Sve, SveForm, WhileOp};
+use sve_insn::{CtermOp, IncPOp, PtrueOp, WhileOp};
 use vec_regs::VecRegs;
 
 /// The pattern of all lanes.
@@ -55,6 +54,7 @@ fn next_bits(vec: &VecRegs, size: U<2>, pg: Pred, pdn: Pred) -> (PredBits, Flags
 }
 
 /// `pnext`.
+#[inline(never)]
 pub fn next_lane(core: &mut Core, vec: &mut VecRegs, size: U<2>, pg: Pred, pdn: Pred)
     ensures registers { core.new ≡ (predicate (form.Next size pg pdn) core.old vec.old).core }
     ensures vectors { vec.new ≡ (predicate (form.Next size pg pdn) core.old vec.old).vectors }
@@ -65,6 +65,7 @@ pub fn next_lane(core: &mut Core, vec: &mut VecRegs, size: U<2>, pg: Pred, pdn: 
 }
 
 /// `cntp`.
+#[inline(never)]
 pub fn count_p(core: &mut Core, vec: &VecRegs, size: U<2>, pg: Pred, pn: Pred, rd: Reg)
     ensures { core.new ≡ (predicate (form.CountP size pg pn rd) core.old vec.now).core }
 {
@@ -147,6 +148,7 @@ fn put_pattern(core: &mut Core, vec: &mut VecRegs, sets: bool, size: U<2>, patte
 }
 
 /// `ptrue`, `ptrues`.
+#[inline(never)]
 pub fn ptrue(core: &mut Core, vec: &mut VecRegs, op: PtrueOp, size: U<2>, pattern: U<5>, pd: Pred)
     ensures registers { core.new ≡ (predicate (form.Ptrue op size pattern pd) core.old vec.old).core }
     ensures vectors { vec.new ≡ (predicate (form.Ptrue op size pattern pd) core.old vec.old).vectors }
@@ -174,6 +176,7 @@ fn counted_by(op: IncPOp) -> LaneOp
 }
 
 /// `incp`, `decp` of a general register.
+#[inline(never)]
 pub fn inc_p(core: &mut Core, vec: &VecRegs, op: IncPOp, size: U<2>, pm: Pred, rdn: Reg)
     ensures { core.new ≡ (predicate (form.IncP op size pm rdn) core.old vec.now).core }
 {
@@ -193,6 +196,7 @@ fn counted_lanes<F: LaneWise2 + Drop>(vec: &mut VecRegs, op: F, e: u32, n: u64, 
 }
 
 /// `incp`, `decp` of a Z register.
+#[inline(never)]
 pub fn inc_p_z(vec: &mut VecRegs, op: IncPOp, size: U<2>, pm: Pred, zdn: Reg)
     ensures { vec.new ≡ with_lanes (lane_bits size) (λ k. lane_op (counted_by op) (lane_bits size)
         (lane_of (lane_bits size) vec.old zdn k) (set_lanes_of (lane_bits size) pm vec.old)) zdn vec.old }
@@ -256,6 +260,7 @@ fn looped(
 }
 
 /// `whilelt`, `whilele`, `whilelo`, `whilels`: the flags are by the test of all bits.
+#[inline(never)]
 pub fn while_lanes(
     core: &mut Core,
     vec: &mut VecRegs,
@@ -287,6 +292,7 @@ fn terminates(op: CtermOp, width: u32, a: u64, b: u64) -> bool
 }
 
 /// `ctermeq`, `ctermne`.
+#[inline(never)]
 pub fn cterm(core: &mut Core, op: CtermOp, sf: bool, rm: Reg, rn: Reg)
     ensures { core.new ≡ record core.old {
       flags = termination_flags (terminates op (width_of sf) (read_x core.old rn) (read_x core.old rm)) core.old.flags;
@@ -300,35 +306,4 @@ pub fn cterm(core: &mut Core, op: CtermOp, sf: bool, rm: Reg, rn: Reg)
         c: flags.c,
         v: !ends && !flags.c,
     });
-}
-
-/// Does an instruction of these rows.
-#[inline(always)]
-pub fn exec(core: &mut Core, vec: &mut VecRegs, i: &Sve)
-    requires { is_by_lanes i.now ≡ true }
-    ensures registers { core.new ≡ (predicate i.now core.old vec.old).core }
-    ensures vectors { vec.new ≡ (predicate i.now core.old vec.old).vectors }
-{
-    match *i.form() {
-        SveForm::Next { size, pg, pdn } => next_lane(core, vec, size, pg, pdn),
-        SveForm::Ptrue {
-            op,
-            size,
-            pattern,
-            pd,
-        } => ptrue(core, vec, op, size, pattern, pd),
-        SveForm::CountP { size, pg, pn, rd } => count_p(core, vec, size, pg, pn, rd),
-        SveForm::IncP { op, size, pm, rdn } => inc_p(core, vec, op, size, pm, rdn),
-        SveForm::IncPZ { op, size, pm, zdn } => inc_p_z(vec, op, size, pm, zdn),
-        SveForm::While {
-            op,
-            size,
-            rm,
-            sf,
-            rn,
-            pd,
-        } => while_lanes(core, vec, op, size, rm, sf, rn, pd),
-        SveForm::Cterm { op, sf, rm, rn } => cterm(core, op, sf, rm, rn),
-        _ => {}
-    }
 }

@@ -2,6 +2,7 @@
 #![tactic(auto)]
 
 mod breaks;
+mod by_form;
 mod compares;
 mod lanes;
 mod registers;
@@ -12,7 +13,7 @@ ghost use Rattle.emu_model.specs.declared.trap.Effect.{Effect};
 ghost use Rattle.sve_effects.specs.Effects.{is_predicate, predicate};
 
 use core_regs::{Core, Effect};
-use sve_insn::{Sve, SveForm};
+use sve_insn::Sve;
 use vec_regs::VecRegs;
 
 /// Does an instruction of the rows on predicates: a predicate, FFR, a general register, the lanes of a Z register or
@@ -24,30 +25,6 @@ pub fn exec(core: &mut Core, vec: &mut VecRegs, i: &Sve) -> Effect
     ensures vectors { vec.new ≡ (predicate i.now core.old vec.old).vectors }
     ensures effect { result ≡ Effect.Next }
 {
-    match *i.form() {
-        SveForm::CmpVec { .. }
-        | SveForm::CmpWide { .. }
-        | SveForm::CmpUImm { .. }
-        | SveForm::CmpSImm { .. } => compares::exec(core, vec, i),
-        SveForm::LogicP { .. }
-        | SveForm::SelectP { .. }
-        | SveForm::Break { .. }
-        | SveForm::BreakPair { .. }
-        | SveForm::BreakNext { .. } => breaks::exec(core, vec, i),
-        SveForm::Ptest { .. }
-        | SveForm::First { .. }
-        | SveForm::Pfalse { .. }
-        | SveForm::ReadFfr { .. }
-        | SveForm::ReadFfrAll { .. }
-        | SveForm::WriteFfr { .. } => single::exec(core, vec, i),
-        SveForm::Next { .. }
-        | SveForm::Ptrue { .. }
-        | SveForm::CountP { .. }
-        | SveForm::IncP { .. }
-        | SveForm::IncPZ { .. }
-        | SveForm::While { .. }
-        | SveForm::Cterm { .. } => lanes::exec(core, vec, i),
-        _ => {}
-    }
+    by_form::exec(core, vec, i);
     Effect::Next
 }

@@ -5,17 +5,17 @@ ghost use Rattle.sve_effects.specs.Predicate as model;
 ghost use Rattle.sve_effects.specs.PredicateRows.{predicate_bits, after_test, read_ffr_flags, written_ffr};
 ghost use Rattle.sve_effects.specs.Effects.{predicate};
 ghost use Rattle.sve_insn.specs.declared.form.SveForm.TheVariants as form;
-ghost use Rattle.sve_pred.specs.Groups.{is_single};
 ghost use Rattle.emu_model.specs.Lanes.{read_p, with_p, with_ffr};
 
 use crate::registers::{bits, put, read, read_ffr, set_test, write, write_ffr};
 use core_regs::Core;
 use emu_bits::{Esize, Pred};
 use pred_bits::{LogicOp, PredBits, ones};
-use sve_insn::{ReadFfrOp, Sve, SveForm, WriteFfrOp};
+use sve_insn::{ReadFfrOp, WriteFfrOp};
 use vec_regs::VecRegs;
 
 /// `ptest`.
+#[inline(never)]
 pub fn ptest(core: &mut Core, vec: &VecRegs, pg: Pred, pn: Pred)
     ensures { core.new ≡ after_test true 8 (predicate_bits vec.now) (read_p vec.now pg) (read_p vec.now pn) core.old }
 {
@@ -24,6 +24,7 @@ pub fn ptest(core: &mut Core, vec: &VecRegs, pg: Pred, pn: Pred)
 
 /// `pfirst`.
 #[tactic(auto, using(crate::proofs::Lengths::length_given))]
+#[inline(never)]
 pub fn first(core: &mut Core, vec: &mut VecRegs, pg: Pred, pdn: Pred)
     ensures registers { core.new ≡ (predicate (form.First pg pdn) core.old vec.old).core }
     ensures vectors { vec.new ≡ (predicate (form.First pg pdn) core.old vec.old).vectors }
@@ -35,6 +36,7 @@ pub fn first(core: &mut Core, vec: &mut VecRegs, pg: Pred, pdn: Pred)
 }
 
 /// `pfalse`.
+#[inline(never)]
 pub fn pfalse(vec: &mut VecRegs, pd: Pred)
     ensures { vec.new ≡ with_p vec.old pd (replicate (predicate_bits vec.old) false) }
 {
@@ -66,6 +68,7 @@ fn ffr_bits(vec: &VecRegs, pg: Pred) -> PredBits
 }
 
 /// `rdffr`, `rdffrs` under a predicate.
+#[inline(never)]
 pub fn ffr_under(core: &mut Core, vec: &mut VecRegs, op: ReadFfrOp, pg: Pred, pd: Pred)
     ensures registers { core.new ≡ (predicate (form.ReadFfr op pg pd) core.old vec.old).core }
     ensures vectors { vec.new ≡ (predicate (form.ReadFfr op pg pd) core.old vec.old).vectors }
@@ -75,6 +78,7 @@ pub fn ffr_under(core: &mut Core, vec: &mut VecRegs, op: ReadFfrOp, pg: Pred, pd
 }
 
 /// `rdffr`.
+#[inline(never)]
 pub fn ffr_all(vec: &mut VecRegs, pd: Pred)
     ensures { vec.new ≡ with_p vec.old pd vec.old.ffr }
 {
@@ -95,27 +99,10 @@ fn written_ffr(vec: &VecRegs, op: WriteFfrOp, pn: Pred) -> PredBits
 }
 
 /// `setffr`, `wrffr`.
+#[inline(never)]
 pub fn ffr_written(vec: &mut VecRegs, op: WriteFfrOp, pn: Pred)
     ensures { vec.new ≡ with_ffr vec.old (written_ffr op pn vec.old) }
 {
     let bits = written_ffr(vec, op, pn);
     write_ffr(vec, &bits);
-}
-
-/// Does an instruction of these rows.
-#[inline(always)]
-pub fn exec(core: &mut Core, vec: &mut VecRegs, i: &Sve)
-    requires { is_single i.now ≡ true }
-    ensures registers { core.new ≡ (predicate i.now core.old vec.old).core }
-    ensures vectors { vec.new ≡ (predicate i.now core.old vec.old).vectors }
-{
-    match *i.form() {
-        SveForm::Ptest { pg, pn } => ptest(core, vec, pg, pn),
-        SveForm::First { pg, pdn } => first(core, vec, pg, pdn),
-        SveForm::Pfalse { pd } => pfalse(vec, pd),
-        SveForm::ReadFfr { op, pg, pd } => ffr_under(core, vec, op, pg, pd),
-        SveForm::ReadFfrAll { pd } => ffr_all(vec, pd),
-        SveForm::WriteFfr { op, pn } => ffr_written(vec, op, pn),
-        _ => {}
-    }
 }

@@ -18,6 +18,7 @@ use std::{env, fs};
 use tool_counts::count_program;
 use tool_lines::{RunLine, ToolFault, ToolLine, Variables, counted_words, tool_line};
 use tool_run::{file_text, line_text, run_program};
+use tool_traces::trace_program;
 
 /// The status where a word of the command line isn't text, or where the words can't be had.
 const WORDS_UNREADABLE: u8 = 118;
@@ -169,6 +170,23 @@ fn count(rt: &HostRuntime, words: &[String]) -> u8 {
     .status()
 }
 
+/// Tells the steps of a run.
+fn trace(rt: &HostRuntime, words: &[String]) -> u8 {
+    let mut files = FileImages::new(rt);
+    let mut input = StdSource::new(rt.stdin());
+    let mut output = StdSink::new(rt.stdout());
+    let mut errors = StdSink::new(rt.stderr());
+    trace_program(
+        rt.alloc(),
+        words,
+        &mut files,
+        &mut input,
+        &mut output,
+        &mut errors,
+    )
+    .status()
+}
+
 /// Writes the family of a word that a text gives.
 fn write_family(rt: &HostRuntime, text: &str) -> u8 {
     let Some(word) = word_of(text) else {
@@ -215,6 +233,7 @@ fn obey(rt: &HostRuntime, words: &[String]) -> u8 {
     match tool_line(words) {
         Ok(ToolLine::Run(line)) => run(rt, words, &line),
         Ok(ToolLine::Count) => count(rt, words),
+        Ok(ToolLine::Trace) => trace(rt, words),
         Ok(ToolLine::Help) => write_text(rt, USAGE),
         Ok(ToolLine::Version) => write_text(rt, VERSION),
         Ok(ToolLine::Family) if words.len() > 1 => families_of_words(rt, words),

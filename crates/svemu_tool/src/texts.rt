@@ -5,6 +5,7 @@ pub const USAGE: &str = "\
 usage: svemu-tool run [OPTION ..] PROGRAM [ARG ..]
        svemu-tool family [WORD ..]
        svemu-tool count FILE --vl N|all --budget B [--pages P] [-- ARG ..]
+       svemu-tool trace FILE --vl N --budget B [--pages P] [OPTION ..] [-- ARG ..]
        svemu-tool --help | --version
 
 run runs a static AArch64 program with SVE: its input, output, errors and status are its own. Where it doesn't come to
@@ -23,6 +24,18 @@ lines of its input.
 
 count runs the program of FILE, and writes how often each of its instructions was executed, at one vector length or at
 each: a line for each address with its counts, and then how each run ended. What the program writes is dropped.
+
+trace runs the program of FILE at one vector length, and writes a line on each step: its number, address, word and text,
+each register that it changed, and each element that it loaded or stored; and then how the run ended, or where the trace
+did. What the program writes is dropped.
+
+  --from PLACE       begin at the first step at a symbol, or at an address as 0x400100
+  --call K           and there at its K-th arrival
+  --after N          pass over the first N steps
+  --steps N          end behind N steps from the first one on
+  --until PLACE      end before a later step at a symbol or an address
+  --show LIST        tell only these, with commas between: x, sp, nzcv, tpidr, vl, z, p, ffr, memory
+  --in SYMBOL        tell only steps in the function of that name
 
 status of run: the program's own; 128 and the number of the signal of a trap; 119 no thread is ready; 120 without
 memory; 121 a refused line; 122 a refused program or schedule; 123 the steps are spent; 124 or 125 the input or an

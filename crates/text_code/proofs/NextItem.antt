@@ -9,7 +9,7 @@ use Rattle.asm_tokens.specs.Tokens.{tokens}
 use Rattle.text_model.specs.declared.classes.Class.TheVariants.{Number}
 use Rattle.text_model.specs.declared.slots.Item.{Item}
 use Rattle.text_model.specs.Words.{item, classed}
-use Rattle.text_model.specs.Statement.{lowered, item_by, more_tokens, items_behind}
+use Rattle.text_model.specs.Statement.{lowered, item_by, more_tokens, items_from}
 
 -- ---- how many tokens write a number
 
@@ -46,9 +46,9 @@ some_tokens (t ∷ ts) n h = elim (cases_Bool (is_sign hash t)) [
 
 -- ---- what is left
 
-skipped : (k : ℕ) (text : List ℕ) (start past : ℕ) → AreTokens k text start past → items_behind k (tokens (drop start text)) ≡ items_behind 0 (tokens (drop past text))
-skipped zero text start past h = ap (λ (p : ℕ). items_behind 0 (tokens (drop p text))) (sym h)
-skipped (suc k) text start past h = ap (items_behind (suc k)) h.2.is ∙ skipped k text h.1 past h.3
+skipped : (k : ℕ) (text : List ℕ) (start past : ℕ) → AreTokens k text start past → items_from k (tokens (drop start text)) ≡ items_from 0 (tokens (drop past text))
+skipped zero text start past h = ap (λ (p : ℕ). items_from 0 (tokens (drop p text))) (sym h)
+skipped (suc k) text start past h = ap (items_from (suc k)) h.2.is ∙ skipped k text h.1 past h.3
 
 moved : (k : ℕ) (text : List ℕ) (start past : ℕ) → AreTokens k text start past → start ≤ past
 moved zero text start past h = omega (arith, h)
@@ -62,23 +62,23 @@ tail_of : (t u : List ℕ) (ts us : List (List ℕ)) → t ∷ ts ≡ u ∷ us �
 tail_of t u ts us h = cc
 
 behind_number : (text : List ℕ) (at first past to count : ℕ) → 0 < count → IsToken text at first past → AreTokens count text at to
-    → items_behind (count - 1) (tokens (drop past text)) ≡ items_behind 0 (tokens (drop to text))
+    → items_from (count - 1) (tokens (drop past text)) ≡ items_from 0 (tokens (drop to text))
 behind_number text at first past to zero l t n = absurd (omega arith)
 behind_number text at first past to (suc k) l t n =
     let e : suc k - 1 ≡ k = omega arith in
     let same : tokens (drop past text) ≡ tokens (drop n.1 text) = tail_of _ _ _ _ (sym t.is ∙ n.2.is) in
-    ap₂ items_behind e same ∙ skipped k text n.1 to n.3
+    ap₂ items_from e same ∙ skipped k text n.1 to n.3
 
 -- a number is next
 pub number_next : (text : List ℕ) (at first past : ℕ) (x : ℤ) (to : ℕ) → IsToken text at first past → IsNumber (numbers.number_of (tokens (drop at text))) text at x to
-    → items_behind 0 (tokens (drop at text)) ≡ item Number x ∷ items_behind 0 (tokens (drop to text))
+    → items_from 0 (tokens (drop at text)) ≡ item Number x ∷ items_from 0 (tokens (drop to text))
 number_next text at first past x to t n =
     let ts : List (List ℕ) = tokens (drop past text) in
     let s : List ℕ = slice_range text first past in
     let o : numbers.number_of (s ∷ ts) ≡ Some n.number = ap numbers.number_of (sym t.is) ∙ n.is in
     let c : 0 < n.number.count = some_tokens (tokens (drop at text)) n.number n.is in
-    ap (items_behind 0) t.is
-    ∙ ap (λ (q : Option numbers.Number). item_by q s ∷ items_behind (more_tokens q) ts) o
+    ap (items_from 0) t.is
+    ∙ ap (λ (q : Option numbers.Number). item_by q s ∷ items_from (more_tokens q) ts) o
     ∙ ap₂ (λ (a : Item) (is : List Item). a ∷ is) (ap (λ (y : ℤ). item Number y) (sym n.value_is)) (behind_number text at first past to n.number.count c t n.behind)
 
 pub number_behind : (text : List ℕ) (at to count : ℕ) → 0 < count → AreTokens count text at to → at < to
@@ -91,9 +91,9 @@ number_behind text at to (suc k) l n =
 
 -- a word is next
 pub word_next : (text : List ℕ) (at first past : ℕ) → IsToken text at first past → numbers.number_of (tokens (drop at text)) ≡ None
-    → items_behind 0 (tokens (drop at text)) ≡ classed (lowered (slice_range text first past)) ∷ items_behind 0 (tokens (drop past text))
+    → items_from 0 (tokens (drop at text)) ≡ classed (lowered (slice_range text first past)) ∷ items_from 0 (tokens (drop past text))
 word_next text at first past t n =
     let ts : List (List ℕ) = tokens (drop past text) in
     let s : List ℕ = slice_range text first past in
     let o : numbers.number_of (s ∷ ts) ≡ None = ap numbers.number_of (sym t.is) ∙ n in
-    ap (items_behind 0) t.is ∙ ap (λ (q : Option numbers.Number). item_by q s ∷ items_behind (more_tokens q) ts) o
+    ap (items_from 0) t.is ∙ ap (λ (q : Option numbers.Number). item_by q s ∷ items_from (more_tokens q) ts) o

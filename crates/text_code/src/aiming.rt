@@ -1,6 +1,6 @@
 //! Words aimed at addresses.
 ghost use Rattle.std.specs.Prelude.{◌≡◌, ◌<◌, ◌-◌, ◌%◌, ◌^◌, true, Some, bit_and};
-ghost use Rattle.text_model.specs.Slots.{bits_in, places, address};
+ghost use Rattle.text_model.specs.Slots.{bits_in, places, target_address};
 ghost use Rattle.text_model.specs.Aim.{reach_of, reach_bits, number_to, aimed};
 ghost use Rattle.text_code.specs.Sound.{are_sound};
 ghost use Rattle.text_code.specs.Aims.{reach_as, reach_told, is_sound_reach, are_sound_reaches};
@@ -49,7 +49,7 @@ fn base(page: u16, pc: u64) -> u64
 pub fn address(reach: Reach, v: u64, pc: u64) -> u64
     requires sound { is_sound_reach reach ≡ true }
     requires small { v < 2 ^ bits_in (places reach.parts) }
-    ensures { result ≡ address reach.by reach.page (bits_in (places reach.parts)) v pc }
+    ensures { result ≡ target_address reach.by reach.page (bits_in (places reach.parts)) v pc }
 {
     let bits = width_of(reach.parts);
     let by = u64::from(reach.by);

@@ -2,7 +2,7 @@
 ghost use Rattle.std.specs.Prelude.{◌≡◌, ◌<◌, ◌==◌, ◌&&◌, not, ◌∷◌, [], false, drop, length, IfSome, MatchOption};
 ghost use Rattle.std.specs.Str.{IsCharBoundary};
 ghost use Rattle.asm_tokens.specs.Tokens.{tokens, is_word_byte, dot};
-ghost use Rattle.text_model.specs.Statement.{items_behind, items_of, is_label, ends_in_label};
+ghost use Rattle.text_model.specs.Statement.{items_from, items_of, is_label, ends_in_label};
 ghost use Rattle.text_model.specs.declared.classes.Class.TheVariants.{Number};
 ghost use Rattle.text_model.specs.Words.{item};
 ghost use Rattle.text_code.specs.Places.{IsLastLabel};
@@ -30,7 +30,7 @@ fn item_of_number(value: i128) -> Item
 fn next_item(rest: &str, at: usize) -> Option<(Item, usize)>
     requires { IsCharBoundary rest.now at }
     ensures item { MatchOption result (tokens (drop at rest.now) ≡ [])
-        (λ r. items_behind 0 (tokens (drop at rest.now)) ≡ r.0 ∷ items_behind 0 (tokens (drop r.1 rest.now))) }
+        (λ r. items_from 0 (tokens (drop at rest.now)) ≡ r.0 ∷ items_from 0 (tokens (drop r.1 rest.now))) }
     ensures cut { IfSome result (λ r. IsCharBoundary rest.now r.1) }
     ensures behind { IfSome result (λ r. at < r.1) }
 {

@@ -3,7 +3,7 @@ use Rattle.std.proofs.Common.{◌≡◌, ℕ, zero, suc, ◌+◌, ◌-◌, ◌*�
 use Rattle.std.proofs.lemmas.Bool.{cases_Bool, and_parts, eqb-true, eq-eqb, ltb-true, leb-true}
 use Rattle.std.proofs.Math.Nat.{mod-eq_of_lt, mul-div_cancel, add-mul-mod_self_right, mul-add, mod-eq-sub-div-mul, mul-lt-mul_of_pos_right}
 use Rattle.emu_bits.specs.Rows.{Place}
-use Rattle.text_model.specs.Slots.{bits_in, joined, is_low, address}
+use Rattle.text_model.specs.Slots.{bits_in, joined, is_low, target_address}
 use Rattle.text_model.specs.Told.{parted, Built, all_bound}
 use Rattle.text_model.specs.Text.{ones_of}
 use Rattle.text_model.specs.Aim.{Reach, reach_bits, aimed}
@@ -76,7 +76,7 @@ good_scale n b h =
 base_small : (pc g : ℕ) → pc < 2 ^ 64 → pc - pc % g < 2 ^ 64
 base_small pc g h = omega (arith, h)
 
-number_back : (n g b v pc : ℕ) → is_good_scale n b ≡ true → v < 2 ^ b → pc < 2 ^ 64 → (address n g b v pc + (2 ^ 64 - (pc - pc % g))) % 2 ^ 64 / n % 2 ^ b ≡ v
+number_back : (n g b v pc : ℕ) → is_good_scale n b ≡ true → v < 2 ^ b → pc < 2 ^ 64 → (target_address n g b v pc + (2 ^ 64 - (pc - pc % g))) % 2 ^ 64 / n % 2 ^ b ≡ v
 number_back n g b v pc h l p =
     let s = good_scale n b h in
     let q : ℕ = 2 ^ 64 / n in
@@ -93,17 +93,17 @@ number_back n g b v pc h l p =
     ]
 
 aimed_back : (r : Reach) (w pc : ℕ) → is_good_reach (Some r) ≡ true → w < 2 ^ 32 → pc < 2 ^ 64
-    → aimed (Some r) (bit_and w (2 ^ 32 - 1 - ones_of r.parts)) pc (address r.by r.page (bits_in r.parts) (joined r.parts w) pc) ≡ Some w
+    → aimed (Some r) (bit_and w (2 ^ 32 - 1 - ones_of r.parts)) pc (target_address r.by r.page (bits_in r.parts) (joined r.parts w) pc) ≡ Some w
 aimed_back r w pc h l p =
     let h1 = and_parts (is_good_scale r.by (bits_in r.parts)) (are_good_places r.parts) h in
     let h2 = and_parts (are_places r.parts) _ h1.1 in
     let h3 = and_parts (masked 0 r.parts == ones_of r.parts) (bit_or (2 ^ 32 - 1 - ones_of r.parts) (ones_of r.parts) == 2 ^ 32 - 1) h2.1 in
     let b : ℕ = bits_in r.parts in
     let v : ℕ = joined r.parts w in
-    let a : ℕ = address r.by r.page b v pc in
+    let a : ℕ = target_address r.by r.page b v pc in
     let m : ℕ = ones_of r.parts in
     let w0 : ℕ = bit_and w (2 ^ 32 - 1 - m) in
-    let f = λ (x : ℕ). if address r.by r.page b x pc == a then Some (all_bound (record { mask = 0; word = w0 }) (parted r.parts x)).word else None in
+    let f = λ (x : ℕ). if target_address r.by r.page b x pc == a then Some (all_bound (record { mask = 0; word = w0 }) (parted r.parts x)).word else None in
     let start : record { mask = 0; word = w0 } ≡ with_bits w0 w 0 = ap (λ (x : ℕ). record { mask = 0; word = x }) (sym (nothing w0 w)) in
     ap f (number_back r.by r.page b v pc h1.0 (joined_small r.parts w) p)
     ∙ ap (λ (t : Bool). if t then Some (all_bound (record { mask = 0; word = w0 }) (parted r.parts v)).word else None) (eq-eqb a a refl)
@@ -119,5 +119,5 @@ pub aimed_again : (o : Option Reach) (w pc a : ℕ) → is_good_reach o ≡ true
     → aimed o (bit_and w (2 ^ 32 - 1 - reach_bits o)) pc a ≡ Some w
 aimed_again None w pc a h l p e = absurd (cc)
 aimed_again (Some r) w pc a h l p e =
-    let same : address r.by r.page (bits_in r.parts) (joined r.parts w) pc ≡ a = cc in
+    let same : target_address r.by r.page (bits_in r.parts) (joined r.parts w) pc ≡ a = cc in
     ap (aimed (Some r) (bit_and w (2 ^ 32 - 1 - ones_of r.parts)) pc) (sym same) ∙ aimed_back r w pc h l p

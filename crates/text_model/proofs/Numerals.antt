@@ -13,7 +13,7 @@ use Rattle.asm_tokens.specs.AreTokens.{is_token, is_mark}
 use Rattle.asm_tokens.specs.Numbers as numbers
 use Rattle.text_model.specs.declared.classes.Class.TheVariants.{Number}
 use Rattle.text_model.specs.Words.{item}
-use Rattle.text_model.specs.Statement.{item_by, more_tokens, items_behind}
+use Rattle.text_model.specs.Statement.{item_by, more_tokens, items_from}
 use Rattle.text_model.specs.Text.{hexadecimal}
 
 -- A token that is a number.
@@ -92,19 +92,19 @@ module _ (t : List ℕ) (n : ℕ) (ts : List (List ℕ)) (h : n < 2 ^ 64) (s : I
       ap (λ (b : Bool). if b then option_map numbers.behind_minus (numbers.unsigned_number ts) else numbers.unsigned_number (t ∷ ts)) s.no_minus
       ∙ ap (λ (o : Option ℕ). option_map numbers.plain_number o) s.number
 
-  pub bare_items : items_behind 0 (t ∷ ts) ≡ item Number (pos n) ∷ items_behind 0 ts
+  pub bare_items : items_from 0 (t ∷ ts) ≡ item Number (pos n) ∷ items_from 0 ts
   bare_items =
-      ap (λ (o : Option numbers.Number). item_by o t ∷ items_behind (more_tokens o) ts)
+      ap (λ (o : Option numbers.Number). item_by o t ∷ items_from (more_tokens o) ts)
       (ap (λ (b : Bool). if b then option_map numbers.behind_hash (numbers.signed_number ts) else numbers.signed_number (t ∷ ts)) s.no_hash ∙ unsigned_is)
-      ∙ ap (λ (x : ℕ). item Number (pos x) ∷ items_behind 0 ts) (small n h)
+      ∙ ap (λ (x : ℕ). item Number (pos x) ∷ items_from 0 ts) (small n h)
 
-  pub hash_items : items_behind 0 ((hash ∷ []) ∷ t ∷ ts) ≡ item Number (pos n) ∷ items_behind 0 ts
+  pub hash_items : items_from 0 ((hash ∷ []) ∷ t ∷ ts) ≡ item Number (pos n) ∷ items_from 0 ts
   hash_items =
-      ap (λ (o : Option numbers.Number). item_by (option_map numbers.behind_hash o) (hash ∷ []) ∷ items_behind (more_tokens (option_map numbers.behind_hash o)) (t ∷ ts)) unsigned_is
-      ∙ ap (λ (x : ℕ). item Number (pos x) ∷ items_behind 0 ts) (small n h)
+      ap (λ (o : Option numbers.Number). item_by (option_map numbers.behind_hash o) (hash ∷ []) ∷ items_from (more_tokens (option_map numbers.behind_hash o)) (t ∷ ts)) unsigned_is
+      ∙ ap (λ (x : ℕ). item Number (pos x) ∷ items_from 0 ts) (small n h)
 
-  pub minus_items : items_behind 0 ((hash ∷ []) ∷ (numbers.minus ∷ []) ∷ t ∷ ts) ≡ item Number (neg_ℤ (pos n)) ∷ items_behind 0 ts
+  pub minus_items : items_from 0 ((hash ∷ []) ∷ (numbers.minus ∷ []) ∷ t ∷ ts) ≡ item Number (neg_ℤ (pos n)) ∷ items_from 0 ts
   minus_items =
       ap (λ (o : Option ℕ). let m = option_map numbers.behind_hash (option_map numbers.behind_minus (option_map numbers.plain_number o)) in
-      item_by m (hash ∷ []) ∷ items_behind (more_tokens m) ((numbers.minus ∷ []) ∷ t ∷ ts)) s.number
-      ∙ ap (λ (x : ℕ). item Number (neg_ℤ (pos x)) ∷ items_behind 0 ts) (small n h)
+      item_by m (hash ∷ []) ∷ items_from (more_tokens m) ((numbers.minus ∷ []) ∷ t ∷ ts)) s.number
+      ∙ ap (λ (x : ℕ). item Number (neg_ℤ (pos x)) ∷ items_from 0 ts) (small n h)

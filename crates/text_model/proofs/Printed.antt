@@ -13,7 +13,7 @@ use Rattle.text_model.specs.declared.slots.Kind.{Kind}
 use Rattle.text_model.specs.declared.slots.Kind.TheVariants.{Target}
 use Rattle.text_model.specs.declared.slots.Slot.{Slot}
 use Rattle.text_model.specs.declared.slots.Item.{Item}
-use Rattle.text_model.specs.Slots.{place_of, places, at_place, bits_in, joined, class_at, is_picked, class_in, shown, address, item_in, items_in, has_class, can_show, fits, all_fit}
+use Rattle.text_model.specs.Slots.{place_of, places, at_place, bits_in, joined, class_at, is_picked, class_in, shown, target_address, item_in, items_in, has_class, can_show, fits, all_fit}
 use Rattle.text_model.specs.Reading.{Pattern, is_canonical, all_canonical, is_target, has_target}
 use Rattle.text_model.specs.Text.{told_bits, shows, printed, printed_item}
 use Rattle.text_model.specs.Words.{item}
@@ -223,13 +223,13 @@ mod_small a = omega arith
 
 address_item : (n g b v pc : ℕ) → is_address (item Number (printed (Target n g) b v pc)) ≡ true
 address_item n g b v pc =
-    let a : ℕ = address n g b v pc in
+    let a : ℕ = target_address n g b v pc in
     let l : a < 2 ^ 64 = mod_small _ in
     and_from _ _ (ap not (not_negative a)) (lt-ltb a (2 ^ 64) l)
 
-target_address : (k : Kind) (b v pc : ℕ) → is_target k ≡ true → is_address (item Number (printed k b v pc)) ≡ true
-target_address (Target n g) b v pc h = address_item n g b v pc
-target_address k b v pc h = absurd (false≢true h)
+target_is_address : (k : Kind) (b v pc : ℕ) → is_target k ≡ true → is_address (item Number (printed k b v pc)) ≡ true
+target_is_address (Target n g) b v pc h = address_item n g b v pc
+target_is_address k b v pc h = absurd (false≢true h)
 
 module _ (w m pc : ℕ) (label : Bool) where
   last_item : (s : Slot) → is_target s.codec.kind ≡ true → looks_within m s ≡ true → (if label || is_address (printed_item s w pc) then item Number (pos 0) else printed_item s w pc) ≡ item_in s (bit_and w m)
@@ -238,7 +238,7 @@ module _ (w m pc : ℕ) (label : Bool) where
       let b : ℕ = bits_in (places s.codec.parts) in
       let x : ℤ = printed s.codec.kind b (joined (places s.codec.parts) w) pc in
       let a : (label || is_address (printed_item s w pc)) ≡ true =
-      or_right label _ (ap (λ (c : Class). is_address (item c x)) (n.class w) ∙ target_address s.codec.kind b (joined (places s.codec.parts) w) pc e) in
+      or_right label _ (ap (λ (c : Class). is_address (item c x)) (n.class w) ∙ target_is_address s.codec.kind b (joined (places s.codec.parts) w) pc e) in
       ap (λ (t : Bool). if t then item Number (pos 0) else printed_item s w pc) a
       ∙ ap₂ (λ (c : Class) (y : ℤ). item c y) (sym (n.class (bit_and w m))) (sym (target_zero s.codec.kind b (joined (places s.codec.parts) (bit_and w m)) e))
 

@@ -14,7 +14,7 @@ use Rattle.text_model.specs.ClassNumbers.{class_number}
 use Rattle.text_model.specs.Slots.{is_named}
 use Rattle.text_model.specs.declared.slots.Item.{Item}
 use Rattle.text_model.specs.Words.{dictionary, item, word_item, spelled, classed}
-use Rattle.text_model.specs.Statement.{lowered, item_by, more_tokens, items_behind}
+use Rattle.text_model.specs.Statement.{lowered, item_by, more_tokens, items_from}
 
 -- how many words a class has
 abbrev pub size_of : Class → ℕ
@@ -152,10 +152,10 @@ one_spelled c v n h = h
 pub spelled_is : (c : Class) (v : ℕ) → v < size_of c → (class_number c == class_number Count) ≡ false ⊎ (is_named v ≡ true) → IsWord (spelled c v) c v
 spelled_is c v h n = word_of c v (one_spelled c v n (each_below (size_of c) (is_word_of c) v (all_spelled c) h))
 
-pub word_items : (t : List ℕ) (c : Class) (v : ℕ) (ts : List (List ℕ)) → IsWord t c v → items_behind 0 (t ∷ ts) ≡ word_item c v ∷ items_behind 0 ts
+pub word_items : (t : List ℕ) (c : Class) (v : ℕ) (ts : List (List ℕ)) → IsWord t c v → items_from 0 (t ∷ ts) ≡ word_item c v ∷ items_from 0 ts
 word_items t c v ts w =
-    ap (λ (o : Option numbers.Number). item_by o t ∷ items_behind (more_tokens o) ts)
+    ap (λ (o : Option numbers.Number). item_by o t ∷ items_from (more_tokens o) ts)
     (ap (λ (b : Bool). if b then option_map numbers.behind_hash (numbers.signed_number ts) else numbers.signed_number (t ∷ ts)) w.no_hash
     ∙ ap (λ (b : Bool). if b then option_map numbers.behind_minus (numbers.unsigned_number ts) else numbers.unsigned_number (t ∷ ts)) w.no_minus
     ∙ ap (λ (o : Option ℕ). option_map numbers.plain_number o) w.no_number)
-    ∙ ap (λ (i : Item). i ∷ items_behind 0 ts) w.is
+    ∙ ap (λ (i : Item). i ∷ items_from 0 ts) w.is

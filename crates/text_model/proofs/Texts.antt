@@ -17,11 +17,11 @@ use Rattle.text_model.specs.declared.slots.Style.{Style}
 use Rattle.text_model.specs.declared.slots.Style.TheVariants.{Address}
 use Rattle.text_model.specs.declared.slots.Slot.{Slot}
 use Rattle.text_model.specs.declared.slots.Item.{Item}
-use Rattle.text_model.specs.Slots.{class_in, places, joined, bits_in, fits, all_fit, address}
+use Rattle.text_model.specs.Slots.{class_in, places, joined, bits_in, fits, all_fit, target_address}
 use Rattle.text_model.specs.Reading.{Pattern, Operands, is_target, has_target, reads}
 use Rattle.text_model.specs.Words.{item}
 use Rattle.text_model.specs.Text.{hexadecimal, item_tokens, printed, printed_item, slot_tokens, text, told_bits}
-use Rattle.text_model.specs.Statement.{Destination, to_label, to_address, lowered, items_behind, is_label, last_of, destination, last_target, Statement, with_target, operands_of, ends_in_label, untargeted}
+use Rattle.text_model.specs.Statement.{Destination, to_label, to_address, lowered, items_from, is_label, last_of, destination, last_target, Statement, with_target, operands_of, ends_in_label, untargeted}
 use Rattle.text_model.specs.ReadBack.{reads_first, reads_text, destination_of, reached, target_of, unaimed}
 use Rattle.text_model.specs.Aim.{Reach, reach_or, reach_of}
 use Rattle.text_model.proofs.Tests.{is_good, are_good, is_readable, all_readable, all_apart, is_written, are_written, all_written, is_aimed_well, all_aimed_well, ends_in_target, is_address_slot, is_number_shape, is_plain_address}
@@ -32,12 +32,12 @@ use Rattle.text_model.proofs.Printed.{printed_items, IsPrinted, shown_unaimed, o
 
 -- ---- all slots
 
-read_both : (ts us : List (List ℕ)) (i : Item) (is : List Item) → AreRead ts i → are_tokens us ≡ true → items_behind 0 us ≡ is
-    → (are_tokens (ts ++ us) ≡ true) × (items_behind 0 (ts ++ us) ≡ i ∷ is)
+read_both : (ts us : List (List ℕ)) (i : Item) (is : List Item) → AreRead ts i → are_tokens us ≡ true → items_from 0 us ≡ is
+    → (are_tokens (ts ++ us) ≡ true) × (items_from 0 (ts ++ us) ≡ i ∷ is)
 read_both ts us i is r a e = (list_all-append is_token ts us ∙ and_from _ _ r.tokens a, r.items us ∙ ap (λ (js : List Item). i ∷ js) e)
 
 slots_read : (ss : List Slot) (w pc : ℕ) → are_good ss ≡ true → all_fit ss w ≡ true → are_written ss ≡ true
-    → (are_tokens (slot_tokens ss w pc) ≡ true) × (items_behind 0 (slot_tokens ss w pc) ≡ printed_items ss w pc)
+    → (are_tokens (slot_tokens ss w pc) ≡ true) × (items_from 0 (slot_tokens ss w pc) ≡ printed_items ss w pc)
 slots_read [] w pc g f h = (refl, refl)
 slots_read (s ∷ ss) w pc g f h =
     let g2 = and_parts (is_good s) (are_good ss) g in
@@ -82,7 +82,7 @@ record IsReached (k : Kind) (ps : List Place) (w pc : ℕ) : Type 0 where
   pub small : address < 2 ^ 64
 
 is_reached : (k : Kind) (ps : List Place) (w pc : ℕ) → is_target k ≡ true → IsReached k ps w pc
-is_reached (Target n g) ps w pc h = record { address = address n g (bits_in ps) (joined ps w) pc; value = refl; target = λ r. refl; small = mod_small _ }
+is_reached (Target n g) ps w pc h = record { address = target_address n g (bits_in ps) (joined ps w) pc; value = refl; target = λ r. refl; small = mod_small _ }
 is_reached k ps w pc h = absurd (false≢true h)
 
 other_reach : (k : Kind) (ps : List Place) (r : Option Reach) → is_target k ≡ false → reach_or k ps r ≡ r

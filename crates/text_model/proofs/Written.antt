@@ -20,7 +20,7 @@ use Rattle.text_model.specs.Slots.{place_of, places, at_place, bits_in, joined, 
 use Rattle.text_model.specs.Words.{item, word_item, spelled}
 use Rattle.std.specs.Fmt.{decimal}
 use Rattle.text_model.specs.Text.{hexadecimal, item_tokens, printed, printed_item}
-use Rattle.text_model.specs.Statement.{items_behind}
+use Rattle.text_model.specs.Statement.{items_from}
 use Rattle.text_model.proofs.Numerals.{IsNumber, decimal_is, hexadecimal_is, bare_items, hash_items, minus_items}
 use Rattle.text_model.proofs.Spelling.{size_of, same_number, IsWord, spelled_is, word_items}
 use Rattle.text_model.proofs.Building.{joined_small}
@@ -32,7 +32,7 @@ use Rattle.text_model.proofs.Unlike.{in_classes, some_class}
 -- Tokens that are read as an item, whatever stands behind them.
 pub record AreRead (ts : List (List ℕ)) (i : Item) : Type 0 where
   pub tokens : are_tokens ts ≡ true
-  pub items : (us : List (List ℕ)) → items_behind 0 (ts ++ us) ≡ i ∷ items_behind 0 us
+  pub items : (us : List (List ℕ)) → items_from 0 (ts ++ us) ≡ i ∷ items_from 0 us
 
 -- ---- words
 

@@ -7,7 +7,7 @@ use Rattle.emu_bits.specs.Rows.{Place}
 use Rattle.text_model.specs.declared.slots.Kind.{Kind}
 use Rattle.text_model.specs.declared.slots.Kind.TheVariants.{Target}
 use Rattle.text_model.specs.declared.slots.Slot.{Slot}
-use Rattle.text_model.specs.Slots.{places, bits_in, address}
+use Rattle.text_model.specs.Slots.{places, bits_in, target_address}
 use Rattle.text_model.specs.Told.{parted, all_bound}
 use Rattle.text_model.specs.Text.{ones_of}
 
@@ -37,7 +37,7 @@ number_to r pc t = (t + (2 ^ 64 - (pc - pc % r.page))) % 2 ^ 64 / r.by % 2 ^ bit
 abbrev pub aimed_by : Reach → ℕ → ℕ → ℕ → Option ℕ
 aimed_by r w pc t =
     let v = number_to r pc t in
-    if address r.by r.page (bits_in r.parts) v pc == t
+    if target_address r.by r.page (bits_in r.parts) v pc == t
     then Some (all_bound (record { mask = 0; word = w }) (parted r.parts v)).word else None
 
 -- A word of which the bits of its target are 0, aimed at an address; none where its field can't reach it.

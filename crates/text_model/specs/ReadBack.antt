@@ -1,7 +1,7 @@
 -- What the laws of reading say of a text: what is read of it, and the address that it shows.
 use Rattle.std.specs.Prelude.{ℕ, ◌-◌, ◌^◌, Option, Some, None, List, bit_and, Bool, Result, Err, [], ◌∷◌}
 use Rattle.text_model.specs.declared.slots.Slot.{Slot}
-use Rattle.text_model.specs.Slots.{bits_in, joined, address}
+use Rattle.text_model.specs.Slots.{bits_in, joined, target_address}
 use Rattle.text_model.specs.Aim.{Reach, reach_of, reach_bits}
 use Rattle.text_model.specs.declared.slots.Refusal.{Refusal}
 use Rattle.text_model.specs.declared.slots.Refusal.TheVariants.{UnknownName}
@@ -15,7 +15,7 @@ unaimed ss w = bit_and w (2 ^ 32 - 1 - reach_bits (reach_of ss))
 
 abbrev pub reached : Option Reach → ℕ → ℕ → Option ℕ
 reached None w pc = None
-reached (Some r) w pc = Some (address r.by r.page (bits_in r.parts) (joined r.parts w) pc)
+reached (Some r) w pc = Some (target_address r.by r.page (bits_in r.parts) (joined r.parts w) pc)
 
 -- the address that a word shows where it stands at pc
 abbrev pub target_of : List Slot → ℕ → ℕ → Option ℕ

@@ -108,8 +108,8 @@ shown Inverted b v = pos (inverse v)
 
 -- the address that a target of v, a number of b bits, is, where the instruction stands at pc: v is signed and counts n
 -- bytes, from pc rounded down to a multiple of g on
-abbrev pub address : ℕ → ℕ → ℕ → ℕ → ℕ → ℕ
-address n g b v pc = (pc - pc % g + (if is_low b v then n * v else 2 ^ 64 - n * (2 ^ b - v))) % 2 ^ 64
+abbrev pub target_address : ℕ → ℕ → ℕ → ℕ → ℕ → ℕ
+target_address n g b v pc = (pc - pc % g + (if is_low b v then n * v else 2 ^ 64 - n * (2 ^ b - v))) % 2 ^ 64
 
 abbrev pub value_in : Codec → ℕ → ℤ
 value_in c w = shown c.kind (bits_in (places c.parts)) (joined (places c.parts) w)

@@ -29,14 +29,14 @@ abbrev pub more_tokens : Option numbers.Number → ℕ
 more_tokens n = option_map_or (λ n. n.count - 1) n 0
 
 -- the items behind the first n tokens
-abbrev pub items_behind : ℕ → List (List ℕ) → List Item
-items_behind n [] = []
-items_behind (suc n) (t ∷ ts) = items_behind n ts
-items_behind zero (t ∷ ts) = let o = numbers.number_of (t ∷ ts) in item_by o t ∷ items_behind (more_tokens o) ts
+abbrev pub items_from : ℕ → List (List ℕ) → List Item
+items_from n [] = []
+items_from (suc n) (t ∷ ts) = items_from n ts
+items_from zero (t ∷ ts) = let o = numbers.number_of (t ∷ ts) in item_by o t ∷ items_from (more_tokens o) ts
 
 -- The items of a statement's tokens: numbers, words and marks.
 abbrev pub items_of : List (List ℕ) → List Item
-items_of ts = items_behind 0 ts
+items_of ts = items_from 0 ts
 
 -- ---- targets
 

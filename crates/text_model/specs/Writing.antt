@@ -28,8 +28,8 @@ high to low = record { high = high; low = low }
 abbrev pub coded : Kind → Parts → Codec
 coded k p = record { kind = k; parts = p }
 
-abbrev pub field : Bits → Codec
-field b = coded Plain (At b)
+abbrev pub bits : Bits → Codec
+bits b = coded Plain (At b)
 
 -- a register of which 31 is the stack pointer
 abbrev pub stack : Bits → Codec

@@ -63,6 +63,8 @@ pub enum ToolLine {
     Run(RunLine),
     /// Counts how often each word of a program is executed.
     Count,
+    /// Tells the steps of a run.
+    Trace,
 }
 
 /// Why a command line is refused.
@@ -310,6 +312,9 @@ fn line_of_command(words: &[String], name: &str) -> Result<ToolLine, ToolFault>
     }
     if name == "count" {
         return Ok(ToolLine::Count);
+    }
+    if name == "trace" {
+        return Ok(ToolLine::Trace);
     }
     if name == "run" {
         return at_end(read_words(words)?, words.len());

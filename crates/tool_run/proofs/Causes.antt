@@ -3,6 +3,7 @@ use Rattle.std.proofs.Common.{◌≡◌, ◌≤◌, ◌⊎◌, arith, ℕ, Bool,
 use Rattle.std.proofs.Common.{Err, IfErr, IfOk, inl, inr, refl, sym, ap, subst, ◌∙◌}
 use Rattle.io_gate.specs.Streams.{HasCause, Rose}
 use Rattle.elf_symbols.specs.declared.Symbol.{Symbol}
+use Rattle.elf_symbols.specs.Order.{AreSymbolsOf}
 use Rattle.emu_model.specs.State.{Parts}
 use Rattle.emu_model.specs.declared.trap.Ended.{Ended}
 use Rattle.emu_model.specs.declared.trap.Ended.TheVariants.{Exit as Exited, Trap as Trapped}
@@ -15,7 +16,7 @@ use Rattle.commands.specs.Promises.{is_failure}
 use Rattle.commands.proofs.Causing.{not_failed}
 use Rattle.tool_sites.specs.Explanation.{hinted_text}
 use Rattle.tool_run.specs.Stops.{alone_stop}
-use Rattle.tool_run.specs.Tells.{AreSymbolsOf, IsExplained, IsSilentExit, SeenStop, said_of}
+use Rattle.tool_run.specs.Tells.{IsExplained, IsSilentExit, SeenStop, said_of}
 
 -- an ending that isn't an exit
 pub loud : (ending : Ending) (said : List ℕ) → ((code : ℕ) → ending ≡ Exit code → ⊥) → IsSilentExit ending said

@@ -14,7 +14,7 @@ use Rattle.emu_model.specs.declared.trap.Ended.TheVariants.{Exit as Exited, Trap
 use Rattle.emu_run.specs.RunLaws.{IsRest}
 use Rattle.emu_run.specs.ThreadLaws.{from_moves}
 use Rattle.emu_run.specs.Threads.{WorldState, ending, first_place, threads, with_input}
-use Rattle.emu_run.specs.Worlds.{World, context, joined, some_ready}
+use Rattle.emu_run.specs.Worlds.{World, context, parts_with, some_ready}
 use Rattle.emu_run.specs.declared.thread.WorldEnding.{WorldEnding}
 use Rattle.emu_run.specs.declared.thread.WorldEnding.TheVariants as stops
 use Rattle.emu_system.specs.declared.image.Segment.{Segment}
@@ -140,14 +140,14 @@ pub stuck_said : (found : List Symbol) (file : List ℕ) (segments : List Segmen
     ≡ ending w w.ended → is_stuck stop ≡ true
     → stuck_line [] w.steps ≡ said_of found (world_stop file segments w)
 stuck_said found file segments w stop of stuck =
-    ap (λ (b : Bool). cond b (stuck_line [] w.steps) (explanation found segments (joined w (context w w.last)))) (sym
+    ap (λ (b : Bool). cond b (stuck_line [] w.steps) (explanation found segments (parts_with w (context w w.last)))) (sym
     (ap is_stuck (sym of) ∙ stuck))
 
 pub other_said : (found : List Symbol) (file : List ℕ) (segments : List Segment) (w : World) (stop : WorldEnding) → stop
     ≡ ending w w.ended → is_stuck stop ≡ false
-    → explanation found segments (joined w (context w w.last)) ≡ said_of found (world_stop file segments w)
+    → explanation found segments (parts_with w (context w w.last)) ≡ said_of found (world_stop file segments w)
 other_said found file segments w stop of stuck =
-    ap (λ (b : Bool). cond b (stuck_line [] w.steps) (explanation found segments (joined w (context w w.last)))) (sym
+    ap (λ (b : Bool). cond b (stuck_line [] w.steps) (explanation found segments (parts_with w (context w w.last)))) (sym
     (ap is_stuck (sym of) ∙ stuck))
 
 -- ---- an exit
@@ -167,7 +167,7 @@ silent_ended found segments m w (Some (Trapped t)) code exit = cc
 pub world_exit : (file : List ℕ) (segments : List Segment) (w : World) (stop : WorldEnding) (said : List ℕ) → stop ≡
     ending w w.ended → IsExplained (world_stop file segments w) said → IsSilentExit (ending_of_world stop) said
 world_exit file segments w stop said of e code exit =
-    e.is ∙ silent_ended e.found segments (joined w (context w w.last)) w w.ended code (ap ending_of_world (sym of) ∙
+    e.is ∙ silent_ended e.found segments (parts_with w (context w w.last)) w w.ended code (ap ending_of_world (sym of) ∙
     exit)
 
 -- ---- the schedule

@@ -13,7 +13,7 @@ use Rattle.emu_run.specs.Reports.{report}
 use Rattle.emu_run.specs.Run.{run}
 use Rattle.emu_run.specs.Threads.{ending, threads}
 use Rattle.emu_run.specs.Threads.{with_input as world_with_input}
-use Rattle.emu_run.specs.Worlds.{World, context, joined, opened}
+use Rattle.emu_run.specs.Worlds.{World, context, parts_with, opened}
 use Rattle.emu_run.specs.declared.thread.WorldEnding.{WorldEnding}
 use Rattle.emu_run.specs.declared.thread.WorldEnding.TheVariants.{Exit, Trap, Spent, Stuck}
 use Rattle.emu_system.specs.Gained.{Gains}
@@ -47,7 +47,7 @@ abbrev pub world_stop : List ℕ → List Segment → World → SeenStop
 world_stop file segments w = record {
   file = file;
   segments = segments;
-  parts = joined w (context w w.last);
+  parts = parts_with w (context w w.last);
   alone = false;
   stuck = is_stuck (ending w w.ended);
   report = world_report w;

@@ -1,10 +1,8 @@
 -- What a run of `svemu-tool` promises.
-use Rattle.std.specs.Prelude.{◌≡◌, ℕ, Bool, true, false, List, [], ◌++◌, filter, map, Option, Some, IfSome}
+use Rattle.std.specs.Prelude.{◌≡◌, ℕ, Bool, true, false, List, [], ◌++◌, Option, Some, IfSome}
 use Rattle.std.specs.Prelude.{if◌then◌else◌}
-use Rattle.std.specs.List.Sorted.{IsPermutation}
 use Rattle.elf_symbols.specs.declared.Symbol.{Symbol}
-use Rattle.elf_symbols.specs.Order.{AreInOrder, stands_with}
-use Rattle.elf_symbols.specs.Symbols.{symbols, seen}
+use Rattle.elf_symbols.specs.Order.{AreSymbolsOf}
 use Rattle.emu_system.specs.declared.image.Segment.{Segment}
 use Rattle.tool_sites.specs.Explanation.{explanation, explanation_alone}
 use Rattle.tool_texts.specs.Explanations.{stuck_line}
@@ -43,12 +41,6 @@ pub record Tells (result own : List ℕ → Option Outcome) (said : List ℕ) (e
   pub errors : (bytes : List ℕ) → CountsFor old.input (result bytes) bytes
       → IfSome old.errors (λ had. GainsBoth (is_failure ending) new.errors had (errors_of (own bytes)) said)
   pub input : IfSome old.input (λ bytes. Loses (is_failure ending) new.input bytes (taken_of (result bytes)))
-
--- the symbols of a file, in order
-pub record AreSymbolsOf (file : List ℕ) (found : List Symbol) : Type 0 where
-  pub same : IsPermutation (symbols file) (map seen found)
-  pub sorted : AreInOrder found
-  pub stable : (x : Symbol) → filter (stands_with x) (map seen found) ≡ filter (stands_with x) (symbols file)
 
 -- what is seen of a run that stopped: the bytes of its file, the segments of its image, its machine, or that of the
 -- thread that took the last step, whether it ran alone, whether it stopped since none of its threads was ready, and its

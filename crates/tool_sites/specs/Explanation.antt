@@ -43,7 +43,7 @@ fetch_text symbols segments m a =
 -- an access to an address that isn't a multiple of its size
 abbrev pub unaligned_text : List Symbol → Parts → ℕ → List ℕ
 unaligned_text symbols m a =
-    access_line [] (stop_of symbols m) (codes "exclusive or ordered access to") (place_of symbols a) Unaligned
+    access_line [] (stop_of symbols m) (codes "exclusive, ordered or atomic access to") (place_of symbols a) Unaligned
     (near_of symbols a)
 
 abbrev pub trap_text : List Symbol → List Segment → Parts → ℕ → TrapKind → List ℕ

@@ -135,7 +135,7 @@ fn unaligned_text(
     ensures { IfOk result (λ text. string_bytes text
         ≡ texts.unaligned_text symbols.now machine.now.parts address) }
 {
-    let access = "exclusive or ordered access to";
+    let access = "exclusive, ordered or atomic access to";
     line_of_access(alloc, machine, symbols, access, address, Beside::Unaligned)
 }
 

@@ -27,9 +27,15 @@ word_zeros word =
 abbrev pub then_word : List ℕ → ℕ → List ℕ
 then_word text word = ((text ++ codes "0x") ++ word_zeros word) ++ digits 16 false word
 
+-- `96 bytes`, and of one `1 byte`
+abbrev pub then_count : List ℕ → ℕ → List ℕ → List ℕ
+then_count text count one =
+    if nat_eq count 1 then ((text ++ decimal count) ++ codes " ") ++ one
+    else (((text ++ decimal count) ++ codes " ") ++ one) ++ codes "s"
+
 -- `, after 21 steps`
 abbrev pub then_steps : List ℕ → ℕ → List ℕ
-then_steps text steps = ((text ++ codes ", after ") ++ decimal steps) ++ (codes " steps" ++ 10 ∷ [])
+then_steps text steps = then_count (text ++ codes ", after ") steps (codes "step") ++ 10 ∷ []
 
 -- ---- places
 
@@ -57,19 +63,23 @@ abbrev pub then_caller : List ℕ → SeenPlace → List ℕ
 then_caller text caller =
     if nat_eq caller.address 0 then text else then_short (text ++ codes " (called from ") caller ++ codes ")"
 
--- where a run stopped, from where it was called, and after how many steps
+-- from where the place of a stop was called, and after how many steps it came
+abbrev pub then_end : List ℕ → Stop → List ℕ
+then_end text stop = then_steps (then_caller text stop.caller) stop.steps
+
+-- where a run stopped, from where that was called, and after how many steps
 abbrev pub then_where : List ℕ → Stop → List ℕ
-then_where text stop = then_steps (then_caller (then_place (text ++ codes " at ") stop.place) stop.caller) stop.steps
+then_where text stop = then_end (then_place (text ++ codes " at ") stop.place) stop
 
 -- ---- what is next to an address
 
 -- `96 bytes below the stack`
 abbrev pub then_bytes : List ℕ → ℕ → List ℕ → List ℕ
-then_bytes text count from = ((text ++ decimal count) ++ codes " bytes ") ++ from
+then_bytes text count from = (then_count text count (codes "byte") ++ codes " ") ++ from
 
 -- `3 bytes behind the end of a guarded buffer of 100 bytes`
 abbrev pub then_buffer : List ℕ → ℕ → List ℕ → ℕ → List ℕ
-then_buffer text count from size = ((then_bytes text count from ++ codes " a guarded buffer of ") ++ decimal size) ++ codes " bytes"
+then_buffer text count from size = then_count (then_bytes text count from ++ codes " a guarded buffer of ") size (codes "byte")
 
 -- `100 bytes behind the end of table`
 abbrev pub then_behind : List ℕ → ℕ → SeenPlace → List ℕ
@@ -104,14 +114,21 @@ abbrev pub at_stop_line : List ℕ → Stop → List ℕ → List ℕ
 at_stop_line text stop reason = then_where ((text ++ codes "svemu: ") ++ reason) stop
 
 -- a program counter that is no multiple of 4
+abbrev pub then_jump : List ℕ → SeenPlace → List ℕ
+then_jump text place = then_place (text ++ codes "svemu: a jump to ") place ++ codes ", which is no multiple of 4"
+
 abbrev pub jump_line : List ℕ → Stop → List ℕ
-jump_line text stop =
-    then_steps (then_caller (then_place (text ++ codes "svemu: a jump to ") stop.place ++ codes ", which is no multiple of 4") stop.caller) stop.steps
+jump_line text stop = then_end (then_jump text stop.place) stop
+
+-- `21 steps are`, and of one `1 step is`
+abbrev pub then_spent : List ℕ → ℕ → List ℕ
+then_spent text steps =
+    if nat_eq steps 1 then then_count text steps (codes "step") ++ codes " is" else then_count text steps (codes "step") ++ codes " are"
 
 -- the steps are spent
 abbrev pub spent_line : List ℕ → Stop → List ℕ
 spent_line text stop =
-    then_short (((text ++ codes "svemu: ") ++ decimal stop.steps) ++ codes " steps are spent in ") stop.place
+    then_short (then_spent (text ++ codes "svemu: ") stop.steps ++ codes " spent in ") stop.place
     ++ (codes " (SVEMU_BUDGET gives more)" ++ 10 ∷ [])
 
 -- behind the line of a stop: a call that only programs with threads make, by its name

@@ -14,7 +14,7 @@ ghost use Rattle.tool_texts.specs.Explanations.{
   then_target,
 };
 
-use crate::pieces::{Place, push_decimal, push_hex, push_place, push_short, push_steps};
+use crate::pieces::{Place, push_count, push_hex, push_place, push_short, push_steps};
 use crate::stops::{Stop, push_where};
 use std::alloc::AllocError;
 
@@ -55,8 +55,8 @@ pub enum Beside {
 fn push_bytes(text: &mut String, count: u64, from: &str) -> Result<(), AllocError>
     ensures { OnOk result (string_bytes text.new ≡ then_bytes (string_bytes text.old) count from.now) }
 {
-    push_decimal(text, count)?;
-    text.push_str(" bytes ")?;
+    push_count(text, count, "byte")?;
+    text.push_str(" ")?;
     text.push_str(from)
 }
 
@@ -66,8 +66,7 @@ fn push_buffer(text: &mut String, count: u64, from: &str, size: u64) -> Result<(
 {
     push_bytes(text, count, from)?;
     text.push_str(" a guarded buffer of ")?;
-    push_decimal(text, size)?;
-    text.push_str(" bytes")
+    push_count(text, size, "byte")
 }
 
 /// Appends how far behind a symbol an address lies.

@@ -2,6 +2,7 @@
 ghost use Rattle.std.specs.Prelude.{◌≡◌, ◌++◌, codes, length, nat_eq, string_bytes, OnOk};
 ghost use Rattle.std.specs.Fmt.{decimal};
 ghost use Rattle.tool_texts.specs.Explanations.{
+  then_count,
   then_hex,
   then_offset,
   then_place,
@@ -70,10 +71,23 @@ pub(crate) fn push_hex(text: &mut String, n: u64) -> Result<(), AllocError>
 }
 
 /// Appends a number in decimal digits.
-pub(crate) fn push_decimal(text: &mut String, n: u64) -> Result<(), AllocError>
+fn push_decimal(text: &mut String, n: u64) -> Result<(), AllocError>
     ensures { OnOk result (string_bytes text.new ≡ string_bytes text.old ++ decimal n) }
 {
     write!(text, "{n}")
+}
+
+/// Appends how many things there are, by the name of one: `96 bytes`, `1 byte`.
+pub(crate) fn push_count(text: &mut String, count: u64, one: &str) -> Result<(), AllocError>
+    ensures { OnOk result (string_bytes text.new ≡ then_count (string_bytes text.old) count one.now) }
+{
+    push_decimal(text, count)?;
+    text.push_str(" ")?;
+    text.push_str(one)?;
+    if count == 1 {
+        return Ok(());
+    }
+    text.push_str("s")
 }
 
 /// The zeros before the digits of a word, which has eight.
@@ -155,6 +169,6 @@ pub(crate) fn push_steps(text: &mut String, steps: u64) -> Result<(), AllocError
     ensures { OnOk result (string_bytes text.new ≡ then_steps (string_bytes text.old) steps) }
 {
     text.push_str(", after ")?;
-    push_decimal(text, steps)?;
-    text.push_str(" steps\n")
+    push_count(text, steps, "step")?;
+    text.push_str("\n")
 }

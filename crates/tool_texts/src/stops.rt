@@ -7,11 +7,14 @@ ghost use Rattle.tool_texts.specs.Explanations.{
   spent_line,
   stuck_line,
   then_caller,
+  then_end,
+  then_jump,
+  then_spent,
   then_where,
   undefined_line,
 };
 
-use crate::pieces::{Place, push_decimal, push_place, push_short, push_steps, push_word};
+use crate::pieces::{Place, push_count, push_place, push_short, push_steps, push_word};
 use std::alloc::AllocError;
 
 /// Where a run stopped: the program counter's place, the place in X30, which is that of a caller where its address
@@ -35,14 +38,21 @@ fn push_caller(text: &mut String, caller: &Place) -> Result<(), AllocError>
     text.push_str(")")
 }
 
+/// Appends the caller and the number of steps.
+fn push_end(text: &mut String, stop: &Stop) -> Result<(), AllocError>
+    ensures { OnOk result (string_bytes text.new ≡ then_end (string_bytes text.old) stop.now) }
+{
+    push_caller(text, &stop.caller)?;
+    push_steps(text, stop.steps)
+}
+
 /// Appends ` at 0x400184, dot_product+0x14`, the caller and the number of steps.
 pub(crate) fn push_where(text: &mut String, stop: &Stop) -> Result<(), AllocError>
     ensures { OnOk result (string_bytes text.new ≡ then_where (string_bytes text.old) stop.now) }
 {
     text.push_str(" at ")?;
     push_place(text, &stop.place)?;
-    push_caller(text, &stop.caller)?;
-    push_steps(text, stop.steps)
+    push_end(text, stop)
 }
 
 /// Appends the line of a run that came to a word which is no instruction: the name of its family, and what to do.
@@ -75,15 +85,32 @@ pub fn push_at_stop(text: &mut String, stop: &Stop, reason: &str) -> Result<(), 
     push_where(text, stop)
 }
 
+/// Appends where a jump went that is no multiple of 4.
+fn push_jump_place(text: &mut String, place: &Place) -> Result<(), AllocError>
+    ensures { OnOk result (string_bytes text.new ≡ then_jump (string_bytes text.old) place.now) }
+{
+    text.push_str("svemu: a jump to ")?;
+    push_place(text, place)?;
+    text.push_str(", which is no multiple of 4")
+}
+
 /// Appends the line of a run whose program counter is no multiple of 4.
 pub fn push_jump(text: &mut String, stop: &Stop) -> Result<(), AllocError>
     ensures { OnOk result (string_bytes text.new ≡ jump_line (string_bytes text.old) stop.now) }
 {
-    text.push_str("svemu: a jump to ")?;
-    push_place(text, &stop.place)?;
-    text.push_str(", which is no multiple of 4")?;
-    push_caller(text, &stop.caller)?;
-    push_steps(text, stop.steps)
+    push_jump_place(text, &stop.place)?;
+    push_end(text, stop)
+}
+
+/// Appends how many steps are, as `21 steps are`, and of one `1 step is`.
+fn push_spent_steps(text: &mut String, steps: u64) -> Result<(), AllocError>
+    ensures { OnOk result (string_bytes text.new ≡ then_spent (string_bytes text.old) steps) }
+{
+    push_count(text, steps, "step")?;
+    if steps == 1 {
+        return text.push_str(" is");
+    }
+    text.push_str(" are")
 }
 
 /// Appends the line of a run whose steps are spent.
@@ -91,8 +118,8 @@ pub fn push_spent(text: &mut String, stop: &Stop) -> Result<(), AllocError>
     ensures { OnOk result (string_bytes text.new ≡ spent_line (string_bytes text.old) stop.now) }
 {
     text.push_str("svemu: ")?;
-    push_decimal(text, stop.steps)?;
-    text.push_str(" steps are spent in ")?;
+    push_spent_steps(text, stop.steps)?;
+    text.push_str(" spent in ")?;
     push_short(text, &stop.place)?;
     text.push_str(" (SVEMU_BUDGET gives more)\n")
 }

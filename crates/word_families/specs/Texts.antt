@@ -27,7 +27,8 @@ name_of Unallocated = codes "unallocated"
 abbrev pub advice_of : Family → List ℕ
 advice_of FloatingPoint = codes "build without it, or see TESTING_YOUR_CODE"
 advice_of SveFloatingPoint = codes "build without it, or see TESTING_YOUR_CODE"
-advice_of AdvancedSimd = codes "keep compilers from it by the flags of TESTING_YOUR_CODE, as -fno-tree-slp-vectorize"
+advice_of AdvancedSimd =
+    codes "build with the flags of TESTING_YOUR_CODE; for builtins, intrinsics and assembly see What leaves the table"
 advice_of Sve2 = codes "build with -march=armv8-a+sve, and without -mcpu"
 advice_of SveLeftOut = codes "see What leaves the table in TESTING_YOUR_CODE"
 advice_of Sme = codes "build with -march=armv8-a+sve"

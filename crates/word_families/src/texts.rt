@@ -37,7 +37,7 @@ pub fn advice(family: Family) -> &'static str
         Family::FloatingPoint => "build without it, or see TESTING_YOUR_CODE",
         Family::SveFloatingPoint => "build without it, or see TESTING_YOUR_CODE",
         Family::AdvancedSimd => {
-            "keep compilers from it by the flags of TESTING_YOUR_CODE, as -fno-tree-slp-vectorize"
+            "build with the flags of TESTING_YOUR_CODE; for builtins, intrinsics and assembly see What leaves the table"
         }
         Family::Sve2 => "build with -march=armv8-a+sve, and without -mcpu",
         Family::SveLeftOut => "see What leaves the table in TESTING_YOUR_CODE",

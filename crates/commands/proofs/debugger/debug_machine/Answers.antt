@@ -22,4 +22,4 @@ returns-clause-kind g c = subst (λ (x : Ending). ends_dbg x ≡ true) (sym c.en
 pub returns-clause-whole : goal.returns-clause-whole
 returns-clause-whole g c =
     session_keeps c.args.machine.now.parts c.session.new.machine c.args.script.now c.args.budget c.session.result c.ending_of_session.result (g.I.Source.left c.session.new.input) (g.O.Sink.held c.args.output.now) (g.O.Sink.held c.session.new.output) (g.E.Sink.held c.args.errors.now) (g.E.Sink.held c.session.new.errors) c.ending_of_session.ensures
-    c.session.ensures.line c.session.ensures.unended c.session.ensures.read_named c.session.ensures.write_named c.session.ensures.errors_named (λ i. Some (outcome_of_session i (session c.args.script.now c.args.budget (with_input c.args.machine.now.parts i)))) (g.I.Source.left c.args.input.now) c.session.ensures.whole_output c.session.ensures.whole_errors
+    c.session.ensures.line c.session.ensures.unended c.session.ensures.unspent c.session.ensures.read_named c.session.ensures.write_named c.session.ensures.errors_named (λ i. Some (outcome_of_session i (session c.args.script.now c.args.budget (with_input c.args.machine.now.parts i)))) (g.I.Source.left c.args.input.now) c.session.ensures.whole_output c.session.ensures.whole_errors

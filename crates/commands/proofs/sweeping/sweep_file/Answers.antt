@@ -5,7 +5,7 @@ use Rattle.io_gate.specs.Streams.{Causes, Rose}
 use Rattle.command_lines.specs.Outcome.{Outcome, Files, outcome_of_swept}
 use Rattle.emu_system.specs.Image.{elf}
 use Rattle.commands.specs.Programs.{swept_arguments}
-use Rattle.commands.specs.Promises.{SettlesSweep}
+use Rattle.commands.specs.Promises.{SettlesReader}
 use Rattle.commands.specs.Meets.{now}
 use Rattle.commands.specs.declared.sweeping.Swept.{Swept}
 use Rattle.commands.proofs.MayEnd.{stops_sweep}
@@ -21,7 +21,7 @@ next words p files bytes i = Some (outcome_of_swept bytes (swept_arguments words
 
 pub returns-in-Ok-clause-outcome : goal.returns-in-Ok-clause-outcome
 returns-in-Ok-clause-outcome g c =
-    found_file_by (λ _. SettlesSweep) (next (map string_bytes c.args.words.now) c.args.program.now) (g.F.Images.named c.args.files.now) (map string_bytes c.args.words.now) c.args.program.now.file c.word.result.now c.deref.result.now c.in-Ok.bytes.items
+    found_file_by (λ _. SettlesReader) (next (map string_bytes c.args.words.now) c.args.program.now) (g.F.Images.named c.args.files.now) (map string_bytes c.args.words.now) c.args.program.now.file c.word.result.now c.deref.result.now c.in-Ok.bytes.items
     (g.I.Source.left c.args.input.now) (g.O.Sink.held c.args.output.now) (g.E.Sink.held c.args.errors.now) _ _ c.sweep_bytes.result
     c.word.ensures c.deref.ensures.value (ap g.E.Sink.held c.in-Ok.ensures.read_still) c.in-Ok.ensures.content (told_so (g.F.Images.named c.args.files.now) _ (λ _. c.sweep_bytes.ensures.outcome))
 

@@ -1,7 +1,7 @@
 use Rattle.std.proofs.Common.{false, refl, ap}
 use Rattle.emu_model.specs.State.{State}
 use Rattle.emu_system.specs.Start.{with_input}
-use Rattle.dbg_model.specs.Session.{shown}
+use Rattle.dbg_model.specs.Session.{command_text}
 use Rattle.dbg_model.specs.Forward.{obeyed}
 use Rattle.dbg_core.specs.Ends.{end_of_put}
 use Rattle.dbg_core.proofs.Sessions.{prints}
@@ -19,13 +19,13 @@ returns-in_default g c =
     let is = c.end_of_put.ensures in
     record {
       obeys = obeys_as p p _ _ _ _ _ _ (obeyed command c.args.points.now c.args.budget) (end_of_put put) c.end_of_put.result is
-          (obeys_same p p _ _ _ _ _ _ (prints (shown command)) (obeyed command c.args.points.now c.args.budget) (end_of_put put)
+          (obeys_same p p _ _ _ _ _ _ (prints (command_text command)) (obeyed command c.args.points.now c.args.budget) (end_of_put put)
           (λ input. shows command c.args.points.now c.args.budget c.in_default.not-Step c.in_default.not-Go (with_input p input))
-          (obeys_put (shown command) p (g.I.Source.left c.args.input.now) (g.O.Sink.held c.args.output.now) (g.O.Sink.held c.put_shown.new.sink) (g.E.Sink.held c.args.errors.now) put c.put_shown.ensures.bytes));
+          (obeys_put (command_text command) p (g.I.Source.left c.args.input.now) (g.O.Sink.held c.args.output.now) (g.O.Sink.held c.put_shown.new.sink) (g.E.Sink.held c.args.errors.now) put c.put_shown.ensures.bytes));
       leaves = leaves_line (obeyed command c.args.points.now c.args.budget) c.args.budget p c.args.machine.now (g.I.Source.left c.args.input.now) (g.I.Source.left c.args.input.now) put c.end_of_put.result is c.requires.failed
-          (becomes_same (prints (shown command)) (obeyed command c.args.points.now c.args.budget) p p (g.I.Source.left c.args.input.now) (g.I.Source.left c.args.input.now) false
+          (becomes_same (prints (command_text command)) (obeyed command c.args.points.now c.args.budget) p p (g.I.Source.left c.args.input.now) (g.I.Source.left c.args.input.now) false
           (λ input. shows command c.args.points.now c.args.budget c.in_default.not-Step c.in_default.not-Go (with_input p input))
-          (becomes_printed (shown command) p (g.I.Source.left c.args.input.now)));
+          (becomes_printed (command_text command) p (g.I.Source.left c.args.input.now)));
       spares = spares_line (obeyed command c.args.points.now c.args.budget) p c.args.machine.now (g.I.Source.left c.args.input.now) (g.I.Source.left c.args.input.now) (g.O.Sink.held c.args.output.now) (g.O.Sink.held c.put_shown.new.sink) (g.E.Sink.held c.args.errors.now) (g.E.Sink.held c.args.errors.now) put c.end_of_put.result is c.requires.failed
           (puts_same (λ st. st.errors) (λ st. (obeyed command c.args.points.now c.args.budget st).errors) p (g.I.Source.left c.args.input.now) (g.E.Sink.held c.args.errors.now) (g.E.Sink.held c.args.errors.now)
           (λ input. ap (λ (s : State). s.errors) (shows command c.args.points.now c.args.budget c.in_default.not-Step c.in_default.not-Go (with_input p input)))

@@ -1,6 +1,6 @@
 use Rattle.std.proofs.Common.{◌≡◌, ◌<◌, ◌∙◌, ℕ, true, false, nat_lt, if◌then◌else◌, length, ap, arith}
 use Rattle.std.proofs.lemmas.Bool.Decides.{nat_tests}
-use Rattle.lane_model.specs.declared.places.Place.TheVariants.{FirstLane, Zero}
+use Rattle.lane_model.specs.declared.places.LaneSource.TheVariants.{FirstLane, Zero}
 use Rattle.lane_model.specs.Permute.{taken}
 use Rattle.lane_permute.specs.Slices.{number_at}
 use Rattle.lane_permute.proofs.Written.{read_at}

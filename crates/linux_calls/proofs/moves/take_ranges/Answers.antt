@@ -3,7 +3,7 @@ use Rattle.std.proofs.lemmas.List.{take_all}
 use Rattle.emu_model.specs.declared.access.Kind.TheVariants.{Write}
 use Rattle.emu_model.specs.Pages.{with_bytes}
 use Rattle.emu_system.specs.declared.system_call.Range.{Range}
-use Rattle.emu_system.specs.SystemCall.{filled, total}
+use Rattle.emu_system.specs.SystemCall.{with_ranges, total}
 use Rattle.linux_calls.specs.Taken.{Takes}
 use Rattle.linux_calls.proofs.Filled.{few_taken, range_at, range_taken, rights_stay, some_taken, total_more}
 use Rattle.linux_calls.proofs.Takings.{all_left, all_taken, counted, took_none_more}
@@ -12,7 +12,7 @@ use Rattle.linux_calls.proofs.moves.take_ranges.Goals as goal
 pub returns-in_err-n-clause-took : goal.returns-in_err-n-clause-took
 returns-in_err-n-clause-took g c =
     let t = c.in_err-n.ensures.took in let i = c.loop-range.range-index in let rs = c.args.ranges.now in let inv = c.loop-range.invariant in
-    took_none_more c.from_residual.result (total rs) (c.loop-range.count + t.count) (filled c.args.mem.now.memory rs) _ _ _ c.from_residual.ensures.0
+    took_none_more c.from_residual.result (total rs) (c.loop-range.count + t.count) (with_ranges c.args.mem.now.memory rs) _ _ _ c.from_residual.ensures.0
     (few_taken c.args.mem.now.memory c.loop-range.mem.memory _ rs i c.loop-range.count t.count _ _ _ c.loop-range-test.true inv.full t.few inv.takes t.takes)
     (some_taken c.args.mem.now.memory c.loop-range.mem.memory _ rs i c.loop-range.count t.count _ _ _ c.loop-range-test.true inv.full t.few inv.takes t.takes)
 
@@ -43,7 +43,7 @@ pub returns-then-n-range-clause-all : goal.returns-then-n-range-clause-all
 returns-then-n-range-clause-all g c =
     let i = c.loop-range.range-index in let rs = c.args.ranges.now in let inv = c.loop-range.invariant in
     let t = counted (range_at rs i).length c.in_ok-n.n (with_bytes c.loop-range.mem.memory (range_at rs i).address) _ _ _ c.in_ok-n.ensures.took in
-    all_left c.loop-range.count (filled c.args.mem.now.memory (take i rs)) c.loop-range.mem.memory c.in_ok-n.n (range_at rs i).length (total rs) _ _
+    all_left c.loop-range.count (with_ranges c.args.mem.now.memory (take i rs)) c.loop-range.mem.memory c.in_ok-n.n (range_at rs i).length (total rs) _ _
     (few_taken c.args.mem.now.memory c.loop-range.mem.memory _ rs i c.loop-range.count c.in_ok-n.n _ _ _ c.loop-range-test.true inv.full t.1 inv.takes t.0)
     c.if-n-range.true inv.takes c.in_ok-n.ensures.all
 
@@ -61,10 +61,10 @@ returns g c =
       took = record {
         count = c.loop-range.count;
         few = omega (arith, full);
-        takes = subst (λ (xs : List Range). Takes c.loop-range.count (filled c.args.mem.now.memory xs) c.loop-range.mem.memory (g.S.Source.left c.args.source.now) (g.S.Source.left c.loop-range.source)) whole inv.takes;
+        takes = subst (λ (xs : List Range). Takes c.loop-range.count (with_ranges c.args.mem.now.memory xs) c.loop-range.mem.memory (g.S.Source.left c.args.source.now) (g.S.Source.left c.loop-range.source)) whole inv.takes;
         answer = refl;
       };
-      all = all_taken c.loop-range.count (filled c.args.mem.now.memory (take i rs)) c.loop-range.mem.memory (total rs) _ _ full inv.takes;
+      all = all_taken c.loop-range.count (with_ranges c.args.mem.now.memory (take i rs)) c.loop-range.mem.memory (total rs) _ _ full inv.takes;
       marks = inv.marks;
       cause = record { later = omega (arith, inv.kept); failed = tt; kept = inv.kept };
     }

@@ -2,8 +2,8 @@ use Rattle.std.proofs.Common.{List, length, refl, ap, ◌∙◌, sym, subst, ari
 use Rattle.std.proofs.Math.Seq.{map-set_same}
 use Rattle.std.proofs.lemmas.List.{get_or-set_same, get_or_default, length-set}
 use Rattle.page_list.specs.declared.slots.Slot.{Slot}
-use Rattle.page_list.specs.Slots.{AreOwn, Changes, IsCode, entries_in, entry_in, frame_of, is_own, no_slot, owned_slot, slot_at, sole_in}
-use Rattle.page_list.proofs.Codes.{code_kept}
+use Rattle.page_list.specs.Slots.{AreAtHand, AreOwn, Changes, entries_in, entry_in, frame_of, is_own, no_slot, owned_slot, slot_at, sole_in}
+use Rattle.page_list.proofs.Codes.{hand_kept}
 use Rattle.page_list.proofs.Held.{holders-set, own-set, owned_entry, owned_frame, owned_own, owned_right, slot_there, sole-set}
 use Rattle.page_list.proofs.slots.make_own.Goals as goal
 
@@ -20,10 +20,10 @@ returns-then-has_sole-clause-here c =
     let live = c.args.arena.now.live in let ss = c.args.slots.now.items in let i = c.args.i in let x = slot_at ss i in
     ap (λ (l : List Slot). is_own (slot_at l i)) c.own_again.ensures.slots ∙ ap (λ (s : Slot). is_own s) (get_or-set_same ss i (owned_slot x) no_slot c.requires.place) ∙ owned_own live x (sym c.has_sole.ensures ∙ c.if-has_sole.true)
 
-pub returns-then-has_sole-clause-code : goal.returns-then-has_sole-clause-code
-returns-then-has_sole-clause-code c = λ is.
+pub returns-then-has_sole-clause-at_hand : goal.returns-then-has_sole-clause-at_hand
+returns-then-has_sole-clause-at_hand c = λ is.
     let ss = c.args.slots.now.items in let i = c.args.i in let x = slot_at ss i in
-    subst (λ (l : List Slot). IsCode l c.args.code.now) (sym c.own_again.ensures.slots) (code_kept ss i c.requires.place (owned_slot x) refl refl (owned_frame x) c.args.code.now is)
+    subst (λ (l : List Slot). AreAtHand l c.args.hand.now) (sym c.own_again.ensures.slots) (hand_kept ss i c.requires.place (owned_slot x) refl refl (owned_frame x) (owned_own c.args.arena.now.live x (sym c.has_sole.ensures ∙ c.if-has_sole.true)) c.args.hand.now is)
 
 pub returns-then-has_sole-clause-changes : goal.returns-then-has_sole-clause-changes
 returns-then-has_sole-clause-changes c =

@@ -7,10 +7,9 @@ use Rattle.frame_arena.specs.Frames.{Frames, Live, IsLive, Takes, bytes_of, coun
 use Rattle.page_list.specs.declared.slots.Hold.TheVariants.{Own}
 use Rattle.page_list.specs.declared.slots.Slot.{Slot}
 use Rattle.page_list.specs.Bytes.{as_bytes}
-use Rattle.page_list.specs.Slots.{AreOwn, Changes, IsCode, block_bytes, code_after, frame_of, bytes_in, entries_in, given_if, no_slot, slot_at, sole_in}
+use Rattle.page_list.specs.Slots.{AreAtHand, AreOwn, Changes, block_bytes, code_after, frame_of, bytes_in, entries_in, given_if, lines_after, no_slot, slot_at, sole_in}
 use Rattle.page_list.proofs.Bytes.{as_bytes-zeros}
-use Rattle.page_list.specs.declared.code.CodePage.{CodePage}
-use Rattle.page_list.proofs.Codes.{code_moved, code_number}
+use Rattle.page_list.proofs.Codes.{hand_moved, hand_same, not_own}
 use Rattle.page_list.proofs.Held.{slot_there, frame_is_held, named_at, sole_less, counts-own, own-own, room-own, entries-own, other_than, taken_spare, taken_sole, taken_counts, taken_bytes, taken_block, taken_room, taken_total, taken_live, still_named}
 use Rattle.page_list.proofs.slots.replace_frame.Goals as goal
 
@@ -101,12 +100,14 @@ returns-clause-room c =
     subst (λ (d : Frames). a.spare + sole_in a.live ss ≤ d.spare + sole_in d.live c.put_frame-old.new.slots.items) (sym after)
     (subst (λ (n : List Slot). a.spare + sole_in a.live ss ≤ (given_if b (frame_of x)).spare + sole_in live n) (sym slots) (omega (arith, room, left)))
 
-pub returns-clause-number : goal.returns-clause-number
-returns-clause-number c = ap (λ (m : CodePage). m.number) c.code_with.ensures ∙ code_number c.args.code.now c.index-2.result.now c.new_frame-frame.result
+pub returns-clause-hand : goal.returns-clause-hand
+returns-clause-hand c =
+    let e = c.turn.ensures in hand_same c.args.hand.now c.turn.new.self c.index-2.result.now c.args.i c.new_frame-frame.result e.code e.reads e.writes
 
-pub returns-clause-code : goal.returns-clause-code
-returns-clause-code c = λ is.
-    let ss = c.args.slots.now.items in let i = c.args.i in let k = c.new_frame-frame.result in
+pub returns-clause-at_hand : goal.returns-clause-at_hand
+returns-clause-at_hand c = λ is.
+    let ss = c.args.slots.now.items in let i = c.args.i in let k = c.new_frame-frame.result in let h = c.args.hand.now in let e = c.turn.ensures in
     let same : c.index-2.result.now ≡ slot_at ss i = c.index-2.ensures ∙ get_or_default ss i c.index-2.result.now no_slot c.requires.place in
-    subst (λ (m : CodePage). IsCode c.put_frame-old.new.slots.items m) (sym (c.code_with.ensures ∙ ap (λ (s : Slot). code_after c.args.code.now s k) same))
-    (subst (λ (l : List Slot). IsCode l (code_after c.args.code.now (slot_at ss i) k)) (sym c.put_frame-old.ensures.slots) (code_moved ss i k c.requires.place c.args.code.now is))
+    subst (λ (l : List Slot). AreAtHand l c.turn.new.self) (sym c.put_frame-old.ensures.slots)
+    (hand_moved ss i k c.requires.place (not_own c.args.arena.now.live ss i c.requires.place c.requires.own c.requires.shared) h c.turn.new.self
+    (e.code ∙ ap (λ (s : Slot). code_after h.code s k) same) (e.reads ∙ ap (λ (s : Slot). lines_after h.reads.value s.number i k) same) e.writes e.frames is)

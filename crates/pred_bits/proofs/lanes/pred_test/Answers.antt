@@ -1,6 +1,6 @@
 use Rattle.std.proofs.Common.{◌≡◌, ◌<◌, ◌≤◌, ◌*◌, ◌/◌, ◌%◌, ◌&&◌, ℕ, Bool, nat_eq, length, sym, ap, ◌∙◌, arith}
 use Rattle.emu_bits.specs.Flags.{size_of}
-use Rattle.lane_model.specs.Bits.{field_bit, lane_is_set, lanes_of}
+use Rattle.lane_model.specs.Bits.{field_bit, active, lanes_of}
 use Rattle.lane_model.specs.WordBits.{bit_of}
 use Rattle.pred_bits.specs.LaneBits.{among}
 use Rattle.pred_bits.proofs.Fields.{some_bits, lanes_room, lane_within}
@@ -11,8 +11,8 @@ use Rattle.pred_bits.proofs.lanes.pred_test.Goals as goal
 pub returns : goal.returns
 returns c =
     let n : ℕ = lanes_of (size_of c.args.e) (length c.args.g.now) in
-    let g : ℕ → Bool = lane_is_set (size_of c.args.e) c.args.g.now in
-    let a : ℕ → Bool = lane_is_set (size_of c.args.e) c.args.a.now in
+    let g : ℕ → Bool = active (size_of c.args.e) c.args.g.now in
+    let a : ℕ → Bool = active (size_of c.args.e) c.args.a.now in
     let room : lanes_of (size_of c.args.e) (length c.args.g.now) * (size_of c.args.e / 8) ≤ 256 = lanes_room c.args.e (length c.args.g.now) (omega (arith, c.bits-bits.ensures.few, c.bits-bits.ensures.value)) in
     let reads : (k : ℕ) → k < n → bit_of c.a.inside.words (k * (size_of c.args.e / 8)) ≡ a k = λ k h.
     let in_a : k * (size_of c.args.e / 8) < length c.args.a.now = omega (arith, lane_within c.args.e k (length c.args.g.now) h, c.requires) in

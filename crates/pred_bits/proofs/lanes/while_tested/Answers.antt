@@ -1,6 +1,7 @@
 use Rattle.std.proofs.Common.{◌<◌, ◌≤◌, ◌+◌, ◌/◌, suc, true, nat_lt, sym, ap, subst, ◌∙◌}
 use Rattle.emu_bits.specs.Flags.{size_of}
-use Rattle.lane_model.specs.Bits.{each_bit, lane_is_set, lanes_of}
+use Rattle.lane_model.specs.Bits.{active, lanes_of}
+use Rattle.lane_model.specs.Lists.{each}
 use Rattle.lane_model.specs.FirstLast.{all_below}
 use Rattle.lane_model.specs.Predicate.{test_flags, while_holds, while_lanes}
 use Rattle.pred_bits.proofs.AllActive.{flags_same, field_active, one_active}
@@ -22,8 +23,8 @@ returns-clause-lanes c =
 pub returns-clause-flags : goal.returns-clause-flags
 returns-clause-flags c =
     c.flags_below.ensures ∙ ap (λ e. test_flags (c.args.bits / (e / 8)) (λ k. true) (λ k. nat_lt k c.while_count-count.result)) c.bits.ensures
-    ∙ flags_same (lanes_of (size_of c.args.e) c.args.bits) (λ k. true) (λ k. nat_lt k c.while_count-count.result) (lane_is_set (size_of c.args.e) (each_bit c.args.bits (λ k. true)))
-    (lane_is_set (size_of c.args.e) (while_lanes c.args.test c.args.width c.args.from c.args.to (size_of c.args.e) c.args.bits))
+    ∙ flags_same (lanes_of (size_of c.args.e) c.args.bits) (λ k. true) (λ k. nat_lt k c.while_count-count.result) (active (size_of c.args.e) (each c.args.bits (λ k. true)))
+    (active (size_of c.args.e) (while_lanes c.args.test c.args.width c.args.from c.args.to (size_of c.args.e) c.args.bits))
     (λ k h. sym (one_active c.args.e c.args.bits k h))
     (λ k h. c.while_count-count.ensures.value k (subst (λ e. k < c.args.bits / (e / 8)) (sym c.bits.ensures) h)
     ∙ sym (field_active c.args.e c.args.bits k (λ k. all_below (suc k) (λ j. while_holds c.args.test c.args.width (c.args.from + j) c.args.to)) h))

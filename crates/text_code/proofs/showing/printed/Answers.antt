@@ -3,7 +3,7 @@ use Rattle.std.proofs.lemmas.Int.{to_z-of_z}
 use Rattle.std.specs.Int.{w128}
 use Rattle.std.specs.Prelude.{FitsSigned}
 use Rattle.text_model.specs.declared.slots.Kind.{Kind}
-use Rattle.text_model.specs.Slots.{places, bits_in, joined, shown, address}
+use Rattle.text_model.specs.Slots.{places, bits_in, joined, shown, target_address}
 use Rattle.text_model.specs.Text.{printed}
 use Rattle.text_code.proofs.Slots.{parts_sound, narrow, kind_sound}
 use Rattle.text_code.proofs.Targets.{target_sound, printed_as_shown}
@@ -36,7 +36,7 @@ returns-in-Target c =
     let v : ℕ = joined (places c.args.slot.codec.parts) c.args.word in
     let f : FitsSigned w128 c.from.result = search rules in
     let e : to_z w128 (of_z w128 c.from.result) ≡ c.from.result = to_z-of_z w128 c.from.result f in
-    e ∙ c.from.ensures ∙ ap pos (c.address.ensures ∙ ap (λ (v : ℕ). address c.in-Target.by c.in-Target.page b v c.args.pc) c.number_of-number.ensures.value)
+    e ∙ c.from.ensures ∙ ap pos (c.address.ensures ∙ ap (λ (v : ℕ). target_address c.in-Target.by c.in-Target.page b v c.args.pc) c.number_of-number.ensures.value)
     ∙ ap (λ (k : Kind). printed k b v c.args.pc) (sym c.in-Target.is)
 
 pub returns-in_default : goal.returns-in_default

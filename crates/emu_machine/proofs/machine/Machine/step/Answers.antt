@@ -1,7 +1,7 @@
 use Rattle.std.proofs.Common.{◌≡◌, ◌+◌, ℕ, List, Option, Some, false, is_none, ap, subst, sym, refl, ◌∙◌}
 use Rattle.emu_model.specs.State.{Parts}
-use Rattle.emu_system.specs.SystemCall.{Turn, call, quiet}
-use Rattle.emu_run.specs.Step.{step, turn}
+use Rattle.emu_system.specs.SystemCall.{Stepped, call, quiet}
+use Rattle.emu_run.specs.Step.{step, step_from}
 use Rattle.linux_calls.specs.Names.{NamesRead, NamesWrite}
 use Rattle.emu_machine.specs.Ends.{IsKept, is_undone, is_unput, step_end}
 use Rattle.emu_machine.proofs.Advanced.{causes_not, counted_as, not_both, turned}
@@ -10,7 +10,7 @@ use Rattle.emu_machine.proofs.Turns.{call_none}
 use Rattle.emu_machine.proofs.Runs.{Ran, becomes_by_call, done_by_end, ends_by_call, goes, made_by_call, puts_by_call, puts_errors_by_call, quietly_made, quietly_ran, takes_by_call, unput_by_end}
 use Rattle.emu_machine.proofs.machine.Machine.step.Goals as goal
 
-turns : (g : _) (c : goal.After-step_end g) (input : List ℕ) → turn c.args.self.now.parts input ≡ quiet c.once.new.self.parts input
+turns : (g : _) (c : goal.After-step_end g) (input : List ℕ) → step_from c.args.self.now.parts input ≡ quiet c.once.new.self.parts input
 turns g c input = turned c.once.result c.args.self.now.parts c.once.new.self.parts c.in_default.not-AtCall c.once.ensures.turn input
 
 ended : (g : _) (c : goal.After-step_end g) → c.step_end.result ≡ step_end c.once.new.self.parts.ended
@@ -34,7 +34,7 @@ returns-in_default g c =
       output = λ bytes. (ran g c (Some bytes) (g.O.Sink.held c.args.output.now) (g.E.Sink.held c.args.errors.now)).output;
       errors = λ bytes. (ran g c (Some bytes) (g.O.Sink.held c.args.output.now) (g.E.Sink.held c.args.errors.now)).errors;
       end = λ _. ended g c;
-      ends = λ bytes _. ended g c ∙ ap (λ (t : Turn). step_end t.parts.ended) (sym (turns g c bytes));
+      ends = λ bytes _. ended g c ∙ ap (λ (t : Stepped). step_end t.parts.ended) (sym (turns g c bytes));
       counted = λ going. counted_as c.once.result m q c.in_default.not-AtCall c.once.ensures.ended c.once.ensures.counted (sym going ∙ ended g c);
       kept = λ h. not_both (is_undone c.step_end.result) (IsKept c.args.self.now.parts c.once.new.self.parts (g.I.Source.left c.args.input.now) (g.I.Source.left c.args.input.now)) (done g c) h;
       unstored = λ h. not_both _ _ (ap is_unput (ended g c) ∙ unput_by_end c.once.new.self.parts.ended) h;
@@ -57,7 +57,7 @@ returns-in_default g c =
 same : (g : _) (c : goal.After-call g) → c.once.new.self.parts ≡ c.args.self.now.parts
 same g c = c.in-AtCall.ensures.kept
 
-calls : (g : _) (c : goal.After-call g) (input : List ℕ) → turn c.args.self.now.parts input ≡ call c.args.self.now.parts input
+calls : (g : _) (c : goal.After-call g) (input : List ℕ) → step_from c.args.self.now.parts input ≡ call c.args.self.now.parts input
 calls g c input = c.in-AtCall.ensures.turn input
 
 pub call-requires-clause-going : goal.call-requires-clause-going

@@ -2,7 +2,7 @@ use Rattle.std.proofs.Common.{◌≡◌, ◌+◌, ℕ, List, true, false, is_non
 use Rattle.emu_model.specs.declared.access.Access.{Access}
 use Rattle.emu_model.specs.State.{Parts}
 use Rattle.emu_system.specs.SystemCall.{call, quiet}
-use Rattle.emu_run.specs.Step.{accesses, turn}
+use Rattle.emu_run.specs.Step.{accesses, step_from}
 use Rattle.emu_machine.specs.Advances.{IsAhead}
 use Rattle.emu_machine.specs.Machines.{MachineState, has_ended, is_at_call, makes_call}
 use Rattle.emu_machine.proofs.Advanced.{ahead_on, ahead_start}
@@ -12,7 +12,7 @@ use Rattle.emu_machine.proofs.running.Running.take_steps.Goals as goal
 
 -- a step on from `at`, whose log was emptied in `clear`
 ahead_by : (old at clear new : MachineState) → clear ≡ at → IsAhead old.parts at.parts old.accesses at.accesses → makes_call clear.parts ≡ false
-    → ((input : List ℕ) → turn clear.parts input ≡ quiet new.parts input) → new.parts.steps ≡ clear.parts.steps + 1 → is_none new.parts.ended ≡ true → new.accesses ≡ accesses clear.parts
+    → ((input : List ℕ) → step_from clear.parts input ≡ quiet new.parts input) → new.parts.steps ≡ clear.parts.steps + 1 → is_none new.parts.ended ≡ true → new.accesses ≡ accesses clear.parts
     → IsAhead old.parts new.parts old.accesses new.accesses
 ahead_by old at clear new same ahead calls turns counted goes_on made =
     subst (λ (log : List Access). IsAhead old.parts new.parts old.accesses log) (sym made)
@@ -69,7 +69,7 @@ returns-in-AtCall-clause-steps c =
       ahead = subst (λ (x : Parts). IsAhead c.args.self.now.parts x c.args.self.now.accesses c.loop.self.accesses) (sym same) c.loop.invariant.ahead;
       below = omega (arith, steps, below);
       clear = c.plain.ensures.accesses ∙ ap accesses (sym k);
-      calls = λ input. subst (λ (x : Parts). turn x input ≡ call x input) (sym k) (c.in-AtCall.ensures.turn input);
+      calls = λ input. subst (λ (x : Parts). step_from x input ≡ call x input) (sym k) (c.in-AtCall.ensures.turn input);
       svc = ap is_at_call k ∙ c.plain.ensures.svc c.in-AtCall.is;
     }
 
@@ -93,7 +93,7 @@ returns-in-Trapped-clause-steps c = record {
   ahead = c.loop.invariant.ahead;
   below = c.loop.invariant.below;
   alone = ap (λ (s : MachineState). makes_call s.parts) (sym c.self.view_is) ∙ c.in-Trapped.ensures.alone;
-  turns = λ input. ap (λ (s : MachineState). turn s.parts input) (sym c.self.view_is) ∙ c.in-Trapped.ensures.turn input;
+  turns = λ input. ap (λ (s : MachineState). step_from s.parts input) (sym c.self.view_is) ∙ c.in-Trapped.ensures.turn input;
   accesses = c.plain.ensures.accesses ∙ ap (λ (s : MachineState). accesses s.parts) c.self.view_is;
   ended = c.in-Trapped.ensures.ended;
 }

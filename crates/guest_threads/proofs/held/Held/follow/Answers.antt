@@ -5,7 +5,7 @@ use Rattle.emu_machine.proofs.Spared.{errors_undone, output_undone}
 use Rattle.emu_machine.specs.declared.ends.StepEnd.{StepEnd}
 use Rattle.emu_machine.specs.declared.ends.StepEnd.TheVariants.{Going, ReadFault, WriteFault, ErrorsFault}
 use Rattle.emu_run.specs.Worlds.{World}
-use Rattle.emu_run.specs.declared.thread.Place.{Place}
+use Rattle.emu_run.specs.declared.thread.SchedulePlace.{SchedulePlace}
 use Rattle.guest_threads.specs.declared.went.Went.{Went}
 use Rattle.guest_threads.specs.Ends.{world_end_of, is_broken_off}
 use Rattle.guest_threads.specs.Named.{last_end}
@@ -132,7 +132,7 @@ loop-place-preserved g c =
     let counted : q.steps ≡ t.at.steps + 1 = t.counted on in
     let after = c.steps-after.ensures in
     let is = c.used_behind-used.ensures in
-    let next : Place = c.next_place-next.result in
+    let next : SchedulePlace = c.next_place-next.result in
     let behind : Reached c.args.schedule.now c.args.budget c.args.self.now.world (g.I.Source.left c.args.input.now) (g.I.Source.left c.go.new.input) (g.O.Sink.held c.args.output.now) (g.O.Sink.held c.go.new.output) (g.E.Sink.held c.args.errors.now) (g.E.Sink.held c.go.new.errors) next q =
     reached_behind c.args.schedule.now c.args.budget c.args.self.now.world (g.I.Source.left c.args.input.now) (g.I.Source.left c.loop-place.input) (g.O.Sink.held c.args.output.now) (g.O.Sink.held c.loop-place.output) (g.E.Sink.held c.args.errors.now) (g.E.Sink.held c.loop-place.errors)
     c.loop-place.place k c.turn_until-until.result p (record { leads = c.loop-place.invariant.leads; stands = c.loop-place.invariant.stands; any = c.loop-place.invariant.any }) (unended p.ended c.loop-place.self.failed c.loop-place.invariant.going) c.in-Some.ensures until.within (omega (arith, turn, steps))
@@ -177,7 +177,7 @@ returns-in_default-take_turns g c =
     let counted : q.steps ≡ t.at.steps + 1 = t.counted on in
     let after = c.steps-after.ensures in
     let is = c.used_behind-used.ensures in
-    let next : Place = c.next_place-next.result in
+    let next : SchedulePlace = c.next_place-next.result in
     let behind : Reached c.args.schedule.now c.args.budget c.args.self.now.world (g.I.Source.left c.args.input.now) (g.I.Source.left c.go.new.input) (g.O.Sink.held c.args.output.now) (g.O.Sink.held c.go.new.output) (g.E.Sink.held c.args.errors.now) (g.E.Sink.held c.go.new.errors) next q =
     reached_behind c.args.schedule.now c.args.budget c.args.self.now.world (g.I.Source.left c.args.input.now) (g.I.Source.left c.loop-place.input) (g.O.Sink.held c.args.output.now) (g.O.Sink.held c.loop-place.output) (g.E.Sink.held c.args.errors.now) (g.E.Sink.held c.loop-place.errors)
     c.loop-place.place k c.turn_until-until.result p (record { leads = c.loop-place.invariant.leads; stands = c.loop-place.invariant.stands; any = c.loop-place.invariant.any }) (unended p.ended c.loop-place.self.failed c.loop-place.invariant.going) c.in-Some.ensures until.within (omega (arith, turn, steps))

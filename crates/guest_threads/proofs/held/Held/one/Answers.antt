@@ -2,8 +2,8 @@ use Rattle.std.proofs.Common.{◌≡◌, ◌+◌, ℕ, List, [], false, refl, sy
 use Rattle.emu_machine.specs.Ends.{is_undone, step_end}
 use Rattle.emu_machine.proofs.Advanced.{causes_not, not_both}
 use Rattle.emu_run.specs.Living.{IsLiving, one_living}
-use Rattle.emu_run.specs.Threads.{WorldState, WorldTurn, makes_call, stepped, one, quietly, with_input}
-use Rattle.emu_run.specs.Worlds.{World, context, joined, taken_by_context}
+use Rattle.emu_run.specs.Threads.{WorldState, WorldStepped, makes_call, stepped, one, quietly, with_input}
+use Rattle.emu_run.specs.Worlds.{World, context, parts_with, taken_by_context}
 use Rattle.guest_threads.specs.Calls.{IsCalling}
 use Rattle.guest_threads.specs.Ends.{WorldHeld, IsKept}
 use Rattle.guest_threads.specs.Steps.{stepped_as}
@@ -27,7 +27,7 @@ returns-in-Some g c =
     let h : WorldHeld = c.args.self.now in
     let v : WorldHeld = c.is_calling-calls.new.self in
     let brought : v ≡ record h { world = taken_by_context c.args.k h.world } = c.is_calling-calls.ensures.unchanged ∙ c.bring.ensures in
-    let calls = c.is_calling-calls.ensures.call ∙ ap (λ (x : WorldHeld). makes_call (joined x.world (context x.world x.world.last))) (sym c.is_calling-calls.ensures.unchanged) in
+    let calls = c.is_calling-calls.ensures.call ∙ ap (λ (x : WorldHeld). makes_call (parts_with x.world (context x.world x.world.last))) (sym c.is_calling-calls.ensures.unchanged) in
     let made = c.in-Some.ensures.made in
     let n : WorldHeld = c.call.new.self in
     let empty = c.empty_monitors.ensures in
@@ -46,7 +46,7 @@ returns-in-Some g c =
       kept = λ broken. not_both _ _ fine broken;
       failed = ap (λ (x : WorldHeld). x.failed) empty ∙ made.1.failed ∙ ap (λ (x : WorldHeld). x.failed) brought ∙ unfailed_of h c.requires.going ∙ sym fine;
       last = ap (λ (x : WorldHeld). x.world.last) empty ∙ made.1.last ∙ ap (λ (x : WorldHeld). x.world.last) brought;
-      living = λ _. subst (λ (t : WorldTurn). IsLiving t.world) (is []) (one_living h.world c.args.k [] c.requires.within);
+      living = λ _. subst (λ (t : WorldStepped). IsLiving t.world) (is []) (one_living h.world c.args.k [] c.requires.within);
       read_cause = causes_not _ _ _ refl (λ e. not_both _ _ fine (ap is_undone e));
       write_cause = causes_not _ _ _ refl (λ e. not_both _ _ fine (ap is_undone e));
       errors_cause = causes_not _ _ _ refl (λ e. not_both _ _ fine (ap is_undone e));
@@ -64,7 +64,7 @@ returns-in-None g c =
     let v : WorldHeld = c.is_calling-calls.new.self in
     let k : ℕ = c.args.k in
     let brought : v ≡ record h { world = taken_by_context k h.world } = c.is_calling-calls.ensures.unchanged ∙ c.bring.ensures in
-    let calls = c.is_calling-calls.ensures.call ∙ ap (λ (x : WorldHeld). makes_call (joined x.world (context x.world x.world.last))) (sym c.is_calling-calls.ensures.unchanged) in
+    let calls = c.is_calling-calls.ensures.call ∙ ap (λ (x : WorldHeld). makes_call (parts_with x.world (context x.world x.world.last))) (sym c.is_calling-calls.ensures.unchanged) in
     let kept : c.call.new.self ≡ v = c.in-None.ensures.kept refl in
     let m = c.step.ensures in
     let old : World = c.call.new.self.world in

@@ -8,12 +8,12 @@ use Rattle.emu_machine.specs.Ends.{is_undone, is_unput, step_end}
 use Rattle.emu_machine.specs.Machines.{MakesWrite}
 use Rattle.emu_machine.proofs.Advanced.{not_both}
 use Rattle.linux_calls.specs.Names.{NamesRead}
-use Rattle.emu_run.specs.Worlds.{World, Context, behind_accesses, context, joined, others_behind}
+use Rattle.emu_run.specs.Worlds.{World, Context, behind_accesses, context, parts_with, others_behind}
 use Rattle.guest_contexts.specs.Laid.{world_of}
 use Rattle.guest_contexts.proofs.Laid.{joined_is, noted_is}
 use Rattle.guest_threads.specs.Ends.{IsInside, WorldHeld, last_machine}
 use Rattle.guest_threads.proofs.Inside.{inside_mapped}
-use Rattle.guest_threads.proofs.Steps.{Stepped, stepped_done, stepped_broken, kept_is, accessed_is, lives_called, lives_noted}
+use Rattle.guest_threads.proofs.Steps.{StepLeft, stepped_done, stepped_broken, kept_is, accessed_is, lives_called, lives_noted}
 use Rattle.guest_threads.proofs.Views.{laid_ready, last_is}
 use Rattle.guest_threads.proofs.held.Held.step.Goals as goal
 
@@ -24,7 +24,7 @@ returns-then-is_fault g c =
     let q = c.step-end.new.self.parts in
     let new : World = world_of q c.self.inside.last c.self.inside.contexts.items in
     let here : last_machine new ≡ q = joined_is q c.self.inside.last c.self.inside.contexts.items c.self.invariant.last in
-    let r : Stepped c.args.calls c.args.self.now new (g.I.Source.left c.args.input.now) (g.I.Source.left c.step-end.new.input) (g.O.Sink.held c.args.output.now) (g.O.Sink.held c.step-end.new.output) (g.E.Sink.held c.args.errors.now) (g.E.Sink.held c.step-end.new.errors) (is_undone c.step-end.result) =
+    let r : StepLeft c.args.calls c.args.self.now new (g.I.Source.left c.args.input.now) (g.I.Source.left c.step-end.new.input) (g.O.Sink.held c.args.output.now) (g.O.Sink.held c.step-end.new.output) (g.E.Sink.held c.args.errors.now) (g.E.Sink.held c.step-end.new.errors) (is_undone c.step-end.result) =
     stepped_broken c.args.calls c.self.inside.machine c.self.inside.last c.self.inside.contexts.items c.args.self.now c.self.view_is c.self.invariant.last c.requires.ready q (g.I.Source.left c.args.input.now) (g.I.Source.left c.step-end.new.input) (g.O.Sink.held c.args.output.now) (g.O.Sink.held c.step-end.new.output) (g.E.Sink.held c.args.errors.now) (g.E.Sink.held c.step-end.new.errors) (is_undone c.step-end.result) b new m.input m.output m.errors in
     record {
       state = r.state;
@@ -55,9 +55,9 @@ returns-then-calls g c =
     let yes = c.if-calls.true in
     let ready = laid_ready c.self.inside.machine c.self.inside.last c.self.inside.contexts.items c.args.self.now c.self.view_is c.requires.ready in
     let e = c.empty_monitors.ensures in
-    let r : Stepped true c.args.self.now c.empty_monitors.new.self.world (g.I.Source.left c.args.input.now) (g.I.Source.left c.step-end.new.input) (g.O.Sink.held c.args.output.now) (g.O.Sink.held c.step-end.new.output) (g.E.Sink.held c.args.errors.now) (g.E.Sink.held c.step-end.new.errors) (is_undone c.step-end.result) =
+    let r : StepLeft true c.args.self.now c.empty_monitors.new.self.world (g.I.Source.left c.args.input.now) (g.I.Source.left c.step-end.new.input) (g.O.Sink.held c.args.output.now) (g.O.Sink.held c.step-end.new.output) (g.E.Sink.held c.args.errors.now) (g.E.Sink.held c.step-end.new.errors) (is_undone c.step-end.result) =
     stepped_done true c.self.inside.machine c.self.inside.last c.self.inside.contexts.items c.args.self.now c.self.view_is c.self.invariant.last c.requires.ready q (g.I.Source.left c.args.input.now) (g.I.Source.left c.step-end.new.input) (g.O.Sink.held c.args.output.now) (g.O.Sink.held c.step-end.new.output) (g.E.Sink.held c.args.errors.now) (g.E.Sink.held c.step-end.new.errors) (is_undone c.step-end.result) b c.empty_monitors.new.self.world (ap (λ (x : WorldHeld). x.world) e) m.state m.input m.output m.errors in
-    let s = subst (λ (x : Bool). Stepped x c.args.self.now c.empty_monitors.new.self.world (g.I.Source.left c.args.input.now) (g.I.Source.left c.step-end.new.input) (g.O.Sink.held c.args.output.now) (g.O.Sink.held c.step-end.new.output) (g.E.Sink.held c.args.errors.now) (g.E.Sink.held c.step-end.new.errors) (is_undone c.step-end.result)) (sym yes) r in
+    let s = subst (λ (x : Bool). StepLeft x c.args.self.now c.empty_monitors.new.self.world (g.I.Source.left c.args.input.now) (g.I.Source.left c.step-end.new.input) (g.O.Sink.held c.args.output.now) (g.O.Sink.held c.step-end.new.output) (g.E.Sink.held c.args.errors.now) (g.E.Sink.held c.step-end.new.errors) (is_undone c.step-end.result)) (sym yes) r in
     record {
       state = s.state;
       input = s.input;
@@ -91,13 +91,13 @@ returns g c =
     let long : length c.note_accesses.new.contexts ≡ c.self.inside.contexts.len = ap (λ (x : List Context). length x) kept ∙ length-map c.self.inside.contexts.items (behind_accesses c.accesses.result.now) ∙ sym c.self.inside.contexts.ok.0 in
     let new : World = world_of q c.self.inside.last (with_items c.self.inside.contexts c.note_accesses.new.contexts).items in
     let made : List Access = c.accesses.result.now in
-    let is : new ≡ others_behind (accesses (joined (world_of c.self.inside.machine.parts c.self.inside.last c.self.inside.contexts.items) (context (world_of c.self.inside.machine.parts c.self.inside.last c.self.inside.contexts.items) c.self.inside.last))) c.self.inside.last (world_of q c.self.inside.last c.self.inside.contexts.items) =
+    let is : new ≡ others_behind (accesses (parts_with (world_of c.self.inside.machine.parts c.self.inside.last c.self.inside.contexts.items) (context (world_of c.self.inside.machine.parts c.self.inside.last c.self.inside.contexts.items) c.self.inside.last))) c.self.inside.last (world_of q c.self.inside.last c.self.inside.contexts.items) =
     ap (λ (x : List Context). world_of q c.self.inside.last x) (with_items_is c.self.inside.contexts c.note_accesses.new.contexts long ∙ kept)
     ∙ noted_is q c.self.inside.last c.self.inside.contexts.items c.self.invariant.last made
     ∙ ap (λ (x : List Access). others_behind x c.self.inside.last (world_of q c.self.inside.last c.self.inside.contexts.items)) (c.accesses.ensures ∙ m.accesses ∙ sym (accessed_is c.args.calls c.self.inside.machine.parts c.self.inside.last c.self.inside.contexts.items c.self.invariant.last)) in
-    let r : Stepped false c.args.self.now new (g.I.Source.left c.args.input.now) (g.I.Source.left c.step-end.new.input) (g.O.Sink.held c.args.output.now) (g.O.Sink.held c.step-end.new.output) (g.E.Sink.held c.args.errors.now) (g.E.Sink.held c.step-end.new.errors) (is_undone c.step-end.result) =
+    let r : StepLeft false c.args.self.now new (g.I.Source.left c.args.input.now) (g.I.Source.left c.step-end.new.input) (g.O.Sink.held c.args.output.now) (g.O.Sink.held c.step-end.new.output) (g.E.Sink.held c.args.errors.now) (g.E.Sink.held c.step-end.new.errors) (is_undone c.step-end.result) =
     stepped_done false c.self.inside.machine c.self.inside.last c.self.inside.contexts.items c.args.self.now c.self.view_is c.self.invariant.last c.requires.ready q (g.I.Source.left c.args.input.now) (g.I.Source.left c.step-end.new.input) (g.O.Sink.held c.args.output.now) (g.O.Sink.held c.step-end.new.output) (g.E.Sink.held c.args.errors.now) (g.E.Sink.held c.step-end.new.errors) (is_undone c.step-end.result) b new is m.state m.input m.output m.errors in
-    let s = subst (λ (x : Bool). Stepped x c.args.self.now new (g.I.Source.left c.args.input.now) (g.I.Source.left c.step-end.new.input) (g.O.Sink.held c.args.output.now) (g.O.Sink.held c.step-end.new.output) (g.E.Sink.held c.args.errors.now) (g.E.Sink.held c.step-end.new.errors) (is_undone c.step-end.result)) (sym no) r in
+    let s = subst (λ (x : Bool). StepLeft x c.args.self.now new (g.I.Source.left c.args.input.now) (g.I.Source.left c.step-end.new.input) (g.O.Sink.held c.args.output.now) (g.O.Sink.held c.step-end.new.output) (g.E.Sink.held c.args.errors.now) (g.E.Sink.held c.step-end.new.errors) (is_undone c.step-end.result)) (sym no) r in
     record {
       state = s.state;
       input = s.input;
@@ -108,7 +108,7 @@ returns g c =
       kept = λ broken. absurd (let h = sym b ∙ broken in cc);
       failed = m.failed;
       last = last_is c.self.inside.machine c.self.inside.last c.self.inside.contexts.items c.args.self.now c.self.view_is;
-      living = λ _. lives_noted c.self.inside.machine.parts q c.self.inside.last c.self.inside.contexts.items c.self.invariant.last ready (accesses (joined (world_of c.self.inside.machine.parts c.self.inside.last c.self.inside.contexts.items) (context (world_of c.self.inside.machine.parts c.self.inside.last c.self.inside.contexts.items) c.self.inside.last))) new is;
+      living = λ _. lives_noted c.self.inside.machine.parts q c.self.inside.last c.self.inside.contexts.items c.self.invariant.last ready (accesses (parts_with (world_of c.self.inside.machine.parts c.self.inside.last c.self.inside.contexts.items) (context (world_of c.self.inside.machine.parts c.self.inside.last c.self.inside.contexts.items) c.self.inside.last))) new is;
       read_cause = m.read_cause;
       write_cause = m.write_cause;
       errors_cause = m.errors_cause;

@@ -30,7 +30,7 @@ invariant_of-self c =
       room = inv.room;
       most = inv.most;
       narrow = inv.narrow;
-      code = inv.code;
+      hand = inv.hand;
       marks = all-set (IsMark a.limit) ms k n
           (record {
             room = let r = (is_mark live a.limit ms k m l at inv.marks).room in omega (arith, r, e.capacity);

@@ -27,15 +27,20 @@ invariant_of-self c =
       room = i.room;
       most = i.most;
       narrow = i.narrow;
-      code = λ _. (
-        c.args.i,
-        record {
-          within = l;
-          number = ap (λ (s : Slot). s.number) same ∙ k.0;
-          allowed = ap (λ (s : Slot). s.rights.x) same ∙ rights;
-          frame = ap (λ (s : Slot). frame_of s) same ∙ k.1;
-        },
-      );
+      hand = record {
+        code = λ _. (
+          c.args.i,
+          record {
+            within = l;
+            number = ap (λ (s : Slot). s.number) same ∙ k.0;
+            allowed = ap (λ (s : Slot). s.rights.x) same ∙ rights;
+            frame_is = ap (λ (s : Slot). frame_of s) same ∙ k.1;
+            own = λ w. absurd (false≢true w);
+          },
+        );
+        reads = i.hand.reads;
+        writes = i.hand.writes;
+      };
       marks = i.marks;
       object = i.object;
     }

@@ -5,6 +5,7 @@ use Rattle.page_list.specs.Entries.{Listed, zeroed_entries}
 use Rattle.page_list.specs.Slots.{AreOwn, entry_in, entries_in, holders, sole_in}
 use Rattle.page_list.proofs.Held.{holders-moved, sole-moved, own-moved, holders-pushed, sole-pushed, own-pushed, entries-pushed}
 use Rattle.page_list.proofs.Lists.{moved_back, length_turned}
+use Rattle.page_list.proofs.Codes.{none_at_hand}
 use Rattle.page_list.proofs.list.PageList.insert.Goals as goal
 
 pub invariant_of-self : goal.invariant_of-self
@@ -26,7 +27,7 @@ invariant_of-self c =
       room = omega (arith, i.room, c.push_all.ensures.capacity, c.move_back.ensures.capacity);
       most = omega (arith, c.requires.room, ap (λ (l : Listed). length l.pages) c.self.view_is, ap (λ (l : Listed). l.limit) c.self.view_is, length-map a.slots.items (entry_in live), c.push_all.ensures.length, long);
       narrow = i.narrow;
-      code = λ some. absurd (omega arith);
+      hand = none_at_hand (c.move_back.new.slots.items) c.clear.new.self c.clear.ensures.code c.clear.ensures.reads c.clear.ensures.writes;
       marks = i.marks;
       object = i.object;
     }

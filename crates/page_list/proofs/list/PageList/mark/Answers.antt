@@ -7,6 +7,7 @@ use Rattle.page_list.specs.Slots.{AreOwn, HasMarks, IsMark, entries_in, holders,
 use Rattle.page_list.proofs.Held.{unchanged, marks_unchanged}
 use Rattle.page_list.proofs.Shared.{entries-shared, holders-shared, holders_most, length-shared, own-shared, shared_twice}
 use Rattle.page_list.proofs.Marks.{all-set, is_mark, mark_empty, mark-replaced, marked_most, marks-set}
+use Rattle.page_list.proofs.Codes.{none_at_hand}
 use Rattle.page_list.proofs.list.PageList.mark.Goals as goal
 
 pub fill_mark-requires-clause-few : goal.fill_mark-requires-clause-few
@@ -38,7 +39,7 @@ invariant_of-self c =
       room = omega (arith, inv.room, e.capacity);
       most = let w = ap length e.from ∙ length-shared ss in omega (arith, w, inv.most);
       narrow = inv.narrow;
-      code = λ some. absurd (omega arith);
+      hand = none_at_hand (c.fill_mark.new.slots.items) c.clear.new.self c.clear.ensures.code c.clear.ensures.reads c.clear.ensures.writes;
       marks = all-set (IsMark a.limit) ms k n
           (record {
             room = let r = (is_mark live a.limit ms k m l at inv.marks).room in omega (arith, r, e.capacity_to);

@@ -3,6 +3,7 @@ use Rattle.std.specs.List.{AllByRecursion}
 use Rattle.frame_arena.specs.Frames.{Frames, count_of}
 use Rattle.page_list.specs.Slots.{AreOwn, IsMark, holders, marked, sole_in}
 use Rattle.page_list.proofs.Held.{empty-counts}
+use Rattle.page_list.proofs.Codes.{none_at_first}
 use Rattle.page_list.proofs.list.PageList.new.Goals as goal
 
 pub invariant_of-result : goal.invariant_of-result
@@ -16,7 +17,7 @@ invariant_of-result c =
       room = c.in_ok-slots.ensures.capacity;
       most = let n = ap length none in omega (arith, n);
       narrow = c.ranges.limit.fits;
-      code = λ some. absurd (omega arith);
+      hand = none_at_first ss c.in_ok-hand.hand c.in_ok-hand.ensures;
       marks = subst (AllByRecursion (IsMark c.args.limit)) (sym no_marks) tt;
       object = λ some. let n = ap length no_marks in absurd (omega (arith, n, some));
     }

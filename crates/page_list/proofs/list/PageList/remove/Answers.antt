@@ -5,6 +5,7 @@ use Rattle.page_list.specs.Entries.{Listed}
 use Rattle.page_list.specs.Slots.{AreHeld, AreOwn, HasMarks, entry_in, entries_in, holders, sole_in}
 use Rattle.page_list.proofs.Held.{holders-moved, sole-moved, own-moved, holders-take, counts_after, marks_beside, own-changed, entries-changed}
 use Rattle.page_list.proofs.Lists.{cut_off, length_turned}
+use Rattle.page_list.proofs.Codes.{none_at_hand}
 use Rattle.page_list.proofs.list.PageList.remove.Goals as goal
 
 pub pop_all-requires-clause-held : goal.pop_all-requires-clause-held
@@ -31,7 +32,7 @@ invariant_of-self c =
       room = omega (arith, i.room, c.move_to_end.ensures.capacity, e.capacity);
       most = omega (arith, i.most, e.length, long);
       narrow = i.narrow;
-      code = λ some. absurd (omega arith);
+      hand = none_at_hand (c.pop_all.new.slots.items) c.clear.new.self c.clear.ensures.code c.clear.ensures.reads c.clear.ensures.writes;
       marks = i.marks;
       object = subst (λ (n : ℕ). 0 < length ms → HasMarks n a.limit ms) (sym e.changes.total) i.object;
     }

@@ -12,6 +12,7 @@ use Rattle.page_list.specs.Slots.{AreOwn, HasMarks, IsMark, entries_in, holders,
 use Rattle.page_list.proofs.Held.{unchanged, marks_unchanged}
 use Rattle.page_list.proofs.Shared.{entries-shared, holders-shared, length-shared, own-shared, shared_twice}
 use Rattle.page_list.proofs.Marks.{all-set, is_mark, mark_shown, mark_held, mark-replaced, marked_most, marked_slots, named, holders-marked, named_most, named-length, slots_most, two_most}
+use Rattle.page_list.proofs.Codes.{none_at_hand}
 use Rattle.page_list.proofs.list.PageList.restore.Goals as goal
 
 set_of : (b : Bool) (es : List Entry) → is_some (cond b (Some es) None) ≡ true → b ≡ true
@@ -55,7 +56,7 @@ invariant_of-self c =
       room = omega (arith, inv.room, c.pop_every.ensures.capacity, e.capacity_to);
       most = let w = ap length e.to ∙ length-shared m.slots.items in omega (arith, w, mark.most);
       narrow = inv.narrow;
-      code = λ some. absurd (omega arith);
+      hand = none_at_hand (c.share_all.new.to.items) c.clear.new.self c.clear.ensures.code c.clear.ensures.reads c.clear.ensures.writes;
       marks = all-set (IsMark a.limit) ms k n
           (record {
             room = omega (arith, mark.room, e.capacity);

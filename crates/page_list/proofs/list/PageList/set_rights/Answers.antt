@@ -2,8 +2,9 @@ use Rattle.std.proofs.Common.{◌≡◌, ◌<◌, ◌&&◌, not, length, get_or,
 use Rattle.std.proofs.lemmas.List.{length-map, length-set, get_or_default}
 use Rattle.page_list.specs.declared.slots.Slot.{Slot}
 use Rattle.page_list.specs.Entries.{Listed, changed_at, page_with_rights}
-use Rattle.page_list.specs.Slots.{entry_in, is_sole, one, frame_of, is_own}
+use Rattle.page_list.specs.Slots.{entry_in, is_sole, one, frame_of, is_own, no_slot}
 use Rattle.page_list.proofs.Held.{holders-set, sole-set, own-set, right_at, entries-set}
+use Rattle.page_list.proofs.Codes.{hand_dropped}
 use Rattle.page_list.proofs.list.PageList.set_rights.Goals as goal
 
 pub invariant_of-self : goal.invariant_of-self
@@ -21,7 +22,9 @@ invariant_of-self c =
       room = i.room;
       most = omega (arith, i.most, length-set ss c.args.i s);
       narrow = i.narrow;
-      code = λ some. absurd (omega arith);
+      hand =
+          let e = c.drop_page.ensures in
+          hand_dropped ss c.args.i l s c.index.result.now.number (ap (λ (t : Slot). t.number) (sym (c.index.ensures ∙ get_or_default ss c.args.i c.index.result.now no_slot l))) a.hand c.drop_page.new.self e.code e.reads e.writes e.many_reads e.many_writes i.hand;
       marks = i.marks;
       object = i.object;
     }

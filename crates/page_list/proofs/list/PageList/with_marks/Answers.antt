@@ -1,9 +1,9 @@
 use Rattle.std.proofs.Common.{◌≡◌, ◌*◌, [], length, replicate, None, refl, sym, ap, subst, ◌∙◌, arith}
 use Rattle.frame_arena.specs.Frames.{Frames, count_of}
-use Rattle.page_list.specs.Entries.{no_page}
 use Rattle.page_list.specs.Slots.{AreOwn, entries_in, holders, marks_in, sole_in}
 use Rattle.page_list.proofs.Held.{empty-counts}
 use Rattle.page_list.proofs.Marks.{fresh_marks, fresh_shown, fresh_slots, holders-marked}
+use Rattle.page_list.proofs.Codes.{none_at_first}
 use Rattle.page_list.proofs.list.PageList.with_marks.Goals as goal
 
 pub invariant_of-result : goal.invariant_of-result
@@ -20,7 +20,7 @@ invariant_of-result c =
       room = c.in_ok-slots.ensures.capacity;
       most = let n = ap length none in omega (arith, n);
       narrow = c.ranges.limit.fits;
-      code = λ some. absurd (omega arith);
+      hand = none_at_first ss c.in_ok-hand.hand c.in_ok-hand.ensures;
       marks = fresh_marks limit ms i.2;
       object = λ _. record { sixteen = sixteen; frames = ap (λ (x : Frames). x.total) e; few = c.requires };
     }
@@ -33,4 +33,4 @@ returns c =
     let pages : entries_in a.live ss ≡ [] = ap (entries_in a.live) none in
     let marks : marks_in a.live ms ≡ replicate 16 None = fresh_shown a.live limit ms i.2 ∙ ap (λ n. replicate n None) sixteen in
     let spare : a.spare ≡ 3 * limit = ap (λ (x : Frames). x.spare) c.in_ok-arena.ensures in
-    λ j. record { pages = pages j; limit = limit; code = no_page; marks = marks j; spare = spare j }
+    λ j. record { pages = pages j; limit = limit; hand = c.in_ok-hand.ensures j; marks = marks j; spare = spare j }

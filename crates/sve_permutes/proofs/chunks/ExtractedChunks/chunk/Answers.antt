@@ -1,7 +1,7 @@
 use Rattle.std.proofs.Common.{◌≡◌, ◌<◌, ◌+◌, ◌*◌, ◌/◌, ◌%◌, ◌^◌, ◌∙◌, ℕ, nat_lt, if◌then◌else◌, sym, ap, subst, arith}
 use Rattle.lane_permute.specs.Slices.{number_at}
 use Rattle.sve_effects.specs.LaneLoop.{lane_of}
-use Rattle.sve_effects.specs.Permute.{taken, joined}
+use Rattle.sve_effects.specs.Permute.{taken, concatenated}
 use Rattle.sve_permutes.proofs.ChunkPlaces.{ext_chunk, quads_of_lanes, quad_below, some_lanes, some_product}
 use Rattle.sve_permutes.proofs.chunks.ExtractedChunks.chunk.Goals as goal
 
@@ -43,5 +43,5 @@ returns g c j b =
     let y : ℕ → ℕ = number_at f c.joined_quad-b.result in
     let n : c.start_of-start.result ≡ (if nat_lt s.from (v.bits / e) then s.from else 0) = c.start_of-start.ensures.value ∙ ap (λ x. if nat_lt s.from (c.bits.result / x) then s.from else 0) c.BITS.ensures ∙ ap (λ n. if nat_lt s.from (n / e) then s.from else 0) (c.bits.ensures.value ∙ c.length.ensures.value) in
     c.window.ensures j b
-    ∙ ext_chunk (λ k. taken (lane_of e v s.zn) (lane_of e v s.zm) 0 0 (joined (v.bits / e) k)) x y (2 ^ e) w c.args.i c.start_of-start.result j c.joined_quad-a.ensures c.joined_quad-b.ensures b
-    ∙ ap (λ u. taken (lane_of e v s.zn) (lane_of e v s.zm) 0 0 (joined (v.bits / e) (u + (c.args.i * w + j))) % 2 ^ e) n
+    ∙ ext_chunk (λ k. taken (lane_of e v s.zn) (lane_of e v s.zm) 0 0 (concatenated (v.bits / e) k)) x y (2 ^ e) w c.args.i c.start_of-start.result j c.joined_quad-a.ensures c.joined_quad-b.ensures b
+    ∙ ap (λ u. taken (lane_of e v s.zn) (lane_of e v s.zm) 0 0 (concatenated (v.bits / e) (u + (c.args.i * w + j))) % 2 ^ e) n

@@ -1,0 +1,119 @@
+//! The bytes of registers, and bytes in memory.
+ghost use Rattle.std.specs.Prelude.{◌≡◌, ◌≤◌, ◌<◌, ◌+◌, ◌*◌, ◌/◌, ◌%◌, ◌^◌, ℕ, length, take, get_or};
+ghost use Rattle.std.specs.Int.{bytes_low_first};
+ghost use Rattle.emu_model.specs.Lists.{each};
+ghost use Rattle.emu_model.specs.Lanes.{read_z, with_z};
+
+use byteorder::{ByteOrder, LittleEndian};
+use emu_bits::Reg;
+use vec_regs::VecRegs;
+
+/// Eight bytes from a place on, as a word.
+#[inline(always)]
+fn whole_word(bytes: &[u8], place: usize) -> u64
+    requires { place + 8 ≤ length bytes.now }
+    ensures { (t : ℕ) → t < 8 → result / 2 ^ (8 * t) % 256 ≡ get_or bytes.now (place + t) 0 }
+{
+    LittleEndian::read_u64(&bytes[place..place + 8])
+}
+
+/// The bytes from a place on, fewer than eight, as a word with zeros above them.
+fn last_word(bytes: &[u8], place: usize) -> u64
+    requires some { place ≤ length bytes.now }
+    requires few { length bytes.now < place + 8 }
+    ensures { (t : ℕ) → t < 8 → result / 2 ^ (8 * t) % 256 ≡ get_or bytes.now (place + t) 0 }
+{
+    let mut last = [0u8; 8];
+    let count = bytes.len() - place;
+    last[..count].copy_from_slice(&bytes[place..place + count]);
+    whole_word(&last, 0)
+}
+
+/// Eight bytes from a place on, as a word; those behind the last byte are 0.
+#[inline(always)]
+fn word_from(bytes: &[u8], place: usize) -> u64
+    requires { place ≤ 256 }
+    ensures { (t : ℕ) → t < 8 → result / 2 ^ (8 * t) % 256 ≡ get_or bytes.now (place + t) 0 }
+{
+    if place + 8 <= bytes.len() {
+        whole_word(bytes, place)
+    } else if place < bytes.len() {
+        last_word(bytes, place)
+    } else {
+        0
+    }
+}
+
+/// Writes all bytes of a register.
+#[inline(always)]
+fn set_whole(vec: &mut VecRegs, zd: Reg, bytes: &[u8])
+    requires { vec.old.bits / 8 ≤ length bytes.now }
+    ensures { vec.new ≡ with_z vec.old zd (each (vec.old.bits / 8) (λ j. get_or bytes.now j 0)) }
+{
+    let _length = vec.length();
+    let _words = vec.z_words(zd);
+    for i in 0..vec.length().bits() / 128 {
+        let low = whole_word(bytes, 16 * i as usize);
+        let high = whole_word(bytes, 16 * i as usize + 8);
+        vec.set_z_pair(zd, i, [low, high]);
+    }
+}
+
+/// Writes the first bytes of a register, and zeros behind them.
+#[inline(never)]
+fn set_some(vec: &mut VecRegs, zd: Reg, bytes: &[u8])
+    ensures { vec.new ≡ with_z vec.old zd (each (vec.old.bits / 8) (λ j. get_or bytes.now j 0)) }
+{
+    let _length = vec.length();
+    let _words = vec.z_words(zd);
+    for i in 0..vec.length().bits() / 128 {
+        let low = word_from(bytes, 16 * i as usize);
+        let high = word_from(bytes, 16 * i as usize + 8);
+        vec.set_z_pair(zd, i, [low, high]);
+    }
+}
+
+/// Writes the first bytes of a register, at most VL / 8, and zeros behind them.
+#[inline(always)]
+pub(crate) fn set_bytes(vec: &mut VecRegs, zd: Reg, bytes: &[u8])
+    ensures { vec.new ≡ with_z vec.old zd (each (vec.old.bits / 8) (λ j. get_or bytes.now j 0)) }
+{
+    let count = vec.length().bits() / 8;
+    if bytes.len() == count as usize {
+        set_whole(vec, zd, bytes);
+    } else {
+        set_some(vec, zd, bytes);
+    }
+}
+
+/// Puts the low n bytes of a word at a place.
+#[inline(never)]
+fn put_low(bytes: &mut [u8], at: usize, n: usize, v: u64)
+    requires most { n ≤ 8 }
+    requires room { at + n ≤ length bytes.old }
+    ensures here { (t : ℕ) → t < n → get_or bytes.new (at + t) 0 ≡ get_or (take n (bytes_low_first 0 8 v)) t 0 }
+    ensures before { (i : ℕ) → i < at → get_or bytes.new i 0 ≡ get_or bytes.old i 0 }
+    ensures long { length bytes.new ≡ length bytes.old }
+{
+    let number = v.to_le_bytes();
+    bytes[at..at + n].copy_from_slice(&number[..n]);
+}
+
+/// Puts the first bytes of a register, as many as there are places.
+#[inline(always)]
+pub(crate) fn put_bytes(vec: &VecRegs, r: Reg, bytes: &mut [u8])
+    requires { length bytes.old ≤ vec.now.bits / 8 }
+    ensures same { (j : ℕ) → j < length bytes.old → get_or bytes.new j 0 ≡ get_or (read_z vec.now r) j 0 }
+    ensures long { length bytes.new ≡ length bytes.old }
+{
+    let _length = vec.length();
+    let words = vec.z_words(r);
+    let whole = bytes.len() / 8;
+    let rest = bytes.len() % 8;
+    for i in 0..whole {
+        bytes[8 * i..8 * i + 8].copy_from_slice(&words[i].to_le_bytes());
+    }
+    if rest > 0 {
+        put_low(bytes, 8 * whole, rest, words[whole]);
+    }
+}

@@ -1,0 +1,5 @@
+pub mod Options
+pub mod Places
+pub mod RunWords
+pub mod Showing
+pub mod Windows
