@@ -25,6 +25,7 @@ fn front(vec: &VecRegs, pg: Pred, e: u32) -> u32
 }
 
 /// Whether no lane from lane k on, which may be the one behind the last, is active.
+#[inline(never)]
 fn are_idle(vec: &VecRegs, pg: Pred, e: u32, k: u32) -> bool
     requires size { IsLaneSize e }
     requires within { k ≤ vec.now.bits / e }
@@ -42,6 +43,23 @@ fn are_idle(vec: &VecRegs, pg: Pred, e: u32, k: u32) -> bool
     true
 }
 
+/// Whether no lane from lane k on, which isn't active, is. Up to 512 bits one look at the predicate tells it.
+#[inline(always)]
+fn is_rest_idle(vec: &VecRegs, pg: Pred, e: u32, k: u32) -> bool
+    requires size { IsLaneSize e }
+    requires within { k < vec.now.bits / e }
+    requires off { is_active e vec.now pg k ≡ false }
+    ensures idle { result ≡ true → (i : ℕ) → k ≤ i → i < vec.now.bits / e → is_active e vec.now pg i ≡ false }
+    ensures not { result ≡ false → HasActive k e pg vec.now }
+{
+    let lanes = vec.length().bits() / e;
+    let next = k + idle_from(vec, pg, e, k, lanes - k);
+    if next < lanes {
+        return are_idle(vec, pg, e, next);
+    }
+    true
+}
+
 /// How many lanes are active, where these come before all others. None where an active lane is behind one that isn't.
 /// The size is a constant where it is called.
 #[inline(always)]
@@ -52,13 +70,14 @@ fn leading(vec: &VecRegs, pg: Pred, e: u32) -> Option<u32>
     ensures gap { result ≡ None → HasGap e pg vec.now }
 {
     let n = front(vec, pg, e);
-    if n < vec.length().bits() / e && !are_idle(vec, pg, e, n) {
+    if n < vec.length().bits() / e && !is_rest_idle(vec, pg, e, n) {
         return None;
     }
     Some(n)
 }
 
 /// How many lanes are active, where these come before all others. None where an active lane is behind one that isn't.
+#[inline(always)]
 pub fn leading_lanes(vec: &VecRegs, pg: Pred, e: u32) -> Option<u32>
     requires { IsLaneSize e }
     ensures few { IfSome result (λ n. n ≤ vec.now.bits / e) }
@@ -69,6 +88,7 @@ pub fn leading_lanes(vec: &VecRegs, pg: Pred, e: u32) -> Option<u32>
         8 => leading(vec, pg, 8),
         16 => leading(vec, pg, 16),
         32 => leading(vec, pg, 32),
-        _ => leading(vec, pg, e),
+        64 => leading(vec, pg, 64),
+        _ => unreachable!(),
     }
 }

@@ -24,6 +24,7 @@ fn told_bytes(bytes: &[u8]) -> &[u8]
 
 /// Loads n lanes of w bytes from an address on, and writes a register that has them, and zeros behind them, where they
 /// are in one page that may be read, and says whether it did. Else nothing is changed.
+#[inline(always)]
 pub fn load_lanes(
     vec: &mut VecRegs,
     mem: &mut Mem,
@@ -47,21 +48,25 @@ pub fn load_lanes(
     ensures memory { mem.new ≡ mem.old }
 {
     let _length = vec.length();
-    let total = (n * w) as usize;
-    match mem.slice_at(base, total, Kind::Read) {
-        Some(bytes) if bytes.len() == total => {
+    let total = n * w;
+    if base % PAGE_SIZE + u64::from(total) > PAGE_SIZE {
+        return false;
+    }
+    match mem.slice_at(base, total as usize, Kind::Read) {
+        Some(bytes) => {
             // for its clause
             let _bytes = told_bytes(bytes);
             set_bytes(vec, zt, bytes);
             log.push_run(base, w, n, false);
             true
         }
-        _ => false,
+        None => false,
     }
 }
 
 /// Stores the first n lanes of a register, of w bytes, from an address on, where they are in one page that may be
 /// written, and says whether it did. Else nothing is changed.
+#[inline(always)]
 pub fn store_lanes(
     vec: &VecRegs,
     mem: &mut Mem,

@@ -1,8 +1,9 @@
 //! The bytes of registers, and bytes in memory.
-ghost use Rattle.std.specs.Prelude.{◌≡◌, ◌≤◌, ◌<◌, ◌+◌, ◌*◌, ◌/◌, ◌%◌, ◌^◌, ℕ, length, take, get_or};
+ghost use Rattle.std.specs.Prelude.{◌≡◌, ◌≤◌, ◌<◌, ◌+◌, ◌*◌, ◌/◌, ◌%◌, ◌^◌, ℕ, List, length, take, get_or};
 ghost use Rattle.std.specs.Int.{bytes_low_first};
 ghost use Rattle.emu_model.specs.Lists.{each};
 ghost use Rattle.emu_model.specs.Lanes.{read_z, with_z};
+ghost use Rattle.vec_regs.specs.Words.{byte_of};
 
 use byteorder::{ByteOrder, LittleEndian};
 use emu_bits::Reg;
@@ -50,9 +51,13 @@ fn set_whole(vec: &mut VecRegs, zd: Reg, bytes: &[u8])
     requires { vec.old.bits / 8 ≤ length bytes.now }
     ensures { vec.new ≡ with_z vec.old zd (each (vec.old.bits / 8) (λ j. get_or bytes.now j 0)) }
 {
-    let _length = vec.length();
+    let parts = vec.length().bits() / 128;
     let _words = vec.z_words(zd);
-    for i in 0..vec.length().bits() / 128 {
+    // the first 128 bits apart, so that a register of no more takes no loop
+    let lowest = whole_word(bytes, 0);
+    let next = whole_word(bytes, 8);
+    vec.set_z_pair(zd, 0, [lowest, next]);
+    for i in 1..parts {
         let low = whole_word(bytes, 16 * i as usize);
         let high = whole_word(bytes, 16 * i as usize + 8);
         vec.set_z_pair(zd, i, [low, high]);
@@ -99,9 +104,55 @@ fn put_low(bytes: &mut [u8], at: usize, n: usize, v: u64)
     bytes[at..at + n].copy_from_slice(&number[..n]);
 }
 
+/// Puts word i of a register behind those before it.
+#[inline(always)]
+fn put_word(bytes: &mut [u8], i: usize, word: u64)
+    requires { 8 * i + 8 ≤ length bytes.old }
+    // whatever the words before it are
+    ensures done { (words : List ℕ) → get_or words i 0 ≡ word
+        → ((j : ℕ) → j < 8 * i → get_or bytes.old j 0 ≡ byte_of 8 words j)
+        → (j : ℕ) → j < 8 * (i + 1) → get_or bytes.new j 0 ≡ byte_of 8 words j }
+    ensures long { length bytes.new ≡ length bytes.old }
+{
+    bytes[8 * i..8 * i + 8].copy_from_slice(&word.to_le_bytes());
+}
+
+/// Puts all bytes of a register.
+#[inline(always)]
+fn put_whole(vec: &VecRegs, r: Reg, bytes: &mut [u8])
+    requires { length bytes.old ≡ vec.now.bits / 8 }
+    ensures same { (j : ℕ) → j < length bytes.old → get_or bytes.new j 0 ≡ get_or (read_z vec.now r) j 0 }
+    ensures long { length bytes.new ≡ length bytes.old }
+{
+    let _length = vec.length();
+    let words = vec.z_words(r);
+    // the first 128 bits apart, so that a register of no more takes no loop
+    put_word(bytes, 0, words[0]);
+    put_word(bytes, 1, words[1]);
+    for i in 1..vec.length().bits() as usize / 128 {
+        put_word(bytes, 2 * i, words[2 * i]);
+        put_word(bytes, 2 * i + 1, words[2 * i + 1]);
+    }
+}
+
 /// Puts the first bytes of a register, as many as there are places.
 #[inline(always)]
 pub(crate) fn put_bytes(vec: &VecRegs, r: Reg, bytes: &mut [u8])
+    requires { length bytes.old ≤ vec.now.bits / 8 }
+    ensures same { (j : ℕ) → j < length bytes.old → get_or bytes.new j 0 ≡ get_or (read_z vec.now r) j 0 }
+    ensures long { length bytes.new ≡ length bytes.old }
+{
+    let count = vec.length().bits() / 8;
+    if bytes.len() == count as usize {
+        put_whole(vec, r, bytes);
+    } else {
+        put_some(vec, r, bytes);
+    }
+}
+
+/// Puts the first bytes of a register, as many as there are places.
+#[inline(never)]
+fn put_some(vec: &VecRegs, r: Reg, bytes: &mut [u8])
     requires { length bytes.old ≤ vec.now.bits / 8 }
     ensures same { (j : ℕ) → j < length bytes.old → get_or bytes.new j 0 ≡ get_or (read_z vec.now r) j 0 }
     ensures long { length bytes.new ≡ length bytes.old }
@@ -111,7 +162,7 @@ pub(crate) fn put_bytes(vec: &VecRegs, r: Reg, bytes: &mut [u8])
     let whole = bytes.len() / 8;
     let rest = bytes.len() % 8;
     for i in 0..whole {
-        bytes[8 * i..8 * i + 8].copy_from_slice(&words[i].to_le_bytes());
+        put_word(bytes, i, words[i]);
     }
     if rest > 0 {
         put_low(bytes, 8 * whole, rest, words[whole]);

@@ -35,7 +35,6 @@ use vec_regs::VecRegs;
 /// A load that traps has changed no register; a store that traps has stored and logged the elements before the one that
 /// was refused.
 #[inline(always)]
-#[tactic(auto, using(crate::proofs::InGroup::load_done, crate::proofs::InGroup::load_own, crate::proofs::InGroup::store_done, crate::proofs::InGroup::store_own))]
 pub fn exec(
     core: &mut Core,
     vec: &mut VecRegs,
@@ -47,6 +46,22 @@ pub fn exec(
     requires empty { log.old.items ≡ [] }
     ensures done { let m = mem.new.memory in performed i.now core.old vec.old mem.old.memory
         ≡ record { core = core.new; vectors = vec.new; memory = m; accesses = log.new.items; effect = result } }
+    ensures marks { mem.new.marks ≡ mem.old.marks }
+{
+    if at_once::perform(core, vec, mem, log, i) {
+        return Effect::Next;
+    }
+    by_plan(core, vec, mem, log, i)
+}
+
+/// Does a load or a store element by element, or by what the elements have in common.
+#[inline(always)]
+#[tactic(auto, using(crate::proofs::InGroup::load_done, crate::proofs::InGroup::load_own, crate::proofs::InGroup::store_done, crate::proofs::InGroup::store_own))]
+fn by_plan(core: &Core, vec: &mut VecRegs, mem: &mut Mem, log: &mut AccessLog, i: &Sve) -> Effect
+    requires own { (is_contiguous_load i.now || is_contiguous_store i.now) ≡ true }
+    requires empty { log.old.items ≡ [] }
+    ensures done { let m = mem.new.memory in performed i.now core.now vec.old mem.old.memory
+        ≡ record { core = core.now; vectors = vec.new; memory = m; accesses = log.new.items; effect = result } }
     ensures marks { mem.new.marks ≡ mem.old.marks }
 {
     match group_of(i.form()) {
@@ -63,8 +78,9 @@ pub fn exec(
     }
 }
 
-/// Does a load, and says how the step goes on. The elements that were loaded are logged in order. A trap changes no
-/// register.
+/// Does a load by its plan, and says how the step goes on. The elements that were loaded are logged in order. A trap
+/// changes no register.
+#[inline(always)]
 #[tactic(auto, using(crate::specs::PlanLaws::load_planned))]
 fn load(core: &Core, vec: &mut VecRegs, mem: &mut Mem, log: &mut AccessLog, i: &Sve) -> Effect
     requires own { is_contiguous_load i.now ≡ true }
@@ -73,15 +89,13 @@ fn load(core: &Core, vec: &mut VecRegs, mem: &mut Mem, log: &mut AccessLog, i: &
         ≡ record { core = core.now; vectors = vec.new; memory = m; accesses = log.new.items; effect = result } }
     ensures marks { mem.new.marks ≡ mem.old.marks }
 {
-    if at_once::load(core, vec, mem, log, i) {
-        return Effect::Next;
-    }
     let plan = rows::load_plan(core, vec, i);
     element_loops::load(&plan, core, vec, mem, log)
 }
 
-/// Does a store, and says how the step goes on. The elements that were stored are logged in order; a store that traps
-/// has stored and logged the elements before the one that was refused.
+/// Does a store by its plan, and says how the step goes on. The elements that were stored are logged in order; a store
+/// that traps has stored and logged the elements before the one that was refused.
+#[inline(always)]
 #[tactic(auto, using(crate::specs::PlanLaws::store_planned))]
 fn store(core: &Core, vec: &VecRegs, mem: &mut Mem, log: &mut AccessLog, i: &Sve) -> Effect
     requires own { is_contiguous_store i.now ≡ true }
@@ -90,9 +104,6 @@ fn store(core: &Core, vec: &VecRegs, mem: &mut Mem, log: &mut AccessLog, i: &Sve
         ≡ record { core = core.now; vectors = vec.now; memory = m; accesses = log.new.items; effect = result } }
     ensures marks { mem.new.marks ≡ mem.old.marks }
 {
-    if at_once::store(core, vec, mem, log, i) {
-        return Effect::Next;
-    }
     let plan = rows::store_plan(core, vec, i);
     element_loops::store(&plan, core, vec, mem, log)
 }

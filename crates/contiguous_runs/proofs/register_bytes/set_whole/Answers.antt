@@ -1,9 +1,10 @@
-use Rattle.std.proofs.Common.{◌≡◌, ◌≤◌, ◌+◌, ◌*◌, ◌/◌, ℕ, [], ◌∷◌, get_or, refl, ap, ◌∙◌, arith}
+use Rattle.std.proofs.Common.{◌≡◌, ◌<◌, ◌≤◌, ◌+◌, ◌*◌, ◌/◌, ◌%◌, ◌^◌, ℕ, List, [], ◌∷◌, get_or, refl, ap, ◌∙◌, arith}
 use Rattle.emu_model.specs.Lists.{each}
 use Rattle.emu_model.specs.State.{Vectors}
 use Rattle.emu_model.specs.Lanes.{read_z, with_z}
-use Rattle.vec_regs.specs.Words.{byte_with_pair}
-use Rattle.active_lanes.proofs.InParts.{no_parts, one_part_more, all_parts, pair_bytes}
+use Rattle.emu_model.specs.SoundState.{IsVectorLength}
+use Rattle.vec_regs.specs.Words.{bytes_of, byte_with_pair}
+use Rattle.active_lanes.proofs.InParts.{parts, no_parts, one_part_more, all_parts, pair_bytes}
 use Rattle.contiguous_runs.proofs.register_bytes.set_whole.Goals as goal
 
 -- the places of the two words of a part
@@ -13,31 +14,38 @@ low_place i t = omega arith
 high_place : (i t : ℕ) → 16 * i + 8 + t ≡ 8 * (2 * i + 1) + t
 high_place i t = omega arith
 
+-- one part more
+more : (v w : Vectors) (zd i low high : ℕ) (words : List ℕ) (g : ℕ → ℕ) → read_z v zd ≡ bytes_of (v.bits / 8) words → IsVectorLength v.bits → w ≡ parts g i zd v
+    → ((t : ℕ) → t < 8 → low / 2 ^ (8 * t) % 256 ≡ g (16 * i + t)) → ((t : ℕ) → t < 8 → high / 2 ^ (8 * t) % 256 ≡ g (16 * i + 8 + t))
+    → with_z w zd (each (w.bits / 8) (byte_with_pair (read_z w zd) i (low ∷ (high ∷ [])))) ≡ parts g (i + 1) zd v
+more v w zd i low high words g is l so_far has_low has_high =
+    ap (λ (w : Vectors). with_z w zd (each (w.bits / 8) (byte_with_pair (read_z w zd) i (low ∷ (high ∷ []))))) so_far
+    ∙ one_part_more v zd words is l g i (low ∷ (high ∷ [])) (pair_bytes low high i g (λ t b. has_low t b ∙ ap g (low_place i t)) (λ t b. has_high t b ∙ ap g (high_place i t)))
+
 pub loop-i-init : goal.loop-i-init
 loop-i-init c =
+    let v : Vectors = c.args.vec.now in
+    let words : List ℕ = c.z_words-words.result.now in
     let g : ℕ → ℕ = λ j. get_or c.args.bytes.now j 0 in
-    record { bits = refl; written = no_parts c.args.vec.now c.args.zd c.z_words-words.result.now c.z_words-words.ensures.words g }
+    record {
+      bits = ap (λ (w : Vectors). w.bits) c.set_z_pair.ensures;
+      written = c.set_z_pair.ensures
+          ∙ more v v c.args.zd 0 c.whole_word-lowest.result c.whole_word-next.result words g c.z_words-words.ensures.words c.length-parts.ensures.length (no_parts v c.args.zd words c.z_words-words.ensures.words g)
+          c.whole_word-lowest.ensures c.whole_word-next.ensures;
+    }
 
 pub loop-i-preserved : goal.loop-i-preserved
 loop-i-preserved c =
-    let i : ℕ = c.loop-i.i in
-    let v : Vectors = c.args.vec.now in
     let g : ℕ → ℕ = λ j. get_or c.args.bytes.now j 0 in
-    let low : ℕ = c.whole_word-low.result in
-    let high : ℕ = c.whole_word-high.result in
     record {
-      bits = ap (λ (w : Vectors). w.bits) c.set_z_pair.ensures ∙ c.loop-i.invariant.bits;
-      written =
-          c.set_z_pair.ensures
-          ∙ ap (λ (w : Vectors). with_z w c.args.zd (each (w.bits / 8) (byte_with_pair (read_z w c.args.zd) i (low ∷ (high ∷ []))))) c.loop-i.invariant.written
-          ∙ one_part_more v c.args.zd c.z_words-words.result.now c.z_words-words.ensures.words c.length-length.ensures.length g i (low ∷ (high ∷ []))
-          (pair_bytes low high i g
-          (λ t b. c.whole_word-low.ensures t b ∙ ap g (low_place i t))
-          (λ t b. c.whole_word-high.ensures t b ∙ ap g (high_place i t)));
+      bits = ap (λ (w : Vectors). w.bits) c.set_z_pair-in-loop-i.ensures ∙ c.loop-i.invariant.bits;
+      written = c.set_z_pair-in-loop-i.ensures
+          ∙ more c.args.vec.now c.loop-i.vec c.args.zd c.loop-i.i c.whole_word-low.result c.whole_word-high.result c.z_words-words.result.now g c.z_words-words.ensures.words c.length-parts.ensures.length c.loop-i.invariant.written
+          c.whole_word-low.ensures c.whole_word-high.ensures;
     }
 
 pub returns : goal.returns
 returns c =
     let g : ℕ → ℕ = λ j. get_or c.args.bytes.now j 0 in
     let end : c.args.vec.now.bits / 128 ≤ c.loop-i.i = omega arith in
-    c.loop-i.invariant.written ∙ all_parts c.args.vec.now c.args.zd g c.loop-i.i c.length-length.ensures.length end
+    c.loop-i.invariant.written ∙ all_parts c.args.vec.now c.args.zd g c.loop-i.i c.length-parts.ensures.length end

@@ -1,6 +1,6 @@
 use Rattle.std.proofs.Common.{◌≡◌, ◌<◌, ◌*◌, ℕ, get_or, length}
 use Rattle.vec_regs.specs.Words.{byte_of}
-use Rattle.contiguous_runs.proofs.register_bytes.put_bytes.Given as goal
+use Rattle.contiguous_runs.proofs.register_bytes.put_some.Given as goal
 
 abbrev pub invariant-loop-i : goal.invariant-loop-i
 invariant-loop-i l = record {

@@ -1,25 +1,19 @@
-use Rattle.std.proofs.Common.{◌≡◌, ◌<◌, ◌≤◌, ◌+◌, ◌-◌, ◌*◌, ◌/◌, ◌%◌, List, ℕ, length, get_or, inl, inr, ap, sym, ◌∙◌, arith}
+use Rattle.std.proofs.Common.{◌≡◌, ◌<◌, ◌≤◌, ◌+◌, ◌-◌, ◌*◌, ◌/◌, ◌%◌, List, ℕ, length, get_or, inl, inr, refl, ap, sym, ◌∙◌, arith}
 use Rattle.std.specs.Int.{bytes_low_first}
 use Rattle.std.proofs.lemmas.Bool.{cases_lt}
 use Rattle.std.proofs.lemmas.List.{get_or-take}
-use borrow.Rule.Slice.PartMut.{same_len_mid}
 use Rattle.active_lanes.proofs.InParts.{word_bytes}
 use Rattle.emu_model.specs.Lanes.{read_z}
-use Rattle.element_loops.proofs.WordBytes.{low_byte, word_more}
+use Rattle.element_loops.proofs.WordBytes.{low_byte}
 use Rattle.vec_regs.specs.Words.{byte_of}
 use Rattle.contiguous_runs.proofs.FirstBytes.{byte_of_register}
-use Rattle.contiguous_runs.proofs.register_bytes.put_bytes.Goals as goal
+use Rattle.contiguous_runs.proofs.register_bytes.put_some.Goals as goal
 
 pub loop-i-preserved : goal.loop-i-preserved
-loop-i-preserved c =
-    let i : ℕ = c.loop-i.i in
-    let room : 8 * c.loop-i.i + 8 ≤ length c.loop-i.bytes = omega (arith, c.loop-i.invariant.count, c.loop-i-test.true) in
-    let are : c.copy_from_slice.new.self ≡ bytes_low_first 0 8 (get_or c.z_words-words.result.now c.loop-i.i 0) = c.copy_from_slice.ensures.after ∙ c.to_le_bytes.ensures in
-    record {
-      count = same_len_mid (8 * i) (8 * i + 8 - 8 * i) c.loop-i.bytes c.copy_from_slice.new.self c.copy_from_slice.ensures.len ∙ c.loop-i.invariant.count;
-      done = word_more c.z_words-words.result.now c.loop-i.bytes c.copy_from_slice.new.self i (8 * i + 8 - 8 * i) room (ap (λ (bs : List ℕ). length bs) are)
-          (λ t h. ap (λ (bs : List ℕ). get_or bs t 0) are ∙ low_byte (get_or c.z_words-words.result.now i 0) t h) c.loop-i.invariant.done;
-    }
+loop-i-preserved c = record {
+  count = c.put_word.ensures.long ∙ c.loop-i.invariant.count;
+  done = c.put_word.ensures.done c.z_words-words.result.now refl c.loop-i.invariant.done;
+}
 
 pub returns-then-rest-gt0-clause-same : goal.returns-then-rest-gt0-clause-same
 returns-then-rest-gt0-clause-same c = λ j b.

@@ -1,0 +1,26 @@
+use Rattle.std.proofs.Common.{◌≡◌, ◌<◌, ◌≤◌, ◌+◌, ◌*◌, ◌/◌, List, ℕ, length, get_or, refl, ◌∙◌, arith}
+use Rattle.contiguous_runs.proofs.FirstBytes.{byte_of_register}
+use Rattle.emu_model.specs.Lanes.{read_z}
+use Rattle.contiguous_runs.proofs.register_bytes.put_whole.Goals as goal
+
+pub loop-i-init : goal.loop-i-init
+loop-i-init c =
+    let words : List ℕ = c.z_words-words.result.now in
+    record {
+      count = c.put_word-2.ensures.long ∙ c.put_word.ensures.long;
+      done = λ j b. c.put_word-2.ensures.done words refl (c.put_word.ensures.done words refl (λ j h. absurd (omega arith))) j (omega (arith, b));
+    }
+
+pub loop-i-preserved : goal.loop-i-preserved
+loop-i-preserved c =
+    let words : List ℕ = c.z_words-words.result.now in
+    record {
+      count = c.put_word-in-loop-i-2.ensures.long ∙ c.put_word-in-loop-i.ensures.long ∙ c.loop-i.invariant.count;
+      done = λ j b. c.put_word-in-loop-i-2.ensures.done words refl
+          (λ k h. c.put_word-in-loop-i.ensures.done words refl (λ k h. c.loop-i.invariant.done k (omega (arith, h))) k (omega (arith, h))) j (omega (arith, b));
+    }
+
+pub returns-clause-same : goal.returns-clause-same
+returns-clause-same c = λ j b.
+    c.loop-i.invariant.done j (omega (arith, b, c.loop-i-test.false, c.requires, c.length-length.ensures.length.multiple))
+    ∙ byte_of_register (read_z c.args.vec.now c.args.r) c.z_words-words.result.now (c.args.vec.now.bits / 8) j c.z_words-words.ensures.words (omega (arith, b, c.requires))

@@ -1,0 +1,10 @@
+use Rattle.std.proofs.Common.{ap, ◌∙◌}
+use Rattle.element_loops.specs.Planned.{store_by}
+use Rattle.sve_loads.specs.declared.shape.Shape.{Shape}
+use Rattle.sve_loads.specs.Plans.{reg_plan}
+use Rattle.sve_loads.proofs.at_once.store_nt_reg.Goals as goal
+
+pub returns-clause-stored : goal.returns-clause-stored
+returns-clause-stored c = λ is.
+    ap (λ (s : Shape). store_by (reg_plan s c.args.zt c.args.pg c.args.rn c.args.rm c.args.core.now c.args.vec.now) c.args.core.now c.args.vec.now c.args.mem.now.memory) c.filled_by.ensures.shape
+    ∙ c.store_filled_reg.ensures.stored is
