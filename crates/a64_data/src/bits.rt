@@ -95,7 +95,7 @@ fn leading_copies(w: u32, a: u64) -> u32
 fn of_one(op: OneSourceOp, w: u32, a: u64) -> u64
     requires width { (w ≡ 32) ⊎ (w ≡ 64) }
     requires within { a < 2 ^ w }
-    ensures { result ≡ table.one_source op w a }
+    ensures { result ≡ table.of_one_source op w a }
 {
     match op {
         OneSourceOp::Rbit => reversed_bits(w, a),

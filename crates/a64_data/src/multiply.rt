@@ -126,7 +126,7 @@ fn of_two(op: TwoSourceOp, w: u32, a: u64, b: u64) -> u64
     requires width { (w ≡ 32) ⊎ (w ≡ 64) }
     requires first { a < 2 ^ w }
     requires second { b < 2 ^ w }
-    ensures { result ≡ table.two_source op w a b }
+    ensures { result ≡ table.of_two_sources op w a b }
 {
     let k = (b % w as u64) as u32;
     match op {

@@ -20,7 +20,7 @@ use Rattle.a64_effects.specs.Atomic.{low_bytes, updated, swapped}
 use Rattle.a64_effects.specs.BitMoves.{copied, immediate, move_value, with_immediate}
 use Rattle.a64_effects.specs.Flow.{target, after_branch, after_branch_to, branches_if, is_taken, tested_bit, digit, is_taken_by, system_value, with_system_value, excepted, after_barrier}
 use Rattle.a64_effects.specs.LoadStore.{Transferring, Exchanging, transfer, access_bytes, literal_transfer, literal_bytes, pair_transfer, pair_bytes, ordered_transfer, near, indexed, pair_near, pair_address, writes_back, registers_of, is_kept, has_sp, unchanged, written_back, written_back_if, keeping, after_exclusive}
-use Rattle.a64_effects.specs.Scalar.{operand, operand_sp, adr_offset, adr_target, after_add, after_add_sp, shifted_12, after_add_carry, after_logic_reg, after_logic_imm, wide_moved, after_bitfield, otherwise, after_compare, multiplied, multiplied_long, multiplied_high, two_source, one_source, rev_width, byte_reversed}
+use Rattle.a64_effects.specs.Scalar.{operand, operand_sp, adr_offset, adr_target, after_add, after_add_sp, shifted_12, after_add_carry, after_logic_reg, after_logic_imm, wide_moved, after_bitfield, otherwise, after_compare, multiplied, multiplied_long, multiplied_high, of_two_sources, of_one_source, rev_width, byte_reversed}
 
 -- What an instruction does, by the registers before it.
 pub data Operation : Type 0 where
@@ -97,8 +97,8 @@ operation_of (MulLong op rm ra rn rd) = computes (λ c.
     with_x c rd 64 (multiplied_long op (operand 64 c ra) (operand 32 c rn) (operand 32 c rm)))
 operation_of (MulHigh op rm rn rd) = computes (λ c.
     with_x c rd 64 (multiplied_high op (operand 64 c rn) (operand 64 c rm)))
-operation_of (TwoSource op sf rm rn rd) = at_width sf (λ w r c. with_x c rd w (two_source op w (r rn) (r rm)))
-operation_of (OneSource op sf rn rd) = at_width sf (λ w r c. with_x c rd w (one_source op w (r rn)))
+operation_of (TwoSource op sf rm rn rd) = at_width sf (λ w r c. with_x c rd w (of_two_sources op w (r rn) (r rm)))
+operation_of (OneSource op sf rn rd) = at_width sf (λ w r c. with_x c rd w (of_one_source op w (r rn)))
 operation_of (Rev op rn rd) = computes (λ c.
     with_x c rd (rev_width op) (byte_reversed op (operand (rev_width op) c rn)))
 operation_of (Branch op imm26) = flows (after_branch op) (λ c. Branching (target c 26 imm26))

@@ -190,22 +190,22 @@ multiplied_high Smulh a b = signed_upper_product a b
 multiplied_high Umulh a b = upper_product a b
 
 -- quotients, and shifts by b mod w
-abbrev pub two_source : TwoSourceOp → ℕ → ℕ → ℕ → ℕ
-two_source Udiv w a b = unsigned_quotient a b
-two_source Sdiv w a b = signed_quotient w a b
-two_source Lslv w a b = lsl w a (b % w)
-two_source Lsrv w a b = lsr a (b % w)
-two_source Asrv w a b = asr w a (b % w)
-two_source Rorv w a b = ror w a (b % w)
+abbrev pub of_two_sources : TwoSourceOp → ℕ → ℕ → ℕ → ℕ
+of_two_sources Udiv w a b = unsigned_quotient a b
+of_two_sources Sdiv w a b = signed_quotient w a b
+of_two_sources Lslv w a b = lsl w a (b % w)
+of_two_sources Lsrv w a b = lsr a (b % w)
+of_two_sources Asrv w a b = asr w a (b % w)
+of_two_sources Rorv w a b = ror w a (b % w)
 
 -- ---- bits and bytes
 
 -- bits reversed; bytes of each 16 bits reversed; leading zeros; leading copies of the top bit after it
-abbrev pub one_source : OneSourceOp → ℕ → ℕ → ℕ
-one_source Rbit w a = reversed_bits w a
-one_source Rev16 w a = reversed_bytes 2 (w / 8) a
-one_source Clz w a = leading_zeros w a
-one_source Cls w a = leading_copies w a
+abbrev pub of_one_source : OneSourceOp → ℕ → ℕ → ℕ
+of_one_source Rbit w a = reversed_bits w a
+of_one_source Rev16 w a = reversed_bytes 2 (w / 8) a
+of_one_source Clz w a = leading_zeros w a
+of_one_source Cls w a = leading_copies w a
 
 -- the width of a reversal, and the bytes that are reversed
 abbrev pub rev_width : RevOp → ℕ

@@ -16,7 +16,7 @@ use Rattle.a64_effects.specs.BitMoves.{immediate, move_value}
 use Rattle.a64_effects.specs.Flow.{target, is_taken, tested_bit, digit, is_taken_by, system_value}
 use Rattle.a64_effects.specs.LoadStore.{near, pair_near, pair_bytes, writes_back, is_kept}
 use Rattle.a64_effects.specs.Operations.{Operation, computes, flows, transfers, exchanges, copies, operation_of}
-use Rattle.a64_effects.specs.Scalar.{operand, operand_sp, adr_offset, adr_target, shifted_12, wide_moved, bitfield_moved, compared, otherwise, multiplied, multiplied_long, multiplied_high, two_source, one_source, rev_width, byte_reversed}
+use Rattle.a64_effects.specs.Scalar.{operand, operand_sp, adr_offset, adr_target, shifted_12, wide_moved, bitfield_moved, compared, otherwise, multiplied, multiplied_long, multiplied_high, of_two_sources, of_one_source, rev_width, byte_reversed}
 use Rattle.a64_effects.specs.SoundBitMoves.{copied_sound, immediate_sound}
 use Rattle.a64_effects.specs.SoundFlow.{offset_is_word, read_x_is_word, read_x_sp_is_word, barrier_sound, system_sound, branch_sound, branch_to_sound, branches_if_sound, excepted_sound}
 use Rattle.a64_effects.specs.SoundLoadStore.{IsSoundTransferring, IsSoundExchanging, written_back_sound, written_back_if_sound, keeping_sound, after_exclusive_sound, multiple_is_word}
@@ -46,8 +46,8 @@ operation_sound (Select op sf rm cond rn rd) = λ c s. with_x_sound c rd (width_
 operation_sound (MulAdd op sf rm ra rn rd) = λ c s. with_x_sound c rd (width_of sf) (multiplied op (width_of sf) (operand (width_of sf) c ra) (operand (width_of sf) c rn * operand (width_of sf) c rm)) (width_in_word sf) s
 operation_sound (MulLong op rm ra rn rd) = λ c s. with_x_sound c rd 64 (multiplied_long op (operand 64 c ra) (operand 32 c rn) (operand 32 c rm)) (omega arith) s
 operation_sound (MulHigh op rm rn rd) = λ c s. with_x_sound c rd 64 (multiplied_high op (operand 64 c rn) (operand 64 c rm)) (omega arith) s
-operation_sound (TwoSource op sf rm rn rd) = λ c s. with_x_sound c rd (width_of sf) (two_source op (width_of sf) (operand (width_of sf) c rn) (operand (width_of sf) c rm)) (width_in_word sf) s
-operation_sound (OneSource op sf rn rd) = λ c s. with_x_sound c rd (width_of sf) (one_source op (width_of sf) (operand (width_of sf) c rn)) (width_in_word sf) s
+operation_sound (TwoSource op sf rm rn rd) = λ c s. with_x_sound c rd (width_of sf) (of_two_sources op (width_of sf) (operand (width_of sf) c rn) (operand (width_of sf) c rm)) (width_in_word sf) s
+operation_sound (OneSource op sf rn rd) = λ c s. with_x_sound c rd (width_of sf) (of_one_source op (width_of sf) (operand (width_of sf) c rn)) (width_in_word sf) s
 operation_sound (Rev op rn rd) = λ c s. with_x_sound c rd (rev_width op) (byte_reversed op (operand (rev_width op) c rn)) (rev_width_in_word op) s
 operation_sound (Branch op imm26) = λ c s. (branch_sound op c s, offset_is_word c.pc (pos 4 *ℤ signed imm26 26))
 operation_sound (BranchCond imm19 cond) = λ c s. (s, branches_if_sound (cond_holds (cond_of cond) c.flags) (target c 19 imm19) (offset_is_word c.pc (pos 4 *ℤ signed imm19 19)))

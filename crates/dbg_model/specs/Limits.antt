@@ -23,7 +23,7 @@ use Rattle.a64_effects.specs.LoadStore.{Transferring, Exchanging, elements_from,
 use Rattle.a64_effects.specs.Operations.{Operation, computes, flows, transfers, exchanges, copies, operation_of}
 use Rattle.sve_effects.specs.FirstFault.{first_fault_row, first_refused, loaded_unless}
 use Rattle.sve_effects.specs.FirstFaultParts.{first_fault_loaded}
-use Rattle.sve_effects.specs.Row.{Row as VectorRow, done_by as vector_done_by, done_by_way}
+use Rattle.sve_effects.specs.VectorRow.{VectorRow, done_by as vector_done_by, done_by_way}
 use Rattle.sve_effects.specs.Rows.{row as vector_row}
 use Rattle.sve_effects.specs.VectorElements.{MemoryRow, Way, Layout, elements_of, row_layout}
 use Rattle.sve_effects.specs.VectorLoadStore.{after_load, element_stored, has_sp_base, is_misaligned, load_row, loaded_to, store_row, stored_to, unless_misaligned}

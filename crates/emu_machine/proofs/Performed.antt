@@ -27,7 +27,7 @@ use Rattle.sve_insn.specs.declared.form.SveForm.{SveForm}
 use Rattle.sve_effects.specs.Rows as sve
 use Rattle.sve_effects.specs.FirstFault.{first_fault_row, first_refused, loaded_unless}
 use Rattle.sve_effects.specs.FirstFaultParts.{first_fault_loaded}
-use Rattle.sve_effects.specs.Row.{Row, done_by, done_by_way}
+use Rattle.sve_effects.specs.VectorRow.{VectorRow, done_by, done_by_way}
 use Rattle.sve_effects.specs.Rows.{row}
 use Rattle.sve_effects.specs.VectorElements.{MemoryRow, Way, elements_of, row_layout}
 use Rattle.sve_effects.specs.VectorLoadStore as memory_rows
@@ -185,10 +185,10 @@ module _ (c : Core) (v : Vectors) (m : Memory) where
   way_is_other Way.first_faults r = first_fault_is_other false r (elements_of (row_layout r c v))
   way_is_other Way.non_faults r = first_fault_is_other true r (elements_of (row_layout r c v))
 
-  row_is_other : (r : Row) → IsOther (done_by r c v m).effect
-  row_is_other (Row.by_lanes f) = λ h. cc
-  row_is_other (Row.by_registers f) = λ h. cc
-  row_is_other (Row.memory r) = way_is_other r.way r
+  row_is_other : (r : VectorRow) → IsOther (done_by r c v m).effect
+  row_is_other (VectorRow.by_lanes f) = λ h. cc
+  row_is_other (VectorRow.by_registers f) = λ h. cc
+  row_is_other (VectorRow.memory r) = way_is_other r.way r
 
   sve_is_other : (form : SveForm) → IsOther (sve.performed form c v m).effect
   sve_is_other form = row_is_other (row form)

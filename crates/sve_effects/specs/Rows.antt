@@ -23,7 +23,7 @@ use Rattle.lane_model.specs.Permute.{ext_place, rev_place, insr_place, indexed_p
 use Rattle.sve_effects.specs.PermuteRows.{interleave_place, lanes, with_places, with_p_places, insert_scalar, copy_scalar, dup_bits, dup_index, after_last, after_cond_last, after_unpack, after_unpack_p}
 use Rattle.lane_model.specs.Predicate.{logic, broken, broken_pair, broken_next, with_first, only_next, lanes_below, count_lanes}
 use Rattle.sve_effects.specs.PredicateRows.{predicate_bits, ones, after_test, with_result, with_result_and_flags, with_compared, vector_test, wide_test, unsigned_test, signed_test, is_unsigned, logic_of, break_after, pair_after, ptrue_flags, read_ffr_flags, written_ffr, counted_by, set_lanes_of, while_result, terminates, termination_flags}
-use Rattle.sve_effects.specs.Row.{Row, by_lanes, by_registers, memory, done_by}
+use Rattle.sve_effects.specs.VectorRow.{VectorRow, by_lanes, by_registers, memory, done_by}
 use Rattle.sve_effects.specs.VectorData.{tsz_of, shift_bits, shifted_by, wide_unsigned, wide_signed, index_start, index_step, dot_of, dot_indexed_lanes, copied}
 use Rattle.sve_effects.specs.VectorElements.{Brackets, loads, stores, first_faults, non_faults, gathering, each_active, each_repeated, replicated, whole_z, whole_p, scalar, vector, lengths, quadwords, by_register, single, whole_lengths, words, doublewords, load_registers, store_registers, by_dtype, full_width, single_bytes, extending, part_of, MemoryRow, Offset, LaneChoice, Way, Width}
 
@@ -55,26 +55,26 @@ whole_register way first choice rn imm9 = one_register way single_bytes first ch
 -- ---- lanes and bits of predicates
 
 -- lanes of e bits, of the size that a field tells; z r k is lane k of register r
-abbrev pub lanewise : ℕ → (ℕ → (ℕ → ℕ → ℕ) → Core → Vectors → Vectors) → Row
+abbrev pub lanewise : ℕ → (ℕ → (ℕ → ℕ → ℕ) → Core → Vectors → Vectors) → VectorRow
 lanewise size f = by_lanes (λ c v. f (lane_bits size) (lane_of (lane_bits size) v) c v)
 
 -- what vector registers or predicates become, of lanes or fields for lanes of that size
-abbrev pub moves : ℕ → (ℕ → Core → Vectors → Vectors) → Row
+abbrev pub moves : ℕ → (ℕ → Core → Vectors → Vectors) → VectorRow
 moves size f = by_registers (λ c v. leaves c (f (lane_bits size) c v))
 
 -- a predicate of the active lanes of that size whose test holds, and the flags; z r k is lane k of register r
-abbrev pub compares : ℕ → ℕ → ℕ → (ℕ → (ℕ → ℕ → ℕ) → Vectors → ℕ → Bool) → Row
+abbrev pub compares : ℕ → ℕ → ℕ → (ℕ → (ℕ → ℕ → ℕ) → Vectors → ℕ → Bool) → VectorRow
 compares size pg pd test = by_registers (λ c v.
     with_compared (lane_bits size) pg pd (test (lane_bits size) (lane_of (lane_bits size) v) v) c v)
 
 -- the n bits of a predicate that is made bit by bit of others; p r is predicate r
-abbrev pub bitwise : Bool → ℕ → ℕ → (ℕ → (ℕ → List Bool) → List Bool) → Row
+abbrev pub bitwise : Bool → ℕ → ℕ → (ℕ → (ℕ → List Bool) → List Bool) → VectorRow
 bitwise sets pg pd f = by_registers (λ c v. with_result sets 8 (read_p v pg) pd (f (predicate_bits v) (read_p v)) c v)
 
 -- ---- the rows
 
 -- The values of all operands are those before the instruction.
-abbrev pub row : SveForm → Row
+abbrev pub row : SveForm → VectorRow
 row (Binary op size pg zm zdn) = lanewise size (λ e z c v.
     merging e pg (λ k. binary_lane op e (z zdn k) (z zm k)) zdn v)
 row (BinaryWide op size pg zm zdn) = lanewise size (λ e z c v.
