@@ -154,21 +154,21 @@ after_bitfield op w r s rn rd c = after_field op w rn rd (field_from r s) (field
 -- ---- conditional operations
 
 -- the flags of a + b in ccmn, of a + NOT b + 1 in ccmp
-abbrev pub compared : CondCompareOp → ℕ → ℕ → ℕ → Flags
-compared Ccmn w a b = flags_of_sum w a b false
-compared Ccmp w a b = flags_of_sum w a (complement w b) true
+abbrev pub flags_of_compare : CondCompareOp → ℕ → ℕ → ℕ → Flags
+flags_of_compare Ccmn w a b = flags_of_sum w a b false
+flags_of_compare Ccmp w a b = flags_of_sum w a (complement w b) true
 
 -- Rm, Rm + 1, NOT Rm, -Rm
-abbrev pub otherwise : SelectOp → ℕ → ℕ → ℕ
-otherwise Csel w b = b
-otherwise Csinc w b = b + 1
-otherwise Csinv w b = complement w b
-otherwise Csneg w b = difference w 0 b
+abbrev pub selected_else : SelectOp → ℕ → ℕ → ℕ
+selected_else Csel w b = b
+selected_else Csinc w b = b + 1
+selected_else Csinv w b = complement w b
+selected_else Csneg w b = difference w 0 b
 
 -- the flags of the compare where the condition holds, else those of a number
 abbrev pub after_compare : CondCompareOp → ℕ → ℕ → ℕ → ℕ → ℕ → Core → Core
 after_compare op w a b cond f c =
-    record c { flags = if cond_holds (cond_of cond) c.flags then compared op w a b else flags_of_number f }
+    record c { flags = if cond_holds (cond_of cond) c.flags then flags_of_compare op w a b else flags_of_number f }
 
 -- ---- products and quotients
 

@@ -57,19 +57,19 @@ abbrev pub file_goes_back : Option (List ℕ) → Bool
 file_goes_back file = option_map_or text_goes_back file false
 
 -- the input is read to its end before anything is run: by a sweep, and by a session that goes back
-abbrev pub reads_first : List (List ℕ) → Files → Result Line WordsFault → Bool
-reads_first words files (Ok (Run file args bits budget pages)) = false
-reads_first words files (Ok (Asm listing)) = false
-reads_first words files (Ok (Dis file)) = false
-reads_first words files (Ok (Dbg file script args bits budget pages)) = file_goes_back (file_at words files script)
-reads_first words files (Ok (Load number)) = false
-reads_first words files (Ok (Sweep file args budget pages)) = true
-reads_first words files (Ok (Threads file schedule args bits budget pages)) = false
-reads_first words files (Err fault) = false
+abbrev pub reads_input_first : List (List ℕ) → Files → Result Line WordsFault → Bool
+reads_input_first words files (Ok (Run file args bits budget pages)) = false
+reads_input_first words files (Ok (Asm listing)) = false
+reads_input_first words files (Ok (Dis file)) = false
+reads_input_first words files (Ok (Dbg file script args bits budget pages)) = file_goes_back (file_at words files script)
+reads_input_first words files (Ok (Load number)) = false
+reads_input_first words files (Ok (Sweep file args budget pages)) = true
+reads_input_first words files (Ok (Threads file schedule args bits budget pages)) = false
+reads_input_first words files (Err fault) = false
 
 -- what the ending of the line and its outcome share whatever the input has
 abbrev pub SettlesLine : List (List ℕ) → Files → Result Line WordsFault → Option Outcome → Ending → Type 0
-SettlesLine words files line = settles_by (reads_first words files line)
+SettlesLine words files line = settles_by (reads_input_first words files line)
 
 -- the files are told, and the script of this name, if there is one, goes only forward
 abbrev pub IsForward : Option Files → List ℕ → Type 0
@@ -78,15 +78,15 @@ IsForward (Some files) name = file_goes_back (get files name) ≡ false
 
 -- nothing is taken where memory is wanting: not of a sweep, and of a session only where the files are told and its
 -- script goes only forward
-abbrev pub TakesLast : List (List ℕ) → Result Line WordsFault → Option Files → Type 0
-TakesLast words (Ok (Run file args bits budget pages)) told = Unit {0}
-TakesLast words (Ok (Asm listing)) told = Unit {0}
-TakesLast words (Ok (Dis file)) told = Unit {0}
-TakesLast words (Ok (Dbg file script args bits budget pages)) told = IsForward told (get_or words script [])
-TakesLast words (Ok (Load number)) told = Unit {0}
-TakesLast words (Ok (Sweep file args budget pages)) told = ⊥
-TakesLast words (Ok (Threads file schedule args bits budget pages)) told = Unit {0}
-TakesLast words (Err fault) told = Unit {0}
+abbrev pub TakesNothingEarly : List (List ℕ) → Result Line WordsFault → Option Files → Type 0
+TakesNothingEarly words (Ok (Run file args bits budget pages)) told = Unit {0}
+TakesNothingEarly words (Ok (Asm listing)) told = Unit {0}
+TakesNothingEarly words (Ok (Dis file)) told = Unit {0}
+TakesNothingEarly words (Ok (Dbg file script args bits budget pages)) told = IsForward told (get_or words script [])
+TakesNothingEarly words (Ok (Load number)) told = Unit {0}
+TakesNothingEarly words (Ok (Sweep file args budget pages)) told = ⊥
+TakesNothingEarly words (Ok (Threads file schedule args bits budget pages)) told = Unit {0}
+TakesNothingEarly words (Err fault) told = Unit {0}
 
 -- the files are told, and the script of this name goes back
 abbrev pub IsBackward : Option Files → List ℕ → Type 0
@@ -95,15 +95,15 @@ IsBackward (Some files) name = file_goes_back (get files name) ≡ true
 
 -- the input is read to its end before anything is written: by a sweep, and by a session where the files are told and
 -- its script goes back
-abbrev pub TakesFirst : List (List ℕ) → Result Line WordsFault → Option Files → Type 0
-TakesFirst words (Ok (Run file args bits budget pages)) told = ⊥
-TakesFirst words (Ok (Asm listing)) told = ⊥
-TakesFirst words (Ok (Dis file)) told = ⊥
-TakesFirst words (Ok (Dbg file script args bits budget pages)) told = IsBackward told (get_or words script [])
-TakesFirst words (Ok (Load number)) told = ⊥
-TakesFirst words (Ok (Sweep file args budget pages)) told = Unit {0}
-TakesFirst words (Ok (Threads file schedule args bits budget pages)) told = ⊥
-TakesFirst words (Err fault) told = ⊥
+abbrev pub ReadsInputFirst : List (List ℕ) → Result Line WordsFault → Option Files → Type 0
+ReadsInputFirst words (Ok (Run file args bits budget pages)) told = ⊥
+ReadsInputFirst words (Ok (Asm listing)) told = ⊥
+ReadsInputFirst words (Ok (Dis file)) told = ⊥
+ReadsInputFirst words (Ok (Dbg file script args bits budget pages)) told = IsBackward told (get_or words script [])
+ReadsInputFirst words (Ok (Load number)) told = ⊥
+ReadsInputFirst words (Ok (Sweep file args budget pages)) told = Unit {0}
+ReadsInputFirst words (Ok (Threads file schedule args bits budget pages)) told = ⊥
+ReadsInputFirst words (Err fault) told = ⊥
 
 -- the outcome of a line for these bytes counts: the line takes no input, or the input told them, or the outcome rests
 -- on none

@@ -79,16 +79,16 @@ InLine words files line ending left input st = ⊥
 -- ---- what the sinks have
 
 -- a sink gained just what had been put to it in the state where the command was broken off
-abbrev pub HasPut : (State → Type 0) → (State → List ℕ) → Option (List ℕ) → Option (List ℕ) → Type 0
-HasPut at put old new = (st : State) × (is : at st) × IfSome old (λ had. new ≡ Some (had ++ put st))
+abbrev pub GainedAt : (State → Type 0) → (State → List ℕ) → Option (List ℕ) → Option (List ℕ) → Type 0
+GainedAt at put old new = (st : State) × (is : at st) × IfSome old (λ had. new ≡ Some (had ++ put st))
 
 -- Where the input told its bytes: so it is of the output where the input or the errors failed, and of the errors where
 -- the input or the output did. The errors may fail at the text behind the end, too: then the output has all of the
 -- result.
-abbrev pub Keeps : (List ℕ → State → Type 0) → (List ℕ → Option Outcome) → Ending → Option (List ℕ) →
+abbrev pub HasAllPut : (List ℕ → State → Type 0) → (List ℕ → Option Outcome) → Ending → Option (List ℕ) →
     Option (List ℕ) → Option (List ℕ) → Option (List ℕ) → Option (List ℕ) → Type 0
-Keeps at outcome ending told out out_new err err_new = IfSome told (λ bytes.
+HasAllPut at outcome ending told out out_new err err_new = IfSome told (λ bytes.
     ((ending ≡ ReadFault) ⊎ (ending ≡ ErrorsFault)
-    → HasPut (at bytes) (λ st. st.output) out out_new
+    → GainedAt (at bytes) (λ st. st.output) out out_new
     ⊎ ((ending ≡ ErrorsFault) × IfSome out (λ had. out_new ≡ Some (had ++ output_of (outcome bytes)))))
-    × ((ending ≡ ReadFault) ⊎ (ending ≡ WriteFault) → HasPut (at bytes) (λ st. st.errors) err err_new))
+    × ((ending ≡ ReadFault) ⊎ (ending ≡ WriteFault) → GainedAt (at bytes) (λ st. st.errors) err err_new))

@@ -18,7 +18,7 @@ use Rattle.sve_effects.specs.FirstFaultParts.{with_first_fault, first_fault_load
 use Rattle.std.specs.Option.{option_or}
 use Rattle.sve_effects.specs.VectorLoadStore.{tests_sp, is_misaligned}
 use Rattle.element_loops.specs.Listed.{listed, listed_at}
-use Rattle.sve_ffr.specs.declared.row.Row.{Row}
+use Rattle.sve_ffr.specs.declared.first_fault_load.FirstFaultLoad.{FirstFaultLoad}
 use Rattle.sve_ffr.specs.declared.taking.Taken.{Taken}
 use Rattle.sve_ffr.specs.Rows.{first_fault_by}
 use Rattle.sve_ffr.specs.Taking.{AreFrom, AreTaken, lanes_of, rest_of, taken_lane}
@@ -73,7 +73,7 @@ module _ (r e : ℕ) (list : ElementList) (v w next : Vectors) (m now : Memory) 
 
 -- ---- no trap
 
-pub by_loaded : (row : Row) (s : Bool) (es : List Element) (c : Core) (v : Vectors) (m now : Memory) (d : Done) → is_misaligned row.has_sp_base es c ≡ false
+pub by_loaded : (row : FirstFaultLoad) (s : Bool) (es : List Element) (c : Core) (v : Vectors) (m now : Memory) (d : Done) → is_misaligned row.has_sp_base es c ≡ false
     → (if row.is_non_fault then None else first_refused m es) ≡ None → now ≡ m → first_fault_loaded s row.bits row.register es c v now ≡ d → first_fault_by row s es c v m ≡ d
 by_loaded row s es c v m now d aligned allowed same loaded =
     ap (λ (t : Bool). if t then traps c v m SpAlign c.sp else loaded_unless (if row.is_non_fault then None else first_refused m es) (first_fault_loaded s row.bits row.register es c v m) c v m) aligned

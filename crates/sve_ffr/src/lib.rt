@@ -2,8 +2,8 @@
 #![tactic(auto)]
 
 mod ffr;
+mod first_fault_load;
 mod load;
-mod row;
 mod taking;
 
 ghost use Rattle.std.specs.Prelude.{◌≡◌, [], true};
@@ -48,6 +48,6 @@ pub fn exec(
         ≡ record { core = core.new; vectors = vec.new; memory = m; accesses = log.new.items; effect = result } }
     ensures marks { mem.new.marks ≡ mem.old.marks }
 {
-    let row = row::row_of(i);
+    let row = first_fault_load::first_fault_load_of(i);
     load::first_fault(core, vec, mem, log, &row, list)
 }

@@ -13,7 +13,7 @@ ghost use Rattle.sve_ffr.specs.Rows.{first_fault_by};
 ghost use Rattle.sve_ffr.specs.Taking.{AreFrom, lanes_of};
 
 use crate::ffr::{clear, first_cleared, write};
-use crate::row::Row;
+use crate::first_fault_load::FirstFaultLoad;
 use crate::taking::take;
 use core_regs::{Core, Effect, Trap, TrapKind};
 use guest_mem::element_access::test_sp;
@@ -30,14 +30,14 @@ fn has_element(list: &ElementList) -> bool
 }
 
 /// Whether SP is tested: it is the base, and there is an element.
-fn tests_sp(row: &Row, list: &ElementList) -> bool
+fn tests_sp(row: &FirstFaultLoad, list: &ElementList) -> bool
     ensures { result ≡ tests_sp row.now.has_sp_base (listed row.now.register list.now) }
 {
     row.has_sp_base && has_element(list)
 }
 
 /// Tests the element of the first active lane, unless no element traps.
-fn test_first(mem: &mut Mem, row: &Row, list: &ElementList) -> Result<(), Trap>
+fn test_first(mem: &mut Mem, row: &FirstFaultLoad, list: &ElementList) -> Result<(), Trap>
     requires some { 1 ≤ list.now.bytes }
     requires most { list.now.bytes ≤ 8 }
     ensures result { let denied : Option ℕ = if row.now.is_non_fault then None
@@ -58,7 +58,13 @@ fn test_first(mem: &mut Mem, row: &Row, list: &ElementList) -> Result<(), Trap>
 }
 
 /// Loads the elements of a list that aren't refused, and writes FFR and the register.
-fn load(vec: &mut VecRegs, mem: &mut Mem, log: &mut AccessLog, row: &Row, list: &ElementList)
+fn load(
+    vec: &mut VecRegs,
+    mem: &mut Mem,
+    log: &mut AccessLog,
+    row: &FirstFaultLoad,
+    list: &ElementList,
+)
     requires size { IsLaneSize row.now.bits }
     requires some { 1 ≤ list.now.bytes }
     requires most { list.now.bytes ≤ 8 }
@@ -82,7 +88,7 @@ pub(crate) fn first_fault(
     vec: &mut VecRegs,
     mem: &mut Mem,
     log: &mut AccessLog,
-    row: &Row,
+    row: &FirstFaultLoad,
     list: &ElementList,
 ) -> Effect
     requires size { IsLaneSize row.now.bits }
