@@ -15,7 +15,7 @@ use Rattle.dbg_model.specs.declared.script.ScriptFault.{ScriptFault}
 use Rattle.command_model.specs.Sweep.{stream_limit}
 use Rattle.command_lines.specs.Outcome.{Outcome, Files, file_at, file_limit}
 use Rattle.command_lines.specs.declared.ending.Ending.{Ending}
-use Rattle.command_lines.specs.declared.ending.Ending.TheVariants.{Exit, Trap, Spent, Stuck, Done, WordsRefused, ImageRefused, ListingRefused, ScriptRefused, ScheduleRefused, TooLong, FileFault, WriteFault, ErrorsFault, OutOfMemory}
+use Rattle.command_lines.specs.declared.ending.Ending.TheVariants.{Exit, Trap, Spent, Stuck, Done, WordsRefused, ImageRefused, ListingRefused, ScriptRefused, ScheduleRefused, TooLong, FileFault, ReadFault, WriteFault, ErrorsFault, OutOfMemory}
 use Rattle.commands.specs.Promises.{is_failure, settles_by, CountsFor}
 
 -- the line runs a machine over the input
@@ -61,7 +61,8 @@ abbrev pub reads_input_first : List (List ℕ) → Files → Result Line WordsFa
 reads_input_first words files (Ok (Run file args bits budget pages)) = false
 reads_input_first words files (Ok (Asm listing)) = false
 reads_input_first words files (Ok (Dis file)) = false
-reads_input_first words files (Ok (Dbg file script args bits budget pages)) = file_goes_back (file_at words files script)
+reads_input_first words files (Ok (Dbg file script args bits budget pages)) =
+    file_goes_back (file_at words files script)
 reads_input_first words files (Ok (Load number)) = false
 reads_input_first words files (Ok (Sweep file args budget pages)) = true
 reads_input_first words files (Ok (Threads file schedule args bits budget pages)) = false
@@ -76,8 +77,8 @@ abbrev pub IsForward : Option Files → List ℕ → Type 0
 IsForward None name = ⊥
 IsForward (Some files) name = file_goes_back (get files name) ≡ false
 
--- nothing is taken where memory is wanting: not of a sweep, and of a session only where the files are told and its
--- script goes only forward
+-- which lines are promised to take nothing where memory is wanting: all but a sweep, and of the sessions those whose
+-- files are told and whose script goes only forward
 abbrev pub TakesNothingEarly : List (List ℕ) → Result Line WordsFault → Option Files → Type 0
 TakesNothingEarly words (Ok (Run file args bits budget pages)) told = Unit {0}
 TakesNothingEarly words (Ok (Asm listing)) told = Unit {0}
@@ -123,6 +124,11 @@ abbrev pub stops_any : Ending → Bool
 stops_any (TooLong limit) = nat_eq limit file_limit
 stops_any ending = is_failure ending
 
+-- the same of a line that takes no input
+abbrev pub stops_unread : Ending → Bool
+stops_unread ReadFault = false
+stops_unread ending = stops_any ending
+
 abbrev pub ends_run : Ending → Bool
 ends_run (Exit code) = true
 ends_run (Trap trap pc) = true
@@ -133,12 +139,12 @@ ends_run ending = stops_any ending
 abbrev pub ends_asm : Ending → Bool
 ends_asm Done = true
 ends_asm (ListingRefused fault) = true
-ends_asm ending = stops_any ending
+ends_asm ending = stops_unread ending
 
 abbrev pub ends_dis : Ending → Bool
 ends_dis Done = true
 ends_dis (ImageRefused fault) = true
-ends_dis ending = stops_any ending
+ends_dis ending = stops_unread ending
 
 -- the input of a session that goes back may be too long
 abbrev pub ends_dbg : Ending → Bool

@@ -14,8 +14,8 @@ use Rattle.guest_schedule.specs.declared.schedule.ScheduleWhy.TheVariants.{NotUt
 
 -- ---- a turn
 
-abbrev pub number : List ℕ → Result ℕ ScheduleWhy
-number word = option_map_or Ok (number_of_word word) (Err BadNumber)
+abbrev pub schedule_number : List ℕ → Result ℕ ScheduleWhy
+schedule_number word = option_map_or Ok (number_of_word word) (Err BadNumber)
 
 -- the turn of a line of so many words
 abbrev pub turn : ℕ → ℕ → ℕ → Result (ℕ × ℕ) ScheduleWhy
@@ -25,8 +25,8 @@ turn count place steps =
 abbrev pub turn_of : List (List ℕ) → Result (ℕ × ℕ) ScheduleWhy
 turn_of words =
     if nat_lt (length words) 2 then Err MissingWord
-    else and_then (number (get_or words 0 [])) (λ place.
-    and_then (number (get_or words 1 [])) (λ steps. turn (length words) place steps))
+    else and_then (schedule_number (get_or words 0 [])) (λ place.
+    and_then (schedule_number (get_or words 1 [])) (λ steps. turn (length words) place steps))
 
 -- ---- the lines one after the other
 
@@ -41,7 +41,7 @@ abbrev pub read_line : List (ℕ × ℕ) → List ℕ → Result (List (ℕ × �
 read_line turns line = if has_no_turn line then Ok turns else and_then (turn_of (words line)) (followed turns)
 
 abbrev pub fault_at : ScheduleWhy → ℕ → ScheduleFault
-fault_at why number = record { line = number; why = why }
+fault_at why schedule_number = record { line = schedule_number; why = why }
 
 -- there is a turn
 abbrev pub some_turns : List (ℕ × ℕ) → Result (List (ℕ × ℕ)) ScheduleFault

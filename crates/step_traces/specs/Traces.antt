@@ -26,13 +26,13 @@ is_told w old new = is_in_range w.within old.core.pc && nat_lt old.steps new.ste
 abbrev pub told_line : Shown → Window → Parts → Parts → List Access → List ℕ
 told_line shown w old new touched = if is_told w old new then traced_line shown old new touched else []
 
--- where the trace tells steps
+-- the line of a step, where the trace tells steps
 abbrev pub told_lines : Shown → Window → Stage → Parts → Parts → List Access → List ℕ
 told_lines shown w (Waiting calls) old new touched = []
 told_lines shown w (Telling left) old new touched = told_line shown w old new touched
 told_lines shown w Over old new touched = []
 
--- a step is taken
+-- one more step is taken: the machine hasn't ended, and the trace isn't over
 abbrev pub goes_on : Window → Stage → Parts → Bool
 goes_on w stage m = is_none m.ended && not (is_over (stage_before w stage m))
 
@@ -54,7 +54,7 @@ is_left w stage m input (suc n) =
     then is_left w (behind (stage_before w stage m)) (step_from m input).parts (step_from m input).input n
     else is_none m.ended
 
--- where it ended
+-- the machine where the trace ended
 unfoldable pub machine_left : Window → Stage → Parts → List ℕ → ℕ → Parts
 machine_left w stage m input zero = m
 machine_left w stage m input (suc n) =

@@ -21,11 +21,11 @@ use Rattle.sve_effects.specs.Fold.{reduced}
 use Rattle.lane_model.specs.Pattern.{pattern_count}
 use Rattle.lane_model.specs.Permute.{ext_place, rev_place, insr_place, indexed_place, copy_place, compact_place, splice_place}
 use Rattle.sve_effects.specs.PermuteRows.{interleave_place, lanes, with_places, with_p_places, inserted_scalar, copied_scalar, dup_bits, dup_index, after_last, after_cond_last, after_unpack, after_unpack_p}
-use Rattle.lane_model.specs.Predicate.{logic, broken, broken_pair, broken_next, with_first, only_next, lanes_below, count_lanes}
+use Rattle.lane_model.specs.Predicate.{logic, broken, broken_pair, broken_next, with_first_active, only_next, lanes_below, count_lanes}
 use Rattle.sve_effects.specs.PredicateRows.{predicate_bits, ones, after_test, with_result, with_result_and_flags, with_compared, vector_test, wide_test, unsigned_test, signed_test, is_unsigned, logic_of, break_after, pair_after, ptrue_flags, read_ffr_flags, written_ffr, counted_by, set_lanes_of, while_result, terminates, termination_flags}
 use Rattle.sve_effects.specs.VectorRow.{VectorRow, by_lanes, by_registers, memory, performed_by}
 use Rattle.sve_effects.specs.VectorData.{tsz_of, shift_bits, shifted_by, wide_unsigned, wide_signed, index_start, index_step, dot_of, dot_indexed_lanes, merging_or_zeroing}
-use Rattle.sve_effects.specs.VectorElements.{Brackets, loads, stores, first_faults, non_faults, gathering, each_active, each_repeated, replicated, whole_z, whole_p, scalar, vector, lengths, quadwords, by_register, single, whole_lengths, word_offsets, doubleword_offsets, load_registers, store_registers, by_dtype, full_width, single_bytes, extending, zero_extending, MemoryRow, Offset, LaneChoice, Way, Width}
+use Rattle.sve_effects.specs.VectorElements.{Brackets, loads, stores, first_faults, non_faults, gathering, each_active, each_repeated, replicated, whole_z, whole_p, scalar, vector, lengths, quadwords, by_register, single, whole_lengths, by_words, by_doublewords, load_registers, store_registers, by_dtype, full_width, single_bytes, extending, low_part, MemoryRow, Offset, LaneChoice, Way, Width}
 
 -- ---- loads and stores
 
@@ -44,7 +44,7 @@ one_register way width first choice brackets = record {
 abbrev pub from_base : Way → Width → ℕ → ℕ → ℕ → Offset → MemoryRow
 from_base way width zt pg rn offset = one_register way width zt (each_active pg) (scalar rn offset)
 
--- the same at a lane of Zn and imm5 elements on
+-- the same, imm5 elements behind the address in the lane of Zn
 abbrev pub from_vector : Way → Width → ℕ → ℕ → ℕ → ℕ → MemoryRow
 from_vector way width zt pg zn imm5 = one_register way width zt (each_active pg) (vector zn imm5)
 
@@ -133,7 +133,8 @@ row (ReadLength imm6 rd) = by_registers (λ c v.
 row (DupReg size rn zd) = moves size (λ e c v. with_places e (λ k. Scalar) zd zd (read_x_sp c rn) zd v)
 row (DupLane imm2 tsz zn zd) = by_registers (λ c v.
     let e = dup_bits tsz in leaves c (with_places e (λ k. indexed_place (dup_index imm2 tsz) (lanes e v)) zn zn 0 zd v))
-row (Insert op size src zdn) = moves size (λ e c v. with_places e insr_place zdn zdn (inserted_scalar op e src c v) zdn v)
+row (Insert op size src zdn) =
+    moves size (λ e c v. with_places e insr_place zdn zdn (inserted_scalar op e src c v) zdn v)
 row (RevZ size zn zd) = moves size (λ e c v. with_places e (rev_place (lanes e v)) zn zn 0 zd v)
 row (Unpack op size zn zd) = moves size (λ e c v. after_unpack op e zn zd v)
 row (Table size zm zn zd) = moves size (λ e c v.
@@ -167,7 +168,7 @@ row (BreakNext s pg pn pdm) = by_registers (λ c v.
     let n = predicate_bits v in
     with_result s 8 (ones n) pdm (broken_next n (read_p v pg) (read_p v pn) (read_p v pdm)) c v)
 row (Ptest pg pn) = by_registers (λ c v. leaves (after_test true 8 (predicate_bits v) (read_p v pg) (read_p v pn) c) v)
-row (First pg pdn) = bitwise true pg pdn (λ n p. with_first n (p pg) (p pdn))
+row (First pg pdn) = bitwise true pg pdn (λ n p. with_first_active n (p pg) (p pdn))
 row (Next size pg pdn) = by_registers (λ c v.
     let e = lane_bits size in
     with_result_and_flags e (read_p v pg) pdn (only_next e (predicate_bits v) (read_p v pg) (read_p v pdn)) c v)
@@ -209,8 +210,10 @@ row (LoadOne dtypeh imm6 dtypel pg rn zt) =
     { choice = replicated pg })
 row (LoadZ imm9h imm9l rn zt) = memory (whole_register loads zt whole_z rn (imm9h * 8 + imm9l))
 row (LoadP imm9h imm9l rn pt) = memory (whole_register loads pt whole_p rn (imm9h * 8 + imm9l))
-row (StoreImm msz size imm4 pg rn zt) = memory (from_base stores (zero_extending (lane_bits size) msz) zt pg rn (lengths imm4))
-row (StoreReg msz size rm pg rn zt) = memory (from_base stores (zero_extending (lane_bits size) msz) zt pg rn (by_register rm))
+row (StoreImm msz size imm4 pg rn zt) =
+    memory (from_base stores (low_part (lane_bits size) msz) zt pg rn (lengths imm4))
+row (StoreReg msz size rm pg rn zt) =
+    memory (from_base stores (low_part (lane_bits size) msz) zt pg rn (by_register rm))
 row (StoreNtImm msz imm4 pg rn zt) = memory (from_base stores (full_width msz) zt pg rn (lengths imm4))
 row (StoreNtReg msz rm pg rn zt) = memory (from_base stores (full_width msz) zt pg rn (by_register rm))
 row (StoreManyImm op msz imm4 pg rn zt) =
@@ -219,25 +222,28 @@ row (StoreManyReg op msz rm pg rn zt) =
     memory (record (from_base stores (full_width msz) zt pg rn (by_register rm)) { registers = store_registers op })
 row (StoreZ imm9h imm9l rn zt) = memory (whole_register stores zt whole_z rn (imm9h * 8 + imm9l))
 row (StoreP imm9h imm9l rn pt) = memory (whole_register stores pt whole_p rn (imm9h * 8 + imm9l))
-row (GatherSx msz xs zm u ff pg rn zt) = memory (from_base (gathering ff) (extending 32 msz u) zt pg rn (word_offsets xs zm 0))
+row (GatherSx msz xs zm u ff pg rn zt) =
+    memory (from_base (gathering ff) (extending 32 msz u) zt pg rn (by_words xs zm 0))
 row (GatherSxScaled msz xs zm u ff pg rn zt) =
-    memory (from_base (gathering ff) (extending 32 msz u) zt pg rn (word_offsets xs zm msz))
-row (GatherDx msz xs zm u ff pg rn zt) = memory (from_base (gathering ff) (extending 64 msz u) zt pg rn (word_offsets xs zm 0))
+    memory (from_base (gathering ff) (extending 32 msz u) zt pg rn (by_words xs zm msz))
+row (GatherDx msz xs zm u ff pg rn zt) =
+    memory (from_base (gathering ff) (extending 64 msz u) zt pg rn (by_words xs zm 0))
 row (GatherDxScaled msz xs zm u ff pg rn zt) =
-    memory (from_base (gathering ff) (extending 64 msz u) zt pg rn (word_offsets xs zm msz))
-row (GatherD msz zm u ff pg rn zt) = memory (from_base (gathering ff) (extending 64 msz u) zt pg rn (doubleword_offsets zm 0))
+    memory (from_base (gathering ff) (extending 64 msz u) zt pg rn (by_words xs zm msz))
+row (GatherD msz zm u ff pg rn zt) =
+    memory (from_base (gathering ff) (extending 64 msz u) zt pg rn (by_doublewords zm 0))
 row (GatherDScaled msz zm u ff pg rn zt) =
-    memory (from_base (gathering ff) (extending 64 msz u) zt pg rn (doubleword_offsets zm msz))
+    memory (from_base (gathering ff) (extending 64 msz u) zt pg rn (by_doublewords zm msz))
 row (GatherSv msz imm5 u ff pg zn zt) = memory (from_vector (gathering ff) (extending 32 msz u) zt pg zn imm5)
 row (GatherDv msz imm5 u ff pg zn zt) = memory (from_vector (gathering ff) (extending 64 msz u) zt pg zn imm5)
-row (ScatterSx msz zm xs pg rn zt) = memory (from_base stores (zero_extending 32 msz) zt pg rn (word_offsets xs zm 0))
-row (ScatterSxScaled msz zm xs pg rn zt) = memory (from_base stores (zero_extending 32 msz) zt pg rn (word_offsets xs zm msz))
-row (ScatterDx msz zm xs pg rn zt) = memory (from_base stores (zero_extending 64 msz) zt pg rn (word_offsets xs zm 0))
-row (ScatterDxScaled msz zm xs pg rn zt) = memory (from_base stores (zero_extending 64 msz) zt pg rn (word_offsets xs zm msz))
-row (ScatterD msz zm pg rn zt) = memory (from_base stores (zero_extending 64 msz) zt pg rn (doubleword_offsets zm 0))
-row (ScatterDScaled msz zm pg rn zt) = memory (from_base stores (zero_extending 64 msz) zt pg rn (doubleword_offsets zm msz))
-row (ScatterSv msz imm5 pg zn zt) = memory (from_vector stores (zero_extending 32 msz) zt pg zn imm5)
-row (ScatterDv msz imm5 pg zn zt) = memory (from_vector stores (zero_extending 64 msz) zt pg zn imm5)
+row (ScatterSx msz zm xs pg rn zt) = memory (from_base stores (low_part 32 msz) zt pg rn (by_words xs zm 0))
+row (ScatterSxScaled msz zm xs pg rn zt) = memory (from_base stores (low_part 32 msz) zt pg rn (by_words xs zm msz))
+row (ScatterDx msz zm xs pg rn zt) = memory (from_base stores (low_part 64 msz) zt pg rn (by_words xs zm 0))
+row (ScatterDxScaled msz zm xs pg rn zt) = memory (from_base stores (low_part 64 msz) zt pg rn (by_words xs zm msz))
+row (ScatterD msz zm pg rn zt) = memory (from_base stores (low_part 64 msz) zt pg rn (by_doublewords zm 0))
+row (ScatterDScaled msz zm pg rn zt) = memory (from_base stores (low_part 64 msz) zt pg rn (by_doublewords zm msz))
+row (ScatterSv msz imm5 pg zn zt) = memory (from_vector stores (low_part 32 msz) zt pg zn imm5)
+row (ScatterDv msz imm5 pg zn zt) = memory (from_vector stores (low_part 64 msz) zt pg zn imm5)
 
 -- What an SVE instruction does: what its row does.
 abbrev pub performed : SveForm → Core → Vectors → Memory → Done

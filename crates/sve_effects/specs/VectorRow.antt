@@ -8,7 +8,7 @@ use Rattle.sve_effects.specs.FirstFault.{first_fault_row}
 use Rattle.sve_effects.specs.VectorElements.{MemoryRow, Way, loads, stores, first_faults, non_faults, elements_of, row_layout}
 use Rattle.sve_effects.specs.VectorLoadStore.{load_row, store_row}
 
--- the vector registers after it, or all registers after it; or its elements in memory
+-- what an instruction is: what the vector registers, or all registers, become; or its elements in memory
 pub data VectorRow : Type 0 where
   by_lanes : (Core → Vectors → Vectors) → VectorRow
   by_registers : (Core → Vectors → Registers) → VectorRow

@@ -10,7 +10,7 @@ ghost use Rattle.sve_effects.specs.FirstFaultParts.{first_fault_loaded};
 ghost use Rattle.sve_effects.specs.VectorLoadStore.{tests_sp};
 ghost use Rattle.element_loops.specs.Listed.{listed};
 ghost use Rattle.sve_ffr.specs.Rows.{first_fault_by};
-ghost use Rattle.sve_ffr.specs.Taking.{AreFrom, lanes_of};
+ghost use Rattle.sve_ffr.specs.Taking.{AreFrom, lane_numbers};
 
 use crate::ffr::{clear, first_cleared, write};
 use crate::first_fault_load::FirstFaultLoad;
@@ -68,7 +68,7 @@ fn load(
     requires size { IsLaneSize row.now.bits }
     requires some { 1 ≤ list.now.bytes }
     requires most { list.now.bytes ≤ 8 }
-    requires lanes { AreFrom 0 (vec.old.bits / row.now.bits) (lanes_of (listed row.now.register list.now)) }
+    requires lanes { AreFrom 0 (vec.old.bits / row.now.bits) (lane_numbers (listed row.now.register list.now)) }
     requires empty { log.old.items ≡ [] }
     ensures done { let m = mem.new.memory in (c : CoreState) → first_fault_loaded list.now.signed
         row.now.bits row.now.register (listed row.now.register list.now) c vec.old mem.old.memory
@@ -94,7 +94,7 @@ pub(crate) fn first_fault(
     requires size { IsLaneSize row.now.bits }
     requires some { 1 ≤ list.now.bytes }
     requires most { list.now.bytes ≤ 8 }
-    requires lanes { AreFrom 0 (vec.old.bits / row.now.bits) (lanes_of (listed row.now.register list.now)) }
+    requires lanes { AreFrom 0 (vec.old.bits / row.now.bits) (lane_numbers (listed row.now.register list.now)) }
     requires empty { log.old.items ≡ [] }
     ensures done { let m = mem.new.memory in first_fault_by row.now list.now.signed
         (listed row.now.register list.now) core.now vec.old mem.old.memory

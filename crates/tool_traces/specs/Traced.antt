@@ -1,4 +1,5 @@
--- What `svemu-tool trace` writes, by the words of its line. `traced` and `SomeTraces`, at the end, are the whole of it.
+-- What `svemu-tool trace` writes, by the words of its line: `SomeTraces`, of the run that `traced` tells, is the whole
+-- of it.
 use Rattle.std.specs.Prelude.{◌≡◌, ◌≢◌, ℕ, List, MatchOption, Option, Some, None, Result, Ok, Err}
 use Rattle.command_lines.specs.Outcome.{Files, file_at, program_arguments}
 use Rattle.command_lines.specs.declared.ending.Ending.{Ending}

@@ -56,7 +56,7 @@ call_at words (Some place) (Some address) = number_at words (Some place) 1 1
 abbrev pub next_above : ℕ → List Symbol → Option ℕ
 next_above address symbols = option_map (λ s. s.address) (find (λ s. nat_lt address s.address) symbols)
 
--- up to the next symbol, or the last address
+-- up to the next symbol, or to the last address, at which no instruction can stand
 abbrev pub size_up_to : ℕ → Option ℕ → ℕ
 size_up_to address None = 2 ^ 64 - 1 - address
 size_up_to address (Some next) = next - address

@@ -5,7 +5,7 @@ use Rattle.element_loops.specs.Listed.{listed}
 use Rattle.sve_ffr.specs.declared.first_fault_load.FirstFaultLoad.{FirstFaultLoad}
 use Rattle.sve_ffr.specs.Rows.{first_fault_load_of, first_fault_by}
 use Rattle.sve_ffr.specs.RowLaws.{row_registers, row_lanes}
-use Rattle.sve_ffr.specs.Taking.{AreFrom, lanes_of}
+use Rattle.sve_ffr.specs.Taking.{AreFrom, lane_numbers}
 use Rattle.sve_ffr.proofs.Cleared.{below_from}
 use Rattle.sve_ffr.proofs.exec.Goals as goal
 
@@ -15,8 +15,8 @@ first_fault-requires-clause-lanes c =
     let register : l.register ≡ c.first_fault_load_of-row.result.register = ap (λ (r : FirstFaultLoad). r.register) (sym c.first_fault_load_of-row.ensures.value) in
     let lanes : l.lanes ≡ c.args.vec.now.bits / c.first_fault_load_of-row.result.bits
     = row_lanes c.args.i.now c.args.core.now c.args.vec.now c.requires.own ∙ ap (λ (r : FirstFaultLoad). c.args.vec.now.bits / r.bits) (sym c.first_fault_load_of-row.ensures.value) in
-    subst (λ n. AreFrom 0 n (lanes_of (listed c.first_fault_load_of-row.result.register c.args.list.now))) lanes
-    (subst (λ (r : ℕ). AreFrom 0 l.lanes (lanes_of (listed r c.args.list.now))) register
+    subst (λ n. AreFrom 0 n (lane_numbers (listed c.first_fault_load_of-row.result.register c.args.list.now))) lanes
+    (subst (λ (r : ℕ). AreFrom 0 l.lanes (lane_numbers (listed r c.args.list.now))) register
     (subst (λ (qs : List ℕ). AreFrom 0 l.lanes qs) (sym c.requires.lanes) (below_from l.lanes l (row_registers c.args.i.now c.args.core.now c.args.vec.now c.requires.own))))
 
 pub returns-clause-done : goal.returns-clause-done
