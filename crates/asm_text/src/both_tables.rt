@@ -19,7 +19,7 @@ pub struct Tables;
 
 /// The refusal that stands later in the order in which causes are looked for.
 fn later(a: AsmFault, b: AsmFault) -> AsmFault
-    ensures later_refusal { (x y : Refusal) → a ≡ fault_of x → b ≡ fault_of y → result ≡ fault_of (later_refusal x y) }
+    ensures later { (x y : Refusal) → a ≡ fault_of x → b ≡ fault_of y → result ≡ fault_of (later_refusal x y) }
     ensures refusal { result ≢ AsmFault.OutOfMemory }
 {
     match (a, b) {

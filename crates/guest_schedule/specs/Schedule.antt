@@ -41,7 +41,7 @@ abbrev pub read_line : List (ℕ × ℕ) → List ℕ → Result (List (ℕ × �
 read_line turns line = if has_no_turn line then Ok turns else and_then (turn_of (words line)) (followed turns)
 
 abbrev pub fault_at : ScheduleWhy → ℕ → ScheduleFault
-fault_at why schedule_number = record { line = schedule_number; why = why }
+fault_at why number = record { line = number; why = why }
 
 -- there is a turn
 abbrev pub some_turns : List (ℕ × ℕ) → Result (List (ℕ × ℕ)) ScheduleFault
