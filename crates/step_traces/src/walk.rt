@@ -12,7 +12,7 @@ use crate::discard::Discard;
 use crate::step::put_step_line;
 use emu_machine::{Machine, StepEnd};
 use io_gate::{Failed, Sink, SliceSource};
-use trace_options::{Shown, Stage, Window, behind, is_over, is_within, stage_at};
+use trace_options::{Shown, Stage, Window, behind, is_in_range, is_over, stage_at};
 
 /// Takes one step over an input that never fails. What the program writes is dropped.
 fn take_step(machine: &mut Machine, source: &mut SliceSource) -> StepEnd
@@ -36,7 +36,7 @@ fn take_step(machine: &mut Machine, source: &mut SliceSource) -> StepEnd
 fn is_told(window: &Window, old: &Machine, new: &Machine) -> bool
     ensures { result ≡ is_told window.now old.now.parts new.now.parts }
 {
-    is_within(window.within, old.core().pc()) && old.steps() < new.steps()
+    is_in_range(window.within, old.core().pc()) && old.steps() < new.steps()
 }
 
 /// Puts the line of the step between two machines, where it is told.
